@@ -1,0 +1,5 @@
+pub mod Gcd
+pub mod Rational
+pub mod Operations
+pub mod Order
+pub mod Sums

@@ -1,0 +1,14 @@
+pub mod Ints
+pub mod Polynomial
+pub mod IntegerRing
+pub mod Ratio
+pub mod Lowest
+pub mod Products
+pub mod Field
+pub mod Order
+pub mod Signs
+pub mod Linear
+pub mod Quotient
+pub mod Tests
+pub mod Slopes
+pub mod Samples

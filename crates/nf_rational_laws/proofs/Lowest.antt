@@ -1,0 +1,48 @@
+-- A ratio in lowest terms is that record, and a code of the rationals.
+use Rattle.std.proofs.Common.{◌≡◌, ℕ, zero, suc, ◌*◌, ◌/◌, ◌<◌, ◌≤◌, sym, ap, arith}
+use lib.IntN.{ℤ, pos, ◌+ℤ◌, ◌*ℤ◌, neg_ℤ, nat_abs}
+use lib.Signed.{quot_z}
+use native.Mathlib.Nat.{le_of_dvd, mul-pos, div-mul_cancel}
+use Rattle.std.proofs.Common.{[], ◌∷◌}
+use Rattle.nf_rational_laws.proofs.Polynomial.{combine, using, done, reading}
+use Rattle.nf_rational_laws.proofs.IntegerRing.{ints_ring}
+use Rattle.nf_rational.specs.Operations.{◌+ℚ◌}
+use Rattle.nf_rational_laws.proofs.Ratio.{Is-self, Is-same, Is-plus, Is-ratio}
+use Rattle.nf_rational.specs.Gcd.{gcd, IsGcd-gcd}
+use Rattle.nf_rational.specs.Rational.{ℚ, ratio, part_pos}
+use Rattle.nf_rational_laws.proofs.Ratio.{ratio_cross, same_cross}
+
+pub ratio_lowest : (n : ℤ) (d : ℕ) (some : 0 < d) (lowest : gcd (nat_abs n) d ≡ 1) → ratio n d ≡ record { num = n; den = d; positive = some; reduced = lowest }
+ratio_lowest n d some lowest = same_cross (ratio n d) (record { num = n; den = d; positive = some; reduced = lowest }) (ratio_cross n d some)
+
+pub num-ratio : (n : ℤ) (d : ℕ) → 0 < d → gcd (nat_abs n) d ≡ 1 → (ratio n d).num ≡ n
+num-ratio n d some lowest = ap (λ (q : ℚ). q.num) (ratio_lowest n d some lowest)
+
+pub den-ratio : (n : ℤ) (d : ℕ) → 0 < d → gcd (nat_abs n) d ≡ 1 → (ratio n d).den ≡ d
+den-ratio n d some lowest = ap (λ (q : ℚ). q.den) (ratio_lowest n d some lowest)
+
+pub parts_ratio : (q : ℚ) → ratio q.num q.den ≡ q
+parts_ratio q = ratio_lowest q.num q.den q.positive q.reduced
+
+-- the ratio with the common factor taken out is the same
+pub shrunk : (n : ℤ) (d : ℕ) → 0 < d → ratio (quot_z n (pos (gcd (nat_abs n) d))) (d / gcd (nat_abs n) d) ≡ ratio n d
+unfolding ratio
+shrunk n zero some = absurd (omega arith)
+shrunk n (suc e) some = parts_ratio (ratio n (suc e))
+
+pub gcd-le : (a d : ℕ) → 0 < d → gcd a d ≤ d
+gcd-le a d some = le_of_dvd some (IsGcd-gcd a d).1
+
+-- ---- the sum over the least common denominator
+lcm_by : (xn xd yn yd g l r : ℤ) → r *ℤ g ≡ xd → l *ℤ g ≡ yd → (xn *ℤ yd +ℤ yn *ℤ xd) *ℤ (xd *ℤ l) ≡ (xn *ℤ l +ℤ yn *ℤ r) *ℤ (xd *ℤ yd)
+lcm_by xn xd yn yd g l r p q = combine ints_ring (xn ∷ xd ∷ yn ∷ yd ∷ g ∷ l ∷ r ∷ [])
+    (using (yn *ℤ xd *ℤ r) q (search reading depth 30) (using (neg_ℤ (yn *ℤ xd *ℤ l)) p (search reading depth 30) done)) (search reading depth 30) tt
+
+pub plus_over_lcm : (x y : ℚ) → ratio (x.num *ℤ pos (y.den / gcd x.den y.den) +ℤ y.num *ℤ pos (x.den / gcd x.den y.den)) (x.den * (y.den / gcd x.den y.den)) ≡ x +ℚ y
+plus_over_lcm x y =
+    Is-same _ _ _ _
+    (Is-ratio (x.num *ℤ pos (y.den / gcd x.den y.den) +ℤ y.num *ℤ pos (x.den / gcd x.den y.den)) (x.den * (y.den / gcd x.den y.den)) (mul-pos x.positive (part_pos x.den y.den y.positive)))
+    (Is-plus _ _ _ _ (Is-self x) (Is-self y))
+    (sym (lcm_by x.num (pos x.den) y.num (pos y.den) (pos (gcd x.den y.den)) (pos (y.den / gcd x.den y.den)) (pos (x.den / gcd x.den y.den))
+    (ap pos (div-mul_cancel (gcd x.den y.den) (IsGcd-gcd x.den y.den).0))
+    (ap pos (div-mul_cancel (gcd x.den y.den) (IsGcd-gcd x.den y.den).1))))

@@ -1,0 +1,73 @@
+-- What the tests of the order say, and which of two numbers is the lesser and the greater.
+use Rattle.std.proofs.Common.{◌≡◌, ◌⊎◌, inl, inr, ⊎_elim, Bool, true, false, not, cond, refl, ap, arith}
+use lib.IntN.{ℤ, pos, ◌*ℤ◌}
+use lib.Signed.{◌≤ℤ◌, ◌<ℤ◌, le_z}
+use borrow.Author.Differences.{ints}
+use Rattle.nf_rational.specs.Rational.{ℚ}
+use Rattle.nf_rational.specs.Order.{◌≤ℚ◌, ◌<ℚ◌, le_ℚ, lt_ℚ, min_ℚ, max_ℚ}
+use Rattle.nf_rational_laws.proofs.Order.{not_both_ℚ}
+
+-- what a test says
+pub le_ℚ_cases : (x y : ℚ) → ((le_ℚ x y ≡ true) × (x ≤ℚ y)) ⊎ ((le_ℚ x y ≡ false) × (y <ℚ x))
+unfolding le_ℚ
+le_ℚ_cases x y = cases (x.num *ℤ pos y.den) (y.num *ℤ pos x.den)
+    (λ e h. inl (e, record { le = h })) (λ e h. inr (e, record { lt = h }))
+  where
+    cases : {P : Type 0} (a b : ℤ) → (le_z a b ≡ true → a ≤ℤ b → P) → (le_z a b ≡ false → b <ℤ a → P) → P
+    cases {P} a b f g = go (le_z a b) refl
+      where
+        yes_le : (a b : ℤ) → le_z a b ≡ true → a ≤ℤ b
+        yes_le a b e = omega (arith, ints)
+
+        no_le : (a b : ℤ) → le_z a b ≡ false → b <ℤ a
+        no_le a b e = omega (arith, ints)
+
+        go : (t : Bool) → le_z a b ≡ t → P
+        go true e = f e (yes_le a b e)
+        go false e = g e (no_le a b e)
+
+pub min_ℚ_cases : (x y : ℚ) → ((min_ℚ x y ≡ x) × (x ≤ℚ y)) ⊎ ((min_ℚ x y ≡ y) × (y <ℚ x))
+unfolding min_ℚ
+min_ℚ_cases x y = ⊎_elim
+    (λ (w : (le_ℚ x y ≡ true) × (x ≤ℚ y)). inl (ap (λ (t : Bool). cond t x y) w.0, w.1))
+    (λ (w : (le_ℚ x y ≡ false) × (y <ℚ x)). inr (ap (λ (t : Bool). cond t x y) w.0, w.1))
+    (le_ℚ_cases x y)
+
+pub max_ℚ_cases : (x y : ℚ) → ((max_ℚ x y ≡ y) × (x ≤ℚ y)) ⊎ ((max_ℚ x y ≡ x) × (y <ℚ x))
+unfolding max_ℚ
+max_ℚ_cases x y = ⊎_elim
+    (λ (w : (le_ℚ x y ≡ true) × (x ≤ℚ y)). inl (ap (λ (t : Bool). cond t y x) w.0, w.1))
+    (λ (w : (le_ℚ x y ≡ false) × (y <ℚ x)). inr (ap (λ (t : Bool). cond t y x) w.0, w.1))
+    (le_ℚ_cases x y)
+
+pub lt_ℚ_cases : (x y : ℚ) → ((lt_ℚ x y ≡ true) × (x <ℚ y)) ⊎ ((lt_ℚ x y ≡ false) × (y ≤ℚ x))
+unfolding lt_ℚ
+lt_ℚ_cases x y = ⊎_elim
+    (λ (w : (le_ℚ y x ≡ true) × (y ≤ℚ x)). inr (ap not w.0, w.1))
+    (λ (w : (le_ℚ y x ≡ false) × (x <ℚ y)). inl (ap not w.0, w.1))
+    (le_ℚ_cases y x)
+
+-- ---- a test that is known, as the fact and back
+pub le_of_test : (x y : ℚ) → le_ℚ x y ≡ true → x ≤ℚ y
+le_of_test x y e = ⊎_elim
+    (λ (w : (le_ℚ x y ≡ true) × (x ≤ℚ y)). w.1)
+    (λ (w : (le_ℚ x y ≡ false) × (y <ℚ x)). cc)
+    (le_ℚ_cases x y)
+
+pub lt_of_test : (x y : ℚ) → le_ℚ x y ≡ false → y <ℚ x
+lt_of_test x y e = ⊎_elim
+    (λ (w : (le_ℚ x y ≡ true) × (x ≤ℚ y)). cc)
+    (λ (w : (le_ℚ x y ≡ false) × (y <ℚ x)). w.1)
+    (le_ℚ_cases x y)
+
+pub test_of_le : (x y : ℚ) → x ≤ℚ y → le_ℚ x y ≡ true
+test_of_le x y h = ⊎_elim
+    (λ (w : (le_ℚ x y ≡ true) × (x ≤ℚ y)). w.0)
+    (λ (w : (le_ℚ x y ≡ false) × (y <ℚ x)). absurd (not_both_ℚ y x w.1 h))
+    (le_ℚ_cases x y)
+
+pub test_of_lt : (x y : ℚ) → y <ℚ x → le_ℚ x y ≡ false
+test_of_lt x y h = ⊎_elim
+    (λ (w : (le_ℚ x y ≡ true) × (x ≤ℚ y)). absurd (not_both_ℚ y x h w.1))
+    (λ (w : (le_ℚ x y ≡ false) × (y <ℚ x)). w.0)
+    (le_ℚ_cases x y)

@@ -1,0 +1,4 @@
+pub mod Passing
+pub mod Checked
+pub mod Work
+pub mod Laws
