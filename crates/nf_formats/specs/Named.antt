@@ -51,12 +51,15 @@ ends links = flat_map (λ l. l.tail ∷ l.head ∷ []) links
 abbrev pub names_of : List NamedLink → List Name
 names_of links = map (λ l. l.name) links
 
--- ---- the hops of all links, idle ones behind the others, over all nodes, idle ones behind the others
+-- ---- all nodes and links, idle ones behind the others
 abbrev pub all_nodes : Named → List Name
 all_nodes n = n.node_names ++ n.idle_nodes
 
+abbrev pub all_links : Named → List NamedLink
+all_links n = active_links n ++ n.idle_links
+
 abbrev pub all_hops : Named → List Hop
-all_hops n = hops_among (all_nodes n) (active_links n ++ n.idle_links)
+all_hops n = hops_among (all_nodes n) (all_links n)
 
 -- ---- how contracts tell them apart
 abbrev pub coded_name : Coded Name
