@@ -1,5 +1,6 @@
 pub mod WalkFacts
 pub mod LinkFacts
+pub mod ClosesBack
 pub mod NameFacts
 pub mod Once
 pub mod Examples
