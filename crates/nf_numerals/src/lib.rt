@@ -18,3 +18,28 @@ pub enum NumberFault {
     /// The denominator is 0.
     ZeroDenominator,
 }
+
+/// A printed number is read as that number, by either reading.
+pub fn printed_reads_back()
+    ensures { PrintedReadsBack }
+{}
+
+/// Different numbers have different printed forms.
+pub fn printed_is_injective()
+    ensures { PrintedIsInjective }
+{}
+
+/// A word is a count's just where it is the digits of that number.
+pub fn counts_are_digits()
+    ensures { CountsAreDigits }
+{}
+
+/// Words of fractions, and what they are read as.
+pub fn fractions_are_read()
+    ensures { FractionsAreRead }
+{}
+
+/// Words of decimals, and what they are read as.
+pub fn decimals_are_read()
+    ensures { DecimalsAreRead }
+{}
