@@ -37,10 +37,10 @@ abbrev step_at : ℕ → ℕ → Bool → List ℕ
 step_at k n true = (48 + n) ∷ []
 step_at k n false = digits_within k (n / 10) ++ (48 + n % 10) ∷ []
 
-within_one : (k n : ℕ) → n < 10 → digits_within (suc k) n ≡ (48 + n) ∷ []
+pub within_one : (k n : ℕ) → n < 10 → digits_within (suc k) n ≡ (48 + n) ∷ []
 within_one k n h = ap (step_at k n) (lt-ltb n 10 h)
 
-within_more : (k n : ℕ) → 10 ≤ n → digits_within (suc k) n ≡ digits_within k (n / 10) ++ (48 + n % 10) ∷ []
+pub within_more : (k n : ℕ) → 10 ≤ n → digits_within (suc k) n ≡ digits_within k (n / 10) ++ (48 + n % 10) ∷ []
 within_more k n h = ap (step_at k n) (le-ltb n 10 h)
 
 -- the bound on their count does not matter

@@ -1,9 +1,11 @@
 -- The fields of a word that is put together from digits, a sign and a separator.
 use Rattle.std.proofs.Common.{◌≡◌, ℕ, zero, suc, ◌+◌, ◌-◌, ◌<◌, ◌≤◌, Bool, true, false, not, ◌||◌, cond, List, [], ◌∷◌, ◌++◌, length, take, drop, get_or, refl, sym, ap, ◌∙◌, inl, inr, arith, add-one}
-use Rattle.std.specs.Prelude.{◌==◌}
-use Rattle.std.specs.List.{list_any, prefix_len, position_or_len}
+use Rattle.std.specs.Prelude.{◌==◌, Option, Some, None}
+use Rattle.std.specs.List.{list_any, position, position_or_len}
+use Rattle.std.specs.Option.{unwrap_or}
+use Rattle.std.proofs.lemmas.List.Sums.{prefix_len-le-length}
 use Rattle.std.specs.Char.{is_ascii_digit}
-use Rattle.std.proofs.lemmas.Bool.{or_parts, or_from, or_left, or_right, and_parts, cond-true, cond-false, eq-eqb, ne_eqb, not_from_true, not_from_false}
+use Rattle.std.proofs.lemmas.Bool.{or_parts, or_from, or_left, or_right, and_parts, cond-true, cond-false, eq-eqb, ne_eqb, not_from_true, not_from_false, ltb-false}
 use Rattle.std.proofs.lemmas.List.{take_all, take_at, drop_at, drop-drop}
 use Rattle.nf_numerals.specs.Digits.{are_digits}
 use Rattle.nf_numerals.specs.Numbers.{has, before, after}
@@ -48,3 +50,11 @@ no_digit b c h e = let r = digit_range c e in ne_eqb c b (λ same. omega arith)
 pub none_in_digits : (b : ℕ) (ds : List ℕ) → b < 48 → are_digits ds ≡ true → has b ds ≡ false
 none_in_digits b [] h e = refl
 none_in_digits b (c ∷ ds) h e = let p = and_parts _ _ e in or_from _ _ (no_digit b c h p.0) (none_in_digits b ds h p.1)
+
+-- the place of the first such byte, or the length where there is none
+place_cases : (b : Bool) (place size : ℕ) → (b ≡ false → place ≡ size) → unwrap_or (cond b (Some place) None) size ≡ place
+place_cases true place size none = refl
+place_cases false place size none = sym (none refl)
+
+pub place_from_position : (p : ℕ → Bool) (xs : List ℕ) → unwrap_or (position p xs) (length xs) ≡ position_or_len p xs
+place_from_position p xs = place_cases _ _ _ (λ e. let past : length xs ≤ position_or_len p xs = ltb-false _ _ e in let within : position_or_len p xs ≤ length xs = prefix_len-le-length (λ x. not (p x)) xs in omega arith)

@@ -1,4 +1,6 @@
 pub mod Digits
 pub mod Fields
-pub mod Reading
+pub mod ReadBack
 pub mod Counts
+pub mod Bounds
+pub mod Printing

@@ -6,6 +6,12 @@
 
 ghost use Rattle.nf_numerals.specs.Laws.{PrintedReadsBack, PrintedIsInjective, CountsAreDigits, FractionsAreRead, DecimalsAreRead};
 
+mod reading;
+mod text;
+
+
+pub use text::{TextBuf, write_count, write_parts};
+
 /// Why a word is no number. Where several faults apply, the first in this order is answered.
 #[derive(Clone, Copy, Debug, PartialEq, Eq)]
 pub enum NumberFault {

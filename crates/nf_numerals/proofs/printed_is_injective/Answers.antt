@@ -1,4 +1,4 @@
-use Rattle.nf_numerals.proofs.Reading.{printed_injective}
+use Rattle.nf_numerals.proofs.ReadBack.{printed_injective}
 use Rattle.nf_numerals.proofs.printed_is_injective.Goals as goal
 
 pub returns : goal.returns

@@ -1,4 +1,4 @@
-use Rattle.nf_numerals.proofs.Reading.{number_read, number_read_as_decimal}
+use Rattle.nf_numerals.proofs.ReadBack.{number_read, number_read_as_decimal}
 use Rattle.nf_numerals.proofs.printed_reads_back.Goals as goal
 
 pub returns : goal.returns
