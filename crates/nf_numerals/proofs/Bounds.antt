@@ -1,8 +1,9 @@
 -- Numbers that pass a bound on the way to their digits' end.
-use Rattle.std.proofs.Common.{◌≡◌, ℕ, zero, suc, ◌+◌, ◌-◌, ◌*◌, ◌/◌, ◌^◌, ◌<◌, ◌≤◌, List, [], ◌∷◌, length, get_or, drop, refl, sym, ap, ◌∙◌, arith, pow-suc}
+use Rattle.std.proofs.Common.{subst, ◌≡◌, ℕ, zero, suc, ◌+◌, ◌-◌, ◌*◌, ◌/◌, ◌^◌, ◌<◌, ◌≤◌, List, [], ◌∷◌, length, get_or, drop, refl, sym, ap, ◌∙◌, arith, pow-suc}
 use Rattle.std.proofs.Math.Nat.{pow-le-pow_right}
 use Rattle.std.proofs.lemmas.List.{drop_more}
-use Rattle.nf_numerals.specs.Digits.{value_after}
+use Rattle.nf_numerals.specs.Digits.{value_after, value_of}
+use Rattle.std.specs.Prelude.{Option, SomeIff}
 use Rattle.nf_numerals.proofs.Digits.{le-value_after}
 
 -- a value that is beyond a tenth of the bound passes it with one digit more
@@ -25,3 +26,24 @@ power_passes i exponent bound h wide fits =
     let next : 10 ^ suc i ≡ 10 ^ i * 10 = pow-suc 10 i in
     let most : 10 ^ suc i ≤ 10 ^ exponent = pow-le-pow_right {n = 10} (omega arith) h in
     omega arith
+
+-- ---- the digits of one field after those of another
+pub value_after-shift : (n : ℕ) (digits : List ℕ) → value_after n digits ≡ n * 10 ^ length digits + value_of digits
+value_after-shift n [] = omega arith
+value_after-shift n (c ∷ rest) =
+    let scale : 10 ^ suc (length rest) ≡ 10 ^ length rest * 10 = pow-suc 10 (length rest) in
+    let all : value_after (10 * n + (c - 48)) rest ≡ (10 * n + (c - 48)) * 10 ^ length rest + value_of rest = value_after-shift (10 * n + (c - 48)) rest in
+    let own : value_after (10 * 0 + (c - 48)) rest ≡ (10 * 0 + (c - 48)) * 10 ^ length rest + value_of rest = value_after-shift (10 * 0 + (c - 48)) rest in
+    rw scale (omega arith)
+
+-- a first field beyond the bound puts both beyond it
+pub first_passes : (bound : ℕ) (left right : List ℕ) → (value_of left ≤ bound → ⊥) → value_of left * 10 ^ length right + value_of right ≤ bound → ⊥
+first_passes bound left right wide fits =
+    let all : value_after (value_of left) right ≡ value_of left * 10 ^ length right + value_of right = value_after-shift (value_of left) right in
+    let most : value_of left ≤ value_after (value_of left) right = le-value_after (value_of left) right in
+    wide (omega arith)
+
+pub both_fields : (bound : ℕ) (left right : List ℕ) (whole : ℕ) (r : Option ℕ) → whole ≡ value_of left → SomeIff r (value_after whole right ≤ bound) (value_after whole right)
+    → SomeIff r (value_of left * 10 ^ length right + value_of right ≤ bound) (value_of left * 10 ^ length right + value_of right)
+both_fields bound left right whole r e h =
+    subst (λ (v : ℕ). SomeIff r (v ≤ bound) v) (ap (λ n. value_after n right) e ∙ value_after-shift (value_of left) right) h

@@ -1,7 +1,7 @@
 -- The words of counts.
 use Rattle.std.proofs.Common.{◌≡◌, ◌≢◌, ◌↔◌, ℕ, zero, suc, ◌+◌, ◌-◌, ◌*◌, ◌/◌, ◌%◌, ◌^◌, ◌<◌, ◌≤◌, Bool, true, false, not, ◌&&◌, List, [], ◌∷◌, ◌++◌, length, refl, sym, ap, ◌∙◌, subst, inl, inr, arith}
 use Rattle.std.specs.Prelude.{◌==◌, nat_lt, cond, Option, Some, None}
-use Rattle.std.proofs.lemmas.Bool.{and_parts, and_from, lt-ltb, ltb-true, not-true, eqb-false, ne_eqb, not_from_false, cond-true, cases_Bool}
+use Rattle.std.proofs.lemmas.Bool.{and_parts, and_from, lt-ltb, ltb-true, not-true, eqb-false, ne_eqb, not_from_false, cond-true, cond-false, and_left, and_right, le-ltb}
 use Rattle.std.specs.Char.{is_ascii_digit}
 use Rattle.nf_numerals.specs.Digits.{are_digits, value_after, value_of, digits_of, is_plain, count_of}
 use Rattle.nf_numerals.proofs.Digits.{digit_range, digit_again, digit_from, digits_one, digits_of-value_after, value_of-digits_of, by_steps, are_digits-append}
@@ -74,3 +74,16 @@ count_of-digits n h =
 
 pub count_from_digits : (word : List ℕ) (n : ℕ) → (word ≡ digits_of n) × (n < 2 ^ 64) → count_of word ≡ Some n
 count_from_digits word n h = ap count_of h.0 ∙ count_of-digits n h.1
+
+-- ---- case by case
+pub count_not_plain : (word : List ℕ) → is_plain word ≡ false → None ≡ count_of word
+unfolding count_of
+count_not_plain word e = sym (cond-false _ _ _ (and_left _ _ e))
+
+pub count_wide : (word : List ℕ) → (value_of word ≤ 2 ^ 64 - 1 → ⊥) → None ≡ count_of word
+unfolding count_of
+count_wide word wide = let past : 2 ^ 64 ≤ value_of word = omega arith in sym (cond-false _ _ _ (and_right _ _ (le-ltb _ _ past)))
+
+pub count_fits : (word : List ℕ) (value : ℕ) → is_plain word ≡ true → value_of word ≤ 2 ^ 64 - 1 → value_of word ≡ value → Some value ≡ count_of word
+unfolding count_of
+count_fits word value plain fits e = let within : value_of word < 2 ^ 64 = omega arith in ap Some (sym e) ∙ sym (cond-true _ _ _ (and_from _ _ plain (lt-ltb _ _ within)))

@@ -48,9 +48,9 @@ within_same : (j k n : ℕ) → n < j → n < k → digits_within j n ≡ digits
 within_same zero k n p q = absurd (omega arith)
 within_same (suc j) zero n p q = absurd (omega arith)
 within_same (suc j) (suc k) n p q = elim (cases_lt n 10) [
-    | inl h ↦ within_one j n h ∙ sym (within_one k n h)
-    | inr h ↦ within_more j n h ∙ ap (λ ds. ds ++ (48 + n % 10) ∷ []) (within_same j k (n / 10) (omega arith) (omega arith)) ∙ sym (within_more k n h)
-  ]
+  | inl h ↦ within_one j n h ∙ sym (within_one k n h)
+  | inr h ↦ within_more j n h ∙ ap (λ ds. ds ++ (48 + n % 10) ∷ []) (within_same j k (n / 10) (omega arith) (omega arith)) ∙ sym (within_more k n h)
+]
 
 pub digits_one : (n : ℕ) → n < 10 → digits_of n ≡ (48 + n) ∷ []
 unfolding digits_of
@@ -71,9 +71,9 @@ module _ (P : ℕ → List ℕ → Type 0) (one : (n : ℕ) → n < 10 → P n (
   by_steps_within : (k n : ℕ) → n < k → P n (digits_within k n)
   by_steps_within zero n h = absurd (omega arith)
   by_steps_within (suc k) n h = elim (cases_lt n 10) [
-      | inl low ↦ subst (P n) (sym (within_one k n low)) (one n low)
-      | inr high ↦ subst (P n) (sym (within_more k n high)) (more n (digits_within k (n / 10)) high (by_steps_within k (n / 10) (omega arith)))
-    ]
+    | inl low ↦ subst (P n) (sym (within_one k n low)) (one n low)
+    | inr high ↦ subst (P n) (sym (within_more k n high)) (more n (digits_within k (n / 10)) high (by_steps_within k (n / 10) (omega arith)))
+  ]
 
   pub by_steps : (n : ℕ) → P n (digits_of n)
   unfolding digits_of

@@ -3,7 +3,7 @@ use Rattle.std.proofs.Common.{◌≡◌, ℕ, zero, suc, ◌+◌, ◌<◌, ◌�
 use Rattle.std.specs.Prelude.{◌==◌, nat_lt, nat_abs, neg_ℤ, Ok, Result}
 use Rattle.std.specs.Str.Parse.{starts_with_minus}
 use Rattle.std.specs.Char.{is_ascii_digit}
-use Rattle.std.proofs.lemmas.Bool.{and_parts, and_from, or_from, or_left, or_right, eq-eqb, ne_eqb, le-ltb, not_from_true, not_from_false, cond-true, cond-false, cases_eq}
+use Rattle.std.proofs.lemmas.Bool.{and_parts, and_from, and_left, and_right, or_from, or_left, or_right, eq-eqb, ne_eqb, le-ltb, not_from_true, not_from_false, cond-true, cond-false, cases_eq}
 use Rattle.nf_rational.specs.Rational.{ℚ, ratio}
 use Rattle.nf_rational_laws.proofs.Lowest.{parts_ratio}
 use Rattle.nf_numerals.specs.declared.NumberFault.{NumberFault}
@@ -11,18 +11,8 @@ use Rattle.nf_numerals.specs.Digits.{are_digits, value_of, digits_of}
 use Rattle.nf_numerals.specs.Numbers.{slash, point, has, before, after, unsigned, signed_by, denominator, parts_or_fault, parts_of, decimal_parts_of, as_ratio, number_of, decimal_of}
 use Rattle.nf_numerals.specs.Printed.{signed_digits_of, printed_parts, printed}
 use Rattle.nf_numerals.proofs.Digits.{digit_range, are_digits-digits_of, value_of-digits_of, some_digits}
+use Rattle.nf_numerals.proofs.Faults.{AreFields, parts_read}
 use Rattle.nf_numerals.proofs.Fields.{has-append, before_none, before_at, after_at, none_in_digits, no_digit}
-
-pub not_zero : (n : ℕ) → 0 < n → (n == 0) ≡ false
-not_zero n h = ne_eqb n 0 (λ e. omega arith)
-
--- two fields that have no fault
-pub parts_read : (bound : ℕ) (a b : List ℕ) (n : ℤ) (d : ℕ) → 0 < length a → 0 < length b → are_digits a ≡ true → are_digits b ≡ true → nat_abs n ≤ bound → d ≤ bound → 0 < d → parts_or_fault bound a b n d ≡ Ok (n, d)
-parts_read bound a b n d some_a some_b digits_a digits_b fits_n fits_d some_d =
-    cond-false _ _ _ (or_from _ _ (not_zero (length a) some_a) (not_zero (length b) some_b))
-    ∙ cond-false _ _ _ (not_from_true _ (and_from _ _ digits_a digits_b))
-    ∙ cond-false _ _ _ (or_from _ _ (le-ltb _ _ fits_n) (le-ltb _ _ fits_d))
-    ∙ cond-false _ _ _ (not_zero d some_d)
 
 -- ---- a whole number's digits and sign
 no_minus : (field : List ℕ) → are_digits field ≡ true → starts_with_minus field ≡ false
@@ -64,7 +54,7 @@ whole_read bound n fits some =
     let none : has slash (signed_digits_of n) ≡ false = no_separator slash n (omega arith) (omega arith) in
     let front : before slash (signed_digits_of n) ≡ signed_digits_of n = before_none slash (signed_digits_of n) none in
     let back : denominator (signed_digits_of n) ≡ 49 ∷ [] = cond-false _ _ _ none in
-    rw (front, back, unsigned_is, signed_is) (parts_read bound (magnitude_of n) (49 ∷ []) n 1 (some_magnitude n) (omega arith) (digits_magnitude n) refl fits some (omega arith))
+    rw (front, back, unsigned_is, signed_is) (parts_read bound (magnitude_of n) (49 ∷ []) n 1 (record { some_left = some_magnitude n; some_right = omega arith; left = digits_magnitude n; right = refl }) fits some (omega arith))
 
 ratio_read : (bound : ℕ) (n : ℤ) (d : ℕ) → nat_abs n ≤ bound → d ≤ bound → 0 < d → parts_of bound (signed_digits_of n ++ slash ∷ digits_of d) ≡ Ok (n, d)
 unfolding parts_of
@@ -72,22 +62,22 @@ ratio_read bound n d fits_n fits_d some =
     let none : has slash (signed_digits_of n) ≡ false = no_separator slash n (omega arith) (omega arith) in
     let front : before slash (signed_digits_of n ++ slash ∷ digits_of d) ≡ signed_digits_of n = before_at slash (signed_digits_of n) (digits_of d) none in
     let back : denominator (signed_digits_of n ++ slash ∷ digits_of d) ≡ digits_of d = cond-true _ _ _ (has-append slash (signed_digits_of n) (digits_of d) none) ∙ after_at slash (signed_digits_of n) (digits_of d) none in
-    rw (front, back, unsigned_is, signed_is, value_of-digits_of) (parts_read bound (magnitude_of n) (digits_of d) n d (some_magnitude n) (some_digits d) (digits_magnitude n) (are_digits-digits_of d) fits_n fits_d some)
+    rw (front, back, unsigned_is, signed_is, value_of-digits_of) (parts_read bound (magnitude_of n) (digits_of d) n d (record { some_left = some_magnitude n; some_right = some_digits d; left = digits_magnitude n; right = are_digits-digits_of d }) fits_n fits_d some)
 
 pub printed_read : (bound : ℕ) (n : ℤ) (d : ℕ) → nat_abs n ≤ bound → d ≤ bound → 0 < d → parts_of bound (printed_parts n d) ≡ Ok (n, d)
 unfolding printed_parts
 printed_read bound n d fits_n fits_d some = elim (cases_eq d 1) [
-    | inl one ↦ ap (parts_of bound) (cond-true _ _ _ (eq-eqb d 1 one)) ∙ whole_read bound n fits_n (omega arith) ∙ ap (λ (m : ℕ). Ok (n, m)) (sym one)
-    | inr more ↦ ap (parts_of bound) (cond-false _ _ _ (ne_eqb d 1 more)) ∙ ratio_read bound n d fits_n fits_d some
-  ]
+  | inl one ↦ ap (parts_of bound) (cond-true _ _ _ (eq-eqb d 1 one)) ∙ whole_read bound n fits_n (omega arith) ∙ ap (λ (m : ℕ). Ok (n, m)) (sym one)
+  | inr more ↦ ap (parts_of bound) (cond-false _ _ _ (ne_eqb d 1 more)) ∙ ratio_read bound n d fits_n fits_d some
+]
 
 -- the same as decimals: a printed form has no point, or has a slash
 decimal_read : (bound : ℕ) (n : ℤ) (d : ℕ) → decimal_parts_of bound (printed_parts n d) ≡ parts_of bound (printed_parts n d)
 unfolding decimal_parts_of printed_parts
 decimal_read bound n d = elim (cases_eq d 1) [
-    | inl one ↦ rw (eq-eqb d 1 one) (cond-true _ _ _ (or_right _ _ (not_from_false _ (no_separator point n (omega arith) (omega arith)))))
-    | inr more ↦ rw (ne_eqb d 1 more) (cond-true _ _ _ (or_left _ _ (has-append slash (signed_digits_of n) (digits_of d) (no_separator slash n (omega arith) (omega arith)))))
-  ]
+  | inl one ↦ rw (eq-eqb d 1 one) (cond-false _ _ _ (and_left _ _ (no_separator point n (omega arith) (omega arith))))
+  | inr more ↦ rw (ne_eqb d 1 more) (cond-false _ _ _ (and_right _ _ (not_from_true _ (has-append slash (signed_digits_of n) (digits_of d) (no_separator slash n (omega arith) (omega arith))))))
+]
 
 pub number_read : (bound : ℕ) (q : ℚ) → nat_abs q.num ≤ bound → q.den ≤ bound → number_of bound (printed q) ≡ Ok q
 unfolding number_of printed

@@ -9,7 +9,7 @@ ghost use Rattle.nf_numerals.specs.Laws.{PrintedReadsBack, PrintedIsInjective, C
 mod reading;
 mod text;
 
-
+pub use reading::{count, decimal_parts, parts};
 pub use text::{TextBuf, write_count, write_parts};
 
 /// Why a word is no number. Where several faults apply, the first in this order is answered.

@@ -7,5 +7,5 @@ abbrev pub invariant-loop-c : goal.invariant-loop-c
 invariant-loop-c l = record {
   within : l.value ≤ l.bound;
   rest : value_after l.value (drop l.c-index l.digits) ≡ value_after l.start l.digits;
-  digits : are_digits (drop l.c-index l.digits) ≡ true
+  digits : are_digits (drop l.c-index l.digits) ≡ true;
 }
