@@ -1,0 +1,7 @@
+pub mod Digits
+pub mod Fields
+pub mod ReadBack
+pub mod Counts
+pub mod Faults
+pub mod Bounds
+pub mod Printing
