@@ -1,6 +1,7 @@
 pub mod WalkFacts
 pub mod LinkFacts
 pub mod ClosesBack
+pub mod LinesBack
 pub mod NameFacts
 pub mod Once
 pub mod Examples
