@@ -53,10 +53,10 @@ module _ (n : Named) (h : IsNamed n) where
     head = subst (λ k. link.head < k) (sym count_is) (h.network.heads e link is);
   }
 
-  source_below : 0 < length n.node_names
+  pub source_below : 0 < length n.node_names
   source_below = subst (λ k. k < length n.node_names) h.numbered.source (subst (λ k. n.net.source < k) (sym count_is) h.network.source)
 
-  sink_below : 1 < length n.node_names
+  pub sink_below : 1 < length n.node_names
   sink_below = subst (λ k. k < length n.node_names) h.numbered.sink (subst (λ k. n.net.sink < k) (sym count_is) h.network.sink)
 
   source_is : place_of (all_nodes n) (name_at n.node_names 0) ≡ n.net.source
@@ -130,7 +130,7 @@ module _ (n : Named) (h : IsNamed n) where
       c.after
 
   -- ---- no rule is broken
-  names_apart : Breaks (draft_of n) N19 → ⊥
+  pub names_apart : Breaks (draft_of n) N19 → ⊥
   names_apart e =
       let same : name_at n.node_names 0 ≡ name_at n.node_names 1 = cc in
       h.network.apart (sym source_is ∙ ap (place_of (all_nodes n)) same ∙ sink_is)

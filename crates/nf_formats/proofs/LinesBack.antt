@@ -1,6 +1,6 @@
 -- Read line by line, the lines of a canonical text say what they are printed from.
 use Rattle.std.proofs.Common.{◌≡◌, ◌≢◌, ℕ, zero, suc, ◌+◌, ◌<◌, ◌≤◌, ◌⊎◌, ◌==◌, ◌&&◌, ◌||◌, Bool, true, false, not, if◌then◌else◌, List, [], ◌∷◌, ◌++◌, length, map, slice_get, nat_lt, nat_le, nat_abs, refl, sym, ◌∙◌, ap, subst, inl, inr, arith, append_assoc, append-nil, bytes_eq, length-append, codes, Option, Some, None, Result, Ok, Err, is_some, option_map}
-use Rattle.std.specs.List.{AllByRecursion, IsDistinct, last_or}
+use Rattle.std.specs.List.{AllByRecursion, IsDistinct, last_or, list_all}
 use Rattle.std.specs.Result.{result_ok}
 use Rattle.std.proofs.lemmas.Bool.{le-ltb, lt-leb, ltb-false}
 use Rattle.nf_rational.specs.Rational.{ℚ}
@@ -24,7 +24,9 @@ use Rattle.nf_formats.specs.Named.{NamedLink, Named, ends, names_of, active_link
 use Rattle.nf_formats.specs.NetLines.{Broken, Entry, Source, Sink, LinkLine, InflowLine, End, node_line, link_entry, link_line, inflow_entry, entry_of, Draft, empty_draft, after, first_rule, too_many_nodes, is_negative, is_no_capacity, is_not_after, broken_rule, unless, read_line, in_line, read_lines, version_of, read_rest, read_content}
 use Rattle.nf_formats.specs.NetText.{link_words, inflow_words, canonical_lines}
 use Rattle.nf_formats.specs.WellNamed.{IsFraction, IsCapacity, IsNamedLink, IsFractionPiece, IsNamed}
-use Rattle.nf_formats.proofs.NameFacts.{bytes_eq-turned, same_names}
+use Rattle.nf_formats.proofs.NameFacts.{bytes_eq-turned, same_names, with_name_new, with_names-append, with_names-split}
+use Rattle.nf_formats.proofs.LinkFacts.{ends-append, map-append, names_of-named}
+use Rattle.nf_formats.proofs.ClosesBack.{draft_of, source_below, sink_below, names_apart}
 
 -- ---- tests that say no
 neither : (a b : Bool) → (a || b) ≡ false → (a ≡ false) × (b ≡ false)
@@ -169,3 +171,166 @@ links_follow draft (l ∷ links) all open_ v good e distinct few low =
           (is_above draft.version l.capacity good.0.capacity))
     , links_follow (after draft (LinkLine l)) links all open_ v good.1 (append_assoc draft.links (l ∷ []) links ∙ e) distinct few low
     )
+
+-- ---- the lines of pieces
+-- the first of these starts after one before, and each later one after the one before it
+abbrev Rises : Option Piece → List Piece → Type 0
+Rises before [] = Unit {0}
+Rises before (piece ∷ pieces) = (is_not_after piece.start before ≡ false) × Rises (Some piece) pieces
+
+last_or-append : (before : Option Piece) (xs : List Piece) (piece : Piece) → last_or before (xs ++ piece ∷ []) ≡ Some piece
+last_or-append before [] piece = refl
+last_or-append before (x ∷ xs) piece = last_or-append (Some x) xs piece
+
+-- no start and no rate is negative
+abbrev AreNotNegative : List Piece → Type 0
+AreNotNegative pieces = AllByRecursion (λ piece. (0ℚ ≤ℚ piece.start) × (0ℚ ≤ℚ piece.rate)) pieces
+
+pieces_follow : (draft : Draft) (pieces all : List Piece) → draft.ended ≡ false → AllByRecursion IsFractionPiece pieces → AreNotNegative pieces
+    → Rises (last_or None draft.pieces) pieces → draft.pieces ++ pieces ≡ all → length all ≤ 200
+    → Follows draft (map inflow_words pieces) (record draft { pieces = all })
+pieces_follow draft [] all open_ good positive rises e few = λ i. record draft { pieces = (sym (append-nil draft.pieces) ∙ e) i }
+pieces_follow draft (piece ∷ pieces) all open_ good positive rises e few =
+    ( after draft (InflowLine piece)
+    , line_read draft (inflow_words piece) (InflowLine piece) open_ (inflow_says draft.version piece good.0)
+        (three_no (nat_le 200 (length draft.pieces)) (is_negative piece.start || is_negative piece.rate) (is_not_after piece.start (last_or None draft.pieces)) N12 N15 N16
+          (lt-leb 200 (length draft.pieces) (let long : length (draft.pieces ++ piece ∷ pieces) ≡ length draft.pieces + suc (length pieces) = length-append draft.pieces (piece ∷ pieces) in let same : length (draft.pieces ++ piece ∷ pieces) ≡ length all = ap (λ x. length x) e in omega arith))
+          (no_either (is_negative piece.start) (is_negative piece.rate) (not_negative piece.start positive.0.0) (not_negative piece.rate positive.0.1))
+          rises.0)
+    , pieces_follow (after draft (InflowLine piece)) pieces all open_ good.1 positive.1
+        (subst (λ before. Rises before pieces) (sym (last_or-append None draft.pieces piece)) rises.1)
+        (append_assoc draft.pieces (piece ∷ []) pieces ∙ e) few
+    )
+
+-- both from what the network says of its pieces
+not_negative_pieces : (pieces : List Piece) → ((i : ℕ) (piece : Piece) → IsPiece pieces i piece → (0ℚ ≤ℚ piece.start) × (0ℚ ≤ℚ piece.rate)) → AreNotNegative pieces
+not_negative_pieces [] each = tt
+not_negative_pieces (piece ∷ pieces) each = (each 0 piece refl, not_negative_pieces pieces (λ i p is. each (suc i) p is))
+
+rises_after : (before : Piece) (pieces : List Piece)
+    → ((i : ℕ) (piece next : Piece) → IsPiece (before ∷ pieces) i piece → IsPiece (before ∷ pieces) (suc i) next → piece.start <ℚ next.start) → Rises (Some before) pieces
+rises_after before [] each = tt
+rises_after before (piece ∷ pieces) each = (test_of_lt piece.start before.start (each 0 before piece refl refl), rises_after piece pieces (λ i p q is next. each (suc i) p q is next))
+
+rises : (pieces : List Piece) → ArePieces pieces → Rises None pieces
+rises [] h = tt
+rises (piece ∷ pieces) h = (refl, rises_after piece pieces h.rise)
+
+-- ---- the whole file
+node_read : (draft : Draft) (words : List (List ℕ)) (entry : Entry) (twice : Bool) (names : List Name) → draft.ended ≡ false → entry_of draft.version words ≡ Ok entry
+    → broken_rule draft entry ≡ first_rule ((twice, N9) ∷ (too_many_nodes draft names, N10) ∷ []) → twice ≡ false → length (with_names draft.nodes names) ≤ 64
+    → read_line draft words ≡ Ok (after draft entry)
+node_read draft words entry twice names open_ says tests e low = line_read draft words entry open_ says
+    (tests ∙ (λ i. first_rule ((e i, N9) ∷ (le-ltb 64 (length (with_names draft.nodes names)) low i, N10) ∷ [])))
+
+head_is : (version : ℕ) → (version ≡ 1) ⊎ (version ≡ 2) → version_of (codes "nfot" ∷ digits_of version ∷ []) ≡ Some version
+unfolding digits_of
+head_is version (inl e) = ap (λ v. version_of (codes "nfot" ∷ digits_of v ∷ [])) e ∙ ap (λ v. Some v) (sym e)
+head_is version (inr e) = ap (λ v. version_of (codes "nfot" ∷ digits_of v ∷ [])) e ∙ ap (λ v. Some v) (sym e)
+
+name_of_list : (names : List Name) (i : ℕ) → list_all is_name names ≡ true → i < length names → is_name (name_at names i) ≡ true
+name_of_list [] i h low = absurd (omega arith)
+name_of_list (x ∷ xs) zero h low = first (is_name x) (list_all is_name xs) h
+  where
+    first : (a b : Bool) → (a && b) ≡ true → a ≡ true
+    first true b e = refl
+    first false b e = absurd (cc)
+name_of_list (x ∷ xs) (suc i) h low = name_of_list xs i (second (is_name x) (list_all is_name xs) h) (omega arith)
+  where
+    second : (a b : Bool) → (a && b) ≡ true → b ≡ true
+    second true b e = e
+    second false b e = absurd (cc)
+
+list_all-left : (xs ys : List Name) → list_all is_name (xs ++ ys) ≡ true → list_all is_name xs ≡ true
+list_all-left [] ys h = refl
+list_all-left (x ∷ xs) ys h = both (is_name x) (list_all is_name (xs ++ ys)) (list_all is_name xs) h (list_all-left xs ys)
+  where
+    both : (a b c : Bool) → (a && b) ≡ true → (b ≡ true → c ≡ true) → (a && c) ≡ true
+    both true b c e f = f e
+    both false b c e f = absurd (cc)
+
+module _ (n : Named) (h : IsNamed n) where
+  -- the names of source and sink
+  abbrev s : Name
+  s = name_at n.node_names 0
+
+  abbrev t : Name
+  t = name_at n.node_names 1
+
+  s_is_name : is_name s ≡ true
+  s_is_name = name_of_list n.node_names 0 (list_all-left n.node_names n.idle_nodes h.node_names.each) (source_below n h)
+
+  t_is_name : is_name t ≡ true
+  t_is_name = name_of_list n.node_names 1 (list_all-left n.node_names n.idle_nodes h.node_names.each) (sink_below n h)
+
+  differ : (b : Bool) → bytes_eq t s ≡ b → (b || false) ≡ false
+  differ true e = absurd (names_apart n h (ap (λ name. Some name) (sym (same_names t s e))))
+  differ false e = refl
+
+  -- source and sink stand first
+  two_nodes : with_names (s ∷ []) (t ∷ []) ≡ s ∷ t ∷ []
+  two_nodes = with_name_new (s ∷ []) t (differ (bytes_eq t s) refl)
+
+  all_nodes_are : with_names (s ∷ t ∷ []) (ends (all_links n)) ≡ all_nodes n
+  all_nodes_are = ap (with_names (s ∷ t ∷ [])) (ends-append (active_links n) n.idle_links)
+      ∙ with_names-append (s ∷ t ∷ []) (ends (active_links n)) (ends n.idle_links)
+      ∙ ap (λ nodes. with_names nodes (ends n.idle_links)) (sym h.numbered.order)
+      ∙ with_names-split n.node_names (ends n.idle_links)
+      ∙ ap (λ idle. n.node_names ++ idle) (sym h.numbered.idle_order)
+
+  nodes_are : with_names (with_names (s ∷ []) (t ∷ [])) (ends (all_links n)) ≡ all_nodes n
+  nodes_are = ap (λ nodes. with_names nodes (ends (all_links n))) two_nodes ∙ all_nodes_are
+
+  names_are : names_of (all_links n) ≡ n.link_names ++ names_of n.idle_links
+  names_are = names_of-append (active_links n) n.idle_links ∙ ap (λ names. names ++ names_of n.idle_links) (names_of-named n.node_names n.link_names n.net.links h.numbered.links)
+
+  -- after the lines of source and sink, of the links, of the pieces
+  abbrev with_ends : Draft
+  with_ends = after (after (empty_draft n.version) (Source s)) (Sink t)
+
+  abbrev with_links : Draft
+  with_links = record with_ends { nodes = with_names with_ends.nodes (ends (all_links n)); links = all_links n }
+
+  abbrev with_pieces : Draft
+  with_pieces = record with_links { pieces = n.net.pieces }
+
+  few_nodes : length (with_names (with_names (s ∷ []) (t ∷ [])) (ends (all_links n))) ≤ 64
+  few_nodes = subst (λ nodes. length nodes ≤ 64) (sym nodes_are) h.limits.nodes
+
+  source_read : read_line (empty_draft n.version) (codes "source" ∷ s ∷ []) ≡ Ok (after (empty_draft n.version) (Source s))
+  source_read = node_read (empty_draft n.version) (codes "source" ∷ s ∷ []) (Source s) false (s ∷ []) refl (node_entry (λ name. Source name) s s_is_name) refl refl (omega arith)
+
+  sink_read : read_line (after (empty_draft n.version) (Source s)) (codes "sink" ∷ t ∷ []) ≡ Ok with_ends
+  sink_read = node_read (after (empty_draft n.version) (Source s)) (codes "sink" ∷ t ∷ []) (Sink t) false (t ∷ []) refl (node_entry (λ name. Sink name) t t_is_name) refl refl
+      (let e : length (with_names (s ∷ []) (t ∷ [])) ≡ 2 = ap (λ nodes. length nodes) two_nodes in omega arith)
+
+  links_read : Follows with_ends (map link_words (all_links n)) with_links
+  links_read = links_follow with_ends (all_links n) (all_links n) refl h.version h.links refl (subst (IsDistinct bytes_eq) (sym names_are) h.link_names.distinct) h.limits.links few_nodes
+
+  pieces_read : Follows with_links (map inflow_words n.net.pieces) with_pieces
+  pieces_read = pieces_follow with_links n.net.pieces n.net.pieces refl h.pieces
+      (not_negative_pieces n.net.pieces (λ i piece is. (h.network.pieces.starts i piece is, h.network.pieces.rates i piece is)))
+      (rises n.net.pieces h.network.pieces) refl h.limits.pieces
+
+  end_read : Follows with_pieces ((codes "end" ∷ []) ∷ []) (draft_of n)
+  end_read = (record with_pieces { ended = true }, refl, λ i. record with_pieces { nodes = nodes_are i; ended = true })
+
+  body_read : Follows with_ends (map link_words (active_links n) ++ map link_words n.idle_links ++ map inflow_words n.net.pieces ++ (codes "end" ∷ []) ∷ []) (draft_of n)
+  body_read = follows-append with_ends with_pieces (draft_of n) (map link_words (active_links n) ++ map link_words n.idle_links ++ map inflow_words n.net.pieces) ((codes "end" ∷ []) ∷ [])
+      (follows-append with_ends with_links with_pieces (map link_words (active_links n) ++ map link_words n.idle_links) (map inflow_words n.net.pieces)
+        (subst (λ lines. Follows with_ends lines with_links) (map-append link_words (active_links n) n.idle_links) links_read) pieces_read)
+      end_read
+
+  -- the words of the lines after the head
+  abbrev body : List (List (List ℕ))
+  body = (codes "source" ∷ s ∷ []) ∷ (codes "sink" ∷ t ∷ []) ∷ map link_words (active_links n) ++ map link_words n.idle_links ++ map inflow_words n.net.pieces ++ (codes "end" ∷ []) ∷ []
+
+  lines_are : canonical_lines n ≡ (codes "nfot" ∷ digits_of n.version ∷ []) ∷ body
+  lines_are = λ i. (codes "nfot" ∷ digits_of n.version ∷ [])
+      ∷ (codes "source" ∷ name_at n.node_names (h.numbered.source i) ∷ []) ∷ (codes "sink" ∷ name_at n.node_names (h.numbered.sink i) ∷ [])
+      ∷ map link_words (active_links n) ++ map link_words n.idle_links ++ map inflow_words n.net.pieces ++ (codes "end" ∷ []) ∷ []
+
+  pub content_back : read_content (lines_from 1 (canonical_lines n)) ≡ Ok (draft_of n)
+  content_back = ap (λ lines. read_content (lines_from 1 lines)) lines_are
+      ∙ ap (λ v. read_rest v 1 (lines_from 2 body)) (head_is n.version h.version)
+      ∙ lines_read (empty_draft n.version) (draft_of n) 2 body (after (empty_draft n.version) (Source s), source_read, (with_ends, sink_read, body_read))
