@@ -57,6 +57,14 @@ impl TextBuf {
     }
 }
 
+impl Default for TextBuf {
+    ghost is_default = { λ t. t ≡ [] };
+
+    fn default() -> Self {
+        TextBuf::new()
+    }
+}
+
 /// Writes the printed form of a fraction with these parts: the numerator, and `/` with the denominator where that isn't 1.
 /// What the text was before is dropped.
 pub fn write_parts(num: i128, den: u128, text: &mut TextBuf)
