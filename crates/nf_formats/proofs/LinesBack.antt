@@ -29,11 +29,11 @@ use Rattle.nf_formats.proofs.LinkFacts.{ends-append, map-append, names_of-named}
 use Rattle.nf_formats.proofs.ClosesBack.{draft_of, source_below, sink_below, names_apart}
 
 -- ---- tests that say no
-neither : (a b : Bool) → (a || b) ≡ false → (a ≡ false) × (b ≡ false)
+pub neither : (a b : Bool) → (a || b) ≡ false → (a ≡ false) × (b ≡ false)
 neither true b e = absurd (cc)
 neither false b e = (refl, e)
 
-no_either : (a b : Bool) → a ≡ false → b ≡ false → (a || b) ≡ false
+pub no_either : (a b : Bool) → a ≡ false → b ≡ false → (a || b) ≡ false
 no_either a b e f = λ i. (e i || f i)
 
 -- ---- numbers are read back
