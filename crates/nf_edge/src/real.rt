@@ -1,0 +1,130 @@
+// Real files and a real writer, the trusted edge.
+ghost use Rattle.std.specs.Prelude.{◌≡◌, ◌⊎◌, ◌↔◌, ℕ, ◌+◌, ◌<◌, ◌≤◌, [], None, OnOk, IsErrOf, length};
+ghost use Rattle.nf_edge.specs.Faults.{Rose, one_more};
+ghost use Rattle.nf_edge.specs.Names.{texts};
+
+use crate::{FetchFault, Shelf, Sink, SinkFault};
+use std::alloc::Global;
+use std::fs;
+use std::io::{Read, Write};
+use std::rt::Files;
+
+/// The most bytes that are read in one turn.
+const TURN: usize = 4096;
+
+/// Reads a file to its end, in turns that each take at least one byte. It stops at one byte more than the limit.
+fn read_file<F: Read>(file: &mut F, bytes: &mut Vec<u8>, limit: u32) -> Result<(), FetchFault>
+    requires { length bytes.old.items ≡ 0 }
+    ensures within { OnOk result (length bytes.new.items ≤ limit) }
+    ensures too_long { IsErrOf result FetchFault.TooLong → length bytes.new.items ≡ limit + 1 }
+    ensures long { limit < length bytes.new.items → IsErrOf result FetchFault.TooLong }
+{
+    let most = limit as usize + 1;
+    let mut turn = [0u8; TURN];
+    while bytes.len() < most {
+        let wanted = TURN.min(most - bytes.len());
+        let Ok(count) = file.read(&mut turn[..wanted]) else {
+            return Err(FetchFault::Failed);
+        };
+        if count == 0 {
+            return Ok(());
+        }
+        bytes.extend_from_slice(&turn[..count])?;
+    }
+    Err(FetchFault::TooLong)
+}
+
+/// The files of the runtime.
+#[derive(Drop)]
+pub struct RealShelf<'r, R: Files> {
+    runtime: &'r R,
+    asked: Vec<String>,
+    taken: u64,
+    faults: u64,
+}
+
+impl<'r, R: Files> RealShelf<'r, R> {
+    /// The shelf over the runtime's files. Nothing was asked of it yet.
+    pub fn new(rt: &'r R, alloc: Global) -> RealShelf<'r, R>
+        ensures asked { texts result.asked.items ≡ [] }
+        ensures faults { result.faults ≡ 0 }
+    {
+        RealShelf {
+            runtime: rt,
+            asked: Vec::new(alloc),
+            taken: 0,
+            faults: 0,
+        }
+    }
+
+    // Counts the outside's failure.
+    fn failed(&mut self) -> FetchFault
+        ensures fault { result ≡ FetchFault.Failed }
+        ensures never_falls { self.old.faults ≤ self.new.faults }
+        ensures counted { self.new ≡ record self.old { faults = one_more self.old.faults } }
+    {
+        self.faults = self.faults.saturating_add(1);
+        FetchFault::Failed
+    }
+}
+
+impl<'r, R: Files> Shelf for RealShelf<'r, R> {
+    ghost told = { λ _ _. None };
+
+    ghost faults = { λ s. s.faults };
+
+    ghost taken = { λ s. s.taken };
+
+    ghost asked = { λ s. texts s.asked.items };
+
+    fn fetch(&mut self, alloc: Global, name: &str, limit: u32) -> Result<Vec<u8>, FetchFault> {
+        self.taken = 0;
+        self.asked.push(name.to_owned(alloc)?)?;
+        let Ok(mut file) = fs::open(self.runtime, name) else {
+            return Err(self.failed());
+        };
+        let mut bytes = Vec::new(alloc);
+        let read = read_file(&mut file, &mut bytes, limit);
+        self.taken = bytes.len() as u64;
+        match read {
+            Ok(()) => Ok(bytes),
+            Err(FetchFault::Failed) => Err(self.failed()),
+            Err(fault) => Err(fault),
+        }
+    }
+}
+
+/// A writer of std.
+#[derive(Drop)]
+pub struct StdSink<W: Write + Drop> {
+    writer: W,
+    faults: u64,
+}
+
+impl<W: Write + Drop> StdSink<W> {
+    /// The sink over this writer. No write has failed yet.
+    pub fn new(inner: W) -> StdSink<W>
+        ensures { result.faults ≡ 0 }
+    {
+        StdSink {
+            writer: inner,
+            faults: 0,
+        }
+    }
+}
+
+impl<W: Write + Drop> Sink for StdSink<W> {
+    ghost took = { λ _. None };
+
+    ghost faults = { λ s. s.faults };
+
+    fn write(&mut self, piece: &[u8]) -> Result<usize, SinkFault> {
+        match self.writer.write(piece) {
+            Ok(count) if count > 0 => Ok(count),
+            _ => {
+                self.faults = self.faults.saturating_add(1);
+                Err(SinkFault)
+            }
+        }
+    }
+}
