@@ -17,9 +17,8 @@ mod writing;
 pub use memory_shelf::MemShelf;
 pub use memory_sink::MemSink;
 pub use real::{RealShelf, StdSink};
-pub use writing::write_text;
-
 use std::alloc::{AllocError, AllocFailed, Global};
+pub use writing::write_text;
 
 /// Why a file isn't given.
 #[derive(Clone, Copy, Debug, PartialEq, Eq)]

@@ -40,12 +40,12 @@ impl Model for MemShelf {
     ghost Value = { MemoryShelf };
 
     ghost view = { λ s. record {
-        files = s.files.items;
-        failing = s.failing.items;
-        calls = s.calls;
-        asked = texts s.asked.items;
-        taken = s.taken;
-        faults = s.faults;
+      files = s.files.items;
+      failing = s.failing.items;
+      calls = s.calls;
+      asked = texts s.asked.items;
+      taken = s.taken;
+      faults = s.faults;
     } };
 }
 
@@ -63,7 +63,13 @@ fn bytes_under<'a>(files: &'a [File], name: &str) -> Option<&'a [u8]>
 }
 
 // What the call of that number finds under the name.
-fn find<'a>(files: &'a [File], failing: &[u64], call: u64, name: &str, limit: u32) -> Result<&'a [u8], FetchFault>
+fn find<'a>(
+    files: &'a [File],
+    failing: &[u64],
+    call: u64,
+    name: &str,
+    limit: u32,
+) -> Result<&'a [u8], FetchFault>
     ensures { MatchResult result (λ bytes. found files.now failing.now call name.now limit ≡ Ok bytes.now)
         (λ fault. found files.now failing.now call name.now limit ≡ Err fault) }
 {
@@ -158,5 +164,42 @@ impl Shelf for MemShelf {
                 Err(fault)
             }
         }
+    }
+}
+
+#[cfg(test)]
+mod tests {
+    use super::*;
+    use std::test::Fail;
+
+    #[test]
+    fn answers_what_was_put_there_last(rt: HostRuntime) -> Result<(), Fail> {
+        let mut shelf = MemShelf::new(rt.alloc());
+        shelf.put(rt.alloc(), "A", b"one")?;
+        shelf.put(rt.alloc(), "B", b"two two")?;
+        shelf.put(rt.alloc(), "A", b"three")?;
+        shelf.put(rt.alloc(), "none", b"")?;
+        shelf.fail(5)?;
+        // name, limit, answer, bytes taken, faults
+        let calls: [(&str, u32, Result<&str, FetchFault>, u64, u64); 7] = [
+            ("A", 5, Ok("three"), 5, 0),
+            ("A", 4, Err(FetchFault::TooLong), 5, 0),
+            ("B", 3, Err(FetchFault::TooLong), 4, 0),
+            ("C", 9, Err(FetchFault::Failed), 0, 1),
+            ("B", 7, Err(FetchFault::Failed), 0, 2),
+            ("B", 7, Ok("two two"), 7, 2),
+            ("none", 0, Ok(""), 0, 2),
+        ];
+        for (name, limit, answer, taken, faults) in calls {
+            let fetched = shelf.fetch(rt.alloc(), name, limit);
+            match answer {
+                Ok(text) => assert!(rt; fetched?.as_slice() == text.as_bytes(), "{name}"),
+                Err(fault) => assert!(rt; fetched.err() == Some(fault), "{name}"),
+            }
+            assert_eq!(rt; shelf.taken, taken, "{name}");
+            assert_eq!(rt; shelf.faults, faults, "{name}");
+        }
+        assert_eq!(rt; shelf.asked.len(), 7);
+        Ok(())
     }
 }

@@ -1,7 +1,9 @@
 // Real files and a real writer, the trusted edge.
-ghost use Rattle.std.specs.Prelude.{◌≡◌, ◌⊎◌, ◌↔◌, ℕ, ◌+◌, ◌<◌, ◌≤◌, [], None, OnOk, IsErrOf, length};
+ghost use Rattle.std.specs.Prelude.{◌≡◌, ◌⊎◌, ◌↔◌, ℕ, ◌+◌, ◌<◌, ◌≤◌, [], None, IfOk, OnOk, OnErr, IsErrOf, length, take};
+ghost use Rattle.std.specs.Io.KnownBytes.{Appends, Consumes, IsAtEnd};
 ghost use Rattle.nf_edge.specs.Faults.{Rose, one_more};
 ghost use Rattle.nf_edge.specs.Names.{texts};
+ghost use Rattle.nf_edge.specs.Real.{writer_of, faults_of};
 
 use crate::{FetchFault, Shelf, Sink, SinkFault};
 use std::alloc::Global;
@@ -14,22 +16,26 @@ const TURN: usize = 4096;
 
 /// Reads a file to its end, in turns that each take at least one byte. It stops at one byte more than the limit.
 fn read_file<F: Read>(file: &mut F, bytes: &mut Vec<u8>, limit: u32) -> Result<(), FetchFault>
-    requires { length bytes.old.items ≡ 0 }
+    requires { bytes.old.items ≡ [] }
     ensures within { OnOk result (length bytes.new.items ≤ limit) }
     ensures too_long { IsErrOf result FetchFault.TooLong → length bytes.new.items ≡ limit + 1 }
     ensures long { limit < length bytes.new.items → IsErrOf result FetchFault.TooLong }
+
+    // Where the file's bytes are known, they are read, and all of them.
+    ensures read { OnOk result (Consumes (F.remaining file.old) (F.remaining file.new) bytes.new.items) }
+    ensures all { OnOk result (IsAtEnd (F.remaining file.new)) }
 {
     let most = limit as usize + 1;
     let mut turn = [0u8; TURN];
     while bytes.len() < most {
-        let wanted = TURN.min(most - bytes.len());
-        let Ok(count) = file.read(&mut turn[..wanted]) else {
+        let piece = &mut turn[..TURN.min(most - bytes.len())];
+        let Ok(count) = file.read(piece) else {
             return Err(FetchFault::Failed);
         };
         if count == 0 {
             return Ok(());
         }
-        bytes.extend_from_slice(&turn[..count])?;
+        bytes.extend_from_slice(&piece[..count])?;
     }
     Err(FetchFault::TooLong)
 }
@@ -46,8 +52,8 @@ pub struct RealShelf<'r, R: Files> {
 impl<'r, R: Files> RealShelf<'r, R> {
     /// The shelf over the runtime's files. Nothing was asked of it yet.
     pub fn new(rt: &'r R, alloc: Global) -> RealShelf<'r, R>
-        ensures asked { texts result.asked.items ≡ [] }
-        ensures faults { result.faults ≡ 0 }
+        ensures asked { ⟦<RealShelf<'r, R> as Shelf>⟧.asked result ≡ [] }
+        ensures faults { ⟦<RealShelf<'r, R> as Shelf>⟧.faults result ≡ 0 }
     {
         RealShelf {
             runtime: rt,
@@ -104,7 +110,7 @@ pub struct StdSink<W: Write + Drop> {
 impl<W: Write + Drop> StdSink<W> {
     /// The sink over this writer. No write has failed yet.
     pub fn new(inner: W) -> StdSink<W>
-        ensures { result.faults ≡ 0 }
+        ensures { ⟦<StdSink<W> as Sink>⟧.faults result ≡ 0 }
     {
         StdSink {
             writer: inner,
@@ -116,9 +122,17 @@ impl<W: Write + Drop> StdSink<W> {
 impl<W: Write + Drop> Sink for StdSink<W> {
     ghost took = { λ _. None };
 
-    ghost faults = { λ s. s.faults };
+    ghost faults = { λ s. faults_of s };
 
-    fn write(&mut self, piece: &[u8]) -> Result<usize, SinkFault> {
+    fn write(&mut self, piece: &[u8]) -> Result<usize, SinkFault>
+        requires { 0 < length piece.now }
+        ensures some { IfOk result (λ count. 0 < count) }
+        ensures within { IfOk result (λ count. count ≤ length piece.now) }
+        ensures passed_on { IfOk result (λ count. Appends (W.contents (writer_of self.old))
+            (W.contents (writer_of self.new)) (take count piece.now)) }
+        ensures fault { OnErr result (Rose (faults_of self.old) (faults_of self.new)) }
+        ensures never_falls { faults_of self.old ≤ faults_of self.new }
+    {
         match self.writer.write(piece) {
             Ok(count) if count > 0 => Ok(count),
             _ => {
@@ -126,5 +140,49 @@ impl<W: Write + Drop> Sink for StdSink<W> {
                 Err(SinkFault)
             }
         }
+    }
+}
+
+#[cfg(test)]
+mod tests {
+    use super::*;
+    use crate::write_text;
+    use std::test::Fail;
+
+    #[test]
+    fn reads_what_a_writer_wrote_to_a_real_file(rt: HostRuntime) -> Result<(), Fail> {
+        let name = "nf_edge.test";
+        let mut text = Vec::new(rt.alloc());
+        for line in 0..2000u32 {
+            text.extend_from_slice(if line % 2 == 0 { b"even\n" } else { b"odd.\n" })?;
+        }
+        let mut sink = StdSink::new(fs::create(&rt, name)?);
+        let written = write_text(&mut sink, &text);
+        assert!(rt; written.is_ok());
+        assert_eq!(rt; sink.faults, 0);
+
+        let mut shelf = RealShelf::new(&rt, rt.alloc());
+        let whole = shelf.fetch(rt.alloc(), name, 10_000)?;
+        assert!(rt; whole.as_slice() == text.as_slice());
+        assert_eq!(rt; (shelf.taken, shelf.faults), (10_000, 0));
+        let cut = shelf.fetch(rt.alloc(), name, 9_999);
+        assert!(rt; cut.err() == Some(FetchFault::TooLong));
+        assert_eq!(rt; (shelf.taken, shelf.faults), (10_000, 0));
+        fs::remove_file(&rt, name)?;
+        let gone = shelf.fetch(rt.alloc(), name, 10_000);
+        assert!(rt; gone.err() == Some(FetchFault::Failed));
+        assert_eq!(rt; (shelf.taken, shelf.faults), (0, 1));
+        assert_eq!(rt; shelf.asked.len(), 3);
+        Ok(())
+    }
+
+    #[test]
+    fn counts_a_writer_that_takes_nothing(rt: HostRuntime) {
+        let mut room = [b'-'; 4];
+        let mut sink = StdSink::new(room.as_mut_slice());
+        let written = write_text(&mut sink, b"report");
+        assert!(rt; written.is_err());
+        assert_eq!(rt; sink.faults, 1);
+        assert!(rt; room.as_slice() == b"repo".as_slice());
     }
 }
