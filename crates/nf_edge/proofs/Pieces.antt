@@ -5,7 +5,7 @@ use Rattle.std.proofs.lemmas.List.{take-append-le}
 use native.Mathlib.Decide.{dec_lt}
 use Rattle.std.proofs.Math.Seq.{take-add, take-length, take-append-add}
 use Rattle.nf_edge.specs.Faults.{Rose}
-use Rattle.nf_edge.specs.Taken.{with_more, Wrote, TookFront}
+use Rattle.nf_edge.specs.Taken.{with_more, Wrote}
 
 -- the rest of a text from a place on
 abbrev pub rest : List ℕ → ℕ → List ℕ
