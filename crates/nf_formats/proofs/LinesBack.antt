@@ -17,11 +17,11 @@ use Rattle.nf_numerals.specs.Printed.{printed}
 use Rattle.nf_numerals.proofs.ReadBack.{number_read, number_read_as_decimal}
 use Rattle.nf_formats.specs.declared.NetRule.{NetRule}
 use Rattle.nf_formats.specs.declared.NetRule.TheVariants.{N4, N7, N8, N9, N10, N11, N12, N13, N14, N15, N16}
-use Rattle.nf_formats.specs.Lines.{Content}
+use Rattle.nf_lines.specs.Words.{ReadLine}
 use Rattle.nf_formats.specs.Names.{Name, is_name, has_name, name_at, with_name, with_names}
 use Rattle.nf_formats.specs.Numbers.{greatest, number_in, capacity_in, capacity_word}
 use Rattle.nf_formats.specs.Named.{NamedLink, Named, ends, names_of, active_links, all_links, all_nodes}
-use Rattle.nf_formats.specs.NetLines.{Broken, Entry, Source, Sink, LinkLine, InflowLine, End, node_line, link_entry, link_line, inflow_entry, entry_of, Draft, empty_draft, after, first_rule, too_many_nodes, is_negative, is_no_capacity, is_not_after, broken_rule, unless, read_line, in_line, read_lines, version_of, read_rest, read_content}
+use Rattle.nf_formats.specs.NetLines.{Broken, Entry, Source, Sink, LinkLine, InflowLine, End, node_line, link_entry, link_line, inflow_entry, entry_of, Draft, empty_draft, after, first_rule, too_many_nodes, is_negative, is_no_capacity, is_not_after, broken_rule, unless, add_line, in_line, add_lines, version_of, draft_after, draft_from}
 use Rattle.nf_formats.specs.NetText.{link_words, inflow_words, canonical_lines}
 use Rattle.nf_formats.specs.WellNamed.{IsFraction, IsCapacity, IsNamedLink, IsFractionPiece, IsNamed}
 use Rattle.nf_formats.proofs.NameFacts.{bytes_eq-turned, same_names, with_name_new, with_names-append, with_names-split}
@@ -90,7 +90,7 @@ inflow_says version piece h = λ i. inflow_entry (number_in-printed version piec
 
 -- ---- one line
 pub line_read : (draft : Draft) (words : List (List ℕ)) (entry : Entry) → draft.ended ≡ false → entry_of draft.version words ≡ Ok entry → broken_rule draft entry ≡ None
-    → read_line draft words ≡ Ok (after draft entry)
+    → add_line draft words ≡ Ok (after draft entry)
 line_read draft words entry open_ says fine =
     ap (λ (b : Bool). if b then Err N4 else (entry_of draft.version words >>= λ entry. unless (broken_rule draft entry) (after draft entry))) open_
     ∙ (ap (λ r. r >>= λ entry. unless (broken_rule draft entry) (after draft entry)) says ∙ ap (λ o. unless o (after draft entry)) fine)
@@ -98,21 +98,21 @@ line_read draft words entry open_ says fine =
 -- ---- lines one after the other
 abbrev pub Follows : Draft → List (List (List ℕ)) → Draft → Type 0
 Follows draft [] last = draft ≡ last
-Follows draft (words ∷ lines) last = (next : Draft) × (read_line draft words ≡ Ok next) × Follows next lines last
+Follows draft (words ∷ lines) last = (next : Draft) × (add_line draft words ≡ Ok next) × Follows next lines last
 
 pub follows-append : (draft middle last : Draft) (xs ys : List (List (List ℕ))) → Follows draft xs middle → Follows middle ys last → Follows draft (xs ++ ys) last
 follows-append draft middle last [] ys h k = subst (λ d. Follows d ys last) (sym h) k
 follows-append draft middle last (words ∷ xs) ys h k = (h.0, h.1, follows-append h.0 middle last xs ys h.2 k)
 
 -- content lines of these words, numbered in order
-abbrev pub lines_from : ℕ → List (List (List ℕ)) → List Content
+abbrev pub lines_from : ℕ → List (List (List ℕ)) → List ReadLine
 lines_from number [] = []
-lines_from number (words ∷ lines) = record { number = number; words = words } ∷ lines_from (number + 1) lines
+lines_from number (words ∷ lines) = record { number = number; plain = true; words = words } ∷ lines_from (number + 1) lines
 
-pub lines_read : (draft last : Draft) (number : ℕ) (lines : List (List (List ℕ))) → Follows draft lines last → read_lines draft (lines_from number lines) ≡ Ok last
+pub lines_read : (draft last : Draft) (number : ℕ) (lines : List (List (List ℕ))) → Follows draft lines last → add_lines draft (lines_from number lines) ≡ Ok last
 lines_read draft last number [] h = ap (λ d. Ok d) h
 lines_read draft last number (words ∷ lines) h =
-    ap (λ r. in_line number r >>= λ next. read_lines next (lines_from (number + 1) lines)) h.1 ∙ lines_read h.0 last (number + 1) lines h.2
+    ap (λ r. in_line number r >>= λ next. add_lines next (lines_from (number + 1) lines)) h.1 ∙ lines_read h.0 last (number + 1) lines h.2
 
 -- ---- the lines of links
 distinct_before : (xs : List Name) (y : Name) (ys : List Name) → IsDistinct bytes_eq (xs ++ y ∷ ys) → has_name xs y ≡ false
@@ -219,7 +219,7 @@ rises (piece ∷ pieces) h = (refl, rises_after piece pieces h.rise)
 -- ---- the whole file
 node_read : (draft : Draft) (words : List (List ℕ)) (entry : Entry) (twice : Bool) (names : List Name) → draft.ended ≡ false → entry_of draft.version words ≡ Ok entry
     → broken_rule draft entry ≡ first_rule ((twice, N9) ∷ (too_many_nodes draft names, N10) ∷ []) → twice ≡ false → length (with_names draft.nodes names) ≤ 64
-    → read_line draft words ≡ Ok (after draft entry)
+    → add_line draft words ≡ Ok (after draft entry)
 node_read draft words entry twice names open_ says tests e low = line_read draft words entry open_ says
     (tests ∙ (λ i. first_rule ((e i, N9) ∷ (le-ltb 64 (length (with_names draft.nodes names)) low i, N10) ∷ [])))
 
@@ -297,10 +297,10 @@ module _ (n : Named) (h : IsNamed n) where
   few_nodes : length (with_names (with_names (s ∷ []) (t ∷ [])) (ends (all_links n))) ≤ 64
   few_nodes = subst (λ nodes. length nodes ≤ 64) (sym nodes_are) h.limits.nodes
 
-  source_read : read_line (empty_draft n.version) (codes "source" ∷ s ∷ []) ≡ Ok (after (empty_draft n.version) (Source s))
+  source_read : add_line (empty_draft n.version) (codes "source" ∷ s ∷ []) ≡ Ok (after (empty_draft n.version) (Source s))
   source_read = node_read (empty_draft n.version) (codes "source" ∷ s ∷ []) (Source s) false (s ∷ []) refl (node_entry (λ name. Source name) s s_is_name) refl refl (omega arith)
 
-  sink_read : read_line (after (empty_draft n.version) (Source s)) (codes "sink" ∷ t ∷ []) ≡ Ok with_ends
+  sink_read : add_line (after (empty_draft n.version) (Source s)) (codes "sink" ∷ t ∷ []) ≡ Ok with_ends
   sink_read = node_read (after (empty_draft n.version) (Source s)) (codes "sink" ∷ t ∷ []) (Sink t) false (t ∷ []) refl (node_entry (λ name. Sink name) t t_is_name) refl refl
       (let e : length (with_names (s ∷ []) (t ∷ [])) ≡ 2 = ap (λ nodes. length nodes) two_nodes in omega arith)
 
@@ -330,7 +330,7 @@ module _ (n : Named) (h : IsNamed n) where
       ∷ (codes "source" ∷ name_at n.node_names (h.numbered.source i) ∷ []) ∷ (codes "sink" ∷ name_at n.node_names (h.numbered.sink i) ∷ [])
       ∷ map link_words (active_links n) ++ map link_words n.idle_links ++ map inflow_words n.net.pieces ++ (codes "end" ∷ []) ∷ []
 
-  pub content_back : read_content (lines_from 1 (canonical_lines n)) ≡ Ok (draft_of n)
-  content_back = ap (λ lines. read_content (lines_from 1 lines)) lines_are
-      ∙ ap (λ v. read_rest v 1 (lines_from 2 body)) (head_is n.version h.version)
+  pub content_back : draft_from (lines_from 1 (canonical_lines n)) ≡ Ok (draft_of n)
+  content_back = ap (λ lines. draft_from (lines_from 1 lines)) lines_are
+      ∙ ap (λ v. draft_after v 1 (lines_from 2 body)) (head_is n.version h.version)
       ∙ lines_read (empty_draft n.version) (draft_of n) 2 body (after (empty_draft n.version) (Source s), source_read, (with_ends, sink_read, body_read))
