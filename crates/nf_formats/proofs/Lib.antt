@@ -3,6 +3,9 @@ pub mod LinkFacts
 pub mod ClosesBack
 pub mod LinesBack
 pub mod NumbersKept
+pub mod TextBack
+pub mod PlainCanonical
+pub mod CanonicalBack
 pub mod NameFacts
 pub mod Once
 pub mod Examples

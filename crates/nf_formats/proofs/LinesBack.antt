@@ -37,7 +37,7 @@ pub no_either : (a b : Bool) → a ≡ false → b ≡ false → (a || b) ≡ fa
 no_either a b e f = λ i. (e i || f i)
 
 -- ---- numbers are read back
-within : (q : ℚ) → IsFraction q → (nat_abs q.num ≤ greatest) × (q.den ≤ greatest)
+pub within : (q : ℚ) → IsFraction q → (nat_abs q.num ≤ greatest) × (q.den ≤ greatest)
 within q h = let both : (nat_lt greatest (nat_abs q.num) ≡ false) × (nat_lt greatest q.den ≡ false) = neither (nat_lt greatest (nat_abs q.num)) (nat_lt greatest q.den) h in
     (ltb-false greatest (nat_abs q.num) both.0, ltb-false greatest q.den both.1)
 
@@ -257,10 +257,10 @@ module _ (n : Named) (h : IsNamed n) where
   abbrev t : Name
   t = name_at n.node_names 1
 
-  s_is_name : is_name s ≡ true
+  pub s_is_name : is_name s ≡ true
   s_is_name = name_of_list n.node_names 0 (list_all-left n.node_names n.idle_nodes h.node_names.each) (source_below n h)
 
-  t_is_name : is_name t ≡ true
+  pub t_is_name : is_name t ≡ true
   t_is_name = name_of_list n.node_names 1 (list_all-left n.node_names n.idle_nodes h.node_names.each) (sink_below n h)
 
   differ : (b : Bool) → bytes_eq t s ≡ b → (b || false) ≡ false

@@ -3,7 +3,7 @@
 //! definitions share: see `specs/`, and docs/FORMATS.md for the same in prose. All formats are this project's own.
 #![tactic(auto)]
 
-ghost use Rattle.nf_formats.specs.Laws.{ReadsOnce};
+ghost use Rattle.nf_formats.specs.Laws.{ReadsOnce, CanonicalReadsBack};
 
 use nf_work::PassedAt;
 
@@ -76,4 +76,9 @@ pub enum Cause<S> {
 /// A text has at most one reading.
 pub fn reads_once()
     ensures { ReadsOnce }
+{}
+
+/// The canonical text of a network is read as that network, with the same names.
+pub fn canonical_reads_back()
+    ensures { CanonicalReadsBack }
 {}
