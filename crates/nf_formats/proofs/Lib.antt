@@ -6,6 +6,7 @@ pub mod NumbersKept
 pub mod TextBack
 pub mod PlainCanonical
 pub mod CanonicalBack
+pub mod DraftKept
 pub mod NameFacts
 pub mod Once
 pub mod Examples

@@ -174,7 +174,7 @@ links_follow draft (l ∷ links) all open_ v good e distinct few low =
 
 -- ---- the lines of pieces
 -- the first of these starts after one before, and each later one after the one before it
-abbrev Rises : Option Piece → List Piece → Type 0
+abbrev pub Rises : Option Piece → List Piece → Type 0
 Rises before [] = Unit {0}
 Rises before (piece ∷ pieces) = (is_not_after piece.start before ≡ false) × Rises (Some piece) pieces
 
@@ -183,7 +183,7 @@ last_or-append before [] piece = refl
 last_or-append before (x ∷ xs) piece = last_or-append (Some x) xs piece
 
 -- no start and no rate is negative
-abbrev AreNotNegative : List Piece → Type 0
+abbrev pub AreNotNegative : List Piece → Type 0
 AreNotNegative pieces = AllByRecursion (λ piece. (0ℚ ≤ℚ piece.start) × (0ℚ ≤ℚ piece.rate)) pieces
 
 pieces_follow : (draft : Draft) (pieces all : List Piece) → draft.ended ≡ false → AllByRecursion IsFractionPiece pieces → AreNotNegative pieces

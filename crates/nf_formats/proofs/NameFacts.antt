@@ -126,7 +126,7 @@ has_without these (x ∷ xs) name h =
     ∙ refl
 
 -- ---- names put behind others
-with_name_there : (names : List Name) (x : Name) → has_name names x ≡ true → with_name names x ≡ names
+pub with_name_there : (names : List Name) (x : Name) → has_name names x ≡ true → with_name names x ≡ names
 with_name_there names x e = ap (λ (t : Bool). cond t names (names ++ x ∷ [])) e
 
 pub with_name_new : (names : List Name) (x : Name) → has_name names x ≡ false → with_name names x ≡ names ++ x ∷ []
