@@ -7,6 +7,7 @@ pub mod TextBack
 pub mod PlainCanonical
 pub mod CanonicalBack
 pub mod DraftKept
+pub mod MarkedFacts
 pub mod NameFacts
 pub mod Once
 pub mod Examples

@@ -72,6 +72,7 @@ pub record Carried (hops other : List Hop) (f : ℕ → ℕ) (P : ℕ → Type 0
   pub image : List ℕ
   pub is_walk : IsWalk other image (f v) (f w)
   pub sum : transit_sum other image ≡ transit_sum hops walk
+  pub long : length image ≡ length walk
   pub after : P w
 
 sums_agree : (a b c d : ℚ) → a ≡ c → b ≡ d → a +ℚ b ≡ c +ℚ d
@@ -80,7 +81,7 @@ sums_agree a b c d e f = λ i. e i +ℚ f i
 -- where each hop that leaves a node with the property has a counterpart, and leads to such a node, so has each walk from one
 module _ (hops other : List Hop) (f : ℕ → ℕ) (P : ℕ → Type 0) (each : (e : ℕ) (hop : Hop) → IsHop hops e hop → P hop.tail → Corresponds other f P hop) where
   pub carried : (walk : List ℕ) (v w : ℕ) → P v → IsWalk hops walk v w → Carried hops other f P walk v w
-  carried [] v w p h = record { image = []; is_walk = ap f h; sum = refl; after = subst P h p }
+  carried [] v w p h = record { image = []; is_walk = ap f h; sum = refl; long = refl; after = subst P h p }
   carried (e ∷ walk) v w p h =
       let c : Corresponds other f P h.0 = each e h.0 h.1 (subst P (sym h.2) p) in
       let r : Carried hops other f P walk h.0.head w = carried walk h.0.head w c.after h.3 in
@@ -88,5 +89,6 @@ module _ (hops other : List Hop) (f : ℕ → ℕ) (P : ℕ → Type 0) (each : 
         image = c.number ∷ r.image;
         is_walk = (c.image, c.is_hop, c.tail ∙ ap f h.2, subst (λ u. IsWalk other r.image u (f w)) (sym c.head) r.is_walk);
         sum = sums_agree _ _ _ _ (transit_of-hop other c.number c.image c.is_hop ∙ c.transit ∙ sym (transit_of-hop hops e h.0 h.1)) r.sum;
+        long = ap (λ k. suc k) r.long;
         after = r.after;
       }
