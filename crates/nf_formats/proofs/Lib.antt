@@ -8,6 +8,8 @@ pub mod PlainCanonical
 pub mod CanonicalBack
 pub mod DraftKept
 pub mod MarkedFacts
+pub mod AcceptedNodes
+pub mod AcceptedWalks
 pub mod NameFacts
 pub mod Once
 pub mod Examples
