@@ -20,11 +20,11 @@ use Rattle.nf_formats.proofs.DraftKept.{IsGoodDraft, or_left, or_right, still_th
 use Rattle.nf_formats.proofs.MarkedFacts.{Entry, from_marked, in_marked, marked_have, marked_all, every_with_names, has_every}
 
 -- ---- lists of links
-all_implied : {X : Type 0} (P Q : X → Type 0) → ((x : X) → P x → Q x) → (xs : List X) → AllByRecursion P xs → AllByRecursion Q xs
+pub all_implied : {X : Type 0} (P Q : X → Type 0) → ((x : X) → P x → Q x) → (xs : List X) → AllByRecursion P xs → AllByRecursion Q xs
 all_implied P Q f [] h = tt
 all_implied P Q f (x ∷ xs) h = (f x h.0, all_implied P Q f xs h.1)
 
-all_entries : (links : List NamedLink) → AllByRecursion (Entry links) links
+pub all_entries : (links : List NamedLink) → AllByRecursion (Entry links) links
 all_entries [] = tt
 all_entries (l ∷ links) = ((0, refl), all_implied (Entry links) (Entry (l ∷ links)) (λ k r. (suc r.0, r.1)) links (all_entries links))
 

@@ -10,6 +10,7 @@ pub mod DraftKept
 pub mod MarkedFacts
 pub mod AcceptedNodes
 pub mod AcceptedWalks
+pub mod AcceptedNamed
 pub mod NameFacts
 pub mod Once
 pub mod Examples
