@@ -1,3 +1,4 @@
+pub mod RuleExamples
 pub mod WalkFacts
 pub mod LinkFacts
 pub mod ClosesBack
