@@ -5,7 +5,8 @@ use Rattle.nf_rational.specs.Rational.{ℚ, ratio}
 use Rattle.nf_rational.specs.Gcd.{gcd}
 use Rattle.nf_rational.specs.Operations.{0ℚ, whole, ◌+ℚ◌}
 use Rattle.nf_rational.specs.Order.{◌≤ℚ◌, le_ℚ, lt_ℚ}
-use Rattle.nf_rational_laws.proofs.Order.{≤ℚ_of_same}
+use Rattle.nf_rational_laws.proofs.Order.{≤ℚ_of_same, ≤ℚ_antisymm}
+use Rattle.nf_rational_laws.proofs.Tests.{le_of_test}
 use Rattle.nf_work.specs.Passing.{beyond}
 use Rattle.nf_work.specs.declared.Op.TheVariants.{Sum}
 use Rattle.nf_model.specs.Walk.{Hop, IsHop, IsWalk, transit_of, transit_sum, IsLeastTransit}
@@ -17,8 +18,12 @@ use Rattle.nf_formats.specs.Numbers.{greatest}
 use Rattle.nf_formats.specs.Named.{Named}
 use Rattle.nf_formats.specs.NetLines.{Broken}
 use Rattle.nf_formats.specs.NetFile.{Reads}
+use Rattle.nf_formats.specs.NetText.{canonical}
+use Rattle.nf_formats.specs.WellNamed.{IsNamed}
 use Rattle.nf_formats.proofs.NameFacts.{bytes_eq-self}
-use Rattle.nf_formats.proofs.WalkFacts.{entry_all, transit_of-hop}
+use Rattle.nf_formats.proofs.WalkFacts.{entry_all, transit_of-hop, transit_sum_nn}
+use Rattle.nf_formats.proofs.CanonicalBack.{canonical_back}
+use Rattle.nf_formats.proofs.AcceptedNamed.{accepted_named}
 
 -- lines with LF
 abbrev text : List (List ℕ) → List ℕ
@@ -213,3 +218,110 @@ unfolding whole ratio gcd le_ℚ lt_ℚ digits_of number_of parts_of decimal_of 
 sum_passes = (inr ((λ e. absurd (cc)), inr ((λ e. absurd (cc)), inr (s_and_t, inr ((λ r. r.2 (row_reached longest r.0 r.1)),
     inr ((λ c. none_zero (in_a_row longest) (refl, (refl, tt)) c.first c.closed.0 c.closed.1 c.zero.0), inl (
       record { link = 1; hop = hop 2 1 (n 1); least = longest; is_hop = refl; is_least = longest_is_least; is_fraction = refl; passes = refl }, refl)))))), refl)
+
+-- ---- accepted files
+-- the least transit sum from a node to itself is 0
+to_itself : (hops : List Hop) (v : ℕ) (least : ℚ) → AllByRecursion (λ hop. le_ℚ 0ℚ hop.transit ≡ true) hops → IsLeastTransit hops v v least → least ≡ 0ℚ
+to_itself hops v least positive h =
+    let above : 0ℚ ≤ℚ transit_sum hops h.taken.0 =
+      transit_sum_nn hops (λ e hop is. le_of_test 0ℚ hop.transit (entry_all (λ hop. le_ℚ 0ℚ hop.transit ≡ true) hops e hop positive is)) h.taken.0 v v h.taken.1 in
+    ≤ℚ_antisymm least 0ℚ (h.bound [] refl) (subst (λ x. 0ℚ ≤ℚ x) h.taken.2 above)
+
+-- no sum passes at a link out of the source
+fits_at_source : (hops : List Hop) (source : ℕ) (h other : Hop) (least : ℚ) → AllByRecursion (λ hop. le_ℚ 0ℚ hop.transit ≡ true) hops → h.tail ≡ source → beyond greatest Sum 0ℚ h.transit ≡ false
+    → h ≡ other → IsLeastTransit hops source other.tail least → beyond greatest Sum least other.transit ≡ true → ⊥
+fits_at_source hops source h other least positive out fits same is_least wide =
+    let zero_ : least ≡ 0ℚ = to_itself hops source least positive (subst (λ v. IsLeastTransit hops source v least) (sym (ap (λ (x : Hop). x.tail) same) ∙ out) is_least) in
+    let other_wide : beyond greatest Sum 0ℚ h.transit ≡ true = subst (λ x. beyond greatest Sum x h.transit ≡ true) zero_ (subst (λ (x : Hop). beyond greatest Sum least x.transit ≡ true) (sym same) wide) in
+    absurd (cc)
+
+-- one link from source to sink, in a file with comments and CR LF that names the sink first
+abbrev commented : List ℕ
+commented = flat_map (λ l. l ++ 13 ∷ 10 ∷ []) (
+    codes "# demo" ∷ codes "nfot 1" ∷ codes "sink t" ∷ codes "link a s t 2/4 06" ∷ codes "source s" ∷ codes "inflow 0 1" ∷ codes "end" ∷ [])
+
+abbrev one_link : Named
+one_link = record {
+  version = 1;
+  net = record {
+    nodes = 2; source = 0; sink = 1;
+    links = record { tail = 0; head = 1; transit = ratio (pos 2) 4; capacity = Some (n 6) } ∷ [];
+    pieces = record { start = n 0; rate = n 1 } ∷ [];
+  };
+  node_names = codes "s" ∷ codes "t" ∷ [];
+  link_names = codes "a" ∷ [];
+  idle_nodes = [];
+  idle_links = [];
+}
+
+abbrev one_hop : List Hop
+one_hop = hop 1 0 (ratio (pos 2) 4) ∷ []
+
+one_hop_reached : (v : ℕ) → v < 2 → (walk : List ℕ) × IsWalk one_hop walk 1 v
+one_hop_reached zero h = (0 ∷ [], (hop 1 0 (ratio (pos 2) 4), refl, refl, refl))
+one_hop_reached (suc zero) h = ([], refl)
+one_hop_reached (suc (suc v)) h = absurd (omega arith)
+
+one_hop_fits : (e : ℕ) (h : Hop) (least : ℚ) → IsHop one_hop e h → IsLeastTransit one_hop 1 h.tail least → beyond greatest Sum least h.transit ≡ true → ⊥
+unfolding whole ratio gcd le_ℚ beyond
+one_hop_fits zero h least is is_least wide = fits_at_source one_hop 1 (hop 1 0 (ratio (pos 2) 4)) h least (refl, tt) refl refl (same_hop (hop 1 0 (ratio (pos 2) 4)) h is) is_least wide
+one_hop_fits (suc e) h least is is_least wide = absurd (let none : ◌≡◌ {A = Option Hop} None (Some h) = is in cc)
+
+pub one_link_read : Reads commented (Ok one_link)
+unfolding whole ratio gcd le_ℚ lt_ℚ digits_of number_of parts_of decimal_of decimal_parts_of printed printed_parts
+one_link_read =
+    ( ((λ e. absurd (cc)), ((λ e. absurd (cc)), (s_and_t, ((λ r. r.2 (one_hop_reached r.0 r.1)),
+        ((λ c. none_zero one_hop (refl, tt) c.first c.closed.0 c.closed.1 c.zero.0), ((λ p. one_hop_fits p.link p.hop p.least p.is_hop p.is_least p.passes), tt))))))
+    , record { flags = true ∷ []; active = (((λ e. ([], refl)), (λ r. refl)), tt); network = refl })
+
+-- version 2, with decimals and a link whose tail isn't reached
+abbrev with_idle : List ℕ
+with_idle = text (codes "nfot 2" ∷ codes "source s" ∷ codes "sink t" ∷ codes "link x w t 1 1" ∷ codes "link a s t 0.5 1.50" ∷ codes "inflow 0 2" ∷ codes "end" ∷ [])
+
+abbrev half : ℚ
+half = ratio (pos 5) 10
+
+abbrev one_idle : Named
+one_idle = record {
+  version = 2;
+  net = record {
+    nodes = 2; source = 0; sink = 1;
+    links = record { tail = 0; head = 1; transit = half; capacity = Some (ratio (pos 150) 100) } ∷ [];
+    pieces = record { start = n 0; rate = n 2 } ∷ [];
+  };
+  node_names = codes "s" ∷ codes "t" ∷ [];
+  link_names = codes "a" ∷ [];
+  idle_nodes = codes "w" ∷ [];
+  idle_links = record { name = codes "x"; tail = codes "w"; head = codes "t"; transit = n 1; capacity = Some (n 1) } ∷ [];
+}
+
+-- nodes are s, t, w
+abbrev two_hops : List Hop
+two_hops = hop 2 1 (n 1) ∷ hop 0 1 half ∷ []
+
+not_two : (walk : List ℕ) → IsWalk two_hops walk 0 2 → ⊥
+not_two walk h = let k : below_two 2 ≡ true = stays two_hops below_two ((λ e. refl), ((λ e. refl), tt)) walk 0 2 refl h in absurd (cc)
+
+two_hops_fit : (e : ℕ) (h : Hop) (least : ℚ) → IsHop two_hops e h → IsLeastTransit two_hops 0 h.tail least → beyond greatest Sum least h.transit ≡ true → ⊥
+unfolding whole ratio gcd le_ℚ beyond
+two_hops_fit zero h least is is_least wide = not_two is_least.taken.0 (subst (IsWalk two_hops is_least.taken.0 0) (sym (tail_is (hop 2 1 (n 1)) h h.tail is refl)) is_least.taken.1)
+two_hops_fit (suc zero) h least is is_least wide = fits_at_source two_hops 0 (hop 0 1 half) h least (refl, (refl, tt)) refl refl (same_hop (hop 0 1 half) h is) is_least wide
+two_hops_fit (suc (suc e)) h least is is_least wide = absurd (let none : ◌≡◌ {A = Option Hop} None (Some h) = is in cc)
+
+pub one_idle_read : Reads with_idle (Ok one_idle)
+unfolding whole ratio gcd le_ℚ lt_ℚ digits_of number_of parts_of decimal_of decimal_parts_of printed printed_parts
+one_idle_read =
+    ( ((λ e. absurd (cc)), ((λ e. absurd (cc)), (s_and_t, ((λ f. f (1 ∷ [], (hop 0 1 half, refl, refl, refl))),
+        ((λ c. none_zero two_hops (refl, (refl, tt)) c.first c.closed.0 c.closed.1 c.zero.0), ((λ p. two_hops_fit p.link p.hop p.least p.is_hop p.is_least p.passes), tt))))))
+    , record {
+        flags = false ∷ true ∷ [];
+        active = (((λ e. absurd (cc)), (λ r. absurd (not_two r.0 r.1))), (((λ e. ([], refl)), (λ r. refl)), tt));
+        network = refl;
+      })
+
+-- so there are such networks, and their texts are read back
+pub one_idle_is_named : IsNamed one_idle
+one_idle_is_named = accepted_named with_idle one_idle one_idle_read
+
+pub one_idle_back : Reads (canonical one_idle) (Ok one_idle)
+one_idle_back = canonical_back one_idle one_idle_is_named
