@@ -1,5 +1,5 @@
 -- The network of an accepted file is well formed.
-use Rattle.std.proofs.Common.{◌≡◌, ℕ, zero, suc, ◌+◌, ◌<◌, ◌≤◌, ◌⊎◌, ◌==◌, ◌&&◌, Bool, true, false, not, List, [], ◌∷◌, ◌++◌, length, map, slice_get, Option, Some, None, Result, Ok, Err, unwrap_or, refl, sym, ◌∙◌, ap, subst, inl, inr, arith, bytes_eq, length-append}
+use Rattle.std.proofs.Common.{◌≡◌, ℕ, zero, suc, ◌<◌, ◌≤◌, ◌==◌, ◌&&◌, Bool, true, false, not, List, [], ◌∷◌, ◌++◌, length, map, slice_get, Option, Some, None, Result, Ok, Err, unwrap_or, refl, sym, ◌∙◌, ap, subst, arith, bytes_eq, length-append}
 use Rattle.std.specs.Bool.{MatchBool}
 use Rattle.std.specs.List.{AllByRecursion, IsDistinct, list_all}
 use Rattle.nf_rational.specs.Rational.{ℚ}
@@ -9,24 +9,22 @@ use Rattle.nf_rational_laws.proofs.Tests.{lt_of_test}
 use Rattle.nf_work.specs.Passing.{beyond}
 use Rattle.nf_work.specs.declared.Op.TheVariants.{Sum}
 use Rattle.nf_model.specs.Walk.{Hop, IsHop, IsWalk, transit_sum, IsLeastTransit}
-use Rattle.nf_model.specs.Network.{Link, Piece, Network, IsLink, IsPiece, ArePieces, IsNetwork, hop_of, hops}
-use Rattle.nf_formats.specs.declared.NetRule.TheVariants.{N17, N18, N19, N20, N21, N22}
+use Rattle.nf_model.specs.Network.{Link, Piece, IsLink, IsPiece, ArePieces, IsNetwork, hop_of, hops}
 use Rattle.nf_formats.specs.Names.{Name, is_name, has_name, place_of, name_at, with_names, without, AreNames}
 use Rattle.nf_formats.specs.Numbers.{greatest}
-use Rattle.nf_formats.specs.Named.{NamedLink, Named, numbered, hops_among, named, all_named, active_links, all_links, all_nodes, all_hops, ends, names_of}
+use Rattle.nf_formats.specs.Named.{NamedLink, Named, numbered, hops_among, all_named, active_links, all_hops, ends, names_of}
 use Rattle.nf_lines.specs.Words.{read_lines, content_lines}
 use Rattle.nf_lines.specs.Faults.{LineFault, first_fault}
-use Rattle.nf_formats.specs.NetLines.{Broken, Draft, is_not_after, draft_from}
+use Rattle.nf_formats.specs.NetLines.{Broken, Draft, draft_from}
 use Rattle.nf_formats.specs.NetFile.{Closes, by_lines, by_bytes, Reads}
-use Rattle.nf_formats.specs.NetClosing.{draft_hops, source_name, sink_name, source_place, IsReached, LeavesUnreached, HasPassingSum, Breaks, closing_rules, marked, network_of, AreActive}
-use Rattle.nf_formats.specs.WellNamed.{IsFraction, IsCapacity, IsNamedLink, IsFractionPiece, IsWithinLimits, IsNumbered, SumsFit, IsNamed}
-use Rattle.nf_formats.proofs.NameFacts.{decided, same_names, has_at, place_below, name_at-place, place_at, with_names-split}
-use Rattle.nf_formats.proofs.WalkFacts.{entry_all, slice_get-right, IsIn, in_first, in_second, which, CameFrom, came_from, slice_get-image, Corresponds, Carried, carried}
-use Rattle.nf_formats.proofs.LinkFacts.{map-append}
+use Rattle.nf_formats.specs.NetClosing.{draft_hops, source_name, sink_name, source_place, IsReached, HasPassingSum, Breaks, closing_rules, marked, network_of, AreActive}
+use Rattle.nf_formats.specs.WellNamed.{IsFraction, IsCapacity, IsNamedLink, IsWithinLimits, IsNumbered, SumsFit, IsNamed}
+use Rattle.nf_formats.proofs.NameFacts.{same_names, has_at, place_below, name_at-place, place_at, with_names-split}
+use Rattle.nf_formats.proofs.WalkFacts.{entry_all, IsIn, in_first, in_second, which, CameFrom, came_from, slice_get-image, Corresponds, Carried, carried}
 use Rattle.nf_formats.proofs.LinesBack.{Rises, AreNotNegative, length-with_names}
 use Rattle.nf_formats.proofs.DraftKept.{IsGoodDraft, draft_kept, distinct_with_names, still_there, now_there, all_with_names, all_pushed}
-use Rattle.nf_formats.proofs.MarkedFacts.{Entry, from_marked, in_marked, marked_have, others_lack, length_split, marked_all, distinct_split, no_more, has_all, has_every}
-use Rattle.nf_formats.proofs.AcceptedNodes.{both_all, all_entries, all_implied, ends_among, s_there, t_there, two_nodes, there, reached_on, t_reached, IsReachedName, nodes_reached}
+use Rattle.nf_formats.proofs.MarkedFacts.{Entry, from_marked, in_marked, others_lack, length_split, marked_all, distinct_split, no_more, has_all, has_every}
+use Rattle.nf_formats.proofs.AcceptedNodes.{both_all, all_entries, all_implied, ends_among, s_there, t_there, two_nodes, there, reached_on, IsReachedName, nodes_reached}
 use Rattle.nf_formats.proofs.AcceptedWalks.{AreOfFile, walk_to_file, circles}
 
 -- ---- lists
@@ -43,7 +41,7 @@ named_numbered : (nodes : List Name) (links : List NamedLink)
 named_numbered nodes [] f = refl
 named_numbered nodes (l ∷ links) f =
     λ i. record { name = l.name; tail = name_at-place nodes l.tail (f 0 l refl).0 i; head = name_at-place nodes l.head (f 0 l refl).1 i; transit = l.transit; capacity = l.capacity }
-      ∷ named_numbered nodes links (λ e l is. f (suc e) l is) i
+    ∷ named_numbered nodes links (λ e l is. f (suc e) l is) i
 
 length_map : {X Y : Type 0} (f : X → Y) (xs : List X) → length (map f xs) ≡ length xs
 length_map f [] = refl
@@ -179,7 +177,7 @@ module _ (draft : Draft) (g : IsGoodDraft draft) (fine : AllByRecursion (λ rule
   to_net i hop is r =
       let c : CameFrom (λ l. hop_of (numbered draft.nodes l)) draft.links i hop = came_from (λ l. hop_of (numbered draft.nodes l)) draft.links i hop is in
       subst (Corresponds (hops_among nodes active) (λ v. place_of nodes (name_at draft.nodes v)) (IsReached draft)) c.is_image
-        (as_net_hop i c.entry c.is_entry (subst (λ (x : Hop). IsReached draft x.tail) (sym c.is_image) r))
+      (as_net_hop i c.entry c.is_entry (subst (λ (x : Hop). IsReached draft x.tail) (sym c.is_image) r))
 
   source_number : place_of nodes (name_at draft.nodes (source_place draft)) ≡ 0
   source_number = ap (place_of nodes) (name_at-place draft.nodes s (s_there draft g fine flags act)) ∙ s_place
@@ -214,10 +212,10 @@ module _ (draft : Draft) (g : IsGoodDraft draft) (fine : AllByRecursion (λ rule
     heads = λ e link is. (let c = link_from e link is in subst (λ (x : Link). x.head < length nodes) c.is_image (place_below nodes c.entry.head (active_ends e c.entry c.is_entry).1));
     transits = λ e link is. (let c = link_from e link is in subst (λ (x : Link). 0ℚ ≤ℚ x.transit) c.is_image (at_marked (IsNamedLink draft.version) active good_links e c.entry c.is_entry).transit);
     capacities = λ e link capacity is eq. (let c = link_from e link is in
-      positive_capacity draft.version c.entry.capacity capacity (at_marked (IsNamedLink draft.version) active good_links e c.entry c.is_entry).capacity (ap (λ (x : Link). x.capacity) c.is_image ∙ eq));
+        positive_capacity draft.version c.entry.capacity capacity (at_marked (IsNamedLink draft.version) active good_links e c.entry c.is_entry).capacity (ap (λ (x : Link). x.capacity) c.is_image ∙ eq));
     pieces = are_pieces draft.pieces g.not_negative g.rise;
     cycles = λ e walk v h. subst (λ hops. 0ℚ <ℚ transit_sum hops (e ∷ walk)) (sym hops_are)
-      (circles draft g nodes active active_of fine.1.1.1.1.0 e walk v (subst (λ hops. IsWalk hops (e ∷ walk) v v) hops_are h));
+        (circles draft g nodes active active_of fine.1.1.1.1.0 e walk v (subst (λ hops. IsWalk hops (e ∷ walk) v v) hops_are h));
     reached = λ v low. reached_node v low;
   }
 
@@ -239,7 +237,7 @@ module _ (draft : Draft) (g : IsGoodDraft draft) (fine : AllByRecursion (λ rule
   all_names : AreNames (nodes ++ others)
   all_names = record {
     each = subst (λ names. list_all is_name names ≡ true) all_nodes_are
-      (all_with_names is_name nodes (ends idle) (all_with_names is_name (s ∷ t ∷ []) (ends active) (λ i. s_is_name i && (t_is_name i && true)) (ends_are_names active good_links)) (ends_are_names idle good_idle));
+        (all_with_names is_name nodes (ends idle) (all_with_names is_name (s ∷ t ∷ []) (ends active) (λ i. s_is_name i && (t_is_name i && true)) (ends_are_names active good_links)) (ends_are_names idle good_idle));
     distinct = subst (IsDistinct bytes_eq) all_nodes_are (distinct_with_names nodes (ends idle) nodes_distinct);
   }
 
@@ -251,13 +249,13 @@ module _ (draft : Draft) (g : IsGoodDraft draft) (fine : AllByRecursion (λ rule
   all_in_file : list_all (has_name draft.nodes) (with_names nodes (ends idle)) ≡ true
   all_in_file = all_with_names (has_name draft.nodes) nodes (ends idle)
       (all_with_names (has_name draft.nodes) (s ∷ t ∷ []) (ends active) (λ i. s_there draft g fine flags act i && (t_there draft g fine flags act i && true))
-        (ends_in_file active (marked_all (Entry draft.links) flags draft.links (all_entries draft.links))))
+      (ends_in_file active (marked_all (Entry draft.links) flags draft.links (all_entries draft.links))))
       (ends_in_file idle (marked_all (Entry draft.links) (map not flags) draft.links (all_entries draft.links)))
 
   within_limits : IsWithinLimits n
   within_limits = record {
     nodes = (let few : length (nodes ++ others) ≤ length draft.nodes = subst (λ names. length names ≤ length draft.nodes) all_nodes_are
-          (no_more (with_names nodes (ends idle)) draft.nodes (distinct_with_names nodes (ends idle) nodes_distinct) all_in_file) in
+        (no_more (with_names nodes (ends idle)) draft.nodes (distinct_with_names nodes (ends idle) nodes_distinct) all_in_file) in
         let most : length draft.nodes ≤ 64 = g.few_nodes in omega arith);
     links = subst (λ k. k ≤ 200) (sym (ap (λ first. length (first ++ idle)) active_again ∙ length-append active idle ∙ length_split (λ l. IsReached draft (place_of draft.nodes l.tail)) flags draft.links act)) g.few_links;
     pieces = g.few_pieces;
@@ -296,14 +294,14 @@ module _ (draft : Draft) (g : IsGoodDraft draft) (fine : AllByRecursion (λ rule
       → IsLeastTransit (hops_among nodes active) 0 (place_of nodes l.tail) least → IsLeastTransit (draft_hops draft) (source_place draft) (place_of draft.nodes l.tail) least
   least_in_file i l least is named_ h = record {
     taken = (
-      let c = walk_to_file draft g nodes active active_of h.taken.0 0 (place_of nodes l.tail) h.taken.1 in
-      let from : place_of draft.nodes (name_at nodes 0) ≡ source_place draft = ap (place_of draft.nodes) first_name in
-      let to : place_of draft.nodes (name_at nodes (place_of nodes l.tail)) ≡ place_of draft.nodes l.tail = ap (place_of draft.nodes) (name_at-place nodes l.tail named_) in
-      (c.image, subst (λ u. IsWalk (draft_hops draft) c.image u (place_of draft.nodes l.tail)) from (subst (λ w. IsWalk (draft_hops draft) c.image (place_of draft.nodes (name_at nodes 0)) w) to c.is_walk), c.sum ∙ h.taken.2));
+        let c = walk_to_file draft g nodes active active_of h.taken.0 0 (place_of nodes l.tail) h.taken.1 in
+        let from : place_of draft.nodes (name_at nodes 0) ≡ source_place draft = ap (place_of draft.nodes) first_name in
+        let to : place_of draft.nodes (name_at nodes (place_of nodes l.tail)) ≡ place_of draft.nodes l.tail = ap (place_of draft.nodes) (name_at-place nodes l.tail named_) in
+        (c.image, subst (λ u. IsWalk (draft_hops draft) c.image u (place_of draft.nodes l.tail)) from (subst (λ w. IsWalk (draft_hops draft) c.image (place_of draft.nodes (name_at nodes 0)) w) to c.is_walk), c.sum ∙ h.taken.2));
     bound = λ walk w. (
-      let c = walk_to_net walk (place_of draft.nodes l.tail) w in
-      let to : place_of nodes (name_at draft.nodes (place_of draft.nodes l.tail)) ≡ place_of nodes l.tail = ap (place_of nodes) (name_at-place draft.nodes l.tail (there draft g fine flags act i l is).0) in
-      subst (λ x. least ≤ℚ x) c.sum (h.bound c.image (subst (λ u. IsWalk (hops_among nodes active) c.image u (place_of nodes l.tail)) source_number
+        let c = walk_to_net walk (place_of draft.nodes l.tail) w in
+        let to : place_of nodes (name_at draft.nodes (place_of draft.nodes l.tail)) ≡ place_of nodes l.tail = ap (place_of nodes) (name_at-place draft.nodes l.tail (there draft g fine flags act i l is).0) in
+        subst (λ x. least ≤ℚ x) c.sum (h.bound c.image (subst (λ u. IsWalk (hops_among nodes active) c.image u (place_of nodes l.tail)) source_number
         (subst (λ v. IsWalk (hops_among nodes active) c.image (place_of nodes (name_at draft.nodes (source_place draft))) v) to c.is_walk))));
   }
 
@@ -318,7 +316,7 @@ module _ (draft : Draft) (g : IsGoodDraft draft) (fine : AllByRecursion (λ rule
         least = least;
         is_hop = slice_get-image (λ l. hop_of (numbered draft.nodes l)) draft.links i.0 c.entry i.1;
         is_least = least_in_file i.0 c.entry least i.1 (active_ends e c.entry c.is_entry).0
-          (subst (λ v. IsLeastTransit (hops_among nodes active) 0 v least) (sym (ap (λ (x : Hop). x.tail) c.is_image)) is_least);
+            (subst (λ v. IsLeastTransit (hops_among nodes active) 0 v least) (sym (ap (λ (x : Hop). x.tail) c.is_image)) is_least);
         is_fraction = fraction;
         passes = ap (λ (x : Hop). beyond greatest Sum least x.transit) c.is_image ∙ wide;
       }
@@ -348,7 +346,7 @@ module _ (draft : Draft) (g : IsGoodDraft draft) (fine : AllByRecursion (λ rule
     idle = λ e. none_idle e idle idle_ones;
     idle_tails = idle_tails;
     cycles = λ e walk v h. subst (λ hops. 0ℚ <ℚ transit_sum hops (e ∷ walk)) (sym all_hops_are)
-      (circles draft g (nodes ++ others) (active ++ idle) all_of fine.1.1.1.1.0 e walk v (subst (λ hops. IsWalk hops (e ∷ walk) v v) all_hops_are h));
+        (circles draft g (nodes ++ others) (active ++ idle) all_of fine.1.1.1.1.0 e walk v (subst (λ hops. IsWalk hops (e ∷ walk) v v) all_hops_are h));
     sums_fit = sums_fit;
   }
 

@@ -1,23 +1,18 @@
 -- Of an accepted file: which nodes are reached, and walks by the numbers of the file and of its network.
-use Rattle.std.proofs.Common.{◌≡◌, ℕ, zero, suc, ◌+◌, ◌<◌, ◌≤◌, ◌==◌, ◌⊎◌, ◌||◌, Bool, true, false, not, List, [], ◌∷◌, ◌++◌, length, map, slice_get, Option, Some, None, is_none, unwrap_or, refl, sym, ◌∙◌, ap, subst, inl, inr, arith, bytes_eq, append_assoc}
-use Rattle.std.specs.Bool.{MatchBool, Decides}
-use Rattle.std.specs.List.{AllByRecursion, AllZip, IsDistinct, list_all}
+use Rattle.std.proofs.Common.{◌≡◌, ℕ, zero, suc, ◌<◌, ◌==◌, ◌||◌, Bool, true, false, List, [], ◌∷◌, ◌++◌, length, map, slice_get, Option, Some, None, is_none, unwrap_or, refl, sym, ◌∙◌, ap, subst, inl, inr, bytes_eq}
+use Rattle.std.specs.Bool.{MatchBool}
+use Rattle.std.specs.List.{AllByRecursion, list_all}
 use Rattle.std.proofs.lemmas.Bool.{and_parts}
-use Rattle.nf_rational.specs.Rational.{ℚ}
-use Rattle.nf_rational.specs.Operations.{0ℚ}
-use Rattle.nf_rational.specs.Order.{◌≤ℚ◌, ◌<ℚ◌}
-use Rattle.nf_rational_laws.proofs.Order.{lt_or_le_ℚ}
-use Rattle.nf_model.specs.Walk.{Hop, IsHop, IsWalk, transit_of, transit_sum, IsLeastTransit}
-use Rattle.nf_model.specs.Network.{Link, hop_of}
-use Rattle.nf_formats.specs.declared.NetRule.TheVariants.{N17, N18, N19, N20, N21, N22}
-use Rattle.nf_formats.specs.Names.{Name, has_name, place_of, name_at, with_names, without}
-use Rattle.nf_formats.specs.Named.{NamedLink, Named, numbered, hops_among, ends}
+use Rattle.nf_model.specs.Walk.{Hop, IsHop, IsWalk}
+use Rattle.nf_model.specs.Network.{hop_of}
+use Rattle.nf_formats.specs.Names.{Name, has_name, place_of, name_at, with_names}
+use Rattle.nf_formats.specs.Named.{NamedLink, numbered, ends}
 use Rattle.nf_formats.specs.NetLines.{Draft}
-use Rattle.nf_formats.specs.NetClosing.{draft_hops, source_name, sink_name, source_place, IsReached, LeavesUnreached, HasZeroCycle, Breaks, closing_rules, marked, network_of, AreActive}
-use Rattle.nf_formats.proofs.NameFacts.{decided, bytes_eq-self, has_at, place_below, name_at-place, place_at}
-use Rattle.nf_formats.proofs.WalkFacts.{entry_all, CameFrom, came_from, slice_get-image, Corresponds, Carried, carried, walk_push, LastHop, last_hop, starts_with_one, transit_sum_nn, all_zero}
-use Rattle.nf_formats.proofs.DraftKept.{IsGoodDraft, or_left, or_right, still_there, now_there}
-use Rattle.nf_formats.proofs.MarkedFacts.{Entry, from_marked, in_marked, marked_have, marked_all, every_with_names, has_every}
+use Rattle.nf_formats.specs.NetClosing.{draft_hops, source_name, sink_name, source_place, IsReached, LeavesUnreached, Breaks, closing_rules, marked, AreActive}
+use Rattle.nf_formats.proofs.NameFacts.{decided, bytes_eq-self, place_below, name_at-place}
+use Rattle.nf_formats.proofs.WalkFacts.{entry_all, CameFrom, came_from, slice_get-image, walk_push, LastHop, last_hop}
+use Rattle.nf_formats.proofs.DraftKept.{IsGoodDraft, or_left, or_right}
+use Rattle.nf_formats.proofs.MarkedFacts.{Entry, in_marked, marked_have, marked_all, every_with_names, has_every}
 
 -- ---- lists of links
 pub all_implied : {X : Type 0} (P Q : X → Type 0) → ((x : X) → P x → Q x) → (xs : List X) → AllByRecursion P xs → AllByRecursion Q xs
@@ -47,16 +42,20 @@ abbrev EndsAmong : List NamedLink → NamedLink → Type 0
 EndsAmong links k = (has_name (ends links) k.tail ≡ true) × (has_name (ends links) k.head ≡ true)
 
 later : (l : NamedLink) (links : List NamedLink) (k : NamedLink) → EndsAmong links k → EndsAmong (l ∷ links) k
-later l links k h =
-    ( or_right (bytes_eq k.tail l.tail) (bytes_eq k.tail l.head || has_name (ends links) k.tail) (or_right (bytes_eq k.tail l.head) (has_name (ends links) k.tail) h.0)
-    , or_right (bytes_eq k.head l.tail) (bytes_eq k.head l.head || has_name (ends links) k.head) (or_right (bytes_eq k.head l.head) (has_name (ends links) k.head) h.1))
+later l links k h = (
+  or_right (bytes_eq k.tail l.tail) (bytes_eq k.tail l.head || has_name (ends links) k.tail) (or_right (bytes_eq k.tail l.head) (has_name (ends links) k.tail) h.0),
+  or_right (bytes_eq k.head l.tail) (bytes_eq k.head l.head || has_name (ends links) k.head) (or_right (bytes_eq k.head l.head) (has_name (ends links) k.head) h.1),
+)
 
 each_among : (links : List NamedLink) → AllByRecursion (EndsAmong links) links
 each_among [] = tt
-each_among (l ∷ links) =
-    ( ( or_left (bytes_eq l.tail l.tail) (bytes_eq l.tail l.head || has_name (ends links) l.tail) (bytes_eq-self l.tail)
-      , or_right (bytes_eq l.head l.tail) (bytes_eq l.head l.head || has_name (ends links) l.head) (or_left (bytes_eq l.head l.head) (has_name (ends links) l.head) (bytes_eq-self l.head)))
-    , all_implied (EndsAmong links) (EndsAmong (l ∷ links)) (λ k h. later l links k h) links (each_among links))
+each_among (l ∷ links) = (
+  (
+    or_left (bytes_eq l.tail l.tail) (bytes_eq l.tail l.head || has_name (ends links) l.tail) (bytes_eq-self l.tail),
+    or_right (bytes_eq l.head l.tail) (bytes_eq l.head l.head || has_name (ends links) l.head) (or_left (bytes_eq l.head l.head) (has_name (ends links) l.head) (bytes_eq-self l.head)),
+  ),
+  all_implied (EndsAmong links) (EndsAmong (l ∷ links)) (λ k h. later l links k h) links (each_among links),
+)
 
 pub ends_among : (links : List NamedLink) (e : ℕ) (l : NamedLink) → slice_get links e ≡ Some l → (has_name (ends links) l.tail ≡ true) × (has_name (ends links) l.head ≡ true)
 ends_among links e l is = entry_all (EndsAmong links) links e l (each_among links) is
@@ -160,10 +159,13 @@ module _ (draft : Draft) (g : IsGoodDraft draft) (fine : AllByRecursion (λ rule
   -- ---- the nodes of the network are there in the file, and reached
   ends_reached : (links : List NamedLink) → AllByRecursion (λ l. Entry draft.links l × Reached l) links → AllByRecursion (λ l. IsReachedName draft l.tail × IsReachedName draft l.head) links
   ends_reached [] h = tt
-  ends_reached (l ∷ links) h =
-      ( ( record { there = (there h.0.0.0 l h.0.0.1).0; reached = h.0.1 }
-        , record { there = (there h.0.0.0 l h.0.0.1).1; reached = reached_on h.0.0.0 l h.0.0.1 h.0.1 })
-      , ends_reached links h.1)
+  ends_reached (l ∷ links) h = (
+    (
+      record { there = (there h.0.0.0 l h.0.0.1).0; reached = h.0.1 },
+      record { there = (there h.0.0.0 l h.0.0.1).1; reached = reached_on h.0.0.0 l h.0.0.1 h.0.1 },
+    ),
+    ends_reached links h.1,
+  )
 
   pub nodes_reached : AllByRecursion (IsReachedName draft) (with_names (source_name draft ∷ sink_name draft ∷ []) (ends (marked flags draft.links)))
   nodes_reached = every_with_names (IsReachedName draft) (source_name draft ∷ sink_name draft ∷ []) (ends (marked flags draft.links))

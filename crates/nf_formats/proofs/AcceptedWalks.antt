@@ -1,19 +1,17 @@
 -- Of an accepted file: walks by the numbers of the file, and by those of its network.
-use Rattle.std.proofs.Common.{◌≡◌, ℕ, zero, suc, ◌<◌, ◌≤◌, ◌⊎◌, Bool, true, List, [], ◌∷◌, ◌++◌, length, map, slice_get, Some, refl, sym, ◌∙◌, ap, subst, inl, inr}
-use Rattle.std.specs.List.{AllByRecursion}
-use Rattle.nf_rational.specs.Rational.{ℚ}
+use Rattle.std.proofs.Common.{◌≡◌, ℕ, ◌⊎◌, true, List, ◌∷◌, length, slice_get, Some, refl, sym, ap, subst, inl, inr}
 use Rattle.nf_rational.specs.Operations.{0ℚ}
 use Rattle.nf_rational.specs.Order.{◌≤ℚ◌, ◌<ℚ◌}
 use Rattle.nf_rational_laws.proofs.Order.{lt_or_le_ℚ}
-use Rattle.nf_model.specs.Walk.{Hop, IsHop, IsWalk, transit_of, transit_sum}
+use Rattle.nf_model.specs.Walk.{Hop, IsHop, IsWalk, transit_sum}
 use Rattle.nf_model.specs.Network.{hop_of}
 use Rattle.nf_formats.specs.Names.{Name, has_name, place_of, name_at}
 use Rattle.nf_formats.specs.Named.{NamedLink, numbered, hops_among}
 use Rattle.nf_formats.specs.NetLines.{Draft}
-use Rattle.nf_formats.specs.NetClosing.{draft_hops, IsReached, HasZeroCycle}
+use Rattle.nf_formats.specs.NetClosing.{draft_hops, HasZeroCycle}
 use Rattle.nf_formats.specs.WellNamed.{IsNamedLink}
 use Rattle.nf_formats.proofs.NameFacts.{name_at-place}
-use Rattle.nf_formats.proofs.WalkFacts.{entry_all, CameFrom, came_from, slice_get-image, Corresponds, Carried, carried, starts_with_one, transit_sum_nn, all_zero}
+use Rattle.nf_formats.proofs.WalkFacts.{entry_all, CameFrom, came_from, slice_get-image, Corresponds, Carried, carried, starts_with_one, all_zero}
 use Rattle.nf_formats.proofs.DraftKept.{IsGoodDraft}
 
 -- transits of a file's hops aren't negative
@@ -66,6 +64,9 @@ module _ (draft : Draft) (g : IsGoodDraft draft) (names : List Name) (links : Li
           let round : IsWalk (draft_hops draft) (one.0 ∷ one.1) (file_place v) (file_place v) = subst (λ w. IsWalk (draft_hops draft) w (file_place v) (file_place v)) one.2 c.is_walk in
           let small : transit_sum (draft_hops draft) (one.0 ∷ one.1) ≤ℚ 0ℚ = subst (λ w. transit_sum (draft_hops draft) w ≤ℚ 0ℚ) one.2 k in
           absurd (none (record {
-            first = one.0; walk = one.1; node = file_place v; closed = round;
+            first = one.0;
+            walk = one.1;
+            node = file_place v;
+            closed = round;
             zero = all_zero (draft_hops draft) (file_transits draft g) (one.0 ∷ one.1) (file_place v) (file_place v) round small;
           }))

@@ -1,24 +1,23 @@
 -- What the lines of a canonical text say as a whole: the network that it is the text of.
-use Rattle.std.proofs.Common.{◌≡◌, ℕ, zero, suc, ◌<◌, ◌≤◌, ◌==◌, ◌⊎◌, Bool, true, false, not, List, [], ◌∷◌, ◌++◌, length, map, slice_get, Some, refl, sym, ◌∙◌, ap, subst, inl, inr, arith, append-nil, map-id, bytes_eq, Ok}
+use Rattle.std.proofs.Common.{◌≡◌, ℕ, ◌<◌, ◌≤◌, ◌==◌, Bool, true, false, List, [], ◌∷◌, ◌++◌, length, map, slice_get, Some, refl, sym, ◌∙◌, ap, subst, inl, inr, arith, append-nil, map-id, bytes_eq, Ok}
 use Rattle.std.specs.Bool.{MatchBool, Decides}
 use Rattle.std.specs.List.{AllByRecursion, IsDistinct}
 use Rattle.nf_rational.specs.Rational.{ℚ}
-use Rattle.nf_rational.specs.Operations.{0ℚ, ◌+ℚ◌}
+use Rattle.nf_rational.specs.Operations.{0ℚ}
 use Rattle.nf_rational.specs.Order.{◌≤ℚ◌, ◌<ℚ◌}
 use Rattle.nf_rational_laws.proofs.Polynomial.{reading_of}
-use Rattle.nf_rational_laws.proofs.Linear.{le, lt, eq, linear_false, linear_eq}
-use Rattle.nf_work.specs.Passing.{beyond}
+use Rattle.nf_rational_laws.proofs.Linear.{lt, eq, linear_false, linear_eq}
 use Rattle.nf_model.specs.Walk.{Hop, IsHop, IsWalk, transit_of, transit_sum, IsLeastTransit}
-use Rattle.nf_model.specs.Network.{Link, Network, IsNetwork, hop_of, hops}
-use Rattle.nf_formats.specs.declared.NetRule.TheVariants.{N17, N18, N19, N20, N21, N22}
+use Rattle.nf_model.specs.Network.{Link, hop_of, hops}
+use Rattle.nf_formats.specs.declared.NetRule.TheVariants.{N19}
 use Rattle.nf_formats.specs.Names.{Name, has_name, place_of, name_at, with_names, without}
-use Rattle.nf_formats.specs.Named.{NamedLink, Named, numbered, hops_among, named, active_links, all_links, all_nodes, all_hops, ends, names_of}
+use Rattle.nf_formats.specs.Named.{NamedLink, Named, numbered, hops_among, active_links, all_links, all_nodes, all_hops, ends, names_of}
 use Rattle.nf_formats.specs.NetLines.{Draft}
-use Rattle.nf_formats.specs.NetClosing.{draft_hops, source_place, IsReached, LeavesUnreached, HasZeroCycle, HasPassingSum, Breaks, closing_rules, marked, network_of, AreActive, StandsFor}
+use Rattle.nf_formats.specs.NetClosing.{IsReached, LeavesUnreached, HasZeroCycle, HasPassingSum, Breaks, network_of, AreActive}
 use Rattle.nf_formats.specs.NetFile.{Closes}
 use Rattle.nf_formats.specs.WellNamed.{IsNamed}
-use Rattle.nf_formats.proofs.NameFacts.{has_at, place_right, place_at}
-use Rattle.nf_formats.proofs.WalkFacts.{slice_get-left, slice_get-right, IsIn, in_first, in_second, which, entry_all, CameFrom, came_from, Corresponds, Carried, carried}
+use Rattle.nf_formats.proofs.NameFacts.{place_right}
+use Rattle.nf_formats.proofs.WalkFacts.{slice_get-left, IsIn, in_first, in_second, which, entry_all, CameFrom, came_from, Corresponds, Carried, carried}
 use Rattle.nf_formats.proofs.LinkFacts.{distinct_left, map-append, names_of-named, named_all, EndsBelow, place_again, map_numbered, first_marked, marked-first, marked-others, flags_hold}
 
 -- what the lines of its canonical text say
@@ -72,7 +71,7 @@ module _ (n : Named) (h : IsNamed n) where
   split_hops : all_hops n ≡ hops n.net ++ hops_among (all_nodes n) n.idle_links
   split_hops = map-append (λ l. hop_of (numbered (all_nodes n) l)) (active_links n) n.idle_links
       ∙ ap (λ first. first ++ hops_among (all_nodes n) n.idle_links)
-        (map_numbered n.node_names n.idle_nodes h.node_names.distinct hop_of n.link_names n.net.links h.numbered.links below)
+      (map_numbered n.node_names n.idle_nodes h.node_names.distinct hop_of n.link_names n.net.links h.numbered.links below)
 
   joined_hops : List Hop
   joined_hops = hops n.net ++ hops_among (all_nodes n) n.idle_links
@@ -80,9 +79,13 @@ module _ (n : Named) (h : IsNamed n) where
   -- a walk of the network is one along all hops
   to_all : (e : ℕ) (hop : Hop) → IsHop (hops n.net) e hop → Unit {0} → Corresponds (all_hops n) (λ v. v) (λ v. Unit {0}) hop
   to_all e hop is _ = record {
-    number = e; image = hop;
+    number = e;
+    image = hop;
     is_hop = subst (λ all. IsHop all e hop) (sym split_hops) (slice_get-left (hops n.net) (hops_among (all_nodes n) n.idle_links) e hop is);
-    tail = refl; head = refl; transit = refl; after = tt;
+    tail = refl;
+    head = refl;
+    transit = refl;
+    after = tt;
   }
 
   idle_tail : (j : ℕ) (hop : Hop) → IsHop (hops_among (all_nodes n) n.idle_links) j hop → n.net.nodes ≤ hop.tail
@@ -112,8 +115,13 @@ module _ (n : Named) (h : IsNamed n) where
 
   from_all : (e : ℕ) (hop : Hop) → IsHop (all_hops n) e hop → hop.tail < n.net.nodes → Corresponds (hops n.net) (λ v. v) (λ v. v < n.net.nodes) hop
   from_all e hop is low = record {
-    number = e; image = hop; is_hop = own e hop is low;
-    tail = refl; head = refl; transit = refl; after = head_below e hop (own e hop is low);
+    number = e;
+    image = hop;
+    is_hop = own e hop is low;
+    tail = refl;
+    head = refl;
+    transit = refl;
+    after = head_below e hop (own e hop is low);
   }
 
   -- ---- which nodes are reached
@@ -126,7 +134,7 @@ module _ (n : Named) (h : IsNamed n) where
   pub reached_below : (v : ℕ) → IsReached (draft_of n) v → v < n.net.nodes
   reached_below v r =
       let c : Carried (all_hops n) (hops n.net) (λ v. v) (λ v. v < n.net.nodes) r.0 n.net.source v =
-          carried (all_hops n) (hops n.net) (λ v. v) (λ v. v < n.net.nodes) from_all r.0 n.net.source v h.network.source (subst (λ s. IsWalk (all_hops n) r.0 s v) source_is r.1) in
+      carried (all_hops n) (hops n.net) (λ v. v) (λ v. v < n.net.nodes) from_all r.0 n.net.source v h.network.source (subst (λ s. IsWalk (all_hops n) r.0 s v) source_is r.1) in
       c.after
 
   -- ---- no rule is broken
@@ -143,10 +151,10 @@ module _ (n : Named) (h : IsNamed n) where
   all_reached : LeavesUnreached (draft_of n) → ⊥
   all_reached broken = elim h.version [
     | inl e ↦ let b : MatchBool (1 == 1) ((v : ℕ) × (v < length (all_nodes n)) × (¬ IsReached (draft_of n) v)) (¬ IsReached (draft_of n) (place_of (all_nodes n) (name_at n.node_names 1)))
-          = subst (λ k. MatchBool (k == 1) ((v : ℕ) × (v < length (all_nodes n)) × (¬ IsReached (draft_of n) v)) (¬ IsReached (draft_of n) (place_of (all_nodes n) (name_at n.node_names 1)))) e broken in
+        = subst (λ k. MatchBool (k == 1) ((v : ℕ) × (v < length (all_nodes n)) × (¬ IsReached (draft_of n) v)) (¬ IsReached (draft_of n) (place_of (all_nodes n) (name_at n.node_names 1)))) e broken in
         b.2 (reached_in b.0 (subst (λ k. b.0 < k) (nothing_idle e) b.1))
     | inr e ↦ let b : MatchBool (2 == 1) ((v : ℕ) × (v < length (all_nodes n)) × (¬ IsReached (draft_of n) v)) (¬ IsReached (draft_of n) (place_of (all_nodes n) (name_at n.node_names 1)))
-          = subst (λ k. MatchBool (k == 1) ((v : ℕ) × (v < length (all_nodes n)) × (¬ IsReached (draft_of n) v)) (¬ IsReached (draft_of n) (place_of (all_nodes n) (name_at n.node_names 1)))) e broken in
+        = subst (λ k. MatchBool (k == 1) ((v : ℕ) × (v < length (all_nodes n)) × (¬ IsReached (draft_of n) v)) (¬ IsReached (draft_of n) (place_of (all_nodes n) (name_at n.node_names 1)))) e broken in
         b (subst (IsReached (draft_of n)) (sym sink_is) (reached_in n.net.sink h.network.sink))
   ]
 
@@ -157,14 +165,14 @@ module _ (n : Named) (h : IsNamed n) where
   no_passing_sum p =
       let below : p.hop.tail < n.net.nodes = reached_below p.hop.tail (p.is_least.taken.0, p.is_least.taken.1) in
       let own_sum : IsLeastTransit (hops n.net) n.net.source p.hop.tail p.least = record {
-            taken = (let c : Carried (all_hops n) (hops n.net) (λ v. v) (λ v. v < n.net.nodes) p.is_least.taken.0 n.net.source p.hop.tail =
-                carried (all_hops n) (hops n.net) (λ v. v) (λ v. v < n.net.nodes) from_all p.is_least.taken.0 n.net.source p.hop.tail h.network.source
-                  (subst (λ s. IsWalk (all_hops n) p.is_least.taken.0 s p.hop.tail) source_is p.is_least.taken.1) in
-              (c.image, c.is_walk, c.sum ∙ p.is_least.taken.2));
-            bound = λ walk is. (let c : Carried (hops n.net) (all_hops n) (λ v. v) (λ v. Unit {0}) walk n.net.source p.hop.tail =
-                carried (hops n.net) (all_hops n) (λ v. v) (λ v. Unit {0}) to_all walk n.net.source p.hop.tail tt is in
-              subst (λ s. p.least ≤ℚ s) c.sum (p.is_least.bound c.image (subst (λ s. IsWalk (all_hops n) c.image s p.hop.tail) (sym source_is) c.is_walk)));
-          } in
+        taken = (let c : Carried (all_hops n) (hops n.net) (λ v. v) (λ v. v < n.net.nodes) p.is_least.taken.0 n.net.source p.hop.tail =
+            carried (all_hops n) (hops n.net) (λ v. v) (λ v. v < n.net.nodes) from_all p.is_least.taken.0 n.net.source p.hop.tail h.network.source
+            (subst (λ s. IsWalk (all_hops n) p.is_least.taken.0 s p.hop.tail) source_is p.is_least.taken.1) in
+            (c.image, c.is_walk, c.sum ∙ p.is_least.taken.2));
+        bound = λ walk is. (let c : Carried (hops n.net) (all_hops n) (λ v. v) (λ v. Unit {0}) walk n.net.source p.hop.tail =
+            carried (hops n.net) (all_hops n) (λ v. v) (λ v. Unit {0}) to_all walk n.net.source p.hop.tail tt is in
+            subst (λ s. p.least ≤ℚ s) c.sum (p.is_least.bound c.image (subst (λ s. IsWalk (all_hops n) c.image s p.hop.tail) (sym source_is) c.is_walk)));
+      } in
       let fits = h.sums_fit p.link p.hop p.least (own p.link p.hop p.is_hop below) own_sum p.is_fraction in
       let passes = p.passes in absurd (cc)
 
@@ -175,19 +183,26 @@ module _ (n : Named) (h : IsNamed n) where
   are_active : AreActive (draft_of n) (first_marked (active_links n) n.idle_links)
   are_active = flags_hold (λ flag l. Decides flag (IsReached (draft_of n) (place_of (all_nodes n) l.tail))) (active_links n) n.idle_links
       (named_all (λ l. Decides true (IsReached (draft_of n) (place_of (all_nodes n) l.tail))) n.node_names n.link_names n.net.links
-        (λ e name link is. ((λ _. subst (IsReached (draft_of n)) (sym (place_again n.node_names n.idle_nodes h.node_names.distinct link.tail (below e link is).tail))
-          (reached_in link.tail (h.network.tails e link is))), (λ _. refl))))
+      (λ e name link is. (
+        (λ _. subst (IsReached (draft_of n)) (sym (place_again n.node_names n.idle_nodes h.node_names.distinct link.tail (below e link is).tail))
+            (reached_in link.tail (h.network.tails e link is))),
+        (λ _. refl),
+      )))
       (idle_ones n.idle_links h.idle_tails)
     where
       idle_ones : (links : List NamedLink) → AllByRecursion (λ l. has_name n.node_names l.tail ≡ false) links
           → AllByRecursion (λ l. Decides false (IsReached (draft_of n) (place_of (all_nodes n) l.tail))) links
       idle_ones [] out = tt
       idle_ones (l ∷ links) out = (
-          ((λ e. absurd (cc)), λ r.
-            let far : length n.node_names ≤ place_of (all_nodes n) l.tail = place_right n.node_names n.idle_nodes l.tail out.0 in
-            let near : place_of (all_nodes n) l.tail < n.net.nodes = reached_below (place_of (all_nodes n) l.tail) r in
-            let same : length n.node_names ≡ n.net.nodes = count_is in absurd (omega arith)),
-          idle_ones links out.1)
+        (
+          (λ e. absurd (cc)),
+          λ r.
+              let far : length n.node_names ≤ place_of (all_nodes n) l.tail = place_right n.node_names n.idle_nodes l.tail out.0 in
+              let near : place_of (all_nodes n) l.tail < n.net.nodes = reached_below (place_of (all_nodes n) l.tail) r in
+              let same : length n.node_names ≡ n.net.nodes = count_is in absurd (omega arith),
+        ),
+        idle_ones links out.1,
+      )
 
   -- with these nodes
   abbrev with_nodes : List Name → Named
@@ -234,4 +249,5 @@ module _ (n : Named) (h : IsNamed n) where
       flags = first_marked (active_links n) n.idle_links;
       active = are_active;
       network = network_again ∙ sym (λ i. network_of (draft_of n) (marked-first (active_links n) n.idle_links i) (marked-others (active_links n) n.idle_links i));
-    })
+    },
+  )

@@ -1,20 +1,20 @@
 -- What holds of what is read, line by line.
-use Rattle.std.proofs.Common.{◌≡◌, ◌≢◌, ℕ, zero, suc, ◌+◌, ◌<◌, ◌≤◌, ◌⊎◌, ◌==◌, ◌&&◌, ◌||◌, Bool, true, false, not, cond, if◌then◌else◌, List, [], ◌∷◌, ◌++◌, length, map, nat_lt, nat_le, refl, sym, ◌∙◌, ap, subst, inl, inr, arith, bytes_eq, length-append, codes, Option, Some, None, Result, Ok, Err, is_some, unwrap_or}
+use Rattle.std.proofs.Common.{◌≡◌, ℕ, ◌+◌, ◌<◌, ◌≤◌, ◌⊎◌, ◌&&◌, ◌||◌, Bool, true, false, not, if◌then◌else◌, List, [], ◌∷◌, ◌++◌, length, nat_le, refl, sym, ◌∙◌, ap, subst, inl, inr, arith, bytes_eq, length-append, codes, Option, Some, None, Result, Ok, Err, is_some, unwrap_or}
 use Rattle.std.specs.List.{AllByRecursion, IsDistinct, last_or, list_all}
 use Rattle.std.proofs.lemmas.Bool.{and_parts, or_parts, leb-false, ltb-false}
 use Rattle.nf_rational.specs.Rational.{ℚ}
 use Rattle.nf_rational.specs.Operations.{0ℚ}
-use Rattle.nf_rational.specs.Order.{◌≤ℚ◌, ◌<ℚ◌, le_ℚ, lt_ℚ}
+use Rattle.nf_rational.specs.Order.{◌≤ℚ◌, le_ℚ, lt_ℚ}
 use Rattle.nf_rational_laws.proofs.Tests.{le_of_test, lt_of_test}
 use Rattle.nf_work.specs.Checked.{◌>>=◌}
 use Rattle.nf_model.specs.Network.{Piece}
 use Rattle.nf_lines.specs.Words.{ReadLine}
 use Rattle.nf_formats.specs.declared.NetRule.{NetRule}
-use Rattle.nf_formats.specs.declared.NetRule.TheVariants.{N3, N4, N5, N6, N7, N8, N9, N10, N11, N12, N13, N14, N15, N16}
-use Rattle.nf_formats.specs.Names.{Name, is_name, has_name, name_at, with_name, with_names}
+use Rattle.nf_formats.specs.declared.NetRule.TheVariants.{N4, N5, N7, N9, N10, N11, N12, N13, N14, N15, N16}
+use Rattle.nf_formats.specs.Names.{Name, is_name, has_name, with_name, with_names}
 use Rattle.nf_formats.specs.Numbers.{number_in, capacity_in}
 use Rattle.nf_formats.specs.Named.{NamedLink, ends, names_of}
-use Rattle.nf_formats.specs.NetLines.{Broken, Entry, Source, Sink, LinkLine, InflowLine, End, node_line, link_entry, link_line, inflow_entry, inflow_line, end_line, entry_of, Draft, empty_draft, after, first_rule, too_many_nodes, is_negative, is_no_capacity, is_not_after, broken_rule, unless, add_line, in_line, add_lines, version_of, draft_after, draft_from}
+use Rattle.nf_formats.specs.NetLines.{Entry, Source, Sink, LinkLine, InflowLine, End, node_line, link_entry, link_line, inflow_entry, inflow_line, end_line, entry_of, Draft, empty_draft, after, first_rule, too_many_nodes, is_negative, is_no_capacity, is_not_after, broken_rule, unless, add_line, in_line, add_lines, version_of, draft_after, draft_from}
 use Rattle.nf_formats.specs.WellNamed.{IsFraction, IsCapacity, IsNamedLink, IsFractionPiece}
 use Rattle.nf_formats.proofs.NameFacts.{has_name-append, with_name_there, with_name_new, bytes_eq-turned, same_names, bytes_eq-self}
 use Rattle.nf_formats.proofs.LinkFacts.{ends-append, map-append}
@@ -145,7 +145,7 @@ link_read_as version (name ∷ tail ∷ head ∷ transit ∷ capacity ∷ []) en
     let a = and_parts (is_name name) (is_name tail && is_name head) p.0 in
     let b = and_parts (is_name tail) (is_name head) a.1 in
     link_numbers version name tail head (number_in version transit) (capacity_in version capacity) entry a.0 b.0 b.1
-      (λ q. number_kept version transit q) (λ c. capacity_kept version capacity c) p.1
+    (λ q. number_kept version transit q) (λ c. capacity_kept version capacity c) p.1
 link_read_as version words entry e = absurd (cc)
 
 inflow_numbers : (version : ℕ) (start rate : Option ℚ) (entry : Entry) → ((q : ℚ) → start ≡ Some q → IsFraction q) → ((q : ℚ) → rate ≡ Some q → IsFraction q)
@@ -165,21 +165,21 @@ end_read_as version (w ∷ words) entry e = absurd (cc)
 entry_read_as : (version : ℕ) (words : List (List ℕ)) (entry : Entry) → entry_of version words ≡ Ok entry → IsReadEntry version entry
 entry_read_as version [] entry e = absurd (cc)
 entry_read_as version (key ∷ words) entry e = elim (if_either (bytes_eq key (codes "source")) (node_line (λ name. Source name) words) _ (Ok entry) e) [
-    | inl f ↦ node_read_as version (λ name. Source name) (λ name h. h) words entry f
-    | inr f ↦ elim (if_either (bytes_eq key (codes "sink")) (node_line (λ name. Sink name) words) _ (Ok entry) f) [
-      | inl g ↦ node_read_as version (λ name. Sink name) (λ name h. h) words entry g
-      | inr g ↦ elim (if_either (bytes_eq key (codes "link")) (link_line version words) _ (Ok entry) g) [
-        | inl h ↦ link_read_as version words entry h
-        | inr h ↦ elim (if_either (bytes_eq key (codes "inflow")) (inflow_line version words) _ (Ok entry) h) [
-          | inl k ↦ inflow_read_as version words entry k
-          | inr k ↦ elim (if_either (bytes_eq key (codes "end")) (end_line words) (Err N5) (Ok entry) k) [
-            | inl m ↦ end_read_as version words entry m
-            | inr m ↦ absurd (cc)
-          ]
+  | inl f ↦ node_read_as version (λ name. Source name) (λ name h. h) words entry f
+  | inr f ↦ elim (if_either (bytes_eq key (codes "sink")) (node_line (λ name. Sink name) words) _ (Ok entry) f) [
+    | inl g ↦ node_read_as version (λ name. Sink name) (λ name h. h) words entry g
+    | inr g ↦ elim (if_either (bytes_eq key (codes "link")) (link_line version words) _ (Ok entry) g) [
+      | inl h ↦ link_read_as version words entry h
+      | inr h ↦ elim (if_either (bytes_eq key (codes "inflow")) (inflow_line version words) _ (Ok entry) h) [
+        | inl k ↦ inflow_read_as version words entry k
+        | inr k ↦ elim (if_either (bytes_eq key (codes "end")) (end_line words) (Err N5) (Ok entry) k) [
+          | inl m ↦ end_read_as version words entry m
+          | inr m ↦ absurd (cc)
         ]
       ]
     ]
   ]
+]
 
 -- ---- what holds of all lines read so far
 pub record IsGoodDraft (draft : Draft) : Type 0 where
@@ -299,14 +299,17 @@ module _ (draft : Draft) (h : IsGoodDraft draft) where
         distinct = distinct_with_names draft.nodes (l.tail ∷ l.head ∷ []) h.distinct;
         few_nodes = few_names draft (l.tail ∷ l.head ∷ []) b.0;
         links = all_push (IsNamedLink draft.version) draft.links l h.links (record {
-            name = good.name; tail = good.tail; head = good.head; fraction = good.fraction;
-            transit = from_not_negative l.transit d.0;
-            capacity = from_capacity draft.version l.capacity good.capacity f.0;
-          });
+          name = good.name;
+          tail = good.tail;
+          head = good.head;
+          fraction = good.fraction;
+          transit = from_not_negative l.transit d.0;
+          capacity = from_capacity draft.version l.capacity good.capacity f.0;
+        });
         ends_there = ap (list_all (has_name (with_names draft.nodes (l.tail ∷ l.head ∷ [])))) (ends-append draft.links (l ∷ []))
             ∙ all_pushed (has_name (with_names draft.nodes (l.tail ∷ l.head ∷ []))) (ends draft.links) (l.tail ∷ l.head ∷ []) (ends_kept (l.tail ∷ l.head ∷ []))
-              (λ i. now_there draft.nodes (l.tail ∷ l.head ∷ []) l.tail (or_left (bytes_eq l.tail l.tail) (bytes_eq l.tail l.head || false) (bytes_eq-self l.tail)) i
-                && (now_there draft.nodes (l.tail ∷ l.head ∷ []) l.head (or_right (bytes_eq l.head l.tail) (bytes_eq l.head l.head || false) (or_left (bytes_eq l.head l.head) false (bytes_eq-self l.head))) i && true));
+            (λ i. now_there draft.nodes (l.tail ∷ l.head ∷ []) l.tail (or_left (bytes_eq l.tail l.tail) (bytes_eq l.tail l.head || false) (bytes_eq-self l.tail)) i
+            && (now_there draft.nodes (l.tail ∷ l.head ∷ []) l.head (or_right (bytes_eq l.head l.tail) (bytes_eq l.head l.head || false) (or_left (bytes_eq l.head l.head) false (bytes_eq-self l.head))) i && true));
         link_names = subst (IsDistinct bytes_eq) (sym (map-append (λ (l : NamedLink). l.name) draft.links (l ∷ []))) (distinct_push (names_of draft.links) l.name h.link_names a.0);
         few_links = one_more_below draft.links l c.0;
         pieces = h.pieces;
@@ -322,8 +325,16 @@ module _ (draft : Draft) (h : IsGoodDraft draft) where
       let c = first_says_no (is_not_after piece.start (last_or None draft.pieces)) N16 [] b.1 in
       let signs = or_parts (is_negative piece.start) (is_negative piece.rate) b.0 in
       record {
-        version = h.version; source = h.source; sink = h.sink; names = h.names; distinct = h.distinct; few_nodes = h.few_nodes;
-        links = h.links; ends_there = h.ends_there; link_names = h.link_names; few_links = h.few_links;
+        version = h.version;
+        source = h.source;
+        sink = h.sink;
+        names = h.names;
+        distinct = h.distinct;
+        few_nodes = h.few_nodes;
+        links = h.links;
+        ends_there = h.ends_there;
+        link_names = h.link_names;
+        few_links = h.few_links;
         pieces = all_push IsFractionPiece draft.pieces piece h.pieces good;
         few_pieces = one_more_below draft.pieces piece a.0;
         not_negative = all_push (λ (piece : Piece). (0ℚ ≤ℚ piece.start) × (0ℚ ≤ℚ piece.rate)) draft.pieces piece h.not_negative (from_not_negative piece.start signs.0, from_not_negative piece.rate signs.1);
@@ -332,9 +343,20 @@ module _ (draft : Draft) (h : IsGoodDraft draft) where
 
   end_kept : IsGoodDraft (after draft End)
   end_kept = record {
-    version = h.version; source = h.source; sink = h.sink; names = h.names; distinct = h.distinct; few_nodes = h.few_nodes;
-    links = h.links; ends_there = h.ends_there; link_names = h.link_names; few_links = h.few_links;
-    pieces = h.pieces; few_pieces = h.few_pieces; not_negative = h.not_negative; rise = h.rise;
+    version = h.version;
+    source = h.source;
+    sink = h.sink;
+    names = h.names;
+    distinct = h.distinct;
+    few_nodes = h.few_nodes;
+    links = h.links;
+    ends_there = h.ends_there;
+    link_names = h.link_names;
+    few_links = h.few_links;
+    pieces = h.pieces;
+    few_pieces = h.few_pieces;
+    not_negative = h.not_negative;
+    rise = h.rise;
   }
 
   entry_kept : (entry : Entry) → IsReadEntry draft.version entry → broken_rule draft entry ≡ None → IsGoodDraft (after draft entry)
@@ -377,9 +399,17 @@ empty_good version v = record {
   version = v;
   source = λ name e. absurd (cc);
   sink = λ name e. absurd (cc);
-  names = refl; distinct = tt; few_nodes = omega arith;
-  links = tt; ends_there = refl; link_names = tt; few_links = omega arith;
-  pieces = tt; few_pieces = omega arith; not_negative = tt; rise = tt;
+  names = refl;
+  distinct = tt;
+  few_nodes = omega arith;
+  links = tt;
+  ends_there = refl;
+  link_names = tt;
+  few_links = omega arith;
+  pieces = tt;
+  few_pieces = omega arith;
+  not_negative = tt;
+  rise = tt;
 }
 
 version_is : (words : List (List ℕ)) (version : ℕ) → version_of words ≡ Some version → (version ≡ 1) ⊎ (version ≡ 2)

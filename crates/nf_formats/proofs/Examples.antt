@@ -1,6 +1,6 @@
 -- Files and texts, by computation.
 use Rattle.std.proofs.Common.{◌≡◌, ℕ, List, [], ◌∷◌, ◌++◌, refl, inl}
-use Rattle.std.specs.Prelude.{flat_map, map, codes, pos, Result, Ok, Err, Option, Some, None, Bool, true, false, not}
+use Rattle.std.specs.Prelude.{flat_map, map, codes, pos, Result, Ok, Err, Some, None, Bool, true, false, not}
 use Rattle.nf_rational.specs.Rational.{ℚ, ratio}
 use Rattle.nf_rational.specs.Gcd.{gcd}
 use Rattle.nf_rational.specs.Operations.{whole}
@@ -87,7 +87,9 @@ abbrev one_link : Named
 one_link = record {
   version = 1;
   net = record {
-    nodes = 2; source = 0; sink = 1;
+    nodes = 2;
+    source = 0;
+    sink = 1;
     links = record { tail = 0; head = 1; transit = n 1; capacity = Some (n 1) } ∷ [];
     pieces = record { start = n 0; rate = n 2 } ∷ record { start = n 2; rate = n 0 } ∷ [];
   };
@@ -124,7 +126,9 @@ abbrev two_links : Named
 two_links = record {
   version = 1;
   net = record {
-    nodes = 2; source = 0; sink = 1;
+    nodes = 2;
+    source = 0;
+    sink = 1;
     links = record { tail = 0; head = 1; transit = n 1; capacity = Some (n 1) } ∷ record { tail = 0; head = 1; transit = n 3; capacity = Some (n 1) } ∷ [];
     pieces = record { start = n 0; rate = n 3 } ∷ [];
   };
@@ -141,9 +145,9 @@ two_links_report = record {
     reached = n 4;
     labels = ((n 0, n 0) ∷ (n 4, n 4) ∷ []) ∷ ((n 0, n 1) ∷ (n 1, n 4) ∷ (n 4, half 17) ∷ []) ∷ [];
     inflows = record { points = (n 0, n 0) ∷ (n 1, n 3) ∷ (n 4, half 15) ∷ []; rates = n 3 ∷ half 3 ∷ [] }
-      ∷ record { points = (n 0, n 0) ∷ (n 1, n 0) ∷ (n 4, half 9) ∷ []; rates = n 0 ∷ half 3 ∷ [] } ∷ [];
+        ∷ record { points = (n 0, n 0) ∷ (n 1, n 0) ∷ (n 4, half 9) ∷ []; rates = n 0 ∷ half 3 ∷ [] } ∷ [];
     outflows = record { points = (n 0, n 0) ∷ (n 1, n 0) ∷ (half 17, half 15) ∷ []; rates = n 0 ∷ n 1 ∷ [] }
-      ∷ record { points = (n 0, n 0) ∷ (n 4, n 0) ∷ (half 17, half 9) ∷ []; rates = n 0 ∷ n 1 ∷ [] } ∷ [];
+        ∷ record { points = (n 0, n 0) ∷ (n 4, n 0) ∷ (half 17, half 9) ∷ []; rates = n 0 ∷ n 1 ∷ [] } ∷ [];
     queues = ((n 0, n 0) ∷ (n 1, n 2) ∷ (n 4, half 7) ∷ []) ∷ ((n 0, n 0) ∷ (n 1, n 0) ∷ (n 4, half 3) ∷ []) ∷ [];
   };
   stop = None;
@@ -168,7 +172,9 @@ abbrev one_idle : Named
 one_idle = record {
   version = 2;
   net = record {
-    nodes = 2; source = 0; sink = 1;
+    nodes = 2;
+    source = 0;
+    sink = 1;
     links = record { tail = 0; head = 1; transit = half 1; capacity = Some (half 3) } ∷ [];
     pieces = record { start = n 0; rate = n 2 } ∷ [];
   };
@@ -252,6 +258,6 @@ budgets_are_said = refl
 
 pub other_lines : memory_line ++ shelf_failed_line ++ shelf_too_long_line ++ output_line ++ no_equilibrium_line ++ augments_line 1 ++ unbuilt_line ++ unbounded_line ++ no_thin_flow_line ++ earlier_line
     ≡ text (codes "nfot: memory" ∷ codes "nfot: shelf failed" ∷ codes "nfot: shelf too long" ∷ codes "nfot: output" ∷ codes "nfot: no equilibrium" ∷ codes "nfot: augments 1"
-      ∷ codes "nfot: unbuilt" ∷ codes "nfot: unbounded" ∷ codes "nfot: no thin flow" ∷ codes "nfot: earlier" ∷ [])
+    ∷ codes "nfot: unbuilt" ∷ codes "nfot: unbounded" ∷ codes "nfot: no thin flow" ∷ codes "nfot: earlier" ∷ [])
 unfolding digits_of
 other_lines = refl

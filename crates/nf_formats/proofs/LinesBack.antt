@@ -1,13 +1,12 @@
 -- Read line by line, the lines of a canonical text say what they are printed from.
-use Rattle.std.proofs.Common.{◌≡◌, ◌≢◌, ℕ, zero, suc, ◌+◌, ◌<◌, ◌≤◌, ◌⊎◌, ◌==◌, ◌&&◌, ◌||◌, Bool, true, false, not, if◌then◌else◌, List, [], ◌∷◌, ◌++◌, length, map, slice_get, nat_lt, nat_le, nat_abs, refl, sym, ◌∙◌, ap, subst, inl, inr, arith, append_assoc, append-nil, bytes_eq, length-append, codes, Option, Some, None, Result, Ok, Err, is_some, option_map}
+use Rattle.std.proofs.Common.{◌≡◌, ℕ, zero, suc, ◌+◌, ◌<◌, ◌≤◌, ◌⊎◌, ◌==◌, ◌&&◌, ◌||◌, Bool, true, false, not, if◌then◌else◌, List, [], ◌∷◌, ◌++◌, length, map, nat_lt, nat_le, nat_abs, refl, sym, ◌∙◌, ap, subst, inl, inr, arith, append_assoc, append-nil, bytes_eq, length-append, codes, Option, Some, None, Result, Ok, Err, option_map}
 use Rattle.std.specs.List.{AllByRecursion, IsDistinct, last_or, list_all}
 use Rattle.std.specs.Result.{result_ok}
 use Rattle.std.proofs.lemmas.Bool.{le-ltb, lt-leb, ltb-false}
 use Rattle.nf_rational.specs.Rational.{ℚ}
 use Rattle.nf_rational.specs.Operations.{0ℚ}
-use Rattle.nf_rational.specs.Order.{◌≤ℚ◌, ◌<ℚ◌, le_ℚ, lt_ℚ}
-use Rattle.nf_rational_laws.proofs.Tests.{le_of_test, lt_of_test, test_of_le, test_of_lt}
-use Rattle.nf_work.specs.Passing.{is_wide}
+use Rattle.nf_rational.specs.Order.{◌≤ℚ◌, ◌<ℚ◌, lt_ℚ}
+use Rattle.nf_rational_laws.proofs.Tests.{test_of_le, test_of_lt}
 use Rattle.nf_work.specs.Checked.{◌>>=◌}
 use Rattle.nf_model.specs.Network.{Piece, IsPiece, ArePieces}
 use Rattle.nf_numerals.specs.declared.NumberFault.{NumberFault}
@@ -16,12 +15,12 @@ use Rattle.nf_numerals.specs.Numbers.{number_of, decimal_of, parts_of}
 use Rattle.nf_numerals.specs.Printed.{printed}
 use Rattle.nf_numerals.proofs.ReadBack.{number_read, number_read_as_decimal}
 use Rattle.nf_formats.specs.declared.NetRule.{NetRule}
-use Rattle.nf_formats.specs.declared.NetRule.TheVariants.{N4, N7, N8, N9, N10, N11, N12, N13, N14, N15, N16}
+use Rattle.nf_formats.specs.declared.NetRule.TheVariants.{N4, N7, N9, N10, N11, N12, N13, N14, N15, N16}
 use Rattle.nf_lines.specs.Words.{ReadLine}
 use Rattle.nf_formats.specs.Names.{Name, is_name, has_name, name_at, with_name, with_names}
 use Rattle.nf_formats.specs.Numbers.{greatest, number_in, capacity_in, capacity_word}
 use Rattle.nf_formats.specs.Named.{NamedLink, Named, ends, names_of, active_links, all_links, all_nodes}
-use Rattle.nf_formats.specs.NetLines.{Broken, Entry, Source, Sink, LinkLine, InflowLine, End, node_line, link_entry, link_line, inflow_entry, entry_of, Draft, empty_draft, after, first_rule, too_many_nodes, is_negative, is_no_capacity, is_not_after, broken_rule, unless, add_line, in_line, add_lines, version_of, draft_after, draft_from}
+use Rattle.nf_formats.specs.NetLines.{Entry, Source, Sink, LinkLine, InflowLine, node_line, link_entry, inflow_entry, entry_of, Draft, empty_draft, after, first_rule, too_many_nodes, is_negative, is_no_capacity, is_not_after, broken_rule, unless, add_line, in_line, add_lines, version_of, draft_after, draft_from}
 use Rattle.nf_formats.specs.NetText.{link_words, inflow_words, canonical_lines}
 use Rattle.nf_formats.specs.WellNamed.{IsFraction, IsCapacity, IsNamedLink, IsFractionPiece, IsNamed}
 use Rattle.nf_formats.proofs.NameFacts.{bytes_eq-turned, same_names, with_name_new, with_names-append, with_names-split}
@@ -65,8 +64,8 @@ capacity_in-word version None (inl e) h = absurd (h e)
 capacity_in-word version None (inr e) h = ap (λ v. capacity_in v (codes "inf")) e
 capacity_in-word version (Some q) v h =
     some_capacity q (not (version == 1) && bytes_eq (printed q) (codes "inf")) (number_in version (printed q))
-      (second (not (version == 1)) (bytes_eq (printed q) (codes "inf")) (printed_is_not_inf q (bytes_eq (printed q) (codes "inf")) h.0 refl))
-      (number_in-printed version q h.0)
+    (second (not (version == 1)) (bytes_eq (printed q) (codes "inf")) (printed_is_not_inf q (bytes_eq (printed q) (codes "inf")) h.0 refl))
+    (number_in-printed version q h.0)
   where
     second : (a b : Bool) → b ≡ false → (a && b) ≡ false
     second true b e = e
@@ -82,7 +81,7 @@ three a b c e f g = λ i. e i && (f i && g i)
 pub link_says : (version : ℕ) (l : NamedLink) → (version ≡ 1) ⊎ (version ≡ 2) → IsNamedLink version l → entry_of version (link_words l) ≡ Ok (LinkLine l)
 link_says version l v h =
     ap (λ (b : Bool). if b then link_entry l.name l.tail l.head (number_in version (printed l.transit)) (capacity_in version (capacity_word l.capacity)) else Err N7)
-      (three (is_name l.name) (is_name l.tail) (is_name l.head) h.name h.tail h.head)
+    (three (is_name l.name) (is_name l.tail) (is_name l.head) h.name h.tail h.head)
     ∙ (λ i. link_entry l.name l.tail l.head (number_in-printed version l.transit h.fraction i) (capacity_in-word version l.capacity v h.capacity i))
 
 pub inflow_says : (version : ℕ) (piece : Piece) → IsFractionPiece piece → entry_of version (inflow_words piece) ≡ Ok (InflowLine piece)
@@ -160,17 +159,17 @@ pub links_follow : (draft : Draft) (links all : List NamedLink) → draft.ended 
     → draft.links ++ links ≡ all → IsDistinct bytes_eq (names_of all) → length all ≤ 200 → length (with_names draft.nodes (ends links)) ≤ 64
     → Follows draft (map link_words links) (record draft { nodes = with_names draft.nodes (ends links); links = all })
 links_follow draft [] all open_ v good e distinct few low = λ i. record draft { links = (sym (append-nil draft.links) ∙ e) i }
-links_follow draft (l ∷ links) all open_ v good e distinct few low =
-    ( after draft (LinkLine l)
-    , line_read draft (link_words l) (LinkLine l) open_ (link_says draft.version l v good.0)
-        (five_no (has_name (names_of draft.links) l.name) (too_many_nodes draft (l.tail ∷ l.head ∷ [])) (nat_le 200 (length draft.links)) (is_negative l.transit) (is_no_capacity l.capacity) N9 N10 N11 N13 N14
-          (distinct_before (names_of draft.links) l.name (names_of links) (subst (IsDistinct bytes_eq) (ap names_of (sym e) ∙ names_of-append draft.links (l ∷ links)) distinct))
-          (le-ltb 64 (length (with_names draft.nodes (l.tail ∷ l.head ∷ []))) (let more : length (with_names draft.nodes (l.tail ∷ l.head ∷ [])) ≤ length (with_names draft.nodes (l.tail ∷ l.head ∷ ends links)) = length-with_names (with_names draft.nodes (l.tail ∷ l.head ∷ [])) (ends links) in omega arith))
-          (lt-leb 200 (length draft.links) (let long : length (draft.links ++ l ∷ links) ≡ length draft.links + suc (length links) = length-append draft.links (l ∷ links) in let same : length (draft.links ++ l ∷ links) ≡ length all = ap (λ x. length x) e in omega arith))
-          (not_negative l.transit good.0.transit)
-          (is_above draft.version l.capacity good.0.capacity))
-    , links_follow (after draft (LinkLine l)) links all open_ v good.1 (append_assoc draft.links (l ∷ []) links ∙ e) distinct few low
-    )
+links_follow draft (l ∷ links) all open_ v good e distinct few low = (
+  after draft (LinkLine l),
+  line_read draft (link_words l) (LinkLine l) open_ (link_says draft.version l v good.0)
+      (five_no (has_name (names_of draft.links) l.name) (too_many_nodes draft (l.tail ∷ l.head ∷ [])) (nat_le 200 (length draft.links)) (is_negative l.transit) (is_no_capacity l.capacity) N9 N10 N11 N13 N14
+      (distinct_before (names_of draft.links) l.name (names_of links) (subst (IsDistinct bytes_eq) (ap names_of (sym e) ∙ names_of-append draft.links (l ∷ links)) distinct))
+      (le-ltb 64 (length (with_names draft.nodes (l.tail ∷ l.head ∷ []))) (let more : length (with_names draft.nodes (l.tail ∷ l.head ∷ [])) ≤ length (with_names draft.nodes (l.tail ∷ l.head ∷ ends links)) = length-with_names (with_names draft.nodes (l.tail ∷ l.head ∷ [])) (ends links) in omega arith))
+      (lt-leb 200 (length draft.links) (let long : length (draft.links ++ l ∷ links) ≡ length draft.links + suc (length links) = length-append draft.links (l ∷ links) in let same : length (draft.links ++ l ∷ links) ≡ length all = ap (λ x. length x) e in omega arith))
+      (not_negative l.transit good.0.transit)
+      (is_above draft.version l.capacity good.0.capacity)),
+  links_follow (after draft (LinkLine l)) links all open_ v good.1 (append_assoc draft.links (l ∷ []) links ∙ e) distinct few low,
+)
 
 -- ---- the lines of pieces
 -- the first of these starts after one before, and each later one after the one before it
@@ -190,17 +189,17 @@ pieces_follow : (draft : Draft) (pieces all : List Piece) → draft.ended ≡ fa
     → Rises (last_or None draft.pieces) pieces → draft.pieces ++ pieces ≡ all → length all ≤ 200
     → Follows draft (map inflow_words pieces) (record draft { pieces = all })
 pieces_follow draft [] all open_ good positive rises e few = λ i. record draft { pieces = (sym (append-nil draft.pieces) ∙ e) i }
-pieces_follow draft (piece ∷ pieces) all open_ good positive rises e few =
-    ( after draft (InflowLine piece)
-    , line_read draft (inflow_words piece) (InflowLine piece) open_ (inflow_says draft.version piece good.0)
-        (three_no (nat_le 200 (length draft.pieces)) (is_negative piece.start || is_negative piece.rate) (is_not_after piece.start (last_or None draft.pieces)) N12 N15 N16
-          (lt-leb 200 (length draft.pieces) (let long : length (draft.pieces ++ piece ∷ pieces) ≡ length draft.pieces + suc (length pieces) = length-append draft.pieces (piece ∷ pieces) in let same : length (draft.pieces ++ piece ∷ pieces) ≡ length all = ap (λ x. length x) e in omega arith))
-          (no_either (is_negative piece.start) (is_negative piece.rate) (not_negative piece.start positive.0.0) (not_negative piece.rate positive.0.1))
-          rises.0)
-    , pieces_follow (after draft (InflowLine piece)) pieces all open_ good.1 positive.1
-        (subst (λ before. Rises before pieces) (sym (last_or-append None draft.pieces piece)) rises.1)
-        (append_assoc draft.pieces (piece ∷ []) pieces ∙ e) few
-    )
+pieces_follow draft (piece ∷ pieces) all open_ good positive rises e few = (
+  after draft (InflowLine piece),
+  line_read draft (inflow_words piece) (InflowLine piece) open_ (inflow_says draft.version piece good.0)
+      (three_no (nat_le 200 (length draft.pieces)) (is_negative piece.start || is_negative piece.rate) (is_not_after piece.start (last_or None draft.pieces)) N12 N15 N16
+      (lt-leb 200 (length draft.pieces) (let long : length (draft.pieces ++ piece ∷ pieces) ≡ length draft.pieces + suc (length pieces) = length-append draft.pieces (piece ∷ pieces) in let same : length (draft.pieces ++ piece ∷ pieces) ≡ length all = ap (λ x. length x) e in omega arith))
+      (no_either (is_negative piece.start) (is_negative piece.rate) (not_negative piece.start positive.0.0) (not_negative piece.rate positive.0.1))
+      rises.0),
+  pieces_follow (after draft (InflowLine piece)) pieces all open_ good.1 positive.1
+      (subst (λ before. Rises before pieces) (sym (last_or-append None draft.pieces piece)) rises.1)
+      (append_assoc draft.pieces (piece ∷ []) pieces ∙ e) few,
+)
 
 -- both from what the network says of its pieces
 not_negative_pieces : (pieces : List Piece) → ((i : ℕ) (piece : Piece) → IsPiece pieces i piece → (0ℚ ≤ℚ piece.start) × (0ℚ ≤ℚ piece.rate)) → AreNotNegative pieces
@@ -318,7 +317,7 @@ module _ (n : Named) (h : IsNamed n) where
   body_read : Follows with_ends (map link_words (active_links n) ++ map link_words n.idle_links ++ map inflow_words n.net.pieces ++ (codes "end" ∷ []) ∷ []) (draft_of n)
   body_read = follows-append with_ends with_pieces (draft_of n) (map link_words (active_links n) ++ map link_words n.idle_links ++ map inflow_words n.net.pieces) ((codes "end" ∷ []) ∷ [])
       (follows-append with_ends with_links with_pieces (map link_words (active_links n) ++ map link_words n.idle_links) (map inflow_words n.net.pieces)
-        (subst (λ lines. Follows with_ends lines with_links) (map-append link_words (active_links n) n.idle_links) links_read) pieces_read)
+      (subst (λ lines. Follows with_ends lines with_links) (map-append link_words (active_links n) n.idle_links) links_read) pieces_read)
       end_read
 
   -- the words of the lines after the head

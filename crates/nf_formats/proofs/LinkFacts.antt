@@ -1,10 +1,9 @@
 -- Links by names and by numbers.
-use Rattle.std.proofs.Common.{◌≡◌, ℕ, zero, suc, ◌<◌, ◌≤◌, Bool, true, false, not, List, [], ◌∷◌, ◌++◌, length, map, flat_map, slice_get, Some, refl, sym, ◌∙◌, ap, subst, arith, bytes_eq, append_assoc}
+use Rattle.std.proofs.Common.{◌≡◌, ℕ, suc, ◌<◌, Bool, true, false, not, List, [], ◌∷◌, ◌++◌, length, map, slice_get, Some, refl, ◌∙◌, ap, arith, bytes_eq}
 use Rattle.std.specs.List.{AllByRecursion, AllZip, IsDistinct}
-use Rattle.nf_model.specs.Walk.{Hop}
-use Rattle.nf_model.specs.Network.{Link, hop_of}
-use Rattle.nf_formats.specs.Names.{Name, has_name, place_of, name_at}
-use Rattle.nf_formats.specs.Named.{NamedLink, numbered, hops_among, named, all_named, ends, names_of}
+use Rattle.nf_model.specs.Network.{Link}
+use Rattle.nf_formats.specs.Names.{Name, place_of, name_at}
+use Rattle.nf_formats.specs.Named.{NamedLink, numbered, named, all_named, ends, names_of}
 use Rattle.nf_formats.specs.NetClosing.{marked}
 use Rattle.nf_formats.proofs.NameFacts.{has_at, place_at, place_left}
 

@@ -1,12 +1,12 @@
 -- Links that flags mark, and the others.
-use Rattle.std.proofs.Common.{◌≡◌, ℕ, zero, suc, ◌+◌, ◌<◌, ◌≤◌, ◌⊎◌, ◌||◌, ◌&&◌, Bool, true, false, not, cond, if◌then◌else◌, List, [], ◌∷◌, ◌++◌, length, map, slice_get, Some, refl, sym, ◌∙◌, ap, subst, inl, inr, arith, bytes_eq}
+use Rattle.std.proofs.Common.{◌≡◌, ℕ, zero, suc, ◌+◌, ◌≤◌, ◌||◌, ◌&&◌, Bool, true, false, not, if◌then◌else◌, List, [], ◌∷◌, ◌++◌, length, map, slice_get, Some, refl, sym, ◌∙◌, ap, subst, arith, bytes_eq}
 use Rattle.std.specs.Bool.{Decides}
 use Rattle.std.specs.List.{AllByRecursion, AllZip, IsDistinct, list_all}
-use Rattle.std.proofs.lemmas.Bool.{and_parts, or_parts}
+use Rattle.std.proofs.lemmas.Bool.{and_parts}
 use Rattle.nf_formats.specs.Names.{Name, has_name, with_name, with_names}
 use Rattle.nf_formats.specs.Named.{NamedLink, names_of}
 use Rattle.nf_formats.specs.NetClosing.{marked}
-use Rattle.nf_formats.proofs.NameFacts.{same_names, bytes_eq-self, bytes_eq-turned, with_name_there, with_name_new, has_none}
+use Rattle.nf_formats.proofs.NameFacts.{same_names, bytes_eq-self, bytes_eq-turned, with_name_there, with_name_new}
 use Rattle.nf_formats.proofs.DraftKept.{or_left, or_right}
 
 -- ---- entries
@@ -94,12 +94,13 @@ pub distinct_split : (Q : NamedLink → Type 0) (flags : List Bool) (links : Lis
 unfolding IsDistinct
 distinct_split Q [] links h d = tt
 distinct_split Q (b ∷ flags) [] h d = absurd h
-distinct_split Q (true ∷ flags) (l ∷ links) h d =
-    ( differs_append l.name (names_of (marked flags links)) (names_of (marked (map not flags) links)) (differs_marked l.name flags links d.0) (differs_marked l.name (map not flags) links d.0)
-    , distinct_split Q flags links h.1 d.1)
+distinct_split Q (true ∷ flags) (l ∷ links) h d = (
+  differs_append l.name (names_of (marked flags links)) (names_of (marked (map not flags) links)) (differs_marked l.name flags links d.0) (differs_marked l.name (map not flags) links d.0),
+  distinct_split Q flags links h.1 d.1,
+)
 distinct_split Q (false ∷ flags) (l ∷ links) h d =
     distinct_insert l.name (names_of (marked flags links)) (names_of (marked (map not flags) links)) (distinct_split Q flags links h.1 d.1)
-      (differs_marked l.name flags links d.0) (differs_marked l.name (map not flags) links d.0)
+    (differs_marked l.name flags links d.0) (differs_marked l.name (map not flags) links d.0)
 
 -- ---- distinct names among others are no more than those
 without_first : Name → List Name → List Name

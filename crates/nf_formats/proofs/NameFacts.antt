@@ -1,6 +1,6 @@
 -- Names among others: whether one is there, its place, and names put behind others.
-use Rattle.std.proofs.Common.{◌≡◌, ℕ, zero, suc, ◌+◌, ◌<◌, ◌≤◌, ◌⊎◌, Bool, true, false, cond, not, ◌||◌, List, [], ◌∷◌, ◌++◌, length, filter, slice_get, unwrap_or, refl, sym, ◌∙◌, ap, subst, inl, inr, arith, append_assoc, append-nil, bytes_eq, length-append}
-use Rattle.std.specs.List.{AllByRecursion, IsDistinct, list_any}
+use Rattle.std.proofs.Common.{◌≡◌, ℕ, zero, suc, ◌+◌, ◌<◌, ◌≤◌, ◌⊎◌, Bool, true, false, cond, not, ◌||◌, List, [], ◌∷◌, ◌++◌, length, filter, refl, sym, ◌∙◌, ap, subst, inl, inr, arith, append_assoc, append-nil, bytes_eq}
+use Rattle.std.specs.List.{AllByRecursion, IsDistinct}
 use Rattle.std.proofs.lemmas.Slice.Eq.{bytes_eq-Decides}
 use Rattle.std.proofs.lemmas.List.Folds.{list_any-append}
 use Rattle.nf_formats.specs.Names.{Name, has_name, place_of, name_at, with_name, with_names, without}
@@ -80,7 +80,7 @@ place_at [] i d lt = absurd (omega arith)
 place_at (x ∷ xs) zero d lt = ap (λ (b : Bool). cond (not b) (1 + place_of xs x) 0) (bytes_eq-self x)
 place_at (x ∷ xs) (suc i) d lt =
     ap (λ (b : Bool). cond (not b) (1 + place_of xs (name_at xs i)) 0)
-      (bytes_eq-turned x (name_at xs i) (all_at (λ y. bytes_eq x y ≡ false) xs i d.0 (omega arith)))
+    (bytes_eq-turned x (name_at xs i) (all_at (λ y. bytes_eq x y ≡ false) xs i d.0 (omega arith)))
     ∙ (ap (λ k. 1 + k) (place_at xs i d.1 (omega arith)) ∙ omega arith)
 
 pub place_left : (xs ys : List Name) (name : Name) → has_name xs name ≡ true → place_of (xs ++ ys) name ≡ place_of xs name
@@ -145,7 +145,7 @@ module _ (names found : List Name) (x : Name) where
       ∙ ap (λ l. names ++ without names l) (sym (with_name_there found x f))
   put_behind true false e f = with_name_there (names ++ without names found) x (in_front true (has_name (without names found) x) e refl)
       ∙ ap (λ l. names ++ l) (sym (append-nil (without names found))
-        ∙ (ap (λ l. without names found ++ l) (sym (without_one names x true e)) ∙ sym (filter-append (λ name. not (has_name names name)) found (x ∷ []))))
+      ∙ (ap (λ l. without names found ++ l) (sym (without_one names x true e)) ∙ sym (filter-append (λ name. not (has_name names name)) found (x ∷ []))))
       ∙ ap (λ l. names ++ without names l) (sym (with_name_new found x f))
   put_behind false true e f = with_name_there (names ++ without names found) x (in_front false true e (has_without names found x e ∙ f))
       ∙ ap (λ l. names ++ without names l) (sym (with_name_there found x f))

@@ -1,10 +1,9 @@
 -- A number that a word writes has no part beyond the greatest.
-use Rattle.std.proofs.Common.{◌≡◌, ◌≢◌, ℕ, zero, suc, ◌+◌, ◌*◌, ◌^◌, ◌/◌, ◌<◌, ◌≤◌, ◌==◌, ◌&&◌, ◌||◌, Bool, true, false, not, if◌then◌else◌, List, [], length, nat_lt, nat_abs, ℤ, refl, sym, ◌∙◌, ap, subst, arith, div-le_self, codes, bytes_eq, Option, Some, None, Result, Ok, Err, option_map, unwrap_or, lit≤}
+use Rattle.std.proofs.Common.{◌≡◌, ◌≢◌, ℕ, zero, suc, ◌+◌, ◌*◌, ◌^◌, ◌/◌, ◌≤◌, ◌==◌, ◌&&◌, ◌||◌, Bool, true, false, not, if◌then◌else◌, List, length, nat_lt, nat_abs, ℤ, refl, sym, ap, subst, arith, div-le_self, codes, bytes_eq, Option, Some, None, Result, Ok, Err, option_map, unwrap_or, lit≤}
 use Rattle.std.specs.Result.{result_ok, result_unwrap_or}
 use Rattle.std.proofs.lemmas.Bool.{le-ltb, ltb-false}
 use Rattle.nf_rational.specs.Gcd.{gcd}
 use Rattle.nf_rational.specs.Rational.{ℚ, ratio, abs_quot}
-use Rattle.nf_work.specs.Passing.{is_wide}
 use Rattle.nf_numerals.specs.declared.NumberFault.{NumberFault}
 use Rattle.nf_numerals.specs.declared.NumberFault.TheVariants.{Empty, BadDigit, TooWide, ZeroDenominator}
 use Rattle.nf_numerals.specs.Digits.{are_digits, value_of}
@@ -69,7 +68,7 @@ is_fraction n d h =
     let small : nat_abs (ratio n d).num ≤ nat_abs n = lowest_num n d in
     let num : nat_abs n ≤ greatest = h.num in
     no_either (nat_lt greatest (nat_abs (ratio n d).num)) (nat_lt greatest (ratio n d).den)
-      (le-ltb greatest (nat_abs (ratio n d).num) (omega arith)) (le-ltb greatest (ratio n d).den (lowest_den n d greatest (lit≤ tt) h.den))
+    (le-ltb greatest (nat_abs (ratio n d).num) (omega arith)) (le-ltb greatest (ratio n d).den (lowest_den n d greatest (lit≤ tt) h.den))
 
 reduced : (r : Result (ℤ × ℕ) NumberFault) (q : ℚ) → ((p : ℤ × ℕ) → r ≡ Ok p → FitParts greatest p) → as_ratio r ≡ Ok q → IsFraction q
 reduced (Ok p) q fit e = subst IsFraction (ok_same (ratio p.0 p.1) q e) (is_fraction p.0 p.1 (fit p refl))

@@ -1,17 +1,16 @@
 -- A text has at most one reading.
-use Rattle.std.proofs.Common.{◌≡◌, ℕ, List, [], ◌∷◌, ◌⊎◌, Bool, not, refl, sym, ◌∙◌, ap, inl, inr}
+use Rattle.std.proofs.Common.{◌≡◌, ℕ, List, [], ◌∷◌, Bool, not, refl, sym, ◌∙◌, ap, inl, inr}
 use Rattle.std.specs.Prelude.{map, Option, Some, None, Result, Ok, Err}
 use Rattle.std.specs.Bool.{Decides, one_answer}
 use Rattle.std.specs.List.{AllByRecursion, AllZip}
-use Rattle.nf_model.specs.Walk.{IsWalk}
 use Rattle.nf_formats.specs.declared.NetRule.{NetRule}
 use Rattle.nf_lines.specs.Words.{read_lines, content_lines}
 use Rattle.nf_lines.specs.Faults.{LineFault, first_fault}
 use Rattle.nf_formats.specs.Names.{place_of}
 use Rattle.nf_formats.specs.Named.{NamedLink, Named}
 use Rattle.nf_formats.specs.NetLines.{Broken, Draft, draft_from}
-use Rattle.nf_formats.specs.NetClosing.{IsReached, Breaks, closing_rules, IsFirst, marked, network_of, AreActive, StandsFor}
-use Rattle.nf_formats.specs.NetFile.{as_rule, Closes, by_lines, by_bytes, Reads}
+use Rattle.nf_formats.specs.NetClosing.{IsReached, Breaks, closing_rules, IsFirst, marked, network_of, StandsFor}
+use Rattle.nf_formats.specs.NetFile.{Closes, by_lines, by_bytes, Reads}
 
 module _ (P : NetRule → Type 0) where
   pub first_once : (rules : List NetRule) (a b : NetRule) → IsFirst P rules a → IsFirst P rules b → a ≡ b
@@ -39,7 +38,7 @@ flags_once P (a ∷ flags) (b ∷ others) (l ∷ links) h k = λ i. one_answer a
 stands_once : (draft : Draft) (n m : Named) → StandsFor draft n → StandsFor draft m → n ≡ m
 stands_once draft n m h k =
     h.network ∙ (ap (λ flags. network_of draft (marked flags draft.links) (marked (map not flags) draft.links))
-      (flags_once (λ l. IsReached draft (place_of draft.nodes l.tail)) h.flags k.flags draft.links h.active k.active) ∙ sym k.network)
+    (flags_once (λ l. IsReached draft (place_of draft.nodes l.tail)) h.flags k.flags draft.links h.active k.active) ∙ sym k.network)
 
 closes_once : (draft : Draft) (a b : Result Named Broken) → Closes draft a → Closes draft b → a ≡ b
 closes_once draft (Ok n) (Ok m) h k = ap (λ x. Ok x) (stands_once draft n m h.1 k.1)

@@ -1,5 +1,5 @@
 -- The lines of a canonical text are made of plain words, and are short.
-use Rattle.std.proofs.Common.{◌≡◌, ◌≢◌, ℕ, zero, suc, ◌+◌, ◌*◌, ◌/◌, ◌%◌, ◌^◌, ◌<◌, ◌≤◌, ◌⊎◌, ◌==◌, ◌&&◌, ◌||◌, Bool, true, false, not, List, [], ◌∷◌, ◌++◌, length, map, nat_lt, nat_le, nat_abs, ℤ, pos, negsuc, refl, sym, ◌∙◌, ap, subst, inl, inr, arith, length-append, codes, Option, Some, None, lit<, lit≤, pow-suc}
+use Rattle.std.proofs.Common.{◌≡◌, ℕ, zero, suc, ◌+◌, ◌*◌, ◌/◌, ◌%◌, ◌^◌, ◌<◌, ◌≤◌, ◌⊎◌, ◌==◌, ◌&&◌, ◌||◌, Bool, true, not, List, [], ◌∷◌, ◌++◌, length, map, nat_lt, nat_le, nat_abs, ℤ, pos, negsuc, refl, sym, subst, inl, inr, arith, length-append, codes, Option, Some, None, lit<, lit≤, pow-suc}
 use Rattle.std.specs.List.{AllByRecursion, list_all, join_with_byte}
 use Rattle.std.specs.Char.{is_ascii_alphanumeric}
 use Rattle.std.specs.Int.{is_in_range}
@@ -8,7 +8,7 @@ use Rattle.nf_rational.specs.Rational.{ℚ}
 use Rattle.nf_model.specs.Network.{Piece}
 use Rattle.nf_numerals.specs.Digits.{digits_of}
 use Rattle.nf_numerals.specs.Numbers.{slash}
-use Rattle.nf_numerals.specs.Printed.{signed_digits_of, printed_parts, printed}
+use Rattle.nf_numerals.specs.Printed.{signed_digits_of, printed}
 use Rattle.nf_numerals.proofs.Digits.{by_steps}
 use Rattle.nf_numerals.proofs.Bytes.{IsNumberByte, printed_bytes, some_printed, printed_either}
 use Rattle.nf_formats.specs.Names.{Name, is_name_byte, is_name, name_at}
@@ -47,7 +47,7 @@ length_printed q h =
     let num : length (signed_digits_of q.num) ≤ 40 = length_signed q.num (within q h).0 in
     let den : length (digits_of q.den) ≤ 39 = length_number q.den (within q h).1 in
     printed_either (λ ds. length ds ≤ 80) q.num q.den (omega arith)
-      (let long : length (signed_digits_of q.num ++ slash ∷ digits_of q.den) ≡ length (signed_digits_of q.num) + suc (length (digits_of q.den)) = length-append (signed_digits_of q.num) (slash ∷ digits_of q.den) in omega arith)
+    (let long : length (signed_digits_of q.num ++ slash ∷ digits_of q.den) ≡ length (signed_digits_of q.num) + suc (length (digits_of q.den)) = length-append (signed_digits_of q.num) (slash ∷ digits_of q.den) in omega arith)
 
 -- ---- plain words
 number_byte : (word : List ℕ) → AllByRecursion IsNumberByte word → AllByRecursion IsWordByte word
@@ -82,21 +82,21 @@ one_byte c b p q h = let e : b ≡ c = eqb-true b c h in record { above = omega 
 
 name_byte : (b : ℕ) → is_name_byte b ≡ true → IsWordByte b
 name_byte b h = elim (or_cases (is_ascii_alphanumeric b) (b == 95 || (b == 45 || b == 46)) h) [
-    | inl e ↦ elim (or_cases (is_in_range 48 57 b || is_in_range 65 90 b) (is_in_range 97 122 b) e) [
-      | inl f ↦ elim (or_cases (is_in_range 48 57 b) (is_in_range 65 90 b) f) [
-        | inl g ↦ in_range 48 57 b (lit≤ tt) (lit≤ tt) g
-        | inr g ↦ in_range 65 90 b (lit≤ tt) (lit≤ tt) g
-      ]
-      | inr f ↦ in_range 97 122 b (lit≤ tt) (lit≤ tt) f
+  | inl e ↦ elim (or_cases (is_in_range 48 57 b || is_in_range 65 90 b) (is_in_range 97 122 b) e) [
+    | inl f ↦ elim (or_cases (is_in_range 48 57 b) (is_in_range 65 90 b) f) [
+      | inl g ↦ in_range 48 57 b (lit≤ tt) (lit≤ tt) g
+      | inr g ↦ in_range 65 90 b (lit≤ tt) (lit≤ tt) g
     ]
-    | inr e ↦ elim (or_cases (b == 95) (b == 45 || b == 46) e) [
-      | inl f ↦ one_byte 95 b (lit≤ tt) (lit≤ tt) f
-      | inr f ↦ elim (or_cases (b == 45) (b == 46) f) [
-        | inl g ↦ one_byte 45 b (lit≤ tt) (lit≤ tt) g
-        | inr g ↦ one_byte 46 b (lit≤ tt) (lit≤ tt) g
-      ]
+    | inr f ↦ in_range 97 122 b (lit≤ tt) (lit≤ tt) f
+  ]
+  | inr e ↦ elim (or_cases (b == 95) (b == 45 || b == 46) e) [
+    | inl f ↦ one_byte 95 b (lit≤ tt) (lit≤ tt) f
+    | inr f ↦ elim (or_cases (b == 45) (b == 46) f) [
+      | inl g ↦ one_byte 45 b (lit≤ tt) (lit≤ tt) g
+      | inr g ↦ one_byte 46 b (lit≤ tt) (lit≤ tt) g
     ]
   ]
+]
 
 name_bytes : (name : Name) → list_all is_name_byte name ≡ true → AllByRecursion IsWordByte name
 name_bytes [] h = tt
@@ -188,11 +188,16 @@ lines_append (x ∷ xs) ys h k = (h.0, lines_append xs ys h.1 k)
 pub plain_canonical : (n : Named) → IsNamed n → AllByRecursion IsPlainLine (canonical_lines n)
 plain_canonical n h =
     let links : AllByRecursion IsPlainLine (map link_words (active_links n) ++ map link_words n.idle_links) =
-      subst (AllByRecursion IsPlainLine) (map-append link_words (active_links n) n.idle_links) (each_line (IsNamedLink n.version) link_words (link_line n.version) (all_links n) h.links) in
-    (head_line n.version h.version,
-      (subst (λ v. IsPlainLine (codes "source" ∷ name_at n.node_names v ∷ [])) (sym h.numbered.source) (source_line (name_at n.node_names 0) (s_is_name n h)),
-        (subst (λ v. IsPlainLine (codes "sink" ∷ name_at n.node_names v ∷ [])) (sym h.numbered.sink) (sink_line (name_at n.node_names 1) (t_is_name n h)),
+    subst (AllByRecursion IsPlainLine) (map-append link_words (active_links n) n.idle_links) (each_line (IsNamedLink n.version) link_words (link_line n.version) (all_links n) h.links) in (
+      head_line n.version h.version,
+      (
+        subst (λ v. IsPlainLine (codes "source" ∷ name_at n.node_names v ∷ [])) (sym h.numbered.source) (source_line (name_at n.node_names 0) (s_is_name n h)),
+        (
+          subst (λ v. IsPlainLine (codes "sink" ∷ name_at n.node_names v ∷ [])) (sym h.numbered.sink) (sink_line (name_at n.node_names 1) (t_is_name n h)),
           lines_append (map link_words (active_links n) ++ map link_words n.idle_links ++ map inflow_words n.net.pieces) ((codes "end" ∷ []) ∷ [])
-            (lines_append (map link_words (active_links n) ++ map link_words n.idle_links) (map inflow_words n.net.pieces) links
+              (lines_append (map link_words (active_links n) ++ map link_words n.idle_links) (map inflow_words n.net.pieces) links
               (each_line IsFractionPiece inflow_words inflow_line n.net.pieces h.pieces))
-            (end_line, tt))))
+              (end_line, tt),
+        ),
+      ),
+    )

@@ -1,6 +1,6 @@
 -- For each rule a file that breaks it first, but for those that other examples have; and files that break none.
-use Rattle.std.proofs.Common.{◌≡◌, ℕ, zero, suc, ◌<◌, ◌⊎◌, Bool, true, false, not, ◌||◌, List, [], ◌∷◌, ◌++◌, replicate, refl, sym, ◌∙◌, ap, subst, inl, inr, arith, flat_map, map, codes, pos, Result, Ok, Err, Option, Some, None, slice_get, unwrap_or, bytes_eq, lit<}
-use Rattle.std.specs.List.{list_all, AllByRecursion}
+use Rattle.std.proofs.Common.{◌≡◌, ℕ, zero, suc, ◌<◌, Bool, true, false, List, [], ◌∷◌, ◌++◌, replicate, refl, sym, ◌∙◌, ap, subst, inl, inr, arith, flat_map, codes, pos, Ok, Err, Option, Some, None, unwrap_or, bytes_eq, lit<}
+use Rattle.std.specs.List.{AllByRecursion}
 use Rattle.nf_rational.specs.Rational.{ℚ, ratio}
 use Rattle.nf_rational.specs.Gcd.{gcd}
 use Rattle.nf_rational.specs.Operations.{0ℚ, whole, ◌+ℚ◌}
@@ -16,7 +16,6 @@ use Rattle.nf_numerals.specs.Printed.{printed, printed_parts}
 use Rattle.nf_formats.specs.declared.NetRule.TheVariants.{N1, N2, N3, N4, N5, N6, N7, N8, N9, N13, N14, N15, N16, N18, N19, N20, N21, N22}
 use Rattle.nf_formats.specs.Numbers.{greatest}
 use Rattle.nf_formats.specs.Named.{Named}
-use Rattle.nf_formats.specs.NetLines.{Broken}
 use Rattle.nf_formats.specs.NetFile.{Reads}
 use Rattle.nf_formats.specs.NetText.{canonical}
 use Rattle.nf_formats.specs.WellNamed.{IsNamed}
@@ -86,7 +85,6 @@ pub start_again : Reads (text (codes "nfot 1" ∷ codes "source s" ∷ codes "si
 unfolding whole ratio gcd le_ℚ lt_ℚ digits_of number_of parts_of decimal_of decimal_parts_of printed printed_parts
 start_again = refl
 
-
 -- ---- N18 and N19
 pub no_sink : Reads (text (codes "nfot 1" ∷ codes "source s" ∷ codes "end" ∷ [])) (Err (record { rule = N18; line = 0 }))
 no_sink = (inr ((λ e. absurd (cc)), inl (refl, refl)), refl)
@@ -101,7 +99,7 @@ stays : (hops : List Hop) (inside : ℕ → Bool) → AllByRecursion (λ hop. in
 stays hops inside closed [] u v h w = ap inside (sym w) ∙ h
 stays hops inside closed (e ∷ walk) u v h w =
     stays hops inside closed walk w.0.head v
-      (entry_all (λ hop. inside hop.tail ≡ true → inside hop.head ≡ true) hops e w.0 closed w.1 (ap inside w.2 ∙ h)) w.3
+    (entry_all (λ hop. inside hop.tail ≡ true → inside hop.head ≡ true) hops e w.0 closed w.1 (ap inside w.2 ∙ h)) w.3
 
 -- ---- source and sink are two nodes
 not_same : (a b : List ℕ) → bytes_eq a b ≡ false → ◌≡◌ {A = Option (List ℕ)} (Some a) (Some b) → ⊥
@@ -126,8 +124,22 @@ below_two (suc (suc n)) = false
 
 pub node_unreached : Reads (text (codes "nfot 1" ∷ codes "source s" ∷ codes "sink t" ∷ codes "link a s t 1 1" ∷ codes "link x w t 1 1" ∷ codes "end" ∷ [])) (Err (record { rule = N20; line = 0 }))
 unfolding whole ratio gcd le_ℚ lt_ℚ digits_of number_of parts_of decimal_of decimal_parts_of printed printed_parts
-node_unreached = (inr ((λ e. absurd (cc)), inr ((λ e. absurd (cc)), inr (s_and_t, inl (
-    (2, lit< tt, λ r. let k : below_two 2 ≡ true = stays (hop 0 1 (n 1) ∷ hop 2 1 (n 1) ∷ []) below_two ((λ e. refl), ((λ e. refl), tt)) r.0 0 2 refl r.1 in absurd (cc)), refl)))), refl)
+node_unreached = (
+  inr (
+    (λ e. absurd (cc)),
+    inr (
+      (λ e. absurd (cc)),
+      inr (
+        s_and_t,
+        inl (
+          (2, lit< tt, λ r. let k : below_two 2 ≡ true = stays (hop 0 1 (n 1) ∷ hop 2 1 (n 1) ∷ []) below_two ((λ e. refl), ((λ e. refl), tt)) r.0 0 2 refl r.1 in absurd (cc)),
+          refl,
+        ),
+      ),
+    ),
+  ),
+  refl,
+)
 
 -- in version 2 it is the sink that counts: nodes are s, t, u
 abbrev not_one : ℕ → Bool
@@ -137,8 +149,22 @@ not_one (suc (suc n)) = true
 
 pub sink_unreached : Reads (text (codes "nfot 2" ∷ codes "source s" ∷ codes "sink t" ∷ codes "link a s u 1 1" ∷ codes "end" ∷ [])) (Err (record { rule = N20; line = 0 }))
 unfolding whole ratio gcd le_ℚ lt_ℚ digits_of number_of parts_of decimal_of decimal_parts_of printed printed_parts
-sink_unreached = (inr ((λ e. absurd (cc)), inr ((λ e. absurd (cc)), inr (s_and_t, inl (
-    (λ r. let k : not_one 1 ≡ true = stays (hop 0 2 (n 1) ∷ []) not_one ((λ e. refl), tt) r.0 0 1 refl r.1 in absurd (cc)), refl)))), refl)
+sink_unreached = (
+  inr (
+    (λ e. absurd (cc)),
+    inr (
+      (λ e. absurd (cc)),
+      inr (
+        s_and_t,
+        inl (
+          (λ r. let k : not_one 1 ≡ true = stays (hop 0 2 (n 1) ∷ []) not_one ((λ e. refl), tt) r.0 0 1 refl r.1 in absurd (cc)),
+          refl,
+        ),
+      ),
+    ),
+  ),
+  refl,
+)
 
 -- ---- N21
 abbrev round_trip : List Hop
@@ -152,8 +178,25 @@ three_reached (suc (suc (suc v))) h = absurd (omega arith)
 
 pub zero_cycle : Reads (text (codes "nfot 1" ∷ codes "source s" ∷ codes "sink t" ∷ codes "link a s t 1 1" ∷ codes "link c t u 0 1" ∷ codes "link d u t 0 1" ∷ codes "end" ∷ [])) (Err (record { rule = N21; line = 0 }))
 unfolding whole ratio gcd le_ℚ lt_ℚ digits_of number_of parts_of decimal_of decimal_parts_of printed printed_parts
-zero_cycle = (inr ((λ e. absurd (cc)), inr ((λ e. absurd (cc)), inr (s_and_t, inr ((λ r. r.2 (three_reached r.0 r.1)), inl (
-    record { first = 1; walk = 2 ∷ []; node = 1; closed = (hop 1 2 (n 0), refl, refl, (hop 2 1 (n 0), refl, refl, refl)); zero = (refl, (refl, tt)) }, refl))))), refl)
+zero_cycle = (
+  inr (
+    (λ e. absurd (cc)),
+    inr (
+      (λ e. absurd (cc)),
+      inr (
+        s_and_t,
+        inr (
+          (λ r. r.2 (three_reached r.0 r.1)),
+          inl (
+            record { first = 1; walk = 2 ∷ []; node = 1; closed = (hop 1 2 (n 0), refl, refl, (hop 2 1 (n 0), refl, refl, refl)); zero = (refl, (refl, tt)) },
+            refl,
+          ),
+        ),
+      ),
+    ),
+  ),
+  refl,
+)
 
 -- ---- N22: two links one after the other, of which the first takes as long as a number can say
 abbrev in_a_row : ℚ → List Hop
@@ -215,16 +258,35 @@ longest_is_least = record {
 pub sum_passes : Reads (text (codes "nfot 1" ∷ codes "source s" ∷ codes "sink t" ∷ codes "link a s u 170141183460469231731687303715884105727 1" ∷ codes "link b u t 1 1" ∷ codes "end" ∷ []))
     (Err (record { rule = N22; line = 0 }))
 unfolding whole ratio gcd le_ℚ lt_ℚ digits_of number_of parts_of decimal_of decimal_parts_of printed printed_parts beyond
-sum_passes = (inr ((λ e. absurd (cc)), inr ((λ e. absurd (cc)), inr (s_and_t, inr ((λ r. r.2 (row_reached longest r.0 r.1)),
-    inr ((λ c. none_zero (in_a_row longest) (refl, (refl, tt)) c.first c.closed.0 c.closed.1 c.zero.0), inl (
-      record { link = 1; hop = hop 2 1 (n 1); least = longest; is_hop = refl; is_least = longest_is_least; is_fraction = refl; passes = refl }, refl)))))), refl)
+sum_passes = (
+  inr (
+    (λ e. absurd (cc)),
+    inr (
+      (λ e. absurd (cc)),
+      inr (
+        s_and_t,
+        inr (
+          (λ r. r.2 (row_reached longest r.0 r.1)),
+          inr (
+            (λ c. none_zero (in_a_row longest) (refl, (refl, tt)) c.first c.closed.0 c.closed.1 c.zero.0),
+            inl (
+              record { link = 1; hop = hop 2 1 (n 1); least = longest; is_hop = refl; is_least = longest_is_least; is_fraction = refl; passes = refl },
+              refl,
+            ),
+          ),
+        ),
+      ),
+    ),
+  ),
+  refl,
+)
 
 -- ---- accepted files
 -- the least transit sum from a node to itself is 0
 to_itself : (hops : List Hop) (v : ℕ) (least : ℚ) → AllByRecursion (λ hop. le_ℚ 0ℚ hop.transit ≡ true) hops → IsLeastTransit hops v v least → least ≡ 0ℚ
 to_itself hops v least positive h =
     let above : 0ℚ ≤ℚ transit_sum hops h.taken.0 =
-      transit_sum_nn hops (λ e hop is. le_of_test 0ℚ hop.transit (entry_all (λ hop. le_ℚ 0ℚ hop.transit ≡ true) hops e hop positive is)) h.taken.0 v v h.taken.1 in
+    transit_sum_nn hops (λ e hop is. le_of_test 0ℚ hop.transit (entry_all (λ hop. le_ℚ 0ℚ hop.transit ≡ true) hops e hop positive is)) h.taken.0 v v h.taken.1 in
     ≤ℚ_antisymm least 0ℚ (h.bound [] refl) (subst (λ x. 0ℚ ≤ℚ x) h.taken.2 above)
 
 -- no sum passes at a link out of the source
@@ -244,7 +306,9 @@ abbrev one_link : Named
 one_link = record {
   version = 1;
   net = record {
-    nodes = 2; source = 0; sink = 1;
+    nodes = 2;
+    source = 0;
+    sink = 1;
     links = record { tail = 0; head = 1; transit = ratio (pos 2) 4; capacity = Some (n 6) } ∷ [];
     pieces = record { start = n 0; rate = n 1 } ∷ [];
   };
@@ -269,10 +333,22 @@ one_hop_fits (suc e) h least is is_least wide = absurd (let none : ◌≡◌ {A 
 
 pub one_link_read : Reads commented (Ok one_link)
 unfolding whole ratio gcd le_ℚ lt_ℚ digits_of number_of parts_of decimal_of decimal_parts_of printed printed_parts
-one_link_read =
-    ( ((λ e. absurd (cc)), ((λ e. absurd (cc)), (s_and_t, ((λ r. r.2 (one_hop_reached r.0 r.1)),
-        ((λ c. none_zero one_hop (refl, tt) c.first c.closed.0 c.closed.1 c.zero.0), ((λ p. one_hop_fits p.link p.hop p.least p.is_hop p.is_least p.passes), tt))))))
-    , record { flags = true ∷ []; active = (((λ e. ([], refl)), (λ r. refl)), tt); network = refl })
+one_link_read = (
+  (
+    (λ e. absurd (cc)),
+    (
+      (λ e. absurd (cc)),
+      (
+        s_and_t,
+        (
+          (λ r. r.2 (one_hop_reached r.0 r.1)),
+          ((λ c. none_zero one_hop (refl, tt) c.first c.closed.0 c.closed.1 c.zero.0), ((λ p. one_hop_fits p.link p.hop p.least p.is_hop p.is_least p.passes), tt)),
+        ),
+      ),
+    ),
+  ),
+  record { flags = true ∷ []; active = (((λ e. ([], refl)), (λ r. refl)), tt); network = refl },
+)
 
 -- version 2, with decimals and a link whose tail isn't reached
 abbrev with_idle : List ℕ
@@ -285,7 +361,9 @@ abbrev one_idle : Named
 one_idle = record {
   version = 2;
   net = record {
-    nodes = 2; source = 0; sink = 1;
+    nodes = 2;
+    source = 0;
+    sink = 1;
     links = record { tail = 0; head = 1; transit = half; capacity = Some (ratio (pos 150) 100) } ∷ [];
     pieces = record { start = n 0; rate = n 2 } ∷ [];
   };
@@ -310,14 +388,26 @@ two_hops_fit (suc (suc e)) h least is is_least wide = absurd (let none : ◌≡�
 
 pub one_idle_read : Reads with_idle (Ok one_idle)
 unfolding whole ratio gcd le_ℚ lt_ℚ digits_of number_of parts_of decimal_of decimal_parts_of printed printed_parts
-one_idle_read =
-    ( ((λ e. absurd (cc)), ((λ e. absurd (cc)), (s_and_t, ((λ f. f (1 ∷ [], (hop 0 1 half, refl, refl, refl))),
-        ((λ c. none_zero two_hops (refl, (refl, tt)) c.first c.closed.0 c.closed.1 c.zero.0), ((λ p. two_hops_fit p.link p.hop p.least p.is_hop p.is_least p.passes), tt))))))
-    , record {
-        flags = false ∷ true ∷ [];
-        active = (((λ e. absurd (cc)), (λ r. absurd (not_two r.0 r.1))), (((λ e. ([], refl)), (λ r. refl)), tt));
-        network = refl;
-      })
+one_idle_read = (
+  (
+    (λ e. absurd (cc)),
+    (
+      (λ e. absurd (cc)),
+      (
+        s_and_t,
+        (
+          (λ f. f (1 ∷ [], (hop 0 1 half, refl, refl, refl))),
+          ((λ c. none_zero two_hops (refl, (refl, tt)) c.first c.closed.0 c.closed.1 c.zero.0), ((λ p. two_hops_fit p.link p.hop p.least p.is_hop p.is_least p.passes), tt)),
+        ),
+      ),
+    ),
+  ),
+  record {
+    flags = false ∷ true ∷ [];
+    active = (((λ e. absurd (cc)), (λ r. absurd (not_two r.0 r.1))), (((λ e. ([], refl)), (λ r. refl)), tt));
+    network = refl;
+  },
+)
 
 -- so there are such networks, and their texts are read back
 pub one_idle_is_named : IsNamed one_idle

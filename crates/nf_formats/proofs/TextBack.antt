@@ -1,9 +1,9 @@
 -- The lines and words of a text that is made of plain words.
-use Rattle.std.proofs.Common.{◌≡◌, ◌≢◌, ℕ, zero, suc, ◌+◌, ◌-◌, ◌<◌, ◌≤◌, ◌==◌, ◌&&◌, ◌||◌, Bool, true, false, not, cond, if◌then◌else◌, List, [], ◌∷◌, ◌++◌, length, map, filter, flat_map, take, take_all, slice_index, nat_lt, nat_le, refl, sym, ◌∙◌, ap, subst, arith, append_assoc, append-nil, bytes_eq, length-append, Some, None, le-ltb, le-leb, ne_eqb}
+use Rattle.std.proofs.Common.{◌≡◌, ◌≢◌, ℕ, zero, suc, ◌+◌, ◌-◌, ◌<◌, ◌≤◌, ◌==◌, ◌&&◌, ◌||◌, Bool, true, false, not, cond, if◌then◌else◌, List, [], ◌∷◌, ◌++◌, length, map, flat_map, take, take_all, slice_index, nat_le, refl, ◌∙◌, ap, arith, append_assoc, bytes_eq, Some, None, le-ltb, le-leb, ne_eqb}
 use Rattle.std.specs.Option.{option_or}
-use Rattle.std.specs.List.{AllByRecursion, list_all, join_with_byte, slice_split, onto_first, position_or_len, prefix_len}
+use Rattle.std.specs.List.{AllByRecursion, list_all, join_with_byte, slice_split, onto_first, position_or_len}
 use Rattle.nf_lines.specs.Lines.{TextLine, ended_line, lines_of_parts, lines}
-use Rattle.nf_lines.specs.Words.{is_blank, without_comment, parts_with_bytes, words, line_of_words, is_plain, ReadLine, read_line, read_lines, content_lines}
+use Rattle.nf_lines.specs.Words.{is_blank, without_comment, parts_with_bytes, words, line_of_words, read_line, read_lines, content_lines}
 use Rattle.nf_lines.specs.Faults.{NotAscii, LongLine, is_allowed, line_fault, first_fault_of, first_fault}
 use Rattle.nf_formats.proofs.NameFacts.{bytes_eq-self}
 use Rattle.nf_formats.proofs.LinesBack.{lines_from}
@@ -39,7 +39,7 @@ line_bytes [] h = tt
 line_bytes (w ∷ []) h = line_byte w h.0.1
 line_bytes (w ∷ v ∷ ws) h =
     all_append IsLineByte w (32 ∷ join_with_byte 32 (v ∷ ws)) (line_byte w h.0.1)
-      (record { above = omega arith; below = omega arith; no_comment = λ e. absurd (omega arith) }, line_bytes (v ∷ ws) h.1)
+    (record { above = omega arith; below = omega arith; no_comment = λ e. absurd (omega arith) }, line_bytes (v ∷ ws) h.1)
 
 -- ---- parts between marks
 split_none : (p : ℕ → Bool) (xs : List ℕ) → AllByRecursion (λ b. p b ≡ false) xs → slice_split p xs ≡ xs ∷ []
@@ -102,7 +102,7 @@ split_lines [] h = refl
 split_lines (ws ∷ all) h =
     ap (slice_split (λ b. b == 10)) (append_assoc (join_with_byte 32 ws) (10 ∷ []) (flat_map line_of_words all))
     ∙ split_at (λ b. b == 10) (join_with_byte 32 ws) 10 (flat_map line_of_words all)
-        (all_map IsLineByte (λ b. (b == 10) ≡ false) no_end (join_with_byte 32 ws) (line_bytes ws h.0.plain)) refl
+    (all_map IsLineByte (λ b. (b == 10) ≡ false) no_end (join_with_byte 32 ws) (line_bytes ws h.0.plain)) refl
     ∙ ap (λ r. join_with_byte 32 ws ∷ r) (split_lines all h.1)
 
 no_return : (xs : List ℕ) (i : ℕ) → AllByRecursion IsLineByte xs → (slice_index xs i == 13) ≡ false
@@ -137,7 +137,7 @@ contents number [] h = refl
 contents number (ws ∷ all) h =
     ap (λ line. content_lines (line ∷ map read_line (text_lines (number + 1) all))) (read_back number ws h.0)
     ∙ ap (λ (t : Bool). cond (not t) (record { number = number; plain = true; words = ws } ∷ content_lines (map read_line (text_lines (number + 1) all))) (content_lines (map read_line (text_lines (number + 1) all))))
-        (ne_eqb (length ws) 0 (λ e. let some : 0 < length ws = h.0.some in absurd (omega arith)))
+    (ne_eqb (length ws) 0 (λ e. let some : 0 < length ws = h.0.some in absurd (omega arith)))
     ∙ ap (λ r. record { number = number; plain = true; words = ws } ∷ r) (contents (number + 1) all h.1)
 
 pub contents_back : (all : List (List (List ℕ))) → AllByRecursion IsPlainLine all → content_lines (read_lines (flat_map line_of_words all)) ≡ lines_from 1 all

@@ -60,9 +60,14 @@ pub enum NetRule {
 #[derive(Clone, Copy, Debug, PartialEq, Eq)]
 pub enum Cause<S> {
     /// As many phases as allowed were made.
-    Phases { made: u64 },
+    Phases {
+        made: u64,
+    },
     /// In this phase as many patterns as allowed were tried.
-    Patterns { phase: u64, tried: u64 },
+    Patterns {
+        phase: u64,
+        tried: u64,
+    },
     /// In this phase, and for this place of a pattern where there is one, an operation passes.
     Passed {
         phase: u64,
@@ -70,7 +75,9 @@ pub enum Cause<S> {
         at: PassedAt<S>,
     },
     /// In this phase no pattern is accepted.
-    NoPattern { phase: u64 },
+    NoPattern {
+        phase: u64,
+    },
 }
 
 /// A text has at most one reading.
