@@ -1,0 +1,2 @@
+pub mod Affine
+pub mod Capacity
