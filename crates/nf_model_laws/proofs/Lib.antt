@@ -3,3 +3,5 @@ pub mod Curves
 pub mod Merged
 pub mod Queues
 pub mod Step
+pub mod Ways
+pub mod EarliestWalks
