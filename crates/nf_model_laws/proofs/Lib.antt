@@ -5,3 +5,5 @@ pub mod Queues
 pub mod Step
 pub mod Ways
 pub mod EarliestWalks
+pub mod Earliest
+pub mod EarliestTransits

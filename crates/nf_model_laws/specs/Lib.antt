@@ -1,2 +1,3 @@
 pub mod Affine
 pub mod Capacity
+pub mod EarliestLaws

@@ -1,0 +1,106 @@
+-- Labels of a network that are right link by link are the least transit sums, and conversely: crossing a hop takes just its
+-- transit time.
+use Rattle.std.proofs.Common.{◌≡◌, ◌≢◌, ℕ, ◌<◌, List, [], ◌∷◌, sym, ap, subst, refl, ◌∙◌}
+use lib.IntN.{pos}
+use Rattle.nf_rational.specs.Rational.{ℚ}
+use Rattle.nf_rational.specs.Operations.{0ℚ, ◌+ℚ◌}
+use Rattle.nf_rational.specs.Order.{◌≤ℚ◌}
+use Rattle.nf_rational_laws.proofs.Polynomial.{reading_of}
+use Rattle.nf_rational_laws.proofs.Order.{≤ℚ_of_same}
+use Rattle.nf_rational_laws.proofs.Linear.{le, eq, linear_le, linear_eq}
+use Rattle.nf_model.specs.Walk.{Hop, IsHop, IsWalk, transit_of, transit_sum, IsLeastTransit}
+use Rattle.nf_model.specs.Network.{Link, Network, IsNetwork, IsLink, hop_of, hops}
+use Rattle.nf_model_laws.specs.EarliestLaws.{AreTransitLabels}
+use Rattle.nf_model_laws.proofs.EarliestWalks.{transit_of-hop, AreLabelsBy, CanCross, AreHops, Comes, IsFirst, IsFirst-label, AreLabelsBy-first}
+use Rattle.nf_model_laws.proofs.Earliest.{IsHop-link, link_of-hop, AreHops-net}
+
+-- ---- steps over plain numbers
+kept : (s t x y r : ℚ) → s ≤ℚ t → x ≡ s +ℚ r → y ≡ t +ℚ r → x ≤ℚ y
+kept s t x y r h e f = linear_le (s ∷ t ∷ x ∷ y ∷ r ∷ []) (le h ∷ eq e ∷ eq f ∷ []) (search reading_of depth 12) tt
+
+none_more : (t a : ℚ) → t ≡ a → a ≡ t +ℚ 0ℚ
+none_more t a e = linear_eq (t ∷ a ∷ []) (eq e ∷ []) (search reading_of depth 12) tt tt
+
+one_more : (t x a r l : ℚ) → x ≡ t +ℚ r → a ≡ x +ℚ l → a ≡ t +ℚ (r +ℚ l)
+one_more t x a r l e f = linear_eq (t ∷ x ∷ a ∷ r ∷ l ∷ []) (eq e ∷ eq f ∷ []) (search reading_of depth 12) tt tt
+
+from_none : (l a : ℚ) → a ≡ 0ℚ +ℚ l → l ≡ a
+from_none l a e = linear_eq (l ∷ a ∷ []) (eq e ∷ []) (search reading_of depth 12) tt tt
+
+-- ---- walks
+abbrev pub Takes : List Hop → ℕ → ℚ → ℚ → Type 0
+Takes hops e time exit = exit ≡ time +ℚ transit_of hops e
+
+Comes-sum : (hops : List Hop) (walk : List ℕ) (t a : ℚ) → Comes (Takes hops) walk t a → a ≡ t +ℚ transit_sum hops walk
+Comes-sum hops [] t a c = none_more t a c
+Comes-sum hops (e ∷ walk) t a c = one_more t c.0 a (transit_of hops e) (transit_sum hops walk) c.1 (Comes-sum hops walk c.0 a c.2)
+
+sum-comes : (hops : List Hop) (walk : List ℕ) (t a : ℚ) → a ≡ t +ℚ transit_sum hops walk → Comes (Takes hops) walk t a
+sum-comes hops [] t a e = linear_eq (t ∷ a ∷ []) (eq e ∷ []) (search reading_of depth 12) tt tt
+sum-comes hops (f ∷ walk) t a e = (t +ℚ transit_of hops f, refl, sum-comes hops walk (t +ℚ transit_of hops f) a (by_sum t a (transit_of hops f) (transit_sum hops walk) e))
+  where
+    by_sum : (t a r l : ℚ) → a ≡ t +ℚ (r +ℚ l) → a ≡ (t +ℚ r) +ℚ l
+    by_sum t a r l e = linear_eq (t ∷ a ∷ r ∷ l ∷ []) (eq e ∷ []) (search reading_of depth 12) tt tt
+
+zero_sum : (l : ℚ) → l ≡ 0ℚ +ℚ l
+zero_sum l = linear_eq (l ∷ []) [] (search reading_of depth 12) tt tt
+
+IsLeastTransit-first : (hops : List Hop) (source v : ℕ) (least : ℚ) → IsFirst hops source (Takes hops) v 0ℚ least → IsLeastTransit hops source v least
+IsLeastTransit-first hops source v least f = record {
+  taken = (f.taken.0, f.taken.1, from_none _ _ (Comes-sum hops f.taken.0 0ℚ least f.taken.2));
+  bound = λ walk w. f.least walk (transit_sum hops walk) w (sum-comes hops walk 0ℚ (transit_sum hops walk) (zero_sum _));
+}
+
+IsFirst-least : (hops : List Hop) (source v : ℕ) (least : ℚ) → IsLeastTransit hops source v least → IsFirst hops source (Takes hops) v 0ℚ least
+IsFirst-least hops source v least d = record {
+  taken = (d.taken.0, d.taken.1, sum-comes hops d.taken.0 0ℚ least (sym d.taken.2 ∙ zero_sum _));
+  least = λ walk other w c. subst (λ (x : ℚ). least ≤ℚ x) (from_none _ _ (Comes-sum hops walk 0ℚ other c)) (d.bound walk w);
+}
+
+CanCross-takes : (hops : List Hop) (label : ℕ → ℚ) → CanCross hops (Takes hops) label
+CanCross-takes hops label = record {
+  takes = λ e hop time exit p c. ≤ℚ_of_same _ _ (ap (λ (r : ℚ). time +ℚ r) (sym (transit_of-hop hops e hop p)) ∙ sym c);
+  keeps = λ e hop s t x y p h c d. kept s t x y (transit_of hops e) h c d;
+  exits = λ e hop p. (label hop.tail +ℚ transit_of hops e, refl);
+}
+
+module _ (net : Network) (label : ℕ → ℚ) (good : IsNetwork net) where
+  transit_of-link : (e : ℕ) (link : Link) → IsLink net e link → transit_of (hops net) e ≡ link.transit
+  transit_of-link e link p = transit_of-hop (hops net) e (hop_of link) (IsHop-link net e link p)
+
+  by_link : (P : Hop → Type 0) (e : ℕ) → ((link : Link) → IsLink net e link → P (hop_of link)) → (hop : Hop) → IsHop (hops net) e hop → P hop
+  by_link P e f hop p = let l : (link : Link) × IsLink net e link × (hop_of link ≡ hop) = link_of-hop net e hop p in subst P l.2 (f l.0 l.1)
+
+  by_hops : AreTransitLabels net label → AreLabelsBy (hops net) net.nodes net.source (Takes (hops net)) 0ℚ label
+  by_hops labels = record {
+    starts = labels.source;
+    bound = λ e hop exit p other c. by_link (λ (h : Hop). h.head ≢ net.source → exit ≡ label h.tail +ℚ transit_of (hops net) e → label h.head ≤ℚ exit) e
+        (λ link q o d. subst (λ (x : ℚ). label link.head ≤ℚ x) (ap (λ (r : ℚ). label link.tail +ℚ r) (sym (transit_of-link e link q)) ∙ sym d) (labels.none_shorter e link q o)) hop p other c;
+    entered = λ v h other.
+        let x : (e : ℕ) × (link : Link) × IsLink net e link × (link.head ≡ v) × (label v ≡ label link.tail +ℚ link.transit) = labels.entered v h other in
+        (x.0, hop_of x.1, IsHop-link net x.0 x.1 x.2, x.3, x.4 ∙ ap (λ (r : ℚ). label x.1.tail +ℚ r) (sym (transit_of-link x.0 x.1 x.2)));
+  }
+
+  abbrev Entry : ℕ → Type 0
+  Entry v = (e : ℕ) × (link : Link) × IsLink net e link × (link.head ≡ v) × (label v ≡ label link.tail +ℚ link.transit)
+
+  from_hops : AreLabelsBy (hops net) net.nodes net.source (Takes (hops net)) 0ℚ label → AreTransitLabels net label
+  from_hops labels = record {
+    source = labels.starts;
+    none_shorter = λ e link p other. labels.bound e (hop_of link) _ (IsHop-link net e link p) other (ap (λ (r : ℚ). label link.tail +ℚ r) (sym (transit_of-link e link p)));
+    entered = λ v h other.
+        let x : (e : ℕ) × (hop : Hop) × IsHop (hops net) e hop × (hop.head ≡ v) × Takes (hops net) e (label hop.tail) (label v) = labels.entered v h other in
+        entry v x.0 x.1 x.2 x.3 x.4;
+  }
+    where
+      entry : (v e : ℕ) (hop : Hop) → IsHop (hops net) e hop → hop.head ≡ v → label v ≡ label hop.tail +ℚ transit_of (hops net) e → Entry v
+      entry v e hop p = by_link (λ (h : Hop). h.head ≡ v → label v ≡ label h.tail +ℚ transit_of (hops net) e → Entry v) e
+          (λ link q at c. (e, link, q, at, c ∙ ap (λ (r : ℚ). label link.tail +ℚ r) (transit_of-link e link q))) hop p
+
+  pub IsLeastTransit-labels : AreTransitLabels net label → (v : ℕ) → v < net.nodes → IsLeastTransit (hops net) net.source v (label v)
+  IsLeastTransit-labels labels v h = IsLeastTransit-first (hops net) net.source v (label v)
+      (IsFirst-label (hops net) net.nodes net.source (Takes (hops net)) 0ℚ label (AreHops-net net good) (CanCross-takes (hops net) label) (by_hops labels) v h)
+
+  pub AreTransitLabels-least : ((v : ℕ) → v < net.nodes → IsLeastTransit (hops net) net.source v (label v)) → AreTransitLabels net label
+  AreTransitLabels-least least = from_hops (AreLabelsBy-first (hops net) net.nodes net.source (Takes (hops net)) 0ℚ label (AreHops-net net good) (CanCross-takes (hops net) label) good.source
+      (λ v h. IsFirst-least (hops net) net.source v (label v) (least v h)))
