@@ -1,2 +1,4 @@
 pub mod Affine
 pub mod Capacity
+pub mod CurveLaws
+pub mod QueueLaws
