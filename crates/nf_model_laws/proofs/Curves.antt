@@ -11,6 +11,7 @@ use Rattle.nf_rational_laws.proofs.Linear.{le, lt, eq, le_times, eq_times, linea
 use Rattle.nf_rational_laws.proofs.Tests.{lt_ℚ_cases}
 use Rattle.nf_model.specs.Curve.{slope, value, TimesRise, IsCurve, NeverFalls}
 use Rattle.nf_model_laws.specs.Affine.{IsAffine}
+use Rattle.nf_model_laws.specs.CurveLaws.{ValuesRise}
 use Rattle.nf_model_laws.proofs.Affine.{quotient-times, le_from_times, quotient-gap, nn-slope, ps_gap, <_≤_trans, ≤_refl, ≤_trans, clash, line_end, line_start, line_rises}
 
 -- where t lies before the second point, and where it does not
@@ -129,26 +130,30 @@ slope-joined p q r h k e = slope-unique p r (slope p q) (<_≤_trans _ _ _ h (�
 same_after : (p0 p1 q0 q1 t n m l : ℚ) → n *ℚ (q0 -ℚ p0) ≡ q1 -ℚ p1 → n ≡ m → n ≡ l → q1 +ℚ m *ℚ (t -ℚ q0) ≡ p1 +ℚ l *ℚ (t -ℚ p0)
 same_after p0 p1 q0 q1 t n m l e f g = linear_eq (p0 ∷ p1 ∷ q0 ∷ q1 ∷ t ∷ n ∷ m ∷ l ∷ []) (eq e ∷ eq_times (t -ℚ q0) f ∷ eq_times (t -ℚ p0) g ∷ []) (search reading_of depth 12) tt tt
 
-merge_two : (p q r : ℚ × ℚ) (t : ℚ) → p.0 <ℚ q.0 → q.0 <ℚ r.0 → slope p q ≡ slope q r → value (p ∷ q ∷ r ∷ []) t ≡ value (p ∷ r ∷ []) t
-merge_two p q r t h k e =
+merge_two : (p q r : ℚ × ℚ) (rest : List (ℚ × ℚ)) (t : ℚ) → p.0 <ℚ q.0 → q.0 <ℚ r.0 → slope p q ≡ slope q r → value (p ∷ q ∷ r ∷ rest) t ≡ value (p ∷ r ∷ rest) t
+merge_two p q r rest t h k e =
     let s : slope p q ≡ slope p r = slope-joined p q r h k e in
-    by_first p q (r ∷ []) t
-    (λ a d. d ∙ ap (λ (n : ℚ). p.1 +ℚ n *ℚ (t -ℚ p.0)) s ∙ sym (value-before p r [] t (<_≤_trans _ _ _ a (≤ℚ_of_lt _ _ k))))
-    (λ a d. d ∙ by_first q r [] t
-    (λ b c. c ∙ same_after p.0 p.1 q.0 q.1 t (slope p q) (slope q r) (slope p r) (slope-times p q h) e s ∙ sym (value-before p r [] t b))
-    (λ b c. c ∙ sym (value-after p r [] t b)))
+    by_first p q (r ∷ rest) t
+    (λ a d. d ∙ ap (λ (n : ℚ). p.1 +ℚ n *ℚ (t -ℚ p.0)) s ∙ sym (value-before p r rest t (<_≤_trans _ _ _ a (≤ℚ_of_lt _ _ k))))
+    (λ a d. d ∙ by_first q r rest t
+    (λ b c. c ∙ same_after p.0 p.1 q.0 q.1 t (slope p q) (slope q r) (slope p r) (slope-times p q h) e s ∙ sym (value-before p r rest t b))
+    (λ b c. c ∙ sym (value-after p r rest t b)))
 
-pub value-merge : (front : List (ℚ × ℚ)) (p q r : ℚ × ℚ) (t : ℚ) → TimesRise (front ++ p ∷ q ∷ r ∷ []) → slope p q ≡ slope q r → p.0 ≤ℚ t → value (front ++ p ∷ q ∷ r ∷ []) t ≡ value (front ++ p ∷ r ∷ []) t
-value-merge front p q r t h e k =
-    let later : TimesRise (p ∷ q ∷ r ∷ []) = TimesRise-rest front p (q ∷ r ∷ []) h in
-    value-rest front p (q ∷ r ∷ []) t h k ∙ merge_two p q r t later.0 later.1.0 e
-    ∙ sym (value-rest front p (r ∷ []) t (TimesRise-push front p r (TimesRise-front front p (q ∷ r ∷ []) h) (<_≤_trans _ _ _ later.0 (≤ℚ_of_lt _ _ later.1.0))) k)
+-- the times still rise without a point between
+pub TimesRise-merge : (front : List (ℚ × ℚ)) (p q r : ℚ × ℚ) (rest : List (ℚ × ℚ)) → TimesRise (front ++ p ∷ q ∷ r ∷ rest) → TimesRise (front ++ p ∷ r ∷ rest)
+TimesRise-merge [] p q r rest h = (<_≤_trans _ _ _ h.0 (≤ℚ_of_lt _ _ h.1.0), h.1.1)
+TimesRise-merge (x ∷ []) p q r rest h = (h.0, TimesRise-merge [] p q r rest h.1)
+TimesRise-merge (x ∷ y ∷ front) p q r rest h = (h.0, TimesRise-merge (y ∷ front) p q r rest h.1)
+
+-- from p on the point q with equal slopes before and after it doesn't matter
+pub value-merge : (front : List (ℚ × ℚ)) (p q r : ℚ × ℚ) (rest : List (ℚ × ℚ)) (t : ℚ) → TimesRise (front ++ p ∷ q ∷ r ∷ rest) → slope p q ≡ slope q r → p.0 ≤ℚ t
+    → value (front ++ p ∷ q ∷ r ∷ rest) t ≡ value (front ++ p ∷ r ∷ rest) t
+value-merge front p q r rest t h e k =
+    let later : TimesRise (p ∷ q ∷ r ∷ rest) = TimesRise-rest front p (q ∷ r ∷ rest) h in
+    value-rest front p (q ∷ r ∷ rest) t h k ∙ merge_two p q r rest t later.0 later.1.0 e
+    ∙ sym (value-rest front p (r ∷ rest) t (TimesRise-merge front p q r rest h) k)
 
 -- ---- curves that never fall
-abbrev pub ValuesRise : List (ℚ × ℚ) → Type 0
-ValuesRise (p ∷ q ∷ rest) = (p.1 ≤ℚ q.1) × ValuesRise (q ∷ rest)
-ValuesRise rest = Unit {0}
-
 -- s is below t, and on the curve from p on: not below p's value
 pub value-floor : (p : ℚ × ℚ) (rest : List (ℚ × ℚ)) (t : ℚ) → TimesRise (p ∷ rest) → ValuesRise (p ∷ rest) → p.0 ≤ℚ t → p.1 ≤ℚ value (p ∷ rest) t
 value-floor p [] t r v h = ≤_refl p.1
@@ -223,7 +228,7 @@ pub record EndsAt (points : List (ℚ × ℚ)) (p : ℚ × ℚ) : Type 0 where
   pub same : points ≡ front ++ p ∷ []
   pub curve : IsCurve points
 
-IsCurve-rises : (points : List (ℚ × ℚ)) → IsCurve points → TimesRise points
+pub IsCurve-rises : (points : List (ℚ × ℚ)) → IsCurve points → TimesRise points
 IsCurve-rises [] c = absurd c
 IsCurve-rises (p ∷ rest) c = c.1
 
@@ -262,3 +267,15 @@ push_before (x ∷ front) p q t c h i k = value-push_before front x p q t c.1 h 
 pub EndsAt-push_before : (points : List (ℚ × ℚ)) (p q : ℚ × ℚ) (t : ℚ) → EndsAt points p → p.0 <ℚ q.0 → 0ℚ ≤ℚ t → t ≤ℚ p.0 → value (points ++ q ∷ []) t ≡ value points t
 EndsAt-push_before points p q t e h i k =
     ap (λ (l : List (ℚ × ℚ)). value (l ++ q ∷ []) t) e.same ∙ push_before e.front p q t (subst (λ (l : List (ℚ × ℚ)). IsCurve l) e.same e.curve) h i k ∙ sym (ap (λ (l : List (ℚ × ℚ)). value l t) e.same)
+
+-- ---- the same for a curve as it stands
+pub IsCurve-append : (front : List (ℚ × ℚ)) (p q : ℚ × ℚ) → IsCurve (front ++ p ∷ []) → p.0 <ℚ q.0 → IsCurve ((front ++ p ∷ []) ++ q ∷ [])
+IsCurve-append front p q c h = subst (λ (l : List (ℚ × ℚ)). IsCurve l) (sym (append_one front p q)) (IsCurve-push front p q c h)
+
+pub value-append_before : (front : List (ℚ × ℚ)) (p q : ℚ × ℚ) (t : ℚ) → IsCurve (front ++ p ∷ []) → p.0 <ℚ q.0 → 0ℚ ≤ℚ t → t ≤ℚ p.0
+    → value ((front ++ p ∷ []) ++ q ∷ []) t ≡ value (front ++ p ∷ []) t
+value-append_before = push_before
+
+pub value-append_affine : (front : List (ℚ × ℚ)) (p q : ℚ × ℚ) → IsCurve (front ++ p ∷ []) → p.0 <ℚ q.0 → IsAffine (value ((front ++ p ∷ []) ++ q ∷ [])) p.0 q.0 (slope p q)
+value-append_affine front p q c h =
+    subst (λ (l : List (ℚ × ℚ)). IsAffine (value l) p.0 q.0 (slope p q)) (sym (append_one front p q)) (value-affine front p q [] (TimesRise-push front p q (IsCurve-rises _ c) h))

@@ -1,3 +1,5 @@
 pub mod Affine
 pub mod Capacity
+pub mod CurveLaws
+pub mod QueueLaws
 pub mod EarliestLaws

@@ -1,7 +1,60 @@
 //! Laws of the model: theorems between its definitions, each the contract of a public function with an empty body.
 #![tactic(auto)]
 
+ghost use Rattle.nf_model_laws.specs.CurveLaws.{CurveGoesByPoints, AppendedPointGoesOn, EqualSlopesMerge, EndsDecideAffine, RisingPointsRise};
+ghost use Rattle.nf_model_laws.specs.QueueLaws.{LinkHasOneValue, QueueIsNotNegative, OutflowIsInflowLessQueue, ExitNeverFalls, QueueGoesOn};
 ghost use Rattle.nf_model_laws.specs.EarliestLaws.{EarliestByLinks, OneEarliest, LeastTransitByLinks};
+
+/// A curve has each point's value at its time, is affine from each point to the next, and constant after the last.
+pub fn curve_goes_by_points()
+    ensures { CurveGoesByPoints }
+{}
+
+/// A point that is appended changes no value up to the point before it, from which the curve goes on to it along a line.
+pub fn appended_point_goes_on()
+    ensures { AppendedPointGoesOn }
+{}
+
+/// A point with equal slopes before and after it may go: the curve has the same value at every time.
+pub fn equal_slopes_merge()
+    ensures { EqualSlopesMerge }
+{}
+
+/// Functions that are affine on a stretch of time and agree at its ends agree between; one that is not negative at its ends is
+/// not negative between.
+pub fn ends_decide_affine()
+    ensures { EndsDecideAffine }
+{}
+
+/// A curve whose values never fall from point to point never falls.
+pub fn rising_points_rise()
+    ensures { RisingPointsRise }
+{}
+
+/// A link has at most one queue, exit and outflow at each time.
+pub fn link_has_one_value()
+    ensures { LinkHasOneValue }
+{}
+
+/// A queue is not negative, and nothing leaves a link before the transit time is over.
+pub fn queue_is_not_negative()
+    ensures { QueueIsNotNegative }
+{}
+
+/// One transit time later, what has come out of a link is what had entered it, less the queue.
+pub fn outflow_is_inflow_less_queue()
+    ensures { OutflowIsInflowLessQueue }
+{}
+
+/// Where the inflow never falls, who enters a link later does not leave it earlier.
+pub fn exit_never_falls()
+    ensures { ExitNeverFalls }
+{}
+
+/// While the inflow has one rate, the queue changes at that rate less the capacity, down to 0 at most.
+pub fn queue_goes_on()
+    ensures { QueueGoesOn }
+{}
 
 /// Labels are the earliest arrivals over all walks exactly where they are right link by link: the source's is the departure, no
 /// link is left before the label of its head, and into each other node leads a link that is left just then. It holds for any
