@@ -7,3 +7,5 @@ pub mod Ways
 pub mod EarliestWalks
 pub mod Earliest
 pub mod EarliestTransits
+pub mod Exits
+pub mod MemberLink

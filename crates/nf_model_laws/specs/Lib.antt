@@ -3,3 +3,5 @@ pub mod Capacity
 pub mod CurveLaws
 pub mod QueueLaws
 pub mod EarliestLaws
+pub mod ExitLaws
+pub mod MemberLaws

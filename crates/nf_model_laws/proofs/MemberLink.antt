@@ -1,0 +1,190 @@
+-- A flow that puts the whole supply into the one link of a network is an equilibrium.
+use Rattle.std.proofs.Common.{◌≡◌, ◌≢◌, ℕ, zero, suc, ◌<◌, List, [], ◌∷◌, length, ◌⊎◌, inl, inr, ⊎_elim, Option, Some, None, slice_get, sym, ap, subst, refl, ◌∙◌, arith}
+use lib.IntN.{pos}
+use Rattle.nf_rational.specs.Rational.{ℚ}
+use Rattle.nf_rational.specs.Operations.{0ℚ, ◌+ℚ◌}
+use Rattle.nf_rational.specs.Order.{◌≤ℚ◌, ◌<ℚ◌}
+use Rattle.nf_rational_laws.proofs.Polynomial.{reading_of}
+use Rattle.nf_rational_laws.proofs.Order.{≤ℚ_of_lt, ≤ℚ_of_same, ≤ℚ_antisymm, lt_or_le_ℚ}
+use Rattle.nf_rational_laws.proofs.Linear.{eq, linear_eq}
+use Rattle.nf_model.specs.Curve.{Within, NeverFalls}
+use Rattle.nf_model.specs.Walk.{Hop, IsHop, IsWalk, transit_sum}
+use Rattle.nf_model.specs.Network.{Link, Piece, Network, IsNetwork, IsLink, ArePieces, hop_of, hops, supply}
+use Rattle.nf_model.specs.Queue.{IsQueue, IsExit, IsOutflow}
+use Rattle.nf_model.specs.Earliest.{IsEarliest}
+use Rattle.nf_model.specs.Equilibrium.{Flow, Balances, Conserves, OnlyShortest, IsNashFlow, TakesFlow, label, inflow, outflow, queue, Equilibrium}
+use Rattle.nf_model_laws.specs.Capacity.{IsPositive}
+use Rattle.nf_model_laws.specs.EarliestLaws.{AreLabels, HaveExits}
+use Rattle.nf_model_laws.specs.MemberLaws.{one_link, FillsLink}
+use Rattle.nf_model_laws.proofs.Affine.{≤_refl, ≤_trans}
+use Rattle.nf_model_laws.proofs.Queues.{IsExit-unique}
+use Rattle.nf_model_laws.proofs.Exits.{IsOutflow-at_exit, IsOutflow-early, IsExit-at_0}
+use Rattle.nf_model_laws.proofs.Earliest.{IsEarliest-labels}
+
+zero_one : {X : Type 0} → ◌≡◌ {A = ℕ} zero (suc zero) → X
+zero_one e = absurd (cc)
+
+node_cases : (P : ℕ → Type 0) (v : ℕ) → v < 2 → P 0 → P 1 → P v
+node_cases P zero h a b = a
+node_cases P (suc zero) h a b = b
+node_cases P (suc (suc v)) h a b = absurd (omega arith)
+
+only_0 : (P : ℕ → Type 0) (e : ℕ) → e < 1 → P 0 → P e
+only_0 P zero h p = p
+only_0 P (suc e) h p = absurd (omega arith)
+
+module _ (transit : ℚ) (capacity : Option ℚ) (pieces : List Piece) where
+  abbrev net : Network
+  net = one_link transit capacity pieces
+
+  abbrev the_link : Link
+  the_link = record { tail = 0; head = 1; transit = transit; capacity = capacity }
+
+  abbrev the_hop : Hop
+  the_hop = record { tail = 0; head = 1; transit = transit }
+
+  only_link : (e : ℕ) (link : Link) → IsLink net e link → (e ≡ 0) × (the_link ≡ link)
+  only_link zero link p = (refl, same the_link link p)
+    where
+      same : (a b : Link) → ◌≡◌ {A = Option Link} (Some a) (Some b) → a ≡ b
+      same a b q = cc
+  only_link (suc e) link p = absurd (none p)
+    where
+      none : ◌≡◌ {A = Option Link} None (Some link) → ⊥
+      none q = cc
+
+  -- what is said of the one link is said of each
+  by_link : (P : ℕ → Link → Type 0) (e : ℕ) (link : Link) → IsLink net e link → P 0 the_link → P e link
+  by_link P e link p x = let o : (e ≡ 0) × (the_link ≡ link) = only_link e link p in subst (λ (k : ℕ). P k link) (sym o.0) (subst (λ (l : Link). P 0 l) o.1 x)
+
+  only_hop : (e : ℕ) (hop : Hop) → IsHop (hops net) e hop → the_hop ≡ hop
+  only_hop zero hop p = same the_hop hop p
+    where
+      same : (a b : Hop) → ◌≡◌ {A = Option Hop} (Some a) (Some b) → a ≡ b
+      same a b q = cc
+  only_hop (suc e) hop p = absurd (none p)
+    where
+      none : ◌≡◌ {A = Option Hop} None (Some hop) → ⊥
+      none q = cc
+
+  -- no link leaves the sink
+  from_sink : (walk : List ℕ) (v : ℕ) → IsWalk (hops net) walk 1 v → 1 ≡ v
+  from_sink [] v w = w
+  from_sink (e ∷ walk) v w = zero_one (ap (λ (h : Hop). h.tail) (only_hop e w.0 w.1) ∙ w.2)
+
+  no_cycle : (e : ℕ) (walk : List ℕ) (v : ℕ) → IsWalk (hops net) (e ∷ walk) v v → ⊥
+  no_cycle e walk v w =
+      let o : the_hop ≡ w.0 = only_hop e w.0 w.1 in
+      zero_one (ap (λ (h : Hop). h.tail) o ∙ w.2 ∙ sym (from_sink walk v (subst (λ (h : Hop). IsWalk (hops net) walk h.head v) (sym o) w.3)))
+
+  to_node : (v : ℕ) → v < 2 → (walk : List ℕ) × IsWalk (hops net) walk 0 v
+  to_node v h = node_cases (λ (v : ℕ). (walk : List ℕ) × IsWalk (hops net) walk 0 v) v h ([], refl) (0 ∷ [], (the_hop, refl, refl, refl))
+
+  pub IsNetwork-one_link : 0ℚ ≤ℚ transit → IsPositive capacity → ArePieces pieces → IsNetwork net
+  IsNetwork-one_link h c p = record {
+    source = omega arith;
+    sink = omega arith;
+    apart = λ e. zero_one e;
+    tails = λ e link q. by_link (λ _ (l : Link). l.tail < 2) e link q (omega arith);
+    heads = λ e link q. by_link (λ _ (l : Link). l.head < 2) e link q (omega arith);
+    transits = λ e link q. by_link (λ _ (l : Link). 0ℚ ≤ℚ l.transit) e link q h;
+    capacities = λ e link rate q some. by_link (λ _ (l : Link). l.capacity ≡ Some rate → 0ℚ <ℚ rate) e link q (c rate) some;
+    pieces = p;
+    cycles = λ e walk v w. absurd (no_cycle e walk v w);
+    reached = to_node;
+  }
+
+  module _ (flow : Flow) (h : 0ℚ ≤ℚ transit) (c : IsPositive capacity) (p : ArePieces pieces) (fills : FillsLink transit capacity pieces flow) where
+    abbrev amount : ℕ → ℚ → ℚ
+    amount = inflow flow
+
+    rises_each : (e : ℕ) → e < 1 → NeverFalls (amount e)
+    rises_each e k = only_0 (λ (e : ℕ). NeverFalls (amount e)) e k fills.rises
+
+    at_start : Within 0ℚ flow.reached 0ℚ
+    at_start = (≤_refl 0ℚ, fills.begins)
+
+    -- who departs enters the link at once, and leaves it at the label of the sink
+    leaves : (departure : ℚ) → Within 0ℚ flow.reached departure → IsExit transit capacity (amount 0) (label flow 0 departure) (label flow 1 departure)
+    leaves departure w = subst (λ (t : ℚ). IsExit transit capacity (amount 0) t (label flow 1 departure)) (sym (fills.source departure w)) (fills.sink departure w)
+
+    -- ---- earliest arrivals
+    are_labels : (departure : ℚ) → Within 0ℚ flow.reached departure → AreLabels net amount departure (λ v. label flow v departure)
+    are_labels departure w = record {
+      source = fills.source departure w;
+      none_earlier = λ e link exit q _ x. by_link
+          (λ (e : ℕ) (l : Link). IsExit l.transit l.capacity (amount e) (label flow l.tail departure) exit → label flow l.head departure ≤ℚ exit) e link q
+          (λ y. ≤ℚ_of_same _ _ (IsExit-unique transit capacity (amount 0) (label flow 0 departure) _ exit (leaves departure w) y)) x;
+      entered = λ v k other. (0, the_link, refl, node_cases (λ (v : ℕ). (v ≡ 0 → ⊥) → 1 ≡ v) v k (λ o. absurd (o refl)) (λ _. refl) other,
+      node_cases (λ (v : ℕ). (v ≡ 0 → ⊥) → IsExit transit capacity (amount 0) (label flow 0 departure) (label flow v departure)) v k (λ o. absurd (o refl)) (λ _. leaves departure w) other);
+    }
+
+    have_exits : (departure : ℚ) → Within 0ℚ flow.reached departure → HaveExits net amount (λ v. label flow v departure)
+    have_exits departure w e link q = by_link (λ (e : ℕ) (l : Link). (exit : ℚ) × IsExit l.transit l.capacity (amount e) (label flow l.tail departure) exit) e link q
+        (label flow 1 departure, leaves departure w)
+
+    are_earliest : (v : ℕ) (departure : ℚ) → v < 2 → Within 0ℚ flow.reached departure → IsEarliest net amount v departure (label flow v departure)
+    are_earliest v departure k w =
+        IsEarliest-labels net amount departure (λ (v : ℕ). label flow v departure) (IsNetwork-one_link h c p) rises_each (have_exits departure w) (are_labels departure w) v k
+
+    -- ---- conservation
+    out_at_exit : (departure : ℚ) → Within 0ℚ flow.reached departure → IsOutflow transit capacity (amount 0) (label flow 1 departure) (amount 0 departure)
+    out_at_exit departure w = IsOutflow-at_exit transit capacity (amount 0) departure (label flow 1 departure) c fills.rises w.0 (fills.sink departure w)
+
+    out_before : (time : ℚ) → time ≤ℚ label flow 1 0ℚ → IsOutflow transit capacity (amount 0) time 0ℚ
+    out_before time k = ⊎_elim
+        (λ (l : time <ℚ transit). IsOutflow-early transit capacity (amount 0) time l)
+        (λ (l : transit ≤ℚ time).
+        subst (λ (t : ℚ). IsOutflow transit capacity (amount 0) t 0ℚ)
+        (≤ℚ_antisymm _ _ (subst (λ (t : ℚ). t ≤ℚ time) (sym (IsExit-at_0 transit capacity (amount 0) (label flow 1 0ℚ) (fills.sink 0ℚ at_start))) l) k)
+        (subst (λ (y : ℚ). IsOutflow transit capacity (amount 0) (label flow 1 0ℚ) y) fills.starts (out_at_exit 0ℚ at_start)))
+        (lt_or_le_ℚ time transit)
+
+    to_sink : (time out extra : ℚ) → IsOutflow transit capacity (amount 0) time out → out ≡ extra → Balances net amount 1 time 0ℚ extra
+    to_sink time out extra o e = record {
+      outs = λ _. out;
+      outflows = λ e link q at. by_link (λ (e : ℕ) (l : Link). IsOutflow l.transit l.capacity (amount e) time out) e link q o;
+      sums = linear_eq (out ∷ extra ∷ []) (eq e ∷ []) (search reading_of depth 12) tt tt;
+    }
+
+    from_source : (time extra : ℚ) → amount 0 time ≡ extra → Balances net amount 0 time extra 0ℚ
+    from_source time extra e = record {
+      outs = λ _. 0ℚ;
+      outflows = λ e link q at. zero_one (sym (by_link (λ _ (l : Link). 1 ≡ l.head) e link q refl ∙ at));
+      sums = sums (amount 0 time) extra e;
+    }
+      where
+        sums : (a b : ℚ) → a ≡ b → 0ℚ +ℚ b ≡ (a +ℚ 0ℚ) +ℚ 0ℚ
+        sums a b e = linear_eq (a ∷ b ∷ []) (eq e ∷ []) (search reading_of depth 12) tt tt
+
+    conserves : Conserves net amount (label flow) flow.reached
+    conserves = record {
+      inner = λ v time k a b w. absurd (node_cases (λ (v : ℕ). (v ≡ 0 → ⊥) → (v ≡ 1 → ⊥) → ⊥) v k (λ a b. a refl) (λ a b. b refl) a b);
+      source = λ time w. from_source time (supply net time) (fills.supplied time w);
+      sink_early = λ time w. to_sink time 0ℚ 0ℚ (out_before time w.1) refl;
+      sink = λ departure w. to_sink (label flow 1 departure) (amount 0 departure) (supply net departure) (out_at_exit departure w) (fills.supplied departure w);
+    }
+
+    only_shortest : OnlyShortest net amount (label flow) flow.reached
+    only_shortest e link departure q k l _ =
+        by_link (λ (e : ℕ) (m : Link). IsExit m.transit m.capacity (amount e) (label flow m.tail departure) (label flow m.head departure)) e link q (leaves departure (k, ≤ℚ_of_lt _ _ l))
+
+    pub Equilibrium-one_link : Equilibrium net flow
+    Equilibrium-one_link = record {
+      reached = fills.begins;
+      shape = fills.shape;
+      nash = record {
+        starts = λ e k. only_0 (λ (e : ℕ). amount e 0ℚ ≡ 0ℚ) e k fills.starts;
+        rises = rises_each;
+        labels = are_earliest;
+        conserves = conserves;
+        only_shortest = only_shortest;
+      };
+      inflow_rates = fills.inflow_rates;
+      outflow_rates = fills.outflow_rates;
+      outflows = λ e link time q. by_link
+          (λ (e : ℕ) (l : Link). Within 0ℚ (label flow l.head flow.reached) time → IsOutflow l.transit l.capacity (amount e) time (outflow flow e time)) e link q (fills.outflows time);
+      queues = λ e link time q. by_link
+          (λ (e : ℕ) (l : Link). Within 0ℚ (label flow l.tail flow.reached) time → IsQueue l.capacity (amount e) time (queue flow e time)) e link q
+          (λ w. fills.queues time (w.0, subst (λ (t : ℚ). time ≤ℚ t) (fills.source flow.reached (fills.begins, ≤_refl flow.reached)) w.1));
+    }
