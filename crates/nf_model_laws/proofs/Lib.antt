@@ -9,3 +9,4 @@ pub mod Earliest
 pub mod EarliestTransits
 pub mod Exits
 pub mod MemberLink
+pub mod MemberSteady
