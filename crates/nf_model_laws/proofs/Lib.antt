@@ -10,3 +10,4 @@ pub mod EarliestTransits
 pub mod Exits
 pub mod MemberLink
 pub mod MemberSteady
+pub mod MemberPoints

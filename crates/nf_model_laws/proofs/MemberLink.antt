@@ -24,12 +24,12 @@ use Rattle.nf_model_laws.proofs.Earliest.{IsEarliest-labels}
 zero_one : {X : Type 0} → ◌≡◌ {A = ℕ} zero (suc zero) → X
 zero_one e = absurd (cc)
 
-node_cases : (P : ℕ → Type 0) (v : ℕ) → v < 2 → P 0 → P 1 → P v
+pub node_cases : (P : ℕ → Type 0) (v : ℕ) → v < 2 → P 0 → P 1 → P v
 node_cases P zero h a b = a
 node_cases P (suc zero) h a b = b
 node_cases P (suc (suc v)) h a b = absurd (omega arith)
 
-only_0 : (P : ℕ → Type 0) (e : ℕ) → e < 1 → P 0 → P e
+pub only_0 : (P : ℕ → Type 0) (e : ℕ) → e < 1 → P 0 → P e
 only_0 P zero h p = p
 only_0 P (suc e) h p = absurd (omega arith)
 
