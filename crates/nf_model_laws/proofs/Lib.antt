@@ -11,3 +11,4 @@ pub mod Exits
 pub mod MemberLink
 pub mod MemberSteady
 pub mod MemberPoints
+pub mod Member

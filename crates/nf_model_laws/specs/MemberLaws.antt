@@ -4,7 +4,7 @@ use Rattle.nf_rational.specs.Rational.{ℚ}
 use Rattle.nf_rational.specs.Operations.{0ℚ, whole, ◌+ℚ◌, ◌-ℚ◌, ◌*ℚ◌}
 use Rattle.nf_rational.specs.Order.{◌≤ℚ◌, ◌<ℚ◌}
 use Rattle.nf_model.specs.Curve.{Within, NeverFalls}
-use Rattle.nf_model.specs.Network.{Link, Piece, Network, IsPiece, ArePieces, supply}
+use Rattle.nf_model.specs.Network.{Link, Piece, Network, IsNetwork, IsPiece, ArePieces, supply}
 use Rattle.nf_model.specs.Queue.{IsQueue, IsExit, IsOutflow}
 use Rattle.nf_model.specs.Equilibrium.{Trace, Flow, label, inflow, outflow, queue, HasShape, HasSlopes, Equilibrium}
 use Rattle.nf_model_laws.specs.Capacity.{IsPositive}
@@ -85,3 +85,31 @@ TightLinkEquilibrium = (transit : ℚ) (capacity : Option ℚ) (rate horizon arr
     → 0ℚ ≤ℚ transit → IsPositive capacity → ((bound : ℚ) → capacity ≡ Some bound → rate ≤ℚ bound) → 0ℚ <ℚ horizon → ArePieces (at_rate rate later) → NotBefore horizon later
     → amount ≡ rate *ℚ horizon → arrival ≡ transit +ℚ horizon → IsOutTrace transit arrival amount rate trace
     → Equilibrium (one_link transit capacity (at_rate rate later)) (steady_flow transit rate horizon arrival amount 0ℚ trace)
+
+-- ---- one of them by numbers: transit time 1 and capacity 1, supplied at rate 2 from time 0 to 2, up to time 2
+abbrev pub n : ℕ → ℚ
+n k = whole (pos k)
+
+abbrev pub member_network : Network
+member_network = record {
+  nodes = 2;
+  source = 0;
+  sink = 1;
+  links = record { tail = 0; head = 1; transit = n 1; capacity = Some (n 1) } ∷ [];
+  pieces = record { start = n 0; rate = n 2 } ∷ record { start = n 2; rate = n 0 } ∷ [];
+}
+
+abbrev pub member_flow : Flow
+member_flow = record {
+  reached = n 2;
+  labels = ((n 0, n 0) ∷ (n 2, n 2) ∷ []) ∷ ((n 0, n 1) ∷ (n 2, n 5) ∷ []) ∷ [];
+  inflows = record { points = (n 0, n 0) ∷ (n 2, n 4) ∷ []; rates = n 2 ∷ [] } ∷ [];
+  outflows = record { points = (n 0, n 0) ∷ (n 1, n 0) ∷ (n 5, n 4) ∷ []; rates = n 0 ∷ n 1 ∷ [] } ∷ [];
+  queues = ((n 0, n 0) ∷ (n 2, n 2) ∷ []) ∷ [];
+}
+
+-- it is a network, and this flow an equilibrium of it, beyond time 0
+pub record HasMember : Type 0 where
+  pub network : IsNetwork member_network
+  pub equilibrium : Equilibrium member_network member_flow
+  pub goes_on : 0ℚ <ℚ member_flow.reached

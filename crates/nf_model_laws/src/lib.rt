@@ -4,6 +4,8 @@
 ghost use Rattle.nf_model_laws.specs.CurveLaws.{CurveGoesByPoints, AppendedPointGoesOn, EqualSlopesMerge, EndsDecideAffine, RisingPointsRise};
 ghost use Rattle.nf_model_laws.specs.QueueLaws.{LinkHasOneValue, QueueIsNotNegative, OutflowIsInflowLessQueue, ExitNeverFalls, QueueGoesOn};
 ghost use Rattle.nf_model_laws.specs.EarliestLaws.{EarliestByLinks, OneEarliest, LeastTransitByLinks};
+ghost use Rattle.nf_model_laws.specs.ExitLaws.{FirstInFirstOut};
+ghost use Rattle.nf_model_laws.specs.MemberLaws.{OneLinkEquilibrium, FullLinkEquilibrium, TightLinkEquilibrium, HasMember};
 
 /// A curve has each point's value at its time, is affine from each point to the next, and constant after the last.
 pub fn curve_goes_by_points()
@@ -72,4 +74,33 @@ pub fn one_earliest()
 /// 0, no link is shorter than the labels of its ends are apart, and into each other node leads a link that is just as long.
 pub fn least_transit_by_links()
     ensures { LeastTransitByLinks }
+{}
+
+/// First in, first out: where the inflow never falls, what has left a link by the exit of what enters at a time is just what had
+/// entered it by that time.
+pub fn first_in_first_out()
+    ensures { FirstInFirstOut }
+{}
+
+/// On a network of one link, a flow that lets the whole supply enter the link at once is an equilibrium, if its label of the
+/// sink is the exit and its outflow and queue are those of its inflow.
+pub fn one_link_equilibrium()
+    ensures { OneLinkEquilibrium }
+{}
+
+/// The equilibrium of one link that is supplied at one rate of at least its capacity: the queue grows by the rate less the
+/// capacity, and the flow leaves at the capacity.
+pub fn full_link_equilibrium()
+    ensures { FullLinkEquilibrium }
+{}
+
+/// The equilibrium of one link that is unbounded, or supplied at one rate of at most its capacity: nothing waits.
+pub fn tight_link_equilibrium()
+    ensures { TightLinkEquilibrium }
+{}
+
+/// The definition of an equilibrium has a member beyond time 0: one link of transit time 1 and capacity 1, supplied at rate 2
+/// from time 0 to 2, up to time 2.
+pub fn equilibrium_has_member()
+    ensures { HasMember }
 {}
