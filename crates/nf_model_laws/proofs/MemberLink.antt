@@ -115,8 +115,13 @@ module _ (transit : ℚ) (capacity : Option ℚ) (pieces : List Piece) where
       none_earlier = λ e link exit q _ x. by_link
           (λ (e : ℕ) (l : Link). IsExit l.transit l.capacity (amount e) (label flow l.tail departure) exit → label flow l.head departure ≤ℚ exit) e link q
           (λ y. ≤ℚ_of_same _ _ (IsExit-unique transit capacity (amount 0) (label flow 0 departure) _ exit (leaves departure w) y)) x;
-      entered = λ v k other. (0, the_link, refl, node_cases (λ (v : ℕ). (v ≡ 0 → ⊥) → 1 ≡ v) v k (λ o. absurd (o refl)) (λ _. refl) other,
-      node_cases (λ (v : ℕ). (v ≡ 0 → ⊥) → IsExit transit capacity (amount 0) (label flow 0 departure) (label flow v departure)) v k (λ o. absurd (o refl)) (λ _. leaves departure w) other);
+      entered = λ v k other. (
+        0,
+        the_link,
+        refl,
+        node_cases (λ (v : ℕ). (v ≡ 0 → ⊥) → 1 ≡ v) v k (λ o. absurd (o refl)) (λ _. refl) other,
+        node_cases (λ (v : ℕ). (v ≡ 0 → ⊥) → IsExit transit capacity (amount 0) (label flow 0 departure) (label flow v departure)) v k (λ o. absurd (o refl)) (λ _. leaves departure w) other,
+      );
     }
 
     have_exits : (departure : ℚ) → Within 0ℚ flow.reached departure → HaveExits net amount (λ v. label flow v departure)

@@ -143,8 +143,10 @@ module _ (transit : ℚ) (capacity : Option ℚ) (later : List Piece) (rate slop
   out_late t h k =
       let d : ℚ = (t -ℚ transit) /ℚ slope in
       let e : d *ℚ slope ≡ t -ℚ transit = quotient-times (t -ℚ transit) slope state.slope_ps in
-      let w : Within 0ℚ flow.reached d = (le_from_times slope 0ℚ d state.slope_ps (departs_after transit slope t d e h),
-      le_from_times slope d flow.reached state.slope_ps (departs_by transit slope t d flow.reached e (subst (λ (l : ℚ). t ≤ℚ l) (steady.sink flow.reached (steady.begins, ≤_refl flow.reached)) k))) in
+      let w : Within 0ℚ flow.reached d = (
+        le_from_times slope 0ℚ d state.slope_ps (departs_after transit slope t d e h),
+        le_from_times slope d flow.reached state.slope_ps (departs_by transit slope t d flow.reached e (subst (λ (l : ℚ). t ≤ℚ l) (steady.sink flow.reached (steady.begins, ≤_refl flow.reached)) k)),
+      ) in
       let at : transit +ℚ slope *ℚ d ≡ t = arrives transit slope t d e in
       subst (λ (s : ℚ). IsOutflow transit capacity amount s (outflow flow 0 s)) at
       (subst (λ (y : ℚ). IsOutflow transit capacity amount (transit +ℚ slope *ℚ d) y) (steady.entered d w ∙ sym (steady.left_later d w))
