@@ -3,3 +3,8 @@ pub mod Curves
 pub mod Merged
 pub mod Queues
 pub mod Step
+pub mod OneValue
+pub mod Ways
+pub mod Networks
+pub mod Earliest
+pub mod Exists

@@ -2,3 +2,4 @@ pub mod Affine
 pub mod Capacity
 pub mod CurveLaws
 pub mod QueueLaws
+pub mod EarliestLaws

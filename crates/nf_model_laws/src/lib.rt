@@ -2,7 +2,8 @@
 #![tactic(auto)]
 
 ghost use Rattle.nf_model_laws.specs.CurveLaws.{CurveGoesByPoints, AppendedPointGoesOn, EqualSlopesMerge, EndsDecideAffine, RisingPointsRise};
-ghost use Rattle.nf_model_laws.specs.QueueLaws.{LinkHasOneValue, QueueIsNotNegative, OutflowIsInflowLessQueue, ExitNeverFalls, QueueGoesOn};
+ghost use Rattle.nf_model_laws.specs.QueueLaws.{LinkHasOneValue, QueueIsNotNegative, OutflowIsInflowLessQueue, ExitNeverFalls, QueueGoesOn, LinkHasValues};
+ghost use Rattle.nf_model_laws.specs.EarliestLaws.{ExtremesAreUnique, LabelsAreEarliest};
 
 /// A curve has each point's value at its time, is affine from each point to the next, and constant after the last.
 pub fn curve_goes_by_points()
@@ -53,4 +54,20 @@ pub fn exit_never_falls()
 /// While the inflow has one rate, the queue changes at that rate less the capacity, down to 0 at most.
 pub fn queue_goes_on()
     ensures { QueueGoesOn }
+{}
+
+/// A link whose inflow is a curve has a queue, an exit and an outflow at each time from 0 on.
+pub fn link_has_values()
+    ensures { LinkHasValues }
+{}
+
+/// There is at most one least transit sum, earliest arrival, extension length and phase length.
+pub fn extremes_are_unique()
+    ensures { ExtremesAreUnique }
+{}
+
+/// Labels that no link undercuts, and that a link attains at each node but the source, are the earliest arrivals over all walks;
+/// and the earliest arrivals are such labels.
+pub fn labels_are_earliest()
+    ensures { LabelsAreEarliest }
 {}
