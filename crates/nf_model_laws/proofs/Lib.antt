@@ -8,3 +8,4 @@ pub mod Ways
 pub mod Networks
 pub mod Earliest
 pub mod Exists
+pub mod OneLink

@@ -3,3 +3,4 @@ pub mod Capacity
 pub mod CurveLaws
 pub mod QueueLaws
 pub mod EarliestLaws
+pub mod OneLink

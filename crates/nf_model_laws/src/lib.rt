@@ -4,6 +4,7 @@
 ghost use Rattle.nf_model_laws.specs.CurveLaws.{CurveGoesByPoints, AppendedPointGoesOn, EqualSlopesMerge, EndsDecideAffine, RisingPointsRise};
 ghost use Rattle.nf_model_laws.specs.QueueLaws.{LinkHasOneValue, QueueIsNotNegative, OutflowIsInflowLessQueue, ExitNeverFalls, QueueGoesOn, LinkHasValues};
 ghost use Rattle.nf_model_laws.specs.EarliestLaws.{ExtremesAreUnique, LabelsAreEarliest};
+ghost use Rattle.nf_model_laws.specs.OneLink.{OneLinkHasEquilibrium};
 
 /// A curve has each point's value at its time, is affine from each point to the next, and constant after the last.
 pub fn curve_goes_by_points()
@@ -70,4 +71,10 @@ pub fn extremes_are_unique()
 /// and the earliest arrivals are such labels.
 pub fn labels_are_earliest()
     ensures { LabelsAreEarliest }
+{}
+
+/// The definitions have a member with flow: one link of transit time 1 and capacity 1, supplied at rate 2, has an equilibrium up
+/// to time 2.
+pub fn one_link_has_equilibrium()
+    ensures { OneLinkHasEquilibrium }
 {}
