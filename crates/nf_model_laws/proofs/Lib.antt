@@ -9,3 +9,5 @@ pub mod Networks
 pub mod Earliest
 pub mod Exists
 pub mod OneLink
+pub mod Pushed
+pub mod Supply

@@ -3,4 +3,5 @@ pub mod Capacity
 pub mod CurveLaws
 pub mod QueueLaws
 pub mod EarliestLaws
+pub mod SupplyLaws
 pub mod OneLink

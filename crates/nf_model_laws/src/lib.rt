@@ -4,6 +4,7 @@
 ghost use Rattle.nf_model_laws.specs.CurveLaws.{CurveGoesByPoints, AppendedPointGoesOn, EqualSlopesMerge, EndsDecideAffine, RisingPointsRise};
 ghost use Rattle.nf_model_laws.specs.QueueLaws.{LinkHasOneValue, QueueIsNotNegative, OutflowIsInflowLessQueue, ExitNeverFalls, QueueGoesOn, LinkHasValues};
 ghost use Rattle.nf_model_laws.specs.EarliestLaws.{ExtremesAreUnique, LabelsAreEarliest};
+ghost use Rattle.nf_model_laws.specs.SupplyLaws.{SupplyGoesOn};
 ghost use Rattle.nf_model_laws.specs.OneLink.{OneLinkHasEquilibrium};
 
 /// A curve has each point's value at its time, is affine from each point to the next, and constant after the last.
@@ -77,4 +78,9 @@ pub fn labels_are_earliest()
 /// to time 2.
 pub fn one_link_has_equilibrium()
     ensures { OneLinkHasEquilibrium }
+{}
+
+/// Nothing is supplied by time 0; while no piece starts the supply grows at the rate; it never falls.
+pub fn supply_goes_on()
+    ensures { SupplyGoesOn }
 {}
