@@ -11,8 +11,9 @@ use Rattle.nf_rational_laws.proofs.Linear.{le, eq, linear_le, linear_eq}
 use Rattle.nf_model.specs.Walk.{Hop, IsHop, IsWalk, transit_of, transit_sum, IsLeastTransit}
 use Rattle.nf_model.specs.Network.{Link, Network, IsNetwork, IsLink, hop_of, hops}
 use Rattle.nf_model_laws.specs.EarliestLaws.{AreTransitLabels}
-use Rattle.nf_model_laws.proofs.EarliestWalks.{transit_of-hop, AreLabelsBy, CanCross, AreHops, Comes, IsFirst, IsFirst-label, AreLabelsBy-first}
-use Rattle.nf_model_laws.proofs.Earliest.{IsHop-link, link_of-hop, AreHops-net}
+use Rattle.nf_model_laws.proofs.Networks.{transit_of-hop, transit_of-is, hop_at, by_link}
+use Rattle.nf_model_laws.proofs.EarliestWalks.{AreLabelsBy, CanCross, AreHops, Comes, IsFirst, IsFirst-label, AreLabelsBy-first}
+use Rattle.nf_model_laws.proofs.Earliest.{AreHops-net}
 
 -- ---- steps over plain numbers
 kept : (s t x y r : ℚ) → s ≤ℚ t → x ≡ s +ℚ r → y ≡ t +ℚ r → x ≤ℚ y
@@ -57,50 +58,51 @@ IsFirst-least hops source v least d = record {
   least = λ walk other w c. subst (λ (x : ℚ). least ≤ℚ x) (from_none _ _ (Comes-sum hops walk 0ℚ other c)) (d.bound walk w);
 }
 
-CanCross-takes : (hops : List Hop) (label : ℕ → ℚ) → CanCross hops (Takes hops) label
-CanCross-takes hops label = record {
+CanCross-takes : (hops : List Hop) → CanCross hops (Takes hops)
+CanCross-takes hops = record {
   takes = λ e hop time exit p c. ≤ℚ_of_same _ _ (ap (λ (r : ℚ). time +ℚ r) (sym (transit_of-hop hops e hop p)) ∙ sym c);
   keeps = λ e hop s t x y p h c d. kept s t x y (transit_of hops e) h c d;
-  exits = λ e hop p. (label hop.tail +ℚ transit_of hops e, refl);
 }
 
-module _ (net : Network) (label : ℕ → ℚ) (good : IsNetwork net) where
-  transit_of-link : (e : ℕ) (link : Link) → IsLink net e link → transit_of (hops net) e ≡ link.transit
-  transit_of-link e link p = transit_of-hop (hops net) e (hop_of link) (IsHop-link net e link p)
-
-  by_link : (P : Hop → Type 0) (e : ℕ) → ((link : Link) → IsLink net e link → P (hop_of link)) → (hop : Hop) → IsHop (hops net) e hop → P hop
-  by_link P e f hop p = let l : (link : Link) × IsLink net e link × (hop_of link ≡ hop) = link_of-hop net e hop p in subst P l.2 (f l.0 l.1)
+module _ (net : Network) (label : ℕ → ℚ) where
+  -- the label of the tail and the transit time, as a link and as a hop have it
+  same_sum : (e : ℕ) (link : Link) → IsLink net e link → label link.tail +ℚ link.transit ≡ label link.tail +ℚ transit_of (hops net) e
+  same_sum e link p = ap (λ (r : ℚ). label link.tail +ℚ r) (sym (transit_of-is net e link p))
 
   by_hops : AreTransitLabels net label → AreLabelsBy (hops net) net.nodes net.source (Takes (hops net)) 0ℚ label
   by_hops labels = record {
     starts = labels.source;
-    bound = λ e hop exit p other c. by_link (λ (h : Hop). h.head ≢ net.source → exit ≡ label h.tail +ℚ transit_of (hops net) e → label h.head ≤ℚ exit) e
-        (λ link q o d. subst (λ (x : ℚ). label link.head ≤ℚ x) (ap (λ (r : ℚ). label link.tail +ℚ r) (sym (transit_of-link e link q)) ∙ sym d) (labels.none_shorter e link q o)) hop p other c;
+    not_before = λ e hop p. by_link net (λ (h : Hop). h.head ≢ net.source → (exit : ℚ) × Takes (hops net) e (label h.tail) exit × (label h.head ≤ℚ exit)) e
+        (λ link q other. (label link.tail +ℚ link.transit, same_sum e link q, labels.none_shorter e link q other)) hop p;
     entered = λ v h other.
         let x : (e : ℕ) × (link : Link) × IsLink net e link × (link.head ≡ v) × (label v ≡ label link.tail +ℚ link.transit) = labels.entered v h other in
-        (x.0, hop_of x.1, IsHop-link net x.0 x.1 x.2, x.3, x.4 ∙ ap (λ (r : ℚ). label x.1.tail +ℚ r) (sym (transit_of-link x.0 x.1 x.2)));
+        (x.0, hop_of x.1, hop_at net x.0 x.1 x.2, x.3, ap label x.3 ∙ x.4 ∙ same_sum x.0 x.1 x.2);
   }
 
   abbrev Entry : ℕ → Type 0
   Entry v = (e : ℕ) × (link : Link) × IsLink net e link × (link.head ≡ v) × (label v ≡ label link.tail +ℚ link.transit)
 
+  by_entry : (v e : ℕ) (hop : Hop) → IsHop (hops net) e hop → hop.head ≡ v → Takes (hops net) e (label hop.tail) (label hop.head) → Entry v
+  by_entry v e hop p = by_link net (λ (h : Hop). h.head ≡ v → Takes (hops net) e (label h.tail) (label h.head) → Entry v) e
+      (λ link q at c. (e, link, q, at, sym (ap label at) ∙ c ∙ sym (same_sum e link q))) hop p
+
   from_hops : AreLabelsBy (hops net) net.nodes net.source (Takes (hops net)) 0ℚ label → AreTransitLabels net label
   from_hops labels = record {
     source = labels.starts;
-    none_shorter = λ e link p other. labels.bound e (hop_of link) _ (IsHop-link net e link p) other (ap (λ (r : ℚ). label link.tail +ℚ r) (sym (transit_of-link e link p)));
+    none_shorter = λ e link p other.
+        let x : (exit : ℚ) × Takes (hops net) e (label link.tail) exit × (label link.head ≤ℚ exit) = labels.not_before e (hop_of link) (hop_at net e link p) other in
+        subst (λ (y : ℚ). label link.head ≤ℚ y) (x.1 ∙ sym (same_sum e link p)) x.2;
     entered = λ v h other.
-        let x : (e : ℕ) × (hop : Hop) × IsHop (hops net) e hop × (hop.head ≡ v) × Takes (hops net) e (label hop.tail) (label v) = labels.entered v h other in
-        entry v x.0 x.1 x.2 x.3 x.4;
+        let x : (e : ℕ) × (hop : Hop) × IsHop (hops net) e hop × (hop.head ≡ v) × Takes (hops net) e (label hop.tail) (label hop.head) = labels.entered v h other in
+        by_entry v x.0 x.1 x.2 x.3 x.4;
   }
-    where
-      entry : (v e : ℕ) (hop : Hop) → IsHop (hops net) e hop → hop.head ≡ v → label v ≡ label hop.tail +ℚ transit_of (hops net) e → Entry v
-      entry v e hop p = by_link (λ (h : Hop). h.head ≡ v → label v ≡ label h.tail +ℚ transit_of (hops net) e → Entry v) e
-          (λ link q at c. (e, link, q, at, c ∙ ap (λ (r : ℚ). label link.tail +ℚ r) (transit_of-link e link q))) hop p
 
-  pub IsLeastTransit-labels : AreTransitLabels net label → (v : ℕ) → v < net.nodes → IsLeastTransit (hops net) net.source v (label v)
-  IsLeastTransit-labels labels v h = IsLeastTransit-first (hops net) net.source v (label v)
-      (IsFirst-label (hops net) net.nodes net.source (Takes (hops net)) 0ℚ label (AreHops-net net good) (CanCross-takes (hops net) label) (by_hops labels) v h)
+  pub IsLeastTransit-label : IsNetwork net → AreTransitLabels net label → (v : ℕ) → v < net.nodes → IsLeastTransit (hops net) net.source v (label v)
+  IsLeastTransit-label good labels v h = IsLeastTransit-first (hops net) net.source v (label v)
+      (IsFirst-label (hops net) net.nodes net.source (Takes (hops net)) 0ℚ label (AreHops-net net good) (CanCross-takes (hops net)) (by_hops labels) v h)
 
-  pub AreTransitLabels-least : ((v : ℕ) → v < net.nodes → IsLeastTransit (hops net) net.source v (label v)) → AreTransitLabels net label
-  AreTransitLabels-least least = from_hops (AreLabelsBy-first (hops net) net.nodes net.source (Takes (hops net)) 0ℚ label (AreHops-net net good) (CanCross-takes (hops net) label) good.source
+  pub AreTransitLabels-least : IsNetwork net → ((v : ℕ) → v < net.nodes → IsLeastTransit (hops net) net.source v (label v)) → AreTransitLabels net label
+  AreTransitLabels-least good least = from_hops
+      (AreLabelsBy-first (hops net) net.nodes net.source (Takes (hops net)) 0ℚ label (AreHops-net net good) (CanCross-takes (hops net)) good.source
+      (λ e hop p _. (label hop.tail +ℚ transit_of (hops net) e, refl))
       (λ v h. IsFirst-least (hops net) net.source v (label v) (least v h)))

@@ -15,19 +15,7 @@ use Rattle.nf_model.specs.Entries.{number_at}
 use Rattle.nf_model.specs.Walk.{Hop, IsHop, IsWalk, transit_of, transit_sum}
 use Rattle.nf_model_laws.proofs.Affine.{≤_refl, ≤_trans}
 use Rattle.nf_model_laws.proofs.Ways.{way_back}
-
--- ---- hops and walks
-pub IsHop-unique : (hops : List Hop) (e : ℕ) (a b : Hop) → IsHop hops e a → IsHop hops e b → a ≡ b
-IsHop-unique hops e a b p q = cc
-
-pub transit_of-hop : (hops : List Hop) (e : ℕ) (hop : Hop) → IsHop hops e hop → transit_of hops e ≡ hop.transit
-transit_of-hop hops e hop p =
-    let f : Hop → ℚ = λ h. h.transit in
-    ap (λ (o : Option ℚ). unwrap_or o 0ℚ) (slice_get-map f hops e) ∙ ap (λ (o : Option Hop). unwrap_or (option_map f o) 0ℚ) p
-
-pub IsWalk-snoc : (hops : List Hop) (walk : List ℕ) (u e : ℕ) (hop : Hop) → IsWalk hops walk u hop.tail → IsHop hops e hop → IsWalk hops (walk ++ e ∷ []) u hop.head
-IsWalk-snoc hops [] u e hop w p = (hop, p, sym w, refl)
-IsWalk-snoc hops (f ∷ walk) u e hop w p = (w.0, w.1, w.2, IsWalk-snoc hops walk w.0.head e hop w.3 p)
+use Rattle.nf_model_laws.proofs.Networks.{transit_of-hop, IsWalk-append}
 
 -- ---- what is said of labels, hop by hop. `Cross e time exit`: who enters hop e at this time leaves it at that one
 
@@ -35,14 +23,13 @@ IsWalk-snoc hops (f ∷ walk) u e hop w p = (w.0, w.1, w.2, IsWalk-snoc hops wal
 -- tail's label; and into each other node leads one that is left just then.
 pub record AreLabelsBy (hops : List Hop) (nodes source : ℕ) (Cross : ℕ → ℚ → ℚ → Type 0) (departure : ℚ) (label : ℕ → ℚ) : Type 0 where
   pub starts : label source ≡ departure
-  pub bound : (e : ℕ) (hop : Hop) (exit : ℚ) → IsHop hops e hop → hop.head ≢ source → Cross e (label hop.tail) exit → label hop.head ≤ℚ exit
-  pub entered : (v : ℕ) → v < nodes → v ≢ source → (e : ℕ) × (hop : Hop) × IsHop hops e hop × (hop.head ≡ v) × Cross e (label hop.tail) (label v)
+  pub not_before : (e : ℕ) (hop : Hop) → IsHop hops e hop → hop.head ≢ source → (exit : ℚ) × Cross e (label hop.tail) exit × (label hop.head ≤ℚ exit)
+  pub entered : (v : ℕ) → v < nodes → v ≢ source → (e : ℕ) × (hop : Hop) × IsHop hops e hop × (hop.head ≡ v) × Cross e (label hop.tail) (label hop.head)
 
--- crossing takes the transit time at least, keeps the order of time, and is possible at each label
-pub record CanCross (hops : List Hop) (Cross : ℕ → ℚ → ℚ → Type 0) (label : ℕ → ℚ) : Type 0 where
+-- crossing takes the transit time at least, and keeps the order of time
+pub record CanCross (hops : List Hop) (Cross : ℕ → ℚ → ℚ → Type 0) : Type 0 where
   pub takes : (e : ℕ) (hop : Hop) (time exit : ℚ) → IsHop hops e hop → Cross e time exit → time +ℚ hop.transit ≤ℚ exit
   pub keeps : (e : ℕ) (hop : Hop) (s t x y : ℚ) → IsHop hops e hop → s ≤ℚ t → Cross e s x → Cross e t y → x ≤ℚ y
-  pub exits : (e : ℕ) (hop : Hop) → IsHop hops e hop → (exit : ℚ) × Cross e (label hop.tail) exit
 
 -- hops between these nodes, whose transit times are not negative, and round a cycle above 0
 pub record AreHops (hops : List Hop) (nodes : ℕ) : Type 0 where
@@ -61,9 +48,9 @@ pub record IsFirst (hops : List Hop) (source : ℕ) (Cross : ℕ → ℚ → ℚ
   pub taken : (walk : List ℕ) × IsWalk hops walk source v × Comes Cross walk departure arrival
   pub least : (walk : List ℕ) (other : ℚ) → IsWalk hops walk source v → Comes Cross walk departure other → arrival ≤ℚ other
 
-Comes-snoc : (Cross : ℕ → ℚ → ℚ → Type 0) (walk : List ℕ) (e : ℕ) (time between exit : ℚ) → Comes Cross walk time between → Cross e between exit → Comes Cross (walk ++ e ∷ []) time exit
-Comes-snoc Cross [] e time between exit c p = (exit, subst (λ (t : ℚ). Cross e t exit) (sym c) p, refl)
-Comes-snoc Cross (f ∷ walk) e time between exit c p = (c.0, c.1, Comes-snoc Cross walk e c.0 between exit c.2 p)
+Comes-append : (Cross : ℕ → ℚ → ℚ → Type 0) (walk : List ℕ) (e : ℕ) (time between exit : ℚ) → Comes Cross walk time between → Cross e between exit → Comes Cross (walk ++ e ∷ []) time exit
+Comes-append Cross [] e time between exit c p = (exit, subst (λ (t : ℚ). Cross e t exit) (sym c) p, refl)
+Comes-append Cross (f ∷ walk) e time between exit c p = (c.0, c.1, Comes-append Cross walk e c.0 between exit c.2 p)
 
 -- the last hop of a walk
 abbrev LastHop : List Hop → (ℕ → ℚ → ℚ → Type 0) → ℕ → ℕ → ℚ → ℚ → Type 0
@@ -89,7 +76,7 @@ no_loop a l h k = linear_false (a ∷ l ∷ []) (le h ∷ lt k ∷ []) (search r
 goes_on : (t r x : ℚ) → 0ℚ ≤ℚ r → t +ℚ r ≤ℚ x → t ≤ℚ x
 goes_on t r x h k = linear_le (t ∷ r ∷ x ∷ []) (le h ∷ le k ∷ []) (search reading_of depth 12) tt
 
-module _ (hops : List Hop) (nodes source : ℕ) (Cross : ℕ → ℚ → ℚ → Type 0) (departure : ℚ) (label : ℕ → ℚ) (good : AreHops hops nodes) (can : CanCross hops Cross label) where
+module _ (hops : List Hop) (nodes source : ℕ) (Cross : ℕ → ℚ → ℚ → Type 0) (departure : ℚ) (label : ℕ → ℚ) (good : AreHops hops nodes) (can : CanCross hops Cross) where
   -- walks go forward in time
   forward : (e : ℕ) (hop : Hop) (t x : ℚ) → IsHop hops e hop → Cross e t x → t ≤ℚ x
   forward e hop t x p c = goes_on t hop.transit x (good.transits e hop p) (can.takes e hop t x p c)
@@ -135,15 +122,14 @@ module _ (hops : List Hop) (nodes source : ℕ) (Cross : ℕ → ℚ → ℚ →
         (λ (e : (eqb v source ≡ false) × (v ≢ source)). inr (by_hop (labels.entered v h e.1)))
         (eqb_tells v source)
       where
-        by_hop : (e : ℕ) × (hop : Hop) × IsHop hops e hop × (hop.head ≡ v) × Cross e (label hop.tail) (label v) → StepBack v
-        by_hop x =
-            let c : Cross x.0 (label x.1.tail) (label x.1.head) = subst (λ (k : ℕ). Cross x.0 (label x.1.tail) (label k)) (sym x.3) x.4 in (
-              x.1.tail,
-              good.tails x.0 x.1 x.2,
-              tt,
-              (λ w way. (x.0 ∷ way.0, (x.1, x.2, refl, c, subst (λ (k : ℕ). IsTight way.0 k w) (sym x.3) way.1))),
-              (λ way. IsTight-open x.0 way.0 x.1.tail (x.1, x.2, refl, c, subst (λ (k : ℕ). IsTight way.0 k x.1.tail) (sym x.3) way.1)),
-            )
+        by_hop : (e : ℕ) × (hop : Hop) × IsHop hops e hop × (hop.head ≡ v) × Cross e (label hop.tail) (label hop.head) → StepBack v
+        by_hop x = (
+          x.1.tail,
+          good.tails x.0 x.1 x.2,
+          tt,
+          (λ w way. (x.0 ∷ way.0, (x.1, x.2, refl, x.4, subst (λ (k : ℕ). IsTight way.0 k w) (sym x.3) way.1))),
+          (λ way. IsTight-open x.0 way.0 x.1.tail (x.1, x.2, refl, x.4, subst (λ (k : ℕ). IsTight way.0 k x.1.tail) (sym x.3) way.1)),
+        )
 
     tight_way : (v : ℕ) → v < nodes → Way source v
     tight_way v h =
@@ -159,8 +145,8 @@ module _ (hops : List Hop) (nodes source : ℕ) (Cross : ℕ → ℚ → ℚ →
         (λ (q : (eqb hop.head source ≡ true) × (hop.head ≡ source)). subst (λ (k : ℕ). label k ≤ℚ x) (sym q.1)
         (≤_trans _ _ _ (not_before hop.tail (good.tails e hop p)) (≤_trans _ _ _ h (forward e hop a x p c))))
         (λ (q : (eqb hop.head source ≡ false) × (hop.head ≢ source)).
-        let o : (exit : ℚ) × Cross e (label hop.tail) exit = can.exits e hop p in
-        ≤_trans _ _ _ (labels.bound e hop o.0 p q.1 o.1) (can.keeps e hop (label hop.tail) a o.0 x p h o.1 c))
+        let o : (exit : ℚ) × Cross e (label hop.tail) exit × (label hop.head ≤ℚ exit) = labels.not_before e hop p q.1 in
+        ≤_trans _ _ _ o.2 (can.keeps e hop (label hop.tail) a o.0 x p h o.1 c))
         (eqb_tells hop.head source)
 
     no_earlier : (walk : List ℕ) (u v : ℕ) (a b : ℚ) → IsWalk hops walk u v → label u ≤ℚ a → Comes Cross walk a b → label v ≤ℚ b
@@ -174,36 +160,39 @@ module _ (hops : List Hop) (nodes source : ℕ) (Cross : ℕ → ℚ → ℚ →
       least = λ walk other w c. no_earlier walk source v departure other w (≤ℚ_of_same _ _ labels.starts) c;
     }
 
-  -- ---- least labels are right hop by hop
-  module _ (inside : source < nodes) (first : (v : ℕ) → v < nodes → IsFirst hops source Cross v departure (label v)) where
+  -- ---- least labels are right hop by hop, where hops can be entered at them
+  module _ (inside : source < nodes) (exits : (e : ℕ) (hop : Hop) → IsHop hops e hop → hop.head ≢ source → (exit : ℚ) × Cross e (label hop.tail) exit)
+      (first : (v : ℕ) → v < nodes → IsFirst hops source Cross v departure (label v)) where
     first_starts : label source ≡ departure
     first_starts =
         let f : IsFirst hops source Cross source departure (label source) = first source inside in
         ≤ℚ_antisymm _ _ (f.least [] departure refl refl) (all_forward f.taken.0 source source departure (label source) f.taken.1 f.taken.2)
 
-    first_bound : (e : ℕ) (hop : Hop) (exit : ℚ) → IsHop hops e hop → Cross e (label hop.tail) exit → label hop.head ≤ℚ exit
-    first_bound e hop exit p c =
+    -- one may go on along a hop from the least label of its tail
+    over_hop : (e : ℕ) (hop : Hop) (exit : ℚ) → IsHop hops e hop → Cross e (label hop.tail) exit → label hop.head ≤ℚ exit
+    over_hop e hop exit p c =
         let f : IsFirst hops source Cross hop.tail departure (label hop.tail) = first hop.tail (good.tails e hop p) in
-        (first hop.head (good.heads e hop p)).least (f.taken.0 ++ e ∷ []) exit (IsWalk-snoc hops f.taken.0 source e hop f.taken.1 p)
-        (Comes-snoc Cross f.taken.0 e departure (label hop.tail) exit f.taken.2 c)
+        (first hop.head (good.heads e hop p)).least (f.taken.0 ++ e ∷ []) exit (IsWalk-append hops f.taken.0 source e hop f.taken.1 p)
+        (Comes-append Cross f.taken.0 e departure (label hop.tail) exit f.taken.2 c)
 
     abbrev Entry : ℕ → Type 0
-    Entry v = (e : ℕ) × (hop : Hop) × IsHop hops e hop × (hop.head ≡ v) × Cross e (label hop.tail) (label v)
+    Entry v = (e : ℕ) × (hop : Hop) × IsHop hops e hop × (hop.head ≡ v) × Cross e (label hop.tail) (label hop.head)
 
-    by_last : (v : ℕ) → LastHop hops Cross source v departure (label v) → Entry v
-    by_last v (e, hop, front, between, p, at, w, c, x) =
+    -- the last hop of a walk that comes first is one that is left just then
+    by_last : (v : ℕ) → v ≢ source → LastHop hops Cross source v departure (label v) → Entry v
+    by_last v other (e, hop, front, between, p, at, w, c, x) =
         let before : label hop.tail ≤ℚ between = (first hop.tail (good.tails e hop p)).least front between w c in
-        let o : (exit : ℚ) × Cross e (label hop.tail) exit = can.exits e hop p in
-        let same : o.0 ≡ label v = ≤ℚ_antisymm _ _ (can.keeps e hop (label hop.tail) between o.0 (label v) p before o.1 x) (subst (λ (k : ℕ). label k ≤ℚ o.0) at (first_bound e hop o.0 p o.1)) in
+        let o : (exit : ℚ) × Cross e (label hop.tail) exit = exits e hop p (subst (λ (k : ℕ). k ≢ source) (sym at) other) in
+        let same : o.0 ≡ label hop.head = ≤ℚ_antisymm _ _ (subst (λ (k : ℕ). o.0 ≤ℚ label k) (sym at) (can.keeps e hop (label hop.tail) between o.0 (label v) p before o.1 x)) (over_hop e hop o.0 p o.1) in
         (e, hop, p, at, subst (λ (t : ℚ). Cross e (label hop.tail) t) same o.1)
 
     by_walk : (v : ℕ) → v ≢ source → (walk : List ℕ) → IsWalk hops walk source v → Comes Cross walk departure (label v) → Entry v
     by_walk v other [] w c = absurd (other (sym w))
-    by_walk v other (e ∷ walk) w c = by_last v (last_hop hops Cross e walk source v departure (label v) w c)
+    by_walk v other (e ∷ walk) w c = by_last v other (last_hop hops Cross e walk source v departure (label v) w c)
 
     pub AreLabelsBy-first : AreLabelsBy hops nodes source Cross departure label
     AreLabelsBy-first = record {
       starts = first_starts;
-      bound = λ e hop exit p _ c. first_bound e hop exit p c;
+      not_before = λ e hop p other. let o : (exit : ℚ) × Cross e (label hop.tail) exit = exits e hop p other in (o.0, o.1, over_hop e hop o.0 p o.1);
       entered = λ v h other. by_walk v other (first v h).taken.0 (first v h).taken.1 (first v h).taken.2;
     }

@@ -12,7 +12,7 @@ use Rattle.nf_rational_laws.proofs.Linear.{le, lt, eq, le_times, eq_times, linea
 use Rattle.nf_model.specs.Curve.{Within, IsGreatest, NeverFalls}
 use Rattle.nf_model.specs.Queue.{IsQueue, IsExit, IsOutflow, waiting}
 use Rattle.nf_model_laws.specs.Capacity.{IsPositive}
-use Rattle.nf_model_laws.proofs.Affine.{nn-quotient, quotient-times, ≤_trans, clash}
+use Rattle.nf_model_laws.proofs.Affine.{nn-quotient, quotient-times, ≤_trans}
 use Rattle.nf_model_laws.proofs.Queues.{IsQueue-some, IsQueue-nn, IsGreatest-order, IsQueue-unique, IsOutflow-from_IsQueue, waiting-nn}
 use Rattle.nf_model_laws.proofs.Step.{IsQueue-at_0}
 
@@ -88,10 +88,3 @@ none_first r w x e f = linear_eq (r ∷ w ∷ x ∷ []) (eq e ∷ eq f ∷ []) (
 pub IsExit-at_0 : (transit : ℚ) (capacity : Option ℚ) (amount : ℚ → ℚ) (exit : ℚ) → IsExit transit capacity amount 0ℚ exit → exit ≡ transit
 IsExit-at_0 transit capacity amount exit p = none_first transit (waiting capacity p.queue) exit p.is_sum
     (ap (λ (q : ℚ). waiting capacity q) (IsQueue-unique capacity amount 0ℚ p.queue 0ℚ p.is_queue (IsQueue-at_0 capacity amount)) ∙ waiting-none capacity)
-
-pub IsOutflow-early : (transit : ℚ) (capacity : Option ℚ) (amount : ℚ → ℚ) (time : ℚ) → time <ℚ transit → IsOutflow transit capacity amount time 0ℚ
-IsOutflow-early transit capacity amount time h = record {
-  early = λ _. refl;
-  unbounded = λ l _. absurd (clash _ _ h l);
-  bounded = λ rate l _. absurd (clash _ _ h l);
-}

@@ -3,11 +3,16 @@ pub mod Curves
 pub mod Merged
 pub mod Queues
 pub mod Step
+pub mod Exits
+pub mod OneValue
 pub mod Ways
+pub mod Networks
 pub mod EarliestWalks
 pub mod Earliest
 pub mod EarliestTransits
-pub mod Exits
+pub mod Exists
+pub mod Pushed
+pub mod Supply
 pub mod MemberLink
 pub mod MemberSteady
 pub mod MemberPoints

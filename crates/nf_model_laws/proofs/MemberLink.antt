@@ -14,12 +14,12 @@ use Rattle.nf_model.specs.Queue.{IsQueue, IsExit, IsOutflow}
 use Rattle.nf_model.specs.Earliest.{IsEarliest}
 use Rattle.nf_model.specs.Equilibrium.{Flow, Balances, Conserves, OnlyShortest, IsNashFlow, TakesFlow, label, inflow, outflow, queue, Equilibrium}
 use Rattle.nf_model_laws.specs.Capacity.{IsPositive}
-use Rattle.nf_model_laws.specs.EarliestLaws.{AreLabels, HaveExits}
+use Rattle.nf_model_laws.specs.EarliestLaws.{AreLabels}
 use Rattle.nf_model_laws.specs.MemberLaws.{one_link, FillsLink}
 use Rattle.nf_model_laws.proofs.Affine.{≤_refl, ≤_trans}
-use Rattle.nf_model_laws.proofs.Queues.{IsExit-unique}
-use Rattle.nf_model_laws.proofs.Exits.{IsOutflow-at_exit, IsOutflow-early, IsExit-at_0}
-use Rattle.nf_model_laws.proofs.Earliest.{IsEarliest-labels}
+use Rattle.nf_model_laws.proofs.Queues.{IsOutflow-early}
+use Rattle.nf_model_laws.proofs.Exits.{IsOutflow-at_exit, IsExit-at_0}
+use Rattle.nf_model_laws.proofs.Earliest.{IsEarliest-label}
 
 zero_one : {X : Type 0} → ◌≡◌ {A = ℕ} zero (suc zero) → X
 zero_one e = absurd (cc)
@@ -112,25 +112,15 @@ module _ (transit : ℚ) (capacity : Option ℚ) (pieces : List Piece) where
     are_labels : (departure : ℚ) → Within 0ℚ flow.reached departure → AreLabels net amount departure (λ v. label flow v departure)
     are_labels departure w = record {
       source = fills.source departure w;
-      none_earlier = λ e link exit q _ x. by_link
-          (λ (e : ℕ) (l : Link). IsExit l.transit l.capacity (amount e) (label flow l.tail departure) exit → label flow l.head departure ≤ℚ exit) e link q
-          (λ y. ≤ℚ_of_same _ _ (IsExit-unique transit capacity (amount 0) (label flow 0 departure) _ exit (leaves departure w) y)) x;
-      entered = λ v k other. (
-        0,
-        the_link,
-        refl,
-        node_cases (λ (v : ℕ). (v ≡ 0 → ⊥) → 1 ≡ v) v k (λ o. absurd (o refl)) (λ _. refl) other,
-        node_cases (λ (v : ℕ). (v ≡ 0 → ⊥) → IsExit transit capacity (amount 0) (label flow 0 departure) (label flow v departure)) v k (λ o. absurd (o refl)) (λ _. leaves departure w) other,
-      );
+      not_before = λ e link q _. by_link
+          (λ (e : ℕ) (l : Link). (exit : ℚ) × IsExit l.transit l.capacity (amount e) (label flow l.tail departure) exit × (label flow l.head departure ≤ℚ exit)) e link q
+          (label flow 1 departure, leaves departure w, ≤_refl _);
+      entered = λ v k other. (0, the_link, refl, node_cases (λ (v : ℕ). (v ≡ 0 → ⊥) → 1 ≡ v) v k (λ o. absurd (o refl)) (λ _. refl) other, leaves departure w);
     }
-
-    have_exits : (departure : ℚ) → Within 0ℚ flow.reached departure → HaveExits net amount (λ v. label flow v departure)
-    have_exits departure w e link q = by_link (λ (e : ℕ) (l : Link). (exit : ℚ) × IsExit l.transit l.capacity (amount e) (label flow l.tail departure) exit) e link q
-        (label flow 1 departure, leaves departure w)
 
     are_earliest : (v : ℕ) (departure : ℚ) → v < 2 → Within 0ℚ flow.reached departure → IsEarliest net amount v departure (label flow v departure)
     are_earliest v departure k w =
-        IsEarliest-labels net amount departure (λ (v : ℕ). label flow v departure) (IsNetwork-one_link h c p) rises_each (have_exits departure w) (are_labels departure w) v k
+        IsEarliest-label net amount departure (λ (v : ℕ). label flow v departure) (IsNetwork-one_link h c p) rises_each (are_labels departure w) v k
 
     -- ---- conservation
     out_at_exit : (departure : ℚ) → Within 0ℚ flow.reached departure → IsOutflow transit capacity (amount 0) (label flow 1 departure) (amount 0 departure)

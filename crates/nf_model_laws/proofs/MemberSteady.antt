@@ -16,8 +16,9 @@ use Rattle.nf_model_laws.specs.Affine.{IsAffine, queue_after}
 use Rattle.nf_model_laws.specs.Capacity.{IsPositive}
 use Rattle.nf_model_laws.specs.MemberLaws.{one_link, at_rate, NotBefore, FillsLink}
 use Rattle.nf_model_laws.proofs.Affine.{≤_refl, ≤_trans, quotient-times, le_from_times, same_from_times}
+use Rattle.nf_model_laws.proofs.Queues.{IsOutflow-early}
 use Rattle.nf_model_laws.proofs.Step.{IsQueue-after, IsQueue-at_0}
-use Rattle.nf_model_laws.proofs.Exits.{IsOutflow-at_exit, IsOutflow-early, waiting-none}
+use Rattle.nf_model_laws.proofs.Exits.{IsOutflow-at_exit, waiting-none}
 
 -- ---- the supply
 max_none : (a : ℚ) → a ≤ℚ 0ℚ → max_ℚ 0ℚ a ≡ 0ℚ

@@ -99,6 +99,13 @@ later_by x z r e h = linear_le (x ∷ z ∷ r ∷ []) (eq e ∷ le h ∷ []) (se
 less_none : (a y : ℚ) → y ≡ 0ℚ → a -ℚ y ≡ a
 less_none a y e = linear_eq (a ∷ y ∷ []) (eq e ∷ []) (search reading_of depth 12) tt tt
 
+pub IsOutflow-early : (transit : ℚ) (capacity : Option ℚ) (amount : ℚ → ℚ) (time : ℚ) → time <ℚ transit → IsOutflow transit capacity amount time 0ℚ
+IsOutflow-early transit capacity amount time l = record {
+  early = λ _. refl;
+  unbounded = λ h _. absurd (clash _ _ l h);
+  bounded = λ rate h _. absurd (clash _ _ l h);
+}
+
 pub IsOutflow-from_IsQueue : (transit : ℚ) (capacity : Option ℚ) (amount : ℚ → ℚ) (time later y : ℚ) → later ≡ time +ℚ transit → 0ℚ ≤ℚ time → IsQueue capacity amount time y
     → IsOutflow transit capacity amount later (amount time -ℚ y)
 IsOutflow-from_IsQueue transit capacity amount time later y e h p = record {

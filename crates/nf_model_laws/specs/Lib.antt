@@ -2,6 +2,7 @@ pub mod Affine
 pub mod Capacity
 pub mod CurveLaws
 pub mod QueueLaws
-pub mod EarliestLaws
 pub mod ExitLaws
+pub mod EarliestLaws
+pub mod SupplyLaws
 pub mod MemberLaws

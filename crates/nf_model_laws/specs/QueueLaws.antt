@@ -1,9 +1,9 @@
 -- Laws of queues, exits and outflows, for any cumulative inflow.
-use Rattle.std.specs.Prelude.{◌≡◌, Option}
+use Rattle.std.specs.Prelude.{◌≡◌, List, Option}
 use Rattle.nf_rational.specs.Rational.{ℚ}
 use Rattle.nf_rational.specs.Operations.{0ℚ, ◌+ℚ◌, ◌-ℚ◌}
 use Rattle.nf_rational.specs.Order.{◌≤ℚ◌}
-use Rattle.nf_model.specs.Curve.{NeverFalls}
+use Rattle.nf_model.specs.Curve.{NeverFalls, value, IsCurve}
 use Rattle.nf_model.specs.Queue.{IsQueue, IsExit, IsOutflow}
 use Rattle.nf_model_laws.specs.Affine.{IsAffine, queue_after}
 use Rattle.nf_model_laws.specs.Capacity.{IsPositive}
@@ -39,3 +39,11 @@ pub record QueueGoesOn : Type 0 where
   pub begins : (capacity : Option ℚ) (amount : ℚ → ℚ) → IsQueue capacity amount 0ℚ 0ℚ
   pub step : (capacity : Option ℚ) (amount : ℚ → ℚ) (start end rate queue time : ℚ) → IsAffine amount start end rate → IsQueue capacity amount start queue
       → start ≤ℚ time → time ≤ℚ end → IsQueue capacity amount time (queue_after capacity rate queue (time -ℚ start))
+
+-- a link whose inflow is a curve has a queue, an exit and an outflow at each time from 0 on
+pub record LinkHasValues : Type 0 where
+  pub queue : (capacity : Option ℚ) (points : List (ℚ × ℚ)) (time : ℚ) → IsCurve points → 0ℚ ≤ℚ time → (queue : ℚ) × IsQueue capacity (value points) time queue
+  pub exit : (transit : ℚ) (capacity : Option ℚ) (points : List (ℚ × ℚ)) (time : ℚ) → IsCurve points → 0ℚ ≤ℚ time
+      → (exit : ℚ) × IsExit transit capacity (value points) time exit
+  pub outflow : (transit : ℚ) (capacity : Option ℚ) (points : List (ℚ × ℚ)) (time : ℚ) → IsCurve points → 0ℚ ≤ℚ time
+      → (out : ℚ) × IsOutflow transit capacity (value points) time out

@@ -2,9 +2,10 @@
 #![tactic(auto)]
 
 ghost use Rattle.nf_model_laws.specs.CurveLaws.{CurveGoesByPoints, AppendedPointGoesOn, EqualSlopesMerge, EndsDecideAffine, RisingPointsRise};
-ghost use Rattle.nf_model_laws.specs.QueueLaws.{LinkHasOneValue, QueueIsNotNegative, OutflowIsInflowLessQueue, ExitNeverFalls, QueueGoesOn};
-ghost use Rattle.nf_model_laws.specs.EarliestLaws.{EarliestByLinks, OneEarliest, LeastTransitByLinks};
+ghost use Rattle.nf_model_laws.specs.QueueLaws.{LinkHasOneValue, QueueIsNotNegative, OutflowIsInflowLessQueue, ExitNeverFalls, QueueGoesOn, LinkHasValues};
 ghost use Rattle.nf_model_laws.specs.ExitLaws.{FirstInFirstOut};
+ghost use Rattle.nf_model_laws.specs.EarliestLaws.{ExtremesAreUnique, LabelsAreEarliest, LeastTransitByLinks};
+ghost use Rattle.nf_model_laws.specs.SupplyLaws.{SupplyGoesOn};
 ghost use Rattle.nf_model_laws.specs.MemberLaws.{OneLinkEquilibrium, FullLinkEquilibrium, TightLinkEquilibrium, HasMember};
 
 /// A curve has each point's value at its time, is affine from each point to the next, and constant after the last.
@@ -58,22 +59,31 @@ pub fn queue_goes_on()
     ensures { QueueGoesOn }
 {}
 
-/// Labels are the earliest arrivals over all walks exactly where they are right link by link: the source's is the departure, no
-/// link is left before the label of its head, and into each other node leads a link that is left just then. It holds for any
-/// inflows that never fall, on unbounded links too. (Koch and Skutella 2011.)
-pub fn earliest_by_links()
-    ensures { EarliestByLinks }
+/// A link whose inflow is a curve has a queue, an exit and an outflow at each time from 0 on.
+pub fn link_has_values()
+    ensures { LinkHasValues }
 {}
 
-/// A node has at most one earliest arrival for a departure.
-pub fn one_earliest()
-    ensures { OneEarliest }
+/// There is at most one least transit sum, earliest arrival, extension length and phase length.
+pub fn extremes_are_unique()
+    ensures { ExtremesAreUnique }
 {}
 
-/// Labels are the least transit sums over all walks from the source exactly where they are right link by link: the source's is
-/// 0, no link is shorter than the labels of its ends are apart, and into each other node leads a link that is just as long.
+/// Labels that no link undercuts, and that a link attains at each node but the source, are the earliest arrivals over all walks;
+/// and the earliest arrivals are such labels.
+pub fn labels_are_earliest()
+    ensures { LabelsAreEarliest }
+{}
+
+/// Labels that no link is shorter than, and that a link fits just at each node but the source, are the least transit sums over
+/// all walks from the source; and the least transit sums are such labels.
 pub fn least_transit_by_links()
     ensures { LeastTransitByLinks }
+{}
+
+/// Nothing is supplied by time 0; while no piece starts the supply grows at the rate; it never falls.
+pub fn supply_goes_on()
+    ensures { SupplyGoesOn }
 {}
 
 /// First in, first out: where the inflow never falls, what has left a link by the exit of what enters at a time is just what had
