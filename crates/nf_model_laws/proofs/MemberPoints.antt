@@ -156,7 +156,7 @@ module _ (transit : ℚ) (capacity : Option ℚ) (later : List Piece) (rate slop
 
   pub Equilibrium-steady : 0ℚ ≤ℚ transit → IsPositive capacity → ArePieces (at_rate rate later) → NotBefore horizon later → IsState capacity rate slope gain
       → Equilibrium (one_link transit capacity (at_rate rate later)) flow
-  Equilibrium-steady l c p alone state = Equilibrium-one_link transit capacity (at_rate rate later) flow l c p (FillsLink-steady transit capacity later rate slope gain flow c state IsSteady-points alone)
+  Equilibrium-steady l c p alone state = Equilibrium-one_link transit capacity (at_rate rate later) flow l c p (FillsLink-steady transit capacity later rate slope gain flow c p state IsSteady-points alone)
 
 -- ---- full
 pub Equilibrium-full : (transit capacity rate horizon arrival amount waits : ℚ) (later : List Piece) (trace : Trace)

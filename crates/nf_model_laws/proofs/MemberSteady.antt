@@ -1,15 +1,15 @@
 -- One link that is supplied at one rate: its flow, by the values of its curves.
-use Rattle.std.proofs.Common.{◌≡◌, ℕ, zero, suc, List, [], ◌∷◌, ◌⊎◌, inl, inr, ⊎_elim, Option, Some, None, slice_get, sym, ap, subst, refl, ◌∙◌}
+use Rattle.std.proofs.Common.{◌≡◌, ℕ, zero, suc, List, [], ◌∷◌, Bool, true, false, if◌then◌else◌, ◌⊎◌, inl, inr, ⊎_elim, Option, Some, None, slice_get, sym, ap, subst, refl, ◌∙◌}
 use lib.IntN.{pos}
 use Rattle.nf_rational.specs.Rational.{ℚ}
 use Rattle.nf_rational.specs.Operations.{0ℚ, 1ℚ, ◌+ℚ◌, ◌-ℚ◌, ◌*ℚ◌, ◌/ℚ◌}
-use Rattle.nf_rational.specs.Order.{◌≤ℚ◌, ◌<ℚ◌, min_ℚ, max_ℚ}
+use Rattle.nf_rational.specs.Order.{◌≤ℚ◌, ◌<ℚ◌, max_ℚ}
 use Rattle.nf_rational_laws.proofs.Polynomial.{reading_of}
 use Rattle.nf_rational_laws.proofs.Order.{≤ℚ_of_lt, ≤ℚ_of_same, ≤ℚ_antisymm, lt_or_le_ℚ, not_both_ℚ, ps_whole}
-use Rattle.nf_rational_laws.proofs.Tests.{min_ℚ_cases, max_ℚ_cases}
+use Rattle.nf_rational_laws.proofs.Tests.{max_ℚ_cases, test_of_le, test_of_lt}
 use Rattle.nf_rational_laws.proofs.Linear.{le, lt, eq, le_times, eq_times, linear_le, linear_lt, linear_eq}
 use Rattle.nf_model.specs.Curve.{Within, NeverFalls}
-use Rattle.nf_model.specs.Network.{Piece, IsPiece, ArePieces, time_in, supplied, supply}
+use Rattle.nf_model.specs.Network.{Piece, IsPiece, ArePieces, rate_from, supplied, supply}
 use Rattle.nf_model.specs.Queue.{IsQueue, IsExit, IsOutflow, waiting}
 use Rattle.nf_model.specs.Equilibrium.{Flow, label, inflow, outflow, queue, HasShape, HasSlopes, Equilibrium}
 use Rattle.nf_model_laws.specs.Affine.{IsAffine, queue_after}
@@ -17,6 +17,8 @@ use Rattle.nf_model_laws.specs.Capacity.{IsPositive}
 use Rattle.nf_model_laws.specs.MemberLaws.{one_link, at_rate, NotBefore, FillsLink}
 use Rattle.nf_model_laws.proofs.Affine.{≤_refl, ≤_trans, quotient-times, le_from_times, same_from_times}
 use Rattle.nf_model_laws.proofs.Queues.{IsOutflow-early}
+use Rattle.nf_model_laws.specs.SupplyLaws.{NoStartBetween}
+use Rattle.nf_model_laws.proofs.Supply.{supplied-goes_on, supplied-begins}
 use Rattle.nf_model_laws.proofs.Step.{IsQueue-after, IsQueue-at_0}
 use Rattle.nf_model_laws.proofs.Exits.{IsOutflow-at_exit, waiting-none}
 
@@ -33,48 +35,28 @@ max_nn a h = ⊎_elim
     (λ (w : (max_ℚ 0ℚ a ≡ 0ℚ) × (a <ℚ 0ℚ)). w.0 ∙ ≤ℚ_antisymm _ _ h (≤ℚ_of_lt _ _ w.1))
     (max_ℚ_cases 0ℚ a)
 
-min_first : (a b : ℚ) → a ≤ℚ b → min_ℚ a b ≡ a
-min_first a b h = ⊎_elim
-    (λ (w : (min_ℚ a b ≡ a) × (a ≤ℚ b)). w.0)
-    (λ (w : (min_ℚ a b ≡ b) × (b <ℚ a)). w.0 ∙ ≤ℚ_antisymm _ _ (≤ℚ_of_lt _ _ w.1) h)
-    (min_ℚ_cases a b)
-
-min_within : (a b : ℚ) → min_ℚ a b ≤ℚ a
-min_within a b = ⊎_elim
-    (λ (w : (min_ℚ a b ≡ a) × (a ≤ℚ b)). ≤ℚ_of_same _ _ w.0)
-    (λ (w : (min_ℚ a b ≡ b) × (b <ℚ a)). subst (λ (x : ℚ). x ≤ℚ a) (sym w.0) (≤ℚ_of_lt _ _ w.1))
-    (min_ℚ_cases a b)
-
-no_more : (t s m : ℚ) → t ≤ℚ s → m ≤ℚ t → m -ℚ s ≤ℚ 0ℚ
-no_more t s m h k = linear_le (t ∷ s ∷ m ∷ []) (le h ∷ le k ∷ []) (search reading_of depth 12) tt
-
-time_in-none : (start : ℚ) (later : List Piece) (time : ℚ) → time ≤ℚ start → time_in start later time ≡ 0ℚ
-time_in-none start [] time h = max_none _ (no_more time start time h (≤_refl time))
-time_in-none start (next ∷ later) time h = max_none _ (no_more time start (min_ℚ time next.start) h (min_within time next.start))
-
-none_added : (r t s : ℚ) → t ≡ 0ℚ → s ≡ 0ℚ → r *ℚ t +ℚ s ≡ 0ℚ
-none_added r t s e f = linear_eq (r ∷ t ∷ s ∷ []) (eq_times r e ∷ eq f ∷ []) (search reading_of depth 12) tt tt
-
-pub supplied-none : (pieces : List Piece) (time : ℚ) → NotBefore time pieces → supplied pieces time ≡ 0ℚ
-supplied-none [] time h = refl
-supplied-none (piece ∷ later) time h =
-    none_added piece.rate _ _ (time_in-none piece.start later time (h 0 piece refl)) (supplied-none later time (λ i next p. h (suc i) next p))
-
-whole_time : (t m : ℚ) → 0ℚ ≤ℚ t → m ≡ t → max_ℚ 0ℚ (m -ℚ 0ℚ) ≡ t
-whole_time t m h e = max_nn (m -ℚ 0ℚ) (linear_le (t ∷ m ∷ []) (le h ∷ eq e ∷ []) (search reading_of depth 12) tt) ∙ linear_eq (t ∷ m ∷ []) (eq e ∷ []) (search reading_of depth 12) tt tt
-
-time_in-all : (later : List Piece) (time : ℚ) → 0ℚ ≤ℚ time → NotBefore time later → time_in 0ℚ later time ≡ time
-time_in-all [] time n h = whole_time time time n refl
-time_in-all (next ∷ later) time n h = whole_time time (min_ℚ time next.start) n (min_first time next.start (h 0 next refl))
-
-one_added : (r t m s : ℚ) → m ≡ t → s ≡ 0ℚ → r *ℚ m +ℚ s ≡ r *ℚ t
-one_added r t m s e f = linear_eq (r ∷ t ∷ m ∷ s ∷ []) (eq_times r e ∷ eq f ∷ []) (search reading_of depth 12) tt tt
-
 -- from time 0 on, as long as no other piece starts
-pub supplied-at_rate : (rate : ℚ) (later : List Piece) (horizon time : ℚ) → NotBefore horizon later → Within 0ℚ horizon time → supplied (at_rate rate later) time ≡ rate *ℚ time
-supplied-at_rate rate later horizon time h w =
-    let n : NotBefore time later = λ i piece p. ≤_trans _ _ _ w.1 (h i piece p) in
-    one_added rate time _ _ (time_in-all later time w.0 n) (supplied-none later time n)
+first_rate : (rate : ℚ) (later : List Piece) → ArePieces (at_rate rate later) → rate_from 0ℚ (at_rate rate later) 0ℚ ≡ rate
+first_rate rate later pieces = ap (λ (b : Bool). if b then rate_from rate later 0ℚ else 0ℚ) (test_of_le 0ℚ 0ℚ (≤_refl 0ℚ)) ∙ goes_on later pieces
+  where
+    goes_on : (later : List Piece) → ArePieces (at_rate rate later) → rate_from rate later 0ℚ ≡ rate
+    goes_on [] pieces = refl
+    goes_on (next ∷ rest) pieces = ap (λ (b : Bool). if b then rate_from next.rate rest 0ℚ else rate) (test_of_lt next.start 0ℚ (pieces.rise 0 _ next refl refl))
+
+nothing_between : (rate : ℚ) (later : List Piece) (horizon time : ℚ) → NotBefore horizon later → time ≤ℚ horizon → NoStartBetween (at_rate rate later) 0ℚ time
+nothing_between rate later horizon time alone h zero piece p after = absurd (not_both_ℚ 0ℚ 0ℚ (subst (λ (q : Piece). 0ℚ <ℚ q.start) (sym (same _ piece p)) after) (≤_refl 0ℚ))
+  where
+    same : (a b : Piece) → ◌≡◌ {A = Option Piece} (Some a) (Some b) → a ≡ b
+    same a b e = cc
+nothing_between rate later horizon time alone h (suc i) piece p after = ≤_trans _ _ _ h (alone i piece p)
+
+from_none : (r t s u m : ℚ) → s ≡ u +ℚ m *ℚ (t -ℚ 0ℚ) → u ≡ 0ℚ → m ≡ r → s ≡ r *ℚ t
+from_none r t s u m e f g = linear_eq (r ∷ t ∷ s ∷ u ∷ m ∷ []) (eq e ∷ eq f ∷ eq_times t g ∷ []) (search reading_of depth 12) tt tt
+
+pub supplied-at_rate : (rate : ℚ) (later : List Piece) (horizon time : ℚ) → ArePieces (at_rate rate later) → NotBefore horizon later → Within 0ℚ horizon time → supplied (at_rate rate later) time ≡ rate *ℚ time
+supplied-at_rate rate later horizon time pieces alone w =
+    from_none rate time _ (supplied (at_rate rate later) 0ℚ) _ (supplied-goes_on (at_rate rate later) 0ℚ time pieces w.0 (nothing_between rate later horizon time alone w.1))
+    (supplied-begins (at_rate rate later) pieces) (first_rate rate later pieces)
 
 -- ---- the flow, by the values of its curves: the label of the sink moves at the slope, and the queue by what it gains
 pub record IsSteady (transit : ℚ) (capacity : Option ℚ) (pieces : List Piece) (rate slope gain : ℚ) (flow : Flow) : Type 0 where
@@ -118,7 +100,7 @@ departs_after r k t s e h = linear_le (r ∷ k ∷ t ∷ s ∷ []) (eq e ∷ le 
 departs_by : (r k t s h : ℚ) → s *ℚ k ≡ t -ℚ r → t ≤ℚ r +ℚ k *ℚ h → k *ℚ s ≤ℚ k *ℚ h
 departs_by r k t s h e l = linear_le (r ∷ k ∷ t ∷ s ∷ h ∷ []) (eq e ∷ le l ∷ []) (search reading_of depth 12) tt
 
-module _ (transit : ℚ) (capacity : Option ℚ) (later : List Piece) (rate slope gain : ℚ) (flow : Flow) (c : IsPositive capacity)
+module _ (transit : ℚ) (capacity : Option ℚ) (later : List Piece) (rate slope gain : ℚ) (flow : Flow) (c : IsPositive capacity) (pieces : ArePieces (at_rate rate later))
     (state : IsState capacity rate slope gain) (steady : IsSteady transit capacity (at_rate rate later) rate slope gain flow) (alone : NotBefore flow.reached later) where
   abbrev amount : ℚ → ℚ
   amount = inflow flow 0
@@ -168,7 +150,7 @@ module _ (transit : ℚ) (capacity : Option ℚ) (later : List Piece) (rate slop
     outflow_rates = steady.outflow_rates;
     starts = none_at_0;
     rises = steady.rises;
-    supplied = λ t w. steady.entered t w ∙ sym (supplied-at_rate rate later flow.reached t alone w);
+    supplied = λ t w. steady.entered t w ∙ sym (supplied-at_rate rate later flow.reached t pieces alone w);
     source = steady.source;
     sink = is_exit;
     outflows = is_out;
