@@ -1,23 +1,21 @@
 -- Labels are the earliest arrivals.
-use Rattle.std.proofs.Common.{◌≡◌, ◌≢◌, ℕ, zero, suc, ◌<◌, List, [], ◌∷◌, length, Bool, true, false, eqb, ◌⊎◌, inl, inr, ⊎_elim, slice_get, sym, ap, subst, refl, ◌∙◌}
+use Rattle.std.proofs.Common.{◌≡◌, ◌≢◌, ℕ, ◌<◌, List, [], ◌∷◌, true, false, eqb, ◌⊎◌, inl, inr, ⊎_elim, sym, ap, subst, refl}
 use Rattle.std.proofs.lemmas.Option.{slice_get_within}
 use Rattle.std.proofs.lemmas.Bool.Decides.{eqb_tells}
-use lib.IntN.{pos}
 use Rattle.nf_rational.specs.Rational.{ℚ}
 use Rattle.nf_rational.specs.Operations.{0ℚ, ◌+ℚ◌}
 use Rattle.nf_rational.specs.Order.{◌≤ℚ◌, ◌<ℚ◌}
 use Rattle.nf_rational_laws.proofs.Polynomial.{reading_of}
 use Rattle.nf_rational_laws.proofs.Order.{≤ℚ_of_same, ≤ℚ_antisymm}
 use Rattle.nf_rational_laws.proofs.Linear.{le, lt, eq, linear_le, linear_false}
-use Rattle.nf_model.specs.Curve.{NeverFalls}
-use Rattle.nf_model.specs.Walk.{IsWalk, transit_of, transit_sum}
+use Rattle.nf_model.specs.Walk.{IsWalk, transit_sum}
 use Rattle.nf_model.specs.Network.{Link, Network, IsNetwork, IsLink, hops}
 use Rattle.nf_model.specs.Queue.{IsExit}
 use Rattle.nf_model.specs.Earliest.{Arrives, IsEarliest}
 use Rattle.nf_model_laws.specs.Capacity.{IsPositive}
 use Rattle.nf_model_laws.specs.EarliestLaws.{AreLabels, InflowsRise}
-use Rattle.nf_model_laws.proofs.Affine.{≤_refl, ≤_trans}
-use Rattle.nf_model_laws.proofs.Queues.{IsExit-after, IsExit-monotone, IsExit-unique}
+use Rattle.nf_model_laws.proofs.Affine.{≤_trans}
+use Rattle.nf_model_laws.proofs.Queues.{IsExit-after, IsExit-monotone}
 use Rattle.nf_model_laws.proofs.Ways.{way_back}
 use Rattle.nf_model_laws.proofs.Networks.{IsLink-unique, transit_of-is, IsWalk-link, StartsWith, IsWalk-starts, IsWalk-append, Arrives-append, EndsWith, EndsWith-of}
 

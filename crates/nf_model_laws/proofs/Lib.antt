@@ -11,3 +11,5 @@ pub mod Exists
 pub mod OneLink
 pub mod Pushed
 pub mod Supply
+pub mod Sums
+pub mod Slacks

@@ -1,25 +1,23 @@
 -- The flow of one link is an equilibrium.
-use Rattle.std.proofs.Common.{◌≡◌, ◌≢◌, ℕ, zero, suc, ◌+◌, ◌<◌, List, [], ◌∷◌, length, Some, None, slice_get, ◌⊎◌, ⊎_elim, sym, ap, subst, refl, ◌∙◌, arith}
-use lib.IntN.{pos}
+use Rattle.std.proofs.Common.{◌≡◌, ◌≢◌, ℕ, zero, suc, ◌<◌, List, [], ◌∷◌, Some, slice_get, ⊎_elim, sym, ap, subst, refl, ◌∙◌, arith}
 use Rattle.nf_rational.specs.Gcd.{gcd}
 use Rattle.nf_rational.specs.Rational.{ℚ, ratio, same_parts}
 use Rattle.nf_rational.specs.Operations.{0ℚ, whole, neg_ℚ, inv_ℚ, ◌+ℚ◌, ◌-ℚ◌, ◌*ℚ◌, ◌/ℚ◌}
 use Rattle.nf_rational.specs.Order.{◌≤ℚ◌, ◌<ℚ◌, max_ℚ}
 use Rattle.nf_rational_laws.proofs.Polynomial.{reading_of}
-use Rattle.nf_rational_laws.proofs.Order.{≤ℚ_of_lt, ≤ℚ_of_same, lt_or_le_ℚ}
+use Rattle.nf_rational_laws.proofs.Order.{≤ℚ_of_lt, lt_or_le_ℚ}
 use Rattle.nf_rational_laws.proofs.Tests.{max_ℚ_cases}
 use Rattle.nf_rational_laws.proofs.Linear.{le, lt, eq, linear_le, linear_lt, linear_eq}
-use Rattle.nf_model.specs.Curve.{Within, NeverFalls, value, slope, IsCurve, AreSlopes}
-use Rattle.nf_model.specs.Walk.{IsWalk, transit_sum}
+use Rattle.nf_model.specs.Curve.{Within, value, slope, IsCurve, AreSlopes}
+use Rattle.nf_model.specs.Walk.{IsWalk}
 use Rattle.nf_model.specs.Network.{Link, Piece, IsNetwork, IsPiece, IsLink, hop_of, hops, supply}
 use Rattle.nf_model.specs.Queue.{IsQueue, IsExit, IsOutflow}
-use Rattle.nf_model.specs.Earliest.{IsEarliest}
-use Rattle.nf_model.specs.Equilibrium.{Trace, Equilibrium, IsNashFlow, Conserves, Balances, OnlyShortest, HasShape, HasSlopes, AreCurves, label, inflow, outflow, queue, points_at, points_of}
+use Rattle.nf_model.specs.Equilibrium.{Trace, Equilibrium, IsNashFlow, Conserves, Balances, HasSlopes, AreCurves, label, inflow, outflow, queue, points_at}
 use Rattle.nf_model_laws.specs.Affine.{IsAffine}
 use Rattle.nf_model_laws.specs.EarliestLaws.{AreLabels, InflowsRise}
 use Rattle.nf_model_laws.specs.OneLink.{n, the_link, the_network, the_flow, source_label, sink_label, the_inflow, the_outflow, the_queue, OneLinkHasEquilibrium}
-use Rattle.nf_model_laws.proofs.Affine.{≤_refl, ≤_trans, clash, quotient-times}
-use Rattle.nf_model_laws.proofs.Curves.{value-piece, value-affine, value-last, NeverFalls-value}
+use Rattle.nf_model_laws.proofs.Affine.{≤_refl, clash, quotient-times}
+use Rattle.nf_model_laws.proofs.Curves.{value-piece, value-last, NeverFalls-value}
 use Rattle.nf_model_laws.proofs.Queues.{IsOutflow-early, IsOutflow-from_IsQueue}
 use Rattle.nf_model_laws.proofs.Step.{IsQueue-at_0, IsQueue-step}
 use Rattle.nf_model_laws.proofs.Exists.{IsAffine-last}

@@ -4,4 +4,5 @@ pub mod CurveLaws
 pub mod QueueLaws
 pub mod EarliestLaws
 pub mod SupplyLaws
+pub mod SlackLaws
 pub mod OneLink

@@ -5,6 +5,7 @@ ghost use Rattle.nf_model_laws.specs.CurveLaws.{CurveGoesByPoints, AppendedPoint
 ghost use Rattle.nf_model_laws.specs.QueueLaws.{LinkHasOneValue, QueueIsNotNegative, OutflowIsInflowLessQueue, ExitNeverFalls, QueueGoesOn, LinkHasValues};
 ghost use Rattle.nf_model_laws.specs.EarliestLaws.{ExtremesAreUnique, LabelsAreEarliest};
 ghost use Rattle.nf_model_laws.specs.SupplyLaws.{SupplyGoesOn};
+ghost use Rattle.nf_model_laws.specs.SlackLaws.{SlacksMakeSets};
 ghost use Rattle.nf_model_laws.specs.OneLink.{OneLinkHasEquilibrium};
 
 /// A curve has each point's value at its time, is affine from each point to the next, and constant after the last.
@@ -83,4 +84,9 @@ pub fn one_link_has_equilibrium()
 /// Nothing is supplied by time 0; while no piece starts the supply grows at the rate; it never falls.
 pub fn supply_goes_on()
     ensures { SupplyGoesOn }
+{}
+
+/// A link is active where its slack is at least 0, and resetting where it is above 0; slacks move with the labels.
+pub fn slacks_make_sets()
+    ensures { SlacksMakeSets }
 {}
