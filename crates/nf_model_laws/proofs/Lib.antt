@@ -13,3 +13,4 @@ pub mod Pushed
 pub mod Supply
 pub mod Sums
 pub mod Slacks
+pub mod Potential

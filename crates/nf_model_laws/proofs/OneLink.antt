@@ -12,7 +12,7 @@ use Rattle.nf_model.specs.Curve.{Within, value, slope, IsCurve, AreSlopes}
 use Rattle.nf_model.specs.Walk.{IsWalk}
 use Rattle.nf_model.specs.Network.{Link, Piece, IsNetwork, IsPiece, IsLink, hop_of, hops, supply}
 use Rattle.nf_model.specs.Queue.{IsQueue, IsExit, IsOutflow}
-use Rattle.nf_model.specs.Equilibrium.{Trace, Equilibrium, IsNashFlow, Conserves, Balances, HasSlopes, AreCurves, label, inflow, outflow, queue, points_at}
+use Rattle.nf_model.specs.Equilibrium.{Flow, Trace, Equilibrium, IsNashFlow, Conserves, Balances, HasSlopes, AreCurves, label, inflow, outflow, queue, points_at}
 use Rattle.nf_model_laws.specs.Affine.{IsAffine}
 use Rattle.nf_model_laws.specs.EarliestLaws.{AreLabels, InflowsRise}
 use Rattle.nf_model_laws.specs.OneLink.{n, the_link, the_network, the_flow, source_label, sink_label, the_inflow, the_outflow, the_queue, OneLinkHasEquilibrium}
@@ -378,5 +378,12 @@ is_equilibrium = record {
         (λ w. let t : Within (n 0) (n 2) time = (w.0, up_to_two time _ (source_at (n 2) (≤ℚ_of_lt _ _ zero_less_two, ≤_refl (n 2))) w.1) in
         subst (λ (y : ℚ). IsQueue (Some (n 1)) amount time y) (sym (source_at time t)) (queue_at time t)) e link p
 
+-- ---- what each equilibrium of this network sends into the link
+no_other : (flow : Flow) (time : ℚ) → Equilibrium the_network flow → Within 0ℚ flow.reached time → inflow flow 0 time ≡ n 2 *ℚ time
+no_other flow time e w = only (supply the_network time) (inflow flow 0 time) (supply_at time w.0) (e.nash.conserves.source time w).sums
+  where
+    only : (u f : ℚ) → u ≡ n 2 *ℚ time → 0ℚ +ℚ u ≡ f +ℚ 0ℚ +ℚ 0ℚ → f ≡ n 2 *ℚ time
+    only u f d e = linear_eq (u ∷ f ∷ time ∷ []) (eq d ∷ eq e ∷ []) (search reading_of depth 12) tt tt
+
 pub one_link_has : OneLinkHasEquilibrium
-one_link_has = record { network = is_network; equilibrium = is_equilibrium; later = zero_less_two }
+one_link_has = record { network = is_network; equilibrium = is_equilibrium; later = zero_less_two; no_other = no_other }

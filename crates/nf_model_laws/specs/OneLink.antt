@@ -1,10 +1,11 @@
 -- An equilibrium: one link of transit time 1 and capacity 1 from source to sink, supplied at rate 2, for what leaves up to time 2.
-use Rattle.std.specs.Prelude.{ℕ, List, [], ◌∷◌, pos, Some}
+use Rattle.std.specs.Prelude.{◌≡◌, ℕ, List, [], ◌∷◌, pos, Some}
 use Rattle.nf_rational.specs.Rational.{ℚ}
-use Rattle.nf_rational.specs.Operations.{0ℚ, whole}
+use Rattle.nf_rational.specs.Operations.{0ℚ, whole, ◌*ℚ◌}
 use Rattle.nf_rational.specs.Order.{◌<ℚ◌}
+use Rattle.nf_model.specs.Curve.{Within}
 use Rattle.nf_model.specs.Network.{Link, Network, IsNetwork}
-use Rattle.nf_model.specs.Equilibrium.{Flow, Equilibrium}
+use Rattle.nf_model.specs.Equilibrium.{Flow, Equilibrium, inflow}
 
 abbrev pub n : ℕ → ℚ
 n k = whole (pos k)
@@ -39,7 +40,9 @@ the_flow = record {
   queues = the_queue ∷ [];
 }
 
+-- it is an equilibrium, up to a time above 0; and each equilibrium of this network sends what is supplied into the link
 pub record OneLinkHasEquilibrium : Type 0 where
   pub network : IsNetwork the_network
   pub equilibrium : Equilibrium the_network the_flow
   pub later : 0ℚ <ℚ the_flow.reached
+  pub no_other : (flow : Flow) (time : ℚ) → Equilibrium the_network flow → Within 0ℚ flow.reached time → inflow flow 0 time ≡ n 2 *ℚ time
