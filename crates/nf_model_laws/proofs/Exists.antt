@@ -1,6 +1,5 @@
 -- A link whose inflow is a curve has a queue, an exit and an outflow at each time from 0 on.
-use Rattle.std.proofs.Common.{◌≡◌, List, [], ◌∷◌, ◌++◌, ◌⊎◌, ⊎_elim, Option, Some, None, sym, ap, subst, refl, ◌∙◌, append_assoc}
-use lib.IntN.{pos}
+use Rattle.std.proofs.Common.{◌≡◌, List, [], ◌∷◌, ◌++◌, ⊎_elim, Option, sym, subst, refl, ◌∙◌, append_assoc}
 use Rattle.nf_rational.specs.Rational.{ℚ}
 use Rattle.nf_rational.specs.Operations.{0ℚ, ◌+ℚ◌, ◌-ℚ◌, ◌*ℚ◌}
 use Rattle.nf_rational.specs.Order.{◌≤ℚ◌, ◌<ℚ◌}

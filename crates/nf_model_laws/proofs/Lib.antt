@@ -13,6 +13,9 @@ pub mod EarliestTransits
 pub mod Exists
 pub mod Pushed
 pub mod Supply
+pub mod Slacks
+pub mod Sums
+pub mod Potential
 pub mod MemberLink
 pub mod MemberSteady
 pub mod MemberPoints

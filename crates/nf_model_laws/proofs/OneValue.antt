@@ -1,12 +1,12 @@
 -- Least and greatest values that are stated as relations are at most one each.
-use Rattle.std.proofs.Common.{◌≡◌, ℕ, List, [], ◌∷◌, inl, inr, sym, ap, subst, refl, ◌∙◌}
+use Rattle.std.proofs.Common.{◌≡◌, ℕ, List, [], ◌∷◌, inl, inr, sym, ap, subst, ◌∙◌}
 use Rattle.nf_rational.specs.Rational.{ℚ}
 use Rattle.nf_rational.specs.Operations.{0ℚ, 1ℚ, ◌+ℚ◌, ◌-ℚ◌}
 use Rattle.nf_rational.specs.Order.{◌≤ℚ◌, ◌<ℚ◌, min_ℚ}
 use Rattle.nf_rational_laws.proofs.Polynomial.{reading_of}
-use Rattle.nf_rational_laws.proofs.Order.{≤ℚ_antisymm, ≤ℚ_of_lt, ps_whole}
-use Rattle.nf_rational_laws.proofs.Linear.{le, lt, linear_le, linear_lt}
-use Rattle.nf_model.specs.Walk.{Hop, IsLeastTransit, transit_sum}
+use Rattle.nf_rational_laws.proofs.Order.{≤ℚ_antisymm}
+use Rattle.nf_rational_laws.proofs.Linear.{le, linear_le, linear_lt}
+use Rattle.nf_model.specs.Walk.{Hop, IsLeastTransit}
 use Rattle.nf_model.specs.Network.{Network}
 use Rattle.nf_model.specs.Earliest.{IsEarliest}
 use Rattle.nf_model.specs.Phases.{IsExtension, IsUnending, IsPhaseLength}

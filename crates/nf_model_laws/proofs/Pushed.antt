@@ -1,16 +1,15 @@
 -- Curves that go on by one piece, for a phase.
-use Rattle.std.proofs.Common.{◌≡◌, ℕ, zero, suc, List, [], ◌∷◌, ◌++◌, ◌⊎◌, inl, inr, ⊎_elim, sym, ap, subst, refl, ◌∙◌}
-use lib.IntN.{pos}
+use Rattle.std.proofs.Common.{◌≡◌, List, [], ◌∷◌, ◌++◌, ap, refl, ◌∙◌}
 use Rattle.nf_rational.specs.Rational.{ℚ}
-use Rattle.nf_rational.specs.Operations.{◌+ℚ◌, ◌-ℚ◌, ◌*ℚ◌, ◌/ℚ◌, 0ℚ}
+use Rattle.nf_rational.specs.Operations.{◌+ℚ◌, ◌-ℚ◌, ◌*ℚ◌, 0ℚ}
 use Rattle.nf_rational.specs.Order.{◌≤ℚ◌, ◌<ℚ◌}
 use Rattle.nf_rational_laws.proofs.Polynomial.{reading_of}
-use Rattle.nf_rational_laws.proofs.Order.{≤ℚ_of_same, ≤ℚ_of_lt, ≤ℚ_antisymm, ps_times, lt_or_le_ℚ}
-use Rattle.nf_rational_laws.proofs.Linear.{le, lt, eq, le_times, eq_times, linear_le, linear_lt, linear_eq, linear_false}
+use Rattle.nf_rational_laws.proofs.Order.{ps_times}
+use Rattle.nf_rational_laws.proofs.Linear.{le, lt, eq, eq_times, linear_le, linear_lt, linear_eq}
 use Rattle.nf_model.specs.Curve.{Within, value, slope}
 use Rattle.nf_model_laws.specs.Affine.{IsAffine}
-use Rattle.nf_model_laws.proofs.Affine.{≤_refl, ≤_trans, clash, same_from_times, ps-times_gap}
-use Rattle.nf_model_laws.proofs.Curves.{EndsAt, EndsAt-nn, EndsAt-value, EndsAt-push, EndsAt-push_line, EndsAt-push_before, slope-unique}
+use Rattle.nf_model_laws.proofs.Affine.{≤_refl}
+use Rattle.nf_model_laws.proofs.Curves.{EndsAt, EndsAt-nn, EndsAt-value, EndsAt-push_line, EndsAt-push_before, slope-unique}
 
 -- from a point at a, with the value y, for the time d at the rate n
 abbrev pub onward : ℚ × ℚ → ℚ → ℚ → ℚ × ℚ

@@ -1,12 +1,11 @@
 -- Queues, exits and outflows of a link, for any cumulative inflow.
-use Rattle.std.proofs.Common.{◌≡◌, List, [], ◌∷◌, Option, Some, None, sym, ap, subst, refl, ◌∙◌, ⊎_elim}
-use lib.IntN.{pos}
+use Rattle.std.proofs.Common.{◌≡◌, [], ◌∷◌, Option, Some, None, sym, ap, subst, refl, ◌∙◌, ⊎_elim}
 use Rattle.nf_rational.specs.Rational.{ℚ}
-use Rattle.nf_rational.specs.Operations.{0ℚ, ◌+ℚ◌, ◌-ℚ◌, ◌*ℚ◌, ◌/ℚ◌}
+use Rattle.nf_rational.specs.Operations.{0ℚ, ◌+ℚ◌, ◌-ℚ◌, ◌*ℚ◌}
 use Rattle.nf_rational.specs.Order.{◌≤ℚ◌, ◌<ℚ◌}
 use Rattle.nf_rational_laws.proofs.Polynomial.{reading_of}
-use Rattle.nf_rational_laws.proofs.Order.{≤ℚ_of_lt, ≤ℚ_of_same, ≤ℚ_antisymm, lt_or_le_ℚ}
-use Rattle.nf_rational_laws.proofs.Linear.{le, lt, eq, le_times, eq_times, linear_le, linear_lt, linear_eq, linear_false}
+use Rattle.nf_rational_laws.proofs.Order.{≤ℚ_of_same, ≤ℚ_antisymm, lt_or_le_ℚ}
+use Rattle.nf_rational_laws.proofs.Linear.{le, eq, eq_times, linear_le, linear_eq}
 use Rattle.nf_model.specs.Curve.{Within, IsGreatest, IsLeast, NeverFalls}
 use Rattle.nf_model.specs.Queue.{IsQueue, IsExit, IsOutflow, waiting}
 use Rattle.nf_model_laws.specs.Capacity.{IsPositive}

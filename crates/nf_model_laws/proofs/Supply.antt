@@ -1,15 +1,14 @@
 -- What the source is supplied with grows by the rate as long as no piece starts.
-use Rattle.std.proofs.Common.{◌≡◌, ℕ, zero, suc, List, [], ◌∷◌, ◌⊎◌, inl, inr, ⊎_elim, Bool, true, false, if◌then◌else◌, sym, ap, subst, refl, ◌∙◌}
-use lib.IntN.{pos}
+use Rattle.std.proofs.Common.{◌≡◌, suc, List, [], ◌∷◌, ◌⊎◌, inl, inr, ⊎_elim, Bool, true, false, if◌then◌else◌, sym, ap, subst, refl, ◌∙◌}
 use Rattle.nf_rational.specs.Rational.{ℚ}
 use Rattle.nf_rational.specs.Operations.{◌+ℚ◌, ◌-ℚ◌, ◌*ℚ◌, 0ℚ}
 use Rattle.nf_rational.specs.Order.{◌≤ℚ◌, ◌<ℚ◌, le_ℚ, min_ℚ, max_ℚ}
 use Rattle.nf_rational_laws.proofs.Polynomial.{reading_of}
 use Rattle.nf_rational_laws.proofs.Order.{≤ℚ_of_lt, ≤ℚ_of_same, ≤ℚ_antisymm, lt_or_le_ℚ}
 use Rattle.nf_rational_laws.proofs.Tests.{le_ℚ_cases, min_ℚ_cases, max_ℚ_cases}
-use Rattle.nf_rational_laws.proofs.Linear.{le, lt, eq, le_times, eq_times, linear_le, linear_lt, linear_eq, linear_false}
+use Rattle.nf_rational_laws.proofs.Linear.{le, lt, eq, le_times, eq_times, linear_le, linear_eq, linear_false}
 use Rattle.nf_model.specs.Curve.{NeverFalls}
-use Rattle.nf_model.specs.Network.{Piece, IsPiece, ArePieces, time_in, supplied, rate_from}
+use Rattle.nf_model.specs.Network.{Piece, ArePieces, time_in, supplied, rate_from}
 use Rattle.nf_model_laws.specs.SupplyLaws.{NoStartBetween}
 use Rattle.nf_model_laws.proofs.Affine.{≤_refl, ≤_trans, clash}
 

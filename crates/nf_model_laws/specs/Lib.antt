@@ -5,4 +5,5 @@ pub mod QueueLaws
 pub mod ExitLaws
 pub mod EarliestLaws
 pub mod SupplyLaws
+pub mod SlackLaws
 pub mod MemberLaws

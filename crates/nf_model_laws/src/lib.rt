@@ -6,6 +6,7 @@ ghost use Rattle.nf_model_laws.specs.QueueLaws.{LinkHasOneValue, QueueIsNotNegat
 ghost use Rattle.nf_model_laws.specs.ExitLaws.{FirstInFirstOut};
 ghost use Rattle.nf_model_laws.specs.EarliestLaws.{ExtremesAreUnique, LabelsAreEarliest, LeastTransitByLinks};
 ghost use Rattle.nf_model_laws.specs.SupplyLaws.{SupplyGoesOn};
+ghost use Rattle.nf_model_laws.specs.SlackLaws.{SlacksMakeSets};
 ghost use Rattle.nf_model_laws.specs.MemberLaws.{OneLinkEquilibrium, FullLinkEquilibrium, TightLinkEquilibrium, HasMember};
 
 /// A curve has each point's value at its time, is affine from each point to the next, and constant after the last.
@@ -84,6 +85,11 @@ pub fn least_transit_by_links()
 /// Nothing is supplied by time 0; while no piece starts the supply grows at the rate; it never falls.
 pub fn supply_goes_on()
     ensures { SupplyGoesOn }
+{}
+
+/// A link is active where its slack is at least 0, and resetting where it is above 0; slacks move with the labels.
+pub fn slacks_make_sets()
+    ensures { SlacksMakeSets }
 {}
 
 /// First in, first out: where the inflow never falls, what has left a link by the exit of what enters at a time is just what had
