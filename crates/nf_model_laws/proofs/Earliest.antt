@@ -1,10 +1,10 @@
 -- Labels of a network that are right link by link are the earliest arrivals, and conversely.
-use Rattle.std.proofs.Common.{◌≡◌, ◌≢◌, ℕ, ◌<◌, List, [], ◌∷◌, length, sym, subst, refl}
+use Rattle.std.proofs.Common.{◌≡◌, ◌≢◌, ℕ, ◌<◌, List, [], ◌∷◌, subst}
 use Rattle.std.proofs.lemmas.Option.{slice_get_within}
 use Rattle.nf_rational.specs.Rational.{ℚ}
 use Rattle.nf_rational.specs.Operations.{0ℚ, ◌+ℚ◌}
-use Rattle.nf_rational.specs.Order.{◌≤ℚ◌, ◌<ℚ◌}
-use Rattle.nf_model.specs.Walk.{Hop, IsHop, IsWalk, transit_sum}
+use Rattle.nf_rational.specs.Order.{◌≤ℚ◌}
+use Rattle.nf_model.specs.Walk.{Hop, IsHop}
 use Rattle.nf_model.specs.Network.{Link, Network, IsNetwork, IsLink, hop_of, hops}
 use Rattle.nf_model.specs.Queue.{IsExit}
 use Rattle.nf_model.specs.Earliest.{Arrives, IsEarliest}

@@ -1,19 +1,14 @@
 -- Least labels along walks, whatever it takes to cross a hop: earliest arrivals and least transit sums are two cases of it.
-use Rattle.std.proofs.Common.{◌≡◌, ◌≢◌, ℕ, ◌<◌, List, [], ◌∷◌, ◌++◌, ◌⊎◌, inl, inr, ⊎_elim, true, false, eqb, Option, Some, None, slice_get, map, sym, ap, subst, refl, ◌∙◌}
-use Rattle.std.specs.Prelude.{unwrap_or}
-use Rattle.std.specs.Option.{option_map}
+use Rattle.std.proofs.Common.{◌≡◌, ◌≢◌, ℕ, ◌<◌, List, [], ◌∷◌, ◌++◌, ◌⊎◌, inl, inr, ⊎_elim, true, false, eqb, sym, ap, subst, refl}
 use Rattle.std.proofs.lemmas.Bool.Decides.{eqb_tells}
-use Rattle.std.proofs.lemmas.Option.{slice_get-map}
-use lib.IntN.{pos}
 use Rattle.nf_rational.specs.Rational.{ℚ}
 use Rattle.nf_rational.specs.Operations.{0ℚ, ◌+ℚ◌}
 use Rattle.nf_rational.specs.Order.{◌≤ℚ◌, ◌<ℚ◌}
 use Rattle.nf_rational_laws.proofs.Polynomial.{reading_of}
 use Rattle.nf_rational_laws.proofs.Order.{≤ℚ_of_same, ≤ℚ_antisymm}
 use Rattle.nf_rational_laws.proofs.Linear.{le, lt, eq, linear_le, linear_false}
-use Rattle.nf_model.specs.Entries.{number_at}
 use Rattle.nf_model.specs.Walk.{Hop, IsHop, IsWalk, transit_of, transit_sum}
-use Rattle.nf_model_laws.proofs.Affine.{≤_refl, ≤_trans}
+use Rattle.nf_model_laws.proofs.Affine.{≤_trans}
 use Rattle.nf_model_laws.proofs.Ways.{way_back}
 use Rattle.nf_model_laws.proofs.Networks.{transit_of-hop, IsWalk-append}
 

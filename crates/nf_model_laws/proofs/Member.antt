@@ -1,16 +1,13 @@
 -- The equilibrium by numbers is one of those of a full link.
-use Rattle.std.proofs.Common.{◌≡◌, ℕ, zero, suc, List, [], ◌∷◌, ◌⊎◌, inl, Option, Some, None, slice_get, sym, subst, refl}
-use lib.IntN.{pos}
+use Rattle.std.proofs.Common.{◌≡◌, ℕ, zero, suc, List, [], ◌∷◌, inl, Option, Some, None, subst, refl}
 use Rattle.nf_rational.specs.Rational.{ℚ}
-use Rattle.nf_rational.specs.Operations.{0ℚ, whole, ◌+ℚ◌, ◌-ℚ◌, ◌*ℚ◌}
+use Rattle.nf_rational.specs.Operations.{0ℚ}
 use Rattle.nf_rational.specs.Order.{◌≤ℚ◌, ◌<ℚ◌}
 use Rattle.nf_rational_laws.proofs.Polynomial.{reading_of}
 use Rattle.nf_rational_laws.proofs.Order.{nn_whole, ps_whole}
-use Rattle.nf_rational_laws.proofs.Linear.{linear_le, linear_lt, linear_eq}
-use Rattle.nf_model.specs.Network.{Piece, IsNetwork, IsPiece, ArePieces}
-use Rattle.nf_model.specs.Equilibrium.{Equilibrium}
-use Rattle.nf_model_laws.specs.Capacity.{IsPositive}
-use Rattle.nf_model_laws.specs.MemberLaws.{at_rate, NotBefore, n, member_network, member_flow, HasMember}
+use Rattle.nf_rational_laws.proofs.Linear.{linear_le, linear_eq}
+use Rattle.nf_model.specs.Network.{Piece, IsPiece, ArePieces}
+use Rattle.nf_model_laws.specs.MemberLaws.{NotBefore, n, HasMember}
 use Rattle.nf_model_laws.proofs.Affine.{≤_refl}
 use Rattle.nf_model_laws.proofs.MemberLink.{IsNetwork-one_link}
 use Rattle.nf_model_laws.proofs.MemberPoints.{Equilibrium-full}

@@ -1,22 +1,21 @@
--- A flow that puts the whole supply into the one link of a network is an equilibrium.
-use Rattle.std.proofs.Common.{◌≡◌, ◌≢◌, ℕ, zero, suc, ◌<◌, List, [], ◌∷◌, length, ◌⊎◌, inl, inr, ⊎_elim, Option, Some, None, slice_get, sym, ap, subst, refl, ◌∙◌, arith}
-use lib.IntN.{pos}
+-- A flow is an equilibrium of a network of one link exactly where the whole supply enters the link at once.
+use Rattle.std.proofs.Common.{◌≡◌, ℕ, zero, suc, ◌<◌, List, [], ◌∷◌, ⊎_elim, Option, Some, None, sym, ap, subst, refl, ◌∙◌, arith}
 use Rattle.nf_rational.specs.Rational.{ℚ}
 use Rattle.nf_rational.specs.Operations.{0ℚ, ◌+ℚ◌}
 use Rattle.nf_rational.specs.Order.{◌≤ℚ◌, ◌<ℚ◌}
 use Rattle.nf_rational_laws.proofs.Polynomial.{reading_of}
-use Rattle.nf_rational_laws.proofs.Order.{≤ℚ_of_lt, ≤ℚ_of_same, ≤ℚ_antisymm, lt_or_le_ℚ}
+use Rattle.nf_rational_laws.proofs.Order.{≤ℚ_of_lt, ≤ℚ_antisymm, lt_or_le_ℚ}
 use Rattle.nf_rational_laws.proofs.Linear.{eq, linear_eq}
 use Rattle.nf_model.specs.Curve.{Within, NeverFalls}
-use Rattle.nf_model.specs.Walk.{Hop, IsHop, IsWalk, transit_sum}
-use Rattle.nf_model.specs.Network.{Link, Piece, Network, IsNetwork, IsLink, ArePieces, hop_of, hops, supply}
+use Rattle.nf_model.specs.Walk.{Hop, IsHop, IsWalk}
+use Rattle.nf_model.specs.Network.{Link, Piece, Network, IsNetwork, IsLink, ArePieces, hops, supply}
 use Rattle.nf_model.specs.Queue.{IsQueue, IsExit, IsOutflow}
-use Rattle.nf_model.specs.Earliest.{IsEarliest}
-use Rattle.nf_model.specs.Equilibrium.{Flow, Balances, Conserves, OnlyShortest, IsNashFlow, TakesFlow, label, inflow, outflow, queue, Equilibrium}
+use Rattle.nf_model.specs.Earliest.{Arrives, IsEarliest}
+use Rattle.nf_model.specs.Equilibrium.{Flow, Balances, Conserves, OnlyShortest, label, inflow, outflow, queue, Equilibrium}
 use Rattle.nf_model_laws.specs.Capacity.{IsPositive}
 use Rattle.nf_model_laws.specs.EarliestLaws.{AreLabels}
 use Rattle.nf_model_laws.specs.MemberLaws.{one_link, FillsLink}
-use Rattle.nf_model_laws.proofs.Affine.{≤_refl, ≤_trans}
+use Rattle.nf_model_laws.proofs.Affine.{≤_refl}
 use Rattle.nf_model_laws.proofs.Queues.{IsOutflow-early}
 use Rattle.nf_model_laws.proofs.Exits.{IsOutflow-at_exit, IsExit-at_0}
 use Rattle.nf_model_laws.proofs.Earliest.{IsEarliest-label}
@@ -56,6 +55,9 @@ module _ (transit : ℚ) (capacity : Option ℚ) (pieces : List Piece) where
   -- what is said of the one link is said of each
   by_link : (P : ℕ → Link → Type 0) (e : ℕ) (link : Link) → IsLink net e link → P 0 the_link → P e link
   by_link P e link p x = let o : (e ≡ 0) × (the_link ≡ link) = only_link e link p in subst (λ (k : ℕ). P k link) (sym o.0) (subst (λ (l : Link). P 0 l) o.1 x)
+
+  by_link_back : (P : ℕ → Link → Type 0) (e : ℕ) (link : Link) → IsLink net e link → P e link → P 0 the_link
+  by_link_back P e link p x = let o : (e ≡ 0) × (the_link ≡ link) = only_link e link p in subst (λ (l : Link). P 0 l) (sym o.1) (subst (λ (k : ℕ). P k link) o.0 x)
 
   only_hop : (e : ℕ) (hop : Hop) → IsHop (hops net) e hop → the_hop ≡ hop
   only_hop zero hop p = same the_hop hop p
@@ -182,4 +184,47 @@ module _ (transit : ℚ) (capacity : Option ℚ) (pieces : List Piece) where
       queues = λ e link time q. by_link
           (λ (e : ℕ) (l : Link). Within 0ℚ (label flow l.tail flow.reached) time → IsQueue l.capacity (amount e) time (queue flow e time)) e link q
           (λ w. fills.queues time (w.0, subst (λ (t : ℚ). time ≤ℚ t) (fills.source flow.reached (fills.begins, ≤_refl flow.reached)) w.1));
+    }
+
+  -- ---- the other way: an equilibrium fills the link
+  module _ (flow : Flow) (is : Equilibrium net flow) where
+    -- the walks of this network
+    to_source : (walk : List ℕ) (time arrival : ℚ) → IsWalk (hops net) walk 0 0 → Arrives net (inflow flow) walk time arrival → time ≡ arrival
+    to_source [] time arrival w a = a
+    to_source (e ∷ walk) time arrival w a = absurd (no_cycle e walk 0 w)
+
+    over_link : (walk : List ℕ) (time arrival : ℚ) → IsWalk (hops net) walk 0 1 → Arrives net (inflow flow) walk time arrival → IsExit transit capacity (inflow flow 0) time arrival
+    over_link [] time arrival w a = zero_one w
+    over_link (e ∷ []) time arrival w a =
+        subst (λ (t : ℚ). IsExit transit capacity (inflow flow 0) time t) a.4
+        (by_link_back (λ (e : ℕ) (l : Link). IsExit l.transit l.capacity (inflow flow e) time a.2) e a.0 a.1 a.3)
+    over_link (e ∷ f ∷ walk) time arrival w a =
+        zero_one (ap (λ (h : Hop). h.tail) (only_hop f w.3.0 w.3.1) ∙ w.3.2 ∙ sym (ap (λ (h : Hop). h.head) (only_hop e w.0 w.1)))
+
+    at_source : (departure : ℚ) → Within 0ℚ flow.reached departure → label flow 0 departure ≡ departure
+    at_source departure w =
+        let l : IsEarliest net (inflow flow) 0 departure (label flow 0 departure) = is.nash.labels 0 departure (omega arith) w in
+        sym (to_source l.taken.0 departure (label flow 0 departure) l.taken.1 l.taken.2)
+
+    at_sink : (departure : ℚ) → Within 0ℚ flow.reached departure → IsExit transit capacity (inflow flow 0) departure (label flow 1 departure)
+    at_sink departure w =
+        let l : IsEarliest net (inflow flow) 1 departure (label flow 1 departure) = is.nash.labels 1 departure (omega arith) w in
+        over_link l.taken.0 departure (label flow 1 departure) l.taken.1 l.taken.2
+
+    all_in : (u f : ℚ) → 0ℚ +ℚ u ≡ f +ℚ 0ℚ +ℚ 0ℚ → f ≡ u
+    all_in u f e = linear_eq (u ∷ f ∷ []) (eq e ∷ []) (search reading_of depth 12) tt tt
+
+    pub FillsLink-equilibrium : FillsLink transit capacity pieces flow
+    FillsLink-equilibrium = record {
+      begins = is.reached;
+      shape = is.shape;
+      inflow_rates = is.inflow_rates;
+      outflow_rates = is.outflow_rates;
+      starts = is.nash.starts 0 (omega arith);
+      rises = is.nash.rises 0 (omega arith);
+      supplied = λ time w. all_in (supply net time) (inflow flow 0 time) (is.nash.conserves.source time w).sums;
+      source = at_source;
+      sink = at_sink;
+      outflows = λ time w. is.outflows 0 the_link time refl w;
+      queues = λ time w. is.queues 0 the_link time refl (w.0, subst (λ (t : ℚ). time ≤ℚ t) (sym (at_source flow.reached (is.reached, ≤_refl flow.reached))) w.1);
     }

@@ -1,17 +1,16 @@
 -- One link that is supplied at one rate: its flow, by the values of its curves.
-use Rattle.std.proofs.Common.{◌≡◌, ℕ, zero, suc, List, [], ◌∷◌, Bool, true, false, if◌then◌else◌, ◌⊎◌, inl, inr, ⊎_elim, Option, Some, None, slice_get, sym, ap, subst, refl, ◌∙◌}
-use lib.IntN.{pos}
+use Rattle.std.proofs.Common.{◌≡◌, zero, suc, List, [], ◌∷◌, Bool, if◌then◌else◌, ⊎_elim, Option, Some, None, sym, ap, subst, refl, ◌∙◌}
 use Rattle.nf_rational.specs.Rational.{ℚ}
 use Rattle.nf_rational.specs.Operations.{0ℚ, 1ℚ, ◌+ℚ◌, ◌-ℚ◌, ◌*ℚ◌, ◌/ℚ◌}
 use Rattle.nf_rational.specs.Order.{◌≤ℚ◌, ◌<ℚ◌, max_ℚ}
 use Rattle.nf_rational_laws.proofs.Polynomial.{reading_of}
-use Rattle.nf_rational_laws.proofs.Order.{≤ℚ_of_lt, ≤ℚ_of_same, ≤ℚ_antisymm, lt_or_le_ℚ, not_both_ℚ, ps_whole}
+use Rattle.nf_rational_laws.proofs.Order.{≤ℚ_of_lt, ≤ℚ_antisymm, lt_or_le_ℚ, not_both_ℚ, ps_whole}
 use Rattle.nf_rational_laws.proofs.Tests.{max_ℚ_cases, test_of_le, test_of_lt}
 use Rattle.nf_rational_laws.proofs.Linear.{le, lt, eq, le_times, eq_times, linear_le, linear_lt, linear_eq}
 use Rattle.nf_model.specs.Curve.{Within, NeverFalls}
-use Rattle.nf_model.specs.Network.{Piece, IsPiece, ArePieces, rate_from, supplied, supply}
+use Rattle.nf_model.specs.Network.{Piece, ArePieces, rate_from, supplied}
 use Rattle.nf_model.specs.Queue.{IsQueue, IsExit, IsOutflow, waiting}
-use Rattle.nf_model.specs.Equilibrium.{Flow, label, inflow, outflow, queue, HasShape, HasSlopes, Equilibrium}
+use Rattle.nf_model.specs.Equilibrium.{Flow, label, inflow, outflow, queue, HasShape, HasSlopes}
 use Rattle.nf_model_laws.specs.Affine.{IsAffine, queue_after}
 use Rattle.nf_model_laws.specs.Capacity.{IsPositive}
 use Rattle.nf_model_laws.specs.MemberLaws.{one_link, at_rate, NotBefore, FillsLink}

@@ -1,10 +1,10 @@
 -- Links as hops, and walks along them.
-use Rattle.std.proofs.Common.{◌≡◌, ℕ, zero, suc, List, [], ◌∷◌, ◌++◌, Option, Some, None, slice_get, unwrap_or, option_map, map, sym, ap, subst, refl, ◌∙◌}
+use Rattle.std.proofs.Common.{◌≡◌, ℕ, List, [], ◌∷◌, ◌++◌, Option, Some, None, slice_get, unwrap_or, option_map, map, sym, ap, subst, refl, ◌∙◌}
 use Rattle.std.proofs.lemmas.Option.{slice_get-map}
 use Rattle.nf_rational.specs.Rational.{ℚ}
-use Rattle.nf_rational.specs.Operations.{0ℚ, ◌+ℚ◌}
+use Rattle.nf_rational.specs.Operations.{0ℚ}
 use Rattle.nf_model.specs.Entries.{number_at}
-use Rattle.nf_model.specs.Walk.{Hop, IsHop, IsWalk, transit_of, transit_sum}
+use Rattle.nf_model.specs.Walk.{Hop, IsHop, IsWalk, transit_of}
 use Rattle.nf_model.specs.Network.{Link, Network, IsLink, hop_of, hops}
 
 -- ---- entries

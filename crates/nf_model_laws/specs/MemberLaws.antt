@@ -1,10 +1,10 @@
 -- Equilibria of the network of one link, so that the definition of an equilibrium has members.
-use Rattle.std.specs.Prelude.{◌≡◌, ◌⊎◌, ℕ, List, [], ◌∷◌, Option, Some, pos}
+use Rattle.std.specs.Prelude.{◌≡◌, ◌⊎◌, ◌↔◌, ℕ, List, [], ◌∷◌, Option, Some, pos}
 use Rattle.nf_rational.specs.Rational.{ℚ}
 use Rattle.nf_rational.specs.Operations.{0ℚ, whole, ◌+ℚ◌, ◌-ℚ◌, ◌*ℚ◌}
 use Rattle.nf_rational.specs.Order.{◌≤ℚ◌, ◌<ℚ◌}
 use Rattle.nf_model.specs.Curve.{Within, NeverFalls}
-use Rattle.nf_model.specs.Network.{Link, Piece, Network, IsNetwork, IsPiece, ArePieces, supply}
+use Rattle.nf_model.specs.Network.{Piece, Network, IsNetwork, IsPiece, ArePieces, supply}
 use Rattle.nf_model.specs.Queue.{IsQueue, IsExit, IsOutflow}
 use Rattle.nf_model.specs.Equilibrium.{Trace, Flow, label, inflow, outflow, queue, HasShape, HasSlopes, Equilibrium}
 use Rattle.nf_model_laws.specs.Capacity.{IsPositive}
@@ -34,10 +34,10 @@ pub record FillsLink (transit : ℚ) (capacity : Option ℚ) (pieces : List Piec
   pub outflows : (time : ℚ) → Within 0ℚ (label flow 1 flow.reached) time → IsOutflow transit capacity (inflow flow 0) time (outflow flow 0 time)
   pub queues : (time : ℚ) → Within 0ℚ flow.reached time → IsQueue capacity (inflow flow 0) time (queue flow 0 time)
 
--- such a flow is an equilibrium
+-- such a flow is an equilibrium, and no other is one
 abbrev pub OneLinkEquilibrium : Type 0
 OneLinkEquilibrium = (transit : ℚ) (capacity : Option ℚ) (pieces : List Piece) (flow : Flow) → 0ℚ ≤ℚ transit → IsPositive capacity → ArePieces pieces
-    → FillsLink transit capacity pieces flow → Equilibrium (one_link transit capacity pieces) flow
+    → Equilibrium (one_link transit capacity pieces) flow ↔ FillsLink transit capacity pieces flow
 
 -- ---- at one rate, from time 0 to a horizon
 

@@ -98,8 +98,8 @@ pub fn first_in_first_out()
     ensures { FirstInFirstOut }
 {}
 
-/// On a network of one link, a flow that lets the whole supply enter the link at once is an equilibrium, if its label of the
-/// sink is the exit and its outflow and queue are those of its inflow.
+/// On a network of one link, a flow is an equilibrium exactly where the whole supply enters the link at once, the label of the
+/// sink is the exit, and outflow and queue are those of this inflow.
 pub fn one_link_equilibrium()
     ensures { OneLinkEquilibrium }
 {}
