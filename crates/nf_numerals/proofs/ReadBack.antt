@@ -5,7 +5,7 @@ use Rattle.std.specs.Str.Parse.{starts_with_minus}
 use Rattle.std.specs.Char.{is_ascii_digit}
 use Rattle.std.proofs.lemmas.Bool.{and_parts, and_from, and_left, and_right, or_from, or_left, or_right, eq-eqb, ne_eqb, le-ltb, not_from_true, not_from_false, cond-true, cond-false, cases_eq}
 use Rattle.nf_rational.specs.Rational.{ℚ, ratio}
-use Rattle.nf_rational_laws.proofs.Lowest.{parts_ratio}
+use Rattle.nf_rational.proofs.Lowest.{parts_ratio}
 use Rattle.nf_numerals.specs.declared.NumberFault.{NumberFault}
 use Rattle.nf_numerals.specs.Digits.{are_digits, value_of, digits_of}
 use Rattle.nf_numerals.specs.Numbers.{slash, point, has, before, after, unsigned, signed_by, denominator, parts_or_fault, parts_of, decimal_parts_of, as_ratio, number_of, decimal_of}
