@@ -66,7 +66,11 @@ pub(crate) fn shortened(a: i128, b: u128) -> i128
     requires bounded { b ≤ greatest }
     ensures { result ≡ int_div a (pos b) }
 {
-    if b == 1 { a } else { a / b as i128 }
+    if a.unsigned_abs() <= SHORT && b <= SHORT {
+        (a as i64 / b as i64) as i128
+    } else {
+        a / b as i128
+    }
 }
 
 /// The product, if it is at most the limit.
@@ -89,9 +93,14 @@ pub(crate) fn multiplied(a: i128, b: i128, limit: u128) -> Option<i128>
     requires { limit ≤ greatest }
     ensures { SomeIff result (nat_abs (a *ℤ b) ≤ limit) (a *ℤ b) }
 {
-    match a.checked_mul(b) {
-        Some(product) if product.unsigned_abs() <= limit => Some(product),
-        _ => None,
+    if a.unsigned_abs() <= SHORT && b.unsigned_abs() <= SHORT {
+        let product = a * b;
+        if product.unsigned_abs() <= limit { Some(product) } else { None }
+    } else {
+        match a.checked_mul(b) {
+            Some(product) if product.unsigned_abs() <= limit => Some(product),
+            _ => None,
+        }
     }
 }
 
