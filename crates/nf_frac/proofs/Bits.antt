@@ -1,11 +1,14 @@
 -- Signed numbers of 128 bits that go to their bits and are read again, as a call's clause has them.
-use Rattle.std.proofs.Common.{◌≡◌, ℕ, ◌*◌, ◌≤◌, ◌^◌, ◌-◌, ℤ, pos, negsuc, ◌*ℤ◌, nat_abs, sym, ◌∙◌, ap, subst, arith}
+use Rattle.std.proofs.Common.{◌≡◌, ℕ, ◌*◌, ◌<◌, ◌≤◌, ◌^◌, ◌-◌, ℤ, pos, negsuc, ◌*ℤ◌, nat_abs, sym, ◌∙◌, ap, subst, arith}
 use mathlib.Core.Path.{ap₂}
 use mir.Syntax.{w128}
 use mir.Val.{to_z, of_z, SFits}
 use mir.Facts.{to_z-of_z}
 use Rattle.std.proofs.lemmas.Nat.{mul-le}
 use Rattle.nf_rational_laws.proofs.Products.{abs-product}
+use Rattle.nf_rational.specs.Gcd.{gcd}
+use Rattle.nf_rational.specs.Rational.{gcd_pos}
+use Rattle.nf_rational_laws.proofs.Lowest.{gcd-le}
 use Rattle.nf_frac.specs.Parts.{greatest}
 
 abbrev pub bits_of : ℤ → ℤ
@@ -31,3 +34,10 @@ size_of z m limit f e h = subst (λ (k : ℕ). k ≤ limit) (e ∙ ap nat_abs (t
 
 pub size_along : (y z : ℤ) (m limit : ℕ) → y ≡ z → m ≡ nat_abs y → m ≤ limit → nat_abs z ≤ limit
 size_along y z m limit e f h = subst (λ (k : ℕ). k ≤ limit) (f ∙ ap nat_abs e) h
+
+-- ---- the greatest common divisor as a call's clauses have it
+pub gcd_positive : (a b g : ℕ) → g ≡ gcd a b → 0 < b → 0 < g
+gcd_positive a b g e h = subst (λ (k : ℕ). 0 < k) (sym e) (gcd_pos a b h)
+
+pub gcd_small : (a b g : ℕ) → g ≡ gcd a b → 0 < b → g ≤ b
+gcd_small a b g e h = subst (λ (k : ℕ). k ≤ b) (sym e) (gcd-le a b h)

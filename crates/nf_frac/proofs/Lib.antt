@@ -1,2 +1,5 @@
 pub mod Bits
 pub mod Compare
+pub mod Form
+pub mod Factors
+pub mod Sums

@@ -2,7 +2,7 @@
 ghost use Rattle.std.specs.Prelude.{◌≡◌, ◌*◌, ◌/◌, ◌-◌, ◌^◌, ◌<◌, ◌≤◌, pos, ◌+ℤ◌, ◌*ℤ◌, nat_abs, int_div, SomeIff};
 ghost use Rattle.std.specs.Ordering.{nat_cmp};
 ghost use Rattle.nf_rational.specs.Gcd.{gcd};
-ghost use Rattle.nf_frac.specs.Parts.{greatest};
+ghost use Rattle.nf_frac.specs.Parts.{greatest, signed};
 
 use std::cmp::Ordering;
 
@@ -39,7 +39,9 @@ fn gcd_long(a: u128, b: u128) -> u128
 
 /// The greatest common divisor, by Euclid's algorithm.
 pub(crate) fn gcd_of(a: u128, b: u128) -> u128
-    ensures { result ≡ gcd a b }
+    ensures value { result ≡ gcd a b }
+    ensures positive { 0 < b → 0 < result }
+    ensures small { 0 < b → result ≤ b }
 {
     if a <= SHORT && b <= SHORT {
         gcd_short(a as u64, b as u64) as u128
@@ -70,6 +72,18 @@ pub(crate) fn shortened(a: i128, b: u128) -> i128
         (a as i64 / b as i64) as i128
     } else {
         a / b as i128
+    }
+}
+
+/// The whole number of this sign and magnitude.
+pub(crate) fn with_sign(negative: bool, magnitude: u128) -> i128
+    requires { magnitude ≤ greatest }
+    ensures { result ≡ signed negative magnitude }
+{
+    if negative {
+        -(magnitude as i128)
+    } else {
+        magnitude as i128
     }
 }
 
