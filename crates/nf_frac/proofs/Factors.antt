@@ -30,10 +30,10 @@ apart_is : (a b : ℕ) → nat_abs (pos a +ℤ negsuc b) ≡ (a - suc b) + (suc 
 apart_is a b = grind (arith, ints)
 
 dvd-plus : (a b : ℤ) (f : ℕ) → f ∣ nat_abs a → f ∣ nat_abs b → f ∣ nat_abs (a +ℤ b)
-dvd-plus (pos a) (pos b) f h k = dvd-add h k
-dvd-plus (pos a) (negsuc b) f h k = subst (λ (m : ℕ). f ∣ m) (sym (apart_is a b)) (dvd-add (dvd-sub f h k) (dvd-sub f k h))
-dvd-plus (negsuc a) (pos b) f h k = subst (λ (m : ℕ). f ∣ m) (sym (ap nat_abs (+ℤ_comm (negsuc a) (pos b)) ∙ apart_is b a)) (dvd-add (dvd-sub f k h) (dvd-sub f h k))
-dvd-plus (negsuc a) (negsuc b) f h k = subst (λ (m : ℕ). f ∣ m) (both a b) (dvd-add h k)
+dvd-plus (pos a) (pos b) f h k = dvd-add f h k
+dvd-plus (pos a) (negsuc b) f h k = subst (λ (m : ℕ). f ∣ m) (sym (apart_is a b)) (dvd-add f (dvd-sub f h k) (dvd-sub f k h))
+dvd-plus (negsuc a) (pos b) f h k = subst (λ (m : ℕ). f ∣ m) (sym (ap nat_abs (+ℤ_comm (negsuc a) (pos b)) ∙ apart_is b a)) (dvd-add f (dvd-sub f k h) (dvd-sub f h k))
+dvd-plus (negsuc a) (negsuc b) f h k = subst (λ (m : ℕ). f ∣ m) (both a b) (dvd-add f h k)
   where
     both : (a b : ℕ) → suc a + suc b ≡ nat_abs (negsuc a +ℤ negsuc b)
     both a b = grind (arith, ints)

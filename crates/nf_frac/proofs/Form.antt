@@ -1,5 +1,6 @@
 -- What the parts of a fraction in code say of the number, and back.
 use Rattle.std.proofs.Common.{◌≡◌, ℕ, zero, suc, ◌/◌, ◌<◌, ◌≤◌, Bool, true, false, ℤ, pos, negsuc, neg_ℤ, nat_abs, refl, sym, ◌∙◌, ap, subst, arith}
+use Rattle.std.specs.Prelude.{Option, None, SomeIff}
 use mathlib.Core.Path.{ap₂}
 use lib.Signed.{quot_z}
 use native.Mathlib.Nat.{div-le_self, zero-div}
@@ -105,3 +106,14 @@ module _ (n : ℤ) (d a common g below : ℕ) (q : ℤ) (size : a ≡ nat_abs n)
 
   pub den_over : below ≡ (ratio n d).den
   den_over = b ∙ ap (λ (k : ℕ). d / k) factor ∙ sym (den_of n d some)
+
+-- the exit of a `?`
+pub stops : {V : Type 0} (r : Option V) (P : Type 0) (v : V) → r ≡ None → (P → ⊥) → SomeIff r P v
+stops {V} r P v e n = subst (λ (o : Option V). SomeIff o P v) (sym e) n
+
+-- the parts of a value in code fit
+pub own_within : {x : ℚ} {n : ℤ} {d : ℕ} → InForm n d → ratio n d ≡ x → IsWithin greatest x
+own_within {x} {n} {d} h e = record {
+  small = subst (λ (z : ℤ). nat_abs z ≤ greatest) (sym (parts_of h e).num) h.small;
+  small_den = subst (λ (k : ℕ). k ≤ greatest) (sym (parts_of h e).den) h.small_den;
+}
