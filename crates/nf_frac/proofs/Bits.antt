@@ -3,7 +3,7 @@ use Rattle.std.proofs.Common.{◌≡◌, ℕ, ◌*◌, ◌<◌, ◌≤◌, ◌^�
 use mathlib.Core.Path.{ap₂}
 use mir.Syntax.{w128}
 use mir.Val.{to_z, of_z, SFits}
-use mir.Facts.{to_z-of_z}
+use mir.Facts.{to_z-of_z, to_z_pos}
 use Rattle.std.proofs.lemmas.Nat.{mul-le}
 use Rattle.nf_rational_laws.proofs.Products.{abs-product}
 use Rattle.nf_rational.specs.Gcd.{gcd}
@@ -41,3 +41,7 @@ gcd_positive a b g e h = subst (λ (k : ℕ). 0 < k) (sym e) (gcd_pos a b h)
 
 pub gcd_small : (a b g : ℕ) → g ≡ gcd a b → 0 < b → g ≤ b
 gcd_small a b g e h = subst (λ (k : ℕ). k ≤ b) (sym e) (gcd-le a b h)
+
+-- a natural number that is cast
+pub cast_plain : (k : ℕ) → k ≤ greatest → to_z w128 k ≡ pos k
+cast_plain k h = to_z_pos w128 (omega arith)
