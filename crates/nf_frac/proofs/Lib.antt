@@ -5,3 +5,5 @@ pub mod Factors
 pub mod Sums
 pub mod Products
 pub mod Turned
+pub mod Passing
+pub mod Made

@@ -1,7 +1,8 @@
 -- The parts of fractions, and which of them fit.
-use Rattle.std.specs.Prelude.{◌≡◌, ℕ, ◌-◌, ◌*◌, ◌/◌, ◌^◌, ◌<◌, ◌≤◌, Bool, true, false, ℤ, pos, ◌+ℤ◌, ◌*ℤ◌, neg_ℤ, nat_abs}
+use Rattle.std.specs.Prelude.{◌≡◌, ◌≢◌, ℕ, ◌-◌, ◌*◌, ◌/◌, ◌^◌, ◌<◌, ◌≤◌, Bool, true, false, ℤ, pos, ◌+ℤ◌, ◌*ℤ◌, neg_ℤ, nat_abs}
 use Rattle.nf_rational.specs.Gcd.{gcd}
 use Rattle.nf_rational.specs.Rational.{ℚ}
+use Rattle.nf_rational.specs.Operations.{whole, ◌/ℚ◌}
 
 -- the greatest magnitude of a part: that which an i128 and its negation both hold
 abbrev pub greatest : ℕ
@@ -30,3 +31,8 @@ pub record SumFits (limit : ℕ) (x y : ℚ) : Type 0 where
 abbrev pub signed : Bool → ℕ → ℤ
 signed true m = neg_ℤ (pos m)
 signed false m = pos m
+
+-- n over d is a fraction whose parts fit: d isn't 0, and no reduced part is beyond the limit
+pub record IsMade (limit : ℕ) (n d : ℤ) : Type 0 where
+  pub some : d ≢ pos 0
+  pub fits : IsWithin limit (whole n /ℚ whole d)

@@ -2,9 +2,10 @@
 ghost use Rattle.std.specs.Prelude.{◌≡◌, ◌≢◌, ◌*◌, ◌/◌, ◌-◌, ◌^◌, ◌<◌, ◌≤◌, pos, nat_abs, ◌*ℤ◌, SomeIff};
 ghost use Rattle.nf_rational.specs.Gcd.{gcd};
 ghost use Rattle.nf_rational.specs.Rational.{ratio};
-ghost use Rattle.nf_rational.specs.Operations.{0ℚ, ◌+ℚ◌, ◌*ℚ◌, neg_ℚ, inv_ℚ};
+ghost use Rattle.nf_rational.specs.Operations.{0ℚ, whole, ◌+ℚ◌, ◌*ℚ◌, neg_ℚ, inv_ℚ};
 ghost use Rattle.nf_rational.specs.Order.{cmp_ℚ};
 ghost use Rattle.nf_frac.specs.Parts.{greatest, signed, IsWithin, SumFits};
+ghost use Rattle.nf_frac.specs.Order.{same_ℚ};
 
 use crate::whole::{added, compare_quotients, divided, gcd_of, multiplied, product, shortened, with_sign};
 use std::cmp::Ordering;
@@ -50,6 +51,18 @@ impl Lowest {
         ensures small { result ≤ greatest }
     {
         self.den
+    }
+
+    /// A natural number of at most one bit.
+    pub(crate) fn natural(number: u32) -> Lowest
+        requires { number < 2 }
+        ensures value { result ≡ whole (pos number) }
+        ensures small { IsWithin 1 result }
+    {
+        Lowest {
+            num: number as i128,
+            den: 1,
+        }
     }
 
     /// The fraction of this sign, magnitude and denominator, where no part of it is beyond the limit once it is reduced.
@@ -142,6 +155,13 @@ impl Lowest {
             num: with_sign(self.num < 0, self.den),
             den: self.num.unsigned_abs(),
         }
+    }
+
+    /// Whether the two are the same number.
+    pub(crate) fn is_same(self, right: Lowest) -> bool
+        ensures { result ≡ same_ℚ self right }
+    {
+        self.num == right.num && self.den == right.den
     }
 
     /// How the two compare.
