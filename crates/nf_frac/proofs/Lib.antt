@@ -7,3 +7,4 @@ pub mod Products
 pub mod Turned
 pub mod Passing
 pub mod Made
+pub mod Same

@@ -111,4 +111,4 @@ module _ (n d n' d' : ℤ) (a b limit : ℕ) (nn : n' ≡ n) (dd : d' ≡ d) (aa
   made q w = (record { some = some; fits = subst (λ (z : ℚ). IsWithin limit z) ratio_is w.0 }, w.1 ∙ ratio_is)
 
   pub not_made : (IsWithin limit (ratio (signed (differ n' d') a) b) → ⊥) → IsMade limit n d → ⊥
-  not_made no m = no (subst (λ (z : ℚ). IsWithin limit z) (sym ratio_is) m.fits)
+  not_made wide m = wide (subst (λ (z : ℚ). IsWithin limit z) (sym ratio_is) m.fits)
