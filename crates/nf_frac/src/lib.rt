@@ -6,4 +6,28 @@ mod arithmetic;
 mod fraction;
 mod lowest;
 mod order;
+mod scalar;
 mod whole;
+
+pub use fraction::{Frac, Q};
+pub use nf_work::{Halt, Op, Part, Passed, PassedAt};
+pub use scalar::Scalar;
+
+/// The value of an operation that may pass, or a return from the function with the part of the work, the operation and its
+/// operands, turned by `From` into the function's error.
+#[macro_export]
+macro_rules! at {
+    ($part:expr, $operation:expr) => {
+        match $operation {
+            Ok(value) => value,
+            Err(passed) => {
+                return Err(From::from($crate::PassedAt {
+                    part: $part,
+                    op: passed.op,
+                    left: passed.left,
+                    right: passed.right,
+                }));
+            }
+        }
+    };
+}
