@@ -23,18 +23,22 @@ fn gcd_short(a: u64, b: u64) -> u64
     x
 }
 
-// The greatest common divisor of two numbers of any length.
+// The greatest common divisor of two numbers of any length. The steps are short ones as soon as the numbers are.
 fn gcd_long(a: u128, b: u128) -> u128
     ensures { result ≡ gcd a b }
 {
     let mut x = a;
     let mut y = b;
-    while y != 0 {
+    while y > SHORT {
         let rest = x % y;
         x = y;
         y = rest;
     }
-    x
+    if y == 0 {
+        x
+    } else {
+        gcd_short(y as u64, (x % y) as u64) as u128
+    }
 }
 
 /// The greatest common divisor, by Euclid's algorithm.
