@@ -7,6 +7,8 @@ mod fraction;
 mod lowest;
 mod order;
 mod scalar;
+#[cfg(test)]
+mod tests;
 mod whole;
 
 pub use fraction::{Frac, Q};
