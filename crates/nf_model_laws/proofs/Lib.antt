@@ -1,0 +1,16 @@
+pub mod Affine
+pub mod Curves
+pub mod Merged
+pub mod Queues
+pub mod Step
+pub mod OneValue
+pub mod Ways
+pub mod Networks
+pub mod Earliest
+pub mod Exists
+pub mod OneLink
+pub mod Pushed
+pub mod Supply
+pub mod Sums
+pub mod Slacks
+pub mod Potential
