@@ -49,9 +49,6 @@ pub line_rises : (s v t u n y z : ℚ) → t ≤ℚ u → 0ℚ ≤ℚ n → y �
 line_rises s v t u n y z h p e f = linear_le (s ∷ v ∷ t ∷ u ∷ n ∷ y ∷ z ∷ []) (eq e ∷ eq f ∷ le_times p h ∷ []) (search reading_of depth 12) tt
 
 -- ---- affine functions
-pub IsAffine-sub : (f : ℚ → ℚ) (a b c k : ℚ) → IsAffine f a c k → b ≤ℚ c → IsAffine f a b k
-IsAffine-sub f a b c k p h = record { line = λ t i j. p.line t i (≤_trans t b c j h) }
-
 same_line : (a b t k l x y u v z w : ℚ) → a <ℚ b → x ≡ y → u ≡ v → u ≡ x +ℚ k *ℚ (b -ℚ a) → v ≡ y +ℚ l *ℚ (b -ℚ a) → z ≡ x +ℚ k *ℚ (t -ℚ a) → w ≡ y +ℚ l *ℚ (t -ℚ a)
     → (b -ℚ a) *ℚ z ≡ (b -ℚ a) *ℚ w
 same_line a b t k l x y u v z w h e f p q r s =
@@ -86,3 +83,33 @@ pub IsAffine-nn : (f : ℚ → ℚ) (a b k t : ℚ) → IsAffine f a b k → a <
 IsAffine-nn f a b k t p h m n i j =
     le_from_times (b -ℚ a) 0ℚ (f t) (linear_lt (a ∷ b ∷ []) (lt h ∷ []) (search reading_of depth 12) tt)
     (nn_line a b t k (f a) (f b) (f t) h i j m n (p.line b (≤ℚ_of_lt a b h) (≤_refl b)) (p.line t i j))
+
+-- ---- sums, differences and compositions
+plus_line : (x y u v k l t a : ℚ) → x ≡ y +ℚ k *ℚ (t -ℚ a) → u ≡ v +ℚ l *ℚ (t -ℚ a) → x +ℚ u ≡ (y +ℚ v) +ℚ (k +ℚ l) *ℚ (t -ℚ a)
+plus_line x y u v k l t a e f = linear_eq (x ∷ y ∷ u ∷ v ∷ k ∷ l ∷ t ∷ a ∷ []) (eq e ∷ eq f ∷ []) (search reading_of depth 12) tt tt
+
+pub IsAffine-plus : (f g : ℚ → ℚ) (a b k l : ℚ) → IsAffine f a b k → IsAffine g a b l → IsAffine (λ t. f t +ℚ g t) a b (k +ℚ l)
+IsAffine-plus f g a b k l p q = record { line = λ t h i. plus_line _ _ _ _ k l t a (p.line t h i) (q.line t h i) }
+
+less_line : (x y u v k l t a : ℚ) → x ≡ y +ℚ k *ℚ (t -ℚ a) → u ≡ v +ℚ l *ℚ (t -ℚ a) → x -ℚ u ≡ (y -ℚ v) +ℚ (k -ℚ l) *ℚ (t -ℚ a)
+less_line x y u v k l t a e f = linear_eq (x ∷ y ∷ u ∷ v ∷ k ∷ l ∷ t ∷ a ∷ []) (eq e ∷ eq f ∷ []) (search reading_of depth 12) tt tt
+
+pub IsAffine-less : (f g : ℚ → ℚ) (a b k l : ℚ) → IsAffine f a b k → IsAffine g a b l → IsAffine (λ t. f t -ℚ g t) a b (k -ℚ l)
+IsAffine-less f g a b k l p q = record { line = λ t h i. less_line _ _ _ _ k l t a (p.line t h i) (q.line t h i) }
+
+composed_line : (x y z c m k u v t a : ℚ) → x ≡ z +ℚ m *ℚ (u -ℚ c) → y ≡ z +ℚ m *ℚ (v -ℚ c) → u ≡ v +ℚ k *ℚ (t -ℚ a) → x ≡ y +ℚ (m *ℚ k) *ℚ (t -ℚ a)
+composed_line x y z c m k u v t a e f g = linear_eq (x ∷ y ∷ z ∷ c ∷ m ∷ k ∷ u ∷ v ∷ t ∷ a ∷ []) (eq e ∷ eq f ∷ eq_times m g ∷ []) (search reading_of depth 12) tt tt
+
+-- the outer function need be affine only where the inner one leads
+pub IsAffine-composed : (f g : ℚ → ℚ) (a b c d k m : ℚ) → IsAffine g a b k → IsAffine f c d m → a ≤ℚ b → ((t : ℚ) → a ≤ℚ t → t ≤ℚ b → (c ≤ℚ g t) × (g t ≤ℚ d))
+    → IsAffine (λ t. f (g t)) a b (m *ℚ k)
+IsAffine-composed f g a b c d k m p q o w = record {
+  line = λ t h i. composed_line _ _ (f c) c m k _ _ t a (q.line (g t) (w t h i).0 (w t h i).1) (q.line (g a) (w a (≤_refl a) o).0 (w a (≤_refl a) o).1) (p.line t h i);
+}
+
+-- from one time to a later one of the same stretch
+pub IsAffine-part : (f : ℚ → ℚ) (a b c d k : ℚ) → IsAffine f a d k → a ≤ℚ b → b ≤ℚ d → c ≤ℚ d → IsAffine f b c k
+IsAffine-part f a b c d k p h i j = record { line = λ t l n. part_line _ _ (f a) k t a b (p.line t (≤_trans a b t h l) (≤_trans t c d n j)) (p.line b h i) }
+  where
+    part_line : (x y z k t a b : ℚ) → x ≡ z +ℚ k *ℚ (t -ℚ a) → y ≡ z +ℚ k *ℚ (b -ℚ a) → x ≡ y +ℚ k *ℚ (t -ℚ b)
+    part_line x y z k t a b e f = linear_eq (x ∷ y ∷ z ∷ k ∷ t ∷ a ∷ b ∷ []) (eq e ∷ eq f ∷ []) (search reading_of depth 12) tt tt

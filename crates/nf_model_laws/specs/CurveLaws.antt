@@ -1,7 +1,7 @@
 -- Laws of curves and of affine functions.
 use Rattle.std.specs.Prelude.{◌≡◌, List, [], ◌∷◌, ◌++◌}
 use Rattle.nf_rational.specs.Rational.{ℚ}
-use Rattle.nf_rational.specs.Operations.{0ℚ}
+use Rattle.nf_rational.specs.Operations.{0ℚ, ◌+ℚ◌, ◌-ℚ◌, ◌*ℚ◌}
 use Rattle.nf_rational.specs.Order.{◌≤ℚ◌, ◌<ℚ◌}
 use Rattle.nf_model.specs.Curve.{NeverFalls, slope, value, IsCurve}
 use Rattle.nf_model_laws.specs.Affine.{IsAffine}
@@ -38,6 +38,15 @@ pub record EndsDecideAffine : Type 0 where
       → a ≤ℚ time → time ≤ℚ b → f time ≡ g time
   pub not_negative : (f : ℚ → ℚ) (a b k time : ℚ) → IsAffine f a b k → a <ℚ b → 0ℚ ≤ℚ f a → 0ℚ ≤ℚ f b
       → a ≤ℚ time → time ≤ℚ b → 0ℚ ≤ℚ f time
+
+-- sums, differences and compositions of affine functions are affine, and so is a part of one; the outer function of a
+-- composition need be affine only where the inner one leads
+pub record AffineFunctionsCombine : Type 0 where
+  pub sum : (f g : ℚ → ℚ) (a b k l : ℚ) → IsAffine f a b k → IsAffine g a b l → IsAffine (λ t. f t +ℚ g t) a b (k +ℚ l)
+  pub difference : (f g : ℚ → ℚ) (a b k l : ℚ) → IsAffine f a b k → IsAffine g a b l → IsAffine (λ t. f t -ℚ g t) a b (k -ℚ l)
+  pub composed : (f g : ℚ → ℚ) (a b c d k m : ℚ) → IsAffine g a b k → IsAffine f c d m → a ≤ℚ b → ((t : ℚ) → a ≤ℚ t → t ≤ℚ b → (c ≤ℚ g t) × (g t ≤ℚ d))
+      → IsAffine (λ t. f (g t)) a b (m *ℚ k)
+  pub part : (f : ℚ → ℚ) (a b c d k : ℚ) → IsAffine f a d k → a ≤ℚ b → b ≤ℚ d → c ≤ℚ d → IsAffine f b c k
 
 -- a curve whose values never fall from point to point never falls
 abbrev pub RisingPointsRise : Type 0

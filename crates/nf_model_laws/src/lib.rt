@@ -1,7 +1,7 @@
 //! Laws of the model: theorems between its definitions, each the contract of a public function with an empty body.
 #![tactic(auto)]
 
-ghost use Rattle.nf_model_laws.specs.CurveLaws.{CurveGoesByPoints, AppendedPointGoesOn, EqualSlopesMerge, EndsDecideAffine, RisingPointsRise};
+ghost use Rattle.nf_model_laws.specs.CurveLaws.{CurveGoesByPoints, AppendedPointGoesOn, EqualSlopesMerge, EndsDecideAffine, AffineFunctionsCombine, RisingPointsRise};
 ghost use Rattle.nf_model_laws.specs.QueueLaws.{LinkHasOneValue, QueueIsNotNegative, OutflowIsInflowLessQueue, ExitNeverFalls, QueueGoesOn, LinkHasValues};
 ghost use Rattle.nf_model_laws.specs.ExitLaws.{FirstInFirstOut};
 ghost use Rattle.nf_model_laws.specs.EarliestLaws.{ExtremesAreUnique, LabelsAreEarliest, LeastTransitByLinks};
@@ -28,6 +28,11 @@ pub fn equal_slopes_merge()
 /// not negative between.
 pub fn ends_decide_affine()
     ensures { EndsDecideAffine }
+{}
+
+/// Sums, differences and compositions of affine functions are affine, and so is a part of one.
+pub fn affine_functions_combine()
+    ensures { AffineFunctionsCombine }
 {}
 
 /// A curve whose values never fall from point to point never falls.
