@@ -8,11 +8,14 @@ use Rattle.nf_model.specs.Walk.{Hop, IsHop}
 use Rattle.nf_model.specs.Network.{Link, Network, IsNetwork, IsLink, hop_of, hops}
 use Rattle.nf_model.specs.Queue.{IsExit}
 use Rattle.nf_model.specs.Earliest.{Arrives, IsEarliest}
+use Rattle.nf_model.specs.Equilibrium.{Flow, HasShape, inflow, label}
 use Rattle.nf_model_laws.specs.Capacity.{IsPositive}
 use Rattle.nf_model_laws.specs.EarliestLaws.{AreLabels, InflowsRise}
 use Rattle.nf_model_laws.proofs.Queues.{IsExit-after, IsExit-monotone}
+use Rattle.nf_model_laws.proofs.Affine.{≤_trans}
+use Rattle.nf_model_laws.proofs.Exists.{HasExit-curve}
 use Rattle.nf_model_laws.proofs.Networks.{IsLink-unique, hop_at, by_link}
-use Rattle.nf_model_laws.proofs.EarliestWalks.{AreLabelsBy, CanCross, AreHops, Comes, IsFirst, IsFirst-label, AreLabelsBy-first}
+use Rattle.nf_model_laws.proofs.EarliestWalks.{AreLabelsBy, CanCross, AreHops, Comes, IsFirst, IsFirst-label, IsFirst-forward, AreLabelsBy-first}
 
 pub IsPositive-link : (net : Network) (e : ℕ) (link : Link) → IsNetwork net → IsLink net e link → IsPositive link.capacity
 IsPositive-link net e link good p = λ rate some. good.capacities e link rate p some
@@ -105,3 +108,21 @@ module _ (net : Network) (amount : ℕ → ℚ → ℚ) (departure : ℚ) (label
       (λ e hop p _. by_link net (λ (h : Hop). (exit : ℚ) × Leaves net amount e (label h.tail) exit) e
       (λ link q. let x : (exit : ℚ) × IsExit link.transit link.capacity (amount e) (label link.tail) exit = exits e link q in (x.0, (link, q, x.1))) hop p)
       (λ v h. IsFirst-earliest net amount v departure (label v) (earliest v h)))
+
+-- ---- no one arrives before departing
+pub IsEarliest-forward : (net : Network) (amount : ℕ → ℚ → ℚ) (v : ℕ) (departure arrival : ℚ) → IsNetwork net → InflowsRise net amount → IsEarliest net amount v departure arrival
+    → departure ≤ℚ arrival
+IsEarliest-forward net amount v departure arrival good rises earliest =
+    IsFirst-forward (hops net) net.nodes (Leaves net amount) (AreHops-net net good) (CanCross-leaves net amount good rises) net.source v departure arrival
+    (IsFirst-earliest net amount v departure arrival earliest)
+
+-- ---- the labels of a report: its inflows are curves, so that each link has an exit at each time from 0 on
+module _ (net : Network) (flow : Flow) (departure : ℚ) (good : IsNetwork net) (shape : HasShape net flow) (rises : InflowsRise net (inflow flow)) where
+  exit_at : (e : ℕ) (link : Link) (time : ℚ) → IsLink net e link → 0ℚ ≤ℚ time → (exit : ℚ) × IsExit link.transit link.capacity (inflow flow e) time exit
+  exit_at e link time p h = HasExit-curve link.transit link.capacity _ time (shape.inflows.each e (slice_get_within net.links e link p)) h
+
+  pub AreLabels-report : 0ℚ ≤ℚ departure → ((v : ℕ) → v < net.nodes → IsEarliest net (inflow flow) v departure (label flow v departure))
+      → AreLabels net (inflow flow) departure (λ v. label flow v departure)
+  AreLabels-report h earliest = AreLabels-earliest net (inflow flow) departure (λ v. label flow v departure) good rises
+      (λ e link p. exit_at e link (label flow link.tail departure) p
+      (≤_trans _ _ _ h (IsEarliest-forward net (inflow flow) link.tail departure (label flow link.tail departure) good rises (earliest link.tail (good.tails e link p))))) earliest

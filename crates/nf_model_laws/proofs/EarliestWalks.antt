@@ -71,15 +71,19 @@ no_loop a l h k = linear_false (a ∷ l ∷ []) (le h ∷ lt k ∷ []) (search r
 goes_on : (t r x : ℚ) → 0ℚ ≤ℚ r → t +ℚ r ≤ℚ x → t ≤ℚ x
 goes_on t r x h k = linear_le (t ∷ r ∷ x ∷ []) (le h ∷ le k ∷ []) (search reading_of depth 12) tt
 
+-- walks go forward in time
+module _ (hops : List Hop) (nodes : ℕ) (Cross : ℕ → ℚ → ℚ → Type 0) (good : AreHops hops nodes) (can : CanCross hops Cross) where
+  pub goes_forward : (e : ℕ) (hop : Hop) (t x : ℚ) → IsHop hops e hop → Cross e t x → t ≤ℚ x
+  goes_forward e hop t x p c = goes_on t hop.transit x (good.transits e hop p) (can.takes e hop t x p c)
+
+  pub walks_forward : (walk : List ℕ) (u v : ℕ) (t a : ℚ) → IsWalk hops walk u v → Comes Cross walk t a → t ≤ℚ a
+  walks_forward [] u v t a w c = ≤ℚ_of_same _ _ c
+  walks_forward (e ∷ walk) u v t a w c = ≤_trans _ _ _ (goes_forward e w.0 t c.0 w.1 c.1) (walks_forward walk w.0.head v c.0 a w.3 c.2)
+
+  pub IsFirst-forward : (source v : ℕ) (departure arrival : ℚ) → IsFirst hops source Cross v departure arrival → departure ≤ℚ arrival
+  IsFirst-forward source v departure arrival f = walks_forward f.taken.0 source v departure arrival f.taken.1 f.taken.2
+
 module _ (hops : List Hop) (nodes source : ℕ) (Cross : ℕ → ℚ → ℚ → Type 0) (departure : ℚ) (label : ℕ → ℚ) (good : AreHops hops nodes) (can : CanCross hops Cross) where
-  -- walks go forward in time
-  forward : (e : ℕ) (hop : Hop) (t x : ℚ) → IsHop hops e hop → Cross e t x → t ≤ℚ x
-  forward e hop t x p c = goes_on t hop.transit x (good.transits e hop p) (can.takes e hop t x p c)
-
-  all_forward : (walk : List ℕ) (u v : ℕ) (t a : ℚ) → IsWalk hops walk u v → Comes Cross walk t a → t ≤ℚ a
-  all_forward [] u v t a w c = ≤ℚ_of_same _ _ c
-  all_forward (e ∷ walk) u v t a w c = ≤_trans _ _ _ (forward e w.0 t c.0 w.1 c.1) (all_forward walk w.0.head v c.0 a w.3 c.2)
-
   -- ---- labels that are right hop by hop are least
   module _ (labels : AreLabelsBy hops nodes source Cross departure label) where
     -- walks along which each exit is the next label
@@ -132,13 +136,13 @@ module _ (hops : List Hop) (nodes source : ℕ) (Cross : ℕ → ℚ → ℚ →
         subst (λ (u : ℕ). Way u v) r.1 r.2
 
     not_before : (v : ℕ) → v < nodes → label source ≤ℚ label v
-    not_before v h = let w : Way source v = tight_way v h in all_forward w.0 source v (label source) (label v) (IsTight-walk w.0 source v w.1) (IsTight-comes w.0 source v w.1)
+    not_before v h = let w : Way source v = tight_way v h in walks_forward hops nodes Cross good can w.0 source v (label source) (label v) (IsTight-walk w.0 source v w.1) (IsTight-comes w.0 source v w.1)
 
     -- who enters a hop no earlier than its tail's label leaves it no earlier than its head's
     one_hop : (e : ℕ) (hop : Hop) (a x : ℚ) → IsHop hops e hop → label hop.tail ≤ℚ a → Cross e a x → label hop.head ≤ℚ x
     one_hop e hop a x p h c = ⊎_elim
         (λ (q : (eqb hop.head source ≡ true) × (hop.head ≡ source)). subst (λ (k : ℕ). label k ≤ℚ x) (sym q.1)
-        (≤_trans _ _ _ (not_before hop.tail (good.tails e hop p)) (≤_trans _ _ _ h (forward e hop a x p c))))
+        (≤_trans _ _ _ (not_before hop.tail (good.tails e hop p)) (≤_trans _ _ _ h (goes_forward hops nodes Cross good can e hop a x p c))))
         (λ (q : (eqb hop.head source ≡ false) × (hop.head ≢ source)).
         let o : (exit : ℚ) × Cross e (label hop.tail) exit × (label hop.head ≤ℚ exit) = labels.not_before e hop p q.1 in
         ≤_trans _ _ _ o.2 (can.keeps e hop (label hop.tail) a o.0 x p h o.1 c))
@@ -161,7 +165,7 @@ module _ (hops : List Hop) (nodes source : ℕ) (Cross : ℕ → ℚ → ℚ →
     first_starts : label source ≡ departure
     first_starts =
         let f : IsFirst hops source Cross source departure (label source) = first source inside in
-        ≤ℚ_antisymm _ _ (f.least [] departure refl refl) (all_forward f.taken.0 source source departure (label source) f.taken.1 f.taken.2)
+        ≤ℚ_antisymm _ _ (f.least [] departure refl refl) (IsFirst-forward hops nodes Cross good can source source departure (label source) f)
 
     -- one may go on along a hop from the least label of its tail
     over_hop : (e : ℕ) (hop : Hop) (exit : ℚ) → IsHop hops e hop → Cross e (label hop.tail) exit → label hop.head ≤ℚ exit

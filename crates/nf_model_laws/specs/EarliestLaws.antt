@@ -8,6 +8,7 @@ use Rattle.nf_model.specs.Walk.{Hop, IsLeastTransit}
 use Rattle.nf_model.specs.Network.{Link, Network, IsLink, IsNetwork, hops}
 use Rattle.nf_model.specs.Queue.{IsExit}
 use Rattle.nf_model.specs.Earliest.{IsEarliest}
+use Rattle.nf_model.specs.Equilibrium.{Flow, HasShape, inflow, label}
 use Rattle.nf_model.specs.Phases.{IsExtension, IsPhaseLength}
 
 -- there is at most one least transit sum, earliest arrival, extension length and phase length
@@ -40,6 +41,13 @@ pub record LabelsAreEarliest : Type 0 where
   pub from : (net : Network) (amount : ℕ → ℚ → ℚ) (departure : ℚ) (label : ℕ → ℚ) → IsNetwork net → InflowsRise net amount
       → ((e : ℕ) (link : Link) → IsLink net e link → (exit : ℚ) × IsExit link.transit link.capacity (amount e) (label link.tail) exit)
       → ((v : ℕ) → v < net.nodes → IsEarliest net amount v departure (label v)) → AreLabels net amount departure label
+
+-- of a report, whose inflows are curves, for each departure from 0 on: the labels are such labels exactly where they are the
+-- earliest arrivals
+abbrev pub ReportLabelsAreEarliest : Type 0
+ReportLabelsAreEarliest = (net : Network) (flow : Flow) (departure : ℚ) → IsNetwork net → HasShape net flow → InflowsRise net (inflow flow) → 0ℚ ≤ℚ departure
+    → AreLabels net (inflow flow) departure (λ v. label flow v departure)
+    ↔ ((v : ℕ) → v < net.nodes → IsEarliest net (inflow flow) v departure (label flow v departure))
 
 -- ---- the same for least transit sums
 

@@ -4,7 +4,7 @@
 ghost use Rattle.nf_model_laws.specs.CurveLaws.{CurveGoesByPoints, AppendedPointGoesOn, EqualSlopesMerge, EndsDecideAffine, AffineFunctionsCombine, RisingPointsRise};
 ghost use Rattle.nf_model_laws.specs.QueueLaws.{LinkHasOneValue, QueueIsNotNegative, OutflowIsInflowLessQueue, ExitNeverFalls, QueueGoesOn, LinkHasValues};
 ghost use Rattle.nf_model_laws.specs.ExitLaws.{FirstInFirstOut};
-ghost use Rattle.nf_model_laws.specs.EarliestLaws.{ExtremesAreUnique, LabelsAreEarliest, LeastTransitByLinks};
+ghost use Rattle.nf_model_laws.specs.EarliestLaws.{ExtremesAreUnique, LabelsAreEarliest, ReportLabelsAreEarliest, LeastTransitByLinks};
 ghost use Rattle.nf_model_laws.specs.SupplyLaws.{SupplyGoesOn};
 ghost use Rattle.nf_model_laws.specs.SlackLaws.{SlacksMakeSets};
 ghost use Rattle.nf_model_laws.specs.MemberLaws.{OneLinkEquilibrium, FullLinkEquilibrium, TightLinkEquilibrium, HasMember};
@@ -79,6 +79,12 @@ pub fn extremes_are_unique()
 /// and the earliest arrivals are such labels.
 pub fn labels_are_earliest()
     ensures { LabelsAreEarliest }
+{}
+
+/// The labels of a report, for any departure from 0 on, are the earliest arrivals exactly where no link undercuts them and one
+/// attains them at each node but the source.
+pub fn report_labels_are_earliest()
+    ensures { ReportLabelsAreEarliest }
 {}
 
 /// Labels that no link is shorter than, and that a link fits just at each node but the source, are the least transit sums over
