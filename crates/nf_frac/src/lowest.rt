@@ -83,8 +83,8 @@ impl Lowest {
         })
     }
 
-    // The numerator over the denominator, whose only common factors are those of `common`.
-    fn over(num: i128, den: u128, common: u128) -> Lowest
+    /// The numerator over the denominator, whose only common factors are those of `common`.
+    pub(crate) fn over(num: i128, den: u128, common: u128) -> Lowest
         requires positive { 0 < den }
         requires some { 0 < common }
         requires bounded { common ≤ greatest }
