@@ -5,7 +5,7 @@ ghost use Rattle.nf_work.specs.Passing.{bound_of, beyond};
 ghost use Rattle.nf_work.specs.Checked.{at_part, seen, Gives};
 ghost use Rattle.nf_frac.specs.Samples.{product_less};
 
-use crate::{Frac, Halt, Op, Part, Passed, PassedAt, Q, Scalar};
+use crate::{Frac, Halt, NumberFault, Op, Part, Passed, PassedAt, Q, Scalar, TextBuf};
 use std::cmp::Ordering;
 use std::hash::{DefaultHasher, Hash, Hasher};
 use std::process::Abort;
@@ -93,7 +93,9 @@ fn make_row(op: Op, left: (i128, i128), right: (i128, i128), answer: Option<(i12
 }
 
 #[test]
-fn short_fractions_pass_where_a_part_would_be_beyond_the_bound(rt: HostRuntime) -> Result<(), Fail> {
+fn short_fractions_pass_where_a_part_would_be_beyond_the_bound(
+    rt: HostRuntime,
+) -> Result<(), Fail> {
     let rows = [
         // 181 · 191 = 34571
         make_row(Op::Sum, (1, 181), (1, 191), None),
@@ -153,10 +155,7 @@ fn wide_fractions_pass_where_a_part_would_be_beyond_the_bound(rt: HostRuntime) -
             Op::Sum,
             (1, 9223372036854775807),
             (1, 9223372036854775808),
-            Some((
-                18446744073709551615,
-                85070591730234615856620279821087277056,
-            )),
+            Some((18446744073709551615, 85070591730234615856620279821087277056)),
         ),
     ];
     check_rows::<127>(&rt, &rows)
@@ -179,16 +178,30 @@ fn made_exactly_where_the_reduced_parts_fit(rt: HostRuntime) {
         ((-GREATEST, GREATEST - 1), Some((-GREATEST, GREATEST - 1))),
         ((i128::MIN, 1), None),
         ((1, i128::MIN), None),
-        ((i128::MIN, 2), Some((-85070591730234615865843651857942052864, 1))),
-        ((i128::MIN, -2), Some((85070591730234615865843651857942052864, 1))),
-        ((2, i128::MIN), Some((-1, 85070591730234615865843651857942052864))),
+        (
+            (i128::MIN, 2),
+            Some((-85070591730234615865843651857942052864, 1)),
+        ),
+        (
+            (i128::MIN, -2),
+            Some((85070591730234615865843651857942052864, 1)),
+        ),
+        (
+            (2, i128::MIN),
+            Some((-1, 85070591730234615865843651857942052864)),
+        ),
         ((i128::MIN, i128::MIN), Some((1, 1))),
     ];
     for ((num, den), want) in wide {
         assert_eq!(rt; parts::<127>(num, den), want, "{num} over {den}");
     }
     // at 8 bits and fewer the greatest part is 255
-    for (num, want) in [(255, Some((255, 1))), (-255, Some((-255, 1))), (256, None), (-256, None)] {
+    for (num, want) in [
+        (255, Some((255, 1))),
+        (-255, Some((-255, 1))),
+        (256, None),
+        (-256, None),
+    ] {
         assert_eq!(rt; parts::<8>(num, 1), want, "{num}");
         assert_eq!(rt; parts::<3>(num, 1), want, "{num}");
     }
@@ -211,9 +224,21 @@ fn compared_without_a_wide_product(rt: HostRuntime) -> Result<(), Fail> {
         127127879743834334146972278486287885163,
     ];
     let rows = [
-        ((fibonacci[2], fibonacci[1]), (fibonacci[1], fibonacci[0]), Ordering::Less),
-        ((-fibonacci[2], fibonacci[1]), (-fibonacci[1], fibonacci[0]), Ordering::Greater),
-        ((GREATEST, GREATEST - 1), (GREATEST - 1, GREATEST - 2), Ordering::Less),
+        (
+            (fibonacci[2], fibonacci[1]),
+            (fibonacci[1], fibonacci[0]),
+            Ordering::Less,
+        ),
+        (
+            (-fibonacci[2], fibonacci[1]),
+            (-fibonacci[1], fibonacci[0]),
+            Ordering::Greater,
+        ),
+        (
+            (GREATEST, GREATEST - 1),
+            (GREATEST - 1, GREATEST - 2),
+            Ordering::Less,
+        ),
         ((1, GREATEST), (1, GREATEST - 1), Ordering::Less),
         ((1, 2), (2, 4), Ordering::Equal),
         ((-1, 2), (1, 3), Ordering::Less),
@@ -239,7 +264,11 @@ fn hash_of<S: Scalar>(value: S) -> u64 {
 
 #[test]
 fn equal_values_hash_equally(rt: HostRuntime) -> Result<(), Fail> {
-    let rows = [((2, 4), (-3, -6)), ((0, 5), (0, -1)), ((GREATEST, -1), (-GREATEST, 1))];
+    let rows = [
+        ((2, 4), (-3, -6)),
+        ((0, 5), (0, -1)),
+        ((GREATEST, -1), (-GREATEST, 1)),
+    ];
     for (left, right) in rows {
         let left: Q = made(left)?;
         assert_eq!(rt; hash_of(left), hash_of(made::<127>(right)?));
@@ -274,6 +303,74 @@ fn scalars_and_the_first_operation_that_passes(rt: HostRuntime) -> Result<(), Fa
         left: greatest,
         right: made((-1, 1))?,
     };
-    assert_eq!(rt; product_less_or_halt(greatest, Q::one(), made((-1, 1))?), Err(Halt::Passed(second)));
+    assert_eq!(rt;
+        product_less_or_halt(greatest, Q::one(), made((-1, 1))?),
+        Err(Halt::Passed(second))
+    );
+    Ok(())
+}
+
+// The printed form of what a word is read as.
+fn reprinted(word: &[u8]) -> Result<TextBuf, NumberFault> {
+    let mut buf = TextBuf::new();
+    Q::read(word)?.write(&mut buf);
+    Ok(buf)
+}
+
+// The same of a word that may be a decimal.
+fn reprinted_decimal(word: &[u8]) -> Result<TextBuf, NumberFault> {
+    let mut buf = TextBuf::new();
+    Q::read_decimal(word)?.write(&mut buf);
+    Ok(buf)
+}
+
+#[test]
+fn words_are_read_and_written(rt: HostRuntime) -> Result<(), Fail> {
+    let readings: [(&[u8], &[u8]); 6] = [
+        (b"2/4", b"1/2"),
+        (b"-0/5", b"0"),
+        (b"-006/04", b"-3/2"),
+        (b"7/1", b"7"),
+        (
+            b"170141183460469231731687303715884105727",
+            b"170141183460469231731687303715884105727",
+        ),
+        (
+            b"-1/170141183460469231731687303715884105727",
+            b"-1/170141183460469231731687303715884105727",
+        ),
+    ];
+    for (word, want) in readings {
+        let buf = reprinted(word).ok().ok_or("not read")?;
+        assert!(rt; buf.text() == want);
+    }
+    let faults: [(&[u8], NumberFault); 7] = [
+        (b"", NumberFault::Empty),
+        (b"1/", NumberFault::Empty),
+        (b"+1", NumberFault::BadDigit),
+        (b"1.5", NumberFault::BadDigit),
+        (b"1/0", NumberFault::ZeroDenominator),
+        (
+            b"170141183460469231731687303715884105728",
+            NumberFault::TooWide,
+        ),
+        (
+            b"1/170141183460469231731687303715884105728",
+            NumberFault::TooWide,
+        ),
+    ];
+    for (word, want) in faults {
+        assert_eq!(rt; Q::read(word), Err(want));
+    }
+    let decimals: [(&[u8], &[u8]); 3] = [(b"0.5", b"1/2"), (b"-1.50", b"-3/2"), (b"2/4", b"1/2")];
+    for (word, want) in decimals {
+        let buf = reprinted_decimal(word).ok().ok_or("not read")?;
+        assert!(rt; buf.text() == want);
+    }
+    assert_eq!(rt; Frac::<15>::read(b"32768/2"), Err(NumberFault::TooWide));
+    assert_eq!(rt;
+        Frac::<15>::read_decimal(b"1.00000"),
+        Err(NumberFault::TooWide)
+    );
     Ok(())
 }
