@@ -8,3 +8,4 @@ pub mod Turned
 pub mod Passing
 pub mod Made
 pub mod Same
+pub mod Written

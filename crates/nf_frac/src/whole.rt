@@ -97,7 +97,11 @@ pub(crate) fn product(a: u128, b: u128, limit: u128) -> Option<u128>
 {
     if a <= SHORT && b <= SHORT {
         let product = a * b;
-        if product <= limit { Some(product) } else { None }
+        if product <= limit {
+            Some(product)
+        } else {
+            None
+        }
     } else {
         match a.checked_mul(b) {
             Some(product) if product <= limit => Some(product),
@@ -113,7 +117,11 @@ pub(crate) fn multiplied(a: i128, b: i128, limit: u128) -> Option<i128>
 {
     if a.unsigned_abs() <= SHORT && b.unsigned_abs() <= SHORT {
         let product = a * b;
-        if product.unsigned_abs() <= limit { Some(product) } else { None }
+        if product.unsigned_abs() <= limit {
+            Some(product)
+        } else {
+            None
+        }
     } else {
         match a.checked_mul(b) {
             Some(product) if product.unsigned_abs() <= limit => Some(product),
