@@ -3,6 +3,8 @@ use Rattle.std.specs.Prelude.{◌≡◌, ℕ, ◌+◌, ◌-◌, ◌<◌, ◌≤�
 use Rattle.std.proofs.Common.{arith, suc, ◌∙◌, sym, ap, cond, get_or, length-take, length-drop, take-take, take_all, append_assoc, append-nil}
 use Rattle.std.specs.List.{slice_split, position_or_len, before_first, after_first}
 use Rattle.std.proofs.lemmas.List.{drop-drop, drop-take, drop_all, map-append}
+use Rattle.std.proofs.lemmas.List.Elements.{All-from_recursion}
+use Rattle.std.specs.List.{AllByRecursion as ByRecursion}
 use Rattle.std.proofs.lemmas.Bool.{ne_eqb}
 use Rattle.std.proofs.lemmas.List.Splits.{slice_split_first, slice_split_none}
 use Rattle.std.proofs.lemmas.List.Sums.{fails_before_first}
@@ -139,3 +141,11 @@ Rise_skip first at end len spans r = Rise_higher first (min at end) (min (at + (
 
 pub Rise_end : (first at end : ℕ) (spans : List Span) → Rise first (min at end) spans → Rise first end spans
 Rise_end first at end spans r = Rise_higher first (min at end) end spans (omega arith) r
+
+-- each place is in the text
+pub Rise_within : (first last n : ℕ) (spans : List Span) → last ≤ n → Rise first last spans → All (λ s. s.start + s.len ≤ n) spans
+Rise_within first last n spans h r = All-from_recursion (λ s. s.start + s.len ≤ n) spans (each first spans r)
+  where
+    each : (first : ℕ) (spans : List Span) → Rise first last spans → ByRecursion (λ s. s.start + s.len ≤ n) spans
+    each first [] r = tt
+    each first (s ∷ spans) r = (omega (arith, r.2, h), each (s.start + s.len) spans r.3)

@@ -1,16 +1,20 @@
 //! The lines and words of a text file, with their places. The formats stand on it; it is this project's own.
 #![tactic(auto)]
 
-ghost use Rattle.std.specs.Prelude.{◌≡◌, ◌+◌, ◌*◌, ◌^◌, ◌<◌, ◌≤◌, length, map, All, IfOk, IfErr, OnOk};
+ghost use Rattle.std.specs.Prelude.{◌≡◌, ◌+◌, ◌≤◌, length, map, None, IfOk, IfErr, OnOk};
 ghost use Rattle.nf_lines.specs.Words.{read_lines};
 ghost use Rattle.nf_lines.specs.Faults.{first_fault};
-ghost use Rattle.nf_text.specs.Spans.{text_of};
+ghost use Rattle.nf_text.specs.Reading.{seen_line, spans_of, Tells};
+ghost use Rattle.nf_text.specs.Spans.{text_of, Rise};
 ghost use Rattle.nf_text.specs.declared.TextFault.TheVariants as TextFault;
 
 
+
 mod places;
+mod reading;
 mod words;
 
+use reading::read_line;
 use std::alloc::{AllocError, AllocFailed, Global};
 use thiserror::Error;
 
@@ -68,4 +72,26 @@ impl<T: Drop> From<AllocFailed<T>> for TextFault {
     fn from(_: AllocFailed<T>) -> Self {
         TextFault::Memory
     }
+}
+
+/// The lines of a text of at most 67,108,864 bytes, each with its words; or the fault of the first line that has one.
+pub fn lines(alloc: Global, text: &[u8]) -> Result<Vec<Line>, TextFault>
+    requires { length text.now ≤ 67108864 }
+
+    // Each word's text is the slice of its span.
+    ensures lines { IfOk result (λ read. map (seen_line text.now) read.items ≡ read_lines text.now) }
+    ensures rise { IfOk result (λ read. Rise 0 (length text.now) (spans_of read.items)) }
+
+    ensures none { OnOk result (first_fault text.now ≡ None) }
+    ensures fault { IfErr result (λ fault. Tells fault (first_fault text.now)) }
+{
+    let mut lines = Vec::new(alloc);
+    let mut start = 0;
+    while start < text.len() {
+        let number = lines.len() as u32 + 1;
+        let (line, next) = read_line(alloc, text, start, number)?;
+        lines.push(line)?;
+        start = next;
+    }
+    Ok(lines)
 }
