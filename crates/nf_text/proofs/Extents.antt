@@ -31,6 +31,7 @@ lines_of_parts-last n (b ∷ last) h = at (length (b ∷ last) == 0) (ne_eqb (su
   where
     line : TextLine
     line = record { number = n; bytes = b ∷ last; ending = [] }
+
     at : (t : Bool) → t ≡ false → cond t [] (line ∷ []) ≡ line ∷ []
     at t e = ap (λ t. cond t [] (line ∷ [])) e
 
@@ -95,7 +96,7 @@ cr_is_last text zero h e = absurd (true≢false (sym e))
 cr_is_last text (suc k) h e =
     let place : k ≡ length (take (suc k) text) - 1 = omega (arith, length-front text (suc k) h) in
     let cr : get_or text k 0 ≡ 13 = sym (get_or-take (suc k) text k 0 (omega arith)) ∙ ap (λ i. get_or (take (suc k) text) i 0) place
-        ∙ eqb-true (get_or (take (suc k) text) (length (take (suc k) text) - 1) 0) 13 e in
+    ∙ eqb-true (get_or (take (suc k) text) (length (take (suc k) text) - 1) 0) 13 e in
     let before : suc k - 1 ≡ k = omega arith in
     ap (λ i. take i text ++ 13 ∷ []) before ∙ ap (λ b. take k text ++ b ∷ []) (sym cr) ∙ sym (take_more text k 0 (omega (arith, h))) ∙ ap (λ i. take i text) (add-one k)
 

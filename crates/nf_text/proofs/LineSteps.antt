@@ -1,8 +1,10 @@
 -- The steps of the loop over the lines.
-use Rattle.std.specs.Prelude.{◌≡◌, ℕ, ◌+◌, ◌<◌, ◌≤◌, List, [], ◌∷◌, ◌++◌, length, drop, map, Option, None, Some, refl}
+use Rattle.std.specs.Prelude.{◌≡◌, ℕ, ◌+◌, ◌<◌, ◌≤◌, List, [], ◌∷◌, ◌++◌, length, drop, map, All, Option, None, Some, refl}
 use Rattle.std.proofs.Common.{arith, ◌∙◌, sym, ap, length-drop, append_assoc, append-nil}
 use Rattle.std.specs.Option.{option_or}
 use Rattle.std.proofs.lemmas.List.{map-append, drop-drop}
+use Rattle.std.proofs.lemmas.List.Elements.{All-from_recursion}
+use Rattle.std.specs.List.{AllByRecursion as ByRecursion}
 use Rattle.std.proofs.lemmas.Grind.{flat_map-append}
 use Rattle.nf_lines.specs.Lines.{TextLine, lines_from}
 use Rattle.nf_lines.specs.Words.{ReadLine, read_line}
@@ -11,9 +13,9 @@ use Rattle.nf_text.specs.declared.Line.{Line}
 use Rattle.nf_text.specs.declared.TextFault.{TextFault}
 use Rattle.nf_text.specs.declared.TextFault.TheVariants as TextFault
 use Rattle.nf_text.specs.Spans.{Rise}
-use Rattle.nf_text.specs.Reading.{seen_line, spans_of, Tells, whole_len, first_line}
+use Rattle.nf_text.specs.Reading.{seen_line, spans_of, WordsAreIn, Tells, whole_len, first_line}
 use Rattle.nf_text.proofs.Extents.{lines_from-first}
-use Rattle.nf_text.proofs.Parts.{Rise-append}
+use Rattle.nf_text.proofs.Parts.{Rise-append, Rise_within, Rise_front, Rise_back}
 
 -- the lines from a place on: the one there, and those from the next place on
 lines_left : (text : List ℕ) (n start next : ℕ) → start < length text → next ≡ start + whole_len (drop start text)
@@ -60,11 +62,20 @@ pub stops_at_fault : (text : List ℕ) (first : Option LineFault) (fault : TextF
 stops_at_fault text first fault before n start h b t f =
     let next : ℕ = start + whole_len (drop start text) in
     let left : first ≡ option_or (line_fault (first_line n (drop start text))) (first_fault_of (lines_from (n + 1) (drop next text))) =
-        f ∙ ap (λ n. first_fault_of (lines_from n (drop start text))) b ∙ ap first_fault_of (lines_left text n start next h refl) in
+    f ∙ ap (λ n. first_fault_of (lines_from n (drop start text))) b ∙ ap first_fault_of (lines_left text n start next h refl) in
     tells_same fault (option_or (line_fault (first_line n (drop start text))) (first_fault_of (lines_from (n + 1) (drop next text)))) first left
-        (tells_or fault (line_fault (first_line n (drop start text))) (first_fault_of (lines_from (n + 1) (drop next text))) t)
+    (tells_or fault (line_fault (first_line n (drop start text))) (first_fault_of (lines_from (n + 1) (drop next text))) t)
 
 pub step_rise : (lines : List Line) (line : Line) (start next : ℕ) → start ≤ next → Rise 0 start (spans_of lines) → Rise start next line.words.items → Rise 0 next (spans_of (lines ++ line ∷ []))
 step_rise lines line start next h r t =
     let both : spans_of (lines ++ line ∷ []) ≡ spans_of lines ++ line.words.items = flat_map-append (λ line. line.words.items) lines (line ∷ []) ∙ ap (λ t. spans_of lines ++ t) (append-nil line.words.items) in
     rw both (Rise-append 0 start next (spans_of lines) line.words.items (omega arith) h r t)
+
+-- each word of each line is in the text
+pub words_are_in : (text : List ℕ) (last : ℕ) (lines : List Line) → last ≤ length text → Rise 0 last (spans_of lines) → All (WordsAreIn text) lines
+words_are_in text last lines h r = All-from_recursion (WordsAreIn text) lines (each 0 lines r)
+  where
+    each : (first : ℕ) (lines : List Line) → Rise first last (spans_of lines) → ByRecursion (WordsAreIn text) lines
+    each first [] r = tt
+    each first (line ∷ lines) r = let back : (middle : ℕ) × Rise middle last (spans_of lines) = Rise_back first last line.words.items (spans_of lines) r in
+        (Rise_within first last (length text) line.words.items h (Rise_front first last line.words.items (spans_of lines) r), each back.0 lines back.1)

@@ -92,7 +92,7 @@ pub words_skip : (total : List (List ℕ)) (text : List ℕ) (spans : List Span)
 words_skip total text spans at end len e zero_len h =
     let short : length (take len (drop at text)) ≡ 0 = omega (arith, length-take len (drop at text), zero_len) in
     h ∙ ap (λ t. map (text_of text) spans ++ t) (words_between-first text at end len e
-        ∙ ap (λ t. t ++ words_between text (at + (len + 1)) end) (no_part_is_no_word (take len (drop at text)) short))
+    ∙ ap (λ t. t ++ words_between text (at + (len + 1)) end) (no_part_is_no_word (take len (drop at text)) short))
 
 pub words_push : (total : List (List ℕ)) (text : List ℕ) (spans : List Span) (at end len : ℕ) → len ≡ position_or_len is_blank (between text at end) → 0 < len → end ≤ length text
     → total ≡ map (text_of text) spans ++ words_between text at end
@@ -102,7 +102,7 @@ words_push total text spans at end len e some within h =
     let fits : len ≤ end - at = omega (arith, e, position_or_len_within is_blank (between text at end), length-between text at end) in
     let long : 0 < length (take len (drop at text)) = omega (arith, length-take len (drop at text), length-drop at text, some, fits, within) in
     h ∙ ap (λ t. map (text_of text) spans ++ t) (words_between-first text at end len e
-        ∙ ap (λ t. t ++ words_between text (at + (len + 1)) end) (part_is_word (take len (drop at text)) long))
+    ∙ ap (λ t. t ++ words_between text (at + (len + 1)) end) (part_is_word (take len (drop at text)) long))
     ∙ sym (append_assoc (map (text_of text) spans) (text_of text span ∷ []) (words_between text (at + (len + 1)) end))
     ∙ ap (λ t. t ++ words_between text (at + (len + 1)) end) (sym (map-append (text_of text) spans (span ∷ [])))
 
@@ -149,3 +149,11 @@ Rise_within first last n spans h r = All-from_recursion (λ s. s.start + s.len �
     each : (first : ℕ) (spans : List Span) → Rise first last spans → ByRecursion (λ s. s.start + s.len ≤ n) spans
     each first [] r = tt
     each first (s ∷ spans) r = (omega (arith, r.2, h), each (s.start + s.len) spans r.3)
+
+pub Rise_front : (first last : ℕ) (spans others : List Span) → Rise first last (spans ++ others) → Rise first last spans
+Rise_front first last [] others r = tt
+Rise_front first last (s ∷ spans) others r = (r.0, r.1, r.2, Rise_front (s.start + s.len) last spans others r.3)
+
+pub Rise_back : (first last : ℕ) (spans others : List Span) → Rise first last (spans ++ others) → (middle : ℕ) × Rise middle last others
+Rise_back first last [] others r = (first, r)
+Rise_back first last (s ∷ spans) others r = Rise_back (s.start + s.len) last spans others r.3

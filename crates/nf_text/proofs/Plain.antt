@@ -22,7 +22,7 @@ bytes_eq-append (y ∷ line) (x ∷ front) tail = ap (λ b. nat_eq y x && b) (by
 -- what `strip_prefix` answers
 pub goes_on : (line front : List ℕ) (rest : Option (Bor (List ℕ)))
     → MatchOption rest (bytes_eq (take (length front) line) front ≡ false)
-        (λ r. (bytes_eq (take (length front) line) front ≡ true) × (r.now ≡ drop (length front) line) × (length r.now + length front ≡ length line))
+    (λ r. (bytes_eq (take (length front) line) front ≡ true) × (r.now ≡ drop (length front) line) × (length r.now + length front ≡ length line))
     → GoesOn line front rest
 goes_on line front None h tail = bytes_eq-append line front tail ∙ ap (λ b. b && bytes_eq (drop (length front) line) tail) h
 goes_on line front (Some r) h tail = bytes_eq-append line front tail ∙ ap (λ b. b && bytes_eq (drop (length front) line) tail) h.0

@@ -1,5 +1,5 @@
 -- What is read of a text, line by line.
-use Rattle.std.specs.Prelude.{◌≡◌, ℕ, ◌+◌, ◌-◌, ◌==◌, ◌&&◌, Bool, nat_lt, if◌then◌else◌, List, [], ◌∷◌, length, take, map, slice_index, Option, Some}
+use Rattle.std.specs.Prelude.{◌≡◌, ℕ, ◌+◌, ◌-◌, ◌==◌, ◌&&◌, Bool, nat_lt, if◌then◌else◌, List, [], ◌∷◌, length, take, map, slice_index, All, ◌≤◌, Option, Some}
 use Rattle.std.specs.List.{position_or_len, flat_map}
 use Rattle.nf_lines.specs.Lines.{TextLine}
 use Rattle.nf_lines.specs.Words.{ReadLine}
@@ -16,6 +16,10 @@ seen_line text line = record { number = line.number; plain = line.plain; words =
 
 abbrev pub spans_of : List Line → List Span
 spans_of lines = flat_map (λ line. line.words.items) lines
+
+-- each word of a line is in the text
+abbrev pub WordsAreIn : List ℕ → Line → Type 0
+WordsAreIn text line = All (λ span. span.start + span.len ≤ length text) line.words.items
 
 -- the fault that is answered is the one that there is, unless memory is wanting
 abbrev pub Tells : TextFault → Option LineFault → Type 0

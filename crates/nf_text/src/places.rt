@@ -6,8 +6,7 @@ ghost use Rattle.nf_lines.specs.Words.{is_blank, without_comment};
 fn blank_at(line: &[u8]) -> Option<usize>
     ensures { result ≡ position is_blank line.now }
 {
-    line.iter()
-        .position(|&byte| byte == b' ' || byte == b'\t')
+    line.iter().position(|&byte| byte == b' ' || byte == b'\t')
 }
 
 fn byte_at(line: &[u8], wanted: u8) -> Option<usize>

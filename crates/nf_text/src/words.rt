@@ -10,12 +10,7 @@ use crate::places::word_len;
 use std::alloc::{AllocError, Global};
 
 // The words between two places of the text, where no comment stands.
-pub fn spans(
-    alloc: Global,
-    text: &[u8],
-    start: usize,
-    end: usize,
-) -> Result<Vec<Span>, AllocError>
+pub fn spans(alloc: Global, text: &[u8], start: usize, end: usize) -> Result<Vec<Span>, AllocError>
     requires ordered { start ≤ end }
     requires within { end ≤ length text.now }
     requires small { length text.now < 4294967295 }

@@ -2,7 +2,7 @@ use Rattle.std.proofs.Common.{arith, ℕ, ◌≡◌, ◌+◌, length, vec_len}
 use Rattle.std.proofs.lemmas.Result.{err_from_is_err_and}
 use Rattle.nf_lines.specs.Words.{read_lines}
 use Rattle.nf_lines.specs.Faults.{first_fault}
-use Rattle.nf_text.proofs.LineSteps.{step_read, step_fault, step_rise, stops_at_fault}
+use Rattle.nf_text.proofs.LineSteps.{words_are_in, step_read, step_fault, step_rise, stops_at_fault}
 use Rattle.nf_text.proofs.lines.Goals as goal
 
 pub returns-in_err-line-clause-fault : goal.returns-in_err-line-clause-fault
@@ -11,7 +11,7 @@ returns-in_err-line-clause-fault c =
     let n : ℕ = c.len.result + 1 in
     let before : vec_len c.loop-start.lines + 1 ≡ n = omega (arith, c.len.ensures) in
     rw (p.1, p.2) (stops_at_fault c.args.text.now (first_fault c.args.text.now) c.in_err-line.field-0.0 (vec_len c.loop-start.lines + 1) n c.loop-start.start
-        c.loop-start-test.true before c.in_err-line.ensures.fault c.loop-start.invariant.fault)
+    c.loop-start-test.true before c.in_err-line.ensures.fault c.loop-start.invariant.fault)
 
 pub loop-start-preserved : goal.loop-start-preserved
 loop-start-preserved c =
@@ -29,3 +29,6 @@ loop-start-preserved c =
       within = known.within;
       number = omega (arith, c.loop-start.invariant.number, known.more, c.in_ok-push.ensures.len);
     })
+
+pub returns-clause-within : goal.returns-clause-within
+returns-clause-within c = words_are_in c.args.text.now c.loop-start.start c.loop-start.lines.items c.loop-start.invariant.within c.loop-start.invariant.rise

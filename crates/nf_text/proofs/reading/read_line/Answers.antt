@@ -22,9 +22,9 @@ returns-clause-line c =
     let extent = c.first_extent-extent in
     let read = map (text_of c.args.text.now) c.in_ok-words.words.items in
     line_is_read c.args.number rest c.is_plain-plain.result read c.args.start extent.result.whole
-        (c.in_ok-words.ensures.words ∙ words_of_line rest c.args.start extent.result.bytes c.comment_start.result c.comment_start.ensures.place (extent.ensures.bytes ∙ ap bytes_len (take_rest c.args.text.now c.args.start)))
-        (extent.ensures.whole ∙ ap whole_len (take_rest c.args.text.now c.args.start))
-        (c.is_plain-plain.ensures ∙ ap (λ spans. bytes_eq (take (c.args.start + extent.result.whole - c.args.start) rest) (line_of_words (map (text_of c.args.text.now) spans))) c.deref.ensures.value)
+    (c.in_ok-words.ensures.words ∙ words_of_line rest c.args.start extent.result.bytes c.comment_start.result c.comment_start.ensures.place (extent.ensures.bytes ∙ ap bytes_len (take_rest c.args.text.now c.args.start)))
+    (extent.ensures.whole ∙ ap whole_len (take_rest c.args.text.now c.args.start))
+    (c.is_plain-plain.ensures ∙ ap (λ spans. bytes_eq (take (c.args.start + extent.result.whole - c.args.start) rest) (line_of_words (map (text_of c.args.text.now) spans))) c.deref.ensures.value)
 
 pub returns-clause-rise : goal.returns-clause-rise
 returns-clause-rise c =

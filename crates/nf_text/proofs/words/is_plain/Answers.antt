@@ -11,13 +11,13 @@ pub returns-in_default : goal.returns-in_default
 returns-in_default c = let f = text_of c.args.text.now in let words = map f c.args.words.now in let i = c.loop-index.index in
     let less : i < length words = omega (arith, c.loop-index-test.true, length-map c.args.words.now f) in
     plain_stop (bytes_eq c.args.line.now (line_of_words words)) c.loop-index.rest.now words i (f (record { start = 0; len = 0 })) c.of.result.now less
-        (c.of.ensures ∙ sym (get_or-map f c.args.words.now i (record { start = 0; len = 0 }))) c.in_default.ensures c.loop-index.invariant
+    (c.of.ensures ∙ sym (get_or-map f c.args.words.now i (record { start = 0; len = 0 }))) c.in_default.ensures c.loop-index.invariant
 
 pub loop-index-preserved : goal.loop-index-preserved
 loop-index-preserved c = let f = text_of c.args.text.now in let words = map f c.args.words.now in let i = c.loop-index.index in
     let less : i < length words = omega (arith, c.loop-index-test.true, length-map c.args.words.now f) in
     plain_step (bytes_eq c.args.line.now (line_of_words words)) c.loop-index.rest.now words i (f (record { start = 0; len = 0 })) c.of.result.now c.in-Some.next less
-        (c.of.ensures ∙ sym (get_or-map f c.args.words.now i (record { start = 0; len = 0 }))) c.in-Some.ensures c.loop-index.invariant
+    (c.of.ensures ∙ sym (get_or-map f c.args.words.now i (record { start = 0; len = 0 }))) c.in-Some.ensures c.loop-index.invariant
 
 pub returns : goal.returns
 returns c = let f = text_of c.args.text.now in let words = map f c.args.words.now in let i = c.loop-index.index in
