@@ -1,14 +1,14 @@
 -- The first line of a text.
-use Rattle.std.specs.Prelude.{◌≡◌, ℕ, ◌+◌, ◌-◌, ◌<◌, ◌≤◌, ◌==◌, Bool, true, false, ◌&&◌, nat_lt, List, [], ◌∷◌, ◌++◌, length, take, drop, slice_index, All, refl}
-use Rattle.std.proofs.Common.{arith, suc, ◌∙◌, sym, ap, cond, get_or, length-take, length-drop, length-append, take-take, take_all, append_assoc, append-nil, true≢false, zero, add-one}
-use Rattle.std.specs.List.{slice_split, position_or_len, before_first, after_first, count_by}
+use Rattle.std.specs.Prelude.{◌≡◌, ℕ, ◌+◌, ◌-◌, ◌<◌, ◌≤◌, ◌==◌, Bool, true, false, ◌&&◌, List, [], ◌∷◌, ◌++◌, length, take, drop, All, refl}
+use Rattle.std.proofs.Common.{arith, suc, ◌∙◌, sym, ap, cond, get_or, length-take, take-take, take_all, append_assoc, append-nil, true≢false, zero, add-one}
+use Rattle.std.specs.List.{slice_split, before_first, after_first}
 use Rattle.std.proofs.lemmas.List.{drop_all, take_more, get_or-take}
 use Rattle.std.proofs.lemmas.List.Splits.{slice_split_first, slice_split_none, length-slice_split}
-use Rattle.std.proofs.lemmas.List.Sums.{fails_before_first, split_at_first, passes_at_first}
+use Rattle.std.proofs.lemmas.List.Sums.{fails_before_first, passes_at_first}
 use Rattle.std.proofs.lemmas.Bool.{lt-ltb, le-ltb, ltb-true, eqb-true, ne_eqb}
 use native.Mathlib.Decide.{dec_lt}
 use Rattle.nf_lines.specs.Lines.{TextLine, lines_from, lines_of_parts, ended_line}
-use Rattle.nf_text.specs.Reading.{lf_place, has_lf, ends_with_cr, has_cr, bytes_len, whole_len, first_line}
+use Rattle.nf_text.specs.Reading.{lf_place, has_lf, ends_with_cr, whole_len, first_line}
 use Rattle.nf_text.proofs.Positions.{position_or_len_within}
 
 abbrev is_lf : ℕ → Bool

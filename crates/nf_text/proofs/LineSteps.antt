@@ -1,17 +1,16 @@
 -- The steps of the loop over the lines.
-use Rattle.std.specs.Prelude.{◌≡◌, ℕ, ◌+◌, ◌<◌, ◌≤◌, List, [], ◌∷◌, ◌++◌, length, drop, map, All, Option, None, Some, refl}
+use Rattle.std.specs.Prelude.{◌≡◌, ℕ, ◌+◌, ◌<◌, ◌≤◌, List, [], ◌∷◌, ◌++◌, length, drop, map, All, Option, None, refl}
 use Rattle.std.proofs.Common.{arith, ◌∙◌, sym, ap, length-drop, append_assoc, append-nil}
 use Rattle.std.specs.Option.{option_or}
 use Rattle.std.proofs.lemmas.List.{map-append, drop-drop}
 use Rattle.std.proofs.lemmas.List.Elements.{All-from_recursion}
 use Rattle.std.specs.List.{AllByRecursion as ByRecursion}
 use Rattle.std.proofs.lemmas.Grind.{flat_map-append}
-use Rattle.nf_lines.specs.Lines.{TextLine, lines_from}
+use Rattle.nf_lines.specs.Lines.{lines_from}
 use Rattle.nf_lines.specs.Words.{ReadLine, read_line}
 use Rattle.nf_lines.specs.Faults.{LineFault, line_fault, first_fault_of}
 use Rattle.nf_text.specs.declared.Line.{Line}
 use Rattle.nf_text.specs.declared.TextFault.{TextFault}
-use Rattle.nf_text.specs.declared.TextFault.TheVariants as TextFault
 use Rattle.nf_text.specs.Spans.{Rise}
 use Rattle.nf_text.specs.Reading.{seen_line, spans_of, WordsAreIn, Tells, whole_len, first_line}
 use Rattle.nf_text.proofs.Extents.{lines_from-first}

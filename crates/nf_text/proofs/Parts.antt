@@ -1,6 +1,6 @@
 -- The words between two places of a text, one after the other.
-use Rattle.std.specs.Prelude.{◌≡◌, ℕ, ◌+◌, ◌-◌, ◌<◌, ◌≤◌, min, Bool, true, false, not, ◌==◌, List, [], ◌∷◌, ◌++◌, length, take, drop, map, filter, All, refl}
-use Rattle.std.proofs.Common.{arith, suc, ◌∙◌, sym, ap, cond, get_or, length-take, length-drop, take-take, take_all, append_assoc, append-nil}
+use Rattle.std.specs.Prelude.{◌≡◌, ℕ, ◌+◌, ◌-◌, ◌<◌, ◌≤◌, min, Bool, true, false, not, ◌==◌, List, [], ◌∷◌, ◌++◌, length, take, drop, map, All, refl}
+use Rattle.std.proofs.Common.{arith, suc, ◌∙◌, sym, ap, cond, length-take, length-drop, take-take, take_all, append_assoc, append-nil}
 use Rattle.std.specs.List.{slice_split, position_or_len, before_first, after_first}
 use Rattle.std.proofs.lemmas.List.{drop-drop, drop-take, drop_all, map-append}
 use Rattle.std.proofs.lemmas.List.Elements.{All-from_recursion}

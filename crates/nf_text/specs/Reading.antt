@@ -7,7 +7,6 @@ use Rattle.nf_lines.specs.Faults.{LineFault, NotAscii, LongLine}
 use Rattle.nf_text.specs.declared.Span.{Span}
 use Rattle.nf_text.specs.declared.Line.{Line}
 use Rattle.nf_text.specs.declared.TextFault.{TextFault}
-use Rattle.nf_text.specs.declared.TextFault.TheVariants as TextFault
 use Rattle.nf_text.specs.Spans.{text_of}
 
 -- a line with the bytes of its words

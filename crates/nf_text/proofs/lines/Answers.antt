@@ -1,4 +1,4 @@
-use Rattle.std.proofs.Common.{arith, ℕ, ◌≡◌, ◌+◌, length, vec_len}
+use Rattle.std.proofs.Common.{arith, ℕ, ◌≡◌, ◌+◌, vec_len}
 use Rattle.std.proofs.lemmas.Result.{err_from_is_err_and}
 use Rattle.nf_lines.specs.Words.{read_lines}
 use Rattle.nf_lines.specs.Faults.{first_fault}

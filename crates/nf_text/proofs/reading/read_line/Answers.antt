@@ -1,4 +1,4 @@
-use Rattle.std.proofs.Common.{arith, ◌≡◌, ◌+◌, ◌-◌, ◌≤◌, ◌∙◌, ap, length, length-drop, take, drop, map}
+use Rattle.std.proofs.Common.{arith, ◌+◌, ◌-◌, ◌≤◌, ◌∙◌, ap, length, length-drop, take, drop, map}
 use Rattle.std.specs.Str.{bytes_eq}
 use Rattle.nf_lines.specs.Words.{line_of_words}
 use Rattle.std.proofs.lemmas.List.{take_rest}

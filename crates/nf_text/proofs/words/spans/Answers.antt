@@ -1,4 +1,4 @@
-use Rattle.std.proofs.Common.{arith, ◌≤◌}
+use Rattle.std.proofs.Common.{arith}
 use Rattle.nf_text.proofs.Parts.{words_skip, words_push, words_end, words_between, Rise_step, Rise_skip, Rise_end}
 use Rattle.nf_text.proofs.words.spans.Goals as goal
 use Rattle.nf_text.proofs.words.spans.Goals.{then-len-gt0+in_ok-push, else-len-gt0}

@@ -1,6 +1,4 @@
-use Rattle.std.proofs.Common.{◌-◌, ◌≡◌, ◌+◌, ◌≤◌, ◌++◌, map, take, drop, min}
-use Rattle.std.specs.List.{slice_split}
-use Rattle.nf_lines.specs.Words.{is_blank, parts_with_bytes}
+use Rattle.std.proofs.Common.{◌-◌, ◌≡◌, ◌≤◌, ◌++◌, map, min}
 use Rattle.nf_text.specs.Spans.{text_of, Rise}
 use Rattle.nf_text.proofs.Parts.{words_between}
 use Rattle.nf_text.proofs.words.spans.Given as goal
