@@ -12,7 +12,7 @@ use Rattle.nf_model.specs.Walk.{Hop, IsHop, IsWalk, transit_sum, IsLeastTransit}
 use Rattle.nf_model.specs.Network.{Link, Piece, IsLink, IsPiece, ArePieces, IsNetwork, hop_of, hops}
 use Rattle.nf_formats.specs.Names.{Name, is_name, has_name, place_of, name_at, with_names, without, AreNames}
 use Rattle.nf_formats.specs.Numbers.{greatest}
-use Rattle.nf_formats.specs.Named.{NamedLink, Named, numbered, hops_among, all_named, active_links, all_hops, ends, names_of}
+use Rattle.nf_formats.specs.Named.{NamedLink, Named, numbered, hops_among, links_by_name, active_links, all_hops, ends, names_of}
 use Rattle.nf_lines.specs.Words.{read_lines, content_lines}
 use Rattle.nf_lines.specs.Faults.{LineFault, first_fault}
 use Rattle.nf_formats.specs.NetLines.{Broken, Draft, draft_from}
@@ -37,7 +37,7 @@ map_twice nodes (l ∷ links) = ap (λ r. hop_of (numbered nodes l) ∷ r) (map_
 
 named_numbered : (nodes : List Name) (links : List NamedLink)
     → ((e : ℕ) (l : NamedLink) → slice_get links e ≡ Some l → (has_name nodes l.tail ≡ true) × (has_name nodes l.head ≡ true))
-    → all_named nodes (names_of links) (map (numbered nodes) links) ≡ links
+    → links_by_name nodes (names_of links) (map (numbered nodes) links) ≡ links
 named_numbered nodes [] f = refl
 named_numbered nodes (l ∷ links) f =
     λ i. record { name = l.name; tail = name_at-place nodes l.tail (f 0 l refl).0 i; head = name_at-place nodes l.head (f 0 l refl).1 i; transit = l.transit; capacity = l.capacity }

@@ -18,7 +18,7 @@ use Rattle.nf_formats.specs.NetFile.{Closes}
 use Rattle.nf_formats.specs.WellNamed.{IsNamed}
 use Rattle.nf_formats.proofs.NameFacts.{place_right}
 use Rattle.nf_formats.proofs.WalkFacts.{slice_get-left, IsIn, in_first, in_second, which, entry_all, CameFrom, came_from, Corresponds, Carried, carried}
-use Rattle.nf_formats.proofs.LinkFacts.{distinct_left, map-append, names_of-named, named_all, EndsBelow, place_again, map_numbered, first_marked, marked-first, marked-others, flags_hold}
+use Rattle.nf_formats.proofs.LinkFacts.{distinct_left, map-append, names_of-links_by_name, named_all, EndsBelow, place_again, map_numbered, first_marked, marked-first, marked-others, flags_hold}
 
 -- what the lines of its canonical text say
 abbrev pub draft_of : Named → Draft
@@ -234,7 +234,7 @@ module _ (n : Named) (h : IsNamed n) where
       pieces = n.net.pieces;
     };
     node_names = n.node_names;
-    link_names = names_of-named n.node_names n.link_names n.net.links h.numbered.links i;
+    link_names = names_of-links_by_name n.node_names n.link_names n.net.links h.numbered.links i;
     idle_nodes = sym h.numbered.idle_order i;
     idle_links = n.idle_links;
   }

@@ -24,7 +24,7 @@ use Rattle.nf_formats.specs.NetLines.{Entry, Source, Sink, LinkLine, InflowLine,
 use Rattle.nf_formats.specs.NetText.{link_words, inflow_words, canonical_lines}
 use Rattle.nf_formats.specs.WellNamed.{IsFraction, IsCapacity, IsNamedLink, IsFractionPiece, IsNamed}
 use Rattle.nf_formats.proofs.NameFacts.{bytes_eq-turned, same_names, with_name_new, with_names-append, with_names-split}
-use Rattle.nf_formats.proofs.LinkFacts.{ends-append, map-append, names_of-named}
+use Rattle.nf_formats.proofs.LinkFacts.{ends-append, map-append, names_of-links_by_name}
 use Rattle.nf_formats.proofs.ClosesBack.{draft_of, source_below, sink_below, names_apart}
 
 -- ---- tests that say no
@@ -281,7 +281,7 @@ module _ (n : Named) (h : IsNamed n) where
   nodes_are = ap (λ nodes. with_names nodes (ends (all_links n))) two_nodes ∙ all_nodes_are
 
   names_are : names_of (all_links n) ≡ n.link_names ++ names_of n.idle_links
-  names_are = names_of-append (active_links n) n.idle_links ∙ ap (λ names. names ++ names_of n.idle_links) (names_of-named n.node_names n.link_names n.net.links h.numbered.links)
+  names_are = names_of-append (active_links n) n.idle_links ∙ ap (λ names. names ++ names_of n.idle_links) (names_of-links_by_name n.node_names n.link_names n.net.links h.numbered.links)
 
   -- after the lines of source and sink, of the links, of the pieces
   abbrev with_ends : Draft

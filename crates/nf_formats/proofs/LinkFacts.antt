@@ -3,7 +3,7 @@ use Rattle.std.proofs.Common.{◌≡◌, ℕ, suc, ◌<◌, Bool, true, false, n
 use Rattle.std.specs.List.{AllByRecursion, AllZip, IsDistinct}
 use Rattle.nf_model.specs.Network.{Link}
 use Rattle.nf_formats.specs.Names.{Name, place_of, name_at}
-use Rattle.nf_formats.specs.Named.{NamedLink, numbered, named, all_named, ends, names_of}
+use Rattle.nf_formats.specs.Named.{NamedLink, numbered, link_by_name, links_by_name, ends, names_of}
 use Rattle.nf_formats.specs.NetClosing.{marked}
 use Rattle.nf_formats.proofs.NameFacts.{has_at, place_at, place_left}
 
@@ -26,14 +26,14 @@ pub map-append : {X Y : Type 0} (f : X → Y) (xs ys : List X) → map f (xs ++ 
 map-append f [] ys = refl
 map-append f (x ∷ xs) ys = ap (λ r. f x ∷ r) (map-append f xs ys)
 
-pub names_of-named : (nodes names : List Name) (links : List Link) → length names ≡ length links → names_of (all_named nodes names links) ≡ names
-names_of-named nodes [] [] e = refl
-names_of-named nodes [] (l ∷ links) e = absurd (omega arith)
-names_of-named nodes (name ∷ names) [] e = absurd (omega arith)
-names_of-named nodes (name ∷ names) (l ∷ links) e = ap (λ r. name ∷ r) (names_of-named nodes names links (omega arith))
+pub names_of-links_by_name : (nodes names : List Name) (links : List Link) → length names ≡ length links → names_of (links_by_name nodes names links) ≡ names
+names_of-links_by_name nodes [] [] e = refl
+names_of-links_by_name nodes [] (l ∷ links) e = absurd (omega arith)
+names_of-links_by_name nodes (name ∷ names) [] e = absurd (omega arith)
+names_of-links_by_name nodes (name ∷ names) (l ∷ links) e = ap (λ r. name ∷ r) (names_of-links_by_name nodes names links (omega arith))
 
 pub named_all : (P : NamedLink → Type 0) (nodes names : List Name) (links : List Link)
-    → ((e : ℕ) (name : Name) (link : Link) → slice_get links e ≡ Some link → P (named nodes name link)) → AllByRecursion P (all_named nodes names links)
+    → ((e : ℕ) (name : Name) (link : Link) → slice_get links e ≡ Some link → P (link_by_name nodes name link)) → AllByRecursion P (links_by_name nodes names links)
 named_all P nodes [] [] each = tt
 named_all P nodes [] (l ∷ links) each = tt
 named_all P nodes (name ∷ names) [] each = tt
@@ -49,8 +49,8 @@ module _ (nodes extra : List Name) (distinct : IsDistinct bytes_eq (nodes ++ ext
   pub place_again : (v : ℕ) → v < length nodes → place_of (nodes ++ extra) (name_at nodes v) ≡ v
   place_again v lt = place_left nodes extra (name_at nodes v) (has_at nodes v lt) ∙ place_at nodes v (distinct_left nodes extra distinct) lt
 
-  pub numbered-named : (name : Name) (link : Link) → EndsBelow (length nodes) link → numbered (nodes ++ extra) (named nodes name link) ≡ link
-  numbered-named name link h = λ i. record {
+  pub numbered-link_by_name : (name : Name) (link : Link) → EndsBelow (length nodes) link → numbered (nodes ++ extra) (link_by_name nodes name link) ≡ link
+  numbered-link_by_name name link h = λ i. record {
     tail = place_again link.tail h.tail i;
     head = place_again link.head h.head i;
     transit = link.transit;
@@ -59,12 +59,12 @@ module _ (nodes extra : List Name) (distinct : IsDistinct bytes_eq (nodes ++ ext
 
   pub map_numbered : {Y : Type 0} (F : Link → Y) (names : List Name) (links : List Link) → length names ≡ length links
       → ((e : ℕ) (link : Link) → slice_get links e ≡ Some link → EndsBelow (length nodes) link)
-      → map (λ l. F (numbered (nodes ++ extra) l)) (all_named nodes names links) ≡ map F links
+      → map (λ l. F (numbered (nodes ++ extra) l)) (links_by_name nodes names links) ≡ map F links
   map_numbered F [] [] e below = refl
   map_numbered F [] (l ∷ links) e below = absurd (omega arith)
   map_numbered F (name ∷ names) [] e below = absurd (omega arith)
   map_numbered F (name ∷ names) (l ∷ links) e below =
-      λ i. F (numbered-named name l (below 0 l refl) i) ∷ map_numbered F names links (omega arith) (λ e link h. below (suc e) link h) i
+      λ i. F (numbered-link_by_name name l (below 0 l refl) i) ∷ map_numbered F names links (omega arith) (λ e link h. below (suc e) link h) i
 
 -- ---- links that flags mark: the first ones, and not the others
 abbrev pub first_marked : List NamedLink → List NamedLink → List Bool
