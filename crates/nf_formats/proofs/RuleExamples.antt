@@ -1,6 +1,6 @@
 -- For each rule a file that breaks it first, but for those that other examples have; and files that break none.
-use Rattle.std.proofs.Common.{◌≡◌, ℕ, zero, suc, ◌<◌, Bool, true, false, List, [], ◌∷◌, ◌++◌, replicate, refl, sym, ◌∙◌, ap, subst, inl, inr, arith, flat_map, codes, pos, Ok, Err, Option, Some, None, unwrap_or, bytes_eq, lit<}
-use Rattle.std.specs.List.{AllByRecursion}
+use Rattle.std.proofs.Common.{map, ◌≡◌, ℕ, zero, suc, ◌<◌, Bool, true, false, List, [], ◌∷◌, ◌++◌, replicate, refl, sym, ◌∙◌, ap, subst, inl, inr, arith, flat_map, codes, pos, Ok, Err, Option, Some, None, unwrap_or, bytes_eq, lit<}
+use Rattle.std.specs.List.{range_with_len, AllByRecursion}
 use Rattle.nf_rational.specs.Rational.{ℚ, ratio}
 use Rattle.nf_rational.specs.Gcd.{gcd}
 use Rattle.nf_rational.specs.Operations.{0ℚ, whole, ◌+ℚ◌}
@@ -13,7 +13,7 @@ use Rattle.nf_model.specs.Walk.{Hop, IsHop, IsWalk, transit_of, transit_sum, IsL
 use Rattle.nf_numerals.specs.Digits.{digits_of}
 use Rattle.nf_numerals.specs.Numbers.{number_of, decimal_of, parts_of, decimal_parts_of}
 use Rattle.nf_numerals.specs.Printed.{printed, printed_parts}
-use Rattle.nf_formats.specs.declared.NetRule.TheVariants.{N1, N2, N3, N4, N5, N6, N7, N8, N9, N13, N14, N15, N16, N18, N19, N20, N21, N22}
+use Rattle.nf_formats.specs.declared.NetRule.TheVariants.{N1, N2, N3, N4, N5, N6, N7, N8, N9, N10, N11, N12, N13, N14, N15, N16, N18, N19, N20, N21, N22}
 use Rattle.nf_formats.specs.Numbers.{greatest}
 use Rattle.nf_formats.specs.Named.{Named}
 use Rattle.nf_formats.specs.NetFile.{Reads}
@@ -84,6 +84,26 @@ negative_rate = refl
 pub start_again : Reads (text (codes "nfot 1" ∷ codes "source s" ∷ codes "sink t" ∷ codes "inflow 1/2 1" ∷ codes "inflow 2/4 2" ∷ codes "end" ∷ [])) (Err (record { rule = N16; line = 5 }))
 unfolding whole ratio gcd le_ℚ lt_ℚ digits_of number_of parts_of decimal_of decimal_parts_of printed printed_parts
 start_again = refl
+
+-- ---- N10 to N12: so many lines, of which each has a number in it
+abbrev so_many : ℕ → (List ℕ → List ℕ) → List (List ℕ)
+so_many count line_of = map (λ k. line_of (digits_of k)) (range_with_len 0 count)
+
+abbrev first_lines : List (List ℕ)
+first_lines = codes "nfot 1" ∷ codes "source s" ∷ codes "sink t" ∷ []
+
+-- two nodes and 62 others; the 63rd link names one more
+pub nodes_too_many : Reads (text (first_lines ++ so_many 63 (λ k. codes "link l" ++ k ++ codes " s v" ++ k ++ codes " 1 1"))) (Err (record { rule = N10; line = 66 }))
+unfolding whole ratio gcd le_ℚ lt_ℚ digits_of number_of parts_of decimal_of decimal_parts_of printed printed_parts
+nodes_too_many = refl
+
+pub links_too_many : Reads (text (first_lines ++ so_many 201 (λ k. codes "link l" ++ k ++ codes " s t 1 1"))) (Err (record { rule = N11; line = 204 }))
+unfolding whole ratio gcd le_ℚ lt_ℚ digits_of number_of parts_of decimal_of decimal_parts_of printed printed_parts
+links_too_many = refl
+
+pub pieces_too_many : Reads (text (first_lines ++ so_many 201 (λ k. codes "inflow " ++ k ++ codes " 1"))) (Err (record { rule = N12; line = 204 }))
+unfolding whole ratio gcd le_ℚ lt_ℚ digits_of number_of parts_of decimal_of decimal_parts_of printed printed_parts
+pieces_too_many = refl
 
 -- ---- N18 and N19
 pub no_sink : Reads (text (codes "nfot 1" ∷ codes "source s" ∷ codes "end" ∷ [])) (Err (record { rule = N18; line = 0 }))
