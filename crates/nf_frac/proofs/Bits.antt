@@ -6,6 +6,8 @@ use mir.Val.{to_z, of_z, SFits}
 use mir.Facts.{to_z-of_z, to_z_pos}
 use Rattle.std.proofs.lemmas.Nat.{mul-le}
 use Rattle.nf_rational_laws.proofs.Products.{abs-product}
+use native.Mathlib.Nat.{one-dvd}
+use Rattle.std.specs.Int.{IsGcd}
 use Rattle.nf_rational.specs.Gcd.{gcd}
 use Rattle.nf_rational.specs.Rational.{gcd_pos}
 use Rattle.nf_rational_laws.proofs.Lowest.{gcd-le}
@@ -45,3 +47,7 @@ gcd_small a b g e h = subst (λ (k : ℕ). k ≤ b) (sym e) (gcd-le a b h)
 -- a natural number that is cast
 pub cast_plain : (k : ℕ) → k ≤ greatest → to_z w128 k ≡ pos k
 cast_plain k h = to_z_pos w128 (omega arith)
+
+-- a number and 1 have no common factor
+pub IsGcd-one : (a b : ℕ) → b ≡ 1 → IsGcd a b 1
+IsGcd-one a b e = subst (λ (k : ℕ). IsGcd a k 1) (sym e) (one-dvd a, one-dvd 1, λ g u v. v)
