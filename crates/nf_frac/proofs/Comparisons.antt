@@ -5,7 +5,7 @@ use Rattle.std.specs.Ordering.{is_lt, is_le, is_gt, is_ge, is_some_and, MatchOrd
 use Rattle.std.specs.declared.cmp.Ordering.{Ordering}
 use Rattle.std.specs.declared.cmp.Ordering.TheVariants.{Less, Equal, Greater}
 use Rattle.nf_rational.specs.Rational.{ℚ}
-use Rattle.nf_rational.specs.Order.{◌≤ℚ◌, ◌<ℚ◌, cmp_ℚ, le_ℚ, lt_ℚ, min_ℚ}
+use Rattle.nf_rational.specs.Order.{◌<ℚ◌, cmp_ℚ, le_ℚ, lt_ℚ, min_ℚ}
 use Rattle.nf_rational_laws.proofs.Order.{≤ℚ_of_lt, ≤ℚ_of_same}
 use Rattle.nf_rational_laws.proofs.Tests.{test_of_le, test_of_lt}
 use Rattle.nf_frac.specs.Order.{same_ℚ}

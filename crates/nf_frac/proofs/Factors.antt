@@ -1,13 +1,13 @@
 -- The only common factors of a sum over the least common denominator and that denominator are those of the two denominators' common factor.
-use Rattle.std.proofs.Common.{◌≡◌, ℕ, zero, suc, ◌+◌, ◌-◌, ◌*◌, ◌/◌, ◌<◌, ℤ, pos, negsuc, ◌+ℤ◌, ◌*ℤ◌, neg_ℤ, nat_abs, refl, sym, ◌∙◌, ap, subst, arith}
+use Rattle.std.proofs.Common.{◌≡◌, ℕ, zero, suc, ◌+◌, ◌-◌, ◌*◌, ◌/◌, ℤ, pos, negsuc, ◌+ℤ◌, ◌*ℤ◌, neg_ℤ, nat_abs, refl, sym, ◌∙◌, ap, subst, arith}
 use Prim.Native.Nat.{◌∣◌}
 use lib.IntN.{+ℤ_comm}
-use native.Mathlib.Nat.{dvd_trans, dvd-mul_right, dvd-mul_left, dvd-zero, one-dvd, dvd-add, dvd-sub, div-mul_cancel, mul_comm, mul-pos}
+use native.Mathlib.Nat.{dvd_trans, dvd-mul_right, dvd-mul_left, dvd-zero, one-dvd, dvd-add, dvd-sub, div-mul_cancel, mul_comm}
 use borrow.Author.Differences.{ints}
 use Rattle.std.specs.Int.{IsGcd}
 use Rattle.std.proofs.lemmas.Nat.Gcd.{IsGcd-swap, same_from_IsGcd}
 use Rattle.nf_rational.specs.Gcd.{gcd, IsGcd-gcd}
-use Rattle.nf_rational.specs.Rational.{ℚ, gcd_pos, part_pos, parts_reduced}
+use Rattle.nf_rational.specs.Rational.{ℚ, parts_reduced}
 use Rattle.nf_rational_laws.proofs.Ints.{abs-mul}
 use Rattle.nf_rational_laws.proofs.Ratio.{dvd_of_dvd-mul}
 use Rattle.nf_rational_laws.proofs.Products.{apart_parts}

@@ -1,5 +1,5 @@
 -- A quotient of whole numbers is the ratio of their magnitudes with a sign; the bound on the parts.
-use Rattle.std.proofs.Common.{◌≡◌, ◌≢◌, ℕ, zero, suc, ◌+◌, ◌-◌, ◌*◌, ◌%◌, ◌^◌, ◌<◌, ◌≤◌, min, max, Bool, true, false, not, ℤ, pos, negsuc, ◌*ℤ◌, neg_ℤ, nat_abs, [], ◌∷◌, refl, sym, ◌∙◌, ap, subst, arith}
+use Rattle.std.proofs.Common.{◌≡◌, ◌≢◌, ℕ, zero, suc, ◌-◌, ◌*◌, ◌%◌, ◌^◌, ◌<◌, ◌≤◌, min, max, Bool, true, false, not, ℤ, pos, negsuc, ◌*ℤ◌, neg_ℤ, nat_abs, [], ◌∷◌, refl, sym, ◌∙◌, ap, subst, arith}
 use mathlib.Core.Path.{ap₂}
 use mathlib.Core.Bool.{beq}
 use borrow.Author.Differences.{ints}
@@ -8,11 +8,10 @@ use native.Mathlib.Nat.{mod-le, one-dvd}
 use mir.Syntax.{w128}
 use mir.Val.{to_z}
 use Rattle.std.proofs.Math.Pow.{pow_mono}
-use Rattle.std.specs.Int.{IsGcd}
 use Rattle.std.proofs.lemmas.Nat.Gcd.{same_from_IsGcd}
 use Rattle.nf_rational.specs.Gcd.{gcd, IsGcd-gcd}
 use Rattle.nf_rational.specs.Rational.{ℚ, ratio}
-use Rattle.nf_rational.specs.Operations.{0ℚ, whole, ◌*ℚ◌, ◌/ℚ◌}
+use Rattle.nf_rational.specs.Operations.{0ℚ, whole, ◌/ℚ◌}
 use Rattle.nf_rational_laws.proofs.Lowest.{num-ratio}
 use Rattle.nf_rational_laws.proofs.Polynomial.{ring, combine, using, done, reading}
 use Rattle.nf_rational_laws.proofs.IntegerRing.{ints_ring}
