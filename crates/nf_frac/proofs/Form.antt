@@ -6,7 +6,7 @@ use lib.Signed.{quot_z}
 use native.Mathlib.Nat.{div-le_self, zero-div}
 use Rattle.nf_rational.specs.Gcd.{gcd}
 use Rattle.nf_rational.specs.Rational.{ℚ, ratio, abs_quot}
-use Rattle.nf_rational_laws.proofs.Lowest.{parts_ratio}
+use Rattle.nf_rational.proofs.Lowest.{parts_ratio}
 use Rattle.nf_frac.specs.Parts.{greatest, InForm, IsWithin, signed}
 use Rattle.nf_frac.specs.Form.{parts_back}
 use Rattle.nf_frac.proofs.Bits.{bits_of, plain}

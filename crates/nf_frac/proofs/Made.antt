@@ -12,7 +12,7 @@ use Rattle.std.proofs.lemmas.Nat.Gcd.{same_from_IsGcd}
 use Rattle.nf_rational.specs.Gcd.{gcd, IsGcd-gcd}
 use Rattle.nf_rational.specs.Rational.{ℚ, ratio}
 use Rattle.nf_rational.specs.Operations.{0ℚ, whole, ◌/ℚ◌}
-use Rattle.nf_rational_laws.proofs.Lowest.{num-ratio}
+use Rattle.nf_rational.proofs.Lowest.{num-ratio}
 use Rattle.nf_rational_laws.proofs.Polynomial.{ring, combine, using, done, reading}
 use Rattle.nf_rational_laws.proofs.IntegerRing.{ints_ring}
 use Rattle.nf_rational_laws.proofs.Ratio.{Is-same, Is-times, Is-whole, Is-ratio}

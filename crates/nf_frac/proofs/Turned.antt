@@ -8,7 +8,7 @@ use Rattle.std.proofs.lemmas.Nat.Gcd.{IsGcd-swap, same_from_IsGcd}
 use Rattle.nf_rational.specs.Gcd.{gcd, IsGcd-gcd}
 use Rattle.nf_rational.specs.Rational.{ℚ}
 use Rattle.nf_rational.specs.Operations.{0ℚ, neg_ℚ, inv_ℚ, signed_as}
-use Rattle.nf_rational_laws.proofs.Lowest.{num-ratio, den-ratio}
+use Rattle.nf_rational.proofs.Lowest.{num-ratio, den-ratio}
 use Rattle.nf_rational_laws.proofs.Polynomial.{combine, using, done, reading}
 use Rattle.nf_rational_laws.proofs.IntegerRing.{ints_ring}
 use Rattle.nf_rational_laws.proofs.Ratio.{Is-self, Is-same, Is-whole}

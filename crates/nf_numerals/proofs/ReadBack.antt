@@ -4,7 +4,7 @@ use Rattle.std.specs.Prelude.{nat_abs, neg_ℤ, Ok, Result}
 use Rattle.std.specs.Str.Parse.{starts_with_minus}
 use Rattle.std.proofs.lemmas.Bool.{and_parts, and_left, and_right, or_from, eq-eqb, ne_eqb, not_from_true, cond-true, cond-false, cases_eq}
 use Rattle.nf_rational.specs.Rational.{ℚ}
-use Rattle.nf_rational_laws.proofs.Lowest.{parts_ratio}
+use Rattle.nf_rational.proofs.Lowest.{parts_ratio}
 use Rattle.nf_numerals.specs.declared.NumberFault.{NumberFault}
 use Rattle.nf_numerals.specs.Digits.{are_digits, value_of, digits_of}
 use Rattle.nf_numerals.specs.Numbers.{slash, point, has, before, unsigned, signed_by, denominator, parts_of, decimal_parts_of, as_ratio, number_of, decimal_of}

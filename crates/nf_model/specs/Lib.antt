@@ -1,0 +1,12 @@
+pub mod Entries
+pub mod Curve
+pub mod Walk
+pub mod Network
+pub mod Queue
+pub mod Earliest
+pub mod Equilibrium
+pub mod ThinFlow
+pub mod Pattern
+pub mod Phases
+pub mod Quickest
+pub mod Codes

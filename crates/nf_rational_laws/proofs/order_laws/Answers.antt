@@ -1,0 +1,31 @@
+use Rattle.std.proofs.Common.{[], ◌∷◌, refl}
+use Rattle.nf_rational.specs.Rational.{ℚ}
+use Rattle.nf_rational.specs.Operations.{0ℚ, ◌+ℚ◌, ◌-ℚ◌, ◌*ℚ◌}
+use Rattle.nf_rational.specs.Order.{◌≤ℚ◌, ◌<ℚ◌}
+use Rattle.nf_rational_laws.proofs.Polynomial.{reading_of}
+use Rattle.nf_rational_laws.proofs.Order.{≤ℚ_of_same, ≤ℚ_antisymm, ≤ℚ_of_lt, lt_or_le_ℚ, not_both_ℚ, less_ps, ps_times}
+use Rattle.nf_rational_laws.proofs.Linear.{le, lt, linear_le, linear_lt}
+use Rattle.nf_rational_laws.proofs.order_laws.Goals as goal
+
+transitive : (x y z : ℚ) → x ≤ℚ y → y ≤ℚ z → x ≤ℚ z
+transitive x y z h k = linear_le (x ∷ y ∷ z ∷ []) (le h ∷ le k ∷ []) (search reading_of depth 12) tt
+
+sums_keep : (x y z : ℚ) → x <ℚ y → x +ℚ z <ℚ y +ℚ z
+sums_keep x y z h = linear_lt (x ∷ y ∷ z ∷ []) (lt h ∷ []) (search reading_of depth 12) tt
+
+products_keep : (x y z : ℚ) → 0ℚ <ℚ z → x <ℚ y → x *ℚ z <ℚ y *ℚ z
+products_keep x y z h k =
+    let p : 0ℚ <ℚ (y -ℚ x) *ℚ z = ps_times _ _ (less_ps x y k) h in
+    linear_lt (x ∷ y ∷ z ∷ []) (lt p ∷ []) (search reading_of depth 12) tt
+
+pub returns : goal.returns
+returns c = record {
+  reflexive = λ x. ≤ℚ_of_same x x refl;
+  transitive = transitive;
+  antisymmetric = ≤ℚ_antisymm;
+  total = lt_or_le_ℚ;
+  apart = not_both_ℚ;
+  weaker = ≤ℚ_of_lt;
+  sums_keep = sums_keep;
+  products_keep = products_keep;
+}
