@@ -1,3 +1,4 @@
+pub mod HopFacts
 pub mod ReportFacts
 pub mod RuleExamples
 pub mod WalkFacts
