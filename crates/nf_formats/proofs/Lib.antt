@@ -1,0 +1,4 @@
+pub mod WalkFacts
+pub mod NameFacts
+pub mod Once
+pub mod Examples
