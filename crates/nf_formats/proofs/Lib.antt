@@ -1,4 +1,5 @@
 pub mod WalkFacts
+pub mod LinkFacts
 pub mod NameFacts
 pub mod Once
 pub mod Examples
