@@ -1,6 +1,6 @@
 -- The extend list: how long a phase may last. Link by link, after how long it changes sides, and last how long it is until the
 -- next inflow change.
-use Rattle.std.specs.Prelude.{ℕ, Bool, true, false, not, ◌&&◌, ◌||◌, List, Option, Some, None, Ok}
+use Rattle.std.specs.Prelude.{ℕ, Bool, true, false, ◌&&◌, ◌||◌, List, Option, Some, None, Ok}
 use Rattle.std.specs.List.{enumerate_from}
 use Rattle.nf_rational.specs.Rational.{ℚ}
 use Rattle.nf_rational.specs.Operations.{0ℚ}

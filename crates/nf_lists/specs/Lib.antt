@@ -8,3 +8,5 @@ pub mod CurveList
 pub mod Accepted
 pub mod Listing
 pub mod Search
+pub mod ReportCurves
+pub mod PhaseRun

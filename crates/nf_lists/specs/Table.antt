@@ -1,12 +1,12 @@
 -- The table list: elimination of a linear system, as Gauss and Jordan do it. The table has as many rows as unknowns, and each
 -- row has a number for each unknown (its columns) and then its right side.
-use Rattle.std.specs.Prelude.{◌≡◌, ℕ, zero, suc, Bool, true, false, not, ◌&&◌, ◌||◌, ◌==◌, if◌then◌else◌, List, [], ◌∷◌, ◌++◌, length, take, drop, Option, Some, None, slice_get, unwrap_or, Ok}
+use Rattle.std.specs.Prelude.{ℕ, zero, suc, Bool, true, false, not, ◌&&◌, ◌||◌, ◌==◌, if◌then◌else◌, List, [], ◌∷◌, ◌++◌, length, take, drop, Option, Some, None, slice_get, unwrap_or, Ok}
 use Rattle.std.specs.List.{list_any}
 use Rattle.nf_rational.specs.Rational.{ℚ}
 use Rattle.nf_rational.specs.Operations.{0ℚ}
 use Rattle.nf_rational.specs.Order.{le_ℚ}
 use Rattle.nf_work.specs.Passing.{Passing}
-use Rattle.nf_work.specs.Checked.{Checked, checked, each, ◌>>=◌}
+use Rattle.nf_work.specs.Checked.{Checked, checked, ◌>>=◌}
 use Rattle.nf_work.specs.declared.Op.TheVariants.{Difference, Product, Quotient}
 use Rattle.nf_model.specs.Entries.{number_at}
 

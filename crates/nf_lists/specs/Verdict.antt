@@ -6,7 +6,7 @@ use Rattle.nf_work.specs.Passing.{Passing}
 use Rattle.nf_work.specs.Checked.{Checked, checked, each, ◌>>=◌}
 use Rattle.nf_work.specs.declared.Op.TheVariants.{Product}
 use Rattle.nf_model.specs.declared.State.{State}
-use Rattle.nf_model.specs.declared.State.TheVariants.{Tight, Full, Zero}
+use Rattle.nf_model.specs.declared.State.TheVariants.{Tight}
 use Rattle.nf_model.specs.Entries.{number_at}
 use Rattle.nf_model.specs.Network.{Link, Network}
 use Rattle.nf_model.specs.Pattern.{Pattern}
