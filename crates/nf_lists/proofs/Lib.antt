@@ -1,2 +1,5 @@
 mod Tables
 mod Patterns
+mod Sorted
+mod Listings
+mod Searches

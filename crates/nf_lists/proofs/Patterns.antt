@@ -3,7 +3,7 @@ use Rattle.std.specs.Prelude.{◌≡◌, ℕ, ◌-◌, ◌^◌, Bool, true, fals
 use Rattle.nf_rational.specs.Gcd.{gcd}
 use Rattle.nf_rational.specs.Rational.{ℚ, ratio}
 use Rattle.nf_rational.specs.Operations.{whole, neg_ℚ, inv_ℚ, ◌+ℚ◌, ◌-ℚ◌, ◌*ℚ◌, ◌/ℚ◌}
-use Rattle.nf_rational.specs.Order.{le_ℚ, lt_ℚ}
+use Rattle.nf_rational.specs.Order.{le_ℚ}
 use Rattle.nf_work.specs.Passing.{beyond, bound_of}
 use Rattle.nf_work.specs.Checked.{checked}
 use Rattle.nf_work.specs.declared.Op.{Op}
@@ -11,8 +11,7 @@ use Rattle.nf_work.specs.declared.Op.TheVariants.{Product, Quotient}
 use Rattle.nf_work.specs.declared.Part.{Part}
 use Rattle.nf_work.specs.declared.Part.TheVariants.{Table, Verdict}
 use Rattle.nf_work.specs.declared.PassedAt.{PassedAt}
-use Rattle.nf_model.specs.declared.State.{State}
-use Rattle.nf_model.specs.declared.State.TheVariants.{Tight, Full, Zero}
+use Rattle.nf_model.specs.declared.State.TheVariants.{Tight, Full}
 use Rattle.nf_model.specs.Network.{Link, Network}
 use Rattle.nf_model.specs.ThinFlow.{Sets}
 use Rattle.nf_model.specs.Pattern.{Pattern}

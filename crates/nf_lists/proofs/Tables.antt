@@ -8,7 +8,6 @@ use Rattle.nf_work.specs.Passing.{beyond, bound_of}
 use Rattle.nf_work.specs.Checked.{Checked, checked}
 use Rattle.nf_work.specs.declared.Op.{Op}
 use Rattle.nf_work.specs.declared.Op.TheVariants.{Quotient}
-use Rattle.nf_work.specs.declared.Passed.{Passed}
 use Rattle.nf_lists.specs.Table.{Row, table_list}
 
 -- a number by its parts

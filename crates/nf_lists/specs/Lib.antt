@@ -10,3 +10,4 @@ pub mod Listing
 pub mod Search
 pub mod ReportCurves
 pub mod PhaseRun
+pub mod Laws

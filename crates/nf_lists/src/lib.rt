@@ -2,3 +2,16 @@
 //! `specs/`. A list of operations is written as the computation that does them (`nf_work`): its value, or the first of its
 //! operations that passes the bound of a fraction's parts.
 #![tactic(auto)]
+
+ghost use Rattle.nf_lists.specs.Laws.{ListingIsUnique, SearchHasOneAnswer};
+
+/// A network's listed patterns have one listing, for each base pattern.
+pub fn listing_is_unique()
+    ensures { ListingIsUnique }
+{}
+
+/// A search has one answer at most: a thin flow found, the budget used up, an operation that passes, or no pattern; and what
+/// it answers beside.
+pub fn search_has_one_answer()
+    ensures { SearchHasOneAnswer }
+{}
