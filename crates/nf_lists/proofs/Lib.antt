@@ -3,3 +3,5 @@ mod Patterns
 mod Sorted
 mod Listings
 mod Searches
+mod Runs
+mod Passing
