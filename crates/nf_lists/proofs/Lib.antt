@@ -5,3 +5,4 @@ mod Listings
 mod Searches
 mod Runs
 mod Passing
+mod Parallel

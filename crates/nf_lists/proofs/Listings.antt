@@ -1,7 +1,7 @@
 -- A listing is unique: the order of patterns is strict.
-use Rattle.std.proofs.Common.{◌≡◌, ℕ, suc, List, [], ◌∷◌, refl, sym, ap, ◌∙◌, arith, inl, inr}
-use Rattle.std.specs.Prelude.{slice_get}
-use Rattle.std.proofs.lemmas.Option.{same_Some}
+use Rattle.std.proofs.Common.{◌≡◌, ℕ, zero, suc, ◌<◌, List, [], ◌∷◌, refl, sym, ap, ◌∙◌, subst, arith, inl, inr}
+use Rattle.std.specs.Prelude.{◌⊎◌, Some, slice_get}
+use Rattle.std.proofs.lemmas.Option.{none-some, same_Some}
 use Rattle.nf_model.specs.Network.{Network}
 use Rattle.nf_model.specs.ThinFlow.{Sets}
 use Rattle.nf_model.specs.Pattern.{Pattern, rank, IsEarlier, IsBefore}
@@ -23,11 +23,50 @@ IsBefore-asymmetric base p q (inl h) (inr k) = let e = k.0 in omega arith
 IsBefore-asymmetric base p q (inr h) (inl k) = let e = h.0 in omega arith
 IsBefore-asymmetric base p q (inr h) (inr k) = IsEarlier-asymmetric p q h.1 k.1
 
+IsEarlier-transitive : (p q r : Pattern) → IsEarlier p q → IsEarlier q r → IsEarlier p r
+IsEarlier-transitive [] q r h k = absurd h
+IsEarlier-transitive (a ∷ p) [] r h k = absurd h
+IsEarlier-transitive (a ∷ p) (b ∷ q) [] h k = absurd k
+IsEarlier-transitive (a ∷ p) (b ∷ q) (c ∷ r) (inl h) (inl k) = inl (omega arith)
+IsEarlier-transitive (a ∷ p) (b ∷ q) (c ∷ r) (inl h) (inr k) = let e : rank b ≡ rank c = ap rank k.0 in inl (omega arith)
+IsEarlier-transitive (a ∷ p) (b ∷ q) (c ∷ r) (inr h) (inl k) = let e : rank a ≡ rank b = ap rank h.0 in inl (omega arith)
+IsEarlier-transitive (a ∷ p) (b ∷ q) (c ∷ r) (inr h) (inr k) = inr (h.0 ∙ k.0, IsEarlier-transitive p q r h.1 k.1)
+
+pub IsBefore-transitive : (base p q r : Pattern) → IsBefore base p q → IsBefore base q r → IsBefore base p r
+IsBefore-transitive base p q r (inl h) (inl k) = inl (omega arith)
+IsBefore-transitive base p q r (inl h) (inr k) = let e = k.0 in inl (omega arith)
+IsBefore-transitive base p q r (inr h) (inl k) = let e = h.0 in inl (omega arith)
+IsBefore-transitive base p q r (inr h) (inr k) = inr (h.0 ∙ k.0, IsEarlier-transitive p q r h.1 k.1)
+
+-- ---- where each comes before the next, each comes before all later ones
+abbrev pub NextInOrder : Pattern → List Pattern → Type 0
+NextInOrder base listing = (i : ℕ) (p q : Pattern) → slice_get listing i ≡ Some p → slice_get listing (suc i) ≡ Some q → IsBefore base p q
+
+tail_in_order : (base x : Pattern) (xs : List Pattern) → NextInOrder base (x ∷ xs) → NextInOrder base xs
+tail_in_order base x xs h i p q at_p at_q = h (suc i) p q at_p at_q
+
+head_first : (base x : Pattern) (xs : List Pattern) (j : ℕ) (q : Pattern) → NextInOrder base (x ∷ xs) → slice_get xs j ≡ Some q → IsBefore base x q
+head_first base x [] j q h at_q = absurd (none-some q at_q)
+head_first base x (y ∷ xs) zero q h at_q = h 0 x q refl at_q
+head_first base x (y ∷ xs) (suc j) q h at_q = IsBefore-transitive base x y q (h 0 x y refl refl) (head_first base y xs j q (tail_in_order base x (y ∷ xs) h) at_q)
+
+pub all_in_order : (base : Pattern) (listing : List Pattern) → NextInOrder base listing → InOrder (IsBefore base) listing
+all_in_order base [] h i j p q before at_p at_q = absurd (none-some p at_p)
+all_in_order base (x ∷ xs) h zero zero p q before at_p at_q = absurd (omega arith)
+all_in_order base (x ∷ xs) h zero (suc j) p q before at_p at_q =
+    subst (λ (w : Pattern). IsBefore base w q) (same_Some x p at_p) (head_first base x xs j q h at_q)
+all_in_order base (x ∷ xs) h (suc i) zero p q before at_p at_q = absurd (omega arith)
+all_in_order base (x ∷ xs) h (suc i) (suc j) p q before at_p at_q = all_in_order base xs (tail_in_order base x xs h) i j p q (omega arith) at_p at_q
+
 -- ---- places
 pub same_pattern : (listing : List Pattern) (place : ℕ) (p q : Pattern) → HasPlace listing place p → HasPlace listing place q → p ≡ q
 same_pattern listing place p q h k =
     let e : h.0 ≡ k.0 = (let f = h.1 in let g = k.1 in omega arith) in
     same_Some p q (sym h.2 ∙ (ap (slice_get listing) e ∙ k.2))
+
+pub ordered_by_place : (base : Pattern) (listing : List Pattern) → InOrder (IsBefore base) listing → (earlier later : ℕ) (p q : Pattern) → earlier < later
+    → HasPlace listing earlier p → HasPlace listing later q → IsBefore base p q
+ordered_by_place base listing order earlier later p q before h k = order h.0 k.0 p q (let f = h.1 in let g = k.1 in omega arith) h.2 k.2
 
 -- ---- one listing
 module _ (net : Network) (sets : Sets) (base : Pattern) where
