@@ -1,8 +1,9 @@
+pub mod Sorted
+pub mod Listings
+pub mod Searches
+mod Examples
 mod Tables
 mod Patterns
-mod Sorted
-mod Listings
-mod Searches
 mod Runs
 mod Passing
 mod Parallel

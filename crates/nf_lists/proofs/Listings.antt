@@ -1,8 +1,8 @@
 -- A listing is unique: the order of patterns is strict.
 use Rattle.std.proofs.Common.{◌≡◌, ℕ, zero, suc, ◌<◌, List, [], ◌∷◌, refl, sym, ap, ◌∙◌, subst, arith, inl, inr}
-use Rattle.std.specs.Prelude.{◌⊎◌, Some, slice_get}
+use Rattle.std.specs.Prelude.{Bool, Some, slice_get}
 use Rattle.std.proofs.lemmas.Option.{none-some, same_Some}
-use Rattle.nf_model.specs.Network.{Network}
+use Rattle.nf_model.specs.Walk.{Hop}
 use Rattle.nf_model.specs.ThinFlow.{Sets}
 use Rattle.nf_model.specs.Pattern.{Pattern, rank, IsEarlier, IsBefore}
 use Rattle.nf_lists.specs.Listing.{HasPlace, IsListing}
@@ -69,12 +69,13 @@ pub ordered_by_place : (base : Pattern) (listing : List Pattern) → InOrder (Is
 ordered_by_place base listing order earlier later p q before h k = order h.0 k.0 p q (let f = h.1 in let g = k.1 in omega arith) h.2 k.2
 
 -- ---- one listing
-module _ (net : Network) (sets : Sets) (base : Pattern) where
-  in_order : (listing : List Pattern) → IsListing net sets base listing → InOrder (IsBefore base) listing
+module _ (nodes source : ℕ) (hops : List Hop) (sets : Sets) (unbounded : List Bool) (base : Pattern) where
+  in_order : (listing : List Pattern) → IsListing nodes source hops sets unbounded base listing → InOrder (IsBefore base) listing
   in_order listing h i j p q before at_p at_q = h.ordered (suc i) (suc j) p q (omega arith) (i, refl, at_p) (j, refl, at_q)
 
-  into : (listing other : List Pattern) → IsListing net sets base listing → IsListing net sets base other → (p : Pattern) → StandsIn listing p → StandsIn other p
+  into : (listing other : List Pattern) → IsListing nodes source hops sets unbounded base listing → IsListing nodes source hops sets unbounded base other
+      → (p : Pattern) → StandsIn listing p → StandsIn other p
   into listing other h k p here = let there = k.whole p (h.listed (suc here.0) p (here.0, refl, here.1)) in (there.1.0, there.1.2)
 
-  pub one_listing : (listing other : List Pattern) → IsListing net sets base listing → IsListing net sets base other → listing ≡ other
+  pub one_listing : (listing other : List Pattern) → IsListing nodes source hops sets unbounded base listing → IsListing nodes source hops sets unbounded base other → listing ≡ other
   one_listing listing other h k = same_list (IsBefore base) (IsBefore-asymmetric base) listing other (in_order listing h) (in_order other k) (into listing other h k) (into other listing k h)

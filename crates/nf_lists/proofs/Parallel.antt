@@ -1,19 +1,17 @@
 -- Two parallel links from source to sink, both active: the listing of their patterns from the base (Tight, Zero).
 use Rattle.std.proofs.Common.{◌≡◌, ℕ, zero, suc, ◌<◌, List, [], ◌∷◌, Bool, true, false, length, map, refl, sym, ap, ◌∙◌, subst, arith, inl, inr}
-use Rattle.std.specs.Prelude.{◌≢◌, ◌⊎◌, ◌↔◌, Option, Some, None, slice_get, slice_index_or, Contains}
+use Rattle.std.specs.Prelude.{◌⊎◌, ◌↔◌, Option, Some, slice_get, slice_index_or, Contains}
 use Rattle.std.proofs.lemmas.Option.{none-some, same_Some}
-use Rattle.nf_rational.specs.Rational.{ℚ}
-use Rattle.nf_rational.specs.Operations.{whole}
 use Rattle.nf_model.specs.declared.State.{State}
 use Rattle.nf_model.specs.declared.State.TheVariants.{Tight, Full, Zero}
 use Rattle.nf_model.specs.Entries.{Has}
 use Rattle.nf_model.specs.Walk.{Hop, IsHop}
 use Rattle.nf_model.specs.Network.{Network, hops, unbounded}
 use Rattle.nf_model.specs.ThinFlow.{Sets}
-use Rattle.nf_model.specs.Pattern.{Pattern, HasState, MayChoose, IsPattern, IsTrail, AllDiffer, IsForest, IsListed, IsListedIn, IsBefore}
-use Rattle.nf_lists.specs.Listing.{HasPlace, IsListing}
+use Rattle.nf_model.specs.Pattern.{Pattern, HasState, MayChoose, IsPattern, IsTrail, AllDiffer, IsForest, IsListedIn, IsBefore}
+use Rattle.nf_lists.specs.Listing.{HasPlace, IsListingIn}
 use Rattle.nf_lists.proofs.Listings.{NextInOrder, all_in_order, ordered_by_place}
-use Rattle.nf_lists.proofs.Runs.{n, link}
+use Rattle.nf_lists.proofs.Examples.{n, link}
 
 abbrev parallel : Network
 parallel = record {
@@ -168,10 +166,13 @@ two_states (x ∷ y ∷ []) count h k =
     (h.0, k.0, ap (λ (w : Option State). w ∷ Some k.0 ∷ []) e ∙ ap (λ (w : Option State). x ∷ w ∷ []) f)
 two_states (x ∷ y ∷ z ∷ p) count h k = absurd (omega arith)
 
+at_states : (p : Pattern) (a b : State) → states a b ≡ p → IsListedIn parallel both p → (place : ℕ) × HasPlace seven place p
+at_states p a b e h = subst (λ (q : Pattern). (place : ℕ) × HasPlace seven place q) e (place_of a b (subst (IsListedIn parallel both) (sym e) h))
+
 all_seven : (p : Pattern) → IsListedIn parallel both p → (place : ℕ) × HasPlace seven place p
 all_seven p h =
     let at = two_states p h.states.count ((h.states.states 0).0 (refl, λ k. cc)) ((h.states.states 1).0 (refl, λ k. cc)) in
-    subst (λ (q : Pattern). (place : ℕ) × HasPlace seven place q) at.2 (place_of at.0 at.1 (subst (IsListedIn parallel both) (sym at.2) h))
+    at_states p at.0 at.1 at.2 h
 
 -- ---- the order
 abbrev base : Pattern
@@ -190,7 +191,7 @@ seven_in_order (suc (suc (suc (suc (suc zero))))) p q h k = before p q _ _ h k (
 seven_in_order (suc (suc (suc (suc (suc (suc i)))))) p q h k = absurd (none-some q k)
 
 -- all seven, in their order
-pub seven_are_the_listing : IsListing parallel both base seven
+pub seven_are_the_listing : IsListingIn parallel both base seven
 seven_are_the_listing = record {
   listed = λ place p h. seven_listed h.0 p h.2;
   whole = all_seven;

@@ -1,5 +1,5 @@
 -- Lists of operations in which one passes, by computation. All fractions are of 127 bits.
-use Rattle.std.specs.Prelude.{◌≡◌, ℕ, ◌-◌, ◌^◌, [], ◌∷◌, Option, Some, None, Result, Ok, Err, pos, refl}
+use Rattle.std.specs.Prelude.{◌≡◌, [], ◌∷◌, Option, Some, None, Result, Ok, Err, pos, refl}
 use Rattle.nf_rational.specs.Gcd.{gcd}
 use Rattle.nf_rational.specs.Rational.{ℚ, ratio}
 use Rattle.nf_rational.specs.Operations.{whole, neg_ℚ, inv_ℚ, ◌+ℚ◌, ◌-ℚ◌, ◌*ℚ◌, ◌/ℚ◌}
@@ -13,7 +13,7 @@ use Rattle.nf_work.specs.declared.Part.TheVariants.{Slack, Extend, Advance, Curv
 use Rattle.nf_work.specs.declared.PassedAt.{PassedAt}
 use Rattle.nf_model.specs.declared.State.TheVariants.{Tight}
 use Rattle.nf_model.specs.Network.{Network}
-use Rattle.nf_lists.specs.Slack.{slack, slack_list}
+use Rattle.nf_lists.specs.Slack.{slack_of, slack_list}
 use Rattle.nf_lists.specs.Table.{table_list}
 use Rattle.nf_lists.specs.Equations.{equations}
 use Rattle.nf_lists.specs.Verdict.{verdict_list}
@@ -22,11 +22,8 @@ use Rattle.nf_lists.specs.Advance.{labels_after, advance_list}
 use Rattle.nf_lists.specs.CurveList.{curve_list}
 use Rattle.nf_lists.specs.Accepted.{pattern_lists}
 use Rattle.nf_lists.specs.PhaseRun.{phase_lists}
-use Rattle.nf_lists.proofs.Runs.{n, exact, link, Parts, parts_of, first_standing, phases_by}
-
--- the greatest whole number
-abbrev L : ℕ
-L = 2 ^ 127 - 1
+use Rattle.nf_lists.proofs.Examples.{n, L, in_127_bits, link, Parts, parts_of}
+use Rattle.nf_lists.proofs.Runs.{first_standing, phases_by}
 
 -- the operation that passes
 abbrev passing : {A : Type 0} → Result A (PassedAt ℚ) → Option (Part × Op × Parts × Parts)
@@ -34,9 +31,9 @@ passing (Ok x) = None
 passing (Err p) = Some (p.part, p.op, parts_of p.left, parts_of p.right)
 
 -- ---- slack: a transit time that the tail's label 1/3 can't be added to
-slack_passes : passing (at_part Slack (slack_list exact (record { tail = 0; head = 1; transit = n L } ∷ []) (ratio (pos 1) 3 ∷ n 0 ∷ [])))
+slack_passes : passing (at_part Slack (slack_list in_127_bits (record { tail = 0; head = 1; transit = n L } ∷ []) (ratio (pos 1) 3 ∷ n 0 ∷ [])))
     ≡ Some (Slack, Sum, (pos 1, 3), (pos L, 1))
-unfolding slack slack_list checked beyond whole ratio gcd neg_ℚ ◌+ℚ◌ ◌-ℚ◌ ◌*ℚ◌
+unfolding slack_of slack_list checked beyond whole ratio gcd neg_ℚ ◌+ℚ◌ ◌-ℚ◌ ◌*ℚ◌
 slack_passes = refl
 
 -- ---- extend, in the second phase: from 1/3 to a next change at the greatest number

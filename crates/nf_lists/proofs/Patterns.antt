@@ -1,10 +1,10 @@
 -- Patterns by computation: their equations, their solution, and which of their operations passes.
-use Rattle.std.specs.Prelude.{◌≡◌, ℕ, ◌-◌, ◌^◌, Bool, true, false, List, [], ◌∷◌, Option, Some, None, Result, Ok, Err, map, ℤ, pos, negsuc, refl}
+use Rattle.std.specs.Prelude.{◌≡◌, true, false, List, [], ◌∷◌, Option, Some, None, Result, Ok, Err, map, pos, negsuc, refl}
 use Rattle.nf_rational.specs.Gcd.{gcd}
 use Rattle.nf_rational.specs.Rational.{ℚ, ratio}
 use Rattle.nf_rational.specs.Operations.{whole, neg_ℚ, inv_ℚ, ◌+ℚ◌, ◌-ℚ◌, ◌*ℚ◌, ◌/ℚ◌}
 use Rattle.nf_rational.specs.Order.{le_ℚ}
-use Rattle.nf_work.specs.Passing.{beyond, bound_of}
+use Rattle.nf_work.specs.Passing.{beyond}
 use Rattle.nf_work.specs.Checked.{checked}
 use Rattle.nf_work.specs.declared.Op.{Op}
 use Rattle.nf_work.specs.declared.Op.TheVariants.{Product, Quotient}
@@ -12,41 +12,25 @@ use Rattle.nf_work.specs.declared.Part.{Part}
 use Rattle.nf_work.specs.declared.Part.TheVariants.{Table, Verdict}
 use Rattle.nf_work.specs.declared.PassedAt.{PassedAt}
 use Rattle.nf_model.specs.declared.State.TheVariants.{Tight, Full}
-use Rattle.nf_model.specs.Network.{Link, Network}
-use Rattle.nf_model.specs.ThinFlow.{Sets}
+use Rattle.nf_model.specs.Network.{Network}
 use Rattle.nf_model.specs.Pattern.{Pattern}
+use Rattle.nf_lists.proofs.Examples.{n, L, in_127_bits, link, Parts, parts_of}
 use Rattle.nf_lists.specs.Table.{table_list}
 use Rattle.nf_lists.specs.Equations.{equations}
 use Rattle.nf_lists.specs.Verdict.{verdict_list}
 use Rattle.nf_lists.specs.Accepted.{Solved, pattern_lists}
 
-abbrev n : ℕ → ℚ
-n k = whole (pos k)
-
-abbrev parts_of : ℚ → ℤ × ℕ
-parts_of x = (x.num, x.den)
-
-abbrev parts : Result (Option Solved) (PassedAt ℚ) → Result (Option (List (ℤ × ℕ) × List (ℤ × ℕ))) (Part × Op × (ℤ × ℕ) × (ℤ × ℕ))
+abbrev parts : Result (Option Solved) (PassedAt ℚ) → Result (Option (List Parts × List Parts)) (Part × Op × Parts × Parts)
 parts (Ok None) = Ok None
 parts (Ok (Some solved)) = Ok (Some (map parts_of solved.flows, map parts_of solved.slopes))
 parts (Err at) = Err (at.part, at.op, parts_of at.left, parts_of at.right)
 
--- the greatest whole number
-abbrev L : ℕ
-L = 2 ^ 127 - 1
-
-abbrev link : ℕ → ℕ → ℚ → Link
-link tail head capacity = record { tail = tail; head = head; transit = n 1; capacity = Some capacity }
-
-abbrev all_active : List Bool → List Bool → Sets
-all_active active resetting = record { active = active; resetting = resetting }
-
 -- ---- one link whose capacity is one over the greatest number, supplied at rate 2: its second pattern
 abbrev narrow : Network
-narrow = record { nodes = 2; source = 0; sink = 1; links = link 0 1 (ratio (pos 1) L) ∷ []; pieces = record { start = n 0; rate = n 2 } ∷ [] }
+narrow = record { nodes = 2; source = 0; sink = 1; links = link 0 1 (n 1) (Some (ratio (pos 1) L)) ∷ []; pieces = record { start = n 0; rate = n 2 } ∷ [] }
 
-abbrev on_narrow : Pattern → Result (Option (List (ℤ × ℕ) × List (ℤ × ℕ))) (Part × Op × (ℤ × ℕ) × (ℤ × ℕ))
-on_narrow pattern = parts (pattern_lists (beyond (bound_of 127)) narrow (record { active = true ∷ []; resetting = false ∷ [] }) (n 2) pattern)
+abbrev on_narrow : Pattern → Result (Option (List Parts × List Parts)) (Part × Op × Parts × Parts)
+on_narrow pattern = parts (pattern_lists in_127_bits narrow (record { active = true ∷ []; resetting = false ∷ [] }) (n 2) pattern)
 
 narrow_tight : on_narrow (Some Tight ∷ []) ≡ Ok (Some ((pos 2, 1) ∷ [], (pos 1, 1) ∷ (pos 1, 1) ∷ []))
 unfolding pattern_lists table_list equations verdict_list checked beyond whole ratio gcd neg_ℚ inv_ℚ ◌+ℚ◌ ◌-ℚ◌ ◌*ℚ◌ ◌/ℚ◌ le_ℚ
@@ -58,10 +42,10 @@ narrow_full = refl
 
 -- ---- a link of capacity 1, and behind it one of the greatest capacity: their third pattern
 abbrev wide : Network
-wide = record { nodes = 3; source = 0; sink = 1; links = link 0 2 (n 1) ∷ link 2 1 (n L) ∷ []; pieces = record { start = n 0; rate = n 2 } ∷ [] }
+wide = record { nodes = 3; source = 0; sink = 1; links = link 0 2 (n 1) (Some (n 1)) ∷ link 2 1 (n 1) (Some (n L)) ∷ []; pieces = record { start = n 0; rate = n 2 } ∷ [] }
 
-abbrev on_wide : Pattern → Result (Option (List (ℤ × ℕ) × List (ℤ × ℕ))) (Part × Op × (ℤ × ℕ) × (ℤ × ℕ))
-on_wide pattern = parts (pattern_lists (beyond (bound_of 127)) wide (record { active = true ∷ true ∷ []; resetting = false ∷ false ∷ [] }) (n 2) pattern)
+abbrev on_wide : Pattern → Result (Option (List Parts × List Parts)) (Part × Op × Parts × Parts)
+on_wide pattern = parts (pattern_lists in_127_bits wide (record { active = true ∷ true ∷ []; resetting = false ∷ false ∷ [] }) (n 2) pattern)
 
 wide_full_tight : on_wide (Some Full ∷ Some Tight ∷ []) ≡ Err (Verdict, Product, (pos L, 1), (pos 2, 1))
 unfolding pattern_lists table_list equations verdict_list checked beyond whole ratio gcd neg_ℚ inv_ℚ ◌+ℚ◌ ◌-ℚ◌ ◌*ℚ◌ ◌/ℚ◌ le_ℚ

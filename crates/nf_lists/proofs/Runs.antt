@@ -1,15 +1,15 @@
 -- Runs by computation: phases by given patterns, and the curves of the report at their end.
-use Rattle.std.specs.Prelude.{◌≡◌, ℕ, List, [], ◌∷◌, Option, Some, None, Result, Ok, map, length, replicate, ℤ, pos, refl}
+use Rattle.std.specs.Prelude.{◌≡◌, ℕ, List, [], ◌∷◌, Option, Some, None, Result, Ok, map, length, replicate, pos, refl}
 use Rattle.nf_rational.specs.Gcd.{gcd}
 use Rattle.nf_rational.specs.Rational.{ℚ, ratio}
 use Rattle.nf_rational.specs.Operations.{0ℚ, whole, neg_ℚ, inv_ℚ, ◌+ℚ◌, ◌-ℚ◌, ◌*ℚ◌, ◌/ℚ◌}
 use Rattle.nf_rational.specs.Order.{le_ℚ, lt_ℚ, min_ℚ}
-use Rattle.nf_work.specs.Passing.{Passing, beyond, bound_of}
+use Rattle.nf_work.specs.Passing.{beyond}
 use Rattle.nf_work.specs.Checked.{checked, ◌>>=◌}
 use Rattle.nf_work.specs.declared.PassedAt.{PassedAt}
 use Rattle.nf_model.specs.declared.State.TheVariants.{Tight, Full}
 use Rattle.nf_model.specs.Curve.{Point}
-use Rattle.nf_model.specs.Network.{Link, Network, rate_at}
+use Rattle.nf_model.specs.Network.{Network, rate_at}
 use Rattle.nf_model.specs.ThinFlow.{sets_at}
 use Rattle.nf_model.specs.Pattern.{Pattern}
 use Rattle.nf_model.specs.Equilibrium.{Trace, Flow}
@@ -21,15 +21,10 @@ use Rattle.nf_lists.specs.Advance.{labels_after, advance_list}
 use Rattle.nf_lists.specs.CurveList.{curve_list}
 use Rattle.nf_lists.specs.Accepted.{Solved, pattern_lists}
 use Rattle.nf_lists.specs.ReportCurves.{first_label_curve, first_curves}
+use Rattle.nf_lists.proofs.Examples.{n, in_127_bits, link, Parts, parts_of, i}
 use Rattle.nf_lists.specs.PhaseRun.{Standing, Bounds, phase_lists, standing_after, flow_of}
 
-abbrev pub n : ℕ → ℚ
-n k = whole (pos k)
-
 -- ---- a run to a horizon by these patterns
-abbrev pub exact : Passing
-exact = beyond (bound_of 127)
-
 abbrev pub bounds_to : ℚ → Bounds
 bounds_to horizon = record { horizon = horizon; phases = 10000; patterns = 100000 }
 
@@ -46,12 +41,12 @@ first_standing net labels = record {
 abbrev pub with_solved : Network → ℚ → Standing → Pattern → Option Solved → Result (Option Standing) (PassedAt ℚ)
 with_solved net horizon s pattern None = Ok None
 with_solved net horizon s pattern (Some solved) = do
-  step ← phase_lists exact net (bounds_to horizon) s pattern solved.flows solved.slopes
+  step ← phase_lists in_127_bits net (bounds_to horizon) s pattern solved.flows solved.slopes
   Ok (Some (standing_after net s pattern solved.slopes step))
 
 abbrev pub phase_by : Network → ℚ → Standing → Pattern → Result (Option Standing) (PassedAt ℚ)
 phase_by net horizon s pattern = do
-  solved ← pattern_lists exact net (sets_at net s.labels) (rate_at net s.time) pattern
+  solved ← pattern_lists in_127_bits net (sets_at net s.labels) (rate_at net s.time) pattern
   with_solved net horizon s pattern solved
 
 abbrev pub and_so_on : (Standing → Result (Option Standing) (PassedAt ℚ)) → Option Standing → Result (Option Standing) (PassedAt ℚ)
@@ -63,12 +58,6 @@ phases_by net horizon s [] = Ok (Some s)
 phases_by net horizon s (pattern ∷ patterns) = phase_by net horizon s pattern >>= and_so_on (λ next. phases_by net horizon next patterns)
 
 -- ---- its curves, by numerators and denominators
-abbrev pub Parts : Type 0
-Parts = ℤ × ℕ
-
-abbrev pub parts_of : ℚ → Parts
-parts_of x = (x.num, x.den)
-
 abbrev pub points_in : List Point → List (Parts × Parts)
 points_in points = map (λ p. (parts_of p.0, parts_of p.1)) points
 
@@ -95,14 +84,8 @@ abbrev pub printed_run : Result (Option Standing) (PassedAt ℚ) → Option Prin
 printed_run (Ok (Some s)) = Some (printed (flow_of s))
 printed_run r = None
 
-abbrev pub i : ℕ → Parts
-i k = (pos k, 1)
-
 abbrev pub at : ℕ → ℕ → Parts × Parts
 at time value = (i time, i value)
-
-abbrev pub link : ℕ → ℕ → ℚ → Option ℚ → Link
-link tail head transit capacity = record { tail = tail; head = head; transit = transit; capacity = capacity }
 
 -- ---- one link of transit time 1 and capacity 1, supplied at rate 2 until 2
 abbrev pub one_link : Network

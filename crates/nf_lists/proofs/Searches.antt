@@ -5,7 +5,7 @@ use Rattle.std.proofs.lemmas.Bool.{cases_lt}
 use Rattle.nf_rational.specs.Rational.{ℚ}
 use Rattle.nf_work.specs.Passing.{Passing}
 use Rattle.nf_work.specs.declared.PassedAt.{PassedAt}
-use Rattle.nf_model.specs.Network.{Network}
+use Rattle.nf_model.specs.Network.{Network, hops, unbounded}
 use Rattle.nf_model.specs.ThinFlow.{Sets}
 use Rattle.nf_model.specs.Pattern.{Pattern, Solves}
 use Rattle.nf_lists.specs.Accepted.{pattern_lists}
@@ -77,5 +77,5 @@ module _ (passes : Passing) (net : Network) (sets : Sets) (rate : ℚ) (listing 
 pub one_answer : (passes : Passing) (net : Network) (sets : Sets) (rate : ℚ) (base : Pattern) (budget : ℕ) (a b : Answer)
     → IsSearch passes net sets rate base budget a → IsSearch passes net sets rate base budget b → a ≡ b
 one_answer passes net sets rate base budget a b h i =
-    let listings : h.listing ≡ i.listing = one_listing net sets base h.listing i.listing h.is_listing i.is_listing in
+    let listings : h.listing ≡ i.listing = one_listing net.nodes net.source (hops net) sets (unbounded net) base h.listing i.listing h.is_listing i.is_listing in
     same_answer passes net sets rate i.listing budget a b (subst (λ (l : List Pattern). Answers passes net sets rate l budget a) listings h.answers) i.answers

@@ -3,7 +3,6 @@ use Rattle.std.specs.Prelude.{ℕ, Bool, true, false, List, Option, Some, None, 
 use Rattle.std.specs.List.{enumerate_from}
 use Rattle.nf_rational.specs.Rational.{ℚ}
 use Rattle.nf_rational.specs.Operations.{0ℚ}
-use Rattle.nf_rational.specs.Order.{lt_ℚ}
 use Rattle.nf_work.specs.Passing.{Passing}
 use Rattle.nf_work.specs.Checked.{Checked, checked, each, ◌>>=◌}
 use Rattle.nf_work.specs.declared.Op.TheVariants.{Sum, Difference, Product, Quotient}
@@ -13,6 +12,7 @@ use Rattle.nf_model.specs.Entries.{number_at}
 use Rattle.nf_model.specs.Network.{Link, Network}
 use Rattle.nf_model.specs.ThinFlow.{Sets}
 use Rattle.nf_model.specs.Pattern.{Pattern}
+use Rattle.nf_lists.specs.Signs.{is_positive}
 
 -- how a queue goes on: what is in it at the phase's end, and its slope until then, by the time at the tail
 pub record QueueStep : Type 0 where
@@ -68,7 +68,7 @@ module _ (passes : Passing) where
   queue_step link (Some rate) = do
     a ← checked passes Sum link.tail_label link.transit
     slack ← checked passes Difference link.head_label a
-    size ← size_at (lt_ℚ 0ℚ slack) link.capacity slack
+    size ← size_at (is_positive slack) link.capacity slack
     slope ← slope_at link.filled link.capacity rate
     Ok (Some (record { size = size; slope = slope }))
 
@@ -76,8 +76,8 @@ module _ (passes : Passing) where
   link_step length so_far link = do
     p ← checked passes Product length link.flow
     amount ← checked passes Sum so_far p
-    inflow_rate ← rate_over (lt_ℚ 0ℚ link.tail_slope) link.flow link.tail_slope
-    outflow_rate ← rate_over (lt_ℚ 0ℚ link.head_slope) link.flow link.head_slope
+    inflow_rate ← rate_over (is_positive link.tail_slope) link.flow link.tail_slope
+    outflow_rate ← rate_over (is_positive link.head_slope) link.flow link.head_slope
     queue ← queue_step link inflow_rate
     Ok (record { amount = amount; inflow_rate = inflow_rate; outflow_rate = outflow_rate; queue = queue })
 

@@ -1,20 +1,16 @@
 -- The extend list: how long a phase may last. Link by link, after how long it changes sides, and last how long it is until the
 -- next inflow change.
-use Rattle.std.specs.Prelude.{ℕ, Bool, true, false, ◌&&◌, ◌||◌, List, Option, Some, None, Ok}
+use Rattle.std.specs.Prelude.{ℕ, Bool, true, false, List, Option, Some, None, Ok}
 use Rattle.std.specs.List.{enumerate_from}
 use Rattle.nf_rational.specs.Rational.{ℚ}
 use Rattle.nf_rational.specs.Operations.{0ℚ}
-use Rattle.nf_rational.specs.Order.{lt_ℚ, min_ℚ}
+use Rattle.nf_rational.specs.Order.{min_ℚ}
 use Rattle.nf_work.specs.Passing.{Passing}
 use Rattle.nf_work.specs.Checked.{Checked, checked, fold_checked, ◌>>=◌}
 use Rattle.nf_work.specs.declared.Op.TheVariants.{Difference, Quotient}
 use Rattle.nf_model.specs.Entries.{number_at}
 use Rattle.nf_model.specs.Network.{Link, Network, next_change}
-use Rattle.nf_lists.specs.Table.{is_zero}
-
--- one is above 0 and the other below
-abbrev pub are_opposite : ℚ → ℚ → Bool
-are_opposite x y = (lt_ℚ x 0ℚ && lt_ℚ 0ℚ y) || (lt_ℚ 0ℚ x && lt_ℚ y 0ℚ)
+use Rattle.nf_lists.specs.Signs.{is_zero, are_opposite}
 
 -- the lesser of the lengths so far and one more; none so far where there was none
 abbrev pub lesser : Option ℚ → ℚ → Option ℚ

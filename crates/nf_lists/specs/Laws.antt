@@ -1,7 +1,8 @@
 -- What holds of the listing and of the search, whatever the network: there is one of each at most.
-use Rattle.std.specs.Prelude.{◌≡◌, ℕ, List}
+use Rattle.std.specs.Prelude.{◌≡◌, ℕ, Bool, List}
 use Rattle.nf_rational.specs.Rational.{ℚ}
 use Rattle.nf_work.specs.Passing.{Passing}
+use Rattle.nf_model.specs.Walk.{Hop}
 use Rattle.nf_model.specs.Network.{Network}
 use Rattle.nf_model.specs.ThinFlow.{Sets}
 use Rattle.nf_model.specs.Pattern.{Pattern}
@@ -9,7 +10,8 @@ use Rattle.nf_lists.specs.Listing.{IsListing}
 use Rattle.nf_lists.specs.Search.{Answer, IsSearch}
 
 abbrev pub ListingIsUnique : Type 0
-ListingIsUnique = (net : Network) (sets : Sets) (base : Pattern) (listing other : List Pattern) → IsListing net sets base listing → IsListing net sets base other → listing ≡ other
+ListingIsUnique = (nodes source : ℕ) (hops : List Hop) (sets : Sets) (unbounded : List Bool) (base : Pattern) (listing other : List Pattern)
+    → IsListing nodes source hops sets unbounded base listing → IsListing nodes source hops sets unbounded base other → listing ≡ other
 
 abbrev pub SearchHasOneAnswer : Type 0
 SearchHasOneAnswer = (passes : Passing) (net : Network) (sets : Sets) (rate : ℚ) (base : Pattern) (budget : ℕ) (answer other : Answer)

@@ -1,3 +1,4 @@
+pub mod Signs
 pub mod Slack
 pub mod Table
 pub mod Equations

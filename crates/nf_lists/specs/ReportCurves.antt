@@ -1,15 +1,15 @@
 -- The curves of a run's report, as they grow phase by phase. They are in short form: a curve that goes on with the slope that it
 -- had gets no corner; its last point moves.
-use Rattle.std.specs.Prelude.{◌-◌, Bool, true, false, ◌&&◌, List, [], ◌∷◌, ◌++◌, length, take, Option, Some, None}
+use Rattle.std.specs.Prelude.{◌-◌, Bool, true, false, List, [], ◌∷◌, ◌++◌, length, take, Option, Some, None}
 use Rattle.std.specs.List.{last_or}
 use Rattle.std.specs.Option.{option_map_or}
 use Rattle.nf_rational.specs.Rational.{ℚ}
 use Rattle.nf_rational.specs.Operations.{0ℚ}
-use Rattle.nf_rational.specs.Order.{le_ℚ, lt_ℚ}
 use Rattle.nf_model.specs.Entries.{number_at}
 use Rattle.nf_model.specs.Curve.{Point}
 use Rattle.nf_model.specs.Network.{Link}
 use Rattle.nf_model.specs.Equilibrium.{Trace}
+use Rattle.nf_lists.specs.Signs.{is_same, is_positive}
 use Rattle.nf_lists.specs.CurveList.{QueueStep, LinkStep}
 
 -- ---- one more point
@@ -17,7 +17,7 @@ use Rattle.nf_lists.specs.CurveList.{QueueStep, LinkStep}
 -- whether a curve that came to its last point with a slope, where it has more points than one, goes on with the same
 abbrev pub goes_on : Option ℚ → ℚ → Bool
 goes_on None slope = false
-goes_on (Some before) slope = le_ℚ before slope && le_ℚ slope before
+goes_on (Some before) slope = is_same before slope
 
 -- where it does, the new point takes the place of the last
 abbrev pub with_point : Bool → List Point → Point → List Point
@@ -66,9 +66,9 @@ pub record LinkCurves : Type 0 where
 
 abbrev pub first_curves : List ℚ → Link → LinkCurves
 first_curves labels link = record {
-  inflow = first_trace (lt_ℚ 0ℚ (number_at labels link.tail)) (number_at labels link.tail);
-  outflow = first_trace (lt_ℚ 0ℚ (number_at labels link.head)) (number_at labels link.head);
-  queue = first_queue (lt_ℚ 0ℚ (number_at labels link.tail)) (number_at labels link.tail);
+  inflow = first_trace (is_positive (number_at labels link.tail)) (number_at labels link.tail);
+  outflow = first_trace (is_positive (number_at labels link.head)) (number_at labels link.head);
+  queue = first_queue (is_positive (number_at labels link.tail)) (number_at labels link.tail);
 }
 
 -- ---- the points of a phase: at its end, and at the labels there

@@ -7,7 +7,7 @@ use Rattle.nf_model.specs.Network.{Network}
 use Rattle.nf_model.specs.ThinFlow.{Sets}
 use Rattle.nf_model.specs.Pattern.{Pattern, IsSolution}
 use Rattle.nf_lists.specs.Accepted.{pattern_lists, IsAccepted}
-use Rattle.nf_lists.specs.Listing.{HasPlace, IsListing}
+use Rattle.nf_lists.specs.Listing.{HasPlace, IsListingIn}
 
 -- what a search answers
 pub data Answer : Type 0 where
@@ -63,5 +63,5 @@ module _ (passes : Passing) (net : Network) (sets : Sets) (rate : ℚ) (listing 
 -- the answer of the search that begins with this base pattern and tries no more patterns than the budget
 pub record IsSearch (passes : Passing) (net : Network) (sets : Sets) (rate : ℚ) (base : Pattern) (budget : ℕ) (answer : Answer) : Type 0 where
   pub listing : List Pattern
-  pub is_listing : IsListing net sets base listing
+  pub is_listing : IsListingIn net sets base listing
   pub answers : Answers passes net sets rate listing budget answer

@@ -9,10 +9,10 @@ use Rattle.nf_model.specs.Walk.{Hop}
 
 module _ (passes : Passing) where
   -- the tail's label and the transit time, and how much later the head's label is
-  unfoldable pub slack : List ℚ → Hop → Checked ℚ
-  slack labels hop = do
+  unfoldable pub slack_of : List ℚ → Hop → Checked ℚ
+  slack_of labels hop = do
     a ← checked passes Sum (number_at labels hop.tail) hop.transit
     checked passes Difference (number_at labels hop.head) a
 
   unfoldable pub slack_list : List Hop → List ℚ → Checked (List ℚ)
-  slack_list hops labels = each (slack labels) hops
+  slack_list hops labels = each (slack_of labels) hops

@@ -4,20 +4,17 @@ use Rattle.std.specs.Prelude.{ℕ, zero, suc, Bool, true, false, not, ◌&&◌, 
 use Rattle.std.specs.List.{list_any}
 use Rattle.nf_rational.specs.Rational.{ℚ}
 use Rattle.nf_rational.specs.Operations.{0ℚ}
-use Rattle.nf_rational.specs.Order.{le_ℚ}
 use Rattle.nf_work.specs.Passing.{Passing}
 use Rattle.nf_work.specs.Checked.{Checked, checked, ◌>>=◌}
 use Rattle.nf_work.specs.declared.Op.TheVariants.{Difference, Product, Quotient}
 use Rattle.nf_model.specs.Entries.{number_at}
+use Rattle.nf_lists.specs.Signs.{is_zero}
 
 abbrev pub Row : Type 0
 Row = List ℚ
 
 abbrev pub row_at : List Row → ℕ → Row
 row_at rows i = unwrap_or (slice_get rows i) []
-
-abbrev pub is_zero : ℚ → Bool
-is_zero x = le_ℚ x 0ℚ && le_ℚ 0ℚ x
 
 -- ---- pivots
 
