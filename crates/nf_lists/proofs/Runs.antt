@@ -22,12 +22,9 @@ use Rattle.nf_lists.specs.CurveList.{curve_list}
 use Rattle.nf_lists.specs.Accepted.{Solved, pattern_lists}
 use Rattle.nf_lists.specs.ReportCurves.{first_label_curve, first_curves}
 use Rattle.nf_lists.proofs.Examples.{n, in_127_bits, link, Parts, parts_of, i}
-use Rattle.nf_lists.specs.PhaseRun.{Standing, Bounds, phase_lists, standing_after, flow_of}
+use Rattle.nf_lists.specs.PhaseRun.{Standing, phase_lists, standing_after, flow_of}
 
 -- ---- a run to a horizon by these patterns
-abbrev pub bounds_to : ℚ → Bounds
-bounds_to horizon = record { horizon = horizon; phases = 10000; patterns = 100000 }
-
 abbrev pub first_standing : Network → List ℚ → Standing
 first_standing net labels = record {
   time = 0ℚ;
@@ -41,7 +38,7 @@ first_standing net labels = record {
 abbrev pub with_solved : Network → ℚ → Standing → Pattern → Option Solved → Result (Option Standing) (PassedAt ℚ)
 with_solved net horizon s pattern None = Ok None
 with_solved net horizon s pattern (Some solved) = do
-  step ← phase_lists in_127_bits net (bounds_to horizon) s pattern solved.flows solved.slopes
+  step ← phase_lists in_127_bits net horizon s pattern solved.flows solved.slopes
   Ok (Some (standing_after net s pattern solved.slopes step))
 
 abbrev pub phase_by : Network → ℚ → Standing → Pattern → Result (Option Standing) (PassedAt ℚ)

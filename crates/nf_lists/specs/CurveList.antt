@@ -28,12 +28,12 @@ pub record LinkStep : Type 0 where
   pub outflow_rate : Option ℚ
   pub queue : Option QueueStep
 
--- flow goes into the link at its capacity or more: it is resetting or Full
+-- the flow fills the link: it is resetting or Full
 abbrev pub is_filled : Option State → Bool → Bool
 is_filled (Some Full) resetting = true
 is_filled state resetting = resetting
 
--- what a link does in a phase of this length
+-- what the list reads of a link: its slopes are those of the labels of its ends, and the labels are those at the phase's end
 pub record LinkPhase : Type 0 where
   pub capacity : Option ℚ
   pub transit : ℚ
@@ -43,6 +43,19 @@ pub record LinkPhase : Type 0 where
   pub head_slope : ℚ
   pub tail_label : ℚ
   pub head_label : ℚ
+
+-- that of a link with its number; the flow is 0 where the link isn't active
+abbrev pub link_phase : Sets → Pattern → List ℚ → List ℚ → List ℚ → ℕ × Link → LinkPhase
+link_phase sets pattern flows slopes labels (e, link) = record {
+  capacity = link.capacity;
+  transit = link.transit;
+  flow = number_at flows e;
+  filled = is_filled (unwrap_or (slice_get pattern e) None) (unwrap_or (slice_get sets.resetting e) false);
+  tail_slope = number_at slopes link.tail;
+  head_slope = number_at slopes link.head;
+  tail_label = number_at labels link.tail;
+  head_label = number_at labels link.head;
+}
 
 module _ (passes : Passing) where
   -- flow over slope, where that is above 0
@@ -81,18 +94,7 @@ module _ (passes : Passing) where
     queue ← queue_step link inflow_rate
     Ok (record { amount = amount; inflow_rate = inflow_rate; outflow_rate = outflow_rate; queue = queue })
 
-  -- the labels are those at the phase's end, and the amounts those at its beginning
+  -- the labels are those at the phase's end, and the amounts what had entered the links at its beginning
   unfoldable pub curve_list : Network → Sets → Pattern → ℚ → List ℚ → List ℚ → List ℚ → List ℚ → Checked (List LinkStep)
-  curve_list net sets pattern length flows slopes labels amounts = each step (enumerate_from 0 net.links)
-    where
-      step : ℕ × Link → Checked LinkStep
-      step (e, link) = link_step length (number_at amounts e) (record {
-        capacity = link.capacity;
-        transit = link.transit;
-        flow = number_at flows e;
-        filled = is_filled (unwrap_or (slice_get pattern e) None) (unwrap_or (slice_get sets.resetting e) false);
-        tail_slope = number_at slopes link.tail;
-        head_slope = number_at slopes link.head;
-        tail_label = number_at labels link.tail;
-        head_label = number_at labels link.head;
-      })
+  curve_list net sets pattern length flows slopes labels amounts =
+      each (λ numbered. link_step length (number_at amounts numbered.0) (link_phase sets pattern flows slopes labels numbered)) (enumerate_from 0 net.links)

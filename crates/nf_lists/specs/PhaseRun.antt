@@ -72,30 +72,31 @@ cause_of_search phase budget OverBudget = Some (Cause.Patterns phase budget)
 cause_of_search phase budget (PassesAt place at) = Some (Cause.Passed phase (Some place) at)
 cause_of_search phase budget NoPattern = Some (Cause.NoPattern phase)
 
-module _ (passes : Passing) (net : Network) (bounds : Bounds) where
-  -- the search of the phase that begins here, by the sets of the slacks and the rate
-  pub record IsSearchHere (s : Standing) (answer : Answer) : Type 0 where
-    pub base : Pattern
-    pub is_base : IsBase (hops net) (sets_at net s.labels) s.last base
-    pub is_search : IsSearch passes net (sets_at net s.labels) (rate_at net s.time) base bounds.patterns answer
-
-  -- the run isn't at its end, and no operation of the slack list passes: so a phase is sought
-  pub record Seeks (s : Standing) (answer : Answer) : Type 0 where
-    pub below : s.time <ℚ bounds.horizon
-    pub allowed : s.made < bounds.phases
-    pub slacks : slack_list passes (hops net) s.labels ≡ Ok (slacks_of (hops net) s.labels)
-    pub answers : IsSearchHere s answer
-
+-- ---- one phase, to a horizon and with a budget of patterns
+module _ (passes : Passing) (net : Network) (horizon : ℚ) where
   -- the lists of extend, advance and curve, in this order
   unfoldable pub phase_lists : Standing → Pattern → List ℚ → List ℚ → Result PhaseStep (PassedAt ℚ)
   phase_lists s pattern flows slopes = do
     extension ← at_part Extend (extend_list passes net (slacks_of (hops net) s.labels) slopes s.time)
-    advanced ← at_part Advance (advance_list passes bounds.horizon s.time extension s.labels slopes)
+    advanced ← at_part Advance (advance_list passes horizon s.time extension s.labels slopes)
     links ← at_part Curve (curve_list passes net (sets_at net s.labels) pattern advanced.length flows slopes advanced.labels (map amount_so_far s.link_curves))
     Ok (record { length = advanced.length; labels = advanced.labels; links = links })
 
-  -- One phase: it is made by the first accepted pattern, no operation of its lists passes, and it lasts for the extension
-  -- length, cut at the horizon.
+module _ (passes : Passing) (net : Network) (horizon : ℚ) (patterns : ℕ) where
+  -- the search of the phase that begins here, by the sets of the slacks and the rate
+  pub record IsSearchHere (s : Standing) (answer : Answer) : Type 0 where
+    pub base : Pattern
+    pub is_base : IsBase (hops net) (sets_at net s.labels) s.last base
+    pub is_search : IsSearch passes net (sets_at net s.labels) (rate_at net s.time) base patterns answer
+
+  -- the run is below the horizon and no operation of the slack list passes, so a pattern is sought
+  pub record Seeks (s : Standing) (answer : Answer) : Type 0 where
+    pub below : s.time <ℚ horizon
+    pub slacks : slack_list passes (hops net) s.labels ≡ Ok (slacks_of (hops net) s.labels)
+    pub search : IsSearchHere s answer
+
+  -- A phase is made by the first accepted pattern. No operation of its lists passes, and it lasts for the extension length, cut
+  -- at the horizon.
   pub record Goes (s new : Standing) : Type 0 where
     pub place : ℕ
     pub pattern : Pattern
@@ -103,25 +104,28 @@ module _ (passes : Passing) (net : Network) (bounds : Bounds) where
     pub slopes : List ℚ
     pub finds : Seeks s (Found place pattern flows slopes)
     pub step : PhaseStep
-    pub lists : phase_lists s pattern flows slopes ≡ Ok step
-    pub is_length : IsPhaseLength net (slacks_of (hops net) s.labels) slopes s.time bounds.horizon step.length
+    pub lists : phase_lists passes net horizon s pattern flows slopes ≡ Ok step
+    pub is_length : IsPhaseLength net (slacks_of (hops net) s.labels) slopes s.time horizon step.length
     pub new_is : new ≡ standing_after net s pattern slopes step
 
-  -- The first cause for which no phase is made below the horizon: there were as many as allowed; an operation of the slack
-  -- list passes; the search finds no pattern; or an operation of the phase's lists passes.
-  pub data Stops (s : Standing) : Cause ℚ → Type 0 where
-    at_phases : s.time <ℚ bounds.horizon → s.made ≡ bounds.phases → Stops s (Cause.Phases s.made)
-    at_slack : (p : Passed ℚ) → s.time <ℚ bounds.horizon → s.made < bounds.phases → slack_list passes (hops net) s.labels ≡ Err p
-        → Stops s (Cause.Passed (suc s.made) None (placed Slack p))
-    at_search : (answer : Answer) (cause : Cause ℚ) → Seeks s answer → cause_of_search (suc s.made) bounds.patterns answer ≡ Some cause → Stops s cause
-    at_step : (place : ℕ) (pattern : Pattern) (flows slopes : List ℚ) (p : PassedAt ℚ) → Seeks s (Found place pattern flows slopes)
-        → phase_lists s pattern flows slopes ≡ Err p → Stops s (Cause.Passed (suc s.made) None p)
+  -- The first cause for which no phase can be made: an operation of the slack list passes; the search finds no pattern; or an
+  -- operation of the phase's lists passes.
+  pub data Fails (s : Standing) : Cause ℚ → Type 0 where
+    at_slack : (p : Passed ℚ) → s.time <ℚ horizon → slack_list passes (hops net) s.labels ≡ Err p → Fails s (Cause.Passed (suc s.made) None (placed Slack p))
+    at_search : (answer : Answer) (cause : Cause ℚ) → Seeks s answer → cause_of_search (suc s.made) patterns answer ≡ Some cause → Fails s cause
+    at_lists : (place : ℕ) (pattern : Pattern) (flows slopes : List ℚ) (p : PassedAt ℚ) → Seeks s (Found place pattern flows slopes)
+        → phase_lists passes net horizon s pattern flows slopes ≡ Err p → Fails s (Cause.Passed (suc s.made) None p)
 
-  -- from here on, the run ends there, at the horizon or with this stop
+-- ---- phase by phase
+module _ (passes : Passing) (net : Network) (bounds : Bounds) where
+  -- From here on, the run ends there: at the horizon; or below it, where as many phases as allowed were made or the next one
+  -- fails.
   pub data Runs : Standing → Standing → Option (Cause ℚ) → Type 0 where
     at_horizon : {s : Standing} → s.time ≡ bounds.horizon → Runs s s None
-    stopped : {s : Standing} {cause : Cause ℚ} → Stops s cause → Runs s s (Some cause)
-    phase : {s new last : Standing} {stop : Option (Cause ℚ)} → Goes s new → Runs new last stop → Runs s last stop
+    at_phases : {s : Standing} → s.time <ℚ bounds.horizon → s.made ≡ bounds.phases → Runs s s (Some (Cause.Phases s.made))
+    fails : {s : Standing} {cause : Cause ℚ} → s.made < bounds.phases → Fails passes net bounds.horizon bounds.patterns s cause → Runs s s (Some cause)
+    goes : {s new last : Standing} {stop : Option (Cause ℚ)} → s.made < bounds.phases → Goes passes net bounds.horizon bounds.patterns s new
+        → Runs new last stop → Runs s last stop
 
   pub record IsPhaseRun (last : Standing) (stop : Option (Cause ℚ)) : Type 0 where
     pub first : Standing
