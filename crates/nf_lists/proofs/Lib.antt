@@ -1,6 +1,8 @@
 pub mod Sorted
 pub mod Listings
 pub mod Searches
+pub mod Bases
+pub mod OneRun
 mod Examples
 mod Tables
 mod Patterns

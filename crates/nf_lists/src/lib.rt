@@ -3,7 +3,7 @@
 //! operations that passes the bound of a fraction's parts.
 #![tactic(auto)]
 
-ghost use Rattle.nf_lists.specs.Laws.{ListingIsUnique, SearchHasOneAnswer};
+ghost use Rattle.nf_lists.specs.Laws.{ListingIsUnique, SearchHasOneAnswer, RunHasOneReport};
 
 /// A network's listed patterns have one listing, for each base pattern.
 pub fn listing_is_unique()
@@ -14,4 +14,10 @@ pub fn listing_is_unique()
 /// it answers beside.
 pub fn search_has_one_answer()
     ensures { SearchHasOneAnswer }
+{}
+
+/// The phase run of a network, with its horizon and its budgets, has one report at most: its curves and rates, the time
+/// reached, the stop and the last pattern are all determined.
+pub fn run_has_one_report()
+    ensures { RunHasOneReport }
 {}
