@@ -3,6 +3,7 @@ pub mod Listings
 pub mod Searches
 pub mod Bases
 pub mod OneRun
+pub mod Exact
 mod Examples
 mod Tables
 mod Patterns

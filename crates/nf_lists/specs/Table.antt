@@ -37,19 +37,16 @@ module _ (passes : Passing) where
   -- ---- a column is cleared in all rows but its pivot row
 
   -- an entry less f times that of the pivot row; no operation where that is 0
-  abbrev pub entry_less : ℚ → ℚ → ℚ → Checked ℚ
-  entry_less f p x = at_entry (is_zero p)
-    where
-      at_entry : Bool → Checked ℚ
-      at_entry true = Ok x
-      at_entry false = do
-        m ← checked passes Product f p
-        checked passes Difference x m
+  abbrev pub less_unless : Bool → ℚ → ℚ → ℚ → Checked ℚ
+  less_unless true f p x = Ok x
+  less_unless false f p x = do
+    m ← checked passes Product f p
+    checked passes Difference x m
 
   -- the same for all entries from a column on, the right side last
   abbrev pub entries_less : ℚ → Row → Row → Checked Row
   entries_less f (p ∷ pivot_row) (x ∷ row) = do
-    y ← entry_less f p x
+    y ← less_unless (is_zero p) f p x
     ys ← entries_less f pivot_row row
     Ok (y ∷ ys)
   entries_less f pivot_row row = Ok []
@@ -63,18 +60,15 @@ module _ (passes : Passing) where
     Ok (take column row ++ 0ℚ ∷ later)
 
   -- a row stays as it is where it is the pivot row, or has no entry in the column
-  abbrev pub clear_row : ℕ → ℕ → Row → ℕ → Row → Checked Row
-  clear_row column pivot pivot_row i row = at_row (i == pivot || is_zero (number_at row column))
-    where
-      at_row : Bool → Checked Row
-      at_row true = Ok row
-      at_row false = cleared_row column pivot_row row
+  abbrev pub clear_unless : Bool → ℕ → Row → Row → Checked Row
+  clear_unless true column pivot_row row = Ok row
+  clear_unless false column pivot_row row = cleared_row column pivot_row row
 
   -- the rows from number i on, in order
   abbrev pub clear_rows : ℕ → ℕ → Row → ℕ → List Row → Checked (List Row)
   clear_rows column pivot pivot_row i [] = Ok []
   clear_rows column pivot pivot_row i (row ∷ rows) = do
-    r ← clear_row column pivot pivot_row i row
+    r ← clear_unless (i == pivot || is_zero (number_at row column)) column pivot_row row
     rs ← clear_rows column pivot pivot_row (suc i) rows
     Ok (r ∷ rs)
 
