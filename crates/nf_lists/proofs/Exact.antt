@@ -1,12 +1,13 @@
 -- Where no operation of a list passes, its value is the exact one: that of the list in which none can pass.
-use Rattle.std.proofs.Common.{◌≡◌, ℕ, zero, suc, List, [], ◌∷◌, Bool, true, false, length, refl, ap, ◌∙◌}
-use Rattle.std.specs.Prelude.{◌==◌, ◌||◌, if◌then◌else◌, Option, Some, None, Result, Ok, Err, drop, slice_get, unwrap_or}
+use Rattle.std.proofs.Common.{◌≡◌, ℕ, zero, suc, ◌+◌, List, [], ◌∷◌, Bool, true, false, length, refl, sym, ap, ◌∙◌, arith}
+use Rattle.std.specs.Prelude.{◌==◌, ◌||◌, if◌then◌else◌, Option, Some, None, Result, Ok, Err, drop, map, slice_get, unwrap_or}
 use Rattle.std.specs.List.{enumerate_from}
 use Rattle.nf_rational.specs.Rational.{ℚ}
-use Rattle.nf_rational.specs.Operations.{0ℚ}
+use Rattle.nf_rational.specs.Operations.{0ℚ, ◌+ℚ◌, ◌-ℚ◌, ◌*ℚ◌}
 use Rattle.nf_work.specs.declared.Op.{Op}
 use Rattle.nf_work.specs.declared.Op.TheVariants.{Sum, Difference, Product, Quotient}
 use Rattle.nf_work.specs.declared.Part.{Part}
+use Rattle.nf_work.specs.declared.Part.TheVariants.{Table, Verdict, Extend, Advance, Curve}
 use Rattle.nf_work.specs.declared.Passed.{Passed}
 use Rattle.nf_work.specs.Passing.{Passing, result_of}
 use Rattle.nf_work.specs.Checked.{Checked, checked, each, fold_checked, at_part, ◌>>=◌}
@@ -14,20 +15,22 @@ use Rattle.nf_model.specs.declared.State.{State}
 use Rattle.nf_model.specs.declared.State.TheVariants.{Tight, Full, Zero}
 use Rattle.nf_model.specs.Entries.{number_at}
 use Rattle.nf_model.specs.Walk.{Hop}
-use Rattle.nf_model.specs.Network.{Link, Network, next_change}
-use Rattle.nf_model.specs.ThinFlow.{Sets}
+use Rattle.nf_model.specs.Network.{Link, Network, hops, next_change}
+use Rattle.nf_model.specs.ThinFlow.{Sets, slack, slacks_of, sets_at}
+use Rattle.nf_model.specs.Phases.{moved}
 use Rattle.nf_model.specs.Pattern.{Pattern}
 use Rattle.nf_lists.specs.Signs.{is_zero, is_positive, are_opposite}
+use Rattle.nf_lists.specs.Laws.{never}
+use Rattle.nf_lists.specs.Equations.{equations, slopes_in}
+use Rattle.nf_lists.specs.Accepted.{after_table, pattern_lists}
+use Rattle.nf_lists.specs.ReportCurves.{amount_so_far}
+use Rattle.nf_lists.specs.PhaseRun.{Standing, phase_lists}
 use Rattle.nf_lists.specs.Slack.{slack_of, slack_list}
 use Rattle.nf_lists.specs.Table.{Row, Eliminated, row_at, pivot_of, less_unless, entries_less, cleared_row, clear_unless, clear_rows, eliminate_at, if_some, eliminate_from, solution_from, solution_of, table_list}
 use Rattle.nf_lists.specs.Verdict.{bound_on, bound_of, verdict_list}
 use Rattle.nf_lists.specs.Extend.{to_zero, after_link, least_after, until_change, extend_list}
-use Rattle.nf_lists.specs.Advance.{label_after, labels_after, advance_list, cut_at}
+use Rattle.nf_lists.specs.Advance.{Advanced, label_after, labels_after, advance_list, cut_at}
 use Rattle.nf_lists.specs.CurveList.{LinkPhase, rate_over, size_at, slope_at, queue_step, link_step, link_phase, curve_list}
-
--- no operation passes
-abbrev pub never : Passing
-never op x y = false
 
 -- what the first computation gives, the second gives
 abbrev pub GivesAs : {A E : Type 0} → Result A E → Result A E → Type 0
@@ -53,6 +56,9 @@ part_as part (Err p) s h y e = cc
 
 same : {A E : Type 0} (r : Result A E) → GivesAs r r
 same r x e = e
+
+same_value : {A E : Type 0} (r : Result A E) (x y : A) → r ≡ Ok x → r ≡ Ok y → x ≡ y
+same_value r x y h k = cc
 
 -- ---- of one operation
 one_at : (b : Bool) (p : Passed ℚ) (v : ℚ) → GivesAs (if b then Err p else Ok v) (Ok v)
@@ -199,3 +205,76 @@ module _ (passes : Passing) where
   unfolding curve_list
   curve_list_as net sets pattern length flows slopes labels amounts =
       each_as _ _ (λ (numbered : ℕ × Link). step_as length (number_at amounts numbered.0) (link_phase sets pattern flows slopes labels numbered)) (enumerate_from 0 net.links)
+
+  -- ---- of a pattern, and of a phase
+  pattern_as : (net : Network) (sets : Sets) (rate : ℚ) (pattern : Pattern) → GivesAs (pattern_lists passes net sets rate pattern) (pattern_lists never net sets rate pattern)
+  unfolding pattern_lists
+  pattern_as net sets rate pattern = bind _ _ _ _ (part_as Table _ _ (table_list_as (equations net sets rate pattern))) after
+    where
+      after : (values : Option (List ℚ)) → GivesAs (after_table passes net sets rate pattern values) (after_table never net sets rate pattern values)
+      after None = same (Ok None)
+      after (Some values) = bind _ _ _ _ (part_as Verdict _ _ (verdict_list_as net pattern (slopes_in net.nodes values))) (λ bounds. same _)
+
+  phase_as : (net : Network) (horizon : ℚ) (s : Standing) (pattern : Pattern) (flows slopes : List ℚ)
+      → GivesAs (phase_lists passes net horizon s pattern flows slopes) (phase_lists never net horizon s pattern flows slopes)
+  unfolding phase_lists
+  phase_as net horizon s pattern flows slopes =
+      bind _ _ _ _ (part_as Extend _ _ (extend_list_as net (slacks_of (hops net) s.labels) slopes s.time))
+      (λ extension. bind _ _ _ _ (part_as Advance _ _ (advance_list_as horizon s.time extension s.labels slopes))
+      (λ advanced. bind _ _ _ _ (part_as Curve _ _ (curve_list_as net (sets_at net s.labels) pattern advanced.length flows slopes advanced.labels (map amount_so_far s.link_curves)))
+      (λ links. same _)))
+
+-- ---- the values of the slack list and of the advance list, by the model's definitions
+each_exact : {A B E : Type 0} (f : A → Result B E) (g : A → B) → ((x : A) → f x ≡ Ok (g x)) → (xs : List A) → each f xs ≡ Ok (map g xs)
+each_exact f g h [] = refl
+each_exact f g h (x ∷ xs) = ap (λ (w : Result _ _). w >>= λ y. each f xs >>= λ ys. Ok (y ∷ ys)) (h x) ∙ ap (λ (w : Result _ _). w >>= λ ys. Ok (g x ∷ ys)) (each_exact f g h xs)
+
+slack_exact : (labels : List ℚ) (hop : Hop) → slack_of never labels hop ≡ Ok (slack labels hop)
+unfolding slack_of checked
+slack_exact labels hop = refl
+
+pub slacks_exact : (passes : Passing) (hops : List Hop) (labels slacks : List ℚ) → slack_list passes hops labels ≡ Ok slacks → slacks ≡ slacks_of hops labels
+unfolding slack_list
+slacks_exact passes hops labels slacks e =
+    same_value (slack_list never hops labels) slacks (slacks_of hops labels) (slack_list_as passes hops labels slacks e) (each_exact (slack_of never labels) (slack labels) (slack_exact labels) hops)
+
+-- the labels of the nodes from a number on, each moved
+abbrev moved_label : ℚ → List ℚ → ℕ × ℚ → ℚ
+moved_label length slopes numbered = numbered.1 +ℚ length *ℚ number_at slopes numbered.0
+
+moved_from : (while : ℚ) (slopes : List ℚ) (k : ℕ) (labels rest : List ℚ) → ((v : ℕ) → number_at slopes (k + v) ≡ number_at rest v) → length rest ≡ length labels
+    → map (moved_label while slopes) (enumerate_from k labels) ≡ moved labels rest while
+moved_from while slopes k [] [] at count = refl
+moved_from while slopes k [] (r ∷ rest) at count = absurd (omega arith)
+moved_from while slopes k (x ∷ labels) [] at count = absurd (omega arith)
+moved_from while slopes k (x ∷ labels) (r ∷ rest) at count =
+    let first : number_at slopes k ≡ r = ap (number_at slopes) (let e : k ≡ k + 0 = omega arith in e) ∙ at 0 in
+    let later : map (moved_label while slopes) (enumerate_from (k + 1) labels) ≡ moved labels rest while =
+    moved_from while slopes (k + 1) labels rest (λ v. ap (number_at slopes) (let e : (k + 1) + v ≡ k + suc v = omega arith in e) ∙ at (suc v)) (omega arith) in
+    ap (λ (w : ℚ). (x +ℚ while *ℚ w) ∷ map (moved_label while slopes) (enumerate_from (k + 1) labels)) first ∙ ap (λ (ws : List ℚ). (x +ℚ while *ℚ r) ∷ ws) later
+
+label_exact : (while : ℚ) (slopes : List ℚ) (numbered : ℕ × ℚ) → label_after never while slopes numbered ≡ Ok (moved_label while slopes numbered)
+unfolding checked
+label_exact while slopes numbered = refl
+
+labels_exact : (while : ℚ) (labels slopes : List ℚ) → length slopes ≡ length labels → labels_after never while labels slopes ≡ Ok (moved labels slopes while)
+unfolding labels_after
+labels_exact while labels slopes count =
+    each_exact (label_after never while slopes) (moved_label while slopes) (label_exact while slopes) (enumerate_from 0 labels)
+    ∙ ap Ok (moved_from while slopes 0 labels slopes (λ v. ap (number_at slopes) (let e : 0 + v ≡ v = omega arith in e)) count)
+
+advance_exact : (horizon time : ℚ) (extension : Option ℚ) (labels slopes : List ℚ) → length slopes ≡ length labels
+    → advance_list never horizon time extension labels slopes
+    ≡ Ok (record { length = cut_at (horizon -ℚ time) extension; labels = moved labels slopes (cut_at (horizon -ℚ time) extension) })
+unfolding advance_list checked
+advance_exact horizon time extension labels slopes count =
+    ap (λ (w : Checked (List ℚ)). w >>= λ new. Ok (record { length = cut_at (horizon -ℚ time) extension; labels = new })) (labels_exact (cut_at (horizon -ℚ time) extension) labels slopes count)
+
+pub advanced_exact : (passes : Passing) (horizon time : ℚ) (extension : Option ℚ) (labels slopes : List ℚ) (new : Advanced) → length slopes ≡ length labels
+    → advance_list passes horizon time extension labels slopes ≡ Ok new → (new.length ≡ cut_at (horizon -ℚ time) extension) × (new.labels ≡ moved labels slopes new.length)
+advanced_exact passes horizon time extension labels slopes new count e =
+    let same = same_value (advance_list never horizon time extension labels slopes) new
+    (record { length = cut_at (horizon -ℚ time) extension; labels = moved labels slopes (cut_at (horizon -ℚ time) extension) })
+    (advance_list_as passes horizon time extension labels slopes new e) (advance_exact horizon time extension labels slopes count) in
+    let long : new.length ≡ cut_at (horizon -ℚ time) extension = ap (λ (a : Advanced). a.length) same in
+    (long, ap (λ (a : Advanced). a.labels) same ∙ ap (moved labels slopes) (sym long))

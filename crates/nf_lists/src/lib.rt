@@ -3,7 +3,7 @@
 //! operations that passes the bound of a fraction's parts.
 #![tactic(auto)]
 
-ghost use Rattle.nf_lists.specs.Laws.{ListingIsUnique, SearchHasOneAnswer, RunHasOneReport};
+ghost use Rattle.nf_lists.specs.Laws.{ListingIsUnique, SearchHasOneAnswer, RunHasOneReport, ValuesAreExact, StepsAreTheModels};
 
 /// A network's listed patterns have one listing, for each base pattern.
 pub fn listing_is_unique()
@@ -20,4 +20,16 @@ pub fn search_has_one_answer()
 /// reached, the stop and the last pattern are all determined.
 pub fn run_has_one_report()
     ensures { RunHasOneReport }
+{}
+
+/// The value of a list of operations doesn't depend on the bound of a fraction's parts: where no operation passes, it is
+/// exact.
+pub fn values_are_exact()
+    ensures { ValuesAreExact }
+{}
+
+/// Where no operation passes, the slack list gives the slacks of the links, and the advance list moves the labels for the
+/// extension length, cut at the horizon.
+pub fn steps_are_the_models()
+    ensures { StepsAreTheModels }
 {}
