@@ -10,9 +10,10 @@ use Rattle.nf_numerals.specs.Digits.{digits_of}
 use Rattle.nf_numerals.specs.Numbers.{number_of, decimal_of, parts_of, decimal_parts_of}
 use Rattle.nf_numerals.specs.Printed.{printed, printed_parts}
 use Rattle.nf_formats.specs.declared.NetRule.TheVariants.{N8, N9, N17}
-use Rattle.nf_formats.specs.Lines.{first_fault, content_lines}
+use Rattle.nf_lines.specs.Words.{read_lines, content_lines}
+use Rattle.nf_lines.specs.Faults.{first_fault}
 use Rattle.nf_formats.specs.Named.{Named}
-use Rattle.nf_formats.specs.NetLines.{Broken, Draft, read_content}
+use Rattle.nf_formats.specs.NetLines.{Broken, Draft, draft_from}
 use Rattle.nf_formats.specs.NetClosing.{marked, network_of}
 use Rattle.nf_formats.specs.NetFile.{Reads}
 use Rattle.nf_formats.specs.NetText.{canonical}
@@ -40,7 +41,7 @@ commented = crlf (
 pub commented_bytes : first_fault commented ≡ None
 commented_bytes = refl
 
-pub commented_canonical : canonical_of (true ∷ []) (read_content (content_lines commented)) ≡ text (
+pub commented_canonical : canonical_of (true ∷ []) (draft_from (content_lines (read_lines commented))) ≡ text (
     codes "nfot 1" ∷ codes "source s" ∷ codes "sink t" ∷ codes "link a s t 1/2 6" ∷ codes "inflow 0 1" ∷ codes "end" ∷ [])
 unfolding whole ratio gcd le_ℚ lt_ℚ digits_of number_of parts_of printed printed_parts
 commented_canonical = refl
@@ -65,8 +66,8 @@ unfolding whole ratio gcd le_ℚ lt_ℚ digits_of number_of parts_of printed pri
 no_end = (inl (refl, refl), refl)
 
 -- ---- version 2: decimals, and a link whose tail isn't reached
-pub idle_canonical : canonical_of (false ∷ true ∷ []) (read_content (content_lines (text (
-    codes "nfot 2" ∷ codes "source s" ∷ codes "sink t" ∷ codes "link x w t 1 1" ∷ codes "link a s t 0.5 1.50" ∷ codes "inflow 0 2" ∷ codes "end" ∷ [])))) ≡ text (
+pub idle_canonical : canonical_of (false ∷ true ∷ []) (draft_from (content_lines (read_lines (text (
+    codes "nfot 2" ∷ codes "source s" ∷ codes "sink t" ∷ codes "link x w t 1 1" ∷ codes "link a s t 0.5 1.50" ∷ codes "inflow 0 2" ∷ codes "end" ∷ []))))) ≡ text (
     codes "nfot 2" ∷ codes "source s" ∷ codes "sink t" ∷ codes "link a s t 1/2 3/2" ∷ codes "link x w t 1 1" ∷ codes "inflow 0 2" ∷ codes "end" ∷ [])
 unfolding whole ratio gcd le_ℚ lt_ℚ digits_of number_of parts_of decimal_of decimal_parts_of printed printed_parts
 idle_canonical = refl

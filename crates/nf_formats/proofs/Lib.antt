@@ -1,5 +1,13 @@
 pub mod WalkFacts
 pub mod LinkFacts
+pub mod ClosesBack
+pub mod LinesBack
+pub mod NumbersKept
+pub mod TextBack
+pub mod PlainCanonical
+pub mod CanonicalBack
+pub mod DraftKept
+pub mod MarkedFacts
 pub mod NameFacts
 pub mod Once
 pub mod Examples

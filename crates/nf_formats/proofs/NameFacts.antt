@@ -126,10 +126,10 @@ has_without these (x ∷ xs) name h =
     ∙ refl
 
 -- ---- names put behind others
-with_name_there : (names : List Name) (x : Name) → has_name names x ≡ true → with_name names x ≡ names
+pub with_name_there : (names : List Name) (x : Name) → has_name names x ≡ true → with_name names x ≡ names
 with_name_there names x e = ap (λ (t : Bool). cond t names (names ++ x ∷ [])) e
 
-with_name_new : (names : List Name) (x : Name) → has_name names x ≡ false → with_name names x ≡ names ++ x ∷ []
+pub with_name_new : (names : List Name) (x : Name) → has_name names x ≡ false → with_name names x ≡ names ++ x ∷ []
 with_name_new names x e = ap (λ (t : Bool). cond t names (names ++ x ∷ [])) e
 
 without_one : (these : List Name) (x : Name) (b : Bool) → has_name these x ≡ b → without these (x ∷ []) ≡ cond b [] (x ∷ [])

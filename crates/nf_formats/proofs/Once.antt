@@ -5,10 +5,11 @@ use Rattle.std.specs.Bool.{Decides, one_answer}
 use Rattle.std.specs.List.{AllByRecursion, AllZip}
 use Rattle.nf_model.specs.Walk.{IsWalk}
 use Rattle.nf_formats.specs.declared.NetRule.{NetRule}
-use Rattle.nf_formats.specs.Lines.{TextFault, first_fault, content_lines}
+use Rattle.nf_lines.specs.Words.{read_lines, content_lines}
+use Rattle.nf_lines.specs.Faults.{LineFault, first_fault}
 use Rattle.nf_formats.specs.Names.{place_of}
 use Rattle.nf_formats.specs.Named.{NamedLink, Named}
-use Rattle.nf_formats.specs.NetLines.{Broken, Draft, read_content}
+use Rattle.nf_formats.specs.NetLines.{Broken, Draft, draft_from}
 use Rattle.nf_formats.specs.NetClosing.{IsReached, Breaks, closing_rules, IsFirst, marked, network_of, AreActive, StandsFor}
 use Rattle.nf_formats.specs.NetFile.{as_rule, Closes, by_lines, by_bytes, Reads}
 
@@ -50,9 +51,9 @@ lines_once : (lines : Result Draft Broken) (a b : Result Named Broken) → by_li
 lines_once (Err broken) a b h k = h ∙ sym k
 lines_once (Ok draft) a b h k = closes_once draft a b h k
 
-bytes_once : (fault : Option TextFault) (lines : Result Draft Broken) (a b : Result Named Broken) → by_bytes fault lines a → by_bytes fault lines b → a ≡ b
+bytes_once : (fault : Option LineFault) (lines : Result Draft Broken) (a b : Result Named Broken) → by_bytes fault lines a → by_bytes fault lines b → a ≡ b
 bytes_once (Some fault) lines a b h k = h ∙ sym k
 bytes_once None lines a b h k = lines_once lines a b h k
 
 pub reads_at_most_once : (text : List ℕ) (a b : Result Named Broken) → Reads text a → Reads text b → a ≡ b
-reads_at_most_once text a b h k = bytes_once (first_fault text) (read_content (content_lines text)) a b h k
+reads_at_most_once text a b h k = bytes_once (first_fault text) (draft_from (content_lines (read_lines text))) a b h k

@@ -6,13 +6,13 @@ use Rattle.nf_numerals.specs.Digits.{digits_of}
 use Rattle.nf_formats.specs.declared.Cause.{Cause}
 use Rattle.nf_formats.specs.declared.NetRule.{NetRule}
 use Rattle.nf_formats.specs.declared.NetRule.TheVariants.{N1, N2, N3, N4, N5, N6, N7, N8, N9, N10, N11, N12, N13, N14, N15, N16, N17, N18, N19, N20, N21, N22}
-use Rattle.nf_formats.specs.Lines.{line}
+use Rattle.nf_lines.specs.Words.{line_of_words}
 use Rattle.nf_formats.specs.Causes.{cause_words, passed_words}
 use Rattle.nf_formats.specs.NetLines.{Broken}
 
 -- a line of the program about itself
 abbrev pub said : List (List ℕ) → List ℕ
-said words = line (codes "nfot:" ∷ words)
+said words = line_of_words (codes "nfot:" ∷ words)
 
 abbrev pub memory_line : List ℕ
 memory_line = said (codes "memory" ∷ [])

@@ -3,12 +3,13 @@ use Rattle.std.specs.Prelude.{◌≡◌, ℕ, List, Option, Some, None, Result, 
 use Rattle.std.specs.List.{AllByRecursion}
 use Rattle.nf_formats.specs.declared.NetRule.{NetRule}
 use Rattle.nf_formats.specs.declared.NetRule.TheVariants.{N1, N2}
-use Rattle.nf_formats.specs.Lines.{TextFault, NotAscii, LongLine, first_fault, content_lines}
+use Rattle.nf_lines.specs.Words.{read_lines, content_lines}
+use Rattle.nf_lines.specs.Faults.{LineFault, NotAscii, LongLine, first_fault}
 use Rattle.nf_formats.specs.Named.{Named}
-use Rattle.nf_formats.specs.NetLines.{Broken, Draft, read_content}
+use Rattle.nf_formats.specs.NetLines.{Broken, Draft, draft_from}
 use Rattle.nf_formats.specs.NetClosing.{Breaks, closing_rules, IsFirst, StandsFor}
 
-abbrev pub as_rule : TextFault → Broken
+abbrev pub as_rule : LineFault → Broken
 as_rule (NotAscii line) = record { rule = N1; line = line }
 as_rule (LongLine line) = record { rule = N2; line = line }
 
@@ -23,10 +24,10 @@ abbrev pub by_lines : Result Draft Broken → Result Named Broken → Type 0
 by_lines (Err broken) result = result ≡ Err broken
 by_lines (Ok draft) result = Closes draft result
 
-abbrev pub by_bytes : Option TextFault → Result Draft Broken → Result Named Broken → Type 0
+abbrev pub by_bytes : Option LineFault → Result Draft Broken → Result Named Broken → Type 0
 by_bytes (Some fault) lines result = result ≡ Err (as_rule fault)
 by_bytes None lines result = by_lines lines result
 
 -- The text stands for this network; or it breaks this rule first, in this line.
 abbrev pub Reads : List ℕ → Result Named Broken → Type 0
-Reads text result = by_bytes (first_fault text) (read_content (content_lines text)) result
+Reads text result = by_bytes (first_fault text) (draft_from (content_lines (read_lines text))) result

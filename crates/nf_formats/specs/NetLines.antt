@@ -9,7 +9,7 @@ use Rattle.nf_work.specs.Checked.{◌>>=◌}
 use Rattle.nf_model.specs.Network.{Piece}
 use Rattle.nf_formats.specs.declared.NetRule.{NetRule}
 use Rattle.nf_formats.specs.declared.NetRule.TheVariants.{N3, N4, N5, N6, N7, N8, N9, N10, N11, N12, N13, N14, N15, N16}
-use Rattle.nf_formats.specs.Lines.{Content}
+use Rattle.nf_lines.specs.Words.{ReadLine}
 use Rattle.nf_formats.specs.Names.{Name, is_name, has_name, with_names}
 use Rattle.nf_formats.specs.Numbers.{number_in, capacity_in}
 use Rattle.nf_formats.specs.Named.{NamedLink, names_of}
@@ -130,18 +130,18 @@ unless None draft = Ok draft
 unless (Some rule) draft = Err rule
 
 -- what the lines say with one line more, or the first of N4 to N16 that it breaks
-abbrev pub read_line : Draft → List (List ℕ) → Result Draft NetRule
-read_line draft words = if draft.ended then Err N4 else (entry_of draft.version words >>= λ entry. unless (broken_rule draft entry) (after draft entry))
+abbrev pub add_line : Draft → List (List ℕ) → Result Draft NetRule
+add_line draft words = if draft.ended then Err N4 else (entry_of draft.version words >>= λ entry. unless (broken_rule draft entry) (after draft entry))
 
 abbrev pub in_line : ℕ → Result Draft NetRule → Result Draft Broken
 in_line number (Ok draft) = Ok draft
 in_line number (Err rule) = Err (record { rule = rule; line = number })
 
-abbrev pub read_lines : Draft → List Content → Result Draft Broken
-read_lines draft [] = Ok draft
-read_lines draft (line ∷ rest) = do
-  next ← in_line line.number (read_line draft line.words)
-  read_lines next rest
+abbrev pub add_lines : Draft → List ReadLine → Result Draft Broken
+add_lines draft [] = Ok draft
+add_lines draft (line ∷ rest) = do
+  next ← in_line line.number (add_line draft line.words)
+  add_lines next rest
 
 -- ---- the first content line: `nfot 1` or `nfot 2`
 abbrev pub version_of : List (List ℕ) → Option ℕ
@@ -150,11 +150,11 @@ version_of (key ∷ version ∷ []) =
     else (if bytes_eq key (codes "nfot") && bytes_eq version (codes "2") then Some 2 else None)
 version_of words = None
 
-abbrev pub read_rest : Option ℕ → ℕ → List Content → Result Draft Broken
-read_rest None number rest = Err (record { rule = N3; line = number })
-read_rest (Some version) number rest = read_lines (empty_draft version) rest
+abbrev pub draft_after : Option ℕ → ℕ → List ReadLine → Result Draft Broken
+draft_after None number rest = Err (record { rule = N3; line = number })
+draft_after (Some version) number rest = add_lines (empty_draft version) rest
 
 -- what the content lines of a file say, or the first line that breaks one of N3 to N16, with the first rule that it breaks
-abbrev pub read_content : List Content → Result Draft Broken
-read_content [] = Err (record { rule = N3; line = 1 })
-read_content (first ∷ rest) = read_rest (version_of first.words) first.number rest
+abbrev pub draft_from : List ReadLine → Result Draft Broken
+draft_from [] = Err (record { rule = N3; line = 1 })
+draft_from (first ∷ rest) = draft_after (version_of first.words) first.number rest

@@ -3,7 +3,7 @@ use Rattle.std.specs.Prelude.{ℕ, List, [], ◌∷◌, ◌++◌, flat_map, map,
 use Rattle.nf_model.specs.Network.{Piece}
 use Rattle.nf_numerals.specs.Digits.{digits_of}
 use Rattle.nf_numerals.specs.Printed.{printed}
-use Rattle.nf_formats.specs.Lines.{line}
+use Rattle.nf_lines.specs.Words.{line_of_words}
 use Rattle.nf_formats.specs.Names.{name_at}
 use Rattle.nf_formats.specs.Numbers.{capacity_word}
 use Rattle.nf_formats.specs.Named.{NamedLink, Named, active_links}
@@ -23,4 +23,4 @@ canonical_lines n = (codes "nfot" ∷ digits_of n.version ∷ [])
     ∷ map link_words (active_links n) ++ map link_words n.idle_links ++ map inflow_words n.net.pieces ++ (codes "end" ∷ []) ∷ []
 
 abbrev pub canonical : Named → List ℕ
-canonical n = flat_map line (canonical_lines n)
+canonical n = flat_map line_of_words (canonical_lines n)

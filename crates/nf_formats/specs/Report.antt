@@ -12,7 +12,7 @@ use Rattle.nf_model.specs.Pattern.{Pattern, HasState}
 use Rattle.nf_numerals.specs.Digits.{digits_of}
 use Rattle.nf_numerals.specs.Printed.{printed}
 use Rattle.nf_formats.specs.declared.Cause.{Cause}
-use Rattle.nf_formats.specs.Lines.{line}
+use Rattle.nf_lines.specs.Words.{line_of_words}
 use Rattle.nf_formats.specs.Names.{Name, name_at}
 use Rattle.nf_formats.specs.Named.{Named}
 use Rattle.nf_formats.specs.Causes.{cause_words}
@@ -95,4 +95,4 @@ report_lines n report = (codes "report" ∷ digits_of n.version ∷ [])
     ++ (codes "end" ∷ []) ∷ []
 
 abbrev pub report_text : Named → Report → List ℕ
-report_text n report = flat_map line (report_lines n report)
+report_text n report = flat_map line_of_words (report_lines n report)

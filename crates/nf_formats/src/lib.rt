@@ -3,6 +3,10 @@
 //! definitions share: see `specs/`, and docs/FORMATS.md for the same in prose. All formats are this project's own.
 #![tactic(auto)]
 
+ghost use Rattle.nf_formats.specs.Laws.{ReadsOnce, CanonicalReadsBack};
+
+use nf_work::PassedAt;
+
 /// A rule of the network file; docs/FORMATS.md states each.
 #[derive(Clone, Copy, Debug, PartialEq, Eq)]
 pub enum NetRule {
@@ -69,4 +73,12 @@ pub enum Cause<S> {
     NoPattern { phase: u64 },
 }
 
-use nf_work::PassedAt;
+/// A text has at most one reading.
+pub fn reads_once()
+    ensures { ReadsOnce }
+{}
+
+/// The canonical text of a network is read as that network, with the same names.
+pub fn canonical_reads_back()
+    ensures { CanonicalReadsBack }
+{}

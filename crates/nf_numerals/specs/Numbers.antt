@@ -54,15 +54,19 @@ parts_of bound word =
     let b = denominator word in
     parts_or_fault bound (unsigned a) b (signed_by a (value_of (unsigned a))) (value_of b)
 
--- a word with a slash or without a point is read as above; else it is split at its first point into a and b, where a may
--- begin with a minus: with k digits in b, the magnitude is a · 10^k + b over 10^k
+-- a word with a point and without a slash
+abbrev pub is_decimal : List ℕ → Bool
+is_decimal word = has point word && not (has slash word)
+
+-- such a word is split at its first point into a and b, where a may begin with a minus: with k digits in b, the magnitude is
+-- a · 10^k + b over 10^k; any other word is read as above
 unfoldable pub decimal_parts_of : ℕ → List ℕ → Result (ℤ × ℕ) NumberFault
 decimal_parts_of bound word =
     let a = before point word in
     let b = after point word in
     let scale = 10 ^ length b in
-    if has slash word || not (has point word) then parts_of bound word
-    else parts_or_fault bound (unsigned a) b (signed_by a (value_of (unsigned a) * scale + value_of b)) scale
+    if is_decimal word then parts_or_fault bound (unsigned a) b (signed_by a (value_of (unsigned a) * scale + value_of b)) scale
+    else parts_of bound word
 
 -- the number that parts are, in lowest terms
 abbrev pub as_ratio : Result (ℤ × ℕ) NumberFault → Result ℚ NumberFault

@@ -1,0 +1,84 @@
+-- What a sink took, piece after piece.
+use Rattle.std.specs.Prelude.{◌≡◌, ℕ, ◌+◌, ◌-◌, ◌<◌, ◌≤◌, List, [], ◌++◌, length, take, drop, Option, Some, None, Result, Ok, Err, refl}
+use Rattle.std.proofs.Common.{arith, sym, ap, ◌∙◌, append_assoc, append-nil, length-drop, length-append, inl, inr}
+use Rattle.std.proofs.lemmas.List.{take-append-le}
+use native.Mathlib.Decide.{dec_lt}
+use Rattle.std.proofs.Math.Seq.{take-add, take-length, take-append-add}
+use Rattle.nf_edge.specs.Faults.{Rose}
+use Rattle.nf_edge.specs.Taken.{with_more, Wrote}
+
+-- the rest of a text from a place on
+abbrev pub rest : List ℕ → ℕ → List ℕ
+rest text done = take (length text - done) (drop done text)
+
+rest-drop : (text : List ℕ) (done : ℕ) → rest text done ≡ drop done text
+rest-drop text done = ap (λ n. take n (drop done text)) (sym (length-drop done text)) ∙ take-length (drop done text)
+
+with_more-with_more : (took : Option (List ℕ)) (a b : List ℕ) → with_more (with_more took a) b ≡ with_more took (a ++ b)
+with_more-with_more None a b = refl
+with_more-with_more (Some before) a b = ap Some (append_assoc before a b)
+
+-- a sink that took the first bytes of a text and then some of the rest
+pub took_more : (old before now : Option (List ℕ)) (text : List ℕ) (done count : ℕ)
+    → before ≡ with_more old (take done text) → now ≡ with_more before (take count (rest text done)) → now ≡ with_more old (take (done + count) text)
+took_more old before now text done count first next =
+    next ∙ ap (λ t. with_more before (take count t)) (rest-drop text done) ∙ ap (λ t. with_more t (take count (drop done text))) first
+    ∙ with_more-with_more old (take done text) (take count (drop done text)) ∙ ap (with_more old) (sym (take-add done count text))
+
+pub still_within : (text : List ℕ) (done count : ℕ) → done ≤ length text → count ≤ length (rest text done) → done + count ≤ length text
+still_within text done count h k =
+    let e : length (rest text done) ≡ length text - done = ap length (rest-drop text done) ∙ length-drop done text in omega (arith, h, k, e)
+
+-- ---- one text after another
+-- a count that rose, whatever it did before
+rose_later : (first before now : ℕ) → first ≤ before → before ≤ now → Rose before now → Rose first now
+rose_later first before now a b (inl rose) = inl (omega (arith, a, rose))
+rose_later first before now a b (inr full) = at (dec_lt first before)
+  where
+    at : Dec (first < before) → Rose first now
+    at (yes less) = inl (omega (arith, less, b))
+    at (no same) = inr (omega (arith, same, a, full))
+
+-- nothing is written yet
+pub Wrote-nil : {E : Type 0} (took : Option (List ℕ)) (faults : ℕ) → Wrote {E = E} took took faults faults [] (Ok tt)
+Wrote-nil took faults = record { whole = at took; front = tt; cause = tt; never_falls = omega arith }
+  where
+    at : (took : Option (List ℕ)) → took ≡ with_more took []
+    at None = refl
+    at (Some bytes) = ap Some (sym (append-nil bytes))
+
+-- a text that was written whole, and then the next one
+pub Wrote-append : {E F : Type 0} (old before now : Option (List ℕ)) (first_faults faults_before faults_now : ℕ) (first next : List ℕ) (r : Result (Unit {0}) E)
+    → Wrote {E = F} old before first_faults faults_before first (Ok tt) → Wrote before now faults_before faults_now next r
+    → Wrote old now first_faults faults_now (first ++ next) r
+Wrote-append old before now f g h first next (Ok u) v w = record {
+  whole = w.whole ∙ ap (λ t. with_more t next) v.whole ∙ with_more-with_more old first next;
+  front = w.front;
+  cause = w.cause;
+  never_falls = omega (arith, v.never_falls, w.never_falls);
+}
+Wrote-append old before now f g h first next (Err e) v w = record {
+  whole = w.whole;
+  front = record {
+    count = length first + w.front.count;
+    within = let a : length (first ++ next) ≡ length first + length next = length-append first next in omega (arith, w.front.within, a);
+    front = w.front.front ∙ ap (λ t. with_more t (take w.front.count next)) v.whole ∙ with_more-with_more old first (take w.front.count next)
+        ∙ ap (with_more old) (sym (take-append-add first next w.front.count));
+  };
+  cause = rose_later f g h v.never_falls w.never_falls w.cause;
+  never_falls = omega (arith, v.never_falls, w.never_falls);
+}
+
+-- the first bytes of a text are those of a longer one
+pub Wrote-longer : {E F : Type 0} (old now : Option (List ℕ)) (faults_before faults_now : ℕ) (first rest : List ℕ) (e : E) (d : F)
+    → Wrote old now faults_before faults_now first (Err e) → Wrote old now faults_before faults_now (first ++ rest) (Err d)
+Wrote-longer old now f g first rest e d w = record {
+  whole = tt;
+  front = record {
+    count = w.front.count;
+    within = let a : length (first ++ rest) ≡ length first + length rest = length-append first rest in omega (arith, w.front.within, a);
+    front = w.front.front ∙ ap (with_more old) (sym (take-append-le w.front.count first rest w.front.within));
+  };
+  cause = w.cause;
+  never_falls = w.never_falls;
+}

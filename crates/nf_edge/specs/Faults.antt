@@ -1,0 +1,14 @@
+-- Counts of faults.
+use Rattle.std.specs.Prelude.{◌⊎◌, ℕ, ◌+◌, ◌-◌, ◌^◌, ◌<◌, ◌≤◌, min}
+
+-- the greatest count of 64 bits
+abbrev pub greatest : ℕ
+greatest = 2 ^ 64 - 1
+
+-- a count rose in a call; one that stood at its greatest value already counts as risen
+abbrev pub Rose : ℕ → ℕ → Type 0
+Rose before now = (before < now) ⊎ (greatest ≤ before)
+
+-- one more, up to the greatest count
+abbrev pub one_more : ℕ → ℕ
+one_more count = min (count + 1) greatest

@@ -1,0 +1,5 @@
+pub mod Faults
+pub mod Names
+pub mod Taken
+pub mod Memory
+pub mod Real

@@ -1,0 +1,205 @@
+// A shelf in memory.
+ghost use Rattle.std.specs.Prelude.{◌≡◌, ◌⊎◌, ℕ, ◌+◌, ◌<◌, ◌≤◌, [], ◌∷◌, ◌++◌, length, OnOk, OnErr, MatchOption, MatchResult, Ok, Err, None, Some, IfOk, IsErrOf};
+ghost use Rattle.nf_edge.specs.Faults.{one_more};
+ghost use Rattle.nf_edge.specs.Memory.{told_under, found, fetched, Answers};
+
+use crate::{FetchFault, Shelf};
+use std::alloc::{AllocError, Global};
+use std::marker::Model;
+
+/// The bytes under a name.
+#[derive(Drop)]
+struct File {
+    name: String,
+    bytes: Vec<u8>,
+}
+
+impl Model for File {
+    ghost use Rattle.std.specs.Prelude.{ℕ, List, string_bytes};
+
+    ghost Value = { List ℕ × List ℕ };
+
+    ghost view = { λ f. (string_bytes f.name, f.bytes.items) };
+}
+
+/// Files in memory.
+#[derive(Drop)]
+pub struct MemShelf {
+    files: Vec<File>,
+    failing: Vec<u64>,
+    calls: u64,
+    asked: Vec<String>,
+    taken: u64,
+    faults: u64,
+}
+
+impl Model for MemShelf {
+    ghost use Rattle.nf_edge.specs.Memory.{MemoryShelf};
+    ghost use Rattle.nf_edge.specs.Names.{texts};
+
+    ghost Value = { MemoryShelf };
+
+    ghost view = { λ s. record {
+      files = s.files.items;
+      failing = s.failing.items;
+      calls = s.calls;
+      asked = texts s.asked.items;
+      taken = s.taken;
+      faults = s.faults;
+    } };
+}
+
+// The bytes that were put under the name last: the first ones in the list.
+fn bytes_under<'a>(files: &'a [File], name: &str) -> Option<&'a [u8]>
+    ensures { MatchOption result (told_under files.now name.now ≡ None)
+        (λ bytes. told_under files.now name.now ≡ Some bytes.now) }
+{
+    for file in files {
+        if file.name.as_str() == name {
+            return Some(&file.bytes);
+        }
+    }
+    None
+}
+
+// What the call of that number finds under the name.
+fn find<'a>(
+    files: &'a [File],
+    failing: &[u64],
+    call: u64,
+    name: &str,
+    limit: u32,
+) -> Result<&'a [u8], FetchFault>
+    ensures { MatchResult result (λ bytes. found files.now failing.now call name.now limit ≡ Ok bytes.now)
+        (λ fault. found files.now failing.now call name.now limit ≡ Err fault) }
+{
+    if failing.contains(&call) {
+        return Err(FetchFault::Failed);
+    }
+    let bytes = bytes_under(files, name).ok_or(FetchFault::Failed)?;
+    if bytes.len() > limit as usize {
+        return Err(FetchFault::TooLong);
+    }
+    Ok(bytes)
+}
+
+impl MemShelf {
+    /// A shelf with nothing on it, of which no call fails.
+    pub fn new(alloc: Global) -> MemShelf
+        ensures { result ≡ record { files = []; failing = []; calls = 0; asked = []; taken = 0; faults = 0 } }
+    {
+        MemShelf {
+            files: Vec::new(alloc),
+            failing: Vec::new(alloc),
+            calls: 0,
+            asked: Vec::new(alloc),
+            taken: 0,
+            faults: 0,
+        }
+    }
+
+    /// The name then tells these bytes.
+    pub fn put(&mut self, alloc: Global, name: &str, bytes: &[u8]) -> Result<(), AllocError>
+        ensures ok { OnOk result (self.new ≡ record self.old { files = (name.now, bytes.now) ∷ self.old.files }) }
+        ensures err { OnErr result (self.new ≡ self.old) }
+    {
+        let file = File {
+            name: name.to_owned(alloc)?,
+            bytes: bytes.to_vec(alloc)?,
+        };
+        self.files.insert(0, file)?;
+        Ok(())
+    }
+
+    /// The fetch of that number, counted from 1, fails.
+    pub fn fail(&mut self, call: u32) -> Result<(), AllocError>
+        ensures ok { OnOk result (self.new ≡ record self.old { failing = self.old.failing ++ call ∷ [] }) }
+        ensures err { OnErr result (self.new ≡ self.old) }
+    {
+        self.failing.push(u64::from(call))?;
+        Ok(())
+    }
+}
+
+impl Shelf for MemShelf {
+    ghost told = { λ s. told_under s.files };
+
+    ghost faults = { λ s. s.faults };
+
+    ghost taken = { λ s. s.taken };
+
+    ghost asked = { λ s. s.asked };
+
+    fn fetch(&mut self, alloc: Global, name: &str, limit: u32) -> Result<Vec<u8>, FetchFault>
+        ensures answer { Answers result (fetched self.old name.now limit) }
+        ensures files { self.new.files ≡ self.old.files }
+        ensures failing { self.new.failing ≡ self.old.failing }
+        ensures calls { self.new.calls ≡ one_more self.old.calls }
+
+        ensures taken { IfOk result (λ bytes. self.new.taken ≡ length bytes.items) }
+        ensures too_long { IsErrOf result FetchFault.TooLong → self.new.taken ≡ limit + 1 }
+        ensures long { limit < self.new.taken → IsErrOf result FetchFault.TooLong }
+
+        ensures failed { IsErrOf result FetchFault.Failed → self.new.faults ≡ one_more self.old.faults }
+        ensures other { ¬ (IsErrOf result FetchFault.Failed) → self.new.faults ≡ self.old.faults }
+        ensures never_falls { self.old.faults ≤ self.new.faults }
+
+        ensures asked { (self.new.asked ≡ self.old.asked ++ name.now ∷ [])
+            ⊎ (IsErrOf result FetchFault.Memory × (self.new.asked ≡ self.old.asked)) }
+    {
+        self.calls = self.calls.saturating_add(1);
+        self.taken = 0;
+        self.asked.push(name.to_owned(alloc)?)?;
+        match find(&self.files, &self.failing, self.calls, name, limit) {
+            Ok(bytes) => {
+                self.taken = bytes.len() as u64;
+                Ok(bytes.to_vec(alloc)?)
+            }
+            Err(FetchFault::TooLong) => {
+                self.taken = u64::from(limit) + 1;
+                Err(FetchFault::TooLong)
+            }
+            Err(fault) => {
+                self.faults = self.faults.saturating_add(1);
+                Err(fault)
+            }
+        }
+    }
+}
+
+#[cfg(test)]
+mod tests {
+    use super::*;
+    use std::test::Fail;
+
+    #[test]
+    fn answers_what_was_put_there_last(rt: HostRuntime) -> Result<(), Fail> {
+        let mut shelf = MemShelf::new(rt.alloc());
+        shelf.put(rt.alloc(), "A", b"one")?;
+        shelf.put(rt.alloc(), "B", b"two two")?;
+        shelf.put(rt.alloc(), "A", b"three")?;
+        shelf.put(rt.alloc(), "none", b"")?;
+        shelf.fail(5)?;
+        // name, limit, answer, bytes taken, faults
+        let calls: [(&str, u32, Result<&str, FetchFault>, u64, u64); 7] = [
+            ("A", 5, Ok("three"), 5, 0),
+            ("A", 4, Err(FetchFault::TooLong), 5, 0),
+            ("B", 3, Err(FetchFault::TooLong), 4, 0),
+            ("C", 9, Err(FetchFault::Failed), 0, 1),
+            ("B", 7, Err(FetchFault::Failed), 0, 2),
+            ("B", 7, Ok("two two"), 7, 2),
+            ("none", 0, Ok(""), 0, 2),
+        ];
+        for (name, limit, answer, taken, faults) in calls {
+            let fetched = shelf.fetch(rt.alloc(), name, limit);
+            match answer {
+                Ok(text) => assert!(rt; fetched?.as_slice() == text.as_bytes(), "{name}"),
+                Err(fault) => assert!(rt; fetched.err() == Some(fault), "{name}"),
+            }
+            assert_eq!(rt; shelf.taken, taken, "{name}");
+            assert_eq!(rt; shelf.faults, faults, "{name}");
+        }
+        assert_eq!(rt; shelf.asked.len(), 7);
+        Ok(())
+    }
+}

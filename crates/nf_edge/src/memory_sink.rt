@@ -1,0 +1,139 @@
+// A sink in memory.
+ghost use Rattle.std.specs.Prelude.{◌≡◌, ℕ, ◌<◌, ◌≤◌, [], ◌∷◌, ◌++◌, length, take, Some, IfOk, OnOk, OnErr};
+ghost use Rattle.nf_edge.specs.Faults.{Rose, one_more};
+ghost use Rattle.nf_edge.specs.Taken.{with_more};
+ghost use Rattle.nf_edge.specs.Memory.{next_count, after_write};
+
+use crate::{Sink, SinkFault};
+use std::alloc::{AllocError, Global};
+use std::marker::Model;
+
+/// Takes bytes into memory, up to a room, and tells them.
+#[derive(Drop)]
+pub struct MemSink {
+    bytes: Vec<u8>,
+    room: u32,
+    most: u32,
+    failing: Vec<u64>,
+    calls: u64,
+    faults: u64,
+}
+
+impl Model for MemSink {
+    ghost use Rattle.std.specs.Prelude.{◌<◌, ◌≤◌, vec_capacity};
+    ghost use Rattle.nf_edge.specs.Memory.{MemorySink};
+
+    ghost Value = { MemorySink };
+
+    ghost view = { λ s. record {
+      bytes = s.bytes.items;
+      room = s.room;
+      most = s.most;
+      failing = s.failing.items;
+      calls = s.calls;
+      faults = s.faults;
+    } };
+
+    ghost invariant = { λ s. (0 < s.most) × (s.room ≤ vec_capacity s.bytes) };
+}
+
+impl MemSink {
+    /// A sink that takes `room` bytes in all, and at most `most` in one write. The room is reserved here.
+    pub fn new(alloc: Global, room: u32, most: u32) -> Result<MemSink, AllocError>
+        requires { 0 < most }
+        ensures { IfOk result (λ s. s ≡ record {
+          bytes = [];
+          room = room;
+          most = most;
+          failing = [];
+          calls = 0;
+          faults = 0;
+        }) }
+    {
+        Ok(MemSink {
+            bytes: Vec::with_capacity(alloc, room as usize)?,
+            room,
+            most,
+            failing: Vec::new(alloc),
+            calls: 0,
+            faults: 0,
+        })
+    }
+
+    /// The write of that number, counted from 1, fails.
+    pub fn fail(&mut self, call: u32) -> Result<(), AllocError>
+        ensures ok { OnOk result (self.new ≡ record self.old { failing = self.old.failing ++ call ∷ [] }) }
+        ensures err { OnErr result (self.new ≡ self.old) }
+    {
+        self.failing.push(u64::from(call))?;
+        Ok(())
+    }
+
+    /// What was taken.
+    pub fn bytes(&self) -> &[u8]
+        ensures { result.now ≡ self.now.bytes }
+    {
+        &self.bytes
+    }
+}
+
+impl Sink for MemSink {
+    ghost took = { λ s. Some s.bytes };
+
+    ghost faults = { λ s. s.faults };
+
+    fn write(&mut self, piece: &[u8]) -> Result<usize, SinkFault>
+        requires { 0 < length piece.now }
+        ensures some { IfOk result (λ count. 0 < count) }
+        ensures count { IfOk result (λ count. count ≡ next_count self.old piece.now) }
+        ensures ok { IfOk result (λ count. self.new ≡ after_write self.old (take count piece.now)) }
+        ensures fault { OnErr result (next_count self.old piece.now ≡ 0) }
+        ensures err { OnErr result (self.new ≡
+            record self.old { calls = one_more self.old.calls; faults = one_more self.old.faults }) }
+        ensures never_falls { self.old.faults ≤ self.new.faults }
+    {
+        self.calls = self.calls.saturating_add(1);
+        let left = (self.room as usize).saturating_sub(self.bytes.len());
+        let count = piece.len().min(self.most as usize).min(left);
+        if count == 0 || self.failing.contains(&self.calls) {
+            self.faults = self.faults.saturating_add(1);
+            return Err(SinkFault);
+        }
+        self.bytes.extend_from_slice(&piece[..count]).unwrap();
+        Ok(count)
+    }
+}
+
+#[cfg(test)]
+mod tests {
+    use super::*;
+    use crate::write_text;
+    use std::test::Fail;
+
+    #[test]
+    fn takes_the_first_bytes_up_to_its_room_or_a_failing_write(
+        rt: HostRuntime,
+    ) -> Result<(), Fail> {
+        // room, most of one write, the number of a write that fails, what of `report` is taken, writes
+        let cases: [(u32, u32, u32, &str, u64); 7] = [
+            (9, 1, 0, "report", 6),
+            (9, 1, 3, "re", 3),
+            (6, 4, 3, "report", 2),
+            (4, 3, 0, "repo", 3),
+            (9, 4, 2, "repo", 2),
+            (9, 9, 1, "", 1),
+            (0, 1, 0, "", 1),
+        ];
+        for (room, most, failing, taken, writes) in cases {
+            assert!(rt; most > 0);
+            let mut sink = MemSink::new(rt.alloc(), room, most)?;
+            sink.fail(failing)?;
+            let written = write_text(&mut sink, b"report");
+            assert!(rt; sink.bytes() == taken.as_bytes(), "{taken}");
+            assert!(rt; written.is_ok() == (taken.len() == 6), "{taken}");
+            assert_eq!(rt; sink.calls, writes, "{taken}");
+            assert_eq!(rt; sink.faults, u64::from(written.is_err()), "{taken}");
+        }
+        Ok(())
+    }
+}

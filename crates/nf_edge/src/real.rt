@@ -1,0 +1,188 @@
+// Real files and a real writer, the trusted edge.
+ghost use Rattle.std.specs.Prelude.{◌≡◌, ◌⊎◌, ◌↔◌, ℕ, ◌+◌, ◌<◌, ◌≤◌, [], None, IfOk, OnOk, OnErr, IsErrOf, length, take};
+ghost use Rattle.std.specs.Io.KnownBytes.{Appends, Consumes, IsAtEnd};
+ghost use Rattle.nf_edge.specs.Faults.{Rose, one_more};
+ghost use Rattle.nf_edge.specs.Names.{texts};
+ghost use Rattle.nf_edge.specs.Real.{writer_of, faults_of};
+
+use crate::{FetchFault, Shelf, Sink, SinkFault};
+use std::alloc::Global;
+use std::fs;
+use std::io::{Read, Write};
+use std::rt::Files;
+
+/// The most bytes that are read in one turn.
+const TURN: usize = 4096;
+
+/// Reads a file to its end, in turns that each take at least one byte. It stops at one byte more than the limit.
+fn read_file<F: Read>(file: &mut F, bytes: &mut Vec<u8>, limit: u32) -> Result<(), FetchFault>
+    requires { bytes.old.items ≡ [] }
+    ensures within { OnOk result (length bytes.new.items ≤ limit) }
+    ensures too_long { IsErrOf result FetchFault.TooLong → length bytes.new.items ≡ limit + 1 }
+    ensures long { limit < length bytes.new.items → IsErrOf result FetchFault.TooLong }
+
+    // Where the file's bytes are known, they are read, and all of them.
+    ensures read { OnOk result (Consumes (F.remaining file.old) (F.remaining file.new) bytes.new.items) }
+    ensures all { OnOk result (IsAtEnd (F.remaining file.new)) }
+{
+    let most = limit as usize + 1;
+    let mut turn = [0u8; TURN];
+    while bytes.len() < most {
+        let piece = &mut turn[..TURN.min(most - bytes.len())];
+        let Ok(count) = file.read(piece) else {
+            return Err(FetchFault::Failed);
+        };
+        if count == 0 {
+            return Ok(());
+        }
+        bytes.extend_from_slice(&piece[..count])?;
+    }
+    Err(FetchFault::TooLong)
+}
+
+/// The files of the runtime.
+#[derive(Drop)]
+pub struct RealShelf<'r, R: Files> {
+    runtime: &'r R,
+    asked: Vec<String>,
+    taken: u64,
+    faults: u64,
+}
+
+impl<'r, R: Files> RealShelf<'r, R> {
+    /// The shelf over the runtime's files. Nothing was asked of it yet.
+    pub fn new(rt: &'r R, alloc: Global) -> RealShelf<'r, R>
+        ensures asked { ⟦<RealShelf<'r, R> as Shelf>⟧.asked result ≡ [] }
+        ensures faults { ⟦<RealShelf<'r, R> as Shelf>⟧.faults result ≡ 0 }
+    {
+        RealShelf {
+            runtime: rt,
+            asked: Vec::new(alloc),
+            taken: 0,
+            faults: 0,
+        }
+    }
+
+    // Counts the outside's failure.
+    fn failed(&mut self) -> FetchFault
+        ensures fault { result ≡ FetchFault.Failed }
+        ensures never_falls { self.old.faults ≤ self.new.faults }
+        ensures counted { self.new ≡ record self.old { faults = one_more self.old.faults } }
+    {
+        self.faults = self.faults.saturating_add(1);
+        FetchFault::Failed
+    }
+}
+
+impl<'r, R: Files> Shelf for RealShelf<'r, R> {
+    ghost told = { λ _ _. None };
+
+    ghost faults = { λ s. s.faults };
+
+    ghost taken = { λ s. s.taken };
+
+    ghost asked = { λ s. texts s.asked.items };
+
+    fn fetch(&mut self, alloc: Global, name: &str, limit: u32) -> Result<Vec<u8>, FetchFault> {
+        self.taken = 0;
+        self.asked.push(name.to_owned(alloc)?)?;
+        let Ok(mut file) = fs::open(self.runtime, name) else {
+            return Err(self.failed());
+        };
+        let mut bytes = Vec::new(alloc);
+        let read = read_file(&mut file, &mut bytes, limit);
+        self.taken = bytes.len() as u64;
+        match read {
+            Ok(()) => Ok(bytes),
+            Err(FetchFault::Failed) => Err(self.failed()),
+            Err(fault) => Err(fault),
+        }
+    }
+}
+
+/// A writer of std.
+#[derive(Drop)]
+pub struct StdSink<W: Write + Drop> {
+    writer: W,
+    faults: u64,
+}
+
+impl<W: Write + Drop> StdSink<W> {
+    /// The sink over this writer. No write has failed yet.
+    pub fn new(inner: W) -> StdSink<W>
+        ensures { ⟦<StdSink<W> as Sink>⟧.faults result ≡ 0 }
+    {
+        StdSink {
+            writer: inner,
+            faults: 0,
+        }
+    }
+}
+
+impl<W: Write + Drop> Sink for StdSink<W> {
+    ghost took = { λ _. None };
+
+    ghost faults = { λ s. faults_of s };
+
+    fn write(&mut self, piece: &[u8]) -> Result<usize, SinkFault>
+        requires { 0 < length piece.now }
+        ensures some { IfOk result (λ count. 0 < count) }
+        ensures within { IfOk result (λ count. count ≤ length piece.now) }
+        ensures passed_on { IfOk result (λ count. Appends (W.contents (writer_of self.old))
+            (W.contents (writer_of self.new)) (take count piece.now)) }
+        ensures fault { OnErr result (Rose (faults_of self.old) (faults_of self.new)) }
+        ensures never_falls { faults_of self.old ≤ faults_of self.new }
+    {
+        match self.writer.write(piece) {
+            Ok(count) if count > 0 => Ok(count),
+            _ => {
+                self.faults = self.faults.saturating_add(1);
+                Err(SinkFault)
+            }
+        }
+    }
+}
+
+#[cfg(test)]
+mod tests {
+    use super::*;
+    use crate::write_text;
+    use std::test::Fail;
+
+    #[test]
+    fn reads_what_a_writer_wrote_to_a_real_file(rt: HostRuntime) -> Result<(), Fail> {
+        let name = "nf_edge.test";
+        let mut text = Vec::new(rt.alloc());
+        for line in 0..2000u32 {
+            text.extend_from_slice(if line % 2 == 0 { b"even\n" } else { b"odd.\n" })?;
+        }
+        let mut sink = StdSink::new(fs::create(&rt, name)?);
+        let written = write_text(&mut sink, &text);
+        assert!(rt; written.is_ok());
+        assert_eq!(rt; sink.faults, 0);
+
+        let mut shelf = RealShelf::new(&rt, rt.alloc());
+        let whole = shelf.fetch(rt.alloc(), name, 10_000)?;
+        assert!(rt; whole.as_slice() == text.as_slice());
+        assert_eq!(rt; (shelf.taken, shelf.faults), (10_000, 0));
+        let cut = shelf.fetch(rt.alloc(), name, 9_999);
+        assert!(rt; cut.err() == Some(FetchFault::TooLong));
+        assert_eq!(rt; (shelf.taken, shelf.faults), (10_000, 0));
+        fs::remove_file(&rt, name)?;
+        let gone = shelf.fetch(rt.alloc(), name, 10_000);
+        assert!(rt; gone.err() == Some(FetchFault::Failed));
+        assert_eq!(rt; (shelf.taken, shelf.faults), (0, 1));
+        assert_eq!(rt; shelf.asked.len(), 3);
+        Ok(())
+    }
+
+    #[test]
+    fn counts_a_writer_that_takes_nothing(rt: HostRuntime) {
+        let mut room = [b'-'; 4];
+        let mut sink = StdSink::new(room.as_mut_slice());
+        let written = write_text(&mut sink, b"report");
+        assert!(rt; written.is_err());
+        assert_eq!(rt; sink.faults, 1);
+        assert!(rt; room.as_slice() == b"repo".as_slice());
+    }
+}

@@ -1,0 +1,101 @@
+-- What two fields of digits are read as, case by case.
+use Rattle.std.proofs.Math.Nat.{one-le-pow}
+use Rattle.std.proofs.Common.{subst, ◌≡◌, ℕ, zero, suc, ◌+◌, ◌*◌, ◌^◌, ◌<◌, ◌≤◌, Bool, true, false, not, ◌&&◌, ◌||◌, cond, List, [], ◌∷◌, length, ℤ, pos, negsuc, refl, sym, ap, ◌∙◌, arith}
+use Rattle.std.specs.Prelude.{◌==◌, nat_lt, nat_abs, neg_ℤ, Ok, Err, Result, IfOk, IfErr}
+use Rattle.std.specs.Str.Parse.{starts_with_minus}
+use Rattle.std.proofs.lemmas.Bool.{and_from, or_from, or_left, or_right, or_parts, ne_eqb, eq-eqb, le-ltb, lt-ltb, ltb-false, eqb-false, not_from_true, cond-true, cond-false}
+use Rattle.nf_numerals.specs.declared.NumberFault.{NumberFault}
+use Rattle.nf_numerals.specs.declared.NumberFault.TheVariants.{Empty, BadDigit, TooWide, ZeroDenominator}
+use Rattle.nf_numerals.specs.Digits.{are_digits, value_after, value_of}
+use Rattle.nf_numerals.specs.Numbers.{slash, point, before, after, unsigned, signed_by, denominator, is_decimal, parts_or_fault, parts_of, decimal_parts_of, as_ratio, number_of, decimal_of}
+use Rattle.nf_rational.specs.Rational.{ratio}
+
+pub not_zero : (n : ℕ) → 0 < n → (n == 0) ≡ false
+not_zero n h = let ne : n ≡ 0 → ⊥ = λ e. omega arith in ne_eqb n 0 ne
+
+-- ---- two fields that have a digit or more, and nothing else
+pub record AreFields (a b : List ℕ) : Type 0 where
+  pub some_left : 0 < length a
+  pub some_right : 0 < length b
+  pub left : are_digits a ≡ true
+  pub right : are_digits b ≡ true
+
+module _ (bound : ℕ) (a b : List ℕ) (n : ℤ) (d : ℕ) (are : AreFields a b) where
+  past_digits : parts_or_fault bound a b n d ≡ cond (nat_lt bound (nat_abs n) || nat_lt bound d) (Err TooWide) (cond (d == 0) (Err ZeroDenominator) (Ok (n, d)))
+  past_digits =
+      cond-false _ _ _ (or_from _ _ (not_zero (length a) are.some_left) (not_zero (length b) are.some_right))
+      ∙ cond-false _ _ _ (not_from_true _ (and_from _ _ are.left are.right))
+
+  pub wide_left : (nat_abs n ≤ bound → ⊥) → parts_or_fault bound a b n d ≡ Err TooWide
+  wide_left h = let wide : bound < nat_abs n = omega arith in past_digits ∙ cond-true _ _ _ (or_left _ _ (lt-ltb bound (nat_abs n) wide))
+
+  pub wide_right : (d ≤ bound → ⊥) → parts_or_fault bound a b n d ≡ Err TooWide
+  wide_right h = let wide : bound < d = omega arith in past_digits ∙ cond-true _ _ _ (or_right _ _ (lt-ltb bound d wide))
+
+  pub zero_right : nat_abs n ≤ bound → d ≡ 0 → parts_or_fault bound a b n d ≡ Err ZeroDenominator
+  zero_right fits e =
+      let small : d ≤ bound = omega arith in
+      past_digits ∙ cond-false _ _ _ (or_from _ _ (le-ltb _ _ fits) (le-ltb _ _ small)) ∙ cond-true _ _ _ (eq-eqb d 0 e)
+
+  pub parts_read : nat_abs n ≤ bound → d ≤ bound → 0 < d → parts_or_fault bound a b n d ≡ Ok (n, d)
+  parts_read fits_n fits_d some = past_digits ∙ cond-false _ _ _ (or_from _ _ (le-ltb _ _ fits_n) (le-ltb _ _ fits_d)) ∙ cond-false _ _ _ (not_zero d some)
+
+-- ---- the sign does not change the size
+pub abs-signed_by : (field : List ℕ) (n : ℕ) → nat_abs (signed_by field n) ≡ n
+abs-signed_by field n = abs_cases (starts_with_minus field) n
+  where
+    abs_neg : (n : ℕ) → nat_abs (neg_ℤ (pos n)) ≡ n
+    abs_neg zero = refl
+    abs_neg (suc n) = refl
+
+    abs_cases : (b : Bool) (n : ℕ) → nat_abs (cond b (neg_ℤ (pos n)) (pos n)) ≡ n
+    abs_cases true n = abs_neg n
+    abs_cases false n = refl
+
+-- ---- from the parts of a word to its number
+pub parts_by_fields : (bound : ℕ) (word left right : List ℕ) (r : Result (ℤ × ℕ) NumberFault) → left ≡ before slash word → right ≡ denominator word
+    → r ≡ parts_or_fault bound (unsigned left) right (signed_by left (value_of (unsigned left))) (value_of right) → r ≡ parts_of bound word
+unfolding parts_of
+parts_by_fields bound word left right r is_left is_right e = rw (is_left, is_right) at e
+
+pub decimal_by_fields : (bound : ℕ) (word left right : List ℕ) (r : Result (ℤ × ℕ) NumberFault) → is_decimal word ≡ true → left ≡ before point word → right ≡ after point word
+    → r ≡ parts_or_fault bound (unsigned left) right (signed_by left (value_of (unsigned left) * 10 ^ length right + value_of right)) (10 ^ length right) → r ≡ decimal_parts_of bound word
+unfolding decimal_parts_of
+decimal_by_fields bound word left right r is is_left is_right e = rw (is_left, is_right) at e ∙ sym (cond-true _ _ _ is)
+
+pub fraction_by_fields : (bound : ℕ) (word : List ℕ) (r : Result (ℤ × ℕ) NumberFault) → is_decimal word ≡ false → r ≡ parts_of bound word → r ≡ decimal_parts_of bound word
+unfolding decimal_parts_of
+fraction_by_fields bound word r is e = e ∙ sym (cond-false _ _ _ is)
+
+pub value_from : (bound : ℕ) (word : List ℕ) (r : Result (ℤ × ℕ) NumberFault) → r ≡ parts_of bound word → IfOk r (λ p. number_of bound word ≡ Ok (ratio p.0 p.1))
+unfolding number_of
+value_from bound word (Ok p) e = ap as_ratio (sym e)
+value_from bound word (Err fault) e = tt
+
+pub fault_from : (bound : ℕ) (word : List ℕ) (r : Result (ℤ × ℕ) NumberFault) → r ≡ parts_of bound word → IfErr r (λ fault. number_of bound word ≡ Err fault)
+unfolding number_of
+fault_from bound word (Ok p) e = tt
+fault_from bound word (Err fault) e = ap as_ratio (sym e)
+
+pub decimal_value_from : (bound : ℕ) (word : List ℕ) (r : Result (ℤ × ℕ) NumberFault) → r ≡ decimal_parts_of bound word → IfOk r (λ p. decimal_of bound word ≡ Ok (ratio p.0 p.1))
+unfolding decimal_of
+decimal_value_from bound word (Ok p) e = ap as_ratio (sym e)
+decimal_value_from bound word (Err fault) e = tt
+
+pub decimal_fault_from : (bound : ℕ) (word : List ℕ) (r : Result (ℤ × ℕ) NumberFault) → r ≡ decimal_parts_of bound word → IfErr r (λ fault. decimal_of bound word ≡ Err fault)
+unfolding decimal_of
+decimal_fault_from bound word (Ok p) e = tt
+decimal_fault_from bound word (Err fault) e = ap as_ratio (sym e)
+
+-- a decimal that has no fault
+pub decimal_given : (bound : ℕ) (left digits right : List ℕ) (num den : ℕ) (m : ℤ) → digits ≡ unsigned left → AreFields digits right
+    → value_of digits * 10 ^ length right + value_of right ≤ bound → num ≡ value_of digits * 10 ^ length right + value_of right
+    → 10 ^ length right ≤ bound → den ≡ 10 ^ length right → m ≡ signed_by left num
+    → Ok (m, den) ≡ parts_or_fault bound (unsigned left) right (signed_by left (value_of (unsigned left) * 10 ^ length right + value_of right)) (10 ^ length right)
+decimal_given bound left digits right num den m is_digits are fits_num is_num fits_den is_den is_m =
+    let value = value_of (unsigned left) * 10 ^ length right + value_of right in
+    let same : value_of digits * 10 ^ length right + value_of right ≡ value = ap (λ ds. value_of ds * 10 ^ length right + value_of right) is_digits in
+    ap (λ (n : ℤ). Ok (n, den)) (is_m ∙ ap (signed_by left) (is_num ∙ same))
+    ∙ ap (λ (d : ℕ). Ok (signed_by left value, d)) is_den
+    ∙ sym (parts_read bound (unsigned left) right (signed_by left value) (10 ^ length right) (subst (λ ds. AreFields ds right) is_digits are)
+    (subst (λ (n : ℕ). n ≤ bound) (same ∙ sym (abs-signed_by left value)) fits_num) fits_den (one-le-pow (length right) 10 (omega arith)))

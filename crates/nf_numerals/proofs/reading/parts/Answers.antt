@@ -1,0 +1,11 @@
+use Rattle.nf_numerals.proofs.Faults.{parts_by_fields, value_from, fault_from}
+use Rattle.nf_numerals.proofs.reading.parts.Goals as goal
+
+pub returns-clause-exact : goal.returns-clause-exact
+returns-clause-exact c = parts_by_fields c.args.bound c.args.word.now _ _ _ c.before_byte.ensures c.denominator_of.ensures c.fraction.ensures
+
+pub returns-clause-value : goal.returns-clause-value
+returns-clause-value c = value_from c.args.bound c.args.word.now _ (returns-clause-exact c)
+
+pub returns-clause-fault : goal.returns-clause-fault
+returns-clause-fault c = fault_from c.args.bound c.args.word.now _ (returns-clause-exact c)
