@@ -10,3 +10,4 @@ mod Patterns
 mod Runs
 mod Passing
 mod Parallel
+mod Member
