@@ -19,13 +19,13 @@ abbrev pub HasState : Pattern → ℕ → State → Type 0
 HasState pattern e state = slice_get pattern e ≡ Some (Some state)
 
 -- link e is active and not resetting: a link that is to have a state
-abbrev pub MayChoose : Sets → ℕ → Type 0
-MayChoose sets e = Has sets.active e × (Has sets.resetting e → ⊥)
+abbrev pub NeedsState : Sets → ℕ → Type 0
+NeedsState sets e = Has sets.active e × (Has sets.resetting e → ⊥)
 
 -- one state for exactly the active links that are not resetting, and Full for no unbounded one
 pub record IsPattern (sets : Sets) (unbounded : List Bool) (pattern : Pattern) : Type 0 where
   pub count : length pattern ≡ length sets.active
-  pub states : (e : ℕ) → MayChoose sets e ↔ ((state : State) × HasState pattern e state)
+  pub states : (e : ℕ) → NeedsState sets e ↔ ((state : State) × HasState pattern e state)
   pub no_full : (e : ℕ) → Has unbounded e → HasState pattern e Full → ⊥
 
 -- ---- listed patterns
@@ -92,10 +92,10 @@ pub record IsFirstInto (hops : List Hop) (sets : Sets) (e : ℕ) (hop : Hop) : T
 -- into a node that no resetting link enters, and else Zero.
 pub record IsBase (hops : List Hop) (sets : Sets) (last base : Pattern) : Type 0 where
   pub count : length base ≡ length sets.active
-  pub states : (e : ℕ) → MayChoose sets e ↔ ((state : State) × HasState base e state)
-  pub kept : (e : ℕ) (state : State) → MayChoose sets e → HasState last e state → HasState base e state
-  pub first : (e : ℕ) (hop : Hop) → MayChoose sets e → slice_get last e ≡ Some None → IsFirstInto hops sets e hop → HasState base e Tight
-  pub later : (e : ℕ) → MayChoose sets e → slice_get last e ≡ Some None → ((hop : Hop) → IsFirstInto hops sets e hop → ⊥) → HasState base e Zero
+  pub states : (e : ℕ) → NeedsState sets e ↔ ((state : State) × HasState base e state)
+  pub kept : (e : ℕ) (state : State) → NeedsState sets e → HasState last e state → HasState base e state
+  pub first : (e : ℕ) (hop : Hop) → NeedsState sets e → slice_get last e ≡ Some None → IsFirstInto hops sets e hop → HasState base e Tight
+  pub later : (e : ℕ) → NeedsState sets e → slice_get last e ≡ Some None → ((hop : Hop) → IsFirstInto hops sets e hop → ⊥) → HasState base e Zero
 
 -- ---- solvable patterns
 

@@ -4,7 +4,7 @@
 use Rattle.std.specs.Prelude.{◌≡◌, ◌≢◌, ℕ, ◌<◌, ◌==◌, if◌then◌else◌, List, [], ◌∷◌, length, Option, Some, None}
 use Rattle.nf_rational.specs.Rational.{ℚ}
 use Rattle.nf_rational.specs.Operations.{0ℚ, ◌+ℚ◌, ◌-ℚ◌, ◌*ℚ◌}
-use Rattle.nf_rational.specs.Order.{◌≤ℚ◌, ◌<ℚ◌, min_ℚ, max_ℚ}
+use Rattle.nf_rational.specs.Order.{◌≤ℚ◌, min_ℚ, max_ℚ}
 use Rattle.nf_model.specs.Entries.{number_at}
 use Rattle.nf_model.specs.Curve.{NeverFalls, HasCurve}
 use Rattle.nf_model.specs.Walk.{Hop, transit_of, transit_sum}
@@ -58,15 +58,16 @@ pub record IsCut (net : Network) (time : ℚ) (cut : List ℚ) : Type 0 where
   pub unbounded : (e : ℕ) (link : Link) → IsLink net e link → link.capacity ≡ None
       → number_at cut link.head ≤ℚ (number_at cut link.tail +ℚ link.transit)
 
--- what can pass a link between its ends' times: its capacity for as long as the head's time exceeds the tail's and the transit
-abbrev pub passed : Option ℚ → ℚ → ℚ → ℚ → ℚ
-passed None transit tail_time head_time = 0ℚ
-passed (Some capacity) transit tail_time head_time = capacity *ℚ max_ℚ 0ℚ (head_time -ℚ transit -ℚ tail_time)
+-- what a link can let through between its ends' times: its capacity, for as long as the head's time exceeds the tail's and the
+-- transit time; nothing on an unbounded link of a cut
+abbrev pub let_through : Option ℚ → ℚ → ℚ → ℚ → ℚ
+let_through None transit tail_time head_time = 0ℚ
+let_through (Some capacity) transit tail_time head_time = capacity *ℚ max_ℚ 0ℚ (head_time -ℚ transit -ℚ tail_time)
 
 -- the sum of this over the links
 abbrev pub cut_sum : List Link → List ℚ → ℚ
 cut_sum [] cut = 0ℚ
-cut_sum (link ∷ links) cut = passed link.capacity link.transit (number_at cut link.tail) (number_at cut link.head) +ℚ cut_sum links cut
+cut_sum (link ∷ links) cut = let_through link.capacity link.transit (number_at cut link.tail) (number_at cut link.head) +ℚ cut_sum links cut
 
 abbrev pub cut_value : Network → List ℚ → ℚ
 cut_value net cut = cut_sum net.links cut

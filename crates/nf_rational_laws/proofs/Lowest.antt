@@ -1,4 +1,4 @@
--- A ratio in lowest terms is that record, and a code of the rationals.
+-- Ratios whose common factor is taken out, and sums over the least common denominator.
 use Rattle.std.proofs.Common.{◌≡◌, ℕ, zero, suc, ◌*◌, ◌/◌, ◌<◌, ◌≤◌, sym, ap, arith}
 use lib.IntN.{ℤ, pos, ◌+ℤ◌, ◌*ℤ◌, neg_ℤ, nat_abs}
 use lib.Signed.{quot_z}
@@ -8,21 +8,9 @@ use Rattle.nf_rational_laws.proofs.Polynomial.{combine, using, done, reading}
 use Rattle.nf_rational_laws.proofs.IntegerRing.{ints_ring}
 use Rattle.nf_rational.specs.Operations.{◌+ℚ◌}
 use Rattle.nf_rational_laws.proofs.Ratio.{Is-self, Is-same, Is-plus, Is-ratio}
+use Rattle.nf_rational.proofs.Lowest.{parts_ratio}
 use Rattle.nf_rational.specs.Gcd.{gcd, IsGcd-gcd}
 use Rattle.nf_rational.specs.Rational.{ℚ, ratio, part_pos}
-use Rattle.nf_rational_laws.proofs.Ratio.{ratio_cross, same_cross}
-
-pub ratio_lowest : (n : ℤ) (d : ℕ) (some : 0 < d) (lowest : gcd (nat_abs n) d ≡ 1) → ratio n d ≡ record { num = n; den = d; positive = some; reduced = lowest }
-ratio_lowest n d some lowest = same_cross (ratio n d) (record { num = n; den = d; positive = some; reduced = lowest }) (ratio_cross n d some)
-
-pub num-ratio : (n : ℤ) (d : ℕ) → 0 < d → gcd (nat_abs n) d ≡ 1 → (ratio n d).num ≡ n
-num-ratio n d some lowest = ap (λ (q : ℚ). q.num) (ratio_lowest n d some lowest)
-
-pub den-ratio : (n : ℤ) (d : ℕ) → 0 < d → gcd (nat_abs n) d ≡ 1 → (ratio n d).den ≡ d
-den-ratio n d some lowest = ap (λ (q : ℚ). q.den) (ratio_lowest n d some lowest)
-
-pub parts_ratio : (q : ℚ) → ratio q.num q.den ≡ q
-parts_ratio q = ratio_lowest q.num q.den q.positive q.reduced
 
 -- the ratio with the common factor taken out is the same
 pub shrunk : (n : ℤ) (d : ℕ) → 0 < d → ratio (quot_z n (pos (gcd (nat_abs n) d))) (d / gcd (nat_abs n) d) ≡ ratio n d

@@ -14,7 +14,7 @@ use Rattle.nf_rational.specs.Rational.{ℚ, ratio, abs_quot, part_pos, parts_red
 use Rattle.nf_rational_laws.proofs.Ratio.{quot_times}
 use Rattle.nf_rational.specs.Operations.{◌*ℚ◌}
 use Rattle.nf_rational_laws.proofs.Ratio.{Is-self, Is-same, Is-times, Is-ratio}
-use Rattle.nf_rational_laws.proofs.Lowest.{num-ratio, den-ratio}
+use Rattle.nf_rational.proofs.Lowest.{num-ratio, den-ratio}
 
 -- ---- numbers with no common factor
 pub apart_parts : (n d a c : ℕ) → IsGcd n d 1 → a ∣ n → c ∣ d → IsGcd a c 1

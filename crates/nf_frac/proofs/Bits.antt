@@ -1,0 +1,47 @@
+-- Signed numbers of 128 bits that go to their bits and are read again, as a call's clause has them.
+use Rattle.std.proofs.Common.{◌≡◌, ℕ, ◌*◌, ◌<◌, ◌≤◌, ◌^◌, ◌-◌, ℤ, pos, negsuc, ◌*ℤ◌, nat_abs, sym, ◌∙◌, ap, subst, arith}
+use mathlib.Core.Path.{ap₂}
+use mir.Syntax.{w128}
+use mir.Val.{to_z, of_z, SFits}
+use mir.Facts.{to_z-of_z, to_z_pos}
+use Rattle.std.proofs.lemmas.Nat.{mul-le}
+use Rattle.nf_rational_laws.proofs.Products.{abs-product}
+use Rattle.nf_rational.specs.Gcd.{gcd}
+use Rattle.nf_rational.specs.Rational.{gcd_pos}
+use Rattle.nf_rational_laws.proofs.Lowest.{gcd-le}
+use Rattle.nf_frac.specs.Parts.{greatest}
+
+abbrev pub bits_of : ℤ → ℤ
+bits_of z = to_z w128 (of_z w128 z)
+
+pub fits_128 : (z : ℤ) → nat_abs z ≤ greatest → SFits w128 z
+fits_128 (pos n) h = record { sfits = omega arith }
+fits_128 (negsuc n) h = record { sfits = omega arith }
+
+pub plain : (z : ℤ) → nat_abs z ≤ greatest → bits_of z ≡ z
+plain z h = to_z-of_z (fits_128 z h)
+
+-- a product of two short numbers
+short_product : (a b : ℤ) → nat_abs a ≤ 9223372036854775807 → nat_abs b ≤ 9223372036854775807 → nat_abs (a *ℤ b) ≤ greatest
+short_product a b h k = omega (arith, abs-product a b, mul-le (nat_abs a) (nat_abs b) 9223372036854775807 9223372036854775807 h k)
+
+pub short_times : (a b : ℤ) → SFits w128 a → SFits w128 b → nat_abs a ≤ 9223372036854775807 → nat_abs b ≤ 9223372036854775807 → bits_of (bits_of a *ℤ bits_of b) ≡ a *ℤ b
+short_times a b f g h k = ap₂ (λ (x y : ℤ). bits_of (x *ℤ y)) (to_z-of_z f) (to_z-of_z g) ∙ plain (a *ℤ b) (short_product a b h k)
+
+-- a bound on the magnitude that a call computed
+pub size_of : (z : ℤ) (m limit : ℕ) → SFits w128 z → m ≡ nat_abs (bits_of z) → m ≤ limit → nat_abs z ≤ limit
+size_of z m limit f e h = subst (λ (k : ℕ). k ≤ limit) (e ∙ ap nat_abs (to_z-of_z f)) h
+
+pub size_along : (y z : ℤ) (m limit : ℕ) → y ≡ z → m ≡ nat_abs y → m ≤ limit → nat_abs z ≤ limit
+size_along y z m limit e f h = subst (λ (k : ℕ). k ≤ limit) (f ∙ ap nat_abs e) h
+
+-- ---- the greatest common divisor as a call's clauses have it
+pub gcd_positive : (a b g : ℕ) → g ≡ gcd a b → 0 < b → 0 < g
+gcd_positive a b g e h = subst (λ (k : ℕ). 0 < k) (sym e) (gcd_pos a b h)
+
+pub gcd_small : (a b g : ℕ) → g ≡ gcd a b → 0 < b → g ≤ b
+gcd_small a b g e h = subst (λ (k : ℕ). k ≤ b) (sym e) (gcd-le a b h)
+
+-- a natural number that is cast
+pub cast_plain : (k : ℕ) → k ≤ greatest → to_z w128 k ≡ pos k
+cast_plain k h = to_z_pos w128 (omega arith)

@@ -1,0 +1,11 @@
+pub mod Bits
+pub mod Compare
+pub mod Form
+pub mod Factors
+pub mod Sums
+pub mod Products
+pub mod Turned
+pub mod Passing
+pub mod Made
+pub mod Same
+pub mod Written

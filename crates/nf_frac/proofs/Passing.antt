@@ -1,0 +1,99 @@
+-- What the answers of the four operations say of the list of those that pass.
+use Rattle.std.proofs.Common.{◌≡◌, ℕ, ◌*◌, ◌/◌, ◌<◌, ◌≤◌, Bool, true, false, cond, ◌||◌, ltb, ℤ, pos, ◌+ℤ◌, ◌*ℤ◌, nat_abs, refl, sym, ◌∙◌, ap, subst, arith}
+use Rattle.std.specs.Prelude.{Result, Ok, Err}
+use native.Mathlib.Nat.{mul-pos}
+use borrow.Author.Tests.{ltb-true, ltb-false, lt-ltb, le-ltb}
+use Rattle.nf_rational.specs.Gcd.{gcd}
+use Rattle.nf_rational.specs.Rational.{ℚ, part_pos}
+use Rattle.nf_rational.specs.Operations.{0ℚ, neg_ℚ, inv_ℚ, ◌+ℚ◌, ◌-ℚ◌, ◌*ℚ◌, ◌/ℚ◌}
+use Rattle.nf_rational_laws.proofs.Lowest.{plus_over_lcm}
+use Rattle.nf_work.specs.declared.Op.TheVariants.{Sum, Difference, Product, Quotient}
+use Rattle.nf_work.specs.declared.Passed.{Passed}
+use Rattle.nf_work.specs.Passing.{beyond, is_wide, sum_is_wide}
+use Rattle.nf_work.specs.Checked.{checked}
+use Rattle.nf_frac.specs.Parts.{IsWithin, SumFits}
+use Rattle.nf_frac.proofs.Form.{ratio_within}
+
+none_of : (a b : Bool) → (a || b) ≡ false → (a ≡ false) × (b ≡ false)
+none_of true b e = cc
+none_of false b e = (refl, e)
+
+neither : (a b : Bool) → a ≡ false → b ≡ false → (a || b) ≡ false
+neither true b e f = e
+neither false b e f = f
+
+at_most : (m k : ℕ) → k ≤ m → ltb m k ≡ false
+at_most m k h = grind arith
+
+-- ---- a number
+pub narrow_in : (b : ℕ) (q : ℚ) → IsWithin b q → is_wide b q ≡ false
+narrow_in b q w = neither _ _ (at_most b (nat_abs q.num) w.small) (at_most b q.den w.small_den)
+
+pub narrow_out : (b : ℕ) (q : ℚ) → is_wide b q ≡ false → IsWithin b q
+narrow_out b q e = let h = none_of _ _ e in record { small = ltb-false b (nat_abs q.num) h.0; small_den = ltb-false b q.den h.1 }
+
+-- ---- a sum
+pub sum_in : (b : ℕ) (x y : ℚ) → SumFits b x y → sum_is_wide b x y ≡ false
+sum_in b x y w = neither _ _ (at_most b _ w.denominator) (neither _ _ (at_most b _ w.left) (neither _ _ (at_most b _ w.right) (at_most b _ w.total)))
+
+pub sum_out : (b : ℕ) (x y : ℚ) → sum_is_wide b x y ≡ false → SumFits b x y
+sum_out b x y e =
+    let h = none_of (ltb b (x.den * (y.den / gcd x.den y.den))) _ e in
+    let i = none_of (ltb b (nat_abs (x.num *ℤ pos (y.den / gcd x.den y.den)))) _ h.1 in
+    let j = none_of (ltb b (nat_abs (y.num *ℤ pos (x.den / gcd x.den y.den)))) _ i.1 in
+    record { denominator = ltb-false b _ h.0; left = ltb-false b _ i.0; right = ltb-false b _ j.0; total = ltb-false b _ j.1 }
+
+pub sum_within : (b : ℕ) (x y : ℚ) → SumFits b x y → IsWithin b (x +ℚ y)
+sum_within b x y w =
+    subst (λ (q : ℚ). IsWithin b q) (plus_over_lcm x y)
+    (ratio_within b _ _ (mul-pos x.positive (part_pos x.den y.den y.positive)) w.total w.denominator)
+
+-- ---- a test that fails, and one that holds
+so : (t : Bool) → (t ≡ false → ⊥) → t ≡ true
+so true n = refl
+so false n = absurd (n refl)
+
+module _ {V E : Type 0} (t : Bool) (e : E) (v : V) where
+  answer_ok : t ≡ false → Ok v ≡ cond t (Err e) (Ok v)
+  answer_ok h = sym (ap (λ (s : Bool). cond s (Err e) (Ok v)) h)
+
+  answer_err : t ≡ true → Err e ≡ cond t (Err e) (Ok v)
+  answer_err h = sym (ap (λ (s : Bool). cond s (Err e) (Ok v)) h)
+
+-- ---- the four operations
+module _ (b : ℕ) (x y : ℚ) where
+  pub sum_done : (q : ℚ) → SumFits b x y × (q ≡ x +ℚ y) → Ok q ≡ checked (beyond b) Sum x y
+  unfolding checked beyond
+  sum_done q w = ap Ok w.1 ∙ answer_ok (sum_is_wide b x y) _ (x +ℚ y) (sum_in b x y w.0)
+
+  pub sum_passed : (SumFits b x y → ⊥) → Err (record { op = Sum; left = x; right = y }) ≡ checked (beyond b) Sum x y
+  unfolding checked beyond
+  sum_passed n = answer_err (sum_is_wide b x y) _ (x +ℚ y) (so _ (λ e. n (sum_out b x y e)))
+
+  pub difference_done : (q : ℚ) → SumFits b x (neg_ℚ y) × (q ≡ x +ℚ neg_ℚ y) → Ok q ≡ checked (beyond b) Difference x y
+  unfolding checked beyond ◌-ℚ◌
+  difference_done q w = ap Ok w.1 ∙ answer_ok (sum_is_wide b x (neg_ℚ y)) _ (x +ℚ neg_ℚ y) (sum_in b x (neg_ℚ y) w.0)
+
+  pub difference_passed : (SumFits b x (neg_ℚ y) → ⊥) → Err (record { op = Difference; left = x; right = y }) ≡ checked (beyond b) Difference x y
+  unfolding checked beyond ◌-ℚ◌
+  difference_passed n = answer_err (sum_is_wide b x (neg_ℚ y)) _ (x +ℚ neg_ℚ y) (so _ (λ e. n (sum_out b x (neg_ℚ y) e)))
+
+  pub product_done : (q : ℚ) → IsWithin b (x *ℚ y) × (q ≡ x *ℚ y) → Ok q ≡ checked (beyond b) Product x y
+  unfolding checked beyond
+  product_done q w = ap Ok w.1 ∙ answer_ok (is_wide b (x *ℚ y)) _ (x *ℚ y) (narrow_in b (x *ℚ y) w.0)
+
+  pub product_passed : (IsWithin b (x *ℚ y) → ⊥) → Err (record { op = Product; left = x; right = y }) ≡ checked (beyond b) Product x y
+  unfolding checked beyond
+  product_passed n = answer_err (is_wide b (x *ℚ y)) _ (x *ℚ y) (so _ (λ e. n (narrow_out b (x *ℚ y) e)))
+
+  pub quotient_done : (q : ℚ) → IsWithin b (x *ℚ inv_ℚ y) × (q ≡ x *ℚ inv_ℚ y) → Ok q ≡ checked (beyond b) Quotient x y
+  unfolding checked beyond ◌/ℚ◌
+  quotient_done q w = ap Ok w.1 ∙ answer_ok (is_wide b (x *ℚ inv_ℚ y)) _ (x *ℚ inv_ℚ y) (narrow_in b (x *ℚ inv_ℚ y) w.0)
+
+  pub quotient_passed : (IsWithin b (x *ℚ inv_ℚ y) → ⊥) → Err (record { op = Quotient; left = x; right = y }) ≡ checked (beyond b) Quotient x y
+  unfolding checked beyond ◌/ℚ◌
+  quotient_passed n = answer_err (is_wide b (x *ℚ inv_ℚ y)) _ (x *ℚ inv_ℚ y) (so _ (λ e. n (narrow_out b (x *ℚ inv_ℚ y) e)))
+
+-- ---- what a value is within
+pub within_along : (b : ℕ) (p q : ℚ) → p ≡ q → IsWithin b q → IsWithin b p
+within_along b p q e w = subst (λ (z : ℚ). IsWithin b z) (sym e) w

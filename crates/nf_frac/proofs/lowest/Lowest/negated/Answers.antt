@@ -1,0 +1,10 @@
+use Rattle.std.proofs.Common.{sym, ◌∙◌, subst, ap}
+use Rattle.nf_frac.proofs.Form.{parts_of, num_plain, value_of, own_within}
+use Rattle.nf_frac.proofs.Turned.{minus_is, den-neg, neg_within}
+use Rattle.nf_frac.specs.Parts.{greatest}
+use Rattle.nf_frac.proofs.lowest.Lowest.negated.Goals as goal
+
+pub returns : goal.returns
+returns c =
+    value_of _ _ _ (minus_is c.args.self _ (num_plain c.self.invariant c.self.view_is)) (sym (parts_of c.self.invariant c.self.view_is).den ∙ sym (den-neg c.args.self))
+    (neg_within greatest c.args.self (own_within c.self.invariant c.self.view_is))

@@ -1,0 +1,79 @@
+// Fractions whose parts have a bounded number of bits.
+ghost use Rattle.std.specs.Prelude.{◌≡◌, ◌≢◌, ◌≤◌, pos, nat_abs, ◌≤ℤ◌, SomeIff};
+ghost use Rattle.nf_rational.specs.Operations.{0ℚ, 1ℚ, whole, ◌/ℚ◌};
+ghost use Rattle.nf_work.specs.Passing.{bound_of};
+ghost use Rattle.nf_frac.specs.Parts.{greatest, IsWithin, IsMade};
+
+use crate::lowest::Lowest;
+use std::marker::Model;
+
+/// A rational number as a fraction in lowest terms. Its denominator is at least 1, and neither part is beyond 2^b - 1 in
+/// magnitude, where b is BITS, or 8 where that is less, or 127 where that is more. Zero is 0/1.
+#[derive(Clone, Copy, Debug)]
+pub struct Frac<const BITS: u32> {
+    pub(crate) value: Lowest,
+}
+
+/// The fractions that everything is counted in.
+pub type Q = Frac<127>;
+
+impl<const BITS: u32> Model for Frac<BITS> {
+    ghost use Rattle.nf_rational.specs.Rational.{ℚ, coded_ℚ};
+    ghost use Rattle.nf_work.specs.Passing.{bound_of};
+    ghost use Rattle.nf_frac.specs.Parts.{IsWithin};
+
+    ghost Value = { ℚ };
+
+    ghost coded = { coded_ℚ };
+
+    ghost view = { λ f. f.value };
+
+    ghost invariant = { λ f. IsWithin (bound_of BITS) f.value };
+
+    ghost inverse = { λ q. record { value = q } };
+}
+
+// The greatest magnitude of a part.
+#[inline(always)]
+pub(crate) fn bound(bits: u32) -> u128
+    ensures value { result ≡ bound_of bits }
+    ensures small { result ≤ greatest }
+{
+    (1 << bits.min(127).max(8)) - 1
+}
+
+impl<const BITS: u32> Frac<BITS> {
+    /// The numerator over the denominator, reduced. None exactly where the denominator is 0 or a part of the reduced fraction is
+    /// beyond the bound.
+    pub fn make(num: i128, den: i128) -> Option<Frac<BITS>>
+        ensures { SomeIff result (IsMade (bound_of BITS) num den) (whole num /ℚ whole den) }
+    {
+        if den == 0 {
+            return None;
+        }
+        let negative = (num < 0) != (den < 0);
+        let value = Lowest::reduced(
+            negative,
+            num.unsigned_abs(),
+            den.unsigned_abs(),
+            bound(BITS),
+        )?;
+        Some(Frac { value })
+    }
+
+    /// The numerator.
+    pub fn numer(self) -> i128
+        ensures value { result ≡ self.entry.num }
+        ensures small { nat_abs result ≤ bound_of BITS }
+    {
+        self.value.numer()
+    }
+
+    /// The denominator.
+    pub fn denom(self) -> i128
+        ensures value { result ≡ pos self.entry.den }
+        ensures small { result ≤ℤ pos (bound_of BITS) }
+    {
+        self.value.denom() as i128
+    }
+}

@@ -1,0 +1,199 @@
+// Fractions in lowest terms with parts of at most 127 bits: what is reduced, summed and multiplied within a limit.
+ghost use Rattle.std.specs.Prelude.{◌≡◌, ◌≢◌, ◌*◌, ◌/◌, ◌-◌, ◌^◌, ◌<◌, ◌≤◌, pos, nat_abs, ◌*ℤ◌, SomeIff};
+ghost use Rattle.nf_rational.specs.Gcd.{gcd};
+ghost use Rattle.nf_rational.specs.Rational.{ratio};
+ghost use Rattle.nf_rational.specs.Operations.{0ℚ, whole, ◌+ℚ◌, ◌*ℚ◌, neg_ℚ, inv_ℚ};
+ghost use Rattle.nf_rational.specs.Order.{cmp_ℚ};
+ghost use Rattle.nf_frac.specs.Parts.{greatest, signed, IsWithin, SumFits};
+ghost use Rattle.nf_frac.specs.Order.{same_ℚ};
+
+use crate::whole::{
+    added, compare_quotients, divided, gcd_of, multiplied, product, shortened, with_sign,
+};
+use std::cmp::Ordering;
+use std::marker::Model;
+
+/// A fraction in lowest terms. Its denominator is positive, and no part is beyond 2^127 - 1 in magnitude.
+#[derive(Clone, Copy, Debug)]
+pub(crate) struct Lowest {
+    num: i128,
+    den: u128,
+}
+
+impl Model for Lowest {
+    ghost use Rattle.nf_rational.specs.Rational.{ℚ, ratio, coded_ℚ};
+    ghost use Rattle.nf_frac.specs.Parts.{InForm};
+    ghost use Rattle.nf_frac.specs.Form.{parts_back};
+
+    ghost Value = { ℚ };
+
+    ghost coded = { coded_ℚ };
+
+    ghost view = { λ f. ratio f.num f.den };
+
+    ghost invariant = { λ f. InForm f.num f.den };
+
+    ghost inverse = { λ q. record { num = q.num; den = q.den } };
+
+    ghost inverse_ok = { λ a h. λ i. record { num = (parts_back a.num a.den h).0 i; den = (parts_back a.num a.den h).1 i } };
+}
+
+impl Lowest {
+    /// The numerator.
+    pub(crate) fn numer(self) -> i128
+        ensures value { result ≡ self.num }
+        ensures small { nat_abs result ≤ greatest }
+    {
+        self.num
+    }
+
+    /// The denominator.
+    pub(crate) fn denom(self) -> u128
+        ensures value { result ≡ self.den }
+        ensures small { result ≤ greatest }
+    {
+        self.den
+    }
+
+    /// A natural number of at most one bit.
+    pub(crate) fn natural(number: u32) -> Lowest
+        requires { number < 2 }
+        ensures value { result ≡ whole (pos number) }
+        ensures small { IsWithin 1 result }
+    {
+        Lowest {
+            num: number as i128,
+            den: 1,
+        }
+    }
+
+    /// The fraction of this sign, magnitude and denominator, where no part of it is beyond the limit once it is reduced.
+    pub(crate) fn reduced(negative: bool, magnitude: u128, den: u128, limit: u128) -> Option<Lowest>
+        requires positive { 0 < den }
+        requires narrow { limit ≤ greatest }
+        ensures { SomeIff result (IsWithin limit (ratio (signed negative magnitude) den)) (ratio (signed negative magnitude) den) }
+    {
+        let common = gcd_of(magnitude, den);
+        let above = divided(magnitude, common);
+        let below = divided(den, common);
+        if above > limit || below > limit {
+            return None;
+        }
+        Some(Lowest {
+            num: with_sign(negative, above),
+            den: below,
+        })
+    }
+
+    /// The numerator over the denominator, whose only common factors are those of `common`.
+    pub(crate) fn over(num: i128, den: u128, common: u128) -> Lowest
+        requires positive { 0 < den }
+        requires some { 0 < common }
+        requires bounded { common ≤ greatest }
+        requires small { nat_abs num ≤ greatest }
+        requires small_den { den ≤ greatest }
+        requires factor { gcd (nat_abs num) common ≡ gcd (nat_abs num) den }
+        ensures { result ≡ ratio num den }
+    {
+        let rest = gcd_of(num.unsigned_abs(), common);
+        Lowest {
+            num: shortened(num, rest),
+            den: divided(den, rest),
+        }
+    }
+
+    // The numerator times a factor, if that is at most the limit in magnitude.
+    fn scaled(self, factor: u128, limit: u128) -> Option<i128>
+        requires bounded { factor ≤ greatest }
+        requires narrow { limit ≤ greatest }
+        ensures { SomeIff result (nat_abs (self.num *ℤ pos factor) ≤ limit) (self.num *ℤ pos factor) }
+    {
+        multiplied(self.num, factor as i128, limit)
+    }
+
+    /// The sum, formed over the least common denominator with no part beyond the limit.
+    pub(crate) fn sum(self, right: Lowest, limit: u128) -> Option<Lowest>
+        requires { limit ≤ greatest }
+        ensures { SomeIff result (SumFits limit self right) (self +ℚ right) }
+    {
+        let common = gcd_of(self.den, right.den);
+        let left_factor = divided(right.den, common);
+        let right_factor = divided(self.den, common);
+        let den = product(self.den, left_factor, limit)?;
+        let left_part = self.scaled(left_factor, limit)?;
+        let right_part = right.scaled(right_factor, limit)?;
+        let num = added(left_part, right_part, limit)?;
+        Some(Lowest::over(num, den, common))
+    }
+
+    /// The product, each numerator reduced with the other's denominator before they meet.
+    pub(crate) fn product(self, right: Lowest, limit: u128) -> Option<Lowest>
+        requires { limit ≤ greatest }
+        ensures { SomeIff result (IsWithin limit (self *ℚ right)) (self *ℚ right) }
+    {
+        let left = gcd_of(self.num.unsigned_abs(), right.den);
+        let other = gcd_of(right.num.unsigned_abs(), self.den);
+        let num = multiplied(
+            shortened(self.num, left),
+            shortened(right.num, other),
+            limit,
+        )?;
+        let den = product(divided(self.den, other), divided(right.den, left), limit)?;
+        Some(Lowest { num, den })
+    }
+
+    /// The same with the other sign.
+    pub(crate) fn negated(self) -> Lowest
+        ensures { result ≡ neg_ℚ self }
+    {
+        Lowest {
+            num: -self.num,
+            den: self.den,
+        }
+    }
+
+    /// One over it.
+    pub(crate) fn inverted(self) -> Lowest
+        requires { self ≢ 0ℚ }
+        ensures { result ≡ inv_ℚ self }
+    {
+        Lowest {
+            num: with_sign(self.num < 0, self.den),
+            den: self.num.unsigned_abs(),
+        }
+    }
+
+    /// Whether the two are the same number.
+    pub(crate) fn is_same(self, right: Lowest) -> bool
+        ensures { result ≡ same_ℚ self right }
+    {
+        self.num == right.num && self.den == right.den
+    }
+
+    /// How the two compare.
+    pub(crate) fn compare(self, right: Lowest) -> Ordering
+        ensures { result ≡ cmp_ℚ self right }
+    {
+        if self.num < 0 {
+            if right.num < 0 {
+                compare_quotients(
+                    right.num.unsigned_abs(),
+                    right.den,
+                    self.num.unsigned_abs(),
+                    self.den,
+                )
+            } else {
+                Ordering::Less
+            }
+        } else if right.num < 0 {
+            Ordering::Greater
+        } else {
+            compare_quotients(
+                self.num.unsigned_abs(),
+                self.den,
+                right.num.unsigned_abs(),
+                right.den,
+            )
+        }
+    }
+}

@@ -1,0 +1,186 @@
+// Arithmetic of whole numbers within a limit. Numbers of at most 64 bits, which nearly all are, take a shorter way.
+ghost use Rattle.std.specs.Prelude.{◌≡◌, ◌*◌, ◌/◌, ◌-◌, ◌^◌, ◌<◌, ◌≤◌, pos, ◌+ℤ◌, ◌*ℤ◌, nat_abs, int_div, SomeIff};
+ghost use Rattle.std.specs.Ordering.{nat_cmp};
+ghost use Rattle.nf_rational.specs.Gcd.{gcd};
+ghost use Rattle.nf_frac.specs.Parts.{greatest, signed};
+
+use std::cmp::Ordering;
+
+// The greatest number of 63 bits.
+const SHORT: u128 = 0x7fff_ffff_ffff_ffff;
+
+// The greatest common divisor of two short numbers.
+fn gcd_short(a: u64, b: u64) -> u64
+    ensures { result ≡ gcd a b }
+{
+    let mut x = a;
+    let mut y = b;
+    while y != 0 {
+        let rest = x % y;
+        x = y;
+        y = rest;
+    }
+    x
+}
+
+// The greatest common divisor of two numbers of any length. The steps are short ones as soon as the numbers are.
+fn gcd_long(a: u128, b: u128) -> u128
+    ensures { result ≡ gcd a b }
+{
+    let mut x = a;
+    let mut y = b;
+    while y > SHORT {
+        let rest = x % y;
+        x = y;
+        y = rest;
+    }
+    if y == 0 {
+        x
+    } else {
+        gcd_short(y as u64, (x % y) as u64) as u128
+    }
+}
+
+/// The greatest common divisor, by Euclid's algorithm.
+pub(crate) fn gcd_of(a: u128, b: u128) -> u128
+    ensures value { result ≡ gcd a b }
+    ensures positive { 0 < b → 0 < result }
+    ensures small { 0 < b → result ≤ b }
+{
+    if a <= SHORT && b <= SHORT {
+        gcd_short(a as u64, b as u64) as u128
+    } else {
+        gcd_long(a, b)
+    }
+}
+
+/// The quotient of two natural numbers, rounded down.
+pub(crate) fn divided(a: u128, b: u128) -> u128
+    requires { 0 < b }
+    ensures { result ≡ a / b }
+{
+    if a <= SHORT && b <= SHORT {
+        (a as u64 / b as u64) as u128
+    } else {
+        a / b
+    }
+}
+
+/// The quotient, rounded toward zero.
+pub(crate) fn shortened(a: i128, b: u128) -> i128
+    requires positive { 0 < b }
+    requires bounded { b ≤ greatest }
+    ensures { result ≡ int_div a (pos b) }
+{
+    if a.unsigned_abs() <= SHORT && b <= SHORT {
+        (a as i64 / b as i64) as i128
+    } else {
+        a / b as i128
+    }
+}
+
+/// The whole number of this sign and magnitude.
+pub(crate) fn with_sign(negative: bool, magnitude: u128) -> i128
+    requires { magnitude ≤ greatest }
+    ensures { result ≡ signed negative magnitude }
+{
+    if negative {
+        -(magnitude as i128)
+    } else {
+        magnitude as i128
+    }
+}
+
+/// The product, if it is at most the limit.
+pub(crate) fn product(a: u128, b: u128, limit: u128) -> Option<u128>
+    ensures { SomeIff result (a * b ≤ limit) (a * b) }
+{
+    if a <= SHORT && b <= SHORT {
+        let product = a * b;
+        if product <= limit {
+            Some(product)
+        } else {
+            None
+        }
+    } else {
+        match a.checked_mul(b) {
+            Some(product) if product <= limit => Some(product),
+            _ => None,
+        }
+    }
+}
+
+/// The product, if its magnitude is at most the limit.
+pub(crate) fn multiplied(a: i128, b: i128, limit: u128) -> Option<i128>
+    requires { limit ≤ greatest }
+    ensures { SomeIff result (nat_abs (a *ℤ b) ≤ limit) (a *ℤ b) }
+{
+    if a.unsigned_abs() <= SHORT && b.unsigned_abs() <= SHORT {
+        let product = a * b;
+        if product.unsigned_abs() <= limit {
+            Some(product)
+        } else {
+            None
+        }
+    } else {
+        match a.checked_mul(b) {
+            Some(product) if product.unsigned_abs() <= limit => Some(product),
+            _ => None,
+        }
+    }
+}
+
+/// The sum, if its magnitude is at most the limit.
+pub(crate) fn added(a: i128, b: i128, limit: u128) -> Option<i128>
+    requires { limit ≤ greatest }
+    ensures { SomeIff result (nat_abs (a +ℤ b) ≤ limit) (a +ℤ b) }
+{
+    match a.checked_add(b) {
+        Some(sum) if sum.unsigned_abs() <= limit => Some(sum),
+        _ => None,
+    }
+}
+
+// The same for numbers of any length: by the quotients, and then by what is left over.
+fn compare_long(a: u128, b: u128, c: u128, d: u128) -> Ordering
+    requires left { 0 < b }
+    requires right { 0 < d }
+    ensures { result ≡ nat_cmp (a * d) (c * b) }
+{
+    let mut above = a;
+    let mut below = b;
+    let mut other_above = c;
+    let mut other_below = d;
+    loop {
+        let whole = above / below;
+        let other_whole = other_above / other_below;
+        if whole != other_whole {
+            return whole.cmp(&other_whole);
+        }
+        let rest = above % below;
+        let other_rest = other_above % other_below;
+        if rest == 0 || other_rest == 0 {
+            return rest.cmp(&other_rest);
+        }
+        // one over the other's rest against one over this one's
+        above = other_below;
+        other_above = below;
+        below = other_rest;
+        other_below = rest;
+    }
+}
+
+/// How a/b and c/d compare. No product of more than 128 bits is formed.
+pub(crate) fn compare_quotients(a: u128, b: u128, c: u128, d: u128) -> Ordering
+    requires left { 0 < b }
+    requires right { 0 < d }
+    ensures { result ≡ nat_cmp (a * d) (c * b) }
+{
+    if a <= SHORT && b <= SHORT && c <= SHORT && d <= SHORT {
+        let left = a * d;
+        let right = c * b;
+        left.cmp(&right)
+    } else {
+        compare_long(a, b, c, d)
+    }
+}

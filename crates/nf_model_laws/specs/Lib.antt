@@ -1,0 +1,9 @@
+pub mod Affine
+pub mod Capacity
+pub mod CurveLaws
+pub mod QueueLaws
+pub mod ExitLaws
+pub mod EarliestLaws
+pub mod SupplyLaws
+pub mod SlackLaws
+pub mod MemberLaws
