@@ -1,40 +1,18 @@
 -- A phase run by all of its definition: one link of transit time 1 and capacity 1, supplied at rate 1, to the horizon 1. It has one
 -- phase, by its first pattern, Tight.
-use Rattle.std.proofs.Common.{◌≡◌, ℕ, zero, suc, ◌<◌, List, [], ◌∷◌, Bool, true, false, length, refl, sym, ap, ◌∙◌, subst, arith, inl, inr}
-use Rattle.std.specs.Prelude.{◌≢◌, ◌⊎◌, ◌↔◌, Option, Some, None, Result, Ok, Err, is_ok, map, slice_get, pos}
+use Rattle.std.proofs.Common.{◌≡◌, ℕ, zero, suc, ◌<◌, List, [], ◌∷◌, refl, sym, ap, ◌∙◌, arith}
+use Rattle.std.specs.Prelude.{Some}
 use Rattle.std.proofs.lemmas.Option.{none-some, same_Some}
 use Rattle.nf_rational.specs.Gcd.{gcd}
 use Rattle.nf_rational.specs.Rational.{ℚ, ratio, same_parts}
-use Rattle.nf_rational.specs.Operations.{0ℚ, 1ℚ, whole, neg_ℚ, inv_ℚ, ◌+ℚ◌, ◌-ℚ◌, ◌*ℚ◌, ◌/ℚ◌}
-use Rattle.nf_rational.specs.Order.{◌≤ℚ◌, ◌<ℚ◌, le_ℚ, lt_ℚ, min_ℚ}
-use Rattle.nf_rational_laws.proofs.Order.{<ℚ_irrefl, ≤ℚ_of_same, ≤ℚ_of_lt, ps_whole}
-use Rattle.nf_rational_laws.proofs.Linear.{eq, linear_eq}
-use Rattle.nf_rational_laws.proofs.Polynomial.{reading_of}
-use Rattle.nf_work.specs.Passing.{beyond}
-use Rattle.nf_work.specs.Checked.{checked}
-use Rattle.nf_work.specs.declared.PassedAt.{PassedAt}
-use Rattle.nf_model.specs.declared.State.{State}
-use Rattle.nf_model.specs.declared.State.TheVariants.{Tight, Full, Zero}
-use Rattle.nf_model.specs.Entries.{number_at, Has}
+use Rattle.nf_rational.specs.Operations.{0ℚ, whole, ◌+ℚ◌}
+use Rattle.nf_rational.specs.Order.{◌≤ℚ◌}
+use Rattle.nf_rational_laws.proofs.Order.{≤ℚ_of_same}
+use Rattle.nf_model.specs.Entries.{number_at}
 use Rattle.nf_model.specs.Walk.{Hop, IsHop, IsWalk, transit_sum, transit_of, IsLeastTransit}
-use Rattle.nf_model.specs.Network.{Link, Piece, Network, IsLink, IsPiece, hops, unbounded, rate_at}
-use Rattle.nf_model.specs.ThinFlow.{Sets, slacks_of, sets_at, surplus}
-use Rattle.nf_model.specs.Pattern.{Pattern, HasState, MayChoose, IsPattern, IsTrail, AllDiffer, IsForest, IsListed, IsListedIn, IsBefore, IsBase, Equation, Inequality, Solves, Meets, IsSolution, IsSolvable}
-use Rattle.nf_model.specs.Phases.{AreStartLabels, Lasts, IsUnending, IsPhaseLength}
-use Rattle.nf_lists.specs.Slack.{slack_of, slack_list}
-use Rattle.nf_lists.specs.Table.{table_list}
-use Rattle.nf_lists.specs.Equations.{equations}
-use Rattle.nf_lists.specs.Verdict.{verdict_list}
-use Rattle.nf_lists.specs.Extend.{extend_list}
-use Rattle.nf_lists.specs.Advance.{labels_after, advance_list}
-use Rattle.nf_lists.specs.CurveList.{curve_list}
-use Rattle.nf_lists.specs.Accepted.{pattern_lists, IsAccepted}
-use Rattle.nf_lists.specs.Listing.{HasPlace, IsListing, IsListingIn}
-use Rattle.nf_lists.specs.Search.{Found, IsFirstAccepted, IsSearch}
-use Rattle.nf_lists.specs.PhaseRun.{Standing, Bounds, PhaseStep, IsStart, standing_after, IsSearchHere, Seeks, phase_lists, Goes, Runs, at_horizon, goes, IsPhaseRun, report_of, IsRunReport}
-use Rattle.nf_lists.proofs.Examples.{n, in_127_bits, link}
-use Rattle.nf_lists.proofs.Runs.{first_standing}
-use Rattle.nf_lists.proofs.Listings.{NextInOrder, all_in_order, ordered_by_place}
+use Rattle.nf_model.specs.Network.{Link, Network, IsLink, hops}
+use Rattle.nf_model.specs.Phases.{AreStartLabels}
+use Rattle.nf_lists.proofs.Examples.{n, link}
 
 abbrev the_link : Link
 the_link = link 0 1 (n 1) (Some (n 1))

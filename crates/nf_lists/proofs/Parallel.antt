@@ -8,7 +8,7 @@ use Rattle.nf_model.specs.Entries.{Has}
 use Rattle.nf_model.specs.Walk.{Hop, IsHop}
 use Rattle.nf_model.specs.Network.{Network, hops, unbounded}
 use Rattle.nf_model.specs.ThinFlow.{Sets}
-use Rattle.nf_model.specs.Pattern.{Pattern, HasState, MayChoose, IsPattern, IsTrail, AllDiffer, IsForest, IsListedIn, IsBefore}
+use Rattle.nf_model.specs.Pattern.{Pattern, HasState, NeedsState, IsPattern, IsTrail, AllDiffer, IsForest, IsListedIn, IsBefore}
 use Rattle.nf_lists.specs.Listing.{HasPlace, IsListingIn}
 use Rattle.nf_lists.proofs.Listings.{NextInOrder, all_in_order, ordered_by_place}
 use Rattle.nf_lists.proofs.Examples.{n, link}
@@ -39,7 +39,7 @@ seven = states Tight Zero
     ∷ []
 
 -- ---- which patterns there are
-states_of : (a b : State) (e : ℕ) → MayChoose both e ↔ ((state : State) × HasState (states a b) e state)
+states_of : (a b : State) (e : ℕ) → NeedsState both e ↔ ((state : State) × HasState (states a b) e state)
 states_of a b zero = (λ h. (a, refl), λ h. (refl, λ k. cc))
 states_of a b (suc zero) = (λ h. (b, refl), λ h. (refl, λ k. cc))
 states_of a b (suc (suc e)) = (λ h. absurd (none-some true h.0), λ h. absurd (none-some (Some h.0) h.1))
