@@ -80,10 +80,10 @@ equations net sets rate pattern =
 abbrev pub slopes_in : ℕ → List ℚ → List ℚ
 slopes_in nodes values = take nodes values
 
-abbrev pub spread : List Bool → List ℚ → List ℚ
-spread [] flows = []
-spread (true ∷ active) (x ∷ flows) = x ∷ spread active flows
-spread (active ∷ rest) flows = 0ℚ ∷ spread rest flows
+abbrev pub onto_links : List Bool → List ℚ → List ℚ
+onto_links [] flows = []
+onto_links (true ∷ active) (x ∷ flows) = x ∷ onto_links active flows
+onto_links (active ∷ rest) flows = 0ℚ ∷ onto_links rest flows
 
 abbrev pub flows_in : ℕ → List Bool → List ℚ → List ℚ
-flows_in nodes active values = spread active (drop nodes values)
+flows_in nodes active values = onto_links active (drop nodes values)

@@ -21,14 +21,14 @@ use Rattle.nf_lists.specs.Extend.{extend_list}
 use Rattle.nf_lists.specs.Advance.{advance_list}
 use Rattle.nf_lists.specs.CurveList.{LinkStep, curve_list}
 use Rattle.nf_lists.specs.Search.{Answer, Found, OverBudget, PassesAt, NoPattern, IsSearch}
-use Rattle.nf_lists.specs.ReportCurves.{Growing, LinkCurves, first_label_curve, first_curves, label_curves_after, link_curves_after, amount_so_far}
+use Rattle.nf_lists.specs.ReportCurves.{GrowingCurve, LinkCurves, first_label_curve, first_curves, label_curves_after, link_curves_after, amount_so_far}
 
 -- where a run stands: the departure that it has reached, with the labels of the nodes; the curves up to there; and how many
 -- phases were made, with the pattern of the last one
 pub record Standing : Type 0 where
   pub time : ℚ
   pub labels : List ℚ
-  pub label_curves : List Growing
+  pub label_curves : List GrowingCurve
   pub link_curves : List LinkCurves
   pub made : ℕ
   pub last : Pattern

@@ -25,20 +25,20 @@ with_point true points point = take (length points - 1) points ++ point ∷ []
 with_point false points point = points ++ point ∷ []
 
 -- a curve, and the slope with which it came to its last point
-pub record Growing : Type 0 where
+pub record GrowingCurve : Type 0 where
   pub points : List Point
   pub slope : Option ℚ
 
-abbrev pub grown : Growing → Point → ℚ → Growing
-grown curve point slope = record { points = with_point (goes_on curve.slope slope) curve.points point; slope = Some slope }
+abbrev pub curve_with : GrowingCurve → Point → ℚ → GrowingCurve
+curve_with curve point slope = record { points = with_point (goes_on curve.slope slope) curve.points point; slope = Some slope }
 
 -- a curve with the rate from each of its points to the next
 abbrev pub with_rate : Bool → List ℚ → ℚ → List ℚ
 with_rate true rates rate = rates
 with_rate false rates rate = rates ++ rate ∷ []
 
-abbrev pub traced : Trace → Point → ℚ → Trace
-traced trace point rate = record {
+abbrev pub trace_with : Trace → Point → ℚ → Trace
+trace_with trace point rate = record {
   points = with_point (goes_on (last_or None trace.rates) rate) trace.points point;
   rates = with_rate (goes_on (last_or None trace.rates) rate) trace.rates rate;
 }
@@ -46,11 +46,11 @@ traced trace point rate = record {
 -- ---- the first points
 
 -- the curve of a node's label: it begins with the label of departure 0
-abbrev pub first_label_curve : ℚ → Growing
+abbrev pub first_label_curve : ℚ → GrowingCurve
 first_label_curve label = record { points = (0ℚ, label) ∷ []; slope = None }
 
 -- a curve at a node begins with 0 at time 0, and stays 0 until the label of departure 0 there
-abbrev pub first_queue : Bool → ℚ → Growing
+abbrev pub first_queue : Bool → ℚ → GrowingCurve
 first_queue true label = record { points = (0ℚ, 0ℚ) ∷ (label, 0ℚ) ∷ []; slope = Some 0ℚ }
 first_queue false label = record { points = (0ℚ, 0ℚ) ∷ []; slope = None }
 
@@ -62,7 +62,7 @@ first_trace false label = record { points = (0ℚ, 0ℚ) ∷ []; rates = [] }
 pub record LinkCurves : Type 0 where
   pub inflow : Trace
   pub outflow : Trace
-  pub queue : Growing
+  pub queue : GrowingCurve
 
 abbrev pub first_curves : List ℚ → Link → LinkCurves
 first_curves labels link = record {
@@ -74,18 +74,18 @@ first_curves labels link = record {
 -- ---- the points of a phase: at its end, and at the labels there
 
 -- the label of a node, by departure
-abbrev pub label_curves_after : ℚ → List ℚ → List ℚ → List Growing → List Growing
-label_curves_after time (label ∷ labels) (slope ∷ slopes) (curve ∷ curves) = grown curve (time, label) slope ∷ label_curves_after time labels slopes curves
+abbrev pub label_curves_after : ℚ → List ℚ → List ℚ → List GrowingCurve → List GrowingCurve
+label_curves_after time (label ∷ labels) (slope ∷ slopes) (curve ∷ curves) = curve_with curve (time, label) slope ∷ label_curves_after time labels slopes curves
 label_curves_after time labels slopes curves = []
 
 -- no point where the label stands still
 abbrev pub trace_after : Trace → ℚ → ℚ → Option ℚ → Trace
 trace_after trace label amount None = trace
-trace_after trace label amount (Some rate) = traced trace (label, amount) rate
+trace_after trace label amount (Some rate) = trace_with trace (label, amount) rate
 
-abbrev pub queue_after : Growing → ℚ → Option QueueStep → Growing
+abbrev pub queue_after : GrowingCurve → ℚ → Option QueueStep → GrowingCurve
 queue_after curve label None = curve
-queue_after curve label (Some step) = grown curve (label, step.size) step.slope
+queue_after curve label (Some step) = curve_with curve (label, step.size) step.slope
 
 abbrev pub curves_after : List ℚ → Link → LinkCurves → LinkStep → LinkCurves
 curves_after labels link curves step = record {
