@@ -4,6 +4,7 @@ pub mod Searches
 pub mod Bases
 pub mod OneRun
 pub mod Exact
+pub mod Ending
 mod Examples
 mod Tables
 mod Patterns

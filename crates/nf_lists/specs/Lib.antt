@@ -11,4 +11,5 @@ pub mod Listing
 pub mod Search
 pub mod ReportCurves
 pub mod PhaseRun
+pub mod Ends
 pub mod Laws
