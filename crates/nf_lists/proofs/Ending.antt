@@ -12,16 +12,26 @@ use Rattle.nf_rational_laws.proofs.Tests.{lt_ℚ_cases}
 use Rattle.nf_rational_laws.proofs.Field.{rationals}
 use Rattle.nf_rational_laws.proofs.Polynomial.{ring, reading}
 use Rattle.nf_work.specs.declared.Part.{Part}
-use Rattle.nf_work.specs.declared.PassedAt.{PassedAt}
-use Rattle.nf_work.specs.Checked.{Checked, each, at_part, ◌>>=◌}
+use Rattle.nf_work.specs.declared.Part.TheVariants.{Extend, Advance, Curve}
+use Rattle.nf_work.specs.declared.Op.TheVariants.{Sum, Difference, Product, Quotient}
+use Rattle.nf_work.specs.Passing.{Passing}
+use Rattle.nf_work.specs.Checked.{Checked, checked, each, at_part, ◌>>=◌}
 use Rattle.nf_model.specs.Entries.{number_at}
 use Rattle.nf_model.specs.Curve.{Point}
 use Rattle.nf_model.specs.Walk.{Hop, IsHop, IsWalk, transit_sum, transit_of}
 use Rattle.nf_model.specs.Network.{Link, Network, IsLink, IsNetwork, hop_of, hops}
+use Rattle.nf_model.specs.ThinFlow.{slacks_of, sets_at}
+use Rattle.nf_model.specs.Pattern.{Pattern}
+use Rattle.nf_model.specs.Equilibrium.{Trace}
+use Rattle.nf_formats.specs.declared.Cause.{Cause}
 use Rattle.nf_model.specs.Phases.{moved, AreStartLabels}
 use Rattle.nf_lists.specs.Signs.{is_positive}
-use Rattle.nf_lists.specs.ReportCurves.{GrowingCurve, LinkCurves, with_point, first_label_curve, first_trace, first_queue, first_curves}
-use Rattle.nf_lists.specs.PhaseRun.{Standing, IsStart}
+use Rattle.nf_lists.specs.CurveList.{QueueStep, LinkStep, LinkPhase, rate_over, size_at, slope_at, queue_step, link_step, link_phase, curve_list}
+use Rattle.nf_lists.specs.ReportCurves.{GrowingCurve, LinkCurves, with_point, first_label_curve, first_trace, first_queue, first_curves, label_curves_after, trace_after, queue_after, curves_after, link_curves_after, amount_so_far}
+use Rattle.nf_lists.specs.PhaseRun.{Standing, Bounds, PhaseStep, IsStart, standing_after, phase_lists, Goes, Runs, at_horizon, at_phases, fails, goes, IsPhaseRun}
+use Rattle.nf_lists.specs.Extend.{extend_list}
+use Rattle.nf_lists.specs.Advance.{advance_list}
+use Rattle.nf_lists.proofs.Exact.{advanced_exact}
 use Rattle.nf_lists.specs.Ends.{end_of, EndsAtLabels}
 
 -- ---- the last point
@@ -141,3 +151,172 @@ length-moved (x ∷ labels) (r ∷ slopes) while count = ap suc (length-moved la
 
 stands_still : (label while slope : ℚ) → slope ≡ 0ℚ → label ≡ label +ℚ while *ℚ slope
 stands_still label while slope still = (let f : label ≡ label +ℚ while *ℚ 0ℚ = ring rationals (label ∷ while ∷ []) (search reading depth 30) tt in f) ∙ ap (λ (x : ℚ). label +ℚ while *ℚ x) (sym still)
+
+-- ---- the curve list's steps
+module _ (passes : Passing) where
+  no_rate : (moves : Bool) (flow slope : ℚ) → rate_over passes moves flow slope ≡ Ok None → moves ≡ false
+  no_rate false flow slope h = refl
+  no_rate true flow slope h = absurd (let q = bind_ok (checked passes Quotient flow slope) (λ rate. Ok (Some rate)) None h in let e = q.2 in cc)
+
+  no_queue_step : (link : LinkPhase) (rate : Option ℚ) → queue_step passes link rate ≡ Ok None → rate ≡ None
+  no_queue_step link None h = refl
+  no_queue_step link (Some rate) h = absurd (
+      let a = bind_ok (checked passes Sum link.tail_label link.transit) _ None h in
+      let b = bind_ok (checked passes Difference link.head_label a.0) _ None a.2 in
+      let c = bind_ok (size_at passes (is_positive b.0) link.capacity b.0) _ None b.2 in
+      let d = bind_ok (slope_at passes link.filled link.capacity rate) _ None c.2 in
+      let e = d.2 in cc)
+
+  pub record StepParts (link : LinkPhase) (step : LinkStep) : Type 0 where
+    pub inflow : rate_over passes (is_positive link.tail_slope) link.flow link.tail_slope ≡ Ok step.inflow_rate
+    pub outflow : rate_over passes (is_positive link.head_slope) link.flow link.head_slope ≡ Ok step.outflow_rate
+    pub queue : queue_step passes link step.inflow_rate ≡ Ok step.queue
+
+  step_parts : (length so_far : ℚ) (link : LinkPhase) (step : LinkStep) → link_step passes length so_far link ≡ Ok step → StepParts link step
+  step_parts length so_far link step h =
+      let a = bind_ok (checked passes Product length link.flow) _ step h in
+      let b = bind_ok (checked passes Sum so_far a.0) _ step a.2 in
+      let c = bind_ok (rate_over passes (is_positive link.tail_slope) link.flow link.tail_slope) _ step b.2 in
+      let d = bind_ok (rate_over passes (is_positive link.head_slope) link.flow link.head_slope) _ step c.2 in
+      let e = bind_ok (queue_step passes link c.0) _ step d.2 in
+      let same : record { amount = b.0; inflow_rate = c.0; outflow_rate = d.0; queue = e.0 } ≡ step = (let f = e.2 in cc) in
+      record {
+        inflow = c.1 ∙ ap (λ (t : LinkStep). Ok t.inflow_rate) same;
+        outflow = d.1 ∙ ap (λ (t : LinkStep). Ok t.outflow_rate) same;
+        queue = ap (λ (t : LinkStep). queue_step passes link t.inflow_rate) (sym same) ∙ (e.1 ∙ ap (λ (t : LinkStep). Ok t.queue) same);
+      }
+
+-- ---- one phase's points
+trace_end : (trace : Trace) (label amount : ℚ) (rate : Option ℚ) → (rate ≡ None → end_of trace.points ≡ label) → end_of (trace_after trace label amount rate).points ≡ label
+trace_end trace label amount None stands = stands refl
+trace_end trace label amount (Some rate) stands = end-with_point _ trace.points (label, amount)
+
+queue_end : (curve : GrowingCurve) (label : ℚ) (step : Option QueueStep) → (step ≡ None → end_of curve.points ≡ label) → end_of (queue_after curve label step).points ≡ label
+queue_end curve label None stands = stands refl
+queue_end curve label (Some step) stands = end-with_point _ curve.points (label, step.size)
+
+label_end : (time : ℚ) (labels slopes : List ℚ) (curves : List GrowingCurve) (v : ℕ) (curve : GrowingCurve) → slice_get (label_curves_after time labels slopes curves) v ≡ Some curve → end_of curve.points ≡ time
+label_end time [] slopes curves v curve h = absurd (none-some curve h)
+label_end time (x ∷ labels) [] curves v curve h = absurd (none-some curve h)
+label_end time (x ∷ labels) (r ∷ slopes) [] v curve h = absurd (none-some curve h)
+label_end time (x ∷ labels) (r ∷ slopes) (c ∷ curves) zero curve h =
+    ap (λ (k : GrowingCurve). end_of k.points) (sym (same_Some _ curve h)) ∙ end-with_point _ c.points (time, x)
+label_end time (x ∷ labels) (r ∷ slopes) (c ∷ curves) (suc v) curve h = label_end time labels slopes curves v curve h
+
+-- the curves of a link after the phase, from those before it and the link's step
+pub record After (labels : List ℚ) (links : List Link) (curves : List LinkCurves) (steps : List LinkStep) (e : ℕ) (link : Link) (after : LinkCurves) : Type 0 where
+  pub before : LinkCurves
+  pub step : LinkStep
+  pub at_before : slice_get curves e ≡ Some before
+  pub at_step : slice_get steps e ≡ Some step
+  pub is_after : curves_after labels link before step ≡ after
+
+after_at : (labels : List ℚ) (links : List Link) (curves : List LinkCurves) (steps : List LinkStep) (e : ℕ) (link : Link) (after : LinkCurves)
+    → slice_get links e ≡ Some link → slice_get (link_curves_after labels links curves steps) e ≡ Some after → After labels links curves steps e link after
+after_at labels [] curves steps e link after h k = absurd (none-some link h)
+after_at labels (l ∷ links) [] steps e link after h k = absurd (none-some after k)
+after_at labels (l ∷ links) (c ∷ curves) [] e link after h k = absurd (none-some after k)
+after_at labels (l ∷ links) (c ∷ curves) (t ∷ steps) zero link after h k =
+    record { before = c; step = t; at_before = refl; at_step = refl; is_after = ap (λ (m : Link). curves_after labels m c t) (sym (same_Some l link h)) ∙ same_Some _ after k }
+after_at labels (l ∷ links) (c ∷ curves) (t ∷ steps) (suc e) link after h k =
+    let rest = after_at labels links curves steps e link after h k in
+    record { before = rest.before; step = rest.step; at_before = rest.at_before; at_step = rest.at_step; is_after = rest.is_after }
+
+-- ---- one phase
+pub record Kept (net : Network) (s : Standing) : Type 0 where
+  pub count : length s.labels ≡ net.nodes
+  pub ends : EndsAtLabels net s
+
+pub record PhaseParts (passes : Passing) (net : Network) (s : Standing) (pattern : Pattern) (flows slopes : List ℚ) (step : PhaseStep) : Type 0 where
+  pub labels : step.labels ≡ moved s.labels slopes step.length
+  pub links : curve_list passes net (sets_at net s.labels) pattern step.length flows slopes step.labels (map amount_so_far s.link_curves) ≡ Ok step.links
+
+module _ (passes : Passing) (net : Network) (is_network : IsNetwork net) (horizon : ℚ) (patterns : ℕ) where
+  parts_of_step : (s : Standing) (pattern : Pattern) (flows slopes : List ℚ) (step : PhaseStep) (while : ℚ) (labels : List ℚ) (links : List LinkStep) → record { length = while; labels = labels; links = links } ≡ step
+      → labels ≡ moved s.labels slopes while → curve_list passes net (sets_at net s.labels) pattern while flows slopes labels (map amount_so_far s.link_curves) ≡ Ok links
+      → PhaseParts passes net s pattern flows slopes step
+  parts_of_step s pattern flows slopes step while labels links same h k = subst (λ (t : PhaseStep). PhaseParts passes net s pattern flows slopes t) same (record { labels = h; links = k })
+
+  phase_parts : (s : Standing) (pattern : Pattern) (flows slopes : List ℚ) (step : PhaseStep) → length slopes ≡ length s.labels → phase_lists passes net horizon s pattern flows slopes ≡ Ok step
+      → PhaseParts passes net s pattern flows slopes step
+  unfolding phase_lists
+  phase_parts s pattern flows slopes step count h =
+      let a = bind_ok (at_part Extend (extend_list passes net (slacks_of (hops net) s.labels) slopes s.time)) _ step h in
+      let b = bind_ok (at_part Advance (advance_list passes horizon s.time a.0 s.labels slopes)) _ step a.2 in
+      let c = bind_ok (at_part Curve (curve_list passes net (sets_at net s.labels) pattern b.0.length flows slopes b.0.labels (map amount_so_far s.link_curves))) _ step b.2 in
+      parts_of_step s pattern flows slopes step b.0.length b.0.labels c.0 (let f = c.2 in cc)
+      (advanced_exact passes horizon s.time a.0 s.labels slopes b.0 count (part_ok Advance _ b.0 b.1)).1 (part_ok Curve _ c.0 c.1)
+
+  step_at : (s : Standing) (pattern : Pattern) (flows slopes : List ℚ) (step : PhaseStep) → PhaseParts passes net s pattern flows slopes step → (e : ℕ) (link : Link) (one : LinkStep)
+      → IsLink net e link → slice_get step.links e ≡ Some one → StepParts passes (link_phase (sets_at net s.labels) pattern flows slopes step.labels (0 + e, link)) one
+  unfolding curve_list
+  step_at s pattern flows slopes step parts e link one is_link at =
+      step_parts passes _ _ _ one (each_at _ (enumerate_from 0 net.links) step.links parts.links e (0 + e, link) one (enumerated 0 net.links e link is_link) at)
+
+  module _ (s : Standing) (kept : Kept net s) (pattern : Pattern) (flows slopes : List ℚ) (step : PhaseStep) (parts : PhaseParts passes net s pattern flows slopes step)
+      (count : length slopes ≡ length s.labels) (no_negative : (v : ℕ) → 0ℚ ≤ℚ number_at slopes v) where
+    stays_at : (v : ℕ) → is_positive (number_at slopes v) ≡ false → number_at s.labels v ≡ number_at step.labels v
+    stays_at v test =
+        stands_still (number_at s.labels v) step.length (number_at slopes v) (not_positive net is_network (number_at slopes v) (no_negative v) test)
+        ∙ (sym (number-moved s.labels slopes step.length v count) ∙ ap (λ (l : List ℚ). number_at l v) (sym parts.labels))
+
+    still_tail : (e : ℕ) (link : Link) (one : LinkStep) → IsLink net e link → slice_get step.links e ≡ Some one → one.inflow_rate ≡ None → number_at s.labels link.tail ≡ number_at step.labels link.tail
+    still_tail e link one is_link at none =
+        let facts = step_at s pattern flows slopes step parts e link one is_link at in
+        stays_at link.tail (no_rate passes _ (number_at flows (0 + e)) (number_at slopes link.tail) (facts.inflow ∙ ap Ok none))
+
+    still_head : (e : ℕ) (link : Link) (one : LinkStep) → IsLink net e link → slice_get step.links e ≡ Some one → one.outflow_rate ≡ None → number_at s.labels link.head ≡ number_at step.labels link.head
+    still_head e link one is_link at none =
+        let facts = step_at s pattern flows slopes step parts e link one is_link at in
+        stays_at link.head (no_rate passes _ (number_at flows (0 + e)) (number_at slopes link.head) (facts.outflow ∙ ap Ok none))
+
+    still_queue : (e : ℕ) (link : Link) (one : LinkStep) → IsLink net e link → slice_get step.links e ≡ Some one → one.queue ≡ None → number_at s.labels link.tail ≡ number_at step.labels link.tail
+    still_queue e link one is_link at none =
+        let facts = step_at s pattern flows slopes step parts e link one is_link at in
+        still_tail e link one is_link at (no_queue_step passes (link_phase (sets_at net s.labels) pattern flows slopes step.labels (0 + e, link)) one.inflow_rate (facts.queue ∙ ap Ok none))
+
+    after_of : (e : ℕ) (link : Link) (curves : LinkCurves) → IsLink net e link → slice_get (link_curves_after step.labels net.links s.link_curves step.links) e ≡ Some curves
+        → After step.labels net.links s.link_curves step.links e link curves
+    after_of e link curves is_link at = after_at step.labels net.links s.link_curves step.links e link curves is_link at
+
+    step_ends : EndsAtLabels net (standing_after net s pattern slopes step)
+    step_ends = record {
+      labels = λ v curve at. label_end (s.time +ℚ step.length) step.labels slopes s.label_curves v curve at;
+      inflows = λ e link curves is_link at. (let a = after_of e link curves is_link at in
+          ap (λ (c : LinkCurves). end_of c.inflow.points) (sym a.is_after)
+          ∙ trace_end a.before.inflow (number_at step.labels link.tail) a.step.amount a.step.inflow_rate
+          (λ none. kept.ends.inflows e link a.before is_link a.at_before ∙ still_tail e link a.step is_link a.at_step none));
+      outflows = λ e link curves is_link at. (let a = after_of e link curves is_link at in
+          ap (λ (c : LinkCurves). end_of c.outflow.points) (sym a.is_after)
+          ∙ trace_end a.before.outflow (number_at step.labels link.head) a.step.amount a.step.outflow_rate
+          (λ none. kept.ends.outflows e link a.before is_link a.at_before ∙ still_head e link a.step is_link a.at_step none));
+      queues = λ e link curves is_link at. (let a = after_of e link curves is_link at in
+          ap (λ (c : LinkCurves). end_of c.queue.points) (sym a.is_after)
+          ∙ queue_end a.before.queue (number_at step.labels link.tail) a.step.queue
+          (λ none. kept.ends.queues e link a.before is_link a.at_before ∙ still_queue e link a.step is_link a.at_step none));
+    }
+
+    step_count : length step.labels ≡ net.nodes
+    step_count = ap length parts.labels ∙ (length-moved s.labels slopes step.length count ∙ kept.count)
+
+  goes_kept : (s t : Standing) → Goes passes net horizon patterns s t → Kept net s → Kept net t
+  goes_kept s t g kept =
+      let solution = g.finds.search.is_search.answers.solution in
+      let count : length g.slopes ≡ length s.labels = solution.solves.slope_count ∙ sym kept.count in
+      let parts = phase_parts s g.pattern g.flows g.slopes g.step count g.lists in
+      let after : Kept net (standing_after net s g.pattern g.slopes g.step) = record {
+        count = step_count s kept g.pattern g.flows g.slopes g.step parts count solution.meets.no_negative_slope;
+        ends = step_ends s kept g.pattern g.flows g.slopes g.step parts count solution.meets.no_negative_slope;
+      } in
+      subst (Kept net) (sym g.new_is) after
+
+-- ---- the whole run
+module _ (passes : Passing) (net : Network) (is_network : IsNetwork net) (bounds : Bounds) where
+  run_kept : (s last : Standing) (stop : Option (Cause ℚ)) → Kept net s → Runs passes net bounds s last stop → Kept net last
+  run_kept s last stop kept (at_horizon e) = kept
+  run_kept s last stop kept (at_phases below e) = kept
+  run_kept s last stop kept (fails may f) = kept
+  run_kept s last stop kept (goes {new = t} may g rest) = run_kept t last stop (goes_kept passes net is_network bounds.horizon bounds.patterns s t g kept) rest
+
+  pub run_ends : (last : Standing) (stop : Option (Cause ℚ)) → IsPhaseRun passes net bounds last stop → EndsAtLabels net last
+  run_ends last stop h = (run_kept h.first last stop (record { count = h.start.labels.count; ends = start_ends net is_network h.first h.start }) h.runs).ends

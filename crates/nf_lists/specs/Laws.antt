@@ -1,13 +1,15 @@
--- What holds whatever the network: there is at most one listing, one answer of a search, and one report of a run.
+-- What holds whatever the network: there is at most one listing, one answer of a search, and one report of a run; the curves of a
+-- run end at its labels; and the lists of operations give exact values.
 use Rattle.std.specs.Prelude.{◌≡◌, ℕ, Bool, false, List, length, Option, Ok}
 use Rattle.nf_rational.specs.Rational.{ℚ}
 use Rattle.nf_rational.specs.Operations.{◌-ℚ◌}
 use Rattle.nf_work.specs.Passing.{Passing}
 use Rattle.nf_model.specs.Walk.{Hop}
-use Rattle.nf_model.specs.Network.{Network}
+use Rattle.nf_model.specs.Network.{Network, IsNetwork}
 use Rattle.nf_model.specs.ThinFlow.{Sets, slacks_of}
 use Rattle.nf_model.specs.Pattern.{Pattern}
 use Rattle.nf_model.specs.Phases.{moved}
+use Rattle.nf_formats.specs.declared.Cause.{Cause}
 use Rattle.nf_formats.specs.Report.{Report}
 use Rattle.nf_lists.specs.Slack.{slack_list}
 use Rattle.nf_lists.specs.Table.{Row, table_list}
@@ -17,7 +19,8 @@ use Rattle.nf_lists.specs.Advance.{Advanced, cut_at, advance_list}
 use Rattle.nf_lists.specs.CurveList.{LinkStep, curve_list}
 use Rattle.nf_lists.specs.Listing.{IsListing}
 use Rattle.nf_lists.specs.Search.{Answer, IsSearch}
-use Rattle.nf_lists.specs.PhaseRun.{Bounds, IsRunReport}
+use Rattle.nf_lists.specs.PhaseRun.{Standing, Bounds, IsPhaseRun, IsRunReport}
+use Rattle.nf_lists.specs.Ends.{EndsAtLabels}
 
 abbrev pub ListingIsUnique : Type 0
 ListingIsUnique = (nodes source : ℕ) (hops : List Hop) (sets : Sets) (unbounded : List Bool) (base : Pattern) (listing other : List Pattern)
@@ -29,6 +32,9 @@ SearchHasOneAnswer = (passes : Passing) (net : Network) (sets : Sets) (rate : �
 
 abbrev pub RunHasOneReport : Type 0
 RunHasOneReport = (passes : Passing) (net : Network) (bounds : Bounds) (report other : Report) → IsRunReport passes net bounds report → IsRunReport passes net bounds other → report ≡ other
+
+abbrev pub RunEndsAtLabels : Type 0
+RunEndsAtLabels = (passes : Passing) (net : Network) (bounds : Bounds) (last : Standing) (stop : Option (Cause ℚ)) → IsNetwork net → IsPhaseRun passes net bounds last stop → EndsAtLabels net last
 
 -- ---- where no operation of a list passes, its value is exact
 

@@ -3,7 +3,7 @@
 //! operations that passes the bound of a fraction's parts.
 #![tactic(auto)]
 
-ghost use Rattle.nf_lists.specs.Laws.{ListingIsUnique, SearchHasOneAnswer, RunHasOneReport, ValuesAreExact, StepsAreTheModels};
+ghost use Rattle.nf_lists.specs.Laws.{ListingIsUnique, SearchHasOneAnswer, RunHasOneReport, RunEndsAtLabels, ValuesAreExact, StepsAreTheModels};
 
 /// A network's listed patterns have one listing, for each base pattern.
 pub fn listing_is_unique()
@@ -20,6 +20,12 @@ pub fn search_has_one_answer()
 /// reached, the stop and the last pattern are all determined.
 pub fn run_has_one_report()
     ensures { RunHasOneReport }
+{}
+
+/// The curves of a phase run end at the departure that it has reached: inflow and queue of a link at the label of its tail
+/// there, its outflow at the label of its head.
+pub fn run_ends_at_labels()
+    ensures { RunEndsAtLabels }
 {}
 
 /// The value of a list of operations doesn't depend on the bound of a fraction's parts: where no operation passes, it is
