@@ -1,3 +1,4 @@
+pub mod RuleExamples
 pub mod WalkFacts
 pub mod LinkFacts
 pub mod ClosesBack
@@ -8,6 +9,9 @@ pub mod PlainCanonical
 pub mod CanonicalBack
 pub mod DraftKept
 pub mod MarkedFacts
+pub mod AcceptedNodes
+pub mod AcceptedWalks
+pub mod AcceptedNamed
 pub mod NameFacts
 pub mod Once
 pub mod Examples
