@@ -12,4 +12,3 @@ pub mod Search
 pub mod ReportCurves
 pub mod PhaseRun
 pub mod Ends
-pub mod Laws
