@@ -28,11 +28,11 @@ any_there test (y ∷ xs) zero x is h = let same : y ≡ x = cc in or_left (test
 any_there test (y ∷ xs) (suc e) x is h = or_right (test y) (list_any test xs) (any_there test xs e x is h)
 
 -- ---- how many of the hops lead to nodes that are found
-bit : Bool → ℕ
+pub bit : Bool → ℕ
 bit true = 1
 bit false = 0
 
-heads_in : (ℕ → Bool) → List Hop → ℕ
+pub heads_in : (ℕ → Bool) → List Hop → ℕ
 heads_in S [] = 0
 heads_in S (h ∷ hops) = bit (S h.head) + heads_in S hops
 
@@ -41,7 +41,7 @@ unfolding bit
 small true = omega arith
 small false = omega arith
 
-at_most_all : (S : ℕ → Bool) (hops : List Hop) → heads_in S hops ≤ length hops
+pub at_most_all : (S : ℕ → Bool) (hops : List Hop) → heads_in S hops ≤ length hops
 unfolding heads_in
 at_most_all S [] = omega arith
 at_most_all S (h ∷ hops) = let rest : heads_in S hops ≤ length hops = at_most_all S hops in let one : bit (S h.head) ≤ 1 = small (S h.head) in omega arith
@@ -50,13 +50,13 @@ at_most_all S (h ∷ hops) = let rest : heads_in S hops ≤ length hops = at_mos
 abbrev pub stays_in : (ℕ → Bool) → Hop → Bool
 stays_in S h = not (S h.tail) || S h.head
 
-bit_up : (a b : Bool) → (a ≡ true → b ≡ true) → bit a ≤ bit b
+pub bit_up : (a b : Bool) → (a ≡ true → b ≡ true) → bit a ≤ bit b
 unfolding bit
 bit_up true b f = subst (λ c. 1 ≤ bit c) (sym (f refl)) (omega arith)
 bit_up false b f = omega arith
 
 module _ (S G : ℕ → Bool) (more : (v : ℕ) → S v ≡ true → G v ≡ true) where
-  never_fewer : (hops : List Hop) → heads_in S hops ≤ heads_in G hops
+  pub never_fewer : (hops : List Hop) → heads_in S hops ≤ heads_in G hops
   unfolding heads_in
   never_fewer [] = omega arith
   never_fewer (h ∷ hops) =
@@ -150,3 +150,17 @@ stays_closed hops S closed (e ∷ walk) a b h w =
 -- of each node it is decided whether a walk leads to it
 pub reaching : (hops : List Hop) (u v : ℕ) → Decides ((closure hops u).set v) ((walk : List ℕ) × IsWalk hops walk u v)
 reaching hops u v = ((λ e. (closure hops u).sound.walks v e), λ w. stays_closed hops (closure hops u).set (closure hops u).closed w.0 u v (closure hops u).sound.start w.1)
+
+-- one more of the hops leads to a node that is found
+pub one_more_head : (S G : ℕ → Bool) → ((v : ℕ) → S v ≡ true → G v ≡ true) → (hops : List Hop) (place : ℕ) (hop : Hop) → slice_get hops place ≡ Some hop → S hop.head ≡ false → G hop.head ≡ true
+    → suc (heads_in S hops) ≤ heads_in G hops
+unfolding heads_in bit
+one_more_head S G more [] place hop is out into = absurd (cc)
+one_more_head S G more (h ∷ hops) zero hop is out into =
+    let same : h ≡ hop = cc in
+    let rest : heads_in S hops ≤ heads_in G hops = never_fewer S G more hops in
+    let zero_ : bit (S h.head) ≡ 0 = ap (λ (x : Hop). bit (S x.head)) same ∙ ap bit out in
+    let one : bit (G h.head) ≡ 1 = ap (λ (x : Hop). bit (G x.head)) same ∙ ap bit into in omega arith
+one_more_head S G more (h ∷ hops) (suc place) hop is out into =
+    let rest : suc (heads_in S hops) ≤ heads_in G hops = one_more_head S G more hops place hop is out into in
+    let one : bit (S h.head) ≤ bit (G h.head) = bit_up (S h.head) (G h.head) (more h.head) in omega arith
