@@ -177,7 +177,7 @@ module _ (hops : List Hop) (positive : (e : ℕ) (hop : Hop) → IsHop hops e ho
     least = λ v h. subst (λ x. IsLeastTransit hops u x 0ℚ) (eqb-true u v h) at_itself;
   }
 
-  all_settled : AllSettled
+  pub all_settled : AllSettled
   all_settled = settle_all (suc (length hops)) source_settled (omega arith)
 
   -- where a walk leads to a node, it has a least transit sum

@@ -3,7 +3,7 @@
 //! definitions share: see `specs/`, and docs/FORMATS.md for the same in prose. All formats are this project's own.
 #![tactic(auto)]
 
-ghost use Rattle.nf_formats.specs.Laws.{ReadsOnce, AcceptedIsNamed, CanonicalReadsBack};
+ghost use Rattle.nf_formats.specs.Laws.{ReadsEach, ReadsOnce, AcceptedIsNamed, CanonicalReadsBack};
 
 use nf_work::PassedAt;
 
@@ -79,6 +79,11 @@ pub enum Cause<S> {
         phase: u64,
     },
 }
+
+/// Each text has a reading: it stands for a network, or some rule is the first that it breaks.
+pub fn reads_each()
+    ensures { ReadsEach }
+{}
 
 /// A text has at most one reading.
 pub fn reads_once()
