@@ -3,8 +3,6 @@
 //! definitions share: see `specs/`, and docs/FORMATS.md for the same in prose. All formats are this project's own.
 #![tactic(auto)]
 
-ghost use Rattle.nf_formats.specs.Laws.{ReadsEach, ReadsOnce, AcceptedIsNamed, CanonicalReadsBack};
-
 use nf_work::PassedAt;
 
 /// A rule of the network file; docs/FORMATS.md states each.
@@ -79,24 +77,3 @@ pub enum Cause<S> {
         phase: u64,
     },
 }
-
-/// Each text has a reading: it stands for a network, or some rule is the first that it breaks.
-pub fn reads_each()
-    ensures { ReadsEach }
-{}
-
-/// A text has at most one reading.
-pub fn reads_once()
-    ensures { ReadsOnce }
-{}
-
-/// What holds of the network of every accepted file: it is a network of the model, its names and numbers are within the limits,
-/// and what it has beside it is idle.
-pub fn accepted_is_named()
-    ensures { AcceptedIsNamed }
-{}
-
-/// The canonical text of such a network is read as that network, with the same names.
-pub fn canonical_reads_back()
-    ensures { CanonicalReadsBack }
-{}

@@ -5,7 +5,7 @@ use Rattle.std.proofs.lemmas.Bool.{and_parts, or_parts}
 use Rattle.nf_model.specs.Network.{hop_of}
 use Rattle.nf_formats.specs.Names.{Name, has_name, place_of, with_names, without}
 use Rattle.nf_formats.specs.Named.{NamedLink, numbered, hops_among, ends}
-use Rattle.nf_formats.proofs.NameFacts.{bytes_eq-self, place_left, with_name_new, with_names-split}
+use Rattle.nf_formats_laws.proofs.NameFacts.{bytes_eq-self, place_left, with_name_new, with_names-split}
 
 -- a name that is there keeps its place
 pub place-with_names : (names more : List Name) (name : Name) → has_name names name ≡ true → place_of (with_names names more) name ≡ place_of names name

@@ -6,8 +6,8 @@ use Rattle.std.proofs.lemmas.Bool.{and_parts}
 use Rattle.nf_formats.specs.Names.{Name, has_name, with_name, with_names}
 use Rattle.nf_formats.specs.Named.{NamedLink, names_of}
 use Rattle.nf_formats.specs.NetClosing.{marked}
-use Rattle.nf_formats.proofs.NameFacts.{same_names, bytes_eq-self, bytes_eq-turned, with_name_there, with_name_new}
-use Rattle.nf_formats.proofs.DraftKept.{or_left, or_right}
+use Rattle.nf_formats_laws.proofs.NameFacts.{same_names, bytes_eq-self, bytes_eq-turned, with_name_there, with_name_new}
+use Rattle.nf_formats_laws.proofs.DraftKept.{or_left, or_right}
 
 -- ---- entries
 module _ {X : Type 0} where

@@ -5,8 +5,8 @@ use Rattle.std.specs.List.{AllByRecursion, list_all, join_with_byte, slice_split
 use Rattle.nf_lines.specs.Lines.{TextLine, ended_line, lines_of_parts, lines}
 use Rattle.nf_lines.specs.Words.{is_blank, without_comment, parts_with_bytes, words, line_of_words, read_line, read_lines, content_lines}
 use Rattle.nf_lines.specs.Faults.{NotAscii, LongLine, is_allowed, line_fault, first_fault_of, first_fault}
-use Rattle.nf_formats.proofs.NameFacts.{bytes_eq-self}
-use Rattle.nf_formats.proofs.LinesBack.{lines_from}
+use Rattle.nf_formats_laws.proofs.NameFacts.{bytes_eq-self}
+use Rattle.nf_formats_laws.proofs.LinesBack.{lines_from}
 
 -- ---- bytes of words, and of lines of words
 pub record IsWordByte (b : ℕ) : Type 0 where

@@ -16,9 +16,9 @@ use Rattle.nf_formats.specs.Numbers.{greatest, capacity_word}
 use Rattle.nf_formats.specs.Named.{NamedLink, Named, active_links, all_links}
 use Rattle.nf_formats.specs.NetText.{link_words, inflow_words, canonical_lines}
 use Rattle.nf_formats.specs.WellNamed.{IsFraction, IsCapacity, IsNamedLink, IsFractionPiece, IsNamed}
-use Rattle.nf_formats.proofs.LinesBack.{within, s_is_name, t_is_name}
-use Rattle.nf_formats.proofs.LinkFacts.{map-append}
-use Rattle.nf_formats.proofs.TextBack.{IsWordByte, IsPlainWord, IsPlainLine}
+use Rattle.nf_formats_laws.proofs.LinesBack.{within, s_is_name, t_is_name}
+use Rattle.nf_formats_laws.proofs.LinkFacts.{map-append}
+use Rattle.nf_formats_laws.proofs.TextBack.{IsWordByte, IsPlainWord, IsPlainLine}
 
 -- ---- how long numbers are printed
 one_more_digit : (n : ℕ) (ds : List ℕ) → 10 ≤ n → ((k : ℕ) → n / 10 < 10 ^ suc k → length ds ≤ suc k)

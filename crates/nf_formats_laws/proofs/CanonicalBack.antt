@@ -7,10 +7,10 @@ use Rattle.nf_formats.specs.NetLines.{draft_from}
 use Rattle.nf_formats.specs.NetFile.{by_bytes, Reads}
 use Rattle.nf_formats.specs.NetText.{canonical_lines, canonical}
 use Rattle.nf_formats.specs.WellNamed.{IsNamed}
-use Rattle.nf_formats.proofs.ClosesBack.{draft_of, closes_back}
-use Rattle.nf_formats.proofs.LinesBack.{content_back}
-use Rattle.nf_formats.proofs.TextBack.{contents_back, no_fault_back}
-use Rattle.nf_formats.proofs.PlainCanonical.{plain_canonical}
+use Rattle.nf_formats_laws.proofs.ClosesBack.{draft_of, closes_back}
+use Rattle.nf_formats_laws.proofs.LinesBack.{content_back}
+use Rattle.nf_formats_laws.proofs.TextBack.{contents_back, no_fault_back}
+use Rattle.nf_formats_laws.proofs.PlainCanonical.{plain_canonical}
 
 pub canonical_back : (n : Named) → IsNamed n → Reads (canonical n) (Ok n)
 canonical_back n h =

@@ -23,9 +23,9 @@ use Rattle.nf_formats.specs.Named.{NamedLink, Named, ends, names_of, active_link
 use Rattle.nf_formats.specs.NetLines.{Entry, Source, Sink, LinkLine, InflowLine, node_line, link_entry, inflow_entry, entry_of, Draft, empty_draft, after, first_rule, too_many_nodes, is_negative, is_no_capacity, is_not_after, broken_rule, unless, add_line, in_line, add_lines, version_of, draft_after, draft_from}
 use Rattle.nf_formats.specs.NetText.{link_words, inflow_words, canonical_lines}
 use Rattle.nf_formats.specs.WellNamed.{IsFraction, IsCapacity, IsNamedLink, IsFractionPiece, IsNamed}
-use Rattle.nf_formats.proofs.NameFacts.{bytes_eq-turned, same_names, with_name_new, with_names-append, with_names-split}
-use Rattle.nf_formats.proofs.LinkFacts.{ends-append, map-append, names_of-links_by_name}
-use Rattle.nf_formats.proofs.ClosesBack.{draft_of, source_below, sink_below, names_apart}
+use Rattle.nf_formats_laws.proofs.NameFacts.{bytes_eq-turned, same_names, with_name_new, with_names-append, with_names-split}
+use Rattle.nf_formats_laws.proofs.LinkFacts.{ends-append, map-append, names_of-links_by_name}
+use Rattle.nf_formats_laws.proofs.ClosesBack.{draft_of, source_below, sink_below, names_apart}
 
 -- ---- tests that say no
 pub neither : (a b : Bool) → (a || b) ≡ false → (a ≡ false) × (b ≡ false)

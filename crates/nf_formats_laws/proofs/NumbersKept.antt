@@ -10,7 +10,7 @@ use Rattle.nf_numerals.specs.Digits.{are_digits, value_of}
 use Rattle.nf_numerals.specs.Numbers.{slash, point, before, after, unsigned, signed_by, denominator, is_decimal, parts_or_fault, parts_of, decimal_parts_of, as_ratio, number_of, decimal_of}
 use Rattle.nf_formats.specs.Numbers.{greatest, number_in, capacity_in}
 use Rattle.nf_formats.specs.WellNamed.{IsFraction}
-use Rattle.nf_formats.proofs.LinesBack.{neither, no_either}
+use Rattle.nf_formats_laws.proofs.LinesBack.{neither, no_either}
 
 -- parts that are within the bound, the second above 0
 pub record FitParts (bound : ℕ) (p : ℤ × ℕ) : Type 0 where

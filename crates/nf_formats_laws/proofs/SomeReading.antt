@@ -1,5 +1,5 @@
 -- Each text has a reading.
-use Rattle.std.proofs.Common.{◌≡◌, ◌≢◌, ℕ, zero, suc, ◌<◌, ◌≤◌, ◌⊎◌, ◌==◌, ◌&&◌, ◌||◌, Bool, true, false, not, if◌then◌else◌, List, [], ◌∷◌, length, map, slice_get, Option, Some, None, Result, Ok, Err, is_none, unwrap_or, refl, sym, ◌∙◌, ap, subst, inl, inr, arith, bytes_eq}
+use Rattle.std.proofs.Common.{◌≡◌, ◌≢◌, ℕ, zero, suc, ◌<◌, ◌⊎◌, ◌==◌, ◌&&◌, ◌||◌, Bool, true, false, not, if◌then◌else◌, List, [], ◌∷◌, length, map, Option, Some, None, Result, Ok, Err, is_none, unwrap_or, refl, sym, ◌∙◌, ap, subst, inl, inr, arith, bytes_eq}
 use Rattle.std.specs.Bool.{MatchBool, Decides}
 use Rattle.std.specs.List.{AllByRecursion, AllZip, list_any}
 use Rattle.std.proofs.lemmas.Bool.{and_parts, eqb-true, eqb-false}
@@ -10,25 +10,25 @@ use Rattle.nf_rational_laws.proofs.Order.{≤ℚ_antisymm, ≤ℚ_of_same}
 use Rattle.nf_rational_laws.proofs.Tests.{le_of_test, test_of_le}
 use Rattle.nf_work.specs.Passing.{is_wide, beyond}
 use Rattle.nf_work.specs.declared.Op.TheVariants.{Sum}
-use Rattle.nf_model.specs.Walk.{Hop, IsHop, IsWalk, transit_of, transit_sum, IsLeastTransit}
+use Rattle.nf_model.specs.Walk.{Hop, IsHop, IsWalk, transit_of, IsLeastTransit}
 use Rattle.nf_model.specs.Network.{hop_of}
 use Rattle.nf_lines.specs.Words.{read_lines, content_lines}
 use Rattle.nf_lines.specs.Faults.{LineFault, first_fault}
 use Rattle.nf_formats.specs.declared.NetRule.{NetRule}
-use Rattle.nf_formats.specs.declared.NetRule.TheVariants.{N1, N2, N3, N4, N5, N6, N7, N8, N9, N10, N11, N12, N13, N14, N15, N16, N17, N18, N19, N20, N21, N22}
+use Rattle.nf_formats.specs.declared.NetRule.TheVariants.{N17, N18, N19, N20, N21, N22}
 use Rattle.nf_formats.specs.Names.{Name, has_name, place_of}
 use Rattle.nf_formats.specs.Numbers.{greatest}
-use Rattle.nf_formats.specs.Named.{NamedLink, Named, numbered, hops_among}
+use Rattle.nf_formats.specs.Named.{NamedLink, Named, numbered}
 use Rattle.nf_formats.specs.NetLines.{Broken, Draft, draft_from}
-use Rattle.nf_formats.specs.NetClosing.{draft_hops, sink_name, source_place, IsReached, LeavesUnreached, HasZeroCycle, HasPassingSum, Breaks, closing_rules, IsFirst, marked, network_of, AreActive}
+use Rattle.nf_formats.specs.NetClosing.{draft_hops, sink_name, source_place, IsReached, LeavesUnreached, HasZeroCycle, HasPassingSum, Breaks, closing_rules, IsFirst, marked, network_of}
 use Rattle.nf_formats.specs.NetFile.{as_rule, Closes, by_lines, by_bytes, Reads}
-use Rattle.nf_formats.proofs.NameFacts.{decided, same_names, bytes_eq-self, place_below}
-use Rattle.nf_formats.proofs.WalkFacts.{CameFrom, came_from, entry_all, slice_get-image, transit_of-hop}
-use Rattle.nf_formats.proofs.DraftKept.{IsGoodDraft, draft_kept}
-use Rattle.nf_formats.proofs.AcceptedNodes.{ends_of_each}
-use Rattle.nf_formats.proofs.AcceptedWalks.{file_transits}
-use Rattle.nf_formats.proofs.Reaching.{Found, found, any_there, stays_closed, closure, reaching}
-use Rattle.nf_formats.proofs.Settling.{AllSettled, all_settled}
+use Rattle.nf_formats_laws.proofs.NameFacts.{decided, same_names, bytes_eq-self, place_below}
+use Rattle.nf_formats_laws.proofs.WalkFacts.{CameFrom, came_from, entry_all, slice_get-image, transit_of-hop}
+use Rattle.nf_formats_laws.proofs.DraftKept.{IsGoodDraft, draft_kept}
+use Rattle.nf_formats_laws.proofs.AcceptedNodes.{ends_of_each}
+use Rattle.nf_formats_laws.proofs.AcceptedWalks.{file_transits}
+use Rattle.nf_formats_laws.proofs.Reaching.{Found, found, any_there, stays_closed, closure, reaching}
+use Rattle.nf_formats_laws.proofs.Settling.{AllSettled, all_settled}
 
 -- ---- the first of some rules that are decided
 decide_first : (P : NetRule → Type 0) → ((rule : NetRule) → P rule ⊎ (¬ P rule)) → (rules : List NetRule) → ((first : NetRule) × IsFirst P rules first) ⊎ AllByRecursion (λ rule. ¬ P rule) rules
@@ -53,9 +53,9 @@ same_option None None = inl refl
 same_option None (Some y) = inr (λ e. absurd (cc))
 same_option (Some x) None = inr (λ e. absurd (cc))
 same_option (Some x) (Some y) = elim (decided (bytes_eq x y)) [
-    | inl e ↦ inl (ap (λ name. Some name) (same_names x y e))
-    | inr e ↦ inr (λ same. (let same_name : x ≡ y = ap (λ o. unwrap_or o x) same in let equal : bytes_eq x y ≡ true = subst (λ z. bytes_eq x z ≡ true) same_name (bytes_eq-self x) in absurd (cc)))
-  ]
+  | inl e ↦ inl (ap (λ name. Some name) (same_names x y e))
+  | inr e ↦ inr (λ same. (let same_name : x ≡ y = ap (λ o. unwrap_or o x) same in let equal : bytes_eq x y ≡ true = subst (λ z. bytes_eq x z ≡ true) same_name (bytes_eq-self x) in absurd (cc)))
+]
 
 -- a number below a bound at which a test says no, or none
 below : (test : ℕ → Bool) (n : ℕ) → ((v : ℕ) × (v < n) × (test v ≡ false)) ⊎ ((v : ℕ) → v < n → test v ≡ true)
@@ -122,24 +122,27 @@ module _ (draft : Draft) (g : IsGoodDraft draft) where
   decide_22 : HasPassingSum draft ⊎ (¬ HasPassingSum draft)
   unfolding sum_test
   decide_22 = elim (decided (list_any sum_test (draft_hops draft))) [
-      | inl e ↦ inl (
+    | inl e ↦ inl (
         let r : Found sum_test (draft_hops draft) = found sum_test (draft_hops draft) e in
         let p = and_parts (settled.settled.set r.entry.tail) (not (is_wide greatest (settled.settled.label r.entry.tail)) && beyond greatest Sum (settled.settled.label r.entry.tail) r.entry.transit) r.passes in
         let q = and_parts (not (is_wide greatest (settled.settled.label r.entry.tail))) (beyond greatest Sum (settled.settled.label r.entry.tail) r.entry.transit) p.1 in
         record {
-          link = r.place; hop = r.entry; least = settled.settled.label r.entry.tail; is_hop = r.is_entry;
+          link = r.place;
+          hop = r.entry;
+          least = settled.settled.label r.entry.tail;
+          is_hop = r.is_entry;
           is_least = settled.settled.least r.entry.tail p.0;
           is_fraction = not_wide (is_wide greatest (settled.settled.label r.entry.tail)) q.0;
           passes = q.1;
         })
-      | inr e ↦ inr (λ p.
+    | inr e ↦ inr (λ p.
         let inside : settled.settled.set p.hop.tail ≡ true = stays_closed (draft_hops draft) settled.settled.set settled.closed p.is_least.taken.0 (source_place draft) p.hop.tail settled.settled.start p.is_least.taken.1 in
         let same : p.least ≡ settled.settled.label p.hop.tail = least_once p.hop.tail p.least (settled.settled.label p.hop.tail) p.is_least (settled.settled.least p.hop.tail inside) in
         let there : list_any sum_test (draft_hops draft) ≡ true = any_there sum_test (draft_hops draft) p.link p.hop p.is_hop
-          (three (settled.settled.set p.hop.tail) (is_wide greatest (settled.settled.label p.hop.tail)) (beyond greatest Sum (settled.settled.label p.hop.tail) p.hop.transit) inside
-            (ap (is_wide greatest) (sym same) ∙ p.is_fraction) (ap (λ x. beyond greatest Sum x p.hop.transit) (sym same) ∙ p.passes)) in
+        (three (settled.settled.set p.hop.tail) (is_wide greatest (settled.settled.label p.hop.tail)) (beyond greatest Sum (settled.settled.label p.hop.tail) p.hop.transit) inside
+        (ap (is_wide greatest) (sym same) ∙ p.is_fraction) (ap (λ x. beyond greatest Sum x p.hop.transit) (sym same) ∙ p.passes)) in
         absurd (cc))
-    ]
+  ]
 
   -- ---- cycles of zero transit
   is_zero : Hop → Bool
@@ -164,7 +167,7 @@ module _ (draft : Draft) (g : IsGoodDraft draft) where
   head_there e h is =
       let c : CameFrom (λ l. hop_of (numbered draft.nodes l)) draft.links e h = came_from (λ l. hop_of (numbered draft.nodes l)) draft.links e h is in
       subst (λ (x : Hop). x.head < length draft.nodes) c.is_image (place_below draft.nodes c.entry.head (entry_all (λ l. (has_name draft.nodes l.tail ≡ true) × (has_name draft.nodes l.head ≡ true)) draft.links e c.entry
-        (ends_of_each (has_name draft.nodes) draft.links g.ends_there) c.is_entry).1)
+      (ends_of_each (has_name draft.nodes) draft.links g.ends_there) c.is_entry).1)
 
   -- a zeroed hop that leaves a node that is there is one of zero transit
   record IsZeroHop (e : ℕ) (k : Hop) : Type 0 where
@@ -203,18 +206,18 @@ module _ (draft : Draft) (g : IsGoodDraft draft) where
   decide_21 : HasZeroCycle draft ⊎ (¬ HasZeroCycle draft)
   unfolding cycle_test
   decide_21 = elim (decided (list_any cycle_test (draft_hops draft))) [
-      | inl e ↦ inl (
+    | inl e ↦ inl (
         let r : Found cycle_test (draft_hops draft) = found cycle_test (draft_hops draft) e in
         let p = and_parts (is_zero r.entry) ((closure zero_hops r.entry.head).set r.entry.tail) r.passes in
         let w = (reaching zero_hops r.entry.head r.entry.tail).0 p.1 in
         let back = walk_out w.0 r.entry.head r.entry.tail (head_there r.place r.entry r.is_entry) w.1 in
         record { first = r.place; walk = w.0; node = r.entry.tail; closed = (r.entry, r.is_entry, refl, back.0); zero = (zero_is r.place r.entry r.is_entry p.0, back.1) })
-      | inr e ↦ inr (λ c.
+    | inr e ↦ inr (λ c.
         let back : IsWalk zero_hops c.walk c.closed.0.head c.closed.0.tail = subst (λ v. IsWalk zero_hops c.walk c.closed.0.head v) (sym c.closed.2) (walk_in c.walk c.closed.0.head c.node c.closed.3 c.zero.1) in
         let there : list_any cycle_test (draft_hops draft) ≡ true = any_there cycle_test (draft_hops draft) c.first c.closed.0 c.closed.1
-          (λ i. zero_test c.first c.closed.0 c.closed.1 c.zero.0 i && (reaching zero_hops c.closed.0.head c.closed.0.tail).1 (c.walk, back) i) in
+        (λ i. zero_test c.first c.closed.0 c.closed.1 c.zero.0 i && (reaching zero_hops c.closed.0.head c.closed.0.tail).1 (c.walk, back) i) in
         absurd (cc))
-    ]
+  ]
 
   decide : (rule : NetRule) → Breaks draft rule ⊎ (¬ Breaks draft rule)
   decide N17 = is_value draft.ended false
@@ -227,11 +230,11 @@ module _ (draft : Draft) (g : IsGoodDraft draft) where
 
   closing : (result : Result Named Broken) × Closes draft result
   closing = elim (decide_first (Breaks draft) decide closing_rules) [
-      | inl broken ↦ (Err (record { rule = broken.0; line = 0 }), (broken.1, refl))
-      | inr none ↦
+    | inl broken ↦ (Err (record { rule = broken.0; line = 0 }), (broken.1, refl))
+    | inr none ↦
         let flags : List Bool = map (λ l. is_reached (place_of draft.nodes l.tail)) draft.links in
         (Ok (network_of draft (marked flags draft.links) (marked (map not flags) draft.links)), (none, record { flags = flags; active = active_flags draft.links; network = refl }))
-    ]
+  ]
 
 -- ---- of a text
 by_lines_some : (lines : Result Draft Broken) → ((draft : Draft) → lines ≡ Ok draft → IsGoodDraft draft) → (result : Result Named Broken) × by_lines lines result

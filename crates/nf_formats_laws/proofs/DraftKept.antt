@@ -16,10 +16,10 @@ use Rattle.nf_formats.specs.Numbers.{number_in, capacity_in}
 use Rattle.nf_formats.specs.Named.{NamedLink, ends, names_of}
 use Rattle.nf_formats.specs.NetLines.{Entry, Source, Sink, LinkLine, InflowLine, End, node_line, link_entry, link_line, inflow_entry, inflow_line, end_line, entry_of, Draft, empty_draft, after, first_rule, too_many_nodes, is_negative, is_no_capacity, is_not_after, broken_rule, unless, add_line, in_line, add_lines, version_of, draft_after, draft_from}
 use Rattle.nf_formats.specs.WellNamed.{IsFraction, IsCapacity, IsNamedLink, IsFractionPiece}
-use Rattle.nf_formats.proofs.NameFacts.{has_name-append, with_name_there, with_name_new, bytes_eq-turned, same_names, bytes_eq-self}
-use Rattle.nf_formats.proofs.LinkFacts.{ends-append, map-append}
-use Rattle.nf_formats.proofs.LinesBack.{Rises, AreNotNegative}
-use Rattle.nf_formats.proofs.NumbersKept.{IsReadCapacity, number_kept, capacity_kept, ok_same}
+use Rattle.nf_formats_laws.proofs.NameFacts.{has_name-append, with_name_there, with_name_new, bytes_eq-turned, same_names, bytes_eq-self}
+use Rattle.nf_formats_laws.proofs.LinkFacts.{ends-append, map-append}
+use Rattle.nf_formats_laws.proofs.LinesBack.{Rises, AreNotNegative}
+use Rattle.nf_formats_laws.proofs.NumbersKept.{IsReadCapacity, number_kept, capacity_kept, ok_same}
 
 -- ---- lists of names with some behind
 distinct_push : (xs : List Name) (y : Name) → IsDistinct bytes_eq xs → has_name xs y ≡ false → IsDistinct bytes_eq (xs ++ y ∷ [])

@@ -1,18 +1,17 @@
 -- Least transit sums exist: nodes are settled one by one, each time at the cheapest hop that leads out of the settled ones.
-use Rattle.std.proofs.Common.{◌≡◌, ℕ, zero, suc, ◌+◌, ◌<◌, ◌≤◌, ◌⊎◌, ◌==◌, ◌&&◌, ◌||◌, ◌++◌, Bool, true, false, not, cond, if◌then◌else◌, List, [], ◌∷◌, length, slice_get, Some, refl, sym, ◌∙◌, ap, subst, inl, inr, arith}
+use Rattle.std.proofs.Common.{◌≡◌, ℕ, zero, suc, ◌+◌, ◌<◌, ◌≤◌, ◌⊎◌, ◌==◌, ◌&&◌, ◌||◌, ◌++◌, Bool, true, false, not, if◌then◌else◌, List, [], ◌∷◌, length, slice_get, Some, refl, sym, ◌∙◌, ap, subst, inl, inr, arith}
 use Rattle.std.specs.List.{AllByRecursion, list_all}
-use Rattle.std.proofs.lemmas.Bool.{and_parts, eqb-true, eq-eqb, ne_eqb}
+use Rattle.std.proofs.lemmas.Bool.{and_parts, eqb-true, eq-eqb}
 use Rattle.nf_rational.specs.Rational.{ℚ}
 use Rattle.nf_rational.specs.Operations.{0ℚ, ◌+ℚ◌}
-use Rattle.nf_rational.specs.Order.{◌≤ℚ◌, ◌<ℚ◌}
+use Rattle.nf_rational.specs.Order.{◌≤ℚ◌}
 use Rattle.nf_rational_laws.proofs.Polynomial.{reading_of}
 use Rattle.nf_rational_laws.proofs.Order.{lt_or_le_ℚ, ≤ℚ_of_lt, ≤ℚ_of_same}
-use Rattle.nf_rational_laws.proofs.Linear.{le, lt, eq, linear_le, linear_eq}
+use Rattle.nf_rational_laws.proofs.Linear.{le, eq, linear_le, linear_eq}
 use Rattle.nf_model.specs.Walk.{Hop, IsHop, IsWalk, transit_of, transit_sum, IsLeastTransit}
-use Rattle.nf_formats.proofs.NameFacts.{decided}
-use Rattle.nf_formats.proofs.WalkFacts.{walk_push, entry_all, transit_of-hop, transit_sum_nn}
-use Rattle.nf_formats.proofs.DraftKept.{or_left, or_right}
-use Rattle.nf_formats.proofs.Reaching.{heads_in, at_most_all, stays_in, one_more_head, stays_closed}
+use Rattle.nf_formats_laws.proofs.WalkFacts.{walk_push, entry_all, transit_of-hop, transit_sum_nn}
+use Rattle.nf_formats_laws.proofs.DraftKept.{or_left, or_right}
+use Rattle.nf_formats_laws.proofs.Reaching.{heads_in, at_most_all, stays_in, one_more_head, stays_closed}
 
 through : (a b c : ℚ) → a ≤ℚ b → b ≤ℚ c → a ≤ℚ c
 through a b c h k = linear_le (a ∷ b ∷ c ∷ []) (le h ∷ le k ∷ []) (search reading_of depth 12) tt
@@ -64,7 +63,11 @@ module _ (hops : List Hop) (positive : (e : ℕ) (hop : Hop) → IsHop hops e ho
 
     behind : (h : Hop) (rest : List Hop) → (s.set h.tail ≡ true → s.set h.head ≡ false → ⊥) → Cheapest rest → Cheapest (h ∷ rest)
     behind h rest no_cross c = record {
-      place = suc c.place; hop = c.hop; is_hop = c.is_hop; tail = c.tail; head = c.head;
+      place = suc c.place;
+      hop = c.hop;
+      is_hop = c.is_hop;
+      tail = c.tail;
+      head = c.head;
       least = ((λ e f. absurd (no_cross e f)), c.least);
     }
 
@@ -72,8 +75,14 @@ module _ (hops : List Hop) (positive : (e : ℕ) (hop : Hop) → IsHop hops e ho
     joined : (h : Hop) (rest : List Hop) → s.set h.tail ≡ true → s.set h.head ≡ false → (list_all (stays_in s.set) rest ≡ true) ⊎ Cheapest rest → Cheapest (h ∷ rest)
     joined h rest e f (inl stay) = record { place = 0; hop = h; is_hop = refl; tail = e; head = f; least = ((λ _ _. ≤ℚ_of_same (cost h) (cost h) refl), none_out (cost h) rest stay) }
     joined h rest e f (inr c) = elim (lt_or_le_ℚ (cost h) (cost c.hop)) [
-      | inl less ↦ record { place = 0; hop = h; is_hop = refl; tail = e; head = f;
-        least = ((λ _ _. ≤ℚ_of_same (cost h) (cost h) refl), weaker (cost h) (cost c.hop) rest (≤ℚ_of_lt (cost h) (cost c.hop) less) c.least) }
+      | inl less ↦ record {
+        place = 0;
+        hop = h;
+        is_hop = refl;
+        tail = e;
+        head = f;
+        least = ((λ _ _. ≤ℚ_of_same (cost h) (cost h) refl), weaker (cost h) (cost c.hop) rest (≤ℚ_of_lt (cost h) (cost c.hop) less) c.least);
+      }
       | inr more ↦ record { place = suc c.place; hop = c.hop; is_hop = c.is_hop; tail = c.tail; head = c.head; least = ((λ _ _. more), c.least) }
     ]
 
@@ -112,7 +121,7 @@ module _ (hops : List Hop) (positive : (e : ℕ) (hop : Hop) → IsHop hops e ho
     leads_out c front [] a b w here h out = absurd (let k : s.set b ≡ true = ap s.set (sym h) ∙ here in cc)
     leads_out c front (e ∷ walk) a b w here h out =
         leaving c front walk a b e h.0 w here h.1 h.2 h.3 (s.set h.0.head) refl
-          (λ f. leads_out c (front ++ e ∷ []) walk h.0.head b (walk_push hops front u a e h.0 w h.1 h.2) f h.3 out)
+        (λ f. leads_out c (front ++ e ∷ []) walk h.0.head b (walk_push hops front u a e h.0 w h.1 h.2) f h.3 out)
 
     -- ---- one node more
     settled_at : (c : Cheapest hops) → IsLeastTransit hops u c.hop.head (cost c.hop)
@@ -120,10 +129,13 @@ module _ (hops : List Hop) (positive : (e : ℕ) (hop : Hop) → IsHop hops e ho
     settled_at c =
         let to : IsLeastTransit hops u c.hop.tail (s.label c.hop.tail) = s.least c.hop.tail c.tail in
         record {
-          taken = (to.taken.0 ++ c.place ∷ [], walk_push hops to.taken.0 u c.hop.tail c.place c.hop to.taken.1 c.is_hop refl,
-            sum_push to.taken.0 c.place c.hop c.is_hop ∙ (λ i. to.taken.2 i +ℚ c.hop.transit));
+          taken = (
+            to.taken.0 ++ c.place ∷ [],
+            walk_push hops to.taken.0 u c.hop.tail c.place c.hop to.taken.1 c.is_hop refl,
+            sum_push to.taken.0 c.place c.hop c.is_hop ∙ (λ i. to.taken.2 i +ℚ c.hop.transit),
+          );
           bound = λ walk w. (let k : cost c.hop ≤ℚ (0ℚ +ℚ transit_sum hops walk) = leads_out c [] walk u c.hop.head refl s.start w c.head in
-            linear_le (cost c.hop ∷ transit_sum hops walk ∷ []) (le k ∷ []) (search reading_of depth 12) tt);
+              linear_le (cost c.hop ∷ transit_sum hops walk ∷ []) (le k ∷ []) (search reading_of depth 12) tt);
         }
 
     more_set : Cheapest hops → ℕ → Bool
@@ -162,9 +174,9 @@ module _ (hops : List Hop) (positive : (e : ℕ) (hop : Hop) → IsHop hops e ho
   unfolding settle
   settle_all zero s room = let most : heads_in s.set hops ≤ length hops = at_most_all s.set hops in absurd (omega arith)
   settle_all (suc fuel) s room = elim (cheapest s hops) [
-      | inl stay ↦ record { settled = s; closed = stay }
-      | inr c ↦ settle_all fuel (settle s c) (let k : suc (heads_in s.set hops) ≤ heads_in (more_set s c) hops = more_heads s c in omega arith)
-    ]
+    | inl stay ↦ record { settled = s; closed = stay }
+    | inr c ↦ settle_all fuel (settle s c) (let k : suc (heads_in s.set hops) ≤ heads_in (more_set s c) hops = more_heads s c in omega arith)
+  ]
 
   at_itself : IsLeastTransit hops u u 0ℚ
   at_itself = record { taken = ([], refl, refl); bound = λ walk w. transit_sum_nn hops positive walk u u w }

@@ -1,12 +1,12 @@
 -- Which nodes walks lead to is decided: the nodes found so far grow along hops until no hop leads out of them.
-use Rattle.std.proofs.Common.{◌≡◌, ℕ, zero, suc, ◌+◌, ◌<◌, ◌≤◌, ◌⊎◌, ◌++◌, ◌==◌, ◌&&◌, ◌||◌, Bool, true, false, not, List, [], ◌∷◌, length, slice_get, Some, refl, sym, ◌∙◌, ap, subst, inl, inr, arith}
+use Rattle.std.proofs.Common.{◌≡◌, ℕ, zero, suc, ◌+◌, ◌<◌, ◌≤◌, ◌++◌, ◌==◌, ◌&&◌, ◌||◌, Bool, true, false, not, List, [], ◌∷◌, length, slice_get, Some, refl, sym, ◌∙◌, ap, subst, inl, inr, arith}
 use Rattle.std.specs.Bool.{Decides}
 use Rattle.std.specs.List.{AllByRecursion, list_all, list_any}
 use Rattle.std.proofs.lemmas.Bool.{and_parts, or_cases, eqb-true, eq-eqb}
-use Rattle.nf_model.specs.Walk.{Hop, IsHop, IsWalk}
-use Rattle.nf_formats.proofs.NameFacts.{decided}
-use Rattle.nf_formats.proofs.WalkFacts.{walk_push, entry_all}
-use Rattle.nf_formats.proofs.DraftKept.{or_left, or_right}
+use Rattle.nf_model.specs.Walk.{Hop, IsWalk}
+use Rattle.nf_formats_laws.proofs.NameFacts.{decided}
+use Rattle.nf_formats_laws.proofs.WalkFacts.{walk_push, entry_all}
+use Rattle.nf_formats_laws.proofs.DraftKept.{or_left, or_right}
 
 -- an entry that passes a test
 pub record Found {X : Type 0} (test : X → Bool) (xs : List X) : Type 0 where
@@ -18,9 +18,9 @@ pub record Found {X : Type 0} (test : X → Bool) (xs : List X) : Type 0 where
 pub found : {X : Type 0} (test : X → Bool) (xs : List X) → list_any test xs ≡ true → Found test xs
 found test [] h = absurd (cc)
 found test (x ∷ xs) h = elim (or_cases (test x) (list_any test xs) h) [
-    | inl e ↦ record { place = 0; entry = x; is_entry = refl; passes = e }
-    | inr e ↦ let r : Found test xs = found test xs e in record { place = suc r.place; entry = r.entry; is_entry = r.is_entry; passes = r.passes }
-  ]
+  | inl e ↦ record { place = 0; entry = x; is_entry = refl; passes = e }
+  | inr e ↦ let r : Found test xs = found test xs e in record { place = suc r.place; entry = r.entry; is_entry = r.is_entry; passes = r.passes }
+]
 
 pub any_there : {X : Type 0} (test : X → Bool) (xs : List X) (e : ℕ) (x : X) → slice_get xs e ≡ Some x → test x ≡ true → list_any test xs ≡ true
 any_there test [] e x is h = absurd (cc)
@@ -96,19 +96,20 @@ module _ (hops : List Hop) (u : ℕ) where
     walks = λ v e. elim (or_cases (S v) (list_any (leads S v) hops) e) [
       | inl here ↦ h.walks v here
       | inr there ↦ (
-        let r : Found (leads S v) hops = found (leads S v) hops there in
-        let p = and_parts (S r.entry.tail) (r.entry.head == v) r.passes in
-        let w = h.walks r.entry.tail p.0 in
-        (w.0 ++ r.place ∷ [], subst (λ x. IsWalk hops (w.0 ++ r.place ∷ []) u x) (eqb-true r.entry.head v p.1) (walk_push hops w.0 u r.entry.tail r.place r.entry w.1 r.is_entry refl)))
+          let r : Found (leads S v) hops = found (leads S v) hops there in
+          let p = and_parts (S r.entry.tail) (r.entry.head == v) r.passes in
+          let w = h.walks r.entry.tail p.0 in
+          (w.0 ++ r.place ∷ [], subst (λ x. IsWalk hops (w.0 ++ r.place ∷ []) u x) (eqb-true r.entry.head v p.1) (walk_push hops w.0 u r.entry.tail r.place r.entry w.1 r.is_entry refl)))
     ];
   }
 
   into_grown : (S : ℕ → Bool) (rest : List Hop) → ((e : ℕ) (h : Hop) → slice_get rest e ≡ Some h → (i : ℕ) × (slice_get hops i ≡ Some h)) → AllByRecursion (λ h. S h.tail ≡ true → grown S h.head ≡ true) rest
   unfolding grown leads
   into_grown S [] f = tt
-  into_grown S (h ∷ rest) f =
-      ( (λ e. or_right (S h.head) (list_any (leads S h.head) hops) (any_there (leads S h.head) hops (f 0 h refl).0 h (f 0 h refl).1 (λ i. e i && eq-eqb h.head h.head refl i)))
-      , into_grown S rest (λ e h is. f (suc e) h is))
+  into_grown S (h ∷ rest) f = (
+    (λ e. or_right (S h.head) (list_any (leads S h.head) hops) (any_there (leads S h.head) hops (f 0 h refl).0 h (f 0 h refl).1 (λ i. e i && eq-eqb h.head h.head refl i))),
+    into_grown S rest (λ e h is. f (suc e) h is),
+  )
 
   pub record Closure : Type 0 where
     pub set : ℕ → Bool
@@ -119,10 +120,10 @@ module _ (hops : List Hop) (u : ℕ) where
   unfolding grown leads
   search_closed zero S h room = let most : heads_in S hops ≤ length hops = at_most_all S hops in absurd (omega arith)
   search_closed (suc fuel) S h room = elim (decided (list_all (stays_in S) hops)) [
-      | inl e ↦ record { set = S; sound = h; closed = e }
-      | inr e ↦ search_closed fuel (grown S) (sound_grown S h)
+    | inl e ↦ record { set = S; sound = h; closed = e }
+    | inr e ↦ search_closed fuel (grown S) (sound_grown S h)
         (let k : suc (heads_in S hops) ≤ heads_in (grown S) hops = grows S (grown S) (λ v f. or_left (S v) (list_any (leads S v) hops) f) hops (into_grown S hops (λ e h is. (e, is))) e in omega arith)
-    ]
+  ]
 
   source_alone : IsSound (λ v. u == v)
   source_alone = record { start = eq-eqb u u refl; walks = λ v e. ([], eqb-true u v e) }

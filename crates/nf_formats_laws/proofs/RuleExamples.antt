@@ -19,10 +19,10 @@ use Rattle.nf_formats.specs.Named.{Named}
 use Rattle.nf_formats.specs.NetFile.{Reads}
 use Rattle.nf_formats.specs.NetText.{canonical}
 use Rattle.nf_formats.specs.WellNamed.{IsNamed}
-use Rattle.nf_formats.proofs.NameFacts.{bytes_eq-self}
-use Rattle.nf_formats.proofs.WalkFacts.{entry_all, transit_of-hop, transit_sum_nn}
-use Rattle.nf_formats.proofs.CanonicalBack.{canonical_back}
-use Rattle.nf_formats.proofs.AcceptedNamed.{accepted_named}
+use Rattle.nf_formats_laws.proofs.NameFacts.{bytes_eq-self}
+use Rattle.nf_formats_laws.proofs.WalkFacts.{entry_all, transit_of-hop, transit_sum_nn}
+use Rattle.nf_formats_laws.proofs.CanonicalBack.{canonical_back}
+use Rattle.nf_formats_laws.proofs.AcceptedNamed.{accepted_named}
 
 -- lines with LF
 abbrev text : List (List ℕ) → List ℕ

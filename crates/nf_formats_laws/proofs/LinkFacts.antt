@@ -5,7 +5,7 @@ use Rattle.nf_model.specs.Network.{Link}
 use Rattle.nf_formats.specs.Names.{Name, place_of, name_at}
 use Rattle.nf_formats.specs.Named.{NamedLink, numbered, link_by_name, links_by_name, ends, names_of}
 use Rattle.nf_formats.specs.NetClosing.{marked}
-use Rattle.nf_formats.proofs.NameFacts.{has_at, place_at, place_left}
+use Rattle.nf_formats_laws.proofs.NameFacts.{has_at, place_at, place_left}
 
 -- ---- distinct names
 pub all_left : (P : Name → Type 0) (xs ys : List Name) → AllByRecursion P (xs ++ ys) → AllByRecursion P xs

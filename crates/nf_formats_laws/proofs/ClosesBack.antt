@@ -16,9 +16,9 @@ use Rattle.nf_formats.specs.NetLines.{Draft}
 use Rattle.nf_formats.specs.NetClosing.{IsReached, LeavesUnreached, HasZeroCycle, HasPassingSum, Breaks, network_of, AreActive}
 use Rattle.nf_formats.specs.NetFile.{Closes}
 use Rattle.nf_formats.specs.WellNamed.{IsNamed}
-use Rattle.nf_formats.proofs.NameFacts.{place_right}
-use Rattle.nf_formats.proofs.WalkFacts.{slice_get-left, IsIn, in_first, in_second, which, entry_all, CameFrom, came_from, Corresponds, Carried, carried}
-use Rattle.nf_formats.proofs.LinkFacts.{distinct_left, map-append, names_of-links_by_name, named_all, EndsBelow, place_again, map_numbered, first_marked, marked-first, marked-others, flags_hold}
+use Rattle.nf_formats_laws.proofs.NameFacts.{place_right}
+use Rattle.nf_formats_laws.proofs.WalkFacts.{slice_get-left, IsIn, in_first, in_second, which, entry_all, CameFrom, came_from, Corresponds, Carried, carried}
+use Rattle.nf_formats_laws.proofs.LinkFacts.{distinct_left, map-append, names_of-links_by_name, named_all, EndsBelow, place_again, map_numbered, first_marked, marked-first, marked-others, flags_hold}
 
 -- what the lines of its canonical text say
 abbrev pub draft_of : Named → Draft
