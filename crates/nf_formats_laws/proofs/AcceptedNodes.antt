@@ -27,7 +27,7 @@ pub both_all : {X : Type 0} (P Q : X → Type 0) (xs : List X) → AllByRecursio
 both_all P Q [] h k = tt
 both_all P Q (x ∷ xs) h k = ((h.0, k.0), both_all P Q xs h.1 k.1)
 
-ends_of_each : (test : Name → Bool) (links : List NamedLink) → list_all test (ends links) ≡ true → AllByRecursion (λ l. (test l.tail ≡ true) × (test l.head ≡ true)) links
+pub ends_of_each : (test : Name → Bool) (links : List NamedLink) → list_all test (ends links) ≡ true → AllByRecursion (λ l. (test l.tail ≡ true) × (test l.head ≡ true)) links
 ends_of_each test [] h = tt
 ends_of_each test (l ∷ links) h =
     let a = and_parts (test l.tail) (list_all test (l.head ∷ ends links)) h in

@@ -1,6 +1,9 @@
+pub mod RuleExamples
+pub mod Reaching
+pub mod Settling
+pub mod SomeReading
 pub mod HopFacts
 pub mod ReportFacts
-pub mod RuleExamples
 pub mod WalkFacts
 pub mod LinkFacts
 pub mod ClosesBack

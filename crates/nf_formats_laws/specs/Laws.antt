@@ -10,6 +10,10 @@ use Rattle.nf_formats.specs.NetText.{canonical}
 abbrev pub ReadsOnce : Type 0
 ReadsOnce = (text : List ℕ) (one other : Result Named Broken) → Reads text one → Reads text other → one ≡ other
 
+-- and it has one
+abbrev pub ReadsEach : Type 0
+ReadsEach = (text : List ℕ) → (result : Result Named Broken) × Reads text result
+
 -- a network's canonical text is read as that network, with its names
 abbrev pub CanonicalReadsBack : Type 0
 CanonicalReadsBack = (n : Named) → IsNamed n → Reads (canonical n) (Ok n)

@@ -1,8 +1,13 @@
-//! Laws of the files: a text has one reading, what an accepted file stands for is well formed, and a canonical text reads back.
-//! Each is the contract of a function that does nothing; the proofs are in `proofs/`.
+//! Laws of the network file: each text has exactly one reading, what an accepted file stands for is well formed, and a canonical
+//! text is read as the network that it was written from. Theorems between definitions, no code.
 #![tactic(auto)]
 
-ghost use Rattle.nf_formats_laws.specs.Laws.{ReadsOnce, AcceptedIsNamed, CanonicalReadsBack};
+ghost use Rattle.nf_formats_laws.specs.Laws.{ReadsEach, ReadsOnce, AcceptedIsNamed, CanonicalReadsBack};
+
+/// Each text has a reading: it stands for a network, or some rule is the first that it breaks.
+pub fn reads_each()
+    ensures { ReadsEach }
+{}
 
 /// A text has at most one reading.
 pub fn reads_once()
