@@ -1,16 +1,15 @@
 -- The only common factors of a sum over the least common denominator and that denominator are those of the two denominators' common factor.
-use Rattle.std.proofs.Common.{◌≡◌, ℕ, zero, suc, ◌+◌, ◌-◌, ◌*◌, ◌/◌, ℤ, pos, negsuc, ◌+ℤ◌, ◌*ℤ◌, neg_ℤ, nat_abs, refl, sym, ◌∙◌, ap, subst, arith}
+use Rattle.std.proofs.Common.{◌≡◌, ℕ, suc, ◌+◌, ◌-◌, ◌*◌, ◌/◌, ℤ, pos, negsuc, ◌+ℤ◌, ◌*ℤ◌, neg_ℤ, nat_abs, sym, ◌∙◌, ap, subst, arith}
 use Prim.Native.Nat.{◌∣◌}
 use lib.IntN.{+ℤ_comm}
-use native.Mathlib.Nat.{dvd_trans, dvd-mul_right, dvd-mul_left, dvd-zero, one-dvd, dvd-add, dvd-sub, div-mul_cancel, mul_comm}
+use native.Mathlib.Nat.{dvd_trans, dvd-mul_right, dvd-mul_left, one-dvd, dvd-add, dvd-sub, div-mul_cancel, mul_comm}
 use borrow.Author.Differences.{ints}
 use Rattle.std.specs.Int.{IsGcd}
 use Rattle.std.proofs.lemmas.Nat.Gcd.{IsGcd-swap, same_from_IsGcd}
 use Rattle.nf_rational.specs.Gcd.{gcd, IsGcd-gcd}
 use Rattle.nf_rational.specs.Rational.{ℚ, parts_reduced}
 use Rattle.nf_rational_laws.proofs.Ints.{abs-mul}
-use Rattle.nf_rational_laws.proofs.Ratio.{dvd_of_dvd-mul}
-use Rattle.nf_rational_laws.proofs.Products.{apart_parts}
+use Rattle.nf_rational_laws.proofs.Products.{apart_parts, divides, lowest_parts, split_dvd}
 use Rattle.nf_frac.proofs.Bits.{abs-neg}
 
 itself : (a : ℕ) → a ∣ a
@@ -18,13 +17,6 @@ itself a = subst (λ (m : ℕ). a ∣ m) (one_times a) (dvd-mul_right a 1)
   where
     one_times : (a : ℕ) → a * 1 ≡ a
     one_times a = omega arith
-
-divides : (g n : ℕ) → g ∣ n → n / g ∣ n
-divides g n h = subst (λ (m : ℕ). n / g ∣ m) (div-mul_cancel g h) (dvd-mul_right (n / g) g)
-
-split_dvd : (a b c : ℕ) → IsGcd a b 1 → a ∣ c * b → a ∣ c
-split_dvd a b zero h d = dvd-zero a
-split_dvd a b (suc c) h d = dvd_of_dvd-mul a b (suc c) (omega arith) h d
 
 -- what divides two whole numbers divides their sum
 apart_is : (a b : ℕ) → nat_abs (pos a +ℤ negsuc b) ≡ (a - suc b) + (suc b - a)
@@ -54,9 +46,6 @@ coprime_with n m l r k e apart lowest h d = (one-dvd e, one-dvd l, λ f p q. low
         let first : f ∣ nat_abs (n *ℤ pos l) = subst (λ (j : ℕ). f ∣ j) (sym (abs-mul n l)) (dvd_trans f q (dvd-mul_left l (nat_abs n))) in
         let second : f ∣ nat_abs (m *ℤ pos r) = dvd_rest (n *ℤ pos l) (m *ℤ pos r) f (dvd_trans f p d) first in
         split_dvd f r (nat_abs m) (IsGcd-swap r f 1 (apart_parts r l r f apart (itself r) q)) (subst (λ (j : ℕ). f ∣ j) (abs-mul m r) second)
-
-lowest_parts : (x : ℚ) → IsGcd (nat_abs x.num) x.den 1
-lowest_parts x = subst (λ (m : ℕ). IsGcd (nat_abs x.num) x.den m) x.reduced (IsGcd-gcd (nat_abs x.num) x.den)
 
 abbrev pub left_over : ℚ → ℚ → ℕ
 left_over x y = y.den / gcd x.den y.den

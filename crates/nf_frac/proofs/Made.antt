@@ -1,5 +1,5 @@
 -- A quotient of whole numbers is the ratio of their magnitudes with a sign; the bound on the parts.
-use Rattle.std.proofs.Common.{◌≡◌, ◌≢◌, ℕ, zero, suc, ◌-◌, ◌*◌, ◌%◌, ◌^◌, ◌<◌, ◌≤◌, min, max, Bool, true, false, not, ℤ, pos, negsuc, ◌*ℤ◌, neg_ℤ, nat_abs, [], ◌∷◌, refl, sym, ◌∙◌, ap, subst, arith}
+use Rattle.std.proofs.Common.{◌≡◌, ◌≢◌, ℕ, suc, ◌-◌, ◌*◌, ◌%◌, ◌^◌, ◌<◌, ◌≤◌, min, max, Bool, true, false, not, ℤ, pos, negsuc, ◌*ℤ◌, neg_ℤ, nat_abs, [], ◌∷◌, refl, sym, ◌∙◌, ap, subst, arith}
 use mathlib.Core.Path.{ap₂}
 use mathlib.Core.Bool.{beq}
 use borrow.Author.Differences.{ints}
@@ -16,10 +16,10 @@ use Rattle.nf_rational.proofs.Lowest.{num-ratio}
 use Rattle.nf_rational_laws.proofs.Polynomial.{ring, combine, using, done, reading}
 use Rattle.nf_rational_laws.proofs.IntegerRing.{ints_ring}
 use Rattle.nf_rational_laws.proofs.Ratio.{Is-same, Is-times, Is-whole, Is-ratio}
-use Rattle.nf_rational_laws.proofs.Quotient.{/ℚ-unique}
+use Rattle.nf_rational_laws.proofs.Quotient.{/ℚ-unique, abs_positive}
 use Rattle.nf_work.specs.Passing.{bound_of}
 use Rattle.nf_frac.specs.Parts.{greatest, InForm, IsWithin, IsMade, signed}
-use Rattle.nf_frac.proofs.Bits.{cast_plain, abs_positive}
+use Rattle.nf_frac.proofs.Bits.{cast_plain}
 use Rattle.nf_frac.proofs.Form.{ratio_within}
 
 -- ---- whole numbers

@@ -1,19 +1,16 @@
 -- A fraction with the other sign, and one over it.
-use Rattle.std.proofs.Common.{◌≡◌, ◌≢◌, ℕ, zero, suc, ◌<◌, ◌≤◌, Bool, true, false, ℤ, pos, negsuc, ◌-ℤ◌, neg_ℤ, nat_abs, [], ◌∷◌, refl, sym, ◌∙◌, ap, subst, arith}
+use Rattle.std.proofs.Common.{◌≡◌, ◌≢◌, ℕ, zero, suc, ◌<◌, ◌≤◌, Bool, true, false, ℤ, pos, negsuc, ◌-ℤ◌, neg_ℤ, nat_abs, refl, sym, ◌∙◌, ap, subst, arith}
 use mathlib.Core.Path.{ap₂}
 use lib.Signed.{lt_z}
-use lib.IntN.{◌*ℤ◌}
 use borrow.Author.Differences.{ints}
 use Rattle.std.proofs.lemmas.Nat.Gcd.{IsGcd-swap, same_from_IsGcd}
 use Rattle.nf_rational.specs.Gcd.{gcd, IsGcd-gcd}
 use Rattle.nf_rational.specs.Rational.{ℚ}
 use Rattle.nf_rational.specs.Operations.{0ℚ, neg_ℚ, inv_ℚ, signed_as}
 use Rattle.nf_rational.proofs.Lowest.{num-ratio, den-ratio}
-use Rattle.nf_rational_laws.proofs.Polynomial.{combine, using, done, reading}
-use Rattle.nf_rational_laws.proofs.IntegerRing.{ints_ring}
-use Rattle.nf_rational_laws.proofs.Ratio.{Is-self, Is-same, Is-whole}
 use Rattle.nf_frac.specs.Parts.{IsWithin, signed}
-use Rattle.nf_frac.proofs.Bits.{abs-neg, abs_positive}
+use Rattle.nf_rational_laws.proofs.Quotient.{abs_positive, num_zero}
+use Rattle.nf_frac.proofs.Bits.{abs-neg}
 
 -- ---- the other sign
 neg_lowest : (x : ℚ) → gcd (nat_abs (neg_ℤ x.num)) x.den ≡ 1
@@ -40,12 +37,6 @@ minus_is x n e = from_zero n ∙ ap neg_ℤ e ∙ sym (num-neg x)
     from_zero n = omega (arith, ints)
 
 -- ---- one over it
-num_zero : (x : ℚ) → x.num ≡ pos 0 → x ≡ 0ℚ
-num_zero x e = Is-same _ _ _ _ (Is-self x) (Is-whole (pos 0)) (crossed x.num (pos x.den) e)
-  where
-    crossed : (n d : ℤ) → n ≡ pos 0 → n *ℤ pos 1 ≡ pos 0 *ℤ d
-    crossed n d e = combine ints_ring (n ∷ d ∷ []) (using (pos 1) e (search reading depth 10) done) (search reading depth 10) tt
-
 pub num_apart : (x : ℚ) → x ≢ 0ℚ → 0 < nat_abs x.num
 num_apart x h = abs_positive x.num (λ e. h (num_zero x e))
 

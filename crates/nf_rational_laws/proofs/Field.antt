@@ -2,7 +2,7 @@
 use Rattle.std.proofs.Common.{◌≡◌, [], ◌∷◌, refl, ◌∙◌, ap}
 use lib.IntN.{ℤ, pos, negsuc, ◌+ℤ◌, ◌*ℤ◌, neg_ℤ}
 use Rattle.nf_rational_laws.proofs.Ints.{neg_ℤ-is}
-use Rattle.nf_rational_laws.proofs.Polynomial.{Ring, ring, combine, using, done, reading, reading_of}
+use Rattle.nf_rational_laws.proofs.Polynomial.{Ring, ring, reading}
 use Rattle.nf_rational_laws.proofs.IntegerRing.{ints_ring}
 use Rattle.nf_rational.specs.Rational.{ℚ}
 use Rattle.nf_rational.specs.Operations.{0ℚ, 1ℚ, whole, ◌+ℚ◌, ◌-ℚ◌, ◌*ℚ◌, neg_ℚ}
@@ -107,16 +107,3 @@ rationals = record {
   less_is = -ℚ_is;
   same = same_from-less;
 }
-
--- ---- benchmarks
-b1 : (a b c : ℚ) → a -ℚ (b +ℚ c) ≡ (a -ℚ b) -ℚ c
-b1 a b c = ring rationals (a ∷ b ∷ c ∷ []) (search reading_of depth 30) tt
-
-b2 : (x y z : ℚ) → x *ℚ (y +ℚ z) -ℚ x *ℚ y ≡ x *ℚ z
-b2 x y z = ring rationals (x ∷ y ∷ z ∷ []) (search reading_of depth 30) tt
-
-b3 : (p q n s t u : ℚ) → p ≡ n *ℚ (t -ℚ s) → q ≡ n *ℚ (u -ℚ t) → p +ℚ q ≡ n *ℚ (u -ℚ s)
-b3 p q n s t u e f = combine rationals (p ∷ q ∷ n ∷ s ∷ t ∷ u ∷ []) (using 1ℚ e (search reading_of depth 30) (using 1ℚ f (search reading_of depth 30) done)) (search reading_of depth 30) tt
-
-b4 : (x y : ℚ) → (x +ℚ whole (pos 3)) *ℚ (x -ℚ whole (pos 3)) ≡ x *ℚ x -ℚ whole (pos 9)
-b4 x y = ring rationals (x ∷ []) (search reading_of depth 30) tt

@@ -20,7 +20,7 @@ use Rattle.nf_rational.proofs.Lowest.{num-ratio, den-ratio}
 pub apart_parts : (n d a c : ℕ) → IsGcd n d 1 → a ∣ n → c ∣ d → IsGcd a c 1
 apart_parts n d a c h p q = (one-dvd a, one-dvd c, λ e u v. h.2 e (dvd_trans e u p) (dvd_trans e v q))
 
-split_dvd : (a b c : ℕ) → IsGcd a b 1 → a ∣ c * b → a ∣ c
+pub split_dvd : (a b c : ℕ) → IsGcd a b 1 → a ∣ c * b → a ∣ c
 split_dvd a b zero h d = dvd-zero a
 split_dvd a b (suc c) h d = dvd_of_dvd-mul a b (suc c) (omega arith) h d
 
@@ -38,10 +38,10 @@ apart_products a b c d p q r s =
     IsGcd-swap (c * d) (a * b) 1
     (apart_product c d (a * b) (IsGcd-swap (a * b) c 1 (apart_product a b c p r)) (IsGcd-swap (a * b) d 1 (apart_product a b d q s)))
 
-divides : (g n : ℕ) → g ∣ n → n / g ∣ n
+pub divides : (g n : ℕ) → g ∣ n → n / g ∣ n
 divides g n h = subst (λ (m : ℕ). n / g ∣ m) (div-mul_cancel g h) (dvd-mul_right (n / g) g)
 
-lowest_parts : (x : ℚ) → IsGcd (nat_abs x.num) x.den 1
+pub lowest_parts : (x : ℚ) → IsGcd (nat_abs x.num) x.den 1
 lowest_parts x = subst (λ (m : ℕ). IsGcd (nat_abs x.num) x.den m) x.reduced (IsGcd-gcd (nat_abs x.num) x.den)
 
 quotients_apart : (a d : ℕ) → 0 < d → IsGcd (a / gcd a d) (d / gcd a d) 1

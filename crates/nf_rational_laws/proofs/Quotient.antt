@@ -14,7 +14,7 @@ use Rattle.nf_rational_laws.proofs.Order.{nn_times, ps_in, ps_out, <ℚ_irrefl, 
 use Rattle.nf_rational_laws.proofs.Linear.{le, lt, le_times, eq_times, linear_le, linear_lt}
 
 -- ---- one over x
-abs_positive : (n : ℤ) → n ≢ pos 0 → 0 < nat_abs n
+pub abs_positive : (n : ℤ) → n ≢ pos 0 → 0 < nat_abs n
 abs_positive (pos zero) h = absurd (h refl)
 abs_positive (pos (suc n)) h = omega arith
 abs_positive (negsuc n) h = omega arith
@@ -26,7 +26,7 @@ signed_times : (n : ℤ) (d : ℕ) → n *ℤ signed_as n d *ℤ pos 1 ≡ pos 1
 signed_times (pos a) d = ap pos (omega arith)
 signed_times (negsuc a) d = both_negative (pos (suc a)) (pos d)
 
-num_zero : (x : ℚ) → x.num ≡ pos 0 → x ≡ 0ℚ
+pub num_zero : (x : ℚ) → x.num ≡ pos 0 → x ≡ 0ℚ
 num_zero x e = Is-same _ _ _ _ (Is-self x) (Is-whole (pos 0)) (crossed x.num (pos x.den) e)
   where
     crossed : (n d : ℤ) → n ≡ pos 0 → n *ℤ pos 1 ≡ pos 0 *ℤ d
