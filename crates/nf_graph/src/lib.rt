@@ -3,6 +3,7 @@
 #![tactic(auto)]
 
 mod ids;
+mod order;
 mod reach;
 
 pub use ids::{Hop, LinkId, NodeId};
