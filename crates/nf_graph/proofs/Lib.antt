@@ -1,3 +1,5 @@
 pub mod Flags
 pub mod Walks
 pub mod Reaching
+pub mod Cycles
+pub mod Orders

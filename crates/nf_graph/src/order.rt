@@ -4,7 +4,8 @@ ghost use Rattle.nf_rational.specs.Operations.{0ℚ};
 ghost use Rattle.nf_model.specs.Entries.{Has};
 ghost use Rattle.nf_model.specs.Walk.{Hop, IsHop};
 ghost use Rattle.nf_graph.specs.Graph.{AreBelow};
-ghost use Rattle.nf_graph.specs.Order.{IsOrder, IsChosenCycle, IsZeroCycle, Enters, IsReady, IsStuck, Turns};
+ghost use Rattle.nf_graph.specs.Order.{IsOrder, IsChosenCycle, IsZeroCycle, AreZeroLinks, Enters, IsReady, IsStuck, Turns};
+ghost use Rattle.nf_graph.specs.Found.{IsFound};
 
 use crate::ids::{Hop, LinkId, NodeId};
 use nf_frac::Q;
@@ -151,4 +152,84 @@ fn cycle_back(
     }
     walk.truncate(turn_back(hops, &walk, node));
     Ok(walk)
+}
+
+// An order of the nodes, or a cycle.
+#[derive(Drop)]
+enum Found {
+    Order(Vec<NodeId>),
+    Cycle(Vec<LinkId>),
+}
+
+// An order of the nodes in which every chosen link leads to a later one, or a cycle along chosen links.
+fn order_or_cycle(
+    alloc: Global,
+    nodes: u32,
+    hops: &[Hop],
+    chosen: &[bool],
+) -> Result<Found, AllocError>
+    requires ends { AreBelow nodes hops.now }
+    requires count { length chosen.now ≡ length hops.now }
+    requires fewer { length hops.now < 2 ^ 32 }
+    ensures { IfOk result (λ found. IsFound nodes hops.now chosen.now found) }
+{
+    let mut placed = vec![in alloc; false; nodes as usize]?;
+    let mut order = Vec::new(alloc);
+    while let Some(node) = next_ready(hops, chosen, &placed) {
+        placed[node.index()] = true;
+        order.push(node)?;
+    }
+    match unplaced(&placed) {
+        None => Ok(Found::Order(order)),
+        Some(start) => {
+            let cycle = cycle_back(alloc, hops, chosen, &placed, start)?;
+            Ok(Found::Cycle(cycle))
+        }
+    }
+}
+
+/// All nodes, each once, in an order in which every chosen link leads to a later one. None exactly where the chosen links hold
+/// a cycle. There is one flag for each link.
+pub fn topological(
+    alloc: Global,
+    nodes: u32,
+    hops: &[Hop],
+    chosen: &[bool],
+) -> Result<Option<Vec<NodeId>>, AllocError>
+    requires ends { AreBelow nodes hops.now }
+    requires count { length chosen.now ≡ length hops.now }
+    requires fewer { length hops.now < 2 ^ 32 }
+    ensures order { IfOk result (λ found. IfSome found (λ order. IsOrder nodes hops.now chosen.now order.items)) }
+    ensures none { IfOk result (λ found. IsNone found ↔ ((cycle : List ℕ) × IsChosenCycle hops.now chosen.now cycle)) }
+{
+    match order_or_cycle(alloc, nodes, hops, chosen)? {
+        Found::Order(order) => Ok(Some(order)),
+        Found::Cycle(_) => Ok(None),
+    }
+}
+
+// Of each link, whether its transit time is 0.
+fn zero_links(alloc: Global, hops: &[Hop]) -> Result<Vec<bool>, AllocError>
+    ensures { IfOk result (λ flags. AreZeroLinks hops.now flags.items) }
+{
+    hops.iter().map(|hop| hop.transit == Q::zero()).collect(alloc)
+}
+
+/// A closed walk of at least one link, each of zero transit time. None exactly where there is none. Where no transit time is
+/// negative, these are the closed walks that take no time.
+pub fn zero_cycle(
+    alloc: Global,
+    nodes: u32,
+    hops: &[Hop],
+) -> Result<Option<Vec<LinkId>>, AllocError>
+    requires ends { AreBelow nodes hops.now }
+    requires fewer { length hops.now < 2 ^ 32 }
+    ensures cycle { IfOk result (λ found. IfSome found (λ cycle. IsZeroCycle hops.now cycle.items)) }
+    ensures none { IfOk result (λ found. IsNone found ↔ ((cycle : List ℕ) → IsZeroCycle hops.now cycle → ⊥)) }
+{
+    let chosen = zero_links(alloc, hops)?;
+    match order_or_cycle(alloc, nodes, hops, &chosen)? {
+        Found::Order(_) => Ok(None),
+        Found::Cycle(cycle) => Ok(Some(cycle)),
+    }
 }
