@@ -3,3 +3,4 @@ pub mod Walks
 pub mod Reaching
 pub mod Cycles
 pub mod Orders
+pub mod ZeroLinks

@@ -4,6 +4,7 @@ use Rattle.std.proofs.Math.ListN.{length-set}
 use Rattle.std.proofs.lemmas.Option.{slice_get_within}
 use Rattle.nf_model.specs.Entries.{Has}
 use Rattle.nf_model.specs.Walk.{Hop, IsHop, IsWalk}
+use Rattle.nf_graph.specs.Graph.{AreBelow}
 use Rattle.nf_graph.specs.Order.{IsAt, IsOrder, IsReady, Enters, IsChosenCycle}
 use Rattle.nf_graph.proofs.Flags.{free, free-set, not_set, Has-set_same, Has-set_other, Has-set_cases, Has-replicate, Has-within}
 
@@ -102,3 +103,53 @@ placed_first nodes hops chosen placed order e f = subst (λ (o : List ℕ). AreP
     free-replicate : (n : ℕ) → 0 + free (replicate n false) ≡ n
     free-replicate zero = refl
     free-replicate (suc n) = let h : 0 + free (replicate n false) ≡ n = free-replicate n in omega arith
+
+pub placed_next : (nodes : ℕ) (hops : List Hop) (chosen placed : List Bool) (order : List ℕ) (v i : ℕ) → AreBelow nodes hops → i ≡ v → IsReady hops chosen placed v
+    → ArePlaced nodes hops chosen placed order → ArePlaced nodes hops chosen (set placed i true) (order ++ v ∷ [])
+placed_next nodes hops chosen placed order v i below n ready h = subst (λ (k : ℕ). ArePlaced nodes hops chosen (set placed k true) (order ++ v ∷ [])) (sym n) (record {
+  count = length-set placed v true ∙ h.count;
+  sum = sum_more nodes hops chosen placed order h v (not_set placed v ready.below ready.free);
+  placed_at = placed_more nodes hops chosen placed order h v;
+  at_placed = λ k w p. at_more nodes hops chosen placed order h v k w ready.below p;
+  once = λ k j w p q. once_more nodes hops chosen placed order h v k j w ready.free p q;
+  earlier = λ e j hop p s q. earlier_more nodes hops chosen placed order h v e j hop ready (subst (λ (k : ℕ). hop.tail < k) (sym h.count) (below.tails e hop p)) p s q;
+})
+
+none_free : (placed : List Bool) → ((v : ℕ) → v < length placed → Has placed v) → free placed ≡ 0
+none_free [] h = refl
+none_free (true ∷ placed) h = none_free placed (λ v l. h (suc v) (omega arith))
+none_free (false ∷ placed) h = let p : Has (false ∷ placed) 0 = h 0 (omega arith) in absurd (cc)
+
+pub order_all : (nodes : ℕ) (hops : List Hop) (chosen placed : List Bool) (order : List ℕ) → ArePlaced nodes hops chosen placed order → ((v : ℕ) → v < length placed → Has placed v)
+    → IsOrder nodes hops chosen order
+order_all nodes hops chosen placed order h full = record {
+  count = let s : length order + free placed ≡ nodes = h.sum in let z : free placed ≡ 0 = none_free placed full in omega arith;
+  nodes_only = λ i v p. subst (λ (n : ℕ). v < n) h.count (Has-within placed v (h.at_placed i v p));
+  each = λ v l. h.placed_at v (full v (subst (λ (n : ℕ). v < n) (sym h.count) l));
+  once = h.once;
+  later = λ e i j hop p s q r. let w : (k : ℕ) × (k < j) × IsAt order k hop.tail = h.earlier e j hop p s r in subst (λ (k : ℕ). k < j) (h.once w.0 i hop.tail w.2 q) w.1;
+}
+
+-- ---- an order holds no cycle
+along_order : (nodes : ℕ) (hops : List Hop) (chosen : List Bool) (order : List ℕ) (walk : List ℕ) (v w i j : ℕ) → IsOrder nodes hops chosen order → IsWalk hops walk v w
+    → ((k e : ℕ) → slice_get walk k ≡ Some e → Has chosen e) → AreBelow nodes hops → IsAt order i v → IsAt order j w → i ≤ j
+along_order nodes hops chosen order [] v w i j o h c b p q =
+    let e : i ≡ j = o.once i j w (subst (λ (n : ℕ). IsAt order i n) h p) q in omega arith
+along_order nodes hops chosen order (e ∷ walk) v w i j o h c b p q =
+    let k : (k : ℕ) × IsAt order k h.0.head = o.each h.0.head (b.heads e h.0 h.1) in
+    let first : i < k.0 = o.later e i k.0 h.0 h.1 (c 0 e refl) (subst (λ (n : ℕ). IsAt order i n) (sym h.2) p) k.1 in
+    let rest : k.0 ≤ j = along_order nodes hops chosen order walk h.0.head w k.0 j o h.3 (λ m f r. c (suc m) f r) b k.1 q in
+    omega arith
+
+round_order : (nodes : ℕ) (hops : List Hop) (chosen : List Bool) (order : List ℕ) (walk : List ℕ) (v : ℕ) → AreBelow nodes hops → IsOrder nodes hops chosen order → 0 < length walk → IsWalk hops walk v v
+    → ((k e : ℕ) → slice_get walk k ≡ Some e → Has chosen e) → ⊥
+round_order nodes hops chosen order [] v b o s h c = omega arith
+round_order nodes hops chosen order (e ∷ walk) v b o s h c =
+    let i : (i : ℕ) × IsAt order i v = o.each v (subst (λ (n : ℕ). n < nodes) h.2 (b.tails e h.0 h.1)) in
+    let k : (k : ℕ) × IsAt order k h.0.head = o.each h.0.head (b.heads e h.0 h.1) in
+    let first : i.0 < k.0 = o.later e i.0 k.0 h.0 h.1 (c 0 e refl) (subst (λ (n : ℕ). IsAt order i.0 n) (sym h.2) i.1) k.1 in
+    let rest : k.0 ≤ i.0 = along_order nodes hops chosen order walk h.0.head v k.0 i.0 o h.3 (λ m f r. c (suc m) f r) b k.1 i.1 in
+    omega arith
+
+pub IsOrder-no_cycle : (nodes : ℕ) (hops : List Hop) (chosen : List Bool) (order cycle : List ℕ) → AreBelow nodes hops → IsOrder nodes hops chosen order → IsChosenCycle hops chosen cycle → ⊥
+IsOrder-no_cycle nodes hops chosen order cycle b o c = round_order nodes hops chosen order cycle c.node b o c.some c.closed c.allowed

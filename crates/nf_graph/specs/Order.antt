@@ -1,5 +1,5 @@
 -- Orders of the nodes along links, and cycles.
-use Rattle.std.specs.Prelude.{◌≡◌, ◌↔◌, ℕ, suc, ◌<◌, Bool, List, length, Some, slice_get}
+use Rattle.std.specs.Prelude.{◌≡◌, ℕ, suc, ◌<◌, Bool, List, length, Some, slice_get}
 use Rattle.nf_rational.specs.Operations.{0ℚ}
 use Rattle.nf_model.specs.Entries.{Has}
 use Rattle.nf_model.specs.Walk.{Hop, IsHop, IsWalk, transit_of}
@@ -63,8 +63,3 @@ pub record Turns (hops : List Hop) (walk : List ℕ) (v count : ℕ) : Type 0 wh
   pub is_hop : IsHop hops number hop
   pub head : hop.head ≡ v
   pub is_count : count ≡ suc place
-
--- one flag for each link, set exactly where its transit time is 0
-pub record AreZeroLinks (hops : List Hop) (flags : List Bool) : Type 0 where
-  pub count : length flags ≡ length hops
-  pub each : (e : ℕ) (hop : Hop) → IsHop hops e hop → Has flags e ↔ (hop.transit ≡ 0ℚ)

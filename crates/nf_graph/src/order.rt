@@ -1,10 +1,11 @@
 // Orders of the nodes along chosen links, and cycles, of which a cycle of zero transit is one.
-ghost use Rattle.std.specs.Prelude.{◌≡◌, ◌↔◌, ◌^◌, ◌<◌, ℕ, List, length, IfOk, IsTrue, IsNone, IfSome, MatchBool, MatchOption, slice_get, Some};
+ghost use Rattle.std.specs.Prelude.{◌≡◌, ◌↔◌, ◌^◌, ◌<◌, ℕ, List, length, map, IfOk, IsTrue, IsNone, IfSome, MatchBool, MatchOption, slice_get, Some};
 ghost use Rattle.nf_rational.specs.Operations.{0ℚ};
+ghost use Rattle.nf_frac.specs.Order.{same_ℚ};
 ghost use Rattle.nf_model.specs.Entries.{Has};
 ghost use Rattle.nf_model.specs.Walk.{Hop, IsHop};
 ghost use Rattle.nf_graph.specs.Graph.{AreBelow};
-ghost use Rattle.nf_graph.specs.Order.{IsOrder, IsChosenCycle, IsZeroCycle, AreZeroLinks, Enters, IsReady, IsStuck, Turns};
+ghost use Rattle.nf_graph.specs.Order.{IsOrder, IsChosenCycle, IsZeroCycle, Enters, IsReady, IsStuck, Turns};
 ghost use Rattle.nf_graph.specs.Found.{IsFound};
 
 use crate::ids::{Hop, LinkId, NodeId};
@@ -210,7 +211,7 @@ pub fn topological(
 
 // Of each link, whether its transit time is 0.
 fn zero_links(alloc: Global, hops: &[Hop]) -> Result<Vec<bool>, AllocError>
-    ensures { IfOk result (λ flags. AreZeroLinks hops.now flags.items) }
+    ensures { IfOk result (λ flags. flags.items ≡ map (λ hop. same_ℚ hop.transit 0ℚ) hops.now) }
 {
     hops.iter().map(|hop| hop.transit == Q::zero()).collect(alloc)
 }
