@@ -1,3 +1,4 @@
 pub mod Graph
 pub mod Order
 pub mod Found
+pub mod Distances
