@@ -4,3 +4,5 @@ pub mod Reaching
 pub mod Cycles
 pub mod Orders
 pub mod ZeroLinks
+pub mod Offering
+pub mod Settling

@@ -1,5 +1,5 @@
 -- Least transit sums from a node.
-use Rattle.std.specs.Prelude.{◌≡◌, ℕ, ◌⊎◌, ◌<◌, true, false, Option, Some, None, List, length, slice_get}
+use Rattle.std.specs.Prelude.{◌≡◌, ℕ, true, Option, Some, None, List, length, slice_get}
 use Rattle.nf_rational.specs.Rational.{ℚ}
 use Rattle.nf_rational.specs.Operations.{0ℚ, ◌+ℚ◌}
 use Rattle.nf_rational.specs.Order.{◌≤ℚ◌}
@@ -38,30 +38,23 @@ HasSum sums v sum = slice_get sums v ≡ Some (Some sum)
 abbrev pub IsOpen : List (Option ℚ) → ℕ → Type 0
 IsOpen sums v = slice_get sums v ≡ Some None
 
--- link e leads from a settled node to one that isn't, whose sum along the link is this
-pub record Offers (hops : List Hop) (sums : List (Option ℚ)) (e : ℕ) (sum : ℚ) : Type 0 where
+-- a link leads from a settled node to node v, which isn't settled, and the sum along it is this
+pub record Offers (hops : List Hop) (sums : List (Option ℚ)) (v : ℕ) (sum : ℚ) : Type 0 where
+  pub number : ℕ
   pub hop : Hop
-  pub is_hop : IsHop hops e hop
+  pub is_hop : IsHop hops number hop
   pub before : ℚ
   pub tail : HasSum sums hop.tail before
-  pub head : IsOpen sums hop.head
+  pub head : hop.head ≡ v
+  pub not_settled : IsOpen sums v
   pub is_sum : sum ≡ before +ℚ hop.transit
-
--- it is the least one of these sums
-pub record OffersLeast (hops : List Hop) (sums : List (Option ℚ)) (e : ℕ) (sum : ℚ) : Type 0 where
-  pub offers : Offers hops sums e sum
-  pub least : (other : ℕ) (more : ℚ) → Offers hops sums other more → sum ≤ℚ more
-
--- no link leads from a settled node to one that isn't
-abbrev pub IsSettled : List Hop → List (Option ℚ) → Type 0
-IsSettled hops sums = (e : ℕ) (sum : ℚ) → Offers hops sums e sum → ⊥
 
 -- no sum along a link that leaves a settled node passes
 abbrev pub AllFit : List Hop → List (Option ℚ) → Type 0
 AllFit hops sums = (e : ℕ) (hop : Hop) (before : ℚ) → IsHop hops e hop → HasSum sums hop.tail before → SumPasses before hop.transit → ⊥
 
--- the sum along link e passes
-pub record Stops (hops : List Hop) (sums : List (Option ℚ)) (e : ℕ) (left right : ℚ) : Type 0 where
+-- the sum along link e, which leaves a settled node, passes
+pub record StopsAt (hops : List Hop) (sums : List (Option ℚ)) (e : ℕ) (left right : ℚ) : Type 0 where
   pub hop : Hop
   pub is_hop : IsHop hops e hop
   pub tail : HasSum sums hop.tail left

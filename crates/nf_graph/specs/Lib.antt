@@ -2,3 +2,4 @@ pub mod Graph
 pub mod Order
 pub mod Found
 pub mod Distances
+pub mod Steps

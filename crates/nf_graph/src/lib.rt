@@ -2,9 +2,12 @@
 //! least transit sums; and sets of links.
 #![tactic(auto)]
 
+mod distance;
 mod ids;
 mod order;
 mod reach;
 
+pub use distance::{DistanceFault, distances};
 pub use ids::{Hop, LinkId, NodeId};
+pub use order::{topological, zero_cycle};
 pub use reach::reached;

@@ -1,0 +1,1 @@
+-- Nodes settled one by one.
