@@ -150,3 +150,15 @@ stops_at hops sums link hop before fault p t = ForPassed-weaker _ _ fault (λ e 
   transit = w.3 hop p;
   passes = w.2;
 })
+
+-- ---- what the least offer says
+pub nearest_least : (hops : List Hop) (sums : List (Option ℚ)) (best : Option Step) (step : Step) → IsNearest hops sums best → best ≡ Some step
+    → (v : ℕ) (more : ℚ) → Offers hops sums v more → step.sum ≤ℚ more
+nearest_least hops sums best step n e v more x =
+    let w : (s : Step) × (best ≡ Some s) × (s.sum ≤ℚ more) = n.least v more x in subst (λ (s : Step). s.sum ≤ℚ more) (same _ _ (sym w.1 ∙ e)) w.2
+  where
+    same : (a b : Step) → Some a ≡ Some b → a ≡ b
+    same a b q = cc
+
+pub nearest_none : (hops : List Hop) (sums : List (Option ℚ)) (best : Option Step) → IsNearest hops sums best → best ≡ None → (v : ℕ) (more : ℚ) → Offers hops sums v more → ⊥
+nearest_none hops sums best n e v more x = let w : (s : Step) × (best ≡ Some s) × (s.sum ≤ℚ more) = n.least v more x in let q : best ≡ Some w.0 = w.1 in cc

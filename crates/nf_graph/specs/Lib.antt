@@ -3,3 +3,4 @@ pub mod Order
 pub mod Found
 pub mod Distances
 pub mod Steps
+pub mod Sets

@@ -6,8 +6,10 @@ mod distance;
 mod ids;
 mod order;
 mod reach;
+mod sets;
 
 pub use distance::{DistanceFault, distances};
 pub use ids::{Hop, LinkId, NodeId};
 pub use order::{topological, zero_cycle};
 pub use reach::reached;
+pub use sets::LinkSets;
