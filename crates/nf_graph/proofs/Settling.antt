@@ -184,9 +184,9 @@ module _ (nodes : ℕ) (hops : List Hop) (from : ℕ) (sums : List (Option ℚ))
   passes_at e left right x = record { hop = x.hop; is_hop = x.is_hop; least = settled.least x.hop.tail left x.tail; transit = x.transit; passes = x.passes }
 
 -- the node to begin with is settled, and no other
-pub settled_first : (nodes : ℕ) (hops : List Hop) (from i : ℕ) (sums : List (Option ℚ)) (start : ℚ) → NoneNegative hops → sums ≡ replicate nodes None → length sums ≡ nodes → i ≡ from → from < nodes → start ≡ 0ℚ
+pub settled_first : (nodes : ℕ) (hops : List Hop) (from i : ℕ) (sums : List (Option ℚ)) (start : ℚ) → NoneNegative hops → sums ≡ replicate nodes None → i ≡ from → from < nodes → start ≡ 0ℚ
     → AreSettled nodes hops from (set sums i (Some start))
-settled_first nodes hops from i sums start good e l n h z = subst (λ (k : ℕ). AreSettled nodes hops from (set sums k (Some start))) (sym n) (subst (λ (q : ℚ). AreSettled nodes hops from (set sums from (Some q))) (sym z) (record {
+settled_first nodes hops from i sums start good e n h z = subst (λ (k : ℕ). AreSettled nodes hops from (set sums k (Some start))) (sym n) (subst (λ (q : ℚ). AreSettled nodes hops from (set sums from (Some q))) (sym z) (record {
   count = length-set sums from (Some 0ℚ) ∙ l;
   start = set_same sums from (Some 0ℚ) (subst (λ (k : ℕ). from < k) (sym l) h);
   least = λ w s k. ⊎_elim
@@ -197,6 +197,13 @@ settled_first nodes hops from i sums start good e l n h z = subst (λ (k : ℕ).
   where
     same : (a b : ℚ) → Some a ≡ Some b → b ≡ a
     same a b q = cc
+
+    length-none : (k : ℕ) → length (replicate {A = Option ℚ} k None) ≡ k
+    length-none zero = refl
+    length-none (suc k) = ap suc (length-none k)
+
+    l : length sums ≡ nodes
+    l = ap length e ∙ length-none nodes
 
     here : IsLeastTransit hops from from 0ℚ
     here = record { taken = ([], refl, refl); bound = λ walk p. transit_sum-nn hops walk from from good p }

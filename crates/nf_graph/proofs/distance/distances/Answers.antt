@@ -1,4 +1,4 @@
-use Rattle.std.proofs.Common.{◌≡◌, ℕ, ◌<◌, List, Option, Some, None, length, set, refl, sym, subst, ◌∙◌, arith}
+use Rattle.std.proofs.Common.{rules, ◌≡◌, ℕ, ◌<◌, List, Option, Some, None, length, set, refl, sym, subst, ◌∙◌, arith}
 use Rattle.std.proofs.lemmas.Result.{err_from_is_err_and}
 use Rattle.nf_rational.specs.Rational.{ℚ}
 use Rattle.nf_graph.specs.Distances.{Offers, StopsAt, PassesAt}
@@ -10,7 +10,7 @@ use Rattle.nf_graph.proofs.distance.distances.Goals as goal
 
 pub loop-sums-init : goal.loop-sums-init
 loop-sums-init c = settled_first c.args.nodes c.args.hops.now c.args.from c.index.result c.in_ok-sums.sums.items c.zero.result c.requires.transits
-    (c.in_ok-sums.ensures.items_if_clones_equal (λ y e. ?)) c.in_ok-sums.ensures.len c.index.ensures c.requires.from c.zero.ensures
+    (c.in_ok-sums.ensures.items_if_clones_equal (λ y e. search rules)) c.index.ensures c.requires.from c.zero.ensures
 
 pub returns-in_err-step-clause-passed : goal.returns-in_err-step-clause-passed
 returns-in_err-step-clause-passed c =
@@ -24,7 +24,7 @@ index_mut-requires-in-Some c =
     let near : IsNearest c.args.hops.now c.loop-sums.sums.items c.in_ok-step.field-0 = subst (λ (s : List (Option ℚ)). IsNearest c.args.hops.now s c.in_ok-step.field-0) c.deref.ensures.value c.in_ok-step.ensures.nearest in
     let offers : Offers c.args.hops.now c.loop-sums.sums.items c.in-Some.step.node c.in-Some.step.sum = near.given c.in-Some.step c.in-Some.is in
     let within : c.in-Some.step.node < length c.loop-sums.sums.items = slice_get_within c.loop-sums.sums.items c.in-Some.step.node None offers.not_settled in
-    subst (λ (i : ℕ). i < length c.loop-sums.sums.items) (sym c.index-in-Some.ensures) within
+    let at_node : c.index-in-Some.result ≡ c.in-Some.step.node = c.index-in-Some.ensures in omega (arith, c.loop-sums.sums.ok.0)
 
 pub loop-sums-smaller : goal.loop-sums-smaller
 loop-sums-smaller c =
@@ -42,9 +42,9 @@ loop-sums-preserved c =
 pub returns-clause-sums : goal.returns-clause-sums
 returns-clause-sums c =
     let near : IsNearest c.args.hops.now c.loop-sums.sums.items c.in_ok-step.field-0 = subst (λ (s : List (Option ℚ)). IsNearest c.args.hops.now s c.in_ok-step.field-0) c.deref.ensures.value c.in_ok-step.ensures.nearest in
-    settled_all c.args.nodes c.args.hops.now c.args.from c.loop-sums.sums.items c.requires.ends c.requires.transits c.loop-sums.invariant (nearest_none c.args.hops.now c.loop-sums.sums.items c.in_ok-step.field-0 near (let h = c.in_default.is in let k = c.in_default.not-Some in ?))
+    settled_all c.args.nodes c.args.hops.now c.args.from c.loop-sums.sums.items c.requires.ends c.requires.transits c.loop-sums.invariant (nearest_none c.args.hops.now c.loop-sums.sums.items c.in_ok-step.field-0 near c.in_default.is)
 
 pub returns-clause-fits : goal.returns-clause-fits
 returns-clause-fits c =
     let near : IsNearest c.args.hops.now c.loop-sums.sums.items c.in_ok-step.field-0 = subst (λ (s : List (Option ℚ)). IsNearest c.args.hops.now s c.in_ok-step.field-0) c.deref.ensures.value c.in_ok-step.ensures.nearest in
-    all_fit c.args.nodes c.args.hops.now c.args.from c.loop-sums.sums.items c.requires.ends c.requires.transits c.loop-sums.invariant (nearest_none c.args.hops.now c.loop-sums.sums.items c.in_ok-step.field-0 near (cc)) near.fits
+    all_fit c.args.nodes c.args.hops.now c.args.from c.loop-sums.sums.items c.requires.ends c.requires.transits c.loop-sums.invariant (nearest_none c.args.hops.now c.loop-sums.sums.items c.in_ok-step.field-0 near c.in_default.is) near.fits
