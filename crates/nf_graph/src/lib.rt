@@ -7,6 +7,8 @@ mod ids;
 mod order;
 mod reach;
 mod sets;
+#[cfg(test)]
+mod tests;
 
 pub use distance::{DistanceFault, distances};
 pub use ids::{Hop, LinkId, NodeId};
