@@ -1,5 +1,5 @@
 -- What links offer, and the least of it.
-use Rattle.std.proofs.Common.{◌≡◌, ◌≢◌, ℕ, ◌+◌, ◌<◌, ◌≤◌, List, length, get_or, Bool, true, false, if◌then◌else◌, Option, Some, None, Result, Ok, Err, slice_get, ◌⊎◌, ⊎_elim, eqb, sym, ap, subst, refl, ◌∙◌, arith}
+use Rattle.std.proofs.Common.{◌≡◌, ◌≢◌, ℕ, ◌+◌, ◌<◌, ◌≤◌, List, length, get_or, Bool, true, false, if◌then◌else◌, Option, Some, None, Result, Ok, Err, slice_get, ⊎_elim, eqb, sym, ap, subst, refl, ◌∙◌, arith}
 use Rattle.std.proofs.lemmas.Option.{slice_get_within, slice_get-get_or}
 use Rattle.std.proofs.lemmas.Bool.Decides.{eqb_tells}
 use Rattle.nf_rational.specs.Rational.{ℚ}
@@ -64,9 +64,9 @@ offered_by_settled hops sums e hop before sum offered p t s unsettled either = r
       let o : IsOpen sums hop.head = subst (λ (n : ℕ). IsOpen sums n) (sym x.head ∙ ap (λ (h : Hop). h.head) same) x.not_settled in
       (record { node = hop.head; sum = sum }, unsettled o, s.0 ∙ ap (λ (b : ℚ). b +ℚ hop.transit) (sym before_same) ∙ ap (λ (h : Hop). x.before +ℚ h.transit) (sym same) ∙ sym x.is_sum);
   fits = λ h b q k r. s.1 (
-    let same : h ≡ hop = IsHop-unique hops e h hop q p in
-    let before_same : b ≡ before = HasSum-unique sums hop.tail b before (subst (λ (g : Hop). HasSum sums g.tail b) same k) t in
-    subst (λ (g : Hop). SumPasses before g.transit) same (subst (λ (c : ℚ). SumPasses c h.transit) before_same r));
+      let same : h ≡ hop = IsHop-unique hops e h hop q p in
+      let before_same : b ≡ before = HasSum-unique sums hop.tail b before (subst (λ (g : Hop). HasSum sums g.tail b) same k) t in
+      subst (λ (g : Hop). SumPasses before g.transit) same (subst (λ (c : ℚ). SumPasses c h.transit) before_same r));
 }
   where
     same_step : (a b : Step) → Some a ≡ Some b → a ≡ b

@@ -1,7 +1,6 @@
 -- Nodes settled one by one, each with its least transit sum.
-use Rattle.std.proofs.Common.{◌≡◌, ◌≢◌, ℕ, zero, suc, ◌+◌, ◌<◌, ◌≤◌, List, [], ◌∷◌, ◌++◌, length, set, replicate, Option, Some, None, slice_get, ◌⊎◌, inl, inr, ⊎_elim, sym, subst, refl, ◌∙◌, ap, arith}
+use Rattle.std.proofs.Common.{◌≡◌, ℕ, zero, suc, ◌<◌, List, [], ◌∷◌, ◌++◌, length, set, replicate, Option, Some, None, slice_get, ◌⊎◌, inl, inr, ⊎_elim, sym, subst, refl, ◌∙◌, ap, arith}
 use Rattle.std.proofs.Math.ListN.{length-set}
-use Rattle.std.proofs.lemmas.Option.{slice_get_within}
 use Rattle.nf_rational.specs.Rational.{ℚ}
 use Rattle.nf_rational.specs.Operations.{0ℚ, ◌+ℚ◌}
 use Rattle.nf_rational.specs.Order.{◌≤ℚ◌}
@@ -9,12 +8,11 @@ use Rattle.nf_rational_laws.proofs.Polynomial.{reading_of}
 use Rattle.nf_rational_laws.proofs.Order.{≤ℚ_of_same, ≤ℚ_antisymm}
 use Rattle.nf_rational_laws.proofs.Linear.{le, eq, linear_le, linear_eq}
 use Rattle.nf_model.specs.Walk.{Hop, IsHop, IsWalk, transit_of, transit_sum, IsLeastTransit}
-use Rattle.nf_model_laws.proofs.Affine.{≤_trans}
 use Rattle.nf_graph.specs.Graph.{AreBelow}
 use Rattle.nf_graph.specs.Distances.{NoneNegative, AreDistances, PassesAt, StopsAt, HasSum, IsOpen, Offers, AllFit, SumPasses}
-use Rattle.nf_graph.proofs.Walks.{IsWalk-append, IsHop-unique}
+use Rattle.nf_graph.proofs.Walks.{IsWalk-append}
 use Rattle.nf_graph.proofs.ZeroLinks.{transit_of-hop}
-use Rattle.nf_graph.proofs.Offering.{HasSum-unique, HasSum-not_open}
+use Rattle.nf_graph.proofs.Offering.{HasSum-not_open}
 
 -- ---- sums along walks
 none_nn : 0ℚ ≤ℚ 0ℚ
@@ -137,10 +135,12 @@ module _ (nodes : ℕ) (hops : List Hop) (from : ℕ) (sums : List (Option ℚ))
   offer_is_least v sum x m =
       let tail : IsLeastTransit hops from x.hop.tail x.before = settled.least x.hop.tail x.before x.tail in
       record {
-        taken = (tail.taken.0 ++ x.number ∷ [],
-            subst (λ (n : ℕ). IsWalk hops (tail.taken.0 ++ x.number ∷ []) from n) x.head (IsWalk-append hops tail.taken.0 from x.number x.hop tail.taken.1 x.is_hop),
-            transit_sum-append hops tail.taken.0 x.number ∙ ap (λ (c : ℚ). c +ℚ transit_of hops x.number) tail.taken.2
-            ∙ ap (λ (t : ℚ). x.before +ℚ t) (transit_of-hop hops x.number x.hop x.is_hop) ∙ sym x.is_sum);
+        taken = (
+          tail.taken.0 ++ x.number ∷ [],
+          subst (λ (n : ℕ). IsWalk hops (tail.taken.0 ++ x.number ∷ []) from n) x.head (IsWalk-append hops tail.taken.0 from x.number x.hop tail.taken.1 x.is_hop),
+          transit_sum-append hops tail.taken.0 x.number ∙ ap (λ (c : ℚ). c +ℚ transit_of hops x.number) tail.taken.2
+              ∙ ap (λ (t : ℚ). x.before +ℚ t) (transit_of-hop hops x.number x.hop x.is_hop) ∙ sym x.is_sum,
+        );
         bound = λ walk h. at_zero _ 0ℚ _ (leaves_at walk from v sum 0ℚ m settled.start x.not_settled h) refl;
       }
 

@@ -1,11 +1,10 @@
 -- Cycles along the links of zero transit.
-use Rattle.std.proofs.Common.{◌≡◌, ℕ, zero, suc, List, [], ◌∷◌, length, Bool, true, Option, Some, None, slice_get, option_map, map, sym, ap, subst, refl, ◌∙◌}
+use Rattle.std.proofs.Common.{◌≡◌, ℕ, zero, suc, List, [], ◌∷◌, Bool, true, Option, Some, None, slice_get, option_map, map, sym, ap, subst, refl, ◌∙◌}
 use Rattle.std.proofs.lemmas.Option.{slice_get-map}
-use Rattle.nf_rational.specs.Rational.{ℚ}
 use Rattle.nf_rational.specs.Operations.{0ℚ}
 use Rattle.nf_frac.specs.Order.{same_ℚ}
 use Rattle.nf_frac.specs.Total.{same_decides}
-use Rattle.nf_model.specs.Entries.{Has, number_at}
+use Rattle.nf_model.specs.Entries.{Has}
 use Rattle.nf_model.specs.Walk.{Hop, IsHop, IsWalk, transit_of}
 use Rattle.nf_model_laws.proofs.Networks.{number_at-is}
 use Rattle.nf_graph.specs.Order.{IsChosenCycle, IsZeroCycle}

@@ -53,7 +53,7 @@ impl LinkId {
 }
 
 /// A link where its capacity doesn't matter: it leads from one node to another in its transit time.
-#[derive(Clone, Copy, Debug)]
+#[derive(Clone, Copy, Debug, PartialEq, Eq)]
 pub struct Hop {
     pub tail: NodeId,
     pub head: NodeId,

@@ -213,7 +213,9 @@ pub fn topological(
 fn zero_links(alloc: Global, hops: &[Hop]) -> Result<Vec<bool>, AllocError>
     ensures { IfOk result (λ flags. flags.items ≡ map (λ hop. same_ℚ hop.transit 0ℚ) hops.now) }
 {
-    hops.iter().map(|hop| hop.transit == Q::zero()).collect(alloc)
+    hops.iter()
+        .map(|hop| hop.transit == Q::zero())
+        .collect(alloc)
 }
 
 /// A closed walk of at least one link, each of zero transit time. None exactly where there is none. Where no transit time is

@@ -1,10 +1,10 @@
-use Rattle.std.proofs.Common.{rules, ◌≡◌, ℕ, ◌<◌, List, Option, Some, None, length, set, refl, sym, subst, ◌∙◌, arith}
+use Rattle.std.proofs.Common.{rules, ◌≡◌, ℕ, ◌<◌, List, Option, Some, None, length, set, sym, subst, arith}
 use Rattle.std.proofs.lemmas.Result.{err_from_is_err_and}
 use Rattle.nf_rational.specs.Rational.{ℚ}
 use Rattle.nf_graph.specs.Distances.{Offers, StopsAt, PassesAt}
 use Rattle.nf_graph.specs.Steps.{IsNearest, ForPassed}
 use Rattle.nf_graph.proofs.Offering.{nearest_least, nearest_none, ForPassed-weaker}
-use Rattle.nf_graph.proofs.Settling.{AreSettled, unsettled, settled_first, settled_more, settled_all, all_fit, passes_at, fewer_unsettled}
+use Rattle.nf_graph.proofs.Settling.{unsettled, settled_first, settled_more, settled_all, all_fit, passes_at, fewer_unsettled}
 use Rattle.std.proofs.lemmas.Option.{slice_get_within}
 use Rattle.nf_graph.proofs.distance.distances.Goals as goal
 

@@ -1,7 +1,6 @@
-use Rattle.std.proofs.Common.{◌≡◌, ℕ, ◌<◌, length, refl, sym, subst}
 use Rattle.std.proofs.lemmas.Result.{err_from_is_err_and}
 use Rattle.nf_model.specs.Walk.{Hop, IsHop}
-use Rattle.nf_graph.specs.Distances.{HasSum, IsOpen}
+use Rattle.nf_graph.specs.Distances.{HasSum}
 use Rattle.nf_graph.proofs.Offering.{offered_by_open, offered_by_settled, entry_read, IsHop-read_at, stops_at}
 use Rattle.nf_graph.proofs.distance.offer.Goals as goal
 

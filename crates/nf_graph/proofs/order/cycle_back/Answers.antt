@@ -1,6 +1,5 @@
-use Rattle.std.proofs.Common.{◌≡◌, ℕ, ◌∷◌, ◌<◌, List, Bool, length, set, get_or, true, false, Some, slice_get, refl, sym, subst, ap, ◌∙◌, arith}
+use Rattle.std.proofs.Common.{◌≡◌, ℕ, ◌<◌, List, length, set, true, Some, slice_get, sym, subst, ap, ◌∙◌, arith}
 use Rattle.std.proofs.lemmas.Option.{slice_get_within}
-use Rattle.nf_model.specs.Entries.{Has}
 use Rattle.nf_model.specs.Walk.{Hop, IsHop}
 use Rattle.nf_graph.specs.Order.{Turns, IsChosenCycle}
 use Rattle.nf_graph.proofs.Flags.{free, Has_from_place, not_Has_from_place}
@@ -19,7 +18,7 @@ loop-visited-preserved c =
     let link : ℕ = c.entering_link-link.result in
     let within : link < length c.args.hops.now = slice_get_within c.args.hops.now link c.entering_link-link.ensures.hop c.entering_link-link.ensures.is_hop in
     let read : IsHop c.args.hops.now link c.index-hops-index.result = subst (λ (n : ℕ). IsHop c.args.hops.now n c.index-hops-index.result) c.index-in-loop-visited-3.ensures
-        (IsHop-read c.args.hops.now c.index-in-loop-visited-3.result c.index-hops-index.result (subst (λ (n : ℕ). n < length c.args.hops.now) (sym c.index-in-loop-visited-3.ensures) within) c.index-hops-index.is) in
+    (IsHop-read c.args.hops.now c.index-in-loop-visited-3.result c.index-hops-index.result (subst (λ (n : ℕ). n < length c.args.hops.now) (sym c.index-in-loop-visited-3.ensures) within) c.index-hops-index.is) in
     subst (λ (walk : List ℕ). IsBack c.args.hops.now c.args.chosen.now c.args.placed.now c.args.start (set c.loop-visited.visited.items c.index-in-loop-visited-2.result true) walk c.hop.inside.tail)
     (sym (insert-first c.loop-visited.walk.items link) ∙ sym c.in_ok-insert.ensures.items)
     (back_more c.args.hops.now c.args.chosen.now c.args.placed.now c.args.start c.loop-visited.visited.items c.loop-visited.walk.items c.loop-visited.node link c.hop.inside.tail

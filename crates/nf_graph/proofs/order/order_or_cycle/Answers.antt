@@ -1,4 +1,4 @@
-use Rattle.std.proofs.Common.{◌≡◌, ℕ, ◌<◌, ◌++◌, ◌∷◌, [], List, Bool, length, set, true, sym, subst}
+use Rattle.std.proofs.Common.{ℕ, ◌<◌, List, Bool, length, set, true, sym, subst}
 use Rattle.nf_model.specs.Entries.{Has}
 use Rattle.nf_graph.specs.Order.{IsReady}
 use Rattle.nf_graph.proofs.Flags.{free}

@@ -1,7 +1,6 @@
 use Rattle.std.proofs.Common.{◌≡◌, ℕ, ◌<◌, length, Some, slice_get, refl, below_more, add-one, sym, subst, ap, ◌∙◌, arith}
 use Rattle.std.proofs.lemmas.Option.{slice_get_within, slice_get_read}
 use Rattle.nf_model.specs.Walk.{Hop, IsHop}
-use Rattle.nf_graph.specs.Order.{Turns}
 use Rattle.nf_graph.proofs.Walks.{IsHop-read, IsHop-unique, same_from_test, apart_from_test}
 use Rattle.nf_graph.proofs.order.turn.Goals as goal
 
@@ -24,7 +23,7 @@ loop-place-preserved c = below_more (λ (k : ℕ). (e : ℕ) (hop : Hop) → sli
     let number : e ≡ c.index.result = cc in
     let within : e < length c.args.hops.now = slice_get_within c.args.hops.now e hop q in
     let same : hop ≡ c.index-hops-index.result = IsHop-unique c.args.hops.now c.index.result _ _ (subst (λ (n : ℕ). IsHop c.args.hops.now n hop) number q)
-        (IsHop-read c.args.hops.now c.index.result c.index-hops-index.result (subst (λ (n : ℕ). n < length c.args.hops.now) number within) c.index-hops-index.is) in
+    (IsHop-read c.args.hops.now c.index.result c.index-hops-index.result (subst (λ (n : ℕ). n < length c.args.hops.now) number within) c.index-hops-index.is) in
     apart_from_test _ _ c.if-eq.ensures (ap (λ (h : Hop). h.head) (c.hop.view_is ∙ sym same) ∙ h))
 
 pub returns : goal.returns

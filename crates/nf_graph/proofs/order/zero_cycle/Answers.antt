@@ -1,7 +1,7 @@
-use Rattle.std.proofs.Common.{◌≡◌, List, Bool, refl, subst, ◌∙◌}
+use Rattle.std.proofs.Common.{◌≡◌, refl, subst, ◌∙◌}
 use Rattle.nf_graph.specs.Found.{IsFound}
 use Rattle.nf_graph.specs.declared.order.Found.{Found}
-use Rattle.nf_graph.specs.Order.{IsOrder, IsChosenCycle, IsZeroCycle}
+use Rattle.nf_graph.specs.Order.{IsOrder, IsZeroCycle}
 use Rattle.nf_graph.proofs.Orders.{IsOrder-no_cycle}
 use Rattle.nf_graph.proofs.ZeroLinks.{zero_flags, zero_of_chosen, chosen_of_zero}
 use Rattle.nf_graph.proofs.order.zero_cycle.Goals as goal

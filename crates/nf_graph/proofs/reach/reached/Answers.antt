@@ -1,8 +1,7 @@
-use Rattle.std.proofs.Common.{◌≡◌, ◌<◌, ℕ, length, List, Bool, set, true, sym, subst, ◌∙◌}
-use Rattle.nf_model.specs.Entries.{Has}
-use Rattle.nf_graph.specs.Graph.{AreBelow, Leaves, IsClosed}
+use Rattle.std.proofs.Common.{◌<◌, ℕ, List, Bool, set, true, sym, subst}
+use Rattle.nf_graph.specs.Graph.{Leaves, IsClosed}
 use Rattle.nf_graph.proofs.Flags.{free}
-use Rattle.nf_graph.proofs.Reaching.{Leaves-below, walked_more, fewer_free, reached_all, walked_first}
+use Rattle.nf_graph.proofs.Reaching.{Leaves-below, walked_more, fewer_free, reached_all}
 use Rattle.nf_graph.proofs.reach.reached.Goals as goal
 
 pub loop-node-smaller : goal.loop-node-smaller

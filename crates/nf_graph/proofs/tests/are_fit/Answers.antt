@@ -1,4 +1,4 @@
-use Rattle.std.proofs.Common.{ℕ, ◌<◌, arith}
+use Rattle.std.proofs.Common.{◌<◌, arith}
 use Rattle.nf_rational.specs.Operations.{0ℚ}
 use Rattle.nf_rational.specs.Order.{◌≤ℚ◌}
 use Rattle.nf_model.specs.Walk.{Hop}
