@@ -53,6 +53,15 @@ pub record Offers (hops : List Hop) (sums : List (Option ℚ)) (v : ℕ) (sum : 
 abbrev pub AllFit : List Hop → List (Option ℚ) → Type 0
 AllFit hops sums = (e : ℕ) (hop : Hop) (before : ℚ) → IsHop hops e hop → HasSum sums hop.tail before → SumPasses before hop.transit → ⊥
 
+-- the sum of what stands before the link and of its transit time is this, and doesn't pass
+abbrev pub IsSumAlong : List Hop → ℕ → ℚ → ℚ → Type 0
+IsSumAlong hops link before sum = (hop : Hop) → IsHop hops link hop → (sum ≡ before +ℚ hop.transit) × (SumPasses before hop.transit → ⊥)
+
+-- it passes, with these operands, at link e
+abbrev pub PassesAlong : List Hop → ℕ → ℚ → ℕ → ℚ → ℚ → Type 0
+PassesAlong hops link before e left right =
+    (e ≡ link) × (left ≡ before) × SumPasses left right × ((hop : Hop) → IsHop hops link hop → hop.transit ≡ right)
+
 -- the sum along link e, which leaves a settled node, passes
 pub record StopsAt (hops : List Hop) (sums : List (Option ℚ)) (e : ℕ) (left right : ℚ) : Type 0 where
   pub hop : Hop

@@ -1,10 +1,8 @@
 // Least transit sums from a node, settled node by node in the order of their sums (after Dijkstra 1959).
-ghost use Rattle.std.specs.Prelude.{◌≡◌, ◌^◌, ◌<◌, ℕ, Option, List, length, IfOk, IfErr, OnOk, MatchResult, slice_get, Some, None};
+ghost use Rattle.std.specs.Prelude.{◌≡◌, ◌^◌, ◌<◌, ℕ, length, IfOk, IfErr, OnOk, Some, None};
 ghost use Rattle.nf_rational.specs.Rational.{ℚ};
-ghost use Rattle.nf_rational.specs.Operations.{◌+ℚ◌};
-ghost use Rattle.nf_model.specs.Walk.{Hop, IsHop};
 ghost use Rattle.nf_graph.specs.Graph.{AreBelow};
-ghost use Rattle.nf_graph.specs.Distances.{NoneNegative, AreDistances, PassesAt, SumPasses, HasSum, IsOpen, StopsAt};
+ghost use Rattle.nf_graph.specs.Distances.{NoneNegative, AreDistances, PassesAt, HasSum, IsOpen, IsSumAlong, PassesAlong, StopsAt};
 ghost use Rattle.nf_graph.specs.Steps.{ForPassed, OfferedBy, IsNearer, IsNearest};
 
 use crate::ids::{Hop, LinkId, NodeId};
@@ -52,8 +50,8 @@ struct Step {
 // The sum of what stands before a link and its transit time.
 fn sum_along(hops: &[Hop], link: LinkId, before: Q) -> Result<Q, DistanceFault>
     requires { link < length hops.now }
-    ensures sum { IfOk result (λ sum. (hop : Hop) → IsHop hops.now link hop → (sum ≡ before +ℚ hop.transit) × (SumPasses before hop.transit → ⊥)) }
-    ensures passed { IfErr result (ForPassed (λ e left right. (e ≡ link) × (left ≡ before) × SumPasses left right × ((hop : Hop) → IsHop hops.now link hop → hop.transit ≡ right))) }
+    ensures sum { IfOk result (λ sum. IsSumAlong hops.now link before sum) }
+    ensures passed { IfErr result (ForPassed (PassesAlong hops.now link before)) }
 {
     let hop = &hops[link.index()];
     match before.sum(hop.transit) {

@@ -1,9 +1,8 @@
 // Orders of the nodes along chosen links, and cycles, of which a cycle of zero transit is one.
-ghost use Rattle.std.specs.Prelude.{◌≡◌, ◌↔◌, ◌^◌, ◌<◌, ℕ, List, length, map, IfOk, IsTrue, IsNone, IfSome, MatchBool, MatchOption, slice_get, Some};
+ghost use Rattle.std.specs.Prelude.{◌≡◌, ◌↔◌, ◌^◌, ◌<◌, ℕ, List, length, map, IfOk, IsNone, IfSome, MatchBool, MatchOption, slice_get, Some};
 ghost use Rattle.nf_rational.specs.Operations.{0ℚ};
 ghost use Rattle.nf_frac.specs.Order.{same_ℚ};
 ghost use Rattle.nf_model.specs.Entries.{Has};
-ghost use Rattle.nf_model.specs.Walk.{Hop, IsHop};
 ghost use Rattle.nf_graph.specs.Graph.{AreBelow};
 ghost use Rattle.nf_graph.specs.Order.{IsOrder, IsChosenCycle, IsZeroCycle, Enters, IsReady, IsStuck, Turns};
 ghost use Rattle.nf_graph.specs.Found.{IsFound};
@@ -15,7 +14,8 @@ use std::alloc::{AllocError, Global};
 // The hop leads into this node from one without a flag.
 fn leads_in(hop: &Hop, placed: &[bool], node: NodeId) -> bool
     requires { hop.now.tail < length placed.now }
-    ensures { MatchBool result ((hop.now.head ≡ node) × (Has placed.now hop.now.tail → ⊥)) (hop.now.head ≡ node → Has placed.now hop.now.tail) }
+    ensures { MatchBool result ((hop.now.head ≡ node) × (Has placed.now hop.now.tail → ⊥))
+        (hop.now.head ≡ node → Has placed.now hop.now.tail) }
 {
     let tail = hop.tail;
     hop.head == node && !placed[tail.index()]
@@ -26,7 +26,8 @@ fn entering(hops: &[Hop], chosen: &[bool], placed: &[bool], node: NodeId) -> Opt
     requires ends { AreBelow (length placed.now) hops.now }
     requires count { length chosen.now ≡ length hops.now }
     requires fewer { length hops.now < 2 ^ 32 }
-    ensures { MatchOption result ((e : ℕ) → Enters hops.now chosen.now placed.now e node → ⊥) (λ e. Enters hops.now chosen.now placed.now e node) }
+    ensures { MatchOption result ((e : ℕ) → Enters hops.now chosen.now placed.now e node → ⊥)
+        (λ e. Enters hops.now chosen.now placed.now e node) }
 {
     for (e, hop) in hops.iter().enumerate() {
         if chosen[e] {
@@ -59,7 +60,8 @@ fn next_ready(hops: &[Hop], chosen: &[bool], placed: &[bool]) -> Option<NodeId>
     requires count { length chosen.now ≡ length hops.now }
     requires fewer { length hops.now < 2 ^ 32 }
     requires nodes { length placed.now < 2 ^ 32 }
-    ensures { MatchOption result (IsStuck hops.now chosen.now placed.now) (λ v. IsReady hops.now chosen.now placed.now v) }
+    ensures { MatchOption result (IsStuck hops.now chosen.now placed.now)
+        (λ v. IsReady hops.now chosen.now placed.now v) }
 {
     for v in 0..placed.len() {
         let node = NodeId(v as u32);
@@ -87,7 +89,8 @@ fn unplaced(placed: &[bool]) -> Option<NodeId>
 // How many links of a walk come up to the first one that leads to this node, and with it.
 fn turn(hops: &[Hop], walk: &[LinkId], node: NodeId) -> Option<usize>
     requires { (i e : ℕ) → slice_get walk.now i ≡ Some e → e < length hops.now }
-    ensures { MatchOption result ((count : ℕ) → Turns hops.now walk.now node count → ⊥) (λ count. Turns hops.now walk.now node count) }
+    ensures { MatchOption result ((count : ℕ) → Turns hops.now walk.now node count → ⊥)
+        (λ count. Turns hops.now walk.now node count) }
 {
     for (place, link) in walk.iter().enumerate() {
         let hop = &hops[link.index()];

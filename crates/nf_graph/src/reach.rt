@@ -10,7 +10,8 @@ use std::alloc::{AllocError, Global};
 fn leads_out(hop: &Hop, flags: &[bool]) -> bool
     requires tail { hop.now.tail < length flags.now }
     requires head { hop.now.head < length flags.now }
-    ensures { MatchBool result (Has flags.now hop.now.tail × (Has flags.now hop.now.head → ⊥)) (Has flags.now hop.now.tail → Has flags.now hop.now.head) }
+    ensures { MatchBool result (Has flags.now hop.now.tail × (Has flags.now hop.now.head → ⊥))
+        (Has flags.now hop.now.tail → Has flags.now hop.now.head) }
 {
     let tail = hop.tail;
     let head = hop.head;
