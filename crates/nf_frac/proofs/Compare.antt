@@ -195,7 +195,6 @@ left_negative n m d e some h k = sym (int_less _ _ (join_lt _ _ (below_zero n e 
 pub right_negative : (n m : ℤ) (d e : ℕ) → 0 < d → lt_z n (pos 0) ≡ false → lt_z m (pos 0) ≡ true → Greater ≡ int_cmp (n *ℤ pos e) (m *ℤ pos d)
 right_negative n m d e some h k = sym (int_greater _ _ (join_lt _ _ (below_zero m d some k) (not_below_zero n e h)))
 
-
 -- ---- at the numbers' own parts
 pub cmp_is : (x y : ℚ) (n m : ℤ) (d e : ℕ) → n ≡ x.num → m ≡ y.num → x.den ≡ d → y.den ≡ e → int_cmp (n *ℤ pos e) (m *ℤ pos d) ≡ cmp_ℚ x y
 cmp_is x y n m d e xn yn xd yd = ap₂ int_cmp (ap₂ (λ (z : ℤ) (t : ℕ). z *ℤ pos t) xn (sym yd)) (ap₂ (λ (z : ℤ) (t : ℕ). z *ℤ pos t) yn (sym xd))

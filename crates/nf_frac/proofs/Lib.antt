@@ -8,3 +8,5 @@ pub mod Turned
 pub mod Passing
 pub mod Made
 pub mod Same
+pub mod Written
+pub mod Comparisons

@@ -10,8 +10,10 @@ mod scalar;
 #[cfg(test)]
 mod tests;
 mod whole;
+mod words;
 
 pub use fraction::{Frac, Q};
+pub use nf_numerals::{NumberFault, TextBuf};
 pub use nf_work::{Halt, Op, Part, Passed, PassedAt};
 pub use scalar::Scalar;
 

@@ -7,7 +7,9 @@ ghost use Rattle.nf_rational.specs.Order.{cmp_ℚ};
 ghost use Rattle.nf_frac.specs.Parts.{greatest, signed, IsWithin, SumFits};
 ghost use Rattle.nf_frac.specs.Order.{same_ℚ};
 
-use crate::whole::{added, compare_quotients, divided, gcd_of, multiplied, product, shortened, with_sign};
+use crate::whole::{
+    added, compare_quotients, divided, gcd_of, multiplied, product, shortened, with_sign,
+};
 use std::cmp::Ordering;
 use std::marker::Model;
 
@@ -83,8 +85,8 @@ impl Lowest {
         })
     }
 
-    // The numerator over the denominator, whose only common factors are those of `common`.
-    fn over(num: i128, den: u128, common: u128) -> Lowest
+    /// The numerator over the denominator, whose only common factors are those of `common`.
+    pub(crate) fn over(num: i128, den: u128, common: u128) -> Lowest
         requires positive { 0 < den }
         requires some { 0 < common }
         requires bounded { common ≤ greatest }
@@ -131,7 +133,11 @@ impl Lowest {
     {
         let left = gcd_of(self.num.unsigned_abs(), right.den);
         let other = gcd_of(right.num.unsigned_abs(), self.den);
-        let num = multiplied(shortened(self.num, left), shortened(right.num, other), limit)?;
+        let num = multiplied(
+            shortened(self.num, left),
+            shortened(right.num, other),
+            limit,
+        )?;
         let den = product(divided(self.den, other), divided(right.den, left), limit)?;
         Some(Lowest { num, den })
     }

@@ -1,12 +1,14 @@
 -- Laws of earliest arrivals and other least or greatest values.
-use Rattle.std.specs.Prelude.{◌≡◌, ◌≢◌, ℕ, ◌<◌, List, length}
+use Rattle.std.specs.Prelude.{◌≡◌, ◌≢◌, ◌↔◌, ℕ, ◌<◌, List, length}
 use Rattle.nf_rational.specs.Rational.{ℚ}
+use Rattle.nf_rational.specs.Operations.{0ℚ, ◌+ℚ◌}
 use Rattle.nf_rational.specs.Order.{◌≤ℚ◌}
 use Rattle.nf_model.specs.Curve.{NeverFalls}
 use Rattle.nf_model.specs.Walk.{Hop, IsLeastTransit}
-use Rattle.nf_model.specs.Network.{Link, Network, IsLink, IsNetwork}
+use Rattle.nf_model.specs.Network.{Link, Network, IsLink, IsNetwork, hops}
 use Rattle.nf_model.specs.Queue.{IsExit}
 use Rattle.nf_model.specs.Earliest.{IsEarliest}
+use Rattle.nf_model.specs.Equilibrium.{Flow, HasShape, inflow, label}
 use Rattle.nf_model.specs.Phases.{IsExtension, IsPhaseLength}
 
 -- there is at most one least transit sum, earliest arrival, extension length and phase length
@@ -39,3 +41,24 @@ pub record LabelsAreEarliest : Type 0 where
   pub from : (net : Network) (amount : ℕ → ℚ → ℚ) (departure : ℚ) (label : ℕ → ℚ) → IsNetwork net → InflowsRise net amount
       → ((e : ℕ) (link : Link) → IsLink net e link → (exit : ℚ) × IsExit link.transit link.capacity (amount e) (label link.tail) exit)
       → ((v : ℕ) → v < net.nodes → IsEarliest net amount v departure (label v)) → AreLabels net amount departure label
+
+-- of a report, whose inflows are curves, for each departure from 0 on: the labels are such labels exactly where they are the
+-- earliest arrivals
+abbrev pub ReportLabelsAreEarliest : Type 0
+ReportLabelsAreEarliest = (net : Network) (flow : Flow) (departure : ℚ) → IsNetwork net → HasShape net flow → InflowsRise net (inflow flow) → 0ℚ ≤ℚ departure
+    → AreLabels net (inflow flow) departure (λ v. label flow v departure)
+    ↔ ((v : ℕ) → v < net.nodes → IsEarliest net (inflow flow) v departure (label flow v departure))
+
+-- ---- the same for least transit sums
+
+-- The label of the source is 0. Each link into another node is as long, at least, as the labels of its ends are apart; and into
+-- each other node leads a link that is just as long.
+pub record AreTransitLabels (net : Network) (label : ℕ → ℚ) : Type 0 where
+  pub source : label net.source ≡ 0ℚ
+  pub none_shorter : (e : ℕ) (link : Link) → IsLink net e link → link.head ≢ net.source → label link.head ≤ℚ label link.tail +ℚ link.transit
+  pub entered : (v : ℕ) → v < net.nodes → v ≢ net.source → (e : ℕ) × (link : Link) × IsLink net e link × (link.head ≡ v) × (label v ≡ label link.tail +ℚ link.transit)
+
+-- such labels are the least transit sums over all walks from the source, and the least transit sums are such labels
+abbrev pub LeastTransitByLinks : Type 0
+LeastTransitByLinks = (net : Network) (label : ℕ → ℚ) → IsNetwork net
+    → AreTransitLabels net label ↔ ((v : ℕ) → v < net.nodes → IsLeastTransit (hops net) net.source v (label v))

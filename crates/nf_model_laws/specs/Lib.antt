@@ -2,7 +2,8 @@ pub mod Affine
 pub mod Capacity
 pub mod CurveLaws
 pub mod QueueLaws
+pub mod ExitLaws
 pub mod EarliestLaws
 pub mod SupplyLaws
 pub mod SlackLaws
-pub mod OneLink
+pub mod MemberLaws

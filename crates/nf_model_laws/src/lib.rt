@@ -3,10 +3,11 @@
 
 ghost use Rattle.nf_model_laws.specs.CurveLaws.{CurveGoesByPoints, AppendedPointGoesOn, EqualSlopesMerge, EndsDecideAffine, AffineFunctionsCombine, RisingPointsRise};
 ghost use Rattle.nf_model_laws.specs.QueueLaws.{LinkHasOneValue, QueueIsNotNegative, OutflowIsInflowLessQueue, ExitNeverFalls, QueueGoesOn, LinkHasValues};
-ghost use Rattle.nf_model_laws.specs.EarliestLaws.{ExtremesAreUnique, LabelsAreEarliest};
+ghost use Rattle.nf_model_laws.specs.ExitLaws.{FirstInFirstOut};
+ghost use Rattle.nf_model_laws.specs.EarliestLaws.{ExtremesAreUnique, LabelsAreEarliest, ReportLabelsAreEarliest, LeastTransitByLinks};
 ghost use Rattle.nf_model_laws.specs.SupplyLaws.{SupplyGoesOn};
 ghost use Rattle.nf_model_laws.specs.SlackLaws.{SlacksMakeSets};
-ghost use Rattle.nf_model_laws.specs.OneLink.{OneLinkHasEquilibrium};
+ghost use Rattle.nf_model_laws.specs.MemberLaws.{OneLinkEquilibrium, FullLinkEquilibrium, TightLinkEquilibrium, HasMember};
 
 /// A curve has each point's value at its time, is affine from each point to the next, and constant after the last.
 pub fn curve_goes_by_points()
@@ -80,10 +81,16 @@ pub fn labels_are_earliest()
     ensures { LabelsAreEarliest }
 {}
 
-/// The definitions have a member with flow: one link of transit time 1 and capacity 1, supplied at rate 2, has an equilibrium up
-/// to time 2.
-pub fn one_link_has_equilibrium()
-    ensures { OneLinkHasEquilibrium }
+/// The labels of a report, for any departure from 0 on, are the earliest arrivals exactly where no link undercuts them and one
+/// attains them at each node but the source.
+pub fn report_labels_are_earliest()
+    ensures { ReportLabelsAreEarliest }
+{}
+
+/// Labels that no link is shorter than, and that a link fits just at each node but the source, are the least transit sums over
+/// all walks from the source; and the least transit sums are such labels.
+pub fn least_transit_by_links()
+    ensures { LeastTransitByLinks }
 {}
 
 /// Nothing is supplied by time 0; while no piece starts the supply grows at the rate; it never falls.
@@ -94,4 +101,33 @@ pub fn supply_goes_on()
 /// A link is active where its slack is at least 0, and resetting where it is above 0; slacks move with the labels.
 pub fn slacks_make_sets()
     ensures { SlacksMakeSets }
+{}
+
+/// First in, first out: where the inflow never falls, what has left a link by the exit of what enters at a time is just what had
+/// entered it by that time.
+pub fn first_in_first_out()
+    ensures { FirstInFirstOut }
+{}
+
+/// On a network of one link, a flow is an equilibrium exactly where the whole supply enters the link at once, the label of the
+/// sink is the exit, and outflow and queue are those of this inflow.
+pub fn one_link_equilibrium()
+    ensures { OneLinkEquilibrium }
+{}
+
+/// The equilibrium of one link that is supplied at one rate of at least its capacity: the queue grows by the rate less the
+/// capacity, and the flow leaves at the capacity.
+pub fn full_link_equilibrium()
+    ensures { FullLinkEquilibrium }
+{}
+
+/// The equilibrium of one link that is unbounded, or supplied at one rate of at most its capacity: nothing waits.
+pub fn tight_link_equilibrium()
+    ensures { TightLinkEquilibrium }
+{}
+
+/// The definition of an equilibrium has a member beyond time 0: one link of transit time 1 and capacity 1, supplied at rate 2
+/// from time 0 to 2, up to time 2.
+pub fn equilibrium_has_member()
+    ensures { HasMember }
 {}

@@ -1,5 +1,5 @@
 -- Which bytes stand in digits and in printed numbers: no blank, no line end and no letter.
-use Rattle.std.proofs.Common.{◌≡◌, ℕ, zero, suc, ◌+◌, ◌<◌, ◌≤◌, Bool, true, false, List, [], ◌∷◌, ◌++◌, length, ℤ, pos, negsuc, refl, sym, subst, arith, inl, inr, length-append}
+use Rattle.std.proofs.Common.{◌≡◌, ℕ, suc, ◌<◌, ◌≤◌, true, List, [], ◌∷◌, ◌++◌, length, ℤ, pos, negsuc, sym, subst, arith, inl, inr, length-append}
 use Rattle.std.specs.List.{AllByRecursion}
 use Rattle.std.proofs.lemmas.Bool.{and_parts, cond-true, cond-false, eq-eqb, ne_eqb, cases_eq}
 use Rattle.nf_rational.specs.Rational.{ℚ}
@@ -36,9 +36,9 @@ module _ (P : List ℕ → Type 0) (n : ℤ) (d : ℕ) (whole : P (signed_digits
   pub printed_either : P (printed_parts n d)
   unfolding printed_parts
   printed_either = elim (cases_eq d 1) [
-      | inl one ↦ subst P (sym (cond-true _ _ _ (eq-eqb d 1 one))) whole
-      | inr more ↦ subst P (sym (cond-false _ _ _ (ne_eqb d 1 more))) ratio
-    ]
+    | inl one ↦ subst P (sym (cond-true _ _ _ (eq-eqb d 1 one))) whole
+    | inr more ↦ subst P (sym (cond-false _ _ _ (ne_eqb d 1 more))) ratio
+  ]
 
 pub printed_bytes : (q : ℚ) → AllByRecursion IsNumberByte (printed q)
 unfolding printed

@@ -1,9 +1,9 @@
 -- The words of counts.
-use Rattle.std.proofs.Common.{◌≡◌, ◌≢◌, ◌↔◌, ℕ, zero, suc, ◌+◌, ◌-◌, ◌*◌, ◌/◌, ◌%◌, ◌^◌, ◌<◌, ◌≤◌, Bool, true, false, not, ◌&&◌, List, [], ◌∷◌, ◌++◌, length, refl, sym, ap, ◌∙◌, subst, inl, inr, arith}
-use Rattle.std.specs.Prelude.{◌==◌, nat_lt, cond, Option, Some, None}
+use Rattle.std.proofs.Common.{◌≡◌, ℕ, ◌+◌, ◌-◌, ◌*◌, ◌/◌, ◌%◌, ◌^◌, ◌<◌, ◌≤◌, Bool, true, false, not, List, [], ◌∷◌, ◌++◌, refl, sym, ap, ◌∙◌, subst, arith}
+use Rattle.std.specs.Prelude.{◌==◌, cond, Some, None}
 use Rattle.std.proofs.lemmas.Bool.{and_parts, and_from, lt-ltb, ltb-true, not-true, eqb-false, ne_eqb, not_from_false, cond-true, cond-false, and_left, and_right, le-ltb}
 use Rattle.std.specs.Char.{is_ascii_digit}
-use Rattle.nf_numerals.specs.Digits.{are_digits, value_after, value_of, digits_of, is_plain, count_of}
+use Rattle.nf_numerals.specs.Digits.{value_after, value_of, digits_of, is_plain, count_of}
 use Rattle.nf_numerals.proofs.Digits.{digit_range, digit_again, digit_from, digits_one, digits_of-value_after, value_of-digits_of, by_steps, are_digits-append}
 
 -- ---- a plain word is the digits of its number

@@ -1,12 +1,12 @@
 -- What two fields of digits are read as, case by case.
 use Rattle.std.proofs.Math.Nat.{one-le-pow}
-use Rattle.std.proofs.Common.{subst, ◌≡◌, ℕ, zero, suc, ◌+◌, ◌*◌, ◌^◌, ◌<◌, ◌≤◌, Bool, true, false, not, ◌&&◌, ◌||◌, cond, List, [], ◌∷◌, length, ℤ, pos, negsuc, refl, sym, ap, ◌∙◌, arith}
+use Rattle.std.proofs.Common.{subst, ◌≡◌, ℕ, zero, suc, ◌+◌, ◌*◌, ◌^◌, ◌<◌, ◌≤◌, Bool, true, false, ◌||◌, cond, List, length, ℤ, pos, refl, sym, ap, ◌∙◌, arith}
 use Rattle.std.specs.Prelude.{◌==◌, nat_lt, nat_abs, neg_ℤ, Ok, Err, Result, IfOk, IfErr}
 use Rattle.std.specs.Str.Parse.{starts_with_minus}
-use Rattle.std.proofs.lemmas.Bool.{and_from, or_from, or_left, or_right, or_parts, ne_eqb, eq-eqb, le-ltb, lt-ltb, ltb-false, eqb-false, not_from_true, cond-true, cond-false}
+use Rattle.std.proofs.lemmas.Bool.{and_from, or_from, or_left, or_right, ne_eqb, eq-eqb, le-ltb, lt-ltb, not_from_true, cond-true, cond-false}
 use Rattle.nf_numerals.specs.declared.NumberFault.{NumberFault}
-use Rattle.nf_numerals.specs.declared.NumberFault.TheVariants.{Empty, BadDigit, TooWide, ZeroDenominator}
-use Rattle.nf_numerals.specs.Digits.{are_digits, value_after, value_of}
+use Rattle.nf_numerals.specs.declared.NumberFault.TheVariants.{TooWide, ZeroDenominator}
+use Rattle.nf_numerals.specs.Digits.{are_digits, value_of}
 use Rattle.nf_numerals.specs.Numbers.{slash, point, before, after, unsigned, signed_by, denominator, is_decimal, parts_or_fault, parts_of, decimal_parts_of, as_ratio, number_of, decimal_of}
 use Rattle.nf_rational.specs.Rational.{ratio}
 

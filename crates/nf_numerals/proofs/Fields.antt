@@ -1,7 +1,7 @@
 -- The fields of a word that is put together from digits, a sign and a separator.
-use Rattle.std.proofs.Common.{◌≡◌, ℕ, zero, suc, ◌+◌, ◌-◌, ◌<◌, ◌≤◌, Bool, true, false, not, ◌||◌, cond, List, [], ◌∷◌, ◌++◌, length, take, drop, get_or, refl, sym, ap, ◌∙◌, inl, inr, arith, add-one}
-use Rattle.std.specs.Prelude.{◌==◌, Option, Some, None}
-use Rattle.std.specs.List.{list_any, position, position_or_len}
+use Rattle.std.proofs.Common.{◌≡◌, ℕ, ◌+◌, ◌<◌, ◌≤◌, Bool, true, false, not, cond, List, [], ◌∷◌, ◌++◌, length, take, drop, refl, sym, ap, ◌∙◌, arith}
+use Rattle.std.specs.Prelude.{◌==◌, Some, None}
+use Rattle.std.specs.List.{position, position_or_len}
 use Rattle.std.specs.Option.{unwrap_or}
 use Rattle.std.proofs.lemmas.List.Sums.{prefix_len-le-length}
 use Rattle.std.specs.Char.{is_ascii_digit}
@@ -19,14 +19,14 @@ has-append b (x ∷ xs) ys e = or_right _ _ (has-append b xs ys (or_parts _ _ e)
 prefix_none : (b : ℕ) (xs : List ℕ) → has b xs ≡ false → position_or_len (λ c. c == b) xs ≡ length xs
 prefix_none b [] e = refl
 prefix_none b (x ∷ xs) e =
-    let h = or_parts _ _ e in
+    let h = or_parts (x == b) (has b xs) e in
     let step : position_or_len (λ c. c == b) (x ∷ xs) ≡ 1 + position_or_len (λ c. c == b) xs = cond-true _ _ _ (not_from_false _ h.0) in
     let rest : position_or_len (λ c. c == b) xs ≡ length xs = prefix_none b xs h.1 in omega arith
 
 prefix_found : (b : ℕ) (xs ys : List ℕ) → has b xs ≡ false → position_or_len (λ c. c == b) (xs ++ b ∷ ys) ≡ length xs
 prefix_found b [] ys e = cond-false _ _ _ (not_from_true _ (eq-eqb b b refl))
 prefix_found b (x ∷ xs) ys e =
-    let h = or_parts _ _ e in
+    let h = or_parts (x == b) (has b xs) e in
     let step : position_or_len (λ c. c == b) (x ∷ (xs ++ b ∷ ys)) ≡ 1 + position_or_len (λ c. c == b) (xs ++ b ∷ ys) = cond-true _ _ _ (not_from_false _ h.0) in
     let rest : position_or_len (λ c. c == b) (xs ++ b ∷ ys) ≡ length xs = prefix_found b xs ys h.1 in omega arith
 

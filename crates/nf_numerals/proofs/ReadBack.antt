@@ -1,17 +1,16 @@
 -- What the printed form of a number is read as.
-use Rattle.std.proofs.Common.{◌≡◌, ℕ, zero, suc, ◌+◌, ◌<◌, ◌≤◌, Bool, true, false, not, ◌&&◌, ◌||◌, cond, List, [], ◌∷◌, ◌++◌, length, ℤ, pos, negsuc, refl, sym, ap, ◌∙◌, inl, inr, arith}
-use Rattle.std.specs.Prelude.{◌==◌, nat_lt, nat_abs, neg_ℤ, Ok, Result}
+use Rattle.std.proofs.Common.{◌≡◌, ℕ, suc, ◌+◌, ◌<◌, ◌≤◌, true, false, List, [], ◌∷◌, ◌++◌, length, ℤ, pos, negsuc, refl, sym, ap, ◌∙◌, inl, inr, arith}
+use Rattle.std.specs.Prelude.{nat_abs, neg_ℤ, Ok, Result}
 use Rattle.std.specs.Str.Parse.{starts_with_minus}
-use Rattle.std.specs.Char.{is_ascii_digit}
-use Rattle.std.proofs.lemmas.Bool.{and_parts, and_from, and_left, and_right, or_from, or_left, or_right, eq-eqb, ne_eqb, le-ltb, not_from_true, not_from_false, cond-true, cond-false, cases_eq}
-use Rattle.nf_rational.specs.Rational.{ℚ, ratio}
+use Rattle.std.proofs.lemmas.Bool.{and_parts, and_left, and_right, or_from, eq-eqb, ne_eqb, not_from_true, cond-true, cond-false, cases_eq}
+use Rattle.nf_rational.specs.Rational.{ℚ}
 use Rattle.nf_rational.proofs.Lowest.{parts_ratio}
 use Rattle.nf_numerals.specs.declared.NumberFault.{NumberFault}
 use Rattle.nf_numerals.specs.Digits.{are_digits, value_of, digits_of}
-use Rattle.nf_numerals.specs.Numbers.{slash, point, has, before, after, unsigned, signed_by, denominator, parts_or_fault, parts_of, decimal_parts_of, as_ratio, number_of, decimal_of}
+use Rattle.nf_numerals.specs.Numbers.{slash, point, has, before, unsigned, signed_by, denominator, parts_of, decimal_parts_of, as_ratio, number_of, decimal_of}
 use Rattle.nf_numerals.specs.Printed.{signed_digits_of, printed_parts, printed}
-use Rattle.nf_numerals.proofs.Digits.{digit_range, are_digits-digits_of, value_of-digits_of, some_digits}
-use Rattle.nf_numerals.proofs.Faults.{AreFields, parts_read}
+use Rattle.nf_numerals.proofs.Digits.{are_digits-digits_of, value_of-digits_of, some_digits}
+use Rattle.nf_numerals.proofs.Faults.{parts_read}
 use Rattle.nf_numerals.proofs.Fields.{has-append, before_none, before_at, after_at, none_in_digits, no_digit}
 
 -- ---- a whole number's digits and sign

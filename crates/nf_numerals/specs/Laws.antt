@@ -1,5 +1,5 @@
 -- What reading and printing have to do with each other, and worked examples of both.
-use Rattle.std.specs.Prelude.{◌≡◌, ◌↔◌, ℕ, ◌+◌, ◌-◌, ◌^◌, ◌<◌, ◌≤◌, List, codes, pos, negsuc, nat_abs, Ok, Err, Some}
+use Rattle.std.specs.Prelude.{◌≡◌, ◌↔◌, ℕ, ◌-◌, ◌^◌, ◌<◌, ◌≤◌, List, codes, pos, negsuc, nat_abs, Ok, Err, Some}
 use Rattle.nf_rational.specs.Rational.{ℚ, ratio}
 use Rattle.nf_numerals.specs.declared.NumberFault.TheVariants.{Empty, BadDigit, TooWide, ZeroDenominator}
 use Rattle.nf_numerals.specs.Digits.{digits_of, count_of}

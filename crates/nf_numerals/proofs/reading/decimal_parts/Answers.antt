@@ -1,4 +1,4 @@
-use Rattle.std.proofs.Common.{rules, sym, ◌∙◌}
+use Rattle.std.proofs.Common.{rules}
 use Rattle.nf_numerals.proofs.Faults.{decimal_by_fields, fraction_by_fields, decimal_value_from, decimal_fault_from}
 use Rattle.nf_numerals.proofs.reading.decimal_parts.Goals as goal
 

@@ -1,4 +1,3 @@
-use Rattle.std.proofs.Common.{sym}
 use Rattle.nf_numerals.proofs.Bounds.{first_passes, both_fields}
 use Rattle.nf_numerals.proofs.reading.decimal_within.Goals as goal
 

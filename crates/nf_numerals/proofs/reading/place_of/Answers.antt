@@ -1,4 +1,3 @@
-use Rattle.std.proofs.Common.{◌∙◌, ap}
 use Rattle.nf_numerals.proofs.Fields.{place_from_position}
 use Rattle.nf_numerals.proofs.reading.place_of.Goals as goal
 

@@ -1,4 +1,4 @@
-use Rattle.std.proofs.Common.{arith, ◌<◌, ◌^◌, ◌/◌, ◌≡◌}
+use Rattle.std.proofs.Common.{arith, ◌<◌, ◌^◌, ◌/◌}
 use Rattle.nf_numerals.proofs.Bounds.{power_passes}
 use Rattle.nf_numerals.proofs.reading.power_of_ten.Goals as goal
 
