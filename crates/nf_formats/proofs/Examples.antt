@@ -1,6 +1,6 @@
 -- Files and texts, by computation.
 use Rattle.std.proofs.Common.{◌≡◌, ℕ, List, [], ◌∷◌, ◌++◌, refl, inl}
-use Rattle.std.specs.Prelude.{flat_map, map, codes, pos, Result, Ok, Err, Option, Some, None, Bool, true, false, not}
+use Rattle.std.specs.Prelude.{flat_map, map, codes, pos, Result, Ok, Err, Some, None, Bool, true, false, not}
 use Rattle.nf_rational.specs.Rational.{ℚ, ratio}
 use Rattle.nf_rational.specs.Gcd.{gcd}
 use Rattle.nf_rational.specs.Operations.{whole}
@@ -18,6 +18,10 @@ use Rattle.nf_formats.specs.NetClosing.{marked, network_of}
 use Rattle.nf_formats.specs.NetFile.{Reads}
 use Rattle.nf_formats.specs.NetText.{canonical}
 use Rattle.nf_formats.specs.Report.{Report, report_text}
+use Rattle.nf_formats.specs.ErrorLines.{memory_line, shelf_failed_line, shelf_too_long_line, network_line, stopped_line, passed_line, output_line, no_equilibrium_line, augments_line, unbuilt_line, unbounded_line, no_thin_flow_line, earlier_line}
+use Rattle.nf_formats.specs.declared.Cause.TheVariants as Cause
+use Rattle.nf_work.specs.declared.Part.TheVariants as Part
+use Rattle.nf_work.specs.declared.Op.TheVariants as Op
 
 -- lines with LF
 abbrev text : List (List ℕ) → List ℕ
@@ -83,7 +87,9 @@ abbrev one_link : Named
 one_link = record {
   version = 1;
   net = record {
-    nodes = 2; source = 0; sink = 1;
+    nodes = 2;
+    source = 0;
+    sink = 1;
     links = record { tail = 0; head = 1; transit = n 1; capacity = Some (n 1) } ∷ [];
     pieces = record { start = n 0; rate = n 2 } ∷ record { start = n 2; rate = n 0 } ∷ [];
   };
@@ -120,7 +126,9 @@ abbrev two_links : Named
 two_links = record {
   version = 1;
   net = record {
-    nodes = 2; source = 0; sink = 1;
+    nodes = 2;
+    source = 0;
+    sink = 1;
     links = record { tail = 0; head = 1; transit = n 1; capacity = Some (n 1) } ∷ record { tail = 0; head = 1; transit = n 3; capacity = Some (n 1) } ∷ [];
     pieces = record { start = n 0; rate = n 3 } ∷ [];
   };
@@ -137,9 +145,9 @@ two_links_report = record {
     reached = n 4;
     labels = ((n 0, n 0) ∷ (n 4, n 4) ∷ []) ∷ ((n 0, n 1) ∷ (n 1, n 4) ∷ (n 4, half 17) ∷ []) ∷ [];
     inflows = record { points = (n 0, n 0) ∷ (n 1, n 3) ∷ (n 4, half 15) ∷ []; rates = n 3 ∷ half 3 ∷ [] }
-      ∷ record { points = (n 0, n 0) ∷ (n 1, n 0) ∷ (n 4, half 9) ∷ []; rates = n 0 ∷ half 3 ∷ [] } ∷ [];
+        ∷ record { points = (n 0, n 0) ∷ (n 1, n 0) ∷ (n 4, half 9) ∷ []; rates = n 0 ∷ half 3 ∷ [] } ∷ [];
     outflows = record { points = (n 0, n 0) ∷ (n 1, n 0) ∷ (half 17, half 15) ∷ []; rates = n 0 ∷ n 1 ∷ [] }
-      ∷ record { points = (n 0, n 0) ∷ (n 4, n 0) ∷ (half 17, half 9) ∷ []; rates = n 0 ∷ n 1 ∷ [] } ∷ [];
+        ∷ record { points = (n 0, n 0) ∷ (n 4, n 0) ∷ (half 17, half 9) ∷ []; rates = n 0 ∷ n 1 ∷ [] } ∷ [];
     queues = ((n 0, n 0) ∷ (n 1, n 2) ∷ (n 4, half 7) ∷ []) ∷ ((n 0, n 0) ∷ (n 1, n 0) ∷ (n 4, half 3) ∷ []) ∷ [];
   };
   stop = None;
@@ -158,3 +166,98 @@ pub two_links_text : report_text two_links two_links_report ≡ text (
     ∷ codes "state b full" ∷ codes "end" ∷ [])
 unfolding digits_of printed printed_parts ratio gcd whole
 two_links_text = refl
+
+-- in version 2, with an idle node
+abbrev one_idle : Named
+one_idle = record {
+  version = 2;
+  net = record {
+    nodes = 2;
+    source = 0;
+    sink = 1;
+    links = record { tail = 0; head = 1; transit = half 1; capacity = Some (half 3) } ∷ [];
+    pieces = record { start = n 0; rate = n 2 } ∷ [];
+  };
+  node_names = codes "s" ∷ codes "t" ∷ [];
+  link_names = codes "a" ∷ [];
+  idle_nodes = codes "w" ∷ [];
+  idle_links = record { name = codes "x"; tail = codes "w"; head = codes "t"; transit = n 1; capacity = Some (n 1) } ∷ [];
+}
+
+abbrev one_idle_report : Report
+one_idle_report = record {
+  horizon = n 3;
+  flow = record {
+    reached = n 3;
+    labels = ((n 0, n 0) ∷ (n 3, n 3) ∷ []) ∷ ((n 0, half 1) ∷ (n 3, half 9) ∷ []) ∷ [];
+    inflows = record { points = (n 0, n 0) ∷ (n 3, n 6) ∷ []; rates = n 2 ∷ [] } ∷ [];
+    outflows = record { points = (n 0, n 0) ∷ (half 1, n 0) ∷ (half 9, n 6) ∷ []; rates = n 0 ∷ half 3 ∷ [] } ∷ [];
+    queues = ((n 0, n 0) ∷ (n 3, half 3) ∷ []) ∷ [];
+  };
+  stop = None;
+  last = Some Full ∷ [];
+}
+
+pub one_idle_text : report_text one_idle one_idle_report ≡ text (
+    codes "report 2" ∷ codes "horizon 3" ∷ codes "reached 3" ∷ codes "cause done"
+    ∷ codes "label s 0 0" ∷ codes "label s 3 3" ∷ codes "label t 0 1/2" ∷ codes "label t 3 9/2" ∷ codes "never w"
+    ∷ codes "inflow a 0 0 2" ∷ codes "inflow a 3 6 -"
+    ∷ codes "outflow a 0 0 0" ∷ codes "outflow a 1/2 0 3/2" ∷ codes "outflow a 9/2 6 -"
+    ∷ codes "queue a 0 0" ∷ codes "queue a 3 3/2" ∷ codes "state a full" ∷ codes "end" ∷ [])
+unfolding digits_of printed printed_parts ratio gcd whole
+one_idle_text = refl
+
+-- at horizon 0 each curve is one point, but for an outflow, which is 0 until the transit time
+abbrev at_once : Report
+at_once = record {
+  horizon = n 0;
+  flow = record {
+    reached = n 0;
+    labels = ((n 0, n 0) ∷ []) ∷ ((n 0, n 1) ∷ []) ∷ [];
+    inflows = record { points = (n 0, n 0) ∷ []; rates = [] } ∷ [];
+    outflows = record { points = (n 0, n 0) ∷ (n 1, n 0) ∷ []; rates = n 0 ∷ [] } ∷ [];
+    queues = ((n 0, n 0) ∷ []) ∷ [];
+  };
+  stop = None;
+  last = None ∷ [];
+}
+
+pub at_once_text : report_text one_link at_once ≡ text (
+    codes "report 1" ∷ codes "horizon 0" ∷ codes "reached 0" ∷ codes "cause done" ∷ codes "label s 0 0" ∷ codes "label t 0 1"
+    ∷ codes "inflow a 0 0 -" ∷ codes "outflow a 0 0 0" ∷ codes "outflow a 1 0 -" ∷ codes "queue a 0 0" ∷ codes "end" ∷ [])
+unfolding digits_of printed printed_parts ratio gcd whole
+at_once_text = refl
+
+-- ---- lines on standard error
+abbrev widest : ℚ
+widest = n 170141183460469231731687303715884105727
+
+pub broken_is_said : network_line (record { rule = N8; line = 4 }) ≡ text (codes "nfot: network line 4: N8" ∷ [])
+unfolding digits_of
+broken_is_said = refl
+
+pub pass_is_said : stopped_line (Cause.Passed 1 None (record { part = Part.Advance; op = Op.Sum; left = widest; right = n 1 }))
+    ≡ text (codes "nfot: stopped: passed 1 advance - sum 170141183460469231731687303715884105727 1" ∷ [])
+unfolding digits_of printed printed_parts ratio gcd whole
+pass_is_said = refl
+
+pub place_is_said : stopped_line (Cause.Passed 1 (Some 3) (record { part = Part.Verdict; op = Op.Product; left = widest; right = n 2 }))
+    ≡ text (codes "nfot: stopped: passed 1 verdict 3 product 170141183460469231731687303715884105727 2" ∷ [])
+unfolding digits_of printed printed_parts ratio gcd whole
+place_is_said = refl
+
+pub call_is_said : passed_line (record { part = Part.Load; op = Op.Product; left = widest; right = n 2 })
+    ≡ text (codes "nfot: stopped: passed - load - product 170141183460469231731687303715884105727 2" ∷ [])
+unfolding digits_of printed printed_parts ratio gcd whole
+call_is_said = refl
+
+pub budgets_are_said : stopped_line (Cause.Phases 1) ++ stopped_line (Cause.Patterns 1 1) ++ stopped_line (Cause.NoPattern 2)
+    ≡ text (codes "nfot: stopped: phases 1" ∷ codes "nfot: stopped: patterns 1 1" ∷ codes "nfot: stopped: nopattern 2" ∷ [])
+unfolding digits_of
+budgets_are_said = refl
+
+pub other_lines : memory_line ++ shelf_failed_line ++ shelf_too_long_line ++ output_line ++ no_equilibrium_line ++ augments_line 1 ++ unbuilt_line ++ unbounded_line ++ no_thin_flow_line ++ earlier_line
+    ≡ text (codes "nfot: memory" ∷ codes "nfot: shelf failed" ∷ codes "nfot: shelf too long" ∷ codes "nfot: output" ∷ codes "nfot: no equilibrium" ∷ codes "nfot: augments 1"
+    ∷ codes "nfot: unbuilt" ∷ codes "nfot: unbounded" ∷ codes "nfot: no thin flow" ∷ codes "nfot: earlier" ∷ [])
+unfolding digits_of
+other_lines = refl

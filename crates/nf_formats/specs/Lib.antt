@@ -9,4 +9,3 @@ pub mod NetText
 pub mod Causes
 pub mod Report
 pub mod ErrorLines
-pub mod Laws

@@ -33,16 +33,17 @@ numbered nodes l = record { tail = place_of nodes l.tail; head = place_of nodes 
 abbrev pub hops_among : List Name → List NamedLink → List Hop
 hops_among nodes links = map (λ l. hop_of (numbered nodes l)) links
 
-abbrev pub named : List Name → Name → Link → NamedLink
-named nodes name l = record { name = name; tail = name_at nodes l.tail; head = name_at nodes l.head; transit = l.transit; capacity = l.capacity }
+-- a link of a network, by its name and those of its ends
+abbrev pub link_by_name : List Name → Name → Link → NamedLink
+link_by_name nodes name l = record { name = name; tail = name_at nodes l.tail; head = name_at nodes l.head; transit = l.transit; capacity = l.capacity }
 
-abbrev pub all_named : List Name → List Name → List Link → List NamedLink
-all_named nodes (name ∷ names) (l ∷ links) = named nodes name l ∷ all_named nodes names links
-all_named nodes names links = []
+abbrev pub links_by_name : List Name → List Name → List Link → List NamedLink
+links_by_name nodes (name ∷ names) (l ∷ links) = link_by_name nodes name l ∷ links_by_name nodes names links
+links_by_name nodes names links = []
 
 -- the links that aren't idle, by names
 abbrev pub active_links : Named → List NamedLink
-active_links n = all_named n.node_names n.link_names n.net.links
+active_links n = links_by_name n.node_names n.link_names n.net.links
 
 -- the names of their ends, in order
 abbrev pub ends : List NamedLink → List Name

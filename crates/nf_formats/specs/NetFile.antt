@@ -1,7 +1,6 @@
 -- The network file: which network a text stands for, or which rule it breaks first, and where.
 use Rattle.std.specs.Prelude.{◌≡◌, ℕ, List, Option, Some, None, Result, Ok, Err}
 use Rattle.std.specs.List.{AllByRecursion}
-use Rattle.nf_formats.specs.declared.NetRule.{NetRule}
 use Rattle.nf_formats.specs.declared.NetRule.TheVariants.{N1, N2}
 use Rattle.nf_lines.specs.Words.{read_lines, content_lines}
 use Rattle.nf_lines.specs.Faults.{LineFault, NotAscii, LongLine, first_fault}

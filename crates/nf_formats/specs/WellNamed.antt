@@ -1,5 +1,5 @@
 -- What holds of the network of every accepted file.
-use Rattle.std.specs.Prelude.{◌≡◌, ◌≢◌, ◌⊎◌, ℕ, ◌<◌, ◌≤◌, true, false, List, [], ◌∷◌, ◌++◌, length, Option, Some, None}
+use Rattle.std.specs.Prelude.{◌≡◌, ◌≢◌, ◌⊎◌, ℕ, ◌≤◌, true, false, List, [], ◌∷◌, ◌++◌, length, Option, Some, None}
 use Rattle.std.specs.List.{AllByRecursion}
 use Rattle.nf_rational.specs.Rational.{ℚ}
 use Rattle.nf_rational.specs.Operations.{0ℚ}
@@ -8,7 +8,7 @@ use Rattle.nf_work.specs.Passing.{is_wide, beyond}
 use Rattle.nf_work.specs.declared.Op.TheVariants.{Sum}
 use Rattle.nf_model.specs.Walk.{Hop, IsHop, IsWalk, transit_sum, IsLeastTransit}
 use Rattle.nf_model.specs.Network.{Piece, IsNetwork, hops}
-use Rattle.nf_formats.specs.Names.{Name, is_name, has_name, name_at, with_names, without, AreNames}
+use Rattle.nf_formats.specs.Names.{is_name, has_name, name_at, with_names, without, AreNames}
 use Rattle.nf_formats.specs.Numbers.{greatest}
 use Rattle.nf_formats.specs.Named.{NamedLink, Named, active_links, all_links, all_nodes, all_hops, ends, names_of}
 

@@ -3,8 +3,6 @@
 //! definitions share: see `specs/`, and docs/FORMATS.md for the same in prose. All formats are this project's own.
 #![tactic(auto)]
 
-ghost use Rattle.nf_formats.specs.Laws.{ReadsOnce, CanonicalReadsBack};
-
 use nf_work::PassedAt;
 
 /// A rule of the network file; docs/FORMATS.md states each.
@@ -60,9 +58,14 @@ pub enum NetRule {
 #[derive(Clone, Copy, Debug, PartialEq, Eq)]
 pub enum Cause<S> {
     /// As many phases as allowed were made.
-    Phases { made: u64 },
+    Phases {
+        made: u64,
+    },
     /// In this phase as many patterns as allowed were tried.
-    Patterns { phase: u64, tried: u64 },
+    Patterns {
+        phase: u64,
+        tried: u64,
+    },
     /// In this phase, and for this place of a pattern where there is one, an operation passes.
     Passed {
         phase: u64,
@@ -70,15 +73,7 @@ pub enum Cause<S> {
         at: PassedAt<S>,
     },
     /// In this phase no pattern is accepted.
-    NoPattern { phase: u64 },
+    NoPattern {
+        phase: u64,
+    },
 }
-
-/// A text has at most one reading.
-pub fn reads_once()
-    ensures { ReadsOnce }
-{}
-
-/// The canonical text of a network is read as that network, with the same names.
-pub fn canonical_reads_back()
-    ensures { CanonicalReadsBack }
-{}

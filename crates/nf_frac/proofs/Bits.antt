@@ -1,11 +1,13 @@
 -- Signed numbers of 128 bits that go to their bits and are read again, as a call's clause has them.
-use Rattle.std.proofs.Common.{◌≡◌, ℕ, ◌*◌, ◌<◌, ◌≤◌, ◌^◌, ◌-◌, ℤ, pos, negsuc, ◌*ℤ◌, nat_abs, sym, ◌∙◌, ap, subst, arith}
+use Rattle.std.proofs.Common.{◌≡◌, refl, neg_ℤ, suc, zero, ◌≢◌, ℕ, ◌<◌, ◌≤◌, ℤ, pos, negsuc, ◌*ℤ◌, nat_abs, sym, ◌∙◌, ap, subst, arith}
 use mathlib.Core.Path.{ap₂}
 use mir.Syntax.{w128}
 use mir.Val.{to_z, of_z, SFits}
 use mir.Facts.{to_z-of_z, to_z_pos}
 use Rattle.std.proofs.lemmas.Nat.{mul-le}
 use Rattle.nf_rational_laws.proofs.Products.{abs-product}
+use native.Mathlib.Nat.{one-dvd}
+use Rattle.std.specs.Int.{IsGcd}
 use Rattle.nf_rational.specs.Gcd.{gcd}
 use Rattle.nf_rational.specs.Rational.{gcd_pos}
 use Rattle.nf_rational_laws.proofs.Lowest.{gcd-le}
@@ -45,3 +47,18 @@ gcd_small a b g e h = subst (λ (k : ℕ). k ≤ b) (sym e) (gcd-le a b h)
 -- a natural number that is cast
 pub cast_plain : (k : ℕ) → k ≤ greatest → to_z w128 k ≡ pos k
 cast_plain k h = to_z_pos w128 (omega arith)
+
+-- a number and 1 have no common factor
+pub IsGcd-one : (a b : ℕ) → b ≡ 1 → IsGcd a b 1
+IsGcd-one a b e = subst (λ (k : ℕ). IsGcd a k 1) (sym e) (one-dvd a, one-dvd 1, λ g u v. v)
+
+-- ---- magnitudes
+pub abs-neg : (a : ℤ) → nat_abs (neg_ℤ a) ≡ nat_abs a
+abs-neg (pos zero) = refl
+abs-neg (pos (suc a)) = refl
+abs-neg (negsuc a) = refl
+
+pub abs_positive : (n : ℤ) → n ≢ pos 0 → 0 < nat_abs n
+abs_positive (pos zero) h = absurd (h refl)
+abs_positive (pos (suc n)) h = omega arith
+abs_positive (negsuc n) h = omega arith

@@ -1,16 +1,17 @@
 -- The only common factors of a sum over the least common denominator and that denominator are those of the two denominators' common factor.
-use Rattle.std.proofs.Common.{◌≡◌, ℕ, zero, suc, ◌+◌, ◌-◌, ◌*◌, ◌/◌, ◌<◌, ℤ, pos, negsuc, ◌+ℤ◌, ◌*ℤ◌, neg_ℤ, nat_abs, refl, sym, ◌∙◌, ap, subst, arith}
+use Rattle.std.proofs.Common.{◌≡◌, ℕ, zero, suc, ◌+◌, ◌-◌, ◌*◌, ◌/◌, ℤ, pos, negsuc, ◌+ℤ◌, ◌*ℤ◌, neg_ℤ, nat_abs, refl, sym, ◌∙◌, ap, subst, arith}
 use Prim.Native.Nat.{◌∣◌}
 use lib.IntN.{+ℤ_comm}
-use native.Mathlib.Nat.{dvd_trans, dvd-mul_right, dvd-mul_left, dvd-zero, one-dvd, dvd-add, dvd-sub, div-mul_cancel, mul_comm, mul-pos}
+use native.Mathlib.Nat.{dvd_trans, dvd-mul_right, dvd-mul_left, dvd-zero, one-dvd, dvd-add, dvd-sub, div-mul_cancel, mul_comm}
 use borrow.Author.Differences.{ints}
 use Rattle.std.specs.Int.{IsGcd}
 use Rattle.std.proofs.lemmas.Nat.Gcd.{IsGcd-swap, same_from_IsGcd}
 use Rattle.nf_rational.specs.Gcd.{gcd, IsGcd-gcd}
-use Rattle.nf_rational.specs.Rational.{ℚ, gcd_pos, part_pos, parts_reduced}
+use Rattle.nf_rational.specs.Rational.{ℚ, parts_reduced}
 use Rattle.nf_rational_laws.proofs.Ints.{abs-mul}
 use Rattle.nf_rational_laws.proofs.Ratio.{dvd_of_dvd-mul}
 use Rattle.nf_rational_laws.proofs.Products.{apart_parts}
+use Rattle.nf_frac.proofs.Bits.{abs-neg}
 
 itself : (a : ℕ) → a ∣ a
 itself a = subst (λ (m : ℕ). a ∣ m) (one_times a) (dvd-mul_right a 1)
@@ -37,11 +38,6 @@ dvd-plus (negsuc a) (negsuc b) f h k = subst (λ (m : ℕ). f ∣ m) (both a b) 
   where
     both : (a b : ℕ) → suc a + suc b ≡ nat_abs (negsuc a +ℤ negsuc b)
     both a b = grind (arith, ints)
-
-abs-neg : (a : ℤ) → nat_abs (neg_ℤ a) ≡ nat_abs a
-abs-neg (pos zero) = refl
-abs-neg (pos (suc a)) = refl
-abs-neg (negsuc a) = refl
 
 dvd_rest : (a b : ℤ) (f : ℕ) → f ∣ nat_abs (a +ℤ b) → f ∣ nat_abs a → f ∣ nat_abs b
 dvd_rest a b f h k = subst (λ (z : ℤ). f ∣ nat_abs z) (back a b) (dvd-plus (a +ℤ b) (neg_ℤ a) f h (subst (λ (m : ℕ). f ∣ m) (sym (abs-neg a)) k))

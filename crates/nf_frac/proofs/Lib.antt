@@ -9,3 +9,4 @@ pub mod Passing
 pub mod Made
 pub mod Same
 pub mod Written
+pub mod Comparisons

@@ -1,5 +1,5 @@
 -- A quotient of whole numbers is the ratio of their magnitudes with a sign; the bound on the parts.
-use Rattle.std.proofs.Common.{◌≡◌, ◌≢◌, ℕ, zero, suc, ◌+◌, ◌-◌, ◌*◌, ◌%◌, ◌^◌, ◌<◌, ◌≤◌, min, max, Bool, true, false, not, ℤ, pos, negsuc, ◌*ℤ◌, neg_ℤ, nat_abs, [], ◌∷◌, refl, sym, ◌∙◌, ap, subst, arith}
+use Rattle.std.proofs.Common.{◌≡◌, ◌≢◌, ℕ, zero, suc, ◌-◌, ◌*◌, ◌%◌, ◌^◌, ◌<◌, ◌≤◌, min, max, Bool, true, false, not, ℤ, pos, negsuc, ◌*ℤ◌, neg_ℤ, nat_abs, [], ◌∷◌, refl, sym, ◌∙◌, ap, subst, arith}
 use mathlib.Core.Path.{ap₂}
 use mathlib.Core.Bool.{beq}
 use borrow.Author.Differences.{ints}
@@ -8,11 +8,10 @@ use native.Mathlib.Nat.{mod-le, one-dvd}
 use mir.Syntax.{w128}
 use mir.Val.{to_z}
 use Rattle.std.proofs.Math.Pow.{pow_mono}
-use Rattle.std.specs.Int.{IsGcd}
 use Rattle.std.proofs.lemmas.Nat.Gcd.{same_from_IsGcd}
 use Rattle.nf_rational.specs.Gcd.{gcd, IsGcd-gcd}
 use Rattle.nf_rational.specs.Rational.{ℚ, ratio}
-use Rattle.nf_rational.specs.Operations.{0ℚ, whole, ◌*ℚ◌, ◌/ℚ◌}
+use Rattle.nf_rational.specs.Operations.{0ℚ, whole, ◌/ℚ◌}
 use Rattle.nf_rational.proofs.Lowest.{num-ratio}
 use Rattle.nf_rational_laws.proofs.Polynomial.{ring, combine, using, done, reading}
 use Rattle.nf_rational_laws.proofs.IntegerRing.{ints_ring}
@@ -20,7 +19,7 @@ use Rattle.nf_rational_laws.proofs.Ratio.{Is-same, Is-times, Is-whole, Is-ratio}
 use Rattle.nf_rational_laws.proofs.Quotient.{/ℚ-unique}
 use Rattle.nf_work.specs.Passing.{bound_of}
 use Rattle.nf_frac.specs.Parts.{greatest, InForm, IsWithin, IsMade, signed}
-use Rattle.nf_frac.proofs.Bits.{cast_plain}
+use Rattle.nf_frac.proofs.Bits.{cast_plain, abs_positive}
 use Rattle.nf_frac.proofs.Form.{ratio_within}
 
 -- ---- whole numbers
@@ -85,11 +84,6 @@ signed_times (pos n) (pos d) = ap₂ (λ (s t : Bool). signed (not (beq s t)) n 
 signed_times (pos n) (negsuc d) = ap (λ (s : Bool). signed (not (beq s true)) n *ℤ negsuc d) (not_below n) ∙ two_signs (pos n) (pos (suc d))
 signed_times (negsuc n) (pos d) = ap (λ (t : Bool). signed (not (beq true t)) (suc n) *ℤ pos d) (not_below d)
 signed_times (negsuc n) (negsuc d) = one_sign (pos (suc n)) (pos (suc d))
-
-abs_positive : (n : ℤ) → n ≢ pos 0 → 0 < nat_abs n
-abs_positive (pos zero) h = absurd (h refl)
-abs_positive (pos (suc n)) h = omega arith
-abs_positive (negsuc n) h = omega arith
 
 with_ones : (s d n e : ℤ) → s *ℤ d ≡ n *ℤ e → s *ℤ d *ℤ pos 1 ≡ n *ℤ (e *ℤ pos 1)
 with_ones s d n e h = combine ints_ring (s ∷ d ∷ n ∷ e ∷ []) (using (pos 1) h (search reading depth 30) done) (search reading depth 30) tt

@@ -1,14 +1,13 @@
 -- What the answers of the four operations say of the list of those that pass.
-use Rattle.std.proofs.Common.{◌≡◌, ℕ, ◌*◌, ◌/◌, ◌<◌, ◌≤◌, Bool, true, false, cond, ◌||◌, ltb, ℤ, pos, ◌+ℤ◌, ◌*ℤ◌, nat_abs, refl, sym, ◌∙◌, ap, subst, arith}
-use Rattle.std.specs.Prelude.{Result, Ok, Err}
+use Rattle.std.proofs.Common.{◌≡◌, ℕ, ◌*◌, ◌/◌, ◌≤◌, Bool, true, false, cond, ◌||◌, ltb, pos, ◌*ℤ◌, nat_abs, refl, sym, ◌∙◌, ap, subst, arith}
+use Rattle.std.specs.Prelude.{Ok, Err}
 use native.Mathlib.Nat.{mul-pos}
-use borrow.Author.Tests.{ltb-true, ltb-false, lt-ltb, le-ltb}
+use borrow.Author.Tests.{ltb-false}
 use Rattle.nf_rational.specs.Gcd.{gcd}
 use Rattle.nf_rational.specs.Rational.{ℚ, part_pos}
-use Rattle.nf_rational.specs.Operations.{0ℚ, neg_ℚ, inv_ℚ, ◌+ℚ◌, ◌-ℚ◌, ◌*ℚ◌, ◌/ℚ◌}
+use Rattle.nf_rational.specs.Operations.{neg_ℚ, inv_ℚ, ◌+ℚ◌, ◌-ℚ◌, ◌*ℚ◌, ◌/ℚ◌}
 use Rattle.nf_rational_laws.proofs.Lowest.{plus_over_lcm}
 use Rattle.nf_work.specs.declared.Op.TheVariants.{Sum, Difference, Product, Quotient}
-use Rattle.nf_work.specs.declared.Passed.{Passed}
 use Rattle.nf_work.specs.Passing.{beyond, is_wide, sum_is_wide}
 use Rattle.nf_work.specs.Checked.{checked}
 use Rattle.nf_frac.specs.Parts.{IsWithin, SumFits}

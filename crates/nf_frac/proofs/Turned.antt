@@ -6,20 +6,16 @@ use lib.IntN.{◌*ℤ◌}
 use borrow.Author.Differences.{ints}
 use Rattle.std.proofs.lemmas.Nat.Gcd.{IsGcd-swap, same_from_IsGcd}
 use Rattle.nf_rational.specs.Gcd.{gcd, IsGcd-gcd}
-use Rattle.nf_rational.specs.Rational.{ℚ, ratio}
+use Rattle.nf_rational.specs.Rational.{ℚ}
 use Rattle.nf_rational.specs.Operations.{0ℚ, neg_ℚ, inv_ℚ, signed_as}
 use Rattle.nf_rational.proofs.Lowest.{num-ratio, den-ratio}
 use Rattle.nf_rational_laws.proofs.Polynomial.{combine, using, done, reading}
 use Rattle.nf_rational_laws.proofs.IntegerRing.{ints_ring}
 use Rattle.nf_rational_laws.proofs.Ratio.{Is-self, Is-same, Is-whole}
-use Rattle.nf_frac.specs.Parts.{greatest, IsWithin, signed}
+use Rattle.nf_frac.specs.Parts.{IsWithin, signed}
+use Rattle.nf_frac.proofs.Bits.{abs-neg, abs_positive}
 
 -- ---- the other sign
-abs-neg : (a : ℤ) → nat_abs (neg_ℤ a) ≡ nat_abs a
-abs-neg (pos zero) = refl
-abs-neg (pos (suc a)) = refl
-abs-neg (negsuc a) = refl
-
 neg_lowest : (x : ℚ) → gcd (nat_abs (neg_ℤ x.num)) x.den ≡ 1
 neg_lowest x = ap (λ (k : ℕ). gcd k x.den) (abs-neg x.num) ∙ x.reduced
 
@@ -44,11 +40,6 @@ minus_is x n e = from_zero n ∙ ap neg_ℤ e ∙ sym (num-neg x)
     from_zero n = omega (arith, ints)
 
 -- ---- one over it
-abs_positive : (n : ℤ) → n ≢ pos 0 → 0 < nat_abs n
-abs_positive (pos zero) h = absurd (h refl)
-abs_positive (pos (suc n)) h = omega arith
-abs_positive (negsuc n) h = omega arith
-
 num_zero : (x : ℚ) → x.num ≡ pos 0 → x ≡ 0ℚ
 num_zero x e = Is-same _ _ _ _ (Is-self x) (Is-whole (pos 0)) (crossed x.num (pos x.den) e)
   where

@@ -1,6 +1,6 @@
 -- Fractions that are read from words, and written as words.
 use Rattle.std.proofs.Common.{◌≡◌, ℕ, ◌<◌, ◌≤◌, List, ℤ, nat_abs, sym, ◌∙◌, ap, subst, arith}
-use Rattle.std.specs.Prelude.{Result, Ok, Err}
+use Rattle.std.specs.Prelude.{Ok}
 use mathlib.Core.Path.{ap₂}
 use Rattle.nf_rational.specs.Rational.{ℚ, ratio}
 use Rattle.nf_numerals.specs.Numbers.{number_of, decimal_of}

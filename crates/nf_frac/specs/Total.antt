@@ -1,12 +1,12 @@
 -- The laws of the order of the rationals and of their equality, as the library's comparisons ask for them.
-use Rattle.std.proofs.Common.{◌≡◌, ℕ, Bool, true, false, ◌&&◌, eqb, ℤ, pos, ◌*ℤ◌, ◌<ℤ◌, [], ◌∷◌, List, ◌++◌, refl, sym, ◌∙◌, ap}
+use Rattle.std.proofs.Common.{◌≡◌, Bool, true, false, ◌&&◌, eqb, pos, ◌*ℤ◌, ◌<ℤ◌, [], ◌∷◌, ◌++◌, refl, sym, ◌∙◌, ap}
 use mathlib.Core.Path.{ap₂}
-use Rattle.std.specs.Prelude.{◌↔◌, IsTrue, Option, Some}
+use Rattle.std.specs.Prelude.{◌↔◌, IsTrue, Some}
 use Rattle.std.specs.Bool.{Decides, one_answer}
-use Rattle.std.specs.Ordering.{int_cmp, int_eq, is_eq, MatchOrdering}
+use Rattle.std.specs.Ordering.{int_eq, is_eq, MatchOrdering}
 use Rattle.std.specs.declared.cmp.Ordering.{Ordering}
 use Rattle.std.specs.declared.cmp.Ordering.TheVariants.{Less, Equal, Greater}
-use Rattle.std.specs.Cmp.{IsTotalOrder, IsEquivalence, IsPartialEquivalence, IsPartialOrder, partial_equiv_from_equiv, strict, one_rank, decided, po, int_ranks, signed_Decides, unsigned_Decides, Equal-is}
+use Rattle.std.specs.Cmp.{IsTotalOrder, IsEquivalence, IsPartialEquivalence, IsPartialOrder, partial_equiv_from_equiv, strict, one_rank, decided, po, int_ranks, signed_Decides, unsigned_Decides}
 use Rattle.std.specs.Hash as fed
 use Rattle.nf_rational.specs.Rational.{ℚ, same_parts}
 use Rattle.nf_rational.specs.Operations.{0ℚ, ◌+ℚ◌, ◌-ℚ◌, ◌*ℚ◌}

@@ -34,7 +34,6 @@ impl<const BITS: u32> Model for Frac<BITS> {
 }
 
 // The greatest magnitude of a part.
-#[inline(always)]
 pub(crate) fn bound(bits: u32) -> u128
     ensures value { result ≡ bound_of bits }
     ensures small { result ≤ greatest }

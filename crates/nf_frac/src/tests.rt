@@ -1,8 +1,11 @@
 // The worked examples of fractions, the bounds of their parts, and users of `Scalar` and `at!`.
-ghost use Rattle.std.specs.Prelude.{◌≡◌};
+ghost use Rattle.std.specs.Prelude.{◌≡◌, ◌≢◌, IfOk};
+ghost use Rattle.nf_rational.specs.Operations.{0ℚ};
+ghost use Rattle.nf_rational.specs.Order.{min_ℚ};
+ghost use Rattle.nf_work.specs.declared.Op.TheVariants.{Quotient};
 ghost use Rattle.nf_work.specs.declared.Part.TheVariants as Part;
 ghost use Rattle.nf_work.specs.Passing.{bound_of, beyond};
-ghost use Rattle.nf_work.specs.Checked.{at_part, seen, Gives};
+ghost use Rattle.nf_work.specs.Checked.{checked, at_part, seen, Gives};
 ghost use Rattle.nf_frac.specs.Samples.{product_less};
 
 use crate::{Frac, Halt, NumberFault, Op, Part, Passed, PassedAt, Q, Scalar, TextBuf};
@@ -44,12 +47,30 @@ fn product_less_at(a: Q, b: Q, c: Q) -> Result<Q, PassedAt<Q>>
 
 // The same beside what may want memory.
 #[tactic(auto, unfolding(crate::specs::Samples::product_less))]
-fn product_less_or_halt(a: Q, b: Q, c: Q) -> Result<Q, Halt<Q>>
-    ensures { Gives (λ q. q) (λ q. q) result (at_part Part.Curve (product_less (beyond (bound_of 127)) a b c)) }
+fn product_less_or_halt<S: Scalar>(a: S, b: S, c: S) -> Result<S, Halt<S>>
+    ensures { Gives S.means S.means result (at_part Part.Curve (product_less S.passes (S.means a) (S.means b) (S.means c))) }
 {
     let product = crate::at!(Part::Curve, a.product(b));
     let less = crate::at!(Part::Curve, product.difference(c));
     Ok(less)
+}
+
+// a / b, or 0 where b is 0.
+fn quotient_or_zero<S: Scalar>(a: S, b: S) -> Result<S, Passed<S>>
+    ensures zero { S.means b ≡ 0ℚ → IfOk result (λ x. S.means x ≡ 0ℚ) }
+    ensures quotient { S.means b ≢ 0ℚ → seen S.means S.means result ≡ checked S.passes Quotient (S.means a) (S.means b) }
+{
+    if b == S::zero() {
+        return Ok(S::zero());
+    }
+    a.quotient(b)
+}
+
+// The lesser of the two.
+fn lesser<S: Scalar>(a: S, b: S) -> S
+    ensures { S.means result ≡ min_ℚ (S.means a) (S.means b) }
+{
+    if b < a { b } else { a }
 }
 
 // A fraction that fits.
@@ -289,6 +310,9 @@ fn scalars_and_the_first_operation_that_passes(rt: HostRuntime) -> Result<(), Fa
     assert_eq!(rt; product_less(a, b, c), Ok(Q::one()));
     assert_eq!(rt; product_less_at(a, b, c), Ok(Q::one()));
     assert_eq!(rt; product_less_or_halt(a, b, c), Ok(Q::one()));
+    assert_eq!(rt; quotient_or_zero(a, b), Ok(made((15, 8))?));
+    assert_eq!(rt; quotient_or_zero(a, Q::zero()), Ok(Q::zero()));
+    assert_eq!(rt; lesser(a, b), b);
     let greatest: Q = made((GREATEST, 1))?;
     let first = PassedAt {
         part: Part::Table,

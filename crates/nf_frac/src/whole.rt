@@ -15,12 +15,12 @@ fn gcd_short(a: u64, b: u64) -> u64
 {
     let mut x = a;
     let mut y = b;
-    while y != 0 {
+    while y > 1 {
         let rest = x % y;
         x = y;
         y = rest;
     }
-    x
+    if y == 0 { x } else { 1 }
 }
 
 // The greatest common divisor of two numbers of any length. The steps are short ones as soon as the numbers are.
@@ -59,7 +59,9 @@ pub(crate) fn divided(a: u128, b: u128) -> u128
     requires { 0 < b }
     ensures { result ≡ a / b }
 {
-    if a <= SHORT && b <= SHORT {
+    if b == 1 {
+        a
+    } else if a <= SHORT && b <= SHORT {
         (a as u64 / b as u64) as u128
     } else {
         a / b
@@ -72,7 +74,9 @@ pub(crate) fn shortened(a: i128, b: u128) -> i128
     requires bounded { b ≤ greatest }
     ensures { result ≡ int_div a (pos b) }
 {
-    if a.unsigned_abs() <= SHORT && b <= SHORT {
+    if b == 1 {
+        a
+    } else if a.unsigned_abs() <= SHORT && b <= SHORT {
         (a as i64 / b as i64) as i128
     } else {
         a / b as i128

@@ -1,6 +1,4 @@
-use Rattle.std.proofs.Common.{◌≤◌, ℕ, nat_abs, subst}
 use Rattle.nf_work.specs.Passing.{bound_of}
-use Rattle.nf_frac.specs.Parts.{greatest}
 use Rattle.nf_frac.proofs.Written.{read_within}
 use Rattle.nf_frac.proofs.fraction.Frac.read_decimal.Goals as goal
 

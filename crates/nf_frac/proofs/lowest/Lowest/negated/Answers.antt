@@ -1,4 +1,4 @@
-use Rattle.std.proofs.Common.{sym, ◌∙◌, subst, ap}
+use Rattle.std.proofs.Common.{sym, ◌∙◌}
 use Rattle.nf_frac.proofs.Form.{parts_of, num_plain, value_of, own_within}
 use Rattle.nf_frac.proofs.Turned.{minus_is, den-neg, neg_within}
 use Rattle.nf_frac.specs.Parts.{greatest}

@@ -1,0 +1,89 @@
+-- What the comparisons of fractions in code say: `<`, `<=`, `>`, `>=` and `==`, at fractions and at any type that is ordered by what its values mean.
+use Rattle.std.proofs.Common.{◌≡◌, ◌≢◌, Bool, true, false, not, cond, refl, sym, ◌∙◌, ap}
+use Rattle.std.specs.Prelude.{Option, Some}
+use Rattle.std.specs.Ordering.{is_lt, is_le, is_gt, is_ge, is_some_and, MatchOrdering, partial_lt, partial_le, partial_gt, partial_ge}
+use Rattle.std.specs.declared.cmp.Ordering.{Ordering}
+use Rattle.std.specs.declared.cmp.Ordering.TheVariants.{Less, Equal, Greater}
+use Rattle.nf_rational.specs.Rational.{ℚ}
+use Rattle.nf_rational.specs.Order.{◌<ℚ◌, cmp_ℚ, le_ℚ, lt_ℚ, min_ℚ}
+use Rattle.nf_rational_laws.proofs.Order.{≤ℚ_of_lt, ≤ℚ_of_same}
+use Rattle.nf_rational_laws.proofs.Tests.{test_of_le, test_of_lt}
+use Rattle.nf_frac.specs.Order.{same_ℚ}
+use Rattle.nf_frac.specs.Total.{ranks_ℚ, same_decides}
+
+-- the order of two numbers as a test
+pub le-cmp : (x y : ℚ) → is_le (cmp_ℚ x y) ≡ le_ℚ x y
+le-cmp x y = go (cmp_ℚ x y) (ranks_ℚ x y)
+  where
+    go : (r : Ordering) → MatchOrdering r (x <ℚ y) (x ≡ y) (y <ℚ x) → is_le r ≡ le_ℚ x y
+    go Less h = sym (test_of_le x y (≤ℚ_of_lt x y h))
+    go Equal h = sym (test_of_le x y (≤ℚ_of_same x y h))
+    go Greater h = sym (test_of_lt x y h)
+
+pub lt-cmp : (x y : ℚ) → is_lt (cmp_ℚ x y) ≡ lt_ℚ x y
+unfolding lt_ℚ
+lt-cmp x y = go (cmp_ℚ x y) (ranks_ℚ x y)
+  where
+    go : (r : Ordering) → MatchOrdering r (x <ℚ y) (x ≡ y) (y <ℚ x) → is_lt r ≡ not (le_ℚ y x)
+    go Less h = sym (ap not (test_of_lt y x h))
+    go Equal h = sym (ap not (test_of_le y x (≤ℚ_of_same y x (sym h))))
+    go Greater h = sym (ap not (test_of_le y x (≤ℚ_of_lt y x h)))
+
+pub gt-cmp : (x y : ℚ) → is_gt (cmp_ℚ x y) ≡ lt_ℚ y x
+unfolding lt_ℚ
+gt-cmp x y = go (cmp_ℚ x y) (ranks_ℚ x y)
+  where
+    go : (r : Ordering) → MatchOrdering r (x <ℚ y) (x ≡ y) (y <ℚ x) → is_gt r ≡ not (le_ℚ x y)
+    go Less h = sym (ap not (test_of_le x y (≤ℚ_of_lt x y h)))
+    go Equal h = sym (ap not (test_of_le x y (≤ℚ_of_same x y h)))
+    go Greater h = sym (ap not (test_of_lt x y h))
+
+pub ge-cmp : (x y : ℚ) → is_ge (cmp_ℚ x y) ≡ le_ℚ y x
+ge-cmp x y = go (cmp_ℚ x y) (ranks_ℚ x y)
+  where
+    go : (r : Ordering) → MatchOrdering r (x <ℚ y) (x ≡ y) (y <ℚ x) → is_ge r ≡ le_ℚ y x
+    go Less h = sym (test_of_lt y x h)
+    go Equal h = sym (test_of_le y x (≤ℚ_of_same y x (sym h)))
+    go Greater h = sym (test_of_le y x (≤ℚ_of_lt y x h))
+
+-- equality as a test
+pub same_of_test : (x y : ℚ) → same_ℚ x y ≡ true → x ≡ y
+same_of_test x y t = (same_decides x y).0 t
+
+pub apart_of_test : (x y : ℚ) → same_ℚ x y ≡ false → x ≢ y
+apart_of_test x y t e = let s : same_ℚ x y ≡ true = (same_decides x y).1 e in cc
+
+-- a type that is ordered by what its values mean
+module _ {K : Type 0} (means : K → ℚ) (partial : K → K → Option Ordering) (cmp : K → K → Ordering)
+    (agrees : (x y : K) → partial x y ≡ Some (cmp x y)) (ordered : (x y : K) → cmp x y ≡ cmp_ℚ (means x) (means y)) where
+  known : (x y : K) → partial x y ≡ Some (cmp_ℚ (means x) (means y))
+  known x y = agrees x y ∙ ap Some (ordered x y)
+
+  pub less_by_meaning : (x y : K) → partial_lt partial x y ≡ lt_ℚ (means x) (means y)
+  less_by_meaning x y = ap (is_some_and is_lt) (known x y) ∙ lt-cmp (means x) (means y)
+
+  pub at_most_by_meaning : (x y : K) → partial_le partial x y ≡ le_ℚ (means x) (means y)
+  at_most_by_meaning x y = ap (is_some_and is_le) (known x y) ∙ le-cmp (means x) (means y)
+
+  pub more_by_meaning : (x y : K) → partial_gt partial x y ≡ lt_ℚ (means y) (means x)
+  more_by_meaning x y = ap (is_some_and is_gt) (known x y) ∙ gt-cmp (means x) (means y)
+
+  pub at_least_by_meaning : (x y : K) → partial_ge partial x y ≡ le_ℚ (means y) (means x)
+  at_least_by_meaning x y = ap (is_some_and is_ge) (known x y) ∙ ge-cmp (means x) (means y)
+
+-- the lesser of two
+pub lesser_is_second : (x y : ℚ) → lt_ℚ y x ≡ true → y ≡ min_ℚ x y
+unfolding lt_ℚ min_ℚ
+lesser_is_second x y = go (le_ℚ x y)
+  where
+    go : (t : Bool) → not t ≡ true → y ≡ cond t x y
+    go true e = cc
+    go false e = refl
+
+pub lesser_is_first : (x y : ℚ) → lt_ℚ y x ≡ false → x ≡ min_ℚ x y
+unfolding lt_ℚ min_ℚ
+lesser_is_first x y = go (le_ℚ x y)
+  where
+    go : (t : Bool) → not t ≡ false → x ≡ cond t x y
+    go true e = refl
+    go false e = cc

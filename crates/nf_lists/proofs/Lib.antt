@@ -1,0 +1,5 @@
+pub mod Examples
+pub mod Tables
+pub mod Patterns
+pub mod Runs
+pub mod Passing

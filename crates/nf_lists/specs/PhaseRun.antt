@@ -1,0 +1,154 @@
+-- The phase run: from departure 0 on, phase by phase, each by the first accepted pattern, until the horizon or a stop. And its
+-- report.
+use Rattle.std.specs.Prelude.{◌≡◌, ℕ, suc, ◌<◌, List, length, map, replicate, Option, Some, None, Result, Ok, Err}
+use Rattle.nf_rational.specs.Rational.{ℚ}
+use Rattle.nf_rational.specs.Operations.{0ℚ, ◌+ℚ◌}
+use Rattle.nf_rational.specs.Order.{◌<ℚ◌}
+use Rattle.nf_work.specs.Passing.{Passing}
+use Rattle.nf_work.specs.Checked.{at_part, placed, ◌>>=◌}
+use Rattle.nf_work.specs.declared.Part.TheVariants.{Slack, Extend, Advance, Curve}
+use Rattle.nf_work.specs.declared.Passed.{Passed}
+use Rattle.nf_work.specs.declared.PassedAt.{PassedAt}
+use Rattle.nf_model.specs.Network.{Network, hops, rate_at}
+use Rattle.nf_model.specs.ThinFlow.{slacks_of, sets_at}
+use Rattle.nf_model.specs.Pattern.{Pattern, IsBase}
+use Rattle.nf_model.specs.Phases.{AreStartLabels, IsPhaseLength}
+use Rattle.nf_model.specs.Equilibrium.{Flow}
+use Rattle.nf_formats.specs.declared.Cause.{Cause}
+use Rattle.nf_formats.specs.Report.{Report}
+use Rattle.nf_lists.specs.Slack.{slack_list}
+use Rattle.nf_lists.specs.Extend.{extend_list}
+use Rattle.nf_lists.specs.Advance.{advance_list}
+use Rattle.nf_lists.specs.CurveList.{LinkStep, curve_list}
+use Rattle.nf_lists.specs.Search.{Answer, Found, OverBudget, PassesAt, NoPattern, IsSearch}
+use Rattle.nf_lists.specs.ReportCurves.{GrowingCurve, LinkCurves, first_label_curve, first_curves, label_curves_after, link_curves_after, amount_so_far}
+
+-- where a run stands: the departure that it has reached, with the labels of the nodes; the curves up to there; and how many
+-- phases were made, with the pattern of the last one
+pub record Standing : Type 0 where
+  pub time : ℚ
+  pub labels : List ℚ
+  pub label_curves : List GrowingCurve
+  pub link_curves : List LinkCurves
+  pub made : ℕ
+  pub last : Pattern
+
+-- how far a run goes: to a horizon, with so many phases, and so many patterns in each
+pub record Bounds : Type 0 where
+  pub horizon : ℚ
+  pub phases : ℕ
+  pub patterns : ℕ
+
+-- what a phase comes to
+pub record PhaseStep : Type 0 where
+  pub length : ℚ
+  pub labels : List ℚ
+  pub links : List LinkStep
+
+-- before the first phase: the labels are the least transit sums from the source, and no link has a state yet
+pub record IsStart (net : Network) (s : Standing) : Type 0 where
+  pub time : s.time ≡ 0ℚ
+  pub labels : AreStartLabels net s.labels
+  pub label_curves : s.label_curves ≡ map first_label_curve s.labels
+  pub link_curves : s.link_curves ≡ map (first_curves s.labels) net.links
+  pub made : s.made ≡ 0
+  pub last : s.last ≡ replicate (length net.links) None
+
+-- after a phase with this pattern and these slopes
+abbrev pub standing_after : Network → Standing → Pattern → List ℚ → PhaseStep → Standing
+standing_after net s pattern slopes step = record {
+  time = s.time +ℚ step.length;
+  labels = step.labels;
+  label_curves = label_curves_after (s.time +ℚ step.length) step.labels slopes s.label_curves;
+  link_curves = link_curves_after step.labels net.links s.link_curves step.links;
+  made = suc s.made;
+  last = pattern;
+}
+
+-- why a search in a phase has no thin flow
+abbrev pub cause_of_search : ℕ → ℕ → Answer → Option (Cause ℚ)
+cause_of_search phase budget (Found place pattern flows slopes) = None
+cause_of_search phase budget OverBudget = Some (Cause.Patterns phase budget)
+cause_of_search phase budget (PassesAt place at) = Some (Cause.Passed phase (Some place) at)
+cause_of_search phase budget NoPattern = Some (Cause.NoPattern phase)
+
+-- ---- one phase, to a horizon and with a budget of patterns
+module _ (passes : Passing) (net : Network) (horizon : ℚ) where
+  -- the lists of extend, advance and curve, in this order
+  unfoldable pub phase_lists : Standing → Pattern → List ℚ → List ℚ → Result PhaseStep (PassedAt ℚ)
+  phase_lists s pattern flows slopes = do
+    extension ← at_part Extend (extend_list passes net (slacks_of (hops net) s.labels) slopes s.time)
+    advanced ← at_part Advance (advance_list passes horizon s.time extension s.labels slopes)
+    links ← at_part Curve (curve_list passes net (sets_at net s.labels) pattern advanced.length flows slopes advanced.labels (map amount_so_far s.link_curves))
+    Ok (record { length = advanced.length; labels = advanced.labels; links = links })
+
+module _ (passes : Passing) (net : Network) (horizon : ℚ) (patterns : ℕ) where
+  -- the search of the phase that begins here, by the sets of the slacks and the rate
+  pub record IsSearchHere (s : Standing) (answer : Answer) : Type 0 where
+    pub base : Pattern
+    pub is_base : IsBase (hops net) (sets_at net s.labels) s.last base
+    pub is_search : IsSearch passes net (sets_at net s.labels) (rate_at net s.time) base patterns answer
+
+  -- the run is below the horizon and no operation of the slack list passes, so a pattern is sought
+  pub record Seeks (s : Standing) (answer : Answer) : Type 0 where
+    pub below : s.time <ℚ horizon
+    pub slacks : slack_list passes (hops net) s.labels ≡ Ok (slacks_of (hops net) s.labels)
+    pub search : IsSearchHere s answer
+
+  -- A phase is made by the first accepted pattern. No operation of its lists passes, and it lasts for the extension length, cut
+  -- at the horizon.
+  pub record Goes (s new : Standing) : Type 0 where
+    pub place : ℕ
+    pub pattern : Pattern
+    pub flows : List ℚ
+    pub slopes : List ℚ
+    pub finds : Seeks s (Found place pattern flows slopes)
+    pub step : PhaseStep
+    pub lists : phase_lists passes net horizon s pattern flows slopes ≡ Ok step
+    pub is_length : IsPhaseLength net (slacks_of (hops net) s.labels) slopes s.time horizon step.length
+    pub new_is : new ≡ standing_after net s pattern slopes step
+
+  -- The first cause for which no phase can be made: an operation of the slack list passes; the search finds no pattern; or an
+  -- operation of the phase's lists passes.
+  pub data Fails (s : Standing) : Cause ℚ → Type 0 where
+    at_slack : (p : Passed ℚ) → s.time <ℚ horizon → slack_list passes (hops net) s.labels ≡ Err p → Fails s (Cause.Passed (suc s.made) None (placed Slack p))
+    at_search : (answer : Answer) (cause : Cause ℚ) → Seeks s answer → cause_of_search (suc s.made) patterns answer ≡ Some cause → Fails s cause
+    at_lists : (place : ℕ) (pattern : Pattern) (flows slopes : List ℚ) (p : PassedAt ℚ) → Seeks s (Found place pattern flows slopes)
+        → phase_lists passes net horizon s pattern flows slopes ≡ Err p → Fails s (Cause.Passed (suc s.made) None p)
+
+-- ---- phase by phase
+module _ (passes : Passing) (net : Network) (bounds : Bounds) where
+  -- From here on, the run ends there: at the horizon; or below it, where as many phases as allowed were made or the next one
+  -- fails.
+  pub data Runs : Standing → Standing → Option (Cause ℚ) → Type 0 where
+    at_horizon : {s : Standing} → s.time ≡ bounds.horizon → Runs s s None
+    at_phases : {s : Standing} → s.time <ℚ bounds.horizon → s.made ≡ bounds.phases → Runs s s (Some (Cause.Phases s.made))
+    fails : {s : Standing} {cause : Cause ℚ} → s.made < bounds.phases → Fails passes net bounds.horizon bounds.patterns s cause → Runs s s (Some cause)
+    goes : {s new last : Standing} {stop : Option (Cause ℚ)} → s.made < bounds.phases → Goes passes net bounds.horizon bounds.patterns s new
+        → Runs new last stop → Runs s last stop
+
+  pub record IsPhaseRun (last : Standing) (stop : Option (Cause ℚ)) : Type 0 where
+    pub first : Standing
+    pub start : IsStart net first
+    pub runs : Runs first last stop
+
+-- ---- the report of a run
+
+abbrev pub flow_of : Standing → Flow
+flow_of s = record {
+  reached = s.time;
+  labels = map (λ curve. curve.points) s.label_curves;
+  inflows = map (λ curves. curves.inflow) s.link_curves;
+  outflows = map (λ curves. curves.outflow) s.link_curves;
+  queues = map (λ curves. curves.queue.points) s.link_curves;
+}
+
+abbrev pub report_of : ℚ → Standing → Option (Cause ℚ) → Report
+report_of horizon s stop = record { horizon = horizon; flow = flow_of s; stop = stop; last = s.last }
+
+-- the report of the phase run
+pub record IsRunReport (passes : Passing) (net : Network) (bounds : Bounds) (report : Report) : Type 0 where
+  pub last : Standing
+  pub stop : Option (Cause ℚ)
+  pub run : IsPhaseRun passes net bounds last stop
+  pub report_is : report ≡ report_of bounds.horizon last stop

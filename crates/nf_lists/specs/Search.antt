@@ -1,0 +1,67 @@
+-- The search for a thin flow: the first accepted pattern of the listing, within a budget of patterns.
+use Rattle.std.specs.Prelude.{◌≡◌, ℕ, suc, ◌<◌, ◌≤◌, List, length, Err, IsOk}
+use Rattle.nf_rational.specs.Rational.{ℚ}
+use Rattle.nf_work.specs.Passing.{Passing}
+use Rattle.nf_work.specs.declared.PassedAt.{PassedAt}
+use Rattle.nf_model.specs.Network.{Network}
+use Rattle.nf_model.specs.ThinFlow.{Sets}
+use Rattle.nf_model.specs.Pattern.{Pattern, IsSolution}
+use Rattle.nf_lists.specs.Accepted.{pattern_lists, IsAccepted}
+use Rattle.nf_lists.specs.Listing.{HasPlace, IsListingIn}
+
+-- what a search answers
+pub data Answer : Type 0 where
+  -- the first accepted pattern, with its place and its thin flow: flows of the links and slopes of the nodes
+  Found : (place : ℕ) (pattern : Pattern) (flows slopes : List ℚ) → Answer
+  -- the listing is longer than the budget
+  OverBudget : Answer
+  -- at this place an operation passes at first
+  PassesAt : (place : ℕ) (at : PassedAt ℚ) → Answer
+  NoPattern : Answer
+
+module _ (passes : Passing) (net : Network) (sets : Sets) (rate : ℚ) (listing : List Pattern) where
+  -- no pattern before this place is accepted
+  abbrev pub NoneAcceptedBefore : ℕ → Type 0
+  NoneAcceptedBefore place = (other : ℕ) (pattern : Pattern) → other < place → HasPlace listing other pattern → IsAccepted passes net sets rate pattern → ⊥
+
+  abbrev pub NoneAccepted : Type 0
+  NoneAccepted = (other : ℕ) (pattern : Pattern) → HasPlace listing other pattern → IsAccepted passes net sets rate pattern → ⊥
+
+  pub record IsFirstAccepted (budget place : ℕ) (pattern : Pattern) (flows slopes : List ℚ) : Type 0 where
+    pub within : place ≤ budget
+    pub has_place : HasPlace listing place pattern
+    pub first : NoneAcceptedBefore place
+    pub accepted : IsAccepted passes net sets rate pattern
+    pub solution : IsSolution net sets rate pattern flows slopes
+
+  -- the budget is tried in vain, and there are more patterns
+  pub record IsOverBudget (budget : ℕ) : Type 0 where
+    pub longer : budget < length listing
+    pub none_accepted : NoneAcceptedBefore (suc budget)
+
+  -- the whole listing is tried in vain
+  pub record IsInVain (budget : ℕ) : Type 0 where
+    pub not_longer : length listing ≤ budget
+    pub none_accepted : NoneAccepted
+
+  -- the first pattern of which an operation passes, and the first one of its operations that does
+  pub record IsFirstPassing (place : ℕ) (at : PassedAt ℚ) : Type 0 where
+    pub pattern : Pattern
+    pub has_place : HasPlace listing place pattern
+    pub passed : pattern_lists passes net sets rate pattern ≡ Err at
+    pub first : (other : ℕ) (before : Pattern) → other < place → HasPlace listing other before → IsOk (pattern_lists passes net sets rate before)
+
+  abbrev pub NonePasses : Type 0
+  NonePasses = (other : ℕ) (pattern : Pattern) → HasPlace listing other pattern → IsOk (pattern_lists passes net sets rate pattern)
+
+  abbrev pub Answers : ℕ → Answer → Type 0
+  Answers budget (Found place pattern flows slopes) = IsFirstAccepted budget place pattern flows slopes
+  Answers budget OverBudget = IsOverBudget budget
+  Answers budget (PassesAt place at) = IsInVain budget × IsFirstPassing place at
+  Answers budget NoPattern = IsInVain budget × NonePasses
+
+-- the answer of the search that begins with this base pattern and tries no more patterns than the budget
+pub record IsSearch (passes : Passing) (net : Network) (sets : Sets) (rate : ℚ) (base : Pattern) (budget : ℕ) (answer : Answer) : Type 0 where
+  pub listing : List Pattern
+  pub is_listing : IsListingIn net sets base listing
+  pub answers : Answers passes net sets rate listing budget answer

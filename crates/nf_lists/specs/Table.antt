@@ -1,0 +1,113 @@
+-- The table list: elimination of a linear system, as Gauss and Jordan do it. The table has as many rows as unknowns, and each
+-- row has a number for each unknown (its columns) and then its right side.
+use Rattle.std.specs.Prelude.{ℕ, zero, suc, Bool, true, false, not, ◌&&◌, ◌||◌, ◌==◌, if◌then◌else◌, List, [], ◌∷◌, ◌++◌, length, take, drop, Option, Some, None, slice_get, unwrap_or, Ok}
+use Rattle.std.specs.List.{list_any}
+use Rattle.nf_rational.specs.Rational.{ℚ}
+use Rattle.nf_rational.specs.Operations.{0ℚ}
+use Rattle.nf_work.specs.Passing.{Passing}
+use Rattle.nf_work.specs.Checked.{Checked, checked, ◌>>=◌}
+use Rattle.nf_work.specs.declared.Op.TheVariants.{Difference, Product, Quotient}
+use Rattle.nf_model.specs.Entries.{number_at}
+use Rattle.nf_lists.specs.Signs.{is_zero}
+
+abbrev pub Row : Type 0
+Row = List ℚ
+
+abbrev pub row_at : List Row → ℕ → Row
+row_at rows i = unwrap_or (slice_get rows i) []
+
+-- ---- pivots
+
+-- The pivot of a column: the first row that is the pivot of no column yet and has an entry other than 0 there. Here these are
+-- the rows from number i on.
+abbrev pub pivot_from : ℕ → List Row → List ℕ → ℕ → Option ℕ
+pivot_from i [] pivots column = None
+pivot_from i (row ∷ rows) pivots column =
+    if not (list_any (λ pivot. pivot == i) pivots) && not (is_zero (number_at row column)) then Some i else pivot_from (suc i) rows pivots column
+
+abbrev pub pivot_of : List Row → List ℕ → ℕ → Option ℕ
+pivot_of rows pivots column = pivot_from 0 rows pivots column
+
+-- rows, with the pivot row of each column so far
+pub record Eliminated : Type 0 where
+  pub rows : List Row
+  pub pivots : List ℕ
+
+module _ (passes : Passing) where
+  -- ---- a column is cleared in all rows but its pivot row
+
+  -- an entry less f times that of the pivot row; no operation where that is 0
+  abbrev pub less_unless : Bool → ℚ → ℚ → ℚ → Checked ℚ
+  less_unless true f p x = Ok x
+  less_unless false f p x = do
+    m ← checked passes Product f p
+    checked passes Difference x m
+
+  -- the same for all entries from a column on, the right side last
+  abbrev pub entries_less : ℚ → Row → Row → Checked Row
+  entries_less f (p ∷ pivot_row) (x ∷ row) = do
+    y ← less_unless (is_zero p) f p x
+    ys ← entries_less f pivot_row row
+    Ok (y ∷ ys)
+  entries_less f pivot_row row = Ok []
+
+  -- a row with an entry in the column: the entry becomes 0, and the later ones lose the pivot row's times the quotient of the
+  -- two entries
+  abbrev pub cleared_row : ℕ → Row → Row → Checked Row
+  cleared_row column pivot_row row = do
+    f ← checked passes Quotient (number_at row column) (number_at pivot_row column)
+    later ← entries_less f (drop (suc column) pivot_row) (drop (suc column) row)
+    Ok (take column row ++ 0ℚ ∷ later)
+
+  -- a row stays as it is where it is the pivot row, or has no entry in the column
+  abbrev pub clear_unless : Bool → ℕ → Row → Row → Checked Row
+  clear_unless true column pivot_row row = Ok row
+  clear_unless false column pivot_row row = cleared_row column pivot_row row
+
+  -- the rows from number i on, in order
+  abbrev pub clear_rows : ℕ → ℕ → Row → ℕ → List Row → Checked (List Row)
+  clear_rows column pivot pivot_row i [] = Ok []
+  clear_rows column pivot pivot_row i (row ∷ rows) = do
+    r ← clear_unless (i == pivot || is_zero (number_at row column)) column pivot_row row
+    rs ← clear_rows column pivot pivot_row (suc i) rows
+    Ok (r ∷ rs)
+
+  -- ---- column by column
+
+  -- a column without pivot ends the list
+  abbrev pub eliminate_at : Eliminated → ℕ → Option ℕ → Checked (Option Eliminated)
+  eliminate_at done column None = Ok None
+  eliminate_at done column (Some pivot) = do
+    rows ← clear_rows column pivot (row_at done.rows pivot) 0 done.rows
+    Ok (Some (record { rows = rows; pivots = done.pivots ++ pivot ∷ [] }))
+
+  abbrev pub eliminate_column : Eliminated → ℕ → Checked (Option Eliminated)
+  eliminate_column done column = eliminate_at done column (pivot_of done.rows done.pivots column)
+
+  abbrev pub if_some : {A B : Type 0} → (A → Checked (Option B)) → Option A → Checked (Option B)
+  if_some f None = Ok None
+  if_some f (Some x) = f x
+
+  -- so many columns, from this one on
+  abbrev pub eliminate_from : ℕ → ℕ → Eliminated → Checked (Option Eliminated)
+  eliminate_from zero column done = Ok (Some done)
+  eliminate_from (suc more) column done = eliminate_column done column >>= if_some (λ next. eliminate_from more (suc column) next)
+
+  -- ---- the solution
+
+  -- the right side of the pivot row over its entry, for each column from this one on
+  abbrev pub solution_from : List Row → ℕ → List ℕ → Checked (List ℚ)
+  solution_from rows column [] = Ok []
+  solution_from rows column (pivot ∷ pivots) = do
+    x ← checked passes Quotient (number_at (row_at rows pivot) (length rows)) (number_at (row_at rows pivot) column)
+    xs ← solution_from rows (suc column) pivots
+    Ok (x ∷ xs)
+
+  abbrev pub solution_of : Eliminated → Checked (Option (List ℚ))
+  solution_of done = do
+    xs ← solution_from done.rows 0 done.pivots
+    Ok (Some xs)
+
+  -- the value of each unknown, and none where the system has not exactly one solution
+  unfoldable pub table_list : List Row → Checked (Option (List ℚ))
+  table_list rows = eliminate_from (length rows) 0 (record { rows = rows; pivots = [] }) >>= if_some solution_of

@@ -1,0 +1,9 @@
+pub mod Sorted
+pub mod Listings
+pub mod Searches
+pub mod Bases
+pub mod OneRun
+pub mod Exact
+pub mod Ending
+pub mod Parallel
+pub mod Member
