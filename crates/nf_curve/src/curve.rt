@@ -1,0 +1,90 @@
+// Curves: points whose times rise strictly from 0.
+ghost use Rattle.std.specs.Prelude.{◌≡◌, ℕ, ◌+◌, ◌<◌, ◌≤◌, [], ◌∷◌, ◌++◌, length, IfOk, OnOk, OnErr, IsOk, slice_get, Some};
+ghost use Rattle.nf_rational.specs.Operations.{0ℚ};
+ghost use Rattle.nf_rational.specs.Order.{◌<ℚ◌};
+ghost use Rattle.nf_model.specs.Curve.{IsCurve};
+ghost use Rattle.nf_curve.specs.Points.{last_time};
+
+use nf_frac::Q;
+use std::alloc::{AllocError, Global};
+use std::marker::Model;
+
+/// A piecewise linear function of time, from time 0 on: points (time, value) whose times rise strictly from 0. It is linear
+/// between neighbouring points and constant after the last.
+#[derive(Drop, Debug)]
+pub struct Curve {
+    points: Vec<(Q, Q)>,
+}
+
+impl Model for Curve {
+    ghost use Rattle.std.specs.Prelude.{◌-◌, vec_capacity, vec_len};
+    ghost use Rattle.nf_model.specs.Curve.{IsCurve};
+    ghost use Rattle.nf_curve.specs.Points.{Grown, coded_grown};
+
+    ghost Value = { Grown };
+
+    ghost coded = { coded_grown };
+
+    ghost view = { λ a. record { points = a.points.items; spare = vec_capacity a.points - vec_len a.points } };
+
+    ghost invariant = { λ a. IsCurve a.points.items };
+}
+
+impl Curve {
+    /// The curve of this one value: its point is at time 0.
+    pub fn start(alloc: Global, value: Q) -> Result<Curve, AllocError>
+        ensures { IfOk result (λ c. c.points ≡ (0ℚ, value) ∷ []) }
+    {
+        let mut points = Vec::new(alloc);
+        points.push((Q::zero(), value))?;
+        Ok(Curve { points })
+    }
+
+    /// Afterwards so many pushes can't be refused. The points stay, also where memory is wanting.
+    pub fn reserve(&mut self, more: usize) -> Result<(), AllocError>
+        ensures points { self.new.points ≡ self.old.points }
+        ensures ok { OnOk result (more ≤ self.new.spare) }
+        ensures kept { self.old.spare ≤ self.new.spare }
+        ensures refused { OnErr result (self.old.spare < more) }
+    {
+        self.points.reserve(more)
+    }
+
+    /// One more point, at a time after the last. Where memory is wanting the points stay; it isn't where room was reserved.
+    pub fn push(&mut self, time: Q, value: Q) -> Result<(), AllocError>
+        requires { last_time self.old.points <ℚ time }
+        ensures ok { OnOk result (self.new.points ≡ self.old.points ++ (time, value) ∷ []) }
+        ensures err { OnErr result (self.new.points ≡ self.old.points) }
+        ensures spare { self.old.spare ≤ self.new.spare + 1 }
+        ensures room { 0 < self.old.spare → IsOk result }
+    {
+        self.points.push((time, value))?;
+        Ok(())
+    }
+
+    /// How many points there are: at least one.
+    #[tactic(auto, using(crate::proofs::Points::points_there))]
+    pub fn len(&self) -> usize
+        ensures count { result ≡ length self.now.points }
+        ensures some { 0 < result }
+        ensures curve { IsCurve self.now.points }
+    {
+        self.points.len()
+    }
+
+    /// The point of this number, its time and its value.
+    pub fn point(&self, index: usize) -> (Q, Q)
+        requires { index < length self.now.points }
+        ensures { slice_get self.now.points index ≡ Some result }
+    {
+        self.points[index]
+    }
+}
+
+/// Two curves differ at this time: the left one has this value there, and the right one that.
+#[derive(Clone, Copy, Debug, PartialEq, Eq)]
+pub struct Difference {
+    pub time: Q,
+    pub left: Q,
+    pub right: Q,
+}

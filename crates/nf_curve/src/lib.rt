@@ -1,0 +1,12 @@
+//! Piecewise linear functions of time, by their points, and the flow over time that they describe.
+//!
+//! Times and values are exact fractions. A curve is linear between neighbouring points and constant after the last one.
+#![tactic(auto)]
+
+mod curve;
+mod flow;
+#[cfg(test)]
+mod tests;
+
+pub use curve::{Curve, Difference};
+pub use flow::{Flow, Stop, Trace};

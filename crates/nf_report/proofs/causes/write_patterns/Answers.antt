@@ -1,0 +1,10 @@
+use Rattle.std.proofs.Common.{[], ◌∷◌}
+use Rattle.std.specs.Prelude.{codes}
+use Rattle.nf_numerals.specs.Digits.{digits_of}
+use Rattle.nf_report.proofs.Written.{same_lines}
+use Rattle.nf_report.proofs.causes.write_patterns.Goals as goal
+
+pub returns : goal.returns
+returns g c =
+    same_lines ((codes "cause" ∷ codes "patterns" ∷ c.text.result.now ∷ c.text-2.result.now ∷ []) ∷ [])
+    ((codes "cause" ∷ codes "patterns" ∷ digits_of c.args.phase ∷ digits_of c.args.tried ∷ []) ∷ []) (cc) c.write_line.ensures

@@ -1,0 +1,32 @@
+-- What a sink took of the lines of a report.
+use Rattle.std.specs.Prelude.{ℕ, List, [], ◌∷◌, flat_map, Option, Some, None, Result, codes}
+use Rattle.nf_rational.specs.Rational.{ℚ}
+use Rattle.nf_numerals.specs.Printed.{printed}
+use Rattle.nf_edge.specs.Taken.{Wrote}
+use Rattle.nf_lines.specs.Words.{line_of_words}
+use Rattle.nf_formats.specs.Names.{Name}
+
+-- the words of a line
+abbrev pub Line : Type 0
+Line = List (List ℕ)
+
+-- words that follow the first of their line: a space before each
+abbrev pub after_words : Line → List ℕ
+after_words words = flat_map (λ word. 32 ∷ word) words
+
+-- lines were written to a sink: all of them, or the first bytes of their text where the sink's faults rose
+abbrev pub WroteLines : {E : Type 0} → Option (List ℕ) → Option (List ℕ) → ℕ → ℕ → List Line → Result (Unit {0}) E → Type 0
+WroteLines took_before took_now faults_before faults_now lines result =
+    Wrote took_before took_now faults_before faults_now (flat_map line_of_words lines) result
+
+-- ---- a line of a curve
+abbrev pub point_line : List ℕ → Name → ℚ × ℚ → Line
+point_line key name p = key ∷ name ∷ printed p.0 ∷ printed p.1 ∷ []
+
+-- the rate from a point on, or `-` where there is none
+abbrev pub rate_word : Option ℚ → List ℕ
+rate_word None = codes "-"
+rate_word (Some rate) = printed rate
+
+abbrev pub trace_line : List ℕ → Name → ℚ × ℚ → Option ℚ → Line
+trace_line key name p rate = key ∷ name ∷ printed p.0 ∷ printed p.1 ∷ rate_word rate ∷ []

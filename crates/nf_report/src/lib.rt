@@ -1,0 +1,8 @@
+//! The text of a report, written into a sink line by line. No call takes memory.
+#![tactic(auto)]
+
+mod causes;
+mod curves;
+mod line;
+#[cfg(test)]
+mod tests;
