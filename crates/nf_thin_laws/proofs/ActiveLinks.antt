@@ -1,0 +1,113 @@
+-- Active links hold no cycle, and none enters the source.
+use Rattle.std.proofs.Common.{◌≡◌, ◌≢◌, ℕ, zero, suc, ◌<◌, List, [], ◌∷◌, length, map, ◌⊎◌, inl, inr, ⊎_elim, Bool, true, false, eqb, Some, sym, ap, subst, refl, ◌∙◌}
+use Rattle.std.proofs.lemmas.Bool.Decides.{eqb_tells}
+use Rattle.nf_rational.specs.Rational.{ℚ}
+use Rattle.nf_rational.specs.Operations.{0ℚ, ◌+ℚ◌, ◌-ℚ◌}
+use Rattle.nf_rational.specs.Order.{◌≤ℚ◌, ◌<ℚ◌, le_ℚ, lt_ℚ}
+use Rattle.nf_rational_laws.proofs.Polynomial.{reading_of}
+use Rattle.nf_rational_laws.proofs.Order.{≤ℚ_of_lt}
+use Rattle.nf_rational_laws.proofs.Tests.{lt_ℚ_cases, test_of_le}
+use Rattle.nf_rational_laws.proofs.Linear.{le, lt, eq, linear_le, linear_false}
+use Rattle.nf_model.specs.Entries.{number_at, Has}
+use Rattle.nf_model.specs.Walk.{IsWalk, transit_sum, transit_of}
+use Rattle.nf_model.specs.Network.{Link, Network, IsNetwork, hop_of, hops}
+use Rattle.nf_model.specs.ThinFlow.{Sets, Enters, sets_at, slack, slacks_of}
+use Rattle.nf_model_laws.proofs.Networks.{IsWalk-link, transit_of-is}
+use Rattle.nf_model_laws.proofs.Slacks.{slack_of_active}
+use Rattle.nf_model_laws.proofs.Ways.{way_back}
+use Rattle.nf_thin_laws.specs.ActiveLinks.{AreSets, IsActiveWalk, HoldNoCycle, EachIsEntered, NoneEntersSource}
+
+-- ---- the sets of labels
+length-map : {A B : Type 0} (f : A → B) (xs : List A) → length (map f xs) ≡ length xs
+length-map f [] = refl
+length-map f (x ∷ xs) = ap suc (length-map f xs)
+
+-- where a flag of the one test is set, so is that of the other
+weaker_flags : (strict weak : ℚ → Bool) → ((x : ℚ) → strict x ≡ true → weak x ≡ true) → (xs : List ℚ) (e : ℕ) → Has (map strict xs) e → Has (map weak xs) e
+weaker_flags strict weak w [] e h = absurd (cc)
+weaker_flags strict weak w (x ∷ xs) zero h = ap Some (w x (first _ h))
+  where
+    first : (b : Bool) → Some b ≡ Some true → b ≡ true
+    first b e = cc
+weaker_flags strict weak w (x ∷ xs) (suc e) h = weaker_flags strict weak w xs e h
+
+above_is_not_below : (x : ℚ) → lt_ℚ 0ℚ x ≡ true → le_ℚ 0ℚ x ≡ true
+above_is_not_below x h = ⊎_elim
+    (λ (w : (lt_ℚ 0ℚ x ≡ true) × (0ℚ <ℚ x)). test_of_le 0ℚ x (≤ℚ_of_lt _ _ w.1))
+    (λ (w : (lt_ℚ 0ℚ x ≡ false) × (x ≤ℚ 0ℚ)). absurd (both _ w.0 h))
+    (lt_ℚ_cases 0ℚ x)
+  where
+    both : (b : Bool) → b ≡ false → b ≡ true → ⊥
+    both b e f = cc
+
+pub AreSets-sets_at : (net : Network) (labels : List ℚ) → AreSets net (sets_at net labels)
+AreSets-sets_at net labels = record {
+  count = length-map (le_ℚ 0ℚ) (slacks_of (hops net) labels) ∙ length-map (slack labels) (hops net) ∙ length-map hop_of net.links;
+  resetting = λ e h. weaker_flags (lt_ℚ 0ℚ) (le_ℚ 0ℚ) above_is_not_below (slacks_of (hops net) labels) e h;
+}
+
+-- ---- along active links the labels grow by the transit times
+none : (a b : ℚ) → a ≡ b → a +ℚ 0ℚ ≤ℚ b
+none a b e = linear_le (a ∷ b ∷ []) (eq e ∷ []) (search reading_of depth 12) tt
+
+further : (a b c r s l : ℚ) → 0ℚ ≤ℚ b -ℚ (a +ℚ r) → s ≡ r → b +ℚ l ≤ℚ c → a +ℚ (s +ℚ l) ≤ℚ c
+further a b c r s l h e k = linear_le (a ∷ b ∷ c ∷ r ∷ s ∷ l ∷ []) (le h ∷ eq e ∷ le k ∷ []) (search reading_of depth 12) tt
+
+closed : (a l : ℚ) → a +ℚ l ≤ℚ a → 0ℚ <ℚ l → ⊥
+closed a l h k = linear_false (a ∷ l ∷ []) (le h ∷ lt k ∷ []) (search reading_of depth 12) tt
+
+pub IsWalk-active : (net : Network) (sets : Sets) (walk : List ℕ) (v w : ℕ) → IsActiveWalk net sets walk v w → IsWalk (hops net) walk v w
+IsWalk-active net sets [] v w t = t
+IsWalk-active net sets (e ∷ walk) v w t = subst (λ (k : ℕ). IsWalk (hops net) (e ∷ walk) k w) t.3 (IsWalk-link net e walk w t.0 t.1 (IsWalk-active net sets walk t.0.head w t.4))
+
+module _ (net : Network) (labels : List ℚ) where
+  sum_of : (walk : List ℕ) (v w : ℕ) → IsActiveWalk net (sets_at net labels) walk v w → number_at labels v +ℚ transit_sum (hops net) walk ≤ℚ number_at labels w
+  sum_of [] v w t = none _ _ (ap (number_at labels) t)
+  sum_of (e ∷ walk) v w t = subst (λ (k : ℕ). number_at labels k +ℚ transit_sum (hops net) (e ∷ walk) ≤ℚ number_at labels w) t.3
+      (further (number_at labels t.0.tail) (number_at labels t.0.head) _ t.0.transit (transit_of (hops net) e) (transit_sum (hops net) walk)
+      (slack_of_active net labels e t.0 t.1 t.2) (transit_of-is net e t.0 t.1) (sum_of walk t.0.head w t.4))
+
+  pub HoldNoCycle-sets_at : IsNetwork net → HoldNoCycle net (sets_at net labels)
+  HoldNoCycle-sets_at good e walk v t = closed (number_at labels v) _ (sum_of (e ∷ walk) v v t) (good.cycles e walk v (IsWalk-active net (sets_at net labels) (e ∷ walk) v v t))
+
+-- ---- going back along active links from any node one comes to the source
+module _ (net : Network) (sets : Sets) where
+  abbrev pub Way : ℕ → ℕ → Type 0
+  Way v w = (walk : List ℕ) × IsActiveWalk net sets walk v w
+
+  -- one active link more before a way
+  pub way_more : (v w e : ℕ) (link : Link) → Enters net sets v e link → Way v w → Way link.tail w
+  way_more v w e link n way = (e ∷ way.0, (link, n.is_link, n.active, refl, subst (λ (k : ℕ). IsActiveWalk net sets way.0 k w) (sym n.head) way.1))
+
+  -- no way leads from the head of an active link to its tail
+  pub no_way_round : HoldNoCycle net sets → (v e : ℕ) (link : Link) → Enters net sets v e link → Way v link.tail → ⊥
+  no_way_round acyclic v e link n way = acyclic e way.0 link.tail (link, n.is_link, n.active, refl, subst (λ (k : ℕ). IsActiveWalk net sets way.0 k link.tail) (sym n.head) way.1)
+
+  -- A property of nodes that goes back along an active link from each node that has it, is that of no node: it would go back for
+  -- ever.
+  pub none_first : IsNetwork net → HoldNoCycle net sets → (Inside : ℕ → Type 0)
+      → ((v : ℕ) → v < net.nodes → Inside v → (e : ℕ) × (link : Link) × Enters net sets v e link × Inside link.tail) → (v : ℕ) → v < net.nodes → Inside v → ⊥
+  none_first good acyclic Inside back v h i = (way_back net.nodes Inside (λ _. ⊥) Way (λ v. ([], refl)) step v h i).1
+    where
+      step : (v : ℕ) → v < net.nodes → Inside v → ⊥ ⊎ ((u : ℕ) × (u < net.nodes) × Inside u × ((w : ℕ) → Way v w → Way u w) × (Way v u → ⊥))
+      step v h i =
+          let b : (e : ℕ) × (link : Link) × Enters net sets v e link × Inside link.tail = back v h i in
+          inr (b.1.tail, good.tails b.0 b.1 b.2.is_link, b.3, (λ w way. way_more v w b.0 b.1 b.2 way), (λ way. no_way_round acyclic v b.0 b.1 b.2 way))
+
+  module _ (good : IsNetwork net) (acyclic : HoldNoCycle net sets) (entered : EachIsEntered net sets) where
+    back : (v : ℕ) → v < net.nodes → Unit {0} → (v ≡ net.source) ⊎ ((u : ℕ) × (u < net.nodes) × Unit {0} × ((w : ℕ) → Way v w → Way u w) × (Way v u → ⊥))
+    back v h _ = ⊎_elim
+        (λ (e : (eqb v net.source ≡ true) × (v ≡ net.source)). inl e.1)
+        (λ (e : (eqb v net.source ≡ false) × (v ≢ net.source)).
+        let b : (e : ℕ) × (link : Link) × Enters net sets v e link = entered v h e.1 in
+        inr (b.1.tail, good.tails b.0 b.1 b.2.is_link, tt, (λ w way. way_more v w b.0 b.1 b.2 way), (λ way. no_way_round acyclic v b.0 b.1 b.2 way)))
+        (eqb_tells v net.source)
+
+    -- a way of active links leads from the source to each node
+    pub active_way : (v : ℕ) → v < net.nodes → Way net.source v
+    active_way v h =
+        let r : (u : ℕ) × (u ≡ net.source) × Way u v = way_back net.nodes (λ _. Unit {0}) (λ u. u ≡ net.source) Way (λ v. ([], refl)) back v h tt in
+        subst (λ (u : ℕ). Way u v) r.1 r.2
+
+    pub NoneEntersSource-acyclic : NoneEntersSource net sets
+    NoneEntersSource-acyclic e link n = no_way_round acyclic net.source e link n (active_way link.tail (good.tails e link n.is_link))

@@ -1,0 +1,3 @@
+pub mod ActiveLinks
+pub mod PatternLaws
+pub mod SlopeLaws

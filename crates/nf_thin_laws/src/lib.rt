@@ -1,0 +1,29 @@
+//! Laws of thin flows with resetting: theorems between the definitions of the model, each the contract of a public function with
+//! an empty body. The proofs are in `proofs/`.
+#![tactic(auto)]
+
+ghost use Rattle.nf_thin_laws.specs.ActiveLinks.{ActiveLinksHoldNoCycle};
+ghost use Rattle.nf_thin_laws.specs.PatternLaws.{AcceptedPatternIsThin};
+ghost use Rattle.nf_thin_laws.specs.SlopeLaws.{SlopesAreUnique, PhaseSequencesAgree};
+
+/// The active links of labels hold no cycle; and where such links lead to each node but the source, none leads to the source.
+pub fn active_links_hold_no_cycle()
+    ensures { ActiveLinksHoldNoCycle }
+{}
+
+/// What a search for a thin flow accepts is a thin flow: a solution of the equations of a listed pattern that meets its
+/// inequalities.
+pub fn accepted_pattern_is_thin()
+    ensures { AcceptedPatternIsThin }
+{}
+
+/// The thin flows for one rate, with active links that hold no cycle, all have the same slopes (Cominetti, Correa and Larré
+/// 2015).
+pub fn slopes_are_unique()
+    ensures { SlopesAreUnique }
+{}
+
+/// Phase sequences of a network up to one horizon agree, as far as they go.
+pub fn phase_sequences_agree()
+    ensures { PhaseSequencesAgree }
+{}
