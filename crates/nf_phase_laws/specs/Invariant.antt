@@ -1,10 +1,11 @@
 -- What holds of the curves of a flow at every departure up to now, and what each phase keeps. The flow is given by functions of
 -- time: `amount e time` is what has entered link e by that time, and `label v departure` is when who leaves the source at the
 -- departure is at node v at the earliest.
-use Rattle.std.specs.Prelude.{◌≡◌, ◌≢◌, ℕ, ◌<◌, length, Option, Some, None, slice_get}
+use Rattle.std.specs.Prelude.{◌≡◌, ◌≢◌, ℕ, ◌<◌, List, length, Option, Some, None, slice_get}
 use Rattle.nf_rational.specs.Rational.{ℚ}
 use Rattle.nf_rational.specs.Operations.{0ℚ, ◌+ℚ◌, ◌-ℚ◌, ◌*ℚ◌}
 use Rattle.nf_rational.specs.Order.{◌≤ℚ◌, ◌<ℚ◌, max_ℚ}
+use Rattle.nf_model.specs.Entries.{number_at}
 use Rattle.nf_model.specs.Curve.{Within}
 use Rattle.nf_model.specs.Network.{Link, Network, IsLink, sum_in, sum_out, supply}
 use Rattle.nf_model.specs.Queue.{IsQueue}
@@ -67,3 +68,8 @@ pub record HoldsUpTo (net : Network) (amount label : ℕ → ℚ → ℚ) (until
   -- what is sent into a link just after a departure is sent into an active one
   pub used : (e : ℕ) (link : Link) (departure : ℚ) → IsLink net e link → 0ℚ ≤ℚ departure → departure <ℚ until
       → ((later : ℚ) → departure <ℚ later → later ≤ℚ until → sent net amount label e departure <ℚ sent net amount label e later) → 0ℚ ≤ℚ link_slack label link departure
+
+-- the start: nothing enters a link, and the labels of departure 0 are these
+pub record IsStart (net : Network) (labels : List ℚ) (amount label : ℕ → ℚ → ℚ) : Type 0 where
+  pub nothing : (e : ℕ) (time : ℚ) → e < length net.links → 0ℚ ≤ℚ time → amount e time ≡ 0ℚ
+  pub labels_are : (v : ℕ) → v < net.nodes → label v 0ℚ ≡ number_at labels v
