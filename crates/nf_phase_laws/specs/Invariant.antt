@@ -1,0 +1,75 @@
+-- What holds of the curves of a flow at every departure up to now, and what each phase keeps. The flow is given by functions of
+-- time: `amount e time` is what has entered link e by that time, and `label v departure` is when who leaves the source at the
+-- departure is at node v at the earliest.
+use Rattle.std.specs.Prelude.{◌≡◌, ◌≢◌, ℕ, ◌<◌, List, length, Option, Some, None, slice_get}
+use Rattle.nf_rational.specs.Rational.{ℚ}
+use Rattle.nf_rational.specs.Operations.{0ℚ, ◌+ℚ◌, ◌-ℚ◌, ◌*ℚ◌}
+use Rattle.nf_rational.specs.Order.{◌≤ℚ◌, ◌<ℚ◌, max_ℚ}
+use Rattle.nf_model.specs.Entries.{number_at}
+use Rattle.nf_model.specs.Curve.{Within}
+use Rattle.nf_model.specs.Network.{Link, Network, IsLink, sum_in, sum_out, supply}
+use Rattle.nf_model.specs.Queue.{IsQueue}
+use Rattle.nf_model_laws.specs.EarliestLaws.{InflowsRise}
+
+-- how much later the label of a link's head is than that of its tail with the transit time
+abbrev pub link_slack : (ℕ → ℚ → ℚ) → Link → ℚ → ℚ
+link_slack label link departure = label link.head departure -ℚ (label link.tail departure +ℚ link.transit)
+
+-- the queue in which one waits for the time of a slack, if the slack is above 0; on an unbounded link nothing waits
+abbrev pub queue_by_slack : Option ℚ → ℚ → ℚ
+queue_by_slack None slack = 0ℚ
+queue_by_slack (Some capacity) slack = capacity *ℚ max_ℚ 0ℚ slack
+
+-- the node that the link of a number leaves
+abbrev pub tail_or : Option Link → ℕ
+tail_or None = 0
+tail_or (Some link) = link.tail
+
+abbrev pub tail_of : Network → ℕ → ℕ
+tail_of net e = tail_or (slice_get net.links e)
+
+-- of what leaves the source by a departure, how much is sent into the link of a number
+abbrev pub sent : Network → (ℕ → ℚ → ℚ) → (ℕ → ℚ → ℚ) → ℕ → ℚ → ℚ
+sent net amount label e departure = amount e (label (tail_of net e) departure)
+
+pub record HoldsUpTo (net : Network) (amount label : ℕ → ℚ → ℚ) (until : ℚ) : Type 0 where
+  pub begun : 0ℚ ≤ℚ until
+  -- labels never fall, take each value between, and are not negative; that of the source is the departure
+  pub source : (departure : ℚ) → Within 0ℚ until departure → label net.source departure ≡ departure
+  pub label_rises : (v : ℕ) (earlier later : ℚ) → v < net.nodes → 0ℚ ≤ℚ earlier → earlier ≤ℚ later → later ≤ℚ until → label v earlier ≤ℚ label v later
+  pub label_takes : (v : ℕ) (time : ℚ) → v < net.nodes → label v 0ℚ ≤ℚ time → time ≤ℚ label v until
+      → (departure : ℚ) × Within 0ℚ until departure × (label v departure ≡ time)
+  pub label_not_negative : (v : ℕ) → v < net.nodes → 0ℚ ≤ℚ label v 0ℚ
+  -- nothing is on the links at time 0, nor is anything sent into them before what leaves the source at time 0; and nothing that
+  -- entered is taken back
+  pub amount_rises : InflowsRise net amount
+  pub amount_starts : (e : ℕ) → e < length net.links → amount e 0ℚ ≡ 0ℚ
+  pub sent_starts : (e : ℕ) (link : Link) → IsLink net e link → sent net amount label e 0ℚ ≡ 0ℚ
+  -- what is sent is a static flow of the value of the supply
+  pub inner : (v : ℕ) (departure : ℚ) → v < net.nodes → v ≢ net.source → v ≢ net.sink → Within 0ℚ until departure
+      → sum_in net.links (λ e. sent net amount label e departure) v ≡ sum_out net.links (λ e. sent net amount label e departure) v
+  pub supplied : (departure : ℚ) → Within 0ℚ until departure
+      → sum_in net.links (λ e. sent net amount label e departure) net.source +ℚ supply net departure ≡ sum_out net.links (λ e. sent net amount label e departure) net.source
+  pub drained : (departure : ℚ) → Within 0ℚ until departure
+      → sum_in net.links (λ e. sent net amount label e departure) net.sink ≡ sum_out net.links (λ e. sent net amount label e departure) net.sink +ℚ supply net departure
+  -- the queue that one meets is that of the slack; and no slack of an unbounded link is above 0
+  pub queue : (e : ℕ) (link : Link) (departure : ℚ) → IsLink net e link → Within 0ℚ until departure
+      → IsQueue link.capacity (amount e) (label link.tail departure) (queue_by_slack link.capacity (link_slack label link departure))
+  pub unbounded : (e : ℕ) (link : Link) (departure : ℚ) → IsLink net e link → link.capacity ≡ None → Within 0ℚ until departure → link_slack label link departure ≤ℚ 0ℚ
+  -- into each node but the source leads an active link
+  pub entered : (v : ℕ) (departure : ℚ) → v < net.nodes → v ≢ net.source → Within 0ℚ until departure
+      → (e : ℕ) × (link : Link) × IsLink net e link × (link.head ≡ v) × (0ℚ ≤ℚ link_slack label link departure)
+  -- Where the slack is not above 0, nothing has entered the link since the time at which one would have to enter it, so as to be
+  -- at its head in time; and nothing waited then.
+  pub idle : (e : ℕ) (link : Link) (departure time : ℚ) → IsLink net e link → Within 0ℚ until departure → link_slack label link departure ≤ℚ 0ℚ
+      → 0ℚ ≤ℚ time → label link.head departure -ℚ link.transit ≤ℚ time → time ≤ℚ label link.tail departure → amount e time ≡ sent net amount label e departure
+  pub idle_queue : (e : ℕ) (link : Link) (departure : ℚ) → IsLink net e link → Within 0ℚ until departure → link_slack label link departure ≤ℚ 0ℚ
+      → 0ℚ ≤ℚ label link.head departure -ℚ link.transit → IsQueue link.capacity (amount e) (label link.head departure -ℚ link.transit) 0ℚ
+  -- what is sent into a link just after a departure is sent into an active one
+  pub used : (e : ℕ) (link : Link) (departure : ℚ) → IsLink net e link → 0ℚ ≤ℚ departure → departure <ℚ until
+      → ((later : ℚ) → departure <ℚ later → later ≤ℚ until → sent net amount label e departure <ℚ sent net amount label e later) → 0ℚ ≤ℚ link_slack label link departure
+
+-- the start: nothing enters a link, and the labels of departure 0 are these
+pub record IsStart (net : Network) (labels : List ℚ) (amount label : ℕ → ℚ → ℚ) : Type 0 where
+  pub nothing : (e : ℕ) (time : ℚ) → e < length net.links → 0ℚ ≤ℚ time → amount e time ≡ 0ℚ
+  pub labels_are : (v : ℕ) → v < net.nodes → label v 0ℚ ≡ number_at labels v
