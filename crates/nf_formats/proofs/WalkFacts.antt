@@ -1,0 +1,94 @@
+-- Walks along hops that correspond to those of another list.
+use Rattle.std.proofs.Common.{◌≡◌, ℕ, zero, suc, ◌+◌, ◌<◌, ◌≤◌, List, [], ◌∷◌, ◌++◌, length, map, slice_get, Some, refl, sym, ◌∙◌, ap, subst, arith}
+use Rattle.std.specs.Prelude.{unwrap_or, option_map}
+use Rattle.std.specs.List.{AllByRecursion}
+use Rattle.std.proofs.lemmas.Option.{slice_get-map, slice_get_within}
+use Rattle.nf_rational.specs.Rational.{ℚ}
+use Rattle.nf_rational.specs.Operations.{0ℚ, ◌+ℚ◌}
+use Rattle.nf_rational.specs.Order.{◌≤ℚ◌, ◌<ℚ◌}
+use Rattle.nf_rational_laws.proofs.Polynomial.{reading, reading_of}
+use Rattle.nf_rational_laws.proofs.Linear.{le, lt, eq, linear_le, linear_lt, linear_eq}
+use Rattle.nf_model.specs.Walk.{Hop, IsHop, IsWalk, transit_of, transit_sum, IsLeastTransit}
+
+-- ---- entries of joined lists
+module _ {X : Type 0} where
+  pub slice_get-left : (xs ys : List X) (i : ℕ) (x : X) → slice_get xs i ≡ Some x → slice_get (xs ++ ys) i ≡ Some x
+  slice_get-left [] ys i x e = absurd (cc)
+  slice_get-left (y ∷ xs) ys zero x e = e
+  slice_get-left (y ∷ xs) ys (suc i) x e = slice_get-left xs ys i x e
+
+  pub slice_get-right : (xs ys : List X) (i : ℕ) → slice_get (xs ++ ys) (length xs + i) ≡ slice_get ys i
+  slice_get-right [] ys i = let on : 0 + i ≡ i = omega arith in ap (slice_get ys) on
+  slice_get-right (x ∷ xs) ys i = let on : suc (length xs) + i ≡ suc (length xs + i) = omega arith in ap (slice_get (x ∷ xs ++ ys)) on ∙ slice_get-right xs ys i
+
+  -- an entry of joined lists is one of the first, or of the second
+  pub data IsIn (xs ys : List X) (i : ℕ) (x : X) : Type 0 where
+    in_first : slice_get xs i ≡ Some x → IsIn xs ys i x
+    in_second : (j : ℕ) → slice_get ys j ≡ Some x → IsIn xs ys i x
+
+  shifted : (y : X) (xs ys : List X) (i : ℕ) (x : X) → IsIn xs ys i x → IsIn (y ∷ xs) ys (suc i) x
+  shifted y xs ys i x (in_first e) = in_first e
+  shifted y xs ys i x (in_second j e) = in_second j e
+
+  pub which : (xs ys : List X) (i : ℕ) (x : X) → slice_get (xs ++ ys) i ≡ Some x → IsIn xs ys i x
+  which [] ys i x e = in_second i e
+  which (y ∷ xs) ys zero x e = in_first e
+  which (y ∷ xs) ys (suc i) x e = shifted y xs ys i x (which xs ys i x e)
+
+  pub entry_all : (P : X → Type 0) (xs : List X) (i : ℕ) (x : X) → AllByRecursion P xs → slice_get xs i ≡ Some x → P x
+  entry_all P [] i x h e = absurd (cc)
+  entry_all P (y ∷ xs) zero x h e = let same : y ≡ x = cc in subst P same h.0
+  entry_all P (y ∷ xs) (suc i) x h e = entry_all P xs i x h.1 e
+
+-- an entry of a mapped list comes from one of the list
+pub record CameFrom {X Y : Type 0} (f : X → Y) (xs : List X) (i : ℕ) (y : Y) : Type 0 where
+  pub entry : X
+  pub is_entry : slice_get xs i ≡ Some entry
+  pub is_image : f entry ≡ y
+
+pub came_from : {X Y : Type 0} (f : X → Y) (xs : List X) (i : ℕ) (y : Y) → slice_get (map f xs) i ≡ Some y → CameFrom f xs i y
+came_from f [] i y e = absurd (cc)
+came_from f (x ∷ xs) zero y e = let same : f x ≡ y = cc in record { entry = x; is_entry = refl; is_image = same }
+came_from f (x ∷ xs) (suc i) y e = let r : CameFrom f xs i y = came_from f xs i y e in record { entry = r.entry; is_entry = r.is_entry; is_image = r.is_image }
+
+pub slice_get-image : {X Y : Type 0} (f : X → Y) (xs : List X) (i : ℕ) (x : X) → slice_get xs i ≡ Some x → slice_get (map f xs) i ≡ Some (f x)
+slice_get-image f xs i x e = slice_get-map f xs i ∙ ap (option_map f) e
+
+-- ---- transit times
+pub transit_of-hop : (hops : List Hop) (e : ℕ) (hop : Hop) → IsHop hops e hop → transit_of hops e ≡ hop.transit
+transit_of-hop hops e hop h = ap (λ o. unwrap_or o 0ℚ) (slice_get-image (λ (hop : Hop). hop.transit) hops e hop h)
+
+-- ---- walks
+pub record Corresponds (other : List Hop) (f : ℕ → ℕ) (P : ℕ → Type 0) (hop : Hop) : Type 0 where
+  pub number : ℕ
+  pub image : Hop
+  pub is_hop : IsHop other number image
+  pub tail : image.tail ≡ f hop.tail
+  pub head : image.head ≡ f hop.head
+  pub transit : image.transit ≡ hop.transit
+  pub after : P hop.head
+
+pub record Carried (hops other : List Hop) (f : ℕ → ℕ) (P : ℕ → Type 0) (walk : List ℕ) (v w : ℕ) : Type 0 where
+  pub image : List ℕ
+  pub is_walk : IsWalk other image (f v) (f w)
+  pub sum : transit_sum other image ≡ transit_sum hops walk
+  pub long : length image ≡ length walk
+  pub after : P w
+
+sums_agree : (a b c d : ℚ) → a ≡ c → b ≡ d → a +ℚ b ≡ c +ℚ d
+sums_agree a b c d e f = λ i. e i +ℚ f i
+
+-- where each hop that leaves a node with the property has a counterpart, and leads to such a node, so has each walk from one
+module _ (hops other : List Hop) (f : ℕ → ℕ) (P : ℕ → Type 0) (each : (e : ℕ) (hop : Hop) → IsHop hops e hop → P hop.tail → Corresponds other f P hop) where
+  pub carried : (walk : List ℕ) (v w : ℕ) → P v → IsWalk hops walk v w → Carried hops other f P walk v w
+  carried [] v w p h = record { image = []; is_walk = ap f h; sum = refl; long = refl; after = subst P h p }
+  carried (e ∷ walk) v w p h =
+      let c : Corresponds other f P h.0 = each e h.0 h.1 (subst P (sym h.2) p) in
+      let r : Carried hops other f P walk h.0.head w = carried walk h.0.head w c.after h.3 in
+      record {
+        image = c.number ∷ r.image;
+        is_walk = (c.image, c.is_hop, c.tail ∙ ap f h.2, subst (λ u. IsWalk other r.image u (f w)) (sym c.head) r.is_walk);
+        sum = sums_agree _ _ _ _ (transit_of-hop other c.number c.image c.is_hop ∙ c.transit ∙ sym (transit_of-hop hops e h.0 h.1)) r.sum;
+        long = ap (λ k. suc k) r.long;
+        after = r.after;
+      }

@@ -1,0 +1,19 @@
+-- What the definitions of the network file have to do with each other.
+use Rattle.std.specs.Prelude.{◌≡◌, ℕ, List, Result, Ok}
+use Rattle.nf_formats.specs.Named.{Named}
+use Rattle.nf_formats.specs.WellNamed.{IsNamed}
+use Rattle.nf_formats.specs.NetLines.{Broken}
+use Rattle.nf_formats.specs.NetFile.{Reads}
+use Rattle.nf_formats.specs.NetText.{canonical}
+
+-- a text has at most one reading
+abbrev pub ReadsOnce : Type 0
+ReadsOnce = (text : List ℕ) (one other : Result Named Broken) → Reads text one → Reads text other → one ≡ other
+
+-- a network's canonical text is read as that network, with its names
+abbrev pub CanonicalReadsBack : Type 0
+CanonicalReadsBack = (n : Named) → IsNamed n → Reads (canonical n) (Ok n)
+
+-- a file that is accepted stands for a network of which this holds
+abbrev pub AcceptedIsNamed : Type 0
+AcceptedIsNamed = (text : List ℕ) (n : Named) → Reads text (Ok n) → IsNamed n

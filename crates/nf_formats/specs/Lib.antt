@@ -1,0 +1,12 @@
+pub mod Names
+pub mod Numbers
+pub mod Named
+pub mod NetLines
+pub mod NetClosing
+pub mod NetFile
+pub mod WellNamed
+pub mod NetText
+pub mod Causes
+pub mod Report
+pub mod ErrorLines
+pub mod Laws

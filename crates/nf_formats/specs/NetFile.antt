@@ -1,0 +1,33 @@
+-- The network file: which network a text stands for, or which rule it breaks first, and where.
+use Rattle.std.specs.Prelude.{◌≡◌, ℕ, List, Option, Some, None, Result, Ok, Err}
+use Rattle.std.specs.List.{AllByRecursion}
+use Rattle.nf_formats.specs.declared.NetRule.{NetRule}
+use Rattle.nf_formats.specs.declared.NetRule.TheVariants.{N1, N2}
+use Rattle.nf_lines.specs.Words.{read_lines, content_lines}
+use Rattle.nf_lines.specs.Faults.{LineFault, NotAscii, LongLine, first_fault}
+use Rattle.nf_formats.specs.Named.{Named}
+use Rattle.nf_formats.specs.NetLines.{Broken, Draft, draft_from}
+use Rattle.nf_formats.specs.NetClosing.{Breaks, closing_rules, IsFirst, StandsFor}
+
+abbrev pub as_rule : LineFault → Broken
+as_rule (NotAscii line) = record { rule = N1; line = line }
+as_rule (LongLine line) = record { rule = N2; line = line }
+
+-- what a whole file is read as: the network that it stands for if it breaks none of N17 to N22, or else the first of them, with
+-- line 0
+abbrev pub Closes : Draft → Result Named Broken → Type 0
+Closes draft (Ok n) = AllByRecursion (λ rule. ¬ Breaks draft rule) closing_rules × StandsFor draft n
+Closes draft (Err broken) = IsFirst (Breaks draft) closing_rules broken.rule × (broken.line ≡ 0)
+
+-- the rules go in three tiers: the bytes and lengths of all lines, the lines one by one, the file as a whole
+abbrev pub by_lines : Result Draft Broken → Result Named Broken → Type 0
+by_lines (Err broken) result = result ≡ Err broken
+by_lines (Ok draft) result = Closes draft result
+
+abbrev pub by_bytes : Option LineFault → Result Draft Broken → Result Named Broken → Type 0
+by_bytes (Some fault) lines result = result ≡ Err (as_rule fault)
+by_bytes None lines result = by_lines lines result
+
+-- The text stands for this network; or it breaks this rule first, in this line.
+abbrev pub Reads : List ℕ → Result Named Broken → Type 0
+Reads text result = by_bytes (first_fault text) (draft_from (content_lines (read_lines text))) result

@@ -1,0 +1,32 @@
+-- What no line may have.
+use Rattle.std.specs.Prelude.{ℕ, Bool, not, ◌&&◌, ◌||◌, ◌==◌, nat_lt, nat_le, if◌then◌else◌, List, [], ◌∷◌, length, Option, Some, None}
+use Rattle.std.specs.List.{list_all}
+use Rattle.std.specs.Option.{option_or}
+use Rattle.nf_lines.specs.Lines.{TextLine, lines}
+
+-- a line that breaks a rule, by its number
+pub data LineFault : Type 0 where
+  NotAscii : ℕ → LineFault
+  LongLine : ℕ → LineFault
+
+-- a tab, or printable ASCII
+abbrev pub is_allowed : ℕ → Bool
+is_allowed b = b == 9 || (nat_le 32 b && nat_le b 126)
+
+-- the most bytes of a line, without its ending
+abbrev pub longest_line : ℕ
+longest_line = 1000
+
+-- another byte, and else too many of them
+abbrev pub line_fault : TextLine → Option LineFault
+line_fault line =
+    if not (list_all is_allowed line.bytes) then Some (NotAscii line.number) else
+    (if nat_lt longest_line (length line.bytes) then Some (LongLine line.number) else None)
+
+-- the fault of the first line that has one
+abbrev pub first_fault_of : List TextLine → Option LineFault
+first_fault_of [] = None
+first_fault_of (line ∷ lines) = option_or (line_fault line) (first_fault_of lines)
+
+abbrev pub first_fault : List ℕ → Option LineFault
+first_fault text = first_fault_of (lines text)
