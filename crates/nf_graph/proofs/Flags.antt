@@ -1,0 +1,50 @@
+-- Lists of flags, and how many of them are not set.
+use Rattle.std.proofs.Common.{◌≡◌, ◌≢◌, ℕ, zero, suc, ◌+◌, ◌<◌, ◌⊎◌, inl, inr, ⊎_elim, Bool, true, false, List, [], ◌∷◌, length, set, replicate, Some, slice_get, refl, sym, ap, arith}
+use Rattle.std.proofs.lemmas.Option.{slice_get_within}
+use Rattle.nf_model.specs.Entries.{Has}
+
+-- how many flags are not set
+abbrev pub free : List Bool → ℕ
+free [] = 0
+free (true ∷ flags) = free flags
+free (false ∷ flags) = suc (free flags)
+
+pub free-set : (flags : List Bool) (i : ℕ) → slice_get flags i ≡ Some false → suc (free (set flags i true)) ≡ free flags
+free-set [] i e = absurd (cc)
+free-set (true ∷ flags) zero e = absurd (cc)
+free-set (false ∷ flags) zero e = refl
+free-set (true ∷ flags) (suc i) e = free-set flags i e
+free-set (false ∷ flags) (suc i) e = ap suc (free-set flags i e)
+
+pub Has-set_same : (flags : List Bool) (i : ℕ) → i < length flags → Has (set flags i true) i
+Has-set_same [] i h = absurd (omega arith)
+Has-set_same (b ∷ flags) zero h = refl
+Has-set_same (b ∷ flags) (suc i) h = Has-set_same flags i (omega arith)
+
+pub Has-set_other : (flags : List Bool) (i j : ℕ) → Has flags j → Has (set flags i true) j
+Has-set_other [] i j h = h
+Has-set_other (b ∷ flags) zero zero h = refl
+Has-set_other (b ∷ flags) zero (suc j) h = h
+Has-set_other (b ∷ flags) (suc i) zero h = h
+Has-set_other (b ∷ flags) (suc i) (suc j) h = Has-set_other flags i j h
+
+pub Has-set_cases : (flags : List Bool) (i j : ℕ) → Has (set flags i true) j → (j ≡ i) ⊎ Has flags j
+Has-set_cases [] i j h = inr h
+Has-set_cases (b ∷ flags) zero zero h = inl refl
+Has-set_cases (b ∷ flags) zero (suc j) h = inr h
+Has-set_cases (b ∷ flags) (suc i) zero h = inr h
+Has-set_cases (b ∷ flags) (suc i) (suc j) h = ⊎_elim (λ (e : j ≡ i). inl (ap suc e)) (λ (k : Has flags j). inr k) (Has-set_cases flags i j h)
+
+pub Has-replicate : (n v : ℕ) → Has (replicate n false) v → ⊥
+Has-replicate zero v h = cc
+Has-replicate (suc n) zero h = cc
+Has-replicate (suc n) (suc v) h = Has-replicate n v h
+
+pub not_set : (flags : List Bool) (i : ℕ) → i < length flags → (Has flags i → ⊥) → slice_get flags i ≡ Some false
+not_set [] i h k = absurd (omega arith)
+not_set (true ∷ flags) zero h k = absurd (k refl)
+not_set (false ∷ flags) zero h k = refl
+not_set (b ∷ flags) (suc i) h k = not_set flags i (omega arith) k
+
+pub Has-within : (flags : List Bool) (i : ℕ) → Has flags i → i < length flags
+Has-within flags i h = slice_get_within flags i true h

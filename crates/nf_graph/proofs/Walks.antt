@@ -1,0 +1,40 @@
+-- Walks along hops.
+use Rattle.std.proofs.Common.{◌≡◌, ◌≢◌, ℕ, ◌+◌, ◌<◌, ◌≤◌, List, [], ◌∷◌, ◌++◌, length, get_or, ⊎_elim, eqb, true, false, Bool, Some, slice_get, refl, sym, subst, arith}
+use Rattle.std.proofs.lemmas.Option.{slice_get_within, slice_get_read}
+use Rattle.std.proofs.lemmas.Bool.Decides.{eqb_tells}
+use Rattle.nf_model.specs.Entries.{Has}
+use Rattle.nf_model.specs.Walk.{Hop, IsHop, IsWalk}
+use Rattle.nf_graph.specs.Graph.{IsClosed}
+
+pub IsHop-unique : (hops : List Hop) (e : ℕ) (a b : Hop) → IsHop hops e a → IsHop hops e b → a ≡ b
+IsHop-unique hops e a b p q = cc
+
+-- one hop more at the end
+pub IsWalk-append : (hops : List Hop) (walk : List ℕ) (v e : ℕ) (hop : Hop) → IsWalk hops walk v hop.tail → IsHop hops e hop → IsWalk hops (walk ++ e ∷ []) v hop.head
+IsWalk-append hops [] v e hop h p = (hop, p, sym h, refl)
+IsWalk-append hops (f ∷ walk) v e hop h p = (h.0, h.1, h.2, IsWalk-append hops walk h.0.head e hop h.3 p)
+
+-- from flags that no hop leaves, no walk leaves them
+pub IsClosed-walk : (hops : List Hop) (flags : List Bool) (walk : List ℕ) (v w : ℕ) → IsClosed hops flags → Has flags v → IsWalk hops walk v w → Has flags w
+IsClosed-walk hops flags [] v w c h p = subst (λ (n : ℕ). Has flags n) p h
+IsClosed-walk hops flags (e ∷ walk) v w c h p =
+    IsClosed-walk hops flags walk p.0.head w c (c e p.0 p.1 (subst (λ (n : ℕ). Has flags n) (sym p.2) h)) p.3
+
+-- ---- loops over hops
+
+-- what holds of each hop before place i, and of the hop there, holds of each before the next place
+pub each_more : (P : ℕ → Hop → Type 0) (hops : List Hop) (i : ℕ) (here : Hop) → ((k : ℕ) (hop : Hop) → k < i → IsHop hops k hop → P k hop)
+    → IsHop hops i here → P i here → (k : ℕ) (hop : Hop) → k < i + 1 → IsHop hops k hop → P k hop
+each_more P hops i here so_far p holds k hop h q = ⊎_elim
+    (λ (w : (eqb k i ≡ true) × (k ≡ i)). subst (λ (n : ℕ). (x : Hop) → IsHop hops n x → P n x) (sym w.1) (λ x r. subst (λ (y : Hop). P i y) (IsHop-unique hops i here x p r) holds) hop q)
+    (λ (w : (eqb k i ≡ false) × (k ≢ i)). so_far k hop (omega arith) q)
+    (eqb_tells k i)
+
+-- and after the last place of each hop
+pub each_all : (P : ℕ → Hop → Type 0) (hops : List Hop) (i : ℕ) → ((k : ℕ) (hop : Hop) → k < i → IsHop hops k hop → P k hop) → length hops ≤ i
+    → (k : ℕ) (hop : Hop) → IsHop hops k hop → P k hop
+each_all P hops i so_far h k hop q = let w : k < length hops = slice_get_within hops k hop q in so_far k hop (omega arith) q
+
+-- the hop that was read at a place
+pub IsHop-read : (hops : List Hop) (i : ℕ) (hop : Hop) → i < length hops → hop ≡ get_or hops i hop → IsHop hops i hop
+IsHop-read hops i hop h e = slice_get_read hops (length hops) i hop refl h e

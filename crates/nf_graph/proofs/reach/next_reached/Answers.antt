@@ -1,0 +1,22 @@
+use Rattle.std.proofs.Common.{ap, sym, subst, arith}
+use Rattle.nf_model.specs.Entries.{Has}
+use Rattle.nf_model.specs.Walk.{Hop}
+use Rattle.nf_graph.proofs.Walks.{each_more, each_all, IsHop-read}
+use Rattle.nf_graph.proofs.reach.next_reached.Goals as goal
+
+pub returns-then-leads_out : goal.returns-then-leads_out
+returns-then-leads_out c = record {
+  number = c.loop-hop.hop-index;
+  hop = c.hop-item.result;
+  is_hop = IsHop-read c.args.hops.now c.loop-hop.hop-index c.hop-item.result (omega arith) c.hop-item.is;
+  tail = c.if-leads_out.ensures.0;
+  head = ap (λ (h : Hop). h.head) (sym c.hop.view_is);
+  free = subst (λ (h : Hop). Has c.args.flags.now h.head → ⊥) (sym c.hop.view_is) c.if-leads_out.ensures.1;
+}
+
+pub loop-hop-preserved : goal.loop-hop-preserved
+loop-hop-preserved c = each_more (λ _ (hop : Hop). Has c.args.flags.now hop.tail → Has c.args.flags.now hop.head) c.args.hops.now c.loop-hop.hop-index c.hop-item.result
+    c.loop-hop.invariant (IsHop-read c.args.hops.now c.loop-hop.hop-index c.hop-item.result (omega arith) c.hop-item.is) c.if-leads_out.ensures
+
+pub returns : goal.returns
+returns c = each_all (λ _ (hop : Hop). Has c.args.flags.now hop.tail → Has c.args.flags.now hop.head) c.args.hops.now c.loop-hop.hop-index c.loop-hop.invariant (omega arith)

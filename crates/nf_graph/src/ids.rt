@@ -1,0 +1,74 @@
+// Nodes and links by their numbers, and hops.
+ghost use Rattle.std.specs.Prelude.{◌≡◌};
+
+use nf_frac::Q;
+use std::marker::Model;
+
+/// A node, by its number.
+#[derive(Clone, Copy, Debug, PartialEq, Eq, PartialOrd, Ord, Hash)]
+pub struct NodeId(pub u32);
+
+impl Model for NodeId {
+    ghost use Rattle.std.specs.Prelude.{ℕ};
+
+    ghost Value = { ℕ };
+
+    ghost view = { λ a. a.0 };
+
+    ghost inverse = { λ n. record { 0 = n } };
+}
+
+impl NodeId {
+    /// Its place in a list with one entry for each node.
+    #[inline(always)]
+    pub fn index(self) -> usize
+        ensures { result ≡ self }
+    {
+        self.0 as usize
+    }
+}
+
+/// A link, by its number.
+#[derive(Clone, Copy, Debug, PartialEq, Eq, PartialOrd, Ord, Hash)]
+pub struct LinkId(pub u32);
+
+impl Model for LinkId {
+    ghost use Rattle.std.specs.Prelude.{ℕ};
+
+    ghost Value = { ℕ };
+
+    ghost view = { λ a. a.0 };
+
+    ghost inverse = { λ n. record { 0 = n } };
+}
+
+impl LinkId {
+    /// Its place in a list with one entry for each link.
+    #[inline(always)]
+    pub fn index(self) -> usize
+        ensures { result ≡ self }
+    {
+        self.0 as usize
+    }
+}
+
+/// A link where its capacity doesn't matter: it leads from one node to another in its transit time.
+#[derive(Clone, Copy, Debug)]
+pub struct Hop {
+    pub tail: NodeId,
+    pub head: NodeId,
+    pub transit: Q,
+}
+
+impl Model for Hop {
+    ghost use Rattle.nf_model.specs.Walk.{Hop as SeenHop};
+    ghost use Rattle.nf_model.specs.Codes.{coded_hop};
+
+    ghost Value = { SeenHop };
+
+    ghost coded = { coded_hop };
+
+    ghost view = { λ a. record { tail = a.tail; head = a.head; transit = a.transit } };
+
+    ghost inverse = { λ h. record { tail = h.tail; head = h.head; transit = h.transit } };
+}
