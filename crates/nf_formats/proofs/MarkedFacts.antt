@@ -11,7 +11,7 @@ use Rattle.nf_formats.proofs.DraftKept.{or_left, or_right}
 
 -- ---- entries
 module _ {X : Type 0} where
-  pub Entry : List X → X → Type 0
+  abbrev pub Entry : List X → X → Type 0
   Entry xs x = (e : ℕ) × (slice_get xs e ≡ Some x)
 
 -- a link that flags mark is one of the links

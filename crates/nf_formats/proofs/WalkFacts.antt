@@ -6,8 +6,9 @@ use Rattle.std.proofs.lemmas.Option.{slice_get-map, slice_get_within}
 use Rattle.nf_rational.specs.Rational.{ℚ}
 use Rattle.nf_rational.specs.Operations.{0ℚ, ◌+ℚ◌}
 use Rattle.nf_rational.specs.Order.{◌≤ℚ◌, ◌<ℚ◌}
-use Rattle.nf_rational_laws.proofs.Polynomial.{reading, reading_of}
-use Rattle.nf_rational_laws.proofs.Linear.{le, lt, eq, linear_le, linear_lt, linear_eq}
+use Rattle.nf_rational_laws.proofs.Polynomial.{reading_of}
+use Rattle.nf_rational_laws.proofs.Order.{≤ℚ_of_same, ≤ℚ_antisymm}
+use Rattle.nf_rational_laws.proofs.Linear.{le, linear_le}
 use Rattle.nf_model.specs.Walk.{Hop, IsHop, IsWalk, transit_of, transit_sum, IsLeastTransit}
 
 -- ---- entries of joined lists
@@ -92,3 +93,51 @@ module _ (hops other : List Hop) (f : ℕ → ℕ) (P : ℕ → Type 0) (each : 
         long = ap (λ k. suc k) r.long;
         after = r.after;
       }
+
+-- ---- the end of a walk
+pub walk_push : (hops : List Hop) (walk : List ℕ) (u v e : ℕ) (hop : Hop) → IsWalk hops walk u v → IsHop hops e hop → hop.tail ≡ v → IsWalk hops (walk ++ e ∷ []) u hop.head
+walk_push hops [] u v e hop h is from = (hop, is, from ∙ sym h, refl)
+walk_push hops (f ∷ walk) u v e hop h is from = (h.0, h.1, h.2, walk_push hops walk h.0.head v e hop h.3 is from)
+
+pub record LastHop (hops : List Hop) (u v : ℕ) : Type 0 where
+  pub front : List ℕ
+  pub number : ℕ
+  pub hop : Hop
+  pub is_walk : IsWalk hops front u hop.tail
+  pub is_hop : IsHop hops number hop
+  pub head : hop.head ≡ v
+
+pub last_hop : (hops : List Hop) (e : ℕ) (walk : List ℕ) (u v : ℕ) → IsWalk hops (e ∷ walk) u v → LastHop hops u v
+last_hop hops e [] u v h = record { front = []; number = e; hop = h.0; is_walk = sym h.2; is_hop = h.1; head = h.3 }
+last_hop hops e (f ∷ walk) u v h =
+    let r : LastHop hops h.0.head v = last_hop hops f walk h.0.head v h.3 in
+    record { front = e ∷ r.front; number = r.number; hop = r.hop; is_walk = (h.0, h.1, h.2, r.is_walk); is_hop = r.is_hop; head = r.head }
+
+pub starts_with_one : (xs : List ℕ) (k : ℕ) → length xs ≡ suc k → (i : ℕ) × (rest : List ℕ) × (xs ≡ i ∷ rest)
+starts_with_one [] k e = absurd (omega arith)
+starts_with_one (i ∷ rest) k e = (i, rest, refl)
+
+-- ---- sums of transit times that aren't negative
+sum_nn : (a b : ℚ) → 0ℚ ≤ℚ a → 0ℚ ≤ℚ b → 0ℚ ≤ℚ a +ℚ b
+sum_nn a b h k = linear_le (a ∷ b ∷ []) (le h ∷ le k ∷ []) (search reading_of depth 12) tt
+
+none_left : (a b : ℚ) → 0ℚ ≤ℚ a → 0ℚ ≤ℚ b → a +ℚ b ≤ℚ 0ℚ → a ≡ 0ℚ
+none_left a b h k s = ≤ℚ_antisymm a 0ℚ (linear_le (a ∷ b ∷ []) (le k ∷ le s ∷ []) (search reading_of depth 12) tt) h
+
+rest_left : (a b : ℚ) → 0ℚ ≤ℚ a → 0ℚ ≤ℚ b → a +ℚ b ≤ℚ 0ℚ → b ≤ℚ 0ℚ
+rest_left a b h k s = linear_le (a ∷ b ∷ []) (le h ∷ le s ∷ []) (search reading_of depth 12) tt
+
+module _ (hops : List Hop) (positive : (e : ℕ) (hop : Hop) → IsHop hops e hop → 0ℚ ≤ℚ hop.transit) where
+  transit_nn : (e : ℕ) (hop : Hop) → IsHop hops e hop → 0ℚ ≤ℚ transit_of hops e
+  transit_nn e hop is = subst (λ x. 0ℚ ≤ℚ x) (sym (transit_of-hop hops e hop is)) (positive e hop is)
+
+  pub transit_sum_nn : (walk : List ℕ) (u v : ℕ) → IsWalk hops walk u v → 0ℚ ≤ℚ transit_sum hops walk
+  transit_sum_nn [] u v h = ≤ℚ_of_same 0ℚ 0ℚ refl
+  transit_sum_nn (e ∷ walk) u v h = sum_nn (transit_of hops e) (transit_sum hops walk) (transit_nn e h.0 h.1) (transit_sum_nn walk h.0.head v h.3)
+
+  pub all_zero : (walk : List ℕ) (u v : ℕ) → IsWalk hops walk u v → transit_sum hops walk ≤ℚ 0ℚ → AllByRecursion (λ e. transit_of hops e ≡ 0ℚ) walk
+  all_zero [] u v h s = tt
+  all_zero (e ∷ walk) u v h s =
+      let a : 0ℚ ≤ℚ transit_of hops e = transit_nn e h.0 h.1 in
+      let b : 0ℚ ≤ℚ transit_sum hops walk = transit_sum_nn walk h.0.head v h.3 in
+      (none_left (transit_of hops e) (transit_sum hops walk) a b s, all_zero walk h.0.head v h.3 (rest_left (transit_of hops e) (transit_sum hops walk) a b s))

@@ -3,7 +3,7 @@
 //! definitions share: see `specs/`, and docs/FORMATS.md for the same in prose. All formats are this project's own.
 #![tactic(auto)]
 
-ghost use Rattle.nf_formats.specs.Laws.{ReadsOnce, CanonicalReadsBack};
+ghost use Rattle.nf_formats.specs.Laws.{ReadsOnce, AcceptedIsNamed, CanonicalReadsBack};
 
 use nf_work::PassedAt;
 
@@ -78,7 +78,13 @@ pub fn reads_once()
     ensures { ReadsOnce }
 {}
 
-/// The canonical text of a network is read as that network, with the same names.
+/// What holds of the network of every accepted file: it is a network of the model, its names and numbers are within the limits,
+/// and what it has beside it is idle.
+pub fn accepted_is_named()
+    ensures { AcceptedIsNamed }
+{}
+
+/// The canonical text of such a network is read as that network, with the same names.
 pub fn canonical_reads_back()
     ensures { CanonicalReadsBack }
 {}
