@@ -17,11 +17,14 @@ is_allowed b = b == 9 || (nat_le 32 b && nat_le b 126)
 abbrev pub longest_line : ℕ
 longest_line = 1000
 
--- another byte, and else too many of them
+-- of a line's bytes: another byte, and else too many of them
+abbrev pub fault_of : ℕ → List ℕ → Option LineFault
+fault_of number bytes =
+    if not (list_all is_allowed bytes) then Some (NotAscii number) else
+    (if nat_lt longest_line (length bytes) then Some (LongLine number) else None)
+
 abbrev pub line_fault : TextLine → Option LineFault
-line_fault line =
-    if not (list_all is_allowed line.bytes) then Some (NotAscii line.number) else
-    (if nat_lt longest_line (length line.bytes) then Some (LongLine line.number) else None)
+line_fault line = fault_of line.number line.bytes
 
 -- the fault of the first line that has one
 abbrev pub first_fault_of : List TextLine → Option LineFault

@@ -1,0 +1,6 @@
+pub mod Positions
+pub mod Plain
+pub mod Parts
+pub mod Extents
+pub mod LineWords
+pub mod LineSteps

@@ -1,0 +1,70 @@
+-- The steps of the loop over the lines.
+use Rattle.std.specs.Prelude.{◌≡◌, ℕ, ◌+◌, ◌<◌, ◌≤◌, List, [], ◌∷◌, ◌++◌, length, drop, map, Option, None, Some, refl}
+use Rattle.std.proofs.Common.{arith, ◌∙◌, sym, ap, length-drop, append_assoc, append-nil}
+use Rattle.std.specs.Option.{option_or}
+use Rattle.std.proofs.lemmas.List.{map-append, drop-drop}
+use Rattle.std.proofs.lemmas.Grind.{flat_map-append}
+use Rattle.nf_lines.specs.Lines.{TextLine, lines_from}
+use Rattle.nf_lines.specs.Words.{ReadLine, read_line}
+use Rattle.nf_lines.specs.Faults.{LineFault, line_fault, first_fault_of}
+use Rattle.nf_text.specs.declared.Line.{Line}
+use Rattle.nf_text.specs.declared.TextFault.{TextFault}
+use Rattle.nf_text.specs.declared.TextFault.TheVariants as TextFault
+use Rattle.nf_text.specs.Spans.{Rise}
+use Rattle.nf_text.specs.Reading.{seen_line, spans_of, Tells, whole_len, first_line}
+use Rattle.nf_text.proofs.Extents.{lines_from-first}
+use Rattle.nf_text.proofs.Parts.{Rise-append}
+
+-- the lines from a place on: the one there, and those from the next place on
+lines_left : (text : List ℕ) (n start next : ℕ) → start < length text → next ≡ start + whole_len (drop start text)
+    → lines_from n (drop start text) ≡ first_line n (drop start text) ∷ lines_from (n + 1) (drop next text)
+lines_left text n start next h e = let some : 0 < length (drop start text) = omega (arith, length-drop start text, h) in
+    lines_from-first n (drop start text) some
+    ∙ ap (λ t. first_line n (drop start text) ∷ lines_from (n + 1) t) (drop-drop (whole_len (drop start text)) start text ∙ ap (λ k. drop k text) (sym e))
+
+pub step_read : (text : List ℕ) (lines : List Line) (line : Line) (total : List ReadLine) (before n after start next : ℕ)
+    → start < length text → before ≡ n → after ≡ n + 1 → next ≡ start + whole_len (drop start text)
+    → seen_line text line ≡ read_line (first_line n (drop start text))
+    → total ≡ map (seen_line text) lines ++ map read_line (lines_from before (drop start text))
+    → total ≡ map (seen_line text) (lines ++ line ∷ []) ++ map read_line (lines_from after (drop next text))
+step_read text lines line total before n after start next h b a e seen r =
+    r ∙ ap (λ n. map (seen_line text) lines ++ map read_line (lines_from n (drop start text))) b
+    ∙ ap (λ left. map (seen_line text) lines ++ map read_line left) (lines_left text n start next h e)
+    ∙ ap (λ l. map (seen_line text) lines ++ (l ∷ map read_line (lines_from (n + 1) (drop next text)))) (sym seen)
+    ∙ sym (append_assoc (map (seen_line text) lines) (seen_line text line ∷ []) (map read_line (lines_from (n + 1) (drop next text))))
+    ∙ ap (λ t. t ++ map read_line (lines_from (n + 1) (drop next text))) (sym (map-append (seen_line text) lines (line ∷ [])))
+    ∙ ap (λ n. map (seen_line text) (lines ++ line ∷ []) ++ map read_line (lines_from n (drop next text))) (sym a)
+
+pub step_fault : (text : List ℕ) (first : Option LineFault) (before n after start next : ℕ)
+    → start < length text → before ≡ n → after ≡ n + 1 → next ≡ start + whole_len (drop start text)
+    → line_fault (first_line n (drop start text)) ≡ None
+    → first ≡ first_fault_of (lines_from before (drop start text)) → first ≡ first_fault_of (lines_from after (drop next text))
+step_fault text first before n after start next h b a e none f =
+    f ∙ ap (λ n. first_fault_of (lines_from n (drop start text))) b ∙ ap first_fault_of (lines_left text n start next h e)
+    ∙ ap (λ o. option_or o (first_fault_of (lines_from (n + 1) (drop next text)))) none
+    ∙ ap (λ n. first_fault_of (lines_from n (drop next text))) (sym a)
+
+tells_or : (fault : TextFault) (o p : Option LineFault) → Tells fault o → Tells fault (option_or o p)
+tells_or (TextFault.NotAscii line) o p h = ap (λ o. option_or o p) h
+tells_or (TextFault.LongLine line) o p h = ap (λ o. option_or o p) h
+tells_or TextFault.Memory o p h = tt
+
+tells_same : (fault : TextFault) (o p : Option LineFault) → p ≡ o → Tells fault o → Tells fault p
+tells_same (TextFault.NotAscii line) o p e h = e ∙ h
+tells_same (TextFault.LongLine line) o p e h = e ∙ h
+tells_same TextFault.Memory o p e h = tt
+
+pub stops_at_fault : (text : List ℕ) (first : Option LineFault) (fault : TextFault) (before n start : ℕ)
+    → start < length text → before ≡ n → Tells fault (line_fault (first_line n (drop start text)))
+    → first ≡ first_fault_of (lines_from before (drop start text)) → Tells fault first
+stops_at_fault text first fault before n start h b t f =
+    let next : ℕ = start + whole_len (drop start text) in
+    let left : first ≡ option_or (line_fault (first_line n (drop start text))) (first_fault_of (lines_from (n + 1) (drop next text))) =
+        f ∙ ap (λ n. first_fault_of (lines_from n (drop start text))) b ∙ ap first_fault_of (lines_left text n start next h refl) in
+    tells_same fault (option_or (line_fault (first_line n (drop start text))) (first_fault_of (lines_from (n + 1) (drop next text)))) first left
+        (tells_or fault (line_fault (first_line n (drop start text))) (first_fault_of (lines_from (n + 1) (drop next text))) t)
+
+pub step_rise : (lines : List Line) (line : Line) (start next : ℕ) → start ≤ next → Rise 0 start (spans_of lines) → Rise start next line.words.items → Rise 0 next (spans_of (lines ++ line ∷ []))
+step_rise lines line start next h r t =
+    let both : spans_of (lines ++ line ∷ []) ≡ spans_of lines ++ line.words.items = flat_map-append (λ line. line.words.items) lines (line ∷ []) ∙ ap (λ t. spans_of lines ++ t) (append-nil line.words.items) in
+    rw both (Rise-append 0 start next (spans_of lines) line.words.items (omega arith) h r t)

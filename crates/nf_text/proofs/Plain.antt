@@ -1,0 +1,87 @@
+-- A line compared with its words.
+use Rattle.std.specs.Prelude.{◌≡◌, ℕ, ◌+◌, ◌<◌, ◌≤◌, Bool, true, false, ◌&&◌, nat_eq, nat_lt, List, [], ◌∷◌, ◌++◌, length, take, drop, map, Option, None, Some, MatchOption, refl}
+use Rattle.std.proofs.Common.{arith, zero, suc, ◌∙◌, sym, ap, append_assoc, append-nil, add-one, get_or}
+use Rattle.std.specs.Borrow.{Bor}
+use Rattle.std.specs.List.{join_with_byte, flat_map}
+use Rattle.std.specs.Str.{bytes_eq}
+use Rattle.std.proofs.lemmas.List.{drop_more, drop_all}
+use Rattle.std.proofs.lemmas.Bool.{lt-ltb}
+use Rattle.nf_text.specs.Spans.{space_before, GoesOn}
+
+and-assoc : (a b c : Bool) → ((a && b) && c) ≡ (a && (b && c))
+and-assoc true b c = refl
+and-assoc false b c = refl
+
+-- a line against a front and a tail
+bytes_eq-append : (line front tail : List ℕ) → bytes_eq line (front ++ tail) ≡ (bytes_eq (take (length front) line) front && bytes_eq (drop (length front) line) tail)
+bytes_eq-append line [] tail = refl
+bytes_eq-append [] (x ∷ front) tail = refl
+bytes_eq-append (y ∷ line) (x ∷ front) tail = ap (λ b. nat_eq y x && b) (bytes_eq-append line front tail)
+    ∙ sym (and-assoc (nat_eq y x) (bytes_eq (take (length front) line) front) (bytes_eq (drop (length front) line) tail))
+
+-- what `strip_prefix` answers
+pub goes_on : (line front : List ℕ) (rest : Option (Bor (List ℕ)))
+    → MatchOption rest (bytes_eq (take (length front) line) front ≡ false)
+        (λ r. (bytes_eq (take (length front) line) front ≡ true) × (r.now ≡ drop (length front) line) × (length r.now + length front ≡ length line))
+    → GoesOn line front rest
+goes_on line front None h tail = bytes_eq-append line front tail ∙ ap (λ b. b && bytes_eq (drop (length front) line) tail) h
+goes_on line front (Some r) h tail = bytes_eq-append line front tail ∙ ap (λ b. b && bytes_eq (drop (length front) line) tail) h.0
+    ∙ ap (λ t. bytes_eq t tail) (sym h.1)
+
+-- after a space, a word
+pub goes_on_spaced : (line word : List ℕ) (next : Bor (List ℕ)) (rest : Option (Bor (List ℕ)))
+    → GoesOn line (32 ∷ []) (Some next) → GoesOn next.now word rest → GoesOn line (32 ∷ word) rest
+goes_on_spaced line word next None h k tail = h (word ++ tail) ∙ k tail
+goes_on_spaced line word next (Some r) h k tail = h (word ++ tail) ∙ k tail
+
+pub no_space : (line word : List ℕ) → GoesOn line (32 ∷ []) None → GoesOn line (32 ∷ word) None
+no_space line word h tail = h (word ++ tail)
+
+-- ---- the words from one of them on, with a space before each but the first of all
+abbrev pub words_left : List (List ℕ) → ℕ → List ℕ
+words_left words zero = join_with_byte 32 words
+words_left words (suc n) = flat_map (λ w. 32 ∷ w) (drop (suc n) words)
+
+join-cons : (w : List ℕ) (ws : List (List ℕ)) → join_with_byte 32 (w ∷ ws) ≡ w ++ flat_map (λ v. 32 ∷ v) ws
+join-cons w [] = sym (append-nil w)
+join-cons w (v ∷ ws) = ap (λ t. w ++ (32 ∷ t)) (join-cons v ws)
+
+left_is : (words : List (List ℕ)) (j n : ℕ) → j ≡ suc n → flat_map (λ w. 32 ∷ w) (drop j words) ≡ words_left words j
+left_is words zero n e = absurd (omega (arith, e))
+left_is words (suc j) n e = refl
+
+pub words_left-step : (words : List (List ℕ)) (i : ℕ) (d : List ℕ) → i < length words
+    → words_left words i ≡ space_before (nat_lt 0 i) (get_or words i d) ++ words_left words (i + 1)
+words_left-step [] zero d h = absurd (omega (arith, h))
+words_left-step (w ∷ ws) zero d h = join-cons w ws
+words_left-step words (suc n) d h = ap (flat_map (λ w. 32 ∷ w)) (drop_more words (suc n) d h) ∙ at words (suc n + 1) (suc n) d (lt-ltb 0 (suc n) (omega arith)) (add-one (suc n))
+  where
+    at : (words : List (List ℕ)) (j n : ℕ) (d : List ℕ) → nat_lt 0 n ≡ true → j ≡ suc n
+        → (32 ∷ get_or words n d) ++ flat_map (λ w. 32 ∷ w) (drop j words) ≡ space_before (nat_lt 0 n) (get_or words n d) ++ words_left words j
+    at words j n d t e = ap (λ s. (32 ∷ get_or words n d) ++ s) (left_is words j n e) ∙ ap (λ b. space_before b (get_or words n d) ++ words_left words j) (sym t)
+
+pub words_left-all : (words : List (List ℕ)) (i : ℕ) → length words ≤ i → words_left words i ≡ []
+words_left-all [] zero h = refl
+words_left-all (w ∷ ws) zero h = absurd (omega (arith, h))
+words_left-all words (suc n) h = ap (flat_map (λ w. 32 ∷ w)) (drop_all (suc n) words h)
+
+-- ---- the steps of the loop over the words
+-- the next word is there, with its space
+pub plain_step : (whole : Bool) (line : List ℕ) (words : List (List ℕ)) (i : ℕ) (d w : List ℕ) (next : Bor (List ℕ)) → i < length words
+    → w ≡ get_or words i d → GoesOn line (space_before (nat_lt 0 i) w) (Some next)
+    → whole ≡ bytes_eq line (words_left words i ++ 10 ∷ []) → whole ≡ bytes_eq next.now (words_left words (i + 1) ++ 10 ∷ [])
+plain_step whole line words i d w next h k g e = e ∙ ap (λ t. bytes_eq line (t ++ 10 ∷ [])) (words_left-step words i d h)
+    ∙ ap (bytes_eq line) (append_assoc (space_before (nat_lt 0 i) (get_or words i d)) (words_left words (i + 1)) (10 ∷ []))
+    ∙ ap (λ v. bytes_eq line (space_before (nat_lt 0 i) v ++ (words_left words (i + 1) ++ 10 ∷ []))) (sym k) ∙ g (words_left words (i + 1) ++ 10 ∷ [])
+
+-- or it isn't
+pub plain_stop : (whole : Bool) (line : List ℕ) (words : List (List ℕ)) (i : ℕ) (d w : List ℕ) → i < length words
+    → w ≡ get_or words i d → GoesOn line (space_before (nat_lt 0 i) w) None
+    → whole ≡ bytes_eq line (words_left words i ++ 10 ∷ []) → false ≡ whole
+plain_stop whole line words i d w h k g e = sym (e ∙ ap (λ t. bytes_eq line (t ++ 10 ∷ [])) (words_left-step words i d h)
+    ∙ ap (bytes_eq line) (append_assoc (space_before (nat_lt 0 i) (get_or words i d)) (words_left words (i + 1)) (10 ∷ []))
+    ∙ ap (λ v. bytes_eq line (space_before (nat_lt 0 i) v ++ (words_left words (i + 1) ++ 10 ∷ []))) (sym k) ∙ g (words_left words (i + 1) ++ 10 ∷ []))
+
+pub plain_end : (whole : Bool) (line : List ℕ) (words : List (List ℕ)) (i : ℕ) → length words ≤ i
+    → whole ≡ bytes_eq line (words_left words i ++ 10 ∷ []) → bytes_eq line (10 ∷ []) ≡ whole
+plain_end whole line words i h e = sym (e ∙ ap (λ t. bytes_eq line (t ++ 10 ∷ [])) (words_left-all words i h))

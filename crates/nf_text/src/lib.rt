@@ -1,0 +1,97 @@
+//! The lines and words of a text file, with their places. The formats stand on it; it is this project's own.
+#![tactic(auto)]
+
+ghost use Rattle.std.specs.Prelude.{◌≡◌, ◌+◌, ◌≤◌, length, map, None, IfOk, IfErr, OnOk};
+ghost use Rattle.nf_lines.specs.Words.{read_lines};
+ghost use Rattle.nf_lines.specs.Faults.{first_fault};
+ghost use Rattle.nf_text.specs.Reading.{seen_line, spans_of, Tells};
+ghost use Rattle.nf_text.specs.Spans.{text_of, Rise};
+ghost use Rattle.nf_text.specs.declared.TextFault.TheVariants as TextFault;
+
+
+
+mod places;
+mod reading;
+mod words;
+
+use reading::read_line;
+use std::alloc::{AllocError, AllocFailed, Global};
+use thiserror::Error;
+
+/// The place of a word in a text, in bytes.
+#[derive(Clone, Copy, Debug, PartialEq, Eq)]
+pub struct Span {
+    pub start: u32,
+    pub len: u32,
+}
+
+impl Span {
+    /// The bytes at this place of a text.
+    pub fn of(self, text: &[u8]) -> &[u8]
+        requires { self.start + self.len ≤ length text.now }
+        ensures { result.now ≡ text_of text.now self }
+    {
+        let start = self.start as usize;
+        &text[start..start + self.len as usize]
+    }
+}
+
+/// A line, numbered from 1. It is plain where it is its words joined by single spaces and ended by LF.
+#[derive(Debug, Drop)]
+pub struct Line {
+    pub number: u32,
+    pub plain: bool,
+    pub words: Vec<Span>,
+}
+
+/// Why a text isn't read.
+#[derive(Clone, Copy, Debug, PartialEq, Eq, Error)]
+pub enum TextFault {
+    /// The line has a byte other than tab and 32 to 126.
+    #[error("line {line} isn't ASCII")]
+    NotAscii { line: u32 },
+    /// The line has more than 1,000 bytes without its ending.
+    #[error("line {line} is too long")]
+    LongLine { line: u32 },
+    /// Memory is wanting.
+    #[error("memory is wanting")]
+    Memory,
+}
+
+impl From<AllocError> for TextFault {
+    ghost from_gives = { λ _ fault. fault ≡ TextFault.Memory };
+
+    fn from(_: AllocError) -> Self {
+        TextFault::Memory
+    }
+}
+
+impl<T: Drop> From<AllocFailed<T>> for TextFault {
+    ghost from_gives = { λ _ fault. fault ≡ TextFault.Memory };
+
+    fn from(_: AllocFailed<T>) -> Self {
+        TextFault::Memory
+    }
+}
+
+/// The lines of a text of at most 67,108,864 bytes, each with its words; or the fault of the first line that has one.
+pub fn lines(alloc: Global, text: &[u8]) -> Result<Vec<Line>, TextFault>
+    requires { length text.now ≤ 67108864 }
+
+    // Each word's text is the slice of its span.
+    ensures lines { IfOk result (λ read. map (seen_line text.now) read.items ≡ read_lines text.now) }
+    ensures rise { IfOk result (λ read. Rise 0 (length text.now) (spans_of read.items)) }
+
+    ensures none { OnOk result (first_fault text.now ≡ None) }
+    ensures fault { IfErr result (λ fault. Tells fault (first_fault text.now)) }
+{
+    let mut lines = Vec::new(alloc);
+    let mut start = 0;
+    while start < text.len() {
+        let number = lines.len() as u32 + 1;
+        let (line, next) = read_line(alloc, text, start, number)?;
+        lines.push(line)?;
+        start = next;
+    }
+    Ok(lines)
+}

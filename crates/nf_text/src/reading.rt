@@ -1,0 +1,107 @@
+// One line of a text.
+ghost use Rattle.std.specs.Prelude.{◌≡◌, ◌+◌, ◌<◌, ◌≤◌, ◌∷◌, Bool, false, true, length, drop, None, IfOk, IfErr, OnOk, MatchResult};
+ghost use Rattle.std.specs.List.{list_all};
+ghost use Rattle.nf_lines.specs.Lines.{lines_from};
+ghost use Rattle.nf_lines.specs.Words.{read_line as as_read};
+ghost use Rattle.nf_lines.specs.Faults.{is_allowed, fault_of, line_fault};
+ghost use Rattle.nf_text.specs.Spans.{Rise};
+ghost use Rattle.nf_text.specs.Reading.{seen_line, Tells, bytes_len, whole_len, first_line};
+
+use crate::places::{comment_start, line_len};
+use crate::words::{is_plain, spans};
+use crate::{Line, TextFault};
+use std::alloc::Global;
+
+/// The most bytes of a line, without its ending.
+const LONGEST_LINE: usize = 1000;
+
+fn is_text_byte(byte: u8) -> bool
+    ensures { result ≡ is_allowed byte }
+{
+    byte == b'\t' || (b' ' <= byte && byte <= b'~')
+}
+
+fn is_text(bytes: &[u8]) -> bool
+    ensures { result ≡ list_all is_allowed bytes.now }
+{
+    bytes.iter().all(|byte| is_text_byte(*byte))
+}
+
+fn check_line(bytes: &[u8], number: u32) -> Result<(), TextFault>
+    ensures { MatchResult result (λ _. fault_of number bytes.now ≡ None)
+        (λ fault. Tells fault (fault_of number bytes.now)) }
+{
+    if !is_text(bytes) {
+        return Err(TextFault::NotAscii { line: number });
+    }
+    if bytes.len() > LONGEST_LINE {
+        return Err(TextFault::LongLine { line: number });
+    }
+    Ok(())
+}
+
+// How many bytes a line has, without its ending and with it.
+#[derive(Clone, Copy)]
+struct Extent {
+    bytes: usize,
+    whole: usize,
+}
+
+// The extent of the first line.
+fn first_extent(rest: &[u8]) -> Extent
+    ensures bytes { result.bytes ≡ bytes_len rest.now }
+    ensures whole { result.whole ≡ whole_len rest.now }
+    ensures ordered { result.bytes ≤ result.whole }
+    ensures within { result.whole ≤ length rest.now }
+    ensures some { 0 < length rest.now → 0 < result.whole }
+{
+    let len = line_len(rest);
+    if len == rest.len() {
+        return Extent {
+            bytes: len,
+            whole: len,
+        };
+    }
+    let bytes = if len > 0 && rest[len - 1] == b'\r' {
+        len - 1
+    } else {
+        len
+    };
+    Extent {
+        bytes,
+        whole: len + 1,
+    }
+}
+
+// The line that begins at a place of the text, and where the next one begins.
+pub fn read_line(
+    alloc: Global,
+    text: &[u8],
+    start: usize,
+    number: u32,
+) -> Result<(Line, usize), TextFault>
+    requires some { start < length text.now }
+    requires small { length text.now ≤ 67108864 }
+    ensures line { IfOk result (λ r. seen_line text.now r.0 ≡ as_read (first_line number (drop start text.now))) }
+    ensures rise { IfOk result (λ r. Rise start r.1 r.0.words.items) }
+    ensures next { IfOk result (λ r. r.1 ≡ start + whole_len (drop start text.now)) }
+    ensures more { IfOk result (λ r. start < r.1) }
+    ensures within { IfOk result (λ r. r.1 ≤ length text.now) }
+    ensures none { OnOk result (line_fault (first_line number (drop start text.now)) ≡ None) }
+    ensures fault { IfErr result (λ fault. Tells fault (line_fault (first_line number (drop start text.now)))) }
+{
+    let extent = first_extent(&text[start..]);
+    let bytes = &text[start..start + extent.bytes];
+    check_line(bytes, number)?;
+    let words = spans(alloc, text, start, start + comment_start(bytes))?;
+    let next = start + extent.whole;
+    let plain = is_plain(text, &text[start..next], &words);
+    Ok((
+        Line {
+            number,
+            plain,
+            words,
+        },
+        next,
+    ))
+}
