@@ -1,6 +1,6 @@
 -- Lists of flags, and how many of them are not set.
-use Rattle.std.proofs.Common.{◌≡◌, ◌≢◌, ℕ, zero, suc, ◌+◌, ◌<◌, ◌⊎◌, inl, inr, ⊎_elim, Bool, true, false, List, [], ◌∷◌, length, set, replicate, Some, slice_get, refl, sym, ap, arith}
-use Rattle.std.proofs.lemmas.Option.{slice_get_within}
+use Rattle.std.proofs.Common.{◌≡◌, ◌≢◌, ℕ, zero, suc, ◌+◌, ◌<◌, ◌⊎◌, inl, inr, ⊎_elim, Bool, true, false, List, [], ◌∷◌, length, get_or, set, replicate, Some, slice_get, refl, sym, subst, ap, ◌∙◌, arith}
+use Rattle.std.proofs.lemmas.Option.{slice_get_within, slice_get_read}
 use Rattle.nf_model.specs.Entries.{Has}
 
 -- how many flags are not set
@@ -48,3 +48,28 @@ not_set (b ∷ flags) (suc i) h k = not_set flags i (omega arith) k
 
 pub Has-within : (flags : List Bool) (i : ℕ) → Has flags i → i < length flags
 Has-within flags i h = slice_get_within flags i true h
+
+-- a flag that was read
+pub Has_from_read : (flags : List Bool) (i : ℕ) → get_or flags i false ≡ true → Has flags i
+Has_from_read [] i e = absurd (cc)
+Has_from_read (b ∷ flags) zero e = ap (λ (x : Bool). Some x) e
+Has_from_read (b ∷ flags) (suc i) e = Has_from_read flags i e
+
+pub read_from_Has : (flags : List Bool) (i : ℕ) → Has flags i → get_or flags i false ≡ true
+read_from_Has [] i e = absurd (cc)
+read_from_Has (b ∷ flags) zero e = same b e
+  where
+    same : (b : Bool) → Some b ≡ Some true → b ≡ true
+    same b e = cc
+read_from_Has (b ∷ flags) (suc i) e = read_from_Has flags i e
+
+pub not_Has_from_read : (flags : List Bool) (i : ℕ) → get_or flags i false ≡ false → Has flags i → ⊥
+not_Has_from_read flags i e h = let k : get_or flags i false ≡ true = read_from_Has flags i h in cc
+
+pub Has_from_place : (flags : List Bool) (i v : ℕ) (x : Bool) → x ≡ true → x ≡ get_or flags i x → i ≡ v → v < length flags → Has flags v
+Has_from_place flags i v x e r n h =
+    let p : slice_get flags v ≡ Some x = slice_get_read flags (length flags) v x refl h (subst (λ (k : ℕ). x ≡ get_or flags k x) n r) in p ∙ ap (λ (b : Bool). Some b) e
+
+pub not_Has_from_place : (flags : List Bool) (i v : ℕ) (x : Bool) → x ≡ false → x ≡ get_or flags i x → i ≡ v → v < length flags → Has flags v → ⊥
+not_Has_from_place flags i v x e r n h s =
+    let p : slice_get flags v ≡ Some x = slice_get_read flags (length flags) v x refl h (subst (λ (k : ℕ). x ≡ get_or flags k x) n r) in cc

@@ -1,5 +1,5 @@
 -- Walks along hops.
-use Rattle.std.proofs.Common.{◌≡◌, ◌≢◌, ℕ, ◌+◌, ◌<◌, ◌≤◌, List, [], ◌∷◌, ◌++◌, length, get_or, ⊎_elim, eqb, true, false, Bool, Some, slice_get, refl, sym, subst, arith}
+use Rattle.std.proofs.Common.{◌≡◌, ◌≢◌, ℕ, zero, suc, take, ap, ◌+◌, ◌<◌, ◌≤◌, List, [], ◌∷◌, ◌++◌, length, get_or, ⊎_elim, eqb, true, false, Bool, Some, slice_get, refl, sym, subst, arith}
 use Rattle.std.proofs.lemmas.Option.{slice_get_within, slice_get_read}
 use Rattle.std.proofs.lemmas.Bool.Decides.{eqb_tells}
 use Rattle.nf_model.specs.Entries.{Has}
@@ -38,3 +38,35 @@ each_all P hops i so_far h k hop q = let w : k < length hops = slice_get_within 
 -- the hop that was read at a place
 pub IsHop-read : (hops : List Hop) (i : ℕ) (hop : Hop) → i < length hops → hop ≡ get_or hops i hop → IsHop hops i hop
 IsHop-read hops i hop h e = slice_get_read hops (length hops) i hop refl h e
+
+-- ---- tests of numbers
+pub same_from_test : (a b : ℕ) → true ≡ eqb a b → a ≡ b
+same_from_test a b e = ⊎_elim
+    (λ (w : (eqb a b ≡ true) × (a ≡ b)). w.1)
+    (λ (w : (eqb a b ≡ false) × (a ≢ b)). absurd (let f : eqb a b ≡ false = w.0 in cc)) (eqb_tells a b)
+
+pub apart_from_test : (a b : ℕ) → false ≡ eqb a b → a ≡ b → ⊥
+apart_from_test a b e h = ⊎_elim
+    (λ (w : (eqb a b ≡ true) × (a ≡ b)). let f : eqb a b ≡ true = w.0 in cc)
+    (λ (w : (eqb a b ≡ false) × (a ≢ b)). w.1 h) (eqb_tells a b)
+
+-- ---- walks up to a hop of theirs
+pub IsWalk-take : (hops : List Hop) (walk : List ℕ) (v w i e : ℕ) (hop : Hop) → IsWalk hops walk v w → slice_get walk i ≡ Some e → IsHop hops e hop
+    → IsWalk hops (take (suc i) walk) v hop.head
+IsWalk-take hops [] v w i e hop h p q = absurd (cc)
+IsWalk-take hops (f ∷ walk) v w zero e hop h p q = (h.0, h.1, h.2, ap (λ (x : Hop). x.head) (IsHop-unique hops e h.0 hop (subst (λ (n : ℕ). IsHop hops n h.0) (first f e p) h.1) q))
+  where
+    first : (f e : ℕ) → Some f ≡ Some e → f ≡ e
+    first f e p = cc
+IsWalk-take hops (f ∷ walk) v w (suc i) e hop h p q = (h.0, h.1, h.2, IsWalk-take hops walk h.0.head w i e hop h.3 p q)
+
+-- the places of what is taken
+pub take-at : (walk : List ℕ) (n i e : ℕ) → slice_get (take n walk) i ≡ Some e → slice_get walk i ≡ Some e
+take-at walk zero i e p = absurd (cc)
+take-at [] (suc n) i e p = absurd (cc)
+take-at (f ∷ walk) (suc n) zero e p = p
+take-at (f ∷ walk) (suc n) (suc i) e p = take-at walk n i e p
+
+pub take_some : (walk : List ℕ) (i e : ℕ) → slice_get walk i ≡ Some e → 0 < length (take (suc i) walk)
+take_some [] i e p = absurd (cc)
+take_some (f ∷ walk) i e p = omega arith

@@ -2,8 +2,16 @@
 //! least transit sums; and sets of links.
 #![tactic(auto)]
 
+mod distance;
 mod ids;
+mod order;
 mod reach;
+mod sets;
+#[cfg(test)]
+mod tests;
 
+pub use distance::{DistanceFault, distances};
 pub use ids::{Hop, LinkId, NodeId};
+pub use order::{topological, zero_cycle};
 pub use reach::reached;
+pub use sets::LinkSets;

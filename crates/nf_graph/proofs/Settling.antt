@@ -1,0 +1,209 @@
+-- Nodes settled one by one, each with its least transit sum.
+use Rattle.std.proofs.Common.{◌≡◌, ◌≢◌, ℕ, zero, suc, ◌+◌, ◌<◌, ◌≤◌, List, [], ◌∷◌, ◌++◌, length, set, replicate, Option, Some, None, slice_get, ◌⊎◌, inl, inr, ⊎_elim, sym, subst, refl, ◌∙◌, ap, arith}
+use Rattle.std.proofs.Math.ListN.{length-set}
+use Rattle.std.proofs.lemmas.Option.{slice_get_within}
+use Rattle.nf_rational.specs.Rational.{ℚ}
+use Rattle.nf_rational.specs.Operations.{0ℚ, ◌+ℚ◌}
+use Rattle.nf_rational.specs.Order.{◌≤ℚ◌}
+use Rattle.nf_rational_laws.proofs.Polynomial.{reading_of}
+use Rattle.nf_rational_laws.proofs.Order.{≤ℚ_of_same, ≤ℚ_antisymm}
+use Rattle.nf_rational_laws.proofs.Linear.{le, eq, linear_le, linear_eq}
+use Rattle.nf_model.specs.Walk.{Hop, IsHop, IsWalk, transit_of, transit_sum, IsLeastTransit}
+use Rattle.nf_model_laws.proofs.Affine.{≤_trans}
+use Rattle.nf_graph.specs.Graph.{AreBelow}
+use Rattle.nf_graph.specs.Distances.{NoneNegative, AreDistances, PassesAt, StopsAt, HasSum, IsOpen, Offers, AllFit, SumPasses}
+use Rattle.nf_graph.proofs.Walks.{IsWalk-append, IsHop-unique}
+use Rattle.nf_graph.proofs.ZeroLinks.{transit_of-hop}
+use Rattle.nf_graph.proofs.Offering.{HasSum-unique, HasSum-not_open}
+
+-- ---- sums along walks
+none_nn : 0ℚ ≤ℚ 0ℚ
+none_nn = ≤ℚ_of_same 0ℚ 0ℚ refl
+
+plus_nn : (a b : ℚ) → 0ℚ ≤ℚ a → 0ℚ ≤ℚ b → 0ℚ ≤ℚ a +ℚ b
+plus_nn a b h k = linear_le (a ∷ b ∷ []) (le h ∷ le k ∷ []) (search reading_of depth 12) tt
+
+transit_of-nn : (hops : List Hop) (e : ℕ) (hop : Hop) → NoneNegative hops → IsHop hops e hop → 0ℚ ≤ℚ transit_of hops e
+transit_of-nn hops e hop n p = subst (λ (t : ℚ). 0ℚ ≤ℚ t) (sym (transit_of-hop hops e hop p)) (n e hop p)
+
+pub transit_sum-nn : (hops : List Hop) (walk : List ℕ) (v w : ℕ) → NoneNegative hops → IsWalk hops walk v w → 0ℚ ≤ℚ transit_sum hops walk
+transit_sum-nn hops [] v w n h = none_nn
+transit_sum-nn hops (e ∷ walk) v w n h = plus_nn _ _ (transit_of-nn hops e h.0 n h.1) (transit_sum-nn hops walk h.0.head w n h.3)
+
+one_more : (a b c d s : ℚ) → s ≡ b +ℚ c → d ≡ a +ℚ b → a +ℚ s ≡ d +ℚ c
+one_more a b c d s e f = linear_eq (a ∷ b ∷ c ∷ d ∷ s ∷ []) (eq e ∷ eq f ∷ []) (search reading_of depth 12) tt tt
+
+alone : (a : ℚ) → a +ℚ 0ℚ ≡ 0ℚ +ℚ a
+alone a = linear_eq (a ∷ []) [] (search reading_of depth 12) tt tt
+
+pub transit_sum-append : (hops : List Hop) (walk : List ℕ) (e : ℕ) → transit_sum hops (walk ++ e ∷ []) ≡ transit_sum hops walk +ℚ transit_of hops e
+transit_sum-append hops [] e = alone (transit_of hops e)
+transit_sum-append hops (f ∷ walk) e = one_more _ _ _ _ _ (transit_sum-append hops walk e) refl
+
+pub IsLeastTransit-unique : (hops : List Hop) (v w : ℕ) (a b : ℚ) → IsLeastTransit hops v w a → IsLeastTransit hops v w b → a ≡ b
+IsLeastTransit-unique hops v w a b h k = ≤ℚ_antisymm a b
+    (subst (λ (t : ℚ). a ≤ℚ t) k.taken.2 (h.bound k.taken.0 k.taken.1)) (subst (λ (t : ℚ). b ≤ℚ t) h.taken.2 (k.bound h.taken.0 h.taken.1))
+
+-- ---- entries of the list of sums
+pub entry_cases : (sums : List (Option ℚ)) (v : ℕ) → v < length sums → ((sum : ℚ) × HasSum sums v sum) ⊎ IsOpen sums v
+entry_cases [] v h = absurd (omega arith)
+entry_cases (Some sum ∷ sums) zero h = inl (sum, refl)
+entry_cases (None ∷ sums) zero h = inr refl
+entry_cases (o ∷ sums) (suc v) h = entry_cases sums v (omega arith)
+
+pub set_same : (sums : List (Option ℚ)) (v : ℕ) (o : Option ℚ) → v < length sums → slice_get (set sums v o) v ≡ Some o
+set_same [] v o h = absurd (omega arith)
+set_same (p ∷ sums) zero o h = refl
+set_same (p ∷ sums) (suc v) o h = set_same sums v o (omega arith)
+
+pub set_cases : (sums : List (Option ℚ)) (v w : ℕ) (o x : Option ℚ) → slice_get (set sums v o) w ≡ Some x → ((w ≡ v) × (x ≡ o)) ⊎ (slice_get sums w ≡ Some x)
+set_cases [] v w o x h = inr h
+set_cases (p ∷ sums) zero zero o x h = inl (refl, same o x h)
+  where
+    same : (a b : Option ℚ) → Some a ≡ Some b → b ≡ a
+    same a b e = cc
+set_cases (p ∷ sums) zero (suc w) o x h = inr h
+set_cases (p ∷ sums) (suc v) zero o x h = inr h
+set_cases (p ∷ sums) (suc v) (suc w) o x h = ⊎_elim (λ (e : (w ≡ v) × (x ≡ o)). inl (ap suc e.0, e.1)) (λ (k : slice_get sums w ≡ Some x). inr k) (set_cases sums v w o x h)
+
+-- a settled node stays so where another one is settled
+pub set_other : (sums : List (Option ℚ)) (v w : ℕ) (o : Option ℚ) (sum : ℚ) → IsOpen sums v → HasSum sums w sum → HasSum (set sums v o) w sum
+set_other [] v w o sum h k = k
+set_other (p ∷ sums) zero zero o sum h k = absurd (cc)
+set_other (p ∷ sums) zero (suc w) o sum h k = k
+set_other (p ∷ sums) (suc v) zero o sum h k = k
+set_other (p ∷ sums) (suc v) (suc w) o sum h k = set_other sums v w o sum h k
+
+-- how many nodes are not settled
+abbrev pub unsettled : List (Option ℚ) → ℕ
+unsettled [] = 0
+unsettled (Some sum ∷ sums) = unsettled sums
+unsettled (None ∷ sums) = suc (unsettled sums)
+
+pub fewer_unsettled : (sums : List (Option ℚ)) (v : ℕ) (sum : ℚ) → IsOpen sums v → unsettled (set sums v (Some sum)) < unsettled sums
+fewer_unsettled [] v sum h = absurd (cc)
+fewer_unsettled (Some s ∷ sums) zero sum h = absurd (cc)
+fewer_unsettled (None ∷ sums) zero sum h = omega arith
+fewer_unsettled (Some s ∷ sums) (suc v) sum h = fewer_unsettled sums v sum h
+fewer_unsettled (None ∷ sums) (suc v) sum h = let l : unsettled (set sums v (Some sum)) < unsettled sums = fewer_unsettled sums v sum h in omega arith
+
+pub replicate_open : (n v : ℕ) (sum : ℚ) → HasSum (replicate n None) v sum → ⊥
+replicate_open zero v sum h = cc
+replicate_open (suc n) zero sum h = cc
+replicate_open (suc n) (suc v) sum h = replicate_open n v sum h
+
+-- ---- the nodes settled so far have their least sums
+pub record AreSettled (nodes : ℕ) (hops : List Hop) (from : ℕ) (sums : List (Option ℚ)) : Type 0 where
+  pub count : length sums ≡ nodes
+  pub start : HasSum sums from 0ℚ
+  pub least : (v : ℕ) (sum : ℚ) → HasSum sums v sum → IsLeastTransit hops from v sum
+
+first_part : (s d t w : ℚ) → s ≤ℚ d +ℚ t → 0ℚ ≤ℚ w → s ≤ℚ d +ℚ (t +ℚ w)
+first_part s d t w h k = linear_le (s ∷ d ∷ t ∷ w ∷ []) (le h ∷ le k ∷ []) (search reading_of depth 12) tt
+
+next_part : (s d e t w : ℚ) → s ≤ℚ e +ℚ w → e ≤ℚ d +ℚ t → s ≤ℚ d +ℚ (t +ℚ w)
+next_part s d e t w h k = linear_le (s ∷ d ∷ e ∷ t ∷ w ∷ []) (le h ∷ le k ∷ []) (search reading_of depth 12) tt
+
+at_zero : (s d t : ℚ) → s ≤ℚ d +ℚ t → d ≡ 0ℚ → s ≤ℚ t
+at_zero s d t h e = linear_le (s ∷ d ∷ t ∷ []) (le h ∷ eq e ∷ []) (search reading_of depth 12) tt
+
+module _ (nodes : ℕ) (hops : List Hop) (from : ℕ) (sums : List (Option ℚ)) (below : AreBelow nodes hops) (good : NoneNegative hops) (settled : AreSettled nodes hops from sums) where
+  entry : (v : ℕ) → v < nodes → ((sum : ℚ) × HasSum sums v sum) ⊎ IsOpen sums v
+  entry v h = entry_cases sums v (subst (λ (n : ℕ). v < n) (sym settled.count) h)
+
+  -- the sum of a settled node and a link from it is no less than the sum at its head
+  pub along_hop : (e : ℕ) (hop : Hop) (a b : ℚ) → IsHop hops e hop → HasSum sums hop.tail a → HasSum sums hop.head b → b ≤ℚ a +ℚ transit_of hops e
+  along_hop e hop a b p s t =
+      let tail : IsLeastTransit hops from hop.tail a = settled.least hop.tail a s in
+      subst (λ (c : ℚ). b ≤ℚ c) (transit_sum-append hops tail.taken.0 e ∙ ap (λ (c : ℚ). c +ℚ transit_of hops e) tail.taken.2)
+      ((settled.least hop.head b t).bound (tail.taken.0 ++ e ∷ []) (IsWalk-append hops tail.taken.0 from e hop tail.taken.1 p))
+
+  offer_of : (e : ℕ) (hop : Hop) (a : ℚ) → IsHop hops e hop → HasSum sums hop.tail a → IsOpen sums hop.head → Offers hops sums hop.head (a +ℚ transit_of hops e)
+  offer_of e hop a p s o = record { number = e; hop = hop; is_hop = p; before = a; tail = s; head = refl; not_settled = o; is_sum = ap (λ (t : ℚ). a +ℚ t) (transit_of-hop hops e hop p) }
+
+  -- a walk from a settled node to one that is not leaves the settled nodes along some link
+  leaves_at : (walk : List ℕ) (u w : ℕ) (least a : ℚ) → ((v : ℕ) (more : ℚ) → Offers hops sums v more → least ≤ℚ more) → HasSum sums u a → IsOpen sums w → IsWalk hops walk u w
+      → least ≤ℚ a +ℚ transit_sum hops walk
+  leaves_at [] u w least a m s o h = absurd (HasSum-not_open sums w a (subst (λ (n : ℕ). HasSum sums n a) h s) o)
+  leaves_at (e ∷ walk) u w least a m s o h =
+      let tail : HasSum sums h.0.tail a = subst (λ (n : ℕ). HasSum sums n a) (sym h.2) s in
+      ⊎_elim
+      (λ (x : (sum : ℚ) × HasSum sums h.0.head sum). next_part _ _ _ _ _ (leaves_at walk h.0.head w least x.0 m x.1 o h.3) (along_hop e h.0 a x.0 h.1 tail x.1))
+      (λ (x : IsOpen sums h.0.head). first_part _ _ _ _ (m h.0.head (a +ℚ transit_of hops e) (offer_of e h.0 a h.1 tail x)) (transit_sum-nn hops walk h.0.head w good h.3))
+      (entry h.0.head (below.heads e h.0 h.1))
+
+  -- the least offer is the least transit sum of its node
+  pub offer_is_least : (v : ℕ) (sum : ℚ) → Offers hops sums v sum → ((w : ℕ) (more : ℚ) → Offers hops sums w more → sum ≤ℚ more) → IsLeastTransit hops from v sum
+  offer_is_least v sum x m =
+      let tail : IsLeastTransit hops from x.hop.tail x.before = settled.least x.hop.tail x.before x.tail in
+      record {
+        taken = (tail.taken.0 ++ x.number ∷ [],
+            subst (λ (n : ℕ). IsWalk hops (tail.taken.0 ++ x.number ∷ []) from n) x.head (IsWalk-append hops tail.taken.0 from x.number x.hop tail.taken.1 x.is_hop),
+            transit_sum-append hops tail.taken.0 x.number ∙ ap (λ (c : ℚ). c +ℚ transit_of hops x.number) tail.taken.2
+            ∙ ap (λ (t : ℚ). x.before +ℚ t) (transit_of-hop hops x.number x.hop x.is_hop) ∙ sym x.is_sum);
+        bound = λ walk h. at_zero _ 0ℚ _ (leaves_at walk from v sum 0ℚ m settled.start x.not_settled h) refl;
+      }
+
+  pub settled_more : (v i : ℕ) (sum : ℚ) → i ≡ v → Offers hops sums v sum → ((w : ℕ) (more : ℚ) → Offers hops sums w more → sum ≤ℚ more) → AreSettled nodes hops from (set sums i (Some sum))
+  settled_more v i sum n x m = subst (λ (k : ℕ). AreSettled nodes hops from (set sums k (Some sum))) (sym n) (record {
+    count = length-set sums v (Some sum) ∙ settled.count;
+    start = set_other sums v from (Some sum) 0ℚ x.not_settled settled.start;
+    least = λ w s h. ⊎_elim
+        (λ (e : (w ≡ v) × (Some s ≡ Some sum)). subst (λ (k : ℕ). IsLeastTransit hops from k s) (sym e.0) (subst (λ (t : ℚ). IsLeastTransit hops from v t) (same _ _ e.1) (offer_is_least v sum x m)))
+        (λ (k : slice_get sums w ≡ Some (Some s)). settled.least w s k)
+        (set_cases sums v w (Some sum) (Some s) h);
+  })
+    where
+      same : (a b : ℚ) → Some a ≡ Some b → b ≡ a
+      same a b e = cc
+
+  -- where no link offers anything, walks from settled nodes lead to settled nodes
+  stays : (walk : List ℕ) (u w : ℕ) (a : ℚ) → ((v : ℕ) (more : ℚ) → Offers hops sums v more → ⊥) → HasSum sums u a → IsWalk hops walk u w → (sum : ℚ) × HasSum sums w sum
+  stays [] u w a m s h = (a, subst (λ (n : ℕ). HasSum sums n a) h s)
+  stays (e ∷ walk) u w a m s h =
+      let tail : HasSum sums h.0.tail a = subst (λ (n : ℕ). HasSum sums n a) (sym h.2) s in
+      ⊎_elim
+      (λ (x : (sum : ℚ) × HasSum sums h.0.head sum). stays walk h.0.head w x.0 m x.1 h.3)
+      (λ (x : IsOpen sums h.0.head). absurd (m h.0.head (a +ℚ transit_of hops e) (offer_of e h.0 a h.1 tail x)))
+      (entry h.0.head (below.heads e h.0 h.1))
+
+  pub settled_all : ((v : ℕ) (more : ℚ) → Offers hops sums v more → ⊥) → AreDistances nodes hops from sums
+  settled_all m = record {
+    count = settled.count;
+    least = settled.least;
+    none = λ v o walk h. let s : (sum : ℚ) × HasSum sums v sum = stays walk from v 0ℚ m settled.start h in HasSum-not_open sums v s.0 s.1 o;
+  }
+
+  pub all_fit : ((v : ℕ) (more : ℚ) → Offers hops sums v more → ⊥) → AllFit hops sums → (e : ℕ) (left right : ℚ) → PassesAt hops from e left right → ⊥
+  all_fit m fits e left right x =
+      let s : (sum : ℚ) × HasSum sums x.hop.tail sum = stays x.least.taken.0 from x.hop.tail 0ℚ m settled.start x.least.taken.1 in
+      let same : left ≡ s.0 = IsLeastTransit-unique hops from x.hop.tail left s.0 x.least (settled.least x.hop.tail s.0 s.1) in
+      fits e x.hop s.0 x.is_hop s.1 (subst (λ (a : ℚ). SumPasses a x.hop.transit) same (subst (λ (b : ℚ). SumPasses left b) (sym x.transit) x.passes))
+
+  pub passes_at : (e : ℕ) (left right : ℚ) → StopsAt hops sums e left right → PassesAt hops from e left right
+  passes_at e left right x = record { hop = x.hop; is_hop = x.is_hop; least = settled.least x.hop.tail left x.tail; transit = x.transit; passes = x.passes }
+
+-- the node to begin with is settled, and no other
+pub settled_first : (nodes : ℕ) (hops : List Hop) (from i : ℕ) (sums : List (Option ℚ)) (start : ℚ) → NoneNegative hops → sums ≡ replicate nodes None → i ≡ from → from < nodes → start ≡ 0ℚ
+    → AreSettled nodes hops from (set sums i (Some start))
+settled_first nodes hops from i sums start good e n h z = subst (λ (k : ℕ). AreSettled nodes hops from (set sums k (Some start))) (sym n) (subst (λ (q : ℚ). AreSettled nodes hops from (set sums from (Some q))) (sym z) (record {
+  count = length-set sums from (Some 0ℚ) ∙ l;
+  start = set_same sums from (Some 0ℚ) (subst (λ (k : ℕ). from < k) (sym l) h);
+  least = λ w s k. ⊎_elim
+      (λ (p : (w ≡ from) × (Some s ≡ Some 0ℚ)). subst (λ (v : ℕ). IsLeastTransit hops from v s) (sym p.0) (subst (λ (t : ℚ). IsLeastTransit hops from from t) (same _ _ p.1) here))
+      (λ (p : slice_get sums w ≡ Some (Some s)). absurd (replicate_open nodes w s (subst (λ (ss : List (Option ℚ)). HasSum ss w s) e p)))
+      (set_cases sums from w (Some 0ℚ) (Some s) k);
+}))
+  where
+    same : (a b : ℚ) → Some a ≡ Some b → b ≡ a
+    same a b q = cc
+
+    length-none : (k : ℕ) → length (replicate {A = Option ℚ} k None) ≡ k
+    length-none zero = refl
+    length-none (suc k) = ap suc (length-none k)
+
+    l : length sums ≡ nodes
+    l = ap length e ∙ length-none nodes
+
+    here : IsLeastTransit hops from from 0ℚ
+    here = record { taken = ([], refl, refl); bound = λ walk p. transit_sum-nn hops walk from from good p }

@@ -1,0 +1,25 @@
+use Rattle.std.proofs.Common.{◌≡◌, ℕ, ◌<◌, ◌++◌, ◌∷◌, [], List, Bool, length, set, true, sym, subst}
+use Rattle.nf_model.specs.Entries.{Has}
+use Rattle.nf_graph.specs.Order.{IsReady}
+use Rattle.nf_graph.proofs.Flags.{free}
+use Rattle.nf_graph.proofs.Reaching.{fewer_free}
+use Rattle.nf_graph.proofs.Orders.{ArePlaced, placed_first, placed_next, order_all}
+use Rattle.nf_graph.proofs.order.order_or_cycle.Goals as goal
+
+pub loop-node-init : goal.loop-node-init
+loop-node-init c = placed_first c.args.nodes c.args.hops.now c.args.chosen.now c.in_ok-placed.placed.items c.new-order.result.items (c.in_ok-placed.ensures.items_if_clones_equal (λ _ e. e)) c.new-order.ensures.items
+
+pub loop-node-smaller : goal.loop-node-smaller
+loop-node-smaller c =
+    let ready : IsReady c.args.hops.now c.args.chosen.now c.loop-node.placed.items c.in-Some.node = subst (λ (f : List Bool). IsReady c.args.hops.now c.args.chosen.now f c.in-Some.node) c.deref.ensures.value c.in-Some.ensures in
+    subst (λ (i : ℕ). free (set c.loop-node.placed.items i true) < free c.loop-node.placed.items) (sym c.index.ensures) (fewer_free c.loop-node.placed.items c.in-Some.node ready.below ready.free)
+
+pub loop-node-preserved : goal.loop-node-preserved
+loop-node-preserved c =
+    let ready : IsReady c.args.hops.now c.args.chosen.now c.loop-node.placed.items c.in-Some.node = subst (λ (f : List Bool). IsReady c.args.hops.now c.args.chosen.now f c.in-Some.node) c.deref.ensures.value c.in-Some.ensures in
+    subst (λ (order : List ℕ). ArePlaced c.args.nodes c.args.hops.now c.args.chosen.now (set c.loop-node.placed.items c.index.result true) order) (sym c.in_ok-push.ensures.items)
+    (placed_next c.args.nodes c.args.hops.now c.args.chosen.now c.loop-node.placed.items c.loop-node.order.items c.in-Some.node c.index.result c.requires.ends c.index.ensures ready c.loop-node.invariant)
+
+pub returns-in-None : goal.returns-in-None
+returns-in-None c = order_all c.args.nodes c.args.hops.now c.args.chosen.now c.loop-node.placed.items c.loop-node.order.items c.loop-node.invariant
+    (subst (λ (f : List Bool). (v : ℕ) → v < length f → Has f v) c.deref-2.ensures.value c.in-None.ensures)

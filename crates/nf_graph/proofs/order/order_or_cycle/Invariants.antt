@@ -1,0 +1,10 @@
+use Rattle.nf_graph.proofs.Flags.{free}
+use Rattle.nf_graph.proofs.Orders.{ArePlaced}
+use Rattle.nf_graph.proofs.order.order_or_cycle.Given as goal
+
+-- the nodes placed stand in the order
+abbrev pub invariant-loop-node : goal.invariant-loop-node
+invariant-loop-node l = ArePlaced l.nodes l.hops l.chosen l.placed.items l.order.items
+
+abbrev pub decreases-loop-node : goal.decreases-loop-node
+decreases-loop-node l = free l.placed.items

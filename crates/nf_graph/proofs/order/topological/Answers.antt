@@ -1,0 +1,11 @@
+use Rattle.nf_graph.specs.Found.{IsFound}
+use Rattle.nf_graph.specs.declared.order.Found.{Found}
+use Rattle.nf_graph.specs.Order.{IsOrder}
+use Rattle.std.proofs.Common.{subst}
+use Rattle.nf_graph.proofs.Orders.{IsOrder-no_cycle}
+use Rattle.nf_graph.proofs.order.topological.Goals as goal
+
+pub returns-in-Order-clause-none : goal.returns-in-Order-clause-none
+returns-in-Order-clause-none c =
+    let order : IsOrder c.args.nodes c.args.hops.now c.args.chosen.now c.in-Order.order.items = subst (λ (f : Found). IsFound c.args.nodes c.args.hops.now c.args.chosen.now f) c.in-Order.is c.in_ok-order.ensures in
+    (λ e. absurd (cc), λ x. absurd (IsOrder-no_cycle c.args.nodes c.args.hops.now c.args.chosen.now c.in-Order.order.items x.0 c.requires.ends order x.1))

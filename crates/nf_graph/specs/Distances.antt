@@ -1,0 +1,62 @@
+-- Least transit sums from a node.
+use Rattle.std.specs.Prelude.{◌≡◌, ℕ, true, Option, Some, None, List, length, slice_get}
+use Rattle.nf_rational.specs.Rational.{ℚ}
+use Rattle.nf_rational.specs.Operations.{0ℚ, ◌+ℚ◌}
+use Rattle.nf_rational.specs.Order.{◌≤ℚ◌}
+use Rattle.nf_work.specs.declared.Op.TheVariants.{Sum}
+use Rattle.nf_work.specs.Passing.{bound_of, beyond}
+use Rattle.nf_model.specs.Walk.{Hop, IsHop, IsWalk, IsLeastTransit}
+
+-- no transit time is negative
+abbrev pub NoneNegative : List Hop → Type 0
+NoneNegative hops = (e : ℕ) (hop : Hop) → IsHop hops e hop → 0ℚ ≤ℚ hop.transit
+
+-- one entry for each node: its least transit sum from a node, and none exactly where no walk leads there
+pub record AreDistances (nodes : ℕ) (hops : List Hop) (from : ℕ) (sums : List (Option ℚ)) : Type 0 where
+  pub count : length sums ≡ nodes
+  pub least : (v : ℕ) (sum : ℚ) → slice_get sums v ≡ Some (Some sum) → IsLeastTransit hops from v sum
+  pub none : (v : ℕ) → slice_get sums v ≡ Some None → (walk : List ℕ) → IsWalk hops walk from v → ⊥
+
+-- the sum of these two passes
+abbrev pub SumPasses : ℚ → ℚ → Type 0
+SumPasses left right = beyond (bound_of 127) Sum left right ≡ true
+
+-- the sum of the least transit sum of the tail of link e and the transit time of the link passes
+pub record PassesAt (hops : List Hop) (from e : ℕ) (left right : ℚ) : Type 0 where
+  pub hop : Hop
+  pub is_hop : IsHop hops e hop
+  pub least : IsLeastTransit hops from hop.tail left
+  pub transit : hop.transit ≡ right
+  pub passes : SumPasses left right
+
+-- ---- on the way there: nodes with a least sum are settled
+
+-- a settled node has this sum
+abbrev pub HasSum : List (Option ℚ) → ℕ → ℚ → Type 0
+HasSum sums v sum = slice_get sums v ≡ Some (Some sum)
+
+abbrev pub IsOpen : List (Option ℚ) → ℕ → Type 0
+IsOpen sums v = slice_get sums v ≡ Some None
+
+-- a link leads from a settled node to node v, which isn't settled, and the sum along it is this
+pub record Offers (hops : List Hop) (sums : List (Option ℚ)) (v : ℕ) (sum : ℚ) : Type 0 where
+  pub number : ℕ
+  pub hop : Hop
+  pub is_hop : IsHop hops number hop
+  pub before : ℚ
+  pub tail : HasSum sums hop.tail before
+  pub head : hop.head ≡ v
+  pub not_settled : IsOpen sums v
+  pub is_sum : sum ≡ before +ℚ hop.transit
+
+-- no sum along a link that leaves a settled node passes
+abbrev pub AllFit : List Hop → List (Option ℚ) → Type 0
+AllFit hops sums = (e : ℕ) (hop : Hop) (before : ℚ) → IsHop hops e hop → HasSum sums hop.tail before → SumPasses before hop.transit → ⊥
+
+-- the sum along link e, which leaves a settled node, passes
+pub record StopsAt (hops : List Hop) (sums : List (Option ℚ)) (e : ℕ) (left right : ℚ) : Type 0 where
+  pub hop : Hop
+  pub is_hop : IsHop hops e hop
+  pub tail : HasSum sums hop.tail left
+  pub transit : hop.transit ≡ right
+  pub passes : SumPasses left right

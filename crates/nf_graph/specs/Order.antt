@@ -1,0 +1,65 @@
+-- Orders of the nodes along links, and cycles.
+use Rattle.std.specs.Prelude.{◌≡◌, ℕ, suc, ◌<◌, Bool, List, length, Some, slice_get}
+use Rattle.nf_rational.specs.Operations.{0ℚ}
+use Rattle.nf_model.specs.Entries.{Has}
+use Rattle.nf_model.specs.Walk.{Hop, IsHop, IsWalk, transit_of}
+
+-- node v stands at place i
+abbrev pub IsAt : List ℕ → ℕ → ℕ → Type 0
+IsAt order i v = slice_get order i ≡ Some v
+
+-- All nodes stand in the order, and no other numbers, each once. Every chosen link leads to a later one.
+pub record IsOrder (nodes : ℕ) (hops : List Hop) (chosen : List Bool) (order : List ℕ) : Type 0 where
+  pub count : length order ≡ nodes
+  pub nodes_only : (i v : ℕ) → IsAt order i v → v < nodes
+  pub each : (v : ℕ) → v < nodes → (i : ℕ) × IsAt order i v
+  pub once : (i j v : ℕ) → IsAt order i v → IsAt order j v → i ≡ j
+  pub later : (e i j : ℕ) (hop : Hop) → IsHop hops e hop → Has chosen e → IsAt order i hop.tail → IsAt order j hop.head → i < j
+
+-- a closed walk of at least one hop, each of which is allowed
+pub record IsCycle (hops : List Hop) (Allowed : ℕ → Type 0) (walk : List ℕ) : Type 0 where
+  pub node : ℕ
+  pub some : 0 < length walk
+  pub closed : IsWalk hops walk node node
+  pub allowed : (i e : ℕ) → slice_get walk i ≡ Some e → Allowed e
+
+abbrev pub HoldsNoCycle : List Hop → (ℕ → Type 0) → Type 0
+HoldsNoCycle hops Allowed = (walk : List ℕ) → IsCycle hops Allowed walk → ⊥
+
+-- a cycle along chosen links
+abbrev pub IsChosenCycle : List Hop → List Bool → List ℕ → Type 0
+IsChosenCycle hops chosen walk = IsCycle hops (Has chosen) walk
+
+-- a cycle along links of zero transit
+abbrev pub IsZeroCycle : List Hop → List ℕ → Type 0
+IsZeroCycle hops walk = IsCycle hops (λ e. transit_of hops e ≡ 0ℚ) walk
+
+-- ---- on the way to an order
+
+-- a chosen link leads into node v from a node that is not placed yet
+pub record Enters (hops : List Hop) (chosen placed : List Bool) (e v : ℕ) : Type 0 where
+  pub hop : Hop
+  pub is_hop : IsHop hops e hop
+  pub chosen_too : Has chosen e
+  pub head : hop.head ≡ v
+  pub free : Has placed hop.tail → ⊥
+
+-- node v may be placed next
+pub record IsReady (hops : List Hop) (chosen placed : List Bool) (v : ℕ) : Type 0 where
+  pub below : v < length placed
+  pub free : Has placed v → ⊥
+  pub none : (e : ℕ) → Enters hops chosen placed e v → ⊥
+
+-- no node may: each that is not placed is entered
+abbrev pub IsStuck : List Hop → List Bool → List Bool → Type 0
+IsStuck hops chosen placed = (v : ℕ) → v < length placed → (Has placed v → ⊥) → (e : ℕ) × Enters hops chosen placed e v
+
+-- a link of the walk leads to node v; so many links come up to it and with it
+pub record Turns (hops : List Hop) (walk : List ℕ) (v count : ℕ) : Type 0 where
+  pub place : ℕ
+  pub number : ℕ
+  pub hop : Hop
+  pub at_place : slice_get walk place ≡ Some number
+  pub is_hop : IsHop hops number hop
+  pub head : hop.head ≡ v
+  pub is_count : count ≡ suc place

@@ -1,0 +1,236 @@
+// Orders of the nodes along chosen links, and cycles, of which a cycle of zero transit is one.
+ghost use Rattle.std.specs.Prelude.{◌≡◌, ◌↔◌, ◌^◌, ◌<◌, ℕ, List, length, map, IfOk, IsTrue, IsNone, IfSome, MatchBool, MatchOption, slice_get, Some};
+ghost use Rattle.nf_rational.specs.Operations.{0ℚ};
+ghost use Rattle.nf_frac.specs.Order.{same_ℚ};
+ghost use Rattle.nf_model.specs.Entries.{Has};
+ghost use Rattle.nf_model.specs.Walk.{Hop, IsHop};
+ghost use Rattle.nf_graph.specs.Graph.{AreBelow};
+ghost use Rattle.nf_graph.specs.Order.{IsOrder, IsChosenCycle, IsZeroCycle, Enters, IsReady, IsStuck, Turns};
+ghost use Rattle.nf_graph.specs.Found.{IsFound};
+
+use crate::ids::{Hop, LinkId, NodeId};
+use nf_frac::Q;
+use std::alloc::{AllocError, Global};
+
+// The hop leads into this node from one without a flag.
+fn leads_in(hop: &Hop, placed: &[bool], node: NodeId) -> bool
+    requires { hop.now.tail < length placed.now }
+    ensures { MatchBool result ((hop.now.head ≡ node) × (Has placed.now hop.now.tail → ⊥)) (hop.now.head ≡ node → Has placed.now hop.now.tail) }
+{
+    let tail = hop.tail;
+    hop.head == node && !placed[tail.index()]
+}
+
+// A chosen link into this node from one that is not placed.
+fn entering(hops: &[Hop], chosen: &[bool], placed: &[bool], node: NodeId) -> Option<LinkId>
+    requires ends { AreBelow (length placed.now) hops.now }
+    requires count { length chosen.now ≡ length hops.now }
+    requires fewer { length hops.now < 2 ^ 32 }
+    ensures { MatchOption result ((e : ℕ) → Enters hops.now chosen.now placed.now e node → ⊥) (λ e. Enters hops.now chosen.now placed.now e node) }
+{
+    for (e, hop) in hops.iter().enumerate() {
+        if chosen[e] {
+            if leads_in(hop, placed, node) {
+                return Some(LinkId(e as u32));
+            }
+        }
+    }
+    None
+}
+
+// The node is not placed, and no chosen link leads into it from one that is not placed.
+fn is_ready(hops: &[Hop], chosen: &[bool], placed: &[bool], node: NodeId) -> bool
+    requires ends { AreBelow (length placed.now) hops.now }
+    requires count { length chosen.now ≡ length hops.now }
+    requires fewer { length hops.now < 2 ^ 32 }
+    requires below { node < length placed.now }
+    ensures { MatchBool result (IsReady hops.now chosen.now placed.now node)
+        ((Has placed.now node → ⊥) → (e : ℕ) × Enters hops.now chosen.now placed.now e node) }
+{
+    if placed[node.index()] {
+        return false;
+    }
+    entering(hops, chosen, placed, node).is_none()
+}
+
+// A node that may be placed next.
+fn next_ready(hops: &[Hop], chosen: &[bool], placed: &[bool]) -> Option<NodeId>
+    requires ends { AreBelow (length placed.now) hops.now }
+    requires count { length chosen.now ≡ length hops.now }
+    requires fewer { length hops.now < 2 ^ 32 }
+    requires nodes { length placed.now < 2 ^ 32 }
+    ensures { MatchOption result (IsStuck hops.now chosen.now placed.now) (λ v. IsReady hops.now chosen.now placed.now v) }
+{
+    for v in 0..placed.len() {
+        let node = NodeId(v as u32);
+        if is_ready(hops, chosen, placed, node) {
+            return Some(node);
+        }
+    }
+    None
+}
+
+// A node that is not placed.
+fn unplaced(placed: &[bool]) -> Option<NodeId>
+    requires { length placed.now < 2 ^ 32 }
+    ensures { MatchOption result ((v : ℕ) → v < length placed.now → Has placed.now v)
+        (λ v. (v < length placed.now) × (Has placed.now v → ⊥)) }
+{
+    for (v, is_placed) in placed.iter().enumerate() {
+        if !*is_placed {
+            return Some(NodeId(v as u32));
+        }
+    }
+    None
+}
+
+// How many links of a walk come up to the first one that leads to this node, and with it.
+fn turn(hops: &[Hop], walk: &[LinkId], node: NodeId) -> Option<usize>
+    requires { (i e : ℕ) → slice_get walk.now i ≡ Some e → e < length hops.now }
+    ensures { MatchOption result ((count : ℕ) → Turns hops.now walk.now node count → ⊥) (λ count. Turns hops.now walk.now node count) }
+{
+    for (place, link) in walk.iter().enumerate() {
+        let hop = &hops[link.index()];
+        if hop.head == node {
+            return Some(place + 1);
+        }
+    }
+    None
+}
+
+// The same, where there is such a node.
+fn turn_back(hops: &[Hop], walk: &[LinkId], node: NodeId) -> usize
+    requires within { (i e : ℕ) → slice_get walk.now i ≡ Some e → e < length hops.now }
+    requires turns { (count : ℕ) × Turns hops.now walk.now node count }
+    ensures { Turns hops.now walk.now node result }
+{
+    match turn(hops, walk, node) {
+        Some(count) => count,
+        None => unreachable!(),
+    }
+}
+
+// A chosen link into this node from one that is not placed, where there is one.
+fn entering_link(hops: &[Hop], chosen: &[bool], placed: &[bool], node: NodeId) -> LinkId
+    requires ends { AreBelow (length placed.now) hops.now }
+    requires count { length chosen.now ≡ length hops.now }
+    requires fewer { length hops.now < 2 ^ 32 }
+    requires some { (e : ℕ) × Enters hops.now chosen.now placed.now e node }
+    ensures { Enters hops.now chosen.now placed.now result node }
+{
+    match entering(hops, chosen, placed, node) {
+        Some(link) => link,
+        None => unreachable!(),
+    }
+}
+
+// A cycle along chosen links, where each node that is not placed is entered: one goes back from a node until one comes to a
+// node for the second time.
+fn cycle_back(
+    alloc: Global,
+    hops: &[Hop],
+    chosen: &[bool],
+    placed: &[bool],
+    start: NodeId,
+) -> Result<Vec<LinkId>, AllocError>
+    requires ends { AreBelow (length placed.now) hops.now }
+    requires count { length chosen.now ≡ length hops.now }
+    requires fewer { length hops.now < 2 ^ 32 }
+    requires stuck { IsStuck hops.now chosen.now placed.now }
+    requires below { start < length placed.now }
+    requires free { Has placed.now start → ⊥ }
+    ensures { IfOk result (λ cycle. IsChosenCycle hops.now chosen.now cycle.items) }
+{
+    let mut visited = vec![in alloc; false; placed.len()]?;
+    let mut walk = Vec::new(alloc);
+    let mut node = start;
+    while !visited[node.index()] {
+        visited[node.index()] = true;
+        let link = entering_link(hops, chosen, placed, node);
+        walk.insert(0, link)?;
+        let hop = &hops[link.index()];
+        node = hop.tail;
+    }
+    walk.truncate(turn_back(hops, &walk, node));
+    Ok(walk)
+}
+
+// An order of the nodes, or a cycle.
+#[derive(Drop)]
+enum Found {
+    Order(Vec<NodeId>),
+    Cycle(Vec<LinkId>),
+}
+
+// An order of the nodes in which every chosen link leads to a later one, or a cycle along chosen links.
+fn order_or_cycle(
+    alloc: Global,
+    nodes: u32,
+    hops: &[Hop],
+    chosen: &[bool],
+) -> Result<Found, AllocError>
+    requires ends { AreBelow nodes hops.now }
+    requires count { length chosen.now ≡ length hops.now }
+    requires fewer { length hops.now < 2 ^ 32 }
+    ensures { IfOk result (λ found. IsFound nodes hops.now chosen.now found) }
+{
+    let mut placed = vec![in alloc; false; nodes as usize]?;
+    let mut order = Vec::new(alloc);
+    while let Some(node) = next_ready(hops, chosen, &placed) {
+        placed[node.index()] = true;
+        order.push(node)?;
+    }
+    match unplaced(&placed) {
+        None => Ok(Found::Order(order)),
+        Some(start) => {
+            let cycle = cycle_back(alloc, hops, chosen, &placed, start)?;
+            Ok(Found::Cycle(cycle))
+        }
+    }
+}
+
+/// All nodes, each once, in an order in which every chosen link leads to a later one. None exactly where the chosen links hold
+/// a cycle. There is one flag for each link.
+pub fn topological(
+    alloc: Global,
+    nodes: u32,
+    hops: &[Hop],
+    chosen: &[bool],
+) -> Result<Option<Vec<NodeId>>, AllocError>
+    requires ends { AreBelow nodes hops.now }
+    requires count { length chosen.now ≡ length hops.now }
+    requires fewer { length hops.now < 2 ^ 32 }
+    ensures order { IfOk result (λ found. IfSome found (λ order. IsOrder nodes hops.now chosen.now order.items)) }
+    ensures none { IfOk result (λ found. IsNone found ↔ ((cycle : List ℕ) × IsChosenCycle hops.now chosen.now cycle)) }
+{
+    match order_or_cycle(alloc, nodes, hops, chosen)? {
+        Found::Order(order) => Ok(Some(order)),
+        Found::Cycle(_) => Ok(None),
+    }
+}
+
+// Of each link, whether its transit time is 0.
+fn zero_links(alloc: Global, hops: &[Hop]) -> Result<Vec<bool>, AllocError>
+    ensures { IfOk result (λ flags. flags.items ≡ map (λ hop. same_ℚ hop.transit 0ℚ) hops.now) }
+{
+    hops.iter().map(|hop| hop.transit == Q::zero()).collect(alloc)
+}
+
+/// A closed walk of at least one link, each of zero transit time. None exactly where there is none. Where no transit time is
+/// negative, these are the closed walks that take no time.
+pub fn zero_cycle(
+    alloc: Global,
+    nodes: u32,
+    hops: &[Hop],
+) -> Result<Option<Vec<LinkId>>, AllocError>
+    requires ends { AreBelow nodes hops.now }
+    requires fewer { length hops.now < 2 ^ 32 }
+    ensures cycle { IfOk result (λ found. IfSome found (λ cycle. IsZeroCycle hops.now cycle.items)) }
+    ensures none { IfOk result (λ found. IsNone found ↔ ((cycle : List ℕ) → IsZeroCycle hops.now cycle → ⊥)) }
+{
+    let chosen = zero_links(alloc, hops)?;
+    match order_or_cycle(alloc, nodes, hops, &chosen)? {
+        Found::Order(_) => Ok(None),
+        Found::Cycle(cycle) => Ok(Some(cycle)),
+    }
+}
