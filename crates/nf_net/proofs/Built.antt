@@ -1,0 +1,113 @@
+-- The network that a file stands for, from its parts.
+use Rattle.std.proofs.Common.{◌≡◌, ℕ, zero, suc, ◌<◌, ◌≤◌, Bool, true, false, not, ◌||◌, List, [], ◌∷◌, ◌++◌, length, map, slice_get, unwrap_or, Option, Some, refl, sym, ◌∙◌, ap, subst, arith, append_assoc, append-nil}
+use Rattle.std.specs.Bool.{Decides}
+use Rattle.std.specs.List.{AllByRecursion, AllZip, IsDistinct}
+use Rattle.std.specs.Str.{bytes_eq}
+use Rattle.std.proofs.lemmas.Simd.{map-map}
+use Rattle.nf_model.specs.Entries.{Has}
+use Rattle.nf_model.specs.Walk.{Hop}
+use Rattle.nf_model.specs.Network.{Link, hop_of}
+use Rattle.nf_formats.specs.Names.{Name, has_name, place_of, with_name, with_names, without}
+use Rattle.nf_formats.specs.Named.{NamedLink, Named, numbered, hops_among, ends, names_of}
+use Rattle.nf_formats.specs.NetLines.{Draft}
+use Rattle.nf_formats.specs.NetClosing.{source_name, sink_name, IsReached, marked, network_of, AreActive, StandsFor}
+use Rattle.nf_formats.specs.WellNamed.{IsNamed}
+use Rattle.nf_formats.proofs.NameFacts.{same_names, bytes_eq-turned, has_none, with_name_new}
+use Rattle.nf_formats.proofs.LinkFacts.{distinct_left}
+use Rattle.nf_formats.proofs.AcceptedNamed.{is_named}
+use Rattle.nf_net.specs.Kept.{with_parts, IsKept}
+use Rattle.nf_net.specs.Contents.{IsRead}
+use Rattle.nf_net.specs.Closing.{HasEnds, BreaksNone, flag_at, tail_flags, AreFlags}
+use Rattle.nf_net.proofs.Limits.{few_nodes}
+use Rattle.nf_net.proofs.FileWalks.{good_of, source_given, sink_given, is_its_name}
+
+-- ---- names put one after the other
+all_found : (P : Name → Type 0) (front : List Name) (x : Name) (rest : List Name) → AllByRecursion P (front ++ x ∷ rest) → P x
+all_found P [] x rest h = h.0
+all_found P (y ∷ front) x rest h = all_found P front x rest h.1
+
+not_in_front : (front : List Name) (x : Name) (rest : List Name) → IsDistinct bytes_eq (front ++ x ∷ rest) → AllByRecursion (λ y. bytes_eq x y ≡ false) front
+unfolding IsDistinct
+not_in_front [] x rest d = tt
+not_in_front (y ∷ front) x rest d = (bytes_eq-turned y x (all_found (λ z. bytes_eq y z ≡ false) front x rest d.0), not_in_front front x rest d.1)
+
+put_each : (front more : List Name) → IsDistinct bytes_eq (front ++ more) → with_names front more ≡ front ++ more
+put_each front [] d = sym (append-nil front)
+put_each front (x ∷ more) d =
+    ap (λ (l : List Name). with_names l more) (with_name_new front x (has_none front x (not_in_front front x more d)))
+    ∙ put_each (front ++ x ∷ []) more (subst (IsDistinct bytes_eq) (sym (append_assoc front (x ∷ []) more)) d)
+    ∙ append_assoc front (x ∷ []) more
+
+put_two : (s t : Name) → (s ≡ t → ⊥) → with_names [] (s ∷ t ∷ []) ≡ s ∷ t ∷ []
+put_two s t apart = step (bytes_eq t s) refl
+  where
+    step : (b : Bool) → bytes_eq t s ≡ b → with_names [] (s ∷ t ∷ []) ≡ s ∷ t ∷ []
+    step true e = absurd (apart (sym (same_names t s e)))
+    step false e = with_name_new (s ∷ []) t (has_none (s ∷ []) t (e, tt))
+
+-- ---- the flags of links
+flag_set : (flags : List Bool) (v : ℕ) → flag_at flags v ≡ true → Has flags v
+flag_set [] v e = absurd (cc)
+flag_set (b ∷ flags) zero e = ap (λ x. Some x) e
+flag_set (b ∷ flags) (suc v) e = flag_set flags v e
+
+module _ (draft : Draft) (flags : List Bool) (are : AreFlags draft flags) where
+  active_flags : (links : List NamedLink) → AllZip (λ flag l. Decides flag (IsReached draft (place_of draft.nodes l.tail))) (tail_flags draft.nodes flags links) links
+  active_flags [] = tt
+  active_flags (l ∷ links) = (
+    (
+      λ e. (are.each (place_of draft.nodes l.tail)).0 (flag_set flags (place_of draft.nodes l.tail) e),
+      λ r. ap (λ (o : Option Bool). unwrap_or o false) ((are.each (place_of draft.nodes l.tail)).1 r),
+    ),
+    active_flags links,
+  )
+
+module _ (draft : Draft) (flags : List Bool) (read : IsRead draft) (has : HasEnds draft) (fine : BreaksNone draft) (are : AreFlags draft flags) where
+  abbrev marks : List Bool
+  marks = tail_flags draft.nodes flags draft.links
+
+  named_net : IsNamed (network_of draft (marked (tail_flags draft.nodes flags draft.links) draft.links) (marked (map not (tail_flags draft.nodes flags draft.links)) draft.links))
+  named_net = is_named draft (good_of draft read) fine (tail_flags draft.nodes flags draft.links) (active_flags draft flags are draft.links)
+
+  two_ends : source_name draft ≡ sink_name draft → ⊥
+  two_ends e = has.apart (is_its_name draft.source (source_given draft has) ∙ ap (λ (x : Name). Some x) e ∙ sym (is_its_name draft.sink (sink_given draft has)))
+
+  abbrev nodes_with : List NamedLink → List Name
+  nodes_with active = with_names (source_name draft ∷ sink_name draft ∷ []) (ends active)
+
+  abbrev net_with : List Name → List NamedLink → List NamedLink → Named
+  net_with nodes active idle = with_parts draft.version nodes (names_of active) (map (numbered nodes) active) draft.pieces (without nodes (with_names [] (ends idle))) idle
+
+  module _ (active idle : List NamedLink) (nodes names others : List Name) (numbers : List Link) (hops : List Hop)
+      (e_active : active ≡ marked (tail_flags draft.nodes flags draft.links) draft.links)
+      (e_idle : idle ≡ marked (map not (tail_flags draft.nodes flags draft.links)) draft.links)
+      (e_nodes : nodes ≡ with_names (with_names [] (source_name draft ∷ sink_name draft ∷ [])) (ends active)) where
+    nodes_are : nodes ≡ with_names (source_name draft ∷ sink_name draft ∷ []) (ends active)
+    nodes_are = e_nodes ∙ ap (λ (l : List Name). with_names l (ends active)) (put_two (source_name draft) (sink_name draft) two_ends)
+
+    nodes_all : nodes ≡ with_names (source_name draft ∷ sink_name draft ∷ []) (ends (marked (tail_flags draft.nodes flags draft.links) draft.links))
+    nodes_all = nodes_are ∙ ap (λ (links : List NamedLink). with_names (source_name draft ∷ sink_name draft ∷ []) (ends links)) e_active
+
+    pub few_names : length nodes ≤ 64
+    few_names = subst (λ (l : List Name). length l ≤ 64) (sym nodes_all) (few_nodes _ named_net)
+
+    net_is : net_with nodes active idle ≡ network_of draft (marked (tail_flags draft.nodes flags draft.links) draft.links) (marked (map not (tail_flags draft.nodes flags draft.links)) draft.links)
+    net_is = ap (λ (l : List Name). net_with l active idle) nodes_are ∙ (λ i. net_with (nodes_with (e_active i)) (e_active i) (e_idle i))
+
+    module _ (e_others : others ≡ without nodes (with_names [] (ends idle))) (e_names : names ≡ with_names [] (names_of active))
+        (e_numbers : numbers ≡ map (numbered nodes) active) (e_hops : hops ≡ hops_among nodes active) where
+      names_are : names ≡ names_of active
+      names_are = e_names ∙ put_each [] (names_of active) (subst (λ (links : List NamedLink). IsDistinct bytes_eq (names_of links)) (sym e_active)
+          (distinct_left (names_of (marked (tail_flags draft.nodes flags draft.links) draft.links)) (names_of (marked (map not (tail_flags draft.nodes flags draft.links)) draft.links)) named_net.link_names.distinct))
+
+      pub parts_are : with_parts draft.version nodes names numbers draft.pieces others idle ≡ network_of draft (marked (tail_flags draft.nodes flags draft.links) draft.links) (marked (map not (tail_flags draft.nodes flags draft.links)) draft.links)
+      parts_are = (λ i. with_parts draft.version nodes (names_are i) (e_numbers i) draft.pieces (e_others i) idle) ∙ net_is
+
+      pub is_kept : IsKept (with_parts draft.version nodes names numbers draft.pieces others idle) hops
+      is_kept = record {
+        named = subst IsNamed (sym parts_are) named_net;
+        hops = e_hops ∙ sym (map-map hop_of (numbered nodes) active) ∙ ap (map hop_of) (sym e_numbers);
+      }
+
+      pub stands : StandsFor draft (with_parts draft.version nodes names numbers draft.pieces others idle)
+      stands = record { flags = tail_flags draft.nodes flags draft.links; active = active_flags draft flags are draft.links; network = parts_are }

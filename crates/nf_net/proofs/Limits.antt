@@ -1,0 +1,66 @@
+-- How many nodes, links and names a network has.
+use Rattle.std.proofs.Common.{◌≡◌, ℕ, ◌+◌, ◌<◌, ◌≤◌, suc, List, [], ◌∷◌, length, ◌++◌, refl, sym, ◌∙◌, ap, arith, ◌&&◌, ◌||◌, Bool, true, false, cond, not, Option, Some, None, slice_get, get_or, length-append}
+use Rattle.std.specs.List.{list_all, position}
+use Rattle.std.specs.Str.{bytes_eq}
+use Rattle.std.proofs.lemmas.List.Quantifiers.{position-Some}
+use Rattle.std.proofs.lemmas.Option.{slice_get-get_or}
+use Rattle.nf_formats.proofs.NameFacts.{same_names}
+use Rattle.nf_model.specs.Network.{Link, IsNetwork}
+use Rattle.nf_formats.specs.Names.{Name, is_name, has_name}
+use Rattle.nf_formats.specs.Named.{NamedLink, Named, all_named, active_links, names_of}
+use Rattle.nf_formats.specs.WellNamed.{IsNamed}
+
+pub few_nodes : (n : Named) → IsNamed n → length n.node_names ≤ 64
+few_nodes n h = omega (arith, h.limits.nodes, length-append n.node_names n.idle_nodes)
+
+pub few_idle_nodes : (n : Named) → IsNamed n → length n.idle_nodes ≤ 64
+few_idle_nodes n h = omega (arith, h.limits.nodes, length-append n.node_names n.idle_nodes)
+
+pub length-all_named : (nodes names : List Name) (links : List Link) → length names ≡ length links → length (all_named nodes names links) ≡ length links
+length-all_named nodes [] [] e = refl
+length-all_named nodes [] (l ∷ links) e = absurd (omega arith)
+length-all_named nodes (name ∷ names) [] e = absurd (omega arith)
+length-all_named nodes (name ∷ names) (l ∷ links) e = ap (λ (n : ℕ). suc n) (length-all_named nodes names links (omega arith))
+
+pub few_links : (n : Named) → IsNamed n → length n.net.links ≤ 200
+few_links n h = omega (arith, h.limits.links, length-append (active_links n) n.idle_links, length-all_named n.node_names n.link_names n.net.links h.numbered.links)
+
+pub as_many_names : (n : Named) → IsNamed n → length n.link_names ≡ length n.net.links
+as_many_names n h = h.numbered.links
+
+pub some_nodes : (n : Named) → IsNamed n → n.net.sink < n.net.nodes
+some_nodes n h = h.network.sink
+
+-- ---- all names are names
+front_all : (xs ys : List Name) → list_all is_name (xs ++ ys) ≡ true → list_all is_name xs ≡ true
+front_all [] ys e = refl
+front_all (x ∷ xs) ys e = step (is_name x) (front_all xs ys) e
+  where
+    step : (b : Bool) → (list_all is_name (xs ++ ys) ≡ true → list_all is_name xs ≡ true) → (b && list_all is_name (xs ++ ys)) ≡ true → (b && list_all is_name xs) ≡ true
+    step true f h = f h
+    step false f h = absurd (cc)
+
+pub named_nodes : (n : Named) → IsNamed n → list_all is_name n.node_names ≡ true
+named_nodes n h = front_all n.node_names n.idle_nodes h.node_names.each
+
+pub named_links : (n : Named) → IsNamed n → list_all is_name n.link_names ≡ true
+named_links n h = front_all n.link_names (names_of n.idle_links) h.link_names.each
+
+-- what isn't a name isn't there
+pub not_there : (names : List Name) (name : Name) → list_all is_name names ≡ true → (is_name name ≡ true → ⊥) → has_name names name ≡ false
+not_there [] name e f = refl
+not_there (x ∷ xs) name e f = step (is_name x) refl (bytes_eq name x) refl e (λ h. not_there xs name h f)
+  where
+    step : (b : Bool) → is_name x ≡ b → (t : Bool) → bytes_eq name x ≡ t → (b && list_all is_name xs) ≡ true → (list_all is_name xs ≡ true → has_name xs name ≡ false) → (t || has_name xs name) ≡ false
+    step true is true same e rest = absurd (f (ap is_name (same_names name x same) ∙ is))
+    step true is false same e rest = rest e
+    step false is t same e rest = absurd (cc)
+
+-- the place that is found
+pub position_there : (names : List Name) (name : Name) (place : ℕ) → position (bytes_eq name) names ≡ Some place → slice_get names place ≡ Some name
+position_there names name place e =
+    let found = position-Some (bytes_eq name) names place name e in
+    slice_get-get_or names place name found.0 ∙ ap (λ x. Some x) (sym (same_names name (get_or names place name) found.1))
+
+pub few_link_names : (n : Named) → IsNamed n → length n.link_names ≤ 200
+few_link_names n h = omega (arith, few_links n h, h.numbered.links)

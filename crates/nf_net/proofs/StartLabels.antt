@@ -1,0 +1,85 @@
+-- The labels of departure 0.
+use Rattle.std.proofs.Common.{◌≡◌, ℕ, zero, suc, ◌<◌, ◌≤◌, false, true, List, [], ◌∷◌, length, map, slice_get, unwrap_or, Option, Some, None, refl, sym, ◌∙◌, ap, subst, arith}
+use Rattle.std.proofs.lemmas.List.{length-map}
+use Rattle.std.proofs.lemmas.Option.{slice_get_within}
+use Rattle.nf_rational.specs.Rational.{ℚ}
+use Rattle.nf_rational.specs.Operations.{0ℚ}
+use Rattle.nf_rational.specs.Order.{◌≤ℚ◌}
+use Rattle.nf_work.specs.Passing.{is_wide, beyond}
+use Rattle.nf_work.specs.declared.Op.TheVariants.{Sum}
+use Rattle.nf_model.specs.Entries.{number_at}
+use Rattle.nf_model.specs.Walk.{Hop, IsHop, IsWalk, IsLeastTransit}
+use Rattle.nf_model.specs.Network.{Link, Network, IsNetwork, hop_of, hops}
+use Rattle.nf_model.specs.Phases.{AreStartLabels}
+use Rattle.std.specs.Prelude.{Result, Ok, Err, IfOk, Vec}
+use Rattle.std.specs.declared.alloc.AllocError.{AllocError}
+use Rattle.std.specs.declared.alloc.Global.{Global}
+use Rattle.nf_graph.specs.declared.distance.DistanceFault.{DistanceFault}
+use Rattle.nf_graph.specs.declared.distance.DistanceFault.TheVariants.{Passed, Memory}
+use Rattle.nf_graph.specs.Steps.{ForPassed}
+use Rattle.nf_net.specs.Closing.{HasFraction}
+use Rattle.nf_graph.specs.Graph.{AreBelow}
+use Rattle.nf_graph.specs.Distances.{NoneNegative, AreDistances, PassesAt}
+use Rattle.nf_formats.specs.Numbers.{greatest}
+use Rattle.nf_formats.specs.Named.{Named}
+use Rattle.nf_formats.specs.WellNamed.{IsNamed}
+use Rattle.nf_formats.proofs.WalkFacts.{CameFrom, came_from}
+
+module _ (n : Named) (h : IsNamed n) (kept : List Hop) (are : kept ≡ hops n.net) where
+  tails : (e : ℕ) (hop : Hop) → IsHop (hops n.net) e hop → hop.tail < n.net.nodes
+  tails e hop is = let c : CameFrom hop_of n.net.links e hop = came_from hop_of n.net.links e hop is in
+      subst (λ (x : Hop). x.tail < n.net.nodes) c.is_image (h.network.tails e c.entry c.is_entry)
+
+  heads : (e : ℕ) (hop : Hop) → IsHop (hops n.net) e hop → hop.head < n.net.nodes
+  heads e hop is = let c : CameFrom hop_of n.net.links e hop = came_from hop_of n.net.links e hop is in
+      subst (λ (x : Hop). x.head < n.net.nodes) c.is_image (h.network.heads e c.entry c.is_entry)
+
+  transits : (e : ℕ) (hop : Hop) → IsHop (hops n.net) e hop → 0ℚ ≤ℚ hop.transit
+  transits e hop is = let c : CameFrom hop_of n.net.links e hop = came_from hop_of n.net.links e hop is in
+      subst (λ (x : Hop). 0ℚ ≤ℚ x.transit) c.is_image (h.network.transits e c.entry c.is_entry)
+
+  pub net_below : AreBelow n.net.nodes kept
+  net_below = subst (λ (hs : List Hop). AreBelow n.net.nodes hs) (sym are) (record { tails = tails; heads = heads })
+
+  pub net_transits : NoneNegative kept
+  net_transits = subst NoneNegative (sym are) transits
+
+  pub net_hops : length kept ≡ length n.net.links
+  net_hops = ap length are ∙ length-map n.net.links hop_of
+
+  pub never_none : (sums : List (Option ℚ)) → AreDistances n.net.nodes kept n.net.source sums → (v : ℕ) → slice_get sums v ≡ Some None → ⊥
+  never_none sums d v e =
+      let lt : v < length sums = slice_get_within sums v None e in
+      let walk = h.network.reached v (omega (arith, d.count)) in
+      d.none v e walk.0 (subst (λ (hs : List Hop). IsWalk hs walk.0 n.net.source v) (sym are) walk.1)
+
+  pub never_passes : (e : ℕ) (left right : ℚ) → PassesAt kept n.net.source e left right → is_wide greatest left ≡ false → ⊥
+  never_passes e left right given fraction =
+      let p : PassesAt (hops n.net) n.net.source e left right = subst (λ (hs : List Hop). PassesAt hs n.net.source e left right) are given in
+      let fits : beyond greatest Sum left p.hop.transit ≡ false = h.sums_fit e p.hop left p.is_hop p.least fraction in
+      let over : beyond greatest Sum left p.hop.transit ≡ true = ap (λ (t : ℚ). beyond greatest Sum left t) p.transit ∙ p.passes in
+      cc
+
+  pub labels_are : (sums : List (Option ℚ)) (labels : List ℚ) → AreDistances n.net.nodes kept n.net.source sums → map (λ q. Some q) labels ≡ sums → AreStartLabels n.net labels
+  labels_are sums labels d e = record {
+    count = counted;
+    each = λ v lt. subst (λ (hs : List Hop). IsLeastTransit hs n.net.source v (number_at labels v)) are
+        (d.least v (number_at labels v) (ap (λ (l : List (Option ℚ)). slice_get l v) (sym e) ∙ at_label labels v (omega (arith, counted))));
+  }
+    where
+      counted : length labels ≡ n.net.nodes
+      counted = sym (length-map labels (λ (q : ℚ). Some q)) ∙ ap length e ∙ d.count
+
+      at_label : (labels : List ℚ) (v : ℕ) → v < length labels → slice_get (map (λ q. Some q) labels) v ≡ Some (Some (number_at labels v))
+      at_label [] v lt = absurd (omega arith)
+      at_label (x ∷ xs) zero lt = refl
+      at_label (x ∷ xs) (suc v) lt = at_label xs v (omega arith)
+
+  pub none_passing : (fault : DistanceFault) → ForPassed (PassesAt kept n.net.source) fault → HasFraction fault → ⊥
+  none_passing (Passed link left right) p fraction = never_passes link left right p fraction
+  none_passing Memory p fraction = fraction
+
+  pub labels_by_sums : (sums : List (Option ℚ)) (r : Result (Vec ℚ Global) AllocError) → AreDistances n.net.nodes kept n.net.source sums
+      → IfOk r (λ numbers. map (λ q. Some q) numbers.items ≡ sums) → IfOk r (λ labels. AreStartLabels n.net labels.items)
+  labels_by_sums sums (Ok labels) d e = labels_are sums labels.items d e
+  labels_by_sums sums (Err fault) d e = tt

@@ -1,0 +1,119 @@
+-- The computed supply is that of the model.
+use Rattle.std.proofs.Common.{◌≡◌, ℕ, suc, ◌⊎◌, ⊎_elim, Bool, true, false, cond, List, [], ◌∷◌, Some, slice_get, Result, Ok, Err, MatchResult, refl, sym, ◌∙◌, ap, subst, arith}
+use Rattle.std.specs.Prelude.{IfOk}
+use Rattle.nf_rational.specs.Rational.{ℚ}
+use Rattle.nf_rational.specs.Operations.{0ℚ, ◌+ℚ◌, ◌-ℚ◌, ◌*ℚ◌}
+use Rattle.nf_rational.specs.Order.{◌≤ℚ◌, ◌<ℚ◌, lt_ℚ, min_ℚ, max_ℚ}
+use Rattle.nf_rational_laws.proofs.Polynomial.{reading_of}
+use Rattle.nf_rational_laws.proofs.Linear.{le, lt, eq, linear_le, linear_lt, linear_eq}
+use Rattle.nf_rational_laws.proofs.Order.{not_both_ℚ, ≤ℚ_antisymm}
+use Rattle.nf_rational_laws.proofs.Tests.{lt_ℚ_cases, min_ℚ_cases, max_ℚ_cases}
+use Rattle.nf_work.specs.declared.Op.{Op}
+use Rattle.nf_work.specs.declared.Op.TheVariants.{Sum, Difference, Product}
+use Rattle.nf_work.specs.declared.Passed.{Passed}
+use Rattle.nf_work.specs.Passing.{Passing, result_of}
+use Rattle.nf_work.specs.Checked.{Checked, checked, ◌>>=◌}
+use Rattle.nf_model.specs.Network.{Piece, ArePieces, time_in, supplied}
+use Rattle.nf_net.specs.Supply.{end_before, with_piece, supplied_after}
+
+-- ---- computations that give a value
+pub same_ok : {A E : Type 0} (x y : A) → ◌≡◌ {A = Result A E} (Ok x) (Ok y) → x ≡ y
+same_ok x y e = cc
+
+pub bound_ok : {A B E : Type 0} (r : Result A E) (f : A → Result B E) (y : B) → (r >>= f) ≡ Ok y → (x : A) × (r ≡ Ok x) × (f x ≡ Ok y)
+bound_ok (Ok x) f y e = (x, refl, e)
+bound_ok (Err p) f y e = absurd (cc)
+
+value_is : (b : Bool) (p : Passed ℚ) (x y : ℚ) → ◌≡◌ {A = Checked ℚ} (cond b (Err p) (Ok x)) (Ok y) → y ≡ x
+value_is true p x y e = absurd (cc)
+value_is false p x y e = sym (same_ok x y e)
+
+checked_is : (passes : Passing) (op : Op) (x y r : ℚ) → checked passes op x y ≡ Ok r → r ≡ result_of op x y
+unfolding checked
+checked_is passes op x y r e = value_is (passes op x y) (record { op = op; left = x; right = y }) (result_of op x y) r e
+
+with_piece_is : (passes : Passing) (so_far : ℚ) (piece : Piece) (end sum : ℚ) → with_piece passes so_far piece end ≡ Ok sum
+    → sum ≡ so_far +ℚ piece.rate *ℚ (end -ℚ piece.start)
+with_piece_is passes so_far piece end sum e =
+    let first = bound_ok (checked passes Difference end piece.start) (λ length. checked passes Product piece.rate length >>= λ amount. checked passes Sum so_far amount) sum e in
+    let second = bound_ok (checked passes Product piece.rate first.0) (λ amount. checked passes Sum so_far amount) sum first.2 in
+    checked_is passes Sum so_far second.0 sum second.2
+    ∙ ap (λ (x : ℚ). so_far +ℚ x) (checked_is passes Product piece.rate first.0 second.0 second.1
+    ∙ ap (λ (x : ℚ). piece.rate *ℚ x) (checked_is passes Difference end piece.start first.0 first.1))
+
+-- ---- how long a piece is the latest one started
+longer : (d : ℚ) → 0ℚ <ℚ d → max_ℚ 0ℚ d ≡ d
+longer d h = ⊎_elim (λ (w : (max_ℚ 0ℚ d ≡ d) × (0ℚ ≤ℚ d)). w.0) (λ (w : (max_ℚ 0ℚ d ≡ 0ℚ) × (d <ℚ 0ℚ)). absurd (<ℚ_both w.1)) (max_ℚ_cases 0ℚ d)
+  where
+    <ℚ_both : d <ℚ 0ℚ → ⊥
+    <ℚ_both k = not_both_ℚ 0ℚ d h (linear_le (d ∷ []) (lt k ∷ []) (search reading_of depth 12) tt)
+
+none_left : (d : ℚ) → d ≤ℚ 0ℚ → max_ℚ 0ℚ d ≡ 0ℚ
+none_left d h = ⊎_elim (λ (w : (max_ℚ 0ℚ d ≡ d) × (0ℚ ≤ℚ d)). w.0 ∙ ≤ℚ_antisymm d 0ℚ h w.1) (λ (w : (max_ℚ 0ℚ d ≡ 0ℚ) × (d <ℚ 0ℚ)). w.0) (max_ℚ_cases 0ℚ d)
+
+above : (s m : ℚ) → s <ℚ m → 0ℚ <ℚ m -ℚ s
+above s m h = linear_lt (s ∷ m ∷ []) (lt h ∷ []) (search reading_of depth 12) tt
+
+not_above : (s m : ℚ) → m ≤ℚ s → m -ℚ s ≤ℚ 0ℚ
+not_above s m h = linear_le (s ∷ m ∷ []) (le h ∷ []) (search reading_of depth 12) tt
+
+below_both : (s t n : ℚ) → s <ℚ t → s <ℚ n → s <ℚ min_ℚ t n
+below_both s t n h k = ⊎_elim (λ (w : (min_ℚ t n ≡ t) × (t ≤ℚ n)). subst (λ (m : ℚ). s <ℚ m) (sym w.0) h) (λ (w : (min_ℚ t n ≡ n) × (n <ℚ t)). subst (λ (m : ℚ). s <ℚ m) (sym w.0) k) (min_ℚ_cases t n)
+
+at_most : (s t n : ℚ) → t ≤ℚ s → min_ℚ t n ≤ℚ s
+at_most s t n h = ⊎_elim (λ (w : (min_ℚ t n ≡ t) × (t ≤ℚ n)). subst (λ (m : ℚ). m ≤ℚ s) (sym w.0) h) (λ (w : (min_ℚ t n ≡ n) × (n <ℚ t)). subst (λ (m : ℚ). m ≤ℚ s) (sym w.0) (linear_le (s ∷ t ∷ n ∷ []) (le h ∷ lt w.1 ∷ []) (search reading_of depth 12) tt)) (min_ℚ_cases t n)
+
+abbrev pub RisesFrom : ℚ → List Piece → Type 0
+RisesFrom start [] = Unit {0}
+RisesFrom start (next ∷ later) = start <ℚ next.start
+
+time_when : (start : ℚ) (later : List Piece) (time : ℚ) → RisesFrom start later → start <ℚ time → time_in start later time ≡ end_before later time -ℚ start
+time_when start [] time r h = longer (time -ℚ start) (above start time h)
+time_when start (next ∷ later) time r h = longer (min_ℚ time next.start -ℚ start) (above start (min_ℚ time next.start) (below_both start time next.start h r))
+
+time_unless : (start : ℚ) (later : List Piece) (time : ℚ) → time ≤ℚ start → time_in start later time ≡ 0ℚ
+time_unless start [] time h = none_left (time -ℚ start) (not_above start time h)
+time_unless start (next ∷ later) time h = none_left (min_ℚ time next.start -ℚ start) (not_above start (min_ℚ time next.start) (at_most start time next.start h))
+
+-- ---- the sums
+joined : (v x s r e t y : ℚ) → v ≡ x +ℚ y → x ≡ s +ℚ r *ℚ (e -ℚ t) → v ≡ s +ℚ (r *ℚ (e -ℚ t) +ℚ y)
+joined v x s r e t y h k = linear_eq (v ∷ x ∷ s ∷ r ∷ e ∷ t ∷ y ∷ []) (eq h ∷ eq k ∷ []) (search reading_of depth 12) tt tt
+
+nothing_more : (v s r y : ℚ) → v ≡ s +ℚ y → v ≡ s +ℚ (r *ℚ 0ℚ +ℚ y)
+nothing_more v s r y h = linear_eq (v ∷ s ∷ r ∷ y ∷ []) (eq h ∷ []) (search reading_of depth 12) tt tt
+
+with_nothing : (v s : ℚ) → v ≡ s → v ≡ s +ℚ 0ℚ
+with_nothing v s h = linear_eq (v ∷ s ∷ []) (eq h ∷ []) (search reading_of depth 12) tt tt
+
+from_nothing : (v s : ℚ) → v ≡ 0ℚ +ℚ s → v ≡ s
+from_nothing v s h = linear_eq (v ∷ s ∷ []) (eq h ∷ []) (search reading_of depth 12) tt tt
+
+abbrev Rise : List Piece → Type 0
+Rise pieces = (i : ℕ) (piece next : Piece) → slice_get pieces i ≡ Some piece → slice_get pieces (suc i) ≡ Some next → piece.start <ℚ next.start
+
+first_rises : (piece : Piece) (later : List Piece) → Rise (piece ∷ later) → RisesFrom piece.start later
+first_rises piece [] r = tt
+first_rises piece (next ∷ later) r = r 0 piece next refl refl
+
+module _ (passes : Passing) (time : ℚ) where
+  supplied_is : (so_far : ℚ) (pieces : List Piece) (v : ℚ) → Rise pieces → supplied_after passes so_far pieces time ≡ Ok v → v ≡ so_far +ℚ supplied pieces time
+  supplied_is so_far [] v r e = with_nothing v so_far (sym (same_ok so_far v e))
+  supplied_is so_far (piece ∷ later) v r e = step (lt_ℚ piece.start time) refl (lt_ℚ_cases piece.start time) e (λ next k. supplied_is next later v (λ i p q h k. r (suc i) p q h k) k)
+    where
+      step : (b : Bool) → lt_ℚ piece.start time ≡ b → ((lt_ℚ piece.start time ≡ true) × (piece.start <ℚ time)) ⊎ ((lt_ℚ piece.start time ≡ false) × (time ≤ℚ piece.start))
+          → cond b (with_piece passes so_far piece (end_before later time) >>= λ sum. supplied_after passes sum later time) (supplied_after passes so_far later time) ≡ Ok v
+          → ((next : ℚ) → supplied_after passes next later time ≡ Ok v → v ≡ next +ℚ supplied later time)
+          → v ≡ so_far +ℚ (piece.rate *ℚ time_in piece.start later time +ℚ supplied later time)
+      step true is cases e rest =
+          let found = bound_ok (with_piece passes so_far piece (end_before later time)) (λ sum. supplied_after passes sum later time) v e in
+          let starts : piece.start <ℚ time = ⊎_elim (λ (w : (lt_ℚ piece.start time ≡ true) × (piece.start <ℚ time)). w.1) (λ (w : (lt_ℚ piece.start time ≡ false) × (time ≤ℚ piece.start)). cc) cases in
+          joined v found.0 so_far piece.rate (end_before later time) piece.start (supplied later time) (rest found.0 found.2) (with_piece_is passes so_far piece (end_before later time) found.0 found.1)
+          ∙ ap (λ (t : ℚ). so_far +ℚ (piece.rate *ℚ t +ℚ supplied later time)) (sym (time_when piece.start later time (first_rises piece later r) starts))
+      step false is cases e rest =
+          let starts : time ≤ℚ piece.start = ⊎_elim (λ (w : (lt_ℚ piece.start time ≡ true) × (piece.start <ℚ time)). cc) (λ (w : (lt_ℚ piece.start time ≡ false) × (time ≤ℚ piece.start)). w.1) cases in
+          nothing_more v so_far piece.rate (supplied later time) (rest so_far e)
+          ∙ ap (λ (t : ℚ). so_far +ℚ (piece.rate *ℚ t +ℚ supplied later time)) (sym (time_unless piece.start later time starts))
+
+  pub value_supplied : (r : Checked ℚ) (pieces : List Piece) → ArePieces pieces → r ≡ supplied_after passes 0ℚ pieces time → IfOk r (λ v. v ≡ supplied pieces time)
+  value_supplied (Ok v) pieces h e = from_nothing v (supplied pieces time) (supplied_is 0ℚ pieces v h.rise (sym e))
+  value_supplied (Err p) pieces h e = tt

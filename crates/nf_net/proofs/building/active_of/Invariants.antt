@@ -1,0 +1,7 @@
+use Rattle.std.proofs.Common.{◌≡◌, ◌++◌, drop, map, not}
+use Rattle.nf_formats.specs.NetClosing.{marked}
+use Rattle.nf_net.specs.Closing.{tail_flags}
+use Rattle.nf_net.proofs.building.active_of.Given as goal
+
+abbrev pub invariant-loop-link : goal.invariant-loop-link
+invariant-loop-link l = l.active.items ++ marked (tail_flags l.nodes l.flags (drop l.link-index l.links)) (drop l.link-index l.links) ≡ marked (tail_flags l.nodes l.flags l.links) l.links

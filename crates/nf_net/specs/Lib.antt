@@ -1,0 +1,9 @@
+pub mod Names
+pub mod Kept
+pub mod Supply
+pub mod Words
+pub mod Reading
+pub mod Drafts
+pub mod Contents
+pub mod Printing
+pub mod Closing

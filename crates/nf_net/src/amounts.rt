@@ -1,0 +1,56 @@
+// The amount that the source is supplied with.
+ghost use Rattle.std.specs.Prelude.{◌≡◌, drop, IfOk};
+ghost use Rattle.nf_rational.specs.Operations.{0ℚ};
+ghost use Rattle.nf_rational.specs.Order.{◌≤ℚ◌};
+ghost use Rattle.nf_work.specs.Passing.{bound_of, beyond};
+ghost use Rattle.nf_model.specs.Network.{supply as supply_of};
+ghost use Rattle.nf_net.specs.Supply.{end_before, with_piece, supplied_after, checked_supply};
+
+use crate::link::Piece;
+use crate::network::Network;
+use crate::order::{is_below, lesser};
+use nf_frac::{Passed, Q};
+
+// The lesser of the next start and the time.
+fn end_of(later: &[Piece], time: Q) -> Q
+    ensures { result ≡ end_before later.now time }
+{
+    match later {
+        [] => time,
+        [next, ..] => lesser(time, next.start),
+    }
+}
+
+// The amount so far with that of a piece up to its end.
+fn with_amount(so_far: Q, piece: &Piece, end: Q) -> Result<Q, Passed<Q>>
+    ensures { result ≡ with_piece (beyond (bound_of 127)) so_far piece.now end }
+{
+    let length = end.difference(piece.start)?;
+    let amount = piece.rate.product(length)?;
+    so_far.sum(amount)
+}
+
+fn amount_of(pieces: &[Piece], time: Q) -> Result<Q, Passed<Q>>
+    ensures { result ≡ supplied_after (beyond (bound_of 127)) 0ℚ pieces.now time }
+{
+    let mut so_far = Q::zero();
+    for (index, piece) in pieces.iter().enumerate() {
+        if is_below(piece.start, time) {
+            let end = end_of(&pieces[index + 1..], time);
+            so_far = with_amount(so_far, piece, end)?;
+        }
+    }
+    Ok(so_far)
+}
+
+/// The amount that the source is supplied with from time 0 to a time of at least 0: for each piece the rate times how long the
+/// piece is the latest one started. It is refused exactly where one of these operations passes, and by the first of them: for
+/// each piece that starts before the time, in order, the difference of its end and its start, the product of rate and that, and
+/// the sum of what came before and that.
+pub fn supply(net: &Network, time: Q) -> Result<Q, Passed<Q>>
+    requires { 0ℚ ≤ℚ time }
+    ensures operations { result ≡ checked_supply (beyond (bound_of 127)) net.now.net time }
+    ensures value { IfOk result (λ amount. amount ≡ supply_of net.now.net time) }
+{
+    amount_of(net.pieces(), time)
+}

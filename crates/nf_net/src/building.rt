@@ -1,0 +1,199 @@
+// The network that a file stands for.
+ghost use Rattle.std.specs.Prelude.{◌≡◌, ◌<◌, ◌≤◌, [], ◌∷◌, true, is_some, length, map, not, IfOk, OnOk, Some};
+ghost use Rattle.nf_formats.specs.Names.{place_of, with_names, without};
+ghost use Rattle.nf_formats.specs.Named.{numbered, ends, names_of};
+ghost use Rattle.nf_formats.specs.NetClosing.{marked, StandsFor};
+ghost use Rattle.nf_net.specs.Drafts.{seen_draft};
+ghost use Rattle.nf_net.specs.Contents.{IsRead};
+ghost use Rattle.nf_net.specs.Closing.{HasEnds, BreaksNone, AreFlags, flag_at, tail_flags};
+
+use crate::closing::hops_of;
+use crate::draft::Draft;
+use crate::link::{Link, NamedLink};
+use crate::name::Name;
+use crate::names::Names;
+use crate::network::Network;
+use nf_graph::NodeId;
+use std::alloc::{AllocError, Global};
+
+// The flag of a link's tail.
+fn is_active(nodes: &Names, flags: &[bool], link: &NamedLink) -> bool
+    requires { length nodes.now ≤ length flags.now }
+    ensures { result ≡ flag_at flags.now (place_of nodes.now link.now.tail) }
+{
+    let tail = nodes.place_or_len(&link.tail);
+    if tail < flags.len() {
+        flags[tail]
+    } else {
+        false
+    }
+}
+
+// The links whose tails are reached.
+#[tactic(auto, using(crate::proofs::Marks::marked_with, crate::proofs::Marks::marked_past))]
+fn active_of(
+    alloc: Global,
+    nodes: &Names,
+    flags: &[bool],
+    links: &[NamedLink],
+) -> Result<Vec<NamedLink>, AllocError>
+    requires { length nodes.now ≤ length flags.now }
+    ensures { IfOk result (λ active. active.items ≡ marked (tail_flags nodes.now flags.now links.now) links.now) }
+{
+    let mut active = Vec::new(alloc);
+    for link in links {
+        if is_active(nodes, flags, link) {
+            active.push(link.copy())?;
+        }
+    }
+    Ok(active)
+}
+
+// The links whose tails aren't.
+#[tactic(auto, using(crate::proofs::Marks::marked_with, crate::proofs::Marks::marked_past))]
+fn idle_of(
+    alloc: Global,
+    nodes: &Names,
+    flags: &[bool],
+    links: &[NamedLink],
+) -> Result<Vec<NamedLink>, AllocError>
+    requires { length nodes.now ≤ length flags.now }
+    ensures { IfOk result (λ idle. idle.items ≡ marked (map not (tail_flags nodes.now flags.now links.now)) links.now) }
+{
+    let mut idle = Vec::new(alloc);
+    for link in links {
+        if !is_active(nodes, flags, link) {
+            idle.push(link.copy())?;
+        }
+    }
+    Ok(idle)
+}
+
+// Puts the ends of links behind the names, each if it isn't there.
+fn put_ends(names: &mut Names, links: &[NamedLink]) -> Result<(), AllocError>
+    ensures { OnOk result (names.new ≡ with_names names.old (ends links.now)) }
+{
+    for link in links {
+        names.put(link.tail.copy())?;
+        names.put(link.head.copy())?;
+    }
+    Ok(())
+}
+
+// The names of links, of which no two are equal.
+fn link_names(alloc: Global, links: &[NamedLink]) -> Result<Names, AllocError>
+    ensures { IfOk result (λ names. names ≡ with_names [] (names_of links.now)) }
+{
+    let mut names = Names::new(alloc);
+    for link in links {
+        names.put(link.name.copy())?;
+    }
+    Ok(names)
+}
+
+fn number(nodes: &Names, link: &NamedLink) -> Link
+    requires { length nodes.now ≤ 64 }
+    ensures { result ≡ numbered nodes.now link.now }
+{
+    let tail = nodes.place_or_len(&link.tail);
+    let head = nodes.place_or_len(&link.head);
+    Link {
+        tail: NodeId(tail as u32),
+        head: NodeId(head as u32),
+        transit: link.transit,
+        capacity: link.capacity,
+    }
+}
+
+fn numbered_links(
+    alloc: Global,
+    nodes: &Names,
+    links: &[NamedLink],
+) -> Result<Vec<Link>, AllocError>
+    requires { length nodes.now ≤ 64 }
+    ensures { IfOk result (λ numbers. numbers.items ≡ map (numbered nodes.now) links.now) }
+{
+    let mut numbers = Vec::new(alloc);
+    for link in links {
+        numbers.push(number(nodes, link))?;
+    }
+    Ok(numbers)
+}
+
+// The names that aren't among these.
+#[tactic(auto, using(crate::proofs::Marks::kept_with))]
+fn names_without(alloc: Global, these: &Names, names: &[Name]) -> Result<Vec<Name>, AllocError>
+    ensures { IfOk result (λ others. others.items ≡ without these.now names.now) }
+{
+    let mut others = Vec::new(alloc);
+    for name in names {
+        if !these.has(name) {
+            others.push(name.copy())?;
+        }
+    }
+    Ok(others)
+}
+
+// The nodes that idle links alone lead from and to.
+fn idle_nodes(alloc: Global, nodes: &Names, idle: &[NamedLink]) -> Result<Vec<Name>, AllocError>
+    ensures { IfOk result (λ others. others.items ≡ without nodes.now (with_names [] (ends idle.now))) }
+{
+    let mut names = Names::new(alloc);
+    put_ends(&mut names, idle)?;
+    names_without(alloc, nodes, names.as_slice())
+}
+
+// The nodes that aren't idle: the source, the sink, and the ends of links.
+fn active_nodes(
+    alloc: Global,
+    source: &Name,
+    sink: &Name,
+    active: &[NamedLink],
+) -> Result<Names, AllocError>
+    ensures { IfOk result (λ nodes. nodes ≡ with_names (with_names [] (source.now ∷ sink.now ∷ [])) (ends active.now)) }
+{
+    let mut nodes = Names::new(alloc);
+    nodes.put(source.copy())?;
+    nodes.put(sink.copy())?;
+    put_ends(&mut nodes, active)?;
+    Ok(nodes)
+}
+
+fn given(name: &Option<Name>) -> &Name
+    requires { is_some name.now ≡ true }
+    ensures { name.now ≡ Some result.now }
+{
+    match name {
+        Some(name) => name,
+        None => unreachable!(),
+    }
+}
+
+/// The network that the lines of a file stand for, where they break no rule.
+pub fn network_of(alloc: Global, draft: Draft, flags: &[bool]) -> Result<Network, AllocError>
+    requires read { IsRead (seen_draft draft) }
+    requires ends { HasEnds (seen_draft draft) }
+    requires fine { BreaksNone (seen_draft draft) }
+    requires flags { AreFlags (seen_draft draft) flags.now }
+    ensures { IfOk result (λ net. StandsFor (seen_draft draft) net) }
+{
+    let Draft {
+        version,
+        source,
+        sink,
+        nodes,
+        links,
+        pieces,
+        ended: _,
+    } = draft;
+    let active = active_of(alloc, &nodes, flags, &links)?;
+    let idle = idle_of(alloc, &nodes, flags, &links)?;
+    let node_names = active_nodes(alloc, given(&source), given(&sink), &active)?;
+    let others = idle_nodes(alloc, &node_names, &idle)?;
+    let names = link_names(alloc, &active)?;
+    let numbers = numbered_links(alloc, &node_names, &active)?;
+    let hops = hops_of(alloc, &node_names, &active)?;
+    Ok(Network::kept(
+        version, node_names, names, numbers, hops, pieces, others, idle,
+    ))
+}

@@ -1,0 +1,85 @@
+// Links and pieces of the supply.
+ghost use Rattle.std.specs.Prelude.{◌≡◌};
+
+use crate::name::Name;
+use nf_frac::Q;
+use nf_graph::NodeId;
+use std::marker::Model;
+
+/// A link: it leads from one node to another. What enters it waits at its entrance, is served at the capacity, an amount per
+/// unit of time, and then takes the transit time. No capacity: it is unbounded, and nothing waits.
+#[derive(Clone, Copy, Debug)]
+pub struct Link {
+    pub tail: NodeId,
+    pub head: NodeId,
+    pub transit: Q,
+    pub capacity: Option<Q>,
+}
+
+impl Model for Link {
+    ghost use Rattle.nf_model.specs.Network.{Link as SeenLink};
+    ghost use Rattle.nf_model.specs.Codes.{coded_link};
+
+    ghost Value = { SeenLink };
+
+    ghost coded = { coded_link };
+
+    ghost view = { λ a. record { tail = a.tail; head = a.head; transit = a.transit; capacity = a.capacity } };
+
+    ghost inverse = { λ l. record { tail = l.tail; head = l.head; transit = l.transit; capacity = l.capacity } };
+}
+
+/// From its start on the source is supplied at this rate, an amount per unit of time, until the next start.
+#[derive(Clone, Copy, Debug)]
+pub struct Piece {
+    pub start: Q,
+    pub rate: Q,
+}
+
+impl Model for Piece {
+    ghost use Rattle.nf_model.specs.Network.{Piece as SeenPiece};
+    ghost use Rattle.nf_model.specs.Codes.{coded_piece};
+
+    ghost Value = { SeenPiece };
+
+    ghost coded = { coded_piece };
+
+    ghost view = { λ a. record { start = a.start; rate = a.rate } };
+
+    ghost inverse = { λ p. record { start = p.start; rate = p.rate } };
+}
+
+/// A link with its name and those of its ends.
+#[derive(Drop)]
+pub struct NamedLink {
+    pub name: Name,
+    pub tail: Name,
+    pub head: Name,
+    pub transit: Q,
+    pub capacity: Option<Q>,
+}
+
+impl Model for NamedLink {
+    ghost use Rattle.nf_formats.specs.Named.{NamedLink as SeenLink, coded_named_link};
+
+    ghost Value = { SeenLink };
+
+    ghost coded = { coded_named_link };
+
+    ghost view = { λ a. record { name = a.name; tail = a.tail; head = a.head; transit = a.transit; capacity = a.capacity } };
+}
+
+impl NamedLink {
+    /// The same link once more.
+    pub fn copy(&self) -> NamedLink
+        ensures { result ≡ self.now }
+    {
+        NamedLink {
+            name: self.name.copy(),
+            tail: self.tail.copy(),
+            head: self.head.copy(),
+            transit: self.transit,
+            capacity: self.capacity,
+        }
+    }
+}

@@ -1,0 +1,227 @@
+// Networks.
+ghost use Rattle.std.specs.Prelude.{◌≡◌, ◌<◌, ◌≤◌, length, slice_get, Some, MatchOption, true, false};
+ghost use Rattle.std.specs.List.{list_all};
+ghost use Rattle.nf_model.specs.Network.{IsLink, hops as hops_of, rate_at as rate_of_net, next_change as change_of_net};
+ghost use Rattle.nf_formats.specs.Names.{has_name, is_name, name_at};
+ghost use Rattle.nf_formats.specs.WellNamed.{IsNamed};
+ghost use Rattle.nf_net.specs.Kept.{with_parts, IsKept};
+
+use crate::link::{Link, NamedLink, Piece};
+use crate::name::Name;
+use crate::names::Names;
+use crate::pieces::{rate_of, start_after};
+use nf_frac::Q;
+use nf_graph::{Hop, LinkId, NodeId};
+use std::marker::Model;
+
+/// A network with its names: that of an accepted file. Node 0 is the source and node 1 the sink; the other nodes are numbered by
+/// first appearance in the lines of the links, and links and pieces in the order of their lines. In version 2 a network may have
+/// idle nodes, which no walk from the source reaches, and idle links, which leave them; those have no numbers here.
+#[derive(Drop)]
+pub struct Network {
+    version: u32,
+    node_names: Names,
+    link_names: Names,
+    links: Vec<Link>,
+    hops: Vec<Hop>,
+    pieces: Vec<Piece>,
+    idle_nodes: Vec<Name>,
+    idle_links: Vec<NamedLink>,
+}
+
+impl Model for Network {
+    ghost use Rattle.nf_formats.specs.Named.{Named, coded_named};
+    ghost use Rattle.nf_net.specs.Kept.{with_parts, IsKept};
+
+    ghost Value = { Named };
+
+    ghost coded = { coded_named };
+
+    ghost view = { λ a. with_parts a.version a.node_names a.link_names a.links.items a.pieces.items a.idle_nodes.items a.idle_links.items };
+
+    ghost invariant = { λ a. IsKept (with_parts a.version a.node_names a.link_names a.links.items a.pieces.items a.idle_nodes.items a.idle_links.items) a.hops.items };
+}
+
+// The place of a name in a table of names.
+#[tactic(auto, using(crate::proofs::Limits::not_there, crate::proofs::Limits::position_there))]
+fn found(names: &Names, text: &str) -> Option<u32>
+    requires few { length names.now ≤ 200 }
+    requires names { list_all is_name names.now ≡ true }
+    ensures { MatchOption result (has_name names.now text.now ≡ false) (λ place. slice_get names.now place ≡ Some text.now) }
+{
+    match Name::read(text.as_bytes()) {
+        Some(name) => match names.place(&name) {
+            Some(place) => Some(place as u32),
+            None => None,
+        },
+        None => None,
+    }
+}
+
+#[tactic(auto, using(crate::proofs::Limits::few_nodes, crate::proofs::Limits::few_links, crate::proofs::Limits::few_idle_nodes, crate::proofs::Limits::as_many_names, crate::proofs::Limits::some_nodes, crate::proofs::Limits::named_nodes, crate::proofs::Limits::named_links, crate::proofs::Limits::few_link_names))]
+impl Network {
+    // The network of these parts.
+    pub(crate) fn kept(
+        version: u32,
+        node_names: Names,
+        link_names: Names,
+        links: Vec<Link>,
+        hops: Vec<Hop>,
+        pieces: Vec<Piece>,
+        idle_nodes: Vec<Name>,
+        idle_links: Vec<NamedLink>,
+    ) -> Network
+        requires { IsKept (with_parts version node_names link_names links.items pieces.items idle_nodes.items idle_links.items) hops.items }
+        ensures { result ≡ with_parts version node_names link_names links.items pieces.items idle_nodes.items idle_links.items }
+    {
+        Network {
+            version,
+            node_names,
+            link_names,
+            links,
+            hops,
+            pieces,
+            idle_nodes,
+            idle_links,
+        }
+    }
+
+    /// 1 or 2: the version of its file's format.
+    pub fn version(&self) -> u32
+        ensures value { result ≡ self.now.version }
+        ensures named { IsNamed self.now }
+    {
+        self.version
+    }
+
+    /// How many nodes it has, without idle ones.
+    pub fn node_count(&self) -> u32
+        ensures { result ≡ self.now.net.nodes }
+    {
+        self.node_names.len() as u32
+    }
+
+    /// How many links it has, without idle ones.
+    pub fn link_count(&self) -> u32
+        ensures { result ≡ length self.now.net.links }
+    {
+        self.links.len() as u32
+    }
+
+    /// The source.
+    pub fn source(&self) -> NodeId
+        ensures value { result ≡ self.now.net.source }
+        ensures node { result < self.now.net.nodes }
+    {
+        let _ = &self.version;
+        NodeId(0)
+    }
+
+    /// The sink.
+    pub fn sink(&self) -> NodeId
+        ensures value { result ≡ self.now.net.sink }
+        ensures node { result < self.now.net.nodes }
+    {
+        let _ = &self.version;
+        NodeId(1)
+    }
+
+    /// The name of a node.
+    pub fn node_name(&self, node: NodeId) -> &str
+        requires { node < self.now.net.nodes }
+        ensures { result.now ≡ name_at self.now.node_names node }
+    {
+        self.node_names.at(node.index()).text()
+    }
+
+    /// The name of a link.
+    pub fn link_name(&self, link: LinkId) -> &str
+        requires { link < length self.now.net.links }
+        ensures { result.now ≡ name_at self.now.link_names link }
+    {
+        self.link_names.at(link.index()).text()
+    }
+
+    /// The node of a name; None exactly where no node has it. Idle nodes have none of the numbers.
+    pub fn node_named(&self, name: &str) -> Option<NodeId>
+        ensures { MatchOption result (has_name self.now.node_names name.now ≡ false) (λ node. slice_get self.now.node_names node ≡ Some name.now) }
+    {
+        match found(&self.node_names, name) {
+            Some(place) => Some(NodeId(place)),
+            None => None,
+        }
+    }
+
+    /// The link of a name; None exactly where no link has it, idle links aside.
+    pub fn link_named(&self, name: &str) -> Option<LinkId>
+        ensures { MatchOption result (has_name self.now.link_names name.now ≡ false) (λ link. slice_get self.now.link_names link ≡ Some name.now) }
+    {
+        match found(&self.link_names, name) {
+            Some(place) => Some(LinkId(place)),
+            None => None,
+        }
+    }
+
+    /// A link.
+    pub fn link(&self, link: LinkId) -> Link
+        requires { link < length self.now.net.links }
+        ensures link { IsLink self.now.net link result }
+        ensures named { IsNamed self.now }
+    {
+        self.links[link.index()]
+    }
+
+    /// What the source is supplied with: the pieces, whose starts rise.
+    pub fn pieces(&self) -> &[Piece]
+        ensures value { result.now ≡ self.now.net.pieces }
+        ensures named { IsNamed self.now }
+    {
+        &self.pieces
+    }
+
+    /// The links without their capacities.
+    pub fn hops(&self) -> &[Hop]
+        ensures value { result.now ≡ hops_of self.now.net }
+        ensures named { IsNamed self.now }
+    {
+        &self.hops
+    }
+
+    /// The rate at which the source is supplied from a time on: that of the last piece that starts at or before the time, and 0
+    /// where none does.
+    pub fn rate_at(&self, time: Q) -> Q
+        ensures { result ≡ rate_of_net self.now.net time }
+    {
+        rate_of(&self.pieces, time)
+    }
+
+    /// The first start of a piece after a time; None exactly where there is none.
+    pub fn next_change(&self, time: Q) -> Option<Q>
+        ensures { result ≡ change_of_net self.now.net time }
+    {
+        start_after(&self.pieces, time)
+    }
+
+    // The idle links, in the order of their lines.
+    pub(crate) fn idle_links(&self) -> &[NamedLink]
+        ensures { result.now ≡ self.now.idle_links }
+    {
+        &self.idle_links
+    }
+
+    /// How many idle nodes it has.
+    pub fn idle_count(&self) -> u32
+        ensures { result ≡ length self.now.idle_nodes }
+    {
+        self.idle_nodes.len() as u32
+    }
+
+    /// The name of an idle node.
+    pub fn idle_name(&self, index: u32) -> &str
+        requires { index < length self.now.idle_nodes }
+        ensures { result.now ≡ name_at self.now.idle_nodes index }
+    {
+        let names = &self.idle_nodes;
+        names[index as usize].text()
+    }
+}

@@ -1,0 +1,34 @@
+// The rate of the supply, and when it changes.
+ghost use Rattle.std.specs.Prelude.{◌≡◌};
+ghost use Rattle.nf_rational.specs.Operations.{0ℚ};
+ghost use Rattle.nf_model.specs.Network.{rate_from, first_start};
+
+use crate::link::Piece;
+use crate::order::{is_at_most, is_below};
+use nf_frac::Q;
+
+// The rate of the last of the pieces that starts at or before the time, 0 where none does.
+pub fn rate_of(pieces: &[Piece], time: Q) -> Q
+    ensures { result ≡ rate_from 0ℚ pieces.now time }
+{
+    let mut rate = Q::zero();
+    for piece in pieces {
+        if !is_at_most(piece.start, time) {
+            return rate;
+        }
+        rate = piece.rate;
+    }
+    rate
+}
+
+// The first start after the time.
+pub fn start_after(pieces: &[Piece], time: Q) -> Option<Q>
+    ensures { result ≡ first_start pieces.now time }
+{
+    for piece in pieces {
+        if is_below(time, piece.start) {
+            return Some(piece.start);
+        }
+    }
+    None
+}

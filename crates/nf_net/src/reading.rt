@@ -1,0 +1,75 @@
+// The reading of a network file.
+ghost use Rattle.std.specs.Prelude.{◌≡◌, ◌≤◌, length, map, None, Ok, Err, IfOk, IfErr, OnOk, MatchResult};
+ghost use Rattle.nf_lines.specs.Words.{read_lines};
+ghost use Rattle.nf_lines.specs.Faults.{first_fault};
+ghost use Rattle.nf_text.specs.Reading.{seen_line};
+ghost use Rattle.nf_formats.specs.NetFile.{Closes, Reads};
+ghost use Rattle.nf_net.specs.Drafts.{seen_draft};
+ghost use Rattle.nf_net.specs.Contents.{AreLinesWithin, IfBroken, IsRead};
+
+use crate::building::network_of;
+use crate::closing::{flags_of, hops_of, names_rule, walk_rule};
+use crate::contents::read_draft;
+use crate::draft::Draft;
+use crate::fault::NetFault;
+use crate::network::Network;
+use nf_formats::NetRule;
+use nf_text::{Line, TextFault, lines};
+use std::alloc::Global;
+
+// The lines of the text, or the first line that has a fault.
+#[tactic(auto, using(crate::proofs::ContentLines::lines_within))]
+fn lines_of(alloc: Global, text: &[u8]) -> Result<Vec<Line>, NetFault>
+    requires { length text.now ≤ 67108864 }
+    ensures ok { IfOk result (λ read. map (seen_line text.now) read.items ≡ read_lines text.now) }
+    ensures within { IfOk result (λ read. AreLinesWithin text.now read.items) }
+    ensures fine { OnOk result (first_fault text.now ≡ None) }
+    ensures fault { IfErr result (λ fault. IfBroken fault (λ broken. Reads text.now (Err broken))) }
+{
+    let read = match lines(alloc, text) {
+        Ok(read) => read,
+        Err(TextFault::NotAscii { line }) => {
+            return Err(NetFault::Broken {
+                rule: NetRule::N1,
+                line,
+            });
+        }
+        Err(TextFault::LongLine { line }) => {
+            return Err(NetFault::Broken {
+                rule: NetRule::N2,
+                line,
+            });
+        }
+        Err(TextFault::Memory) => return Err(NetFault::Memory),
+    };
+    Ok(read)
+}
+
+// The network that lines stand for, or the first rule of the file as a whole that they break.
+fn close(alloc: Global, draft: Draft) -> Result<Network, NetFault>
+    requires { IsRead (seen_draft draft) }
+    ensures { MatchResult result (λ net. Closes (seen_draft draft) (Ok net))
+        (λ fault. IfBroken fault (λ broken. Closes (seen_draft draft) (Err broken))) }
+{
+    if let Some(rule) = names_rule(&draft) {
+        return Err(NetFault::Broken { rule, line: 0 });
+    }
+    let hops = hops_of(alloc, &draft.nodes, &draft.links)?;
+    let flags = flags_of(alloc, &draft, &hops)?;
+    if let Some(rule) = walk_rule(alloc, &draft, &hops, &flags)? {
+        return Err(NetFault::Broken { rule, line: 0 });
+    }
+    let net = network_of(alloc, draft, &flags)?;
+    Ok(net)
+}
+
+/// The network that a text of at most 67,108,864 bytes stands for; or the first rule that it breaks, and the line. The rules of
+/// all bytes and lines come first, then those of the lines one by one, then those of the file as a whole, with line 0.
+pub fn parse(alloc: Global, text: &[u8]) -> Result<Network, NetFault>
+    requires { length text.now ≤ 67108864 }
+    ensures { MatchResult result (λ net. Reads text.now (Ok net)) (λ fault. IfBroken fault (λ broken. Reads text.now (Err broken))) }
+{
+    let lines = lines_of(alloc, text)?;
+    let draft = read_draft(alloc, text, &lines)?;
+    close(alloc, draft)
+}
