@@ -5,3 +5,4 @@ pub mod LinkLaws
 pub mod Cuts
 pub mod Slopes
 pub mod Agree
+pub mod Forests
