@@ -1,5 +1,6 @@
 pub mod Flags
 pub mod ActiveLinks
+pub mod Patterns
 pub mod Accepted
 pub mod LinkLaws
 pub mod Cuts
