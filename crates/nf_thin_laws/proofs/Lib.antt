@@ -7,3 +7,5 @@ pub mod Cuts
 pub mod Slopes
 pub mod Agree
 pub mod Forests
+pub mod Totals
+pub mod Singular
