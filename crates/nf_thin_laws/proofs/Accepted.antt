@@ -19,7 +19,8 @@ use Rattle.nf_model_laws.proofs.Affine.{clash, quotient-times, le_from_times, sa
 use Rattle.nf_model_laws.proofs.Earliest.{IsPositive-link}
 use Rattle.nf_model_laws.proofs.Networks.{link_at}
 use Rattle.nf_thin_laws.specs.ActiveLinks.{AreSets}
-use Rattle.nf_thin_laws.proofs.Flags.{entry, entry_inside, number_at-beyond, flag, flag-cases}
+use Rattle.nf_thin_laws.proofs.Flags.{entry, number_at-beyond, flag}
+use Rattle.nf_thin_laws.proofs.Patterns.{Stands, with_state, resets, inactive, stands, Leads, by_tight, by_full, by_reset, led}
 
 -- ---- exit slopes: x is the flow of a link, s and t are the slopes of its tail and its head
 pub max_same : (s q : ℚ) → s ≤ℚ q → max_ℚ s q ≡ q
@@ -87,37 +88,38 @@ module _ (net : Network) (sets : Sets) (rate : ℚ) (pattern : Pattern) (flows s
   by_flag : (e : ℕ) (link : Link) (b : Bool) (P : ℚ → Type 0) → flag sets.resetting e ≡ b → P (exit_slope b link.capacity (number_at flows e) (number_at slopes link.tail)) → P (exit_of e link)
   by_flag e link b P h p = subst (λ (c : Bool). P (exit_slope c link.capacity (number_at flows e) (number_at slopes link.tail))) (sym h) p
 
-  in_pattern : (e : ℕ) (link : Link) → IsLink net e link → (state : Option State) × (slice_get pattern e ≡ Some state)
-  in_pattern e link p = entry pattern e (let l : e < length net.links = entry_inside net.links e link p in let c : length pattern ≡ length sets.active = listed.states.count in let d : length sets.active ≡ length net.links = are.count in omega arith)
+  abbrev Just : ℕ → Link → Type 0
+  Just e link = exit_of e link ≡ number_at slopes link.head
 
-  -- a resetting link has no state
-  without_state : (e : ℕ) (link : Link) → IsLink net e link → (NeedsState sets e → ⊥) → slice_get pattern e ≡ Some None
-  without_state e link p none = go (in_pattern e link p)
-    where
-      go : (state : Option State) × (slice_get pattern e ≡ Some state) → slice_get pattern e ≡ Some None
-      go (None, h) = h
-      go (Some state, h) = absurd (none ((listed.states.states e).1 (state, h)))
-
-  resetting_exit : (e : ℕ) (link : Link) → IsLink net e link → Has sets.resetting e → flag sets.resetting e ≡ true → exit_of e link ≡ number_at slopes link.head
-  resetting_exit e link p r f = by_flag e link true (λ (z : ℚ). z ≡ number_at slopes link.head) f
+  resetting_just : (e : ℕ) (link : Link) → IsLink net e link → slice_get pattern e ≡ Some None → flag sets.resetting e ≡ true → Just e link
+  resetting_just e link p h f = by_flag e link true (λ (z : ℚ). z ≡ number_at slopes link.head) f
       (exit_resetting link.capacity _ _ _ (IsPositive-link net e link good p)
-      (subst (λ (b : Bool). Equation None b link.capacity (number_at flows e) (number_at slopes link.tail) (number_at slopes link.head)) f
-      (solves.links e link None p (without_state e link p (λ n. n.1 r)))))
+      (subst (λ (b : Bool). Equation None b link.capacity (number_at flows e) (number_at slopes link.tail) (number_at slopes link.head)) f (solves.links e link None p h)))
 
-  state_exit : (e : ℕ) (link : Link) (state : State) → IsLink net e link → HasState pattern e state → flag sets.resetting e ≡ false → Exits (exit_of e link) (number_at slopes link.head) (number_at flows e)
-  state_exit e link Tight p h f = just (by_flag e link false (λ (z : ℚ). z ≡ number_at slopes link.head) f
-      (exit_tight link.capacity _ _ _ (IsPositive-link net e link good p) (solves.links e link (Some Tight) p h) (meets.links e link (Some Tight) p h)))
-  state_exit e link Full p h f = just (by_flag e link false (λ (z : ℚ). z ≡ number_at slopes link.head) f
-      (exit_full link.capacity _ _ _ (IsPositive-link net e link good p) (solves.links e link (Some Full) p h) (meets.links e link (Some Full) p h)))
-  state_exit e link Zero p h f = idle (by_flag e link false (λ (z : ℚ). number_at slopes link.head ≤ℚ z) f (exit_zero link.capacity (number_at flows e) _ _ (meets.links e link (Some Zero) p h)))
+  tight_just : (e : ℕ) (link : Link) → IsLink net e link → HasState pattern e Tight → flag sets.resetting e ≡ false → Just e link
+  tight_just e link p h f = by_flag e link false (λ (z : ℚ). z ≡ number_at slopes link.head) f
+      (exit_tight link.capacity _ _ _ (IsPositive-link net e link good p) (solves.links e link (Some Tight) p h) (meets.links e link (Some Tight) p h))
+
+  full_just : (e : ℕ) (link : Link) → IsLink net e link → HasState pattern e Full → flag sets.resetting e ≡ false → Just e link
+  full_just e link p h f = by_flag e link false (λ (z : ℚ). z ≡ number_at slopes link.head) f
+      (exit_full link.capacity _ _ _ (IsPositive-link net e link good p) (solves.links e link (Some Full) p h) (meets.links e link (Some Full) p h))
+
+  abbrev ExitsAt : ℕ → Link → Type 0
+  ExitsAt e link = Exits (exit_of e link) (number_at slopes link.head) (number_at flows e)
+
+  by_state : (e : ℕ) (link : Link) (state : State) → IsLink net e link → HasState pattern e state → flag sets.resetting e ≡ false → ExitsAt e link
+  by_state e link Tight p h f = just (tight_just e link p h f)
+  by_state e link Full p h f = just (full_just e link p h f)
+  by_state e link Zero p h f = idle (by_flag e link false (λ (z : ℚ). number_at slopes link.head ≤ℚ z) f (exit_zero link.capacity (number_at flows e) _ _ (meets.links e link (Some Zero) p h)))
       (solves.links e link (Some Zero) p h)
 
-  exits : (e : ℕ) (link : Link) → IsLink net e link → Has sets.active e → Exits (exit_of e link) (number_at slopes link.head) (number_at flows e)
-  exits e link p a = ⊎_elim
-      (λ (w : (flag sets.resetting e ≡ true) × Has sets.resetting e). just (resetting_exit e link p w.1 w.0))
-      (λ (w : (flag sets.resetting e ≡ false) × (Has sets.resetting e → ⊥)).
-      let s : (state : State) × HasState pattern e state = (listed.states.states e).0 (a, w.1) in state_exit e link s.0 p s.1 w.0)
-      (flag-cases sets.resetting e)
+  exits : (e : ℕ) (link : Link) → IsLink net e link → Has sets.active e → ExitsAt e link
+  exits e link p a = go (stands net sets pattern are listed e link p)
+    where
+      go : Stands pattern sets e → ExitsAt e link
+      go (with_state state h f _) = by_state e link state p h f
+      go (resets h f _) = just (resetting_just e link p h f)
+      go (inactive h f none) = absurd (none a)
 
   at_least : (t exit x : ℚ) → Exits exit t x → t ≤ℚ exit
   at_least t exit x (just e) = ≤ℚ_of_same _ _ (sym e)
@@ -131,16 +133,14 @@ module _ (net : Network) (sets : Sets) (rate : ℚ) (pattern : Pattern) (flows s
   no_flow : (e : ℕ) → (Has sets.active e → ⊥) → number_at flows e ≡ 0ℚ
   no_flow e none = go (slice_get net.links e) refl
     where
-      idle_at : (link : Link) → IsLink net e link → number_at flows e ≡ 0ℚ
-      idle_at link p = ⊎_elim
-          (λ (w : (flag sets.resetting e ≡ true) × Has sets.resetting e). absurd (none (are.resetting e w.1)))
-          (λ (w : (flag sets.resetting e ≡ false) × (Has sets.resetting e → ⊥)).
-          subst (λ (b : Bool). Equation None b link.capacity (number_at flows e) (number_at slopes link.tail) (number_at slopes link.head)) w.0
-          (solves.links e link None p (without_state e link p (λ n. none n.0))))
-          (flag-cases sets.resetting e)
+      idle_at : (link : Link) → IsLink net e link → Stands pattern sets e → number_at flows e ≡ 0ℚ
+      idle_at link p (with_state state h f a) = absurd (none a)
+      idle_at link p (resets h f a) = absurd (none a)
+      idle_at link p (inactive h f _) = subst (λ (b : Bool). Equation None b link.capacity (number_at flows e) (number_at slopes link.tail) (number_at slopes link.head)) f
+          (solves.links e link None p h)
 
       go : (o : Option Link) → slice_get net.links e ≡ o → number_at flows e ≡ 0ℚ
-      go (Some link) p = idle_at link p
+      go (Some link) p = idle_at link p (stands net sets pattern are listed e link p)
       go None p = number_at-beyond flows e (beyond (number_links e p))
         where
           number_links : (e : ℕ) → slice_get net.links e ≡ None → e < length net.links → ⊥
@@ -153,41 +153,15 @@ module _ (net : Network) (sets : Sets) (rate : ℚ) (pattern : Pattern) (flows s
           beyond n = let c : length flows ≡ length net.links = solves.flow_count in omega arith
 
   -- ---- each node but the source is entered by a link of that exit slope
-  enters_at : (v e : ℕ) (hop : Hop) → IsHop (hops net) e hop → hop.head ≡ v → Has sets.active e → (link : Link) × Enters net sets v e link
-  enters_at v e hop p at a =
-      let l : (link : Link) × IsLink net e link × (hop_of link ≡ hop) = link_at net e hop p in
-      (l.0, record { is_link = l.1; active = a; head = ap (λ (h : Hop). h.head) l.2 ∙ at })
+  leads_just : (e : ℕ) (link : Link) → IsLink net e link → Leads pattern sets e → Just e link
+  leads_just e link p (by_tight h f) = tight_just e link p h f
+  leads_just e link p (by_full h f) = full_just e link p h f
+  leads_just e link p (by_reset h f) = resetting_just e link p h f
 
-  abbrev Taken : ℕ → Type 0
-  Taken v = (e : ℕ) × (link : Link) × Enters net sets v e link × (exit_of e link ≡ number_at slopes v)
-
-  taken_by : (v e : ℕ) → (link : Link) × Enters net sets v e link → ((link : Link) → IsLink net e link → exit_of e link ≡ number_at slopes link.head) → Taken v
-  taken_by v e n f = (e, n.0, n.1, f n.0 n.1.is_link ∙ ap (number_at slopes) n.1.head)
-
-  by_state : (e : ℕ) (state : State) → HasState pattern e state → flag sets.resetting e ≡ false
-  by_state e state h = ⊎_elim
-      (λ (w : (flag sets.resetting e ≡ true) × Has sets.resetting e). absurd (((listed.states.states e).1 (state, h)).1 w.1))
-      (λ (w : (flag sets.resetting e ≡ false) × (Has sets.resetting e → ⊥)). w.0)
-      (flag-cases sets.resetting e)
-
-  by_reset : (e : ℕ) → Has sets.resetting e → flag sets.resetting e ≡ true
-  by_reset e r = ap (λ (o : Option Bool). unwrap_or o false) r
-
-  tight_just : (e : ℕ) (link : Link) → HasState pattern e Tight → IsLink net e link → exit_of e link ≡ number_at slopes link.head
-  tight_just e link h p = by_flag e link false (λ (z : ℚ). z ≡ number_at slopes link.head) (by_state e Tight h)
-      (exit_tight link.capacity _ _ _ (IsPositive-link net e link good p) (solves.links e link (Some Tight) p h) (meets.links e link (Some Tight) p h))
-
-  full_just : (e : ℕ) (link : Link) → HasState pattern e Full → IsLink net e link → exit_of e link ≡ number_at slopes link.head
-  full_just e link h p = by_flag e link false (λ (z : ℚ). z ≡ number_at slopes link.head) (by_state e Full h)
-      (exit_full link.capacity _ _ _ (IsPositive-link net e link good p) (solves.links e link (Some Full) p h) (meets.links e link (Some Full) p h))
-
-  taken : (v : ℕ) → v < net.nodes → v ≢ net.source → Taken v
-  taken v h other = go (listed.entered v h other)
-    where
-      go : (e : ℕ) × (hop : Hop) × IsHop (hops net) e hop × (hop.head ≡ v) × (Has sets.resetting e ⊎ (HasState pattern e Tight ⊎ HasState pattern e Full)) → Taken v
-      go (e, hop, p, at, inl r) = taken_by v e (enters_at v e hop p at (are.resetting e r)) (λ link q. resetting_exit e link q r (by_reset e r))
-      go (e, hop, p, at, inr (inl s)) = taken_by v e (enters_at v e hop p at ((listed.states.states e).1 (Tight, s)).0) (λ link q. tight_just e link s q)
-      go (e, hop, p, at, inr (inr s)) = taken_by v e (enters_at v e hop p at ((listed.states.states e).1 (Full, s)).0) (λ link q. full_just e link s q)
+  taken : (v : ℕ) → v < net.nodes → v ≢ net.source → (e : ℕ) × (link : Link) × Enters net sets v e link × (exit_of e link ≡ number_at slopes v)
+  taken v h other =
+      let l : (e : ℕ) × (link : Link) × Enters net sets v e link × Leads pattern sets e = led net sets pattern are listed v h other in
+      (l.0, l.1, l.2, leads_just l.0 l.1 l.2.is_link l.3 ∙ ap (number_at slopes) l.2.head)
 
   pub IsThinFlow-accepted : IsThinFlow net sets rate flows slopes
   IsThinFlow-accepted = record {

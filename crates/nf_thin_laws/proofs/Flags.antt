@@ -14,6 +14,20 @@ entry_inside [] e x h = absurd (cc)
 entry_inside (y ∷ xs) zero x h = omega arith
 entry_inside (y ∷ xs) (suc e) x h = let l : e < length xs = entry_inside xs e x h in omega arith
 
+pub entry_beyond : {A : Type 0} (xs : List A) (e : ℕ) → slice_get xs e ≡ None → length xs ≤ e
+entry_beyond [] e h = omega arith
+entry_beyond (x ∷ xs) zero h = absurd (cc)
+entry_beyond (x ∷ xs) (suc e) h = let l : length xs ≤ e = entry_beyond xs e h in omega arith
+
+pub less_or_not : (a b : ℕ) → (a < b) ⊎ (b ≤ a)
+less_or_not a zero = inr (omega arith)
+less_or_not zero (suc b) = inl (omega arith)
+less_or_not (suc a) (suc b) = more (less_or_not a b)
+  where
+    more : (a < b) ⊎ (b ≤ a) → (suc a < suc b) ⊎ (suc b ≤ suc a)
+    more (inl h) = inl (omega arith)
+    more (inr h) = inr (omega arith)
+
 pub number_at-beyond : (xs : List ℚ) (e : ℕ) → length xs ≤ e → number_at xs e ≡ 0ℚ
 number_at-beyond [] e h = refl
 number_at-beyond (x ∷ xs) zero h = absurd (omega arith)

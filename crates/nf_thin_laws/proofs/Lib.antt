@@ -1,7 +1,11 @@
 pub mod Flags
 pub mod ActiveLinks
+pub mod Patterns
 pub mod Accepted
 pub mod LinkLaws
 pub mod Cuts
 pub mod Slopes
 pub mod Agree
+pub mod Forests
+pub mod Totals
+pub mod Singular

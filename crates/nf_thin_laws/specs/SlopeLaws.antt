@@ -2,7 +2,8 @@
 use Rattle.std.specs.Prelude.{◌≡◌, List, length}
 use Rattle.nf_rational.specs.Rational.{ℚ}
 use Rattle.nf_model.specs.Network.{Network, IsNetwork}
-use Rattle.nf_model.specs.ThinFlow.{Sets, IsThinFlow}
+use Rattle.nf_rational.specs.Operations.{0ℚ, ◌-ℚ◌}
+use Rattle.nf_model.specs.ThinFlow.{Sets, surplus, IsThinFlow}
 use Rattle.nf_model.specs.Phases.{IsPhase, IsPhaseSequence}
 use Rattle.nf_thin_laws.specs.ActiveLinks.{HoldNoCycle}
 
@@ -17,3 +18,8 @@ pub record PhaseSequencesAgree : Type 0 where
   pub phase : (net : Network) (horizon : ℚ) (old new other : ℚ × List ℚ) → IsNetwork net → IsPhase net horizon old new → IsPhase net horizon old other → new ≡ other
   pub sequence : (net : Network) (horizon : ℚ) (phases others : List (ℚ × List ℚ)) → IsNetwork net → IsPhaseSequence net horizon phases
       → IsPhaseSequence net horizon others → length phases ≡ length others → phases ≡ others
+
+-- what a thin flow sends out of the source comes to the sink
+abbrev pub ThinFlowComesToSink : Type 0
+ThinFlowComesToSink = (net : Network) (sets : Sets) (rate : ℚ) (flows slopes : List ℚ) → IsNetwork net → IsThinFlow net sets rate flows slopes
+    → surplus net flows net.sink ≡ 0ℚ -ℚ rate

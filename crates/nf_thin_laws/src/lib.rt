@@ -3,8 +3,8 @@
 #![tactic(auto)]
 
 ghost use Rattle.nf_thin_laws.specs.ActiveLinks.{ActiveLinksHoldNoCycle};
-ghost use Rattle.nf_thin_laws.specs.PatternLaws.{AcceptedPatternIsThin};
-ghost use Rattle.nf_thin_laws.specs.SlopeLaws.{SlopesAreUnique, PhaseSequencesAgree};
+ghost use Rattle.nf_thin_laws.specs.PatternLaws.{AcceptedPatternIsThin, NoListedPatternIsSingular};
+ghost use Rattle.nf_thin_laws.specs.SlopeLaws.{SlopesAreUnique, PhaseSequencesAgree, ThinFlowComesToSink};
 
 /// The active links of labels hold no cycle; and where such links lead to each node but the source, none leads to the source.
 pub fn active_links_hold_no_cycle()
@@ -26,4 +26,14 @@ pub fn slopes_are_unique()
 /// Phase sequences of a network up to one horizon agree, as far as they go.
 pub fn phase_sequences_agree()
     ensures { PhaseSequencesAgree }
+{}
+
+/// What a thin flow sends out of the source comes to the sink.
+pub fn thin_flow_comes_to_sink()
+    ensures { ThinFlowComesToSink }
+{}
+
+/// The equations of a listed pattern have at most one solution, where the active links hold no cycle.
+pub fn no_listed_pattern_is_singular()
+    ensures { NoListedPatternIsSingular }
 {}
