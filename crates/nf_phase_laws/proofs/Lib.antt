@@ -1,3 +1,5 @@
 pub mod Idle
 pub mod Holds
 pub mod Start
+pub mod Thin
+pub mod QueueCases
