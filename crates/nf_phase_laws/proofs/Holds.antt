@@ -1,6 +1,6 @@
 -- A flow of which the invariant of phases holds is a Nash flow over time.
-use Rattle.std.proofs.Common.{◌≡◌, ◌≢◌, ℕ, ◌<◌, [], ◌∷◌, ⊎_elim, Option, Some, None, sym, ap, subst, refl, ◌∙◌}
-use Rattle.std.proofs.lemmas.Option.{slice_get_within}
+use Rattle.std.proofs.Common.{◌≡◌, ◌≢◌, ℕ, ◌<◌, ◌≤◌, [], ◌∷◌, length, get_or, slice_get, ⊎_elim, Option, Some, None, sym, ap, subst, refl, ◌∙◌, arith}
+use Rattle.std.proofs.lemmas.Option.{slice_get_within, slice_get_cases}
 use Rattle.nf_rational.specs.Rational.{ℚ}
 use Rattle.nf_rational.specs.Operations.{0ℚ, ◌+ℚ◌, ◌-ℚ◌, ◌*ℚ◌}
 use Rattle.nf_rational.specs.Order.{◌≤ℚ◌, ◌<ℚ◌, max_ℚ}
@@ -25,6 +25,13 @@ use Rattle.nf_phase_laws.proofs.Idle.{max0_cases, waiting-by_slack, IsQueue-befo
 -- what is sent into a link, by its tail
 pub sent-is : (net : Network) (amount label : ℕ → ℚ → ℚ) (e : ℕ) (link : Link) (departure : ℚ) → IsLink net e link → sent net amount label e departure ≡ amount e (label link.tail departure)
 sent-is net amount label e link departure p = ap (λ (o : Option Link). amount e (label (tail_or o) departure)) p
+
+-- each number below the count of the links has its link
+pub link_within : (net : Network) (e : ℕ) → e < length net.links → (link : Link) × IsLink net e link
+link_within net e h = ⊎_elim
+    (λ (w : (link : Link) × (e < length net.links) × IsLink net e link × (get_or net.links e link ≡ link)). (w.0, w.2))
+    (λ (w : (length net.links ≤ e) × (slice_get net.links e ≡ None)). absurd (omega arith))
+    (slice_get_cases net.links e).1
 
 -- ---- over plain numbers: a and b the labels at the tail and the head, r the transit time, m the wait
 late_enough : (a b r m : ℚ) → m ≡ max_ℚ 0ℚ (b -ℚ (a +ℚ r)) → b ≤ℚ a +ℚ r +ℚ m

@@ -3,3 +3,5 @@ pub mod Holds
 pub mod Start
 pub mod Thin
 pub mod QueueCases
+pub mod Rising
+pub mod Phase
