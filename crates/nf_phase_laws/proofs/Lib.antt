@@ -5,3 +5,4 @@ pub mod Thin
 pub mod QueueCases
 pub mod Rising
 pub mod Phase
+pub mod Lasting

@@ -70,10 +70,14 @@ pub record HoldsUpTo (net : Network) (amount label : ℕ → ℚ → ℚ) (until
   pub used : (e : ℕ) (link : Link) (departure : ℚ) → IsLink net e link → 0ℚ ≤ℚ departure → departure <ℚ until
       → ((later : ℚ) → departure <ℚ later → later ≤ℚ until → sent net amount label e departure <ℚ sent net amount label e later) → 0ℚ ≤ℚ link_slack label link departure
 
+-- these are the labels of the nodes at a departure
+abbrev pub LabelsAre : Network → (ℕ → ℚ → ℚ) → ℚ → List ℚ → Type 0
+LabelsAre net label departure labels = (v : ℕ) → v < net.nodes → label v departure ≡ number_at labels v
+
 -- the start: nothing enters a link, and the labels of departure 0 are these
 pub record IsStart (net : Network) (labels : List ℚ) (amount label : ℕ → ℚ → ℚ) : Type 0 where
   pub nothing : (e : ℕ) (time : ℚ) → e < length net.links → 0ℚ ≤ℚ time → amount e time ≡ 0ℚ
-  pub labels_are : (v : ℕ) → v < net.nodes → label v 0ℚ ≡ number_at labels v
+  pub labels_are : LabelsAre net label 0ℚ labels
 
 -- A flow goes on from a departure for a while: up to then nothing changes. Each label moves on at its slope, while the tail's
 -- label moves the link takes flow at one rate, so much that by departure it takes `flow`, and after that nothing more.
