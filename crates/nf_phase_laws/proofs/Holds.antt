@@ -5,11 +5,11 @@ use Rattle.nf_rational.specs.Rational.{ℚ}
 use Rattle.nf_rational.specs.Operations.{0ℚ, ◌+ℚ◌, ◌-ℚ◌, ◌*ℚ◌}
 use Rattle.nf_rational.specs.Order.{◌≤ℚ◌, ◌<ℚ◌, max_ℚ}
 use Rattle.nf_rational_laws.proofs.Polynomial.{reading_of}
-use Rattle.nf_rational_laws.proofs.Order.{≤ℚ_of_same, ≤ℚ_of_lt, ≤ℚ_antisymm, lt_or_le_ℚ}
-use Rattle.nf_rational_laws.proofs.Linear.{le, lt, eq, le_times, eq_times, linear_le, linear_lt, linear_eq}
+use Rattle.nf_rational_laws.proofs.Order.{≤ℚ_of_lt, ≤ℚ_antisymm, lt_or_le_ℚ}
+use Rattle.nf_rational_laws.proofs.Linear.{le, lt, eq, le_times, linear_le, linear_lt, linear_eq}
 use Rattle.nf_model.specs.Curve.{Within, NeverFalls, IsGreatest}
 use Rattle.nf_model.specs.Network.{Link, Network, IsNetwork, IsLink, sum_in, sum_out, supply}
-use Rattle.nf_model.specs.Queue.{IsQueue, IsExit, IsOutflow, waiting}
+use Rattle.nf_model.specs.Queue.{IsQueue, IsExit, IsOutflow}
 use Rattle.nf_model.specs.Earliest.{IsEarliest}
 use Rattle.nf_model.specs.Equilibrium.{Balances, IsNashFlow}
 use Rattle.nf_model_laws.specs.Capacity.{IsPositive}
@@ -18,8 +18,8 @@ use Rattle.nf_model_laws.proofs.Affine.{≤_refl, ≤_trans, clash, le_from_time
 use Rattle.nf_model_laws.proofs.Queues.{IsOutflow-from_IsQueue, IsOutflow-early}
 use Rattle.nf_model_laws.proofs.Exits.{IsOutflow-at_exit}
 use Rattle.nf_model_laws.proofs.Earliest.{IsEarliest-label, IsPositive-link}
-use Rattle.nf_model_laws.proofs.Sums.{sum_in-same, sum_out-same, sum_in-none, sum_out-none}
-use Rattle.nf_phase_laws.specs.Invariant.{link_slack, queue_by_slack, tail_or, tail_of, sent, HoldsUpTo}
+use Rattle.nf_model_laws.proofs.Sums.{sum_out-same, sum_in-none, sum_out-none}
+use Rattle.nf_phase_laws.specs.Invariant.{link_slack, queue_by_slack, tail_or, sent, HoldsUpTo}
 use Rattle.nf_phase_laws.proofs.Idle.{max0_cases, waiting-by_slack, IsQueue-before_any}
 
 -- what is sent into a link, by its tail

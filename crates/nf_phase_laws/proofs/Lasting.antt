@@ -1,14 +1,14 @@
 -- A phase by lists: its thin flow, its length and the supply during it, in the form that the step takes.
-use Rattle.std.proofs.Common.{◌≡◌, ℕ, ◌<◌, List, [], ◌∷◌, sym, subst, ◌∙◌}
+use Rattle.std.proofs.Common.{◌≡◌, ℕ, List, [], ◌∷◌, sym, subst, ◌∙◌}
 use Rattle.nf_rational.specs.Rational.{ℚ}
 use Rattle.nf_rational.specs.Operations.{0ℚ, ◌+ℚ◌, ◌-ℚ◌, ◌*ℚ◌}
 use Rattle.nf_rational.specs.Order.{◌≤ℚ◌, ◌<ℚ◌}
 use Rattle.nf_rational_laws.proofs.Polynomial.{reading_of}
-use Rattle.nf_rational_laws.proofs.Linear.{le, eq, eq_times, linear_le, linear_eq}
+use Rattle.nf_rational_laws.proofs.Linear.{le, eq, linear_le, linear_eq}
 use Rattle.nf_model.specs.Entries.{number_at}
 use Rattle.nf_model.specs.Curve.{Within}
-use Rattle.nf_model.specs.Network.{Link, Network, IsNetwork, IsLink, hop_of, hops, supply, rate_at}
-use Rattle.nf_model.specs.ThinFlow.{slack, slacks_of, sets_at, IsThinFlow}
+use Rattle.nf_model.specs.Network.{Link, Network, IsNetwork, IsLink, hops, supply, rate_at}
+use Rattle.nf_model.specs.ThinFlow.{slacks_of, sets_at, IsThinFlow}
 use Rattle.nf_model.specs.Phases.{Lasts}
 use Rattle.nf_model_laws.proofs.Affine.{≤_trans}
 use Rattle.nf_model_laws.proofs.Slacks.{slack_at}

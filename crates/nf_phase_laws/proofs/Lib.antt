@@ -6,3 +6,4 @@ pub mod QueueCases
 pub mod Rising
 pub mod Phase
 pub mod Lasting
+pub mod Phases

@@ -1,5 +1,5 @@
 -- One phase keeps the invariant: what holds up to a time holds up to the end of a phase that begins then.
-use Rattle.std.proofs.Common.{◌≡◌, ◌≢◌, ℕ, ◌<◌, [], ◌∷◌, ⊎_elim, Option, Some, None, sym, ap, subst, refl, ◌∙◌}
+use Rattle.std.proofs.Common.{◌≡◌, ◌≢◌, ℕ, ◌<◌, [], ◌∷◌, ⊎_elim, Option, None, sym, ap, subst, refl, ◌∙◌}
 use Rattle.std.proofs.lemmas.Option.{slice_get_within}
 use Rattle.nf_rational.specs.Rational.{ℚ}
 use Rattle.nf_rational.specs.Operations.{0ℚ, 1ℚ, ◌+ℚ◌, ◌-ℚ◌, ◌*ℚ◌}
@@ -17,7 +17,7 @@ use Rattle.nf_model_laws.proofs.Step.{IsQueue-at_0}
 use Rattle.nf_model_laws.proofs.Curves.{line_takes}
 use Rattle.nf_model_laws.proofs.Earliest.{IsPositive-link}
 use Rattle.nf_model_laws.proofs.Sums.{sum_in-same, sum_out-same, sum_in-line, sum_out-line}
-use Rattle.nf_phase_laws.specs.Invariant.{link_slack, queue_by_slack, tail_or, tail_of, sent, HoldsUpTo, GoesOn}
+use Rattle.nf_phase_laws.specs.Invariant.{link_slack, queue_by_slack, sent, HoldsUpTo, GoesOn}
 use Rattle.nf_phase_laws.proofs.Idle.{queue_by_slack-low, IsQueue-stays_empty}
 use Rattle.nf_phase_laws.proofs.Holds as held
 use Rattle.nf_phase_laws.proofs.Holds.{link_within}

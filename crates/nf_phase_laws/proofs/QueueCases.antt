@@ -1,6 +1,6 @@
 -- The queue of a link over one phase. Here c is the capacity, s the slack at the beginning and n after the time t by departure, l and
 -- m the slopes at the tail and the head, x the flow by departure and r by time.
-use Rattle.std.proofs.Common.{◌≡◌, [], ◌∷◌, ◌⊎◌, inl, inr, ⊎_elim, Option, Some, None, sym, ap, subst, refl, ◌∙◌}
+use Rattle.std.proofs.Common.{◌≡◌, [], ◌∷◌, ◌⊎◌, ⊎_elim, Option, Some, None, sym, subst, refl}
 use Rattle.nf_rational.specs.Rational.{ℚ}
 use Rattle.nf_rational.specs.Operations.{0ℚ, ◌+ℚ◌, ◌-ℚ◌, ◌*ℚ◌}
 use Rattle.nf_rational.specs.Order.{◌≤ℚ◌, ◌<ℚ◌, max_ℚ}
@@ -10,7 +10,7 @@ use Rattle.nf_rational_laws.proofs.Linear.{le, lt, eq, le_times, eq_times, linea
 use Rattle.nf_model.specs.Queue.{IsQueue}
 use Rattle.nf_model_laws.specs.Affine.{IsAffine}
 use Rattle.nf_model_laws.specs.Capacity.{IsPositive}
-use Rattle.nf_model_laws.proofs.Affine.{≤_refl, ≤_trans, clash, le_from_times}
+use Rattle.nf_model_laws.proofs.Affine.{≤_trans, clash, le_from_times}
 use Rattle.nf_model_laws.proofs.Queues.{IsQueue-none}
 use Rattle.nf_model_laws.proofs.Step.{IsQueue-step, IsQueue-step_empty}
 use Rattle.nf_phase_laws.specs.Invariant.{queue_by_slack}

@@ -6,17 +6,17 @@ use Rattle.nf_rational.specs.Rational.{ℚ}
 use Rattle.nf_rational.specs.Operations.{0ℚ, 1ℚ, ◌+ℚ◌, ◌-ℚ◌, ◌*ℚ◌, ◌/ℚ◌}
 use Rattle.nf_rational.specs.Order.{◌≤ℚ◌, ◌<ℚ◌, max_ℚ}
 use Rattle.nf_rational_laws.proofs.Polynomial.{reading_of}
-use Rattle.nf_rational_laws.proofs.Order.{≤ℚ_of_same, ≤ℚ_of_lt, ≤ℚ_antisymm, lt_or_le_ℚ}
+use Rattle.nf_rational_laws.proofs.Order.{≤ℚ_of_same, ≤ℚ_of_lt, lt_or_le_ℚ}
 use Rattle.nf_rational_laws.proofs.Tests.{max_ℚ_cases}
 use Rattle.nf_rational_laws.proofs.Linear.{le, lt, eq, le_times, eq_times, linear_le, linear_eq, linear_false}
-use Rattle.nf_model.specs.Entries.{number_at, Has}
+use Rattle.nf_model.specs.Entries.{number_at}
 use Rattle.nf_model.specs.Curve.{Within}
 use Rattle.nf_model.specs.Walk.{IsWalk, transit_sum}
 use Rattle.nf_model.specs.Network.{Link, Network, IsNetwork, IsLink, hop_of, hops, sum_in, sum_out}
 use Rattle.nf_model.specs.Earliest.{Arrives, IsEarliest}
 use Rattle.nf_model.specs.ThinFlow.{slack, sets_at, exit_slope, exit_slope_at, Enters, IsThinFlow}
 use Rattle.nf_model_laws.specs.Capacity.{IsPositive}
-use Rattle.nf_model_laws.proofs.Affine.{≤_refl, ≤_trans, clash, quotient-times}
+use Rattle.nf_model_laws.proofs.Affine.{≤_refl, clash, quotient-times}
 use Rattle.nf_model_laws.proofs.Queues.{IsExit-after}
 use Rattle.nf_model_laws.proofs.Networks.{IsWalk-link, transit_of-is}
 use Rattle.nf_model_laws.proofs.Earliest.{IsPositive-link}

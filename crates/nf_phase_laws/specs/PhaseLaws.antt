@@ -9,6 +9,7 @@ use Rattle.nf_model.specs.ThinFlow.{slacks_of, sets_at, IsThinFlow}
 use Rattle.nf_model.specs.Equilibrium.{IsNashFlow}
 use Rattle.nf_model.specs.Phases.{Lasts, AreStartLabels}
 use Rattle.nf_phase_laws.specs.Invariant.{HoldsUpTo, LabelsAre, IsStart, GoesOn}
+use Rattle.nf_phase_laws.specs.Run.{GoesByPhases}
 
 -- a flow of which the invariant holds up to a time is a Nash flow over time up to then
 abbrev pub NashFromInvariant : Type 0
@@ -26,3 +27,15 @@ PhaseKeepsInvariant = (net : Network) (amount label amount' label' : ℕ → ℚ
     → IsNetwork net → HoldsUpTo net amount label until → LabelsAre net label until labels → IsThinFlow net (sets_at net labels) (rate_at net until) flows slopes
     → Lasts net (slacks_of (hops net) labels) slopes until length → GoesOn net amount label until length (number_at flows) (number_at slopes) amount' label'
     → HoldsUpTo net amount' label' (until +ℚ length)
+
+-- the invariant holds of a flow that goes on phase by phase, and the labels of the last phase's end are those of the flow
+pub record PhasesKeepInvariant : Type 0 where
+  pub holds : (net : Network) (horizon until : ℚ) (labels : List ℚ) (amount label : ℕ → ℚ → ℚ) → IsNetwork net → GoesByPhases net horizon until labels amount label
+      → HoldsUpTo net amount label until
+  pub labels : (net : Network) (horizon until : ℚ) (labels : List ℚ) (amount label : ℕ → ℚ → ℚ) → IsNetwork net → GoesByPhases net horizon until labels amount label
+      → LabelsAre net label until labels
+
+-- a flow that goes on phase by phase is a Nash flow over time, for all that leaves the source up to the end of the last phase
+abbrev pub PhasesMakeNashFlow : Type 0
+PhasesMakeNashFlow = (net : Network) (horizon until : ℚ) (labels : List ℚ) (amount label : ℕ → ℚ → ℚ) → IsNetwork net → GoesByPhases net horizon until labels amount label
+    → IsNashFlow net amount label until
