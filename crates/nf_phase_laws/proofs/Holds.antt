@@ -1,15 +1,15 @@
 -- A flow of which the invariant of phases holds is a Nash flow over time.
-use Rattle.std.proofs.Common.{◌≡◌, ◌≢◌, ℕ, ◌<◌, [], ◌∷◌, ⊎_elim, Option, Some, None, sym, ap, subst, refl, ◌∙◌}
-use Rattle.std.proofs.lemmas.Option.{slice_get_within}
+use Rattle.std.proofs.Common.{◌≡◌, ◌≢◌, ℕ, ◌<◌, ◌≤◌, [], ◌∷◌, length, get_or, slice_get, ⊎_elim, Option, Some, None, sym, ap, subst, refl, ◌∙◌, arith}
+use Rattle.std.proofs.lemmas.Option.{slice_get_within, slice_get_cases}
 use Rattle.nf_rational.specs.Rational.{ℚ}
 use Rattle.nf_rational.specs.Operations.{0ℚ, ◌+ℚ◌, ◌-ℚ◌, ◌*ℚ◌}
 use Rattle.nf_rational.specs.Order.{◌≤ℚ◌, ◌<ℚ◌, max_ℚ}
 use Rattle.nf_rational_laws.proofs.Polynomial.{reading_of}
-use Rattle.nf_rational_laws.proofs.Order.{≤ℚ_of_same, ≤ℚ_of_lt, ≤ℚ_antisymm, lt_or_le_ℚ}
-use Rattle.nf_rational_laws.proofs.Linear.{le, lt, eq, le_times, eq_times, linear_le, linear_lt, linear_eq}
+use Rattle.nf_rational_laws.proofs.Order.{≤ℚ_of_lt, ≤ℚ_antisymm, lt_or_le_ℚ}
+use Rattle.nf_rational_laws.proofs.Linear.{le, lt, eq, le_times, linear_le, linear_lt, linear_eq}
 use Rattle.nf_model.specs.Curve.{Within, NeverFalls, IsGreatest}
 use Rattle.nf_model.specs.Network.{Link, Network, IsNetwork, IsLink, sum_in, sum_out, supply}
-use Rattle.nf_model.specs.Queue.{IsQueue, IsExit, IsOutflow, waiting}
+use Rattle.nf_model.specs.Queue.{IsQueue, IsExit, IsOutflow}
 use Rattle.nf_model.specs.Earliest.{IsEarliest}
 use Rattle.nf_model.specs.Equilibrium.{Balances, IsNashFlow}
 use Rattle.nf_model_laws.specs.Capacity.{IsPositive}
@@ -18,13 +18,20 @@ use Rattle.nf_model_laws.proofs.Affine.{≤_refl, ≤_trans, clash, le_from_time
 use Rattle.nf_model_laws.proofs.Queues.{IsOutflow-from_IsQueue, IsOutflow-early}
 use Rattle.nf_model_laws.proofs.Exits.{IsOutflow-at_exit}
 use Rattle.nf_model_laws.proofs.Earliest.{IsEarliest-label, IsPositive-link}
-use Rattle.nf_model_laws.proofs.Sums.{sum_in-same, sum_out-same, sum_in-none, sum_out-none}
-use Rattle.nf_phase_laws.specs.Invariant.{link_slack, queue_by_slack, tail_or, tail_of, sent, HoldsUpTo}
+use Rattle.nf_model_laws.proofs.Sums.{sum_out-same, sum_in-none, sum_out-none}
+use Rattle.nf_phase_laws.specs.Invariant.{link_slack, queue_by_slack, tail_or, sent, HoldsUpTo}
 use Rattle.nf_phase_laws.proofs.Idle.{max0_cases, waiting-by_slack, IsQueue-before_any}
 
 -- what is sent into a link, by its tail
 pub sent-is : (net : Network) (amount label : ℕ → ℚ → ℚ) (e : ℕ) (link : Link) (departure : ℚ) → IsLink net e link → sent net amount label e departure ≡ amount e (label link.tail departure)
 sent-is net amount label e link departure p = ap (λ (o : Option Link). amount e (label (tail_or o) departure)) p
+
+-- each number below the count of the links has its link
+pub link_within : (net : Network) (e : ℕ) → e < length net.links → (link : Link) × IsLink net e link
+link_within net e h = ⊎_elim
+    (λ (w : (link : Link) × (e < length net.links) × IsLink net e link × (get_or net.links e link ≡ link)). (w.0, w.2))
+    (λ (w : (length net.links ≤ e) × (slice_get net.links e ≡ None)). absurd (omega arith))
+    (slice_get_cases net.links e).1
 
 -- ---- over plain numbers: a and b the labels at the tail and the head, r the transit time, m the wait
 late_enough : (a b r m : ℚ) → m ≡ max_ℚ 0ℚ (b -ℚ (a +ℚ r)) → b ≤ℚ a +ℚ r +ℚ m

@@ -1,12 +1,12 @@
 -- Slacks as waiting times, and queues where nothing enters.
-use Rattle.std.proofs.Common.{◌≡◌, [], ◌∷◌, ⊎_elim, Option, Some, None, sym, ap, subst, refl, ◌∙◌}
+use Rattle.std.proofs.Common.{◌≡◌, [], ◌∷◌, ⊎_elim, Option, Some, None, sym, refl, ◌∙◌}
 use Rattle.nf_rational.specs.Rational.{ℚ}
 use Rattle.nf_rational.specs.Operations.{0ℚ, ◌+ℚ◌, ◌-ℚ◌, ◌*ℚ◌, ◌/ℚ◌}
 use Rattle.nf_rational.specs.Order.{◌≤ℚ◌, ◌<ℚ◌, max_ℚ}
 use Rattle.nf_rational_laws.proofs.Polynomial.{reading_of}
-use Rattle.nf_rational_laws.proofs.Order.{≤ℚ_of_same, ≤ℚ_of_lt, ≤ℚ_antisymm}
+use Rattle.nf_rational_laws.proofs.Order.{≤ℚ_of_lt, ≤ℚ_antisymm}
 use Rattle.nf_rational_laws.proofs.Tests.{max_ℚ_cases}
-use Rattle.nf_rational_laws.proofs.Linear.{le, eq, le_times, eq_times, linear_le, linear_eq}
+use Rattle.nf_rational_laws.proofs.Linear.{eq, le_times, eq_times, linear_le, linear_eq}
 use Rattle.nf_model.specs.Queue.{IsQueue, waiting}
 use Rattle.nf_model_laws.specs.Capacity.{IsPositive}
 use Rattle.nf_model_laws.proofs.Affine.{≤_refl, clash, quotient-times, same_from_times}

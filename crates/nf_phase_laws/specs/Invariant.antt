@@ -9,6 +9,7 @@ use Rattle.nf_model.specs.Entries.{number_at}
 use Rattle.nf_model.specs.Curve.{Within}
 use Rattle.nf_model.specs.Network.{Link, Network, IsLink, sum_in, sum_out, supply}
 use Rattle.nf_model.specs.Queue.{IsQueue}
+use Rattle.nf_model_laws.specs.Affine.{IsAffine}
 use Rattle.nf_model_laws.specs.EarliestLaws.{InflowsRise}
 
 -- how much later the label of a link's head is than that of its tail with the transit time
@@ -69,7 +70,22 @@ pub record HoldsUpTo (net : Network) (amount label : ℕ → ℚ → ℚ) (until
   pub used : (e : ℕ) (link : Link) (departure : ℚ) → IsLink net e link → 0ℚ ≤ℚ departure → departure <ℚ until
       → ((later : ℚ) → departure <ℚ later → later ≤ℚ until → sent net amount label e departure <ℚ sent net amount label e later) → 0ℚ ≤ℚ link_slack label link departure
 
+-- these are the labels of the nodes at a departure
+abbrev pub LabelsAre : Network → (ℕ → ℚ → ℚ) → ℚ → List ℚ → Type 0
+LabelsAre net label departure labels = (v : ℕ) → v < net.nodes → label v departure ≡ number_at labels v
+
 -- the start: nothing enters a link, and the labels of departure 0 are these
 pub record IsStart (net : Network) (labels : List ℚ) (amount label : ℕ → ℚ → ℚ) : Type 0 where
   pub nothing : (e : ℕ) (time : ℚ) → e < length net.links → 0ℚ ≤ℚ time → amount e time ≡ 0ℚ
-  pub labels_are : (v : ℕ) → v < net.nodes → label v 0ℚ ≡ number_at labels v
+  pub labels_are : LabelsAre net label 0ℚ labels
+
+-- A flow goes on from a departure for a while: up to then nothing changes. Each label moves on at its slope, while the tail's
+-- label moves the link takes flow at one rate, so much that by departure it takes `flow`, and after that nothing more.
+pub record GoesOn (net : Network) (amount label : ℕ → ℚ → ℚ) (until length : ℚ) (flow slope : ℕ → ℚ) (amount' label' : ℕ → ℚ → ℚ) : Type 0 where
+  pub label_before : (v : ℕ) (departure : ℚ) → v < net.nodes → Within 0ℚ until departure → label' v departure ≡ label v departure
+  pub label_after : (v : ℕ) (while : ℚ) → v < net.nodes → Within 0ℚ length while → label' v (until +ℚ while) ≡ label v until +ℚ slope v *ℚ while
+  pub amount_before : (e : ℕ) (link : Link) (time : ℚ) → IsLink net e link → Within 0ℚ (label link.tail until) time → amount' e time ≡ amount e time
+  pub amount_after : (e : ℕ) (link : Link) → IsLink net e link → (rate : ℚ) × (rate *ℚ slope link.tail ≡ flow e)
+      × IsAffine (amount' e) (label link.tail until) (label link.tail until +ℚ slope link.tail *ℚ length) rate
+  pub amount_ends : (e : ℕ) (link : Link) (time : ℚ) → IsLink net e link → label link.tail until +ℚ slope link.tail *ℚ length ≤ℚ time
+      → amount' e time ≡ amount' e (label link.tail until +ℚ slope link.tail *ℚ length)

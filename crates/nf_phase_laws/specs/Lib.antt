@@ -1,2 +1,3 @@
 pub mod Invariant
 pub mod PhaseLaws
+pub mod Run

@@ -2,7 +2,7 @@
 //! function with an empty body.
 #![tactic(auto)]
 
-ghost use Rattle.nf_phase_laws.specs.PhaseLaws.{NashFromInvariant, StartHasInvariant};
+ghost use Rattle.nf_phase_laws.specs.PhaseLaws.{NashFromInvariant, StartHasInvariant, PhaseKeepsInvariant, PhasesKeepInvariant, PhasesMakeNashFlow};
 
 /// A flow of which the invariant of phases holds up to a time is a Nash flow over time for all that leaves the source up to then.
 pub fn nash_from_invariant()
@@ -13,4 +13,22 @@ pub fn nash_from_invariant()
 /// holds up to time 0.
 pub fn start_has_invariant()
     ensures { StartHasInvariant }
+{}
+
+/// One phase keeps the invariant: where it holds up to a time and the flow goes on by a thin flow for the sets of the slacks then, for
+/// no longer than the phase may last, it holds up to the end of the phase.
+pub fn phase_keeps_invariant()
+    ensures { PhaseKeepsInvariant }
+{}
+
+/// From the start on, phase by phase, the invariant holds up to the end of the last phase, and the labels there are those of the phase
+/// sequence.
+pub fn phases_keep_invariant()
+    ensures { PhasesKeepInvariant }
+{}
+
+/// A flow that goes on phase by phase from the start, each phase by a thin flow for the sets of the slacks and the supply rate at its
+/// beginning and for its length, is a Nash flow over time up to the end of the last phase.
+pub fn phases_make_nash_flow()
+    ensures { PhasesMakeNashFlow }
 {}
