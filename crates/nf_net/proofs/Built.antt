@@ -1,5 +1,5 @@
 -- The network that a file stands for, from its parts.
-use Rattle.std.proofs.Common.{◌≡◌, ℕ, zero, suc, ◌<◌, ◌≤◌, Bool, true, false, not, ◌||◌, List, [], ◌∷◌, ◌++◌, length, map, slice_get, unwrap_or, Option, Some, refl, sym, ◌∙◌, ap, subst, arith, append_assoc, append-nil}
+use Rattle.std.proofs.Common.{◌≡◌, ℕ, zero, suc, ◌≤◌, Bool, true, false, not, List, [], ◌∷◌, ◌++◌, length, map, unwrap_or, Option, Some, refl, sym, ◌∙◌, ap, subst, append_assoc, append-nil}
 use Rattle.std.specs.Bool.{Decides}
 use Rattle.std.specs.List.{AllByRecursion, AllZip, IsDistinct}
 use Rattle.std.specs.Str.{bytes_eq}
@@ -7,14 +7,14 @@ use Rattle.std.proofs.lemmas.Simd.{map-map}
 use Rattle.nf_model.specs.Entries.{Has}
 use Rattle.nf_model.specs.Walk.{Hop}
 use Rattle.nf_model.specs.Network.{Link, hop_of}
-use Rattle.nf_formats.specs.Names.{Name, has_name, place_of, with_name, with_names, without}
+use Rattle.nf_formats.specs.Names.{Name, place_of, with_names, without}
 use Rattle.nf_formats.specs.Named.{NamedLink, Named, numbered, hops_among, ends, names_of}
 use Rattle.nf_formats.specs.NetLines.{Draft}
-use Rattle.nf_formats.specs.NetClosing.{source_name, sink_name, IsReached, marked, network_of, AreActive, StandsFor}
+use Rattle.nf_formats.specs.NetClosing.{source_name, sink_name, IsReached, marked, network_of, StandsFor}
 use Rattle.nf_formats.specs.WellNamed.{IsNamed}
-use Rattle.nf_formats.proofs.NameFacts.{same_names, bytes_eq-turned, has_none, with_name_new}
-use Rattle.nf_formats.proofs.LinkFacts.{distinct_left}
-use Rattle.nf_formats.proofs.AcceptedNamed.{is_named}
+use Rattle.nf_formats_laws.proofs.NameFacts.{same_names, bytes_eq-turned, has_none, with_name_new}
+use Rattle.nf_formats_laws.proofs.LinkFacts.{distinct_left}
+use Rattle.nf_formats_laws.proofs.AcceptedNamed.{is_named}
 use Rattle.nf_net.specs.Kept.{with_parts, IsKept}
 use Rattle.nf_net.specs.Contents.{IsRead}
 use Rattle.nf_net.specs.Closing.{HasEnds, BreaksNone, flag_at, tail_flags, AreFlags}

@@ -1,5 +1,5 @@
 -- The reading of a text from that of its lines and of the file as a whole.
-use Rattle.std.proofs.Common.{◌≡◌, ℕ, List, map, Option, Some, None, Result, Ok, Err, MatchResult, refl, sym, ap, subst, ◌∙◌}
+use Rattle.std.proofs.Common.{◌≡◌, ℕ, List, map, Option, None, Result, Ok, Err, MatchResult, refl, sym, ap, subst, ◌∙◌}
 use Rattle.nf_lines.specs.Words.{ReadLine, read_lines, content_lines}
 use Rattle.nf_lines.specs.Faults.{LineFault, first_fault}
 use Rattle.nf_text.specs.declared.Line.{Line}
@@ -8,7 +8,6 @@ use Rattle.nf_formats.specs.Named.{Named}
 use Rattle.nf_formats.specs.NetLines.{Broken, Draft, draft_from}
 use Rattle.nf_formats.specs.NetFile.{Closes, by_bytes, Reads}
 use Rattle.nf_net.specs.declared.fault.NetFault.{NetFault}
-use Rattle.nf_net.specs.declared.fault.NetFault.TheVariants as NetFault
 use Rattle.nf_net.specs.Contents.{contents, IfBroken}
 use Rattle.nf_net.proofs.ContentLines.{broken_more}
 

@@ -1,10 +1,10 @@
 -- What lines say, one after the other.
 use Rattle.std.proofs.Common.{◌≡◌, ℕ, zero, suc, ◌+◌, ◌-◌, ◌<◌, ◌≤◌, Bool, true, false, cond, not, eqb, take, slice_get, Option, Some, List, [], ◌∷◌, ◌++◌, length, map, drop, get_or, Result, Ok, Err, refl, sym, ◌∙◌, ap, subst, arith}
-use Rattle.std.proofs.lemmas.List.{at_drop_more, at_drop_all, length-map}
+use Rattle.std.proofs.lemmas.List.{at_drop_more, length-map}
 use Rattle.std.proofs.lemmas.Bool.Decides.{nat_tests}
 use Rattle.std.proofs.lemmas.List.{take_rest}
 use Rattle.nf_work.specs.Checked.{◌>>=◌}
-use Rattle.nf_lines.specs.Words.{ReadLine, content_lines}
+use Rattle.nf_lines.specs.Words.{ReadLine}
 use Rattle.nf_text.specs.declared.Line.{Line}
 use Rattle.nf_text.specs.Reading.{seen_line, spans_of}
 use Rattle.nf_text.specs.declared.Span.{Span}
@@ -15,7 +15,6 @@ use Rattle.std.proofs.lemmas.Option.{slice_get-get_or}
 use Rattle.nf_formats.specs.declared.NetRule.{NetRule}
 use Rattle.nf_formats.specs.NetLines.{Broken, Draft, empty_draft, add_line, add_lines, in_line, version_of, draft_after, draft_from}
 use Rattle.nf_net.specs.declared.fault.NetFault.{NetFault}
-use Rattle.nf_net.specs.declared.fault.NetFault.TheVariants as NetFault
 use Rattle.nf_net.specs.Contents.{contents, AddsContent, AreLinesWithin, IfBroken, IsFirstContent}
 
 then_lines : Result Draft Broken → List ReadLine → Result Draft Broken

@@ -1,10 +1,9 @@
 -- The first rule that a file as a whole breaks.
-use Rattle.std.proofs.Common.{◌≡◌, Bool, true, false, ◌||◌, List, [], ◌∷◌, Option, Some, None, refl, sym, ◌∙◌, ap, inl, inr}
+use Rattle.std.proofs.Common.{◌≡◌, true, false, ◌||◌, refl, inl, inr}
 use Rattle.std.specs.Prelude.{is_none}
-use Rattle.nf_formats.specs.declared.NetRule.{NetRule}
 use Rattle.nf_formats.specs.declared.NetRule.TheVariants.{N17, N18, N19, N20, N21, N22}
 use Rattle.nf_formats.specs.NetLines.{Draft}
-use Rattle.nf_formats.specs.NetClosing.{LeavesUnreached, HasZeroCycle, HasPassingSum, Breaks, closing_rules, IsFirst}
+use Rattle.nf_formats.specs.NetClosing.{LeavesUnreached, HasZeroCycle, HasPassingSum}
 use Rattle.nf_net.specs.Closing.{HasEnds, BreaksNone, BreaksFirst}
 
 module _ (draft : Draft) where

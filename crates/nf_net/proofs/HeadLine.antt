@@ -1,5 +1,5 @@
 -- The words of the first line.
-use Rattle.std.proofs.Common.{◌≡◌, ◌≢◌, ℕ, Bool, true, false, cond, ◌&&◌, List, [], ◌∷◌, length, Option, Some, None, refl, arith, codes, bytes_eq}
+use Rattle.std.proofs.Common.{◌≡◌, ◌≢◌, ℕ, cond, ◌&&◌, List, [], ◌∷◌, length, Some, None, refl, arith, codes, bytes_eq}
 use Rattle.nf_formats.specs.NetLines.{version_of}
 use Rattle.nf_net.specs.Words.{word_at}
 

@@ -1,13 +1,13 @@
 -- How many nodes, links and names a network has.
-use Rattle.std.proofs.Common.{◌≡◌, ℕ, ◌+◌, ◌<◌, ◌≤◌, suc, List, [], ◌∷◌, length, ◌++◌, refl, sym, ◌∙◌, ap, arith, ◌&&◌, ◌||◌, Bool, true, false, cond, not, Option, Some, None, slice_get, get_or, length-append}
+use Rattle.std.proofs.Common.{◌≡◌, ℕ, ◌<◌, ◌≤◌, suc, List, [], ◌∷◌, length, ◌++◌, refl, sym, ◌∙◌, ap, arith, ◌&&◌, ◌||◌, Bool, true, false, Some, slice_get, get_or, length-append}
 use Rattle.std.specs.List.{list_all, position}
 use Rattle.std.specs.Str.{bytes_eq}
 use Rattle.std.proofs.lemmas.List.Quantifiers.{position-Some}
 use Rattle.std.proofs.lemmas.Option.{slice_get-get_or}
-use Rattle.nf_formats.proofs.NameFacts.{same_names}
-use Rattle.nf_model.specs.Network.{Link, IsNetwork}
+use Rattle.nf_formats_laws.proofs.NameFacts.{same_names}
+use Rattle.nf_model.specs.Network.{Link}
 use Rattle.nf_formats.specs.Names.{Name, is_name, has_name}
-use Rattle.nf_formats.specs.Named.{NamedLink, Named, all_named, active_links, names_of}
+use Rattle.nf_formats.specs.Named.{Named, links_by_name, active_links, names_of}
 use Rattle.nf_formats.specs.WellNamed.{IsNamed}
 
 pub few_nodes : (n : Named) → IsNamed n → length n.node_names ≤ 64
@@ -16,14 +16,14 @@ few_nodes n h = omega (arith, h.limits.nodes, length-append n.node_names n.idle_
 pub few_idle_nodes : (n : Named) → IsNamed n → length n.idle_nodes ≤ 64
 few_idle_nodes n h = omega (arith, h.limits.nodes, length-append n.node_names n.idle_nodes)
 
-pub length-all_named : (nodes names : List Name) (links : List Link) → length names ≡ length links → length (all_named nodes names links) ≡ length links
-length-all_named nodes [] [] e = refl
-length-all_named nodes [] (l ∷ links) e = absurd (omega arith)
-length-all_named nodes (name ∷ names) [] e = absurd (omega arith)
-length-all_named nodes (name ∷ names) (l ∷ links) e = ap (λ (n : ℕ). suc n) (length-all_named nodes names links (omega arith))
+pub length-links_by_name : (nodes names : List Name) (links : List Link) → length names ≡ length links → length (links_by_name nodes names links) ≡ length links
+length-links_by_name nodes [] [] e = refl
+length-links_by_name nodes [] (l ∷ links) e = absurd (omega arith)
+length-links_by_name nodes (name ∷ names) [] e = absurd (omega arith)
+length-links_by_name nodes (name ∷ names) (l ∷ links) e = ap (λ (n : ℕ). suc n) (length-links_by_name nodes names links (omega arith))
 
 pub few_links : (n : Named) → IsNamed n → length n.net.links ≤ 200
-few_links n h = omega (arith, h.limits.links, length-append (active_links n) n.idle_links, length-all_named n.node_names n.link_names n.net.links h.numbered.links)
+few_links n h = omega (arith, h.limits.links, length-append (active_links n) n.idle_links, length-links_by_name n.node_names n.link_names n.net.links h.numbered.links)
 
 pub as_many_names : (n : Named) → IsNamed n → length n.link_names ≡ length n.net.links
 as_many_names n h = h.numbered.links

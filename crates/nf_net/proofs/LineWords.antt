@@ -1,13 +1,11 @@
 -- The words of a line, by their number.
-use Rattle.std.proofs.Common.{◌≡◌, ◌≢◌, ℕ, zero, suc, ◌<◌, Bool, true, false, cond, ◌&&◌, List, [], ◌∷◌, length, drop, Option, Some, None, Result, Ok, Err, refl, sym, ◌∙◌, ap, arith, codes, bytes_eq}
-use Rattle.nf_rational.specs.Rational.{ℚ}
+use Rattle.std.proofs.Common.{◌≡◌, ◌≢◌, ℕ, ◌<◌, Bool, true, false, cond, ◌&&◌, List, [], ◌∷◌, length, drop, Result, Ok, Err, refl, ◌∙◌, ap, arith}
 use Rattle.nf_formats.specs.declared.NetRule.{NetRule}
-use Rattle.nf_formats.specs.declared.NetRule.TheVariants.{N5, N6, N7, N8}
+use Rattle.nf_formats.specs.declared.NetRule.TheVariants.{N6, N7}
 use Rattle.nf_formats.specs.Names.{Name, is_name}
 use Rattle.nf_formats.specs.Numbers.{number_in, capacity_in}
-use Rattle.nf_formats.specs.NetLines.{Entry, node_line, link_entry, link_line, inflow_entry, inflow_line, end_line, entry_of, Source, Sink, LinkLine, InflowLine, End}
+use Rattle.nf_formats.specs.NetLines.{Entry, node_line, link_entry, link_line, inflow_entry, inflow_line, end_line, End}
 use Rattle.nf_net.specs.Words.{word_at}
-use Rattle.nf_net.specs.Reading.{said_by}
 
 -- ---- a wrong number of words
 pub node_count_wrong : (make : Name → Entry) (words : List (List ℕ)) → 0 < length words → length words ≢ 2 → node_line make (drop 1 words) ≡ Err N6

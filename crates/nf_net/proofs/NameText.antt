@@ -1,13 +1,13 @@
 -- Names are text.
-use Rattle.std.proofs.Common.{◌≡◌, ℕ, ◌<◌, ◌||◌, Bool, true, false, List, take, Result, Ok, Err, MatchResult, arith}
+use Rattle.std.proofs.Common.{◌≡◌, ℕ, ◌<◌, Bool, true, false, List, Result, Ok, Err, MatchResult, arith}
 use Rattle.std.specs.Prelude.{IsOk}
-use Rattle.std.specs.List.{list_all, AllPass, All}
+use Rattle.std.specs.List.{list_all}
 use Rattle.std.specs.Str.{IsAscii, IsUtf8}
 use Rattle.std.proofs.lemmas.Str.{IsUtf8-from_ascii}
 use Rattle.std.proofs.lemmas.Str.Ascii.{IsAscii-nil, IsAscii-cons}
 use Rattle.std.proofs.lemmas.Bool.Decides.{nat_tests}
 use Rattle.nf_formats.specs.Names.{is_name, is_name_byte}
-use Rattle.std.proofs.Common.{[], ◌∷◌, ◌&&◌, refl, cond, nat_lt, nat_le, length}
+use Rattle.std.proofs.Common.{[], ◌∷◌, ◌&&◌, refl, nat_le, length}
 
 small_byte : (b : ℕ) → is_name_byte b ≡ true → b < 128
 small_byte b e = grind (arith, nat_tests)

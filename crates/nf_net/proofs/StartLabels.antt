@@ -1,5 +1,5 @@
 -- The labels of departure 0.
-use Rattle.std.proofs.Common.{◌≡◌, ℕ, zero, suc, ◌<◌, ◌≤◌, false, true, List, [], ◌∷◌, length, map, slice_get, unwrap_or, Option, Some, None, refl, sym, ◌∙◌, ap, subst, arith}
+use Rattle.std.proofs.Common.{◌≡◌, ℕ, zero, suc, ◌<◌, false, true, List, [], ◌∷◌, length, map, slice_get, Option, Some, None, refl, sym, ◌∙◌, ap, subst, arith}
 use Rattle.std.proofs.lemmas.List.{length-map}
 use Rattle.std.proofs.lemmas.Option.{slice_get_within}
 use Rattle.nf_rational.specs.Rational.{ℚ}
@@ -9,7 +9,7 @@ use Rattle.nf_work.specs.Passing.{is_wide, beyond}
 use Rattle.nf_work.specs.declared.Op.TheVariants.{Sum}
 use Rattle.nf_model.specs.Entries.{number_at}
 use Rattle.nf_model.specs.Walk.{Hop, IsHop, IsWalk, IsLeastTransit}
-use Rattle.nf_model.specs.Network.{Link, Network, IsNetwork, hop_of, hops}
+use Rattle.nf_model.specs.Network.{hop_of, hops}
 use Rattle.nf_model.specs.Phases.{AreStartLabels}
 use Rattle.std.specs.Prelude.{Result, Ok, Err, IfOk, Vec}
 use Rattle.std.specs.declared.alloc.AllocError.{AllocError}
@@ -23,7 +23,7 @@ use Rattle.nf_graph.specs.Distances.{NoneNegative, AreDistances, PassesAt}
 use Rattle.nf_formats.specs.Numbers.{greatest}
 use Rattle.nf_formats.specs.Named.{Named}
 use Rattle.nf_formats.specs.WellNamed.{IsNamed}
-use Rattle.nf_formats.proofs.WalkFacts.{CameFrom, came_from}
+use Rattle.nf_formats_laws.proofs.WalkFacts.{CameFrom, came_from}
 
 module _ (n : Named) (h : IsNamed n) (kept : List Hop) (are : kept ≡ hops n.net) where
   tails : (e : ℕ) (hop : Hop) → IsHop (hops n.net) e hop → hop.tail < n.net.nodes

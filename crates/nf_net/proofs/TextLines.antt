@@ -1,15 +1,15 @@
 -- Lines of a text, piece by piece.
-use Rattle.std.proofs.Common.{◌≡◌, ℕ, zero, suc, ◌+◌, ◌<◌, ◌≤◌, List, [], ◌∷◌, ◌++◌, length, append-nil, map, drop, slice_get, Option, Some, refl, sym, ◌∙◌, ap, arith, append_assoc, add-one}
+use Rattle.std.proofs.Common.{◌≡◌, ℕ, zero, suc, ◌+◌, ◌≤◌, List, [], ◌∷◌, ◌++◌, length, append-nil, map, drop, slice_get, Option, Some, sym, ◌∙◌, ap, arith, append_assoc}
 use Rattle.nf_lines.specs.Words.{line_of_words}
 use Rattle.std.specs.List.{flat_map}
 use Rattle.std.proofs.lemmas.List.{drop_all}
 use Rattle.nf_model.specs.Network.{Link, IsLink}
 use Rattle.nf_formats.specs.Names.{Name, name_at}
-use Rattle.nf_formats.specs.Named.{NamedLink, Named, named, all_named, active_links}
+use Rattle.nf_formats.specs.Named.{NamedLink, Named, link_by_name, links_by_name, active_links}
 use Rattle.nf_formats.specs.NetText.{link_words}
 use Rattle.nf_formats.specs.WellNamed.{IsNamed}
 use Rattle.nf_net.specs.Printing.{PushesLink}
-use Rattle.nf_net.proofs.Limits.{length-all_named}
+use Rattle.nf_net.proofs.Limits.{length-links_by_name}
 
 -- ---- texts put behind each other
 -- with one word more
@@ -20,18 +20,18 @@ pub three_pushes : (o o1 o2 o3 a b c : List ℕ) → o1 ≡ o ++ a → o2 ≡ o1
 three_pushes o o1 o2 o3 a b c h1 h2 h3 = more_words o o2 o3 (a ++ b) c (more_words o o1 o2 a b h1 h2) h3
 
 -- the links that aren't idle, from a place on
-pub drop-all_named : (nodes names : List Name) (links : List Link) (i : ℕ) (link : Link) → length names ≡ length links → slice_get links i ≡ Some link
-    → drop i (all_named nodes names links) ≡ named nodes (name_at names i) link ∷ drop (i + 1) (all_named nodes names links)
-drop-all_named nodes [] [] i link e h = absurd (cc)
-drop-all_named nodes [] (l ∷ links) i link e h = absurd (omega arith)
-drop-all_named nodes (name ∷ names) [] i link e h = absurd (omega arith)
-drop-all_named nodes (name ∷ names) (l ∷ links) zero link e h = ap (λ (k : Link). named nodes name k ∷ all_named nodes names links) (same_some l link h)
+pub drop-links_by_name : (nodes names : List Name) (links : List Link) (i : ℕ) (link : Link) → length names ≡ length links → slice_get links i ≡ Some link
+    → drop i (links_by_name nodes names links) ≡ link_by_name nodes (name_at names i) link ∷ drop (i + 1) (links_by_name nodes names links)
+drop-links_by_name nodes [] [] i link e h = absurd (cc)
+drop-links_by_name nodes [] (l ∷ links) i link e h = absurd (omega arith)
+drop-links_by_name nodes (name ∷ names) [] i link e h = absurd (omega arith)
+drop-links_by_name nodes (name ∷ names) (l ∷ links) zero link e h = ap (λ (k : Link). link_by_name nodes name k ∷ links_by_name nodes names links) (same_some l link h)
   where
     same_some : (a b : Link) → ◌≡◌ {A = Option Link} (Some a) (Some b) → a ≡ b
     same_some a b e = cc
-drop-all_named nodes (name ∷ names) (l ∷ links) (suc i) link e h =
-    drop-all_named nodes names links i link (omega arith) h
-    ∙ ap (λ (k : ℕ). named nodes (name_at names i) link ∷ drop k (named nodes name l ∷ all_named nodes names links)) (later i)
+drop-links_by_name nodes (name ∷ names) (l ∷ links) (suc i) link e h =
+    drop-links_by_name nodes names links i link (omega arith) h
+    ∙ ap (λ (k : ℕ). link_by_name nodes (name_at names i) link ∷ drop k (link_by_name nodes name l ∷ links_by_name nodes names links)) (later i)
   where
     later : (i : ℕ) → suc (i + 1) ≡ suc i + 1
     later i = omega arith
@@ -45,8 +45,8 @@ pub link_pushed : (n : Named) (id : ℕ) (v : Link) (name tail head : Name) (old
     → new ≡ old ++ line_of_words (link_words (record { name = name; tail = tail; head = head; transit = v.transit; capacity = v.capacity }))
     → PushesLink n id old new
 link_pushed n id v name tail head old new h is e f g text = record {
-  link = named n.node_names (name_at n.link_names id) v;
-  is_link = drop-all_named n.node_names n.link_names n.net.links id v h.numbered.links is;
+  link = link_by_name n.node_names (name_at n.link_names id) v;
+  is_link = drop-links_by_name n.node_names n.link_names n.net.links id v h.numbered.links is;
   text = text ∙ (λ i. old ++ line_of_words (link_words (record { name = e i; tail = f i; head = g i; transit = v.transit; capacity = v.capacity })));
 }
 
@@ -60,5 +60,5 @@ link_more n id old new p =
 pub links_done : (n : Named) (id : ℕ) (old : List ℕ) → IsNamed n → length n.net.links ≤ id → old ++ flat_map line_of_words (map link_words (drop id (active_links n))) ≡ old
 links_done n id old h le =
     ap (λ (ls : List NamedLink). old ++ flat_map line_of_words (map link_words ls))
-    (drop_all id (active_links n) (omega (arith, length-all_named n.node_names n.link_names n.net.links h.numbered.links)))
+    (drop_all id (active_links n) (omega (arith, length-links_by_name n.node_names n.link_names n.net.links h.numbered.links)))
     ∙ append-nil old

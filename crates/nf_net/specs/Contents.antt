@@ -1,11 +1,10 @@
 -- The lines of a network file that have words, and what they say.
-use Rattle.std.specs.Prelude.{◌≡◌, ℕ, ◌<◌, List, [], ◌∷◌, length, map, drop, Some, slice_get, Result, Ok, Err}
+use Rattle.std.specs.Prelude.{◌≡◌, ℕ, ◌<◌, List, [], ◌∷◌, length, map, drop, Some, slice_get, Result, Ok}
 use Rattle.nf_lines.specs.Words.{ReadLine, content_lines}
 use Rattle.nf_text.specs.declared.Line.{Line}
 use Rattle.nf_text.specs.Reading.{seen_line}
 use Rattle.nf_formats.specs.NetLines.{Broken, Draft, add_lines, draft_from}
 use Rattle.nf_net.specs.declared.fault.NetFault.{NetFault}
-use Rattle.nf_net.specs.declared.fault.NetFault.TheVariants as NetFault
 use Rattle.nf_net.specs.Words.{AreWithin}
 
 abbrev pub contents : List ℕ → List Line → List ReadLine

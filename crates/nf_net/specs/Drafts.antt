@@ -1,8 +1,6 @@
 -- What the lines of a network file say, as the definitions have it.
-use Rattle.std.specs.Prelude.{◌≡◌, ℕ, Bool, false, ◌||◌, if◌then◌else◌, List, Option, Some, None, Result, Ok, Err, MatchResult}
-use Rattle.std.specs.Str.{bytes_eq}
+use Rattle.std.specs.Prelude.{ℕ, Bool, if◌then◌else◌}
 use Rattle.nf_formats.specs.declared.NetRule.{NetRule}
-use Rattle.nf_formats.specs.Names.{Name, has_name}
 use Rattle.nf_formats.specs.NetLines as lines
 use Rattle.nf_net.specs.declared.draft.Draft.{Draft}
 use Rattle.nf_net.specs.declared.draft.LineFault.{LineFault}

@@ -1,10 +1,6 @@
 -- What is read of a network file, as the definitions have it.
-use Rattle.std.specs.Prelude.{◌≡◌, ℕ, Bool, ◌&&◌, if◌then◌else◌, List, Option, Some, None, Result, Ok, Err, map}
-use Rattle.nf_model.specs.Network.{Piece}
+use Rattle.std.specs.Prelude.{Result, Ok, Err}
 use Rattle.nf_formats.specs.declared.NetRule.{NetRule}
-use Rattle.nf_formats.specs.declared.NetRule.TheVariants.{N7}
-use Rattle.nf_formats.specs.Names.{Name, is_name}
-use Rattle.nf_formats.specs.Named.{NamedLink}
 use Rattle.nf_formats.specs.NetLines as lines
 use Rattle.nf_net.specs.declared.entry.Entry.{Entry}
 use Rattle.nf_net.specs.declared.entry.Entry.TheVariants.{Source, Sink, Link, Inflow, End}

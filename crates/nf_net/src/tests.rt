@@ -65,7 +65,11 @@ fn each_rule_is_broken_first(rt: HostRuntime) -> Result<(), Fail> {
         ("nfot 1\ninflow 0 1.5\n", NetRule::N8, 2),
         ("nfot 1\nlink a s t 1 inf\n", NetRule::N8, 2),
         ("nfot 2\ninflow 0 .5\n", NetRule::N8, 2),
-        ("nfot 1\nlink a s t 170141183460469231731687303715884105728 1\n", NetRule::N8, 2),
+        (
+            "nfot 1\nlink a s t 170141183460469231731687303715884105728 1\n",
+            NetRule::N8,
+            2,
+        ),
         ("nfot 1\nsource s\nsource t\n", NetRule::N9, 3),
         ("nfot 1\nlink a s t -1 1\n", NetRule::N13, 2),
         ("nfot 1\nlink a s t 1 0\n", NetRule::N14, 2),
@@ -75,14 +79,46 @@ fn each_rule_is_broken_first(rt: HostRuntime) -> Result<(), Fail> {
         ("nfot 1\nsource s\nsink t\n", NetRule::N17, 0),
         ("nfot 1\nsource s\nend\n", NetRule::N18, 0),
         ("nfot 1\nsource s\nsink s\nend\n", NetRule::N19, 0),
-        ("nfot 1\nsource s\nsink t\nlink a s t 1 1\nlink x w t 1 1\nend\n", NetRule::N20, 0),
-        ("nfot 2\nsource s\nsink t\nlink a s u 1 1\nend\n", NetRule::N20, 0),
-        ("nfot 1\nsource s\nsink t\nlink a s u 0 1\nlink b u t 0 1\nlink c t u 0 1\ninflow 0 1\nend\n", NetRule::N21, 0),
-        ("nfot 2\nsource s\nsink t\nlink a s t 1 1\nlink x w y 0 1\nlink y y w 0 1\nend\n", NetRule::N21, 0),
-        ("nfot 1\nsource s\nsink t\nlink a s u 170141183460469231731687303715884105727 1\nlink b u t 1 1\nend\n", NetRule::N22, 0),
-        ("nfot 1\nsource s\nsink t\nlink a s t 1/0 1\nlink a s t 1 1\n", NetRule::N8, 4),
-        ("nfot 1\nsource s\nsink t\nlink b s t 1 1\nlink a s t 1 1\n", NetRule::N17, 0),
-        ("nfot 1\nsource s\nsink t\nlink a s t 1 1\nlink a s t 1 1\n", NetRule::N9, 5),
+        (
+            "nfot 1\nsource s\nsink t\nlink a s t 1 1\nlink x w t 1 1\nend\n",
+            NetRule::N20,
+            0,
+        ),
+        (
+            "nfot 2\nsource s\nsink t\nlink a s u 1 1\nend\n",
+            NetRule::N20,
+            0,
+        ),
+        (
+            "nfot 1\nsource s\nsink t\nlink a s u 0 1\nlink b u t 0 1\nlink c t u 0 1\ninflow 0 1\nend\n",
+            NetRule::N21,
+            0,
+        ),
+        (
+            "nfot 2\nsource s\nsink t\nlink a s t 1 1\nlink x w y 0 1\nlink y y w 0 1\nend\n",
+            NetRule::N21,
+            0,
+        ),
+        (
+            "nfot 1\nsource s\nsink t\nlink a s u 170141183460469231731687303715884105727 1\nlink b u t 1 1\nend\n",
+            NetRule::N22,
+            0,
+        ),
+        (
+            "nfot 1\nsource s\nsink t\nlink a s t 1/0 1\nlink a s t 1 1\n",
+            NetRule::N8,
+            4,
+        ),
+        (
+            "nfot 1\nsource s\nsink t\nlink b s t 1 1\nlink a s t 1 1\n",
+            NetRule::N17,
+            0,
+        ),
+        (
+            "nfot 1\nsource s\nsink t\nlink a s t 1 1\nlink a s t 1 1\n",
+            NetRule::N9,
+            5,
+        ),
     ];
     for (file, rule, line) in cases {
         assert_eq!(rt; fault(rt.alloc(), file), broken(rule, line), "in {file:?}");
@@ -100,9 +136,15 @@ fn limits_are_rules(rt: HostRuntime) -> Result<(), Fail> {
     let nodes = with_links(rt.alloc(), 64, true)?;
     assert_eq!(rt; fault(rt.alloc(), nodes.as_str()), broken(NetRule::N10, 66));
     let links = with_links(rt.alloc(), 201, false)?;
-    assert_eq!(rt; fault(rt.alloc(), links.as_str()), broken(NetRule::N11, 204));
+    assert_eq!(rt;
+        fault(rt.alloc(), links.as_str()),
+        broken(NetRule::N11, 204)
+    );
     let pieces = with_pieces(rt.alloc(), 201)?;
-    assert_eq!(rt; fault(rt.alloc(), pieces.as_str()), broken(NetRule::N12, 204));
+    assert_eq!(rt;
+        fault(rt.alloc(), pieces.as_str()),
+        broken(NetRule::N12, 204)
+    );
     let all = with_links(rt.alloc(), 200, false)?;
     assert_eq!(rt; fault(rt.alloc(), all.as_str()), broken(NetRule::N17, 0));
     Ok(())
@@ -141,7 +183,8 @@ fn accepted_files_have_canonical_texts(rt: HostRuntime) -> Result<(), Fail> {
 }
 
 // Twelve nodes and twenty links.
-const LARGE: &str = "nfot 1\nsource s\nsink t\nlink sa s a 2 6\nlink ab a b 2 6\nlink bc b c 2 3\nlink cd c d 2 6\nlink dt d t 2 6\nlink be b e 2 4\nlink ef e f 2 4\nlink fc f c 2 4\nlink sg s g 5 6\nlink gh g h 5 6\nlink hi h i 5 6\nlink it i t 5 6\nlink aj a j 4 6\nlink jd j d 9 6\nlink gb g b 3 6\nlink eh e h 6 6\nlink ci c i 8 6\nlink di d i 4 6\nlink fd f d 7 6\nlink jt j t 12 6\ninflow 0 2\ninflow 6 5\ninflow 18 1\nend\n";
+const LARGE: &str =
+    "nfot 1\nsource s\nsink t\nlink sa s a 2 6\nlink ab a b 2 6\nlink bc b c 2 3\nlink cd c d 2 6\nlink dt d t 2 6\nlink be b e 2 4\nlink ef e f 2 4\nlink fc f c 2 4\nlink sg s g 5 6\nlink gh g h 5 6\nlink hi h i 5 6\nlink it i t 5 6\nlink aj a j 4 6\nlink jd j d 9 6\nlink gb g b 3 6\nlink eh e h 6 6\nlink ci c i 8 6\nlink di d i 4 6\nlink fd f d 7 6\nlink jt j t 12 6\ninflow 0 2\ninflow 6 5\ninflow 18 1\nend\n";
 
 fn number(rt: &impl Abort, value: i128) -> Q {
     Q::make(value, 1).expect(rt, "a whole number")

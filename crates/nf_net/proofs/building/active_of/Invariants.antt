@@ -1,4 +1,4 @@
-use Rattle.std.proofs.Common.{◌≡◌, ◌++◌, drop, map, not}
+use Rattle.std.proofs.Common.{◌≡◌, ◌++◌, drop}
 use Rattle.nf_formats.specs.NetClosing.{marked}
 use Rattle.nf_net.specs.Closing.{tail_flags}
 use Rattle.nf_net.proofs.building.active_of.Given as goal

@@ -1,8 +1,8 @@
-use Rattle.std.proofs.Common.{◌≡◌, ℕ, ◌<◌, ◌≤◌, length, unwrap_or, [], sym, ◌∙◌, ap, subst, arith, rules}
+use Rattle.std.proofs.Common.{ℕ, ◌<◌, ◌≤◌, length, unwrap_or, [], sym, subst, arith, rules}
 use Rattle.nf_formats.specs.Names.{place_of}
 use Rattle.nf_graph.specs.Graph.{AreBelow}
 use Rattle.nf_net.specs.Drafts.{seen_draft}
-use Rattle.nf_net.proofs.FileWalks.{good_of, below_of, transits_of, few_hops, source_given, source_below, has_no_passing, passing_by_fault}
+use Rattle.nf_net.proofs.FileWalks.{good_of, below_of, source_given, source_below}
 use Rattle.nf_net.proofs.closing.flags_of.Goals as goal
 
 pub place_in-source-requires-clause-few : goal.place_in-source-requires-clause-few

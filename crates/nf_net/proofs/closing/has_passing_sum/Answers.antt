@@ -1,4 +1,4 @@
-use Rattle.std.proofs.Common.{◌≡◌, ℕ, ◌<◌, ◌≤◌, length, unwrap_or, [], sym, ◌∙◌, ap, subst, arith, rules}
+use Rattle.std.proofs.Common.{ℕ, ◌<◌, ◌≤◌, length, unwrap_or, [], sym, subst, arith, rules}
 use Rattle.nf_formats.specs.Names.{place_of}
 use Rattle.nf_graph.specs.Graph.{AreBelow}
 use Rattle.nf_net.specs.Drafts.{seen_draft}

@@ -1,5 +1,4 @@
-use Rattle.std.proofs.Common.{◌≡◌, ℕ, ◌<◌, ◌≤◌, length, unwrap_or, [], sym, ◌∙◌, ap, subst, arith, rules}
-use Rattle.nf_formats.specs.Names.{place_of}
+use Rattle.std.proofs.Common.{ℕ, ◌≤◌, length, sym, subst, arith, rules}
 use Rattle.nf_graph.specs.Graph.{AreBelow}
 use Rattle.nf_net.specs.Drafts.{seen_draft}
 use Rattle.nf_net.proofs.FileWalks.{good_of, below_of, few_hops, cycle_by_option}

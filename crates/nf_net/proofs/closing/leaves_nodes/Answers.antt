@@ -1,6 +1,5 @@
-use Rattle.std.proofs.Common.{◌≡◌, ℕ, ◌<◌, ◌≤◌, length, unwrap_or, [], sym, ◌∙◌, ap, subst, arith, rules}
+use Rattle.std.proofs.Common.{◌<◌, length, unwrap_or, [], arith}
 use Rattle.nf_formats.specs.Names.{place_of}
-use Rattle.nf_graph.specs.Graph.{AreBelow}
 use Rattle.nf_net.specs.Drafts.{seen_draft}
 use Rattle.nf_net.proofs.FileWalks.{good_of, sink_given, sink_below, leaves_by_test}
 use Rattle.nf_net.proofs.closing.leaves_nodes.Goals as goal

@@ -2,7 +2,6 @@ use Rattle.std.proofs.Common.{◌≡◌, ℕ, ◌≤◌, length, map, List, Opti
 use Rattle.std.specs.Prelude.{IfOk}
 use Rattle.nf_rational.specs.Rational.{ℚ}
 use Rattle.nf_graph.specs.Distances.{AreDistances}
-use Rattle.nf_graph.specs.Graph.{AreBelow}
 use Rattle.nf_net.proofs.Limits.{few_links}
 use Rattle.nf_net.proofs.StartLabels.{net_below, net_transits, net_hops, never_none, labels_by_sums}
 use Rattle.nf_net.proofs.labels.start_labels.Goals as goal

@@ -1,4 +1,4 @@
-use Rattle.std.proofs.Common.{◌≡◌, List, Ok, Err, Result, sym, ◌∙◌, ap, subst}
+use Rattle.std.proofs.Common.{List, sym, ◌∙◌, ap, subst}
 use Rattle.std.proofs.lemmas.Result.{err_from_is_err_and}
 use Rattle.nf_text.specs.declared.Line.{Line}
 use Rattle.nf_formats.specs.NetLines.{draft_from}
