@@ -1,5 +1,5 @@
 -- A solution of a listed pattern's equations that meets its inequalities is a thin flow.
-use Rattle.std.proofs.Common.{◌≡◌, ◌≢◌, ℕ, ◌<◌, ◌≤◌, List, [], ◌∷◌, length, ◌⊎◌, inl, inr, ⊎_elim, Bool, true, false, Option, Some, None, slice_get, unwrap_or, sym, ap, subst, refl, ◌∙◌, arith}
+use Rattle.std.proofs.Common.{◌≡◌, ◌≢◌, ℕ, ◌<◌, ◌≤◌, List, [], ◌∷◌, length, ⊎_elim, Bool, true, false, Option, Some, None, slice_get, sym, ap, subst, refl, ◌∙◌, arith}
 use Rattle.nf_rational.specs.Rational.{ℚ}
 use Rattle.nf_rational.specs.Operations.{0ℚ, ◌*ℚ◌, ◌/ℚ◌}
 use Rattle.nf_rational.specs.Order.{◌≤ℚ◌, ◌<ℚ◌, max_ℚ}
@@ -10,15 +10,14 @@ use Rattle.nf_rational_laws.proofs.Linear.{eq, linear_eq}
 use Rattle.nf_model.specs.declared.State.{State}
 use Rattle.nf_model.specs.declared.State.TheVariants.{Tight, Full, Zero}
 use Rattle.nf_model.specs.Entries.{number_at, Has}
-use Rattle.nf_model.specs.Walk.{Hop, IsHop}
-use Rattle.nf_model.specs.Network.{Link, Network, IsLink, IsNetwork, hop_of, hops}
+use Rattle.nf_model.specs.Network.{Link, Network, IsLink, IsNetwork, unbounded}
 use Rattle.nf_model.specs.ThinFlow.{Sets, exit_slope, exit_slope_at, Enters, IsThinFlow}
-use Rattle.nf_model.specs.Pattern.{Pattern, HasState, NeedsState, IsListedIn, Fills, Equation, Solves, Meets}
+use Rattle.nf_model.specs.Pattern.{Pattern, HasState, IsPattern, Fills, Equation, Solves, Meets}
 use Rattle.nf_model_laws.specs.Capacity.{IsPositive}
 use Rattle.nf_model_laws.proofs.Affine.{clash, quotient-times, le_from_times, same_from_times, ≤_trans}
 use Rattle.nf_model_laws.proofs.Earliest.{IsPositive-link}
-use Rattle.nf_model_laws.proofs.Networks.{link_at}
 use Rattle.nf_thin_laws.specs.ActiveLinks.{AreSets}
+use Rattle.nf_thin_laws.specs.PatternLaws.{EachIsLed}
 use Rattle.nf_thin_laws.proofs.Flags.{entry, number_at-beyond, flag}
 use Rattle.nf_thin_laws.proofs.Patterns.{Stands, with_state, resets, inactive, stands, Leads, by_tight, by_full, by_reset, led}
 
@@ -81,7 +80,7 @@ data Exits (exit t x : ℚ) : Type 0 where
   idle : t ≤ℚ exit → x ≡ 0ℚ → Exits exit t x
 
 module _ (net : Network) (sets : Sets) (rate : ℚ) (pattern : Pattern) (flows slopes : List ℚ) (good : IsNetwork net) (are : AreSets net sets)
-    (listed : IsListedIn net sets pattern) (solves : Solves net sets rate pattern flows slopes) (meets : Meets net pattern flows slopes) where
+    (is_pattern : IsPattern sets (unbounded net) pattern) (leads : EachIsLed net sets pattern) (solves : Solves net sets rate pattern flows slopes) (meets : Meets net pattern flows slopes) where
   abbrev exit_of : ℕ → Link → ℚ
   exit_of e link = exit_slope_at sets flows slopes e link
 
@@ -114,7 +113,7 @@ module _ (net : Network) (sets : Sets) (rate : ℚ) (pattern : Pattern) (flows s
       (solves.links e link (Some Zero) p h)
 
   exits : (e : ℕ) (link : Link) → IsLink net e link → Has sets.active e → ExitsAt e link
-  exits e link p a = go (stands net sets pattern are listed e link p)
+  exits e link p a = go (stands net sets pattern are is_pattern e link p)
     where
       go : Stands pattern sets e → ExitsAt e link
       go (with_state state h f _) = by_state e link state p h f
@@ -140,7 +139,7 @@ module _ (net : Network) (sets : Sets) (rate : ℚ) (pattern : Pattern) (flows s
           (solves.links e link None p h)
 
       go : (o : Option Link) → slice_get net.links e ≡ o → number_at flows e ≡ 0ℚ
-      go (Some link) p = idle_at link p (stands net sets pattern are listed e link p)
+      go (Some link) p = idle_at link p (stands net sets pattern are is_pattern e link p)
       go None p = number_at-beyond flows e (beyond (number_links e p))
         where
           number_links : (e : ℕ) → slice_get net.links e ≡ None → e < length net.links → ⊥
@@ -160,7 +159,7 @@ module _ (net : Network) (sets : Sets) (rate : ℚ) (pattern : Pattern) (flows s
 
   taken : (v : ℕ) → v < net.nodes → v ≢ net.source → (e : ℕ) × (link : Link) × Enters net sets v e link × (exit_of e link ≡ number_at slopes v)
   taken v h other =
-      let l : (e : ℕ) × (link : Link) × Enters net sets v e link × Leads pattern sets e = led net sets pattern are listed v h other in
+      let l : (e : ℕ) × (link : Link) × Enters net sets v e link × Leads pattern sets e = led net sets pattern are is_pattern leads v h other in
       (l.0, l.1, l.2, leads_just l.0 l.1 l.2.is_link l.3 ∙ ap (number_at slopes) l.2.head)
 
   pub IsThinFlow-accepted : IsThinFlow net sets rate flows slopes

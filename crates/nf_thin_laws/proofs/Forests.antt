@@ -1,22 +1,21 @@
 -- A flow on a forest that sends nothing out of any node, beyond what comes in, is 0. For where a link carries something, some link
 -- brings as much to where it leads from, and so on: these links, each taken in the direction of its flow, close a trail.
-use Rattle.std.proofs.Common.{◌≡◌, ◌≢◌, ℕ, zero, suc, ◌+◌, ◌<◌, ◌≤◌, List, [], ◌∷◌, length, map, ◌⊎◌, inl, inr, ⊎_elim, Bool, true, false, if◌then◌else◌, ◌||◌, eqb, Option, Some, slice_get, sym, ap, subst, refl, ◌∙◌, arith}
+use Rattle.std.proofs.Common.{◌≡◌, ◌≢◌, ℕ, zero, suc, ◌+◌, ◌<◌, ◌≤◌, List, [], ◌∷◌, length, map, ◌⊎◌, inl, inr, ⊎_elim, Bool, true, false, if◌then◌else◌, ◌||◌, eqb, Some, slice_get, sym, ap, subst, refl, ◌∙◌, arith}
 use Rattle.std.specs.Prelude.{Contains}
 use Rattle.std.specs.List.{IsDistinct, list_any}
 use Rattle.std.proofs.lemmas.Bool.Decides.{eqb_tells}
 use Rattle.std.proofs.lemmas.Map.Steps.{length-le_from_distinct_below}
 use Rattle.nf_rational.specs.Rational.{ℚ}
-use Rattle.nf_rational.specs.Operations.{0ℚ, 1ℚ, neg_ℚ, ◌+ℚ◌, ◌-ℚ◌, ◌*ℚ◌}
+use Rattle.nf_rational.specs.Operations.{0ℚ, 1ℚ, ◌+ℚ◌, ◌-ℚ◌, ◌*ℚ◌}
 use Rattle.nf_rational.specs.Order.{◌≤ℚ◌, ◌<ℚ◌, max_ℚ}
 use Rattle.nf_rational_laws.proofs.Polynomial.{reading_of}
-use Rattle.nf_rational_laws.proofs.Order.{≤ℚ_of_same, ≤ℚ_antisymm, ≤ℚ_of_lt, lt_or_le_ℚ}
-use Rattle.nf_rational_laws.proofs.Linear.{le, lt, eq, linear_le, linear_lt, linear_eq, linear_false}
-use Rattle.nf_model.specs.Walk.{Hop, IsHop}
+use Rattle.nf_rational_laws.proofs.Order.{≤ℚ_antisymm, ≤ℚ_of_lt, lt_or_le_ℚ}
+use Rattle.nf_rational_laws.proofs.Linear.{le, lt, eq, linear_le, linear_eq, linear_false}
 use Rattle.nf_model.specs.Network.{Link, Network, IsLink, IsNetwork, hop_of, hops, sum_in, sum_out}
 use Rattle.nf_model.specs.Pattern.{IsTrail, AllDiffer, IsForest}
-use Rattle.nf_model_laws.proofs.Affine.{clash, ≤_trans, ≤_refl}
+use Rattle.nf_model_laws.proofs.Affine.{clash}
 use Rattle.nf_model_laws.proofs.Networks.{hop_at, IsLink-unique}
-use Rattle.nf_model_laws.proofs.Sums.{sum_in-same, sum_out-same, sum_in-none, sum_out-none, sum_in-line, sum_out-line, sum_in-order, sum_out-order, sum_in-each, sum_out-each}
+use Rattle.nf_model_laws.proofs.Sums.{sum_in-same, sum_out-same, sum_in-none, sum_out-none, sum_in-line, sum_in-order, sum_out-order, sum_in-each, sum_out-each}
 use Rattle.nf_model_laws.proofs.Potential.{out_less_in}
 use Rattle.nf_model_laws.proofs.Ways.{distinct_more}
 use Rattle.nf_thin_laws.proofs.Flags.{entry_inside}

@@ -9,3 +9,4 @@ pub mod Agree
 pub mod Forests
 pub mod Totals
 pub mod Singular
+pub mod States

@@ -3,7 +3,7 @@
 #![tactic(auto)]
 
 ghost use Rattle.nf_thin_laws.specs.ActiveLinks.{ActiveLinksHoldNoCycle};
-ghost use Rattle.nf_thin_laws.specs.PatternLaws.{AcceptedPatternIsThin, NoListedPatternIsSingular};
+ghost use Rattle.nf_thin_laws.specs.PatternLaws.{AcceptedPatternIsThin, SlopesAllowStates, NoListedPatternIsSingular};
 ghost use Rattle.nf_thin_laws.specs.SlopeLaws.{SlopesAreUnique, PhaseSequencesAgree, ThinFlowComesToSink};
 
 /// The active links of labels hold no cycle; and where such links lead to each node but the source, none leads to the source.
@@ -36,4 +36,10 @@ pub fn thin_flow_comes_to_sink()
 /// The equations of a listed pattern have at most one solution, where the active links hold no cycle.
 pub fn no_listed_pattern_is_singular()
     ensures { NoListedPatternIsSingular }
+{}
+
+/// The slopes of a thin flow allow each state of a listed pattern that is solvable, where the active links hold no cycle; so a
+/// pattern with a state that they don't allow is not accepted.
+pub fn slopes_allow_states()
+    ensures { SlopesAllowStates }
 {}
