@@ -1,5 +1,6 @@
 -- What a listed pattern says of the links of a network.
 use Rattle.std.proofs.Common.{◌≡◌, ◌≢◌, ℕ, ◌<◌, length, ◌⊎◌, inl, inr, ⊎_elim, Bool, true, false, Option, Some, None, slice_get, unwrap_or, sym, ap, ◌∙◌, arith}
+use Rattle.std.proofs.lemmas.Option.{slice_get_within}
 use Rattle.nf_rational.specs.Rational.{ℚ}
 use Rattle.nf_rational.specs.Operations.{◌*ℚ◌}
 use Rattle.nf_rational.specs.Order.{◌<ℚ◌}
@@ -15,7 +16,7 @@ use Rattle.nf_model_laws.specs.Capacity.{IsPositive}
 use Rattle.nf_model_laws.proofs.Networks.{link_at}
 use Rattle.nf_thin_laws.specs.ActiveLinks.{AreSets, EachIsEntered}
 use Rattle.nf_thin_laws.specs.PatternLaws.{EachIsLed}
-use Rattle.nf_thin_laws.proofs.Flags.{entry, entry_inside, flag, flag-cases}
+use Rattle.nf_thin_laws.proofs.Flags.{entry, flag, flag-cases}
 
 -- a link that is filled has a capacity; two flows that fill it, do so by that
 pub record FillBoth (x t y v : ℚ) : Type 0 where
@@ -50,7 +51,7 @@ pub data Leads (pattern : Pattern) (sets : Sets) (e : ℕ) : Type 0 where
 module _ (net : Network) (sets : Sets) (pattern : Pattern) (are : AreSets net sets) (is_pattern : IsPattern sets (unbounded net) pattern) where
   in_pattern : (e : ℕ) (link : Link) → IsLink net e link → (state : Option State) × (slice_get pattern e ≡ Some state)
   in_pattern e link p = entry pattern e
-      (let l : e < length net.links = entry_inside net.links e link p in let c : length pattern ≡ length sets.active = is_pattern.count in
+      (let l : e < length net.links = slice_get_within net.links e link p in let c : length pattern ≡ length sets.active = is_pattern.count in
       let d : length sets.active ≡ length net.links = are.count in omega arith)
 
   -- a link that needs no state has none

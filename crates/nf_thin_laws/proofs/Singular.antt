@@ -3,6 +3,7 @@
 -- count, and a filled link carries more into them, and not more out of them; conservation makes both equal, so that none leads into
 -- them. But going back from such a node along the links that the pattern is listed by one would have to come in.
 use Rattle.std.proofs.Common.{◌≡◌, ◌≢◌, ℕ, ◌<◌, ◌≤◌, List, [], ◌∷◌, length, ◌⊎◌, inl, inr, ⊎_elim, Bool, true, false, if◌then◌else◌, eqb, Option, Some, None, slice_get, sym, ap, subst, refl, ◌∙◌, arith}
+use Rattle.std.proofs.lemmas.Bool.{cases_lt}
 use Rattle.std.proofs.lemmas.Bool.Decides.{eqb_tells}
 use Rattle.nf_rational.specs.Rational.{ℚ}
 use Rattle.nf_rational.specs.Operations.{0ℚ, 1ℚ, ◌+ℚ◌, ◌-ℚ◌, ◌*ℚ◌}
@@ -23,7 +24,7 @@ use Rattle.nf_model_laws.proofs.Potential.{carried-each, fall, out_less_in}
 use Rattle.nf_model_laws.proofs.Sums.{sum_in-line, sum_out-line, sum_in-none, sum_out-none}
 use Rattle.nf_thin_laws.specs.ActiveLinks.{AreSets, HoldNoCycle}
 use Rattle.nf_thin_laws.specs.PatternLaws.{SolvesHomogeneous}
-use Rattle.nf_thin_laws.proofs.Flags.{flag, entry, entry_beyond, less_or_not, number_at-beyond, same_numbers}
+use Rattle.nf_thin_laws.proofs.Flags.{flag, entry, entry_beyond, number_at-beyond, same_numbers}
 use Rattle.nf_thin_laws.proofs.Patterns.{FillBoth, FillBoth-of, Stands, with_state, resets, inactive, stands, Leads, by_tight, by_full, by_reset, led}
 use Rattle.nf_thin_laws.proofs.Cuts.{fall_none, fall_into, fall_out, fall_same, into_equal, same_carried}
 use Rattle.nf_thin_laws.proofs.Totals.{sink_takes}
@@ -263,4 +264,4 @@ module _ (net : Network) (sets : Sets) (pattern : Pattern) (good : IsNetwork net
     SolvesHomogeneous-slopes v = ⊎_elim
         (λ (h : v < net.nodes). same_slopes (number_at x) (number_at l) (λ _. 0ℚ) (λ _. 0ℚ) p.links second p.starts nodes v h)
         (λ (h : net.nodes ≤ v). number_at-beyond l v (let c : length l ≡ net.nodes = p.slope_count in omega arith))
-        (less_or_not v net.nodes)
+        (cases_lt v net.nodes)
