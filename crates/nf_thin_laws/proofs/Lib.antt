@@ -12,3 +12,4 @@ pub mod States
 pub mod Totals
 pub mod Forests
 pub mod Singular
+pub mod OneLink

@@ -4,6 +4,7 @@
 
 ghost use Rattle.nf_thin_laws.specs.ActiveLinks.{ActiveLinksHoldNoCycle};
 ghost use Rattle.nf_thin_laws.specs.PatternLaws.{AcceptedPatternIsThin, SlopesAllowStates, NoListedPatternIsSingular};
+ghost use Rattle.nf_thin_laws.specs.MemberLaws.{OneLinkHasPhase};
 ghost use Rattle.nf_thin_laws.specs.SlopeLaws.{SlopesAreUnique, PhaseSequencesAgree, ThinFlowComesToSink};
 
 /// The active links of labels hold no cycle; and where such links lead to each node but the source, none leads to the source.
@@ -42,4 +43,9 @@ pub fn no_listed_pattern_is_singular()
 /// pattern with a state that they don't allow is not accepted.
 pub fn slopes_allow_states()
     ensures { SlopesAllowStates }
+{}
+
+/// The definitions of listed and solvable patterns and of phase sequences have members: on a network of one link.
+pub fn one_link_has_phase()
+    ensures { OneLinkHasPhase }
 {}
