@@ -19,7 +19,7 @@ abbrev pub first_sets : Sets
 first_sets = record { active = true ∷ []; resetting = false ∷ [] }
 
 -- Where the link can carry the rate, the pattern in which it is Tight is listed, and its equations have one solution, which meets
--- its inequalities; where it can't, that in which it is Full. And a thin flow at the rate, whatever it is, makes a phase up to any
+-- its inequalities; and where the rate is at least its capacity, that in which it is Full. A thin flow at the rate, whatever it is, makes a phase up to any
 -- horizon, where the supply has this one rate from time 0 on.
 pub record OneLinkHasPhase : Type 0 where
   pub sets : (transit : ℚ) (capacity : Option ℚ) (pieces : List Piece) → sets_at (one_link transit capacity pieces) (first_labels transit) ≡ first_sets

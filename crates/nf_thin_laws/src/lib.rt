@@ -24,7 +24,8 @@ pub fn slopes_are_unique()
     ensures { SlopesAreUnique }
 {}
 
-/// Phase sequences of a network up to one horizon agree, as far as they go.
+/// From a time with its labels one phase leads to one pair of a time and labels alone, and phase sequences of a network to one
+/// horizon that are equally long are equal.
 pub fn phase_sequences_agree()
     ensures { PhaseSequencesAgree }
 {}
