@@ -1,78 +1,22 @@
 -- A solution of a listed pattern's equations that meets its inequalities is a thin flow.
-use Rattle.std.proofs.Common.{◌≡◌, ◌≢◌, ℕ, ◌<◌, ◌≤◌, List, [], ◌∷◌, length, ◌⊎◌, inl, inr, ⊎_elim, Bool, true, false, Option, Some, None, slice_get, unwrap_or, sym, ap, subst, refl, ◌∙◌, arith}
+use Rattle.std.proofs.Common.{◌≡◌, ◌≢◌, ℕ, ◌<◌, ◌≤◌, List, length, Bool, true, false, Option, Some, None, slice_get, sym, ap, subst, refl, ◌∙◌, arith}
 use Rattle.nf_rational.specs.Rational.{ℚ}
-use Rattle.nf_rational.specs.Operations.{0ℚ, ◌*ℚ◌, ◌/ℚ◌}
-use Rattle.nf_rational.specs.Order.{◌≤ℚ◌, ◌<ℚ◌, max_ℚ}
-use Rattle.nf_rational_laws.proofs.Order.{≤ℚ_of_same, ≤ℚ_antisymm}
-use Rattle.nf_rational_laws.proofs.Tests.{max_ℚ_cases}
-use Rattle.nf_rational_laws.proofs.Polynomial.{reading_of}
-use Rattle.nf_rational_laws.proofs.Linear.{eq, linear_eq}
+use Rattle.nf_rational.specs.Operations.{0ℚ}
+use Rattle.nf_rational.specs.Order.{◌≤ℚ◌, ◌<ℚ◌}
+use Rattle.nf_rational_laws.proofs.Order.{≤ℚ_of_same}
 use Rattle.nf_model.specs.declared.State.{State}
 use Rattle.nf_model.specs.declared.State.TheVariants.{Tight, Full, Zero}
 use Rattle.nf_model.specs.Entries.{number_at, Has}
-use Rattle.nf_model.specs.Walk.{Hop, IsHop}
-use Rattle.nf_model.specs.Network.{Link, Network, IsLink, IsNetwork, hop_of, hops}
+use Rattle.nf_model.specs.Network.{Link, Network, IsLink, IsNetwork, unbounded}
 use Rattle.nf_model.specs.ThinFlow.{Sets, exit_slope, exit_slope_at, Enters, IsThinFlow}
-use Rattle.nf_model.specs.Pattern.{Pattern, HasState, NeedsState, IsListedIn, Fills, Equation, Solves, Meets}
-use Rattle.nf_model_laws.specs.Capacity.{IsPositive}
-use Rattle.nf_model_laws.proofs.Affine.{clash, quotient-times, le_from_times, same_from_times, ≤_trans}
+use Rattle.nf_model.specs.Pattern.{Pattern, HasState, IsPattern, Equation, Solves, Meets}
+use Rattle.nf_model_laws.proofs.Affine.{clash}
 use Rattle.nf_model_laws.proofs.Earliest.{IsPositive-link}
-use Rattle.nf_model_laws.proofs.Networks.{link_at}
 use Rattle.nf_thin_laws.specs.ActiveLinks.{AreSets}
-use Rattle.nf_thin_laws.proofs.Flags.{entry, number_at-beyond, flag}
+use Rattle.nf_thin_laws.specs.PatternLaws.{EachIsLed}
+use Rattle.nf_thin_laws.proofs.Flags.{entry_beyond, number_at-beyond, flag}
+use Rattle.nf_thin_laws.proofs.ExitSlopes.{exit_resetting, exit_full, exit_tight, exit_zero}
 use Rattle.nf_thin_laws.proofs.Patterns.{Stands, with_state, resets, inactive, stands, Leads, by_tight, by_full, by_reset, led}
-
--- ---- exit slopes: x is the flow of a link, s and t are the slopes of its tail and its head
-pub max_same : (s q : ℚ) → s ≤ℚ q → max_ℚ s q ≡ q
-max_same s q h = ⊎_elim
-    (λ (w : (max_ℚ s q ≡ q) × (s ≤ℚ q)). w.0)
-    (λ (w : (max_ℚ s q ≡ s) × (q <ℚ s)). absurd (clash _ _ w.1 h)) (max_ℚ_cases s q)
-
-pub max_first : (s q : ℚ) → q ≤ℚ s → max_ℚ s q ≡ s
-max_first s q h = ⊎_elim
-    (λ (w : (max_ℚ s q ≡ q) × (s ≤ℚ q)). w.0 ∙ ≤ℚ_antisymm _ _ h w.1)
-    (λ (w : (max_ℚ s q ≡ s) × (q <ℚ s)). w.0) (max_ℚ_cases s q)
-
-pub max_at_least : (s q : ℚ) → s ≤ℚ max_ℚ s q
-max_at_least s q = ⊎_elim
-    (λ (w : (max_ℚ s q ≡ q) × (s ≤ℚ q)). subst (λ (z : ℚ). s ≤ℚ z) (sym w.0) w.1)
-    (λ (w : (max_ℚ s q ≡ s) × (q <ℚ s)). ≤ℚ_of_same _ _ (sym w.0)) (max_ℚ_cases s q)
-
-swapped : (x c q : ℚ) → q *ℚ c ≡ x → c *ℚ q ≡ x
-swapped x c q e = linear_eq (x ∷ c ∷ q ∷ []) (eq e ∷ []) (search reading_of depth 12) tt tt
-
-quotient_is : (x c t : ℚ) → 0ℚ <ℚ c → x ≡ c *ℚ t → x /ℚ c ≡ t
-quotient_is x c t h e = same_from_times c (x /ℚ c) t h (swapped x c (x /ℚ c) (quotient-times x c h) ∙ e)
-
-quotient_below : (x c t : ℚ) → 0ℚ <ℚ c → x ≤ℚ c *ℚ t → x /ℚ c ≤ℚ t
-quotient_below x c t h e = le_from_times c (x /ℚ c) t h (subst (λ (z : ℚ). z ≤ℚ c *ℚ t) (sym (swapped x c (x /ℚ c) (quotient-times x c h))) e)
-
--- a resetting link, and one that is full
-exit_resetting : (capacity : Option ℚ) (x s t : ℚ) → IsPositive capacity → Fills capacity x t → exit_slope true capacity x s ≡ t
-exit_resetting None x s t positive f = absurd (cc)
-exit_resetting (Some c) x s t positive f = quotient_is x c t (positive c refl) (f.2 ∙ ap (λ (z : ℚ). z *ℚ t) (same_rate c f.0 f.1))
-  where
-    same_rate : (a b : ℚ) → Some a ≡ Some b → b ≡ a
-    same_rate a b e = cc
-
-exit_full : (capacity : Option ℚ) (x s t : ℚ) → IsPositive capacity → Fills capacity x t → s ≤ℚ t → exit_slope false capacity x s ≡ t
-exit_full None x s t positive f h = absurd (none f.0 f.1)
-  where
-    none : (c : ℚ) → None ≡ Some c → ⊥
-    none c e = cc
-exit_full (Some c) x s t positive f h =
-    let q : x /ℚ c ≡ t = exit_resetting (Some c) x s t positive f in
-    ap (max_ℚ s) q ∙ max_same s t h
-
--- a link whose ends move alike
-exit_tight : (capacity : Option ℚ) (x s t : ℚ) → IsPositive capacity → t ≡ s → ((rate : ℚ) → capacity ≡ Some rate → x ≤ℚ rate *ℚ t) → exit_slope false capacity x s ≡ t
-exit_tight None x s t positive e h = sym e
-exit_tight (Some c) x s t positive e h = max_first s (x /ℚ c) (subst (λ (z : ℚ). x /ℚ c ≤ℚ z) e (quotient_below x c t (positive c refl) (h c refl))) ∙ sym e
-
--- one that carries nothing
-exit_zero : (capacity : Option ℚ) (x s t : ℚ) → t ≤ℚ s → t ≤ℚ exit_slope false capacity x s
-exit_zero None x s t h = h
-exit_zero (Some c) x s t h = ≤_trans _ _ _ h (max_at_least s (x /ℚ c))
 
 -- ---- what a pattern says of an active link: its exit slope is the slope of its head, or it is a link that carries nothing, and
 -- its exit slope is at least that
@@ -81,7 +25,7 @@ data Exits (exit t x : ℚ) : Type 0 where
   idle : t ≤ℚ exit → x ≡ 0ℚ → Exits exit t x
 
 module _ (net : Network) (sets : Sets) (rate : ℚ) (pattern : Pattern) (flows slopes : List ℚ) (good : IsNetwork net) (are : AreSets net sets)
-    (listed : IsListedIn net sets pattern) (solves : Solves net sets rate pattern flows slopes) (meets : Meets net pattern flows slopes) where
+    (is_pattern : IsPattern sets (unbounded net) pattern) (leads : EachIsLed net sets pattern) (solves : Solves net sets rate pattern flows slopes) (meets : Meets net pattern flows slopes) where
   abbrev exit_of : ℕ → Link → ℚ
   exit_of e link = exit_slope_at sets flows slopes e link
 
@@ -114,7 +58,7 @@ module _ (net : Network) (sets : Sets) (rate : ℚ) (pattern : Pattern) (flows s
       (solves.links e link (Some Zero) p h)
 
   exits : (e : ℕ) (link : Link) → IsLink net e link → Has sets.active e → ExitsAt e link
-  exits e link p a = go (stands net sets pattern are listed e link p)
+  exits e link p a = go (stands net sets pattern are is_pattern e link p)
     where
       go : Stands pattern sets e → ExitsAt e link
       go (with_state state h f _) = by_state e link state p h f
@@ -140,17 +84,9 @@ module _ (net : Network) (sets : Sets) (rate : ℚ) (pattern : Pattern) (flows s
           (solves.links e link None p h)
 
       go : (o : Option Link) → slice_get net.links e ≡ o → number_at flows e ≡ 0ℚ
-      go (Some link) p = idle_at link p (stands net sets pattern are listed e link p)
-      go None p = number_at-beyond flows e (beyond (number_links e p))
-        where
-          number_links : (e : ℕ) → slice_get net.links e ≡ None → e < length net.links → ⊥
-          number_links e p l = let x : (link : Link) × (slice_get net.links e ≡ Some link) = entry net.links e l in differs x.0 (sym p ∙ x.1)
-            where
-              differs : (link : Link) → None ≡ Some link → ⊥
-              differs link e = cc
-
-          beyond : (e < length net.links → ⊥) → length flows ≤ e
-          beyond n = let c : length flows ≡ length net.links = solves.flow_count in omega arith
+      go (Some link) p = idle_at link p (stands net sets pattern are is_pattern e link p)
+      go None p = number_at-beyond flows e
+          (let c : length flows ≡ length net.links = solves.flow_count in let n : length net.links ≤ e = entry_beyond net.links e p in omega arith)
 
   -- ---- each node but the source is entered by a link of that exit slope
   leads_just : (e : ℕ) (link : Link) → IsLink net e link → Leads pattern sets e → Just e link
@@ -160,7 +96,7 @@ module _ (net : Network) (sets : Sets) (rate : ℚ) (pattern : Pattern) (flows s
 
   taken : (v : ℕ) → v < net.nodes → v ≢ net.source → (e : ℕ) × (link : Link) × Enters net sets v e link × (exit_of e link ≡ number_at slopes v)
   taken v h other =
-      let l : (e : ℕ) × (link : Link) × Enters net sets v e link × Leads pattern sets e = led net sets pattern are listed v h other in
+      let l : (e : ℕ) × (link : Link) × Enters net sets v e link × Leads pattern sets e = led net sets pattern are is_pattern leads v h other in
       (l.0, l.1, l.2, leads_just l.0 l.1 l.2.is_link l.3 ∙ ap (number_at slopes) l.2.head)
 
   pub IsThinFlow-accepted : IsThinFlow net sets rate flows slopes

@@ -1,6 +1,7 @@
 -- Active links hold no cycle, and none enters the source.
-use Rattle.std.proofs.Common.{◌≡◌, ◌≢◌, ℕ, zero, suc, ◌<◌, List, [], ◌∷◌, length, map, ◌⊎◌, inl, inr, ⊎_elim, Bool, true, false, eqb, Some, sym, ap, subst, refl, ◌∙◌}
+use Rattle.std.proofs.Common.{◌≡◌, ◌≢◌, ℕ, zero, suc, ◌<◌, List, [], ◌∷◌, map, ◌⊎◌, inl, inr, ⊎_elim, Bool, true, false, eqb, Some, sym, ap, subst, refl, ◌∙◌}
 use Rattle.std.proofs.lemmas.Bool.Decides.{eqb_tells}
+use Rattle.std.proofs.lemmas.List.{length-map}
 use Rattle.nf_rational.specs.Rational.{ℚ}
 use Rattle.nf_rational.specs.Operations.{0ℚ, ◌+ℚ◌, ◌-ℚ◌}
 use Rattle.nf_rational.specs.Order.{◌≤ℚ◌, ◌<ℚ◌, le_ℚ, lt_ℚ}
@@ -18,10 +19,6 @@ use Rattle.nf_model_laws.proofs.Ways.{way_back}
 use Rattle.nf_thin_laws.specs.ActiveLinks.{AreSets, IsActiveWalk, HoldNoCycle, EachIsEntered, NoneEntersSource}
 
 -- ---- the sets of labels
-length-map : {A B : Type 0} (f : A → B) (xs : List A) → length (map f xs) ≡ length xs
-length-map f [] = refl
-length-map f (x ∷ xs) = ap suc (length-map f xs)
-
 -- where a flag of the one test is set, so is that of the other
 weaker_flags : (strict weak : ℚ → Bool) → ((x : ℚ) → strict x ≡ true → weak x ≡ true) → (xs : List ℚ) (e : ℕ) → Has (map strict xs) e → Has (map weak xs) e
 weaker_flags strict weak w [] e h = absurd (cc)
@@ -42,7 +39,7 @@ above_is_not_below x h = ⊎_elim
 
 pub AreSets-sets_at : (net : Network) (labels : List ℚ) → AreSets net (sets_at net labels)
 AreSets-sets_at net labels = record {
-  count = length-map (le_ℚ 0ℚ) (slacks_of (hops net) labels) ∙ length-map (slack labels) (hops net) ∙ length-map hop_of net.links;
+  count = length-map (slacks_of (hops net) labels) (le_ℚ 0ℚ) ∙ length-map (hops net) (slack labels) ∙ length-map net.links hop_of;
   resetting = λ e h. weaker_flags (lt_ℚ 0ℚ) (le_ℚ 0ℚ) above_is_not_below (slacks_of (hops net) labels) e h;
 }
 

@@ -1,37 +1,29 @@
 -- Entries of lists, and flags that are set or not.
-use Rattle.std.proofs.Common.{◌≡◌, ℕ, zero, suc, ◌<◌, ◌≤◌, List, [], ◌∷◌, length, ◌⊎◌, inl, inr, Bool, true, false, Option, Some, None, slice_get, unwrap_or, refl, arith}
+use Rattle.std.proofs.Common.{◌≡◌, ℕ, suc, ◌<◌, ◌≤◌, List, [], ◌∷◌, length, ◌⊎◌, inl, inr, Bool, true, false, Option, Some, None, slice_get, get_or, unwrap_or, sym, ap, refl, ◌∙◌, arith}
+use Rattle.std.proofs.lemmas.Option.{slice_get_cases, slice_get_past}
 use Rattle.nf_rational.specs.Rational.{ℚ}
 use Rattle.nf_rational.specs.Operations.{0ℚ}
 use Rattle.nf_model.specs.Entries.{number_at, Has}
 
 pub entry : {A : Type 0} (xs : List A) (e : ℕ) → e < length xs → (x : A) × (slice_get xs e ≡ Some x)
-entry [] e h = absurd (omega arith)
-entry (x ∷ xs) zero h = (x, refl)
-entry (x ∷ xs) (suc e) h = entry xs e (omega arith)
-
-pub entry_inside : {A : Type 0} (xs : List A) (e : ℕ) (x : A) → slice_get xs e ≡ Some x → e < length xs
-entry_inside [] e x h = absurd (cc)
-entry_inside (y ∷ xs) zero x h = omega arith
-entry_inside (y ∷ xs) (suc e) x h = let l : e < length xs = entry_inside xs e x h in omega arith
+entry {A} xs e h = go (slice_get_cases xs e).1
+  where
+    go : ((x : A) × (e < length xs) × (slice_get xs e ≡ Some x) × (get_or xs e x ≡ x)) ⊎ ((length xs ≤ e) × (slice_get xs e ≡ None)) → (x : A) × (slice_get xs e ≡ Some x)
+    go (inl c) = (c.0, c.2)
+    go (inr c) = let l : length xs ≤ e = c.0 in absurd (omega arith)
 
 pub entry_beyond : {A : Type 0} (xs : List A) (e : ℕ) → slice_get xs e ≡ None → length xs ≤ e
-entry_beyond [] e h = omega arith
-entry_beyond (x ∷ xs) zero h = absurd (cc)
-entry_beyond (x ∷ xs) (suc e) h = let l : length xs ≤ e = entry_beyond xs e h in omega arith
-
-pub less_or_not : (a b : ℕ) → (a < b) ⊎ (b ≤ a)
-less_or_not a zero = inr (omega arith)
-less_or_not zero (suc b) = inl (omega arith)
-less_or_not (suc a) (suc b) = more (less_or_not a b)
+entry_beyond {A} xs e h = go (slice_get_cases xs e).1
   where
-    more : (a < b) ⊎ (b ≤ a) → (suc a < suc b) ⊎ (suc b ≤ suc a)
-    more (inl h) = inl (omega arith)
-    more (inr h) = inr (omega arith)
+    none : (x : A) → None ≡ Some x → ⊥
+    none x k = cc
+
+    go : ((x : A) × (e < length xs) × (slice_get xs e ≡ Some x) × (get_or xs e x ≡ x)) ⊎ ((length xs ≤ e) × (slice_get xs e ≡ None)) → length xs ≤ e
+    go (inl c) = absurd (none c.0 (sym h ∙ c.2))
+    go (inr c) = c.0
 
 pub number_at-beyond : (xs : List ℚ) (e : ℕ) → length xs ≤ e → number_at xs e ≡ 0ℚ
-number_at-beyond [] e h = refl
-number_at-beyond (x ∷ xs) zero h = absurd (omega arith)
-number_at-beyond (x ∷ xs) (suc e) h = number_at-beyond xs e (omega arith)
+number_at-beyond xs e h = ap (λ (o : Option ℚ). unwrap_or o 0ℚ) (slice_get_past xs e h)
 
 pub same_numbers : (xs ys : List ℚ) → length xs ≡ length ys → ((i : ℕ) → i < length xs → number_at xs i ≡ number_at ys i) → xs ≡ ys
 same_numbers [] [] h e = refl

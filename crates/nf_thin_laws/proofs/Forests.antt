@@ -1,26 +1,28 @@
 -- A flow on a forest that sends nothing out of any node, beyond what comes in, is 0. For where a link carries something, some link
 -- brings as much to where it leads from, and so on: these links, each taken in the direction of its flow, close a trail.
-use Rattle.std.proofs.Common.{◌≡◌, ◌≢◌, ℕ, zero, suc, ◌+◌, ◌<◌, ◌≤◌, List, [], ◌∷◌, length, map, ◌⊎◌, inl, inr, ⊎_elim, Bool, true, false, if◌then◌else◌, ◌||◌, eqb, Option, Some, slice_get, sym, ap, subst, refl, ◌∙◌, arith}
+use Rattle.std.proofs.Common.{◌≡◌, ◌≢◌, ℕ, zero, suc, ◌+◌, ◌<◌, ◌≤◌, List, [], ◌∷◌, length, map, ◌⊎◌, inl, inr, ⊎_elim, Bool, true, false, if◌then◌else◌, ◌||◌, eqb, Some, slice_get, sym, ap, subst, refl, ◌∙◌, arith}
 use Rattle.std.specs.Prelude.{Contains}
 use Rattle.std.specs.List.{IsDistinct, list_any}
 use Rattle.std.proofs.lemmas.Bool.Decides.{eqb_tells}
+use Rattle.std.proofs.lemmas.Bool.{eqb-true}
 use Rattle.std.proofs.lemmas.Map.Steps.{length-le_from_distinct_below}
+use Rattle.std.proofs.lemmas.Map.Views.{Contains-from_any}
+use Rattle.std.proofs.lemmas.Option.{slice_get_within}
+use Rattle.std.proofs.lemmas.List.{length-map}
 use Rattle.nf_rational.specs.Rational.{ℚ}
-use Rattle.nf_rational.specs.Operations.{0ℚ, 1ℚ, neg_ℚ, ◌+ℚ◌, ◌-ℚ◌, ◌*ℚ◌}
+use Rattle.nf_rational.specs.Operations.{0ℚ, 1ℚ, ◌+ℚ◌, ◌-ℚ◌, ◌*ℚ◌}
 use Rattle.nf_rational.specs.Order.{◌≤ℚ◌, ◌<ℚ◌, max_ℚ}
 use Rattle.nf_rational_laws.proofs.Polynomial.{reading_of}
-use Rattle.nf_rational_laws.proofs.Order.{≤ℚ_of_same, ≤ℚ_antisymm, ≤ℚ_of_lt, lt_or_le_ℚ}
-use Rattle.nf_rational_laws.proofs.Linear.{le, lt, eq, linear_le, linear_lt, linear_eq, linear_false}
-use Rattle.nf_model.specs.Walk.{Hop, IsHop}
+use Rattle.nf_rational_laws.proofs.Order.{≤ℚ_antisymm, ≤ℚ_of_lt, lt_or_le_ℚ}
+use Rattle.nf_rational_laws.proofs.Linear.{le, lt, eq, linear_le, linear_eq, linear_false}
 use Rattle.nf_model.specs.Network.{Link, Network, IsLink, IsNetwork, hop_of, hops, sum_in, sum_out}
 use Rattle.nf_model.specs.Pattern.{IsTrail, AllDiffer, IsForest}
-use Rattle.nf_model_laws.proofs.Affine.{clash, ≤_trans, ≤_refl}
+use Rattle.nf_model_laws.proofs.Affine.{clash}
 use Rattle.nf_model_laws.proofs.Networks.{hop_at, IsLink-unique}
-use Rattle.nf_model_laws.proofs.Sums.{sum_in-same, sum_out-same, sum_in-none, sum_out-none, sum_in-line, sum_out-line, sum_in-order, sum_out-order, sum_in-each, sum_out-each}
+use Rattle.nf_model_laws.proofs.Sums.{sum_in-same, sum_out-same, sum_in-none, sum_out-none, sum_in-line, sum_in-order, sum_out-order, sum_in-each, sum_out-each}
 use Rattle.nf_model_laws.proofs.Potential.{out_less_in}
 use Rattle.nf_model_laws.proofs.Ways.{distinct_more}
-use Rattle.nf_thin_laws.proofs.Flags.{entry_inside}
-use Rattle.nf_thin_laws.proofs.Accepted.{max_same, max_at_least}
+use Rattle.nf_thin_laws.proofs.Greater.{max_same, max_at_least}
 
 -- ---- elements of lists
 contains_none : (x : ℕ) → Contains [] x → ⊥
@@ -37,15 +39,11 @@ contains_first : (y : ℕ) (ys : List ℕ) (x : ℕ) → y ≡ x → Contains (y
 contains_first y ys x e = (zero, omega arith, e)
 
 not_any : (x : ℕ) (xs : List ℕ) → (Contains xs x → ⊥) → list_any (eqb x) xs ≡ false
-not_any x [] n = refl
-not_any x (y ∷ ys) n = ⊎_elim
-    (λ (w : (eqb x y ≡ true) × (x ≡ y)). absurd (n (contains_first y ys x (sym w.1))))
-    (λ (w : (eqb x y ≡ false) × (x ≢ y)). neither _ _ w.0 (not_any x ys (λ c. n (contains_more y ys x c))))
-    (eqb_tells x y)
+not_any x xs n = go (list_any (eqb x) xs) refl
   where
-    neither : (a b : Bool) → a ≡ false → b ≡ false → (a || b) ≡ false
-    neither true b e f = absurd (cc)
-    neither false b e f = f
+    go : (b : Bool) → list_any (eqb x) xs ≡ b → b ≡ false
+    go true e = absurd (n (Contains-from_any eqb-true x xs e))
+    go false e = refl
 
 distinct_none : IsDistinct eqb []
 unfolding IsDistinct
@@ -209,7 +207,7 @@ module _ (net : Network) (d : ℕ → ℚ) where
   edges_below : (steps : List (ℕ × Bool)) (u w : ℕ) → IsFlowTrail steps u w → (q : ℕ) → list_any (eqb q) (edges steps) ≡ true → q < length net.links
   edges_below [] u w t q e = absurd (cc)
   edges_below ((e, forward) ∷ steps) u w (v, dart, t) q h = ⊎_elim
-      (λ (k : (eqb q e ≡ true) × (q ≡ e)). subst (λ (i : ℕ). i < length net.links) (sym k.1) (entry_inside net.links e dart.link dart.is_link))
+      (λ (k : (eqb q e ≡ true) × (q ≡ e)). subst (λ (i : ℕ). i < length net.links) (sym k.1) (slice_get_within net.links e dart.link dart.is_link))
       (λ (k : (eqb q e ≡ false) × (q ≢ e)). edges_below steps v w t q (rest _ _ k.0 h))
       (eqb_tells q e)
     where
@@ -260,11 +258,7 @@ module _ (net : Network) (d : ℕ → ℚ) where
     too_long : (steps : List (ℕ × Bool)) (v w : ℕ) → IsFlowTrail steps v w → AllDiffer (edges steps) → length steps ≤ length net.links
     too_long steps v w trail differ =
         let l : length (edges steps) ≤ length net.links = length-le_from_distinct_below (edges steps) (length net.links) (IsDistinct-differ (edges steps) differ) (edges_below steps v w trail) in
-        let m : length (edges steps) ≡ length steps = length-edges steps in omega arith
-      where
-        length-edges : (steps : List (ℕ × Bool)) → length (edges steps) ≡ length steps
-        length-edges [] = refl
-        length-edges (s ∷ steps) = ap suc (length-edges steps)
+        let m : length (edges steps) ≡ length steps = length-map steps (λ (s : ℕ × Bool). s.0) in omega arith
 
     grow : (more : ℕ) (steps : List (ℕ × Bool)) (v w : ℕ) → length net.links < length steps + more → v < net.nodes → IsFlowTrail steps v w → AllDiffer (edges steps) → Leaving v → ⊥
     grow zero steps v w h k trail differ leaving = let l : length steps ≤ length net.links = too_long steps v w trail differ in absurd (omega arith)

@@ -1,4 +1,6 @@
 pub mod Flags
+pub mod Greater
+pub mod ExitSlopes
 pub mod ActiveLinks
 pub mod Patterns
 pub mod Accepted
@@ -6,6 +8,8 @@ pub mod LinkLaws
 pub mod Cuts
 pub mod Slopes
 pub mod Agree
-pub mod Forests
+pub mod States
 pub mod Totals
+pub mod Forests
 pub mod Singular
+pub mod OneLink

@@ -10,7 +10,7 @@ use Rattle.nf_rational_laws.proofs.Linear.{le, lt, eq, le_times, eq_times, linea
 use Rattle.nf_model.specs.ThinFlow.{exit_slope}
 use Rattle.nf_model_laws.specs.Capacity.{IsPositive}
 use Rattle.nf_model_laws.proofs.Affine.{≤_trans, clash, quotient-times, le_from_times}
-use Rattle.nf_thin_laws.proofs.Accepted.{max_at_least}
+use Rattle.nf_thin_laws.proofs.Greater.{max_at_least}
 
 -- x is the flow of the link, c its capacity, s and t the slopes at its tail and its head
 pub record BoundedLaw (resets : Bool) (x c s t : ℚ) : Type 0 where

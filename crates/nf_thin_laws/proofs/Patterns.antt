@@ -1,20 +1,22 @@
 -- What a listed pattern says of the links of a network.
-use Rattle.std.proofs.Common.{◌≡◌, ◌≢◌, ℕ, ◌<◌, length, ◌⊎◌, inl, inr, ⊎_elim, Bool, true, false, Option, Some, None, slice_get, unwrap_or, sym, ap, subst, refl, ◌∙◌, arith}
+use Rattle.std.proofs.Common.{◌≡◌, ◌≢◌, ℕ, ◌<◌, length, ◌⊎◌, inl, inr, ⊎_elim, Bool, true, false, Option, Some, None, slice_get, unwrap_or, sym, ap, ◌∙◌, arith}
+use Rattle.std.proofs.lemmas.Option.{slice_get_within}
 use Rattle.nf_rational.specs.Rational.{ℚ}
 use Rattle.nf_rational.specs.Operations.{◌*ℚ◌}
 use Rattle.nf_rational.specs.Order.{◌<ℚ◌}
 use Rattle.nf_rational.specs.Operations.{0ℚ}
 use Rattle.nf_model.specs.declared.State.{State}
-use Rattle.nf_model.specs.declared.State.TheVariants.{Tight, Full, Zero}
+use Rattle.nf_model.specs.declared.State.TheVariants.{Tight, Full}
 use Rattle.nf_model.specs.Entries.{Has}
 use Rattle.nf_model.specs.Walk.{Hop, IsHop}
-use Rattle.nf_model.specs.Network.{Link, Network, IsLink, hop_of, hops}
+use Rattle.nf_model.specs.Network.{Link, Network, IsLink, hop_of, hops, unbounded}
 use Rattle.nf_model.specs.ThinFlow.{Sets, Enters}
-use Rattle.nf_model.specs.Pattern.{Pattern, HasState, NeedsState, IsListedIn, Fills}
+use Rattle.nf_model.specs.Pattern.{Pattern, HasState, NeedsState, IsPattern, Fills}
 use Rattle.nf_model_laws.specs.Capacity.{IsPositive}
 use Rattle.nf_model_laws.proofs.Networks.{link_at}
-use Rattle.nf_thin_laws.specs.ActiveLinks.{AreSets}
-use Rattle.nf_thin_laws.proofs.Flags.{entry, entry_inside, flag, flag-cases}
+use Rattle.nf_thin_laws.specs.ActiveLinks.{AreSets, EachIsEntered}
+use Rattle.nf_thin_laws.specs.PatternLaws.{EachIsLed}
+use Rattle.nf_thin_laws.proofs.Flags.{entry, flag, flag-cases}
 
 -- a link that is filled has a capacity; two flows that fill it, do so by that
 pub record FillBoth (x t y v : ℚ) : Type 0 where
@@ -46,10 +48,10 @@ pub data Leads (pattern : Pattern) (sets : Sets) (e : ℕ) : Type 0 where
   by_full : HasState pattern e Full → flag sets.resetting e ≡ false → Leads pattern sets e
   by_reset : slice_get pattern e ≡ Some None → flag sets.resetting e ≡ true → Leads pattern sets e
 
-module _ (net : Network) (sets : Sets) (pattern : Pattern) (are : AreSets net sets) (listed : IsListedIn net sets pattern) where
+module _ (net : Network) (sets : Sets) (pattern : Pattern) (are : AreSets net sets) (is_pattern : IsPattern sets (unbounded net) pattern) where
   in_pattern : (e : ℕ) (link : Link) → IsLink net e link → (state : Option State) × (slice_get pattern e ≡ Some state)
   in_pattern e link p = entry pattern e
-      (let l : e < length net.links = entry_inside net.links e link p in let c : length pattern ≡ length sets.active = listed.states.count in
+      (let l : e < length net.links = slice_get_within net.links e link p in let c : length pattern ≡ length sets.active = is_pattern.count in
       let d : length sets.active ≡ length net.links = are.count in omega arith)
 
   -- a link that needs no state has none
@@ -58,20 +60,20 @@ module _ (net : Network) (sets : Sets) (pattern : Pattern) (are : AreSets net se
     where
       go : (state : Option State) × (slice_get pattern e ≡ Some state) → slice_get pattern e ≡ Some None
       go (None, h) = h
-      go (Some state, h) = absurd (none ((listed.states.states e).1 (state, h)))
+      go (Some state, h) = absurd (none ((is_pattern.states e).1 (state, h)))
 
   pub stands : (e : ℕ) (link : Link) → IsLink net e link → Stands pattern sets e
   stands e link p = ⊎_elim
       (λ (r : (flag sets.resetting e ≡ true) × Has sets.resetting e). resets (without_state e link p (λ n. n.1 r.1)) r.0 (are.resetting e r.1))
       (λ (r : (flag sets.resetting e ≡ false) × (Has sets.resetting e → ⊥)). ⊎_elim
-      (λ (a : (flag sets.active e ≡ true) × Has sets.active e). let s : (state : State) × HasState pattern e state = (listed.states.states e).0 (a.1, r.1) in with_state s.0 s.1 r.0 a.1)
+      (λ (a : (flag sets.active e ≡ true) × Has sets.active e). let s : (state : State) × HasState pattern e state = (is_pattern.states e).0 (a.1, r.1) in with_state s.0 s.1 r.0 a.1)
       (λ (a : (flag sets.active e ≡ false) × (Has sets.active e → ⊥)). inactive (without_state e link p (λ n. a.1 n.0)) r.0 a.1)
       (flag-cases sets.active e))
       (flag-cases sets.resetting e)
 
   not_reset : (e : ℕ) (state : State) → HasState pattern e state → flag sets.resetting e ≡ false
   not_reset e state h = ⊎_elim
-      (λ (w : (flag sets.resetting e ≡ true) × Has sets.resetting e). absurd (((listed.states.states e).1 (state, h)).1 w.1))
+      (λ (w : (flag sets.resetting e ≡ true) × Has sets.resetting e). absurd (((is_pattern.states e).1 (state, h)).1 w.1))
       (λ (w : (flag sets.resetting e ≡ false) × (Has sets.resetting e → ⊥)). w.0)
       (flag-cases sets.resetting e)
 
@@ -84,10 +86,13 @@ module _ (net : Network) (sets : Sets) (pattern : Pattern) (are : AreSets net se
       let l : (link : Link) × IsLink net e link × (hop_of link ≡ hop) = link_at net e hop p in
       (e, l.0, record { is_link = l.1; active = a; head = ap (λ (h : Hop). h.head) l.2 ∙ at }, f l.0 l.1)
 
-  pub led : (v : ℕ) → v < net.nodes → v ≢ net.source → Led v
-  led v h other = go (listed.entered v h other)
+  pub led : EachIsLed net sets pattern → (v : ℕ) → v < net.nodes → v ≢ net.source → Led v
+  led leads v h other = go (leads v h other)
     where
       go : (e : ℕ) × (hop : Hop) × IsHop (hops net) e hop × (hop.head ≡ v) × (Has sets.resetting e ⊎ (HasState pattern e Tight ⊎ HasState pattern e Full)) → Led v
       go (e, hop, p, at, inl r) = led_by v e hop p at (are.resetting e r) (λ link q. by_reset (without_state e link q (λ n. n.1 r)) (ap (λ (o : Option Bool). unwrap_or o false) r))
-      go (e, hop, p, at, inr (inl s)) = led_by v e hop p at ((listed.states.states e).1 (Tight, s)).0 (λ link q. by_tight s (not_reset e Tight s))
-      go (e, hop, p, at, inr (inr s)) = led_by v e hop p at ((listed.states.states e).1 (Full, s)).0 (λ link q. by_full s (not_reset e Full s))
+      go (e, hop, p, at, inr (inl s)) = led_by v e hop p at ((is_pattern.states e).1 (Tight, s)).0 (λ link q. by_tight s (not_reset e Tight s))
+      go (e, hop, p, at, inr (inr s)) = led_by v e hop p at ((is_pattern.states e).1 (Full, s)).0 (λ link q. by_full s (not_reset e Full s))
+
+  pub EachIsEntered-led : EachIsLed net sets pattern → EachIsEntered net sets
+  EachIsEntered-led leads v h other = let l : Led v = led leads v h other in (l.0, l.1, l.2)

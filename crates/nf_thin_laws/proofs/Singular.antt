@@ -2,7 +2,8 @@
 -- nodes at which the slope of the first is greater: Tight links do not lead into them or out of them, links without flow do not
 -- count, and a filled link carries more into them, and not more out of them; conservation makes both equal, so that none leads into
 -- them. But going back from such a node along the links that the pattern is listed by one would have to come in.
-use Rattle.std.proofs.Common.{◌≡◌, ◌≢◌, ℕ, zero, suc, ◌<◌, ◌≤◌, List, [], ◌∷◌, length, ◌⊎◌, inl, inr, ⊎_elim, Bool, true, false, if◌then◌else◌, eqb, Option, Some, None, slice_get, sym, ap, subst, refl, ◌∙◌, arith}
+use Rattle.std.proofs.Common.{◌≡◌, ◌≢◌, ℕ, ◌<◌, ◌≤◌, List, [], ◌∷◌, length, ◌⊎◌, inl, inr, ⊎_elim, Bool, true, false, if◌then◌else◌, eqb, Option, Some, None, slice_get, sym, ap, subst, refl, ◌∙◌, arith}
+use Rattle.std.proofs.lemmas.Bool.{cases_lt}
 use Rattle.std.proofs.lemmas.Bool.Decides.{eqb_tells}
 use Rattle.nf_rational.specs.Rational.{ℚ}
 use Rattle.nf_rational.specs.Operations.{0ℚ, 1ℚ, ◌+ℚ◌, ◌-ℚ◌, ◌*ℚ◌}
@@ -10,11 +11,11 @@ use Rattle.nf_rational.specs.Order.{◌≤ℚ◌, ◌<ℚ◌, lt_ℚ}
 use Rattle.nf_rational_laws.proofs.Polynomial.{reading_of}
 use Rattle.nf_rational_laws.proofs.Order.{≤ℚ_of_same, ≤ℚ_antisymm, ≤ℚ_of_lt, lt_or_le_ℚ}
 use Rattle.nf_rational_laws.proofs.Tests.{lt_ℚ_cases}
-use Rattle.nf_rational_laws.proofs.Linear.{le, lt, eq, le_times, eq_times, linear_le, linear_lt, linear_eq, linear_false}
+use Rattle.nf_rational_laws.proofs.Linear.{le, lt, eq, le_times, linear_le, linear_lt, linear_eq, linear_false}
 use Rattle.nf_model.specs.declared.State.{State}
 use Rattle.nf_model.specs.declared.State.TheVariants.{Tight, Full, Zero}
-use Rattle.nf_model.specs.Entries.{number_at, Has}
-use Rattle.nf_model.specs.Network.{Link, Network, IsLink, IsNetwork, hops, sum_in, sum_out}
+use Rattle.nf_model.specs.Entries.{number_at}
+use Rattle.nf_model.specs.Network.{Link, Network, IsLink, IsNetwork}
 use Rattle.nf_model.specs.ThinFlow.{Sets, surplus, Enters}
 use Rattle.nf_model.specs.Pattern.{Pattern, HasState, IsListedIn, Fills, Equation, Solves, Meets, IsSolution}
 use Rattle.nf_model_laws.proofs.Affine.{clash, ps-times_gap}
@@ -23,7 +24,7 @@ use Rattle.nf_model_laws.proofs.Potential.{carried-each, fall, out_less_in}
 use Rattle.nf_model_laws.proofs.Sums.{sum_in-line, sum_out-line, sum_in-none, sum_out-none}
 use Rattle.nf_thin_laws.specs.ActiveLinks.{AreSets, HoldNoCycle}
 use Rattle.nf_thin_laws.specs.PatternLaws.{SolvesHomogeneous}
-use Rattle.nf_thin_laws.proofs.Flags.{flag, entry, entry_beyond, less_or_not, number_at-beyond, same_numbers}
+use Rattle.nf_thin_laws.proofs.Flags.{flag, entry, entry_beyond, number_at-beyond, same_numbers}
 use Rattle.nf_thin_laws.proofs.Patterns.{FillBoth, FillBoth-of, Stands, with_state, resets, inactive, stands, Leads, by_tight, by_full, by_reset, led}
 use Rattle.nf_thin_laws.proofs.Cuts.{fall_none, fall_into, fall_out, fall_same, into_equal, same_carried}
 use Rattle.nf_thin_laws.proofs.Totals.{sink_takes}
@@ -58,7 +59,7 @@ module _ (net : Network) (sets : Sets) (pattern : Pattern) (good : IsNetwork net
     full_filled e link p h = filled (FillBoth-of link.capacity _ _ _ _ (IsPositive-link net e link good p) (first e link (Some Full) p h) (second e link (Some Full) p h))
 
     compared : (e : ℕ) (link : Link) → IsLink net e link → Compared e link ⊎ (x e ≡ y e)
-    compared e link p = go (stands net sets pattern are listed e link p)
+    compared e link p = go (stands net sets pattern are listed.states e link p)
       where
         go : Stands pattern sets e → Compared e link ⊎ (x e ≡ y e)
         go (with_state Tight h f a) = inl (tight h (first e link (Some Tight) p h) (second e link (Some Tight) p h))
@@ -148,7 +149,7 @@ module _ (net : Network) (sets : Sets) (pattern : Pattern) (good : IsNetwork net
 
       back : (v : ℕ) → v < net.nodes → Greater v → (e : ℕ) × (link : Link) × Enters net sets v e link × Greater link.tail
       back v h g =
-          let t : (e : ℕ) × (link : Link) × Enters net sets v e link × Leads pattern sets e = led net sets pattern are listed v h (λ e. clash _ _ (subst Greater e g) (≤ℚ_of_same _ _ same_source)) in
+          let t : (e : ℕ) × (link : Link) × Enters net sets v e link × Leads pattern sets e = led net sets pattern are listed.states listed.entered v h (λ e. clash _ _ (subst Greater e g) (≤ℚ_of_same _ _ same_source)) in
           (t.0, t.1, t.2, tail_greater t.0 t.1 t.2.is_link (compared_leads t.0 t.1 t.2.is_link t.3) (subst Greater (sym t.2.head) g))
 
       at_most : (v : ℕ) → v < net.nodes → l v ≤ℚ m v
@@ -263,4 +264,4 @@ module _ (net : Network) (sets : Sets) (pattern : Pattern) (good : IsNetwork net
     SolvesHomogeneous-slopes v = ⊎_elim
         (λ (h : v < net.nodes). same_slopes (number_at x) (number_at l) (λ _. 0ℚ) (λ _. 0ℚ) p.links second p.starts nodes v h)
         (λ (h : net.nodes ≤ v). number_at-beyond l v (let c : length l ≡ net.nodes = p.slope_count in omega arith))
-        (less_or_not v net.nodes)
+        (cases_lt v net.nodes)

@@ -1,3 +1,4 @@
 pub mod ActiveLinks
 pub mod PatternLaws
 pub mod SlopeLaws
+pub mod MemberLaws

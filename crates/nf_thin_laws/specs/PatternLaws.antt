@@ -1,20 +1,47 @@
 -- Laws of patterns.
-use Rattle.std.specs.Prelude.{◌≡◌, ◌≢◌, ℕ, ◌<◌, false, List, length, Option, Some, slice_get, unwrap_or}
+use Rattle.std.specs.Prelude.{◌≡◌, ◌≢◌, ◌⊎◌, ℕ, ◌<◌, false, List, length, Option, Some, slice_get, unwrap_or}
 use Rattle.nf_rational.specs.Rational.{ℚ}
 use Rattle.nf_rational.specs.Operations.{0ℚ}
+use Rattle.nf_rational.specs.Order.{◌≤ℚ◌}
 use Rattle.nf_model.specs.declared.State.{State}
-use Rattle.nf_model.specs.Entries.{number_at}
-use Rattle.nf_model.specs.Network.{Link, Network, IsLink, IsNetwork}
+use Rattle.nf_model.specs.declared.State.TheVariants.{Tight, Full, Zero}
+use Rattle.nf_model.specs.Entries.{number_at, Has}
+use Rattle.nf_model.specs.Walk.{Hop, IsHop}
+use Rattle.nf_model.specs.Network.{Link, Network, IsLink, IsNetwork, hops, unbounded}
 use Rattle.nf_model.specs.ThinFlow.{Sets, surplus, IsThinFlow}
-use Rattle.nf_model.specs.Pattern.{Pattern, IsListedIn, Equation, Solves, Meets, IsSolution}
-use Rattle.nf_thin_laws.specs.ActiveLinks.{AreSets, NoneEntersSource, HoldNoCycle}
+use Rattle.nf_model.specs.Pattern.{Pattern, HasState, IsPattern, IsListedIn, Equation, Solves, Meets, IsSolution, IsSolvable}
+use Rattle.nf_thin_laws.specs.ActiveLinks.{AreSets, HoldNoCycle}
 
--- Where no active link enters the source, a solution of the equations of a listed pattern that meets its inequalities is a thin
--- flow, whatever the capacities of the links are, if there are any.
-abbrev pub AcceptedPatternIsThin : Type 0
-AcceptedPatternIsThin = (net : Network) (sets : Sets) (rate : ℚ) (pattern : Pattern) (flows slopes : List ℚ)
-    → IsNetwork net → AreSets net sets → NoneEntersSource net sets → IsListedIn net sets pattern
-    → Solves net sets rate pattern flows slopes → Meets net pattern flows slopes → IsThinFlow net sets rate flows slopes
+-- each node but the source is entered by a Tight, Full or resetting link
+abbrev pub EachIsLed : Network → Sets → Pattern → Type 0
+EachIsLed net sets pattern = (v : ℕ) → v < net.nodes → v ≢ net.source → (e : ℕ) × (hop : Hop) × IsHop (hops net) e hop × (hop.head ≡ v)
+    × (Has sets.resetting e ⊎ (HasState pattern e Tight ⊎ HasState pattern e Full))
+
+-- A solution of the equations of a listed pattern that meets its inequalities is a thin flow, whatever the capacities of the links
+-- are, if there are any. For that the Tight links need not form a forest.
+pub record AcceptedPatternIsThin : Type 0 where
+  pub listed : (net : Network) (sets : Sets) (rate : ℚ) (pattern : Pattern) (flows slopes : List ℚ) → IsNetwork net → AreSets net sets → IsListedIn net sets pattern
+      → Solves net sets rate pattern flows slopes → Meets net pattern flows slopes → IsThinFlow net sets rate flows slopes
+  pub led : (net : Network) (sets : Sets) (rate : ℚ) (pattern : Pattern) (flows slopes : List ℚ) → IsNetwork net → AreSets net sets
+      → IsPattern sets (unbounded net) pattern → EachIsLed net sets pattern
+      → Solves net sets rate pattern flows slopes → Meets net pattern flows slopes → IsThinFlow net sets rate flows slopes
+
+-- a link with these slopes of its tail and its head can be in a state, without regard to flow
+abbrev pub AllowState : ℚ → ℚ → State → Type 0
+AllowState tail_slope head_slope Tight = head_slope ≡ tail_slope
+AllowState tail_slope head_slope Full = tail_slope ≤ℚ head_slope
+AllowState tail_slope head_slope Zero = head_slope ≤ℚ tail_slope
+
+-- Where active links hold no cycle, the slopes of any thin flow are those of each listed pattern whose equations have a solution
+-- that meets its inequalities. So they allow each state of it, and a pattern with another state is not solvable.
+pub record SlopesAllowStates : Type 0 where
+  pub same : (net : Network) (sets : Sets) (rate : ℚ) (thin_flows thin_slopes : List ℚ) (pattern : Pattern) (flows slopes : List ℚ) → IsNetwork net → AreSets net sets
+      → HoldNoCycle net sets → IsThinFlow net sets rate thin_flows thin_slopes → IsListedIn net sets pattern
+      → Solves net sets rate pattern flows slopes → Meets net pattern flows slopes → slopes ≡ thin_slopes
+  pub states : (net : Network) (sets : Sets) (rate : ℚ) (thin_flows thin_slopes : List ℚ) (pattern : Pattern) → IsNetwork net → AreSets net sets
+      → HoldNoCycle net sets → IsThinFlow net sets rate thin_flows thin_slopes → IsListedIn net sets pattern → IsSolvable net sets rate pattern
+      → (e : ℕ) (link : Link) (state : State) → IsLink net e link → HasState pattern e state
+      → AllowState (number_at thin_slopes link.tail) (number_at thin_slopes link.head) state
 
 -- Flows and slopes meet the equations of a pattern with nothing on their right sides: those of `Solves`, but that the slope of the
 -- source and the value of the flow are 0.

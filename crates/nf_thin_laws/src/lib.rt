@@ -3,7 +3,8 @@
 #![tactic(auto)]
 
 ghost use Rattle.nf_thin_laws.specs.ActiveLinks.{ActiveLinksHoldNoCycle};
-ghost use Rattle.nf_thin_laws.specs.PatternLaws.{AcceptedPatternIsThin, NoListedPatternIsSingular};
+ghost use Rattle.nf_thin_laws.specs.PatternLaws.{AcceptedPatternIsThin, SlopesAllowStates, NoListedPatternIsSingular};
+ghost use Rattle.nf_thin_laws.specs.MemberLaws.{OneLinkHasPhase};
 ghost use Rattle.nf_thin_laws.specs.SlopeLaws.{SlopesAreUnique, PhaseSequencesAgree, ThinFlowComesToSink};
 
 /// The active links of labels hold no cycle; and where such links lead to each node but the source, none leads to the source.
@@ -23,7 +24,8 @@ pub fn slopes_are_unique()
     ensures { SlopesAreUnique }
 {}
 
-/// Phase sequences of a network up to one horizon agree, as far as they go.
+/// From a time with its labels one phase leads to one pair of a time and labels alone, and phase sequences of a network to one
+/// horizon that are equally long are equal.
 pub fn phase_sequences_agree()
     ensures { PhaseSequencesAgree }
 {}
@@ -36,4 +38,15 @@ pub fn thin_flow_comes_to_sink()
 /// The equations of a listed pattern have at most one solution, where the active links hold no cycle.
 pub fn no_listed_pattern_is_singular()
     ensures { NoListedPatternIsSingular }
+{}
+
+/// The slopes of a thin flow allow each state of a listed pattern that is solvable, where the active links hold no cycle; so a
+/// pattern with a state that they don't allow is not accepted.
+pub fn slopes_allow_states()
+    ensures { SlopesAllowStates }
+{}
+
+/// The definitions of listed and solvable patterns and of phase sequences have members: on a network of one link.
+pub fn one_link_has_phase()
+    ensures { OneLinkHasPhase }
 {}

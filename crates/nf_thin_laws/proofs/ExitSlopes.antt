@@ -1,0 +1,48 @@
+-- Exit slopes of links in each state. Here x is the flow of a link, and s and t are the slopes of its tail and its head.
+use Rattle.std.proofs.Common.{◌≡◌, [], ◌∷◌, true, false, Option, Some, None, sym, ap, subst, refl, ◌∙◌}
+use Rattle.nf_rational.specs.Rational.{ℚ}
+use Rattle.nf_rational.specs.Operations.{0ℚ, ◌*ℚ◌, ◌/ℚ◌}
+use Rattle.nf_rational.specs.Order.{◌≤ℚ◌, ◌<ℚ◌, max_ℚ}
+use Rattle.nf_rational_laws.proofs.Polynomial.{reading_of}
+use Rattle.nf_rational_laws.proofs.Linear.{eq, linear_eq}
+use Rattle.nf_model.specs.ThinFlow.{exit_slope}
+use Rattle.nf_model.specs.Pattern.{Fills}
+use Rattle.nf_model_laws.specs.Capacity.{IsPositive}
+use Rattle.nf_model_laws.proofs.Affine.{quotient-times, le_from_times, same_from_times, ≤_trans}
+use Rattle.nf_thin_laws.proofs.Greater.{max_same, max_first, max_at_least}
+
+swapped : (x c q : ℚ) → q *ℚ c ≡ x → c *ℚ q ≡ x
+swapped x c q e = linear_eq (x ∷ c ∷ q ∷ []) (eq e ∷ []) (search reading_of depth 12) tt tt
+
+quotient_is : (x c t : ℚ) → 0ℚ <ℚ c → x ≡ c *ℚ t → x /ℚ c ≡ t
+quotient_is x c t h e = same_from_times c (x /ℚ c) t h (swapped x c (x /ℚ c) (quotient-times x c h) ∙ e)
+
+quotient_below : (x c t : ℚ) → 0ℚ <ℚ c → x ≤ℚ c *ℚ t → x /ℚ c ≤ℚ t
+quotient_below x c t h e = le_from_times c (x /ℚ c) t h (subst (λ (z : ℚ). z ≤ℚ c *ℚ t) (sym (swapped x c (x /ℚ c) (quotient-times x c h))) e)
+
+-- a resetting link, and one that is full
+pub exit_resetting : (capacity : Option ℚ) (x s t : ℚ) → IsPositive capacity → Fills capacity x t → exit_slope true capacity x s ≡ t
+exit_resetting None x s t positive f = absurd (cc)
+exit_resetting (Some c) x s t positive f = quotient_is x c t (positive c refl) (f.2 ∙ ap (λ (z : ℚ). z *ℚ t) (same_rate c f.0 f.1))
+  where
+    same_rate : (a b : ℚ) → Some a ≡ Some b → b ≡ a
+    same_rate a b e = cc
+
+pub exit_full : (capacity : Option ℚ) (x s t : ℚ) → IsPositive capacity → Fills capacity x t → s ≤ℚ t → exit_slope false capacity x s ≡ t
+exit_full None x s t positive f h = absurd (none f.0 f.1)
+  where
+    none : (c : ℚ) → None ≡ Some c → ⊥
+    none c e = cc
+exit_full (Some c) x s t positive f h =
+    let q : x /ℚ c ≡ t = exit_resetting (Some c) x s t positive f in
+    ap (max_ℚ s) q ∙ max_same s t h
+
+-- a link whose ends move alike
+pub exit_tight : (capacity : Option ℚ) (x s t : ℚ) → IsPositive capacity → t ≡ s → ((rate : ℚ) → capacity ≡ Some rate → x ≤ℚ rate *ℚ t) → exit_slope false capacity x s ≡ t
+exit_tight None x s t positive e h = sym e
+exit_tight (Some c) x s t positive e h = max_first s (x /ℚ c) (subst (λ (z : ℚ). x /ℚ c ≤ℚ z) e (quotient_below x c t (positive c refl) (h c refl))) ∙ sym e
+
+-- one that carries nothing
+pub exit_zero : (capacity : Option ℚ) (x s t : ℚ) → t ≤ℚ s → t ≤ℚ exit_slope false capacity x s
+exit_zero None x s t h = h
+exit_zero (Some c) x s t h = ≤_trans _ _ _ h (max_at_least s (x /ℚ c))
