@@ -7,3 +7,4 @@ pub mod Rising
 pub mod Phase
 pub mod Lasting
 pub mod Phases
+pub mod Still

@@ -1,3 +1,4 @@
 pub mod Invariant
 pub mod PhaseLaws
 pub mod Run
+pub mod StillLaws

@@ -3,6 +3,7 @@
 #![tactic(auto)]
 
 ghost use Rattle.nf_phase_laws.specs.PhaseLaws.{NashFromInvariant, StartHasInvariant, PhaseKeepsInvariant, PhasesKeepInvariant, PhasesMakeNashFlow};
+ghost use Rattle.nf_phase_laws.specs.StillLaws.{StillNodesCarryNoFlow};
 
 /// A flow of which the invariant of phases holds up to a time is a Nash flow over time for all that leaves the source up to then.
 pub fn nash_from_invariant()
@@ -31,4 +32,9 @@ pub fn phases_keep_invariant()
 /// beginning and for its length, is a Nash flow over time up to the end of the last phase.
 pub fn phases_make_nash_flow()
     ensures { PhasesMakeNashFlow }
+{}
+
+/// In a thin flow for the sets of slacks, a node whose label stands still is passed by no flow.
+pub fn still_nodes_carry_no_flow()
+    ensures { StillNodesCarryNoFlow }
 {}
