@@ -8,3 +8,4 @@ pub mod Phase
 pub mod Lasting
 pub mod Phases
 pub mod Still
+pub mod Description

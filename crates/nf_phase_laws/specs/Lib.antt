@@ -2,3 +2,4 @@ pub mod Invariant
 pub mod PhaseLaws
 pub mod Run
 pub mod StillLaws
+pub mod Description

@@ -3,6 +3,7 @@
 #![tactic(auto)]
 
 ghost use Rattle.nf_phase_laws.specs.PhaseLaws.{NashFromInvariant, StartHasInvariant, PhaseKeepsInvariant, PhasesKeepInvariant, PhasesMakeNashFlow};
+ghost use Rattle.nf_phase_laws.specs.Description.{DescriptionIsRight, PhasesKeepDescription};
 ghost use Rattle.nf_phase_laws.specs.StillLaws.{StillNodesCarryNoFlow};
 
 /// A flow of which the invariant of phases holds up to a time is a Nash flow over time for all that leaves the source up to then.
@@ -37,4 +38,16 @@ pub fn phases_make_nash_flow()
 /// In a thin flow for the sets of slacks, a node whose label stands still is passed by no flow.
 pub fn still_nodes_carry_no_flow()
     ensures { StillNodesCarryNoFlow }
+{}
+
+/// Outflows and queues that are described by departure, as what was sent into a link and the queue of its slack, are the outflows and
+/// queues of the links at every time up to the labels, where the invariant of phases holds.
+pub fn description_is_right()
+    ensures { DescriptionIsRight }
+{}
+
+/// The description of outflows and queues by departure begins with 0, and each phase keeps it where the outflow goes on at the rate
+/// of the flow over the head's slope, and the queue at one rate up to that of the slack at the end.
+pub fn phases_keep_description()
+    ensures { PhasesKeepDescription }
 {}
