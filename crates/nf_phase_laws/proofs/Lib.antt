@@ -9,3 +9,4 @@ pub mod Lasting
 pub mod Phases
 pub mod Still
 pub mod Description
+pub mod Length

@@ -3,3 +3,4 @@ pub mod PhaseLaws
 pub mod Run
 pub mod StillLaws
 pub mod Description
+pub mod LengthLaws

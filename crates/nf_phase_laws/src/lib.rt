@@ -4,6 +4,7 @@
 
 ghost use Rattle.nf_phase_laws.specs.PhaseLaws.{NashFromInvariant, StartHasInvariant, PhaseKeepsInvariant, PhasesKeepInvariant, PhasesMakeNashFlow};
 ghost use Rattle.nf_phase_laws.specs.Description.{DescriptionIsRight, PhasesKeepDescription};
+ghost use Rattle.nf_phase_laws.specs.LengthLaws.{PhasesTakeTime};
 ghost use Rattle.nf_phase_laws.specs.StillLaws.{StillNodesCarryNoFlow};
 
 /// A flow of which the invariant of phases holds up to a time is a Nash flow over time for all that leaves the source up to then.
@@ -50,4 +51,9 @@ pub fn description_is_right()
 /// of the flow over the head's slope, and the queue at one rate up to that of the slack at the end.
 pub fn phases_keep_description()
     ensures { PhasesKeepDescription }
+{}
+
+/// Each phase takes time: the extension length is above 0, and so is the length of a phase that begins before the horizon.
+pub fn phases_take_time()
+    ensures { PhasesTakeTime }
 {}
