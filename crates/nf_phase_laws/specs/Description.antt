@@ -7,6 +7,7 @@ use Rattle.nf_model.specs.Entries.{number_at}
 use Rattle.nf_model.specs.Curve.{Within}
 use Rattle.nf_model.specs.Network.{Link, Network, IsNetwork, IsLink, hops, rate_at}
 use Rattle.nf_model.specs.Queue.{IsQueue, IsOutflow}
+use Rattle.nf_model.specs.Equilibrium.{Flow, label, inflow, outflow, queue, HasShape, HasSlopes, Equilibrium}
 use Rattle.nf_model.specs.ThinFlow.{slacks_of, sets_at, IsThinFlow}
 use Rattle.nf_model.specs.Phases.{Lasts, AreStartLabels}
 use Rattle.nf_model_laws.specs.Affine.{IsAffine}
@@ -49,3 +50,10 @@ pub record PhasesKeepDescription : Type 0 where
       → Lasts net (slacks_of (hops net) labels) slopes until length → GoesOn net amount label until length (number_at flows) (number_at slopes) amount' label'
       → DescribesLinks net amount label outflow queue until → DescriptionGoesOn net label until length (number_at flows) (number_at slopes) label' outflow queue outflow' queue'
       → DescribesLinks net amount' label' outflow' queue' (until +ℚ length)
+
+-- So a flow of a report is an equilibrium where the invariant holds of its inflows and labels, its outflows and queues are described
+-- by departure, and its curves and rates have their form.
+abbrev pub DescriptionMakesEquilibrium : Type 0
+DescriptionMakesEquilibrium = (net : Network) (flow : Flow) → IsNetwork net → HoldsUpTo net (inflow flow) (label flow) flow.reached
+    → DescribesLinks net (inflow flow) (label flow) (outflow flow) (queue flow) flow.reached → HasShape net flow → HasSlopes flow.inflows → HasSlopes flow.outflows
+    → Equilibrium net flow

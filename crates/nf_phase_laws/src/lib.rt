@@ -3,7 +3,7 @@
 #![tactic(auto)]
 
 ghost use Rattle.nf_phase_laws.specs.PhaseLaws.{NashFromInvariant, StartHasInvariant, PhaseKeepsInvariant, PhasesKeepInvariant, PhasesMakeNashFlow};
-ghost use Rattle.nf_phase_laws.specs.Description.{DescriptionIsRight, PhasesKeepDescription};
+ghost use Rattle.nf_phase_laws.specs.Description.{DescriptionIsRight, PhasesKeepDescription, DescriptionMakesEquilibrium};
 ghost use Rattle.nf_phase_laws.specs.LengthLaws.{PhasesTakeTime};
 ghost use Rattle.nf_phase_laws.specs.StillLaws.{StillNodesCarryNoFlow};
 
@@ -56,4 +56,10 @@ pub fn phases_keep_description()
 /// Each phase takes time: the extension length is above 0, and so is the length of a phase that begins before the horizon.
 pub fn phases_take_time()
     ensures { PhasesTakeTime }
+{}
+
+/// A flow of a report is an equilibrium where the invariant of phases holds of its inflows and labels up to the reached time, its
+/// outflows and queues are described by departure, and its curves and rates have their form.
+pub fn description_makes_equilibrium()
+    ensures { DescriptionMakesEquilibrium }
 {}
