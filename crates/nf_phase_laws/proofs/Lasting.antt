@@ -37,8 +37,8 @@ module _ (net : Network) (amount label amount' label' : ℕ → ℚ → ℚ) (un
   after_while : (s z m l t : ℚ) → s ≡ z → s +ℚ t *ℚ (m -ℚ l) ≡ z +ℚ (m -ℚ l) *ℚ t
   after_while s z m l t e = linear_eq (s ∷ z ∷ m ∷ l ∷ t ∷ []) (eq e ∷ []) (search reading_of depth 12) tt tt
 
-  step : PhaseStep net amount label until length (rate_at net until) (number_at flows) (number_at slopes) amount' label'
-  step = record {
+  pub step_of : PhaseStep net amount label until length (rate_at net until) (number_at flows) (number_at slopes) amount' label'
+  step_of = record {
     good = good;
     holds = holds;
     thin = IsThinBy-of net amount label until labels good holds same (rate_at net until) flows slopes thin;
@@ -50,4 +50,4 @@ module _ (net : Network) (amount label amount' label' : ℕ → ℚ → ℚ) (un
   }
 
   pub HoldsUpTo-lasts : HoldsUpTo net amount' label' (until +ℚ length)
-  HoldsUpTo-lasts = HoldsUpTo-phase net amount label until length (rate_at net until) (number_at flows) (number_at slopes) amount' label' step
+  HoldsUpTo-lasts = HoldsUpTo-phase net amount label until length (rate_at net until) (number_at flows) (number_at slopes) amount' label' step_of

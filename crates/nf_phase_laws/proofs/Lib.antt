@@ -7,3 +7,6 @@ pub mod Rising
 pub mod Phase
 pub mod Lasting
 pub mod Phases
+pub mod Still
+pub mod Description
+pub mod Length

@@ -168,13 +168,13 @@ module _ (net : Network) (amount label : ℕ → ℚ → ℚ) (until length rate
   label_nn : (v : ℕ) (time : ℚ) → v < net.nodes → Within 0ℚ until time → 0ℚ ≤ℚ label v time
   label_nn v time h w = held.label_not_negative net amount label until step.good step.holds v time h w
 
-  rises_on : (v : ℕ) (time : ℚ) → v < net.nodes → Within 0ℚ until time → label v time ≤ℚ label v until
+  pub rises_on : (v : ℕ) (time : ℚ) → v < net.nodes → Within 0ℚ until time → label v time ≤ℚ label v until
   rises_on v time h w = step.holds.label_rises v time until h w.0 w.1 (≤_refl until)
 
-  slack_before : (e : ℕ) (link : Link) (time : ℚ) → IsLink net e link → Within 0ℚ until time → link_slack label' link time ≡ link_slack label link time
+  pub slack_before : (e : ℕ) (link : Link) (time : ℚ) → IsLink net e link → Within 0ℚ until time → link_slack label' link time ≡ link_slack label link time
   slack_before e link time p w = slack_same _ _ _ _ link.transit (step.goes.label_before link.head time (heads e link p) w) (step.goes.label_before link.tail time (tails e link p) w)
 
-  slack_after : (e : ℕ) (link : Link) (t : ℚ) → IsLink net e link → Within 0ℚ length t → link_slack label' link (until +ℚ t) ≡ link_slack label link until +ℚ (slope link.head -ℚ slope link.tail) *ℚ t
+  pub slack_after : (e : ℕ) (link : Link) (t : ℚ) → IsLink net e link → Within 0ℚ length t → link_slack label' link (until +ℚ t) ≡ link_slack label link until +ℚ (slope link.head -ℚ slope link.tail) *ℚ t
   slack_after e link t p w = slack_line _ _ _ _ link.transit _ _ t (step.goes.label_after link.head t (heads e link p) w) (step.goes.label_after link.tail t (tails e link p) w)
 
   link_step : (e : ℕ) (link : Link) (t : ℚ) → IsLink net e link → Within 0ℚ length t
@@ -207,12 +207,12 @@ module _ (net : Network) (amount label : ℕ → ℚ → ℚ) (until length rate
   amount_until : (e : ℕ) (link : Link) → IsLink net e link → amount' e (label link.tail until) ≡ old_sent e until
   amount_until e link p = step.goes.amount_before e link (label link.tail until) p (label_nn link.tail until (tails e link p) now, ≤_refl _) ∙ sym (old_is e link until p)
 
-  sent_before : (e : ℕ) (link : Link) (time : ℚ) → IsLink net e link → Within 0ℚ until time → new_sent e time ≡ old_sent e time
+  pub sent_before : (e : ℕ) (link : Link) (time : ℚ) → IsLink net e link → Within 0ℚ until time → new_sent e time ≡ old_sent e time
   sent_before e link time p w = new_is e link time p ∙ ap (amount' e) (step.goes.label_before link.tail time (tails e link p) w)
       ∙ step.goes.amount_before e link (label link.tail time) p (label_nn link.tail time (tails e link p) w, rises_on link.tail time (tails e link p) w)
       ∙ sym (old_is e link time p)
 
-  sent_after : (e : ℕ) (link : Link) (t : ℚ) → IsLink net e link → Within 0ℚ length t → new_sent e (until +ℚ t) ≡ old_sent e until +ℚ x e *ℚ t
+  pub sent_after : (e : ℕ) (link : Link) (t : ℚ) → IsLink net e link → Within 0ℚ length t → new_sent e (until +ℚ t) ≡ old_sent e until +ℚ x e *ℚ t
   sent_after e link t p w =
       let r : (r : ℚ) × (r *ℚ slope link.tail ≡ x e) × IsAffine (amount' e) (label link.tail until) (label link.tail until +ℚ slope link.tail *ℚ length) r = step.goes.amount_after e link p in
       new_is e link (until +ℚ t) p ∙ ap (amount' e) (step.goes.label_after link.tail t (tails e link p) w)

@@ -36,13 +36,13 @@ module _ (net : Network) (labels : List ℚ) (amount label : ℕ → ℚ → ℚ
   transit_labels : AreTransitLabels net (number_at labels)
   transit_labels = AreTransitLabels-least net (number_at labels) good least.each
 
-  label_not_negative : (v : ℕ) → v < net.nodes → 0ℚ ≤ℚ label v 0ℚ
+  pub label_not_negative : (v : ℕ) → v < net.nodes → 0ℚ ≤ℚ label v 0ℚ
   label_not_negative v h =
       let l : IsLeastTransit (hops net) net.source v (number_at labels v) = least.each v h in
       subst (λ (a : ℚ). 0ℚ ≤ℚ a) (l.taken.2 ∙ sym (start.labels_are v h)) (transit_sum-not_negative net good l.taken.0 net.source v l.taken.1)
 
   -- the only departure so far
-  at_first : (P : ℚ → Type 0) → P 0ℚ → (departure : ℚ) → Within 0ℚ 0ℚ departure → P departure
+  pub at_first : (P : ℚ → Type 0) → P 0ℚ → (departure : ℚ) → Within 0ℚ 0ℚ departure → P departure
   at_first P p departure w = subst P (≤ℚ_antisymm _ _ w.0 w.1) p
 
   source_first : label net.source 0ℚ ≡ 0ℚ
@@ -55,7 +55,7 @@ module _ (net : Network) (labels : List ℚ) (amount label : ℕ → ℚ → ℚ
   into_other : (a b c d r : ℚ) → a ≡ c → b ≡ d → d ≤ℚ c +ℚ r → b -ℚ (a +ℚ r) ≤ℚ 0ℚ
   into_other a b c d r e f h = linear_le (a ∷ b ∷ c ∷ d ∷ r ∷ []) (eq e ∷ eq f ∷ le h ∷ []) (search reading_of depth 12) tt
 
-  slack_none : (e : ℕ) (link : Link) → IsLink net e link → link_slack label link 0ℚ ≤ℚ 0ℚ
+  pub slack_none : (e : ℕ) (link : Link) → IsLink net e link → link_slack label link 0ℚ ≤ℚ 0ℚ
   slack_none e link p = ⊎_elim
       (λ (s : (eqb link.head net.source ≡ true) × (link.head ≡ net.source)).
       into_source (label link.tail 0ℚ) (label link.head 0ℚ) link.transit (ap (λ (v : ℕ). label v 0ℚ) s.1 ∙ source_first) (label_not_negative link.tail (good.tails e link p)) (good.transits e link p))
@@ -76,7 +76,7 @@ module _ (net : Network) (labels : List ℚ) (amount label : ℕ → ℚ → ℚ
   nothing_at : (e : ℕ) (link : Link) (time : ℚ) → IsLink net e link → 0ℚ ≤ℚ time → amount e time ≡ 0ℚ
   nothing_at e link time p h = start.nothing e time (slice_get_within net.links e link p) h
 
-  nothing_sent : (e : ℕ) (link : Link) → IsLink net e link → sent net amount label e 0ℚ ≡ 0ℚ
+  pub nothing_sent : (e : ℕ) (link : Link) → IsLink net e link → sent net amount label e 0ℚ ≡ 0ℚ
   nothing_sent e link p = sent-is net amount label e link 0ℚ p ∙ nothing_at e link (label link.tail 0ℚ) p (label_not_negative link.tail (good.tails e link p))
 
   no_queue : (e : ℕ) (link : Link) (time : ℚ) → IsLink net e link → 0ℚ ≤ℚ time → IsQueue link.capacity (amount e) time 0ℚ

@@ -14,7 +14,7 @@ use Rattle.nf_model.specs.Curve.{Within}
 use Rattle.nf_model.specs.Walk.{IsWalk, transit_sum}
 use Rattle.nf_model.specs.Network.{Link, Network, IsNetwork, IsLink, hop_of, hops, sum_in, sum_out}
 use Rattle.nf_model.specs.Earliest.{Arrives, IsEarliest}
-use Rattle.nf_model.specs.ThinFlow.{slack, sets_at, exit_slope, exit_slope_at, Enters, IsThinFlow}
+use Rattle.nf_model.specs.ThinFlow.{Sets, slack, sets_at, exit_slope, exit_slope_at, surplus, Enters, IsThinFlow}
 use Rattle.nf_model_laws.specs.Capacity.{IsPositive}
 use Rattle.nf_model_laws.proofs.Affine.{≤_refl, clash, quotient-times}
 use Rattle.nf_model_laws.proofs.Queues.{IsExit-after}
@@ -146,6 +146,14 @@ two_cancel n s t f h k other none e =
         (eqb_tells v t))
         (eqb_tells v s)
 
+-- so what comes to the sink is what the source sends
+pub surplus-sink : (net : Network) (sets : Sets) (rate : ℚ) (flows slopes : List ℚ) → IsNetwork net → IsThinFlow net sets rate flows slopes → surplus net flows net.sink ≡ 0ℚ -ℚ rate
+surplus-sink net sets rate flows slopes good thin = rest _ _ rate thin.source
+    (two_cancel net.nodes net.source net.sink (out_less_in net.links (number_at flows)) good.source good.sink good.apart thin.inner (all_zero net.nodes net.links (number_at flows) (λ e link p. (good.tails e link p, good.heads e link p))))
+  where
+    rest : (a b r : ℚ) → a ≡ r → a +ℚ b ≡ 0ℚ → b ≡ 0ℚ -ℚ r
+    rest a b r e f = linear_eq (a ∷ b ∷ r ∷ []) (eq e ∷ eq f ∷ []) (search reading_of depth 12) tt tt
+
 -- ---- who walks takes the transit times at least
 Arrives-after : (net : Network) (amount : ℕ → ℚ → ℚ) → IsNetwork net → (walk : List ℕ) (time arrival : ℚ) → Arrives net amount walk time arrival → time +ℚ transit_sum (hops net) walk ≤ℚ arrival
 Arrives-after net amount good [] time arrival a = none time arrival a
@@ -206,8 +214,8 @@ module _ (net : Network) (amount label : ℕ → ℚ → ℚ) (until : ℚ) (lab
     source_sum : (i o r : ℚ) → o -ℚ i ≡ r → i +ℚ r ≡ o
     source_sum i o r e = linear_eq (i ∷ o ∷ r ∷ []) (eq e ∷ []) (search reading_of depth 12) tt tt
 
-    sink_sum : (i o r y : ℚ) → y ≡ r → y +ℚ (o -ℚ i) ≡ 0ℚ → i ≡ o +ℚ r
-    sink_sum i o r y e f = linear_eq (i ∷ o ∷ r ∷ y ∷ []) (eq e ∷ eq f ∷ []) (search reading_of depth 12) tt tt
+    sink_sum : (i o r : ℚ) → o -ℚ i ≡ 0ℚ -ℚ r → i ≡ o +ℚ r
+    sink_sum i o r e = linear_eq (i ∷ o ∷ r ∷ []) (eq e ∷ []) (search reading_of depth 12) tt tt
 
     abbrev Entry : ℕ → Type 0
     Entry v = (e : ℕ) × (link : Link) × IsLink net e link × (link.head ≡ v) × (0ℚ ≤ℚ link_slack label link until)
@@ -238,6 +246,5 @@ module _ (net : Network) (amount label : ℕ → ℚ → ℚ) (until : ℚ) (lab
       entered = λ v h other. by_entry v (thin.taken v h other);
       inner = λ v h a b. inner_sum _ _ (thin.inner v h a b);
       supplied = source_sum _ _ rate thin.source;
-      drained = sink_sum _ _ rate _ thin.source
-          (two_cancel net.nodes net.source net.sink (out_less_in net.links (number_at flows)) good.source good.sink good.apart thin.inner (all_zero net.nodes net.links (number_at flows) (λ e link p. (good.tails e link p, good.heads e link p))));
+      drained = sink_sum _ _ rate (surplus-sink net (sets_at net labels) rate flows slopes good thin);
     }

@@ -1,3 +1,6 @@
 pub mod Invariant
 pub mod PhaseLaws
 pub mod Run
+pub mod StillLaws
+pub mod Description
+pub mod LengthLaws

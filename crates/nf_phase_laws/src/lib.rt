@@ -3,6 +3,9 @@
 #![tactic(auto)]
 
 ghost use Rattle.nf_phase_laws.specs.PhaseLaws.{NashFromInvariant, StartHasInvariant, PhaseKeepsInvariant, PhasesKeepInvariant, PhasesMakeNashFlow};
+ghost use Rattle.nf_phase_laws.specs.Description.{DescriptionIsRight, PhasesKeepDescription, DescriptionMakesEquilibrium};
+ghost use Rattle.nf_phase_laws.specs.LengthLaws.{PhasesTakeTime};
+ghost use Rattle.nf_phase_laws.specs.StillLaws.{StillNodesCarryNoFlow};
 
 /// A flow of which the invariant of phases holds up to a time is a Nash flow over time for all that leaves the source up to then.
 pub fn nash_from_invariant()
@@ -31,4 +34,32 @@ pub fn phases_keep_invariant()
 /// beginning and for its length, is a Nash flow over time up to the end of the last phase.
 pub fn phases_make_nash_flow()
     ensures { PhasesMakeNashFlow }
+{}
+
+/// In a thin flow for the sets of slacks, a node whose label stands still is passed by no flow.
+pub fn still_nodes_carry_no_flow()
+    ensures { StillNodesCarryNoFlow }
+{}
+
+/// Outflows and queues that are described by departure, as what was sent into a link and the queue of its slack, are the outflows and
+/// queues of the links at every time up to the labels, where the invariant of phases holds.
+pub fn description_is_right()
+    ensures { DescriptionIsRight }
+{}
+
+/// The description of outflows and queues by departure begins with 0, and each phase keeps it where the outflow goes on at the rate
+/// of the flow over the head's slope, and the queue at one rate up to that of the slack at the end.
+pub fn phases_keep_description()
+    ensures { PhasesKeepDescription }
+{}
+
+/// Each phase takes time: the extension length is above 0, and so is the length of a phase that begins before the horizon.
+pub fn phases_take_time()
+    ensures { PhasesTakeTime }
+{}
+
+/// A flow of a report is an equilibrium where the invariant of phases holds of its inflows and labels up to the reached time, its
+/// outflows and queues are described by departure, and its curves and rates have their form.
+pub fn description_makes_equilibrium()
+    ensures { DescriptionMakesEquilibrium }
 {}
