@@ -98,7 +98,7 @@ module _ (passes : Passing) where
   unless_as true column pivot_row row = same (Ok row)
   unless_as false column pivot_row row = cleared_as column pivot_row row
 
-  rows_as : (column pivot : ℕ) (pivot_row : Row) (i : ℕ) (rows : List Row) → GivesAs (clear_rows passes column pivot pivot_row i rows) (clear_rows never column pivot pivot_row i rows)
+  pub rows_as : (column pivot : ℕ) (pivot_row : Row) (i : ℕ) (rows : List Row) → GivesAs (clear_rows passes column pivot pivot_row i rows) (clear_rows never column pivot pivot_row i rows)
   rows_as column pivot pivot_row i [] = same (Ok [])
   rows_as column pivot pivot_row i (row ∷ rows) =
       bind _ _ _ _ (unless_as (i == pivot || is_zero (number_at row column)) column pivot_row row) (λ r. bind _ _ _ _ (rows_as column pivot pivot_row (suc i) rows) (λ rs. same (Ok (r ∷ rs))))
