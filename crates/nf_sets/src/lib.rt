@@ -1,0 +1,96 @@
+//! Slacks of links at labels of the nodes, and which links are active and resetting there (Koch and Skutella 2011).
+#![tactic(auto)]
+
+#[cfg(test)]
+mod tests;
+
+ghost use Rattle.std.specs.Prelude.{◌≡◌, ◌<◌, length, map, IfOk};
+ghost use Rattle.nf_rational.specs.Operations.{0ℚ};
+ghost use Rattle.nf_rational.specs.Order.{le_ℚ, lt_ℚ};
+ghost use Rattle.nf_work.specs.declared.Part.TheVariants.{Slack};
+ghost use Rattle.nf_work.specs.Passing.{bound_of, beyond};
+ghost use Rattle.nf_work.specs.Checked.{at_part, Gives};
+ghost use Rattle.nf_model.specs.Entries.{number_at};
+ghost use Rattle.nf_model.specs.ThinFlow.{sets_of};
+ghost use Rattle.nf_lists.specs.Slack.{slack_of, slack_list};
+ghost use Rattle.nf_graph.specs.Graph.{AreBelow};
+
+use nf_frac::{Halt, Part, PassedAt, Q, at};
+use nf_graph::{Hop, LinkSets, NodeId};
+use std::alloc::{AllocError, Global};
+
+// The label of a node.
+fn label_of(labels: &[Q], node: NodeId) -> Q
+    requires { node < length labels.now }
+    ensures { result ≡ number_at labels.now node }
+{
+    labels[node.index()]
+}
+
+// How much later the label of the link's head is than that of its tail with the transit time.
+#[tactic(auto, unfolding(nf_lists::specs::Slack::slack_of))]
+fn slack(labels: &[Q], hop: &Hop) -> Result<Q, PassedAt<Q>>
+    requires tail { hop.now.tail < length labels.now }
+    requires head { hop.now.head < length labels.now }
+    ensures { result ≡ at_part Slack (slack_of (beyond (bound_of 127)) labels.now hop.now) }
+{
+    let arrival = at!(Part::Slack, label_of(labels, hop.tail).sum(hop.transit));
+    let slack = at!(Part::Slack, label_of(labels, hop.head).difference(arrival));
+    Ok(slack)
+}
+
+/// The slack of each link: how much later the label of its head is than that of its tail with the transit time. Link by link,
+/// first that sum is formed and then the difference; Passed comes exactly at the first of these operations that passes, and has
+/// part Slack.
+pub fn slacks(alloc: Global, hops: &[Hop], labels: &[Q]) -> Result<Vec<Q>, Halt<Q>>
+    requires { AreBelow (length labels.now) hops.now }
+    ensures { Gives (λ slacks. slacks.items) (λ q. q) result
+        (at_part Slack (slack_list (beyond (bound_of 127)) hops.now labels.now)) }
+{
+    let mut slacks = Vec::new(alloc);
+    for hop in hops {
+        let next = slack(labels, hop)?;
+        slacks.push(next)?;
+    }
+    Ok(slacks)
+}
+
+// The slack is at least 0.
+fn is_active(slack: Q) -> bool
+    ensures { result ≡ le_ℚ 0ℚ slack }
+{
+    slack >= Q::zero()
+}
+
+// The slack is above 0.
+fn is_resetting(slack: Q) -> bool
+    ensures { result ≡ lt_ℚ 0ℚ slack }
+{
+    slack > Q::zero()
+}
+
+// Of each slack, whether the link is active.
+fn active_flags(alloc: Global, slacks: &[Q]) -> Result<Vec<bool>, AllocError>
+    ensures { IfOk result (λ flags. flags.items ≡ map (le_ℚ 0ℚ) slacks.now) }
+{
+    slacks.iter().map(|slack| is_active(*slack)).collect(alloc)
+}
+
+// Of each slack, whether the link is resetting.
+fn resetting_flags(alloc: Global, slacks: &[Q]) -> Result<Vec<bool>, AllocError>
+    ensures { IfOk result (λ flags. flags.items ≡ map (lt_ℚ 0ℚ) slacks.now) }
+{
+    slacks
+        .iter()
+        .map(|slack| is_resetting(*slack))
+        .collect(alloc)
+}
+
+/// The links that are active, those with a slack of at least 0, and those that are resetting, with a slack above 0.
+pub fn sets(alloc: Global, slacks: &[Q]) -> Result<LinkSets, AllocError>
+    ensures { IfOk result (λ sets. sets ≡ sets_of slacks.now) }
+{
+    let active = active_flags(alloc, slacks)?;
+    let resetting = resetting_flags(alloc, slacks)?;
+    LinkSets::new(alloc, &active, &resetting)
+}
