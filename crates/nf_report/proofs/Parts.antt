@@ -3,11 +3,22 @@ use Rattle.std.proofs.Common.{◌≡◌, ℕ, zero, suc, ◌+◌, ◌<◌, List,
 use Rattle.std.specs.Prelude.{Option, Some, slice_get, flat_map, map}
 use Rattle.std.specs.List.{join_with_byte}
 use Rattle.std.proofs.Math.Seq.{take-length}
+use Rattle.std.specs.Prelude.{unwrap_or, codes}
+use Rattle.std.specs.List.{range_with_len}
+use Rattle.std.proofs.Common.{zero-add}
+use Rattle.std.proofs.lemmas.Option.{slice_get-get_or}
+use Rattle.std.proofs.lemmas.List.FromFn.{get_or-range_with_len, length-range_with_len}
 use Rattle.nf_rational.specs.Rational.{ℚ}
+use Rattle.nf_model.specs.Equilibrium.{points_at}
+use Rattle.nf_model.specs.Equilibrium as model
+use Rattle.nf_formats.specs.Report.{for_each, trace_at}
+use Rattle.nf_curve.specs.Points.{Grown}
+use Rattle.nf_curve.specs.Flows.{trace_of}
+use Rattle.nf_curve.specs.declared.flow.Trace.{Trace}
 use Rattle.nf_lines.specs.Words.{line_of_words}
-use Rattle.nf_formats.specs.Names.{Name}
+use Rattle.nf_formats.specs.Names.{Name, name_at}
 use Rattle.nf_formats.specs.Report.{point_lines, trace_lines}
-use Rattle.nf_report.specs.Written.{Line, after_words, point_line, trace_line}
+use Rattle.nf_report.specs.Written.{Line, after_words, point_line, trace_line, never_lines}
 
 -- ---- what a function makes of the elements, one after the other
 next_suc : {X A : Type 0} (f : X → List A) (xs : List X) (i : ℕ) (x : X) → slice_get xs i ≡ Some x → flat_map f (take i xs) ++ f x ≡ flat_map f (take (suc i) xs)
@@ -103,3 +114,59 @@ module _ (key : List ℕ) (name : Name) where
 
   pub trace_lines_all : (points : List (ℚ × ℚ)) (rates : List ℚ) (i : ℕ) → i ≡ length points → trace_lines key name (take i points) rates ≡ trace_lines key name points rates
   trace_lines_all points rates i e = ap (λ n. trace_lines key name (take n points) rates) e ∙ ap (λ l. trace_lines key name l rates) (take-length points)
+
+-- ---- for each number below a count
+number_there : (a n i : ℕ) → i < n → slice_get (range_with_len a n) i ≡ Some (a + i)
+number_there a n i h = slice_get-get_or (range_with_len a n) i 0 (omega (arith, h, length-range_with_len a n)) ∙ ap Some (get_or-range_with_len a n i 0 h)
+
+below_there : (n i : ℕ) → i < n → slice_get (range_with_len 0 n) i ≡ Some i
+below_there n i h = number_there 0 n i h ∙ ap Some (zero-add i)
+
+pub each_next : (n : ℕ) (lines_of : ℕ → List Line) (i : ℕ) → i < n
+    → flat_map lines_of (take i (range_with_len 0 n)) ++ lines_of i ≡ flat_map lines_of (take (i + 1) (range_with_len 0 n))
+each_next n lines_of i h = next_part lines_of (range_with_len 0 n) i i (below_there n i h)
+
+pub each_left : (n : ℕ) (lines_of : ℕ → List Line) (i : ℕ) → i < n
+    → (flat_map lines_of (take i (range_with_len 0 n)) ++ lines_of i) ++ flat_map lines_of (drop (suc i) (range_with_len 0 n)) ≡ for_each n lines_of
+each_left n lines_of i h = parts_left lines_of (range_with_len 0 n) i i (below_there n i h)
+
+pub each_all : (n : ℕ) (lines_of : ℕ → List Line) (i : ℕ) → i ≡ n → flat_map lines_of (take i (range_with_len 0 n)) ≡ for_each n lines_of
+each_all n lines_of i e = all_parts lines_of (range_with_len 0 n) i (e ∙ sym (length-range_with_len 0 n))
+
+-- ---- the curves of a flow
+pub points_there : (curves : List Grown) (i : ℕ) (curve : Grown) → curve ≡ get_or curves i curve → i < length curves
+    → curve.points ≡ points_at (map (λ c. c.points) curves) i
+points_there curves i curve is h =
+    ap (λ (c : Grown). c.points) is ∙ sym (ap (λ o. unwrap_or o []) (mapped_there (λ (c : Grown). c.points) curves i curve h))
+
+pub trace_there : (traces : List Trace) (i : ℕ) (trace : Trace) → trace ≡ get_or traces i trace → i < length traces
+    → trace_of trace ≡ trace_at (map trace_of traces) i
+trace_there traces i trace is h =
+    ap trace_of is ∙ sym (ap (λ o. unwrap_or o (record { points = []; rates = [] })) (mapped_there trace_of traces i trace h))
+
+-- ---- the idle nodes
+never_suc : (names : List Name) (i : ℕ) → i < length names → never_lines (take i names) ++ (codes "never" ∷ name_at names i ∷ []) ∷ [] ≡ never_lines (take (suc i) names)
+never_suc [] i h = absurd (omega arith)
+never_suc (x ∷ names) zero h = refl
+never_suc (x ∷ names) (suc i) h = ap (λ l. (codes "never" ∷ x ∷ []) ∷ l) (never_suc names i (omega arith))
+
+pub never_next : (names : List Name) (i : ℕ) → i < length names
+    → never_lines (take i names) ++ (codes "never" ∷ name_at names i ∷ []) ∷ [] ≡ never_lines (take (i + 1) names)
+never_next names i h = rw add-one (never_suc names i h)
+
+never_parted : (names : List Name) (i : ℕ) → never_lines (take i names) ++ never_lines (drop i names) ≡ never_lines names
+never_parted names zero = refl
+never_parted [] (suc i) = refl
+never_parted (x ∷ names) (suc i) = ap (λ l. (codes "never" ∷ x ∷ []) ∷ l) (never_parted names i)
+
+pub never_left : (names : List Name) (i : ℕ) → i < length names
+    → (never_lines (take i names) ++ (codes "never" ∷ name_at names i ∷ []) ∷ []) ++ never_lines (drop (suc i) names) ≡ never_lines names
+never_left names i h = ap (λ l. l ++ never_lines (drop (suc i) names)) (never_suc names i h) ∙ never_parted names (suc i)
+
+pub never_all : (names : List Name) (i : ℕ) → i ≡ length names → never_lines (take i names) ≡ never_lines names
+never_all names i e = ap (λ n. never_lines (take n names)) e ∙ ap (λ l. never_lines l) (take-length names)
+
+-- ---- the same parts make the same lines
+pub same_link : (lines_of : List ℕ → model.Trace → model.Trace → List (ℚ × ℚ) → List Line) (m n : List ℕ) (a b c d : model.Trace) (p q : List (ℚ × ℚ))
+    → m ≡ n → a ≡ b → c ≡ d → p ≡ q → lines_of m a c p ≡ lines_of n b d q
+same_link lines_of m n a b c d p q e f g h = cc

@@ -1,10 +1,13 @@
 -- What a sink took of the lines of a report.
-use Rattle.std.specs.Prelude.{ℕ, List, [], ◌∷◌, flat_map, Option, Some, None, Result, codes}
+use Rattle.std.specs.Prelude.{ℕ, List, [], ◌∷◌, flat_map, map, Option, Some, None, Result, codes}
 use Rattle.nf_rational.specs.Rational.{ℚ}
+use Rattle.nf_numerals.specs.Digits.{digits_of}
 use Rattle.nf_numerals.specs.Printed.{printed}
 use Rattle.nf_edge.specs.Taken.{Wrote}
 use Rattle.nf_lines.specs.Words.{line_of_words}
 use Rattle.nf_formats.specs.Names.{Name}
+use Rattle.nf_formats.specs.declared.Cause.{Cause}
+use Rattle.nf_formats.specs.Causes.{cause_words}
 
 -- the words of a line
 abbrev pub Line : Type 0
@@ -30,3 +33,14 @@ rate_word (Some rate) = printed rate
 
 abbrev pub trace_line : List ℕ → Name → ℚ × ℚ → Option ℚ → Line
 trace_line key name p rate = key ∷ name ∷ printed p.0 ∷ printed p.1 ∷ rate_word rate ∷ []
+
+-- ---- the head of a report, and its idle nodes
+abbrev pub head_lines : ℕ → ℚ → ℚ → Option (Cause ℚ) → List Line
+head_lines version horizon reached stop = (codes "report" ∷ digits_of version ∷ [])
+    ∷ (codes "horizon" ∷ printed horizon ∷ [])
+    ∷ (codes "reached" ∷ printed reached ∷ [])
+    ∷ (codes "cause" ∷ cause_words stop)
+    ∷ []
+
+abbrev pub never_lines : List Name → List Line
+never_lines names = map (λ name. codes "never" ∷ name ∷ []) names

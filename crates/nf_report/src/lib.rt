@@ -4,5 +4,8 @@
 mod causes;
 mod curves;
 mod line;
+mod report;
 #[cfg(test)]
 mod tests;
+
+pub use report::write_report;

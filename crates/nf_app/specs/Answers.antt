@@ -1,0 +1,67 @@
+-- What a run of the program answers: its status, and what it writes to its two sinks.
+use Rattle.std.specs.Prelude.{ℕ, List, [], Option, Some, None}
+use Rattle.nf_rational.specs.Rational.{ℚ}
+use Rattle.nf_formats.specs.declared.Cause.{Cause}
+use Rattle.nf_formats.specs.Named.{Named}
+use Rattle.nf_formats.specs.NetLines.{Broken}
+use Rattle.nf_formats.specs.NetText.{canonical}
+use Rattle.nf_formats.specs.Report.{Report, report_text}
+use Rattle.nf_formats.specs.ErrorLines.{memory_line, usage_text, shelf_failed_line, shelf_too_long_line, network_line, stopped_line, unbuilt_line}
+use Rattle.nf_app.specs.declared.status.Status.{Status}
+use Rattle.nf_app.specs.declared.status.Status.TheVariants as Status
+
+-- `Shown`: the network of the file. `Solved`: a report of the network of the file.
+pub data Answer : Type 0 where
+  Shown : Named → Answer
+  Solved : Named → Report → Answer
+  NoMemory : Answer
+  NoRequest : Answer
+  ShelfFailed : Answer
+  ShelfTooLong : Answer
+  Malformed : Broken → Answer
+  Unbuilt : Answer
+
+-- ---- the status
+abbrev pub number_of : Status → ℕ
+number_of Status.Ok = 0
+number_of Status.Memory = 1
+number_of Status.Usage = 2
+number_of Status.Shelf = 3
+number_of Status.Malformed = 4
+number_of Status.Passed = 7
+number_of Status.Output = 9
+number_of Status.Unbuilt = 13
+
+abbrev pub status_of_stop : Option (Cause ℚ) → Status
+status_of_stop None = Status.Ok
+status_of_stop (Some cause) = Status.Passed
+
+abbrev pub status_of : Answer → Status
+status_of (Shown n) = Status.Ok
+status_of (Solved n report) = status_of_stop report.stop
+status_of NoMemory = Status.Memory
+status_of NoRequest = Status.Usage
+status_of ShelfFailed = Status.Shelf
+status_of ShelfTooLong = Status.Shelf
+status_of (Malformed broken) = Status.Malformed
+status_of Unbuilt = Status.Unbuilt
+
+-- ---- what is written
+abbrev pub out_text : Answer → List ℕ
+out_text (Shown n) = canonical n
+out_text (Solved n report) = report_text n report
+out_text answer = []
+
+abbrev pub text_of_stop : Option (Cause ℚ) → List ℕ
+text_of_stop None = []
+text_of_stop (Some cause) = stopped_line cause
+
+abbrev pub err_text : Answer → List ℕ
+err_text (Shown n) = []
+err_text (Solved n report) = text_of_stop report.stop
+err_text NoMemory = memory_line
+err_text NoRequest = usage_text
+err_text ShelfFailed = shelf_failed_line
+err_text ShelfTooLong = shelf_too_long_line
+err_text (Malformed broken) = network_line broken
+err_text Unbuilt = unbuilt_line

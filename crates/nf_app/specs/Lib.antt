@@ -1,0 +1,4 @@
+pub mod Requests
+pub mod FullPhase
+pub mod Answers
+pub mod Runs

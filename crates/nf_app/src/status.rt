@@ -1,0 +1,65 @@
+// How a run of the program ends.
+ghost use Rattle.std.specs.Prelude.{◌≡◌};
+
+/// How a run of the program ends.
+#[derive(Clone, Copy, Debug, PartialEq, Eq)]
+pub enum Status {
+    /// The whole text was taken; of `solve` moreover the horizon was reached.
+    Ok,
+    /// Memory is wanting.
+    Memory,
+    /// The words are no request.
+    Usage,
+    /// The file isn't given, or is too long.
+    Shelf,
+    /// The file breaks a rule.
+    Malformed,
+    /// A named operation passes 128 bits.
+    Passed,
+    /// The output takes no more bytes.
+    Output,
+    /// The network or the horizon asks for what isn't built yet.
+    Unbuilt,
+}
+
+impl Status {
+    ghost use Rattle.nf_app.specs.Answers.{number_of};
+
+    /// The number with which the program ends.
+    pub fn number(self) -> u8
+        ensures { result ≡ number_of self }
+    {
+        match self {
+            Status::Ok => 0,
+            Status::Memory => 1,
+            Status::Usage => 2,
+            Status::Shelf => 3,
+            Status::Malformed => 4,
+            Status::Passed => 7,
+            Status::Output => 9,
+            Status::Unbuilt => 13,
+        }
+    }
+}
+
+#[cfg(test)]
+mod tests {
+    use super::*;
+
+    #[test]
+    fn each_status_has_its_number(rt: HostRuntime) {
+        let numbers = [
+            (Status::Ok, 0),
+            (Status::Memory, 1),
+            (Status::Usage, 2),
+            (Status::Shelf, 3),
+            (Status::Malformed, 4),
+            (Status::Passed, 7),
+            (Status::Output, 9),
+            (Status::Unbuilt, 13),
+        ];
+        for (status, number) in numbers {
+            assert_eq!(rt; status.number(), number);
+        }
+    }
+}
