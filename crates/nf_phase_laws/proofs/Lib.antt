@@ -10,3 +10,4 @@ pub mod Phases
 pub mod Still
 pub mod Description
 pub mod Length
+pub mod CurveSteps

@@ -4,3 +4,4 @@ pub mod Run
 pub mod StillLaws
 pub mod Description
 pub mod LengthLaws
+pub mod CurveSteps
