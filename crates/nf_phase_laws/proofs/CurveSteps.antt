@@ -15,11 +15,18 @@ use Rattle.nf_model_laws.proofs.Merged.{value-push_or_merge, EndsAt-merged}
 use Rattle.nf_phase_laws.specs.Invariant.{GoesOn}
 use Rattle.nf_phase_laws.specs.CurveSteps.{LastPoint, GoesOnTo, at, CurvesStand, CurvesGoOn}
 
-ends_at : (points : List Point) (p : Point) → LastPoint points p → EndsAt points p
+pub ends_at : (points : List Point) (p : Point) → LastPoint points p → EndsAt points p
 ends_at points p l = record { front = l.front; same = l.same; curve = l.curve }
 
 last_point : (points : List Point) (p : Point) → EndsAt points p → LastPoint points p
 last_point points p e = record { front = e.front; same = e.same; curve = e.curve }
+
+-- the last point of a curve is its value then
+pub LastPoint-at : (points : List Point) (q : Point) (z : ℚ) → LastPoint points q → q.0 ≡ z → LastPoint points (z, value points z)
+LastPoint-at points q z l d = subst (λ (r : Point). LastPoint points r) (same_point q.0 q.1 z (value points z) d (sym (EndsAt-value points q z (ends_at points q l) (≤ℚ_of_same _ _ d)))) l
+  where
+    same_point : (a y b z : ℚ) → a ≡ b → y ≡ z → ◌≡◌ {A = ℚ × ℚ} (a, y) (b, z)
+    same_point a y b z e f = cc
 
 -- ---- an appended point
 pub GoesOnTo-appended : (points : List Point) (last new : Point) → LastPoint points last → last.0 <ℚ new.0 → GoesOnTo points (points ++ new ∷ []) last new
@@ -57,7 +64,7 @@ GoesOnTo-replaced front o p q l h e = record {
     same t i = value-push_or_merge front o p q t appended.ends.curve e i
 
 -- ---- what a curve that goes on gives: from (a, y) on for the length d, by l in time and by x in value
-GoesOnTo-slope : (points points' : List Point) (a y l x d : ℚ) → 0ℚ <ℚ d → GoesOnTo points points' (a, y) (a +ℚ l *ℚ d, y +ℚ x *ℚ d) → slope (a, y) (a +ℚ l *ℚ d, y +ℚ x *ℚ d) *ℚ l ≡ x
+pub GoesOnTo-slope : (points points' : List Point) (a y l x d : ℚ) → 0ℚ <ℚ d → GoesOnTo points points' (a, y) (a +ℚ l *ℚ d, y +ℚ x *ℚ d) → slope (a, y) (a +ℚ l *ℚ d, y +ℚ x *ℚ d) *ℚ l ≡ x
 GoesOnTo-slope points points' a y l x d h g = same_from_times d _ x h (by_length (slope (a, y) (a +ℚ l *ℚ d, y +ℚ x *ℚ d)) (slope-times (a, y) (a +ℚ l *ℚ d, y +ℚ x *ℚ d) g.later))
   where
     by_length : (n : ℚ) → n *ℚ ((a +ℚ l *ℚ d) -ℚ a) ≡ (y +ℚ x *ℚ d) -ℚ y → d *ℚ (n *ℚ l) ≡ d *ℚ x
@@ -138,12 +145,6 @@ module _ (net : Network) (inflows labels : ℕ → List Point) (until length : �
   GoesOn-curves = record { label_before = label_before; label_after = label_after; amount_before = amount_before; amount_after = amount_after; amount_ends = amount_ends }
 
   -- ---- where the new curves end
-  LastPoint-at : (points : List Point) (q : Point) (z : ℚ) → LastPoint points q → q.0 ≡ z → LastPoint points (z, value points z)
-  LastPoint-at points q z l d = subst (λ (r : Point). LastPoint points r) (same_point q.0 q.1 z (value points z) d (sym (EndsAt-value points q z (ends_at points q l) (≤ℚ_of_same _ _ d)))) l
-    where
-      same_point : (a y b z : ℚ) → a ≡ b → y ≡ z → ◌≡◌ {A = ℚ × ℚ} (a, y) (b, z)
-      same_point a y b z e f = cc
-
   stays_there : (a l : ℚ) → l ≡ 0ℚ → a ≡ a +ℚ l *ℚ length
   stays_there a l e = linear_eq (a ∷ l ∷ length ∷ []) (eq_times length e ∷ []) (search reading_of depth 12) tt tt
 

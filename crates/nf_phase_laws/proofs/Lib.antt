@@ -11,3 +11,4 @@ pub mod Still
 pub mod Description
 pub mod Length
 pub mod CurveSteps
+pub mod DescriptionCurves

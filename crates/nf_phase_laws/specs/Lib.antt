@@ -5,3 +5,4 @@ pub mod StillLaws
 pub mod Description
 pub mod LengthLaws
 pub mod CurveSteps
+pub mod DescriptionCurves

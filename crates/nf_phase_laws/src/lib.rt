@@ -6,6 +6,7 @@ ghost use Rattle.nf_phase_laws.specs.PhaseLaws.{NashFromInvariant, StartHasInvar
 ghost use Rattle.nf_phase_laws.specs.Description.{DescriptionIsRight, PhasesKeepDescription, DescriptionMakesEquilibrium};
 ghost use Rattle.nf_phase_laws.specs.LengthLaws.{PhasesTakeTime};
 ghost use Rattle.nf_phase_laws.specs.CurveSteps.{PointsGoOn, CurvesMakeFlow};
+ghost use Rattle.nf_phase_laws.specs.DescriptionCurves.{CurvesMakeDescription};
 ghost use Rattle.nf_phase_laws.specs.StillLaws.{StillNodesCarryNoFlow};
 
 /// A flow of which the invariant of phases holds up to a time is a Nash flow over time for all that leaves the source up to then.
@@ -75,4 +76,10 @@ pub fn points_go_on()
 /// so; and the new curves stand at the end of the phase.
 pub fn curves_make_flow()
     ensures { CurvesMakeFlow }
+{}
+
+/// Outflow and queue curves that go on by one point each over a phase are a description that goes on so; and the new curves stand at
+/// the end of the phase.
+pub fn curves_make_description()
+    ensures { CurvesMakeDescription }
 {}
