@@ -71,7 +71,7 @@ GoesOnTo-slope points points' a y l x d h g = same_from_times d _ x h (by_length
     by_length n e = linear_eq (n ∷ a ∷ l ∷ d ∷ y ∷ x ∷ []) (eq e ∷ []) (search reading_of depth 12) tt tt
 
 module _ (net : Network) (inflows labels : ℕ → List Point) (until length : ℚ) (flow slope : ℕ → ℚ) (inflows' labels' : ℕ → List Point) (good : IsNetwork net)
-    (rises : (v : ℕ) → 0ℚ ≤ℚ slope v) (stand : CurvesStand net inflows labels until) (go : CurvesGoOn net inflows labels until length flow slope inflows' labels') where
+    (some : 0ℚ <ℚ length) (rises : (v : ℕ) → 0ℚ ≤ℚ slope v) (no_flow : (e : ℕ) (link : Link) → IsLink net e link → slope link.tail ≡ 0ℚ → flow e ≡ 0ℚ) (stand : CurvesStand net inflows labels until) (go : CurvesGoOn net inflows labels until length flow slope inflows' labels') where
   -- ---- labels
   label_before : (v : ℕ) (time : ℚ) → v < net.nodes → Within 0ℚ until time → at labels' v time ≡ at labels v time
   label_before v time h w = (go.labels_go v h).before time w
@@ -91,7 +91,7 @@ module _ (net : Network) (inflows labels : ℕ → List Point) (until length : �
       on_line _ (at labels' v until) (at labels v until) _ (slope v) until t
       (g.line.line (until +ℚ t) (linear_le (until ∷ t ∷ []) (le w.0 ∷ []) (search reading_of depth 12) tt) (linear_le (until ∷ t ∷ length ∷ []) (le w.1 ∷ []) (search reading_of depth 12) tt))
       (label_before v until h (until_nn v h, ≤_refl until))
-      (label_slope until (at labels v until) (slope v) length _ go.some (slope-times (until, at labels v until) (until +ℚ length, at labels v until +ℚ slope v *ℚ length) g.later))
+      (label_slope until (at labels v until) (slope v) length _ some (slope-times (until, at labels v until) (until +ℚ length, at labels v until +ℚ slope v *ℚ length) g.later))
 
   -- ---- inflows: where the tail's label moves and where it stands still
   by_tail : (e : ℕ) (link : Link) (P : List Point → Type 0) → IsLink net e link
@@ -128,8 +128,8 @@ module _ (net : Network) (inflows labels : ℕ → List Point) (until length : �
   amount_after : (e : ℕ) (link : Link) → IsLink net e link → (rate : ℚ) × (rate *ℚ slope link.tail ≡ flow e) × IsAffine (at inflows' e) (start link) (end link) rate
   amount_after e link p = by_tail e link (λ points. (rate : ℚ) × (rate *ℚ slope link.tail ≡ flow e) × IsAffine (value points) (start link) (end link) rate) p
       (λ h. let g : GoesOnTo (inflows e) (inflows' e) (start link, at inflows e (start link)) (end link, at inflows e (start link) +ℚ flow e *ℚ length) = go.inflows_go e link p h in
-      (_, GoesOnTo-slope (inflows e) (inflows' e) (start link) (at inflows e (start link)) (slope link.tail) (flow e) length go.some g, g.line))
-      (λ z. (0ℚ, no_rate _ _ (go.no_flow e link p z), point_line (value (inflows e)) (start link) (slope link.tail) z))
+      (_, GoesOnTo-slope (inflows e) (inflows' e) (start link) (at inflows e (start link)) (slope link.tail) (flow e) length some g, g.line))
+      (λ z. (0ℚ, no_rate _ _ (no_flow e link p z), point_line (value (inflows e)) (start link) (slope link.tail) z))
 
   past : (l : ℚ) (a : ℚ) → l ≡ 0ℚ → a ≤ℚ a +ℚ l *ℚ length
   past l a e = linear_le (l ∷ a ∷ length ∷ []) (eq_times length e ∷ []) (search reading_of depth 12) tt
@@ -151,7 +151,7 @@ module _ (net : Network) (inflows labels : ℕ → List Point) (until length : �
   pub CurvesStand-after : CurvesStand net inflows' labels' (until +ℚ length)
   CurvesStand-after = record {
     labels_end = λ v h. LastPoint-at (labels' v) _ (until +ℚ length) (go.labels_go v h).ends refl;
-    inflows_end = λ e link p. subst (λ (z : ℚ). LastPoint (inflows' e) (z, at inflows' e z)) (sym (label_after link.tail length (good.tails e link p) (≤ℚ_of_lt _ _ go.some, ≤_refl length)))
+    inflows_end = λ e link p. subst (λ (z : ℚ). LastPoint (inflows' e) (z, at inflows' e z)) (sym (label_after link.tail length (good.tails e link p) (≤ℚ_of_lt _ _ some, ≤_refl length)))
         (by_tail e link (λ points. LastPoint points (end link, value points (end link))) p
         (λ h. LastPoint-at (inflows' e) _ (end link) (go.inflows_go e link p h).ends refl)
         (λ z. LastPoint-at (inflows e) _ (end link) (stand.inflows_end e link p) (stays_there (start link) (slope link.tail) z)));

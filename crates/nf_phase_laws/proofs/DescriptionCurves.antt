@@ -66,20 +66,20 @@ module _ (points points' : List Point) (a z l d : ℚ) (not_back : 0ℚ ≤ℚ l
       (λ e. ap (value points) (sym (stays_there e)) ∙ none e)
 
 module _ (net : Network) (amount label amount' label' : ℕ → ℚ → ℚ) (until length : ℚ) (flow slope : ℕ → ℚ) (outflows queues outflows' queues' : ℕ → List Point) (good : IsNetwork net)
-    (rises : (v : ℕ) → 0ℚ ≤ℚ slope v) (holds : HoldsUpTo net amount label until) (holds' : HoldsUpTo net amount' label' (until +ℚ length)) (goes : GoesOn net amount label until length flow slope amount' label')
+    (some : 0ℚ <ℚ length) (rises : (v : ℕ) → 0ℚ ≤ℚ slope v) (no_flow : (e : ℕ) (link : Link) → IsLink net e link → slope link.head ≡ 0ℚ → flow e ≡ 0ℚ) (holds : HoldsUpTo net amount label until) (holds' : HoldsUpTo net amount' label' (until +ℚ length)) (goes : GoesOn net amount label until length flow slope amount' label')
     (describes : DescribesLinks net amount label (at outflows) (at queues) until) (stand : DescriptionStands net label outflows queues until)
     (go : DescriptionCurvesGoOn net label label' outflows queues until length flow slope outflows' queues') where
   now : Within 0ℚ until until
   now = (holds.begun, ≤_refl until)
 
   now' : Within 0ℚ (until +ℚ length) until
-  now' = (holds.begun, linear_le (until ∷ length ∷ []) (lt go.some ∷ []) (search reading_of depth 12) tt)
+  now' = (holds.begun, linear_le (until ∷ length ∷ []) (lt some ∷ []) (search reading_of depth 12) tt)
 
   last : Within 0ℚ (until +ℚ length) (until +ℚ length)
-  last = (linear_le (until ∷ length ∷ []) (lt go.some ∷ le holds.begun ∷ []) (search reading_of depth 12) tt, ≤_refl _)
+  last = (linear_le (until ∷ length ∷ []) (lt some ∷ le holds.begun ∷ []) (search reading_of depth 12) tt, ≤_refl _)
 
   whole : Within 0ℚ length length
-  whole = (≤ℚ_of_lt _ _ go.some, ≤_refl length)
+  whole = (≤ℚ_of_lt _ _ some, ≤_refl length)
 
   -- where the tail's label stands still, so does the queue
   slack_now : (b a d c r : ℚ) → b ≡ d → a ≡ c → b -ℚ (a +ℚ r) ≡ d -ℚ (c +ℚ r)
@@ -101,7 +101,7 @@ module _ (net : Network) (amount label amount' label' : ℕ → ℚ → ℚ) (un
   pub DescriptionGoesOn-curves : DescriptionGoesOn net label until length flow slope label' (at outflows) (at queues) (at outflows') (at queues')
   DescriptionGoesOn-curves = record {
     outflow_before = λ e link t p w. same_before (outflows e) (outflows' e) (label link.head until) _ (slope link.head) length (rises link.head) (stand.outflows_end e link p) (go.outflows_go e link p) (go.outflows_stay e link p) t w;
-    outflow_after = λ e link p. flow_line (outflows e) (outflows' e) (label link.head until) _ (slope link.head) length (rises link.head) (stand.outflows_end e link p) (go.outflows_go e link p) (go.outflows_stay e link p) (flow e) go.some refl (go.no_flow e link p);
+    outflow_after = λ e link p. flow_line (outflows e) (outflows' e) (label link.head until) _ (slope link.head) length (rises link.head) (stand.outflows_end e link p) (go.outflows_go e link p) (go.outflows_stay e link p) (flow e) some refl (no_flow e link p);
     queue_before = λ e link t p w. same_before (queues e) (queues' e) (label link.tail until) _ (slope link.tail) length (rises link.tail) (stand.queues_end e link p) (go.queues_go e link p) (go.queues_stay e link p) t w;
     queue_after = λ e link p. some_line (queues e) (queues' e) (label link.tail until) _ (slope link.tail) length (rises link.tail) (stand.queues_end e link p) (go.queues_go e link p) (go.queues_stay e link p);
     queue_end = λ e link p. end_value (queues e) (queues' e) (label link.tail until) _ (slope link.tail) length (rises link.tail) (stand.queues_end e link p) (go.queues_go e link p) (go.queues_stay e link p) (queue_still e link p);

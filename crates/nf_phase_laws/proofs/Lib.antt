@@ -12,3 +12,4 @@ pub mod Description
 pub mod Length
 pub mod CurveSteps
 pub mod DescriptionCurves
+pub mod CurveRun

@@ -39,21 +39,22 @@ pub record CurvesStand (net : Network) (inflows labels : ℕ → List Point) (un
   pub inflows_end : (e : ℕ) (link : Link) → IsLink net e link → LastPoint (inflows e) (at labels link.tail until, at inflows e (at labels link.tail until))
 
 -- Over a phase of this length each label goes on at its slope, and each inflow takes the flow by departure. Where the label of the tail
--- stands still, the inflow stays as it is, and there is no flow.
+-- stands still, the inflow stays as it is.
 pub record CurvesGoOn (net : Network) (inflows labels : ℕ → List Point) (until length : ℚ) (flow slope : ℕ → ℚ) (inflows' labels' : ℕ → List Point) : Type 0 where
-  pub some : 0ℚ <ℚ length
   pub labels_go : (v : ℕ) → v < net.nodes → GoesOnTo (labels v) (labels' v) (until, at labels v until) (until +ℚ length, at labels v until +ℚ slope v *ℚ length)
   pub inflows_go : (e : ℕ) (link : Link) → IsLink net e link → 0ℚ <ℚ slope link.tail
       → GoesOnTo (inflows e) (inflows' e) (at labels link.tail until, at inflows e (at labels link.tail until))
       (at labels link.tail until +ℚ slope link.tail *ℚ length, at inflows e (at labels link.tail until) +ℚ flow e *ℚ length)
   pub inflows_stay : (e : ℕ) (link : Link) → IsLink net e link → slope link.tail ≡ 0ℚ → inflows' e ≡ inflows e
-  pub no_flow : (e : ℕ) (link : Link) → IsLink net e link → slope link.tail ≡ 0ℚ → flow e ≡ 0ℚ
 
--- then the flow of the curves goes on so, and the new curves stand at the end of the phase
+-- then the flow of the curves goes on so, where none is sent into a link whose tail's label stands still, and the new curves stand at the
+-- end of the phase
 pub record CurvesMakeFlow : Type 0 where
   pub flow : (net : Network) (inflows labels : ℕ → List Point) (until length : ℚ) (flow slope : ℕ → ℚ) (inflows' labels' : ℕ → List Point) → IsNetwork net
-      → ((v : ℕ) → 0ℚ ≤ℚ slope v) → CurvesStand net inflows labels until → CurvesGoOn net inflows labels until length flow slope inflows' labels'
+      → 0ℚ <ℚ length → ((v : ℕ) → 0ℚ ≤ℚ slope v) → ((e : ℕ) (link : Link) → IsLink net e link → slope link.tail ≡ 0ℚ → flow e ≡ 0ℚ)
+      → CurvesStand net inflows labels until → CurvesGoOn net inflows labels until length flow slope inflows' labels'
       → GoesOn net (at inflows) (at labels) until length flow slope (at inflows') (at labels')
   pub stand : (net : Network) (inflows labels : ℕ → List Point) (until length : ℚ) (flow slope : ℕ → ℚ) (inflows' labels' : ℕ → List Point) → IsNetwork net
-      → ((v : ℕ) → 0ℚ ≤ℚ slope v) → CurvesStand net inflows labels until → CurvesGoOn net inflows labels until length flow slope inflows' labels'
+      → 0ℚ <ℚ length → ((v : ℕ) → 0ℚ ≤ℚ slope v) → ((e : ℕ) (link : Link) → IsLink net e link → slope link.tail ≡ 0ℚ → flow e ≡ 0ℚ)
+      → CurvesStand net inflows labels until → CurvesGoOn net inflows labels until length flow slope inflows' labels'
       → CurvesStand net inflows' labels' (until +ℚ length)

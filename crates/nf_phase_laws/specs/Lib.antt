@@ -6,3 +6,4 @@ pub mod Description
 pub mod LengthLaws
 pub mod CurveSteps
 pub mod DescriptionCurves
+pub mod CurveRun

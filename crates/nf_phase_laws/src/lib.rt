@@ -7,6 +7,7 @@ ghost use Rattle.nf_phase_laws.specs.Description.{DescriptionIsRight, PhasesKeep
 ghost use Rattle.nf_phase_laws.specs.LengthLaws.{PhasesTakeTime};
 ghost use Rattle.nf_phase_laws.specs.CurveSteps.{PointsGoOn, CurvesMakeFlow};
 ghost use Rattle.nf_phase_laws.specs.DescriptionCurves.{CurvesMakeDescription};
+ghost use Rattle.nf_phase_laws.specs.CurveRun.{PhasesMakeEquilibrium};
 ghost use Rattle.nf_phase_laws.specs.StillLaws.{StillNodesCarryNoFlow};
 
 /// A flow of which the invariant of phases holds up to a time is a Nash flow over time for all that leaves the source up to then.
@@ -82,4 +83,10 @@ pub fn curves_make_flow()
 /// the end of the phase.
 pub fn curves_make_description()
     ensures { CurvesMakeDescription }
+{}
+
+/// A flow whose curves grow phase by phase from the start, each by one point as the phase's thin flow and length say, and whose curves
+/// and rates have their form, is an equilibrium.
+pub fn phases_make_equilibrium()
+    ensures { PhasesMakeEquilibrium }
 {}
