@@ -10,3 +10,6 @@ pub mod Phases
 pub mod Still
 pub mod Description
 pub mod Length
+pub mod CurveSteps
+pub mod DescriptionCurves
+pub mod CurveRun

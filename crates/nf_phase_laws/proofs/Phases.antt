@@ -39,7 +39,7 @@ Lasts-phase net slacks slopes time horizon length b (inl (x, x_is, e)) = ⊎_eli
 Lasts-phase net slacks slopes time horizon length b (inr (u, e)) = u length (linear_le (time ∷ horizon ∷ length ∷ []) (eq e ∷ lt b ∷ []) (search reading_of depth 12) tt)
 
 -- ---- what is known of a flow that goes by phases
-record Stands (net : Network) (until : ℚ) (labels : List ℚ) (amount label : ℕ → ℚ → ℚ) : Type 0 where
+pub record Stands (net : Network) (until : ℚ) (labels : List ℚ) (amount label : ℕ → ℚ → ℚ) : Type 0 where
   pub holds : HoldsUpTo net amount label until
   pub same : LabelsAre net label until labels
   pub count : length labels ≡ net.nodes
@@ -47,7 +47,7 @@ record Stands (net : Network) (until : ℚ) (labels : List ℚ) (amount label : 
 moved_label : (a b c s t : ℚ) → a ≡ b +ℚ s *ℚ t → b ≡ c → a ≡ c +ℚ t *ℚ s
 moved_label a b c s t e f = linear_eq (a ∷ b ∷ c ∷ s ∷ t ∷ []) (eq e ∷ eq f ∷ []) (search reading_of depth 12) tt tt
 
-stands_after : (net : Network) (horizon time time' : ℚ) (labels labels' : List ℚ) (amount label amount' label' : ℕ → ℚ → ℚ) (phase : IsPhase net horizon (time, labels) (time', labels')) → IsNetwork net
+pub stands_after : (net : Network) (horizon time time' : ℚ) (labels labels' : List ℚ) (amount label amount' label' : ℕ → ℚ → ℚ) (phase : IsPhase net horizon (time, labels) (time', labels')) → IsNetwork net
     → Stands net time labels amount label → GoesOn net amount label time phase.length (number_at phase.flows) (number_at phase.slopes) amount' label' → Stands net time' labels' amount' label'
 stands_after net horizon time time' labels labels' amount label amount' label' phase good stands goes = record {
   holds = subst (λ (z : ℚ). HoldsUpTo net amount' label' z) (sym phase.time)

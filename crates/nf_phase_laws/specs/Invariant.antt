@@ -79,8 +79,8 @@ pub record IsStart (net : Network) (labels : List ℚ) (amount label : ℕ → �
   pub nothing : (e : ℕ) (time : ℚ) → e < length net.links → 0ℚ ≤ℚ time → amount e time ≡ 0ℚ
   pub labels_are : LabelsAre net label 0ℚ labels
 
--- A flow goes on from a departure for a while: up to then nothing changes. Each label moves on at its slope, while the tail's
--- label moves the link takes flow at one rate, so much that by departure it takes `flow`, and after that nothing more.
+-- A flow goes on from a departure for a while; what was up to then stays. Each label moves on at its slope. While the label of its tail
+-- moves, a link takes flow at one rate by time, which is `flow` by departure; and after that it takes nothing more.
 pub record GoesOn (net : Network) (amount label : ℕ → ℚ → ℚ) (until length : ℚ) (flow slope : ℕ → ℚ) (amount' label' : ℕ → ℚ → ℚ) : Type 0 where
   pub label_before : (v : ℕ) (departure : ℚ) → v < net.nodes → Within 0ℚ until departure → label' v departure ≡ label v departure
   pub label_after : (v : ℕ) (while : ℚ) → v < net.nodes → Within 0ℚ length while → label' v (until +ℚ while) ≡ label v until +ℚ slope v *ℚ while

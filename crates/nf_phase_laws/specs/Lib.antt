@@ -4,3 +4,6 @@ pub mod Run
 pub mod StillLaws
 pub mod Description
 pub mod LengthLaws
+pub mod CurveSteps
+pub mod DescriptionCurves
+pub mod CurveRun

@@ -5,6 +5,9 @@
 ghost use Rattle.nf_phase_laws.specs.PhaseLaws.{NashFromInvariant, StartHasInvariant, PhaseKeepsInvariant, PhasesKeepInvariant, PhasesMakeNashFlow};
 ghost use Rattle.nf_phase_laws.specs.Description.{DescriptionIsRight, PhasesKeepDescription, DescriptionMakesEquilibrium};
 ghost use Rattle.nf_phase_laws.specs.LengthLaws.{PhasesTakeTime};
+ghost use Rattle.nf_phase_laws.specs.CurveSteps.{PointsGoOn, CurvesMakeFlow};
+ghost use Rattle.nf_phase_laws.specs.DescriptionCurves.{CurvesMakeDescription};
+ghost use Rattle.nf_phase_laws.specs.CurveRun.{PhasesMakeEquilibrium};
 ghost use Rattle.nf_phase_laws.specs.StillLaws.{StillNodesCarryNoFlow};
 
 /// A flow of which the invariant of phases holds up to a time is a Nash flow over time for all that leaves the source up to then.
@@ -62,4 +65,28 @@ pub fn phases_take_time()
 /// outflows and queues are described by departure, and its curves and rates have their form.
 pub fn description_makes_equilibrium()
     ensures { DescriptionMakesEquilibrium }
+{}
+
+/// A curve goes on along a line to a point that is appended to it, and just so where the point takes the place of a last point that was
+/// reached with the same slope.
+pub fn points_go_on()
+    ensures { PointsGoOn }
+{}
+
+/// Curves that go on by one point each over a phase, the labels at their slopes and the inflows by the flow, are a flow that goes on
+/// so; and the new curves stand at the end of the phase.
+pub fn curves_make_flow()
+    ensures { CurvesMakeFlow }
+{}
+
+/// Outflow and queue curves that go on by one point each over a phase are a description that goes on so; and the new curves stand at
+/// the end of the phase.
+pub fn curves_make_description()
+    ensures { CurvesMakeDescription }
+{}
+
+/// A flow whose curves grow phase by phase from the start, each by one point as the phase's thin flow and length say, and whose curves
+/// and rates have their form, is an equilibrium.
+pub fn phases_make_equilibrium()
+    ensures { PhasesMakeEquilibrium }
 {}

@@ -1,0 +1,53 @@
+-- Curves that grow phase by phase from the start.
+use Rattle.std.specs.Prelude.{◌≡◌, ℕ, ◌<◌, if◌then◌else◌, List, [], ◌∷◌}
+use Rattle.nf_rational.specs.Rational.{ℚ}
+use Rattle.nf_rational.specs.Operations.{0ℚ}
+use Rattle.nf_rational.specs.Order.{lt_ℚ}
+use Rattle.nf_model.specs.Entries.{number_at}
+use Rattle.nf_model.specs.Curve.{Point}
+use Rattle.nf_model.specs.Network.{Link, Network, IsNetwork, IsLink}
+use Rattle.nf_model.specs.Phases.{AreStartLabels, IsPhase}
+use Rattle.nf_model.specs.Equilibrium.{Flow, points_at, points_of, HasShape, HasSlopes, Equilibrium}
+use Rattle.nf_phase_laws.specs.CurveSteps.{at, CurvesGoOn}
+use Rattle.nf_phase_laws.specs.DescriptionCurves.{DescriptionCurvesGoOn}
+
+-- the curves of the nodes and of the links, by their numbers
+pub record Curves : Type 0 where
+  pub labels : ℕ → List Point
+  pub inflows : ℕ → List Point
+  pub outflows : ℕ → List Point
+  pub queues : ℕ → List Point
+
+-- a curve at a node begins with 0 at time 0, and stays 0 until the label of departure 0 there
+abbrev pub first_points : ℚ → List Point
+first_points label = if lt_ℚ 0ℚ label then (0ℚ, 0ℚ) ∷ (label, 0ℚ) ∷ [] else (0ℚ, 0ℚ) ∷ []
+
+-- before the first phase, with these labels of departure 0
+pub record FirstCurves (net : Network) (labels : List ℚ) (curves : Curves) : Type 0 where
+  pub label_curves : (v : ℕ) → v < net.nodes → curves.labels v ≡ (0ℚ, number_at labels v) ∷ []
+  pub inflows : (e : ℕ) (link : Link) → IsLink net e link → curves.inflows e ≡ first_points (number_at labels link.tail)
+  pub outflows : (e : ℕ) (link : Link) → IsLink net e link → curves.outflows e ≡ first_points (number_at labels link.head)
+  pub queues : (e : ℕ) (link : Link) → IsLink net e link → curves.queues e ≡ first_points (number_at labels link.tail)
+
+-- The curves of a phase sequence up to a time, with the labels then: first those of the least transit sums; and in each phase each
+-- curve goes on by a point, as the phase's thin flow and length say.
+pub data GrowByPhases (net : Network) (horizon : ℚ) : ℚ → List ℚ → Curves → Type 0 where
+  begin : (labels : List ℚ) (curves : Curves) → AreStartLabels net labels → FirstCurves net labels curves → GrowByPhases net horizon 0ℚ labels curves
+  grow : (time time' : ℚ) (labels labels' : List ℚ) (curves curves' : Curves) (phase : IsPhase net horizon (time, labels) (time', labels')) → GrowByPhases net horizon time labels curves
+      → CurvesGoOn net curves.inflows curves.labels time phase.length (number_at phase.flows) (number_at phase.slopes) curves'.inflows curves'.labels
+      → DescriptionCurvesGoOn net (at curves.labels) (at curves'.labels) curves.outflows curves.queues time phase.length (number_at phase.flows) (number_at phase.slopes) curves'.outflows curves'.queues
+      → GrowByPhases net horizon time' labels' curves'
+
+-- the curves of a flow
+abbrev pub curves_of : Flow → Curves
+curves_of flow = record {
+  labels = points_at flow.labels;
+  inflows = points_at (points_of flow.inflows);
+  outflows = points_at (points_of flow.outflows);
+  queues = points_at flow.queues;
+}
+
+-- a flow whose curves grow phase by phase, and have their form and rates, is an equilibrium
+abbrev pub PhasesMakeEquilibrium : Type 0
+PhasesMakeEquilibrium = (net : Network) (horizon : ℚ) (labels : List ℚ) (flow : Flow) → IsNetwork net → GrowByPhases net horizon flow.reached labels (curves_of flow)
+    → HasShape net flow → HasSlopes flow.inflows → HasSlopes flow.outflows → Equilibrium net flow
