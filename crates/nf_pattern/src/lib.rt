@@ -4,6 +4,8 @@
 
 mod bases;
 mod pattern;
+#[cfg(test)]
+mod tests;
 
 pub use bases::base;
 pub use nf_model::State;

@@ -39,6 +39,13 @@ impl Pattern {
         Pattern { states }
     }
 
+    // The states, link by link.
+    pub(crate) fn states(&self) -> &[Option<State>]
+        ensures { result.now ≡ self.now }
+    {
+        self.states.as_slice()
+    }
+
     /// The state of a link.
     pub fn state(&self, link: LinkId) -> Option<State>
         requires { link < length self.now }
