@@ -1,2 +1,6 @@
 pub mod Each
 pub mod FirstPatterns
+pub mod Successors
+pub mod Later
+pub mod InOrder
+pub mod Filling

@@ -2,7 +2,9 @@
 //! form of the cases of Cominetti, Correa and Larré 2015); the pattern that a phase begins with, and the list of those to try.
 #![tactic(auto)]
 
+mod assignments;
 mod bases;
+mod choice;
 mod pattern;
 #[cfg(test)]
 mod tests;
