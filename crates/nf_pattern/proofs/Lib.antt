@@ -4,3 +4,4 @@ pub mod Successors
 pub mod Later
 pub mod InOrder
 pub mod Filling
+pub mod Raising

@@ -1,5 +1,5 @@
 // The choice of one link's state.
-ghost use Rattle.std.specs.Prelude.{◌≡◌, ◌^◌, ◌+◌, ◌<◌, ◌≤◌};
+ghost use Rattle.std.specs.Prelude.{◌≡◌, ◌^◌, ◌<◌, ◌≤◌, ◌&&◌, nat_lt};
 ghost use Rattle.nf_model.specs.Pattern.{rank as rank_of};
 ghost use Rattle.nf_pattern.specs.Successor.{change as change_of, fits as is_fit, choices, first_good};
 
@@ -58,6 +58,50 @@ pub(crate) fn first_choice(
         return Some(Some(State::Full));
     }
     if fits(base, changes, more, Some(State::Zero)) {
+        return Some(Some(State::Zero));
+    }
+    None
+}
+
+// With this state of the link, which comes after the one that it has, the changes can be made.
+fn fits_after(
+    base: Option<State>,
+    now: Option<State>,
+    changes: u32,
+    more: u32,
+    state: Option<State>,
+) -> bool
+    requires { more < 2 ^ 31 }
+    ensures { result ≡ (nat_lt (rank_of now) (rank_of state) && is_fit base changes more state) }
+{
+    rank(now) < rank(state) && fits(base, changes, more, state)
+}
+
+// The first choice of the link that fits and comes after the state that it has.
+pub(crate) fn next_choice(
+    base: Option<State>,
+    unbounded: bool,
+    now: Option<State>,
+    changes: u32,
+    more: u32,
+) -> Option<Option<State>>
+    requires { more < 2 ^ 31 }
+    ensures { result ≡ first_good (λ s. nat_lt (rank_of now) (rank_of s) && is_fit base changes more s) (choices base unbounded) }
+{
+    if base.is_none() {
+        return if fits_after(base, now, changes, more, None) {
+            Some(None)
+        } else {
+            None
+        };
+    }
+    if fits_after(base, now, changes, more, Some(State::Tight)) {
+        return Some(Some(State::Tight));
+    }
+    if !unbounded && fits_after(base, now, changes, more, Some(State::Full)) {
+        return Some(Some(State::Full));
+    }
+    if fits_after(base, now, changes, more, Some(State::Zero)) {
         return Some(Some(State::Zero));
     }
     None
