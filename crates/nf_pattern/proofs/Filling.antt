@@ -7,7 +7,7 @@ use Rattle.nf_graph.proofs.Walks.{apart_from_test}
 use Rattle.nf_model.specs.declared.State.{State}
 use Rattle.nf_model.specs.declared.State.TheVariants.{Tight, Full, Zero}
 use Rattle.nf_model.specs.Pattern.{Pattern}
-use Rattle.nf_pattern.specs.Successor.{IsIn, choices, IsAssignment, free, change, fits, first_good, before_all, with_rest, earliest}
+use Rattle.nf_pattern.specs.Successor.{choices, IsAssignment, free, change, fits, first_good, before_all, with_rest, earliest}
 use Rattle.nf_pattern.proofs.Successors.{good_some, good_none, good_choice, fits_out}
 
 free_first : (b : Option State) (base : Pattern) → free (b ∷ base) ≡ change None b + free base

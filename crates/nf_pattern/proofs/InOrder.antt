@@ -1,10 +1,10 @@
 -- The order of assignments: the base is the first, and the next one is the least of those that come after.
-use Rattle.std.proofs.Common.{◌≡◌, ◌⊎◌, ℕ, suc, ◌+◌, ◌<◌, ◌≤◌, Bool, true, false, List, [], ◌∷◌, inl, inr, ⊎_elim, eqb, refl, sym, ap, ◌∙◌, arith}
+use Rattle.std.proofs.Common.{◌≡◌, ℕ, suc, Bool, true, false, List, [], ◌∷◌, inl, inr, ⊎_elim, eqb, refl, sym, ◌∙◌, arith}
 use Rattle.std.specs.Prelude.{Option, Some, None, if◌then◌else◌}
 use Rattle.nf_graph.proofs.Walks.{same_from_test}
 use Rattle.nf_model.specs.declared.State.{State}
 use Rattle.nf_model.specs.Pattern.{Pattern, rank, changes, IsEarlier, IsBefore}
-use Rattle.nf_pattern.specs.Successor.{IsAssignment, free, change, earliest, later, next_assignment}
+use Rattle.nf_pattern.specs.Successor.{IsAssignment, change, earliest, later, next_assignment}
 use Rattle.nf_pattern.proofs.Successors.{no_change, changes_first, changes_few, earliest_is, earliest_first, earliest_exists, else_given, else_none}
 use Rattle.nf_pattern.proofs.Later.{later_is, later_none, later_next}
 

@@ -1,10 +1,10 @@
 -- The next assignment with equally many changes: it is later, and nothing lies between.
-use Rattle.std.proofs.Common.{◌≡◌, ◌⊎◌, ℕ, zero, suc, ◌+◌, ◌-◌, ◌<◌, ◌≤◌, Bool, true, false, List, [], ◌∷◌, inl, inr, ⊎_elim, refl, sym, ap, subst, ◌∙◌, arith}
+use Rattle.std.proofs.Common.{◌≡◌, ◌⊎◌, ℕ, ◌+◌, ◌-◌, ◌<◌, ◌≤◌, Bool, List, [], ◌∷◌, inl, inr, ⊎_elim, refl, sym, ap, subst, ◌∙◌, arith}
 use Rattle.std.specs.Prelude.{Option, Some, None}
 use Rattle.nf_model.specs.declared.State.{State}
 use Rattle.nf_model.specs.Pattern.{Pattern, rank, changes, IsEarlier}
-use Rattle.nf_pattern.specs.Successor.{choices, IsIn, IsAssignment, free, change, fits, first_good, before_all, earliest, raised, later}
-use Rattle.nf_pattern.proofs.Successors.{compared, good_some, good_none, choices_ascend, changes_first, changes_few, fits_out, within, rest_given, rest_none, earliest_is, earliest_first, earliest_exists, else_given, else_none, before_given, before_none, higher, higher_in, higher_out}
+use Rattle.nf_pattern.specs.Successor.{choices, IsAssignment, free, change, first_good, before_all, earliest, raised, later}
+use Rattle.nf_pattern.proofs.Successors.{compared, good_some, good_none, choices_ascend, changes_first, fits_out, within, rest_given, rest_none, earliest_is, earliest_first, earliest_exists, else_given, else_none, before_given, before_none, higher, higher_in, higher_out}
 
 module _ (b : Option State) (u : Bool) (base : Pattern) (us : List Bool) (a : Option State) (p : Pattern) where
   abbrev pub n : ℕ

@@ -1,10 +1,10 @@
 -- The next assignment with equally many changes, found from the last link backward.
-use Rattle.std.proofs.Common.{◌≡◌, ℕ, zero, suc, ◌+◌, ◌-◌, ◌<◌, ◌≤◌, Bool, List, [], ◌∷◌, ◌++◌, length, take, drop, refl, sym, ap, ◌∙◌, arith}
+use Rattle.std.proofs.Common.{◌≡◌, ℕ, zero, suc, ◌+◌, ◌-◌, ◌≤◌, Bool, List, [], ◌∷◌, ◌++◌, length, take, drop, sym, ap, ◌∙◌}
 use Rattle.std.specs.Prelude.{Option, Some, None}
 use Rattle.nf_model.specs.declared.State.{State}
 use Rattle.nf_model.specs.Pattern.{Pattern, changes}
 use Rattle.nf_pattern.specs.Successor.{choices, IsAssignment, free, change, first_good, before_all, with_rest, earliest, or_else, raised, later}
-use Rattle.nf_pattern.proofs.Successors.{higher, else_given, before_given}
+use Rattle.nf_pattern.proofs.Successors.{higher}
 
 -- the links from number i on have no later states with equally many changes
 pub record AreLast (base : Pattern) (us : List Bool) (states : Pattern) (i made more : ℕ) : Type 0 where

@@ -1,13 +1,13 @@
 -- Nothing lies between an assignment and the next one.
-use Rattle.std.proofs.Common.{◌≡◌, ◌⊎◌, ℕ, zero, suc, ◌+◌, ◌-◌, ◌<◌, ◌≤◌, Bool, true, false, ◌&&◌, List, [], ◌∷◌, inl, inr, ⊎_elim, refl, sym, ap, subst, ◌∙◌, arith, ltb, leb, eqb}
-use Rattle.std.specs.Prelude.{Option, Some, None, if◌then◌else◌, nat_lt, nat_le, ◌==◌}
+use Rattle.std.proofs.Common.{◌≡◌, ◌⊎◌, ℕ, suc, ◌+◌, ◌-◌, ◌<◌, ◌≤◌, Bool, true, false, ◌&&◌, List, [], ◌∷◌, inl, inr, ⊎_elim, refl, sym, ap, subst, ◌∙◌, arith, leb, eqb}
+use Rattle.std.specs.Prelude.{Option, Some, None, if◌then◌else◌, nat_lt, ◌==◌}
 use Rattle.std.proofs.lemmas.Option.{same_Some}
 use Rattle.std.proofs.lemmas.Bool.Decides.{leb_tells}
 use Rattle.nf_graph.proofs.Walks.{same_from_test, apart_from_test}
 use Rattle.nf_model.specs.declared.State.{State}
 use Rattle.nf_model.specs.declared.State.TheVariants.{Tight, Full, Zero}
 use Rattle.nf_model.specs.Pattern.{Pattern, rank, changes, IsEarlier}
-use Rattle.nf_pattern.specs.Successor.{choices, IsIn, IsAssignment, free, change, fits, first_good, before_all, with_rest, earliest, or_else, raised, later}
+use Rattle.nf_pattern.specs.Successor.{choices, IsIn, IsAssignment, free, change, fits, first_good, before_all, with_rest, earliest, or_else}
 
 -- ---- choices
 abbrev pub Ascending : List (Option State) → Type 0

@@ -1,9 +1,7 @@
 use Rattle.std.proofs.Common.{◌≡◌, refl, sym, ◌∙◌, arith, get_or, length, ◌+◌, ◌-◌, ◌<◌, ◌≤◌, false, subst, ℕ, suc, drop}
-use Rattle.std.specs.Prelude.{Option, None, Some}
-use Rattle.nf_model.specs.Pattern.{Pattern}
-use Rattle.nf_model.specs.declared.State.{State}
+use Rattle.std.specs.Prelude.{None}
 use Rattle.nf_pattern.specs.Successor.{change, fits, choices, first_good, free}
-use Rattle.nf_pattern.proofs.Filling.{AreFilled, none_filled, all_filled, rest_free, has_choice, more_filled}
+use Rattle.nf_pattern.proofs.Filling.{none_filled, all_filled, rest_free, has_choice, more_filled}
 use Rattle.nf_pattern.proofs.assignments.fill.Goals as goal
 use Rattle.nf_pattern.proofs.assignments.fill.Goals.{in-Some, in_default}
 
