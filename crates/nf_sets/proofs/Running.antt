@@ -1,5 +1,5 @@
 -- A list of slacks, one link after the other: what is said at its end, and where an operation passes.
-use Rattle.std.proofs.Common.{◌≡◌, ℕ, suc, ◌<◌, ◌≤◌, List, [], ◌∷◌, ◌++◌, length, get_or, drop, drop-cons, refl, sym, ap, ◌∙◌, arith}
+use Rattle.std.proofs.Common.{◌≡◌, ℕ, suc, ◌<◌, ◌≤◌, List, ◌∷◌, length, get_or, drop, drop-cons, refl, sym, ap, ◌∙◌}
 use Rattle.std.specs.Prelude.{Result, Ok, Err}
 use Rattle.std.proofs.Math.ListN.{drop_of_length-le}
 use Rattle.std.proofs.lemmas.List.{append-nil}
@@ -7,7 +7,7 @@ use Rattle.nf_rational.specs.Rational.{ℚ}
 use Rattle.nf_work.specs.declared.Part.{Part}
 use Rattle.nf_work.specs.declared.Passed.{Passed}
 use Rattle.nf_work.specs.declared.PassedAt.{PassedAt}
-use Rattle.nf_work.specs.Checked.{each, placed, at_part}
+use Rattle.nf_work.specs.Checked.{each, at_part}
 use Rattle.nf_work.proofs.Each.{with_front, each_err}
 
 -- after the last one

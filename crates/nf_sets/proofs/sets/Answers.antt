@@ -1,6 +1,3 @@
-use Rattle.std.proofs.Common.{◌≡◌, List, Bool, sym, ap, subst, ◌∙◌}
-use Rattle.nf_model.specs.ThinFlow.{Sets, sets_of}
-use Rattle.nf_graph.specs.Sets.{AreSets}
 use Rattle.nf_sets.proofs.Flags.{are_sets}
 use Rattle.nf_sets.proofs.sets.Goals as goal
 

@@ -1,0 +1,116 @@
+-- The earliest assignment, one link after the other.
+use Rattle.std.proofs.Common.{◌≡◌, ℕ, zero, suc, ◌+◌, ◌-◌, ◌<◌, ◌≤◌, Bool, true, false, List, [], ◌∷◌, ◌++◌, length, get_or, take, drop, set, drop-cons, append_assoc, eqb, refl, sym, ap, subst, ◌∙◌, arith}
+use Rattle.std.specs.Prelude.{Option, Some, None, if◌then◌else◌}
+use Rattle.std.proofs.Math.ListN.{length-set, drop_of_length-le}
+use Rattle.std.proofs.lemmas.List.{append-nil}
+use Rattle.nf_graph.proofs.Walks.{apart_from_test}
+use Rattle.nf_model.specs.declared.State.{State}
+use Rattle.nf_model.specs.declared.State.TheVariants.{Tight, Full, Zero}
+use Rattle.nf_model.specs.Pattern.{Pattern}
+use Rattle.nf_pattern.specs.Successor.{choices, IsAssignment, free, change, fits, first_good, before_all, with_rest, earliest}
+use Rattle.nf_pattern.proofs.Successors.{good_some, good_none, good_choice, fits_out}
+
+free_first : (b : Option State) (base : Pattern) → free (b ∷ base) ≡ change None b + free base
+free_first None base = omega arith
+free_first (Some Tight) base = omega arith
+free_first (Some Full) base = omega arith
+free_first (Some Zero) base = omega arith
+
+-- some states before the rest
+abbrev pub prefixed : Pattern → Option Pattern → Option Pattern
+prefixed front None = None
+prefixed front (Some states) = Some (front ++ states)
+
+prefixed-before : (front : Pattern) (s : Option State) (o : Option Pattern) → prefixed front (before_all s o) ≡ prefixed (front ++ s ∷ []) o
+prefixed-before front s None = refl
+prefixed-before front s (Some states) = ap Some (sym (append_assoc front (s ∷ []) states))
+
+take-set : {A : Type 0} (xs : List A) (i : ℕ) (x : A) → i < length xs → take (suc i) (set xs i x) ≡ take i xs ++ x ∷ []
+take-set [] i x h = absurd (omega arith)
+take-set (y ∷ xs) zero x h = refl
+take-set (y ∷ xs) (suc i) x h = ap (λ (zs : List _). y ∷ zs) (take-set xs i x (omega arith))
+
+take-all : {A : Type 0} (xs : List A) (i : ℕ) → length xs ≤ i → take i xs ≡ xs
+take-all [] zero h = refl
+take-all [] (suc i) h = refl
+take-all (x ∷ xs) zero h = absurd (omega arith)
+take-all (x ∷ xs) (suc i) h = ap (λ (zs : List _). x ∷ zs) (take-all xs i (omega arith))
+
+-- the links before number i have their states, and so many changes are left
+pub record AreFilled (base : Pattern) (us : List Bool) (n : ℕ) (states : Pattern) (i left more : ℕ) : Type 0 where
+  pub said : earliest base us n ≡ prefixed (take i states) (earliest (drop i base) (drop i us) left)
+  pub all_free : more ≡ free (drop i base)
+  pub few : left ≤ more
+  pub valid : IsAssignment (drop i base) (drop i us) (drop i base)
+  pub count : length states ≡ length base
+
+prefixed-nothing : (o : Option Pattern) → o ≡ prefixed [] o
+prefixed-nothing None = refl
+prefixed-nothing (Some states) = refl
+
+pub none_filled : (base : Pattern) (us : List Bool) (n more : ℕ) (states : Pattern) → length states ≡ length base → IsAssignment base us base → more ≡ free base → n ≤ more → AreFilled base us n states 0 n more
+none_filled base us n more states count valid all few = record { said = prefixed-nothing (earliest base us n); all_free = all; few = few; valid = valid; count = count }
+
+module _ (base : Pattern) (us : List Bool) (n : ℕ) (states : Pattern) (i left more : ℕ) (b : Option State) (u : Bool) (filled : AreFilled base us n states i left more)
+    (below : i < length base) (same_count : length us ≡ length base) (c : Option State) (at_base : b ≡ get_or base i c) (w : Bool) (at_us : u ≡ get_or us i w) where
+  base_from : drop i base ≡ b ∷ drop (suc i) base
+  base_from = drop-cons base i c below ∙ ap (λ (x : Option State). x ∷ drop (suc i) base) (sym at_base)
+
+  us_from : drop i us ≡ u ∷ drop (suc i) us
+  us_from = drop-cons us i w (omega arith) ∙ ap (λ (x : Bool). x ∷ drop (suc i) us) (sym at_us)
+
+  valid_here : IsAssignment (b ∷ drop (suc i) base) (u ∷ drop (suc i) us) (b ∷ drop (suc i) base)
+  valid_here = subst (λ (x : Pattern). IsAssignment x (u ∷ drop (suc i) us) x) base_from (subst (λ (x : List Bool). IsAssignment (drop i base) x (drop i base)) us_from filled.valid)
+
+  few_here : left ≤ free (b ∷ drop (suc i) base)
+  few_here = let f = filled.few in let a : more ≡ free (b ∷ drop (suc i) base) = filled.all_free ∙ ap free base_from in omega arith
+
+  pub rest_free : (rest : ℕ) → rest ≡ more - change None b → rest ≡ free (drop (suc i) base)
+  rest_free rest is = let a : more ≡ free (b ∷ drop (suc i) base) = filled.all_free ∙ ap free base_from in let f = free_first b (drop (suc i) base) in omega arith
+
+  -- the link has a choice
+  pub has_choice : first_good (fits b left (free (drop (suc i) base))) (choices b u) ≡ None → ⊥
+  has_choice e = let g = good_choice b u (drop (suc i) base) left valid_here.0 few_here in good_none (fits b left (free (drop (suc i) base))) (choices b u) g.0 e g.1 g.2
+
+  module _ (s : Option State) (chosen : first_good (fits b left (free (drop (suc i) base))) (choices b u) ≡ Some s) where
+    fit : (change b s ≤ left) × (left ≤ change b s + free (drop (suc i) base))
+    fit = fits_out b s left (free (drop (suc i) base)) (good_some (fits b left (free (drop (suc i) base))) (choices b u) s chosen).1
+
+    pub change_fits : change b s ≤ left
+    change_fits = fit.0
+
+    goes_on : earliest (drop i base) (drop i us) left ≡ before_all s (earliest (drop (suc i) base) (drop (suc i) us) (left - change b s))
+    goes_on = ap (λ (x : Pattern). earliest x (drop i us) left) base_from ∙ (ap (λ (x : List Bool). earliest (b ∷ drop (suc i) base) x left) us_from
+        ∙ ap (λ (o : Option (Option State)). with_rest o (λ t. earliest (drop (suc i) base) (drop (suc i) us) (left - change b t))) chosen)
+
+    pub more_filled : (j rest later_more : ℕ) → j ≡ suc i → rest ≡ left - change b s → later_more ≡ free (drop (suc i) base) → AreFilled base us n (set states i s) j rest later_more
+    more_filled j rest later_more at_j is_rest is_more =
+        let here : i < length states = (let c = filled.count in omega arith) in
+        let all : earliest base us n ≡ prefixed (take (suc i) (set states i s)) (earliest (drop (suc i) base) (drop (suc i) us) (left - change b s)) =
+        (filled.said ∙ (ap (prefixed (take i states)) goes_on ∙ (prefixed-before (take i states) s (earliest (drop (suc i) base) (drop (suc i) us) (left - change b s))
+        ∙ ap (λ (front : Pattern). prefixed front (earliest (drop (suc i) base) (drop (suc i) us) (left - change b s))) (sym (take-set states i s here))))) in
+        let done : AreFilled base us n (set states i s) (suc i) (left - change b s) (free (drop (suc i) base)) = record {
+          said = all;
+          all_free = refl;
+          few = (let f = fit in omega arith);
+          valid = valid_here.1;
+          count = length-set states i s ∙ filled.count;
+        } in
+        subst (λ (k : ℕ). AreFilled base us n (set states i s) k rest later_more) (sym at_j)
+        (subst (λ (k : ℕ). AreFilled base us n (set states i s) (suc i) k later_more) (sym is_rest)
+        (subst (λ (k : ℕ). AreFilled base us n (set states i s) (suc i) (left - change b s) k) (sym is_more) done))
+
+none_left : (us : List Bool) (left : ℕ) → left ≤ 0 → earliest [] us left ≡ Some []
+none_left us left h = go (eqb left 0) refl
+  where
+    go : (t : Bool) → eqb left 0 ≡ t → ◌≡◌ {A = Option Pattern} (if t then Some [] else None) (Some [])
+    go true e = refl
+    go false e = absurd (apart_from_test left 0 (sym e) (omega arith))
+
+pub all_filled : (base : Pattern) (us : List Bool) (n : ℕ) (states : Pattern) (i left more : ℕ) → length base ≤ i → AreFilled base us n states i left more → earliest base us n ≡ Some states
+all_filled base us n states i left more end filled =
+    let nothing : drop i base ≡ [] = drop_of_length-le base end in
+    let zero_more : more ≡ 0 = filled.all_free ∙ ap free nothing in
+    let few = filled.few in let count = filled.count in
+    filled.said ∙ (ap (λ (x : Pattern). prefixed (take i states) (earliest x (drop i us) left)) nothing ∙ (ap (prefixed (take i states)) (none_left (drop i us) left (omega arith))
+    ∙ ap Some (append-nil (take i states) ∙ take-all states i (omega arith))))

@@ -1,0 +1,76 @@
+-- Base patterns, link by link.
+use Rattle.std.proofs.Common.{◌≡◌, ℕ, ◌<◌, List, length, get_or, true, false, refl, ap, ◌∙◌, arith, inl, inr}
+use Rattle.std.specs.Prelude.{Option, Some, None, slice_get}
+use Rattle.std.proofs.lemmas.Option.{slice_get_within, slice_get-get_or}
+use Rattle.nf_rational.specs.Operations.{0ℚ}
+use Rattle.nf_model.specs.declared.State.{State}
+use Rattle.nf_model.specs.declared.State.TheVariants.{Tight, Zero}
+use Rattle.nf_model.specs.Entries.{Has}
+use Rattle.nf_model.specs.Walk.{Hop, IsHop}
+use Rattle.nf_model.specs.ThinFlow.{Sets}
+use Rattle.nf_model.specs.Pattern.{Pattern, HasState, NeedsState, IsFirstInto, IsBase}
+use Rattle.nf_graph.proofs.Walks.{IsHop-unique}
+use Rattle.nf_pattern.specs.Base.{Bars, IsBaseState}
+use Rattle.nf_pattern.proofs.Each.{EachEntry}
+
+module _ (hops : List Hop) (sets : Sets) where
+  -- no link bars this one
+  pub first_into : (e node : ℕ) (hop : Hop) → IsHop hops e hop → hop.head ≡ node
+      → ((k : ℕ) (other : Hop) → IsHop hops k other → other.head ≡ node → Bars sets k e → ⊥) → IsFirstInto hops sets e hop
+  first_into e node hop p head free = record {
+    is_hop = p;
+    first = λ other before less q same active. free other before q (same ∙ head) (inr (less, active));
+    no_reset = λ other before q same resetting. free other before q (same ∙ head) (inl resetting);
+  }
+
+  -- a link bars this one
+  barred : (e k : ℕ) (hop other : Hop) → IsHop hops k other → other.head ≡ hop.head → Bars sets k e → IsFirstInto hops sets e hop → ⊥
+  barred e k hop other q same (inl resetting) first = first.no_reset k other q same resetting
+  barred e k hop other q same (inr (less, active)) first = first.first k other less q same active
+
+  pub not_first_into : (e k : ℕ) (here other : Hop) → IsHop hops e here → IsHop hops k other → other.head ≡ here.head → Bars sets k e → (hop : Hop) → IsFirstInto hops sets e hop → ⊥
+  not_first_into e k here other p q same bars hop first =
+      barred e k hop other q (same ∙ ap (λ (h : Hop). h.head) (IsHop-unique hops e here hop p first.is_hop)) bars first
+
+  -- ---- the state of the first one
+  any_hop : Hop
+  any_hop = record { tail = 0; head = 0; transit = 0ℚ }
+
+  not_set : (e : ℕ) → slice_get sets.resetting e ≡ Some false → Has sets.resetting e → ⊥
+  not_set e off on = cc
+
+  no_state : (last : Pattern) (e : ℕ) (state : State) → slice_get last e ≡ Some None → HasState last e state → ⊥
+  no_state last e state none some = cc
+
+  pub tight_first : (last : Pattern) (e : ℕ) → e < length hops → Has sets.active e → slice_get sets.resetting e ≡ Some false → slice_get last e ≡ Some None
+      → ((hop : Hop) → IsHop hops e hop → IsFirstInto hops sets e hop) → IsBaseState hops sets last e (Some Tight)
+  tight_first last e below active off none first = record {
+    needed = λ state _. (active, not_set e off);
+    there = λ _. (Tight, refl);
+    kept = λ state _ was. absurd (no_state last e state none was);
+    first = λ _ _ _ _. refl;
+    later = λ _ _ not_first. absurd (not_first (get_or hops e any_hop) (first (get_or hops e any_hop) (slice_get-get_or hops e any_hop below)));
+  }
+
+  -- ---- the whole pattern
+  module _ (last base : Pattern) (count : length base ≡ length sets.active) (each : EachEntry (IsBaseState hops sets last) base) where
+    entry : (e : ℕ) → NeedsState sets e → (given : Option State) × (slice_get base e ≡ Some given) × IsBaseState hops sets last e given
+    entry e needs =
+        let below : e < length base = (let h : e < length sets.active = slice_get_within sets.active e true needs.0 in omega arith) in
+        let at : slice_get base e ≡ Some _ = slice_get-get_or base e None below in
+        (_, at, each e _ at)
+
+    at_entry : (e : ℕ) (state : State) (given : Option State) → slice_get base e ≡ Some given → given ≡ Some state → HasState base e state
+    at_entry e state given at is = at ∙ ap (λ (g : Option State). Some g) is
+
+    pub is_base : IsBase hops sets last base
+    is_base = record {
+      count = count;
+      states = λ e. (
+        λ needs. (let x = entry e needs in let s = x.2.there needs in (s.0, at_entry e s.0 x.0 x.1 s.1)),
+        λ s. (each e (Some s.0) s.1).needed s.0 refl,
+      );
+      kept = λ e state needs was. let x = entry e needs in at_entry e state x.0 x.1 (x.2.kept state needs was);
+      first = λ e hop needs was first. let x = entry e needs in at_entry e Tight x.0 x.1 (x.2.first hop needs was first);
+      later = λ e needs was none. let x = entry e needs in at_entry e Zero x.0 x.1 (x.2.later needs was none);
+    }

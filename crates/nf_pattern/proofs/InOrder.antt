@@ -1,0 +1,69 @@
+-- The order of assignments: the base is the first, and the next one is the least of those that come after.
+use Rattle.std.proofs.Common.{◌≡◌, ℕ, suc, Bool, true, false, List, [], ◌∷◌, inl, inr, ⊎_elim, eqb, refl, sym, ◌∙◌, arith}
+use Rattle.std.specs.Prelude.{Option, Some, None, if◌then◌else◌}
+use Rattle.nf_graph.proofs.Walks.{same_from_test}
+use Rattle.nf_model.specs.declared.State.{State}
+use Rattle.nf_model.specs.Pattern.{Pattern, rank, changes, IsEarlier, IsBefore}
+use Rattle.nf_pattern.specs.Successor.{IsAssignment, change, earliest, later, next_assignment}
+use Rattle.nf_pattern.proofs.Successors.{no_change, changes_first, changes_few, earliest_is, earliest_first, earliest_exists, else_given, else_none}
+use Rattle.nf_pattern.proofs.Later.{later_is, later_none, later_next}
+
+-- ---- the base comes first
+pub no_changes : (base : Pattern) → changes base base ≡ 0
+no_changes [] = refl
+no_changes (b ∷ base) = let f = changes_first b b base base in let z = no_change b in let rest = no_changes base in omega arith
+
+unchanged : (b t : Option State) → change b t ≡ 0 → rank b ≡ rank t
+unchanged b t e = go (eqb (rank b) (rank t)) refl e
+  where
+    go : (s : Bool) → eqb (rank b) (rank t) ≡ s → ◌≡◌ {A = ℕ} (if s then 0 else 1) 0 → rank b ≡ rank t
+    go true i j = same_from_test (rank b) (rank t) (sym i)
+    go false i j = absurd (omega arith)
+
+none_earlier : (base r : Pattern) → changes base r ≡ 0 → IsEarlier r base → ⊥
+none_earlier base [] c h = h
+none_earlier [] (t ∷ r) c h = h
+none_earlier (b ∷ base) (t ∷ r) c (inl less) = let f = changes_first b t base r in let same = unchanged b t (omega arith) in omega arith
+none_earlier (b ∷ base) (t ∷ r) c (inr k) = let f = changes_first b t base r in none_earlier base r (omega arith) k.1
+
+pub base_first : (base r : Pattern) → IsBefore base r base → ⊥
+base_first base r (inl less) = let z = no_changes base in omega arith
+base_first base r (inr k) = none_earlier base r (k.0 ∙ no_changes base) k.1
+
+-- ---- the next one
+module _ (base : Pattern) (us : List Bool) (valid : IsAssignment base us base) (p : Pattern) where
+  pub next_is : (q : Pattern) → IsAssignment base us p → next_assignment base us p ≡ Some q → IsAssignment base us q × IsBefore base p q
+  next_is q h e = ⊎_elim
+      (λ (w : later base us p ≡ Some q). let x = later_is base us p q valid h w in (x.0, inr (sym x.1, x.2)))
+      (λ (w : (later base us p ≡ None) × (earliest base us (suc (changes base p)) ≡ Some q)).
+      let x = earliest_is base us (suc (changes base p)) q valid w.1 in (x.0, inl (let c : changes base q ≡ suc (changes base p) = x.1 in omega arith)))
+      (else_given (later base us p) (earliest base us (suc (changes base p))) q e)
+
+  pub next_none : (r : Pattern) → next_assignment base us p ≡ None → IsAssignment base us r → IsBefore base p r → ⊥
+  next_none r e h (inl less) =
+      let few = changes_few base us r h in
+      earliest_exists base us (suc (changes base p)) valid (omega arith) (else_none (later base us p) (earliest base us (suc (changes base p))) e).1
+  next_none r e h (inr k) = later_none base us p r valid (else_none (later base us p) (earliest base us (suc (changes base p))) e).0 h (sym k.0) k.1
+
+  between_later : (q r : Pattern) → IsAssignment base us p → later base us p ≡ Some q → IsAssignment base us r → IsBefore base p r → IsBefore base r q → ⊥
+  between_later q r a e h before after = go (later_is base us p q valid a e).1 before after
+    where
+      go : changes base q ≡ changes base p → IsBefore base p r → IsBefore base r q → ⊥
+      go c (inl less) (inl more) = omega arith
+      go c (inl less) (inr l) = let i = l.0 in omega arith
+      go c (inr k) (inl more) = let i = k.0 in omega arith
+      go c (inr k) (inr l) = later_next base us p q r valid e h (sym k.0) k.1 l.1
+
+  between_more : (q r : Pattern) → later base us p ≡ None → earliest base us (suc (changes base p)) ≡ Some q → IsAssignment base us r → IsBefore base p r → IsBefore base r q → ⊥
+  between_more q r none e h before after = go (earliest_is base us (suc (changes base p)) q valid e).1 before after
+    where
+      go : changes base q ≡ suc (changes base p) → IsBefore base p r → IsBefore base r q → ⊥
+      go c (inl less) (inl more) = omega arith
+      go c (inl less) (inr l) = earliest_first base us (suc (changes base p)) q r e h (l.0 ∙ c) l.1
+      go c (inr k) after = later_none base us p r valid none h (sym k.0) k.1
+
+  pub next_least : (q r : Pattern) → IsAssignment base us p → next_assignment base us p ≡ Some q → IsAssignment base us r → IsBefore base p r → IsBefore base r q → ⊥
+  next_least q r a e h before after = ⊎_elim
+      (λ (w : later base us p ≡ Some q). between_later q r a w h before after)
+      (λ (w : (later base us p ≡ None) × (earliest base us (suc (changes base p)) ≡ Some q)). between_more q r w.0 w.1 h before after)
+      (else_given (later base us p) (earliest base us (suc (changes base p))) q e)

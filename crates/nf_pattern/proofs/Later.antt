@@ -1,0 +1,130 @@
+-- The next assignment with equally many changes: it is later, and nothing lies between.
+use Rattle.std.proofs.Common.{◌≡◌, ◌⊎◌, ℕ, ◌+◌, ◌-◌, ◌<◌, ◌≤◌, Bool, List, [], ◌∷◌, inl, inr, ⊎_elim, refl, sym, ap, subst, ◌∙◌, arith}
+use Rattle.std.specs.Prelude.{Option, Some, None}
+use Rattle.nf_model.specs.declared.State.{State}
+use Rattle.nf_model.specs.Pattern.{Pattern, rank, changes, IsEarlier}
+use Rattle.nf_pattern.specs.Successor.{choices, IsAssignment, free, change, first_good, before_all, earliest, raised, later}
+use Rattle.nf_pattern.proofs.Successors.{compared, good_some, good_none, choices_ascend, changes_first, fits_out, within, rest_given, rest_none, earliest_is, earliest_first, earliest_exists, else_given, else_none, before_given, before_none, higher, higher_in, higher_out}
+
+module _ (b : Option State) (u : Bool) (base : Pattern) (us : List Bool) (a : Option State) (p : Pattern) where
+  abbrev pub n : ℕ
+  n = changes (b ∷ base) (a ∷ p)
+
+  abbrev pub Raised : Pattern → Type 0
+  Raised q = (s : Option State) × (states : Pattern) × (first_good (higher b a n (free base)) (choices b u) ≡ Some s) × (earliest base us (n - change b s) ≡ Some states) × (q ≡ s ∷ states)
+
+  raised_parts : (q : Pattern) → raised b u base us a n ≡ Some q → Raised q
+  raised_parts q e = rest_given (first_good (higher b a n (free base)) (choices b u)) (λ s. earliest base us (n - change b s)) q e
+
+  abbrev pub Kept : Pattern → Type 0
+  Kept q = (states : Pattern) × (later base us p ≡ Some states) × (q ≡ a ∷ states)
+
+  -- either the rest moves on, or it can't and the first link does
+  parts : (q : Pattern) → later (b ∷ base) (u ∷ us) (a ∷ p) ≡ Some q → Kept q ⊎ ((later base us p ≡ None) × Raised q)
+  parts q e = ⊎_elim
+      (λ (w : before_all a (later base us p) ≡ Some q). inl (before_given a (later base us p) q w))
+      (λ (w : (before_all a (later base us p) ≡ None) × (raised b u base us a n ≡ Some q)). inr (before_none a (later base us p) w.0, raised_parts q w.1))
+      (else_given (before_all a (later base us p)) (raised b u base us a n) q e)
+
+  -- with the first link raised
+  raised_is : (q : Pattern) → IsAssignment base us base → Raised q → IsAssignment (b ∷ base) (u ∷ us) q × (changes (b ∷ base) q ≡ n) × IsEarlier (a ∷ p) q
+  raised_is q v w =
+      let good = good_some (higher b a n (free base)) (choices b u) w.0 w.2 in
+      let high = higher_out b a w.0 n (free base) good.1 in
+      let fit = fits_out b w.0 n (free base) high.1 in
+      let rest = earliest_is base us (n - change b w.0) w.1 v w.3 in
+      let first = changes_first b w.0 base w.1 in
+      let same : changes base w.1 ≡ n - change b w.0 = rest.1 in
+      let le : change b w.0 ≤ n = fit.0 in
+      let all : changes (b ∷ base) (w.0 ∷ w.1) ≡ n = omega arith in
+      let less : IsEarlier (a ∷ p) (w.0 ∷ w.1) = inl high.0 in
+      (subst (λ (x : Pattern). IsAssignment (b ∷ base) (u ∷ us) x) (sym w.4) (good.0, rest.0), ap (changes (b ∷ base)) w.4 ∙ all, subst (λ (x : Pattern). IsEarlier (a ∷ p) x) (sym w.4) less)
+
+  raised_next : (q : Pattern) (t : Option State) (r : Pattern) → Raised q → IsAssignment (b ∷ base) (u ∷ us) (t ∷ r) → changes (b ∷ base) (t ∷ r) ≡ n
+      → rank a < rank t → IsEarlier (t ∷ r) q → ⊥
+  raised_next q t r w h c less before =
+      let fit = within b u base us n t r h.1 c in
+      go w.0 w.1 w.2 w.3 (subst (λ (x : Pattern). IsEarlier (t ∷ r) x) w.4 before)
+      (compared (higher b a n (free base)) (choices b u) w.0 t (choices_ascend b u) w.2 h.0 (higher_in b a t n (free base) less fit.0))
+      fit.1
+    where
+      go : (s : Option State) (states : Pattern) → first_good (higher b a n (free base)) (choices b u) ≡ Some s → earliest base us (n - change b s) ≡ Some states
+          → IsEarlier (t ∷ r) (s ∷ states) → (t ≡ s) ⊎ (rank s < rank t) → changes base r ≡ n - change b t → ⊥
+      go s states f e (inl k) (inl same) d = let i : rank t ≡ rank s = ap rank same in omega arith
+      go s states f e (inl k) (inr more) d = omega arith
+      go s states f e (inr k) (inl same) d = earliest_first base us (n - change b s) states r e h.1 (d ∙ ap (λ (x : Option State). n - change b x) same) k.1
+      go s states f e (inr k) (inr more) d = let i : rank t ≡ rank s = ap rank k.0 in omega arith
+
+  raised_none : (t : Option State) (r : Pattern) → IsAssignment base us base → raised b u base us a n ≡ None → IsAssignment (b ∷ base) (u ∷ us) (t ∷ r) → changes (b ∷ base) (t ∷ r) ≡ n → rank a < rank t → ⊥
+  raised_none t r v e h c less =
+      let fit = within b u base us n t r h.1 c in
+      ⊎_elim
+      (λ (w : first_good (higher b a n (free base)) (choices b u) ≡ None). good_none (higher b a n (free base)) (choices b u) t w h.0 (higher_in b a t n (free base) less fit.0))
+      (λ (w : (s : Option State) × (first_good (higher b a n (free base)) (choices b u) ≡ Some s) × (earliest base us (n - change b s) ≡ None)).
+      let good = good_some (higher b a n (free base)) (choices b u) w.0 w.1 in
+      let high = higher_out b a w.0 n (free base) good.1 in
+      let f = fits_out b w.0 n (free base) high.1 in
+      let le : change b w.0 ≤ n = f.0 in let few : n ≤ change b w.0 + free base = f.1 in
+      earliest_exists base us (n - change b w.0) v (omega arith) w.2)
+      (rest_none (first_good (higher b a n (free base)) (choices b u)) (λ s. earliest base us (n - change b s)) e)
+
+  same_rest : (t : Option State) (r : Pattern) → changes (b ∷ base) (t ∷ r) ≡ n → a ≡ t → changes base r ≡ changes base p
+  same_rest t r c same =
+      let f = changes_first b t base r in
+      let g = changes_first b a base p in
+      let z : change b a ≡ change b t = ap (change b) same in omega arith
+
+-- an assignment, with as many changes, and later
+pub later_is : (base : Pattern) (us : List Bool) (p q : Pattern) → IsAssignment base us base → IsAssignment base us p → later base us p ≡ Some q
+    → IsAssignment base us q × (changes base q ≡ changes base p) × IsEarlier p q
+later_is [] us p q v h e = absurd (cc)
+later_is (b ∷ base) [] p q v h e = absurd (cc)
+later_is (b ∷ base) (u ∷ us) [] q v h e = absurd (cc)
+later_is (b ∷ base) (u ∷ us) (a ∷ p) q v h e = ⊎_elim
+    (λ (w : Kept b u base us a p q).
+    let rest = later_is base us p w.0 v.1 h.1 w.1 in
+    let f = changes_first b a base w.0 in let g = changes_first b a base p in let same : changes base w.0 ≡ changes base p = rest.1 in
+    let all : changes (b ∷ base) (a ∷ w.0) ≡ changes (b ∷ base) (a ∷ p) = omega arith in
+    let less : IsEarlier (a ∷ p) (a ∷ w.0) = inr (refl, rest.2) in
+    (subst (λ (x : Pattern). IsAssignment (b ∷ base) (u ∷ us) x) (sym w.2) (h.0, rest.0), ap (changes (b ∷ base)) w.2 ∙ all, subst (λ (x : Pattern). IsEarlier (a ∷ p) x) (sym w.2) less))
+    (λ (w : (later base us p ≡ None) × Raised b u base us a p q). raised_is b u base us a p q v.1 w.1)
+    (parts b u base us a p q e)
+
+-- none is later where it says none
+pub later_none : (base : Pattern) (us : List Bool) (p r : Pattern) → IsAssignment base us base → later base us p ≡ None → IsAssignment base us r → changes base r ≡ changes base p → IsEarlier p r → ⊥
+later_none base us [] r v e h c before = before
+later_none base us (a ∷ p) [] v e h c before = before
+later_none [] us (a ∷ p) (t ∷ r) v e h c before = nothing us t r h
+  where
+    nothing : (us : List Bool) (t : Option State) (r : Pattern) → IsAssignment [] us (t ∷ r) → ⊥
+    nothing [] t r h = h
+    nothing (u ∷ us) t r h = h
+later_none (b ∷ base) [] (a ∷ p) (t ∷ r) v e h c before = h
+later_none (b ∷ base) (u ∷ us) (a ∷ p) (t ∷ r) v e h c (inl less) = raised_none b u base us a p t r v.1 (else_none (before_all a (later base us p)) (raised b u base us a (changes (b ∷ base) (a ∷ p))) e).1 h c less
+later_none (b ∷ base) (u ∷ us) (a ∷ p) (t ∷ r) v e h c (inr k) =
+    later_none base us p r v.1 (before_none a (later base us p) (else_none (before_all a (later base us p)) (raised b u base us a (changes (b ∷ base) (a ∷ p))) e).0) h.1 (same_rest b u base us a p t r c k.0) k.1
+
+-- and nothing lies between
+pub later_next : (base : Pattern) (us : List Bool) (p q r : Pattern) → IsAssignment base us base → later base us p ≡ Some q → IsAssignment base us r → changes base r ≡ changes base p
+    → IsEarlier p r → IsEarlier r q → ⊥
+later_next [] us p q r v e h c before after = absurd (cc)
+later_next (b ∷ base) [] p q r v e h c before after = absurd (cc)
+later_next (b ∷ base) (u ∷ us) [] q r v e h c before after = absurd (cc)
+later_next (b ∷ base) (u ∷ us) (a ∷ p) q [] v e h c before after = before
+later_next (b ∷ base) (u ∷ us) (a ∷ p) q (t ∷ r) v e h c (inl less) after = ⊎_elim
+    (λ (w : Kept b u base us a p q). go w.0 (subst (λ (x : Pattern). IsEarlier (t ∷ r) x) w.2 after))
+    (λ (w : (later base us p ≡ None) × Raised b u base us a p q). raised_next b u base us a p q t r w.1 h c less after)
+    (parts b u base us a p q e)
+  where
+    go : (states : Pattern) → IsEarlier (t ∷ r) (a ∷ states) → ⊥
+    go states (inl k) = omega arith
+    go states (inr k) = let i : rank t ≡ rank a = ap rank k.0 in omega arith
+later_next (b ∷ base) (u ∷ us) (a ∷ p) q (t ∷ r) v e h c (inr k) after = ⊎_elim
+    (λ (w : Kept b u base us a p q). after_rest w.0 (subst (λ (x : Pattern). IsEarlier (t ∷ r) x) w.2 after)
+    (λ l. later_next base us p w.0 r v.1 w.1 h.1 (same_rest b u base us a p t r c k.0) k.1 l))
+    (λ (w : (later base us p ≡ None) × Raised b u base us a p q). later_none base us p r v.1 w.0 h.1 (same_rest b u base us a p t r c k.0) k.1)
+    (parts b u base us a p q e)
+  where
+    after_rest : (states : Pattern) → IsEarlier (t ∷ r) (a ∷ states) → (IsEarlier r states → ⊥) → ⊥
+    after_rest states (inl l) rest = let i : rank a ≡ rank t = ap rank k.0 in omega arith
+    after_rest states (inr l) rest = rest l.1

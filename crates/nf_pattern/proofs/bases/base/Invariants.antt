@@ -1,0 +1,8 @@
+use Rattle.std.proofs.Common.{◌≡◌, length}
+use Rattle.nf_pattern.specs.Base.{IsBaseState}
+use Rattle.nf_pattern.proofs.Each.{EachEntry}
+use Rattle.nf_pattern.proofs.bases.base.Given as goal
+
+-- there are the states of the links so far
+abbrev pub invariant-loop-e : goal.invariant-loop-e
+invariant-loop-e l = record { count : length l.states.items ≡ l.e; each : EachEntry (IsBaseState l.hops l.sets l.last) l.states.items }

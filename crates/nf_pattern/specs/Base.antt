@@ -1,0 +1,20 @@
+-- The states of a base pattern, link by link.
+use Rattle.std.specs.Prelude.{◌≡◌, ◌⊎◌, ℕ, ◌<◌, List, Option, Some, None, slice_get}
+use Rattle.nf_model.specs.declared.State.{State}
+use Rattle.nf_model.specs.declared.State.TheVariants.{Tight, Zero}
+use Rattle.nf_model.specs.Entries.{Has}
+use Rattle.nf_model.specs.Walk.{Hop}
+use Rattle.nf_model.specs.ThinFlow.{Sets}
+use Rattle.nf_model.specs.Pattern.{Pattern, HasState, NeedsState, IsFirstInto}
+
+-- a link into the head of link e that is resetting, or active and before it
+abbrev pub Bars : Sets → ℕ → ℕ → Type 0
+Bars sets other e = Has sets.resetting other ⊎ ((other < e) × Has sets.active other)
+
+-- the state of link e in the base pattern, or none
+pub record IsBaseState (hops : List Hop) (sets : Sets) (last : Pattern) (e : ℕ) (given : Option State) : Type 0 where
+  pub needed : (state : State) → given ≡ Some state → NeedsState sets e
+  pub there : NeedsState sets e → (state : State) × (given ≡ Some state)
+  pub kept : (state : State) → NeedsState sets e → HasState last e state → given ≡ Some state
+  pub first : (hop : Hop) → NeedsState sets e → slice_get last e ≡ Some None → IsFirstInto hops sets e hop → given ≡ Some Tight
+  pub later : NeedsState sets e → slice_get last e ≡ Some None → ((hop : Hop) → IsFirstInto hops sets e hop → ⊥) → given ≡ Some Zero

@@ -1,0 +1,72 @@
+-- Which assignment of states comes next, among those that differ from a base at equally many links.
+use Rattle.std.specs.Prelude.{◌≡◌, ◌⊎◌, ℕ, suc, ◌+◌, ◌-◌, Bool, true, false, ◌&&◌, ◌==◌, nat_lt, nat_le, if◌then◌else◌, List, [], ◌∷◌, Option, Some, None}
+use Rattle.nf_model.specs.declared.State.{State}
+use Rattle.nf_model.specs.declared.State.TheVariants.{Tight, Full, Zero}
+use Rattle.nf_model.specs.Pattern.{Pattern, rank, changes}
+
+-- the states that a link may have, in order: none where the base has none, and Full for no unbounded link
+abbrev pub choices : Option State → Bool → List (Option State)
+choices None unbounded = None ∷ []
+choices (Some state) true = Some Tight ∷ Some Zero ∷ []
+choices (Some state) false = Some Tight ∷ Some Full ∷ Some Zero ∷ []
+
+abbrev pub IsIn : List (Option State) → Option State → Type 0
+IsIn [] t = ⊥
+IsIn (s ∷ states) t = (t ≡ s) ⊎ IsIn states t
+
+-- each link has one of its choices
+abbrev pub IsAssignment : Pattern → List Bool → Pattern → Type 0
+IsAssignment [] [] [] = Unit {0}
+IsAssignment (b ∷ base) (u ∷ unbounded) (s ∷ states) = IsIn (choices b u) s × IsAssignment base unbounded states
+IsAssignment base unbounded states = ⊥
+
+-- how many links may differ from the base
+abbrev pub free : Pattern → ℕ
+free [] = 0
+free (None ∷ base) = free base
+free (Some b ∷ base) = suc (free base)
+
+-- whether a link differs from its base
+abbrev pub change : Option State → Option State → ℕ
+change b s = if rank b == rank s then 0 else 1
+
+-- with this state of a link, so many changes can be made at it and at links of which so many may differ
+abbrev pub fits : Option State → ℕ → ℕ → Option State → Bool
+fits b n more s = nat_le (change b s) n && nat_le n (change b s + more)
+
+abbrev pub first_good : (Option State → Bool) → List (Option State) → Option (Option State)
+first_good good [] = None
+first_good good (s ∷ states) = if good s then Some s else first_good good states
+
+abbrev pub before_all : Option State → Option Pattern → Option Pattern
+before_all s None = None
+before_all s (Some states) = Some (s ∷ states)
+
+abbrev pub with_rest : Option (Option State) → (Option State → Option Pattern) → Option Pattern
+with_rest None rest = None
+with_rest (Some s) rest = before_all s (rest s)
+
+-- the earliest assignment with so many changes
+abbrev pub earliest : Pattern → List Bool → ℕ → Option Pattern
+earliest [] unbounded n = if n == 0 then Some [] else None
+earliest (b ∷ base) [] n = None
+earliest (b ∷ base) (u ∷ unbounded) n = with_rest (first_good (fits b n (free base)) (choices b u)) (λ s. earliest base unbounded (n - change b s))
+
+abbrev pub or_else : Option Pattern → Option Pattern → Option Pattern
+or_else None other = other
+or_else (Some states) other = Some states
+
+-- a later state of the first link, with as many changes in all
+abbrev pub raised : Option State → Bool → Pattern → List Bool → Option State → ℕ → Option Pattern
+raised b u base unbounded a n =
+    with_rest (first_good (λ s. nat_lt (rank a) (rank s) && fits b n (free base) s) (choices b u)) (λ s. earliest base unbounded (n - change b s))
+
+-- the next assignment with equally many changes
+abbrev pub later : Pattern → List Bool → Pattern → Option Pattern
+later (b ∷ base) (u ∷ unbounded) (a ∷ states) =
+    or_else (before_all a (later base unbounded states)) (raised b u base unbounded a (changes (b ∷ base) (a ∷ states)))
+later base unbounded states = None
+
+-- the next assignment: with equally many changes, or else the earliest with one change more
+abbrev pub next_assignment : Pattern → List Bool → Pattern → Option Pattern
+next_assignment base unbounded states = or_else (later base unbounded states) (earliest base unbounded (suc (changes base states)))

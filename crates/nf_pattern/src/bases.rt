@@ -1,0 +1,81 @@
+// The pattern that the search of a phase begins with.
+ghost use Rattle.std.specs.Prelude.{◌≡◌, ◌^◌, ◌<◌, length, IfOk, MatchBool};
+ghost use Rattle.nf_model.specs.Walk.{Hop as SeenHop, IsHop};
+ghost use Rattle.nf_model.specs.Pattern.{IsFirstInto, IsBase};
+ghost use Rattle.nf_graph.specs.Graph.{AreBelow};
+ghost use Rattle.nf_pattern.specs.Base.{Bars, IsBaseState};
+
+use crate::pattern::Pattern;
+use nf_graph::{Hop, LinkId, LinkSets};
+use nf_model::State;
+use std::alloc::{AllocError, Global};
+
+// The other link, into the same head, keeps this one from being the first active one into a node that no resetting link enters.
+fn bars(sets: &LinkSets, other: LinkId, link: LinkId) -> bool
+    requires { other < length sets.now.active }
+    ensures { MatchBool result (Bars sets.now other link) (Bars sets.now other link → ⊥) }
+{
+    sets.resetting(other) || other.index() < link.index() && sets.active(other)
+}
+
+// The link is the first active one into its head, and no resetting link enters that node.
+fn is_first_into(hops: &[Hop], sets: &LinkSets, link: LinkId) -> bool
+    requires link { link < length hops.now }
+    requires sets { length sets.now.active ≡ length hops.now }
+    requires fewer { length hops.now < 2 ^ 32 }
+    ensures { MatchBool result ((hop : SeenHop) → IsHop hops.now link hop → IsFirstInto hops.now sets.now link hop)
+        ((hop : SeenHop) → IsFirstInto hops.now sets.now link hop → ⊥) }
+{
+    let here = &hops[link.index()];
+    let node = here.head;
+    for (e, hop) in hops.iter().enumerate() {
+        if hop.head == node {
+            if bars(sets, LinkId(e as u32), link) {
+                return false;
+            }
+        }
+    }
+    true
+}
+
+// The state of a link in the base pattern.
+fn base_state(hops: &[Hop], sets: &LinkSets, last: &Pattern, link: LinkId) -> Option<State>
+    requires link { link < length hops.now }
+    requires sets { length sets.now.active ≡ length hops.now }
+    requires last { length last.now ≡ length hops.now }
+    requires fewer { length hops.now < 2 ^ 32 }
+    ensures { IsBaseState hops.now sets.now last.now link result }
+{
+    if !sets.active(link) || sets.resetting(link) {
+        return None;
+    }
+    match last.state(link) {
+        Some(state) => Some(state),
+        None if is_first_into(hops, sets, link) => Some(State::Tight),
+        None => Some(State::Zero),
+    }
+}
+
+/// The base pattern of a phase, from the pattern of the last phase. Each active link that is not resetting has a state, and no
+/// other link. It is that of the last pattern; where it had none there, it is Tight for the first active link, in link order,
+/// into a node that no resetting link enters, and Zero for any other.
+pub fn base(
+    alloc: Global,
+    nodes: u32,
+    hops: &[Hop],
+    sets: &LinkSets,
+    last: &Pattern,
+) -> Result<Pattern, AllocError>
+    requires ends { AreBelow nodes hops.now }
+    requires sets { length sets.now.active ≡ length hops.now }
+    requires last { length last.now ≡ length hops.now }
+    requires fewer { length hops.now < 2 ^ 32 }
+    ensures { IfOk result (λ base. IsBase hops.now sets.now last.now base) }
+{
+    let mut states = Vec::new(alloc);
+    for e in 0..hops.len() {
+        let state = base_state(hops, sets, last, LinkId(e as u32));
+        states.push(state)?;
+    }
+    Ok(Pattern::of(states))
+}

@@ -1,0 +1,108 @@
+// The choice of one link's state.
+ghost use Rattle.std.specs.Prelude.{◌≡◌, ◌^◌, ◌<◌, ◌≤◌, ◌&&◌, nat_lt};
+ghost use Rattle.nf_model.specs.Pattern.{rank as rank_of};
+ghost use Rattle.nf_pattern.specs.Successor.{change as change_of, fits as is_fit, choices, first_good};
+
+use nf_model::State;
+
+// Tight before Full before Zero, and before them no state.
+fn rank(state: Option<State>) -> u32
+    ensures { result ≡ rank_of state }
+{
+    match state {
+        None => 0,
+        Some(State::Tight) => 1,
+        Some(State::Full) => 2,
+        Some(State::Zero) => 3,
+    }
+}
+
+// How many of this one link differ from the base.
+pub(crate) fn change(base: Option<State>, state: Option<State>) -> u32
+    ensures value { result ≡ change_of base state }
+    ensures small { result ≤ 1 }
+{
+    if rank(base) == rank(state) { 0 } else { 1 }
+}
+
+// With this state of the link, so many changes can be made at it and at more links, of which so many may differ.
+fn fits(base: Option<State>, changes: u32, more: u32, state: Option<State>) -> bool
+    requires { more < 2 ^ 31 }
+    ensures { result ≡ is_fit base changes more state }
+{
+    let change = change(base, state);
+    change <= changes && changes <= change + more
+}
+
+// The first choice of the link that fits.
+pub(crate) fn first_choice(
+    base: Option<State>,
+    unbounded: bool,
+    changes: u32,
+    more: u32,
+) -> Option<Option<State>>
+    requires { more < 2 ^ 31 }
+    ensures { result ≡ first_good (is_fit base changes more) (choices base unbounded) }
+{
+    if base.is_none() {
+        return if fits(base, changes, more, None) {
+            Some(None)
+        } else {
+            None
+        };
+    }
+    if fits(base, changes, more, Some(State::Tight)) {
+        return Some(Some(State::Tight));
+    }
+    if !unbounded && fits(base, changes, more, Some(State::Full)) {
+        return Some(Some(State::Full));
+    }
+    if fits(base, changes, more, Some(State::Zero)) {
+        return Some(Some(State::Zero));
+    }
+    None
+}
+
+// With this state of the link, which comes after the one that it has, the changes can be made.
+fn fits_after(
+    base: Option<State>,
+    now: Option<State>,
+    changes: u32,
+    more: u32,
+    state: Option<State>,
+) -> bool
+    requires { more < 2 ^ 31 }
+    ensures { result ≡ (nat_lt (rank_of now) (rank_of state) && is_fit base changes more state) }
+{
+    rank(now) < rank(state) && fits(base, changes, more, state)
+}
+
+// The first choice of the link that fits and comes after the state that it has.
+pub(crate) fn next_choice(
+    base: Option<State>,
+    unbounded: bool,
+    now: Option<State>,
+    changes: u32,
+    more: u32,
+) -> Option<Option<State>>
+    requires { more < 2 ^ 31 }
+    ensures { result ≡ first_good (λ s. nat_lt (rank_of now) (rank_of s) && is_fit base changes more s) (choices base unbounded) }
+{
+    if base.is_none() {
+        return if fits_after(base, now, changes, more, None) {
+            Some(None)
+        } else {
+            None
+        };
+    }
+    if fits_after(base, now, changes, more, Some(State::Tight)) {
+        return Some(Some(State::Tight));
+    }
+    if !unbounded && fits_after(base, now, changes, more, Some(State::Full)) {
+        return Some(Some(State::Full));
+    }
+    if fits_after(base, now, changes, more, Some(State::Zero)) {
+        return Some(Some(State::Zero));
+    }
+    None
+}

@@ -1,0 +1,14 @@
+//! Patterns: a state for each active link that is not resetting, by which the thin flow of a phase is found (this project's own
+//! form of the cases of Cominetti, Correa and Larré 2015); the pattern that a phase begins with, and the list of those to try.
+#![tactic(auto)]
+
+mod assignments;
+mod bases;
+mod choice;
+mod pattern;
+#[cfg(test)]
+mod tests;
+
+pub use bases::base;
+pub use nf_model::State;
+pub use pattern::Pattern;
