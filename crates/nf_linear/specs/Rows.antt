@@ -1,5 +1,5 @@
 -- Steps of elimination by the entries of a pivot row other than 0: each is a column and a number.
-use Rattle.std.specs.Prelude.{ℕ, suc, Bool, true, false, if◌then◌else◌, List, [], ◌∷◌, set, Ok}
+use Rattle.std.specs.Prelude.{ℕ, suc, Bool, true, false, ◌||◌, ◌==◌, if◌then◌else◌, List, [], ◌∷◌, set, Ok}
 use Rattle.nf_rational.specs.Rational.{ℚ}
 use Rattle.nf_rational.specs.Operations.{0ℚ}
 use Rattle.nf_work.specs.Passing.{Passing}
@@ -26,3 +26,16 @@ module _ (passes : Passing) where
   clear_row column own later row = do
     f ← checked passes Quotient (number_at row column) own
     fold_checked (entry_less f) (set row column 0ℚ) later
+
+  -- a row stays as it is where it is the pivot row, or has no entry in the column
+  abbrev pub clear_unless : Bool → ℕ → ℚ → List (ℕ × ℚ) → Row → Checked Row
+  clear_unless true column own later row = Ok row
+  clear_unless false column own later row = clear_row column own later row
+
+  -- the rows from number i on, in order
+  abbrev pub clear_each : ℕ → ℕ → ℚ → List (ℕ × ℚ) → ℕ → List Row → Checked (List Row)
+  clear_each column pivot own later i [] = Ok []
+  clear_each column pivot own later i (row ∷ rows) = do
+    r ← clear_unless (i == pivot || is_zero (number_at row column)) column own later row
+    rs ← clear_each column pivot own later (suc i) rows
+    Ok (r ∷ rs)

@@ -1,6 +1,7 @@
 //! Linear systems with as many equations as unknowns, solved by elimination (after Gauss and Jordan) in exact fractions.
 #![tactic(auto)]
 
+mod elimination;
 mod row;
 mod table;
 
