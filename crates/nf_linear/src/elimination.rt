@@ -8,6 +8,7 @@ ghost use Rattle.nf_model.specs.Entries.{number_at};
 ghost use Rattle.nf_lists.specs.Signs as Signs;
 ghost use Rattle.nf_lists.specs.Table as Lists;
 ghost use Rattle.nf_lists.specs.Table.{row_at};
+ghost use Rattle.nf_linear_laws.specs.Solution.{IsSquare};
 ghost use Rattle.nf_linear.specs.Rows.{clear_unless, clear_each};
 
 use crate::row::{Entry, Row, is_zero};
@@ -39,7 +40,13 @@ pub fn pivot_of<S: Scalar>(rows: &[Row<S>], pivots: &[usize], column: usize) -> 
 }
 
 // A row stays as it is where it is the pivot row, or has no entry in the column; another one is cleared there.
-fn clear_one<S: Scalar>(row: &mut Row<S>, is_pivot: bool, column: usize, own: S, later: &[Entry<S>]) -> Result<(), PassedAt<S>>
+fn clear_one<S: Scalar>(
+    row: &mut Row<S>,
+    is_pivot: bool,
+    column: usize,
+    own: S,
+    later: &[Entry<S>],
+) -> Result<(), PassedAt<S>>
     requires column { column < length row.old }
     requires own { S.means own ≢ 0ℚ }
     requires later { AllByRecursion (λ other. other.0 < length row.old) later.now }
@@ -49,4 +56,42 @@ fn clear_one<S: Scalar>(row: &mut Row<S>, is_pivot: bool, column: usize, own: S,
         return Ok(());
     }
     row.clear(column, own, later)
+}
+
+// All rows are cleared in the column, but the pivot row, which has this entry there and these ones after it.
+fn clear_rows<S: Scalar>(
+    rows: &mut [Row<S>],
+    pivot: usize,
+    column: usize,
+    own: S,
+    later: &[Entry<S>],
+) -> Result<(), PassedAt<S>>
+    requires own { S.means own ≢ 0ℚ }
+    requires column { (i : ℕ) → i < length rows.old → column < length (row_at rows.old i) }
+    requires later { (i : ℕ) → i < length rows.old → AllByRecursion (λ other. other.0 < length (row_at rows.old i)) later.now }
+    ensures { seen_at (λ _. rows.new) S.means result ≡ at_part Part.Table (clear_each S.passes column pivot (S.means own) later.now 0 rows.old) }
+{
+    for i in 0..rows.len() {
+        clear_one(&mut rows[i], i == pivot, column, own, later)?;
+    }
+    Ok(())
+}
+
+// One column is cleared in all rows but its pivot row.
+pub fn eliminate<S: Scalar>(
+    alloc: Global,
+    rows: &mut [Row<S>],
+    pivot: usize,
+    column: usize,
+) -> Result<(), Halt<S>>
+    requires square { IsSquare rows.old }
+    requires pivot { pivot < length rows.old }
+    requires column { column < length rows.old }
+    requires some { number_at (row_at rows.old pivot) column ≢ 0ℚ }
+    ensures { Gives (λ _. rows.new) S.means result (at_part Part.Table (Lists.clear_rows S.passes column pivot (row_at rows.old pivot) 0 rows.old)) }
+{
+    let own = rows[pivot].at(column);
+    let later = rows[pivot].later(alloc, column)?;
+    clear_rows(rows, pivot, column, own, &later)?;
+    Ok(())
 }

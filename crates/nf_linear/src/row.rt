@@ -61,7 +61,11 @@ fn less<S: Scalar>(value: S, factor: S, other: S) -> Result<S, PassedAt<S>>
 }
 
 // One more entry, unless it is 0.
-fn push_some<S: Scalar>(entries: &mut Vec<Entry<S>>, column: usize, value: S) -> Result<(), AllocError>
+fn push_some<S: Scalar>(
+    entries: &mut Vec<Entry<S>>,
+    column: usize,
+    value: S,
+) -> Result<(), AllocError>
     ensures { IfOk result (λ _. entries.new.items ≡ entries.old.items ++ (if Signs.is_zero (S.means value) then [] else (column, S.means value) ∷ [])) }
 {
     if !is_zero(value) {
