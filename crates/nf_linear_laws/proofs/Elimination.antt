@@ -108,7 +108,7 @@ module _ {n c : ℕ} {rows : List Row} {pivots : List ℕ} (s : IsCleared n c ro
     kept = rw (eq-eqb p p refl) refl;
   }
 
-  next_cleared : IsCleared n (suc c) new_rows (pivots ++ p ∷ [])
+  pub next_cleared : IsCleared n (suc c) new_rows (pivots ++ p ∷ [])
   next_cleared = record {
     count = rows_after-length c p (row_at rows p) 0 rows ∙ s.count;
     square = length_after;
@@ -127,7 +127,7 @@ loose {n} {c} {rows} {pivots} s inside e =
     record { column = c; within = inside; free = free s.reduced inside none; homogeneous = homogeneous s.reduced inside none; one = free-at s.reduced inside none }
 
 -- ---- all columns are cleared
-abbrev solutions : List Row → ℕ → List ℕ → List ℚ
+abbrev pub solutions : List Row → ℕ → List ℕ → List ℚ
 solutions rows k [] = []
 solutions rows k (p ∷ pivots) = (numbers rows p (length rows) /ℚ numbers rows p k) ∷ solutions rows (suc k) pivots
 

@@ -26,7 +26,7 @@ both_true false b e = absurd (cc)
 pub zero_tested : (x : ℚ) → is_zero x ≡ true → x ≡ 0ℚ
 zero_tested x e = let h = both_true (le_ℚ x 0ℚ) (le_ℚ 0ℚ x) e in ≤ℚ_antisymm x 0ℚ (le_of_test x 0ℚ h.0) (le_of_test 0ℚ x h.1)
 
-is_zero-at : (x : ℚ) → x ≡ 0ℚ → is_zero x ≡ true
+pub is_zero-at : (x : ℚ) → x ≡ 0ℚ → is_zero x ≡ true
 is_zero-at x e = rw (test_of_le x 0ℚ (≤ℚ_of_same x 0ℚ e), test_of_le 0ℚ x (≤ℚ_of_same 0ℚ x (sym e))) refl
 
 pub some_tested : (x : ℚ) → is_zero x ≡ false → x ≢ 0ℚ

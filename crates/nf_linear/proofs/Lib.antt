@@ -1,0 +1,4 @@
+pub mod Taken
+pub mod Sparse
+pub mod Columns
+pub mod Clearing

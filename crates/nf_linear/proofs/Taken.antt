@@ -1,0 +1,76 @@
+-- Lemmas of rows: the test for 0, entries other than 0, and what the entries of a pivot row take off.
+use Rattle.std.proofs.Common.{◌≡◌, ◌≢◌, ℕ, zero, suc, ◌+◌, ◌<◌, ◌≤◌, List, [], ◌∷◌, ◌++◌, length, map, set, take, drop, get_or, replicate, Bool, true, false, refl, sym, ap, subst, ◌∙◌, add-one, append_assoc, length-set, arith}
+use Rattle.std.specs.Prelude.{IsTrue, if◌then◌else◌, Ok, Err, Result}
+use Rattle.std.specs.List.{AllByRecursion}
+use Rattle.std.proofs.lemmas.List.{drop_more}
+use Rattle.nf_rational.specs.Rational.{ℚ}
+use Rattle.nf_rational.specs.Operations.{0ℚ}
+use Rattle.nf_work.specs.Passing.{Passing}
+use Rattle.nf_work.specs.declared.Part.{Part}
+use Rattle.nf_work.specs.declared.Part.TheVariants as Part
+use Rattle.nf_work.specs.Checked.{Checked, at_part, fold_checked, ◌>>=◌}
+use Rattle.nf_work.proofs.Each.{fold_ok}
+use Rattle.nf_lists.specs.Table.{less_unless}
+use Rattle.nf_model.specs.Entries.{number_at}
+use Rattle.nf_lists.specs.Signs.{is_zero}
+use Rattle.nf_linear_laws.proofs.Pivots.{zero_tested, is_zero-at}
+use Rattle.nf_linear.specs.Rows.{some_from, entry_less}
+
+by_cases : (b t : Bool) (x : ℚ) → is_zero x ≡ t → (IsTrue b → x ≡ 0ℚ) → (x ≡ 0ℚ → IsTrue b) → b ≡ t
+by_cases true true x e h k = refl
+by_cases false false x e h k = refl
+by_cases true false x e h k = let f = is_zero-at x (h refl) in absurd (cc)
+by_cases false true x e h k = let f = k (zero_tested x e) in absurd (cc)
+
+pub tests_zero : (b : Bool) (x : ℚ) → (IsTrue b → x ≡ 0ℚ) → (x ≡ 0ℚ → IsTrue b) → b ≡ is_zero x
+tests_zero b x h k = by_cases b (is_zero x) x refl h k
+
+pub replicate_more : {A : Type 0} (n : ℕ) (x : A) → replicate n x ++ x ∷ [] ≡ replicate (suc n) x
+replicate_more zero x = refl
+replicate_more (suc n) x = ap (λ l. x ∷ l) (replicate_more n x)
+
+-- a number inside a list
+number_at-get_or : (xs : List ℚ) (i : ℕ) → number_at xs i ≡ get_or xs i 0ℚ
+number_at-get_or [] i = refl
+number_at-get_or (x ∷ xs) zero = refl
+number_at-get_or (x ∷ xs) (suc i) = number_at-get_or xs i
+
+pub drop_number : (xs : List ℚ) (i : ℕ) → i < length xs → drop i xs ≡ number_at xs i ∷ drop (i + 1) xs
+drop_number xs i b = drop_more xs i 0ℚ b ∙ ap (λ x. x ∷ drop (i + 1) xs) (sym (number_at-get_or xs i))
+
+some_at : (b : Bool) (i : ℕ) (x : ℚ) (rest : List (ℕ × ℚ)) → (if b then [] else (i, x) ∷ []) ++ rest ≡ (if b then rest else (i, x) ∷ rest)
+some_at true i x rest = refl
+some_at false i x rest = refl
+
+pub some_more : (items : List (ℕ × ℚ)) (xs : List ℚ) (i : ℕ) (x : ℚ) → i < length xs → x ≡ number_at xs i
+    → (items ++ (if is_zero x then [] else (i, x) ∷ [])) ++ some_from (i + 1) (drop (i + 1) xs) ≡ items ++ some_from i (drop i xs)
+some_more items xs i x b e =
+    append_assoc items (if is_zero x then [] else (i, x) ∷ []) (some_from (i + 1) (drop (i + 1) xs))
+    ∙ ap (λ (l : List (ℕ × ℚ)). items ++ l)
+    (some_at (is_zero x) i x (some_from (i + 1) (drop (i + 1) xs))
+    ∙ ap (λ (k : ℕ). if is_zero x then some_from k (drop (i + 1) xs) else (i, x) ∷ some_from k (drop (i + 1) xs)) (add-one i)
+    ∙ ap (λ (y : ℚ). some_from i (y ∷ drop (i + 1) xs)) e
+    ∙ ap (some_from i) (sym (drop_number xs i b)))
+
+-- ---- what the entries of a pivot row take off, so far
+pub record TakesOff (passes : Passing) (factor : ℚ) (others : List (ℕ × ℚ)) (before row : List ℚ) (k : ℕ) : Type 0 where
+  pub fits : AllByRecursion (λ (other : ℕ × ℚ). other.0 < length row) (drop k others)
+  pub same : at_part Part.Table (fold_checked (entry_less passes factor) row (drop k others)) ≡ at_part Part.Table (fold_checked (entry_less passes factor) before others)
+
+pub ok_of_part : {A : Type 0} (part : Part) (r : Checked A) (x : A) → Ok x ≡ at_part part r → r ≡ Ok x
+ok_of_part part (Ok a) x e = let h = e in cc
+ok_of_part part (Err p) x e = absurd (cc)
+
+pub takes_more : (passes : Passing) (factor : ℚ) (others : List (ℕ × ℚ)) (before row : List ℚ) (k : ℕ) (e : ℕ × ℚ) (column : ℕ) (p x y : ℚ) (after : List ℚ)
+    → k < length others → e ≡ get_or others k e → (column, p) ≡ e → x ≡ number_at row column → Ok y ≡ at_part Part.Table (less_unless passes false factor p x) → after ≡ set row column y
+    → TakesOff passes factor others before row k → TakesOff passes factor others before after (k + 1)
+takes_more passes factor others before row k e column p x y after b is seen value gives made h =
+    let split : drop k others ≡ (column, p) ∷ drop (k + 1) others = drop_more others k e b ∙ ap (λ (w : ℕ × ℚ). w ∷ drop (k + 1) others) (sym is ∙ sym seen) in
+    let long : length after ≡ length row = ap (length {A = ℚ}) made ∙ length-set row column y in
+    let given : less_unless passes false factor p (number_at row column) ≡ Ok y = ap (λ (w : ℚ). less_unless passes false factor p w) (sym value) ∙ ok_of_part Part.Table (less_unless passes false factor p x) y gives in
+    let step : entry_less passes factor row (column, p) ≡ Ok after = ap (λ (r : Checked ℚ). r >>= λ y. Ok (set row column y)) given ∙ ap Ok (sym made) in
+    record {
+      fits = subst (λ (n : ℕ). AllByRecursion (λ (other : ℕ × ℚ). other.0 < n) (drop (k + 1) others)) (sym long)
+          (subst (λ (l : List (ℕ × ℚ)). AllByRecursion (λ (other : ℕ × ℚ). other.0 < length row) l) split h.fits).1;
+      same = ap (at_part Part.Table) (sym (ap (λ (l : List (ℕ × ℚ)). fold_checked (entry_less passes factor) row l) split ∙ fold_ok (entry_less passes factor) row (column, p) (drop (k + 1) others) after step)) ∙ h.same;
+    }

@@ -1,0 +1,8 @@
+//! Linear systems with as many equations as unknowns, solved by elimination (after Gauss and Jordan) in exact fractions.
+#![tactic(auto)]
+
+mod elimination;
+mod row;
+mod table;
+
+pub use table::Table;

@@ -1,0 +1,147 @@
+// Rows of a table, and what one loses in a step of the elimination.
+ghost use Rattle.std.specs.Prelude.{◌≡◌, ◌≢◌, ℕ, ◌+◌, ◌<◌, List, [], ◌∷◌, ◌++◌, length, set, drop, replicate, false, IfOk, if◌then◌else◌};
+ghost use Rattle.std.specs.List.{AllByRecursion};
+ghost use Rattle.nf_rational.specs.Operations.{0ℚ};
+ghost use Rattle.nf_work.specs.declared.Part.TheVariants as Part;
+ghost use Rattle.nf_work.specs.Checked.{at_part, fold_checked, seen_at};
+ghost use Rattle.nf_model.specs.Entries.{number_at};
+ghost use Rattle.nf_lists.specs.Signs as Signs;
+ghost use Rattle.nf_lists.specs.Table.{less_unless};
+ghost use Rattle.nf_linear.specs.Rows.{some_from, entry_less, clear_row};
+
+use nf_frac::{Part, PassedAt, Scalar};
+use std::alloc::{AllocError, Global};
+use std::marker::Model;
+
+// A number for each unknown, and the right side.
+#[derive(Drop)]
+pub struct Row<S: Scalar> {
+    cells: Vec<S>,
+}
+
+impl<S: Scalar> Model for Row<S> {
+    ghost use Rattle.std.specs.Prelude.{List, map};
+    ghost use Rattle.nf_rational.specs.Rational.{ℚ};
+
+    ghost Value = { List ℚ };
+
+    ghost view = { λ r. map S.means r.cells.items };
+}
+
+// An entry of a row that isn't 0.
+#[derive(Drop)]
+pub struct Entry<S: Scalar> {
+    column: usize,
+    value: S,
+}
+
+impl<S: Scalar> Model for Entry<S> {
+    ghost use Rattle.std.specs.Prelude.{ℕ};
+    ghost use Rattle.nf_rational.specs.Rational.{ℚ};
+
+    ghost Value = { ℕ × ℚ };
+
+    ghost view = { λ e. (e.column, S.means e.value) };
+}
+
+// The value is 0.
+pub fn is_zero<S: Scalar>(value: S) -> bool
+    ensures { result ≡ Signs.is_zero (S.means value) }
+{
+    value == S::zero()
+}
+
+// A value less a factor times another.
+fn less<S: Scalar>(value: S, factor: S, other: S) -> Result<S, PassedAt<S>>
+    ensures { seen_at S.means S.means result ≡ at_part Part.Table (less_unless S.passes false (S.means factor) (S.means other) (S.means value)) }
+{
+    let product = nf_frac::at!(Part::Table, factor.product(other));
+    let less = nf_frac::at!(Part::Table, value.difference(product));
+    Ok(less)
+}
+
+// One more entry, unless it is 0.
+fn push_some<S: Scalar>(
+    entries: &mut Vec<Entry<S>>,
+    column: usize,
+    value: S,
+) -> Result<(), AllocError>
+    ensures { IfOk result (λ _. entries.new.items ≡ entries.old.items ++ (if Signs.is_zero (S.means value) then [] else (column, S.means value) ∷ [])) }
+{
+    if !is_zero(value) {
+        entries.push(Entry { column, value })?;
+    }
+    Ok(())
+}
+
+impl<S: Scalar> Row<S> {
+    // All zero.
+    pub fn zero(alloc: Global, len: usize) -> Result<Row<S>, AllocError>
+        ensures { IfOk result (λ row. row ≡ replicate len 0ℚ) }
+    {
+        let mut cells = Vec::with_capacity(alloc, len)?;
+        for _ in 0..len {
+            cells.push(S::zero())?;
+        }
+        Ok(Row { cells })
+    }
+
+    pub fn at(&self, column: usize) -> S
+        requires { column < length self.now }
+        ensures { S.means result ≡ number_at self.now column }
+    {
+        self.cells[column]
+    }
+
+    pub fn set(&mut self, column: usize, value: S)
+        requires { column < length self.old }
+        ensures { self.new ≡ set self.old column (S.means value) }
+    {
+        self.cells[column] = value;
+    }
+
+    pub fn len(&self) -> usize
+        ensures { result ≡ length self.now }
+    {
+        self.cells.len()
+    }
+
+    // The entries other than 0 after this column.
+    pub fn later(&self, alloc: Global, column: usize) -> Result<Vec<Entry<S>>, AllocError>
+        requires { column < length self.now }
+        ensures { IfOk result (λ later. later.items ≡ some_from (column + 1) (drop (column + 1) self.now)) }
+    {
+        let len = self.len();
+        let mut later = Vec::new(alloc);
+        for i in column + 1..len {
+            push_some(&mut later, i, self.at(i))?;
+        }
+        Ok(later)
+    }
+
+    // Each of these entries of another row, times the factor, is taken off.
+    fn subtract(&mut self, factor: S, others: &[Entry<S>]) -> Result<(), PassedAt<S>>
+        requires { AllByRecursion (λ other. other.0 < length self.old) others.now }
+        ensures { seen_at (λ _. self.new) S.means result ≡ at_part Part.Table (fold_checked (entry_less S.passes (S.means factor)) self.old others.now) }
+    {
+        for other in others {
+            let entry: &Entry<S> = other;
+            let value = self.at(entry.column);
+            let value = less(value, factor, entry.value)?;
+            self.set(entry.column, value);
+        }
+        Ok(())
+    }
+
+    // The entry of this column becomes 0, and the later ones lose those of the pivot row, times the quotient of the two.
+    pub fn clear(&mut self, column: usize, own: S, later: &[Entry<S>]) -> Result<(), PassedAt<S>>
+        requires column { column < length self.old }
+        requires own { S.means own ≢ 0ℚ }
+        requires later { AllByRecursion (λ other. other.0 < length self.old) later.now }
+        ensures { seen_at (λ _. self.new) S.means result ≡ at_part Part.Table (clear_row S.passes column (S.means own) later.now self.old) }
+    {
+        let factor = nf_frac::at!(Part::Table, self.at(column).quotient(own));
+        self.set(column, S::zero());
+        self.subtract(factor, later)
+    }
+}

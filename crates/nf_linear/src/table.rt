@@ -1,0 +1,62 @@
+// Tables of linear systems.
+ghost use Rattle.std.specs.Prelude.{◌≡◌, ℕ, ◌+◌, ◌<◌, ◌≤◌, length, set, replicate, IfOk};
+ghost use Rattle.nf_rational.specs.Operations.{0ℚ};
+ghost use Rattle.nf_lists.specs.Table.{row_at};
+
+use crate::row::Row;
+use nf_frac::Scalar;
+use std::alloc::{AllocError, Global};
+use std::marker::Model;
+
+/// A linear system: as many rows as unknowns, each with a number for each unknown and its right side.
+#[derive(Drop)]
+pub struct Table<S: Scalar> {
+    rows: Vec<Row<S>>,
+}
+
+impl<S: Scalar> Model for Table<S> {
+    ghost use Rattle.std.specs.Prelude.{List};
+    ghost use Rattle.nf_rational.specs.Rational.{ℚ};
+    ghost use Rattle.nf_linear_laws.specs.Solution.{IsSquare};
+
+    ghost Value = { List (List ℚ) };
+
+    ghost view = { λ t. t.rows.items };
+
+    ghost invariant = { λ t. IsSquare t.rows.items };
+}
+
+impl<S: Scalar> Table<S> {
+    /// The table of this many unknowns, all zero.
+    pub fn new(alloc: Global, size: u32) -> Result<Table<S>, AllocError>
+        requires { (0 < size) × (size ≤ 264) }
+        ensures { IfOk result (λ table. table ≡ replicate size (replicate (size + 1) 0ℚ)) }
+    {
+        let count = size as usize;
+        let mut rows = Vec::with_capacity(alloc, count)?;
+        for _ in 0..count {
+            rows.push(Row::zero(alloc, count + 1)?)?;
+        }
+        Ok(Table { rows })
+    }
+
+    /// The number of a row for an unknown becomes this one.
+    pub fn set(&mut self, row: u32, column: u32, value: S)
+        requires row { row < length self.old }
+        requires column { column < length self.old }
+        ensures { self.new ≡ set self.old row (set (row_at self.old row) column (S.means value)) }
+    {
+        let changed = &mut self.rows[row as usize];
+        changed.set(column as usize, value);
+    }
+
+    /// The right side of a row becomes this number.
+    pub fn set_right(&mut self, row: u32, value: S)
+        requires { row < length self.old }
+        ensures { self.new ≡ set self.old row (set (row_at self.old row) (length self.old) (S.means value)) }
+    {
+        let size = self.rows.len();
+        let changed = &mut self.rows[row as usize];
+        changed.set(size, value);
+    }
+}
