@@ -1,3 +1,4 @@
 pub mod Points
 pub mod StepValues
 pub mod Filled
+pub mod Traces
