@@ -3,3 +3,5 @@ pub mod StepValues
 pub mod Filled
 pub mod Traces
 pub mod WellRun
+pub mod AfterPhase
+pub mod Goes

@@ -1,5 +1,5 @@
 -- What the curve list says of a link, by the model's definitions.
-use Rattle.std.proofs.Common.{◌≡◌, ℕ, zero, suc, ◌+◌, List, [], ◌∷◌, Bool, true, false, ⊎_elim, sym, ap, refl, ◌∙◌, arith}
+use Rattle.std.proofs.Common.{◌≡◌, ℕ, zero, suc, ◌+◌, List, [], ◌∷◌, length, Bool, true, false, ⊎_elim, sym, ap, refl, ◌∙◌, arith}
 use Rattle.std.specs.Prelude.{Option, Some, None, Result, Ok, slice_get}
 use Rattle.std.specs.List.{enumerate_from}
 use Rattle.std.proofs.lemmas.Option.{none-some}
@@ -116,6 +116,26 @@ module _ {A B E : Type 0} (f : A → Result B E) where
       let c = each_cons f w xs ys h in
       let rest = each_found xs c.1 c.3 e x at in
       (rest.0, ap (λ (l : List B). slice_get l (suc e)) (sym c.4) ∙ rest.1, rest.2)
+
+  each-length : (xs : List A) (ys : List B) → each f xs ≡ Ok ys → length ys ≡ length xs
+  each-length [] ys h = ap length (none ys h)
+    where
+      none : (ys : List B) → ◌≡◌ {A = Result (List B) E} (Ok []) (Ok ys) → ys ≡ []
+      none ys e = cc
+  each-length (w ∷ xs) ys h =
+      let c = each_cons f w xs ys h in
+      ap length (sym c.4) ∙ ap suc (each-length xs c.1 c.3)
+
+enumerated-length : {A : Type 0} (k : ℕ) (xs : List A) → length (enumerate_from k xs) ≡ length xs
+enumerated-length k [] = refl
+enumerated-length k (x ∷ xs) = ap suc (enumerated-length (k + 1) xs)
+
+pub steps-length : (passes : Passing) (net : Network) (sets : Sets) (pattern : Pattern) (while : ℚ) (flows slopes labels amounts : List ℚ) (steps : List LinkStep)
+    → curve_list passes net sets pattern while flows slopes labels amounts ≡ Ok steps → length steps ≡ length net.links
+unfolding curve_list
+steps-length passes net sets pattern while flows slopes labels amounts steps h =
+    each-length (λ (numbered : ℕ × Link). link_step passes while (number_at amounts numbered.0) (link_phase sets pattern flows slopes labels numbered)) (enumerate_from 0 net.links) steps h
+    ∙ enumerated-length 0 net.links
 
 pub step_value_at : (passes : Passing) (net : Network) (sets : Sets) (pattern : Pattern) (length : ℚ) (flows slopes labels amounts : List ℚ) (steps : List LinkStep)
     → curve_list passes net sets pattern length flows slopes labels amounts ≡ Ok steps → (e : ℕ) (link : Link) → IsLink net e link
