@@ -5,3 +5,4 @@ pub mod Traces
 pub mod WellRun
 pub mod AfterPhase
 pub mod Goes
+pub mod Run
