@@ -1,27 +1,26 @@
 -- One phase of a run keeps what holds of its curves.
-use Rattle.std.proofs.Common.{◌≡◌, ℕ, ◌<◌, List, [], ◌∷◌, length, Bool, true, false, sym, ap, subst, refl, ◌∙◌, arith}
+use Rattle.std.proofs.Common.{◌≡◌, ℕ, ◌<◌, List, [], ◌∷◌, length, sym, ap, subst, refl, ◌∙◌, arith}
 use Rattle.std.specs.Prelude.{Option, Some, None, map, slice_get, unwrap_or}
 use Rattle.std.specs.List.{last_or}
 use Rattle.std.specs.Option.{option_map_or}
 use Rattle.std.proofs.lemmas.Option.{same_Some, slice_get_within}
 use Rattle.nf_rational.specs.Rational.{ℚ}
 use Rattle.nf_rational.specs.Operations.{0ℚ, ◌+ℚ◌, ◌-ℚ◌, ◌*ℚ◌, ◌/ℚ◌}
-use Rattle.nf_rational.specs.Order.{◌≤ℚ◌, ◌<ℚ◌}
+use Rattle.nf_rational.specs.Order.{◌<ℚ◌}
 use Rattle.nf_rational_laws.proofs.Polynomial.{reading_of}
-use Rattle.nf_rational_laws.proofs.Linear.{lt, eq, eq_times, linear_lt, linear_eq}
+use Rattle.nf_rational_laws.proofs.Linear.{lt, eq, linear_lt, linear_eq}
 use Rattle.nf_work.specs.Passing.{Passing}
 use Rattle.nf_model.specs.Entries.{number_at}
-use Rattle.nf_model.specs.Curve.{Point, Within, value, AreSlopes}
-use Rattle.nf_model.specs.Network.{Link, Network, IsNetwork, IsLink, hop_of, hops, unbounded, rate_at}
+use Rattle.nf_model.specs.Curve.{Point, Within, AreSlopes}
+use Rattle.nf_model.specs.Network.{Link, Network, IsNetwork, IsLink, hop_of, hops, rate_at}
 use Rattle.nf_model.specs.ThinFlow.{slack, slacks_of, sets_at, IsThinFlow}
 use Rattle.nf_model.specs.Pattern.{Pattern, IsListedIn, Solves, Meets}
-use Rattle.nf_model.specs.Phases.{slack_after, moved, Lasts, IsPhaseLength, IsPhase}
+use Rattle.nf_model.specs.Phases.{slack_after, Lasts, IsPhaseLength, IsPhase}
 use Rattle.nf_model_laws.proofs.Affine.{≤_refl}
 use Rattle.nf_model_laws.proofs.Curves.{EndsAt-value}
 use Rattle.nf_model_laws.proofs.Slacks.{slack_at, slack_after-moved}
-use Rattle.nf_lists.specs.Signs.{is_positive}
-use Rattle.nf_lists.specs.CurveList.{LinkStep, LinkPhase, is_filled, link_phase}
-use Rattle.nf_lists.specs.ReportCurves.{GrowingCurve, LinkCurves, goes_on, with_point, curve_with, trace_after, queue_after, curves_after, amount_so_far}
+use Rattle.nf_lists.specs.CurveList.{LinkStep, LinkPhase, link_phase}
+use Rattle.nf_lists.specs.ReportCurves.{GrowingCurve, LinkCurves, curve_with, curves_after, amount_so_far}
 use Rattle.nf_lists.specs.PhaseRun.{Standing, PhaseStep, standing_after, flow_of}
 use Rattle.nf_lists_laws.proofs.Ending.{last-append, number-moved, length-moved, PhaseParts}
 use Rattle.nf_thin_laws.proofs.Accepted.{IsThinFlow-accepted}
@@ -29,7 +28,7 @@ use Rattle.nf_thin_laws.proofs.ActiveLinks.{AreSets-sets_at}
 use Rattle.nf_phase_laws.specs.Invariant.{link_slack, queue_by_slack}
 use Rattle.nf_phase_laws.specs.CurveSteps.{LastPoint, GoesOnTo, at, CurvesGoOn}
 use Rattle.nf_phase_laws.specs.DescriptionCurves.{DescriptionCurvesGoOn}
-use Rattle.nf_phase_laws.specs.CurveRun.{Curves, GrowByPhases, grow, curves_of}
+use Rattle.nf_phase_laws.specs.CurveRun.{Curves, grow, curves_of}
 use Rattle.nf_phase_laws.proofs.Holds.{sent-is}
 use Rattle.nf_phase_laws.proofs.Thin.{slack-is}
 use Rattle.nf_phase_laws.proofs.Phases.{Lasts-phase}

@@ -1,11 +1,11 @@
 -- Curves in short form that go on by a point: the slope that is recorded is that of the last two points.
-use Rattle.std.proofs.Common.{◌≡◌, ℕ, suc, List, [], ◌∷◌, ◌++◌, length, Bool, true, false, ⊎_elim, sym, ap, subst, refl, ◌∙◌, append_assoc, length-append, arith}
+use Rattle.std.proofs.Common.{◌≡◌, ℕ, suc, List, [], ◌∷◌, ◌++◌, length, Bool, true, false, sym, ap, subst, refl, ◌∙◌, append_assoc, length-append, arith}
 use Rattle.std.specs.Prelude.{◌-◌, ◌+◌, ◌&&◌, Option, Some, None, take}
 use Rattle.std.specs.List.{last_or}
 use Rattle.std.proofs.lemmas.Option.{same_Some}
 use Rattle.nf_rational.specs.Rational.{ℚ}
-use Rattle.nf_rational.specs.Operations.{0ℚ, ◌+ℚ◌, ◌-ℚ◌, ◌*ℚ◌}
-use Rattle.nf_rational.specs.Order.{◌≤ℚ◌, ◌<ℚ◌, le_ℚ}
+use Rattle.nf_rational.specs.Operations.{◌-ℚ◌, ◌*ℚ◌}
+use Rattle.nf_rational.specs.Order.{◌<ℚ◌, le_ℚ}
 use Rattle.nf_rational_laws.proofs.Polynomial.{reading_of}
 use Rattle.nf_rational_laws.proofs.Order.{≤ℚ_antisymm}
 use Rattle.nf_rational_laws.proofs.Tests.{le_of_test}

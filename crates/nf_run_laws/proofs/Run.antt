@@ -1,12 +1,12 @@
 -- The report of a run is an equilibrium.
-use Rattle.std.proofs.Common.{◌≡◌, ℕ, ◌<◌, List, length, sym, ap, subst, ◌∙◌, arith}
-use Rattle.std.specs.Prelude.{Option, Some, map, slice_get}
+use Rattle.std.proofs.Common.{◌≡◌, length, sym, subst, ◌∙◌}
+use Rattle.std.specs.Prelude.{Option, map}
 use Rattle.std.proofs.lemmas.List.{length-map}
 use Rattle.nf_rational.specs.Rational.{ℚ}
 use Rattle.nf_work.specs.Passing.{Passing}
-use Rattle.nf_model.specs.Curve.{Point, IsCurve, AreSlopes}
-use Rattle.nf_model.specs.Network.{Link, Network, IsNetwork, IsLink}
-use Rattle.nf_model.specs.Equilibrium.{Trace, points_of, AreCurves, HasShape, HasSlopes, Equilibrium}
+use Rattle.nf_model.specs.Curve.{AreSlopes}
+use Rattle.nf_model.specs.Network.{Network, IsNetwork}
+use Rattle.nf_model.specs.Equilibrium.{Trace, HasShape, HasSlopes, Equilibrium}
 use Rattle.nf_formats.specs.declared.Cause.{Cause}
 use Rattle.nf_formats.specs.Report.{Report}
 use Rattle.nf_lists.specs.ReportCurves.{GrowingCurve, LinkCurves}

@@ -1,22 +1,22 @@
 -- How the curves of a run go on in a phase: one at a node whose label moves, and not at all where it stands still.
-use Rattle.std.proofs.Common.{◌≡◌, List, [], ◌∷◌, Bool, true, false, sym, ap, subst, refl, ◌∙◌}
-use Rattle.std.specs.Prelude.{Option, Some, None}
+use Rattle.std.proofs.Common.{◌≡◌, List, [], ◌∷◌, Bool, true, false, sym, subst, refl}
+use Rattle.std.specs.Prelude.{Option, None}
 use Rattle.std.specs.List.{last_or}
 use Rattle.nf_rational.specs.Rational.{ℚ}
 use Rattle.nf_rational.specs.Operations.{0ℚ, ◌+ℚ◌, ◌-ℚ◌, ◌*ℚ◌, ◌/ℚ◌}
-use Rattle.nf_rational.specs.Order.{◌≤ℚ◌, ◌<ℚ◌}
+use Rattle.nf_rational.specs.Order.{◌<ℚ◌}
 use Rattle.nf_rational_laws.proofs.Polynomial.{reading_of}
 use Rattle.nf_rational_laws.proofs.Order.{ps_times, ≤ℚ_of_same}
 use Rattle.nf_rational_laws.proofs.Linear.{lt, eq, eq_times, linear_lt, linear_eq}
-use Rattle.nf_model.specs.Curve.{Point, slope, AreSlopes}
+use Rattle.nf_model.specs.Curve.{Point, AreSlopes}
 use Rattle.nf_model.specs.Equilibrium.{Trace}
 use Rattle.nf_model_laws.proofs.Affine.{quotient-times, clash}
 use Rattle.nf_lists.specs.Signs.{is_positive}
 use Rattle.nf_lists.specs.CurveList.{LinkPhase}
-use Rattle.nf_lists.specs.ReportCurves.{GrowingCurve, goes_on, with_point, with_rate, curve_with, trace_after, queue_after}
+use Rattle.nf_lists.specs.ReportCurves.{GrowingCurve, goes_on, with_point, with_rate, trace_after, queue_after}
 use Rattle.nf_phase_laws.specs.Invariant.{queue_by_slack}
 use Rattle.nf_phase_laws.specs.CurveSteps.{LastPoint, GoesOnTo}
-use Rattle.nf_run_laws.proofs.Points.{slope_is, LastSlope, EndsWithSlope, Went, went, AreSlopes-after}
+use Rattle.nf_run_laws.proofs.Points.{slope_is, LastSlope, Went, went, AreSlopes-after}
 use Rattle.nf_run_laws.proofs.StepValues.{filled_slope, rate_value, queue_value, positive_of, none_of}
 
 -- ---- from a last point to a new one, as they are written

@@ -1,8 +1,8 @@
 -- What holds of the curves of a run wherever it stands; and that it holds at the start.
 use Rattle.std.proofs.Common.{◌≡◌, ℕ, ◌<◌, List, [], ◌∷◌, length, get_or, if◌then◌else◌, Bool, true, false, sym, ap, subst, refl, ◌∙◌, arith}
-use Rattle.std.specs.Prelude.{Option, Some, None, map, slice_get, unwrap_or}
+use Rattle.std.specs.Prelude.{Option, Some, map, slice_get, unwrap_or}
 use Rattle.std.specs.Option.{option_map}
-use Rattle.std.proofs.lemmas.Option.{slice_get-map, slice_get-get_or, slice_get_within}
+use Rattle.std.proofs.lemmas.Option.{slice_get-map, slice_get-get_or}
 use Rattle.std.proofs.lemmas.List.{length-map}
 use Rattle.nf_rational.specs.Rational.{ℚ}
 use Rattle.nf_rational.specs.Operations.{0ℚ, ◌-ℚ◌, ◌*ℚ◌}
@@ -11,13 +11,13 @@ use Rattle.nf_rational_laws.proofs.Polynomial.{reading_of}
 use Rattle.nf_rational_laws.proofs.Linear.{linear_eq}
 use Rattle.nf_model.specs.Entries.{number_at}
 use Rattle.nf_model.specs.Curve.{Point, slope, AreSlopes}
-use Rattle.nf_model.specs.Network.{Link, Network, IsNetwork, IsLink}
+use Rattle.nf_model.specs.Network.{Link, Network, IsLink}
 use Rattle.nf_model.specs.Equilibrium.{Trace, points_at, points_of}
 use Rattle.nf_lists.specs.Signs.{is_positive}
 use Rattle.nf_lists.specs.ReportCurves.{GrowingCurve, LinkCurves, first_label_curve, first_trace, first_queue, first_curves}
 use Rattle.nf_lists.specs.PhaseRun.{Standing, IsStart, flow_of}
 use Rattle.nf_lists_laws.proofs.Ending.{from_map}
-use Rattle.nf_phase_laws.specs.CurveRun.{first_points, FirstCurves, GrowByPhases, begin, curves_of}
+use Rattle.nf_phase_laws.specs.CurveRun.{FirstCurves, GrowByPhases, begin, curves_of}
 use Rattle.nf_run_laws.proofs.Points.{slope_is, LastSlope}
 use Rattle.nf_run_laws.proofs.StepValues.{positive_of}
 
