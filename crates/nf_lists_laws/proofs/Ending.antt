@@ -83,7 +83,7 @@ module _ (net : Network) (is_network : IsNetwork net) where
   first_queue_end true label nn test = refl
   first_queue_end false label nn test = sym (not_positive label nn test)
 
-  pub first_curves_are : (labels : List ℚ) (e : ℕ) (link : Link) (curves : LinkCurves) → IsLink net e link → slice_get (map (first_curves labels) net.links) e ≡ Some curves
+  first_curves_are : (labels : List ℚ) (e : ℕ) (link : Link) (curves : LinkCurves) → IsLink net e link → slice_get (map (first_curves labels) net.links) e ≡ Some curves
       → first_curves labels link ≡ curves
   first_curves_are labels e link curves h k =
       let from = from_map (first_curves labels) net.links e curves k in
@@ -105,11 +105,11 @@ module _ (net : Network) (is_network : IsNetwork net) where
   }
 
 -- ---- what a computation that ends with a value did
-pub bind_ok : {A B E : Type 0} (r : Result A E) (f : A → Result B E) (y : B) → (r >>= f) ≡ Ok y → (x : A) × (r ≡ Ok x) × (f x ≡ Ok y)
+bind_ok : {A B E : Type 0} (r : Result A E) (f : A → Result B E) (y : B) → (r >>= f) ≡ Ok y → (x : A) × (r ≡ Ok x) × (f x ≡ Ok y)
 bind_ok (Ok x) f y h = (x, refl, h)
 bind_ok (Err e) f y h = cc
 
-pub part_ok : {A : Type 0} (part : Part) (r : Checked A) (x : A) → at_part part r ≡ Ok x → r ≡ Ok x
+part_ok : {A : Type 0} (part : Part) (r : Checked A) (x : A) → at_part part r ≡ Ok x → r ≡ Ok x
 part_ok part (Ok y) x h = cc
 part_ok part (Err p) x h = cc
 
@@ -121,7 +121,7 @@ module _ {A B E : Type 0} (f : A → Result B E) where
       let whole : first.0 ∷ rest.0 ≡ ys = (let e = rest.2 in cc) in
       (first.0, rest.0, first.1, rest.1, whole)
 
-  pub each_at : (xs : List A) (ys : List B) → each f xs ≡ Ok ys → (e : ℕ) (x : A) (y : B) → slice_get xs e ≡ Some x → slice_get ys e ≡ Some y → f x ≡ Ok y
+  each_at : (xs : List A) (ys : List B) → each f xs ≡ Ok ys → (e : ℕ) (x : A) (y : B) → slice_get xs e ≡ Some x → slice_get ys e ≡ Some y → f x ≡ Ok y
   each_at [] ys h e x y at_x at_y = absurd (none-some x at_x)
   each_at (w ∷ xs) ys h zero x y at_x at_y =
       let c = each_cons w xs ys h in
