@@ -35,7 +35,7 @@ use Rattle.nf_lists_laws.proofs.Exact.{advanced_exact}
 use Rattle.nf_lists.specs.Ends.{end_of, EndsAtLabels}
 
 -- ---- the last point
-last-append : {A : Type 0} (o : Option A) (xs : List A) (x : A) → last_or o (xs ++ x ∷ []) ≡ Some x
+pub last-append : {A : Type 0} (o : Option A) (xs : List A) (x : A) → last_or o (xs ++ x ∷ []) ≡ Some x
 last-append o [] x = refl
 last-append o (y ∷ xs) x = last-append (Some y) xs x
 
@@ -45,7 +45,7 @@ end-with_point false points point = ap (λ (o : Option Point). option_map_or (λ
 
 -- ---- entries of lists that are made of others
 module _ {A B : Type 0} (f : A → B) where
-  from_map : (xs : List A) (e : ℕ) (y : B) → slice_get (map f xs) e ≡ Some y → (x : A) × (slice_get xs e ≡ Some x) × (f x ≡ y)
+  pub from_map : (xs : List A) (e : ℕ) (y : B) → slice_get (map f xs) e ≡ Some y → (x : A) × (slice_get xs e ≡ Some x) × (f x ≡ y)
   from_map [] e y h = absurd (none-some y h)
   from_map (x ∷ xs) zero y h = (x, refl, same_Some (f x) y h)
   from_map (x ∷ xs) (suc e) y h = from_map xs e y h
@@ -114,7 +114,7 @@ part_ok part (Ok y) x h = cc
 part_ok part (Err p) x h = cc
 
 module _ {A B E : Type 0} (f : A → Result B E) where
-  each_cons : (w : A) (xs : List A) (ys : List B) → each f (w ∷ xs) ≡ Ok ys → (z : B) × (zs : List B) × (f w ≡ Ok z) × (each f xs ≡ Ok zs) × (z ∷ zs ≡ ys)
+  pub each_cons : (w : A) (xs : List A) (ys : List B) → each f (w ∷ xs) ≡ Ok ys → (z : B) × (zs : List B) × (f w ≡ Ok z) × (each f xs ≡ Ok zs) × (z ∷ zs ≡ ys)
   each_cons w xs ys h =
       let first = bind_ok (f w) (λ z. each f xs >>= λ zs. Ok (z ∷ zs)) ys h in
       let rest = bind_ok (each f xs) (λ zs. Ok (first.0 ∷ zs)) ys first.2 in
@@ -130,20 +130,20 @@ module _ {A B E : Type 0} (f : A → Result B E) where
       let c = each_cons w xs ys h in
       each_at xs c.1 c.3 e x y at_x (ap (λ (l : List B). slice_get l (suc e)) c.4 ∙ at_y)
 
-enumerated : {A : Type 0} (k : ℕ) (xs : List A) (e : ℕ) (x : A) → slice_get xs e ≡ Some x → slice_get (enumerate_from k xs) e ≡ Some (k + e, x)
+pub enumerated : {A : Type 0} (k : ℕ) (xs : List A) (e : ℕ) (x : A) → slice_get xs e ≡ Some x → slice_get (enumerate_from k xs) e ≡ Some (k + e, x)
 enumerated k [] e x h = absurd (none-some x h)
 enumerated k (y ∷ xs) zero x h = ap (λ (p : ℕ × _). Some p) (let e : k ≡ k + 0 = omega arith in ap (λ (i : ℕ). (i, y)) e ∙ ap (λ (z : _). (k + 0, z)) (same_Some y x h))
 enumerated k (y ∷ xs) (suc e) x h = enumerated (k + 1) xs e x h ∙ ap (λ (i : ℕ). Some (i, x)) (let f : (k + 1) + e ≡ k + suc e = omega arith in f)
 
 -- ---- the labels that are moved
-number-moved : (labels slopes : List ℚ) (while : ℚ) (v : ℕ) → length slopes ≡ length labels → number_at (moved labels slopes while) v ≡ number_at labels v +ℚ while *ℚ number_at slopes v
+pub number-moved : (labels slopes : List ℚ) (while : ℚ) (v : ℕ) → length slopes ≡ length labels → number_at (moved labels slopes while) v ≡ number_at labels v +ℚ while *ℚ number_at slopes v
 number-moved [] [] while v count = ring rationals (while ∷ []) (search reading depth 30) tt
 number-moved [] (r ∷ slopes) while v count = absurd (omega arith)
 number-moved (x ∷ labels) [] while v count = absurd (omega arith)
 number-moved (x ∷ labels) (r ∷ slopes) while zero count = refl
 number-moved (x ∷ labels) (r ∷ slopes) while (suc v) count = number-moved labels slopes while v (omega arith)
 
-length-moved : (labels slopes : List ℚ) (while : ℚ) → length slopes ≡ length labels → length (moved labels slopes while) ≡ length labels
+pub length-moved : (labels slopes : List ℚ) (while : ℚ) → length slopes ≡ length labels → length (moved labels slopes while) ≡ length labels
 length-moved [] [] while count = refl
 length-moved [] (r ∷ slopes) while count = absurd (omega arith)
 length-moved (x ∷ labels) [] while count = absurd (omega arith)
@@ -237,7 +237,7 @@ module _ (passes : Passing) (net : Network) (is_network : IsNetwork net) (horizo
       → PhaseParts passes net s pattern flows slopes step
   parts_of_step s pattern flows slopes step while labels links same h k = subst (λ (t : PhaseStep). PhaseParts passes net s pattern flows slopes t) same (record { labels = h; links = k })
 
-  phase_parts : (s : Standing) (pattern : Pattern) (flows slopes : List ℚ) (step : PhaseStep) → length slopes ≡ length s.labels → phase_lists passes net horizon s pattern flows slopes ≡ Ok step
+  pub phase_parts : (s : Standing) (pattern : Pattern) (flows slopes : List ℚ) (step : PhaseStep) → length slopes ≡ length s.labels → phase_lists passes net horizon s pattern flows slopes ≡ Ok step
       → PhaseParts passes net s pattern flows slopes step
   unfolding phase_lists
   phase_parts s pattern flows slopes step count h =

@@ -66,7 +66,7 @@ first_stands points l z e f h = subst (λ (ps : List Point). LastPoint ps (z, va
     (subst (λ (y : ℚ). LastPoint (first_points l) (z, y)) (sym (first_value l z)) (subst (λ (a : ℚ). LastPoint (first_points l) (a, 0ℚ)) (sym f) (first_last l h)))
 
 -- ---- what is known of curves that grow by phases
-record Grown (net : Network) (until : ℚ) (labels : List ℚ) (curves : Curves) : Type 0 where
+pub record Grown (net : Network) (until : ℚ) (labels : List ℚ) (curves : Curves) : Type 0 where
   pub stands : Stands net until labels (at curves.inflows) (at curves.labels)
   pub curves_stand : CurvesStand net curves.inflows curves.labels until
   pub describes : DescribesLinks net (at curves.inflows) (at curves.labels) (at curves.outflows) (at curves.queues) until
@@ -150,7 +150,7 @@ module _ (net : Network) (good : IsNetwork net) (horizon time time' : ℚ) (labe
         curves.outflows curves.queues curves'.outflows curves'.queues good some phase.thin.no_negative_slope into grown.stands.holds holds_after goes grown.describes grown.description_stands describe);
   }
 
-grown_by : (net : Network) (horizon until : ℚ) (labels : List ℚ) (curves : Curves) → IsNetwork net → GrowByPhases net horizon until labels curves → Grown net until labels curves
+pub grown_by : (net : Network) (horizon until : ℚ) (labels : List ℚ) (curves : Curves) → IsNetwork net → GrowByPhases net horizon until labels curves → Grown net until labels curves
 grown_by net horizon until labels curves good (begin _ _ least first) = Grown-first net good labels curves least first
 grown_by net horizon until labels curves good (grow time _ before _ curves_0 _ phase earlier go describe) =
     Grown-after net good horizon time until before labels curves_0 curves phase (grown_by net horizon time before curves_0 good earlier) go describe

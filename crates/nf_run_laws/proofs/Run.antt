@@ -1,0 +1,70 @@
+-- The report of a run is an equilibrium.
+use Rattle.std.proofs.Common.{◌≡◌, length, sym, subst, ◌∙◌}
+use Rattle.std.specs.Prelude.{Option, map}
+use Rattle.std.proofs.lemmas.List.{length-map}
+use Rattle.nf_rational.specs.Rational.{ℚ}
+use Rattle.nf_work.specs.Passing.{Passing}
+use Rattle.nf_model.specs.Curve.{AreSlopes}
+use Rattle.nf_model.specs.Network.{Network, IsNetwork}
+use Rattle.nf_model.specs.Equilibrium.{Trace, HasShape, HasSlopes, Equilibrium}
+use Rattle.nf_formats.specs.declared.Cause.{Cause}
+use Rattle.nf_formats.specs.Report.{Report}
+use Rattle.nf_lists.specs.ReportCurves.{GrowingCurve, LinkCurves}
+use Rattle.nf_lists.specs.PhaseRun.{Standing, Bounds, Goes, Runs, at_horizon, at_phases, fails, goes, IsPhaseRun, IsRunReport, flow_of}
+use Rattle.nf_lists_laws.proofs.Ending.{from_map, phase_parts}
+use Rattle.nf_phase_laws.specs.CurveRun.{GrowByPhases, curves_of}
+use Rattle.nf_phase_laws.proofs.Holds.{link_within}
+use Rattle.nf_phase_laws.proofs.CurveRun.{Grown, grown_by, Equilibrium-phases}
+use Rattle.nf_run_laws.proofs.WellRun.{WellRun, WellRun-start}
+use Rattle.nf_run_laws.proofs.Goes.{WellRun-after}
+
+-- ---- phase by phase
+module _ (passes : Passing) (net : Network) (good : IsNetwork net) (bounds : Bounds) where
+  WellRun-goes : (s t : Standing) → Goes passes net bounds.horizon bounds.patterns s t → WellRun net bounds.horizon s → WellRun net bounds.horizon t
+  WellRun-goes s t g well =
+      let first = g.finds.search.is_search.answers in
+      let grown : Grown net s.time s.labels (curves_of (flow_of s)) = grown_by net bounds.horizon s.time s.labels (curves_of (flow_of s)) good well.grow in
+      let count : length g.slopes ≡ length s.labels = first.solution.solves.slope_count ∙ sym grown.stands.count in
+      subst (WellRun net bounds.horizon) (sym g.new_is)
+      (WellRun-after passes net good bounds.horizon s g.pattern g.flows g.slopes g.step well g.finds.below
+      (g.finds.search.is_search.is_listing.listed g.place g.pattern first.has_place) first.solution.solves first.solution.meets
+      (phase_parts passes net good bounds.horizon bounds.patterns s g.pattern g.flows g.slopes g.step count g.lists) g.is_length)
+
+  WellRun-runs : (s last : Standing) (stop : Option (Cause ℚ)) → WellRun net bounds.horizon s → Runs passes net bounds s last stop → WellRun net bounds.horizon last
+  WellRun-runs s last stop well (at_horizon e) = well
+  WellRun-runs s last stop well (at_phases below e) = well
+  WellRun-runs s last stop well (fails may f) = well
+  WellRun-runs s last stop well (goes {new = t} may g rest) = WellRun-runs t last stop (WellRun-goes s t g well) rest
+
+  module _ (last : Standing) (stop : Option (Cause ℚ)) (run : IsPhaseRun passes net bounds last stop) where
+    well : WellRun net bounds.horizon last
+    well = WellRun-runs run.first last stop (WellRun-start net bounds.horizon run.first run.start) run.runs
+
+    pub run_grows : GrowByPhases net bounds.horizon last.time last.labels (curves_of (flow_of last))
+    run_grows = well.grow
+
+    grown : Grown net last.time last.labels (curves_of (flow_of last))
+    grown = grown_by net bounds.horizon last.time last.labels (curves_of (flow_of last)) good run_grows
+
+    many : {B : Type 0} (f : LinkCurves → B) → length (map f last.link_curves) ≡ length net.links
+    many f = length-map last.link_curves f ∙ well.link_count
+
+    pub run_shape : HasShape net (flow_of last)
+    run_shape = record {
+      labels = record { count = length-map last.label_curves (λ (c : GrowingCurve). c.points) ∙ well.label_count; each = λ v h. (grown.curves_stand.labels_end v h).curve };
+      inflows = record { count = length-map (flow_of last).inflows (λ (t : Trace). t.points) ∙ many (λ c. c.inflow); each = λ e h. (let l = link_within net e h in (grown.curves_stand.inflows_end e l.0 l.1).curve) };
+      outflows = record { count = length-map (flow_of last).outflows (λ (t : Trace). t.points) ∙ many (λ c. c.outflow); each = λ e h. (let l = link_within net e h in (grown.description_stands.outflows_end e l.0 l.1).curve) };
+      queues = record { count = many (λ c. c.queue.points); each = λ e h. (let l = link_within net e h in (grown.description_stands.queues_end e l.0 l.1).curve) };
+    }
+
+    pub run_slopes : HasSlopes (flow_of last).inflows × HasSlopes (flow_of last).outflows
+    run_slopes = (
+      λ e trace h. (let c = from_map (λ (c : LinkCurves). c.inflow) last.link_curves e trace h in subst (λ (t : Trace). AreSlopes t.points t.rates) c.2 (well.inflow_rates e c.0 c.1)),
+      λ e trace h. (let c = from_map (λ (c : LinkCurves). c.outflow) last.link_curves e trace h in subst (λ (t : Trace). AreSlopes t.points t.rates) c.2 (well.outflow_rates e c.0 c.1)),
+    )
+
+    pub run_equilibrium : Equilibrium net (flow_of last)
+    run_equilibrium = Equilibrium-phases net bounds.horizon last.labels (flow_of last) good run_grows run_shape run_slopes.0 run_slopes.1
+
+  pub report_equilibrium : (report : Report) → IsRunReport passes net bounds report → Equilibrium net report.flow
+  report_equilibrium report r = subst (λ (w : Report). Equilibrium net w.flow) (sym r.report_is) (run_equilibrium r.last r.stop r.run)

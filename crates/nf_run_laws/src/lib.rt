@@ -1,0 +1,26 @@
+//! Laws of phase runs: that the report of a run, phase by phase with the first accepted pattern of each, is an equilibrium. Each is the
+//! contract of a public function with an empty body.
+#![tactic(auto)]
+
+ghost use Rattle.nf_run_laws.specs.RunLaws.{RunGrowsByPhases, RunHasShape, RunHasSlopes, RunReportIsEquilibrium};
+
+/// The curves of a run grow phase by phase from the start, each by one point as the phase's thin flow and length say.
+pub fn run_grows_by_phases()
+    ensures { RunGrowsByPhases }
+{}
+
+/// A run has one curve of each kind for each node or link.
+pub fn run_has_shape()
+    ensures { RunHasShape }
+{}
+
+/// The rates of a run's inflows and outflows are the slopes of their curves.
+pub fn run_has_slopes()
+    ensures { RunHasSlopes }
+{}
+
+/// The report of a phase run is an equilibrium of the network: a Nash flow over time up to the departure that it reached (Koch and
+/// Skutella 2011), with the outflows, queues and rates of its links.
+pub fn run_report_is_equilibrium()
+    ensures { RunReportIsEquilibrium }
+{}
