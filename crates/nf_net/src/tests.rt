@@ -28,8 +28,14 @@ fn broken(rule: NetRule, line: u32) -> Option<NetFault> {
 #[test]
 fn the_first_broken_rule_is_named(rt: HostRuntime) -> Result<(), Fail> {
     assert_eq!(rt; fault(rt.alloc(), ""), broken(NetRule::N3, 1));
-    assert_eq!(rt; fault(rt.alloc(), "nfot 1\nsource s/t\n"), broken(NetRule::N7, 2));
-    assert_eq!(rt; fault(rt.alloc(), "nfot 1\nsource s\nend\n"), broken(NetRule::N18, 0));
+    assert_eq!(rt;
+        fault(rt.alloc(), "nfot 1\nsource s/t\n"),
+        broken(NetRule::N7, 2)
+    );
+    assert_eq!(rt;
+        fault(rt.alloc(), "nfot 1\nsource s\nend\n"),
+        broken(NetRule::N18, 0)
+    );
     Ok(())
 }
 
