@@ -4,5 +4,7 @@
 mod elimination;
 mod row;
 mod table;
+#[cfg(test)]
+mod tests;
 
 pub use table::Table;
