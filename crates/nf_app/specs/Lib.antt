@@ -1,4 +1,3 @@
 pub mod Requests
-pub mod FullPhase
 pub mod Answers
 pub mod Runs

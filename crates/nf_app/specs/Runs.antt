@@ -1,20 +1,18 @@
 -- When a run of the program gives which answer, and what its sinks then took.
-use Rattle.std.specs.Prelude.{◌≡◌, ◌⊎◌, ℕ, ◌<◌, ◌≤◌, true, false, List, [], ◌∷◌, ◌++◌, Option, Some, None, IfSome, Result, Ok, Err}
+use Rattle.std.specs.Prelude.{◌≡◌, ◌⊎◌, ℕ, ◌<◌, ◌≤◌, false, List, [], ◌∷◌, ◌++◌, Option, Some, None, IfSome, Result, Ok, Err}
 use Rattle.nf_rational.specs.Rational.{ℚ}
-use Rattle.nf_work.specs.Passing.{beyond}
 use Rattle.nf_edge.specs.Faults.{Rose}
 use Rattle.nf_edge.specs.Taken.{with_more, TookFront}
-use Rattle.nf_model.specs.Equilibrium.{Equilibrium}
-use Rattle.nf_formats.specs.Numbers.{greatest}
 use Rattle.nf_formats.specs.Named.{Named}
 use Rattle.nf_formats.specs.NetLines.{Broken}
 use Rattle.nf_formats.specs.NetFile.{Reads}
-use Rattle.nf_formats.specs.Report.{Report, IsWellFormed}
+use Rattle.nf_formats.specs.Report.{Report}
 use Rattle.nf_formats.specs.ErrorLines.{output_line}
 use Rattle.nf_app.specs.declared.status.Status.{Status}
 use Rattle.nf_app.specs.declared.status.Status.TheVariants as Status
 use Rattle.nf_app.specs.Requests.{Request, Show, Solve, file_of, request_of}
-use Rattle.nf_app.specs.FullPhase.{has_one_full_phase, IsFullPhaseReport}
+use Rattle.nf_one_link.specs.FullPhase.{has_one_full_phase}
+use Rattle.nf_one_link.specs.Solution.{IsSolution}
 use Rattle.nf_app.specs.Answers.{Answer, Shown, Solved, NoMemory, NoRequest, ShelfFailed, ShelfTooLong, Malformed, Unbuilt, status_of, out_text, err_text}
 
 -- the most bytes that a network file may have
@@ -51,15 +49,6 @@ pub record Read (call : Call) (request : Request) (read : Result Named Broken) :
   pub reads : FileReads call request read
 
 -- ---- what is answered
--- The report describes a flow which is an equilibrium up to the time reached, and it is the report of the one phase: so it
--- reaches the horizon, or it has the first operation that passes as its cause.
-pub record IsSolution (n : Named) (horizon : ℚ) (report : Report) : Type 0 where
-  pub built : has_one_full_phase n.net horizon ≡ true
-  pub horizon_is : report.horizon ≡ horizon
-  pub well_formed : IsWellFormed n.net report
-  pub equilibrium : Equilibrium n.net report.flow
-  pub phase : IsFullPhaseReport (beyond greatest) n.net horizon report
-
 -- a request to show this file, and one to solve it to this horizon
 abbrev pub Shows : Call → Named → Type 0
 Shows call n = (file : List ℕ) × Read call (Show file) (Ok n)

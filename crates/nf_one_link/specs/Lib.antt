@@ -1,0 +1,2 @@
+pub mod FullPhase
+pub mod Solution
