@@ -48,6 +48,9 @@ module _ (passes : Passing) (rows : List Row) (pivots : List ℕ) where
   pub values_first : ValuesSoFar [] 0
   values_first = first_before (solution_from passes rows 0 pivots)
 
+  abbrev last_over : Row → ℕ → Result ℚ (PassedAt ℚ)
+  last_over row column = checked_at passes Part.Table Quotient (number_at row (length row - 1)) (number_at row column)
+
   module _ (has : HasPivots rows pivots) (front : List ℚ) (column : ℕ) (b : column < length pivots) (h : ValuesSoFar front column) where
     abbrev pivot : ℕ
     pivot = get_or pivots column 0
@@ -61,16 +64,13 @@ module _ (passes : Passing) (rows : List Row) (pivots : List ℕ) where
     inside : column < length rows
     inside = let e = has.count in omega arith
 
-    pub pivot_inside : pivot < length rows
+    pivot_inside : pivot < length rows
     pivot_inside = has.within column inside
 
-    pub pivot_apart : number_at own column ≢ 0ℚ
-    pivot_apart = has.some column inside
-
-    pub own_length : length own ≡ suc (length rows)
+    own_length : length own ≡ suc (length rows)
     own_length = has.square pivot pivot_inside
 
-    last_is : checked_at passes Part.Table Quotient (number_at own (length own - 1)) (number_at own column) ≡ at_part Part.Table value
+    last_is : last_over own column ≡ at_part Part.Table value
     last_is = ap (λ (k : ℕ). checked_at passes Part.Table Quotient (number_at own k) (number_at own column)) (let e = own_length in let f : length own - 1 ≡ length rows = omega arith in f)
 
     abbrev rest : ℚ → Checked (List ℚ)
@@ -79,15 +79,15 @@ module _ (passes : Passing) (rows : List Row) (pivots : List ℕ) where
     opened : with_front front (value >>= rest) ≡ solution_from passes rows 0 pivots
     opened = ap (λ (l : List ℕ). with_front front (solution_from passes rows column l)) (sym (drop_pivot pivots column b)) ∙ h
 
-    pub values_stop : (q : PassedAt ℚ) → Err q ≡ checked_at passes Part.Table Quotient (number_at own (length own - 1)) (number_at own column) → at_part Part.Table (solution_from passes rows 0 pivots) ≡ Err q
-    values_stop q e = ap (at_part Part.Table) (sym opened) ∙ stopped value front rest q (e ∙ last_is)
+    pub values_stop : (row : Row) → row ≡ own → (q : PassedAt ℚ) → Err q ≡ last_over row column → at_part Part.Table (solution_from passes rows 0 pivots) ≡ Err q
+    values_stop row r q e = ap (at_part Part.Table) (sym opened) ∙ stopped value front rest q (e ∙ ap (λ (row : Row). last_over row column) r ∙ last_is)
 
-    pub values_more : (x : ℚ) → Ok x ≡ checked_at passes Part.Table Quotient (number_at own (length own - 1)) (number_at own column) → ValuesSoFar (front ++ x ∷ []) (column + 1)
-    values_more x e =
+    pub values_more : (row : Row) → row ≡ own → (x : ℚ) → Ok x ≡ last_over row column → ValuesSoFar (front ++ x ∷ []) (column + 1)
+    values_more row r x e =
         let n : column + 1 ≡ suc column = add-one column in
         subst (ValuesSoFar (front ++ x ∷ [])) (sym n)
         (sym (one_before (solution_from passes rows (suc column) (drop (suc column) pivots)) front x)
-        ∙ ap (λ (r : Checked ℚ). with_front front (r >>= rest)) (sym (ok_of_part Part.Table value x (e ∙ last_is)))
+        ∙ ap (λ (r : Checked ℚ). with_front front (r >>= rest)) (sym (ok_of_part Part.Table value x (e ∙ ap (λ (row : Row). last_over row column) r ∙ last_is)))
         ∙ opened)
 
   pub values_all : (front : List ℚ) (column : ℕ) → length pivots ≤ column → ValuesSoFar front column → at_part Part.Table (solution_from passes rows 0 pivots) ≡ Ok front

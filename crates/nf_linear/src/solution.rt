@@ -3,6 +3,7 @@ ghost use Rattle.std.specs.Prelude.{◌≡◌, map, IfOk};
 ghost use Rattle.nf_work.specs.declared.Part.TheVariants as Part;
 ghost use Rattle.nf_work.specs.Checked.{at_part, Gives};
 ghost use Rattle.nf_lists.specs.Table.{solution_from, table_list};
+ghost use Rattle.nf_linear_laws.specs.Solution.{IsSquare};
 ghost use Rattle.nf_linear.specs.Pivots.{HasPivots};
 ghost use Rattle.nf_linear.specs.Solved.{values_of, IsTrueOf};
 
@@ -35,6 +36,19 @@ fn values<S: Scalar>(alloc: Global, rows: &[Row<S>], pivots: &[usize]) -> Result
     Ok(values)
 }
 
+// The solution of the rows, each with its right side last; what is left in them is spent.
+fn solve_rows<S: Scalar>(alloc: Global, rows: &mut [Row<S>]) -> Result<Solved<S>, Halt<S>>
+    requires { IsSquare rows.old }
+    ensures list { Gives (values_of S.means) S.means result (at_part Part.Table (table_list S.passes rows.old)) }
+    ensures solution { IfOk result (IsTrueOf S.means rows.old) }
+{
+    let Some(pivots) = clear_columns(alloc, rows)? else {
+        return Ok(Solved::NotOne);
+    };
+    let values = values(alloc, rows, &pivots)?;
+    Ok(Solved::One(values))
+}
+
 /// The only solution of a system, by elimination (after Gauss and Jordan); NotOne exactly where there is none or more than one.
 /// Passed comes exactly where an operation of the elimination passes, with the first one, and has part Table. The table is spent.
 pub fn solve<S: Scalar>(alloc: Global, table: Table<S>) -> Result<Solved<S>, Halt<S>>
@@ -42,9 +56,5 @@ pub fn solve<S: Scalar>(alloc: Global, table: Table<S>) -> Result<Solved<S>, Hal
     ensures solution { IfOk result (IsTrueOf S.means table) }
 {
     let mut rows = table.into_rows();
-    let Some(pivots) = clear_columns(alloc, &mut rows)? else {
-        return Ok(Solved::NotOne);
-    };
-    let values = values(alloc, &rows, &pivots)?;
-    Ok(Solved::One(values))
+    solve_rows(alloc, &mut rows)
 }
