@@ -1,15 +1,13 @@
 -- Columns cleared one by one: what is there so far, and the elimination from there on.
-use Rattle.std.proofs.Common.{◌≡◌, ◌≢◌, ℕ, zero, suc, ◌+◌, ◌-◌, ◌<◌, ◌≤◌, List, [], ◌∷◌, ◌++◌, length, get_or, refl, sym, ap, subst, ◌∙◌, add-one, arith}
-use Rattle.std.specs.Prelude.{if◌then◌else◌, Option, Some, None, Result, Ok, Err}
+use Rattle.std.proofs.Common.{◌≡◌, ◌≢◌, ℕ, suc, ◌+◌, ◌-◌, ◌<◌, ◌≤◌, List, [], ◌∷◌, ◌++◌, length, refl, sym, ap, subst, ◌∙◌, add-one, arith}
+use Rattle.std.specs.Prelude.{Option, Some, None, Result, Ok, Err}
 use Rattle.nf_rational.specs.Rational.{ℚ}
 use Rattle.nf_rational.specs.Operations.{0ℚ}
 use Rattle.nf_work.specs.Passing.{Passing}
 use Rattle.nf_work.specs.declared.Halt.{Halt}
-use Rattle.nf_work.specs.declared.Halt.TheVariants as Halt
 use Rattle.nf_work.specs.declared.Part.TheVariants as Part
-use Rattle.nf_work.specs.declared.Passed.{Passed}
 use Rattle.nf_work.specs.declared.PassedAt.{PassedAt}
-use Rattle.nf_work.specs.Checked.{Checked, Stops, at_part, placed, seen_passed_at, ◌>>=◌}
+use Rattle.nf_work.specs.Checked.{Checked, Stops, at_part, seen_passed_at, ◌>>=◌}
 use Rattle.nf_model.specs.Entries.{number_at}
 use Rattle.nf_lists.specs.Table.{Row, Eliminated, row_at, pivot_of, clear_rows, eliminate_at, eliminate_column, eliminate_from, if_some}
 use Rattle.nf_lists_laws.specs.Laws.{never}
@@ -18,7 +16,7 @@ use Rattle.nf_linear_laws.specs.Solution.{IsSquare}
 use Rattle.nf_linear_laws.proofs.Pivots.{IsPivot, is_pivot, some_tested}
 use Rattle.nf_linear_laws.proofs.Rows.{rows_after, rows_exact}
 use Rattle.nf_linear_laws.proofs.Elimination.{IsCleared, next_cleared}
-use Rattle.nf_linear.specs.Pivots.{eliminated, HasPivots}
+use Rattle.nf_linear.specs.Pivots.{eliminated}
 use Rattle.nf_linear.proofs.Taken.{ok_of_part}
 
 -- ---- the pivot of a column

@@ -1,5 +1,5 @@
 -- What is found of a system.
-use Rattle.std.specs.Prelude.{◌≡◌, List, map, Option, Some, None}
+use Rattle.std.specs.Prelude.{List, map, Option, Some, None}
 use Rattle.nf_rational.specs.Rational.{ℚ}
 use Rattle.nf_lists.specs.Table.{Row}
 use Rattle.nf_linear_laws.specs.Solution.{IsOnlySolution}

@@ -1,9 +1,6 @@
 use Rattle.std.proofs.Common.{◌≡◌, ◌<◌, length, Bool, true, false, ap, ◌∙◌, arith}
 use Rattle.std.specs.Prelude.{if◌then◌else◌, Some, None, Ok}
 use Rattle.std.proofs.lemmas.Result.{err_from_is_err_and}
-use Rattle.nf_work.specs.declared.Part.TheVariants as Part
-use Rattle.nf_work.specs.Checked.{at_part}
-use Rattle.nf_lists.specs.Table.{eliminate_column}
 use Rattle.nf_linear.specs.Pivots.{eliminated}
 use Rattle.nf_linear.proofs.Stages.{stage_none, stage_stops, stage_more}
 use Rattle.nf_linear.proofs.elimination.clear_columns.Goals as goal
