@@ -1,3 +1,4 @@
+pub mod Fronts
 pub mod Taken
 pub mod Sparse
 pub mod Columns

@@ -6,8 +6,7 @@ use Rattle.nf_rational.specs.Operations.{0ℚ}
 use Rattle.nf_work.specs.Passing.{Passing}
 use Rattle.nf_work.specs.declared.Halt.{Halt}
 use Rattle.nf_work.specs.declared.Part.TheVariants as Part
-use Rattle.nf_work.specs.declared.PassedAt.{PassedAt}
-use Rattle.nf_work.specs.Checked.{Checked, Stops, at_part, seen_passed_at, ◌>>=◌}
+use Rattle.nf_work.specs.Checked.{Checked, Stops, at_part, ◌>>=◌}
 use Rattle.nf_model.specs.Entries.{number_at}
 use Rattle.nf_lists.specs.Table.{Row, Eliminated, row_at, pivot_of, clear_rows, eliminate_at, eliminate_column, eliminate_from, if_some}
 use Rattle.nf_lists_laws.specs.Laws.{never}
@@ -17,6 +16,7 @@ use Rattle.nf_linear_laws.proofs.Pivots.{IsPivot, is_pivot, some_tested}
 use Rattle.nf_linear_laws.proofs.Rows.{rows_after, rows_exact}
 use Rattle.nf_linear_laws.proofs.Elimination.{IsCleared, next_cleared}
 use Rattle.nf_linear.specs.Pivots.{eliminated}
+use Rattle.nf_linear.proofs.Fronts.{stops}
 use Rattle.nf_linear.proofs.Taken.{ok_of_part}
 
 -- ---- the pivot of a column
@@ -101,13 +101,8 @@ module _ (passes : Passing) (before rows : List Row) (pivots : List ℕ) (column
     pub stage_none : at_part Part.Table (eliminate_column passes now column) ≡ Ok None → at_part Part.Table all ≡ Ok None
     stage_none e = ap (at_part Part.Table) (opened ∙ ap (λ (r : Checked (Option Eliminated)). r >>= if_some passes rest) (ok_of_part Part.Table (eliminate_column passes now column) None (sym e)))
 
-    stopped : (r : Checked (Option Eliminated)) (p : PassedAt ℚ) → at_part Part.Table r ≡ Err p → at_part Part.Table (r >>= if_some passes rest) ≡ Err p
-    stopped (Ok x) p e = absurd (cc)
-    stopped (Err q) p e = e
-
     pub stage_stops : {S : Type 0} (means : S → ℚ) (h : Halt S) → Stops means h (at_part Part.Table (eliminate_column passes now column)) → Stops means h (at_part Part.Table all)
-    stage_stops means (Halt.Passed p) e = ap (at_part Part.Table) opened ∙ stopped (eliminate_column passes now column) (seen_passed_at means p) e
-    stage_stops means Halt.Memory e = tt
+    stage_stops means h e = subst (λ (r : Checked (Option Eliminated)). Stops means h (at_part Part.Table r)) (sym opened) (stops Part.Table means h (eliminate_column passes now column) (if_some passes rest) e)
 
     pub stage_more : (new_rows : List Row) (new_pivots : List ℕ) → at_part Part.Table (eliminate_column passes now column) ≡ Ok (Some (eliminated new_rows new_pivots)) → Stage passes before new_rows new_pivots (column + 1)
     stage_more new_rows new_pivots e =

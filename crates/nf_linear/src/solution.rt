@@ -49,8 +49,9 @@ fn solve_rows<S: Scalar>(alloc: Global, rows: &mut [Row<S>]) -> Result<Solved<S>
     Ok(Solved::One(values))
 }
 
-/// The only solution of a system, by elimination (after Gauss and Jordan); NotOne exactly where there is none or more than one.
-/// Passed comes exactly where an operation of the elimination passes, with the first one, and has part Table. The table is spent.
+/// Solves a system by elimination (after Gauss and Jordan). Where no operation passes, it gives One with the only solution, and
+/// NotOne exactly where there is none or more than one. Passed comes exactly where an operation passes, with the first one, and
+/// has part Table. The table is spent on each outcome.
 pub fn solve<S: Scalar>(alloc: Global, table: Table<S>) -> Result<Solved<S>, Halt<S>>
     ensures list { Gives (values_of S.means) S.means result (at_part Part.Table (table_list S.passes table)) }
     ensures solution { IfOk result (IsTrueOf S.means table) }
