@@ -1,6 +1,4 @@
 // Small systems, and one whose solution is beyond the bound.
-ghost use Rattle.std.specs.Prelude.{◌≡◌, length, IfOk};
-
 use crate::{Solved, Table, solve};
 use nf_frac::{Frac, Halt, Op, Part, PassedAt, Q};
 use std::alloc::{AllocError, Global};
