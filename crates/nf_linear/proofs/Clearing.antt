@@ -1,33 +1,24 @@
 -- Rows cleared one by one: those so far stand before what comes of the rest.
-use Rattle.std.proofs.Common.{◌≡◌, ℕ, zero, suc, ◌+◌, ◌<◌, ◌≤◌, List, [], ◌∷◌, ◌++◌, length, set, take, drop, get_or, Bool, true, false, ◌||◌, refl, sym, ap, subst, ◌∙◌, add-one, append_assoc, length-set, length-drop, arith}
-use Rattle.std.specs.Prelude.{◌==◌, if◌then◌else◌, Result, Ok, Err}
+use Rattle.std.proofs.Common.{◌≡◌, ℕ, zero, suc, ◌+◌, ◌<◌, ◌≤◌, List, [], ◌∷◌, ◌++◌, length, set, take, drop, get_or, Bool, true, false, ◌||◌, refl, sym, ap, subst, ◌∙◌, add-one, length-drop, arith}
+use Rattle.std.specs.Prelude.{◌==◌, if◌then◌else◌, Ok, Err}
 use Rattle.std.specs.List.{AllByRecursion}
+use Rattle.std.proofs.Math.ListN.{drop_of_length-le}
 use Rattle.nf_rational.specs.Rational.{ℚ}
 use Rattle.nf_work.specs.Passing.{Passing}
 use Rattle.nf_work.specs.declared.PassedAt.{PassedAt}
 use Rattle.nf_work.specs.declared.Part.{Part}
-use Rattle.nf_work.specs.declared.Part.TheVariants as Part
-use Rattle.nf_work.specs.Checked.{Checked, at_part, placed, ◌>>=◌}
+use Rattle.nf_work.specs.Checked.{Checked, at_part, ◌>>=◌}
 use Rattle.nf_work.proofs.Each.{with_front}
 use Rattle.nf_model.specs.Entries.{number_at}
 use Rattle.nf_lists.specs.Signs.{is_zero}
 use Rattle.nf_lists.specs.Table as Lists
 use Rattle.nf_lists.specs.Table.{Row, row_at}
 use Rattle.nf_linear_laws.specs.Solution.{IsSquare}
-use Rattle.nf_linear.specs.Rows.{some_from, clear_row, clear_unless, clear_each}
+use Rattle.nf_linear.specs.Rows.{some_from, clear_unless, clear_each}
+use Rattle.nf_linear.proofs.Fronts.{take_set, drop_set, take_whole, first_before, one_before, stopped, stopped_before}
 use Rattle.nf_linear.proofs.Taken.{ok_of_part}
 use Rattle.nf_linear.proofs.Sparse.{clear_row-is}
 use Rattle.nf_linear.proofs.Columns.{drop_row}
-
-take_set_row : (rows : List Row) (i : ℕ) (y : Row) → i < length rows → take (suc i) (set rows i y) ≡ take i rows ++ y ∷ []
-take_set_row [] i y b = absurd (omega arith)
-take_set_row (x ∷ rows) zero y b = refl
-take_set_row (x ∷ rows) (suc i) y b = ap (λ (l : List Row). x ∷ l) (take_set_row rows i y (omega arith))
-
-drop_set_row : (rows : List Row) (i : ℕ) (y : Row) → drop (suc i) (set rows i y) ≡ drop (suc i) rows
-drop_set_row [] i y = refl
-drop_set_row (x ∷ rows) zero y = refl
-drop_set_row (x ∷ rows) (suc i) y = drop_set_row rows i y
 
 drop_more_row : (rows before : List Row) (i : ℕ) → drop i rows ≡ drop i before → drop (suc i) rows ≡ drop (suc i) before
 drop_more_row rows before i e = sym (next rows i) ∙ ap (drop 1) e ∙ next before i
@@ -37,18 +28,6 @@ drop_more_row rows before i e = sym (next rows i) ∙ ap (drop 1) e ∙ next bef
     next [] (suc i) = refl
     next (x ∷ l) zero = refl
     next (x ∷ l) (suc i) = next l i
-
-whole : (rows : List Row) (i : ℕ) → length rows ≤ i → take i rows ++ [] ≡ rows
-whole [] zero b = refl
-whole [] (suc i) b = refl
-whole (x ∷ rows) zero b = absurd (omega arith)
-whole (x ∷ rows) (suc i) b = ap (λ (l : List Row). x ∷ l) (whole rows i (omega arith))
-
-none_left : (rows : List Row) (i : ℕ) → length rows ≤ i → drop i rows ≡ []
-none_left [] zero b = refl
-none_left [] (suc i) b = refl
-none_left (x ∷ rows) zero b = absurd (omega arith)
-none_left (x ∷ rows) (suc i) b = none_left rows i (omega arith)
 
 pub row_read : (rows : List Row) (i : ℕ) (row : Row) → i < length rows → row ≡ get_or rows i row → row ≡ row_at rows i
 row_read [] i row b e = absurd (omega arith)
@@ -62,25 +41,6 @@ row_got (x ∷ rows) (suc i) d b = row_got rows i d (omega arith)
 
 head_is : (x y : Row) (xs ys : List Row) → x ∷ xs ≡ y ∷ ys → x ≡ y
 head_is x y xs ys e = cc
-
-first_before : (r : Checked (List Row)) → with_front [] r ≡ r
-first_before (Ok ys) = refl
-first_before (Err p) = refl
-
-one_before : (r : Checked (List Row)) (front : List Row) (y : Row) → with_front front (r >>= λ ys. Ok (y ∷ ys)) ≡ with_front (front ++ y ∷ []) r
-one_before (Ok ys) front y = ap Ok (sym (append_assoc front (y ∷ []) ys))
-one_before (Err p) front y = refl
-
-abbrev error_of : PassedAt ℚ → Result Row (PassedAt ℚ) → PassedAt ℚ
-error_of q (Ok y) = q
-error_of q (Err p) = p
-
-moved_error : (q p : PassedAt ℚ) → ◌≡◌ {A = Result Row (PassedAt ℚ)} (Err q) (Err p) → ◌≡◌ {A = Result (List Row) (PassedAt ℚ)} (Err q) (Err p)
-moved_error q p e = ap Err (ap (error_of q) e)
-
-stopped : (r : Checked Row) (front : List Row) (f : Row → Checked (List Row)) (q : PassedAt ℚ) → Err q ≡ at_part Part.Table r → Err q ≡ at_part Part.Table (with_front front (r >>= f))
-stopped (Ok y) front f q e = absurd (cc)
-stopped (Err p) front f q e = moved_error q (placed Part.Table p) e
 
 module _ (passes : Passing) (column pivot : ℕ) (own : ℚ) (later : List (ℕ × ℚ)) where
   abbrev stays : ℕ → Row → Bool
@@ -100,12 +60,15 @@ module _ (passes : Passing) (column pivot : ℕ) (own : ℚ) (later : List (ℕ 
     pub row_before : i < length before → row_at rows i ≡ row_at before i
     row_before c = head_is _ _ _ _ (sym (drop_row rows i b) ∙ h.rest ∙ drop_row before i c)
 
-    opened : clear_each passes column pivot own later i (drop i rows) ≡ (step i (row_at rows i) >>= λ r. clear_each passes column pivot own later (suc i) (drop (suc i) rows) >>= λ rs. Ok (r ∷ rs))
+    abbrev more : Row → Checked (List Row)
+    more r = clear_each passes column pivot own later (suc i) (drop (suc i) rows) >>= λ rs. Ok (r ∷ rs)
+
+    opened : clear_each passes column pivot own later i (drop i rows) ≡ (step i (row_at rows i) >>= more)
     opened = ap (clear_each passes column pivot own later i) (drop_row rows i b)
 
     pub cleared_stops : (q : PassedAt ℚ) → Err q ≡ at_part Part.Table (step i (row_at rows i)) → Err q ≡ at_part Part.Table (clear_each passes column pivot own later 0 before)
     cleared_stops q e =
-        stopped (step i (row_at rows i)) (take i rows) (λ r. clear_each passes column pivot own later (suc i) (drop (suc i) rows) >>= λ rs. Ok (r ∷ rs)) q e
+        sym (stopped_before Part.Table (step i (row_at rows i) >>= more) (take i rows) q (stopped Part.Table (step i (row_at rows i)) more q (sym e)))
         ∙ ap (λ (r : Checked (List Row)). at_part Part.Table (with_front (take i rows) r)) (sym opened) ∙ h.same
 
     pub cleared_more : (y : Row) → Ok y ≡ at_part Part.Table (step i (row_at rows i)) → ClearedSoFar before (set rows i y) (i + 1)
@@ -113,20 +76,20 @@ module _ (passes : Passing) (column pivot : ℕ) (own : ℚ) (later : List (ℕ 
         let n : i + 1 ≡ suc i = add-one i in
         let gives : step i (row_at rows i) ≡ Ok y = ok_of_part Part.Table (step i (row_at rows i)) y e in
         subst (ClearedSoFar before (set rows i y)) (sym n) (record {
-          rest = drop_set_row rows i y ∙ drop_more_row rows before i h.rest;
+          rest = drop_set rows i y ∙ drop_more_row rows before i h.rest;
           same = ap (at_part Part.Table)
-              (ap (λ (l : List Row). with_front l (clear_each passes column pivot own later (suc i) (drop (suc i) (set rows i y)))) (take_set_row rows i y b)
-              ∙ ap (λ (l : List Row). with_front (take i rows ++ y ∷ []) (clear_each passes column pivot own later (suc i) l)) (drop_set_row rows i y)
+              (ap (λ (l : List Row). with_front l (clear_each passes column pivot own later (suc i) (drop (suc i) (set rows i y)))) (take_set rows i y b)
+              ∙ ap (λ (l : List Row). with_front (take i rows ++ y ∷ []) (clear_each passes column pivot own later (suc i) l)) (drop_set rows i y)
               ∙ sym (one_before (clear_each passes column pivot own later (suc i) (drop (suc i) rows)) (take i rows) y)
-              ∙ ap (λ (r : Checked Row). with_front (take i rows) (r >>= λ r. clear_each passes column pivot own later (suc i) (drop (suc i) rows) >>= λ rs. Ok (r ∷ rs))) (sym gives)
+              ∙ ap (λ (r : Checked Row). with_front (take i rows) (r >>= more)) (sym gives)
               ∙ ap (with_front (take i rows)) (sym opened))
               ∙ h.same;
         })
 
   pub cleared_all : (before rows : List Row) (i : ℕ) → length rows ≤ i → ClearedSoFar before rows i → Ok rows ≡ at_part Part.Table (clear_each passes column pivot own later 0 before)
   cleared_all before rows i b h =
-      ap Ok (sym (whole rows i b))
-      ∙ ap (λ (l : List Row). at_part Part.Table (with_front (take i rows) (clear_each passes column pivot own later i l))) (sym (none_left rows i b)) ∙ h.same
+      ap Ok (sym (take_whole rows i b))
+      ∙ ap (λ (l : List Row). at_part Part.Table (with_front (take i rows) (clear_each passes column pivot own later i l))) (sym (drop_of_length-le rows b)) ∙ h.same
 
 -- ---- this is what the table list does
 module _ (passes : Passing) (column pivot : ℕ) (pivot_row : Row) where

@@ -1,4 +1,8 @@
+pub mod Fronts
 pub mod Taken
 pub mod Sparse
 pub mod Columns
 pub mod Clearing
+pub mod Stages
+pub mod Values
+pub mod Answered

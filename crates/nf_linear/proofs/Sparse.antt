@@ -1,6 +1,6 @@
 -- A step of the elimination by the entries of the pivot row other than 0 does what the table list does with all of them.
-use Rattle.std.proofs.Common.{◌≡◌, ℕ, zero, suc, ◌+◌, ◌<◌, ◌≤◌, List, [], ◌∷◌, ◌++◌, length, set, take, drop, Bool, true, false, refl, sym, ap, ◌∙◌, append_assoc, length-set, length-drop, arith}
-use Rattle.std.specs.Prelude.{if◌then◌else◌, Result, Ok, Err}
+use Rattle.std.proofs.Common.{◌≡◌, ℕ, zero, suc, ◌+◌, ◌<◌, List, [], ◌∷◌, ◌++◌, length, set, take, drop, Bool, true, false, refl, sym, ap, ◌∙◌, append_assoc, length-set, length-drop, arith}
+use Rattle.std.specs.Prelude.{if◌then◌else◌, Ok, Err}
 use Rattle.nf_rational.specs.Rational.{ℚ}
 use Rattle.nf_rational.specs.Operations.{0ℚ}
 use Rattle.nf_work.specs.Passing.{Passing}
@@ -9,6 +9,7 @@ use Rattle.nf_work.specs.Checked.{Checked, checked, fold_checked, ◌>>=◌}
 use Rattle.nf_model.specs.Entries.{number_at}
 use Rattle.nf_lists.specs.Signs.{is_zero}
 use Rattle.nf_lists.specs.Table.{Row, less_unless, entries_less, cleared_row}
+use Rattle.nf_linear.proofs.Fronts.{take_set, drop_set, take_whole}
 use Rattle.nf_linear.specs.Rows.{some_from, entry_less, clear_row}
 
 -- ---- one place of a list
@@ -21,22 +22,6 @@ take_one : (xs : List ℚ) (k : ℕ) → k < length xs → take (suc k) xs ≡ t
 take_one [] k b = absurd (omega arith)
 take_one (x ∷ xs) zero b = refl
 take_one (x ∷ xs) (suc k) b = ap (λ (l : List ℚ). x ∷ l) (take_one xs k (omega arith))
-
-take_set : (xs : List ℚ) (k : ℕ) (y : ℚ) → k < length xs → take (suc k) (set xs k y) ≡ take k xs ++ y ∷ []
-take_set [] k y b = absurd (omega arith)
-take_set (x ∷ xs) zero y b = refl
-take_set (x ∷ xs) (suc k) y b = ap (λ (l : List ℚ). x ∷ l) (take_set xs k y (omega arith))
-
-drop_set : (xs : List ℚ) (k : ℕ) (y : ℚ) → drop (suc k) (set xs k y) ≡ drop (suc k) xs
-drop_set [] k y = refl
-drop_set (x ∷ xs) zero y = refl
-drop_set (x ∷ xs) (suc k) y = drop_set xs k y
-
-take_whole : (xs : List ℚ) (k : ℕ) → k ≡ length xs → take k xs ++ [] ≡ xs
-take_whole [] zero e = refl
-take_whole [] (suc k) e = absurd (cc)
-take_whole (x ∷ xs) zero e = absurd (cc)
-take_whole (x ∷ xs) (suc k) e = ap (λ (l : List ℚ). x ∷ l) (take_whole xs k (cc))
 
 -- ---- one computation after another
 same_after : {A B : Type 0} (r : Checked A) (f g : A → Checked B) → ((x : A) → f x ≡ g x) → (r >>= f) ≡ (r >>= g)
