@@ -1,0 +1,5 @@
+pub mod Dots
+pub mod Rows
+pub mod Packed
+pub mod Equations
+pub mod Table
