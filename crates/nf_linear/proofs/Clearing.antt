@@ -1,12 +1,11 @@
 -- Rows cleared one by one: those so far stand before what comes of the rest.
-use Rattle.std.proofs.Common.{◌≡◌, ℕ, zero, suc, ◌+◌, ◌<◌, ◌≤◌, List, [], ◌∷◌, ◌++◌, length, set, take, drop, get_or, Bool, true, false, ◌||◌, refl, sym, ap, subst, ◌∙◌, add-one, append_assoc, length-set, length-drop, arith}
+use Rattle.std.proofs.Common.{◌≡◌, ℕ, zero, suc, ◌+◌, ◌<◌, ◌≤◌, List, [], ◌∷◌, ◌++◌, length, set, take, drop, get_or, Bool, true, false, ◌||◌, refl, sym, ap, subst, ◌∙◌, add-one, append_assoc, length-drop, arith}
 use Rattle.std.specs.Prelude.{◌==◌, if◌then◌else◌, Result, Ok, Err}
 use Rattle.std.specs.List.{AllByRecursion}
 use Rattle.nf_rational.specs.Rational.{ℚ}
 use Rattle.nf_work.specs.Passing.{Passing}
 use Rattle.nf_work.specs.declared.PassedAt.{PassedAt}
 use Rattle.nf_work.specs.declared.Part.{Part}
-use Rattle.nf_work.specs.declared.Part.TheVariants as Part
 use Rattle.nf_work.specs.Checked.{Checked, at_part, placed, ◌>>=◌}
 use Rattle.nf_work.proofs.Each.{with_front}
 use Rattle.nf_model.specs.Entries.{number_at}
@@ -14,7 +13,7 @@ use Rattle.nf_lists.specs.Signs.{is_zero}
 use Rattle.nf_lists.specs.Table as Lists
 use Rattle.nf_lists.specs.Table.{Row, row_at}
 use Rattle.nf_linear_laws.specs.Solution.{IsSquare}
-use Rattle.nf_linear.specs.Rows.{some_from, clear_row, clear_unless, clear_each}
+use Rattle.nf_linear.specs.Rows.{some_from, clear_unless, clear_each}
 use Rattle.nf_linear.proofs.Taken.{ok_of_part}
 use Rattle.nf_linear.proofs.Sparse.{clear_row-is}
 use Rattle.nf_linear.proofs.Columns.{drop_row}

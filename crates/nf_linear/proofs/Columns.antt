@@ -1,8 +1,7 @@
 -- The pivot of a column, found row by row; rows cleared one by one.
-use Rattle.std.proofs.Common.{◌≡◌, ℕ, zero, suc, ◌+◌, ◌<◌, ◌≤◌, List, [], ◌∷◌, ◌++◌, length, set, take, drop, get_or, Bool, true, false, not, ◌&&◌, ◌||◌, refl, sym, ap, subst, ◌∙◌, add-one, append_assoc, length-set, arith}
-use Rattle.std.specs.Prelude.{◌==◌, if◌then◌else◌, Option, Some, None, Result, Ok, Err}
+use Rattle.std.proofs.Common.{◌≡◌, ℕ, zero, suc, ◌+◌, ◌<◌, ◌≤◌, List, [], ◌∷◌, length, drop, Bool, true, false, not, ◌&&◌, refl, sym, ap, ◌∙◌, add-one, arith}
+use Rattle.std.specs.Prelude.{◌==◌, if◌then◌else◌, Some, None}
 use Rattle.std.specs.List.{list_any}
-use Rattle.nf_rational.specs.Rational.{ℚ}
 use Rattle.nf_model.specs.Entries.{number_at}
 use Rattle.nf_lists.specs.Signs.{is_zero}
 use Rattle.nf_lists.specs.Table.{Row, row_at, pivot_from}

@@ -1,13 +1,12 @@
 -- Lemmas of rows: the test for 0, entries other than 0, and what the entries of a pivot row take off.
-use Rattle.std.proofs.Common.{◌≡◌, ◌≢◌, ℕ, zero, suc, ◌+◌, ◌<◌, ◌≤◌, List, [], ◌∷◌, ◌++◌, length, map, set, take, drop, get_or, replicate, Bool, true, false, refl, sym, ap, subst, ◌∙◌, add-one, append_assoc, length-set, arith}
-use Rattle.std.specs.Prelude.{IsTrue, if◌then◌else◌, Ok, Err, Result}
+use Rattle.std.proofs.Common.{◌≡◌, ℕ, zero, suc, ◌+◌, ◌<◌, List, [], ◌∷◌, ◌++◌, length, set, drop, get_or, replicate, Bool, true, false, refl, sym, ap, subst, ◌∙◌, add-one, append_assoc, length-set}
+use Rattle.std.specs.Prelude.{IsTrue, if◌then◌else◌, Ok, Err}
 use Rattle.std.specs.List.{AllByRecursion}
 use Rattle.std.proofs.lemmas.List.{drop_more}
 use Rattle.nf_rational.specs.Rational.{ℚ}
 use Rattle.nf_rational.specs.Operations.{0ℚ}
 use Rattle.nf_work.specs.Passing.{Passing}
 use Rattle.nf_work.specs.declared.Part.{Part}
-use Rattle.nf_work.specs.declared.Part.TheVariants as Part
 use Rattle.nf_work.specs.Checked.{Checked, at_part, fold_checked, ◌>>=◌}
 use Rattle.nf_work.proofs.Each.{fold_ok}
 use Rattle.nf_lists.specs.Table.{less_unless}

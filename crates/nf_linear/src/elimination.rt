@@ -1,5 +1,5 @@
-// One column of the elimination: its pivot, and the rows that are cleared.
-ghost use Rattle.std.specs.Prelude.{◌≡◌, ◌≢◌, ℕ, ◌<◌, ◌==◌, ◌||◌, ◌&&◌, not, length};
+// The elimination, column by column: the pivot of a column, and the rows that are cleared in it.
+ghost use Rattle.std.specs.Prelude.{◌≡◌, ◌≢◌, ℕ, ◌<◌, ◌==◌, ◌||◌, ◌&&◌, not, [], length, Some, None, option_map, IfOk, IfSome, if◌then◌else◌};
 ghost use Rattle.std.specs.List.{AllByRecursion, list_any};
 ghost use Rattle.nf_rational.specs.Operations.{0ℚ};
 ghost use Rattle.nf_work.specs.declared.Part.TheVariants as Part;
@@ -10,6 +10,7 @@ ghost use Rattle.nf_lists.specs.Table as Lists;
 ghost use Rattle.nf_lists.specs.Table.{row_at};
 ghost use Rattle.nf_linear_laws.specs.Solution.{IsSquare};
 ghost use Rattle.nf_linear.specs.Rows.{clear_unless, clear_each};
+ghost use Rattle.nf_linear.specs.Pivots.{eliminated, HasPivots};
 
 use crate::row::{Entry, Row, is_zero};
 use nf_frac::{Halt, PassedAt, Scalar};
@@ -94,4 +95,43 @@ pub fn eliminate<S: Scalar>(
     let later = rows[pivot].later(alloc, column)?;
     clear_rows(rows, pivot, column, own, &later)?;
     Ok(())
+}
+
+// The column is cleared, and its pivot row noted; false where it has no pivot.
+fn clear_column<S: Scalar>(
+    alloc: Global,
+    rows: &mut [Row<S>],
+    pivots: &mut Vec<usize>,
+    column: usize,
+) -> Result<bool, Halt<S>>
+    requires square { IsSquare rows.old }
+    requires column { column < length rows.old }
+    ensures { Gives (λ found. if found then Some (eliminated rows.new pivots.new.items) else None) S.means result
+        (at_part Part.Table (Lists.eliminate_column S.passes (eliminated rows.old pivots.old.items) column)) }
+{
+    let Some(pivot) = pivot_of(rows, pivots, column) else {
+        return Ok(false);
+    };
+    eliminate(alloc, rows, pivot, column)?;
+    pivots.push(pivot)?;
+    Ok(true)
+}
+
+// All columns are cleared in order: the pivot row of each, or None where a column has no pivot.
+pub fn clear_columns<S: Scalar>(
+    alloc: Global,
+    rows: &mut [Row<S>],
+) -> Result<Option<Vec<usize>>, Halt<S>>
+    requires { IsSquare rows.old }
+    ensures list { Gives (option_map (λ pivots. eliminated rows.new pivots.items)) S.means result
+        (at_part Part.Table (Lists.eliminate_from S.passes (length rows.old) 0 (eliminated rows.old []))) }
+    ensures pivots { IfOk result (λ found. IfSome found (λ pivots. HasPivots rows.new pivots.items)) }
+{
+    let mut pivots = Vec::with_capacity(alloc, rows.len())?;
+    for column in 0..rows.len() {
+        if !clear_column(alloc, rows, &mut pivots, column)? {
+            return Ok(None);
+        }
+    }
+    Ok(Some(pivots))
 }

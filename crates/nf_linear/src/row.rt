@@ -1,9 +1,10 @@
 // Rows of a table, and what one loses in a step of the elimination.
-ghost use Rattle.std.specs.Prelude.{◌≡◌, ◌≢◌, ℕ, ◌+◌, ◌<◌, List, [], ◌∷◌, ◌++◌, length, set, drop, replicate, false, IfOk, if◌then◌else◌};
+ghost use Rattle.std.specs.Prelude.{◌≡◌, ◌≢◌, ℕ, ◌+◌, ◌-◌, ◌<◌, List, [], ◌∷◌, ◌++◌, length, set, drop, replicate, false, IfOk, if◌then◌else◌};
 ghost use Rattle.std.specs.List.{AllByRecursion};
 ghost use Rattle.nf_rational.specs.Operations.{0ℚ};
 ghost use Rattle.nf_work.specs.declared.Part.TheVariants as Part;
-ghost use Rattle.nf_work.specs.Checked.{at_part, fold_checked, seen_at};
+ghost use Rattle.nf_work.specs.declared.Op.TheVariants.{Quotient};
+ghost use Rattle.nf_work.specs.Checked.{at_part, checked_at, fold_checked, seen_at};
 ghost use Rattle.nf_model.specs.Entries.{number_at};
 ghost use Rattle.nf_lists.specs.Signs as Signs;
 ghost use Rattle.nf_lists.specs.Table.{less_unless};
@@ -143,5 +144,16 @@ impl<S: Scalar> Row<S> {
         let factor = nf_frac::at!(Part::Table, self.at(column).quotient(own));
         self.set(column, S::zero());
         self.subtract(factor, later)
+    }
+
+    // The right side, which comes last, over the entry of this column.
+    pub fn value_of(&self, column: usize) -> Result<S, PassedAt<S>>
+        requires column { column + 1 < length self.now }
+        requires own { number_at self.now column ≢ 0ℚ }
+        ensures { seen_at S.means S.means result ≡ checked_at S.passes Part.Table Quotient (number_at self.now (length self.now - 1)) (number_at self.now column) }
+    {
+        let right = self.at(self.len() - 1);
+        let value = nf_frac::at!(Part::Table, right.quotient(self.at(column)));
+        Ok(value)
     }
 }

@@ -2,6 +2,7 @@
 ghost use Rattle.std.specs.Prelude.{◌≡◌, ℕ, ◌+◌, ◌<◌, ◌≤◌, length, set, replicate, IfOk};
 ghost use Rattle.nf_rational.specs.Operations.{0ℚ};
 ghost use Rattle.nf_lists.specs.Table.{row_at};
+ghost use Rattle.nf_linear_laws.specs.Solution.{IsSquare};
 
 use crate::row::Row;
 use nf_frac::Scalar;
@@ -58,5 +59,13 @@ impl<S: Scalar> Table<S> {
         let size = self.rows.len();
         let changed = &mut self.rows[row as usize];
         changed.set(size, value);
+    }
+
+    // The rows, each with its right side last.
+    pub(crate) fn into_rows(self) -> Vec<Row<S>>
+        ensures rows { result.items ≡ self }
+        ensures square { IsSquare result.items }
+    {
+        self.rows
     }
 }

@@ -1,4 +1,4 @@
-use Rattle.std.proofs.Common.{◌≡◌, sym, ◌∙◌}
+use Rattle.std.proofs.Common.{sym, ◌∙◌}
 use Rattle.nf_linear.proofs.Taken.{tests_zero}
 use Rattle.nf_linear.proofs.row.is_zero.Goals as goal
 

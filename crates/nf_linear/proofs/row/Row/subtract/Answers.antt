@@ -1,4 +1,3 @@
-use Rattle.std.proofs.Common.{sym, ap, ◌∙◌}
 use Rattle.nf_linear.proofs.Taken.{takes_more}
 use Rattle.nf_linear.proofs.row.Row.subtract.Goals as goal
 

@@ -1,0 +1,77 @@
+-- The table list: its columns, and then its values.
+use Rattle.std.proofs.Common.{◌≡◌, ℕ, List, [], length, refl, sym, ap, subst, ◌∙◌}
+use Rattle.std.specs.Prelude.{Option, Some, None, option_map, Result, Ok, Err}
+use Rattle.nf_rational.specs.Rational.{ℚ}
+use Rattle.nf_work.specs.Passing.{Passing}
+use Rattle.nf_work.specs.declared.Halt.{Halt}
+use Rattle.nf_work.specs.declared.Part.TheVariants as Part
+use Rattle.nf_work.specs.declared.PassedAt.{PassedAt}
+use Rattle.nf_work.specs.Checked.{Checked, Stops, at_part, seen_passed_at, ◌>>=◌}
+use Rattle.nf_lists.specs.Table.{Row, Eliminated, eliminate_from, if_some, solution_from, solution_of, table_list}
+use Rattle.nf_linear_laws.specs.Solution.{IsSquare, IsOnlySolution}
+use Rattle.nf_linear_laws.proofs.Solutions.{one_solution, not_one_solution}
+use Rattle.nf_linear.specs.Pivots.{eliminated}
+use Rattle.nf_linear.proofs.Taken.{ok_of_part}
+
+-- a computation that stops, before another one
+stopped : {A B : Type 0} (r : Checked A) (f : A → Checked B) (p : PassedAt ℚ) → at_part Part.Table r ≡ Err p → at_part Part.Table (r >>= f) ≡ Err p
+stopped (Ok x) f p e = absurd (cc)
+stopped (Err q) f p e = moved_error e
+  where
+    moved_error : {A B : Type 0} {q p : PassedAt ℚ} → ◌≡◌ {A = Result A (PassedAt ℚ)} (Err q) (Err p) → ◌≡◌ {A = Result B (PassedAt ℚ)} (Err q) (Err p)
+    moved_error e = let f = e in cc
+
+pub stops : {A B : Type 0} {S : Type 0} (means : S → ℚ) (h : Halt S) (r : Checked A) (f : A → Checked B) → Stops means h (at_part Part.Table r) → Stops means h (at_part Part.Table (r >>= f))
+stops means (Halt.Passed p) r f e = stopped r f (seen_passed_at means p) e
+stops means Halt.Memory r f e = tt
+
+-- what is found, where the pivots are known, or that there are none
+module _ {P : Type 0} (items : P → List ℕ) (rows : List Row) (r : Result (Option Eliminated) (PassedAt ℚ)) (found : Option P) (e : r ≡ Ok (option_map (λ pivots. eliminated rows (items pivots)) found)) where
+  pub found_none : found ≡ None → r ≡ Ok None
+  found_none h = e ∙ ap (λ (o : Option P). Ok (option_map (λ pivots. eliminated rows (items pivots)) o)) h
+
+  pub found_some : (pivots : P) (now : List ℕ) → found ≡ Some pivots → now ≡ items pivots → r ≡ Ok (Some (eliminated rows now))
+  found_some pivots now h d = e ∙ ap (λ (o : Option P). Ok (option_map (λ pivots. eliminated rows (items pivots)) o)) h ∙ ap (λ (l : List ℕ). Ok (Some (eliminated rows l))) (sym d)
+
+module _ (passes : Passing) (table : List Row) where
+  abbrev columns : Checked (Option Eliminated)
+  columns = eliminate_from passes (length table) 0 (eliminated table [])
+
+  abbrev listed : Checked (Option (List ℚ))
+  listed = table_list passes table
+
+  opened : listed ≡ (columns >>= if_some passes (solution_of passes))
+  unfolding table_list
+  opened = refl
+
+  pub columns_stop : {S : Type 0} (means : S → ℚ) (h : Halt S) → Stops means h (at_part Part.Table columns) → Stops means h (at_part Part.Table listed)
+  columns_stop means h e = subst (λ (r : Checked (Option (List ℚ))). Stops means h (at_part Part.Table r)) (sym opened) (stops means h columns (if_some passes (solution_of passes)) e)
+
+  nothing : at_part Part.Table columns ≡ Ok None → listed ≡ Ok None
+  nothing e = opened ∙ ap (λ (r : Checked (Option Eliminated)). r >>= if_some passes (solution_of passes)) (ok_of_part Part.Table columns None (sym e))
+
+  pub not_one_listed : at_part Part.Table columns ≡ Ok None → at_part Part.Table listed ≡ Ok None
+  not_one_listed e = ap (at_part Part.Table) (nothing e)
+
+  pub not_one : IsSquare table → at_part Part.Table columns ≡ Ok None → (values : List ℚ) → IsOnlySolution table values → ⊥
+  not_one square e = not_one_solution passes table square (nothing e)
+
+  module _ (rows : List Row) (pivots : List ℕ) (cleared : at_part Part.Table columns ≡ Ok (Some (eliminated rows pivots))) where
+    abbrev values : Checked (List ℚ)
+    values = solution_from passes rows 0 pivots
+
+    with_values : listed ≡ (values >>= λ xs. Ok (Some xs))
+    with_values = opened ∙ ap (λ (r : Checked (Option Eliminated)). r >>= if_some passes (solution_of passes)) (ok_of_part Part.Table columns (Some (eliminated rows pivots)) (sym cleared))
+
+    pub values_stop : {S : Type 0} (means : S → ℚ) (h : Halt S) → Stops means h (at_part Part.Table values) → Stops means h (at_part Part.Table listed)
+    values_stop means h e = subst (λ (r : Checked (Option (List ℚ))). Stops means h (at_part Part.Table r)) (sym with_values) (stops means h values (λ xs. Ok (Some xs)) e)
+
+    module _ (xs : List ℚ) (e : at_part Part.Table values ≡ Ok xs) where
+      found : listed ≡ Ok (Some xs)
+      found = with_values ∙ ap (λ (r : Checked (List ℚ)). r >>= λ xs. Ok (Some xs)) (ok_of_part Part.Table values xs (sym e))
+
+      pub one_listed : at_part Part.Table listed ≡ Ok (Some xs)
+      one_listed = ap (at_part Part.Table) found
+
+      pub one : IsSquare table → IsOnlySolution table xs
+      one square = one_solution passes table xs square found

@@ -1,0 +1,126 @@
+-- Columns cleared one by one: what is there so far, and the elimination from there on.
+use Rattle.std.proofs.Common.{◌≡◌, ◌≢◌, ℕ, suc, ◌+◌, ◌-◌, ◌<◌, ◌≤◌, List, [], ◌∷◌, ◌++◌, length, refl, sym, ap, subst, ◌∙◌, add-one, arith}
+use Rattle.std.specs.Prelude.{Option, Some, None, Result, Ok, Err}
+use Rattle.nf_rational.specs.Rational.{ℚ}
+use Rattle.nf_rational.specs.Operations.{0ℚ}
+use Rattle.nf_work.specs.Passing.{Passing}
+use Rattle.nf_work.specs.declared.Halt.{Halt}
+use Rattle.nf_work.specs.declared.Part.TheVariants as Part
+use Rattle.nf_work.specs.declared.PassedAt.{PassedAt}
+use Rattle.nf_work.specs.Checked.{Checked, Stops, at_part, seen_passed_at, ◌>>=◌}
+use Rattle.nf_model.specs.Entries.{number_at}
+use Rattle.nf_lists.specs.Table.{Row, Eliminated, row_at, pivot_of, clear_rows, eliminate_at, eliminate_column, eliminate_from, if_some}
+use Rattle.nf_lists_laws.specs.Laws.{never}
+use Rattle.nf_lists_laws.proofs.Exact.{rows_as}
+use Rattle.nf_linear_laws.specs.Solution.{IsSquare}
+use Rattle.nf_linear_laws.proofs.Pivots.{IsPivot, is_pivot, some_tested}
+use Rattle.nf_linear_laws.proofs.Rows.{rows_after, rows_exact}
+use Rattle.nf_linear_laws.proofs.Elimination.{IsCleared, next_cleared}
+use Rattle.nf_linear.specs.Pivots.{eliminated}
+use Rattle.nf_linear.proofs.Taken.{ok_of_part}
+
+-- ---- the pivot of a column
+module _ (rows : List Row) (pivots : List ℕ) (column pivot : ℕ) (e : pivot_of rows pivots column ≡ Some pivot) where
+  found : IsPivot 0 rows pivots column pivot
+  found = is_pivot 0 rows pivots column pivot e
+
+  place : found.number ≡ pivot
+  place = let h = found.place in omega arith
+
+  pub pivot_within : pivot < length rows
+  pivot_within = subst (λ (i : ℕ). i < length rows) place found.within
+
+  pub pivot_some : number_at (row_at rows pivot) column ≢ 0ℚ
+  pivot_some = subst (λ (i : ℕ). number_at (row_at rows i) column ≢ 0ℚ) place (some_tested (number_at (row_at rows found.number) column) found.some)
+
+-- ---- the next column
+same_ok : {A E : Type 0} (x y : A) → ◌≡◌ {A = Result A E} (Ok x) (Ok y) → x ≡ y
+same_ok x y e = cc
+
+same_some : (done next : Eliminated) → Some done ≡ Some next → done ≡ next
+same_some done next e = cc
+
+after_rows : (r s : Checked (List Row)) (f : List Row → Eliminated) (next : Eliminated) (exact : List Row) → ((rows : List Row) → r ≡ Ok rows → s ≡ Ok rows) → s ≡ Ok exact
+    → (r >>= λ rows. Ok (Some (f rows))) ≡ Ok (Some next) → f exact ≡ next
+after_rows (Ok rows) s f next exact h k e = ap f (same_ok exact rows (sym k ∙ h rows refl)) ∙ same_some (f rows) next (same_ok (Some (f rows)) (Some next) e)
+after_rows (Err p) s f next exact h k e = absurd (cc)
+
+module _ (passes : Passing) (n column : ℕ) (done : Eliminated) (s : IsCleared n column done.rows done.pivots) (inside : column < n) (next : Eliminated) where
+  by_pivot : (o : Option ℕ) → pivot_of done.rows done.pivots column ≡ o → eliminate_at passes done column o ≡ Ok (Some next) → IsCleared n (suc column) next.rows next.pivots
+  by_pivot None h e = absurd (cc)
+  by_pivot (Some pivot) h e =
+      subst (λ (d : Eliminated). IsCleared n (suc column) d.rows d.pivots)
+      (after_rows (clear_rows passes column pivot (row_at done.rows pivot) 0 done.rows) (clear_rows never column pivot (row_at done.rows pivot) 0 done.rows)
+      (λ rows. eliminated rows (done.pivots ++ pivot ∷ [])) next (rows_after column pivot (row_at done.rows pivot) 0 done.rows)
+      (rows_as passes column pivot (row_at done.rows pivot) 0 done.rows) (rows_exact column pivot (row_at done.rows pivot) 0 done.rows) e)
+      (next_cleared s inside pivot (is_pivot 0 done.rows done.pivots column pivot h))
+
+  pub cleared_next : eliminate_column passes done column ≡ Ok (Some next) → IsCleared n (suc column) next.rows next.pivots
+  cleared_next e = by_pivot (pivot_of done.rows done.pivots column) refl e
+
+-- ---- so far
+pub record Stage (passes : Passing) (before rows : List Row) (pivots : List ℕ) (column : ℕ) : Type 0 where
+  pub cleared : IsCleared (length before) column rows pivots
+  pub same : eliminate_from passes (length before - column) column (eliminated rows pivots) ≡ eliminate_from passes (length before) 0 (eliminated before [])
+
+pub first_stage : (passes : Passing) (before : List Row) → IsSquare before → Stage passes before before [] 0
+first_stage passes before square = record {
+  cleared = record {
+    count = refl;
+    square = square;
+    steps = refl;
+    reduced = record {
+      within = λ d b. absurd (omega arith);
+      apart = λ d f b. absurd (omega arith);
+      pivot = λ d b. absurd (omega arith);
+      cleared = λ d i b. absurd (omega arith);
+    };
+  };
+  same = ap (λ (more : ℕ). eliminate_from passes more 0 (eliminated before [])) (let e : length before - 0 ≡ length before = omega arith in e);
+}
+
+module _ (passes : Passing) (before rows : List Row) (pivots : List ℕ) (column : ℕ) (s : Stage passes before rows pivots column) where
+  abbrev now : Eliminated
+  now = eliminated rows pivots
+
+  abbrev all : Checked (Option Eliminated)
+  all = eliminate_from passes (length before) 0 (eliminated before [])
+
+  abbrev rest : Eliminated → Checked (Option Eliminated)
+  rest next = eliminate_from passes (length before - suc column) (suc column) next
+
+  pub stage_square : IsSquare rows
+  stage_square i b =
+      let e = s.cleared.count in
+      s.cleared.square i (subst (λ (k : ℕ). i < k) e b) ∙ ap suc (sym e)
+
+  module _ (inside : column < length before) where
+    opened : all ≡ (eliminate_column passes now column >>= if_some passes rest)
+    opened = sym s.same ∙ ap (λ (more : ℕ). eliminate_from passes more column now) (let e : length before - column ≡ suc (length before - suc column) = omega arith in e)
+
+    pub stage_none : at_part Part.Table (eliminate_column passes now column) ≡ Ok None → at_part Part.Table all ≡ Ok None
+    stage_none e = ap (at_part Part.Table) (opened ∙ ap (λ (r : Checked (Option Eliminated)). r >>= if_some passes rest) (ok_of_part Part.Table (eliminate_column passes now column) None (sym e)))
+
+    stopped : (r : Checked (Option Eliminated)) (p : PassedAt ℚ) → at_part Part.Table r ≡ Err p → at_part Part.Table (r >>= if_some passes rest) ≡ Err p
+    stopped (Ok x) p e = absurd (cc)
+    stopped (Err q) p e = e
+
+    pub stage_stops : {S : Type 0} (means : S → ℚ) (h : Halt S) → Stops means h (at_part Part.Table (eliminate_column passes now column)) → Stops means h (at_part Part.Table all)
+    stage_stops means (Halt.Passed p) e = ap (at_part Part.Table) opened ∙ stopped (eliminate_column passes now column) (seen_passed_at means p) e
+    stage_stops means Halt.Memory e = tt
+
+    pub stage_more : (new_rows : List Row) (new_pivots : List ℕ) → at_part Part.Table (eliminate_column passes now column) ≡ Ok (Some (eliminated new_rows new_pivots)) → Stage passes before new_rows new_pivots (column + 1)
+    stage_more new_rows new_pivots e =
+        let step = ok_of_part Part.Table (eliminate_column passes now column) (Some (eliminated new_rows new_pivots)) (sym e) in
+        let n : column + 1 ≡ suc column = add-one column in
+        subst (Stage passes before new_rows new_pivots) (sym n) (record {
+          cleared = cleared_next passes (length before) column now s.cleared inside (eliminated new_rows new_pivots) step;
+          same = sym (opened ∙ ap (λ (r : Checked (Option Eliminated)). r >>= if_some passes rest) step);
+        })
+
+  module _ (end : length rows ≤ column) where
+    ended : length before - column ≡ 0
+    ended = let e = s.cleared.count in omega arith
+
+    pub stage_all : at_part Part.Table all ≡ Ok (Some (eliminated rows pivots))
+    stage_all = ap (at_part Part.Table) (sym s.same ∙ ap (λ (more : ℕ). eliminate_from passes more column now) ended)

@@ -1,0 +1,26 @@
+use Rattle.std.proofs.Common.{◌+◌, ◌<◌, List, ◌∷◌, [], map, length, get_or, subst, sym, ap, ◌∙◌, arith}
+use Rattle.std.proofs.lemmas.Result.{err_from_is_err_and}
+use Rattle.std.proofs.lemmas.List.{map-append}
+use Rattle.nf_rational.specs.Rational.{ℚ}
+use Rattle.nf_linear.proofs.Clearing.{row_read}
+use Rattle.nf_linear.proofs.Values.{ValuesSoFar, values_stop, values_more}
+use Rattle.nf_linear.proofs.solution.values.Goals as goal
+
+pub returns-in_err-value : goal.returns-in_err-value
+returns-in_err-value g c =
+    let p = err_from_is_err_and c.from_residual-in_err-value.result c.from_residual-in_err-value.ensures.1 in
+    let inside : c.loop-column.column < length c.args.pivots.now = omega arith in
+    let below : get_or c.args.pivots.now c.loop-column.column 0 < length c.args.rows.now = c.requires.within c.loop-column.column (let e = c.requires.count in omega arith) in
+    let row = row_read c.args.rows.now (get_or c.args.pivots.now c.loop-column.column 0) c.index-rows-pivot.result below c.index-rows-pivot.is in
+    rw (p.1, p.2) (values_stop g.S.Scalar.passes c.args.rows.now c.args.pivots.now c.requires (map g.S.Scalar.means c.loop-column.values.items) c.loop-column.column inside c.loop-column.invariant
+    c.index-rows-pivot.result row _ c.in_err-value.ensures)
+
+pub loop-column-preserved : goal.loop-column-preserved
+loop-column-preserved g c =
+    let inside : c.loop-column.column < length c.args.pivots.now = omega arith in
+    let below : get_or c.args.pivots.now c.loop-column.column 0 < length c.args.rows.now = c.requires.within c.loop-column.column (let e = c.requires.count in omega arith) in
+    let row = row_read c.args.rows.now (get_or c.args.pivots.now c.loop-column.column 0) c.index-rows-pivot.result below c.index-rows-pivot.is in
+    subst (λ (xs : List ℚ). ValuesSoFar g.S.Scalar.passes c.args.rows.now c.args.pivots.now xs (c.loop-column.column + 1))
+    (sym (ap (map g.S.Scalar.means) c.in_ok-push.ensures.items ∙ map-append g.S.Scalar.means c.loop-column.values.items (c.in_ok-value.value ∷ [])))
+    (values_more g.S.Scalar.passes c.args.rows.now c.args.pivots.now c.requires (map g.S.Scalar.means c.loop-column.values.items) c.loop-column.column inside c.loop-column.invariant
+    c.index-rows-pivot.result row (g.S.Scalar.means c.in_ok-value.value) c.in_ok-value.ensures)
