@@ -1,0 +1,4 @@
+pub mod Folds
+pub mod Inequalities
+pub mod Failing
+pub mod Concluding

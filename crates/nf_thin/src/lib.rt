@@ -1,0 +1,7 @@
+//! Thin flows with resetting (Koch and Skutella 2011; Cominetti, Correa and Larré 2015): whether flows and slopes meet a pattern,
+//! and the search for the first pattern that is accepted.
+#![tactic(auto)]
+
+mod verdicts;
+
+pub use verdicts::{Judged, verdict};
