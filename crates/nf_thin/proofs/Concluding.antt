@@ -1,5 +1,5 @@
 -- What a verdict concludes from the first link that fails.
-use Rattle.std.proofs.Common.{◌≡◌, ℕ, ◌+◌, ◌<◌, ◌≤◌, List, [], ◌∷◌, length, get_or, drop, ◌⊎◌, inl, inr, Bool, sym, ap, subst, refl, ◌∙◌, arith}
+use Rattle.std.proofs.Common.{◌≡◌, ℕ, suc, ◌+◌, ◌<◌, ◌≤◌, List, [], ◌∷◌, length, get_or, drop, ◌⊎◌, inl, inr, Bool, sym, ap, subst, refl, ◌∙◌, arith}
 use Rattle.std.specs.Prelude.{Option, Some, None, slice_get, Result, Ok, Err, IsOk}
 use Rattle.std.specs.List.{enumerate_from}
 use Rattle.std.proofs.lemmas.Option.{slice_get_cases, slice_get_within}
@@ -52,8 +52,11 @@ module _ (passes : Passing) (net : Network) (pattern : Pattern) (flows slopes : 
 
     pub loop_goes_on : (holds : Bool) → ((link : Link) → IsLink net e link → Ok holds ≡ at_part Verdict (numbered_verdict passes pattern flows slopes (e, link)))
         → fold_checked after None whole ≡ fold_checked after (first_of found holds e) (drop (e + 1) whole)
-    loop_goes_on holds judged = goes_on after whole None found (first_of found holds e) e (e, here.0) at_here so
-        (ap (λ (r : Checked Bool). r >>= λ h. Ok (first_of found h e)) (part_ok Verdict (numbered_verdict passes pattern flows slopes (e, here.0)) holds (judged here.0 here.1)))
+    loop_goes_on holds judged =
+        let next : suc e ≡ e + 1 = omega arith in
+        subst (λ (j : ℕ). fold_checked after None whole ≡ fold_checked after (first_of found holds e) (drop j whole)) next
+        (goes_on after whole None found (first_of found holds e) e (e, here.0) at_here so
+        (ap (λ (r : Checked Bool). r >>= λ h. Ok (first_of found h e)) (part_ok Verdict (numbered_verdict passes pattern flows slopes (e, here.0)) holds (judged here.0 here.1))))
 
     pub loop_stops : (p : PassedAt ℚ) → ((link : Link) → IsLink net e link → Err p ≡ at_part Verdict (numbered_verdict passes pattern flows slopes (e, link)))
         → Err p ≡ at_part Verdict (first_broken passes net pattern flows slopes)
@@ -67,7 +70,7 @@ module _ (passes : Passing) (net : Network) (pattern : Pattern) (flows slopes : 
     where
       length-enumerated : (k : ℕ) (xs : List Link) → length (enumerate_from k xs) ≡ length xs
       length-enumerated k [] = refl
-      length-enumerated k (x ∷ xs) = ap (λ (n : ℕ). n + 1) (length-enumerated (k + 1) xs)
+      length-enumerated k (x ∷ xs) = ap suc (length-enumerated (k + 1) xs)
 
   -- ---- the verdict
   pub judged_err : (p : PassedAt ℚ) → Err p ≡ at_part Verdict (first_broken passes net pattern flows slopes) → at_part Verdict (verdict_list passes net pattern slopes) ≡ Err p
@@ -99,7 +102,7 @@ module _ (passes : Passing) (net : Network) (pattern : Pattern) (flows slopes : 
     pub all_meet : found ≡ None → length flows ≡ length net.links → NoneNegativeBefore slopes (length slopes) → Meets net pattern flows slopes
     all_meet same count none = let so : AllMeet passes net pattern flows slopes (length net.links) = subst (λ (o : Option ℕ). SoFar passes net pattern flows slopes o (length net.links)) same means.1 in
         record {
-      no_negative_flow = everywhere flows (λ e b. (so e (omega arith)).no_negative);
-      no_negative_slope = everywhere slopes none;
-      links = λ e link state is_link at. (so e (slice_get_within net.links e link is_link)).inequality link state is_link at;
-    }
+          no_negative_flow = everywhere flows (λ e b. (so e (omega arith)).no_negative);
+          no_negative_slope = everywhere slopes none;
+          links = λ e link state is_link at. (so e (slice_get_within net.links e link is_link)).inequality link state is_link at;
+        }

@@ -130,8 +130,10 @@ module _ (passes : Passing) (net : Network) (pattern : Pattern) (flows slopes : 
 
         done : (bound : Option ℚ) → bound_at (k, link) ≡ Ok bound → IsOk (each bound_at (enumerate_from (k + 1) links)) × SoFar found ((k + 1) + length links)
             → IsOk (each bound_at ((k, link) ∷ enumerate_from (k + 1) links)) × SoFar found (k + suc (length links))
-        done bound e w = (subst (λ (r : Checked (Option ℚ)). IsOk (r >>= λ y. each bound_at (enumerate_from (k + 1) links) >>= λ ys. Ok (y ∷ ys))) (sym e) (and_then bound (each bound_at (enumerate_from (k + 1) links)) w.0),
-            subst (SoFar found) (omega arith) w.1)
+        done bound e w = (
+          subst (λ (r : Checked (Option ℚ)). IsOk (r >>= λ y. each bound_at (enumerate_from (k + 1) links) >>= λ ys. Ok (y ∷ ys))) (sym e) (and_then bound (each bound_at (enumerate_from (k + 1) links)) w.0),
+          subst (SoFar found) (omega arith) w.1,
+        )
 
         by_bound : (r : Checked (Option ℚ)) → bound_at (k, link) ≡ r
             → (fold_checked after (first_of so_far (test k link) k) (enumerate_from (k + 1) links) ≡ Ok found → IsOk (each bound_at (enumerate_from (k + 1) links)) × SoFar found ((k + 1) + length links))

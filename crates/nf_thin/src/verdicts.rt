@@ -29,11 +29,7 @@ pub enum Judged {
 }
 
 // The greatest flow that a link may carry in its state: where it is Tight and has a capacity.
-fn bound(
-    state: Option<State>,
-    capacity: Option<Q>,
-    head_slope: Q,
-) -> Result<Option<Q>, PassedAt<Q>>
+fn bound(state: Option<State>, capacity: Option<Q>, head_slope: Q) -> Result<Option<Q>, PassedAt<Q>>
     ensures { result ≡ at_part Verdict (bound_on (beyond (bound_of 127)) state capacity head_slope) }
 {
     match state {
@@ -136,13 +132,7 @@ fn first_after(found: Option<LinkId>, keeps: bool, link: LinkId) -> Option<LinkI
 {
     match found {
         Some(first) => Some(first),
-        None => {
-            if keeps {
-                None
-            } else {
-                Some(link)
-            }
-        }
+        None => { if keeps { None } else { Some(link) } }
     }
 }
 

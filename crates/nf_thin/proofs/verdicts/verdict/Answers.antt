@@ -14,11 +14,13 @@ returns-in-Some c =
     (none_passes (beyond (bound_of 127)) c.args.net.now.net c.args.pattern.now c.args.flows.now c.args.slopes.now (c.requires.pattern.count ∙ c.requires.sets) c.in_ok-failing.failing c.in_ok-failing.ensures, c.in-Some.ensures)
 
 pub returns-in-Some-failing : goal.returns-in-Some-failing
-returns-in-Some-failing c =
-    (none_passes (beyond (bound_of 127)) c.args.net.now.net c.args.pattern.now c.args.flows.now c.args.slopes.now (c.requires.pattern.count ∙ c.requires.sets) c.in_ok-failing.failing c.in_ok-failing.ensures,
-    first_fails (beyond (bound_of 127)) c.args.net.now.net c.args.pattern.now c.args.flows.now c.args.slopes.now (c.requires.pattern.count ∙ c.requires.sets) c.in_ok-failing.failing c.in_ok-failing.ensures c.in-Some-failing.link c.in-Some-failing.is c.in-None.ensures)
+returns-in-Some-failing c = (
+  none_passes (beyond (bound_of 127)) c.args.net.now.net c.args.pattern.now c.args.flows.now c.args.slopes.now (c.requires.pattern.count ∙ c.requires.sets) c.in_ok-failing.failing c.in_ok-failing.ensures,
+  first_fails (beyond (bound_of 127)) c.args.net.now.net c.args.pattern.now c.args.flows.now c.args.slopes.now (c.requires.pattern.count ∙ c.requires.sets) c.in_ok-failing.failing c.in_ok-failing.ensures c.in-Some-failing.link c.in-Some-failing.is c.in-None.ensures,
+)
 
 pub returns-in-None-failing : goal.returns-in-None-failing
-returns-in-None-failing c =
-    (none_passes (beyond (bound_of 127)) c.args.net.now.net c.args.pattern.now c.args.flows.now c.args.slopes.now (c.requires.pattern.count ∙ c.requires.sets) c.in_ok-failing.failing c.in_ok-failing.ensures,
-    all_meet (beyond (bound_of 127)) c.args.net.now.net c.args.pattern.now c.args.flows.now c.args.slopes.now (c.requires.pattern.count ∙ c.requires.sets) c.in_ok-failing.failing c.in_ok-failing.ensures c.in-None-failing.is c.requires.flows c.in-None.ensures)
+returns-in-None-failing c = (
+  none_passes (beyond (bound_of 127)) c.args.net.now.net c.args.pattern.now c.args.flows.now c.args.slopes.now (c.requires.pattern.count ∙ c.requires.sets) c.in_ok-failing.failing c.in_ok-failing.ensures,
+  all_meet (beyond (bound_of 127)) c.args.net.now.net c.args.pattern.now c.args.flows.now c.args.slopes.now (c.requires.pattern.count ∙ c.requires.sets) c.in_ok-failing.failing c.in_ok-failing.ensures c.in-None-failing.is c.requires.flows c.in-None.ensures,
+)
