@@ -5,3 +5,4 @@ pub mod Later
 pub mod InOrder
 pub mod Filling
 pub mod Raising
+pub mod Counting

@@ -100,3 +100,55 @@ fn raise(
     }
     false
 }
+
+// How many links differ from the base.
+fn count_changes(base: &[Option<State>], states: &[Option<State>]) -> u32
+    requires states { length states.now ≡ length base.now }
+    requires fewer { length base.now < 2 ^ 32 }
+    ensures { result ≡ changes_of base.now states.now }
+{
+    let mut count = 0;
+    for i in 0..base.len() {
+        count += change(base[i], states[i]);
+    }
+    count
+}
+
+// How many links may differ from it.
+fn count_free(base: &[Option<State>]) -> u32
+    requires { length base.now < 2 ^ 32 }
+    ensures { result ≡ free base.now }
+{
+    let mut count = 0;
+    for i in 0..base.len() {
+        count += change(None, base[i]);
+    }
+    count
+}
+
+// The next assignment that isn't the same up to this link; whether there is one.
+pub(crate) fn advance(
+    states: &mut [Option<State>],
+    base: &[Option<State>],
+    unbounded: &[bool],
+    same: usize,
+) -> bool
+    requires same { same ≤ length base.now }
+    requires states { length states.old ≡ length base.now }
+    requires unbounded { length unbounded.now ≡ length base.now }
+    requires fewer { length base.now < 2 ^ 32 }
+    requires valid { IsAssignment base.now unbounded.now base.now }
+    ensures { MatchBool result (next_assignment same base.now unbounded.now states.old ≡ Some states.new)
+        ((next_assignment same base.now unbounded.now states.old ≡ None) × (states.new ≡ states.old)) }
+{
+    if raise(states, base, unbounded, same) {
+        return true;
+    }
+    let changes = count_changes(base, states);
+    let more = count_free(base);
+    if changes >= more {
+        return false;
+    }
+    fill(states, base, unbounded, changes + 1, more);
+    true
+}
