@@ -6,3 +6,5 @@ pub mod InOrder
 pub mod Filling
 pub mod Raising
 pub mod Counting
+pub mod Trails
+pub mod Forests
