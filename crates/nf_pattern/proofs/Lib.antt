@@ -8,3 +8,4 @@ pub mod Raising
 pub mod Counting
 pub mod Trails
 pub mod Forests
+pub mod Walking
