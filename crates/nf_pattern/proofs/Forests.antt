@@ -44,7 +44,7 @@ module _ (hops : List Hop) where
     forest_before zero clear = λ first steps v differ p. none_before (first.0) (trail_allows hops (TightBefore pattern 0) (first ∷ steps) v v first.0 p (zero, omega arith, refl))
     forest_before (suc n) clear = forest_more (TightBefore pattern n) (TightBefore pattern (suc n)) n (forest_before n (λ e less. clear e (omega arith)))
         (λ e other t. (let l = t.0 in omega arith, t.1))
-        (λ t hop p joined. clear n (omega arith) (record { hop = hop; is_hop = p; tight = t.1; joined = joined }))
+        (λ t hop p joined. clear n (omega arith) (t.1, record { hop = hop; is_hop = p; joined = joined }))
 
     pub is_forest : ((e : ℕ) → Closes hops pattern e → ⊥) → IsForest hops (λ e. HasState pattern e Tight)
     is_forest clear = forest_fewer (TightBefore pattern (length pattern)) (λ e. HasState pattern e Tight) (λ e t. (slice_get_within pattern e (Some Tight) t, t))
@@ -52,7 +52,10 @@ module _ (hops : List Hop) where
 
     pub no_forest : (e : ℕ) → Closes hops pattern e → IsForest hops (λ k. HasState pattern k Tight) → ⊥
     no_forest e closes forest =
-        let short = shorten hops (TightBefore pattern e) closes.joined.0 closes.hop.head closes.hop.tail closes.joined.1 in
-        forest (e, true) short.0 closes.hop.tail
-        (λ (c : Contains (numbers short.0) e). let t = trail_allows hops (TightBefore pattern e) short.0 closes.hop.head closes.hop.tail e short.2 c in let l = t.0 in omega arith, short.1)
-        (closes.hop, closes.is_hop, closes.tight, refl, trail_by hops (TightBefore pattern e) (λ k. HasState pattern k Tight) short.0 closes.hop.head closes.hop.tail (λ k c t. t.1) short.2)
+        let short = shorten hops (TightBefore pattern e) closes.1.joined.0 closes.1.hop.head closes.1.hop.tail closes.1.joined.1 in
+        forest (e, true) short.0 closes.1.hop.tail
+        (λ (c : Contains (numbers short.0) e). let t = trail_allows hops (TightBefore pattern e) short.0 closes.1.hop.head closes.1.hop.tail e short.2 c in let l = t.0 in omega arith, short.1)
+        (closes.1.hop, closes.1.is_hop, closes.0, refl, trail_by hops (TightBefore pattern e) (λ k. HasState pattern k Tight) short.0 closes.1.hop.head closes.1.hop.tail (λ k c t. t.1) short.2)
+
+    pub closing_below : (e : ℕ) → Closes hops pattern e → e < length hops
+    closing_below e closes = slice_get_within hops e closes.1.hop closes.1.is_hop

@@ -10,7 +10,7 @@ use Rattle.nf_model.specs.Pattern.{Pattern, HasState, IsTrail}
 use Rattle.nf_graph.specs.Graph.{AreBelow}
 use Rattle.nf_graph.proofs.Flags.{Has-set_same, Has-set_other, Has-set_cases, not_set, Has_from_read, read_from_Has, not_Has_from_read}
 use Rattle.nf_graph.proofs.Walks.{IsHop-unique}
-use Rattle.nf_pattern.specs.Forest.{AreJoined, TightBefore, HasSameEnds, Joins, unset, Spreads, HoldsAll}
+use Rattle.nf_pattern.specs.Forest.{AreJoined, TightBefore, LeadsBack, HasSameEnds, Joins, unset, Spreads, HoldsAll}
 use Rattle.nf_pattern.proofs.Trails.{Steps, trail_append}
 
 -- ---- how many flags are not set
@@ -180,3 +180,27 @@ module _ (hops : List Hop) where
     pub swept_result : (e : ℕ) (now : List Bool) (grows : Bool) → before ≤ e → AreSwept e now grows → MatchBool grows (unset now < unset flags) (HoldsAll hops (TightBefore states before) now)
     swept_result e now true all w = w.less refl
     swept_result e now false all w = swept_all e now all w
+
+-- ---- the whole walk from the head of a link
+module _ (hops : List Hop) (states : Pattern) (e : ℕ) (hop : Hop) (is_hop : IsHop hops e hop) (clean flags : List Bool) (clear : (v : ℕ) → Has clean v → ⊥) (i : ℕ) (at_head : i ≡ hop.head)
+    (spreads : Spreads hops (TightBefore states e) (set clean i true) flags) where
+  from_head : (v : ℕ) → Has flags v → AreJoined hops (TightBefore states e) hop.head v
+  from_head v h =
+      let way = spreads.joined v h in
+      ⊎_elim
+      (λ (same : way.0 ≡ i). subst (λ (n : ℕ). AreJoined hops (TightBefore states e) n v) (same ∙ at_head) way.2)
+      (λ (k : Has clean way.0). absurd (clear way.0 k))
+      (Has-set_cases clean i way.0 way.1)
+
+  pub walked_back : i < length clean → HoldsAll hops (TightBefore states e) flags → (x : Bool) (j : ℕ) → j ≡ hop.tail → get_or flags j false ≡ x
+      → MatchBool x (LeadsBack hops states e) (LeadsBack hops states e → ⊥)
+  walked_back below held true j at_tail read = record {
+    hop = hop;
+    is_hop = is_hop;
+    joined = from_head hop.tail (subst (λ (n : ℕ). Has flags n) at_tail (Has_from_read flags j read));
+  }
+  walked_back below held false j at_tail read = λ back.
+      let same : back.hop ≡ hop = IsHop-unique hops e back.hop hop back.is_hop is_hop in
+      let trail : IsTrail hops (TightBefore states e) back.joined.0 hop.head hop.tail = subst (λ (h : Hop). IsTrail hops (TightBefore states e) back.joined.0 h.head h.tail) same back.joined.1 in
+      let start : Has flags hop.head = subst (λ (n : ℕ). Has flags n) at_head (spreads.kept i (Has-set_same clean i below)) in
+      not_Has_from_read flags j read (subst (λ (n : ℕ). Has flags n) (sym at_tail) (trail_held hops (TightBefore states e) flags back.joined.0 hop.head hop.tail held start trail))

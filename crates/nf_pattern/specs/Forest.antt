@@ -13,12 +13,15 @@ AreJoined hops Allowed v w = (steps : List (ℕ × Bool)) × IsTrail hops Allowe
 abbrev pub TightBefore : Pattern → ℕ → ℕ → Type 0
 TightBefore pattern n e = (e < n) × HasState pattern e Tight
 
--- link e is Tight, and Tight links before it lead from its head to its tail
-pub record Closes (hops : List Hop) (pattern : Pattern) (e : ℕ) : Type 0 where
+-- Tight links before link e lead from its head to its tail
+pub record LeadsBack (hops : List Hop) (pattern : Pattern) (e : ℕ) : Type 0 where
   pub hop : Hop
   pub is_hop : IsHop hops e hop
-  pub tight : HasState pattern e Tight
   pub joined : AreJoined hops (TightBefore pattern e) hop.head hop.tail
+
+-- and it is Tight itself: with them it closes a cycle
+abbrev pub Closes : List Hop → Pattern → ℕ → Type 0
+Closes hops pattern e = HasState pattern e Tight × LeadsBack hops pattern e
 
 -- ---- a walk: flags at the nodes that it has come to
 

@@ -3,7 +3,7 @@ ghost use Rattle.std.specs.Prelude.{◌≡◌, ◌<◌, ◌≤◌, length, Some,
 ghost use Rattle.nf_model.specs.declared.State.TheVariants.{Tight};
 ghost use Rattle.nf_model.specs.Pattern.{HasState, IsForest};
 ghost use Rattle.nf_graph.specs.Graph.{AreBelow};
-ghost use Rattle.nf_pattern.specs.Forest.{AreJoined, TightBefore, Closes, HasSameEnds, Joins, Spreads, HoldsAll, unset};
+ghost use Rattle.nf_pattern.specs.Forest.{TightBefore, LeadsBack, Closes, HasSameEnds, Joins, Spreads, HoldsAll, unset};
 
 use nf_graph::Hop;
 use nf_model::State;
@@ -67,4 +67,52 @@ fn sweep(hops: &[Hop], states: &[Option<State>], before: usize, flags: &mut [boo
         }
     }
     grows
+}
+
+// Whether Tight links before this one lead from its head to its tail. The flags are those of the walk.
+fn leads_back(hops: &[Hop], states: &[Option<State>], link: usize, flags: &mut [bool]) -> bool
+    requires link { link < length hops.now }
+    requires states { length states.now ≡ length hops.now }
+    requires ends { AreBelow (length flags.old) hops.now }
+    ensures { MatchBool result (LeadsBack hops.now states.now link) (LeadsBack hops.now states.now link → ⊥) }
+{
+    let hop = &hops[link];
+    let tail = hop.tail;
+    let head = hop.head;
+    flags.fill(false);
+    flags[head.index()] = true;
+    while sweep(hops, states, link, flags) {}
+    flags[tail.index()]
+}
+
+// The link is Tight, and closes a cycle with Tight links before it.
+fn closes(hops: &[Hop], states: &[Option<State>], link: usize, flags: &mut [bool]) -> bool
+    requires link { link < length hops.now }
+    requires states { length states.now ≡ length hops.now }
+    requires ends { AreBelow (length flags.old) hops.now }
+    ensures { MatchBool result (Closes hops.now states.now link) (Closes hops.now states.now link → ⊥) }
+{
+    if !is_tight(states, link) {
+        return false;
+    }
+    leads_back(hops, states, link, flags)
+}
+
+// The first link that closes a cycle of Tight links.
+pub(crate) fn first_closing(
+    hops: &[Hop],
+    states: &[Option<State>],
+    flags: &mut [bool],
+) -> Option<usize>
+    requires states { length states.now ≡ length hops.now }
+    requires ends { AreBelow (length flags.old) hops.now }
+    ensures { MatchOption result (IsForest hops.now (λ e. HasState states.now e Tight))
+        (λ e. (e < length hops.now) × Closes hops.now states.now e) }
+{
+    for e in 0..hops.len() {
+        if closes(hops, states, e, flags) {
+            return Some(e);
+        }
+    }
+    None
 }
