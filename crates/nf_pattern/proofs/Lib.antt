@@ -9,3 +9,4 @@ pub mod Counting
 pub mod Trails
 pub mod Forests
 pub mod Walking
+pub mod Entering

@@ -1,3 +1,4 @@
 pub mod Base
 pub mod Successor
 pub mod Forest
+pub mod Entered

@@ -5,6 +5,7 @@
 mod assignments;
 mod bases;
 mod choice;
+mod entered;
 mod forest;
 mod pattern;
 #[cfg(test)]
