@@ -10,3 +10,7 @@ pub mod Trails
 pub mod Forests
 pub mod Walking
 pub mod Entering
+pub mod Choosing
+pub mod Barren
+pub mod Ranging
+pub mod Seeking

@@ -2,3 +2,4 @@ pub mod Base
 pub mod Successor
 pub mod Forest
 pub mod Entered
+pub mod Given

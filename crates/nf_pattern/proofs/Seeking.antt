@@ -1,0 +1,124 @@
+-- The first listed pattern from an assignment on, found by going on from assignments that are not listed.
+use Rattle.std.proofs.Common.{◌≡◌, ℕ, ◌<◌, ◌≤◌, Bool, List, length, take, take_all, inl, inr, ◌⊎◌, ⊎_elim, Option, Some, None, refl, sym, ap, subst, ◌∙◌, arith}
+use Rattle.nf_model.specs.declared.State.{State}
+use Rattle.nf_model.specs.Pattern.{Pattern, IsBefore, changes}
+use Rattle.nf_lists_laws.proofs.Listings.{IsBefore-asymmetric, IsBefore-transitive}
+use Rattle.nf_pattern.specs.Successor.{IsAssignment, next_assignment, free}
+use Rattle.nf_pattern.specs.Given.{Question, IsQuestion, IsListedBy, IsBarren, IsFrom, IsFirstFrom, NoneFrom, Last, AtStart, UpTo, IsNext, NoneLeft}
+use Rattle.nf_pattern.proofs.Choosing.{assigned_length, assignment_of}
+use Rattle.nf_pattern.proofs.Successors.{changes_few}
+use Rattle.nf_pattern.proofs.InOrder.{base_first, next_is, next_none, next_least}
+use Rattle.nf_pattern.proofs.Ranging.{before_or, left_after, fewer_left}
+
+module _ (question : Question) (is : IsQuestion question) where
+  abbrev base : Pattern
+  base = question.base
+
+  abbrev us : List Bool
+  us = question.unbounded
+
+  pub base_count : length us ≡ length base
+  base_count = is.unbounded ∙ (sym is.active ∙ sym is.base.count)
+
+  pub valid : IsAssignment base us base
+  valid = assignment_of question.sets us base is.base base_count base is.base
+
+  pub listed_assigned : (r : Pattern) → IsListedBy question r → IsAssignment base us r
+  listed_assigned r listed = assignment_of question.sets us base is.base base_count r listed.states
+
+  same_length : (p r : Pattern) → IsAssignment base us p → IsAssignment base us r → length r ≡ length p
+  same_length p r h k = assigned_length base us r k ∙ sym (assigned_length base us p h)
+
+  itself : (p r : Pattern) → r ≡ p → IsBefore base p r → ⊥
+  itself p r same before = let b : IsBefore base p p = subst (λ (x : Pattern). IsBefore base p x) same before in IsBefore-asymmetric base p p b b
+
+  -- ---- from assignment to assignment
+  pub record IsSought (start p : Pattern) : Type 0 where
+    pub assigned : IsAssignment base us p
+    pub after : IsFrom base start p
+    pub first : (r : Pattern) → IsListedBy question r → IsFrom base start r → IsBefore base r p → ⊥
+
+  pub sought_first : (start : Pattern) → IsAssignment base us start → IsSought start start
+  sought_first start h = record {
+    assigned = h;
+    after = inl refl;
+    first = λ r listed from before. ⊎_elim
+        (λ (same : r ≡ start). itself r start (sym same) before)
+        (λ (later : IsBefore base start r). IsBefore-asymmetric base start r later before) from;
+  }
+
+  module _ (start p : Pattern) (sought : IsSought start p) where
+    pub sought_found : IsListedBy question p → IsFirstFrom question start p
+    sought_found listed = record { listed = listed; after = sought.after; first = sought.first }
+
+    module _ (n : ℕ) (barren : IsBarren question n p) where
+      -- a listed pattern from the start on comes after p, and is not the same up to link n
+      later : (r : Pattern) → IsListedBy question r → IsFrom base start r → (IsBefore base p r → take n r ≡ take n p) → ⊥
+      later r listed from same = ⊎_elim
+          (λ (before : IsBefore base r p). sought.first r listed from before)
+          (λ (w : (r ≡ p) ⊎ IsBefore base p r). ⊎_elim
+          (λ (e : r ≡ p). barren r listed (ap (take n) e))
+          (λ (after : IsBefore base p r). barren r listed (same after)) w)
+          (before_or base r p (same_length p r sought.assigned (listed_assigned r listed)))
+
+      pub sought_more : (q : Pattern) → next_assignment n base us p ≡ Some q → IsSought start q
+      sought_more q e =
+          let step = next_is n base us valid p q sought.assigned e in
+          record {
+            assigned = step.0;
+            after = inr (⊎_elim (λ (same : p ≡ start). subst (λ (x : Pattern). IsBefore base x q) same step.1) (λ (w : IsBefore base start p). IsBefore-transitive base start p q w step.1) sought.after);
+            first = λ r listed from before. later r listed from (λ after. next_least n base us valid p q r sought.assigned e (listed_assigned r listed) after before);
+          }
+
+      pub sought_none : next_assignment n base us p ≡ None → NoneFrom question start
+      sought_none e r listed from = later r listed from (λ after. next_none n base us valid p r e (listed_assigned r listed) after)
+
+  pub step_fewer : (n : ℕ) (p q : Pattern) → IsAssignment base us p → next_assignment n base us p ≡ Some q → left_after base q < left_after base p
+  step_fewer n p q h e =
+      let step = next_is n base us valid p q h e in
+      fewer_left base p q (sym (same_length p q h step.0)) (changes_few base us q step.0) step.1
+
+  -- ---- after what was given
+  all_from_base : (r : Pattern) → IsListedBy question r → IsFrom base base r
+  all_from_base r listed = ⊎_elim
+      (λ (before : IsBefore base r base). absurd (base_first base r before))
+      (λ (w : (r ≡ base) ⊎ IsBefore base base r). w)
+      (before_or base r base (same_length base r valid (listed_assigned r listed)))
+
+  pub next_at_start : (p : Pattern) → IsFirstFrom question base p → IsNext question AtStart p
+  next_at_start p f = record { listed = f.listed; later = tt; least = λ r listed later before. f.first r listed (all_from_base r listed) before }
+
+  pub none_at_start : NoneFrom question base → NoneLeft question AtStart
+  none_at_start none r listed later = none r listed (all_from_base r listed)
+
+  module _ (l : Pattern) (h : IsAssignment base us l) (n : ℕ) (whole : length base ≤ n) where
+    same_all : (r : Pattern) → IsAssignment base us r → take n r ≡ take n l → r ≡ l
+    same_all r k same =
+        let a = assigned_length base us r k in let b = assigned_length base us l h in
+        sym (take_all n r (omega arith)) ∙ (same ∙ take_all n l (omega arith))
+
+    pub none_after : next_assignment n base us l ≡ None → NoneLeft question (UpTo l)
+    none_after e r listed later =
+        let k = listed_assigned r listed in
+        itself l r (same_all r k (next_none n base us valid l r e k later)) later
+
+    module _ (q : Pattern) (e : next_assignment n base us l ≡ Some q) where
+      from_next : (r : Pattern) → IsListedBy question r → IsBefore base l r → IsFrom base q r
+      from_next r listed later =
+          let k = listed_assigned r listed in
+          ⊎_elim
+          (λ (before : IsBefore base r q). absurd (itself l r (same_all r k (next_least n base us valid l q r h e k later before)) later))
+          (λ (w : (r ≡ q) ⊎ IsBefore base q r). w)
+          (before_or base r q (same_length q r (next_is n base us valid l q h e).0 k))
+
+      pub next_after : (p : Pattern) → IsFirstFrom question q p → IsNext question (UpTo l) p
+      next_after p f =
+          let step = next_is n base us valid l q h e in
+          record {
+            listed = f.listed;
+            later = ⊎_elim (λ (same : p ≡ q). subst (λ (x : Pattern). IsBefore base l x) (sym same) step.1) (λ (w : IsBefore base q p). IsBefore-transitive base l q p step.1 w) f.after;
+            least = λ r listed later before. f.first r listed (from_next r listed later) before;
+          }
+
+      pub none_left_after : NoneFrom question q → NoneLeft question (UpTo l)
+      none_left_after none r listed later = none r listed (from_next r listed later)
