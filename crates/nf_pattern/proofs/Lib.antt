@@ -14,3 +14,4 @@ pub mod Choosing
 pub mod Barren
 pub mod Ranging
 pub mod Seeking
+pub mod Failing

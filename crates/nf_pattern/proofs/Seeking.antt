@@ -1,6 +1,6 @@
 -- The first listed pattern from an assignment on, found by going on from assignments that are not listed.
 use Rattle.std.proofs.Common.{◌≡◌, ℕ, ◌<◌, ◌≤◌, Bool, List, length, take, take_all, inl, inr, ◌⊎◌, ⊎_elim, Option, Some, None, refl, sym, ap, subst, ◌∙◌, arith}
-use Rattle.nf_model.specs.declared.State.{State}
+use Rattle.std.specs.Prelude.{MatchBool, true, false}
 use Rattle.nf_model.specs.Pattern.{Pattern, IsBefore, changes}
 use Rattle.nf_lists_laws.proofs.Listings.{IsBefore-asymmetric, IsBefore-transitive}
 use Rattle.nf_pattern.specs.Successor.{IsAssignment, next_assignment, free}
@@ -9,6 +9,12 @@ use Rattle.nf_pattern.proofs.Choosing.{assigned_length, assignment_of}
 use Rattle.nf_pattern.proofs.Successors.{changes_few}
 use Rattle.nf_pattern.proofs.InOrder.{base_first, next_is, next_none, next_least}
 use Rattle.nf_pattern.proofs.Ranging.{before_or, left_after, fewer_left}
+
+-- no listed pattern from the start on comes before p
+pub record IsSought (question : Question) (start p : Pattern) : Type 0 where
+  pub assigned : IsAssignment question.base question.unbounded p
+  pub after : IsFrom question.base start p
+  pub first : (r : Pattern) → IsListedBy question r → IsFrom question.base start r → IsBefore question.base r p → ⊥
 
 module _ (question : Question) (is : IsQuestion question) where
   abbrev base : Pattern
@@ -33,12 +39,7 @@ module _ (question : Question) (is : IsQuestion question) where
   itself p r same before = let b : IsBefore base p p = subst (λ (x : Pattern). IsBefore base p x) same before in IsBefore-asymmetric base p p b b
 
   -- ---- from assignment to assignment
-  pub record IsSought (start p : Pattern) : Type 0 where
-    pub assigned : IsAssignment base us p
-    pub after : IsFrom base start p
-    pub first : (r : Pattern) → IsListedBy question r → IsFrom base start r → IsBefore base r p → ⊥
-
-  pub sought_first : (start : Pattern) → IsAssignment base us start → IsSought start start
+  pub sought_first : (start : Pattern) → IsAssignment base us start → IsSought question start start
   sought_first start h = record {
     assigned = h;
     after = inl refl;
@@ -47,7 +48,7 @@ module _ (question : Question) (is : IsQuestion question) where
         (λ (later : IsBefore base start r). IsBefore-asymmetric base start r later before) from;
   }
 
-  module _ (start p : Pattern) (sought : IsSought start p) where
+  module _ (start p : Pattern) (sought : IsSought question start p) where
     pub sought_found : IsListedBy question p → IsFirstFrom question start p
     sought_found listed = record { listed = listed; after = sought.after; first = sought.first }
 
@@ -61,7 +62,7 @@ module _ (question : Question) (is : IsQuestion question) where
           (λ (after : IsBefore base p r). barren r listed (same after)) w)
           (before_or base r p (same_length p r sought.assigned (listed_assigned r listed)))
 
-      pub sought_more : (q : Pattern) → next_assignment n base us p ≡ Some q → IsSought start q
+      pub sought_more : (q : Pattern) → next_assignment n base us p ≡ Some q → IsSought question start q
       sought_more q e =
           let step = next_is n base us valid p q sought.assigned e in
           record {
@@ -122,3 +123,16 @@ module _ (question : Question) (is : IsQuestion question) where
 
       pub none_left_after : NoneFrom question q → NoneLeft question (UpTo l)
       none_left_after none r listed later = none r listed (from_next r listed later)
+
+  -- ---- whether one was found
+  pub match_start : (start : Pattern) → start ≡ base → (p : Pattern) (found : Bool) → MatchBool found (IsFirstFrom question start p) (NoneFrom question start) → MatchBool found (IsNext question AtStart p) (NoneLeft question AtStart)
+  match_start start same p true f = next_at_start p (subst (λ (x : Pattern). IsFirstFrom question x p) same f)
+  match_start start same p false none = none_at_start (subst (λ (x : Pattern). NoneFrom question x) same none)
+
+  pub next_assigned : (n : ℕ) (l q : Pattern) → IsAssignment base us l → next_assignment n base us l ≡ Some q → IsAssignment base us q
+  next_assigned n l q h e = (next_is n base us valid l q h e).0
+
+  pub match_after : (l q p : Pattern) (n : ℕ) (found : Bool) → IsAssignment base us l → length base ≤ n → next_assignment n base us l ≡ Some q → MatchBool found (IsFirstFrom question q p) (NoneFrom question q)
+      → MatchBool found (IsNext question (UpTo l) p) (NoneLeft question (UpTo l))
+  match_after l q p n true h whole e f = next_after l h n whole q e p f
+  match_after l q p n false h whole e none = none_left_after l h n whole q e none

@@ -3,3 +3,4 @@ pub mod Successor
 pub mod Forest
 pub mod Entered
 pub mod Given
+pub mod Stands

@@ -8,6 +8,7 @@ mod choice;
 mod entered;
 mod forest;
 mod pattern;
+mod question;
 #[cfg(test)]
 mod tests;
 
