@@ -5,6 +5,8 @@ use Rattle.nf_model.specs.Pattern.{Pattern, IsBefore, changes}
 use Rattle.nf_lists_laws.proofs.Listings.{IsBefore-asymmetric, IsBefore-transitive}
 use Rattle.nf_pattern.specs.Successor.{IsAssignment, next_assignment, free}
 use Rattle.nf_pattern.specs.Given.{Question, IsQuestion, IsListedBy, IsBarren, IsFrom, IsFirstFrom, NoneFrom, Last, AtStart, UpTo, IsNext, NoneLeft}
+use Rattle.nf_pattern.specs.declared.question.Stand.TheVariants.{Start}
+use Rattle.nf_pattern.specs.Stands.{IsStanding}
 use Rattle.nf_pattern.proofs.Choosing.{assigned_length, assignment_of}
 use Rattle.nf_pattern.proofs.Successors.{changes_few}
 use Rattle.nf_pattern.proofs.InOrder.{base_first, next_is, next_none, next_least}
@@ -136,3 +138,15 @@ module _ (question : Question) (is : IsQuestion question) where
       → MatchBool found (IsNext question (UpTo l) p) (NoneLeft question (UpTo l))
   match_after l q p n true h whole e f = next_after l h n whole q e p f
   match_after l q p n false h whole e none = none_left_after l h n whole q e none
+
+-- ---- where a listing begins
+pub standing_start : (question seen : Question) (current : Pattern) (flags : List Bool) → question ≡ seen → IsQuestion seen → current ≡ seen.base → length flags ≡ seen.nodes → IsStanding question Start current flags
+standing_start question seen current flags same is base count =
+    let q : IsQuestion question = subst IsQuestion (sym same) is in
+    let at_base : current ≡ question.base = base ∙ ap (λ (x : Question). x.base) (sym same) in
+    record {
+      is_question = q;
+      assigned = subst (λ (x : Pattern). IsAssignment question.base question.unbounded x) (sym at_base) (valid question q);
+      start = λ _. at_base;
+      count = count ∙ ap (λ (x : Question). x.nodes) (sym same);
+    }

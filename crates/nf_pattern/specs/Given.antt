@@ -1,5 +1,5 @@
 -- Listings, and how far one has been given.
-use Rattle.std.specs.Prelude.{◌≡◌, ◌⊎◌, ℕ, suc, ◌^◌, ◌<◌, ◌-◌, nat_lt, if◌then◌else◌, Bool, List, length, take, Option, Some, None, refl}
+use Rattle.std.specs.Prelude.{◌≡◌, ◌⊎◌, ℕ, ◌+◌, ◌-◌, ◌^◌, ◌<◌, min, Bool, List, length, take, Option, Some, None, refl}
 use Rattle.std.specs.Coded.{Coded, code_by, coded×, coded_ℕ, coded_bool, coded_list, coded_option}
 use base.Stored.{coded_unit}
 use Rattle.nf_model.specs.Codes.{coded_hop, coded_sets, coded_pattern}
@@ -78,7 +78,7 @@ pub record Given : Type 0 where
   pub place : ℕ
 
 abbrev pub next_place : ℕ → ℕ
-next_place place = if nat_lt place (2 ^ 64 - 1) then suc place else place
+next_place place = min (place + 1) (2 ^ 64 - 1)
 
 -- one pattern more is given, or none exactly where none is left
 abbrev pub Gives : Given → Option Pattern → Given → Type 0

@@ -8,6 +8,7 @@ mod choice;
 mod entered;
 mod forest;
 mod pattern;
+mod patterns;
 mod question;
 #[cfg(test)]
 mod tests;
@@ -15,3 +16,4 @@ mod tests;
 pub use bases::base;
 pub use nf_model::State;
 pub use pattern::Pattern;
+pub use patterns::Patterns;

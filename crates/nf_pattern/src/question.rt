@@ -1,10 +1,13 @@
 // What a listing is of, and the way from one listed pattern to the next.
+ghost use Rattle.std.specs.Prelude.{◌≡◌, ◌^◌, ◌<◌, length, IfOk};
+
 use crate::assignments::advance;
 use crate::entered::{end_into, unentered};
 use crate::forest::first_closing;
 use crate::pattern::Pattern;
-use nf_graph::{Hop, NodeId};
+use nf_graph::{Hop, LinkId, LinkSets, NodeId};
 use nf_model::State;
+use std::alloc::{AllocError, Global};
 use std::marker::Model;
 
 // The links, and the base whose links with a state are those that need one.
@@ -39,12 +42,74 @@ impl Model for Question {
     ghost invariant = { λ q. IsQuestion (record { nodes = q.nodes; source = q.source; hops = q.hops.items; sets = record { active = q.active.items; resetting = q.resetting.items }; unbounded = q.unbounded.items; base = q.base }) };
 }
 
+// Of each link, whether it is active.
+fn active_flags(alloc: Global, sets: &LinkSets, links: usize) -> Result<Vec<bool>, AllocError>
+    requires links { length sets.now.active ≡ links }
+    requires fewer { links < 2 ^ 32 }
+    ensures { IfOk result (λ flags. flags.items ≡ sets.now.active) }
+{
+    let mut flags = Vec::new(alloc);
+    for e in 0..links {
+        let flag = sets.active(LinkId(e as u32));
+        flags.push(flag)?;
+    }
+    Ok(flags)
+}
+
+// Of each link, whether it is resetting.
+fn resetting_flags(
+    alloc: Global,
+    sets: &LinkSets,
+    links: usize,
+) -> Result<Vec<bool>, AllocError>
+    requires active { length sets.now.active ≡ links }
+    requires resetting { length sets.now.resetting ≡ links }
+    requires fewer { links < 2 ^ 32 }
+    ensures { IfOk result (λ flags. flags.items ≡ sets.now.resetting) }
+{
+    let mut flags = Vec::new(alloc);
+    for e in 0..links {
+        let flag = sets.resetting(LinkId(e as u32));
+        flags.push(flag)?;
+    }
+    Ok(flags)
+}
+
 impl Question {
-    ghost use Rattle.std.specs.Prelude.{◌≡◌, ◌≤◌, length, MatchBool, MatchOption, Some, None};
+    ghost use Rattle.std.specs.Prelude.{◌≡◌, ◌≤◌, length, IfOk, MatchBool, MatchOption, Some, None};
     ghost use Rattle.nf_pattern.specs.Successor.{IsAssignment, next_assignment};
     ghost use Rattle.nf_pattern.specs.Given.{IsQuestion, IsListedBy, IsBarren, IsFirstFrom, NoneFrom, IsNext, NoneLeft, AtStart, UpTo};
     ghost use Rattle.nf_pattern.specs.declared.question.Stand.TheVariants.{Start};
     ghost use Rattle.nf_pattern.specs.Stands.{last_of};
+
+    // The question of these values, kept in memory of its own.
+    pub(crate) fn new(
+        alloc: Global,
+        nodes: u32,
+        source: NodeId,
+        hops: &[Hop],
+        sets: &LinkSets,
+        base: &Pattern,
+        unbounded: &[bool],
+    ) -> Result<Question, AllocError>
+        requires { IsQuestion (record { nodes = nodes; source = source; hops = hops.now; sets = sets.now; unbounded = unbounded.now; base = base.now }) }
+        ensures { IfOk result (λ question. question ≡ record { nodes = nodes; source = source; hops = hops.now; sets = sets.now; unbounded = unbounded.now; base = base.now }) }
+    {
+        let active = active_flags(alloc, sets, hops.len())?;
+        let resetting = resetting_flags(alloc, sets, hops.len())?;
+        let hops = hops.to_vec(alloc)?;
+        let unbounded = unbounded.to_vec(alloc)?;
+        let base = base.copy(alloc)?;
+        Ok(Question {
+            nodes,
+            source,
+            hops,
+            active,
+            resetting,
+            unbounded,
+            base,
+        })
+    }
 
     // Up to which link the states keep every pattern from being listed; None where they are listed. The flags are for walks.
     fn failing(&self, states: &[Option<State>], flags: &mut [bool]) -> Option<usize>
