@@ -5,10 +5,15 @@
 mod assignments;
 mod bases;
 mod choice;
+mod entered;
+mod forest;
 mod pattern;
+mod patterns;
+mod question;
 #[cfg(test)]
 mod tests;
 
 pub use bases::base;
 pub use nf_model::State;
 pub use pattern::Pattern;
+pub use patterns::Patterns;
