@@ -1,0 +1,4 @@
+pub mod Decided
+pub mod Joined
+pub mod Listed
+pub mod Listing
