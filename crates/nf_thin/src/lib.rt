@@ -2,6 +2,8 @@
 //! and the search for the first pattern that is accepted.
 #![tactic(auto)]
 
+mod filling;
+mod trying;
 mod verdicts;
 
 pub use verdicts::{Judged, verdict};
