@@ -3,7 +3,9 @@
 #![tactic(auto)]
 
 mod filling;
+mod search;
 mod trying;
 mod verdicts;
 
+pub use search::{SearchFault, Thin};
 pub use verdicts::{Judged, verdict};
