@@ -2,3 +2,11 @@ pub mod Folds
 pub mod Inequalities
 pub mod Failing
 pub mod Concluding
+pub mod Cells
+pub mod ActivePlaces
+pub mod EquationRows
+pub mod NodeEntries
+pub mod LinkEntries
+pub mod Negative
+pub mod NodeRows
+pub mod LinkRows

@@ -2,6 +2,7 @@
 //! and the search for the first pattern that is accepted.
 #![tactic(auto)]
 
+mod filling;
 mod verdicts;
 
 pub use verdicts::{Judged, verdict};
