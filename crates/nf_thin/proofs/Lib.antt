@@ -10,3 +10,4 @@ pub mod LinkEntries
 pub mod Negative
 pub mod NodeRows
 pub mod LinkRows
+pub mod Sizes

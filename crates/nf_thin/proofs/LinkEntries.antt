@@ -4,6 +4,7 @@ use Rattle.std.specs.Prelude.{if◌then◌else◌, Option, unwrap_or}
 use Rattle.std.proofs.Math.ListN.{length-set}
 use Rattle.std.proofs.lemmas.Bool.{cases_order}
 use Rattle.std.proofs.lemmas.Bool.Decides.{eqb_tells}
+use mathlib.Core.Bool.{beq}
 use Rattle.nf_rational.specs.Rational.{ℚ}
 use Rattle.nf_rational.specs.Operations.{0ℚ, 1ℚ, neg_ℚ, ◌-ℚ◌}
 use Rattle.nf_rational_laws.proofs.Polynomial.{reading_of}
@@ -37,17 +38,20 @@ no_step : (b : Bool) → 0ℚ ≡ one_if b -ℚ one_if b
 no_step true = both
 no_step false = neither
 
-pub unit_same : (leaves enters : Bool) → leaves ≡ enters → 0ℚ ≡ one_if leaves -ℚ one_if enters
-unit_same leaves enters e = no_step leaves ∙ ap (λ (b : Bool). one_if leaves -ℚ one_if b) e
+pub unit_same : (leaves enters : Bool) → beq leaves enters ≡ true → 0ℚ ≡ one_if leaves -ℚ one_if enters
+unit_same true true e = both
+unit_same false false e = neither
+unit_same true false e = absurd (cc)
+unit_same false true e = absurd (cc)
 
-pub unit_leaves : (leaves enters : Bool) → leaves ≢ enters → leaves ≡ true → 1ℚ ≡ one_if leaves -ℚ one_if enters
-unit_leaves true true n e = absurd (n refl)
+pub unit_leaves : (leaves enters : Bool) → beq leaves enters ≡ false → leaves ≡ true → 1ℚ ≡ one_if leaves -ℚ one_if enters
+unit_leaves true true n e = absurd (cc)
 unit_leaves true false n e = first_alone
 unit_leaves false enters n e = absurd (cc)
 
-pub unit_enters : (leaves enters : Bool) → leaves ≢ enters → leaves ≡ false → neg_ℚ 1ℚ ≡ one_if leaves -ℚ one_if enters
+pub unit_enters : (leaves enters : Bool) → beq leaves enters ≡ false → leaves ≡ false → neg_ℚ 1ℚ ≡ one_if leaves -ℚ one_if enters
 unit_enters false true n e = second_alone
-unit_enters false false n e = absurd (n refl)
+unit_enters false false n e = absurd (cc)
 unit_enters true enters n e = absurd (cc)
 
 less_nothing : (a : ℚ) → a ≡ a -ℚ 0ℚ
