@@ -1,6 +1,7 @@
 -- The rows of the nodes one after the other, the sink left out.
-use Rattle.std.proofs.Common.{◌≡◌, ◌≢◌, ℕ, ◌+◌, ◌<◌, ◌≤◌, List, [], length, replicate, ◌⊎◌, inl, inr, refl, sym, ap, subst, ◌∙◌, arith}
+use Rattle.std.proofs.Common.{◌≡◌, ◌≢◌, ℕ, ◌+◌, ◌<◌, ◌≤◌, List, [], length, replicate, ◌⊎◌, inl, inr, ⊎_elim, Bool, true, false, not, eqb, refl, sym, ap, subst, ◌∙◌, arith}
 use Rattle.std.proofs.lemmas.Bool.{cases_order}
+use Rattle.std.proofs.lemmas.Bool.Decides.{eqb_tells}
 use Rattle.nf_rational.specs.Rational.{ℚ}
 use Rattle.nf_rational.specs.Operations.{0ℚ}
 use Rattle.nf_model.specs.Network.{Network}
@@ -12,6 +13,31 @@ use Rattle.nf_equation_laws.proofs.Equations.{unknowns-length}
 use Rattle.nf_thin.specs.Filling.{IsBlank, ChangesRow, IsFilledTo}
 use Rattle.nf_thin.proofs.Cells.{filled_more}
 use Rattle.nf_thin.proofs.EquationRows.{node_at, as_many_rows}
+
+-- what the test says of a node and the sink
+turned : (b : Bool) → true ≡ not b → b ≡ false
+turned true e = absurd (cc)
+turned false e = refl
+
+kept : (b : Bool) → false ≡ not b → b ≡ true
+kept true e = refl
+kept false e = absurd (cc)
+
+pub apart_by : (v s w : ℕ) (b : Bool) → b ≡ not (eqb v s) → b ≡ true → s ≡ w → v ≢ w
+apart_by v s w b e h same = ⊎_elim
+    (λ (t : (eqb v s ≡ true) × (v ≡ s)). absurd (no (sym t.0 ∙ turned (eqb v s) (sym h ∙ e))))
+    (λ (t : (eqb v s ≡ false) × (v ≢ s)). λ (u : v ≡ w). t.1 (u ∙ sym same)) (eqb_tells v s)
+  where
+    no : true ≡ false → ⊥
+    no e = cc
+
+pub same_by : (v s w : ℕ) (b : Bool) → b ≡ not (eqb v s) → b ≡ false → s ≡ w → v ≡ w
+same_by v s w b e h same = ⊎_elim
+    (λ (t : (eqb v s ≡ true) × (v ≡ s)). t.1 ∙ same)
+    (λ (t : (eqb v s ≡ false) × (v ≢ s)). absurd (no (sym t.0 ∙ kept (eqb v s) (sym h ∙ e)))) (eqb_tells v s)
+  where
+    no : false ≡ true → ⊥
+    no e = cc
 
 abbrev blank_row : ℕ → Row
 blank_row size = replicate (size + 1) 0ℚ

@@ -4,6 +4,7 @@ ghost use Rattle.nf_rational.specs.Rational.{ℚ};
 ghost use Rattle.nf_rational.specs.Operations.{0ℚ, neg_ℚ, ◌-ℚ◌};
 ghost use Rattle.nf_model.specs.Network.{IsNetwork};
 ghost use Rattle.nf_model.specs.Pattern.{Pattern as SeenPattern};
+ghost use Rattle.nf_formats.specs.WellNamed.{IsNamed};
 ghost use Rattle.nf_lists.specs.Table.{row_at};
 ghost use Rattle.nf_lists.specs.Equations.{unknowns, one_if, leaves_less_enters as leaves_less_enters_of, node_row, equations};
 ghost use Rattle.nf_thin.specs.Filling.{IsBlank, ChangesRow, IsFilledTo, with_entries, tight_entries, full_entries, link_entries};
@@ -32,6 +33,7 @@ fn unknown_count(net: &Network, sets: &LinkSets) -> u32
     ensures count { result ≡ length (unknowns net.now.net sets.now) }
     ensures some { 0 < result }
     ensures few { result ≤ 264 }
+    ensures named { IsNamed net.now }
 {
     let links = net.hops();
     let mut count = net.node_count();
@@ -93,12 +95,14 @@ fn fill_node(table: &mut Table<Q>, net: &Network, sets: &LinkSets, rate: Q, row:
 fn fill_nodes(table: &mut Table<Q>, net: &Network, sets: &LinkSets, rate: Q)
     requires first { (pattern : SeenPattern) → IsFilledTo (equations net.now.net sets.now rate pattern) table.old 1 }
     requires sets { length sets.now.active ≡ length net.now.net.links }
-    ensures { (pattern : SeenPattern) → IsFilledTo (equations net.now.net sets.now rate pattern) table.new net.now.net.nodes }
+    ensures nodes { (pattern : SeenPattern) → IsFilledTo (equations net.now.net sets.now rate pattern) table.new net.now.net.nodes }
+    ensures size { length table.new ≡ length table.old }
 {
+    let sink = net.sink();
     let mut row = 1;
     for v in 0..net.node_count() {
         let node = NodeId(v);
-        if node != net.sink() {
+        if node != sink {
             fill_node(table, net, sets, rate, row, node);
             row += 1;
         }

@@ -26,9 +26,11 @@ overflow_add-row c =
     let few : c.loop-e.row ≤ 264 = few_columns c.args.net.now c.link.ensures.named c.args.sets.now.active c.loop-e.e c.loop-e.row (omega arith) c.loop-e.invariant.place in omega arith
 
 pub loop-e-preserved : goal.loop-e-preserved
-loop-e-preserved c = elim c.if-active.branch [ then-active w ↦ rw (w.table-is, w.row-is) (link_more c.args.net.now.net c.args.sets.now c.args.pattern.now c.args.table.now c.loop-e.table c.loop-e.e c.loop-e.row c.loop-e.invariant
+loop-e-preserved c = elim c.if-active.branch [
+  | then-active w ↦ rw (w.table-is, w.row-is) (link_more c.args.net.now.net c.args.sets.now c.args.pattern.now c.args.table.now c.loop-e.table c.loop-e.e c.loop-e.row c.loop-e.invariant
       c.requires.size w.if-active.ensures.flag w.link.ensures.named.network c.requires.sets w.link.result w.link.ensures.link w.state.result w.state.ensures w.fill_link.new.table w.fill_link.ensures)
-    | else-active w ↦ rw (w.table-is, w.row-is) (idle_skipped c.args.net.now.net c.args.sets.now c.args.pattern.now c.args.table.now c.loop-e.table c.loop-e.e c.loop-e.row c.loop-e.invariant w.if-active.ensures.flag) ]
+  | else-active w ↦ rw (w.table-is, w.row-is) (idle_skipped c.args.net.now.net c.args.sets.now c.args.pattern.now c.args.table.now c.loop-e.table c.loop-e.e c.loop-e.row c.loop-e.invariant w.if-active.ensures.flag)
+]
 
 pub returns : goal.returns
 returns c = λ rate f. links_done c.args.net.now.net c.args.sets.now c.args.pattern.now c.args.table.now c.loop-e.table c.loop-e.e c.loop-e.row c.loop-e.invariant (omega arith) c.requires.size rate f

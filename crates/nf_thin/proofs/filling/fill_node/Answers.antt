@@ -18,9 +18,11 @@ overflow_add-column c =
     let few : c.loop-e.column ≤ 264 = few_columns c.args.net.now c.link.ensures.named c.args.sets.now.active c.loop-e.e c.loop-e.column (omega arith) c.loop-e.invariant.next in omega arith
 
 pub loop-e-preserved : goal.loop-e-preserved
-loop-e-preserved c = elim c.if-active.branch [ then-active w ↦ rw (w.table-is, w.column-is) (node_more c.args.net.now.net c.args.sets.now c.args.node c.args.table.now c.loop-e.table c.args.row c.loop-e.e c.loop-e.column c.loop-e.invariant
+loop-e-preserved c = elim c.if-active.branch [
+  | then-active w ↦ rw (w.table-is, w.column-is) (node_more c.args.net.now.net c.args.sets.now c.args.node c.args.table.now c.loop-e.table c.args.row c.loop-e.e c.loop-e.column c.loop-e.invariant
       w.set.new.self w.link.result w.leaves_less_enters-factor.result w.link.ensures.link w.if-active.ensures.flag w.leaves_less_enters-factor.ensures w.set.ensures)
-    | else-active w ↦ rw (w.table-is, w.column-is) (node_same c.args.net.now.net c.args.sets.now c.args.node c.args.table.now c.loop-e.table c.args.row c.loop-e.e c.loop-e.column c.loop-e.invariant w.if-active.ensures.flag) ]
+  | else-active w ↦ rw (w.table-is, w.column-is) (node_same c.args.net.now.net c.args.sets.now c.args.node c.args.table.now c.loop-e.table c.args.row c.loop-e.e c.loop-e.column c.loop-e.invariant w.if-active.ensures.flag)
+]
 
 pub returns : goal.returns
 returns c = node_done c.args.net.now.net c.args.sets.now c.args.node c.args.table.now c.loop-e.table c.args.row c.loop-e.e c.loop-e.column c.loop-e.invariant
