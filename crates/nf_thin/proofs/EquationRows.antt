@@ -1,5 +1,5 @@
 -- Which row of the table of a pattern stands where, and how many rows there are.
-use Rattle.std.proofs.Common.{◌≡◌, ◌≢◌, ℕ, zero, suc, ◌+◌, ◌<◌, ◌≤◌, List, [], ◌∷◌, ◌++◌, length, map, filter, ⊎_elim, ◌⊎◌, inl, inr, Bool, true, false, not, cond, eqb, Some, None, Option, refl, sym, ap, subst, ◌∙◌, arith}
+use Rattle.std.proofs.Common.{◌≡◌, ◌≢◌, ℕ, zero, suc, ◌+◌, ◌<◌, ◌≤◌, List, [], ◌∷◌, ◌++◌, length, map, filter, ⊎_elim, ◌⊎◌, inl, inr, Bool, true, false, not, cond, eqb, Some, None, refl, sym, ap, ◌∙◌, arith}
 use Rattle.std.specs.Prelude.{slice_get, unwrap_or, if◌then◌else◌}
 use Rattle.std.specs.List.{range_with_len, flat_map, enumerate_from}
 use Rattle.std.proofs.lemmas.Bool.{cases_order}
@@ -8,13 +8,12 @@ use Rattle.std.proofs.lemmas.List.{length-map, length-append}
 use Rattle.std.proofs.lemmas.Option.{none-some, same_Some}
 use Rattle.nf_rational.specs.Rational.{ℚ}
 use Rattle.nf_rational.specs.Operations.{0ℚ, 1ℚ}
-use Rattle.nf_model.specs.declared.State.{State}
 use Rattle.nf_model.specs.Entries.{Has}
 use Rattle.nf_model.specs.Network.{Link, Network, IsLink}
 use Rattle.nf_model.specs.ThinFlow.{Sets}
 use Rattle.nf_model.specs.Pattern.{Pattern}
 use Rattle.nf_lists.specs.Table.{Row, row_at}
-use Rattle.nf_lists.specs.Equations.{active_from, unknowns, row, source_factor, node_row, link_factor, link_rows, equations}
+use Rattle.nf_lists.specs.Equations.{unknowns, row, source_factor, node_row, link_factor, link_rows, equations}
 use Rattle.nf_equation_laws.proofs.Rows.{filtered-length, set_rows-length}
 use Rattle.nf_equation_laws.proofs.Equations.{flow_count, unknowns-length}
 use Rattle.nf_thin.proofs.Cells.{got-past}

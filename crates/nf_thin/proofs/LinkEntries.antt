@@ -1,5 +1,5 @@
 -- The few entries of the row of a link are all that its row has.
-use Rattle.std.proofs.Common.{◌≡◌, ◌≢◌, ℕ, suc, ◌+◌, ◌<◌, ◌≤◌, List, [], ◌∷◌, length, set, replicate, ⊎_elim, ◌⊎◌, inl, inr, Bool, true, false, eqb, Some, None, refl, sym, ap, subst, ◌∙◌, add-one, arith}
+use Rattle.std.proofs.Common.{◌≡◌, ◌≢◌, ℕ, ◌+◌, ◌<◌, ◌≤◌, [], ◌∷◌, length, set, replicate, ⊎_elim, ◌⊎◌, inl, inr, Bool, true, false, eqb, Some, None, sym, ap, ◌∙◌, add-one, arith}
 use Rattle.std.specs.Prelude.{if◌then◌else◌, Option, unwrap_or}
 use Rattle.std.proofs.Math.ListN.{length-set}
 use Rattle.std.proofs.lemmas.Bool.{cases_order}
@@ -8,7 +8,7 @@ use mathlib.Core.Bool.{beq}
 use Rattle.nf_rational.specs.Rational.{ℚ}
 use Rattle.nf_rational.specs.Operations.{0ℚ, 1ℚ, neg_ℚ, ◌-ℚ◌}
 use Rattle.nf_rational_laws.proofs.Polynomial.{reading_of}
-use Rattle.nf_rational_laws.proofs.Linear.{eq, linear_eq}
+use Rattle.nf_rational_laws.proofs.Linear.{linear_eq}
 use Rattle.nf_model.specs.declared.State.{State}
 use Rattle.nf_model.specs.declared.State.TheVariants.{Tight, Full, Zero}
 use Rattle.nf_model.specs.Entries.{number_at, Has}
@@ -17,7 +17,7 @@ use Rattle.nf_model.specs.ThinFlow.{Sets}
 use Rattle.nf_lists.specs.Table.{Row}
 use Rattle.nf_lists.specs.Equations.{unknowns, row, one_if, fills_factor, link_factor}
 use Rattle.nf_equation_laws.proofs.Equations.{unknowns-length}
-use Rattle.nf_thin.specs.Filling.{with_entries, tight_entries, full_entries, link_entries}
+use Rattle.nf_thin.specs.Filling.{with_entries, tight_entries, link_entries}
 use Rattle.nf_thin.proofs.Cells.{got-same, got-other, length-copies, no_number}
 use Rattle.nf_thin.proofs.ActivePlaces.{active_before, before_grows, before_within, row_of_entries}
 

@@ -3,6 +3,8 @@
 #![tactic(auto)]
 
 mod filling;
+#[cfg(test)]
+mod tests;
 mod verdicts;
 
 pub use verdicts::{Judged, verdict};

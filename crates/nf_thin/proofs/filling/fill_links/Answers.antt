@@ -1,4 +1,4 @@
-use Rattle.std.proofs.Common.{◌≡◌, ℕ, ◌+◌, ◌≤◌, length, ap, ◌∙◌, arith}
+use Rattle.std.proofs.Common.{◌≤◌, arith}
 use Rattle.nf_thin.proofs.LinkRows.{links_first, next_inside, end_inside, link_more, idle_skipped, links_done}
 use Rattle.nf_thin.proofs.Sizes.{few_columns}
 use Rattle.nf_thin.proofs.filling.fill_links.Goals as goal

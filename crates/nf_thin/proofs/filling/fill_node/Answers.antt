@@ -1,4 +1,4 @@
-use Rattle.std.proofs.Common.{◌≡◌, ℕ, ◌+◌, ◌≤◌, length, eqb, ap, ◌∙◌, arith}
+use Rattle.std.proofs.Common.{ℕ, ◌≤◌, eqb, ap, ◌∙◌, arith}
 use Rattle.std.specs.Prelude.{if◌then◌else◌}
 use Rattle.nf_rational.specs.Operations.{0ℚ}
 use Rattle.nf_thin.proofs.NodeEntries.{node_first, column_inside, node_more, node_same, node_done}

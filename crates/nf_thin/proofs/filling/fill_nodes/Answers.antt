@@ -1,4 +1,4 @@
-use Rattle.std.proofs.Common.{◌≡◌, ◌<◌, List, [], length, sym, subst, ◌∙◌, arith}
+use Rattle.std.proofs.Common.{◌<◌, [], sym, ◌∙◌, arith}
 use Rattle.nf_thin.proofs.NodeRows.{apart_by, same_by, sink_skipped, node_more, next_blank, nodes_done}
 use Rattle.nf_thin.proofs.filling.fill_nodes.Goals as goal
 use Rattle.nf_thin.proofs.filling.fill_nodes.Goals.{then-ne, else-ne}

@@ -1,4 +1,4 @@
-use Rattle.std.proofs.Common.{◌≡◌, ◌+◌, ◌≤◌, length, arith}
+use Rattle.std.proofs.Common.{◌≡◌, ◌≤◌, length, arith}
 use Rattle.nf_net.proofs.Limits.{few_links}
 use Rattle.nf_thin.proofs.ActivePlaces.{none_before, one_more_before, none_more_before}
 use Rattle.nf_thin.proofs.Sizes.{few_columns, as_many_hops, counted}
