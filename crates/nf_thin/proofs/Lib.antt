@@ -6,3 +6,12 @@ pub mod Places
 pub mod Patterns
 pub mod Spreading
 pub mod Tried
+pub mod Cells
+pub mod ActivePlaces
+pub mod EquationRows
+pub mod NodeEntries
+pub mod LinkEntries
+pub mod Negative
+pub mod NodeRows
+pub mod LinkRows
+pub mod Sizes

@@ -9,7 +9,7 @@ use Rattle.nf_model.specs.ThinFlow.{Sets, IsThinFlow}
 use Rattle.nf_model.specs.Pattern.{Pattern, IsSolution}
 use Rattle.nf_lists.specs.Accepted.{pattern_lists, IsAccepted}
 use Rattle.nf_lists.specs.Search.{Answer, Found, OverBudget, PassesAt, NoPattern}
-use Rattle.nf_pattern.specs.Given.{Given, IsQuestion, AtStart}
+use Rattle.nf_pattern.specs.Given.{Question, IsQuestion, Given, AtStart}
 use Rattle.nf_thin_laws.specs.ActiveLinks.{HoldNoCycle}
 use Rattle.nf_thin.specs.declared.search.Thin.{Thin}
 use Rattle.nf_thin.specs.declared.search.Vain.{Vain}
@@ -74,12 +74,12 @@ TriesNext passes net sets rate budget pattern before after (Err SearchFault.Memo
 abbrev pub NoneResetsUnbounded : Network → Sets → Type 0
 NoneResetsUnbounded net sets = (e : ℕ) → Has (unbounded net) e → Has sets.resetting e → ⊥
 
--- a listing of the network's patterns for these sets, of which nothing is given yet
+-- what a listing of the network's patterns is of, for these sets and this base
+abbrev pub question_of : Network → Sets → Pattern → Question
+question_of net sets base = record { nodes = net.nodes; source = net.source; hops = hops net; sets = sets; unbounded = unbounded net; base = base }
+
+-- such a listing, of which nothing is given yet
 pub record AsksOf (net : Network) (sets : Sets) (given : Given) : Type 0 where
-  pub nodes : given.question.nodes ≡ net.nodes
-  pub source : given.question.source ≡ net.source
-  pub hops_are : given.question.hops ≡ hops net
-  pub sets_are : given.question.sets ≡ sets
-  pub unbounded_are : given.question.unbounded ≡ unbounded net
+  pub asked : given.question ≡ question_of net sets given.question.base
   pub is_question : IsQuestion given.question
   pub start : given.last ≡ AtStart

@@ -4,6 +4,8 @@
 
 mod filling;
 mod search;
+#[cfg(test)]
+mod tests;
 mod trying;
 mod verdicts;
 

@@ -40,6 +40,9 @@ pub enum SearchFault {
 }
 
 impl From<AllocError> for SearchFault {
+    ghost use Rattle.std.specs.Prelude.{◌≡◌};
+    ghost use Rattle.nf_thin.specs.declared.search.SearchFault.TheVariants as SearchFault;
+
     ghost from_gives = { λ _ fault. fault ≡ SearchFault.Memory };
 
     fn from(_: AllocError) -> Self {
@@ -133,13 +136,14 @@ fn go_through(
     net: &Network,
     sets: &LinkSets,
     rate: Q,
-    patterns: &mut Patterns,
+    patterns: Patterns,
     budget: u64,
 ) -> Result<Thin, SearchFault>
-    requires question { AsksOf net.now.net sets.now patterns.old }
+    requires question { AsksOf net.now.net sets.now patterns }
     requires bounded { NoneResetsUnbounded net.now.net sets.now }
-    ensures { Searches (IsSearch (beyond (bound_of 127)) net.now.net sets.now rate patterns.entry.question.base budget) budget result }
+    ensures { Searches (IsSearch (beyond (bound_of 127)) net.now.net sets.now rate patterns.question.base budget) budget result }
 {
+    let mut patterns = patterns;
     let mut vain = Vain {
         tried: 0,
         passed: None,
@@ -175,7 +179,7 @@ pub fn search(
 {
     let unbounded = unbounded_flags(alloc, net)?;
     let nodes = net.node_count();
-    let mut patterns = Patterns::new(
+    let patterns = Patterns::new(
         alloc,
         nodes,
         net.source(),
@@ -184,5 +188,5 @@ pub fn search(
         base,
         &unbounded,
     )?;
-    go_through(alloc, net, sets, rate, &mut patterns, budget)
+    go_through(alloc, net, sets, rate, patterns, budget)
 }
