@@ -15,3 +15,6 @@ pub mod Negative
 pub mod NodeRows
 pub mod LinkRows
 pub mod Sizes
+pub mod Searched
+pub mod Asking
+pub mod Looping

@@ -1,5 +1,5 @@
 -- What a search comes to, and one step of it.
-use Rattle.std.specs.Prelude.{◌≡◌, ◌⊎◌, ℕ, suc, ◌<◌, List, Option, Some, None, Result, Ok, Err, IsOk}
+use Rattle.std.specs.Prelude.{◌≡◌, ◌⊎◌, ℕ, suc, ◌<◌, List, length, Option, Some, None, Result, Ok, Err, IsOk}
 use Rattle.nf_rational.specs.Rational.{ℚ}
 use Rattle.nf_work.specs.Passing.{Passing}
 use Rattle.nf_work.specs.declared.PassedAt.{PassedAt}
@@ -10,7 +10,7 @@ use Rattle.nf_model.specs.Pattern.{Pattern, IsSolution}
 use Rattle.nf_lists.specs.Accepted.{pattern_lists, IsAccepted}
 use Rattle.nf_lists.specs.Search.{Answer, Found, OverBudget, PassesAt, NoPattern}
 use Rattle.nf_pattern.specs.Given.{Question, IsQuestion, Given, AtStart}
-use Rattle.nf_thin_laws.specs.ActiveLinks.{HoldNoCycle}
+use Rattle.nf_thin_laws.specs.ActiveLinks.{AreSets, HoldNoCycle}
 use Rattle.nf_thin.specs.declared.search.Thin.{Thin}
 use Rattle.nf_thin.specs.declared.search.Vain.{Vain}
 use Rattle.nf_thin.specs.declared.search.SearchFault.{SearchFault}
@@ -73,6 +73,12 @@ TriesNext passes net sets rate budget pattern before after (Err SearchFault.Memo
 -- an unbounded link is not resetting
 abbrev pub NoneResetsUnbounded : Network → Sets → Type 0
 NoneResetsUnbounded net sets = (e : ℕ) → Has (unbounded net) e → Has sets.resetting e → ⊥
+
+-- one flag of each kind for each link of the network; resetting links are active, and an unbounded one is not resetting
+pub record AreSetsOf (net : Network) (sets : Sets) : Type 0 where
+  pub sets_are : AreSets net sets
+  pub count : length sets.resetting ≡ length net.links
+  pub bounded : NoneResetsUnbounded net sets
 
 -- what a listing of the network's patterns is of, for these sets and this base
 abbrev pub question_of : Network → Sets → Pattern → Question

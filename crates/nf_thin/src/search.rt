@@ -1,13 +1,12 @@
 // The search for a thin flow: the first accepted pattern of the list.
-ghost use Rattle.std.specs.Prelude.{◌≡◌, ◌<◌, ◌+◌, length, map, is_none, IfOk};
+ghost use Rattle.std.specs.Prelude.{◌≡◌, ◌≤◌, IfOk};
 ghost use Rattle.nf_work.specs.Passing.{bound_of, beyond};
-ghost use Rattle.nf_model.specs.Network.{unbounded as unbounded_of};
+ghost use Rattle.nf_model.specs.Network.{IsNetwork, unbounded as unbounded_of};
 ghost use Rattle.nf_model.specs.ThinFlow.{IsThinFlow};
-ghost use Rattle.nf_model.specs.Entries.{Has};
 ghost use Rattle.nf_model.specs.Pattern.{IsPattern};
 ghost use Rattle.nf_lists.specs.Search.{IsSearch};
 ghost use Rattle.nf_equation_laws.specs.Equations.{IsPatternIn};
-ghost use Rattle.nf_thin.specs.Searching.{TriesNext, Searches, SlopesAreOnly, AsksOf, NoneResetsUnbounded};
+ghost use Rattle.nf_thin.specs.Searching.{TriesNext, Searches, SlopesAreOnly, AreSetsOf, AsksOf};
 
 use crate::trying::{Tried, try_pattern};
 use nf_frac::{Halt, PassedAt, Q};
@@ -104,7 +103,8 @@ fn try_next(
     budget: u64,
     vain: &mut Vain,
 ) -> Result<Option<Thin>, SearchFault>
-    requires { IsPatternIn net.now.net sets.now pattern.now }
+    requires pattern { IsPatternIn net.now.net sets.now pattern.now }
+    requires within { vain.old.tried ≤ budget }
     ensures { TriesNext (beyond (bound_of 127)) net.now.net sets.now rate budget pattern.now vain.old vain.new result }
 {
     if vain.tried == budget {
@@ -139,8 +139,9 @@ fn go_through(
     patterns: Patterns,
     budget: u64,
 ) -> Result<Thin, SearchFault>
+    requires network { IsNetwork net.now.net }
+    requires sets { AreSetsOf net.now.net sets.now }
     requires question { AsksOf net.now.net sets.now patterns }
-    requires bounded { NoneResetsUnbounded net.now.net sets.now }
     ensures { Searches (IsSearch (beyond (bound_of 127)) net.now.net sets.now rate patterns.question.base budget) budget result }
 {
     let mut patterns = patterns;
@@ -170,8 +171,7 @@ pub fn search(
     base: &Pattern,
     budget: u64,
 ) -> Result<Thin, SearchFault>
-    requires active { length sets.now.active ≡ length net.now.net.links }
-    requires bounded { NoneResetsUnbounded net.now.net sets.now }
+    requires sets { AreSetsOf net.now.net sets.now }
     requires base { IsPattern sets.now (unbounded_of net.now.net) base.now }
     ensures search { Searches (IsSearch (beyond (bound_of 127)) net.now.net sets.now rate base.now budget) budget result }
     ensures thin { IfOk result (λ thin. IsThinFlow net.now.net sets.now rate thin.flows.items thin.labels.items) }
