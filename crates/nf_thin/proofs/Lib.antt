@@ -11,3 +11,4 @@ pub mod Negative
 pub mod NodeRows
 pub mod LinkRows
 pub mod Sizes
+pub mod SourceRow
