@@ -1,6 +1,6 @@
 -- Rows and their numbers, tables and their rows, where one of them changes.
-use Rattle.std.proofs.Common.{◌≡◌, ◌≢◌, ℕ, zero, suc, ◌+◌, ◌<◌, ◌≤◌, List, [], ◌∷◌, ◌++◌, length, set, replicate, ⊎_elim, true, false, eqb, refl, sym, ap, subst, ◌∙◌, arith}
-use Rattle.std.specs.Prelude.{slice_get, unwrap_or}
+use Rattle.std.proofs.Common.{◌≡◌, ◌≢◌, ℕ, zero, suc, ◌+◌, ◌<◌, ◌≤◌, List, [], ◌∷◌, ◌++◌, length, set, replicate, ⊎_elim, Bool, true, false, eqb, refl, sym, ap, subst, ◌∙◌, arith}
+use Rattle.std.specs.Prelude.{slice_get, unwrap_or, if◌then◌else◌}
 use Rattle.std.proofs.Math.ListN.{length-set}
 use Rattle.std.proofs.lemmas.Bool.Decides.{eqb_tells}
 use Rattle.nf_rational.specs.Rational.{ℚ}
@@ -36,10 +36,22 @@ got-copies zero i x d h = absurd (omega arith)
 got-copies (suc n) zero x d h = refl
 got-copies (suc n) (suc i) x d h = got-copies n i x d (omega arith)
 
+-- a row of zeros, for so many unknowns
+abbrev pub blank_row : ℕ → Row
+blank_row size = replicate (size + 1) 0ℚ
+
 pub no_number : (n j : ℕ) → number_at (replicate n 0ℚ) j ≡ 0ℚ
 no_number zero j = refl
 no_number (suc n) zero = refl
 no_number (suc n) (suc j) = no_number n j
+
+-- one number in a row of zeros
+pub alone : (n w v : ℕ) (x : ℚ) → w < n → number_at (set (replicate n 0ℚ) w x) v ≡ (if eqb v w then x else 0ℚ)
+alone n w v x h = ⊎_elim
+    (λ (s : (eqb v w ≡ true) × (v ≡ w)). ap (number_at (set (replicate n 0ℚ) w x)) s.1
+    ∙ (got-same (replicate n 0ℚ) w x 0ℚ (let l : length (replicate n 0ℚ) ≡ n = length-copies n 0ℚ in omega arith) ∙ ap (λ (b : Bool). if b then x else 0ℚ) (sym s.0)))
+    (λ (s : (eqb v w ≡ false) × (v ≢ w)). got-other (replicate n 0ℚ) w v x 0ℚ s.1 ∙ (no_number n v ∙ ap (λ (b : Bool). if b then x else 0ℚ) (sym s.0)))
+    (eqb_tells v w)
 
 pub same_rows : (rows others : List Row) → length rows ≡ length others → ((k : ℕ) → k < length rows → row_at rows k ≡ row_at others k) → rows ≡ others
 same_rows [] [] e h = refl

@@ -14,6 +14,7 @@ use Rattle.nf_model.specs.ThinFlow.{Sets}
 use Rattle.nf_model.specs.Pattern.{Pattern}
 use Rattle.nf_lists.specs.Table.{Row, row_at}
 use Rattle.nf_lists.specs.Equations.{unknowns, row, source_factor, node_row, link_factor, link_rows, equations}
+use Rattle.nf_linear_laws.proofs.Pivots.{different}
 use Rattle.nf_equation_laws.proofs.Rows.{filtered-length, set_rows-length}
 use Rattle.nf_equation_laws.proofs.Equations.{flow_count, unknowns-length}
 use Rattle.nf_thin.proofs.Cells.{got-past}
@@ -36,12 +37,6 @@ module _ (f : ℕ → Row) (w : ℕ) (others : List Row) where
   past_left_out : (b : Bool) (v i : ℕ) (rest : List ℕ) → b ≡ true → row_at (map f (cond (not b) (v ∷ rest) rest) ++ others) i ≡ row_at (map f rest ++ others) i
   past_left_out true v i rest e = refl
   past_left_out false v i rest e = absurd (cc)
-
-  same_test : (v : ℕ) → v ≡ w → eqb v w ≡ true
-  same_test v e = ⊎_elim (λ (h : (eqb v w ≡ true) × (v ≡ w)). h.0) (λ (h : (eqb v w ≡ false) × (v ≢ w)). absurd (h.1 e)) (eqb_tells v w)
-
-  apart_test : (v : ℕ) → v ≢ w → eqb v w ≡ false
-  apart_test v n = ⊎_elim (λ (h : (eqb v w ≡ true) × (v ≡ w)). absurd (n h.1)) (λ (h : (eqb v w ≡ false) × (v ≢ w)). h.0) (eqb_tells v w)
 
   -- how many come before v
   record IsPlace (k v i : ℕ) : Type 0 where
@@ -97,7 +92,7 @@ module _ (f : ℕ → Row) (w : ℕ) (others : List Row) where
 
       here : k ≡ v → row_at (map f (kept k (suc n)) ++ others) i ≡ f v
       here e = ap (row_at (map f (kept k (suc n)) ++ others)) (first_place k v i apart e p)
-          ∙ (first_kept (eqb k w) k (kept (k + 1) n) (apart_test k (λ s. apart (sym e ∙ s))) ∙ ap f e)
+          ∙ (first_kept (eqb k w) k (kept (k + 1) n) (different k w (λ s. apart (sym e ∙ s))) ∙ ap f e)
 
       shifted : (i : ℕ) → eqb k w ≡ false → k ≢ w → k < v → IsPlace k v i → ((j : ℕ) → IsPlace (k + 1) v j → row_at (map f (kept (k + 1) n) ++ others) j ≡ f v) → row_at (map f (kept k (suc n)) ++ others) i ≡ f v
       shifted zero t m b q rest = absurd (later_place k v apart m b q)

@@ -18,3 +18,4 @@ pub mod Sizes
 pub mod Searched
 pub mod Asking
 pub mod Looping
+pub mod SourceRow

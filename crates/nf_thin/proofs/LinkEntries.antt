@@ -18,7 +18,8 @@ use Rattle.nf_lists.specs.Table.{Row}
 use Rattle.nf_lists.specs.Equations.{unknowns, row, one_if, fills_factor, link_factor}
 use Rattle.nf_equation_laws.proofs.Equations.{unknowns-length}
 use Rattle.nf_thin.specs.Filling.{with_entries, tight_entries, link_entries}
-use Rattle.nf_thin.proofs.Cells.{got-same, got-other, length-copies, no_number}
+use Rattle.nf_linear_laws.proofs.Pivots.{different}
+use Rattle.nf_thin.proofs.Cells.{alone, got-same, got-other, length-copies, no_number}
 use Rattle.nf_thin.proofs.ActivePlaces.{active_before, before_grows, before_within, row_of_entries}
 
 -- ---- over plain numbers
@@ -56,9 +57,6 @@ unit_enters true enters n e = absurd (cc)
 
 less_nothing : (a : ℚ) → a ≡ a -ℚ 0ℚ
 less_nothing a = linear_eq (a ∷ []) [] (search reading_of depth 12) tt tt
-
-test_apart : (v w : ℕ) → v ≢ w → eqb v w ≡ false
-test_apart v w n = ⊎_elim (λ (h : (eqb v w ≡ true) × (v ≡ w)). absurd (n h.1)) (λ (h : (eqb v w ≡ false) × (v ≢ w)). h.0) (eqb_tells v w)
 
 -- ---- the row of an active link
 module _ (net : Network) (sets : Sets) (e own : ℕ) (link : Link) (active : Has sets.active e) (place : own ≡ net.nodes + active_before sets.active e)
@@ -112,11 +110,7 @@ module _ (net : Network) (sets : Sets) (e own : ℕ) (link : Link) (active : Has
     headed-length = length-set zeros link.head x ∙ wide
 
     headed-at : (v : ℕ) → number_at (set zeros link.head x) v ≡ (if eqb v link.head then x else 0ℚ)
-    headed-at v = ⊎_elim
-        (λ (s : (eqb v link.head ≡ true) × (v ≡ link.head)). ap (number_at (set zeros link.head x)) s.1
-        ∙ (got-same zeros link.head x 0ℚ (let w = wide in let u = unknowns-length net sets in omega arith) ∙ ap (λ (b : Bool). if b then x else 0ℚ) (sym s.0)))
-        (λ (s : (eqb v link.head ≡ false) × (v ≢ link.head)). headed-else v s.1 ∙ ap (λ (b : Bool). if b then x else 0ℚ) (sym s.0))
-        (eqb_tells v link.head)
+    headed-at v = alone (length (unknowns net sets) + 1) link.head v x (let u = unknowns-length net sets in omega arith)
 
   -- ---- Full, or resetting
   abbrev filling : ℚ
@@ -142,7 +136,7 @@ module _ (net : Network) (sets : Sets) (e own : ℕ) (link : Link) (active : Has
   stepped_at v apart = ⊎_elim
       (λ (s : (eqb v link.tail ≡ true) × (v ≡ link.tail)). ap (number_at (set (set zeros link.head 1ℚ) link.tail (neg_ℚ 1ℚ))) s.1
       ∙ (got-same (set zeros link.head 1ℚ) link.tail (neg_ℚ 1ℚ) 0ℚ (let w = headed-length 1ℚ in let u = unknowns-length net sets in omega arith)
-      ∙ (second_alone ∙ (ap (λ (b : Bool). one_if b -ℚ 1ℚ) (sym (test_apart v link.head (λ t. apart (sym t ∙ s.1)))) ∙ ap (λ (b : Bool). one_if (eqb v link.head) -ℚ one_if b) (sym s.0)))))
+      ∙ (second_alone ∙ (ap (λ (b : Bool). one_if b -ℚ 1ℚ) (sym (different v link.head (λ t. apart (sym t ∙ s.1)))) ∙ ap (λ (b : Bool). one_if (eqb v link.head) -ℚ one_if b) (sym s.0)))))
       (λ (s : (eqb v link.tail ≡ false) × (v ≢ link.tail)). got-other (set zeros link.head 1ℚ) link.tail v (neg_ℚ 1ℚ) 0ℚ s.1
       ∙ (headed-at 1ℚ v ∙ (less_nothing (one_if (eqb v link.head)) ∙ ap (λ (b : Bool). one_if (eqb v link.head) -ℚ one_if b) (sym s.0))))
       (eqb_tells v link.tail)

@@ -1,5 +1,5 @@
 -- The rows of the active links one after the other.
-use Rattle.std.proofs.Common.{◌≡◌, ℕ, ◌+◌, ◌<◌, ◌≤◌, List, length, replicate, false, Some, None, refl, sym, ap, ◌∙◌, arith}
+use Rattle.std.proofs.Common.{◌≡◌, ℕ, ◌+◌, ◌<◌, ◌≤◌, List, length, false, Some, None, refl, sym, ap, ◌∙◌, arith}
 use Rattle.std.specs.Prelude.{slice_get, unwrap_or, Option}
 use Rattle.nf_rational.specs.Rational.{ℚ}
 use Rattle.nf_rational.specs.Operations.{0ℚ}
@@ -12,13 +12,10 @@ use Rattle.nf_lists.specs.Table.{Row, row_at}
 use Rattle.nf_lists.specs.Equations.{unknowns, row, link_factor, equations}
 use Rattle.nf_equation_laws.proofs.Equations.{unknowns-length}
 use Rattle.nf_thin.specs.Filling.{ChangesRow, IsFilledTo, with_entries, link_entries}
-use Rattle.nf_thin.proofs.Cells.{filled_more, filled_all}
+use Rattle.nf_thin.proofs.Cells.{blank_row, filled_more, filled_all}
 use Rattle.nf_thin.proofs.ActivePlaces.{active_before, none_before, one_more_before, none_more_before, all_before, before_within}
 use Rattle.nf_thin.proofs.EquationRows.{link_at, as_many_rows}
 use Rattle.nf_thin.proofs.LinkEntries.{entries_row}
-
-abbrev blank_row : ℕ → Row
-blank_row size = replicate (size + 1) 0ℚ
 
 module _ (net : Network) (sets : Sets) (pattern : Pattern) where
   abbrev Filled : ℚ → List Row → ℕ → Type 0

@@ -1,9 +1,8 @@
 -- The rows of the nodes one after the other, the sink left out.
-use Rattle.std.proofs.Common.{◌≡◌, ◌≢◌, ℕ, ◌+◌, ◌<◌, ◌≤◌, List, [], length, replicate, ◌⊎◌, inl, inr, ⊎_elim, Bool, true, false, not, eqb, refl, sym, ap, subst, ◌∙◌, arith}
+use Rattle.std.proofs.Common.{◌≡◌, ◌≢◌, ℕ, ◌+◌, ◌<◌, ◌≤◌, List, [], length, ◌⊎◌, inl, inr, ⊎_elim, Bool, true, false, not, eqb, refl, sym, ap, subst, ◌∙◌, arith}
 use Rattle.std.proofs.lemmas.Bool.{cases_order}
 use Rattle.std.proofs.lemmas.Bool.Decides.{eqb_tells}
 use Rattle.nf_rational.specs.Rational.{ℚ}
-use Rattle.nf_rational.specs.Operations.{0ℚ}
 use Rattle.nf_model.specs.Network.{Network}
 use Rattle.nf_model.specs.ThinFlow.{Sets}
 use Rattle.nf_model.specs.Pattern.{Pattern}
@@ -11,7 +10,7 @@ use Rattle.nf_lists.specs.Table.{Row}
 use Rattle.nf_lists.specs.Equations.{unknowns, node_row, equations}
 use Rattle.nf_equation_laws.proofs.Equations.{unknowns-length}
 use Rattle.nf_thin.specs.Filling.{IsBlank, ChangesRow, IsFilledTo}
-use Rattle.nf_thin.proofs.Cells.{filled_more}
+use Rattle.nf_thin.proofs.Cells.{blank_row, filled_more}
 use Rattle.nf_thin.proofs.EquationRows.{node_at, as_many_rows}
 
 -- what the test says of a node and the sink
@@ -38,9 +37,6 @@ same_by v s w b e h same = ⊎_elim
   where
     no : false ≡ true → ⊥
     no e = cc
-
-abbrev blank_row : ℕ → Row
-blank_row size = replicate (size + 1) 0ℚ
 
 module _ (net : Network) (sets : Sets) (rate : ℚ) where
   -- the rows of the nodes before number v are there, whatever the pattern; the next row has this number

@@ -2,7 +2,6 @@
 ghost use Rattle.std.specs.Prelude.{◌≡◌, ◌<◌, ◌≤◌, length, Some, IfOk, if◌then◌else◌, ◌==◌};
 ghost use Rattle.nf_rational.specs.Rational.{ℚ};
 ghost use Rattle.nf_rational.specs.Operations.{0ℚ, neg_ℚ, ◌-ℚ◌};
-ghost use Rattle.nf_model.specs.Network.{IsNetwork};
 ghost use Rattle.nf_model.specs.Pattern.{Pattern as SeenPattern};
 ghost use Rattle.nf_formats.specs.WellNamed.{IsNamed};
 ghost use Rattle.nf_lists.specs.Table.{row_at};

@@ -17,7 +17,7 @@ const ONE_LINK: &str = "nfot 1\nsource s\nsink t\nlink a s t 1 1\ninflow 0 2\nen
 fn one_link(alloc: Global) -> Result<Network, Fail> {
     let file = ONE_LINK.as_bytes();
     if file.len() > 1_000 {
-        return Err(Fail::from("a short file"));
+        return Err(Fail::from("the file is too long"));
     }
     Ok(parse(alloc, file)?)
 }

@@ -2,7 +2,7 @@ use Rattle.std.proofs.Common.{ℕ, ◌+◌, length, set, replicate, ap, ◌∙�
 use Rattle.nf_rational.specs.Rational.{ℚ}
 use Rattle.nf_rational.specs.Operations.{0ℚ}
 use Rattle.nf_lists.specs.Table.{row_at}
-use Rattle.nf_thin.proofs.Sizes.{source_inside, source_filled, source_long}
+use Rattle.nf_thin.proofs.SourceRow.{source_inside, source_filled, source_long}
 use Rattle.nf_thin.proofs.filling.table_of.Goals as goal
 
 pub set-requires-clause-column : goal.set-requires-clause-column
