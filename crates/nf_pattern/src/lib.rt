@@ -7,6 +7,8 @@ mod bases;
 mod choice;
 mod entered;
 mod forest;
+#[cfg(test)]
+mod listing_tests;
 mod pattern;
 mod patterns;
 mod question;
