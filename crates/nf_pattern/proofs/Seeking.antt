@@ -1,10 +1,10 @@
 -- The first listed pattern from an assignment on, found by going on from assignments that are not listed.
-use Rattle.std.proofs.Common.{◌≡◌, ℕ, ◌<◌, ◌≤◌, Bool, List, length, take, take_all, inl, inr, ◌⊎◌, ⊎_elim, Option, Some, None, refl, sym, ap, subst, ◌∙◌, arith}
+use Rattle.std.proofs.Common.{◌≡◌, ℕ, ◌<◌, ◌≤◌, Bool, List, length, take, take_all, inl, inr, ◌⊎◌, ⊎_elim, Some, None, refl, sym, ap, subst, ◌∙◌, arith}
 use Rattle.std.specs.Prelude.{MatchBool, true, false}
-use Rattle.nf_model.specs.Pattern.{Pattern, IsBefore, changes}
+use Rattle.nf_model.specs.Pattern.{Pattern, IsBefore}
 use Rattle.nf_lists_laws.proofs.Listings.{IsBefore-asymmetric, IsBefore-transitive}
-use Rattle.nf_pattern.specs.Successor.{IsAssignment, next_assignment, free}
-use Rattle.nf_pattern.specs.Given.{Question, IsQuestion, IsListedBy, IsBarren, IsFrom, IsFirstFrom, NoneFrom, Last, AtStart, UpTo, IsNext, NoneLeft}
+use Rattle.nf_pattern.specs.Successor.{IsAssignment, next_assignment}
+use Rattle.nf_pattern.specs.Given.{Question, IsQuestion, IsListedBy, IsBarren, IsFrom, IsFirstFrom, NoneFrom, AtStart, UpTo, IsNext, NoneLeft}
 use Rattle.nf_pattern.specs.declared.question.Stand.TheVariants.{Start}
 use Rattle.nf_pattern.specs.Stands.{IsStanding}
 use Rattle.nf_pattern.proofs.Choosing.{assigned_length, assignment_of}

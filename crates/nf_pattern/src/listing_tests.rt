@@ -11,7 +11,9 @@ use std::alloc::Global;
 use std::test::Fail;
 
 const TIGHT: Option<State> = Some(State::Tight);
+
 const FULL: Option<State> = Some(State::Full);
+
 const ZERO: Option<State> = Some(State::Zero);
 
 // The list of a first phase between two nodes, where node 0 is the source.
