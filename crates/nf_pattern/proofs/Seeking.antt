@@ -82,7 +82,7 @@ module _ (question : Question) (is : IsQuestion question) where
       fewer_left base p q (sym (same_length p q h step.0)) (changes_few base us q step.0) step.1
 
   -- ---- after what was given
-  all_from_base : (r : Pattern) → IsListedBy question r → IsFrom base base r
+  pub all_from_base : (r : Pattern) → IsListedBy question r → IsFrom base base r
   all_from_base r listed = ⊎_elim
       (λ (before : IsBefore base r base). absurd (base_first base r before))
       (λ (w : (r ≡ base) ⊎ IsBefore base base r). w)
@@ -106,7 +106,7 @@ module _ (question : Question) (is : IsQuestion question) where
         itself l r (same_all r k (next_none n base us valid l r e k later)) later
 
     module _ (q : Pattern) (e : next_assignment n base us l ≡ Some q) where
-      from_next : (r : Pattern) → IsListedBy question r → IsBefore base l r → IsFrom base q r
+      pub from_next : (r : Pattern) → IsListedBy question r → IsBefore base l r → IsFrom base q r
       from_next r listed later =
           let k = listed_assigned r listed in
           ⊎_elim
