@@ -1,12 +1,10 @@
 -- When the states of the first links keep a pattern from being listed, whatever the states of the later links.
-use Rattle.std.proofs.Common.{◌≡◌, ◌≢◌, ℕ, suc, ◌+◌, ◌<◌, ◌≤◌, List, length, take, inl, inr, ◌⊎◌, ⊎_elim, Some, None, MatchOption, slice_get, refl, sym, ap, subst, ◌∙◌, arith}
-use Rattle.std.proofs.lemmas.Option.{slice_get_within}
+use Rattle.std.proofs.Common.{◌≡◌, ◌≢◌, ℕ, ◌+◌, ◌<◌, List, take, inl, inr, sym, ◌∙◌, arith}
 use Rattle.nf_model.specs.declared.State.{State}
 use Rattle.nf_model.specs.declared.State.TheVariants.{Tight, Full}
-use Rattle.nf_model.specs.Entries.{Has}
 use Rattle.nf_model.specs.Walk.{Hop, IsHop}
-use Rattle.nf_model.specs.Pattern.{Pattern, HasState, IsPattern, IsForest}
-use Rattle.nf_pattern.specs.Forest.{TightBefore, LeadsBack, Closes}
+use Rattle.nf_model.specs.Pattern.{Pattern, HasState, IsForest}
+use Rattle.nf_pattern.specs.Forest.{TightBefore, Closes}
 use Rattle.nf_pattern.specs.Entered.{MayCarry, IsEntered}
 use Rattle.nf_pattern.specs.Successor.{IsAssignment}
 use Rattle.nf_pattern.specs.Given.{Question, IsQuestion, IsListedBy, IsBarren}
@@ -21,8 +19,11 @@ closes_same hops p r e same closes = (
   record {
     hop = closes.1.hop;
     is_hop = closes.1.is_hop;
-    joined = (closes.1.joined.0, trail_by hops (TightBefore p e) (TightBefore r e) closes.1.joined.0 closes.1.hop.head closes.1.hop.tail
-        (λ k c t. (t.0, same_front_at (e + 1) k r p (let l = t.0 in omega arith) same ∙ t.1)) closes.1.joined.1);
+    joined = (
+      closes.1.joined.0,
+      trail_by hops (TightBefore p e) (TightBefore r e) closes.1.joined.0 closes.1.hop.head closes.1.hop.tail
+          (λ k c t. (t.0, same_front_at (e + 1) k r p (let l = t.0 in omega arith) same ∙ t.1)) closes.1.joined.1,
+    );
   },
 )
 

@@ -1,11 +1,10 @@
 -- Patterns of the model and assignments of choices: with a pattern as base they are the same.
-use Rattle.std.proofs.Common.{◌≡◌, ℕ, zero, suc, ◌<◌, Bool, true, false, List, [], ◌∷◌, length, take, inl, inr, ◌⊎◌, ⊎_elim, Option, Some, None, slice_get, refl, sym, ap, subst, ◌∙◌, arith}
+use Rattle.std.proofs.Common.{◌≡◌, ℕ, zero, suc, ◌<◌, Bool, true, false, List, [], ◌∷◌, length, take, inl, inr, Option, Some, None, slice_get, refl, sym, ap, subst, ◌∙◌, arith}
 use Rattle.std.proofs.lemmas.Option.{none-some, same_Some, slice_get_within, slice_get-get_or}
 use Rattle.nf_model.specs.declared.State.{State}
 use Rattle.nf_model.specs.declared.State.TheVariants.{Tight, Full, Zero}
-use Rattle.nf_model.specs.Entries.{Has}
 use Rattle.nf_model.specs.ThinFlow.{Sets}
-use Rattle.nf_model.specs.Pattern.{Pattern, HasState, NeedsState, IsPattern}
+use Rattle.nf_model.specs.Pattern.{Pattern, HasState, IsPattern}
 use Rattle.nf_pattern.specs.Successor.{choices, IsIn, IsAssignment}
 
 -- ---- link by link
@@ -87,7 +86,9 @@ module _ (sets : Sets) (us : List Bool) (base : Pattern) (is_base : IsPattern se
       entries e below =
           let n = assigned_length base us states h in
           record {
-            b = _; u = _; s = _;
+            b = _;
+            u = _;
+            s = _;
             at_base = slice_get-get_or base e None below;
             at_us = slice_get-get_or us e false (omega arith);
             at_states = slice_get-get_or states e None (omega arith);

@@ -1,6 +1,6 @@
 -- Which nodes are entered, link by link.
-use Rattle.std.proofs.Common.{◌≡◌, ◌≢◌, ℕ, suc, ◌+◌, ◌<◌, ◌≤◌, Bool, true, List, length, get_or, set, inl, inr, ◌⊎◌, ◌↔◌, ⊎_elim, Option, Some, None, MatchOption, slice_get, refl, sym, ap, subst, ◌∙◌, arith}
-use Rattle.std.proofs.lemmas.Option.{slice_get_within, slice_get-get_or}
+use Rattle.std.proofs.Common.{◌≡◌, ◌≢◌, ℕ, ◌+◌, ◌<◌, ◌≤◌, Bool, true, List, length, set, inl, inr, ◌⊎◌, ◌↔◌, ⊎_elim, Option, Some, None, MatchOption, sym, ap, subst, ◌∙◌, arith}
+use Rattle.std.proofs.lemmas.Option.{slice_get_within}
 use Rattle.nf_model.specs.declared.State.{State}
 use Rattle.nf_model.specs.Entries.{Has}
 use Rattle.nf_model.specs.Walk.{Hop, IsHop}

@@ -1,10 +1,9 @@
 -- What the tests of the fields of a question say of it.
-use Rattle.std.proofs.Common.{◌≡◌, ◌≢◌, ℕ, ◌+◌, ◌<◌, ◌≤◌, Bool, List, length, Option, Some, None, MatchOption, sym, ap, subst, ◌∙◌, arith}
+use Rattle.std.proofs.Common.{◌≡◌, ◌≢◌, ℕ, ◌+◌, ◌<◌, ◌≤◌, Bool, List, length, Option, None, MatchOption, sym, ap, subst, ◌∙◌, arith}
 use Rattle.nf_model.specs.declared.State.{State}
 use Rattle.nf_model.specs.declared.State.TheVariants.{Tight}
 use Rattle.nf_model.specs.Walk.{Hop, IsHop}
 use Rattle.nf_model.specs.Pattern.{Pattern, HasState, IsForest}
-use Rattle.nf_graph.specs.Graph.{AreBelow}
 use Rattle.nf_pattern.specs.Forest.{Closes}
 use Rattle.nf_pattern.specs.Entered.{IsEntered}
 use Rattle.nf_pattern.specs.Successor.{IsAssignment}

@@ -1,7 +1,6 @@
 -- Tight links form a forest exactly where none of them closes a cycle with those before it.
-use Rattle.std.proofs.Common.{◌≡◌, ◌≢◌, ℕ, zero, suc, ◌<◌, Bool, true, false, List, [], ◌∷◌, ◌++◌, length, inl, inr, ◌⊎◌, ⊎_elim, eqb, Some, slice_get, refl, sym, ap, subst, ◌∙◌, arith}
+use Rattle.std.proofs.Common.{◌≡◌, ◌≢◌, ℕ, zero, suc, ◌<◌, Bool, true, false, List, ◌∷◌, ◌++◌, length, ⊎_elim, Some, refl, subst, arith}
 use Rattle.std.specs.Prelude.{Contains}
-use Rattle.std.proofs.lemmas.Bool.Decides.{eqb_tells}
 use Rattle.std.proofs.lemmas.Option.{slice_get_within}
 use Rattle.nf_model.specs.declared.State.TheVariants.{Tight}
 use Rattle.nf_model.specs.Walk.{Hop, IsHop}
@@ -22,9 +21,12 @@ module _ (hops : List Hop) where
     cut_open : (front back : Steps) (d : Bool) (v : ℕ) → AllDiffer (numbers (front ++ (n, d) ∷ back)) → IsTrail hops B (front ++ (n, d) ∷ back) v v → ⊥
     cut_open front back d v differ p =
         let parts = trail_split hops B front back n d v v p in
-        not_round d parts.0 parts.2 parts.1 (back ++ front, trail_append hops A back front (end_of d parts.0) v (start_of d parts.0)
-          (avoiding back (end_of d parts.0) v (differ_back front back n d differ).0 parts.4)
-          (avoiding front v (start_of d parts.0) (differ_front front back n d differ) parts.3))
+        not_round d parts.0 parts.2 parts.1 (
+          back ++ front,
+          trail_append hops A back front (end_of d parts.0) v (start_of d parts.0)
+              (avoiding back (end_of d parts.0) v (differ_back front back n d differ).0 parts.4)
+              (avoiding front v (start_of d parts.0) (differ_front front back n d differ) parts.3),
+        )
 
     pub forest_more : IsForest hops B
     forest_more first steps v differ p = ⊎_elim

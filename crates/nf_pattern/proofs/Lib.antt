@@ -15,3 +15,5 @@ pub mod Barren
 pub mod Ranging
 pub mod Seeking
 pub mod Failing
+pub mod Fronts
+pub mod Deciding

@@ -1,10 +1,10 @@
 -- The first listed pattern from an assignment on, found by going on from assignments that are not listed.
-use Rattle.std.proofs.Common.{◌≡◌, ℕ, ◌<◌, ◌≤◌, Bool, List, length, take, take_all, inl, inr, ◌⊎◌, ⊎_elim, Option, Some, None, refl, sym, ap, subst, ◌∙◌, arith}
+use Rattle.std.proofs.Common.{◌≡◌, ℕ, ◌<◌, ◌≤◌, Bool, List, length, take, take_all, inl, inr, ◌⊎◌, ⊎_elim, Some, None, refl, sym, ap, subst, ◌∙◌, arith}
 use Rattle.std.specs.Prelude.{MatchBool, true, false}
-use Rattle.nf_model.specs.Pattern.{Pattern, IsBefore, changes}
+use Rattle.nf_model.specs.Pattern.{Pattern, IsBefore}
 use Rattle.nf_lists_laws.proofs.Listings.{IsBefore-asymmetric, IsBefore-transitive}
-use Rattle.nf_pattern.specs.Successor.{IsAssignment, next_assignment, free}
-use Rattle.nf_pattern.specs.Given.{Question, IsQuestion, IsListedBy, IsBarren, IsFrom, IsFirstFrom, NoneFrom, Last, AtStart, UpTo, IsNext, NoneLeft}
+use Rattle.nf_pattern.specs.Successor.{IsAssignment, next_assignment}
+use Rattle.nf_pattern.specs.Given.{Question, IsQuestion, IsListedBy, IsBarren, IsFrom, IsFirstFrom, NoneFrom, AtStart, UpTo, IsNext, NoneLeft}
 use Rattle.nf_pattern.specs.declared.question.Stand.TheVariants.{Start}
 use Rattle.nf_pattern.specs.Stands.{IsStanding}
 use Rattle.nf_pattern.proofs.Choosing.{assigned_length, assignment_of}
@@ -82,7 +82,7 @@ module _ (question : Question) (is : IsQuestion question) where
       fewer_left base p q (sym (same_length p q h step.0)) (changes_few base us q step.0) step.1
 
   -- ---- after what was given
-  all_from_base : (r : Pattern) → IsListedBy question r → IsFrom base base r
+  pub all_from_base : (r : Pattern) → IsListedBy question r → IsFrom base base r
   all_from_base r listed = ⊎_elim
       (λ (before : IsBefore base r base). absurd (base_first base r before))
       (λ (w : (r ≡ base) ⊎ IsBefore base base r). w)
@@ -106,7 +106,7 @@ module _ (question : Question) (is : IsQuestion question) where
         itself l r (same_all r k (next_none n base us valid l r e k later)) later
 
     module _ (q : Pattern) (e : next_assignment n base us l ≡ Some q) where
-      from_next : (r : Pattern) → IsListedBy question r → IsBefore base l r → IsFrom base q r
+      pub from_next : (r : Pattern) → IsListedBy question r → IsBefore base l r → IsFrom base q r
       from_next r listed later =
           let k = listed_assigned r listed in
           ⊎_elim

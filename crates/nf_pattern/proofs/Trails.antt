@@ -1,5 +1,5 @@
 -- Trails: hops one after the other, each taken forward or backward.
-use Rattle.std.proofs.Common.{◌≡◌, ◌≢◌, ℕ, zero, suc, ◌<◌, Bool, true, false, not, List, [], ◌∷◌, ◌++◌, map, inl, inr, ◌⊎◌, ⊎_elim, eqb, refl, sym, ap, subst, ◌∙◌, arith}
+use Rattle.std.proofs.Common.{◌≡◌, ◌≢◌, ℕ, zero, suc, Bool, true, false, not, List, [], ◌∷◌, ◌++◌, map, inl, inr, ◌⊎◌, ⊎_elim, eqb, refl, sym, ap, subst, arith}
 use Rattle.std.specs.Prelude.{Contains, if◌then◌else◌}
 use Rattle.std.proofs.lemmas.Bool.Decides.{eqb_tells}
 use Rattle.nf_graph.proofs.Walks.{IsHop-unique}
@@ -88,8 +88,13 @@ module _ (hops : List Hop) where
   -- a trail of hops that are allowed by another rule
   pub trail_by : (A B : ℕ → Type 0) (s : Steps) (v w : ℕ) → ((k : ℕ) → Contains (numbers s) k → A k → B k) → IsTrail hops A s v w → IsTrail hops B s v w
   trail_by A B [] v w by p = p
-  trail_by A B ((e, d) ∷ s) v w by p = (p.0, p.1, by e (contains_first e (numbers s) e refl) p.2, p.3,
-    trail_by A B s (end_of d p.0) w (λ k c a. by k (contains_more e (numbers s) k c) a) p.4)
+  trail_by A B ((e, d) ∷ s) v w by p = (
+    p.0,
+    p.1,
+    by e (contains_first e (numbers s) e refl) p.2,
+    p.3,
+    trail_by A B s (end_of d p.0) w (λ k c a. by k (contains_more e (numbers s) k c) a) p.4,
+  )
 
   -- ---- from end to start
   one_back : (A : ℕ → Type 0) (e : ℕ) (d : Bool) (v : ℕ) (hop : Hop) → IsHop hops e hop → A e → v ≡ start_of d hop → IsTrail hops A ((e, not d) ∷ []) (end_of d hop) v

@@ -1,7 +1,6 @@
 -- Listings, and how far one has been given.
 use Rattle.std.specs.Prelude.{◌≡◌, ◌⊎◌, ℕ, ◌+◌, ◌-◌, ◌^◌, ◌<◌, min, Bool, List, length, take, Option, Some, None, refl}
 use Rattle.std.specs.Coded.{Coded, code_by, coded×, coded_ℕ, coded_bool, coded_list, coded_option}
-use base.Stored.{coded_unit}
 use Rattle.nf_model.specs.Codes.{coded_hop, coded_sets, coded_pattern}
 use Rattle.nf_model.specs.Walk.{Hop}
 use Rattle.nf_model.specs.ThinFlow.{Sets}

@@ -4,3 +4,4 @@ pub mod Forest
 pub mod Entered
 pub mod Given
 pub mod Stands
+pub mod Front

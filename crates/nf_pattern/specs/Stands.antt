@@ -1,5 +1,5 @@
 -- Where a listing stands.
-use Rattle.std.specs.Prelude.{◌≡◌, ℕ, Bool, List, length}
+use Rattle.std.specs.Prelude.{◌≡◌, Bool, List, length}
 use Rattle.nf_model.specs.Pattern.{Pattern}
 use Rattle.nf_pattern.specs.declared.question.Stand.{Stand}
 use Rattle.nf_pattern.specs.declared.question.Stand.TheVariants.{Start, Listed, End}

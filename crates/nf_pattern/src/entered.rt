@@ -27,13 +27,7 @@ fn may_carry(states: &[Option<State>], resetting: &[bool], link: usize) -> bool
 }
 
 // The head of such a link gets a flag.
-fn mark(
-    hops: &[Hop],
-    states: &[Option<State>],
-    resetting: &[bool],
-    link: usize,
-    flags: &mut [bool],
-)
+fn mark(hops: &[Hop], states: &[Option<State>], resetting: &[bool], link: usize, flags: &mut [bool])
     requires link { link < length hops.now }
     requires states { length states.now ≡ length hops.now }
     requires resetting { length resetting.now ≡ length hops.now }

@@ -7,6 +7,9 @@ mod bases;
 mod choice;
 mod entered;
 mod forest;
+mod laws;
+#[cfg(test)]
+mod listing_tests;
 mod pattern;
 mod patterns;
 mod question;
@@ -14,6 +17,7 @@ mod question;
 mod tests;
 
 pub use bases::base;
+pub use laws::{given_are_fronts, questions_have_listings};
 pub use nf_model::State;
 pub use pattern::Pattern;
 pub use patterns::Patterns;

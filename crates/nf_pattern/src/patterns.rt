@@ -77,7 +77,10 @@ impl Patterns {
         ensures { MatchBool result ((pattern : SeenPattern) × Gives self.old (Some pattern) self.new) (Gives self.old None self.new) }
     {
         let current = &mut self.current;
-        if self.question.find(self.stand, &mut current.states, &mut self.flags) {
+        if self
+            .question
+            .find(self.stand, &mut current.states, &mut self.flags)
+        {
             self.stand = Stand::Listed;
             self.place = self.place.saturating_add(1);
             return true;

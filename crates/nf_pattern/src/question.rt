@@ -57,11 +57,7 @@ fn active_flags(alloc: Global, sets: &LinkSets, links: usize) -> Result<Vec<bool
 }
 
 // Of each link, whether it is resetting.
-fn resetting_flags(
-    alloc: Global,
-    sets: &LinkSets,
-    links: usize,
-) -> Result<Vec<bool>, AllocError>
+fn resetting_flags(alloc: Global, sets: &LinkSets, links: usize) -> Result<Vec<bool>, AllocError>
     requires active { length sets.now.active ≡ links }
     requires resetting { length sets.now.resetting ≡ links }
     requires fewer { links < 2 ^ 32 }
@@ -180,7 +176,12 @@ impl Question {
     }
 
     // From where a listing stands on to the next listed pattern; whether there is one.
-    pub(crate) fn find(&self, stand: Stand, states: &mut [Option<State>], flags: &mut [bool]) -> bool
+    pub(crate) fn find(
+        &self,
+        stand: Stand,
+        states: &mut [Option<State>],
+        flags: &mut [bool],
+    ) -> bool
         requires question { IsQuestion self.now }
         requires assigned { IsAssignment self.now.base self.now.unbounded states.old }
         requires start { stand ≡ Start → states.old ≡ self.now.base }

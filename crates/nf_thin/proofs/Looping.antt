@@ -9,13 +9,13 @@ use Rattle.nf_model.specs.Pattern.{Pattern}
 use Rattle.nf_lists.specs.Search.{Answers, IsSearch}
 use Rattle.nf_pattern.specs.Given.{Question, IsQuestion, Given, AtStart, UpTo, IsNext, NoneLeft, Gives, next_place}
 use Rattle.nf_equation_laws.specs.Equations.{IsPatternIn}
-use Rattle.nf_listing_laws.proofs.Listing.{listing_there}
+use Rattle.nf_pattern.proofs.Deciding.{has_listing}
 use Rattle.nf_thin.specs.declared.search.Thin.{Thin}
 use Rattle.nf_thin.specs.declared.search.Vain.{Vain}
 use Rattle.nf_thin.specs.declared.search.SearchFault.{SearchFault}
 use Rattle.nf_thin.specs.declared.search.SearchFault.TheVariants as SearchFault
 use Rattle.nf_thin.specs.Searching.{Searches, fault_of, TriesNext, AreSetsOf, AsksOf, question_of}
-use Rattle.nf_thin.proofs.Places.{IsListingOf}
+use Rattle.nf_pattern.specs.Front.{IsListingOf}
 use Rattle.nf_thin.proofs.Searched.{Vainly, none_tried, over_budget, found, vainly_more, search_ends, all_searched}
 use Rattle.nf_thin.proofs.Asking.{listed_in}
 
@@ -29,10 +29,10 @@ module _ (passes : Passing) (net : Network) (sets : Sets) (rate : ℚ) (first : 
   q = first.question
 
   abbrev listing : List Pattern
-  listing = (listing_there q asks.is_question).0
+  listing = (has_listing q asks.is_question).0
 
   is : IsListingOf q listing
-  is = (listing_there q asks.is_question).1
+  is = (has_listing q asks.is_question).1
 
   abbrev Finds : Result Thin SearchFault → Type 0
   Finds result = Searches (IsSearch passes net sets rate q.base budget) budget result
@@ -41,8 +41,11 @@ module _ (passes : Passing) (net : Network) (sets : Sets) (rate : ℚ) (first : 
   done result a = all_searched passes net sets rate q asks.asked listing is budget result a
 
   pub loop_starts : (given : Given) (vain : Vain) → given ≡ first → vain.tried ≡ 0 → vain.passed ≡ None → InLoop passes net sets rate q budget given vain
-  loop_starts given vain same none_tried_yet none_passed = (ap (λ (g : Given). g.question) same, omega arith,
-      λ list l. none_tried passes net sets rate list given.last vain (ap (λ (g : Given). g.last) same ∙ asks.start) none_tried_yet none_passed)
+  loop_starts given vain same none_tried_yet none_passed = (
+    ap (λ (g : Given). g.question) same,
+    omega arith,
+    λ list l. none_tried passes net sets rate list given.last vain (ap (λ (g : Given). g.last) same ∙ asks.start) none_tried_yet none_passed,
+  )
 
   module _ (given : Given) (vain : Vain) (so : InLoop passes net sets rate q budget given vain) where
     module _ (pattern : Pattern) (after : Given) (gives : Gives given (Some pattern) after) where

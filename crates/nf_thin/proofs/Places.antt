@@ -4,11 +4,12 @@ use Rattle.std.specs.Prelude.{Option}
 use Rattle.std.proofs.lemmas.Bool.Decides.{eqb_tells, leb_tells}
 use Rattle.std.proofs.lemmas.Option.{same_Some, slice_get_within}
 use Rattle.nf_model.specs.Pattern.{Pattern, IsBefore}
-use Rattle.nf_lists.specs.Listing.{HasPlace, IsListing}
+use Rattle.nf_lists.specs.Listing.{HasPlace}
 use Rattle.nf_lists_laws.proofs.Listings.{IsBefore-asymmetric}
+use Rattle.nf_pattern.specs.Front.{IsListingOf}
 use Rattle.nf_pattern.specs.Given.{Question, Last, AtStart, UpTo, AtEnd, IsLater, IsNext, NoneLeft}
 use Rattle.nf_thin_laws.proofs.Flags.{entry}
-use Rattle.nf_listing_laws.proofs.Decided.{less_or_same}
+use Rattle.nf_pattern.proofs.Entering.{less_or_same}
 
 compared : (m n : ℕ) → (m < n) ⊎ ((m ≡ n) ⊎ (n < m))
 compared m n = ⊎_elim
@@ -18,9 +19,6 @@ compared m n = ⊎_elim
     (eqb_tells m n))
     (λ (w : (leb n m ≡ false) × (m < n)). inl w.1)
     (leb_tells n m)
-
-abbrev pub IsListingOf : Question → List Pattern → Type 0
-IsListingOf q listing = IsListing q.nodes q.source q.hops q.sets q.unbounded q.base listing
 
 -- so many patterns of a listing were given, and this is the last
 abbrev pub GivenUpTo : List Pattern → ℕ → Last → Type 0

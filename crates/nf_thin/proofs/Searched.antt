@@ -12,13 +12,14 @@ use Rattle.nf_lists.specs.Accepted.{pattern_lists, IsAccepted}
 use Rattle.nf_lists.specs.Listing.{HasPlace, IsListing, IsListingIn}
 use Rattle.nf_lists.specs.Search.{Answer, Found, OverBudget, PassesAt, NoPattern, NoneAcceptedBefore, IsFirstAccepted, IsOverBudget, IsInVain, IsFirstPassing, Answers, IsSearch}
 use Rattle.nf_pattern.specs.Given.{Question, Last, AtStart, UpTo, IsNext, NoneLeft}
-use Rattle.nf_listing_laws.proofs.Decided.{less_or_same}
+use Rattle.nf_pattern.proofs.Entering.{less_or_same}
 use Rattle.nf_thin.specs.declared.search.Thin.{Thin}
 use Rattle.nf_thin.specs.declared.search.Vain.{Vain}
 use Rattle.nf_thin.specs.declared.search.SearchFault.{SearchFault}
 use Rattle.nf_thin.specs.declared.search.SearchFault.TheVariants as SearchFault
 use Rattle.nf_thin.specs.Searching.{Searches, or_first, fault_of, Noted, InVain, IsFound, question_of}
-use Rattle.nf_thin.proofs.Places.{IsListingOf, GivenUpTo, given_next, given_all}
+use Rattle.nf_pattern.specs.Front.{IsListingOf}
+use Rattle.nf_thin.proofs.Places.{GivenUpTo, given_next, given_all}
 
 module _ (passes : Passing) (net : Network) (sets : Sets) (rate : ℚ) (listing : List Pattern) where
   -- no operation of those tried passes, or this is the first that does

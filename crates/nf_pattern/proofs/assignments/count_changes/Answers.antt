@@ -1,6 +1,5 @@
-use Rattle.std.proofs.Common.{◌≡◌, ◌+◌, ◌<◌, length, drop, refl, arith}
+use Rattle.std.proofs.Common.{◌≡◌, arith}
 use Rattle.std.specs.Prelude.{None, get_or}
-use Rattle.nf_model.specs.Pattern.{changes}
 use Rattle.nf_pattern.specs.Successor.{change}
 use Rattle.nf_pattern.proofs.Counting.{changes_here, changes_end}
 use Rattle.nf_pattern.proofs.assignments.count_changes.Goals as goal

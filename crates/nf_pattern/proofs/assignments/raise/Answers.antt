@@ -1,7 +1,7 @@
-use Rattle.std.proofs.Common.{◌≡◌, ◌+◌, ◌-◌, ◌<◌, ◌≤◌, ℕ, suc, List, length, get_or, drop, Some, None, ap, subst, refl, sym, ◌∙◌, arith}
+use Rattle.std.proofs.Common.{◌≡◌, ◌+◌, ◌-◌, length, get_or, None, ap, subst, refl, ◌∙◌, arith}
 use Rattle.nf_model.specs.Pattern.{Pattern}
-use Rattle.nf_pattern.specs.Successor.{change, free, later, RaisesAt, raised_at}
-use Rattle.nf_pattern.proofs.Raising.{AreLast, none_last, free_behind, raised_later, last_kept, last_cut, last_all}
+use Rattle.nf_pattern.specs.Successor.{change, RaisesAt, raised_at}
+use Rattle.nf_pattern.proofs.Raising.{none_last, free_behind, raised_later, last_kept, last_cut, last_all}
 use Rattle.nf_pattern.proofs.assignments.raise.Goals as goal
 use Rattle.nf_pattern.proofs.assignments.raise.Goals.{then-i-same+else-raise_at, else-i-same}
 

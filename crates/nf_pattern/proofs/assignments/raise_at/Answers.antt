@@ -1,7 +1,6 @@
-use Rattle.std.proofs.Common.{◌≡◌, ◌+◌, ◌-◌, ◌<◌, ◌≤◌, ℕ, suc, List, ◌++◌, Bool, length, get_or, set, take, drop, Some, None, ap, subst, refl, sym, ◌∙◌, add-one, arith}
-use Rattle.std.proofs.Math.ListN.{length-set}
+use Rattle.std.proofs.Common.{◌≡◌, ◌+◌, ◌-◌, ℕ, suc, List, ◌++◌, Bool, length, set, take, drop, Some, ap, subst, refl, sym, ◌∙◌, add-one, arith}
 use Rattle.nf_model.specs.Pattern.{Pattern}
-use Rattle.nf_pattern.specs.Successor.{IsAssignment, free, earliest}
+use Rattle.nf_pattern.specs.Successor.{earliest}
 use Rattle.nf_pattern.proofs.Raising.{from_one, put_end, valid_after, chosen_fits, raises, not_raised}
 use Rattle.nf_pattern.proofs.assignments.raise_at.Goals as goal
 

@@ -1,4 +1,4 @@
-use Rattle.std.proofs.Common.{◌≡◌, ◌+◌, ◌<◌, ◌≤◌, ℕ, sym, subst, arith}
+use Rattle.std.proofs.Common.{◌+◌, ℕ, sym, subst, arith}
 use Rattle.std.proofs.lemmas.Option.{slice_get_within}
 use Rattle.nf_pattern.proofs.Entering.{EndsBefore, ends_later, ends_same}
 use Rattle.nf_pattern.proofs.entered.end_into.Goals as goal

@@ -1,7 +1,7 @@
-use Rattle.std.proofs.Common.{◌≡◌, ◌<◌, length, ap, subst, sym, ◌∙◌, arith}
+use Rattle.std.proofs.Common.{◌≡◌, ap, ◌∙◌, arith}
 use Rattle.nf_model.specs.Walk.{Hop, IsHop}
 use Rattle.nf_graph.proofs.Walks.{IsHop-read}
-use Rattle.nf_pattern.proofs.Entering.{marked, unmarked}
+use Rattle.nf_pattern.proofs.Entering.{marked}
 use Rattle.nf_pattern.proofs.entered.mark.Goals as goal
 
 pub returns-then-may_carry : goal.returns-then-may_carry

@@ -1,4 +1,4 @@
-use Rattle.std.proofs.Common.{◌≡◌, ◌<◌, ◌≤◌, ℕ, List, Bool, length, replicate, false, sym, subst, ◌∙◌, arith}
+use Rattle.std.proofs.Common.{ℕ, List, Bool, length, sym, subst, arith}
 use Rattle.nf_model.specs.Entries.{Has}
 use Rattle.nf_graph.specs.Graph.{AreBelow}
 use Rattle.nf_graph.proofs.Flags.{Has-replicate}

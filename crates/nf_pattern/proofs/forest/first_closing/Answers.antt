@@ -1,4 +1,4 @@
-use Rattle.std.proofs.Common.{◌<◌, ◌≤◌, arith}
+use Rattle.std.proofs.Common.{arith}
 use Rattle.nf_pattern.proofs.Forests.{is_forest, closing_below}
 use Rattle.nf_pattern.proofs.forest.first_closing.Goals as goal
 

@@ -1,11 +1,11 @@
-use Rattle.std.proofs.Common.{◌≡◌, ◌<◌, ◌+◌, ◌≤◌, ℕ, List, Bool, length, set, replicate, false, true, refl, sym, ap, subst, ◌∙◌, arith}
+use Rattle.std.proofs.Common.{◌≡◌, ◌<◌, ℕ, List, Bool, length, set, replicate, false, true, refl, sym, ap, subst, ◌∙◌, arith}
 use Rattle.std.proofs.Math.ListN.{length-set}
 use Rattle.nf_model.specs.Entries.{Has}
 use Rattle.nf_model.specs.Walk.{Hop, IsHop}
 use Rattle.nf_graph.specs.Graph.{AreBelow}
 use Rattle.nf_graph.proofs.Flags.{Has-replicate}
 use Rattle.nf_graph.proofs.Walks.{IsHop-read}
-use Rattle.nf_pattern.specs.Forest.{TightBefore, Spreads}
+use Rattle.nf_pattern.specs.Forest.{TightBefore}
 use Rattle.nf_pattern.proofs.Walking.{spreads_none, spreads_more, walked_back}
 use Rattle.nf_pattern.proofs.forest.leads_back.Goals as goal
 

@@ -1,4 +1,3 @@
-use Rattle.std.proofs.Common.{◌≡◌}
 use Rattle.nf_pattern.proofs.Each.{take_pushed}
 use Rattle.nf_pattern.proofs.question.active_flags.Goals as goal
 

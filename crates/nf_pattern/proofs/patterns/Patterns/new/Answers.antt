@@ -1,4 +1,4 @@
-use Rattle.std.proofs.Common.{◌≡◌, ◌^◌, ◌<◌, length, arith}
+use Rattle.std.proofs.Common.{arith}
 use Rattle.nf_pattern.proofs.Seeking.{standing_start}
 use Rattle.nf_pattern.proofs.patterns.Patterns.new.Goals as goal
 

@@ -1,4 +1,4 @@
-use Rattle.std.proofs.Common.{◌≡◌, ◌≤◌, length, subst, sym, ◌∙◌, arith}
+use Rattle.std.proofs.Common.{length, subst, sym, arith}
 use Rattle.nf_model.specs.Pattern.{Pattern}
 use Rattle.nf_pattern.specs.Successor.{IsAssignment}
 use Rattle.nf_pattern.proofs.Choosing.{assigned_length}

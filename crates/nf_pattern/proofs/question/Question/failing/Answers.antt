@@ -1,4 +1,4 @@
-use Rattle.std.proofs.Common.{◌≡◌, ◌≢◌, ℕ, ◌<◌, ap, subst, sym, ◌∙◌, arith}
+use Rattle.std.proofs.Common.{ℕ, ◌<◌, ap, subst, sym, ◌∙◌}
 use Rattle.nf_pattern.specs.Given.{Question}
 use Rattle.nf_pattern.proofs.Failing.{count_hops, cycle_here, node_here, listed_here}
 use Rattle.nf_pattern.proofs.question.Question.failing.Goals as goal

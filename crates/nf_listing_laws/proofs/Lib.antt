@@ -1,4 +1,0 @@
-pub mod Decided
-pub mod Joined
-pub mod Listed
-pub mod Listing
