@@ -11,8 +11,8 @@ use Rattle.nf_work.specs.Passing.{Passing}
 use Rattle.nf_lists.specs.Search.{Found, IsSearch}
 use Rattle.nf_thin_laws.proofs.Accepted.{IsThinFlow-accepted}
 use Rattle.nf_thin_laws.proofs.Slopes.{slopes-unique}
-use Rattle.nf_thin.specs.declared.search.Thin.{Thin}
-use Rattle.nf_thin.specs.declared.search.SearchFault.{SearchFault}
+use Rattle.nf_thin.specs.declared.searches.Thin.{Thin}
+use Rattle.nf_thin.specs.declared.searches.SearchFault.{SearchFault}
 use Rattle.nf_formats.specs.Named.{Named}
 use Rattle.nf_formats.specs.WellNamed.{IsNamed}
 use Rattle.nf_lists_laws.proofs.Ending.{from_map}

@@ -10,10 +10,10 @@ use Rattle.nf_lists.specs.Search.{Answers, IsSearch}
 use Rattle.nf_pattern.specs.Given.{Question, IsQuestion, Given, AtStart, UpTo, IsNext, NoneLeft, Gives, next_place}
 use Rattle.nf_equation_laws.specs.Equations.{IsPatternIn}
 use Rattle.nf_pattern.proofs.Deciding.{has_listing}
-use Rattle.nf_thin.specs.declared.search.Thin.{Thin}
-use Rattle.nf_thin.specs.declared.search.Vain.{Vain}
-use Rattle.nf_thin.specs.declared.search.SearchFault.{SearchFault}
-use Rattle.nf_thin.specs.declared.search.SearchFault.TheVariants as SearchFault
+use Rattle.nf_thin.specs.declared.searches.Thin.{Thin}
+use Rattle.nf_thin.specs.declared.searches.Vain.{Vain}
+use Rattle.nf_thin.specs.declared.searches.SearchFault.{SearchFault}
+use Rattle.nf_thin.specs.declared.searches.SearchFault.TheVariants as SearchFault
 use Rattle.nf_thin.specs.Searching.{Searches, fault_of, TriesNext, AreSetsOf, AsksOf, question_of}
 use Rattle.nf_pattern.specs.Front.{IsListingOf}
 use Rattle.nf_thin.proofs.Searched.{Vainly, none_tried, over_budget, found, vainly_more, search_ends, all_searched}

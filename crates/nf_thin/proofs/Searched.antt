@@ -13,10 +13,10 @@ use Rattle.nf_lists.specs.Listing.{HasPlace, IsListing, IsListingIn}
 use Rattle.nf_lists.specs.Search.{Answer, Found, OverBudget, PassesAt, NoPattern, NoneAcceptedBefore, IsFirstAccepted, IsOverBudget, IsInVain, IsFirstPassing, Answers, IsSearch}
 use Rattle.nf_pattern.specs.Given.{Question, Last, AtStart, UpTo, IsNext, NoneLeft}
 use Rattle.nf_pattern.proofs.Entering.{less_or_same}
-use Rattle.nf_thin.specs.declared.search.Thin.{Thin}
-use Rattle.nf_thin.specs.declared.search.Vain.{Vain}
-use Rattle.nf_thin.specs.declared.search.SearchFault.{SearchFault}
-use Rattle.nf_thin.specs.declared.search.SearchFault.TheVariants as SearchFault
+use Rattle.nf_thin.specs.declared.searches.Thin.{Thin}
+use Rattle.nf_thin.specs.declared.searches.Vain.{Vain}
+use Rattle.nf_thin.specs.declared.searches.SearchFault.{SearchFault}
+use Rattle.nf_thin.specs.declared.searches.SearchFault.TheVariants as SearchFault
 use Rattle.nf_thin.specs.Searching.{Searches, or_first, fault_of, Noted, InVain, IsFound, question_of}
 use Rattle.nf_pattern.specs.Front.{IsListingOf}
 use Rattle.nf_thin.proofs.Places.{GivenUpTo, given_next, given_all}

@@ -11,10 +11,10 @@ use Rattle.nf_lists.specs.Accepted.{pattern_lists, IsAccepted}
 use Rattle.nf_lists.specs.Search.{Answer, Found, OverBudget, PassesAt, NoPattern}
 use Rattle.nf_pattern.specs.Given.{Question, IsQuestion, Given, AtStart}
 use Rattle.nf_thin_laws.specs.ActiveLinks.{AreSets, HoldNoCycle}
-use Rattle.nf_thin.specs.declared.search.Thin.{Thin}
-use Rattle.nf_thin.specs.declared.search.Vain.{Vain}
-use Rattle.nf_thin.specs.declared.search.SearchFault.{SearchFault}
-use Rattle.nf_thin.specs.declared.search.SearchFault.TheVariants as SearchFault
+use Rattle.nf_thin.specs.declared.searches.Thin.{Thin}
+use Rattle.nf_thin.specs.declared.searches.Vain.{Vain}
+use Rattle.nf_thin.specs.declared.searches.SearchFault.{SearchFault}
+use Rattle.nf_thin.specs.declared.searches.SearchFault.TheVariants as SearchFault
 
 -- the answer of the definition that is given, unless memory is wanting
 abbrev pub Searches : (Answer → Type 0) → ℕ → Result Thin SearchFault → Type 0

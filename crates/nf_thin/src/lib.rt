@@ -3,11 +3,11 @@
 #![tactic(auto)]
 
 mod filling;
-mod search;
+mod searches;
 #[cfg(test)]
 mod tests;
 mod trying;
 mod verdicts;
 
-pub use search::{SearchFault, Thin};
+pub use searches::{SearchFault, Thin, search};
 pub use verdicts::{Judged, verdict};

@@ -1,7 +1,7 @@
 use Rattle.std.proofs.Common.{◌-◌}
 use Rattle.nf_work.specs.Passing.{bound_of, beyond}
 use Rattle.nf_thin.proofs.Looping.{InLoop}
-use Rattle.nf_thin.proofs.search.go_through.Given as goal
+use Rattle.nf_thin.proofs.searches.go_through.Given as goal
 
 -- the first patterns of the listing were tried in vain
 abbrev pub invariant-loop-pattern : goal.invariant-loop-pattern

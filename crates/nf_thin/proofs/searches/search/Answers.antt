@@ -5,7 +5,7 @@ use Rattle.nf_lists.specs.Search.{IsSearch}
 use Rattle.nf_pattern.specs.Given.{Given}
 use Rattle.nf_thin.specs.Searching.{Searches}
 use Rattle.nf_thin.proofs.Asking.{hops_length, below_nodes, few_hops, result_is_thin, result_is_only}
-use Rattle.nf_thin.proofs.search.search.Goals as goal
+use Rattle.nf_thin.proofs.searches.search.Goals as goal
 
 pub new-requires-clause-ends : goal.new-requires-clause-ends
 new-requires-clause-ends c = rw (c.node_count-nodes.ensures, c.hops.ensures.value) (below_nodes c.args.net.now.net c.hops.ensures.named.network)

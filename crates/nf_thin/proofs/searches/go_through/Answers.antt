@@ -5,7 +5,7 @@ use Rattle.nf_work.specs.Passing.{bound_of, beyond}
 use Rattle.nf_pattern.specs.Given.{Gives}
 use Rattle.nf_thin.specs.Searching.{TriesNext}
 use Rattle.nf_thin.proofs.Looping.{loop_pattern, loop_finds, loop_fails, loop_goes_on, loop_ends}
-use Rattle.nf_thin.proofs.search.go_through.Goals as goal
+use Rattle.nf_thin.proofs.searches.go_through.Goals as goal
 
 pub try_next-requires-clause-pattern : goal.try_next-requires-clause-pattern
 try_next-requires-clause-pattern c =

@@ -4,7 +4,7 @@ use Rattle.nf_work.specs.Passing.{bound_of, beyond}
 use Rattle.nf_thin.specs.Trying.{Tries}
 use Rattle.nf_thin.specs.Searching.{or_first}
 use Rattle.nf_thin.proofs.Searched.{passing_not_accepted}
-use Rattle.nf_thin.proofs.search.try_next.Goals as goal
+use Rattle.nf_thin.proofs.searches.try_next.Goals as goal
 
 pub returns-in_ok-pattern-in-Ok-Accepted : goal.returns-in_ok-pattern-in-Ok-Accepted
 returns-in_ok-pattern-in-Ok-Accepted c =

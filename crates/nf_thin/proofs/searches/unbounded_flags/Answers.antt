@@ -5,7 +5,7 @@ use Rattle.std.proofs.lemmas.Option.{slice_get-map}
 use Rattle.nf_model.specs.Network.{Link, unbounded}
 use Rattle.nf_pattern.proofs.Each.{take_pushed}
 use Rattle.nf_thin.proofs.Asking.{none_flag}
-use Rattle.nf_thin.proofs.search.unbounded_flags.Goals as goal
+use Rattle.nf_thin.proofs.searches.unbounded_flags.Goals as goal
 
 pub loop-e-preserved : goal.loop-e-preserved
 loop-e-preserved c = take_pushed (unbounded c.args.net.now.net) c.loop-e.flags.items c.push.new.self.items c.loop-e.e c.is_none.result
