@@ -40,7 +40,7 @@ pub enum SearchFault {
 
 impl From<AllocError> for SearchFault {
     ghost use Rattle.std.specs.Prelude.{◌≡◌};
-    ghost use Rattle.nf_thin.specs.declared.search.SearchFault.TheVariants as SearchFault;
+    ghost use Rattle.nf_thin.specs.declared.searches.SearchFault.TheVariants as SearchFault;
 
     ghost from_gives = { λ _ fault. fault ≡ SearchFault.Memory };
 
