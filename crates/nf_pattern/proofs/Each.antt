@@ -1,5 +1,5 @@
 -- What holds of each entry of a list, by its place.
-use Rattle.std.proofs.Common.{◌≡◌, ◌⊎◌, ℕ, zero, suc, ◌+◌, List, [], ◌∷◌, ◌++◌, length, length-append, inl, inr, ⊎_elim, refl, sym, ap, subst, ◌∙◌, arith}
+use Rattle.std.proofs.Common.{◌≡◌, ◌⊎◌, ℕ, zero, suc, ◌+◌, List, [], ◌∷◌, ◌++◌, length, length-append, take, add-one, inl, inr, ⊎_elim, refl, sym, ap, subst, ◌∙◌, arith}
 use Rattle.std.specs.Prelude.{Some, slice_get}
 use Rattle.std.proofs.lemmas.Option.{none-some, same_Some}
 
@@ -23,3 +23,12 @@ each_pushed {A = A} P xs y n count each here k x h = ⊎_elim
 
 pub length_pushed : {A : Type 0} (xs : List A) (y : A) (n : ℕ) → length xs ≡ n → length (xs ++ y ∷ []) ≡ n + 1
 length_pushed xs y n h = let e = length-append xs (y ∷ []) in omega arith
+
+-- one entry more from the front of a list
+pub take_pushed : {A : Type 0} (xs front pushed : List A) (i : ℕ) (x : A) → slice_get xs i ≡ Some x → front ≡ take i xs → pushed ≡ front ++ x ∷ [] → pushed ≡ take (i + 1) xs
+take_pushed {A = A} xs front pushed i x at is e = e ∙ (ap (λ (ys : List A). ys ++ x ∷ []) is ∙ rw (add-one i) (sym (taken xs i at)))
+  where
+    taken : (ys : List A) (k : ℕ) → slice_get ys k ≡ Some x → take (suc k) ys ≡ take k ys ++ x ∷ []
+    taken [] k h = absurd (none-some x h)
+    taken (y ∷ ys) zero h = ap (λ (z : A). z ∷ []) (same_Some y x h)
+    taken (y ∷ ys) (suc k) h = ap (λ (zs : List A). y ∷ zs) (taken ys k h)

@@ -10,7 +10,7 @@ use Rattle.nf_model.specs.Pattern.{Pattern}
 use Rattle.nf_pattern.specs.Successor.{choices, IsAssignment, free, change, fits, first_good, before_all, with_rest, earliest}
 use Rattle.nf_pattern.proofs.Successors.{good_some, good_none, good_choice, fits_out}
 
-free_first : (b : Option State) (base : Pattern) → free (b ∷ base) ≡ change None b + free base
+pub free_first : (b : Option State) (base : Pattern) → free (b ∷ base) ≡ change None b + free base
 free_first None base = omega arith
 free_first (Some Tight) base = omega arith
 free_first (Some Full) base = omega arith

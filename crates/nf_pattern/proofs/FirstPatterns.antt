@@ -1,14 +1,14 @@
 -- Base patterns, link by link.
-use Rattle.std.proofs.Common.{◌≡◌, ℕ, ◌<◌, List, length, get_or, true, false, refl, ap, ◌∙◌, arith, inl, inr}
+use Rattle.std.proofs.Common.{◌≡◌, ℕ, zero, suc, ◌<◌, List, Bool, length, get_or, replicate, true, false, refl, ap, ◌∙◌, arith, inl, inr}
 use Rattle.std.specs.Prelude.{Option, Some, None, slice_get}
 use Rattle.std.proofs.lemmas.Option.{slice_get_within, slice_get-get_or}
 use Rattle.nf_rational.specs.Operations.{0ℚ}
 use Rattle.nf_model.specs.declared.State.{State}
-use Rattle.nf_model.specs.declared.State.TheVariants.{Tight, Zero}
+use Rattle.nf_model.specs.declared.State.TheVariants.{Tight, Full, Zero}
 use Rattle.nf_model.specs.Entries.{Has}
 use Rattle.nf_model.specs.Walk.{Hop, IsHop}
 use Rattle.nf_model.specs.ThinFlow.{Sets}
-use Rattle.nf_model.specs.Pattern.{Pattern, HasState, NeedsState, IsFirstInto, IsBase}
+use Rattle.nf_model.specs.Pattern.{Pattern, HasState, NeedsState, IsPattern, IsFirstInto, IsBase}
 use Rattle.nf_graph.proofs.Walks.{IsHop-unique}
 use Rattle.nf_pattern.specs.Base.{Bars, IsBaseState}
 use Rattle.nf_pattern.proofs.Each.{EachEntry}
@@ -74,3 +74,27 @@ module _ (hops : List Hop) (sets : Sets) where
       first = λ e hop needs was first. let x = entry e needs in at_entry e Tight x.0 x.1 (x.2.first hop needs was first);
       later = λ e needs was none. let x = entry e needs in at_entry e Zero x.0 x.1 (x.2.later needs was none);
     }
+
+-- ---- a base pattern is a pattern, where the last one makes no unbounded link Full
+module _ (hops : List Hop) (sets : Sets) (unbounded : List Bool) (last base : Pattern) (is : IsBase hops sets last base) (count : length last ≡ length sets.active)
+    (no_full : (e : ℕ) → Has unbounded e → HasState last e Full → ⊥) where
+  never_full : (e : ℕ) (given : Option State) → slice_get last e ≡ Some given → NeedsState sets e → Has unbounded e → HasState base e Full → ⊥
+  never_full e None at needs u full = let zero : HasState base e Zero = is.later e needs at (λ hop first. let tight = is.first e hop needs at first in cc) in cc
+  never_full e (Some state) at needs u full =
+      let kept : HasState base e state = is.kept e state needs at in
+      let same : state ≡ Full = cc in no_full e u (at ∙ ap (λ (s : State). Some (Some s)) same)
+
+  pub base_is_pattern : IsPattern sets unbounded base
+  base_is_pattern = record {
+    count = is.count;
+    states = is.states;
+    no_full = λ e u full.
+        let needs = (is.states e).1 (Full, full) in
+        let below : e < length last = (let h : e < length sets.active = slice_get_within sets.active e true needs.0 in omega arith) in
+        never_full e _ (slice_get-get_or last e None below) needs u full;
+  }
+
+pub none_full : (links : ℕ) (e : ℕ) → HasState (replicate links None) e Full → ⊥
+none_full zero e h = cc
+none_full (suc links) zero h = cc
+none_full (suc links) (suc e) h = none_full links e h

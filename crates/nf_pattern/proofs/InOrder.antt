@@ -1,5 +1,6 @@
--- The order of assignments: the base is the first, and the next one is the least of those that come after.
-use Rattle.std.proofs.Common.{◌≡◌, ℕ, suc, Bool, true, false, List, [], ◌∷◌, inl, inr, ⊎_elim, eqb, refl, sym, ◌∙◌, arith}
+-- The order of assignments: the base is the first, and the next one that isn't the same up to some link is the least of those
+-- that come after and are not.
+use Rattle.std.proofs.Common.{◌≡◌, ℕ, suc, take, Bool, true, false, List, [], ◌∷◌, inl, inr, ⊎_elim, eqb, refl, sym, ◌∙◌, arith}
 use Rattle.std.specs.Prelude.{Option, Some, None, if◌then◌else◌}
 use Rattle.nf_graph.proofs.Walks.{same_from_test}
 use Rattle.nf_model.specs.declared.State.{State}
@@ -31,39 +32,41 @@ base_first base r (inl less) = let z = no_changes base in omega arith
 base_first base r (inr k) = none_earlier base r (k.0 ∙ no_changes base) k.1
 
 -- ---- the next one
-module _ (base : Pattern) (us : List Bool) (valid : IsAssignment base us base) (p : Pattern) where
-  pub next_is : (q : Pattern) → IsAssignment base us p → next_assignment base us p ≡ Some q → IsAssignment base us q × IsBefore base p q
+module _ (i : ℕ) (base : Pattern) (us : List Bool) (valid : IsAssignment base us base) (p : Pattern) where
+  pub next_is : (q : Pattern) → IsAssignment base us p → next_assignment i base us p ≡ Some q → IsAssignment base us q × IsBefore base p q
   next_is q h e = ⊎_elim
-      (λ (w : later base us p ≡ Some q). let x = later_is base us p q valid h w in (x.0, inr (sym x.1, x.2)))
-      (λ (w : (later base us p ≡ None) × (earliest base us (suc (changes base p)) ≡ Some q)).
+      (λ (w : later i base us p ≡ Some q). let x = later_is i base us p q valid h w in (x.0, inr (sym x.1, x.2)))
+      (λ (w : (later i base us p ≡ None) × (earliest base us (suc (changes base p)) ≡ Some q)).
       let x = earliest_is base us (suc (changes base p)) q valid w.1 in (x.0, inl (let c : changes base q ≡ suc (changes base p) = x.1 in omega arith)))
-      (else_given (later base us p) (earliest base us (suc (changes base p))) q e)
+      (else_given (later i base us p) (earliest base us (suc (changes base p))) q e)
 
-  pub next_none : (r : Pattern) → next_assignment base us p ≡ None → IsAssignment base us r → IsBefore base p r → ⊥
+  pub next_none : (r : Pattern) → next_assignment i base us p ≡ None → IsAssignment base us r → IsBefore base p r → take i r ≡ take i p
   next_none r e h (inl less) =
       let few = changes_few base us r h in
-      earliest_exists base us (suc (changes base p)) valid (omega arith) (else_none (later base us p) (earliest base us (suc (changes base p))) e).1
-  next_none r e h (inr k) = later_none base us p r valid (else_none (later base us p) (earliest base us (suc (changes base p))) e).0 h (sym k.0) k.1
+      absurd (earliest_exists base us (suc (changes base p)) valid (omega arith) (else_none (later i base us p) (earliest base us (suc (changes base p))) e).1)
+  next_none r e h (inr k) = later_none i base us p r valid (else_none (later i base us p) (earliest base us (suc (changes base p))) e).0 h (sym k.0) k.1
 
-  between_later : (q r : Pattern) → IsAssignment base us p → later base us p ≡ Some q → IsAssignment base us r → IsBefore base p r → IsBefore base r q → ⊥
-  between_later q r a e h before after = go (later_is base us p q valid a e).1 before after
+  between_later : (q r : Pattern) → IsAssignment base us p → later i base us p ≡ Some q → IsAssignment base us r → IsBefore base p r → IsBefore base r q → take i r ≡ take i p
+  between_later q r a e h before after = go (later_is i base us p q valid a e).1 before after
     where
-      go : changes base q ≡ changes base p → IsBefore base p r → IsBefore base r q → ⊥
-      go c (inl less) (inl more) = omega arith
-      go c (inl less) (inr l) = let i = l.0 in omega arith
-      go c (inr k) (inl more) = let i = k.0 in omega arith
-      go c (inr k) (inr l) = later_next base us p q r valid e h (sym k.0) k.1 l.1
+      go : changes base q ≡ changes base p → IsBefore base p r → IsBefore base r q → take i r ≡ take i p
+      go c (inl less) (inl more) = absurd (omega arith)
+      go c (inl less) (inr l) = let f = l.0 in absurd (omega arith)
+      go c (inr k) (inl more) = let f = k.0 in absurd (omega arith)
+      go c (inr k) (inr l) = later_next i base us p q r valid e h (sym k.0) k.1 l.1
 
-  between_more : (q r : Pattern) → later base us p ≡ None → earliest base us (suc (changes base p)) ≡ Some q → IsAssignment base us r → IsBefore base p r → IsBefore base r q → ⊥
+  between_more : (q r : Pattern) → later i base us p ≡ None → earliest base us (suc (changes base p)) ≡ Some q → IsAssignment base us r → IsBefore base p r → IsBefore base r q
+      → take i r ≡ take i p
   between_more q r none e h before after = go (earliest_is base us (suc (changes base p)) q valid e).1 before after
     where
-      go : changes base q ≡ suc (changes base p) → IsBefore base p r → IsBefore base r q → ⊥
-      go c (inl less) (inl more) = omega arith
-      go c (inl less) (inr l) = earliest_first base us (suc (changes base p)) q r e h (l.0 ∙ c) l.1
-      go c (inr k) after = later_none base us p r valid none h (sym k.0) k.1
+      go : changes base q ≡ suc (changes base p) → IsBefore base p r → IsBefore base r q → take i r ≡ take i p
+      go c (inl less) (inl more) = absurd (omega arith)
+      go c (inl less) (inr l) = absurd (earliest_first base us (suc (changes base p)) q r e h (l.0 ∙ c) l.1)
+      go c (inr k) after = later_none i base us p r valid none h (sym k.0) k.1
 
-  pub next_least : (q r : Pattern) → IsAssignment base us p → next_assignment base us p ≡ Some q → IsAssignment base us r → IsBefore base p r → IsBefore base r q → ⊥
+  -- between them are only assignments that are the same up to the link
+  pub next_least : (q r : Pattern) → IsAssignment base us p → next_assignment i base us p ≡ Some q → IsAssignment base us r → IsBefore base p r → IsBefore base r q → take i r ≡ take i p
   next_least q r a e h before after = ⊎_elim
-      (λ (w : later base us p ≡ Some q). between_later q r a w h before after)
-      (λ (w : (later base us p ≡ None) × (earliest base us (suc (changes base p)) ≡ Some q)). between_more q r w.0 w.1 h before after)
-      (else_given (later base us p) (earliest base us (suc (changes base p))) q e)
+      (λ (w : later i base us p ≡ Some q). between_later q r a w h before after)
+      (λ (w : (later i base us p ≡ None) × (earliest base us (suc (changes base p)) ≡ Some q)). between_more q r w.0 w.1 h before after)
+      (else_given (later i base us p) (earliest base us (suc (changes base p))) q e)

@@ -1,5 +1,5 @@
--- The next assignment with equally many changes: it is later, and nothing lies between.
-use Rattle.std.proofs.Common.{◌≡◌, ◌⊎◌, ℕ, ◌+◌, ◌-◌, ◌<◌, ◌≤◌, Bool, List, [], ◌∷◌, inl, inr, ⊎_elim, refl, sym, ap, subst, ◌∙◌, arith}
+-- The next assignment with equally many changes that isn't the same up to some link: it is later, and nothing else lies between.
+use Rattle.std.proofs.Common.{◌≡◌, ◌⊎◌, ℕ, zero, suc, take, ◌+◌, ◌-◌, ◌<◌, ◌≤◌, Bool, List, [], ◌∷◌, inl, inr, ⊎_elim, refl, sym, ap, subst, ◌∙◌, arith}
 use Rattle.std.specs.Prelude.{Option, Some, None}
 use Rattle.nf_model.specs.declared.State.{State}
 use Rattle.nf_model.specs.Pattern.{Pattern, rank, changes, IsEarlier}
@@ -16,15 +16,15 @@ module _ (b : Option State) (u : Bool) (base : Pattern) (us : List Bool) (a : Op
   raised_parts : (q : Pattern) → raised b u base us a n ≡ Some q → Raised q
   raised_parts q e = rest_given (first_good (higher b a n (free base)) (choices b u)) (λ s. earliest base us (n - change b s)) q e
 
-  abbrev pub Kept : Pattern → Type 0
-  Kept q = (states : Pattern) × (later base us p ≡ Some states) × (q ≡ a ∷ states)
+  abbrev pub Kept : ℕ → Pattern → Type 0
+  Kept i q = (states : Pattern) × (later i base us p ≡ Some states) × (q ≡ a ∷ states)
 
   -- either the rest moves on, or it can't and the first link does
-  parts : (q : Pattern) → later (b ∷ base) (u ∷ us) (a ∷ p) ≡ Some q → Kept q ⊎ ((later base us p ≡ None) × Raised q)
-  parts q e = ⊎_elim
-      (λ (w : before_all a (later base us p) ≡ Some q). inl (before_given a (later base us p) q w))
-      (λ (w : (before_all a (later base us p) ≡ None) × (raised b u base us a n ≡ Some q)). inr (before_none a (later base us p) w.0, raised_parts q w.1))
-      (else_given (before_all a (later base us p)) (raised b u base us a n) q e)
+  parts : (i : ℕ) (q : Pattern) → later (suc i) (b ∷ base) (u ∷ us) (a ∷ p) ≡ Some q → Kept i q ⊎ ((later i base us p ≡ None) × Raised q)
+  parts i q e = ⊎_elim
+      (λ (w : before_all a (later i base us p) ≡ Some q). inl (before_given a (later i base us p) q w))
+      (λ (w : (before_all a (later i base us p) ≡ None) × (raised b u base us a n ≡ Some q)). inr (before_none a (later i base us p) w.0, raised_parts q w.1))
+      (else_given (before_all a (later i base us p)) (raised b u base us a n) q e)
 
   -- with the first link raised
   raised_is : (q : Pattern) → IsAssignment base us base → Raised q → IsAssignment (b ∷ base) (u ∷ us) q × (changes (b ∷ base) q ≡ n) × IsEarlier (a ∷ p) q
@@ -75,56 +75,63 @@ module _ (b : Option State) (u : Bool) (base : Pattern) (us : List Bool) (a : Op
       let z : change b a ≡ change b t = ap (change b) same in omega arith
 
 -- an assignment, with as many changes, and later
-pub later_is : (base : Pattern) (us : List Bool) (p q : Pattern) → IsAssignment base us base → IsAssignment base us p → later base us p ≡ Some q
+pub later_is : (i : ℕ) (base : Pattern) (us : List Bool) (p q : Pattern) → IsAssignment base us base → IsAssignment base us p → later i base us p ≡ Some q
     → IsAssignment base us q × (changes base q ≡ changes base p) × IsEarlier p q
-later_is [] us p q v h e = absurd (cc)
-later_is (b ∷ base) [] p q v h e = absurd (cc)
-later_is (b ∷ base) (u ∷ us) [] q v h e = absurd (cc)
-later_is (b ∷ base) (u ∷ us) (a ∷ p) q v h e = ⊎_elim
-    (λ (w : Kept b u base us a p q).
-    let rest = later_is base us p w.0 v.1 h.1 w.1 in
+later_is zero base us p q v h e = absurd (cc)
+later_is (suc i) [] us p q v h e = absurd (cc)
+later_is (suc i) (b ∷ base) [] p q v h e = absurd (cc)
+later_is (suc i) (b ∷ base) (u ∷ us) [] q v h e = absurd (cc)
+later_is (suc i) (b ∷ base) (u ∷ us) (a ∷ p) q v h e = ⊎_elim
+    (λ (w : Kept b u base us a p i q).
+    let rest = later_is i base us p w.0 v.1 h.1 w.1 in
     let f = changes_first b a base w.0 in let g = changes_first b a base p in let same : changes base w.0 ≡ changes base p = rest.1 in
     let all : changes (b ∷ base) (a ∷ w.0) ≡ changes (b ∷ base) (a ∷ p) = omega arith in
     let less : IsEarlier (a ∷ p) (a ∷ w.0) = inr (refl, rest.2) in
     (subst (λ (x : Pattern). IsAssignment (b ∷ base) (u ∷ us) x) (sym w.2) (h.0, rest.0), ap (changes (b ∷ base)) w.2 ∙ all, subst (λ (x : Pattern). IsEarlier (a ∷ p) x) (sym w.2) less))
-    (λ (w : (later base us p ≡ None) × Raised b u base us a p q). raised_is b u base us a p q v.1 w.1)
-    (parts b u base us a p q e)
+    (λ (w : (later i base us p ≡ None) × Raised b u base us a p q). raised_is b u base us a p q v.1 w.1)
+    (parts b u base us a p i q e)
 
--- none is later where it says none
-pub later_none : (base : Pattern) (us : List Bool) (p r : Pattern) → IsAssignment base us base → later base us p ≡ None → IsAssignment base us r → changes base r ≡ changes base p → IsEarlier p r → ⊥
-later_none base us [] r v e h c before = before
-later_none base us (a ∷ p) [] v e h c before = before
-later_none [] us (a ∷ p) (t ∷ r) v e h c before = nothing us t r h
+same_front : (i : ℕ) (a t : Option State) (p r : Pattern) → a ≡ t → take i r ≡ take i p → take (suc i) (t ∷ r) ≡ take (suc i) (a ∷ p)
+same_front i a t p r e f = ap (λ (x : Option State). x ∷ take i r) (sym e) ∙ ap (λ (x : Pattern). a ∷ x) f
+
+-- none is later where it says none, but what is the same up to the link
+pub later_none : (i : ℕ) (base : Pattern) (us : List Bool) (p r : Pattern) → IsAssignment base us base → later i base us p ≡ None → IsAssignment base us r → changes base r ≡ changes base p
+    → IsEarlier p r → take i r ≡ take i p
+later_none zero base us p r v e h c before = refl
+later_none (suc i) base us [] r v e h c before = absurd before
+later_none (suc i) base us (a ∷ p) [] v e h c before = absurd before
+later_none (suc i) [] us (a ∷ p) (t ∷ r) v e h c before = absurd (nothing us t r h)
   where
     nothing : (us : List Bool) (t : Option State) (r : Pattern) → IsAssignment [] us (t ∷ r) → ⊥
     nothing [] t r h = h
     nothing (u ∷ us) t r h = h
-later_none (b ∷ base) [] (a ∷ p) (t ∷ r) v e h c before = h
-later_none (b ∷ base) (u ∷ us) (a ∷ p) (t ∷ r) v e h c (inl less) = raised_none b u base us a p t r v.1 (else_none (before_all a (later base us p)) (raised b u base us a (changes (b ∷ base) (a ∷ p))) e).1 h c less
-later_none (b ∷ base) (u ∷ us) (a ∷ p) (t ∷ r) v e h c (inr k) =
-    later_none base us p r v.1 (before_none a (later base us p) (else_none (before_all a (later base us p)) (raised b u base us a (changes (b ∷ base) (a ∷ p))) e).0) h.1 (same_rest b u base us a p t r c k.0) k.1
+later_none (suc i) (b ∷ base) [] (a ∷ p) (t ∷ r) v e h c before = absurd h
+later_none (suc i) (b ∷ base) (u ∷ us) (a ∷ p) (t ∷ r) v e h c (inl less) = absurd (raised_none b u base us a p t r v.1 (else_none (before_all a (later i base us p)) (raised b u base us a (changes (b ∷ base) (a ∷ p))) e).1 h c less)
+later_none (suc i) (b ∷ base) (u ∷ us) (a ∷ p) (t ∷ r) v e h c (inr k) = same_front i a t p r k.0
+    (later_none i base us p r v.1 (before_none a (later i base us p) (else_none (before_all a (later i base us p)) (raised b u base us a (changes (b ∷ base) (a ∷ p))) e).0) h.1 (same_rest b u base us a p t r c k.0) k.1)
 
--- and nothing lies between
-pub later_next : (base : Pattern) (us : List Bool) (p q r : Pattern) → IsAssignment base us base → later base us p ≡ Some q → IsAssignment base us r → changes base r ≡ changes base p
-    → IsEarlier p r → IsEarlier r q → ⊥
-later_next [] us p q r v e h c before after = absurd (cc)
-later_next (b ∷ base) [] p q r v e h c before after = absurd (cc)
-later_next (b ∷ base) (u ∷ us) [] q r v e h c before after = absurd (cc)
-later_next (b ∷ base) (u ∷ us) (a ∷ p) q [] v e h c before after = before
-later_next (b ∷ base) (u ∷ us) (a ∷ p) q (t ∷ r) v e h c (inl less) after = ⊎_elim
-    (λ (w : Kept b u base us a p q). go w.0 (subst (λ (x : Pattern). IsEarlier (t ∷ r) x) w.2 after))
-    (λ (w : (later base us p ≡ None) × Raised b u base us a p q). raised_next b u base us a p q t r w.1 h c less after)
-    (parts b u base us a p q e)
+-- and nothing else lies between
+pub later_next : (i : ℕ) (base : Pattern) (us : List Bool) (p q r : Pattern) → IsAssignment base us base → later i base us p ≡ Some q → IsAssignment base us r → changes base r ≡ changes base p
+    → IsEarlier p r → IsEarlier r q → take i r ≡ take i p
+later_next zero base us p q r v e h c before after = refl
+later_next (suc i) [] us p q r v e h c before after = absurd (cc)
+later_next (suc i) (b ∷ base) [] p q r v e h c before after = absurd (cc)
+later_next (suc i) (b ∷ base) (u ∷ us) [] q r v e h c before after = absurd (cc)
+later_next (suc i) (b ∷ base) (u ∷ us) (a ∷ p) q [] v e h c before after = absurd before
+later_next (suc i) (b ∷ base) (u ∷ us) (a ∷ p) q (t ∷ r) v e h c (inl less) after = absurd (⊎_elim
+    (λ (w : Kept b u base us a p i q). go w.0 (subst (λ (x : Pattern). IsEarlier (t ∷ r) x) w.2 after))
+    (λ (w : (later i base us p ≡ None) × Raised b u base us a p q). raised_next b u base us a p q t r w.1 h c less after)
+    (parts b u base us a p i q e))
   where
     go : (states : Pattern) → IsEarlier (t ∷ r) (a ∷ states) → ⊥
     go states (inl k) = omega arith
-    go states (inr k) = let i : rank t ≡ rank a = ap rank k.0 in omega arith
-later_next (b ∷ base) (u ∷ us) (a ∷ p) q (t ∷ r) v e h c (inr k) after = ⊎_elim
-    (λ (w : Kept b u base us a p q). after_rest w.0 (subst (λ (x : Pattern). IsEarlier (t ∷ r) x) w.2 after)
-    (λ l. later_next base us p w.0 r v.1 w.1 h.1 (same_rest b u base us a p t r c k.0) k.1 l))
-    (λ (w : (later base us p ≡ None) × Raised b u base us a p q). later_none base us p r v.1 w.0 h.1 (same_rest b u base us a p t r c k.0) k.1)
-    (parts b u base us a p q e)
+    go states (inr k) = let f : rank t ≡ rank a = ap rank k.0 in omega arith
+later_next (suc i) (b ∷ base) (u ∷ us) (a ∷ p) q (t ∷ r) v e h c (inr k) after = same_front i a t p r k.0 (⊎_elim
+    (λ (w : Kept b u base us a p i q). later_next i base us p w.0 r v.1 w.1 h.1 (same_rest b u base us a p t r c k.0) k.1
+    (after_rest w.0 (subst (λ (x : Pattern). IsEarlier (t ∷ r) x) w.2 after)))
+    (λ (w : (later i base us p ≡ None) × Raised b u base us a p q). later_none i base us p r v.1 w.0 h.1 (same_rest b u base us a p t r c k.0) k.1)
+    (parts b u base us a p i q e))
   where
-    after_rest : (states : Pattern) → IsEarlier (t ∷ r) (a ∷ states) → (IsEarlier r states → ⊥) → ⊥
-    after_rest states (inl l) rest = let i : rank a ≡ rank t = ap rank k.0 in omega arith
-    after_rest states (inr l) rest = rest l.1
+    after_rest : (states : Pattern) → IsEarlier (t ∷ r) (a ∷ states) → IsEarlier r states
+    after_rest states (inl l) = let f : rank a ≡ rank t = ap rank k.0 in absurd (omega arith)
+    after_rest states (inr l) = l.1

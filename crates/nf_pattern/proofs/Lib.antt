@@ -5,3 +5,15 @@ pub mod Later
 pub mod InOrder
 pub mod Filling
 pub mod Raising
+pub mod Counting
+pub mod Trails
+pub mod Forests
+pub mod Walking
+pub mod Entering
+pub mod Choosing
+pub mod Barren
+pub mod Ranging
+pub mod Seeking
+pub mod Failing
+pub mod Fronts
+pub mod Deciding

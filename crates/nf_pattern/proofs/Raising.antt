@@ -1,47 +1,183 @@
 -- The next assignment with equally many changes, found from the last link backward.
-use Rattle.std.proofs.Common.{◌≡◌, ℕ, zero, suc, ◌+◌, ◌-◌, ◌≤◌, Bool, List, [], ◌∷◌, ◌++◌, length, take, drop, sym, ap, ◌∙◌}
+use borrow.Rule.Slice.PartMut.{put_mid}
+use Rattle.std.proofs.Common.{◌≡◌, ℕ, zero, suc, ◌+◌, ◌-◌, ◌<◌, ◌≤◌, Bool, false, List, [], ◌∷◌, ◌++◌, length, get_or, set, take, drop, drop-cons, take-suc-set, take_all, append_assoc, append-nil, add-one, length-drop, refl, sym, ap, subst, ◌∙◌, zero-add, arith}
 use Rattle.std.specs.Prelude.{Option, Some, None}
+use Rattle.std.proofs.Math.ListN.{drop_of_length-le}
 use Rattle.nf_model.specs.declared.State.{State}
 use Rattle.nf_model.specs.Pattern.{Pattern, changes}
-use Rattle.nf_pattern.specs.Successor.{choices, IsAssignment, free, change, first_good, before_all, with_rest, earliest, or_else, raised, later}
-use Rattle.nf_pattern.proofs.Successors.{higher}
+use Rattle.nf_pattern.specs.Successor.{choices, IsAssignment, free, change, first_good, before_all, with_rest, earliest, or_else, raised, raised_at, RaisesAt, later}
+use Rattle.nf_pattern.proofs.Filling.{free_first}
+use Rattle.nf_pattern.proofs.Successors.{changes_first, fits_out, good_some, higher, higher_out}
 
--- the links from number i on have no later states with equally many changes
-pub record AreLast (base : Pattern) (us : List Bool) (states : Pattern) (i made more : ℕ) : Type 0 where
-  pub none : later (drop i base) (drop i us) (drop i states) ≡ None
+-- ---- what stands behind a link
+pub from_one : {A : Type 0} (xs : List A) (i : ℕ) → take (length xs - (i + 1)) (drop (i + 1) xs) ≡ drop (suc i) xs
+from_one xs i = take_all (length xs - (i + 1)) (drop (i + 1) xs) (let l = length-drop (i + 1) xs in omega arith) ∙ ap (λ (n : ℕ). drop n xs) (add-one i)
+
+pub put_end : {A : Type 0} (xs ys : List A) (i k : ℕ) → length xs ≤ i + k → put_mid i k xs ys ≡ take i xs ++ ys
+put_end xs ys i k all = ap (λ (zs : List _). take i xs ++ (ys ++ zs)) (drop_of_length-le (drop i xs) (let l = length-drop i xs in omega arith)) ∙ ap (λ (zs : List _). take i xs ++ zs) (append-nil ys)
+
+pub valid_after : (i : ℕ) (base : Pattern) (us : List Bool) → IsAssignment base us base → IsAssignment (drop i base) (drop i us) (drop i base)
+valid_after zero base us v = v
+valid_after (suc i) [] [] v = tt
+valid_after (suc i) [] (u ∷ us) v = absurd v
+valid_after (suc i) (b ∷ base) [] v = absurd v
+valid_after (suc i) (b ∷ base) (u ∷ us) v = valid_after i base us v.1
+
+-- ---- one link is raised
+module _ (base : Pattern) (us : List Bool) (states : Pattern) (e n m : ℕ) (all : m ≡ free (drop (suc e) base)) where
+  abbrev Good : ℕ → Option State → Bool
+  Good more = higher (get_or base e None) (get_or states e None) n more
+
+  abbrev pub Chosen : Option (Option State) → Type 0
+  Chosen o = o ≡ first_good (higher (get_or base e None) (get_or states e None) n m) (choices (get_or base e None) (get_or us e false))
+
+  pub chosen_fits : (s : Option State) (c : ℕ) → Chosen (Some s) → c ≡ change (get_or base e None) s → (c ≤ n) × (n - c ≤ m)
+  chosen_fits s c chosen is =
+      let good = good_some (Good m) (choices (get_or base e None) (get_or us e false)) s (sym chosen) in
+      let fit = fits_out (get_or base e None) s n m (higher_out (get_or base e None) (get_or states e None) s n m good.1).1 in
+      (let f = fit.0 in omega arith, let f = fit.1 in omega arith)
+
+  raised_by : (o : Option (Option State)) → Chosen o → raised_at base us states e n ≡ with_rest o (λ t. earliest (drop (suc e) base) (drop (suc e) us) (n - change (get_or base e None) t))
+  raised_by o chosen = ap (λ (x : Option (Option State)). with_rest x (λ t. earliest (drop (suc e) base) (drop (suc e) us) (n - change (get_or base e None) t)))
+      (sym (subst (λ (more : ℕ). o ≡ first_good (Good more) (choices (get_or base e None) (get_or us e false))) all chosen))
+
+  pub raises : (s : Option State) (rest after : Pattern) (c : ℕ) → e < length states → Chosen (Some s) → c ≡ change (get_or base e None) s
+      → earliest (drop (suc e) base) (drop (suc e) us) (n - c) ≡ Some rest → after ≡ take (suc e) (set states e s) ++ rest → RaisesAt base us states e n after
+  raises s rest after c below chosen is filled stays = record {
+    rest = s ∷ rest;
+    is_raised = raised_by (Some s) chosen ∙ ap (before_all s) (subst (λ (d : ℕ). earliest (drop (suc e) base) (drop (suc e) us) (n - d) ≡ Some rest) is filled);
+    stays = stays ∙ (ap (λ (front : Pattern). front ++ rest) (take-suc-set states e s below) ∙ append_assoc (take e states) (s ∷ []) rest);
+  }
+
+  pub not_raised : Chosen None → raised_at base us states e n ≡ None
+  not_raised chosen = raised_by None chosen
+
+-- ---- from the last link backward
+
+-- From the links from number i on, none of those before number `same` can be raised with equally many changes.
+pub record AreLast (base : Pattern) (us : List Bool) (states : Pattern) (same i made more : ℕ) : Type 0 where
+  pub none : later (same - i) (drop i base) (drop i us) (drop i states) ≡ None
   pub all_made : made ≡ changes (drop i base) (drop i states)
   pub all_free : more ≡ free (drop i base)
-  pub valid : IsAssignment base us base
   pub within : i ≤ length base
   pub few : made + i ≤ length base
   pub few_free : more + i ≤ length base
 
+later_nothing : (k : ℕ) (us : List Bool) (states : Pattern) → later k [] us states ≡ None
+later_nothing zero us states = refl
+later_nothing (suc k) us states = refl
+
+pub none_last : (base : Pattern) (us : List Bool) (states : Pattern) (same : ℕ) → AreLast base us states same (length base) 0 0
+none_last base us states same =
+    let end : drop (length base) base ≡ [] = drop_of_length-le base (omega arith) in
+    record {
+      none = subst (λ (x : Pattern). later (same - length base) x (drop (length base) us) (drop (length base) states) ≡ None) (sym end) (later_nothing (same - length base) (drop (length base) us) (drop (length base) states));
+      all_made = sym (ap (λ (x : Pattern). changes x (drop (length base) states)) end);
+      all_free = sym (ap free end);
+      within = omega arith;
+      few = omega arith;
+      few_free = omega arith;
+    }
+
+-- with nothing later behind it, the first link is raised
+later_here : (b : Option State) (u : Bool) (base : Pattern) (us : List Bool) (a : Option State) (p : Pattern) (k n : ℕ) → later k base us p ≡ None → n ≡ changes (b ∷ base) (a ∷ p)
+    → later (suc k) (b ∷ base) (u ∷ us) (a ∷ p) ≡ raised b u base us a n
+later_here b u base us a p k n last is = ap (λ (o : Option Pattern). or_else (before_all a o) (raised b u base us a (changes (b ∷ base) (a ∷ p)))) last ∙ ap (raised b u base us a) (sym is)
+
 -- the states before a link stay
-pub later_after : (base : Pattern) (us : List Bool) (states q : Pattern) (i : ℕ) → later (drop i base) (drop i us) (drop i states) ≡ Some q → later base us states ≡ Some (take i states ++ q)
-later_after base us states q zero e = e
-later_after [] us states q (suc i) e = absurd (cc)
-later_after (b ∷ base) [] states q (suc i) e = absurd (nothing (drop i base) (drop (suc i) states) e)
+later_after : (k : ℕ) (base : Pattern) (us : List Bool) (states q : Pattern) (i : ℕ) → later k (drop i base) (drop i us) (drop i states) ≡ Some q → later (i + k) base us states ≡ Some (take i states ++ q)
+later_after k base us states q zero e = subst (λ (n : ℕ). later n base us states ≡ Some q) (sym (zero-add k)) e
+later_after k [] us states q (suc i) e = absurd (nothing k us e)
   where
-    nothing : (x y : Pattern) → later x [] y ≡ Some q → ⊥
-    nothing [] y f = cc
-    nothing (c ∷ x) y f = cc
-later_after (b ∷ base) (u ∷ us) [] q (suc i) e = absurd (nothing (drop i base) (drop i us) e)
+    nothing : (k : ℕ) (us : List Bool) → later k [] (drop (suc i) us) (drop (suc i) states) ≡ Some q → ⊥
+    nothing zero us f = cc
+    nothing (suc k) us f = cc
+later_after k (b ∷ base) [] states q (suc i) e = absurd (nothing k (drop i base) (drop (suc i) states) e)
   where
-    nothing : (x : Pattern) (y : List Bool) → later x y [] ≡ Some q → ⊥
-    nothing [] y f = cc
-    nothing (c ∷ x) [] f = cc
-    nothing (c ∷ x) (v ∷ y) f = cc
-later_after (b ∷ base) (u ∷ us) (a ∷ states) q (suc i) e =
-    ap (λ (o : Option Pattern). or_else (before_all a o) (raised b u base us a (changes (b ∷ base) (a ∷ states)))) (later_after base us states q i e)
+    nothing : (k : ℕ) (x y : Pattern) → later k x [] y ≡ Some q → ⊥
+    nothing zero x y f = cc
+    nothing (suc k) [] y f = cc
+    nothing (suc k) (c ∷ x) y f = cc
+later_after k (b ∷ base) (u ∷ us) [] q (suc i) e = absurd (nothing k (drop i base) (drop i us) e)
+  where
+    nothing : (k : ℕ) (x : Pattern) (y : List Bool) → later k x y [] ≡ Some q → ⊥
+    nothing zero x y f = cc
+    nothing (suc k) [] y f = cc
+    nothing (suc k) (c ∷ x) [] f = cc
+    nothing (suc k) (c ∷ x) (v ∷ y) f = cc
+later_after k (b ∷ base) (u ∷ us) (a ∷ states) q (suc i) e =
+    let n : suc i + k ≡ suc (i + k) = omega arith in
+    subst (λ (m : ℕ). later m (b ∷ base) (u ∷ us) (a ∷ states) ≡ Some (a ∷ (take i states ++ q))) (sym n)
+    (ap (λ (o : Option Pattern). or_else (before_all a o) (raised b u base us a (changes (b ∷ base) (a ∷ states)))) (later_after k base us states q i e))
 
-module _ (b : Option State) (u : Bool) (base : Pattern) (us : List Bool) (a : Option State) (p : Pattern) (last : later base us p ≡ None) where
-  -- the first link can't be raised either
-  pub none_raised : (n : ℕ) → n ≡ changes (b ∷ base) (a ∷ p) → first_good (higher b a n (free base)) (choices b u) ≡ None → later (b ∷ base) (u ∷ us) (a ∷ p) ≡ None
-  none_raised n is e = ap (λ (o : Option Pattern). or_else (before_all a o) (raised b u base us a (changes (b ∷ base) (a ∷ p)))) last
-      ∙ (ap (raised b u base us a) (sym is) ∙ ap (λ (o : Option (Option State)). with_rest o (λ s. earliest base us (n - change b s))) e)
+module _ (base : Pattern) (us : List Bool) (states : Pattern) (same i j made more : ℕ) (last : AreLast base us states same j made more) (next : j ≡ suc i)
+    (states_count : length states ≡ length base) (us_count : length us ≡ length base) where
+  below : i < length base
+  below = let w = last.within in omega arith
 
-  -- the first link is raised, and the rest is the earliest
-  pub one_raised : (n : ℕ) (s : Option State) (q : Pattern) → n ≡ changes (b ∷ base) (a ∷ p) → first_good (higher b a n (free base)) (choices b u) ≡ Some s → earliest base us (n - change b s) ≡ Some q
-      → later (b ∷ base) (u ∷ us) (a ∷ p) ≡ Some (s ∷ q)
-  one_raised n s q is e f = ap (λ (o : Option Pattern). or_else (before_all a o) (raised b u base us a (changes (b ∷ base) (a ∷ p)))) last
-      ∙ (ap (raised b u base us a) (sym is) ∙ (ap (λ (o : Option (Option State)). with_rest o (λ t. earliest base us (n - change b t))) e ∙ ap (before_all s) f))
+  base_from : drop i base ≡ get_or base i None ∷ drop (suc i) base
+  base_from = drop-cons base i None below
+
+  us_from : drop i us ≡ get_or us i false ∷ drop (suc i) us
+  us_from = drop-cons us i false (let b = below in omega arith)
+
+  states_from : drop i states ≡ get_or states i None ∷ drop (suc i) states
+  states_from = drop-cons states i None (let b = below in omega arith)
+
+  abbrev With : (ℕ → Pattern → List Bool → Pattern → Type 0) → Type 0
+  With P = P (same - suc i) (drop (suc i) base) (drop (suc i) us) (drop (suc i) states)
+
+  none_behind : later (same - suc i) (drop (suc i) base) (drop (suc i) us) (drop (suc i) states) ≡ None
+  none_behind = subst (λ (k : ℕ). later (same - k) (drop k base) (drop k us) (drop k states) ≡ None) next last.none
+
+  made_behind : made ≡ changes (drop (suc i) base) (drop (suc i) states)
+  made_behind = subst (λ (k : ℕ). made ≡ changes (drop k base) (drop k states)) next last.all_made
+
+  pub free_behind : more ≡ free (drop (suc i) base)
+  free_behind = subst (λ (k : ℕ). more ≡ free (drop k base)) next last.all_free
+
+  module _ (c all : ℕ) (is : c ≡ change (get_or base i None) (get_or states i None)) (sum : all ≡ made + c) where
+    made_here : all ≡ changes (get_or base i None ∷ drop (suc i) base) (get_or states i None ∷ drop (suc i) states)
+    made_here = let f = changes_first (get_or base i None) (get_or states i None) (drop (suc i) base) (drop (suc i) states) in let m = made_behind in omega arith
+
+    later_there : i < same → later (same - i) (drop i base) (drop i us) (drop i states) ≡ raised_at base us states i all
+    later_there before =
+        let k : same - i ≡ suc (same - suc i) = omega arith in
+        ap (λ (x : Pattern). later (same - i) x (drop i us) (drop i states)) base_from
+        ∙ (ap (λ (x : List Bool). later (same - i) (get_or base i None ∷ drop (suc i) base) x (drop i states)) us_from
+        ∙ (ap (later (same - i) (get_or base i None ∷ drop (suc i) base) (get_or us i false ∷ drop (suc i) us)) states_from
+        ∙ (ap (λ (m : ℕ). later m (get_or base i None ∷ drop (suc i) base) (get_or us i false ∷ drop (suc i) us) (get_or states i None ∷ drop (suc i) states)) k
+        ∙ later_here (get_or base i None) (get_or us i false) (drop (suc i) base) (drop (suc i) us) (get_or states i None) (drop (suc i) states) (same - suc i) all none_behind made_here)))
+
+    pub raised_later : (after : Pattern) → i < same → RaisesAt base us states i all after → later same base us states ≡ Some after
+    raised_later after before raised =
+        let n : i + (same - i) ≡ same = omega arith in
+        subst (λ (m : ℕ). later m base us states ≡ Some after) n
+        (later_after (same - i) base us states raised.rest i (later_there before ∙ raised.is_raised) ∙ ap Some (sym raised.stays))
+
+    module _ (d rest : ℕ) (is_free : d ≡ change None (get_or base i None)) (free_sum : rest ≡ more + d) where
+      free_here : rest ≡ free (drop i base)
+      free_here = let f = free_first (get_or base i None) (drop (suc i) base) in let m = free_behind in let e : free (drop i base) ≡ free (get_or base i None ∷ drop (suc i) base) = ap free base_from in omega arith
+
+      last_more : later (same - i) (drop i base) (drop i us) (drop i states) ≡ None → c ≤ 1 → d ≤ 1 → AreLast base us states same i all rest
+      last_more none small small_free = record {
+        none = none;
+        all_made = made_here ∙ (ap (λ (x : Pattern). changes x (get_or states i None ∷ drop (suc i) states)) (sym base_from) ∙ ap (changes (drop i base)) (sym states_from));
+        all_free = free_here;
+        within = (let b = below in omega arith);
+        few = (let f = last.few in omega arith);
+        few_free = (let f = last.few_free in omega arith);
+      }
+
+      pub last_kept : raised_at base us states i all ≡ None → i < same → c ≤ 1 → d ≤ 1 → AreLast base us states same i all rest
+      last_kept none before small small_free = last_more (later_there before ∙ none) small small_free
+
+      pub last_cut : same ≤ i → c ≤ 1 → d ≤ 1 → AreLast base us states same i all rest
+      last_cut cut small small_free =
+          let k : same - i ≡ 0 = omega arith in
+          last_more (ap (λ (m : ℕ). later m (drop i base) (drop i us) (drop i states)) k) small small_free
+
+pub last_all : (base : Pattern) (us : List Bool) (states : Pattern) (same i made more : ℕ) → i ≤ 0 → AreLast base us states same i made more → later same base us states ≡ None
+last_all base us states same i made more first last =
+    let z : i ≡ 0 = omega arith in let s : same - 0 ≡ same = omega arith in
+    subst (λ (m : ℕ). later m base us states ≡ None) s (subst (λ (k : ℕ). later (same - k) (drop k base) (drop k us) (drop k states) ≡ None) z last.none)

@@ -1,2 +1,7 @@
 pub mod Base
 pub mod Successor
+pub mod Forest
+pub mod Entered
+pub mod Given
+pub mod Stands
+pub mod Front

@@ -1,5 +1,5 @@
 -- Which assignment of states comes next, among those that differ from a base at equally many links.
-use Rattle.std.specs.Prelude.{◌≡◌, ◌⊎◌, ℕ, suc, ◌+◌, ◌-◌, Bool, true, false, ◌&&◌, ◌==◌, nat_lt, nat_le, if◌then◌else◌, List, [], ◌∷◌, Option, Some, None}
+use Rattle.std.specs.Prelude.{◌≡◌, ◌⊎◌, ℕ, suc, ◌+◌, ◌-◌, Bool, true, false, ◌&&◌, ◌==◌, nat_lt, nat_le, if◌then◌else◌, List, [], ◌∷◌, ◌++◌, get_or, take, drop, Option, Some, None}
 use Rattle.nf_model.specs.declared.State.{State}
 use Rattle.nf_model.specs.declared.State.TheVariants.{Tight, Full, Zero}
 use Rattle.nf_model.specs.Pattern.{Pattern, rank, changes}
@@ -61,12 +61,22 @@ abbrev pub raised : Option State → Bool → Pattern → List Bool → Option S
 raised b u base unbounded a n =
     with_rest (first_good (λ s. nat_lt (rank a) (rank s) && fits b n (free base) s) (choices b u)) (λ s. earliest base unbounded (n - change b s))
 
--- the next assignment with equally many changes
-abbrev pub later : Pattern → List Bool → Pattern → Option Pattern
-later (b ∷ base) (u ∷ unbounded) (a ∷ states) =
-    or_else (before_all a (later base unbounded states)) (raised b u base unbounded a (changes (b ∷ base) (a ∷ states)))
-later base unbounded states = None
+-- the same at link e of a list: from there on, with so many changes
+abbrev pub raised_at : Pattern → List Bool → Pattern → ℕ → ℕ → Option Pattern
+raised_at base unbounded states e n = raised (get_or base e None) (get_or unbounded e false) (drop (suc e) base) (drop (suc e) unbounded) (get_or states e None) n
 
--- the next assignment: with equally many changes, or else the earliest with one change more
-abbrev pub next_assignment : Pattern → List Bool → Pattern → Option Pattern
-next_assignment base unbounded states = or_else (later base unbounded states) (earliest base unbounded (suc (changes base states)))
+-- link e of the states is raised, and the links before it stay
+pub record RaisesAt (base : Pattern) (unbounded : List Bool) (states : Pattern) (e n : ℕ) (after : Pattern) : Type 0 where
+  pub rest : Pattern
+  pub is_raised : raised_at base unbounded states e n ≡ Some rest
+  pub stays : after ≡ take e states ++ rest
+
+-- the next assignment with equally many changes that isn't the same up to this link
+abbrev pub later : ℕ → Pattern → List Bool → Pattern → Option Pattern
+later (suc i) (b ∷ base) (u ∷ unbounded) (a ∷ states) =
+    or_else (before_all a (later i base unbounded states)) (raised b u base unbounded a (changes (b ∷ base) (a ∷ states)))
+later i base unbounded states = None
+
+-- the next assignment that isn't the same up to this link: with equally many changes, or else the earliest with one change more
+abbrev pub next_assignment : ℕ → Pattern → List Bool → Pattern → Option Pattern
+next_assignment i base unbounded states = or_else (later i base unbounded states) (earliest base unbounded (suc (changes base states)))

@@ -1,8 +1,9 @@
 // Assignments of states to links, in order: by the number of links that differ from a base, and then link by link.
-ghost use Rattle.std.specs.Prelude.{◌≡◌, ◌^◌, ◌<◌, ◌≤◌, length, Some};
-ghost use Rattle.nf_pattern.specs.Successor.{IsAssignment, free, earliest};
+ghost use Rattle.std.specs.Prelude.{◌≡◌, ◌^◌, ◌<◌, ◌≤◌, ◌+◌, suc, length, get_or, take, drop, Some, None, MatchBool};
+ghost use Rattle.nf_model.specs.Pattern.{changes as changes_of};
+ghost use Rattle.nf_pattern.specs.Successor.{IsAssignment, free, earliest, later, next_assignment, raised_at, RaisesAt};
 
-use crate::choice::{change, first_choice};
+use crate::choice::{change, first_choice, next_choice};
 use nf_model::State;
 
 // The earliest assignment with so many changes, where `more` links may differ from the base.
@@ -18,7 +19,6 @@ fn fill(
     requires valid { IsAssignment base.now unbounded.now base.now }
     requires free { more ≡ free base.now }
     requires changes { changes ≤ more }
-    requires small { more < 2 ^ 31 }
     ensures { earliest base.now unbounded.now changes ≡ Some states.new }
 {
     let mut left = changes;
@@ -31,4 +31,124 @@ fn fill(
             left -= change(link, state);
         }
     }
+}
+
+// This link gets its next state with so many changes from it on, and the links after it the earliest ones; whether it has one.
+// `more` of the links after it may differ from the base.
+fn raise_at(
+    states: &mut [Option<State>],
+    base: &[Option<State>],
+    unbounded: &[bool],
+    link: usize,
+    changes: u32,
+    more: u32,
+) -> bool
+    requires link { link < length base.now }
+    requires states { length states.old ≡ length base.now }
+    requires unbounded { length unbounded.now ≡ length base.now }
+    requires valid { IsAssignment base.now unbounded.now base.now }
+    requires free { more ≡ free (drop (suc link) base.now) }
+    ensures { MatchBool result (RaisesAt base.now unbounded.now states.old link changes states.new)
+        ((raised_at base.now unbounded.now states.old link changes ≡ None) × (states.new ≡ states.old)) }
+{
+    let first = base[link];
+    match next_choice(first, unbounded[link], states[link], changes, more) {
+        None => false,
+        Some(state) => {
+            states[link] = state;
+            let left = changes - change(first, state);
+            let after = link + 1;
+            fill(
+                &mut states[after..],
+                &base[after..],
+                &unbounded[after..],
+                left,
+                more,
+            );
+            true
+        }
+    }
+}
+
+// The next assignment with equally many changes that isn't the same up to this link; whether there is one.
+fn raise(
+    states: &mut [Option<State>],
+    base: &[Option<State>],
+    unbounded: &[bool],
+    same: usize,
+) -> bool
+    requires same { same ≤ length base.now }
+    requires states { length states.old ≡ length base.now }
+    requires unbounded { length unbounded.now ≡ length base.now }
+    requires fewer { length base.now < 2 ^ 32 }
+    requires valid { IsAssignment base.now unbounded.now base.now }
+    ensures { MatchBool result (later same base.now unbounded.now states.old ≡ Some states.new)
+        ((later same base.now unbounded.now states.old ≡ None) × (states.new ≡ states.old)) }
+{
+    let mut i = base.len();
+    let mut changes = 0;
+    let mut more = 0;
+    while i > 0 {
+        i -= 1;
+        changes += change(base[i], states[i]);
+        if i < same {
+            if raise_at(states, base, unbounded, i, changes, more) {
+                return true;
+            }
+        }
+        more += change(None, base[i]);
+    }
+    false
+}
+
+// How many links differ from the base.
+fn count_changes(base: &[Option<State>], states: &[Option<State>]) -> u32
+    requires states { length states.now ≡ length base.now }
+    requires fewer { length base.now < 2 ^ 32 }
+    ensures { result ≡ changes_of base.now states.now }
+{
+    let mut count = 0;
+    for i in 0..base.len() {
+        count += change(base[i], states[i]);
+    }
+    count
+}
+
+// How many links may differ from it.
+fn count_free(base: &[Option<State>]) -> u32
+    requires { length base.now < 2 ^ 32 }
+    ensures { result ≡ free base.now }
+{
+    let mut count = 0;
+    for i in 0..base.len() {
+        count += change(None, base[i]);
+    }
+    count
+}
+
+// The next assignment that isn't the same up to this link; whether there is one.
+pub(crate) fn advance(
+    states: &mut [Option<State>],
+    base: &[Option<State>],
+    unbounded: &[bool],
+    same: usize,
+) -> bool
+    requires same { same ≤ length base.now }
+    requires states { length states.old ≡ length base.now }
+    requires unbounded { length unbounded.now ≡ length base.now }
+    requires fewer { length base.now < 2 ^ 32 }
+    requires valid { IsAssignment base.now unbounded.now base.now }
+    ensures { MatchBool result (next_assignment same base.now unbounded.now states.old ≡ Some states.new)
+        ((next_assignment same base.now unbounded.now states.old ≡ None) × (states.new ≡ states.old)) }
+{
+    if raise(states, base, unbounded, same) {
+        return true;
+    }
+    let changes = count_changes(base, states);
+    let more = count_free(base);
+    if changes >= more {
+        return false;
+    }
+    fill(states, base, unbounded, changes + 1, more);
+    true
 }

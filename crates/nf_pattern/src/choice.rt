@@ -1,5 +1,5 @@
 // The choice of one link's state.
-ghost use Rattle.std.specs.Prelude.{◌≡◌, ◌^◌, ◌<◌, ◌≤◌, ◌&&◌, nat_lt};
+ghost use Rattle.std.specs.Prelude.{◌≡◌, ◌≤◌, ◌&&◌, nat_lt};
 ghost use Rattle.nf_model.specs.Pattern.{rank as rank_of};
 ghost use Rattle.nf_pattern.specs.Successor.{change as change_of, fits as is_fit, choices, first_good};
 
@@ -27,11 +27,10 @@ pub(crate) fn change(base: Option<State>, state: Option<State>) -> u32
 
 // With this state of the link, so many changes can be made at it and at more links, of which so many may differ.
 fn fits(base: Option<State>, changes: u32, more: u32, state: Option<State>) -> bool
-    requires { more < 2 ^ 31 }
     ensures { result ≡ is_fit base changes more state }
 {
     let change = change(base, state);
-    change <= changes && changes <= change + more
+    change <= changes && changes - change <= more
 }
 
 // The first choice of the link that fits.
@@ -41,7 +40,6 @@ pub(crate) fn first_choice(
     changes: u32,
     more: u32,
 ) -> Option<Option<State>>
-    requires { more < 2 ^ 31 }
     ensures { result ≡ first_good (is_fit base changes more) (choices base unbounded) }
 {
     if base.is_none() {
@@ -71,7 +69,6 @@ fn fits_after(
     more: u32,
     state: Option<State>,
 ) -> bool
-    requires { more < 2 ^ 31 }
     ensures { result ≡ (nat_lt (rank_of now) (rank_of state) && is_fit base changes more state) }
 {
     rank(now) < rank(state) && fits(base, changes, more, state)
@@ -85,7 +82,6 @@ pub(crate) fn next_choice(
     changes: u32,
     more: u32,
 ) -> Option<Option<State>>
-    requires { more < 2 ^ 31 }
     ensures { result ≡ first_good (λ s. nat_lt (rank_of now) (rank_of s) && is_fit base changes more s) (choices base unbounded) }
 {
     if base.is_none() {

@@ -5,10 +5,19 @@
 mod assignments;
 mod bases;
 mod choice;
+mod entered;
+mod forest;
+mod laws;
+#[cfg(test)]
+mod listing_tests;
 mod pattern;
+mod patterns;
+mod question;
 #[cfg(test)]
 mod tests;
 
 pub use bases::base;
+pub use laws::{given_are_fronts, questions_have_listings};
 pub use nf_model::State;
 pub use pattern::Pattern;
+pub use patterns::Patterns;

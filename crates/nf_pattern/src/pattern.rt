@@ -7,7 +7,7 @@ use std::marker::Model;
 /// Of each link, its state or none.
 #[derive(Drop, Debug)]
 pub struct Pattern {
-    states: Vec<Option<State>>,
+    pub(crate) states: Vec<Option<State>>,
 }
 
 impl Model for Pattern {

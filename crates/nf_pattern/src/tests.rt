@@ -9,7 +9,7 @@ use nf_sets::sets;
 use std::alloc::Global;
 use std::test::Fail;
 
-fn hop(tail: u32, head: u32) -> Hop {
+pub(crate) fn hop(tail: u32, head: u32) -> Hop {
     Hop {
         tail: NodeId(tail),
         head: NodeId(head),
@@ -26,7 +26,7 @@ fn is_below(nodes: u32, hop: &Hop) -> bool
 }
 
 // The ends of the hops are nodes.
-fn are_below(nodes: u32, hops: &[Hop]) -> bool
+pub(crate) fn are_below(nodes: u32, hops: &[Hop]) -> bool
     ensures { IsTrue result → AreBelow nodes hops.now }
 {
     for hop in hops {

@@ -1,0 +1,152 @@
+-- The first listed pattern from an assignment on, found by going on from assignments that are not listed.
+use Rattle.std.proofs.Common.{◌≡◌, ℕ, ◌<◌, ◌≤◌, Bool, List, length, take, take_all, inl, inr, ◌⊎◌, ⊎_elim, Some, None, refl, sym, ap, subst, ◌∙◌, arith}
+use Rattle.std.specs.Prelude.{MatchBool, true, false}
+use Rattle.nf_model.specs.Pattern.{Pattern, IsBefore}
+use Rattle.nf_lists_laws.proofs.Listings.{IsBefore-asymmetric, IsBefore-transitive}
+use Rattle.nf_pattern.specs.Successor.{IsAssignment, next_assignment}
+use Rattle.nf_pattern.specs.Given.{Question, IsQuestion, IsListedBy, IsBarren, IsFrom, IsFirstFrom, NoneFrom, AtStart, UpTo, IsNext, NoneLeft}
+use Rattle.nf_pattern.specs.declared.question.Stand.TheVariants.{Start}
+use Rattle.nf_pattern.specs.Stands.{IsStanding}
+use Rattle.nf_pattern.proofs.Choosing.{assigned_length, assignment_of}
+use Rattle.nf_pattern.proofs.Successors.{changes_few}
+use Rattle.nf_pattern.proofs.InOrder.{base_first, next_is, next_none, next_least}
+use Rattle.nf_pattern.proofs.Ranging.{before_or, left_after, fewer_left}
+
+-- no listed pattern from the start on comes before p
+pub record IsSought (question : Question) (start p : Pattern) : Type 0 where
+  pub assigned : IsAssignment question.base question.unbounded p
+  pub after : IsFrom question.base start p
+  pub first : (r : Pattern) → IsListedBy question r → IsFrom question.base start r → IsBefore question.base r p → ⊥
+
+module _ (question : Question) (is : IsQuestion question) where
+  abbrev base : Pattern
+  base = question.base
+
+  abbrev us : List Bool
+  us = question.unbounded
+
+  pub base_count : length us ≡ length base
+  base_count = is.unbounded ∙ (sym is.active ∙ sym is.base.count)
+
+  pub valid : IsAssignment base us base
+  valid = assignment_of question.sets us base is.base base_count base is.base
+
+  pub listed_assigned : (r : Pattern) → IsListedBy question r → IsAssignment base us r
+  listed_assigned r listed = assignment_of question.sets us base is.base base_count r listed.states
+
+  same_length : (p r : Pattern) → IsAssignment base us p → IsAssignment base us r → length r ≡ length p
+  same_length p r h k = assigned_length base us r k ∙ sym (assigned_length base us p h)
+
+  itself : (p r : Pattern) → r ≡ p → IsBefore base p r → ⊥
+  itself p r same before = let b : IsBefore base p p = subst (λ (x : Pattern). IsBefore base p x) same before in IsBefore-asymmetric base p p b b
+
+  -- ---- from assignment to assignment
+  pub sought_first : (start : Pattern) → IsAssignment base us start → IsSought question start start
+  sought_first start h = record {
+    assigned = h;
+    after = inl refl;
+    first = λ r listed from before. ⊎_elim
+        (λ (same : r ≡ start). itself r start (sym same) before)
+        (λ (later : IsBefore base start r). IsBefore-asymmetric base start r later before) from;
+  }
+
+  module _ (start p : Pattern) (sought : IsSought question start p) where
+    pub sought_found : IsListedBy question p → IsFirstFrom question start p
+    sought_found listed = record { listed = listed; after = sought.after; first = sought.first }
+
+    module _ (n : ℕ) (barren : IsBarren question n p) where
+      -- a listed pattern from the start on comes after p, and is not the same up to link n
+      later : (r : Pattern) → IsListedBy question r → IsFrom base start r → (IsBefore base p r → take n r ≡ take n p) → ⊥
+      later r listed from same = ⊎_elim
+          (λ (before : IsBefore base r p). sought.first r listed from before)
+          (λ (w : (r ≡ p) ⊎ IsBefore base p r). ⊎_elim
+          (λ (e : r ≡ p). barren r listed (ap (take n) e))
+          (λ (after : IsBefore base p r). barren r listed (same after)) w)
+          (before_or base r p (same_length p r sought.assigned (listed_assigned r listed)))
+
+      pub sought_more : (q : Pattern) → next_assignment n base us p ≡ Some q → IsSought question start q
+      sought_more q e =
+          let step = next_is n base us valid p q sought.assigned e in
+          record {
+            assigned = step.0;
+            after = inr (⊎_elim (λ (same : p ≡ start). subst (λ (x : Pattern). IsBefore base x q) same step.1) (λ (w : IsBefore base start p). IsBefore-transitive base start p q w step.1) sought.after);
+            first = λ r listed from before. later r listed from (λ after. next_least n base us valid p q r sought.assigned e (listed_assigned r listed) after before);
+          }
+
+      pub sought_none : next_assignment n base us p ≡ None → NoneFrom question start
+      sought_none e r listed from = later r listed from (λ after. next_none n base us valid p r e (listed_assigned r listed) after)
+
+  pub step_fewer : (n : ℕ) (p q : Pattern) → IsAssignment base us p → next_assignment n base us p ≡ Some q → left_after base q < left_after base p
+  step_fewer n p q h e =
+      let step = next_is n base us valid p q h e in
+      fewer_left base p q (sym (same_length p q h step.0)) (changes_few base us q step.0) step.1
+
+  -- ---- after what was given
+  pub all_from_base : (r : Pattern) → IsListedBy question r → IsFrom base base r
+  all_from_base r listed = ⊎_elim
+      (λ (before : IsBefore base r base). absurd (base_first base r before))
+      (λ (w : (r ≡ base) ⊎ IsBefore base base r). w)
+      (before_or base r base (same_length base r valid (listed_assigned r listed)))
+
+  pub next_at_start : (p : Pattern) → IsFirstFrom question base p → IsNext question AtStart p
+  next_at_start p f = record { listed = f.listed; later = tt; least = λ r listed later before. f.first r listed (all_from_base r listed) before }
+
+  pub none_at_start : NoneFrom question base → NoneLeft question AtStart
+  none_at_start none r listed later = none r listed (all_from_base r listed)
+
+  module _ (l : Pattern) (h : IsAssignment base us l) (n : ℕ) (whole : length base ≤ n) where
+    same_all : (r : Pattern) → IsAssignment base us r → take n r ≡ take n l → r ≡ l
+    same_all r k same =
+        let a = assigned_length base us r k in let b = assigned_length base us l h in
+        sym (take_all n r (omega arith)) ∙ (same ∙ take_all n l (omega arith))
+
+    pub none_after : next_assignment n base us l ≡ None → NoneLeft question (UpTo l)
+    none_after e r listed later =
+        let k = listed_assigned r listed in
+        itself l r (same_all r k (next_none n base us valid l r e k later)) later
+
+    module _ (q : Pattern) (e : next_assignment n base us l ≡ Some q) where
+      pub from_next : (r : Pattern) → IsListedBy question r → IsBefore base l r → IsFrom base q r
+      from_next r listed later =
+          let k = listed_assigned r listed in
+          ⊎_elim
+          (λ (before : IsBefore base r q). absurd (itself l r (same_all r k (next_least n base us valid l q r h e k later before)) later))
+          (λ (w : (r ≡ q) ⊎ IsBefore base q r). w)
+          (before_or base r q (same_length q r (next_is n base us valid l q h e).0 k))
+
+      pub next_after : (p : Pattern) → IsFirstFrom question q p → IsNext question (UpTo l) p
+      next_after p f =
+          let step = next_is n base us valid l q h e in
+          record {
+            listed = f.listed;
+            later = ⊎_elim (λ (same : p ≡ q). subst (λ (x : Pattern). IsBefore base l x) (sym same) step.1) (λ (w : IsBefore base q p). IsBefore-transitive base l q p step.1 w) f.after;
+            least = λ r listed later before. f.first r listed (from_next r listed later) before;
+          }
+
+      pub none_left_after : NoneFrom question q → NoneLeft question (UpTo l)
+      none_left_after none r listed later = none r listed (from_next r listed later)
+
+  -- ---- whether one was found
+  pub match_start : (start : Pattern) → start ≡ base → (p : Pattern) (found : Bool) → MatchBool found (IsFirstFrom question start p) (NoneFrom question start) → MatchBool found (IsNext question AtStart p) (NoneLeft question AtStart)
+  match_start start same p true f = next_at_start p (subst (λ (x : Pattern). IsFirstFrom question x p) same f)
+  match_start start same p false none = none_at_start (subst (λ (x : Pattern). NoneFrom question x) same none)
+
+  pub next_assigned : (n : ℕ) (l q : Pattern) → IsAssignment base us l → next_assignment n base us l ≡ Some q → IsAssignment base us q
+  next_assigned n l q h e = (next_is n base us valid l q h e).0
+
+  pub match_after : (l q p : Pattern) (n : ℕ) (found : Bool) → IsAssignment base us l → length base ≤ n → next_assignment n base us l ≡ Some q → MatchBool found (IsFirstFrom question q p) (NoneFrom question q)
+      → MatchBool found (IsNext question (UpTo l) p) (NoneLeft question (UpTo l))
+  match_after l q p n true h whole e f = next_after l h n whole q e p f
+  match_after l q p n false h whole e none = none_left_after l h n whole q e none
+
+-- ---- where a listing begins
+pub standing_start : (question seen : Question) (current : Pattern) (flags : List Bool) → question ≡ seen → IsQuestion seen → current ≡ seen.base → length flags ≡ seen.nodes → IsStanding question Start current flags
+standing_start question seen current flags same is base count =
+    let q : IsQuestion question = subst IsQuestion (sym same) is in
+    let at_base : current ≡ question.base = base ∙ ap (λ (x : Question). x.base) (sym same) in
+    record {
+      is_question = q;
+      assigned = subst (λ (x : Pattern). IsAssignment question.base question.unbounded x) (sym at_base) (valid question q);
+      start = λ _. at_base;
+      count = count ∙ ap (λ (x : Question). x.nodes) (sym same);
+    }

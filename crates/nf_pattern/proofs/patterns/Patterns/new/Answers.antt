@@ -1,0 +1,16 @@
+use Rattle.std.proofs.Common.{arith}
+use Rattle.nf_pattern.proofs.Seeking.{standing_start}
+use Rattle.nf_pattern.proofs.patterns.Patterns.new.Goals as goal
+
+pub invariant_of-result : goal.invariant_of-result
+invariant_of-result c = standing_start c.in_ok-question.question _ c.in_ok-current.current c.in_ok-flags.flags.items c.in_ok-question.ensures
+    (record {
+      ends = c.requires.ends;
+      active = c.requires.active;
+      resetting = c.requires.resetting;
+      unbounded = c.requires.unbounded;
+      base = c.requires.base;
+      fewer = c.requires.fewer;
+      nodes = c.ranges.nodes.fits;
+    })
+    c.in_ok-current.ensures (let n = c.in_ok-flags.ensures.len in omega arith)

@@ -1,0 +1,20 @@
+-- Where a listing stands.
+use Rattle.std.specs.Prelude.{◌≡◌, Bool, List, length}
+use Rattle.nf_model.specs.Pattern.{Pattern}
+use Rattle.nf_pattern.specs.declared.question.Stand.{Stand}
+use Rattle.nf_pattern.specs.declared.question.Stand.TheVariants.{Start, Listed, End}
+use Rattle.nf_pattern.specs.Successor.{IsAssignment}
+use Rattle.nf_pattern.specs.Given.{Question, IsQuestion, Last, AtStart, UpTo, AtEnd}
+
+-- what was given last, with this current pattern
+abbrev pub last_of : Stand → Pattern → Last
+last_of Start current = AtStart
+last_of Listed current = UpTo current
+last_of End current = AtEnd
+
+-- a current assignment, which is the base at the start, and a flag for each node
+pub record IsStanding (question : Question) (stand : Stand) (current : Pattern) (flags : List Bool) : Type 0 where
+  pub is_question : IsQuestion question
+  pub assigned : IsAssignment question.base question.unbounded current
+  pub start : stand ≡ Start → current ≡ question.base
+  pub count : length flags ≡ question.nodes

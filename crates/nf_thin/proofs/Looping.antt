@@ -1,0 +1,76 @@
+-- The loop of the search over the patterns that a listing gives.
+use Rattle.std.proofs.Common.{◌≡◌, ℕ, suc, ◌<◌, ◌≤◌, List, refl, sym, ap, subst, ◌∙◌, arith}
+use Rattle.std.specs.Prelude.{Option, Some, None, Result, Ok, Err}
+use Rattle.nf_rational.specs.Rational.{ℚ}
+use Rattle.nf_work.specs.Passing.{Passing}
+use Rattle.nf_model.specs.Network.{Network, IsNetwork}
+use Rattle.nf_model.specs.ThinFlow.{Sets}
+use Rattle.nf_model.specs.Pattern.{Pattern}
+use Rattle.nf_lists.specs.Search.{Answers, IsSearch}
+use Rattle.nf_pattern.specs.Given.{Question, IsQuestion, Given, AtStart, UpTo, IsNext, NoneLeft, Gives, next_place}
+use Rattle.nf_equation_laws.specs.Equations.{IsPatternIn}
+use Rattle.nf_pattern.proofs.Deciding.{has_listing}
+use Rattle.nf_thin.specs.declared.searches.Thin.{Thin}
+use Rattle.nf_thin.specs.declared.searches.Vain.{Vain}
+use Rattle.nf_thin.specs.declared.searches.SearchFault.{SearchFault}
+use Rattle.nf_thin.specs.declared.searches.SearchFault.TheVariants as SearchFault
+use Rattle.nf_thin.specs.Searching.{Searches, fault_of, TriesNext, AreSetsOf, AsksOf, question_of}
+use Rattle.nf_pattern.specs.Front.{IsListingOf}
+use Rattle.nf_thin.proofs.Searched.{Vainly, none_tried, over_budget, found, vainly_more, search_ends, all_searched}
+use Rattle.nf_thin.proofs.Asking.{listed_in}
+
+-- the listing that was asked for goes on, and its first patterns were tried in vain
+abbrev pub InLoop : Passing → Network → Sets → ℚ → Question → ℕ → Given → Vain → Type 0
+InLoop passes net sets rate q budget given vain = (given.question ≡ q) × (vain.tried ≤ budget)
+    × ((listing : List Pattern) → IsListingOf q listing → Vainly passes net sets rate listing given.last vain)
+
+module _ (passes : Passing) (net : Network) (sets : Sets) (rate : ℚ) (first : Given) (budget : ℕ) (good : IsNetwork net) (sets_are : AreSetsOf net sets) (asks : AsksOf net sets first) where
+  abbrev q : Question
+  q = first.question
+
+  abbrev listing : List Pattern
+  listing = (has_listing q asks.is_question).0
+
+  is : IsListingOf q listing
+  is = (has_listing q asks.is_question).1
+
+  abbrev Finds : Result Thin SearchFault → Type 0
+  Finds result = Searches (IsSearch passes net sets rate q.base budget) budget result
+
+  done : (result : Result Thin SearchFault) → Searches (Answers passes net sets rate listing budget) budget result → Finds result
+  done result a = all_searched passes net sets rate q asks.asked listing is budget result a
+
+  pub loop_starts : (given : Given) (vain : Vain) → given ≡ first → vain.tried ≡ 0 → vain.passed ≡ None → InLoop passes net sets rate q budget given vain
+  loop_starts given vain same none_tried_yet none_passed = (
+    ap (λ (g : Given). g.question) same,
+    omega arith,
+    λ list l. none_tried passes net sets rate list given.last vain (ap (λ (g : Given). g.last) same ∙ asks.start) none_tried_yet none_passed,
+  )
+
+  module _ (given : Given) (vain : Vain) (so : InLoop passes net sets rate q budget given vain) where
+    module _ (pattern : Pattern) (after : Given) (gives : Gives given (Some pattern) after) where
+      next : IsNext q given.last pattern
+      next = subst (λ (x : Question). IsNext x given.last pattern) so.0 gives.0
+
+      pub loop_pattern : IsPatternIn net sets pattern
+      loop_pattern = listed_in net sets q pattern good sets_are asks.asked next.listed
+
+      pub loop_finds : (now : Vain) (thin : Thin) → TriesNext passes net sets rate budget pattern vain now (Ok (Some thin)) → Finds (Ok thin)
+      loop_finds now thin t = done (Ok thin) (found passes net sets rate listing q is given.last vain (so.2 listing is) pattern next budget thin t.0 t.1)
+
+      pub loop_fails : (now : Vain) (fault : SearchFault) → TriesNext passes net sets rate budget pattern vain now (Err fault) → Finds (Err fault)
+      loop_fails now (SearchFault.Budget tried) t = done (Err (SearchFault.Budget tried)) (t.1, over_budget passes net sets rate listing q is given.last vain (so.2 listing is) pattern next budget t.0)
+      loop_fails now (SearchFault.Passed place at) t = absurd t
+      loop_fails now SearchFault.NoPattern t = absurd t
+      loop_fails now SearchFault.Memory t = tt
+
+      pub loop_goes_on : (now : Vain) → TriesNext passes net sets rate budget pattern vain now (Ok None) → InLoop passes net sets rate q budget after now
+      loop_goes_on now t = (
+        ap (λ (g : Given). g.question) gives.1 ∙ so.0,
+        (let n = t.1.one_more in let l = t.0 in omega arith),
+        λ list l. subst (λ (x : _). Vainly passes net sets rate list x now) (sym (ap (λ (g : Given). g.last) gives.1)) (vainly_more passes net sets rate list q l given.last vain (so.2 list l) pattern next now t.1),
+      )
+
+    pub loop_ends : (after : Given) → Gives given None after → (fault : SearchFault) → fault ≡ fault_of vain.passed → Finds (Err fault)
+    loop_ends after gives fault same = subst (λ (f : SearchFault). Finds (Err f)) (sym same)
+        (done (Err (fault_of vain.passed)) (search_ends passes net sets rate listing q is given.last vain (so.2 listing is) (subst (λ (x : Question). NoneLeft x given.last) so.0 gives.0) budget so.1))

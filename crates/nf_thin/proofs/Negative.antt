@@ -1,0 +1,56 @@
+-- The number with the other sign is a fraction too.
+use Rattle.std.proofs.Common.{◌≡◌, ◌≢◌, ℕ, zero, suc, ◌<◌, ◌≤◌, ℤ, pos, neg_ℤ, ◌*ℤ◌, ◌-ℤ◌, nat_abs, [], ◌∷◌, sym, ◌∙◌, ap, subst, arith}
+use lib.Signed.{◌≤ℤ◌}
+use borrow.Author.Differences.{ints}
+use Rattle.nf_rational.specs.Rational.{ℚ}
+use Rattle.nf_rational.specs.Operations.{0ℚ, whole, neg_ℚ, ◌*ℚ◌, ◌/ℚ◌}
+use Rattle.nf_rational_laws.proofs.Polynomial.{ring, reading}
+use Rattle.nf_rational_laws.proofs.IntegerRing.{ints_ring}
+use Rattle.nf_rational_laws.proofs.Order.{ps_whole}
+use Rattle.nf_rational_laws.proofs.Quotient.{/ℚ-unique, ps_apart}
+use Rattle.nf_rational_laws.proofs.Ratio.{Is-self, Is-same, Is-times, Is-minus, Is-whole}
+use Rattle.nf_frac.specs.Parts.{greatest, IsWithin, IsMade}
+use Rattle.nf_frac.proofs.Bits.{bits_of, plain, abs-neg}
+use Rattle.nf_frac.proofs.Turned.{neg_within}
+
+den_apart : (d : ℕ) → 0 < d → whole (pos d) ≢ 0ℚ
+den_apart (suc d) some = ps_apart (whole (pos (suc d))) (ps_whole d)
+den_apart zero some = absurd (omega arith)
+
+times_den : (x : ℚ) → neg_ℚ x *ℚ whole (pos x.den) ≡ whole (neg_ℤ x.num)
+times_den x = Is-same _ _ _ _ (Is-times _ _ _ _ (Is-minus _ _ (Is-self x)) (Is-whole (pos x.den))) (Is-whole (neg_ℤ x.num)) (crossed (neg_ℤ x.num) (pos x.den))
+  where
+    crossed : (n d : ℤ) → n *ℤ d *ℤ pos 1 ≡ n *ℤ (d *ℤ pos 1)
+    crossed n d = ring ints_ring (n ∷ d ∷ []) (search reading depth 30) tt
+
+negative_ratio : (x : ℚ) → whole (neg_ℤ x.num) /ℚ whole (pos x.den) ≡ neg_ℚ x
+negative_ratio x = sym (/ℚ-unique (whole (neg_ℤ x.num)) (whole (pos x.den)) (neg_ℚ x) (den_apart x.den x.positive) (times_den x))
+
+-- as its parts are computed: the magnitude of neither is beyond the greatest
+module _ (x : ℚ) (n d : ℤ) (e : n ≡ x.num) (f : d ≡ pos x.den) (small : nat_abs n ≤ greatest) (small_den : d ≤ℤ pos greatest) where
+  num_is : bits_of (pos 0 -ℤ bits_of n) ≡ neg_ℤ x.num
+  num_is = ap (λ (z : ℤ). bits_of (pos 0 -ℤ z)) (plain n small) ∙ ap bits_of (from_zero n) ∙ plain (neg_ℤ n) (subst (λ (k : ℕ). k ≤ greatest) (sym (abs-neg n)) small) ∙ ap neg_ℤ e
+    where
+      from_zero : (n : ℤ) → pos 0 -ℤ n ≡ neg_ℤ n
+      from_zero n = omega (arith, ints)
+
+  den_small : x.den ≤ greatest
+  den_small = within x.den (subst (λ (d : ℤ). d ≤ℤ pos greatest) f small_den)
+    where
+      within : (k : ℕ) → pos k ≤ℤ pos greatest → k ≤ greatest
+      within k h = omega (arith, ints)
+
+  den_is : bits_of d ≡ pos x.den
+  den_is = ap bits_of f ∙ plain (pos x.den) den_small
+
+  pub negative_is : whole (bits_of (pos 0 -ℤ bits_of n)) /ℚ whole (bits_of d) ≡ neg_ℚ x
+  negative_is = ap (λ (n : ℤ). whole n /ℚ whole (bits_of d)) num_is ∙ ap (λ (d : ℤ). whole (neg_ℤ x.num) /ℚ whole d) den_is ∙ negative_ratio x
+
+  pub negative_made : IsMade greatest (bits_of (pos 0 -ℤ bits_of n)) (bits_of d)
+  negative_made = record {
+    some = λ none. some x.den x.positive (sym den_is ∙ none);
+    fits = subst (λ (q : ℚ). IsWithin greatest q) (sym negative_is) (neg_within greatest x (record { small = subst (λ (n : ℤ). nat_abs n ≤ greatest) e small; small_den = den_small }));
+  }
+    where
+      some : (k : ℕ) → 0 < k → pos k ≡ pos 0 → ⊥
+      some k positive g = omega (arith, ints)

@@ -1,0 +1,4 @@
+pub mod Judging
+pub mod Trying
+pub mod Searching
+pub mod Filling

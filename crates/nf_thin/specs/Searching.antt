@@ -1,0 +1,91 @@
+-- What a search comes to, and one step of it.
+use Rattle.std.specs.Prelude.{◌≡◌, ◌⊎◌, ℕ, suc, ◌<◌, List, length, Option, Some, None, Result, Ok, Err, IsOk}
+use Rattle.nf_rational.specs.Rational.{ℚ}
+use Rattle.nf_work.specs.Passing.{Passing}
+use Rattle.nf_work.specs.declared.PassedAt.{PassedAt}
+use Rattle.nf_model.specs.Entries.{Has}
+use Rattle.nf_model.specs.Network.{Network, hops, unbounded}
+use Rattle.nf_model.specs.ThinFlow.{Sets, IsThinFlow}
+use Rattle.nf_model.specs.Pattern.{Pattern, IsSolution}
+use Rattle.nf_lists.specs.Accepted.{pattern_lists, IsAccepted}
+use Rattle.nf_lists.specs.Search.{Answer, Found, OverBudget, PassesAt, NoPattern}
+use Rattle.nf_pattern.specs.Given.{Question, IsQuestion, Given, AtStart}
+use Rattle.nf_thin_laws.specs.ActiveLinks.{AreSets, HoldNoCycle}
+use Rattle.nf_thin.specs.declared.searches.Thin.{Thin}
+use Rattle.nf_thin.specs.declared.searches.Vain.{Vain}
+use Rattle.nf_thin.specs.declared.searches.SearchFault.{SearchFault}
+use Rattle.nf_thin.specs.declared.searches.SearchFault.TheVariants as SearchFault
+
+-- the answer of the definition that is given, unless memory is wanting
+abbrev pub Searches : (Answer → Type 0) → ℕ → Result Thin SearchFault → Type 0
+Searches Answers budget (Ok thin) = Answers (Found thin.place thin.pattern thin.flows.items thin.labels.items)
+Searches Answers budget (Err (SearchFault.Budget tried)) = (tried ≡ budget) × Answers OverBudget
+Searches Answers budget (Err (SearchFault.Passed place at)) = Answers (PassesAt place at)
+Searches Answers budget (Err SearchFault.NoPattern) = Answers NoPattern
+Searches Answers budget (Err SearchFault.Memory) = Unit {0}
+
+-- where active links hold no cycle, every thin flow has these slopes
+abbrev pub SlopesAreOnly : Network → Sets → ℚ → List ℚ → Type 0
+SlopesAreOnly net sets rate slopes = HoldNoCycle net sets → (flows other : List ℚ) → IsThinFlow net sets rate flows other → other ≡ slopes
+
+-- ---- one pattern more
+
+-- the first that passes, where one has passed already
+abbrev pub or_first : Option (ℕ × PassedAt ℚ) → ℕ × PassedAt ℚ → Option (ℕ × PassedAt ℚ)
+or_first (Some first) now = Some first
+or_first None now = Some now
+
+-- why nothing was found
+abbrev pub fault_of : Option (ℕ × PassedAt ℚ) → SearchFault
+fault_of (Some (place, at)) = SearchFault.Passed place at
+fault_of None = SearchFault.NoPattern
+
+module _ (passes : Passing) (net : Network) (sets : Sets) (rate : ℚ) (pattern : Pattern) where
+  -- no operation passes, or the first of this pattern's that does is noted with its place
+  abbrev pub Noted : Option (ℕ × PassedAt ℚ) → Option (ℕ × PassedAt ℚ) → ℕ → Type 0
+  Noted before after place =
+      (IsOk (pattern_lists passes net sets rate pattern) × (after ≡ before))
+      ⊎ ((at : PassedAt ℚ) × (pattern_lists passes net sets rate pattern ≡ Err at) × (after ≡ or_first before (place, at)))
+
+  -- tried in vain
+  pub record InVain (before after : Vain) : Type 0 where
+    pub one_more : after.tried ≡ suc before.tried
+    pub not_accepted : IsAccepted passes net sets rate pattern → ⊥
+    pub noted : Noted before.passed after.passed (suc before.tried)
+
+  -- accepted, at the next place
+  pub record IsFound (before : Vain) (thin : Thin) : Type 0 where
+    pub place : thin.place ≡ suc before.tried
+    pub pattern_is : thin.pattern ≡ pattern
+    pub accepted : IsAccepted passes net sets rate pattern
+    pub solution : IsSolution net sets rate pattern thin.flows.items thin.labels.items
+
+abbrev pub TriesNext : Passing → Network → Sets → ℚ → ℕ → Pattern → Vain → Vain → Result (Option Thin) SearchFault → Type 0
+TriesNext passes net sets rate budget pattern before after (Ok None) = (before.tried < budget) × InVain passes net sets rate pattern before after
+TriesNext passes net sets rate budget pattern before after (Ok (Some thin)) = (before.tried < budget) × IsFound passes net sets rate pattern before thin
+TriesNext passes net sets rate budget pattern before after (Err (SearchFault.Budget tried)) = (before.tried ≡ budget) × (tried ≡ budget)
+TriesNext passes net sets rate budget pattern before after (Err (SearchFault.Passed place at)) = ⊥
+TriesNext passes net sets rate budget pattern before after (Err SearchFault.NoPattern) = ⊥
+TriesNext passes net sets rate budget pattern before after (Err SearchFault.Memory) = Unit {0}
+
+-- ---- the whole list
+
+-- an unbounded link is not resetting
+abbrev pub NoneResetsUnbounded : Network → Sets → Type 0
+NoneResetsUnbounded net sets = (e : ℕ) → Has (unbounded net) e → Has sets.resetting e → ⊥
+
+-- one flag of each kind for each link of the network; resetting links are active, and an unbounded one is not resetting
+pub record AreSetsOf (net : Network) (sets : Sets) : Type 0 where
+  pub sets_are : AreSets net sets
+  pub count : length sets.resetting ≡ length net.links
+  pub bounded : NoneResetsUnbounded net sets
+
+-- what a listing of the network's patterns is of, for these sets and this base
+abbrev pub question_of : Network → Sets → Pattern → Question
+question_of net sets base = record { nodes = net.nodes; source = net.source; hops = hops net; sets = sets; unbounded = unbounded net; base = base }
+
+-- such a listing, of which nothing is given yet
+pub record AsksOf (net : Network) (sets : Sets) (given : Given) : Type 0 where
+  pub asked : given.question ≡ question_of net sets given.question.base
+  pub is_question : IsQuestion given.question
+  pub start : given.last ≡ AtStart

@@ -1,0 +1,13 @@
+//! Thin flows with resetting (Koch and Skutella 2011; Cominetti, Correa and Larré 2015): whether flows and slopes meet a pattern,
+//! and the search for the first pattern that is accepted.
+#![tactic(auto)]
+
+mod filling;
+mod searches;
+#[cfg(test)]
+mod tests;
+mod trying;
+mod verdicts;
+
+pub use searches::{SearchFault, Thin, search};
+pub use verdicts::{Judged, verdict};
