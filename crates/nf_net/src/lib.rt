@@ -18,6 +18,8 @@ mod order;
 mod pieces;
 mod printing;
 mod reading;
+#[cfg(test)]
+mod tests;
 mod words;
 
 pub use amounts::supply;
