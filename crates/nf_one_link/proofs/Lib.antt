@@ -1,5 +1,5 @@
 pub mod Bound
 pub mod OneLink
--- pub mod Pieces
--- pub mod Phase
--- pub mod Reports
+pub mod Pieces
+pub mod Phase
+pub mod Reports
