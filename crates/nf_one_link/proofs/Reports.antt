@@ -27,9 +27,10 @@ use Rattle.nf_run_laws.proofs.WellRun.{WellRun, WellRun-start}
 use Rattle.nf_run_laws.proofs.Run.{Equilibrium-well}
 use Rattle.nf_one_link.specs.FullPhase.{overfills, has_one_full_phase, full, full_phase, reported, IsFullPhaseReport}
 use Rattle.nf_one_link.proofs.Bound.{bind_ok, part_ok, checked_ok, ok_same}
+use Rattle.nf_one_link.proofs.Negative.{negatives}
 use Rattle.nf_one_link.proofs.OneLink.{is_one_link, by_link}
 use Rattle.nf_one_link.proofs.Pieces.{both_true, below_of, Overfilling, overfilled}
-use Rattle.nf_one_link.proofs.Phase.{first, first_is, rate, positive, negatives, length_is, WellRun-full}
+use Rattle.nf_one_link.proofs.PhaseFacts.{first, first_is, rate, positive, length_is, WellRun-full}
 
 -- what is to be shown of a report
 pub record IsRight (net : Network) (horizon : ℚ) (report : Report) : Type 0 where

@@ -7,7 +7,6 @@ use Rattle.nf_rational.specs.Operations.{0ℚ, 1ℚ, neg_ℚ, ◌+ℚ◌, ◌-�
 use Rattle.nf_rational.specs.Order.{◌≤ℚ◌, ◌<ℚ◌, le_ℚ}
 use Rattle.nf_rational_laws.proofs.Polynomial.{reading_of}
 use Rattle.nf_rational_laws.proofs.Order.{≤ℚ_of_lt, ≤ℚ_of_same}
-use Rattle.nf_rational_laws.proofs.Quotient.{/ℚ-times, /ℚ-unique, ps_apart}
 use Rattle.nf_rational_laws.proofs.Tests.{test_of_le}
 use Rattle.nf_rational_laws.proofs.Linear.{eq, linear_eq}
 use Rattle.nf_work.specs.Passing.{Passing}
@@ -34,18 +33,9 @@ use Rattle.nf_run_laws.proofs.WellRun.{WellRun, WellRun-start}
 use Rattle.nf_run_laws.proofs.Goes.{WellRun-after}
 use Rattle.nf_one_link.specs.FullPhase.{full, full_phase}
 use Rattle.nf_one_link.proofs.Bound.{bind_ok, part_ok, checked_ok, ok_same}
+use Rattle.nf_one_link.proofs.Negative.{negatives}
 use Rattle.nf_one_link.proofs.OneLink.{start_labels_are}
 use Rattle.nf_one_link.proofs.Pieces.{Overfilling, change_in, until, rate_is, change_is, to_horizon, phase_length}
-
--- ---- the quotient of the negatives
-negative_apart : (y : ℚ) → 0ℚ <ℚ y → neg_ℚ y ≢ 0ℚ
-negative_apart y h e = ps_apart y h (linear_eq (y ∷ []) (eq e ∷ []) (search reading_of depth 12) tt tt)
-
-turned : (x y q : ℚ) → q *ℚ neg_ℚ y ≡ neg_ℚ x → q *ℚ y ≡ x
-turned x y q e = linear_eq (x ∷ y ∷ q ∷ []) (eq e ∷ []) (search reading_of depth 12) tt tt
-
-pub negatives : (x y : ℚ) → 0ℚ <ℚ y → neg_ℚ x /ℚ neg_ℚ y ≡ x /ℚ y
-negatives x y h = /ℚ-unique x y (neg_ℚ x /ℚ neg_ℚ y) (ps_apart y h) (turned x y (neg_ℚ x /ℚ neg_ℚ y) (/ℚ-times (neg_ℚ x) (neg_ℚ y) (negative_apart y h)))
 
 -- ---- the extend list: the link has no slack, so only the supply limits the phase
 no_slack : (t : ℚ) → t -ℚ (0ℚ +ℚ t) ≡ 0ℚ
