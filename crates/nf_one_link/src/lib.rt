@@ -3,7 +3,10 @@
 #![tactic(auto)]
 
 mod built;
+mod flow;
 mod order;
 mod phase;
+mod solving;
 
 pub use built::is_built;
+pub use solving::{Solution, solve};
