@@ -10,4 +10,7 @@ pub mod Peeling
 pub mod FlowFacts
 pub mod EndValues
 pub mod LinkLists
+pub mod PhaseLists
 pub mod Reports
+pub mod Solved
+pub mod Reading
