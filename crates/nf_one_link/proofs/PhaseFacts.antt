@@ -1,5 +1,5 @@
 -- The one phase of an overfilled link leads from the start to the horizon, and its curves are an equilibrium.
-use Rattle.std.proofs.Common.{◌≡◌, List, [], ◌∷◌, Bool, true, ◌&&◌, sym, ap, subst, refl, ◌∙◌}
+use Rattle.std.proofs.Common.{◌≡◌, List, [], ◌∷◌, Bool, true, ◌&&◌, inl, inr, sym, ap, subst, refl, ◌∙◌}
 use Rattle.std.specs.Prelude.{Option, Some, None, Ok, map}
 use mathlib.Core.Path.{ap₂}
 use Rattle.nf_rational.specs.Rational.{ℚ}
@@ -29,12 +29,13 @@ use Rattle.nf_lists_laws.proofs.Exact.{advanced_exact}
 use Rattle.nf_lists_laws.proofs.Ending.{PhaseParts, phase_parts}
 use Rattle.nf_thin_laws.specs.MemberLaws.{first_labels, first_sets}
 use Rattle.nf_thin_laws.proofs.OneLink.{first_sets-are, OneLink-full}
+use Rattle.nf_run_laws.proofs.Extension.{extension_is, unending_is}
 use Rattle.nf_run_laws.proofs.WellRun.{WellRun, WellRun-start}
 use Rattle.nf_run_laws.proofs.Goes.{WellRun-after}
 use Rattle.nf_one_link.specs.FullPhase.{full}
 use Rattle.nf_one_link.proofs.Bound.{bind_ok, part_ok, checked_ok, ok_same}
 use Rattle.nf_one_link.proofs.OneLink.{start_labels_are}
-use Rattle.nf_one_link.proofs.Pieces.{Overfilling, change_in, until, rate_is, change_is, to_horizon, phase_length}
+use Rattle.nf_one_link.proofs.Pieces.{Overfilling, until, rate_is, change_is, to_horizon}
 
 -- ---- the extend list: the link has no slack, so only the supply limits the phase
 no_slack : (t : ℚ) → t -ℚ (0ℚ +ℚ t) ≡ 0ℚ
@@ -106,9 +107,6 @@ module _ (passes : Passing) (transit capacity horizon : ℚ) (piece : Piece) (la
   same_sets : (P : Sets → Type 0) → by_sets P
   same_sets P x = subst P (sym (first_sets-are transit (Some capacity) (piece ∷ later))) x
 
-  slack_is : number_at (slacks_of (hops net) (first_labels transit)) 0 ≡ 0ℚ
-  slack_is = no_slack transit
-
   module _ (slope : ℚ) (step : PhaseStep) (slope_is : slope ≡ rate /ℚ capacity) (lists : phase_lists passes net horizon s full (rate ∷ []) (1ℚ ∷ slope ∷ []) ≡ Ok step) where
     abbrev slopes : List ℚ
     slopes = 1ℚ ∷ slope ∷ []
@@ -126,25 +124,34 @@ module _ (passes : Passing) (transit capacity horizon : ℚ) (piece : Piece) (la
     parts : PhaseParts passes net s full (rate ∷ []) slopes step
     parts = phase_parts passes net good horizon 0 s full (rate ∷ []) slopes step refl lists
 
-    pub length_is : step.length ≡ horizon -ℚ 0ℚ
+    -- the extension length, and the length of the phase
+    extended : (extension : Option ℚ) × (extend_list passes net (slacks_of (hops net) (first_labels transit)) slopes 0ℚ ≡ Ok extension) × (step.length ≡ cut_at (horizon -ℚ 0ℚ) extension)
     unfolding phase_lists
-    length_is =
+    extended =
         let a = bind_ok (at_part Extend (extend_list passes net (slacks_of (hops net) s.labels) slopes s.time)) _ step lists in
         let b = bind_ok (at_part Advance (advance_list passes horizon s.time a.0 s.labels slopes)) _ step a.2 in
         let c = bind_ok (at_part Curve (curve_list passes net (sets_at net s.labels) full b.0.length (rate ∷ []) slopes b.0.labels (map amount_so_far s.link_curves)))
         (λ links. Ok (record { length = b.0.length; labels = b.0.labels; links = links })) step b.2 in
-        let extension : a.0 ≡ until (change_in later) =
-        until_ok passes (next_change net 0ℚ) a.0 (sym (extend_is passes transit (Some capacity) (piece ∷ later) slopes) ∙ part_ok Extend _ a.0 a.1)
-        ∙ ap until (change_is horizon ahead capacity piece later overfilling) in
-        let same : record { length = b.0.length; labels = b.0.labels; links = c.0 } ≡ step = ok_same _ step c.2 in
-        ap (λ (t : PhaseStep). t.length) (sym same)
-        ∙ (advanced_exact passes horizon 0ℚ a.0 (first_labels transit) slopes b.0 refl (part_ok Advance _ b.0 b.1)).0
-        ∙ ap (cut_at (horizon -ℚ 0ℚ)) extension
+        let same : record { length = b.0.length; labels = b.0.labels; links = c.0 } ≡ step = ok_same _ step c.2 in (
+          a.0,
+          part_ok Extend _ a.0 a.1,
+          ap (λ (t : PhaseStep). t.length) (sym same) ∙ (advanced_exact passes horizon 0ℚ a.0 (first_labels transit) slopes b.0 refl (part_ok Advance _ b.0 b.1)).0,
+        )
+
+    pub length_is : step.length ≡ horizon -ℚ 0ℚ
+    length_is =
+        extended.2
+        ∙ ap (cut_at (horizon -ℚ 0ℚ)) (until_ok passes (next_change net 0ℚ) extended.0 (sym (extend_is passes transit (Some capacity) (piece ∷ later) slopes) ∙ extended.1)
+        ∙ ap until (change_is horizon ahead capacity piece later overfilling))
         ∙ to_horizon horizon ahead later overfilling.lasts
 
+    of_extension : (extension : Option ℚ) → extend_list passes net (slacks_of (hops net) (first_labels transit)) slopes 0ℚ ≡ Ok extension → step.length ≡ cut_at (horizon -ℚ 0ℚ) extension
+        → IsPhaseLength net (slacks_of (hops net) (first_labels transit)) slopes 0ℚ horizon step.length
+    of_extension None e l = inr (unending_is net (slacks_of (hops net) (first_labels transit)) slopes 0ℚ passes good.pieces e, l)
+    of_extension (Some extension) e l = inl (extension, extension_is net (slacks_of (hops net) (first_labels transit)) slopes 0ℚ passes extension good.pieces e, l)
+
     is_length : IsPhaseLength net (slacks_of (hops net) (first_labels transit)) slopes 0ℚ horizon step.length
-    is_length = subst (IsPhaseLength net (slacks_of (hops net) (first_labels transit)) slopes 0ℚ horizon) (sym length_is)
-        (phase_length horizon ahead transit (Some capacity) piece (slacks_of (hops net) (first_labels transit)) slopes slack_is overfilling.starts later good.pieces overfilling.lasts)
+    is_length = of_extension extended.0 extended.1 extended.2
 
     pub WellRun-full : WellRun net horizon (standing_after net s full slopes step)
     WellRun-full = WellRun-after passes net good horizon s full (rate ∷ []) slopes step (WellRun-start net horizon s (first_is transit (Some capacity) (piece ∷ later) good)) ahead

@@ -186,6 +186,14 @@ module _ (passes : Passing) (transit capacity horizon : ℚ) (piece : Piece) (la
       (λ slope. phase_lists passes net horizon s full (r ∷ []) (1ℚ ∷ slope ∷ []) >>= put slope) (λ slope. extension_list passes (next_change net 0ℚ) >>= after_extension slope) in_lists
 
   -- ---- where none passes, the labels rise
+  rises_as : (ends : Ends) (carried : Carried) (waiting : ℚ) (phase : FullPhase) → made ends carried waiting ≡ phase → AreRising transit ends → Rises transit phase
+  rises_as ends carried waiting phase same up = subst (λ (p : FullPhase). Rises transit p) same (record {
+    begins = not_negative passes transit capacity horizon piece later good ahead over;
+    lasts = up.lasts;
+    source = up.source;
+    sink = up.sink;
+  })
+
   pub phase_rises : (phase : FullPhase) → phase_list passes read horizon ≡ Ok phase → Rises transit phase
   unfolding phase_list
   phase_rises phase h =
@@ -195,11 +203,4 @@ module _ (passes : Passing) (transit capacity horizon : ℚ) (piece : Piece) (la
       let d = bind_ok (carried_list passes c.0.length r a.0)
       (λ carried. waiting_list passes c.0.source c.0.sink transit capacity carried.inflow_rate >>= λ waiting. Ok (made c.0 carried waiting)) phase c.2 in
       let e = bind_ok (waiting_list passes c.0.source c.0.sink transit capacity d.0.inflow_rate) (λ waiting. Ok (made c.0 d.0 waiting)) phase d.2 in
-      let up : AreRising transit c.0 = rising a.0 b.0 c.0 a.1 b.1 c.1 in
-      let same : made c.0 d.0 e.0 ≡ phase = (let f = e.2 in cc) in
-      subst (λ (p : FullPhase). Rises transit p) same (record {
-        begins = not_negative passes transit capacity horizon piece later good ahead over;
-        lasts = up.lasts;
-        source = up.source;
-        sink = up.sink;
-      })
+      rises_as c.0 d.0 e.0 phase (let f = e.2 in cc) (rising a.0 b.0 c.0 a.1 b.1 c.1)

@@ -1,22 +1,16 @@
 -- The supply of a link that is overfilled: at one rate, until the horizon or beyond.
-use Rattle.std.proofs.Common.{◌≡◌, ℕ, zero, suc, List, [], ◌∷◌, Bool, true, false, ◌&&◌, not, if◌then◌else◌, inl, inr, ⊎_elim, sym, ap, subst, refl, ◌∙◌}
+use Rattle.std.proofs.Common.{◌≡◌, List, [], ◌∷◌, Bool, true, false, ◌&&◌, not, if◌then◌else◌, ⊎_elim, ap, refl, ◌∙◌}
 use Rattle.std.specs.Prelude.{Option, Some, None}
-use Rattle.std.proofs.lemmas.Option.{none-some, same_Some}
 use Rattle.nf_rational.specs.Rational.{ℚ}
-use Rattle.nf_rational.specs.Operations.{0ℚ, ◌+ℚ◌, ◌-ℚ◌}
+use Rattle.nf_rational.specs.Operations.{0ℚ, ◌-ℚ◌}
 use Rattle.nf_rational.specs.Order.{◌≤ℚ◌, ◌<ℚ◌, le_ℚ, lt_ℚ, min_ℚ}
 use Rattle.nf_rational_laws.proofs.Polynomial.{reading_of}
-use Rattle.nf_rational_laws.proofs.Order.{≤ℚ_of_lt, ≤ℚ_of_same}
 use Rattle.nf_rational_laws.proofs.Tests.{le_of_test, lt_ℚ_cases, test_of_le, test_of_lt, min_ℚ_cases}
 use Rattle.nf_rational_laws.proofs.Linear.{le, linear_le}
-use Rattle.nf_model.specs.Entries.{number_at}
-use Rattle.nf_model.specs.Network.{Link, Piece, Network, IsPiece, ArePieces, rate_from, first_start}
-use Rattle.nf_model.specs.Phases.{Lasts, IsPhaseLength}
-use Rattle.nf_model_laws.specs.MemberLaws.{one_link}
-use Rattle.nf_model_laws.proofs.Affine.{≤_trans, <_≤_trans, clash}
+use Rattle.nf_model.specs.Network.{Piece, rate_from, first_start}
+use Rattle.nf_model_laws.proofs.Affine.{<_≤_trans, clash}
 use Rattle.nf_lists.specs.Advance.{cut_at}
 use Rattle.nf_one_link.specs.FullPhase.{lasts_until, overfills}
-use Rattle.nf_one_link.proofs.OneLink.{by_link}
 
 -- ---- tests
 pub both_true : (a b : Bool) → (a && b) ≡ true → (a ≡ true) × (b ≡ true)
@@ -89,57 +83,3 @@ module _ (horizon : ℚ) (ahead : 0ℚ <ℚ horizon) where
   pub to_horizon : (later : List Piece) → lasts_until horizon later ≡ true → cut_at (horizon -ℚ 0ℚ) (until (change_in later)) ≡ horizon -ℚ 0ℚ
   to_horizon [] lasts = refl
   to_horizon (next ∷ later) lasts = the_lesser _ _ (less_zero horizon next.start (le_of_test _ _ lasts))
-
-  -- each piece starts when this one does or later
-  starts_later : (p : Piece) (pieces : List Piece) → ((i : ℕ) (a b : Piece) → IsPiece (p ∷ pieces) i a → IsPiece (p ∷ pieces) (suc i) b → a.start <ℚ b.start)
-      → (i : ℕ) (q : Piece) → IsPiece (p ∷ pieces) i q → p.start ≤ℚ q.start
-  starts_later p pieces rise zero q h = ≤ℚ_of_same _ _ (ap (λ (x : Piece). x.start) (same_Some p q h))
-  starts_later p [] rise (suc i) q h = absurd (none-some q h)
-  starts_later p (n ∷ pieces) rise (suc i) q h =
-      ≤_trans _ _ _ (≤ℚ_of_lt _ _ (rise 0 p n refl refl)) (starts_later n pieces (λ i a b x y. rise (suc i) a b x y) i q h)
-
-  module _ (transit : ℚ) (capacity : Option ℚ) (piece : Piece) (slacks slopes : List ℚ) (no_slack : number_at slacks 0 ≡ 0ℚ) (starts : piece.start ≤ℚ 0ℚ) where
-    abbrev net : List Piece → Network
-    net later = one_link transit capacity (piece ∷ later)
-
-    lasts_for : (later : List Piece) (length : ℚ) → 0ℚ ≤ℚ length → ((i : ℕ) (q : Piece) → IsPiece (piece ∷ later) i q → 0ℚ <ℚ q.start → (0ℚ +ℚ length) ≤ℚ q.start)
-        → Lasts (net later) slacks slopes 0ℚ length
-    lasts_for later length n supply = record {
-      not_negative = n;
-      inactive = λ e link while p below w. absurd (by_link transit capacity (piece ∷ later) (λ (k : ℕ) (_ : Link). number_at slacks k <ℚ 0ℚ → ⊥) e link p (λ b. clash _ _ b (≤ℚ_of_same _ _ (sym no_slack))) below);
-      resetting = λ e link while p above w. absurd (by_link transit capacity (piece ∷ later) (λ (k : ℕ) (_ : Link). 0ℚ <ℚ number_at slacks k → ⊥) e link p (λ b. clash _ _ b (≤ℚ_of_same _ _ no_slack)) above);
-      supply = supply;
-    }
-
-    at_first : (q : Piece) → Some piece ≡ Some q → 0ℚ <ℚ q.start → ⊥
-    at_first q h above = clash _ _ above (subst (λ (x : Piece). x.start ≤ℚ 0ℚ) (same_Some piece q h) starts)
-
-    until_next : (s t : ℚ) → s ≤ℚ t → (0ℚ +ℚ (s -ℚ 0ℚ)) ≤ℚ t
-    until_next s t h = linear_le (s ∷ t ∷ []) (le h ∷ []) (search reading_of depth 12) tt
-
-    no_longer : (s x : ℚ) → (0ℚ +ℚ x) ≤ℚ s → x ≤ℚ s -ℚ 0ℚ
-    no_longer s x h = linear_le (s ∷ x ∷ []) (le h ∷ []) (search reading_of depth 12) tt
-
-    not_less : (s : ℚ) → 0ℚ ≤ℚ s → 0ℚ ≤ℚ s -ℚ 0ℚ
-    not_less s h = linear_le (s ∷ []) (le h ∷ []) (search reading_of depth 12) tt
-
-    pub phase_length : (later : List Piece) → ArePieces (piece ∷ later) → lasts_until horizon later ≡ true → IsPhaseLength (net later) slacks slopes 0ℚ horizon (horizon -ℚ 0ℚ)
-    phase_length [] pieces lasts = inr ((λ length n. lasts_for [] length n (supply length)), refl)
-      where
-        supply : (length : ℚ) (i : ℕ) (q : Piece) → IsPiece (piece ∷ []) i q → 0ℚ <ℚ q.start → (0ℚ +ℚ length) ≤ℚ q.start
-        supply length zero q h above = absurd (at_first q h above)
-        supply length (suc i) q h above = absurd (none-some q h)
-    phase_length (next ∷ later) pieces lasts = inl (next.start -ℚ 0ℚ, record { lasts = may; greatest = most }, sym (to_horizon (next ∷ later) lasts))
-      where
-        start : 0ℚ <ℚ next.start
-        start = later_start next later lasts
-
-        supply : (i : ℕ) (q : Piece) → IsPiece (piece ∷ next ∷ later) i q → 0ℚ <ℚ q.start → (0ℚ +ℚ (next.start -ℚ 0ℚ)) ≤ℚ q.start
-        supply zero q h above = absurd (at_first q h above)
-        supply (suc i) q h above = until_next _ _ (starts_later next later (λ i a b x y. pieces.rise (suc i) a b x y) i q h)
-
-        may : Lasts (net (next ∷ later)) slacks slopes 0ℚ (next.start -ℚ 0ℚ)
-        may = lasts_for (next ∷ later) (next.start -ℚ 0ℚ) (not_less next.start (≤ℚ_of_lt _ _ start)) supply
-
-        most : (other : ℚ) → Lasts (net (next ∷ later)) slacks slopes 0ℚ other → other ≤ℚ next.start -ℚ 0ℚ
-        most other l = no_longer next.start other (l.supply 1 next refl start)
