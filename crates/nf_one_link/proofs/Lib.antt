@@ -1,0 +1,16 @@
+pub mod Negative
+pub mod LinkCount
+pub mod Bound
+pub mod OneLink
+pub mod Pieces
+pub mod Starts
+pub mod Slopes
+pub mod PhaseFacts
+pub mod Peeling
+pub mod FlowFacts
+pub mod EndValues
+pub mod LinkLists
+pub mod PhaseLists
+pub mod Reports
+pub mod Solved
+pub mod Reading
