@@ -186,12 +186,12 @@ fn a_file_that_is_a_byte_too_long_is_told(rt: HostRuntime) -> Result<(), Fail> {
     Ok(())
 }
 
-// The output takes a byte a write, and fails at each one in turn.
+// The output takes a byte a write, and fails at each of the 207 in turn.
 #[test]
 fn an_output_that_fails_has_the_first_bytes(rt: HostRuntime) -> Result<(), Fail> {
     let report = REPORT.as_bytes();
     let words = words_of(rt.alloc(), &["solve", "net", "--horizon", "2"])?;
-    for k in 0..200u32 {
+    for k in 0..207u32 {
         let mut shelf = MemShelf::new(rt.alloc());
         shelf.put(rt.alloc(), "net", ONE.as_bytes())?;
         let mut out = MemSink::new(rt.alloc(), 5000, 1)?;
