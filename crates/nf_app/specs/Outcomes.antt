@@ -8,7 +8,7 @@ use Rattle.nf_formats.specs.Report.{Report, IsWellFormed, report_text}
 use Rattle.nf_curve.specs.Flows.{flow_of}
 use Rattle.nf_one_link.specs.FullPhase.{has_one_full_phase}
 use Rattle.nf_one_link.specs.Solution.{IsSolution}
-use Rattle.nf_one_link.specs.declared.Solution.{Solution}
+use Rattle.nf_one_link.specs.declared.solving.Solution.{Solution}
 use Rattle.nf_app.specs.declared.outcome.Outcome.{Outcome}
 use Rattle.nf_app.specs.declared.refusal.Refusal.{Refusal}
 use Rattle.nf_app.specs.Requests.{Request, Show, Solve}

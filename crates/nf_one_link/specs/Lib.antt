@@ -1,2 +1,4 @@
+pub mod FlowOfPhase
+pub mod Numbers
 pub mod FullPhase
 pub mod Solution

@@ -18,6 +18,31 @@ use Rattle.nf_phase_laws.proofs.CurveRun.{Grown, grown_by, Equilibrium-phases}
 use Rattle.nf_run_laws.proofs.WellRun.{WellRun, WellRun-start}
 use Rattle.nf_run_laws.proofs.Goes.{WellRun-after}
 
+-- ---- the flow of a standing
+module _ (net : Network) (good : IsNetwork net) (horizon : ℚ) (s : Standing) (well : WellRun net horizon s) where
+  grown : Grown net s.time s.labels (curves_of (flow_of s))
+  grown = grown_by net horizon s.time s.labels (curves_of (flow_of s)) good well.grow
+
+  many : {B : Type 0} (f : LinkCurves → B) → length (map f s.link_curves) ≡ length net.links
+  many f = length-map s.link_curves f ∙ well.link_count
+
+  pub HasShape-well : HasShape net (flow_of s)
+  HasShape-well = record {
+    labels = record { count = length-map s.label_curves (λ (c : GrowingCurve). c.points) ∙ well.label_count; each = λ v h. (grown.curves_stand.labels_end v h).curve };
+    inflows = record { count = length-map (flow_of s).inflows (λ (t : Trace). t.points) ∙ many (λ c. c.inflow); each = λ e h. (let l = link_within net e h in (grown.curves_stand.inflows_end e l.0 l.1).curve) };
+    outflows = record { count = length-map (flow_of s).outflows (λ (t : Trace). t.points) ∙ many (λ c. c.outflow); each = λ e h. (let l = link_within net e h in (grown.description_stands.outflows_end e l.0 l.1).curve) };
+    queues = record { count = many (λ c. c.queue.points); each = λ e h. (let l = link_within net e h in (grown.description_stands.queues_end e l.0 l.1).curve) };
+  }
+
+  pub HasSlopes-well : HasSlopes (flow_of s).inflows × HasSlopes (flow_of s).outflows
+  HasSlopes-well = (
+    λ e trace h. (let c = from_map (λ (c : LinkCurves). c.inflow) s.link_curves e trace h in subst (λ (t : Trace). AreSlopes t.points t.rates) c.2 (well.inflow_rates e c.0 c.1)),
+    λ e trace h. (let c = from_map (λ (c : LinkCurves). c.outflow) s.link_curves e trace h in subst (λ (t : Trace). AreSlopes t.points t.rates) c.2 (well.outflow_rates e c.0 c.1)),
+  )
+
+  pub Equilibrium-well : Equilibrium net (flow_of s)
+  Equilibrium-well = Equilibrium-phases net horizon s.labels (flow_of s) good well.grow HasShape-well HasSlopes-well.0 HasSlopes-well.1
+
 -- ---- phase by phase
 module _ (passes : Passing) (net : Network) (good : IsNetwork net) (bounds : Bounds) where
   WellRun-goes : (s t : Standing) → Goes passes net bounds.horizon bounds.patterns s t → WellRun net bounds.horizon s → WellRun net bounds.horizon t
@@ -43,28 +68,14 @@ module _ (passes : Passing) (net : Network) (good : IsNetwork net) (bounds : Bou
     pub run_grows : GrowByPhases net bounds.horizon last.time last.labels (curves_of (flow_of last))
     run_grows = well.grow
 
-    grown : Grown net last.time last.labels (curves_of (flow_of last))
-    grown = grown_by net bounds.horizon last.time last.labels (curves_of (flow_of last)) good run_grows
-
-    many : {B : Type 0} (f : LinkCurves → B) → length (map f last.link_curves) ≡ length net.links
-    many f = length-map last.link_curves f ∙ well.link_count
-
     pub run_shape : HasShape net (flow_of last)
-    run_shape = record {
-      labels = record { count = length-map last.label_curves (λ (c : GrowingCurve). c.points) ∙ well.label_count; each = λ v h. (grown.curves_stand.labels_end v h).curve };
-      inflows = record { count = length-map (flow_of last).inflows (λ (t : Trace). t.points) ∙ many (λ c. c.inflow); each = λ e h. (let l = link_within net e h in (grown.curves_stand.inflows_end e l.0 l.1).curve) };
-      outflows = record { count = length-map (flow_of last).outflows (λ (t : Trace). t.points) ∙ many (λ c. c.outflow); each = λ e h. (let l = link_within net e h in (grown.description_stands.outflows_end e l.0 l.1).curve) };
-      queues = record { count = many (λ c. c.queue.points); each = λ e h. (let l = link_within net e h in (grown.description_stands.queues_end e l.0 l.1).curve) };
-    }
+    run_shape = HasShape-well net good bounds.horizon last well
 
     pub run_slopes : HasSlopes (flow_of last).inflows × HasSlopes (flow_of last).outflows
-    run_slopes = (
-      λ e trace h. (let c = from_map (λ (c : LinkCurves). c.inflow) last.link_curves e trace h in subst (λ (t : Trace). AreSlopes t.points t.rates) c.2 (well.inflow_rates e c.0 c.1)),
-      λ e trace h. (let c = from_map (λ (c : LinkCurves). c.outflow) last.link_curves e trace h in subst (λ (t : Trace). AreSlopes t.points t.rates) c.2 (well.outflow_rates e c.0 c.1)),
-    )
+    run_slopes = HasSlopes-well net good bounds.horizon last well
 
     pub run_equilibrium : Equilibrium net (flow_of last)
-    run_equilibrium = Equilibrium-phases net bounds.horizon last.labels (flow_of last) good run_grows run_shape run_slopes.0 run_slopes.1
+    run_equilibrium = Equilibrium-well net good bounds.horizon last well
 
   pub report_equilibrium : (report : Report) → IsRunReport passes net bounds report → Equilibrium net report.flow
   report_equilibrium report r = subst (λ (w : Report). Equilibrium net w.flow) (sym r.report_is) (run_equilibrium r.last r.stop r.run)
