@@ -6,4 +6,11 @@ pub mod Pieces
 pub mod Starts
 pub mod Slopes
 pub mod PhaseFacts
+pub mod Peeling
+pub mod FlowFacts
+pub mod EndValues
+pub mod LinkLists
+pub mod PhaseLists
 pub mod Reports
+pub mod Solved
+pub mod Reading

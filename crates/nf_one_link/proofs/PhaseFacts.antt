@@ -53,7 +53,7 @@ module _ (passes : Passing) where
       ap (λ (b : Bool). (after_link passes b None (transit -ℚ (0ℚ +ℚ transit)) (number_at slopes 0) (number_at slopes 1) >>= λ next. Ok next)
       >>= λ least. until_change passes least 0ℚ (next_change (one_link transit capacity pieces) 0ℚ)) (zero_test (transit -ℚ (0ℚ +ℚ transit)) (no_slack transit))
 
-  until_ok : (change extension : Option ℚ) → until_change passes None 0ℚ change ≡ Ok extension → extension ≡ until change
+  pub until_ok : (change extension : Option ℚ) → until_change passes None 0ℚ change ≡ Ok extension → extension ≡ until change
   until_ok None extension h = sym (ok_same None extension h)
   until_ok (Some change) extension h =
       let a = bind_ok (checked passes Difference change 0ℚ) (λ length. Ok (Some length)) extension h in
@@ -92,7 +92,7 @@ module _ (passes : Passing) (transit capacity horizon : ℚ) (piece : Piece) (la
   pub positive : 0ℚ <ℚ capacity
   positive = good.capacities 0 (record { tail = 0; head = 1; transit = transit; capacity = Some capacity }) capacity refl refl
 
-  not_negative : 0ℚ ≤ℚ transit
+  pub not_negative : 0ℚ ≤ℚ transit
   not_negative = good.transits 0 (record { tail = 0; head = 1; transit = transit; capacity = Some capacity }) refl
 
   at_least : capacity ≤ℚ rate

@@ -1,6 +1,7 @@
 // Solving to a horizon.
 ghost use Rattle.std.specs.Prelude.{◌≡◌, [], ◌∷◌, true, Some, None, IfOk};
 ghost use Rattle.nf_formats.specs.declared.Cause.TheVariants as Cause;
+ghost use Rattle.nf_formats.specs.WellNamed.{IsNamed};
 ghost use Rattle.nf_curve.specs.Flows.{flow_of};
 ghost use Rattle.nf_one_link.specs.FullPhase.{has_one_full_phase, full, place_in as place_of};
 ghost use Rattle.nf_one_link.specs.FlowOfPhase.{IsReadOf, start_flow, flow_after, Rises};
@@ -26,7 +27,8 @@ pub struct Solution {
 // What is read of the network.
 fn overfilled(net: &Network, horizon: Q) -> Overfilled
     requires { has_one_full_phase net.now.net horizon ≡ true }
-    ensures { IsReadOf net.now.net result }
+    ensures link { IsReadOf net.now.net result }
+    ensures named { IsNamed net.now }
 {
     let link = net.link(LinkId(0));
     match link.capacity {
