@@ -133,10 +133,10 @@ module _ (passes : Passing) (transit capacity horizon : ℚ) (piece : Piece) (la
         let a = bind_ok (at_part Extend (extend_list passes net (slacks_of (hops net) s.labels) slopes s.time)) _ step lists in
         let b = bind_ok (at_part Advance (advance_list passes horizon s.time a.0 s.labels slopes)) _ step a.2 in
         let c = bind_ok (at_part Curve (curve_list passes net (sets_at net s.labels) full b.0.length (rate ∷ []) slopes b.0.labels (map amount_so_far s.link_curves)))
-            (λ links. Ok (record { length = b.0.length; labels = b.0.labels; links = links })) step b.2 in
+        (λ links. Ok (record { length = b.0.length; labels = b.0.labels; links = links })) step b.2 in
         let extension : a.0 ≡ until (change_in later) =
-            until_ok passes (next_change net 0ℚ) a.0 (sym (extend_is passes transit (Some capacity) (piece ∷ later) slopes) ∙ part_ok Extend _ a.0 a.1)
-            ∙ ap until (change_is horizon ahead capacity piece later overfilling) in
+        until_ok passes (next_change net 0ℚ) a.0 (sym (extend_is passes transit (Some capacity) (piece ∷ later) slopes) ∙ part_ok Extend _ a.0 a.1)
+        ∙ ap until (change_is horizon ahead capacity piece later overfilling) in
         let same : record { length = b.0.length; labels = b.0.labels; links = c.0 } ≡ step = ok_same _ step c.2 in
         ap (λ (t : PhaseStep). t.length) (sym same)
         ∙ (advanced_exact passes horizon 0ℚ a.0 (first_labels transit) slopes b.0 refl (part_ok Advance _ b.0 b.1)).0

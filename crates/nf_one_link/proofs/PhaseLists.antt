@@ -163,7 +163,7 @@ module _ (passes : Passing) (transit capacity horizon : ℚ) (piece : Piece) (la
     in_curves =
         let k : List LinkStep → Stopping Standing = λ links. put slope (record { length = ends.length; labels = ends.source ∷ ends.sink ∷ []; links = links }) in
         let step : ℚ → Checked LinkStep = λ so_far. link_step passes ends.length so_far
-            (the_phase passes (reported horizon s) (shown horizon transit) stops r slope ends.source ends.sink transit capacity ends.length (above_zero_too slope slopes_up) up.slack (λ step. k (step ∷ [])) (made ends)) in
+        (the_phase passes (reported horizon s) (shown horizon transit) stops r slope ends.source ends.sink transit capacity ends.length (above_zero_too slope slopes_up) up.slack (λ step. k (step ∷ [])) (made ends)) in
         ap (reported horizon s) (bind_all (at_part Curve (curves_at slope (advanced_of ends))) (with_links (advanced_of ends)) (put slope)
         ∙ one_each Curve (step (amount_so_far (first_curves (first_labels transit) (record { tail = 0; head = 1; transit = transit; capacity = Some capacity })))) k
         ∙ ap (λ (so_far : ℚ). at_part Curve (step so_far) >>= λ y. k (y ∷ [])) (none_entered transit (Some capacity)))
@@ -189,10 +189,11 @@ module _ (passes : Passing) (transit capacity horizon : ℚ) (piece : Piece) (la
   pub phase_rises : (phase : FullPhase) → phase_list passes read horizon ≡ Ok phase → Rises transit phase
   unfolding phase_list
   phase_rises phase h =
-      let a = bind_ok (slope_list passes r capacity) _ phase h in
-      let b = bind_ok (extension_list passes (next_change net 0ℚ)) _ phase a.2 in
-      let c = bind_ok (ends_list passes horizon b.0 transit a.0) _ phase b.2 in
-      let d = bind_ok (carried_list passes c.0.length r a.0) _ phase c.2 in
+      let a = bind_ok (slope_list passes r capacity) (λ slope. extension_list passes (next_change net 0ℚ) >>= after_extension slope) phase h in
+      let b = bind_ok (extension_list passes (next_change net 0ℚ)) (after_extension a.0) phase a.2 in
+      let c = bind_ok (ends_list passes horizon b.0 transit a.0) (after_ends a.0) phase b.2 in
+      let d = bind_ok (carried_list passes c.0.length r a.0)
+      (λ carried. waiting_list passes c.0.source c.0.sink transit capacity carried.inflow_rate >>= λ waiting. Ok (made c.0 carried waiting)) phase c.2 in
       let e = bind_ok (waiting_list passes c.0.source c.0.sink transit capacity d.0.inflow_rate) (λ waiting. Ok (made c.0 d.0 waiting)) phase d.2 in
       let up : AreRising transit c.0 = rising a.0 b.0 c.0 a.1 b.1 c.1 in
       let same : made c.0 d.0 e.0 ≡ phase = (let f = e.2 in cc) in

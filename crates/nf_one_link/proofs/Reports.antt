@@ -70,9 +70,9 @@ module _ (passes : Passing) (transit capacity horizon : ℚ) (piece : Piece) (la
     reaches =
         let quotient = bind_ok (at_part Table (checked passes Quotient (neg_ℚ (rate passes transit capacity horizon piece later good ahead over)) (neg_ℚ capacity))) _ last ok in
         let lists = bind_ok (phase_lists passes net horizon s full (rate passes transit capacity horizon piece later good ahead over ∷ []) (1ℚ ∷ quotient.0 ∷ []))
-            (λ step. Ok (standing_after net s full (1ℚ ∷ quotient.0 ∷ []) step)) last quotient.2 in
+        (λ step. Ok (standing_after net s full (1ℚ ∷ quotient.0 ∷ []) step)) last quotient.2 in
         let slope_is = checked_ok passes Quotient (neg_ℚ (rate passes transit capacity horizon piece later good ahead over)) (neg_ℚ capacity) quotient.0 (part_ok Table _ quotient.0 quotient.1)
-            ∙ negatives (rate passes transit capacity horizon piece later good ahead over) capacity (positive passes transit capacity horizon piece later good ahead over) in
+        ∙ negatives (rate passes transit capacity horizon piece later good ahead over) capacity (positive passes transit capacity horizon piece later good ahead over) in
         let new : Standing = standing_after net s full (1ℚ ∷ quotient.0 ∷ []) lists.0 in
         let well : WellRun net horizon new = WellRun-full passes transit capacity horizon piece later good ahead over quotient.0 lists.0 slope_is lists.1 in
         let reached : new.time ≡ horizon = ap (λ (l : ℚ). 0ℚ +ℚ l) (length_is passes transit capacity horizon piece later good ahead over quotient.0 lists.0 slope_is lists.1) ∙ up_to horizon in
@@ -116,6 +116,6 @@ pub IsRight-full : (passes : Passing) (net : Network) (horizon : ℚ) (report : 
     → IsFullPhaseReport passes net horizon report → IsRight net horizon report
 IsRight-full passes net horizon report good source sink built h =
     let same : net ≡ one_link h.link.transit (Some h.capacity) net.pieces =
-        is_one_link net good source sink h.link h.only ∙ ap (λ (c : Option ℚ). one_link h.link.transit c net.pieces) h.bounded in
+    is_one_link net good source sink h.link h.only ∙ ap (λ (c : Option ℚ). one_link h.link.transit c net.pieces) h.bounded in
     subst (IsRight net horizon) (sym h.report_is)
     (subst (Reports passes h.link.transit h.capacity horizon) (sym same) (of_one passes h.link.transit h.capacity horizon net.pieces) good built h.first h.start)

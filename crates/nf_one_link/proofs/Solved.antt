@@ -95,7 +95,7 @@ module _ (n : Named) (horizon : ℚ) (link : Overfilled) (is : IsReadOf n.net li
   solution : (r : Result FullPhase (PassedAt ℚ)) → r ≡ phase_list (beyond greatest) link horizon → IsSolution n horizon (shown horizon link.transit r)
   solution r e = subst (λ (r : Result FullPhase (PassedAt ℚ)). IsSolution n horizon (shown horizon link.transit r)) (sym e)
       (let right : IsRight n.net horizon (shown horizon link.transit (phase_list (beyond greatest) link horizon)) =
-          IsRight-full (beyond greatest) n.net horizon _ named.network named.numbered.source named.numbered.sink built facts.report in
+      IsRight-full (beyond greatest) n.net horizon _ named.network named.numbered.source named.numbered.sink built facts.report in
       record { built = built; horizon_is = right.horizon_is; well_formed = right.well_formed; equilibrium = right.equilibrium; phase = facts.report })
 
   abbrev view : model.Flow → Option (Cause ℚ) → List (Option State) → Report

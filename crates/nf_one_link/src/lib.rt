@@ -7,6 +7,8 @@ mod flow;
 mod order;
 mod phase;
 mod solving;
+#[cfg(test)]
+mod tests;
 
 pub use built::is_built;
 pub use solving::{Solution, solve};

@@ -131,12 +131,7 @@ fn carried_of(length: Q, rate: Q, slope: Q) -> Result<Carried, PassedAt<Q>>
 
 // What is in the queue at the labels of the link's ends. The rate at which it grows is formed too.
 #[tactic(auto, unfolding(crate::specs::Numbers::waiting_list))]
-fn waiting_at(
-    ends: &Ends,
-    transit: Q,
-    capacity: Q,
-    inflow_rate: Q,
-) -> Result<Q, PassedAt<Q>>
+fn waiting_at(ends: &Ends, transit: Q, capacity: Q, inflow_rate: Q) -> Result<Q, PassedAt<Q>>
     ensures { result ≡ waiting_list (beyond (bound_of 127)) ends.now.source ends.now.sink transit capacity inflow_rate }
 {
     let arrival = at!(Part::Curve, ends.source.sum(transit));
