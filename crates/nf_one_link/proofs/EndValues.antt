@@ -1,13 +1,13 @@
 -- The numbers of a phase in which no operation passes: the labels rise, and that of the sink by more than that of the source.
-use Rattle.std.proofs.Common.{◌≡◌, [], ◌∷◌, inl, inr, ⊎_elim, sym, ap, subst, refl, ◌∙◌}
-use Rattle.std.specs.Prelude.{Option, Result, Ok}
+use Rattle.std.proofs.Common.{◌≡◌, [], ◌∷◌, ⊎_elim, sym, ap, subst, refl, ◌∙◌}
+use Rattle.std.specs.Prelude.{Option, Ok}
 use Rattle.nf_rational.specs.Rational.{ℚ}
 use Rattle.nf_rational.specs.Operations.{0ℚ, 1ℚ, ◌+ℚ◌, ◌-ℚ◌, ◌*ℚ◌, ◌/ℚ◌}
 use Rattle.nf_rational.specs.Order.{◌≤ℚ◌, ◌<ℚ◌}
 use Rattle.nf_rational_laws.proofs.Polynomial.{reading_of}
-use Rattle.nf_rational_laws.proofs.Order.{≤ℚ_of_lt, ps_times, lt_or_le_ℚ, ps_whole}
+use Rattle.nf_rational_laws.proofs.Order.{≤ℚ_of_lt, ps_times, lt_or_le_ℚ}
 use Rattle.nf_rational_laws.proofs.Quotient.{/ℚ-times, ps_apart, ps_inv, /ℚ_is}
-use Rattle.nf_rational_laws.proofs.Linear.{le, lt, eq, le_times, linear_lt, linear_false}
+use Rattle.nf_rational_laws.proofs.Linear.{lt, eq, le_times, linear_lt, linear_false}
 use Rattle.nf_work.specs.declared.Op.TheVariants.{Sum, Difference, Product}
 use Rattle.nf_work.specs.declared.Part.TheVariants.{Advance}
 use Rattle.nf_work.specs.Passing.{Passing}

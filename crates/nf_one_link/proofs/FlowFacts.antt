@@ -1,5 +1,5 @@
 -- The curves of the start and of the phase, as flows.
-use Rattle.std.proofs.Common.{◌≡◌, List, [], ◌∷◌, Bool, true, false, ◌&&◌, sym, ap, refl, ◌∙◌}
+use Rattle.std.proofs.Common.{◌≡◌, List, [], ◌∷◌, Bool, true, false, ◌&&◌, ap, refl}
 use Rattle.std.specs.Prelude.{Option, Some, None}
 use Rattle.std.specs.List.{last_or}
 use Rattle.std.specs.Option.{option_map_or}
@@ -12,12 +12,10 @@ use Rattle.nf_rational_laws.proofs.Tests.{test_of_lt}
 use Rattle.nf_rational_laws.proofs.Linear.{linear_eq}
 use Rattle.nf_model.specs.Curve.{Point}
 use Rattle.nf_model.specs.Network.{Piece}
-use Rattle.nf_model.specs.Equilibrium.{Trace, Flow}
 use Rattle.nf_model_laws.specs.MemberLaws.{one_link}
-use Rattle.nf_lists.specs.Signs.{is_same, is_positive}
-use Rattle.nf_lists.specs.CurveList.{QueueStep, LinkStep}
-use Rattle.nf_lists.specs.ReportCurves.{GrowingCurve, LinkCurves, goes_on, with_point, with_rate, trace_with, curve_with, first_trace, first_queue, first_curves, amount_so_far}
-use Rattle.nf_lists.specs.PhaseRun.{Standing, PhaseStep, standing_after, flow_of}
+use Rattle.nf_lists.specs.Signs.{is_positive}
+use Rattle.nf_lists.specs.ReportCurves.{goes_on, with_point, with_rate, trace_with, curve_with, first_trace, first_queue, first_curves, amount_so_far}
+use Rattle.nf_lists.specs.PhaseRun.{PhaseStep, standing_after, flow_of}
 use Rattle.nf_thin_laws.specs.MemberLaws.{first_labels}
 use Rattle.nf_one_link.specs.declared.phase.FullPhase.{FullPhase}
 use Rattle.nf_one_link.specs.FullPhase.{full}

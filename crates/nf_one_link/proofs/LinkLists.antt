@@ -1,6 +1,6 @@
 -- The curve list of the full link, operation by operation.
 use Rattle.std.proofs.Common.{◌≡◌, List, [], ◌∷◌, Bool, true, sym, ap, subst, refl, ◌∙◌}
-use Rattle.std.specs.Prelude.{Option, Some, Result, Ok, Err}
+use Rattle.std.specs.Prelude.{Option, Some, Ok, Err}
 use Rattle.nf_rational.specs.Rational.{ℚ}
 use Rattle.nf_rational.specs.Operations.{0ℚ, 1ℚ, ◌+ℚ◌, ◌-ℚ◌, ◌/ℚ◌}
 use Rattle.nf_rational.specs.Order.{◌<ℚ◌}

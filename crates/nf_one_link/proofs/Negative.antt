@@ -1,5 +1,5 @@
 -- The number with the other sign is a fraction too, and the quotient of two such numbers is that of the numbers.
-use Rattle.std.proofs.Common.{◌≡◌, ◌≢◌, ℕ, zero, suc, ◌<◌, ◌≤◌, ℤ, pos, neg_ℤ, ◌*ℤ◌, ◌-ℤ◌, nat_abs, List, [], ◌∷◌, refl, sym, ◌∙◌, ap, subst, arith}
+use Rattle.std.proofs.Common.{◌≡◌, ◌≢◌, ℕ, zero, suc, ◌<◌, ◌≤◌, ℤ, pos, neg_ℤ, ◌*ℤ◌, ◌-ℤ◌, nat_abs, [], ◌∷◌, sym, ◌∙◌, ap, subst, arith}
 use lib.Signed.{◌≤ℤ◌}
 use borrow.Author.Differences.{ints}
 use Rattle.nf_rational.specs.Rational.{ℚ}

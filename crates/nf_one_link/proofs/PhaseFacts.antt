@@ -1,28 +1,28 @@
 -- The one phase of an overfilled link leads from the start to the horizon, and its curves are an equilibrium.
-use Rattle.std.proofs.Common.{◌≡◌, ◌≢◌, ℕ, List, [], ◌∷◌, Bool, true, ◌&&◌, sym, ap, subst, refl, ◌∙◌}
-use Rattle.std.specs.Prelude.{Option, Some, None, Result, Ok, Err, map}
+use Rattle.std.proofs.Common.{◌≡◌, List, [], ◌∷◌, Bool, true, ◌&&◌, sym, ap, subst, refl, ◌∙◌}
+use Rattle.std.specs.Prelude.{Option, Some, None, Ok, map}
 use mathlib.Core.Path.{ap₂}
 use Rattle.nf_rational.specs.Rational.{ℚ}
-use Rattle.nf_rational.specs.Operations.{0ℚ, 1ℚ, neg_ℚ, ◌+ℚ◌, ◌-ℚ◌, ◌*ℚ◌, ◌/ℚ◌}
-use Rattle.nf_rational.specs.Order.{◌≤ℚ◌, ◌<ℚ◌, le_ℚ}
+use Rattle.nf_rational.specs.Operations.{0ℚ, 1ℚ, ◌+ℚ◌, ◌-ℚ◌, ◌/ℚ◌}
+use Rattle.nf_rational.specs.Order.{◌≤ℚ◌, ◌<ℚ◌}
 use Rattle.nf_rational_laws.proofs.Polynomial.{reading_of}
 use Rattle.nf_rational_laws.proofs.Order.{≤ℚ_of_lt, ≤ℚ_of_same}
 use Rattle.nf_rational_laws.proofs.Tests.{test_of_le}
-use Rattle.nf_rational_laws.proofs.Linear.{eq, linear_eq}
+use Rattle.nf_rational_laws.proofs.Linear.{linear_eq}
 use Rattle.nf_work.specs.Passing.{Passing}
-use Rattle.nf_work.specs.Checked.{Checked, checked, at_part, fold_checked, ◌>>=◌}
+use Rattle.nf_work.specs.Checked.{checked, at_part, ◌>>=◌}
 use Rattle.nf_work.specs.declared.Op.TheVariants.{Difference}
 use Rattle.nf_work.specs.declared.Part.TheVariants.{Extend, Advance, Curve}
 use Rattle.nf_model.specs.Entries.{number_at}
-use Rattle.nf_model.specs.Network.{Link, Piece, Network, IsNetwork, hops, rate_at, next_change}
+use Rattle.nf_model.specs.Network.{Piece, Network, IsNetwork, hops, rate_at, next_change}
 use Rattle.nf_model.specs.ThinFlow.{Sets, slacks_of, sets_at}
 use Rattle.nf_model.specs.Pattern.{IsListedIn, Solves, Meets, IsSolution}
 use Rattle.nf_model.specs.Phases.{IsPhaseLength}
 use Rattle.nf_model_laws.specs.MemberLaws.{one_link}
 use Rattle.nf_lists.specs.Signs.{is_zero}
 use Rattle.nf_lists.specs.Extend.{after_link, until_change, extend_list}
-use Rattle.nf_lists.specs.Advance.{Advanced, cut_at, advance_list}
-use Rattle.nf_lists.specs.CurveList.{LinkStep, curve_list}
+use Rattle.nf_lists.specs.Advance.{cut_at, advance_list}
+use Rattle.nf_lists.specs.CurveList.{curve_list}
 use Rattle.nf_lists.specs.ReportCurves.{first_label_curve, first_curves, amount_so_far}
 use Rattle.nf_lists.specs.PhaseRun.{Standing, PhaseStep, IsStart, standing_after, phase_lists}
 use Rattle.nf_lists_laws.proofs.Exact.{advanced_exact}
@@ -31,9 +31,8 @@ use Rattle.nf_thin_laws.specs.MemberLaws.{first_labels, first_sets}
 use Rattle.nf_thin_laws.proofs.OneLink.{first_sets-are, OneLink-full}
 use Rattle.nf_run_laws.proofs.WellRun.{WellRun, WellRun-start}
 use Rattle.nf_run_laws.proofs.Goes.{WellRun-after}
-use Rattle.nf_one_link.specs.FullPhase.{full, full_phase}
+use Rattle.nf_one_link.specs.FullPhase.{full}
 use Rattle.nf_one_link.proofs.Bound.{bind_ok, part_ok, checked_ok, ok_same}
-use Rattle.nf_one_link.proofs.Negative.{negatives}
 use Rattle.nf_one_link.proofs.OneLink.{start_labels_are}
 use Rattle.nf_one_link.proofs.Pieces.{Overfilling, change_in, until, rate_is, change_is, to_horizon, phase_length}
 

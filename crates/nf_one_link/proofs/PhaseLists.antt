@@ -2,7 +2,7 @@
 use Rattle.std.proofs.Common.{◌≡◌, List, [], ◌∷◌, sym, ap, subst, refl, ◌∙◌}
 use Rattle.std.specs.Prelude.{Option, Some, None, Result, Ok, Err, map}
 use Rattle.nf_rational.specs.Rational.{ℚ}
-use Rattle.nf_rational.specs.Operations.{0ℚ, 1ℚ, neg_ℚ, ◌+ℚ◌, ◌-ℚ◌, ◌/ℚ◌}
+use Rattle.nf_rational.specs.Operations.{0ℚ, 1ℚ, ◌-ℚ◌, ◌/ℚ◌}
 use Rattle.nf_rational.specs.Order.{◌<ℚ◌}
 use Rattle.nf_rational_laws.proofs.Order.{ps_whole}
 use Rattle.nf_work.specs.declared.Op.TheVariants.{Sum, Difference, Product}
@@ -10,15 +10,15 @@ use Rattle.nf_work.specs.declared.Part.TheVariants.{Extend, Advance, Curve}
 use Rattle.nf_work.specs.declared.PassedAt.{PassedAt}
 use Rattle.nf_work.specs.Passing.{Passing}
 use Rattle.nf_work.specs.Checked.{Checked, checked, at_part, ◌>>=◌}
-use Rattle.nf_model.specs.Network.{Link, Piece, Network, IsNetwork, hops, rate_at, next_change}
+use Rattle.nf_model.specs.Network.{Piece, Network, IsNetwork, rate_at, next_change}
 use Rattle.nf_model.specs.Equilibrium.{Flow}
-use Rattle.nf_model.specs.ThinFlow.{slacks_of, sets_at}
+use Rattle.nf_model.specs.ThinFlow.{sets_at}
 use Rattle.nf_model_laws.specs.MemberLaws.{one_link}
 use Rattle.nf_model_laws.proofs.Affine.{<_≤_trans}
 use Rattle.nf_rational_laws.proofs.Order.{≤ℚ_of_lt}
 use Rattle.nf_formats.specs.declared.Cause.TheVariants as Cause
 use Rattle.nf_formats.specs.Report.{Report}
-use Rattle.nf_lists.specs.Extend.{until_change, extend_list}
+use Rattle.nf_lists.specs.Extend.{until_change}
 use Rattle.nf_lists.specs.Advance.{Advanced, cut_at, labels_after, advance_list}
 use Rattle.nf_lists.specs.CurveList.{LinkStep, link_step, curve_list}
 use Rattle.nf_lists.specs.ReportCurves.{first_curves, amount_so_far}
@@ -32,9 +32,9 @@ use Rattle.nf_one_link.specs.FullPhase.{full, full_phase, place_in, reported}
 use Rattle.nf_one_link.specs.Numbers.{slope_list, extension_list, label_list, ends_list, carried_list, waiting_list, phase_list}
 use Rattle.nf_one_link.specs.FlowOfPhase.{start_flow, flow_after, Rises}
 use Rattle.nf_one_link.proofs.Bound.{bind_ok, part_ok}
-use Rattle.nf_one_link.proofs.Pieces.{Overfilling, change_in, until, change_is, to_horizon}
+use Rattle.nf_one_link.proofs.Pieces.{Overfilling, until, change_is, to_horizon}
 use Rattle.nf_one_link.proofs.Slopes.{slope_is}
-use Rattle.nf_one_link.proofs.PhaseFacts.{extend_is, until_ok, first, rate, rate_here, positive, not_negative}
+use Rattle.nf_one_link.proofs.PhaseFacts.{extend_is, until_ok, first, rate_here, positive, not_negative}
 use Rattle.nf_one_link.proofs.FlowFacts.{none_entered, start_flow_is, flow_after_is}
 use Rattle.nf_one_link.proofs.EndValues.{ps_quotient, slope_above, above_zero_too, AreValues, end_values, AreRising, are_rising}
 use Rattle.nf_one_link.proofs.Peeling.{Stopping, Same, along, along_in, along_as, bind_all, part_bind}

@@ -1,6 +1,6 @@
 -- The supply of a link that is overfilled: at one rate, until the horizon or beyond.
 use Rattle.std.proofs.Common.{◌≡◌, ℕ, zero, suc, List, [], ◌∷◌, Bool, true, false, ◌&&◌, not, if◌then◌else◌, inl, inr, ⊎_elim, sym, ap, subst, refl, ◌∙◌}
-use Rattle.std.specs.Prelude.{◌⊎◌, Option, Some, None}
+use Rattle.std.specs.Prelude.{Option, Some, None}
 use Rattle.std.proofs.lemmas.Option.{none-some, same_Some}
 use Rattle.nf_rational.specs.Rational.{ℚ}
 use Rattle.nf_rational.specs.Operations.{0ℚ, ◌+ℚ◌, ◌-ℚ◌}
@@ -10,7 +10,7 @@ use Rattle.nf_rational_laws.proofs.Order.{≤ℚ_of_lt, ≤ℚ_of_same}
 use Rattle.nf_rational_laws.proofs.Tests.{le_of_test, lt_ℚ_cases, test_of_le, test_of_lt, min_ℚ_cases}
 use Rattle.nf_rational_laws.proofs.Linear.{le, linear_le}
 use Rattle.nf_model.specs.Entries.{number_at}
-use Rattle.nf_model.specs.Network.{Link, Piece, Network, IsLink, IsPiece, ArePieces, rate_from, first_start}
+use Rattle.nf_model.specs.Network.{Link, Piece, Network, IsPiece, ArePieces, rate_from, first_start}
 use Rattle.nf_model.specs.Phases.{Lasts, IsPhaseLength}
 use Rattle.nf_model_laws.specs.MemberLaws.{one_link}
 use Rattle.nf_model_laws.proofs.Affine.{≤_trans, <_≤_trans, clash}

@@ -1,16 +1,15 @@
 -- What is read of a network that is built.
-use Rattle.std.proofs.Common.{◌≡◌, List, [], ◌∷◌, true, false, ◌&&◌, sym, ap, subst, refl, ◌∙◌}
-use Rattle.std.specs.Prelude.{Option, Some, None, slice_get}
+use Rattle.std.proofs.Common.{◌≡◌, List, [], ◌∷◌, true, ap, ◌∙◌}
+use Rattle.std.specs.Prelude.{Option, Some, slice_get}
 use Rattle.std.proofs.lemmas.Option.{same_Some}
 use Rattle.nf_rational.specs.Rational.{ℚ}
 use Rattle.nf_rational.specs.Operations.{0ℚ}
 use Rattle.nf_rational.specs.Order.{lt_ℚ}
-use Rattle.nf_model.specs.Network.{Link, Piece, Network, IsLink, IsNetwork, rate_at, next_change}
+use Rattle.nf_model.specs.Network.{Link, Piece, IsLink, rate_at, next_change}
 use Rattle.nf_model_laws.specs.MemberLaws.{one_link}
 use Rattle.nf_formats.specs.Named.{Named}
 use Rattle.nf_formats.specs.WellNamed.{IsNamed}
-use Rattle.nf_one_link.specs.declared.phase.Overfilled.{Overfilled}
-use Rattle.nf_one_link.specs.FullPhase.{overfilled_link, is_one_overfilled, has_one_full_phase}
+use Rattle.nf_one_link.specs.FullPhase.{is_one_overfilled, has_one_full_phase}
 use Rattle.nf_one_link.specs.FlowOfPhase.{IsReadOf}
 use Rattle.nf_one_link.proofs.OneLink.{is_one_link}
 use Rattle.nf_one_link.proofs.Pieces.{both_true}

@@ -1,9 +1,9 @@
 -- The report of the one phase of an overfilled link is well formed, and its flow is an equilibrium.
-use Rattle.std.proofs.Common.{◌≡◌, ℕ, zero, suc, List, [], ◌∷◌, Bool, true, false, ◌&&◌, length, ◌↔◌, sym, ap, subst, refl, ◌∙◌}
+use Rattle.std.proofs.Common.{◌≡◌, ℕ, List, [], ◌∷◌, true, length, ◌↔◌, sym, ap, subst, refl, ◌∙◌}
 use Rattle.std.specs.Prelude.{Option, Some, None, Result, Ok, Err}
-use Rattle.std.proofs.lemmas.Option.{none-some, same_Some}
+use Rattle.std.proofs.lemmas.Option.{none-some}
 use Rattle.nf_rational.specs.Rational.{ℚ}
-use Rattle.nf_rational.specs.Operations.{0ℚ, 1ℚ, neg_ℚ, ◌+ℚ◌, ◌-ℚ◌, ◌/ℚ◌}
+use Rattle.nf_rational.specs.Operations.{0ℚ, 1ℚ, neg_ℚ, ◌+ℚ◌, ◌-ℚ◌}
 use Rattle.nf_rational.specs.Order.{◌≤ℚ◌, ◌<ℚ◌, lt_ℚ}
 use Rattle.nf_rational_laws.proofs.Polynomial.{reading_of}
 use Rattle.nf_rational_laws.proofs.Order.{≤ℚ_of_lt, ≤ℚ_of_same, <ℚ_irrefl}
@@ -13,10 +13,8 @@ use Rattle.nf_work.specs.declared.Part.TheVariants.{Table}
 use Rattle.nf_work.specs.declared.PassedAt.{PassedAt}
 use Rattle.nf_work.specs.Passing.{Passing}
 use Rattle.nf_work.specs.Checked.{checked, at_part}
-use Rattle.nf_model.specs.declared.State.TheVariants.{Full}
 use Rattle.nf_model.specs.Network.{Link, Piece, Network, IsLink, IsNetwork}
 use Rattle.nf_model.specs.Equilibrium.{Equilibrium}
-use Rattle.nf_model.specs.Pattern.{Pattern, HasState}
 use Rattle.nf_model_laws.specs.MemberLaws.{one_link}
 use Rattle.nf_formats.specs.declared.Cause.{Cause}
 use Rattle.nf_formats.specs.Report.{Report, IsWellFormed}

@@ -1,6 +1,6 @@
 -- The slope of the sink's label, where its operation doesn't pass.
 use Rattle.std.proofs.Common.{◌≡◌, ◌≢◌, sym, ◌∙◌}
-use Rattle.std.specs.Prelude.{Result, Ok}
+use Rattle.std.specs.Prelude.{Ok}
 use Rattle.nf_rational.specs.Rational.{ℚ}
 use Rattle.nf_rational.specs.Operations.{0ℚ, neg_ℚ, ◌/ℚ◌}
 use Rattle.nf_rational.specs.Order.{◌<ℚ◌}
@@ -8,7 +8,6 @@ use Rattle.nf_rational_laws.proofs.Order.{≤ℚ_of_lt}
 use Rattle.nf_model_laws.proofs.Affine.{<_≤_trans}
 use Rattle.nf_work.specs.declared.Op.TheVariants.{Quotient}
 use Rattle.nf_work.specs.declared.Part.TheVariants.{Table}
-use Rattle.nf_work.specs.declared.PassedAt.{PassedAt}
 use Rattle.nf_work.specs.Passing.{Passing}
 use Rattle.nf_work.specs.Checked.{checked}
 use Rattle.nf_one_link.specs.Numbers.{slope_list}

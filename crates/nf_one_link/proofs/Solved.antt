@@ -1,5 +1,5 @@
 -- What is computed of a network that is built is its solution.
-use Rattle.std.proofs.Common.{◌≡◌, List, [], ◌∷◌, true, sym, ap, subst, refl, ◌∙◌}
+use Rattle.std.proofs.Common.{◌≡◌, List, [], ◌∷◌, true, sym, subst, refl}
 use Rattle.std.specs.Prelude.{Option, Some, None, Result, Ok, Err, IfOk}
 use Rattle.nf_rational.specs.Rational.{ℚ}
 use Rattle.nf_rational.specs.Operations.{0ℚ}
@@ -11,7 +11,6 @@ use Rattle.nf_model.specs.Network.{Piece, Network, IsNetwork, rate_at, next_chan
 use Rattle.nf_model.specs.Equilibrium as model
 use Rattle.nf_model_laws.specs.MemberLaws.{one_link}
 use Rattle.nf_formats.specs.declared.Cause.{Cause}
-use Rattle.nf_formats.specs.declared.Cause.TheVariants as Cause
 use Rattle.nf_formats.specs.Numbers.{greatest}
 use Rattle.nf_formats.specs.Named.{Named}
 use Rattle.nf_formats.specs.WellNamed.{IsNamed}

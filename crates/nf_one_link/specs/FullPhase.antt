@@ -6,7 +6,6 @@ use Rattle.nf_rational.specs.Operations.{0ℚ, 1ℚ, neg_ℚ}
 use Rattle.nf_rational.specs.Order.{lt_ℚ, le_ℚ}
 use Rattle.nf_work.specs.declared.Op.TheVariants.{Quotient}
 use Rattle.nf_work.specs.declared.Part.{Part}
-use Rattle.nf_work.specs.declared.Part.TheVariants as Part
 use Rattle.nf_work.specs.declared.PassedAt.{PassedAt}
 use Rattle.nf_work.specs.Passing.{Passing}
 use Rattle.nf_work.specs.Checked.{checked, at_part, ◌>>=◌}

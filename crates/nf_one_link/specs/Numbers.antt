@@ -1,5 +1,5 @@
 -- The operations of the one phase of an overfilled link, one after the other, with the numbers that its curves are made of.
-use Rattle.std.specs.Prelude.{List, Option, None, Result, Ok}
+use Rattle.std.specs.Prelude.{Option, None, Result, Ok}
 use Rattle.nf_rational.specs.Rational.{ℚ}
 use Rattle.nf_rational.specs.Operations.{0ℚ, 1ℚ, neg_ℚ}
 use Rattle.nf_work.specs.declared.Op.TheVariants.{Sum, Difference, Product, Quotient}

@@ -65,10 +65,10 @@ module _ (passes : Passing) (net : Network) (good : IsNetwork net) (horizon : â„
   abbrev curves' : Curves
   curves' = curves_of (flow_of new)
 
-  thin : IsThinFlow net (sets_at net s.labels) (rate_at net s.time) flows slopes
+  pub thin : IsThinFlow net (sets_at net s.labels) (rate_at net s.time) flows slopes
   thin = IsThinFlow-accepted net (sets_at net s.labels) (rate_at net s.time) pattern flows slopes good (AreSets-sets_at net s.labels) listed.states listed.entered solves meets
 
-  abbrev phase : IsPhase net horizon (s.time, s.labels) (new.time, new.labels)
+  abbrev pub phase : IsPhase net horizon (s.time, s.labels) (new.time, new.labels)
   phase = record { before = below; flows = flows; slopes = slopes; thin = thin; length = step.length; is_length = is_length; time = refl; labels = parts.labels }
 
   grown : Grown net s.time s.labels curves

@@ -6,3 +6,7 @@ pub mod WellRun
 pub mod AfterPhase
 pub mod Goes
 pub mod Run
+pub mod Limits
+pub mod Sides
+pub mod Extension
+pub mod Sequence

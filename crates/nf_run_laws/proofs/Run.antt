@@ -6,17 +6,18 @@ use Rattle.nf_rational.specs.Rational.{ℚ}
 use Rattle.nf_work.specs.Passing.{Passing}
 use Rattle.nf_model.specs.Curve.{AreSlopes}
 use Rattle.nf_model.specs.Network.{Network, IsNetwork}
+use Rattle.nf_model.specs.Phases.{IsPhase}
 use Rattle.nf_model.specs.Equilibrium.{Trace, HasShape, HasSlopes, Equilibrium}
 use Rattle.nf_formats.specs.declared.Cause.{Cause}
 use Rattle.nf_formats.specs.Report.{Report}
 use Rattle.nf_lists.specs.ReportCurves.{GrowingCurve, LinkCurves}
 use Rattle.nf_lists.specs.PhaseRun.{Standing, Bounds, Goes, Runs, at_horizon, at_phases, fails, goes, IsPhaseRun, IsRunReport, flow_of}
-use Rattle.nf_lists_laws.proofs.Ending.{from_map, phase_parts}
+use Rattle.nf_lists_laws.proofs.Ending.{from_map, PhaseParts, phase_parts}
 use Rattle.nf_phase_laws.specs.CurveRun.{GrowByPhases, curves_of}
 use Rattle.nf_phase_laws.proofs.Holds.{link_within}
 use Rattle.nf_phase_laws.proofs.CurveRun.{Grown, grown_by, Equilibrium-phases}
 use Rattle.nf_run_laws.proofs.WellRun.{WellRun, WellRun-start}
-use Rattle.nf_run_laws.proofs.Goes.{WellRun-after}
+use Rattle.nf_run_laws.proofs.Goes.{phase, WellRun-after}
 
 -- ---- the flow of a standing
 module _ (net : Network) (good : IsNetwork net) (horizon : ℚ) (s : Standing) (well : WellRun net horizon s) where
@@ -45,15 +46,25 @@ module _ (net : Network) (good : IsNetwork net) (horizon : ℚ) (s : Standing) (
 
 -- ---- phase by phase
 module _ (passes : Passing) (net : Network) (good : IsNetwork net) (bounds : Bounds) where
-  WellRun-goes : (s t : Standing) → Goes passes net bounds.horizon bounds.patterns s t → WellRun net bounds.horizon s → WellRun net bounds.horizon t
+  parts_of : (s t : Standing) (g : Goes passes net bounds.horizon bounds.patterns s t) → WellRun net bounds.horizon s → PhaseParts passes net s g.pattern g.flows g.slopes g.step
+  parts_of s t g well =
+      let grown : Grown net s.time s.labels (curves_of (flow_of s)) = grown_by net bounds.horizon s.time s.labels (curves_of (flow_of s)) good well.grow in
+      let count : length g.slopes ≡ length s.labels = g.finds.search.is_search.answers.solution.solves.slope_count ∙ sym grown.stands.count in
+      phase_parts passes net good bounds.horizon bounds.patterns s g.pattern g.flows g.slopes g.step count g.lists
+
+  pub WellRun-goes : (s t : Standing) → Goes passes net bounds.horizon bounds.patterns s t → WellRun net bounds.horizon s → WellRun net bounds.horizon t
   WellRun-goes s t g well =
       let first = g.finds.search.is_search.answers in
-      let grown : Grown net s.time s.labels (curves_of (flow_of s)) = grown_by net bounds.horizon s.time s.labels (curves_of (flow_of s)) good well.grow in
-      let count : length g.slopes ≡ length s.labels = first.solution.solves.slope_count ∙ sym grown.stands.count in
       subst (WellRun net bounds.horizon) (sym g.new_is)
       (WellRun-after passes net good bounds.horizon s g.pattern g.flows g.slopes g.step well g.finds.below
-      (g.finds.search.is_search.is_listing.listed g.place g.pattern first.has_place) first.solution.solves first.solution.meets
-      (phase_parts passes net good bounds.horizon bounds.patterns s g.pattern g.flows g.slopes g.step count g.lists) g.is_length)
+      (g.finds.search.is_search.is_listing.listed g.place g.pattern first.has_place) first.solution.solves first.solution.meets (parts_of s t g well) g.is_length)
+
+  pub IsPhase-goes : (s t : Standing) → Goes passes net bounds.horizon bounds.patterns s t → WellRun net bounds.horizon s → IsPhase net bounds.horizon (s.time, s.labels) (t.time, t.labels)
+  IsPhase-goes s t g well =
+      let first = g.finds.search.is_search.answers in
+      subst (λ (n : Standing). IsPhase net bounds.horizon (s.time, s.labels) (n.time, n.labels)) (sym g.new_is)
+      (phase passes net good bounds.horizon s g.pattern g.flows g.slopes g.step well g.finds.below
+      (g.finds.search.is_search.is_listing.listed g.place g.pattern first.has_place) first.solution.solves first.solution.meets (parts_of s t g well) g.is_length)
 
   WellRun-runs : (s last : Standing) (stop : Option (Cause ℚ)) → WellRun net bounds.horizon s → Runs passes net bounds s last stop → WellRun net bounds.horizon last
   WellRun-runs s last stop well (at_horizon e) = well

@@ -1,11 +1,13 @@
 -- What the report of a phase run says of the network.
-use Rattle.std.specs.Prelude.{Option}
+use Rattle.std.specs.Prelude.{◌≡◌, suc, List, length, Option, Some, None, Ok, slice_get}
 use Rattle.nf_rational.specs.Rational.{ℚ}
 use Rattle.nf_work.specs.Passing.{Passing}
-use Rattle.nf_model.specs.Network.{Network, IsNetwork}
+use Rattle.nf_model.specs.Network.{Network, IsNetwork, ArePieces}
+use Rattle.nf_model.specs.Phases.{IsExtension, IsUnending, IsPhaseSequence}
 use Rattle.nf_model.specs.Equilibrium.{HasShape, HasSlopes, Equilibrium}
 use Rattle.nf_formats.specs.declared.Cause.{Cause}
 use Rattle.nf_formats.specs.Report.{Report}
+use Rattle.nf_lists.specs.Extend.{extend_list}
 use Rattle.nf_lists.specs.PhaseRun.{Standing, Bounds, IsPhaseRun, IsRunReport, flow_of}
 use Rattle.nf_phase_laws.specs.CurveRun.{GrowByPhases, curves_of}
 
@@ -27,3 +29,25 @@ RunHasSlopes = (passes : Passing) (net : Network) (bounds : Bounds) (last : Stan
 -- the report of a phase run is an equilibrium
 abbrev pub RunReportIsEquilibrium : Type 0
 RunReportIsEquilibrium = (passes : Passing) (net : Network) (bounds : Bounds) (report : Report) → IsNetwork net → IsRunReport passes net bounds report → Equilibrium net report.flow
+
+-- ---- phases of a run
+
+-- The value of the extend list is the extension length, the greatest length for which the phase may last; and there is none
+-- only where it may last for any length.
+pub record ExtendListIsExtension : Type 0 where
+  pub length : (passes : Passing) (net : Network) (slacks slopes : List ℚ) (time length : ℚ) → ArePieces net.pieces → extend_list passes net slacks slopes time ≡ Ok (Some length)
+      → IsExtension net slacks slopes time length
+  pub none : (passes : Passing) (net : Network) (slacks slopes : List ℚ) (time : ℚ) → ArePieces net.pieces → extend_list passes net slacks slopes time ≡ Ok None
+      → IsUnending net slacks slopes time
+
+-- the departure that a run has reached, with the labels there
+abbrev pub reached_by : Standing → ℚ × List ℚ
+reached_by s = (s.time, s.labels)
+
+-- A run makes a phase sequence of its phases. So each phase sequence to the same horizon with as many phases ends where the run
+-- ends; and phases that are cut short are none.
+pub record RunIsPhaseSequence : Type 0 where
+  pub is_one : (passes : Passing) (net : Network) (bounds : Bounds) (last : Standing) (stop : Option (Cause ℚ)) → IsNetwork net → IsPhaseRun passes net bounds last stop
+      → (phases : List (ℚ × List ℚ)) × IsPhaseSequence net bounds.horizon phases × (length phases ≡ suc last.made) × (slice_get phases last.made ≡ Some (reached_by last))
+  pub ends : (passes : Passing) (net : Network) (bounds : Bounds) (last : Standing) (stop : Option (Cause ℚ)) (phases : List (ℚ × List ℚ)) → IsNetwork net
+      → IsPhaseRun passes net bounds last stop → IsPhaseSequence net bounds.horizon phases → length phases ≡ suc last.made → slice_get phases last.made ≡ Some (reached_by last)

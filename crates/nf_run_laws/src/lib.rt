@@ -2,7 +2,7 @@
 //! contract of a public function with an empty body.
 #![tactic(auto)]
 
-ghost use Rattle.nf_run_laws.specs.RunLaws.{RunGrowsByPhases, RunHasShape, RunHasSlopes, RunReportIsEquilibrium};
+ghost use Rattle.nf_run_laws.specs.RunLaws.{RunGrowsByPhases, RunHasShape, RunHasSlopes, RunReportIsEquilibrium, ExtendListIsExtension, RunIsPhaseSequence};
 
 /// The curves of a run grow phase by phase from the start, each by one point as the phase's thin flow and length say.
 pub fn run_grows_by_phases()
@@ -23,4 +23,15 @@ pub fn run_has_slopes()
 /// Skutella 2011), with the outflows, queues and rates of its links.
 pub fn run_report_is_equilibrium()
     ensures { RunReportIsEquilibrium }
+{}
+
+/// The value of the extend list is the greatest length for which a phase may last, and there is none only where it may last for any
+/// length.
+pub fn extend_list_is_extension()
+    ensures { ExtendListIsExtension }
+{}
+
+/// A run makes a phase sequence, and every phase sequence with as many phases ends where the run ends.
+pub fn run_is_phase_sequence()
+    ensures { RunIsPhaseSequence }
 {}
