@@ -1,5 +1,5 @@
 // What the words of the command line ask.
-ghost use Rattle.std.specs.Prelude.{◌≡◌, List, ℕ, None, Some, option_map, MatchOption};
+ghost use Rattle.std.specs.Prelude.{◌≡◌, ℕ, List, option_map};
 ghost use Rattle.nf_numerals.specs.Numbers.{number_of};
 ghost use Rattle.nf_formats.specs.Numbers.{greatest};
 ghost use Rattle.nf_edge.specs.Names.{texts};

@@ -5,10 +5,9 @@
 use nf_app::{Status, run};
 use nf_edge::{RealShelf, StdSink};
 use std::alloc::AllocGlobal;
-use std::env;
-use std::io;
 use std::process::ExitCode;
 use std::rt::Env;
+use std::{env, io};
 
 /// The status where a word of the command line isn't text.
 const NOT_TEXT: u8 = 17;
