@@ -9,7 +9,6 @@ use Rattle.nf_formats.specs.NetFile.{Reads}
 use Rattle.nf_formats.specs.Report.{Report}
 use Rattle.nf_formats.specs.ErrorLines.{output_line}
 use Rattle.nf_app.specs.declared.status.Status.{Status}
-use Rattle.nf_app.specs.declared.status.Status.TheVariants as Status
 use Rattle.nf_app.specs.Requests.{Request, Show, Solve, file_of, request_of}
 use Rattle.nf_one_link.specs.FullPhase.{has_one_full_phase}
 use Rattle.nf_one_link.specs.Solution.{IsSolution}

@@ -1,6 +1,16 @@
 //! The program as one call: words in, bytes to two sinks, a status out.
 #![tactic(auto)]
 
+mod fetching;
+mod outcome;
+mod output;
+mod refusal;
+mod request;
+mod running;
 mod status;
+mod telling;
+#[cfg(test)]
+mod tests;
 
+pub use running::run;
 pub use status::Status;

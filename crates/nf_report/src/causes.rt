@@ -62,29 +62,30 @@ pub(crate) fn write_number<O: Sink>(out: &mut O, key: &[u8], number: Q) -> Resul
 }
 
 // A cause with one count.
-fn write_counted<O: Sink>(out: &mut O, word: &[u8], count: u64) -> Result<(), SinkFault>
+fn write_counted<O: Sink>(out: &mut O, key: &[u8], word: &[u8], count: u64) -> Result<(), SinkFault>
     ensures { WroteLines (O.took out.old) (O.took out.new) (O.faults out.old) (O.faults out.new)
-        ((codes "cause" ∷ word.now ∷ digits_of count ∷ []) ∷ []) result }
+        ((key.now ∷ word.now ∷ digits_of count ∷ []) ∷ []) result }
 {
     let mut text = TextBuf::new();
     write_count(count, &mut text);
-    write_line(out, b"cause", &[word, text.text()])
+    write_line(out, key, &[word, text.text()])
 }
 
-fn write_patterns<O: Sink>(out: &mut O, phase: u64, tried: u64) -> Result<(), SinkFault>
+fn write_patterns<O: Sink>(out: &mut O, key: &[u8], phase: u64, tried: u64) -> Result<(), SinkFault>
     ensures { WroteLines (O.took out.old) (O.took out.new) (O.faults out.old) (O.faults out.new)
-        ((codes "cause" ∷ codes "patterns" ∷ digits_of phase ∷ digits_of tried ∷ []) ∷ []) result }
+        ((key.now ∷ codes "patterns" ∷ digits_of phase ∷ digits_of tried ∷ []) ∷ []) result }
 {
     let mut first = TextBuf::new();
     let mut second = TextBuf::new();
     write_count(phase, &mut first);
     write_count(tried, &mut second);
-    write_line(out, b"cause", &[b"patterns", first.text(), second.text()])
+    write_line(out, key, &[b"patterns", first.text(), second.text()])
 }
 
 // An operation that passes: the words for its phase, part, place and operation, and then its operands.
 fn write_operation<'w, O: Sink>(
     out: &mut O,
+    key: &[u8],
     phase: &'w [u8],
     part: &'w [u8],
     place: &'w [u8],
@@ -92,7 +93,7 @@ fn write_operation<'w, O: Sink>(
     at: &PassedAt<Q>,
 ) -> Result<(), SinkFault>
     ensures { WroteLines (O.took out.old) (O.took out.new) (O.faults out.old) (O.faults out.new)
-        ((codes "cause" ∷ codes "passed" ∷ phase.now ∷ part.now ∷ place.now ∷ op.now
+        ((key.now ∷ codes "passed" ∷ phase.now ∷ part.now ∷ place.now ∷ op.now
         ∷ printed at.now.left ∷ printed at.now.right ∷ []) ∷ []) result }
 {
     let mut left = TextBuf::new();
@@ -101,25 +102,27 @@ fn write_operation<'w, O: Sink>(
     at.right.write(&mut right);
     write_line(
         out,
-        b"cause",
+        key,
         &[b"passed", phase, part, place, op, left.text(), right.text()],
     )
 }
 
 fn write_passed<O: Sink>(
     out: &mut O,
+    key: &[u8],
     phase: u64,
     place: Option<u64>,
     at: &PassedAt<Q>,
 ) -> Result<(), SinkFault>
     ensures { WroteLines (O.took out.old) (O.took out.new) (O.faults out.old) (O.faults out.new)
-        ((codes "cause" ∷ passed_words (Some phase) place at.now) ∷ []) result }
+        ((key.now ∷ passed_words (Some phase) place at.now) ∷ []) result }
 {
     let mut phase_word = TextBuf::new();
     write_count(phase, &mut phase_word);
     match place {
         None => write_operation(
             out,
+            key,
             phase_word.text(),
             part_text(at.part),
             b"-",
@@ -131,6 +134,7 @@ fn write_passed<O: Sink>(
             write_count(place, &mut place_word);
             write_operation(
                 out,
+                key,
                 phase_word.text(),
                 part_text(at.part),
                 place_word.text(),
@@ -141,15 +145,16 @@ fn write_passed<O: Sink>(
     }
 }
 
-fn write_stop<O: Sink>(out: &mut O, stop: &Stop) -> Result<(), SinkFault>
+/// The line that says why a run stopped, behind a first word.
+pub fn write_stop<O: Sink>(out: &mut O, key: &[u8], stop: &Stop) -> Result<(), SinkFault>
     ensures { WroteLines (O.took out.old) (O.took out.new) (O.faults out.old) (O.faults out.new)
-        ((codes "cause" ∷ cause_words (Some stop.now)) ∷ []) result }
+        ((key.now ∷ cause_words (Some stop.now)) ∷ []) result }
 {
     match stop {
-        Stop::Phases { made } => write_counted(out, b"phases", *made),
-        Stop::Patterns { phase, tried } => write_patterns(out, *phase, *tried),
-        Stop::Passed { phase, place, at } => write_passed(out, *phase, *place, at),
-        Stop::NoPattern { phase } => write_counted(out, b"nopattern", *phase),
+        Stop::Phases { made } => write_counted(out, key, b"phases", *made),
+        Stop::Patterns { phase, tried } => write_patterns(out, key, *phase, *tried),
+        Stop::Passed { phase, place, at } => write_passed(out, key, *phase, *place, at),
+        Stop::NoPattern { phase } => write_counted(out, key, b"nopattern", *phase),
     }
 }
 
@@ -160,7 +165,7 @@ pub(crate) fn write_cause<O: Sink>(out: &mut O, stop: Option<&Stop>) -> Result<(
 {
     match stop {
         None => write_line(out, b"cause", &[b"done"]),
-        Some(stop) => write_stop(out, stop),
+        Some(stop) => write_stop(out, b"cause", stop),
     }
 }
 

@@ -8,4 +8,5 @@ mod report;
 #[cfg(test)]
 mod tests;
 
+pub use causes::write_stop;
 pub use report::write_report;

@@ -6,6 +6,6 @@ use Rattle.nf_report.proofs.causes.write_operation.Goals as goal
 
 pub returns : goal.returns
 returns g c =
-    same_lines ((codes "cause" ∷ codes "passed" ∷ c.args.phase.now ∷ c.args.part.now ∷ c.args.place.now ∷ c.args.op.now ∷ c.text.result.now ∷ c.text-2.result.now ∷ []) ∷ [])
-    ((codes "cause" ∷ codes "passed" ∷ c.args.phase.now ∷ c.args.part.now ∷ c.args.place.now ∷ c.args.op.now
+    same_lines ((c.args.key.now ∷ codes "passed" ∷ c.args.phase.now ∷ c.args.part.now ∷ c.args.place.now ∷ c.args.op.now ∷ c.text.result.now ∷ c.text-2.result.now ∷ []) ∷ [])
+    ((c.args.key.now ∷ codes "passed" ∷ c.args.phase.now ∷ c.args.part.now ∷ c.args.place.now ∷ c.args.op.now
     ∷ printed c.args.at.now.left ∷ printed c.args.at.now.right ∷ []) ∷ []) (cc (c.write.ensures.text, c.write-2.ensures.text)) c.write_line.ensures

@@ -8,14 +8,14 @@ use Rattle.nf_report.proofs.causes.write_passed.Goals as goal
 
 pub returns-in-None : goal.returns-in-None
 returns-in-None g c =
-    same_lines ((codes "cause" ∷ codes "passed" ∷ c.text.result.now ∷ c.part_text.result.now ∷ codes "-" ∷ c.op_text.result.now
+    same_lines ((c.args.key.now ∷ codes "passed" ∷ c.text.result.now ∷ c.part_text.result.now ∷ codes "-" ∷ c.op_text.result.now
     ∷ printed c.args.at.now.left ∷ printed c.args.at.now.right ∷ []) ∷ [])
-    ((codes "cause" ∷ codes "passed" ∷ digits_of c.args.phase ∷ part_word c.args.at.now.part ∷ count_word c.args.place ∷ op_word c.args.at.now.op
+    ((c.args.key.now ∷ codes "passed" ∷ digits_of c.args.phase ∷ part_word c.args.at.now.part ∷ count_word c.args.place ∷ op_word c.args.at.now.op
     ∷ printed c.args.at.now.left ∷ printed c.args.at.now.right ∷ []) ∷ []) (cc (ap count_word c.in-None.is)) c.write_operation.ensures
 
 pub returns-in-Some : goal.returns-in-Some
 returns-in-Some g c =
-    same_lines ((codes "cause" ∷ codes "passed" ∷ c.text-in-Some.result.now ∷ c.part_text-in-Some.result.now ∷ c.text-in-Some-2.result.now ∷ c.op_text-in-Some.result.now
+    same_lines ((c.args.key.now ∷ codes "passed" ∷ c.text-in-Some.result.now ∷ c.part_text-in-Some.result.now ∷ c.text-in-Some-2.result.now ∷ c.op_text-in-Some.result.now
     ∷ printed c.args.at.now.left ∷ printed c.args.at.now.right ∷ []) ∷ [])
-    ((codes "cause" ∷ codes "passed" ∷ digits_of c.args.phase ∷ part_word c.args.at.now.part ∷ count_word c.args.place ∷ op_word c.args.at.now.op
+    ((c.args.key.now ∷ codes "passed" ∷ digits_of c.args.phase ∷ part_word c.args.at.now.part ∷ count_word c.args.place ∷ op_word c.args.at.now.op
     ∷ printed c.args.at.now.left ∷ printed c.args.at.now.right ∷ []) ∷ []) (cc (ap count_word c.in-Some.is)) c.write_operation-in-Some.ensures

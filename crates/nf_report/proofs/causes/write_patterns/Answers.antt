@@ -6,5 +6,5 @@ use Rattle.nf_report.proofs.causes.write_patterns.Goals as goal
 
 pub returns : goal.returns
 returns g c =
-    same_lines ((codes "cause" ∷ codes "patterns" ∷ c.text.result.now ∷ c.text-2.result.now ∷ []) ∷ [])
-    ((codes "cause" ∷ codes "patterns" ∷ digits_of c.args.phase ∷ digits_of c.args.tried ∷ []) ∷ []) (cc) c.write_line.ensures
+    same_lines ((c.args.key.now ∷ codes "patterns" ∷ c.text.result.now ∷ c.text-2.result.now ∷ []) ∷ [])
+    ((c.args.key.now ∷ codes "patterns" ∷ digits_of c.args.phase ∷ digits_of c.args.tried ∷ []) ∷ []) (cc) c.write_line.ensures

@@ -9,15 +9,15 @@ use Rattle.nf_report.proofs.causes.write_stop.Goals as goal
 
 pub returns-in-Patterns : goal.returns-in-Patterns
 returns-in-Patterns g c =
-    same_lines ((codes "cause" ∷ codes "patterns" ∷ digits_of c.in-Patterns.phase ∷ digits_of c.in-Patterns.tried ∷ []) ∷ []) ((codes "cause" ∷ cause_words (Some c.args.stop.now)) ∷ [])
-    (sym (ap (λ (s : Cause ℚ). (codes "cause" ∷ cause_words (Some s)) ∷ []) c.in-Patterns.is)) c.write_patterns.ensures
+    same_lines ((c.args.key.now ∷ codes "patterns" ∷ digits_of c.in-Patterns.phase ∷ digits_of c.in-Patterns.tried ∷ []) ∷ []) ((c.args.key.now ∷ cause_words (Some c.args.stop.now)) ∷ [])
+    (sym (ap (λ (s : Cause ℚ). (c.args.key.now ∷ cause_words (Some s)) ∷ []) c.in-Patterns.is)) c.write_patterns.ensures
 
 pub returns-in-Passed : goal.returns-in-Passed
 returns-in-Passed g c =
-    same_lines ((codes "cause" ∷ passed_words (Some c.in-Passed.phase) c.in-Passed.place c.in-Passed.at) ∷ []) ((codes "cause" ∷ cause_words (Some c.args.stop.now)) ∷ [])
-    (sym (ap (λ (s : Cause ℚ). (codes "cause" ∷ cause_words (Some s)) ∷ []) c.in-Passed.is)) c.write_passed.ensures
+    same_lines ((c.args.key.now ∷ passed_words (Some c.in-Passed.phase) c.in-Passed.place c.in-Passed.at) ∷ []) ((c.args.key.now ∷ cause_words (Some c.args.stop.now)) ∷ [])
+    (sym (ap (λ (s : Cause ℚ). (c.args.key.now ∷ cause_words (Some s)) ∷ []) c.in-Passed.is)) c.write_passed.ensures
 
 pub returns-in-NoPattern : goal.returns-in-NoPattern
 returns-in-NoPattern g c =
-    same_lines ((codes "cause" ∷ codes "nopattern" ∷ digits_of c.in-NoPattern.phase ∷ []) ∷ []) ((codes "cause" ∷ cause_words (Some c.args.stop.now)) ∷ [])
-    (sym (ap (λ (s : Cause ℚ). (codes "cause" ∷ cause_words (Some s)) ∷ []) c.in-NoPattern.is)) c.write_counted-in-NoPattern.ensures
+    same_lines ((c.args.key.now ∷ codes "nopattern" ∷ digits_of c.in-NoPattern.phase ∷ []) ∷ []) ((c.args.key.now ∷ cause_words (Some c.args.stop.now)) ∷ [])
+    (sym (ap (λ (s : Cause ℚ). (c.args.key.now ∷ cause_words (Some s)) ∷ []) c.in-NoPattern.is)) c.write_counted-in-NoPattern.ensures

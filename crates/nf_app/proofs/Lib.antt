@@ -1,0 +1,2 @@
+pub mod ErrorTexts
+pub mod Calls

@@ -1,0 +1,23 @@
+-- What a refusal stands for, and which refusal a fault is.
+use Rattle.nf_edge.specs.declared.FetchFault.{FetchFault}
+use Rattle.nf_edge.specs.declared.FetchFault.TheVariants.{Failed, TooLong, Memory}
+use Rattle.nf_net.specs.declared.fault.NetFault.{NetFault}
+use Rattle.nf_app.specs.declared.refusal.Refusal.{Refusal}
+use Rattle.nf_app.specs.Answers.{Answer, NoMemory, NoRequest, ShelfFailed, ShelfTooLong, Malformed, Unbuilt}
+
+abbrev pub answer_of : Refusal → Answer
+answer_of Refusal.NoMemory = NoMemory
+answer_of Refusal.NoRequest = NoRequest
+answer_of Refusal.ShelfFailed = ShelfFailed
+answer_of Refusal.ShelfTooLong = ShelfTooLong
+answer_of (Refusal.Malformed rule line) = Malformed (record { rule = rule; line = line })
+answer_of Refusal.Unbuilt = Unbuilt
+
+abbrev pub refusal_of_fetch : FetchFault → Refusal
+refusal_of_fetch Failed = Refusal.ShelfFailed
+refusal_of_fetch TooLong = Refusal.ShelfTooLong
+refusal_of_fetch Memory = Refusal.NoMemory
+
+abbrev pub refusal_of_net : NetFault → Refusal
+refusal_of_net (NetFault.Broken rule line) = Refusal.Malformed rule line
+refusal_of_net NetFault.Memory = Refusal.NoMemory

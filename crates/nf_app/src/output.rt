@@ -1,0 +1,95 @@
+// What the two sinks are given.
+ghost use Rattle.std.specs.Prelude.{◌≡◌};
+ghost use Rattle.std.specs.Option.{option_copied};
+ghost use Rattle.nf_edge.specs.Taken.{Wrote};
+ghost use Rattle.nf_app.specs.Answers.{status_of, status_of_stop, err_text, text_of_stop};
+ghost use Rattle.nf_app.specs.Refusals.{answer_of};
+ghost use Rattle.nf_app.specs.Outcomes.{answer_in, text_in, HasText};
+ghost use Rattle.nf_app.specs.Runs.{TookText, IsShown};
+
+use crate::outcome::Outcome;
+use crate::refusal::Refusal;
+use crate::status::Status;
+use crate::telling::{write_refusal, write_stopped};
+use nf_curve::Stop;
+use nf_edge::{Sink, SinkFault, write_text};
+use nf_report::write_report;
+
+// The text of the outcome.
+fn write_outcome<O: Sink>(outcome: &Outcome, out: &mut O) -> Result<(), SinkFault>
+    requires { HasText outcome.now }
+    ensures { Wrote (O.took out.old) (O.took out.new) (O.faults out.old) (O.faults out.new) (text_in outcome.now) result }
+{
+    match outcome {
+        Outcome::Shown { text, .. } => write_text(out, text),
+        Outcome::Solved {
+            net,
+            horizon,
+            solution,
+        } => write_report(
+            net,
+            *horizon,
+            &solution.flow,
+            solution.stop.as_ref(),
+            &solution.last,
+            out,
+        ),
+    }
+}
+
+// Says why the run of a report stopped, if it did. The status is the same where that can't be said.
+fn tell_stop<E: Sink>(stop: Option<&Stop>, err: &mut E) -> Status
+    ensures status { result ≡ status_of_stop (option_copied stop.entry) }
+    ensures told { TookText (record {
+      before = E.took err.old;
+      now = E.took err.new;
+      faults_before = E.faults err.old;
+      faults_now = E.faults err.new;
+    }) (text_of_stop (option_copied stop.entry)) }
+{
+    match stop {
+        None => Status::Ok,
+        Some(stop) => {
+            let _ = write_stopped(err, stop);
+            Status::Passed
+        }
+    }
+}
+
+/// Writes the text of an outcome, and says how the run ends.
+pub(crate) fn give<O: Sink, E: Sink>(outcome: &Outcome, out: &mut O, err: &mut E) -> Status
+    requires { HasText outcome.now }
+    ensures { IsShown (answer_in outcome.now) (record {
+      before = O.took out.old;
+      now = O.took out.new;
+      faults_before = O.faults out.old;
+      faults_now = O.faults out.new;
+    }) (record {
+      before = E.took err.old;
+      now = E.took err.new;
+      faults_before = E.faults err.old;
+      faults_now = E.faults err.new;
+    }) result }
+{
+    match write_outcome(outcome, out) {
+        Ok(()) => tell_stop(outcome.stop(), err),
+        Err(SinkFault) => {
+            let _ = write_text(err, b"nfot: output\n");
+            Status::Output
+        }
+    }
+}
+
+/// Says why there is nothing on the output. The status is the same where that can't be said.
+pub(crate) fn refuse<E: Sink>(refusal: Refusal, err: &mut E) -> Status
+    ensures status { result ≡ status_of (answer_of refusal) }
+    ensures told { TookText (record {
+      before = E.took err.old;
+      now = E.took err.new;
+      faults_before = E.faults err.old;
+      faults_now = E.faults err.new;
+    }) (err_text (answer_of refusal)) }
+{
+    let _ = write_refusal(err, refusal);
+    refusal.status()
+}

@@ -1,0 +1,74 @@
+// Why a run has no text for its output.
+ghost use Rattle.std.specs.Prelude.{◌≡◌};
+ghost use Rattle.nf_app.specs.Answers.{status_of};
+ghost use Rattle.nf_app.specs.Refusals.{answer_of, refusal_of_fetch, refusal_of_net};
+ghost use Rattle.nf_app.specs.declared.refusal.Refusal.TheVariants as Refusal;
+
+use crate::status::Status;
+use nf_edge::FetchFault;
+use nf_net::{NetFault, NetRule};
+use std::alloc::AllocError;
+
+/// Why a run has no text for its output.
+#[derive(Clone, Copy, Debug, PartialEq, Eq)]
+pub(crate) enum Refusal {
+    /// Memory is wanting.
+    NoMemory,
+    /// The words are no request.
+    NoRequest,
+    /// The file isn't given.
+    ShelfFailed,
+    /// The file has too many bytes.
+    ShelfTooLong,
+    /// The file breaks this rule first, in this line.
+    Malformed { rule: NetRule, line: u32 },
+    /// The network or the horizon asks for what isn't built yet.
+    Unbuilt,
+}
+
+impl Refusal {
+    /// How the run ends.
+    pub(crate) fn status(self) -> Status
+        ensures { result ≡ status_of (answer_of self) }
+    {
+        match self {
+            Refusal::NoMemory => Status::Memory,
+            Refusal::NoRequest => Status::Usage,
+            Refusal::ShelfFailed => Status::Shelf,
+            Refusal::ShelfTooLong => Status::Shelf,
+            Refusal::Malformed { .. } => Status::Malformed,
+            Refusal::Unbuilt => Status::Unbuilt,
+        }
+    }
+}
+
+impl From<AllocError> for Refusal {
+    ghost from_gives = { λ _ refusal. refusal ≡ Refusal.NoMemory };
+
+    fn from(_: AllocError) -> Self {
+        Refusal::NoMemory
+    }
+}
+
+impl From<FetchFault> for Refusal {
+    ghost from_gives = { λ fault refusal. refusal ≡ refusal_of_fetch fault };
+
+    fn from(fault: FetchFault) -> Self {
+        match fault {
+            FetchFault::Failed => Refusal::ShelfFailed,
+            FetchFault::TooLong => Refusal::ShelfTooLong,
+            FetchFault::Memory => Refusal::NoMemory,
+        }
+    }
+}
+
+impl From<NetFault> for Refusal {
+    ghost from_gives = { λ fault refusal. refusal ≡ refusal_of_net fault };
+
+    fn from(fault: NetFault) -> Self {
+        match fault {
+            NetFault::Broken { rule, line } => Refusal::Malformed { rule, line },
+            NetFault::Memory => Refusal::NoMemory,
+        }
+    }
+}

@@ -1,0 +1,46 @@
+// The top call.
+ghost use Rattle.nf_edge.specs.Names.{texts};
+ghost use Rattle.nf_app.specs.Runs.{Ran};
+
+use crate::outcome::answer;
+use crate::output::{give, refuse};
+use crate::status::Status;
+use nf_edge::{Shelf, Sink};
+use std::alloc::Global;
+
+/// Answers what the words ask, of which the first is the program's name: fetches the file of the request, and no other, within
+/// 1,048,576 bytes, writes the text of the answer to `out`, and says on `err` why there is none, or why it ends early. Nothing is
+/// written to `out` before the text is known. It is refused where memory is wanting, the words are no request, the file isn't
+/// given or breaks a rule, or the network or the horizon isn't among those that are solved.
+pub fn run<S: Shelf, O: Sink, E: Sink>(
+    alloc: Global,
+    words: &[String],
+    shelf: &mut S,
+    out: &mut O,
+    err: &mut E,
+) -> Status
+    ensures { Ran (record {
+      words = texts words.now;
+      told = S.told shelf.old;
+      asked_before = S.asked shelf.old;
+      asked_now = S.asked shelf.new;
+      faults_before = S.faults shelf.old;
+      faults_now = S.faults shelf.new;
+      taken = S.taken shelf.new;
+    }) (record {
+      before = O.took out.old;
+      now = O.took out.new;
+      faults_before = O.faults out.old;
+      faults_now = O.faults out.new;
+    }) (record {
+      before = E.took err.old;
+      now = E.took err.new;
+      faults_before = E.faults err.old;
+      faults_now = E.faults err.new;
+    }) result }
+{
+    match answer(alloc, words, shelf) {
+        Ok(outcome) => give(&outcome, out, err),
+        Err(refusal) => refuse(refusal, err),
+    }
+}

@@ -1,0 +1,107 @@
+// The lines on standard error.
+ghost use Rattle.std.specs.Prelude.{◌≡◌, flat_map};
+ghost use Rattle.nf_edge.specs.Taken.{Wrote};
+ghost use Rattle.nf_formats.specs.ErrorLines.{rule_word, network_line, stopped_line};
+ghost use Rattle.nf_app.specs.Answers.{err_text};
+ghost use Rattle.nf_app.specs.Refusals.{answer_of};
+
+use crate::refusal::Refusal;
+use nf_curve::Stop;
+use nf_edge::{Sink, SinkFault, write_text};
+use nf_frac::TextBuf;
+use nf_net::NetRule;
+use nf_numerals::write_count;
+use nf_report::write_stop;
+
+// The usage text: all the commands there are to be.
+const USAGE: &[u8] = b"nfot: usage
+nfot solve NET --horizon Q [--phases N] [--patterns N]
+nfot show NET
+nfot load NET LOADS --horizon Q
+nfot check NET REPORT
+nfot quick NET --amount Q [--augments N]
+nfot gen --number N --rungs N --horizon Q [--phases N] [--patterns N]
+";
+
+fn rule_text(rule: NetRule) -> &'static [u8]
+    ensures { result.now ≡ rule_word rule }
+{
+    match rule {
+        NetRule::N1 => b"N1",
+        NetRule::N2 => b"N2",
+        NetRule::N3 => b"N3",
+        NetRule::N4 => b"N4",
+        NetRule::N5 => b"N5",
+        NetRule::N6 => b"N6",
+        NetRule::N7 => b"N7",
+        NetRule::N8 => b"N8",
+        NetRule::N9 => b"N9",
+        NetRule::N10 => b"N10",
+        NetRule::N11 => b"N11",
+        NetRule::N12 => b"N12",
+        NetRule::N13 => b"N13",
+        NetRule::N14 => b"N14",
+        NetRule::N15 => b"N15",
+        NetRule::N16 => b"N16",
+        NetRule::N17 => b"N17",
+        NetRule::N18 => b"N18",
+        NetRule::N19 => b"N19",
+        NetRule::N20 => b"N20",
+        NetRule::N21 => b"N21",
+        NetRule::N22 => b"N22",
+    }
+}
+
+// Texts, one after the other.
+fn write_texts<E: Sink>(err: &mut E, texts: &[&[u8]]) -> Result<(), SinkFault>
+    ensures { Wrote (E.took err.old) (E.took err.new) (E.faults err.old) (E.faults err.new)
+        (flat_map (λ t. t.now) texts.now) result }
+{
+    for text in texts {
+        write_text(err, text)?;
+    }
+    Ok(())
+}
+
+// A rule that a network file breaks.
+fn write_rule<E: Sink>(err: &mut E, rule: NetRule, line: u32) -> Result<(), SinkFault>
+    ensures { Wrote (E.took err.old) (E.took err.new) (E.faults err.old) (E.faults err.new)
+        (network_line (record { rule = rule; line = line })) result }
+{
+    let mut number = TextBuf::new();
+    write_count(u64::from(line), &mut number);
+    write_texts(
+        err,
+        &[
+            b"nfot: network line ",
+            number.text(),
+            b": ",
+            rule_text(rule),
+            b"\n",
+        ],
+    )
+}
+
+/// Why there is nothing on the output.
+pub(crate) fn write_refusal<E: Sink>(err: &mut E, refusal: Refusal) -> Result<(), SinkFault>
+    ensures { Wrote (E.took err.old) (E.took err.new) (E.faults err.old) (E.faults err.new)
+        (err_text (answer_of refusal)) result }
+{
+    match refusal {
+        Refusal::NoMemory => write_text(err, b"nfot: memory\n"),
+        Refusal::NoRequest => write_text(err, USAGE),
+        Refusal::ShelfFailed => write_text(err, b"nfot: shelf failed\n"),
+        Refusal::ShelfTooLong => write_text(err, b"nfot: shelf too long\n"),
+        Refusal::Malformed { rule, line } => write_rule(err, rule, line),
+        Refusal::Unbuilt => write_text(err, b"nfot: unbuilt\n"),
+    }
+}
+
+/// Why a run stopped.
+pub(crate) fn write_stopped<E: Sink>(err: &mut E, stop: &Stop) -> Result<(), SinkFault>
+    ensures { Wrote (E.took err.old) (E.took err.new) (E.faults err.old) (E.faults err.new)
+        (stopped_line stop.now) result }
+{
+    write_text(err, b"nfot: ")?;
+    write_stop(err, b"stopped:", stop)
+}
