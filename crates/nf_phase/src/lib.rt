@@ -1,0 +1,6 @@
+//! Phases of a flow over time (Koch and Skutella 2011): how long one may last.
+#![tactic(auto)]
+
+mod lengths;
+
+pub use lengths::extension;
