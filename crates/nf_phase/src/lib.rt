@@ -2,5 +2,7 @@
 #![tactic(auto)]
 
 mod lengths;
+#[cfg(test)]
+mod tests;
 
 pub use lengths::extension;
