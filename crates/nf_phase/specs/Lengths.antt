@@ -1,0 +1,12 @@
+-- The first part of the extend list: the links in order.
+use Rattle.std.specs.Prelude.{List, Option, None}
+use Rattle.std.specs.List.{enumerate_from}
+use Rattle.nf_rational.specs.Rational.{ℚ}
+use Rattle.nf_work.specs.Passing.{Passing}
+use Rattle.nf_work.specs.Checked.{Checked, fold_checked}
+use Rattle.nf_model.specs.Network.{Network}
+use Rattle.nf_lists.specs.Extend.{least_after}
+
+-- the least length after which a link changes sides
+abbrev pub after_all : Passing → Network → List ℚ → List ℚ → Checked (Option ℚ)
+after_all passes net slacks slopes = fold_checked (least_after passes slacks slopes) None (enumerate_from 0 net.links)
