@@ -1,12 +1,12 @@
 -- The listing of a network's patterns, as a search asks for it.
-use Rattle.std.proofs.Common.{◌≡◌, ◌^◌, ◌<◌, ◌≤◌, ℕ, List, length, Bool, true, false, not, refl, sym, ap, subst, ◌∙◌, arith}
+use Rattle.std.proofs.Common.{◌≡◌, ◌^◌, ◌<◌, ℕ, length, Bool, true, false, not, refl, sym, ap, subst, ◌∙◌, arith}
 use Rattle.std.specs.Prelude.{Option, is_some, is_none, Result, Ok, Err, IfOk}
 use Rattle.std.proofs.lemmas.List.{length-map}
 use Rattle.nf_rational.specs.Rational.{ℚ}
 use Rattle.nf_model.specs.Walk.{Hop}
-use Rattle.nf_model.specs.Network.{Link, Network, IsNetwork, hop_of, hops, unbounded}
+use Rattle.nf_model.specs.Network.{Network, IsNetwork, hop_of, hops}
 use Rattle.nf_model.specs.ThinFlow.{Sets, IsThinFlow}
-use Rattle.nf_model.specs.Pattern.{Pattern, IsPattern, IsListedIn}
+use Rattle.nf_model.specs.Pattern.{Pattern, IsListedIn}
 use Rattle.nf_work.specs.Passing.{Passing}
 use Rattle.nf_lists.specs.Search.{Found, IsSearch}
 use Rattle.nf_thin_laws.proofs.Accepted.{IsThinFlow-accepted}
@@ -18,8 +18,7 @@ use Rattle.nf_formats.specs.WellNamed.{IsNamed}
 use Rattle.nf_lists_laws.proofs.Ending.{from_map}
 use Rattle.nf_net.proofs.Limits.{few_links}
 use Rattle.nf_graph.specs.Graph.{AreBelow}
-use Rattle.nf_pattern.specs.Given.{Question, IsQuestion, IsListedBy}
-use Rattle.nf_thin_laws.specs.ActiveLinks.{HoldNoCycle}
+use Rattle.nf_pattern.specs.Given.{Question, IsListedBy}
 use Rattle.nf_equation_laws.specs.Equations.{IsPatternIn}
 use Rattle.nf_thin.specs.Searching.{Searches, SlopesAreOnly, AreSetsOf, question_of}
 

@@ -10,7 +10,6 @@ use Rattle.nf_rational_laws.proofs.Order.{≤ℚ_of_same}
 use Rattle.nf_work.specs.Passing.{Passing}
 use Rattle.nf_work.specs.declared.Part.{Part}
 use Rattle.nf_work.specs.declared.Part.TheVariants.{Verdict}
-use Rattle.nf_work.specs.declared.Passed.{Passed}
 use Rattle.nf_work.specs.declared.PassedAt.{PassedAt}
 use Rattle.nf_work.specs.Checked.{Checked, fold_checked, placed, at_part, ◌>>=◌}
 use Rattle.nf_model.specs.Entries.{number_at}

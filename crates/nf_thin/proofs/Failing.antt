@@ -1,23 +1,22 @@
 -- The first link that fails, as it is found link by link; and that an operation passes there just where one of the verdict list does.
-use Rattle.std.proofs.Common.{◌≡◌, ◌≢◌, ℕ, zero, suc, ◌+◌, ◌<◌, ◌≤◌, List, [], ◌∷◌, length, ◌⊎◌, inl, inr, ⊎_elim, Bool, true, false, ◌&&◌, eqb, sym, ap, subst, refl, ◌∙◌, arith}
-use Rattle.std.specs.Prelude.{Option, Some, None, slice_get, unwrap_or, Result, Ok, Err, IsOk}
+use Rattle.std.proofs.Common.{◌≡◌, ◌≢◌, ℕ, zero, suc, ◌+◌, ◌<◌, List, [], ◌∷◌, length, ◌⊎◌, inl, inr, ⊎_elim, Bool, true, false, ◌&&◌, eqb, sym, ap, subst, refl, ◌∙◌, arith}
+use Rattle.std.specs.Prelude.{Option, Some, None, slice_get, unwrap_or, Ok, Err, IsOk}
 use Rattle.std.specs.List.{enumerate_from}
 use Rattle.std.proofs.lemmas.Bool.Decides.{eqb_tells}
-use Rattle.std.proofs.lemmas.Option.{none-some, same_Some, slice_get_within}
+use Rattle.std.proofs.lemmas.Option.{same_Some, slice_get_within}
 use Rattle.nf_rational.specs.Rational.{ℚ}
 use Rattle.nf_rational.specs.Operations.{0ℚ}
-use Rattle.nf_rational.specs.Order.{◌≤ℚ◌, le_ℚ}
+use Rattle.nf_rational.specs.Order.{le_ℚ}
 use Rattle.nf_rational_laws.proofs.Tests.{le_of_test, test_of_le}
 use Rattle.nf_work.specs.Passing.{Passing}
 use Rattle.nf_work.specs.declared.Passed.{Passed}
-use Rattle.nf_work.specs.Checked.{Checked, checked, each, fold_checked, ◌>>=◌}
+use Rattle.nf_work.specs.Checked.{Checked, each, fold_checked, ◌>>=◌}
 use Rattle.nf_model.specs.declared.State.{State}
 use Rattle.nf_model.specs.Entries.{number_at}
 use Rattle.nf_model.specs.Network.{Link, Network, IsLink}
-use Rattle.nf_model.specs.Pattern.{Pattern, Inequality, Meets}
-use Rattle.nf_lists.specs.Verdict.{bound_on, bound_of, verdict_list}
-use Rattle.nf_thin_laws.proofs.Flags.{number_at-beyond}
-use Rattle.nf_thin.specs.Judging.{MeetsAt, keeps, first_of, link_verdict, numbered_verdict, broken_after, first_broken}
+use Rattle.nf_model.specs.Pattern.{Pattern, Inequality}
+use Rattle.nf_lists.specs.Verdict.{bound_of, verdict_list}
+use Rattle.nf_thin.specs.Judging.{MeetsAt, keeps, first_of, link_verdict, broken_after, first_broken}
 use Rattle.nf_thin.proofs.Inequalities.{bound_value, bound_exact, keeps_inequality, inequality_keeps, both_true, all_true}
 
 module _ (passes : Passing) (net : Network) (pattern : Pattern) (flows slopes : List ℚ) where

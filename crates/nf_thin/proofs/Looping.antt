@@ -1,20 +1,19 @@
 -- The loop of the search over the patterns that a listing gives.
-use Rattle.std.proofs.Common.{◌≡◌, ℕ, suc, ◌<◌, ◌≤◌, List, refl, sym, ap, subst, ◌∙◌, arith}
-use Rattle.std.specs.Prelude.{Option, Some, None, Result, Ok, Err}
+use Rattle.std.proofs.Common.{◌≡◌, ℕ, ◌≤◌, List, sym, ap, subst, ◌∙◌, arith}
+use Rattle.std.specs.Prelude.{Some, None, Result, Ok, Err}
 use Rattle.nf_rational.specs.Rational.{ℚ}
 use Rattle.nf_work.specs.Passing.{Passing}
 use Rattle.nf_model.specs.Network.{Network, IsNetwork}
 use Rattle.nf_model.specs.ThinFlow.{Sets}
 use Rattle.nf_model.specs.Pattern.{Pattern}
 use Rattle.nf_lists.specs.Search.{Answers, IsSearch}
-use Rattle.nf_pattern.specs.Given.{Question, IsQuestion, Given, AtStart, UpTo, IsNext, NoneLeft, Gives, next_place}
+use Rattle.nf_pattern.specs.Given.{Question, Given, IsNext, NoneLeft, Gives}
 use Rattle.nf_equation_laws.specs.Equations.{IsPatternIn}
 use Rattle.nf_pattern.proofs.Deciding.{has_listing}
 use Rattle.nf_thin.specs.declared.searches.Thin.{Thin}
 use Rattle.nf_thin.specs.declared.searches.Vain.{Vain}
 use Rattle.nf_thin.specs.declared.searches.SearchFault.{SearchFault}
-use Rattle.nf_thin.specs.declared.searches.SearchFault.TheVariants as SearchFault
-use Rattle.nf_thin.specs.Searching.{Searches, fault_of, TriesNext, AreSetsOf, AsksOf, question_of}
+use Rattle.nf_thin.specs.Searching.{Searches, fault_of, TriesNext, AreSetsOf, AsksOf}
 use Rattle.nf_pattern.specs.Front.{IsListingOf}
 use Rattle.nf_thin.proofs.Searched.{Vainly, none_tried, over_budget, found, vainly_more, search_ends, all_searched}
 use Rattle.nf_thin.proofs.Asking.{listed_in}

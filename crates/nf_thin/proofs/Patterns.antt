@@ -1,15 +1,13 @@
 -- What is known of a pattern from its table and its verdict.
-use Rattle.std.proofs.Common.{◌≡◌, List, Bool, refl, sym, ap, subst, ◌∙◌}
+use Rattle.std.proofs.Common.{◌≡◌, List, refl, sym, ap, subst, ◌∙◌}
 use Rattle.std.specs.Prelude.{Option, Some, None, Result, Ok, Err, IsOk}
 use Rattle.nf_rational.specs.Rational.{ℚ}
 use Rattle.nf_rational.specs.Operations.{0ℚ}
-use Rattle.nf_rational.specs.Order.{◌≤ℚ◌}
 use Rattle.nf_rational_laws.proofs.Order.{not_both_ℚ}
 use Rattle.nf_work.specs.Passing.{Passing}
 use Rattle.nf_work.specs.declared.Part.TheVariants.{Table, Verdict}
-use Rattle.nf_work.specs.declared.Passed.{Passed}
 use Rattle.nf_work.specs.declared.PassedAt.{PassedAt}
-use Rattle.nf_work.specs.Checked.{Checked, placed, at_part, ◌>>=◌}
+use Rattle.nf_work.specs.Checked.{Checked, at_part, ◌>>=◌}
 use Rattle.nf_model.specs.Entries.{number_at}
 use Rattle.nf_model.specs.Network.{Network}
 use Rattle.nf_model.specs.ThinFlow.{Sets}
@@ -21,7 +19,6 @@ use Rattle.nf_lists.specs.Accepted.{Solved, after_table, pattern_lists, IsAccept
 use Rattle.nf_equation_laws.specs.Equations.{IsPatternIn, SolvesAlone}
 use Rattle.nf_equation_laws.proofs.Table.{solves_alone, solves_not_alone}
 use Rattle.nf_thin.specs.declared.verdicts.Judged.{Judged}
-use Rattle.nf_thin.specs.declared.verdicts.Judged.TheVariants as Judged
 use Rattle.nf_thin.specs.Judging.{IsJudged}
 
 -- ---- what fails doesn't meet

@@ -1,13 +1,12 @@
 -- How far a listing has been given: up to which place.
-use Rattle.std.proofs.Common.{◌≡◌, ◌≢◌, ℕ, zero, suc, ◌<◌, ◌≤◌, List, length, ◌⊎◌, inl, inr, ⊎_elim, eqb, leb, true, false, Some, None, slice_get, refl, sym, ap, subst, ◌∙◌, arith}
-use Rattle.std.specs.Prelude.{Option}
+use Rattle.std.proofs.Common.{◌≡◌, ◌≢◌, ℕ, zero, suc, ◌<◌, ◌≤◌, List, length, ◌⊎◌, inl, inr, ⊎_elim, eqb, leb, true, false, Some, slice_get, refl, sym, ap, subst, ◌∙◌, arith}
 use Rattle.std.proofs.lemmas.Bool.Decides.{eqb_tells, leb_tells}
 use Rattle.std.proofs.lemmas.Option.{same_Some, slice_get_within}
 use Rattle.nf_model.specs.Pattern.{Pattern, IsBefore}
 use Rattle.nf_lists.specs.Listing.{HasPlace}
 use Rattle.nf_lists_laws.proofs.Listings.{IsBefore-asymmetric}
 use Rattle.nf_pattern.specs.Front.{IsListingOf}
-use Rattle.nf_pattern.specs.Given.{Question, Last, AtStart, UpTo, AtEnd, IsLater, IsNext, NoneLeft}
+use Rattle.nf_pattern.specs.Given.{Question, Last, AtStart, UpTo, IsLater, IsNext, NoneLeft}
 use Rattle.nf_thin_laws.proofs.Flags.{entry}
 use Rattle.nf_pattern.proofs.Entering.{less_or_same}
 

@@ -1,22 +1,21 @@
 -- The search, pattern by pattern: what is known of those tried in vain, and what the search answers.
-use Rattle.std.proofs.Common.{◌≡◌, ℕ, zero, suc, ◌<◌, ◌≤◌, List, length, ◌⊎◌, inl, inr, ⊎_elim, Bool, true, false, refl, sym, ap, subst, ◌∙◌, arith}
+use Rattle.std.proofs.Common.{◌≡◌, ℕ, suc, ◌<◌, ◌≤◌, List, length, ◌⊎◌, inl, inr, ⊎_elim, true, false, refl, sym, ap, subst, ◌∙◌, arith}
 use Rattle.std.specs.Prelude.{Option, Some, None, slice_get, Result, Ok, Err, IsOk}
 use Rattle.std.proofs.lemmas.Option.{same_Some, slice_get_within}
 use Rattle.nf_rational.specs.Rational.{ℚ}
 use Rattle.nf_work.specs.Passing.{Passing}
 use Rattle.nf_work.specs.declared.PassedAt.{PassedAt}
-use Rattle.nf_model.specs.Network.{Network, hops, unbounded}
+use Rattle.nf_model.specs.Network.{Network}
 use Rattle.nf_model.specs.ThinFlow.{Sets}
 use Rattle.nf_model.specs.Pattern.{Pattern, IsSolution}
 use Rattle.nf_lists.specs.Accepted.{pattern_lists, IsAccepted}
-use Rattle.nf_lists.specs.Listing.{HasPlace, IsListing, IsListingIn}
-use Rattle.nf_lists.specs.Search.{Answer, Found, OverBudget, PassesAt, NoPattern, NoneAcceptedBefore, IsFirstAccepted, IsOverBudget, IsInVain, IsFirstPassing, Answers, IsSearch}
+use Rattle.nf_lists.specs.Listing.{HasPlace, IsListingIn}
+use Rattle.nf_lists.specs.Search.{Answer, Found, OverBudget, PassesAt, NoPattern, NoneAcceptedBefore, IsOverBudget, IsInVain, IsFirstPassing, Answers, IsSearch}
 use Rattle.nf_pattern.specs.Given.{Question, Last, AtStart, UpTo, IsNext, NoneLeft}
 use Rattle.nf_pattern.proofs.Entering.{less_or_same}
 use Rattle.nf_thin.specs.declared.searches.Thin.{Thin}
 use Rattle.nf_thin.specs.declared.searches.Vain.{Vain}
 use Rattle.nf_thin.specs.declared.searches.SearchFault.{SearchFault}
-use Rattle.nf_thin.specs.declared.searches.SearchFault.TheVariants as SearchFault
 use Rattle.nf_thin.specs.Searching.{Searches, or_first, fault_of, Noted, InVain, IsFound, question_of}
 use Rattle.nf_pattern.specs.Front.{IsListingOf}
 use Rattle.nf_thin.proofs.Places.{GivenUpTo, given_next, given_all}

@@ -1,11 +1,10 @@
 -- What comes of a pattern once its table is solved.
-use Rattle.std.proofs.Common.{◌≡◌, ◌+◌, List, length, refl, sym, ap, subst, ◌∙◌}
+use Rattle.std.proofs.Common.{◌≡◌, ◌+◌, List, length, sym, ap, subst, ◌∙◌}
 use Rattle.std.specs.Prelude.{Option, Some, None, Result, Ok, Err, IsOk}
 use Rattle.nf_rational.specs.Rational.{ℚ}
 use Rattle.nf_work.specs.Passing.{Passing}
 use Rattle.nf_work.specs.declared.Part.TheVariants as Part
 use Rattle.nf_work.specs.declared.Halt.{Halt}
-use Rattle.nf_work.specs.declared.Halt.TheVariants as Halt
 use Rattle.nf_work.specs.Checked.{at_part, Stops}
 use Rattle.nf_model.specs.Network.{Network}
 use Rattle.nf_model.specs.ThinFlow.{Sets}
@@ -13,12 +12,11 @@ use Rattle.nf_model.specs.Pattern.{Pattern, IsSolution, IsSolvable}
 use Rattle.nf_lists.specs.Table.{Row, table_list}
 use Rattle.nf_lists.specs.Verdict.{verdict_list}
 use Rattle.nf_lists.specs.Equations.{active_from, equations, slopes_in, flows_in}
-use Rattle.nf_lists.specs.Accepted.{pattern_lists, IsAccepted}
+use Rattle.nf_lists.specs.Accepted.{pattern_lists}
 use Rattle.nf_linear_laws.proofs.Solutions.{one_solution}
 use Rattle.nf_equation_laws.specs.Equations.{IsPatternIn}
 use Rattle.nf_equation_laws.proofs.Table.{rows-length, is_square}
 use Rattle.nf_thin.specs.declared.trying.Tried.{Tried}
-use Rattle.nf_thin.specs.declared.trying.Tried.TheVariants as Tried
 use Rattle.nf_thin.specs.Trying.{JudgesValues, Tries}
 use Rattle.nf_thin.proofs.Patterns.{table_ok, table_passes, verdict_passes, accepted, refused, not_one}
 

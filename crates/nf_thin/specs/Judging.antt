@@ -14,7 +14,6 @@ use Rattle.nf_model.specs.Network.{Link, Network, IsLink}
 use Rattle.nf_model.specs.Pattern.{Pattern, Inequality, Meets}
 use Rattle.nf_lists.specs.Verdict.{bound_on}
 use Rattle.nf_thin.specs.declared.verdicts.Judged.{Judged}
-use Rattle.nf_thin.specs.declared.verdicts.Judged.TheVariants as Judged
 
 -- ---- what is found
 

@@ -14,7 +14,6 @@ use Rattle.nf_thin_laws.specs.ActiveLinks.{AreSets, HoldNoCycle}
 use Rattle.nf_thin.specs.declared.searches.Thin.{Thin}
 use Rattle.nf_thin.specs.declared.searches.Vain.{Vain}
 use Rattle.nf_thin.specs.declared.searches.SearchFault.{SearchFault}
-use Rattle.nf_thin.specs.declared.searches.SearchFault.TheVariants as SearchFault
 
 -- the answer of the definition that is given, unless memory is wanting
 abbrev pub Searches : (Answer → Type 0) → ℕ → Result Thin SearchFault → Type 0

@@ -4,13 +4,11 @@ use Rattle.nf_rational.specs.Rational.{ℚ}
 use Rattle.nf_work.specs.Passing.{Passing}
 use Rattle.nf_work.specs.declared.PassedAt.{PassedAt}
 use Rattle.nf_work.specs.declared.Halt.{Halt}
-use Rattle.nf_work.specs.declared.Halt.TheVariants as Halt
 use Rattle.nf_model.specs.Network.{Network}
 use Rattle.nf_model.specs.ThinFlow.{Sets}
 use Rattle.nf_model.specs.Pattern.{Pattern, Meets, IsSolution, IsSolvable}
 use Rattle.nf_lists.specs.Accepted.{pattern_lists, IsAccepted}
 use Rattle.nf_thin.specs.declared.trying.Tried.{Tried}
-use Rattle.nf_thin.specs.declared.trying.Tried.TheVariants as Tried
 
 -- accepted are these flows and slopes, if they meet the inequalities of the pattern
 abbrev pub JudgesValues : Network → Pattern → List ℚ → List ℚ → Result (List (Option ℚ)) (PassedAt ℚ) → Result Tried (Halt ℚ) → Type 0

@@ -3,10 +3,16 @@
 #![tactic(auto)]
 
 mod filling;
+#[cfg(test)]
+mod phases;
+#[cfg(test)]
+mod search_tests;
 mod searches;
 #[cfg(test)]
 mod tests;
 mod trying;
+#[cfg(test)]
+mod verdict_tests;
 mod verdicts;
 
 pub use searches::{SearchFault, Thin, search};

@@ -1,4 +1,4 @@
-use Rattle.std.proofs.Common.{◌≡◌, List, length, ◌∙◌, ap, sym, subst, arith}
+use Rattle.std.proofs.Common.{List, length, ◌∙◌, ap, sym, subst}
 use Rattle.nf_work.specs.Passing.{bound_of, beyond}
 use Rattle.nf_model.specs.Walk.{Hop}
 use Rattle.nf_lists.specs.Search.{IsSearch}

@@ -1,6 +1,6 @@
-use Rattle.std.proofs.Common.{◌≡◌, refl, arith}
+use Rattle.std.proofs.Common.{refl}
 use Rattle.std.proofs.lemmas.Option.{slice_get_read}
-use Rattle.nf_thin.proofs.Spreading.{none_yet, has_value, active_more, inactive_more, all_flows}
+use Rattle.nf_thin.proofs.Spreading.{has_value, active_more, inactive_more}
 use Rattle.nf_thin.proofs.trying.flows_of.Goals.{then-active+in_ok-push, else-active+in_ok-push-2}
 use Rattle.nf_thin.proofs.trying.flows_of.Goals as goal
 

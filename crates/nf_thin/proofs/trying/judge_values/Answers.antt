@@ -1,4 +1,4 @@
-use Rattle.std.proofs.Common.{List, ◌∙◌, drop, ap, length}
+use Rattle.std.proofs.Common.{List, ◌∙◌, ap, length}
 use Rattle.nf_rational.specs.Rational.{ℚ}
 use Rattle.nf_equation_laws.proofs.Packed.{onto-length}
 use Rattle.nf_thin.proofs.trying.judge_values.Goals as goal
