@@ -16,6 +16,7 @@ echo 'bench_phases: nf_rational nf_work nf_model nf_formats nf_lists nf_edge nf_
 cp "$here/phases/main.txt" "$bench/src/main.rt"
 cp "$here/phases/phases.txt" "$bench/src/phases.rt"
 cp -r "$here/phases/proofs" "$bench/proofs/phases"
+find "$bench/proofs/phases" -name '*.txt' -exec bash -c 'mv "$1" "${1%.txt}.antt"' _ {} \;
 touch "$bench/specs/Lib.antt" "$bench/proofs/Lib.antt"
 program=$bench/out/bench_phases
 # The ladder of a number: two rails of so many nodes from s to t, and a rung from each upper node to the lower one beside it; transit times
