@@ -5,7 +5,7 @@ use Rattle.std.specs.Prelude.{Option, Some, None}
 use Rattle.std.proofs.Math.ListN.{drop_of_length-le}
 use Rattle.nf_model.specs.declared.State.{State}
 use Rattle.nf_model.specs.Pattern.{Pattern, changes}
-use Rattle.nf_pattern.specs.Successor.{choices, IsAssignment, free, change, first_good, before_all, with_rest, earliest, or_else, raised, raised_at, RaisesAt, later}
+use Rattle.nf_pattern.specs.Successor.{choices, IsAssignment, free, change, first_good, before_all, with_rest, earliest, or_else, raised, raised_at, RaisesAt, IsSameBefore, later}
 use Rattle.nf_pattern.proofs.Filling.{free_first}
 use Rattle.nf_pattern.proofs.Successors.{changes_first, fits_out, good_some, higher, higher_out}
 
@@ -51,6 +51,14 @@ module _ (base : Pattern) (us : List Bool) (states : Pattern) (e n m : ℕ) (all
 
   pub not_raised : Chosen None → raised_at base us states e n ≡ None
   not_raised chosen = raised_by None chosen
+
+front_stays : (e : ℕ) (xs ys : Pattern) → e ≤ length xs → take e (take e xs ++ ys) ≡ take e xs
+front_stays zero xs ys h = refl
+front_stays (suc e) [] ys h = absurd (omega arith)
+front_stays (suc e) (x ∷ xs) ys h = ap (λ (zs : Pattern). x ∷ zs) (front_stays e xs ys (omega arith))
+
+pub raised_same : (base : Pattern) (us : List Bool) (states : Pattern) (same e n : ℕ) (after : Pattern) → e < same → e < length states → RaisesAt base us states e n after → IsSameBefore same e states after
+raised_same base us states same e n after less below up = (omega arith, ap (take e) up.stays ∙ front_stays e states up.rest (omega arith))
 
 -- ---- from the last link backward
 

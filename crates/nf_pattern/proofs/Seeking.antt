@@ -148,5 +148,6 @@ standing_start question seen current flags same is base count =
       is_question = q;
       assigned = subst (λ (x : Pattern). IsAssignment question.base question.unbounded x) (sym at_base) (valid question q);
       start = λ _. at_base;
+      listed = λ e. absurd (cc);
       count = count ∙ ap (λ (x : Question). x.nodes) (sym same);
     }

@@ -23,6 +23,10 @@ pub record LeadsBack (hops : List Hop) (pattern : Pattern) (e : ℕ) : Type 0 wh
 abbrev pub Closes : List Hop → Pattern → ℕ → Type 0
 Closes hops pattern e = HasState pattern e Tight × LeadsBack hops pattern e
 
+-- no link before number n does
+abbrev pub NoneCloses : List Hop → Pattern → ℕ → Type 0
+NoneCloses hops pattern n = (e : ℕ) → e < n → Closes hops pattern e → ⊥
+
 -- ---- a walk: flags at the nodes that it has come to
 
 -- both ends of the link have a flag, or none has

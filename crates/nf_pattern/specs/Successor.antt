@@ -1,5 +1,5 @@
 -- Which assignment of states comes next, among those that differ from a base at equally many links.
-use Rattle.std.specs.Prelude.{◌≡◌, ◌⊎◌, ℕ, suc, ◌+◌, ◌-◌, Bool, true, false, ◌&&◌, ◌==◌, nat_lt, nat_le, if◌then◌else◌, List, [], ◌∷◌, ◌++◌, get_or, take, drop, Option, Some, None}
+use Rattle.std.specs.Prelude.{◌≡◌, ◌⊎◌, ℕ, suc, ◌+◌, ◌-◌, ◌≤◌, Bool, true, false, ◌&&◌, ◌==◌, nat_lt, nat_le, if◌then◌else◌, List, [], ◌∷◌, ◌++◌, get_or, take, drop, Option, Some, None}
 use Rattle.nf_model.specs.declared.State.{State}
 use Rattle.nf_model.specs.declared.State.TheVariants.{Tight, Full, Zero}
 use Rattle.nf_model.specs.Pattern.{Pattern, rank, changes}
@@ -70,6 +70,10 @@ pub record RaisesAt (base : Pattern) (unbounded : List Bool) (states : Pattern) 
   pub rest : Pattern
   pub is_raised : raised_at base unbounded states e n ≡ Some rest
   pub stays : after ≡ take e states ++ rest
+
+-- the states before link e stay; it is none, or comes before link `same`
+abbrev pub IsSameBefore : ℕ → ℕ → Pattern → Pattern → Type 0
+IsSameBefore same e states after = (e ≤ same - 1) × (take e after ≡ take e states)
 
 -- the next assignment with equally many changes that isn't the same up to this link
 abbrev pub later : ℕ → Pattern → List Bool → Pattern → Option Pattern

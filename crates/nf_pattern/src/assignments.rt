@@ -1,7 +1,7 @@
 // Assignments of states to links, in order: by the number of links that differ from a base, and then link by link.
-ghost use Rattle.std.specs.Prelude.{◌≡◌, ◌^◌, ◌<◌, ◌≤◌, ◌+◌, suc, length, get_or, take, drop, Some, None, MatchBool};
+ghost use Rattle.std.specs.Prelude.{◌≡◌, ◌^◌, ◌<◌, ◌≤◌, ◌+◌, suc, length, get_or, take, drop, Some, None, MatchBool, MatchOption};
 ghost use Rattle.nf_model.specs.Pattern.{changes as changes_of};
-ghost use Rattle.nf_pattern.specs.Successor.{IsAssignment, free, earliest, later, next_assignment, raised_at, RaisesAt};
+ghost use Rattle.nf_pattern.specs.Successor.{IsAssignment, free, earliest, later, next_assignment, raised_at, RaisesAt, IsSameBefore};
 
 use crate::choice::{change, first_choice, next_choice};
 use nf_model::State;
@@ -70,20 +70,21 @@ fn raise_at(
     }
 }
 
-// The next assignment with equally many changes that isn't the same up to this link; whether there is one.
+// The next assignment with equally many changes that isn't the same up to this link, and the link up to which it is; None where
+// there is none.
 fn raise(
     states: &mut [Option<State>],
     base: &[Option<State>],
     unbounded: &[bool],
     same: usize,
-) -> bool
+) -> Option<usize>
     requires same { same ≤ length base.now }
     requires states { length states.old ≡ length base.now }
     requires unbounded { length unbounded.now ≡ length base.now }
     requires fewer { length base.now < 2 ^ 32 }
     requires valid { IsAssignment base.now unbounded.now base.now }
-    ensures { MatchBool result (later same base.now unbounded.now states.old ≡ Some states.new)
-        ((later same base.now unbounded.now states.old ≡ None) × (states.new ≡ states.old)) }
+    ensures { MatchOption result ((later same base.now unbounded.now states.old ≡ None) × (states.new ≡ states.old))
+        (λ link. (later same base.now unbounded.now states.old ≡ Some states.new) × IsSameBefore same link states.old states.new) }
 {
     let mut i = base.len();
     let mut changes = 0;
@@ -93,12 +94,12 @@ fn raise(
         changes += change(base[i], states[i]);
         if i < same {
             if raise_at(states, base, unbounded, i, changes, more) {
-                return true;
+                return Some(i);
             }
         }
         more += change(None, base[i]);
     }
-    false
+    None
 }
 
 // How many links differ from the base.
@@ -126,29 +127,29 @@ fn count_free(base: &[Option<State>]) -> u32
     count
 }
 
-// The next assignment that isn't the same up to this link; whether there is one.
+// The next assignment that isn't the same up to this link, and a link up to which it is; None where there is none.
 pub(crate) fn advance(
     states: &mut [Option<State>],
     base: &[Option<State>],
     unbounded: &[bool],
     same: usize,
-) -> bool
+) -> Option<usize>
     requires same { same ≤ length base.now }
     requires states { length states.old ≡ length base.now }
     requires unbounded { length unbounded.now ≡ length base.now }
     requires fewer { length base.now < 2 ^ 32 }
     requires valid { IsAssignment base.now unbounded.now base.now }
-    ensures { MatchBool result (next_assignment same base.now unbounded.now states.old ≡ Some states.new)
-        ((next_assignment same base.now unbounded.now states.old ≡ None) × (states.new ≡ states.old)) }
+    ensures { MatchOption result ((next_assignment same base.now unbounded.now states.old ≡ None) × (states.new ≡ states.old))
+        (λ link. (next_assignment same base.now unbounded.now states.old ≡ Some states.new) × IsSameBefore same link states.old states.new) }
 {
-    if raise(states, base, unbounded, same) {
-        return true;
+    if let Some(link) = raise(states, base, unbounded, same) {
+        return Some(link);
     }
     let changes = count_changes(base, states);
     let more = count_free(base);
     if changes >= more {
-        return false;
+        return None;
     }
     fill(states, base, unbounded, changes + 1, more);
-    true
+    Some(0)
 }

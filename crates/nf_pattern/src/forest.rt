@@ -3,7 +3,7 @@ ghost use Rattle.std.specs.Prelude.{◌≡◌, ◌<◌, ◌≤◌, length, Some,
 ghost use Rattle.nf_model.specs.declared.State.TheVariants.{Tight};
 ghost use Rattle.nf_model.specs.Pattern.{HasState, IsForest};
 ghost use Rattle.nf_graph.specs.Graph.{AreBelow};
-ghost use Rattle.nf_pattern.specs.Forest.{TightBefore, LeadsBack, Closes, HasSameEnds, Joins, Spreads, HoldsAll, unset};
+ghost use Rattle.nf_pattern.specs.Forest.{TightBefore, LeadsBack, Closes, NoneCloses, HasSameEnds, Joins, Spreads, HoldsAll, unset};
 
 use nf_graph::Hop;
 use nf_model::State;
@@ -98,18 +98,20 @@ fn closes(hops: &[Hop], states: &[Option<State>], link: usize, flags: &mut [bool
     leads_back(hops, states, link, flags)
 }
 
-// The first link that closes a cycle of Tight links.
+// The first link that closes a cycle of Tight links, where none before number `clear` does.
 pub(crate) fn first_closing(
     hops: &[Hop],
     states: &[Option<State>],
+    clear: usize,
     flags: &mut [bool],
 ) -> Option<usize>
     requires states { length states.now ≡ length hops.now }
     requires ends { AreBelow (length flags.old) hops.now }
+    requires clear { NoneCloses hops.now states.now clear }
     ensures { MatchOption result (IsForest hops.now (λ e. HasState states.now e Tight))
-        (λ e. (e < length hops.now) × Closes hops.now states.now e) }
+        (λ e. (e < length hops.now) × Closes hops.now states.now e × NoneCloses hops.now states.now e) }
 {
-    for e in 0..hops.len() {
+    for e in clear..hops.len() {
         if closes(hops, states, e, flags) {
             return Some(e);
         }

@@ -72,10 +72,11 @@ fn resetting_flags(alloc: Global, sets: &LinkSets, links: usize) -> Result<Vec<b
 }
 
 impl Question {
-    ghost use Rattle.std.specs.Prelude.{◌≡◌, ◌≤◌, length, IfOk, MatchBool, MatchOption, Some, None};
-    ghost use Rattle.nf_pattern.specs.Successor.{IsAssignment, next_assignment};
+    ghost use Rattle.std.specs.Prelude.{◌≡◌, ◌-◌, ◌≤◌, length, IfOk, MatchBool, MatchOption, Some, None};
+    ghost use Rattle.nf_pattern.specs.Forest.{NoneCloses};
+    ghost use Rattle.nf_pattern.specs.Successor.{IsAssignment, IsSameBefore, next_assignment};
     ghost use Rattle.nf_pattern.specs.Given.{IsQuestion, IsListedBy, IsBarren, IsFirstFrom, NoneFrom, IsNext, NoneLeft, AtStart, UpTo};
-    ghost use Rattle.nf_pattern.specs.declared.question.Stand.TheVariants.{Start};
+    ghost use Rattle.nf_pattern.specs.declared.question.Stand.TheVariants.{Start, Listed};
     ghost use Rattle.nf_pattern.specs.Stands.{last_of};
 
     // The question of these values, kept in memory of its own.
@@ -107,14 +108,16 @@ impl Question {
         })
     }
 
-    // Up to which link the states keep every pattern from being listed; None where they are listed. The flags are for walks.
-    fn failing(&self, states: &[Option<State>], flags: &mut [bool]) -> Option<usize>
+    // Up to which link the states keep every pattern from being listed; None where they are listed. No link before number `clear`
+    // closes a cycle. The flags are for walks.
+    fn failing(&self, states: &[Option<State>], flags: &mut [bool], clear: usize) -> Option<usize>
         requires assigned { IsAssignment self.now.base self.now.unbounded states.now }
         requires flags { length flags.old ≡ self.now.nodes }
+        requires clear { NoneCloses self.now.hops states.now clear }
         ensures { MatchOption result (IsListedBy self.now states.now)
-            (λ n. (n ≤ length self.now.base) × IsBarren self.now n states.now) }
+            (λ n. (n ≤ length self.now.base) × IsBarren self.now n states.now × NoneCloses self.now.hops states.now (n - 1)) }
     {
-        if let Some(link) = first_closing(&self.hops, states, flags) {
+        if let Some(link) = first_closing(&self.hops, states, clear, flags) {
             return Some(link + 1);
         }
         match unentered(&self.hops, states, &self.resetting, self.source, flags) {
@@ -123,28 +126,32 @@ impl Question {
         }
     }
 
-    // The next assignment that isn't the same up to this link; whether there is one.
-    fn advance(&self, states: &mut [Option<State>], same: usize) -> bool
+    // The next assignment that isn't the same up to this link, and a link up to which it is; None where there is none.
+    fn advance(&self, states: &mut [Option<State>], same: usize) -> Option<usize>
         requires assigned { IsAssignment self.now.base self.now.unbounded states.old }
         requires same { same ≤ length self.now.base }
-        ensures { MatchBool result (next_assignment same self.now.base self.now.unbounded states.old ≡ Some states.new)
-            ((next_assignment same self.now.base self.now.unbounded states.old ≡ None) × (states.new ≡ states.old)) }
+        ensures { MatchOption result ((next_assignment same self.now.base self.now.unbounded states.old ≡ None) × (states.new ≡ states.old))
+            (λ link. (next_assignment same self.now.base self.now.unbounded states.old ≡ Some states.new) × IsSameBefore same link states.old states.new) }
     {
         advance(states, self.base.states(), &self.unbounded, same)
     }
 
-    // On to the first listed pattern from this assignment on; whether there is one.
-    fn seek(&self, states: &mut [Option<State>], flags: &mut [bool]) -> bool
+    // On to the first listed pattern from this assignment on, in which no link before number `clear` closes a cycle; whether there
+    // is one.
+    fn seek(&self, states: &mut [Option<State>], flags: &mut [bool], clear: usize) -> bool
         requires question { IsQuestion self.now }
         requires assigned { IsAssignment self.now.base self.now.unbounded states.old }
         requires flags { length flags.old ≡ self.now.nodes }
+        requires clear { NoneCloses self.now.hops states.old clear }
         ensures assigned { IsAssignment self.now.base self.now.unbounded states.new }
         ensures found { MatchBool result (IsFirstFrom self.now states.old states.new) (NoneFrom self.now states.old) }
     {
-        while let Some(same) = self.failing(states, flags) {
-            if !self.advance(states, same) {
+        let mut clear = clear;
+        while let Some(same) = self.failing(states, flags, clear) {
+            let Some(link) = self.advance(states, same) else {
                 return false;
-            }
+            };
+            clear = link;
         }
         true
     }
@@ -157,22 +164,23 @@ impl Question {
         ensures assigned { IsAssignment self.now.base self.now.unbounded states.new }
         ensures found { MatchBool result (IsNext self.now AtStart states.new) (NoneLeft self.now AtStart) }
     {
-        self.seek(states, flags)
+        self.seek(states, flags, 0)
     }
 
     // From a listed pattern on to the next one; whether there is one.
     fn after(&self, states: &mut [Option<State>], flags: &mut [bool]) -> bool
         requires question { IsQuestion self.now }
         requires assigned { IsAssignment self.now.base self.now.unbounded states.old }
+        requires listed { IsListedBy self.now states.old }
         requires flags { length flags.old ≡ self.now.nodes }
         ensures assigned { IsAssignment self.now.base self.now.unbounded states.new }
         ensures found { MatchBool result (IsNext self.now (UpTo states.old) states.new) (NoneLeft self.now (UpTo states.old)) }
     {
         let links = states.len();
-        if !self.advance(states, links) {
-            return false;
+        match self.advance(states, links) {
+            None => false,
+            Some(link) => self.seek(states, flags, link),
         }
-        self.seek(states, flags)
     }
 
     // From where a listing stands on to the next listed pattern; whether there is one.
@@ -185,6 +193,7 @@ impl Question {
         requires question { IsQuestion self.now }
         requires assigned { IsAssignment self.now.base self.now.unbounded states.old }
         requires start { stand ≡ Start → states.old ≡ self.now.base }
+        requires listed { stand ≡ Listed → IsListedBy self.now states.old }
         requires flags { length flags.old ≡ self.now.nodes }
         ensures assigned { IsAssignment self.now.base self.now.unbounded states.new }
         ensures found { MatchBool result (IsNext self.now (last_of stand states.old) states.new) (NoneLeft self.now (last_of stand states.old)) }

@@ -1,7 +1,7 @@
 use Rattle.std.proofs.Common.{◌≡◌, ◌+◌, ◌-◌, length, get_or, None, ap, subst, refl, ◌∙◌, arith}
 use Rattle.nf_model.specs.Pattern.{Pattern}
 use Rattle.nf_pattern.specs.Successor.{change, RaisesAt, raised_at}
-use Rattle.nf_pattern.proofs.Raising.{none_last, free_behind, raised_later, last_kept, last_cut, last_all}
+use Rattle.nf_pattern.proofs.Raising.{none_last, free_behind, raised_later, raised_same, last_kept, last_cut, last_all}
 use Rattle.nf_pattern.proofs.assignments.raise.Goals as goal
 use Rattle.nf_pattern.proofs.assignments.raise.Goals.{then-i-same+else-raise_at, else-i-same}
 
@@ -20,11 +20,16 @@ raise_at-requires-clause-free c = free_behind c.args.base.now c.args.unbounded.n
     c.requires.states c.requires.unbounded
 
 pub returns-then-raise_at : goal.returns-then-raise_at
-returns-then-raise_at c = raised_later c.args.base.now c.args.unbounded.now c.args.states.now c.args.same (c.loop-i.i - 1) c.loop-i.i c.loop-i.changes c.loop-i.more c.loop-i.invariant.last (omega arith)
-    c.requires.states c.requires.unbounded c.change-changes.result (c.loop-i.changes + c.change-changes.result)
-    (subst (λ (x : Pattern). c.change-changes.result ≡ change (get_or c.args.base.now (c.loop-i.i - 1) None) (get_or x (c.loop-i.i - 1) None)) c.loop-i.invariant.kept c.change-changes.ensures.value) refl
-    c.raise_at.new.states c.if-i-same.true
-    (subst (λ (x : Pattern). RaisesAt c.args.base.now c.args.unbounded.now x (c.loop-i.i - 1) (c.loop-i.changes + c.change-changes.result) c.raise_at.new.states) c.loop-i.invariant.kept c.if-raise_at.ensures)
+returns-then-raise_at c =
+    let raised : RaisesAt c.args.base.now c.args.unbounded.now c.args.states.now (c.loop-i.i - 1) (c.loop-i.changes + c.change-changes.result) c.raise_at.new.states =
+    subst (λ (x : Pattern). RaisesAt c.args.base.now c.args.unbounded.now x (c.loop-i.i - 1) (c.loop-i.changes + c.change-changes.result) c.raise_at.new.states) c.loop-i.invariant.kept c.if-raise_at.ensures in (
+      raised_later c.args.base.now c.args.unbounded.now c.args.states.now c.args.same (c.loop-i.i - 1) c.loop-i.i c.loop-i.changes c.loop-i.more c.loop-i.invariant.last (omega arith)
+          c.requires.states c.requires.unbounded c.change-changes.result (c.loop-i.changes + c.change-changes.result)
+          (subst (λ (x : Pattern). c.change-changes.result ≡ change (get_or c.args.base.now (c.loop-i.i - 1) None) (get_or x (c.loop-i.i - 1) None)) c.loop-i.invariant.kept c.change-changes.ensures.value) refl
+          c.raise_at.new.states c.if-i-same.true raised,
+      raised_same c.args.base.now c.args.unbounded.now c.args.states.now c.args.same (c.loop-i.i - 1) (c.loop-i.changes + c.change-changes.result) c.raise_at.new.states c.if-i-same.true
+          (let w = c.loop-i.invariant.last.within in let n = c.requires.states in omega arith) raised,
+    )
 
 pub overflow_add-more : goal.overflow_add-more
 overflow_add-more c = let f = c.loop-i.invariant.last.few_free in let s = c.change-more.ensures.small in omega arith

@@ -1,6 +1,7 @@
-use Rattle.std.proofs.Common.{length, subst, sym, arith}
+use Rattle.std.proofs.Common.{◌≡◌, ◌≤◌, length, subst, sym, arith}
 use Rattle.nf_model.specs.Pattern.{Pattern}
 use Rattle.nf_pattern.specs.Successor.{IsAssignment}
+use Rattle.nf_pattern.proofs.Barren.{none_closes_same, none_closes_listed}
 use Rattle.nf_pattern.proofs.Choosing.{assigned_length}
 use Rattle.nf_pattern.proofs.Seeking.{none_after, next_assigned, match_after}
 use Rattle.nf_pattern.proofs.question.Question.after.Goals as goal
@@ -8,16 +9,20 @@ use Rattle.nf_pattern.proofs.question.Question.after.Goals as goal
 pub advance-requires-clause-same : goal.advance-requires-clause-same
 advance-requires-clause-same c = let n = assigned_length c.args.self.now.base c.args.self.now.unbounded c.args.states.now c.requires.assigned in omega arith
 
-pub returns-then-not-advance-clause-assigned : goal.returns-then-not-advance-clause-assigned
-returns-then-not-advance-clause-assigned c = subst (λ (x : Pattern). IsAssignment c.args.self.now.base c.args.self.now.unbounded x) (sym c.if-not-advance.ensures.1) c.requires.assigned
+pub returns-in-None-clause-assigned : goal.returns-in-None-clause-assigned
+returns-in-None-clause-assigned c = subst (λ (x : Pattern). IsAssignment c.args.self.now.base c.args.self.now.unbounded x) (sym c.in-None.ensures.1) c.requires.assigned
 
-pub returns-then-not-advance-clause-found : goal.returns-then-not-advance-clause-found
-returns-then-not-advance-clause-found c = none_after c.args.self.now c.requires.question c.args.states.now c.requires.assigned (length c.args.states.now)
-    (let n = assigned_length c.args.self.now.base c.args.self.now.unbounded c.args.states.now c.requires.assigned in omega arith) c.if-not-advance.ensures.0
+pub returns-in-None-clause-found : goal.returns-in-None-clause-found
+returns-in-None-clause-found c = none_after c.args.self.now c.requires.question c.args.states.now c.requires.assigned (length c.args.states.now)
+    (let n = assigned_length c.args.self.now.base c.args.self.now.unbounded c.args.states.now c.requires.assigned in omega arith) c.in-None.ensures.0
 
 pub seek-requires-clause-assigned : goal.seek-requires-clause-assigned
-seek-requires-clause-assigned c = next_assigned c.args.self.now c.requires.question (length c.args.states.now) c.args.states.now c.advance.new.states c.requires.assigned c.if-not-advance.ensures
+seek-requires-clause-assigned c = next_assigned c.args.self.now c.requires.question (length c.args.states.now) c.args.states.now c.advance.new.states c.requires.assigned c.in-Some.ensures.0
 
-pub returns-clause-found : goal.returns-clause-found
-returns-clause-found c = match_after c.args.self.now c.requires.question c.args.states.now c.advance.new.states c.seek.new.states (length c.args.states.now) c.seek.result c.requires.assigned
-    (let n = assigned_length c.args.self.now.base c.args.self.now.unbounded c.args.states.now c.requires.assigned in omega arith) c.if-not-advance.ensures c.seek.ensures.found
+pub seek-requires-clause-clear : goal.seek-requires-clause-clear
+seek-requires-clause-clear c = none_closes_same c.args.self.now.hops c.args.states.now c.advance.new.states c.in-Some.link c.in-Some.link (omega arith)
+    (none_closes_listed c.args.self.now.hops c.args.states.now c.in-Some.link c.requires.listed.forest) c.in-Some.ensures.1.1
+
+pub returns-in-Some-clause-found : goal.returns-in-Some-clause-found
+returns-in-Some-clause-found c = match_after c.args.self.now c.requires.question c.args.states.now c.advance.new.states c.seek.new.states (length c.args.states.now) c.seek.result c.requires.assigned
+    (let n = assigned_length c.args.self.now.base c.args.self.now.unbounded c.args.states.now c.requires.assigned in omega arith) c.in-Some.ensures.0 c.seek.ensures.found

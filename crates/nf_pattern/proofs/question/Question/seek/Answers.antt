@@ -1,11 +1,16 @@
-use Rattle.std.proofs.Common.{subst, sym, ◌∙◌}
+use Rattle.std.proofs.Common.{◌≡◌, ◌-◌, subst, sym, ◌∙◌, arith}
 use Rattle.nf_model.specs.Pattern.{Pattern}
 use Rattle.nf_pattern.specs.Successor.{IsAssignment}
+use Rattle.nf_pattern.proofs.Barren.{none_closes_same}
 use Rattle.nf_pattern.proofs.Seeking.{sought_first, sought_found, sought_more, sought_none, step_fewer}
 use Rattle.nf_pattern.proofs.question.Question.seek.Goals as goal
 
 pub loop-same-init : goal.loop-same-init
-loop-same-init c = record { sought = sought_first c.args.self.now c.requires.question c.args.states.now c.requires.assigned; count = c.requires.flags }
+loop-same-init c = record {
+  sought = sought_first c.args.self.now c.requires.question c.args.states.now c.requires.assigned;
+  count = c.requires.flags;
+  clear = c.requires.clear;
+}
 
 pub failing-requires-clause-assigned : goal.failing-requires-clause-assigned
 failing-requires-clause-assigned c = c.loop-same.invariant.sought.assigned
@@ -13,19 +18,21 @@ failing-requires-clause-assigned c = c.loop-same.invariant.sought.assigned
 pub advance-requires-clause-assigned : goal.advance-requires-clause-assigned
 advance-requires-clause-assigned c = c.loop-same.invariant.sought.assigned
 
-pub returns-then-not-advance-clause-assigned : goal.returns-then-not-advance-clause-assigned
-returns-then-not-advance-clause-assigned c = subst (λ (x : Pattern). IsAssignment c.args.self.now.base c.args.self.now.unbounded x) (sym c.if-not-advance.ensures.1) c.loop-same.invariant.sought.assigned
+pub returns-in_default-advance-clause-assigned : goal.returns-in_default-advance-clause-assigned
+returns-in_default-advance-clause-assigned c =
+    subst (λ (x : Pattern). IsAssignment c.args.self.now.base c.args.self.now.unbounded x) (sym c.in_default-advance.ensures.1) c.loop-same.invariant.sought.assigned
 
-pub returns-then-not-advance-clause-found : goal.returns-then-not-advance-clause-found
-returns-then-not-advance-clause-found c = sought_none c.args.self.now c.requires.question c.args.states.now c.loop-same.states c.loop-same.invariant.sought c.in-Some.same c.in-Some.ensures.1 c.if-not-advance.ensures.0
+pub returns-in_default-advance-clause-found : goal.returns-in_default-advance-clause-found
+returns-in_default-advance-clause-found c = sought_none c.args.self.now c.requires.question c.args.states.now c.loop-same.states c.loop-same.invariant.sought c.in-Some.same c.in-Some.ensures.1 c.in_default-advance.ensures.0
 
 pub loop-same-smaller : goal.loop-same-smaller
-loop-same-smaller c = step_fewer c.args.self.now c.requires.question c.in-Some.same c.loop-same.states c.advance.new.states c.loop-same.invariant.sought.assigned c.if-not-advance.ensures
+loop-same-smaller c = step_fewer c.args.self.now c.requires.question c.in-Some.same c.loop-same.states c.advance.new.states c.loop-same.invariant.sought.assigned c.in-Some-advance.ensures.0
 
 pub loop-same-preserved : goal.loop-same-preserved
 loop-same-preserved c = record {
-  sought = sought_more c.args.self.now c.requires.question c.args.states.now c.loop-same.states c.loop-same.invariant.sought c.in-Some.same c.in-Some.ensures.1 c.advance.new.states c.if-not-advance.ensures;
+  sought = sought_more c.args.self.now c.requires.question c.args.states.now c.loop-same.states c.loop-same.invariant.sought c.in-Some.same c.in-Some.ensures.1 c.advance.new.states c.in-Some-advance.ensures.0;
   count = c.failing.auto.flags ∙ c.loop-same.invariant.count;
+  clear = none_closes_same c.args.self.now.hops c.loop-same.states c.advance.new.states (c.in-Some.same - 1) c.in-Some-advance.link c.in-Some-advance.ensures.1.0 c.in-Some.ensures.2 c.in-Some-advance.ensures.1.1;
 }
 
 pub returns-clause-assigned : goal.returns-clause-assigned
