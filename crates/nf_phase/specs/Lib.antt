@@ -1,1 +1,3 @@
 pub mod Lengths
+pub mod Stepping
+pub mod Solution

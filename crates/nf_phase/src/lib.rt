@@ -1,8 +1,15 @@
-//! Phases of a flow over time (Koch and Skutella 2011): how long one may last.
+//! Phases of a flow over time (Koch and Skutella 2011): how long one may last, and the run that goes on phase by phase to a
+//! horizon.
 #![tactic(auto)]
 
+mod fault;
 mod lengths;
+mod solution;
+mod solving;
 #[cfg(test)]
 mod tests;
 
+pub use fault::StepFault;
 pub use lengths::extension;
+pub use solution::{Budgets, Solution};
+pub use solving::solve;

@@ -150,15 +150,15 @@ module _ (net : Network) (good : IsNetwork net) (horizon time time' : ℚ) (labe
         curves.outflows curves.queues curves'.outflows curves'.queues good some phase.thin.no_negative_slope into grown.stands.holds holds_after goes grown.describes grown.description_stands describe);
   }
 
-pub grown_by : (net : Network) (horizon until : ℚ) (labels : List ℚ) (curves : Curves) → IsNetwork net → GrowByPhases net horizon until labels curves → Grown net until labels curves
-grown_by net horizon until labels curves good (begin _ _ least first) = Grown-first net good labels curves least first
-grown_by net horizon until labels curves good (grow time _ before _ curves_0 _ phase earlier go describe) =
-    Grown-after net good horizon time until before labels curves_0 curves phase (grown_by net horizon time before curves_0 good earlier) go describe
+pub grown_by : (net : Network) (until : ℚ) (labels : List ℚ) (curves : Curves) → IsNetwork net → GrowByPhases net until labels curves → Grown net until labels curves
+grown_by net until labels curves good (begin _ _ least first) = Grown-first net good labels curves least first
+grown_by net until labels curves good (grow horizon time _ before _ curves_0 _ phase earlier go describe) =
+    Grown-after net good horizon time until before labels curves_0 curves phase (grown_by net time before curves_0 good earlier) go describe
 
-pub Equilibrium-phases : (net : Network) (horizon : ℚ) (labels : List ℚ) (flow : Flow) → IsNetwork net → GrowByPhases net horizon flow.reached labels (curves_of flow)
+pub Equilibrium-phases : (net : Network) (labels : List ℚ) (flow : Flow) → IsNetwork net → GrowByPhases net flow.reached labels (curves_of flow)
     → HasShape net flow → HasSlopes flow.inflows → HasSlopes flow.outflows → Equilibrium net flow
-Equilibrium-phases net horizon labels flow good run shape inflow_rates outflow_rates =
-    let g : Grown net flow.reached labels (curves_of flow) = grown_by net horizon flow.reached labels (curves_of flow) good run in
+Equilibrium-phases net labels flow good run shape inflow_rates outflow_rates =
+    let g : Grown net flow.reached labels (curves_of flow) = grown_by net flow.reached labels (curves_of flow) good run in
     equilibrium (curves_of flow) g
   where
     equilibrium : (curves : Curves) → Grown net flow.reached labels (curves_of flow) → Equilibrium net flow

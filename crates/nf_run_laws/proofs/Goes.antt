@@ -53,7 +53,7 @@ time_line : (a y t r : ℚ) → r *ℚ ((a +ℚ t) -ℚ a) ≡ (y +ℚ r *ℚ t)
 time_line a y t r = linear_eq (a ∷ y ∷ t ∷ r ∷ []) [] (search reading_of depth 12) tt tt
 
 module _ (passes : Passing) (net : Network) (good : IsNetwork net) (horizon : ℚ) (s : Standing) (pattern : Pattern) (flows slopes : List ℚ) (step : PhaseStep)
-    (well : WellRun net horizon s) (below : s.time <ℚ horizon) (listed : IsListedIn net (sets_at net s.labels) pattern)
+    (well : WellRun net s) (below : s.time <ℚ horizon) (listed : IsListedIn net (sets_at net s.labels) pattern)
     (solves : Solves net (sets_at net s.labels) (rate_at net s.time) pattern flows slopes) (meets : Meets net pattern flows slopes)
     (parts : PhaseParts passes net s pattern flows slopes step) (is_length : IsPhaseLength net (slacks_of (hops net) s.labels) slopes s.time horizon step.length) where
   abbrev new : Standing
@@ -72,7 +72,7 @@ module _ (passes : Passing) (net : Network) (good : IsNetwork net) (horizon : �
   phase = record { before = below; flows = flows; slopes = slopes; thin = thin; length = step.length; is_length = is_length; time = refl; labels = parts.labels }
 
   grown : Grown net s.time s.labels curves
-  grown = grown_by net horizon s.time s.labels curves good well.grow
+  grown = grown_by net s.time s.labels curves good well.grow
 
   some : 0ℚ <ℚ step.length
   some = IsPhaseLength-some net (slacks_of (hops net) s.labels) slopes s.time horizon step.length below is_length
@@ -271,9 +271,9 @@ module _ (passes : Passing) (net : Network) (good : IsNetwork net) (horizon : �
       let c = link_found e l.0 l.1 in
       subst P (same_Some _ k (sym (link_after e l.0 l.1 c.0 c.1) ∙ there)) (f e l.0 l.1 c.0 c.1)
 
-  pub WellRun-after : WellRun net horizon (standing_after net s pattern slopes step)
+  pub WellRun-after : WellRun net (standing_after net s pattern slopes step)
   WellRun-after = record {
-    grow = grow s.time (s.time +ℚ step.length) s.labels step.labels curves curves' phase well.grow curves_go description_goes;
+    grow = grow horizon s.time (s.time +ℚ step.length) s.labels step.labels curves curves' phase well.grow curves_go description_goes;
     label_count = label_length;
     link_count = link_length;
     label_slopes = new_label_slope;

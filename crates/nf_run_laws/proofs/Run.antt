@@ -20,9 +20,9 @@ use Rattle.nf_run_laws.proofs.WellRun.{WellRun, WellRun-start}
 use Rattle.nf_run_laws.proofs.Goes.{phase, WellRun-after}
 
 -- ---- the flow of a standing
-module _ (net : Network) (good : IsNetwork net) (horizon : ℚ) (s : Standing) (well : WellRun net horizon s) where
+module _ (net : Network) (good : IsNetwork net) (s : Standing) (well : WellRun net s) where
   grown : Grown net s.time s.labels (curves_of (flow_of s))
-  grown = grown_by net horizon s.time s.labels (curves_of (flow_of s)) good well.grow
+  grown = grown_by net s.time s.labels (curves_of (flow_of s)) good well.grow
 
   many : {B : Type 0} (f : LinkCurves → B) → length (map f s.link_curves) ≡ length net.links
   many f = length-map s.link_curves f ∙ well.link_count
@@ -42,51 +42,51 @@ module _ (net : Network) (good : IsNetwork net) (horizon : ℚ) (s : Standing) (
   )
 
   pub Equilibrium-well : Equilibrium net (flow_of s)
-  Equilibrium-well = Equilibrium-phases net horizon s.labels (flow_of s) good well.grow HasShape-well HasSlopes-well.0 HasSlopes-well.1
+  Equilibrium-well = Equilibrium-phases net s.labels (flow_of s) good well.grow HasShape-well HasSlopes-well.0 HasSlopes-well.1
 
 -- ---- phase by phase
 module _ (passes : Passing) (net : Network) (good : IsNetwork net) (bounds : Bounds) where
-  parts_of : (s t : Standing) (g : Goes passes net bounds.horizon bounds.patterns s t) → WellRun net bounds.horizon s → PhaseParts passes net s g.pattern g.flows g.slopes g.step
+  parts_of : (s t : Standing) (g : Goes passes net bounds.horizon bounds.patterns s t) → WellRun net s → PhaseParts passes net s g.pattern g.flows g.slopes g.step
   parts_of s t g well =
-      let grown : Grown net s.time s.labels (curves_of (flow_of s)) = grown_by net bounds.horizon s.time s.labels (curves_of (flow_of s)) good well.grow in
+      let grown : Grown net s.time s.labels (curves_of (flow_of s)) = grown_by net s.time s.labels (curves_of (flow_of s)) good well.grow in
       let count : length g.slopes ≡ length s.labels = g.finds.search.is_search.answers.solution.solves.slope_count ∙ sym grown.stands.count in
       phase_parts passes net good bounds.horizon bounds.patterns s g.pattern g.flows g.slopes g.step count g.lists
 
-  pub WellRun-goes : (s t : Standing) → Goes passes net bounds.horizon bounds.patterns s t → WellRun net bounds.horizon s → WellRun net bounds.horizon t
+  pub WellRun-goes : (s t : Standing) → Goes passes net bounds.horizon bounds.patterns s t → WellRun net s → WellRun net t
   WellRun-goes s t g well =
       let first = g.finds.search.is_search.answers in
-      subst (WellRun net bounds.horizon) (sym g.new_is)
+      subst (WellRun net) (sym g.new_is)
       (WellRun-after passes net good bounds.horizon s g.pattern g.flows g.slopes g.step well g.finds.below
       (g.finds.search.is_search.is_listing.listed g.place g.pattern first.has_place) first.solution.solves first.solution.meets (parts_of s t g well) g.is_length)
 
-  pub IsPhase-goes : (s t : Standing) → Goes passes net bounds.horizon bounds.patterns s t → WellRun net bounds.horizon s → IsPhase net bounds.horizon (s.time, s.labels) (t.time, t.labels)
+  pub IsPhase-goes : (s t : Standing) → Goes passes net bounds.horizon bounds.patterns s t → WellRun net s → IsPhase net bounds.horizon (s.time, s.labels) (t.time, t.labels)
   IsPhase-goes s t g well =
       let first = g.finds.search.is_search.answers in
       subst (λ (n : Standing). IsPhase net bounds.horizon (s.time, s.labels) (n.time, n.labels)) (sym g.new_is)
       (phase passes net good bounds.horizon s g.pattern g.flows g.slopes g.step well g.finds.below
       (g.finds.search.is_search.is_listing.listed g.place g.pattern first.has_place) first.solution.solves first.solution.meets (parts_of s t g well) g.is_length)
 
-  WellRun-runs : (s last : Standing) (stop : Option (Cause ℚ)) → WellRun net bounds.horizon s → Runs passes net bounds s last stop → WellRun net bounds.horizon last
+  WellRun-runs : (s last : Standing) (stop : Option (Cause ℚ)) → WellRun net s → Runs passes net bounds s last stop → WellRun net last
   WellRun-runs s last stop well (at_horizon e) = well
   WellRun-runs s last stop well (at_phases below e) = well
   WellRun-runs s last stop well (fails may f) = well
   WellRun-runs s last stop well (goes {new = t} may g rest) = WellRun-runs t last stop (WellRun-goes s t g well) rest
 
   module _ (last : Standing) (stop : Option (Cause ℚ)) (run : IsPhaseRun passes net bounds last stop) where
-    well : WellRun net bounds.horizon last
-    well = WellRun-runs run.first last stop (WellRun-start net bounds.horizon run.first run.start) run.runs
+    well : WellRun net last
+    well = WellRun-runs run.first last stop (WellRun-start net run.first run.start) run.runs
 
-    pub run_grows : GrowByPhases net bounds.horizon last.time last.labels (curves_of (flow_of last))
+    pub run_grows : GrowByPhases net last.time last.labels (curves_of (flow_of last))
     run_grows = well.grow
 
     pub run_shape : HasShape net (flow_of last)
-    run_shape = HasShape-well net good bounds.horizon last well
+    run_shape = HasShape-well net good last well
 
     pub run_slopes : HasSlopes (flow_of last).inflows × HasSlopes (flow_of last).outflows
-    run_slopes = HasSlopes-well net good bounds.horizon last well
+    run_slopes = HasSlopes-well net good last well
 
     pub run_equilibrium : Equilibrium net (flow_of last)
-    run_equilibrium = Equilibrium-well net good bounds.horizon last well
+    run_equilibrium = Equilibrium-well net good last well
 
   pub report_equilibrium : (report : Report) → IsRunReport passes net bounds report → Equilibrium net report.flow
   report_equilibrium report r = subst (λ (w : Report). Equilibrium net w.flow) (sym r.report_is) (run_equilibrium r.last r.stop r.run)

@@ -26,7 +26,7 @@ module _ (passes : Passing) (net : Network) (good : IsNetwork net) (bounds : Bou
   Leads-goes : (s t last : Standing) → t.made ≡ suc s.made → IsPhase net bounds.horizon (reached_by s) (reached_by t) → Leads net bounds.horizon t last → Leads net bounds.horizon s last
   Leads-goes s t last made phase later = record { rest = reached_by t ∷ later.rest; phases = (phase, later.phases); count = (let c = later.count in omega arith); ends = later.ends }
 
-  Leads-runs : (s last : Standing) (stop : Option (Cause ℚ)) → WellRun net bounds.horizon s → Runs passes net bounds s last stop → Leads net bounds.horizon s last
+  Leads-runs : (s last : Standing) (stop : Option (Cause ℚ)) → WellRun net s → Runs passes net bounds s last stop → Leads net bounds.horizon s last
   Leads-runs s last stop well (at_horizon e) = Leads-none s
   Leads-runs s last stop well (at_phases below e) = Leads-none s
   Leads-runs s last stop well (fails may f) = Leads-none s
@@ -35,7 +35,7 @@ module _ (passes : Passing) (net : Network) (good : IsNetwork net) (bounds : Bou
 
   module _ (last : Standing) (stop : Option (Cause ℚ)) (run : IsPhaseRun passes net bounds last stop) where
     leads : Leads net bounds.horizon run.first last
-    leads = Leads-runs run.first last stop (WellRun-start net bounds.horizon run.first run.start) run.runs
+    leads = Leads-runs run.first last stop (WellRun-start net run.first run.start) run.runs
 
     abbrev phases : List (ℚ × List ℚ)
     phases = reached_by run.first ∷ leads.rest

@@ -54,8 +54,8 @@ module _ (s : Standing) where
   queue_points e c h = points_is (flow_of s).queues e c.queue.points (entry_of (λ (c : LinkCurves). c.queue.points) s.link_curves e c h)
 
 -- ---- what holds
-pub record WellRun (net : Network) (horizon : ℚ) (s : Standing) : Type 0 where
-  pub grow : GrowByPhases net horizon s.time s.labels (curves_of (flow_of s))
+pub record WellRun (net : Network) (s : Standing) : Type 0 where
+  pub grow : GrowByPhases net s.time s.labels (curves_of (flow_of s))
   pub label_count : length s.label_curves ≡ net.nodes
   pub link_count : length s.link_curves ≡ length net.links
   pub label_slopes : (v : ℕ) (c : GrowingCurve) → slice_get s.label_curves v ≡ Some c → LastSlope c.points c.slope
@@ -86,7 +86,7 @@ queue_first : (b : Bool) (l : ℚ) → (first_queue b l).points ≡ (if b then (
 queue_first true l = refl
 queue_first false l = refl
 
-module _ (net : Network) (horizon : ℚ) (s : Standing) (h : IsStart net s) where
+module _ (net : Network) (s : Standing) (h : IsStart net s) where
   link_entry : (e : ℕ) (link : Link) → IsLink net e link → slice_get s.link_curves e ≡ Some (first_curves s.labels link)
   link_entry e link p = ap (λ (l : List LinkCurves). slice_get l e) h.link_curves ∙ entry_of (first_curves s.labels) net.links e link p
 
@@ -109,9 +109,9 @@ module _ (net : Network) (horizon : ℚ) (s : Standing) (h : IsStart net s) wher
     by_first : (P : LinkCurves → Type 0) → ((link : Link) → P (first_curves s.labels link)) → P c
     by_first P f = subst P from.2 (f from.0)
 
-  pub WellRun-start : WellRun net horizon s
+  pub WellRun-start : WellRun net s
   WellRun-start = record {
-    grow = subst (λ (t : ℚ). GrowByPhases net horizon t s.labels (curves_of (flow_of s))) (sym h.time) (begin s.labels (curves_of (flow_of s)) h.labels first);
+    grow = subst (λ (t : ℚ). GrowByPhases net t s.labels (curves_of (flow_of s))) (sym h.time) (begin s.labels (curves_of (flow_of s)) h.labels first);
     label_count = ap length h.label_curves ∙ length-map s.labels first_label_curve ∙ h.labels.count;
     link_count = ap length h.link_curves ∙ length-map net.links (first_curves s.labels);
     label_slopes = λ v c at. (let w = from_map first_label_curve s.labels v c (ap (λ (l : List GrowingCurve). slice_get l v) (sym h.label_curves) ∙ at) in

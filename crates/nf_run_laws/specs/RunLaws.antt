@@ -14,7 +14,7 @@ use Rattle.nf_phase_laws.specs.CurveRun.{GrowByPhases, curves_of}
 -- the curves of a run grow phase by phase from the start
 abbrev pub RunGrowsByPhases : Type 0
 RunGrowsByPhases = (passes : Passing) (net : Network) (bounds : Bounds) (last : Standing) (stop : Option (Cause ℚ)) → IsNetwork net → IsPhaseRun passes net bounds last stop
-    → GrowByPhases net bounds.horizon last.time last.labels (curves_of (flow_of last))
+    → GrowByPhases net last.time last.labels (curves_of (flow_of last))
 
 -- the flow of a run has a curve of each kind for each node or link
 abbrev pub RunHasShape : Type 0

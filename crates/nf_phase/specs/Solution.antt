@@ -1,0 +1,35 @@
+-- What solving to a horizon answers.
+use Rattle.std.specs.Prelude.{◌≡◌, ℕ, suc, List, length, Some, slice_get}
+use Rattle.nf_rational.specs.Rational.{ℚ}
+use Rattle.nf_work.specs.Passing.{beyond}
+use Rattle.nf_model.specs.Network.{Network}
+use Rattle.nf_model.specs.Phases.{IsPhaseSequence}
+use Rattle.nf_model.specs.Equilibrium.{Equilibrium}
+use Rattle.nf_formats.specs.Numbers.{greatest}
+use Rattle.nf_formats.specs.Report.{Report, IsWellFormed}
+use Rattle.nf_lists.specs.PhaseRun.{Standing, Bounds, IsRunReport}
+use Rattle.nf_run_laws.specs.RunLaws.{reached_by}
+use Rattle.nf_curve.specs.Flows.{flow_of}
+use Rattle.nf_phase.specs.declared.solution.Budgets.{Budgets}
+use Rattle.nf_phase.specs.declared.solution.Solution.{Solution}
+
+-- how far a run goes with these budgets
+abbrev pub bounds_of : ℚ → Budgets → Bounds
+bounds_of horizon budgets = record { horizon = horizon; phases = budgets.phases; patterns = budgets.patterns }
+
+-- the report of a solution
+abbrev pub report_in : ℚ → Solution → Report
+report_in horizon s = record { horizon = horizon; flow = flow_of s.flow; stop = s.stopped; last = s.last }
+
+-- every phase sequence to the horizon with as many phases ends with the departure and the labels that are reached
+abbrev pub EndsAll : Network → ℚ → Standing → Type 0
+EndsAll net horizon last = (phases : List (ℚ × List ℚ)) → IsPhaseSequence net horizon phases → length phases ≡ suc last.made → slice_get phases last.made ≡ Some (reached_by last)
+
+-- The report describes a flow which is an equilibrium up to the time reached, and it is the report of the phase run: so it reaches
+-- the horizon, or it has the cause that stopped the run there. The run made so many phases.
+pub record IsSolution (net : Network) (bounds : Bounds) (phases : ℕ) (report : Report) : Type 0 where
+  pub well_formed : IsWellFormed net report
+  pub equilibrium : Equilibrium net report.flow
+  pub run : IsRunReport (beyond greatest) net bounds report
+  pub made : run.last.made ≡ phases
+  pub ends : EndsAll net bounds.horizon run.last
