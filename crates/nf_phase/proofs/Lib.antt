@@ -1,3 +1,4 @@
 pub mod Signs
 pub mod Looping
 pub mod Meaning
+pub mod Reached

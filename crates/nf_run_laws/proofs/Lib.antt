@@ -10,3 +10,5 @@ pub mod Limits
 pub mod Sides
 pub mod Extension
 pub mod Sequence
+pub mod Standing
+pub mod Moving

@@ -1,0 +1,78 @@
+// The search of a phase: the thin flow by which the run goes on.
+ghost use Rattle.std.specs.Prelude.{◌≡◌, IfOk, OnOk, IfErr};
+ghost use Rattle.nf_rational.specs.Order.{◌<ℚ◌};
+ghost use Rattle.nf_work.specs.Passing.{bound_of, beyond};
+ghost use Rattle.nf_model.specs.Network.{hops as hops_of};
+ghost use Rattle.nf_model.specs.ThinFlow.{slacks_of, sets_at};
+ghost use Rattle.nf_lists.specs.PhaseRun.{IsSearchHere};
+ghost use Rattle.nf_lists.specs.Slack.{slack_list};
+ghost use Rattle.nf_thin.specs.Searching.{Searches};
+ghost use Rattle.nf_phase.specs.Stepping.{Reaches};
+ghost use Rattle.nf_phase.specs.Finding.{IsCause, IsFound};
+
+use crate::fault::StepFault;
+use crate::run::Run;
+use nf_frac::Q;
+use nf_graph::LinkSets;
+use nf_net::Network;
+use nf_pattern::base;
+use nf_sets::{sets, slacks};
+use nf_thin::{SearchFault, Thin, search};
+use std::alloc::Global;
+
+// What a phase begins with: the slacks of the links, which of them are active and resetting, and a thin flow for these.
+#[derive(Drop)]
+pub(crate) struct Found {
+    pub(crate) slacks: Vec<Q>,
+    pub(crate) sets: LinkSets,
+    pub(crate) thin: Thin,
+}
+
+impl Run {
+    // The slacks of the links.
+    fn slacks(&self, alloc: Global, net: &Network, horizon: Q, patterns: u64) -> Result<Vec<Q>, StepFault>
+        requires reaches { Reaches (beyond (bound_of 127)) net.now.net self.now }
+        requires below { self.now.time <ℚ horizon }
+        ensures slacks { IfOk result (λ slacks. slacks.items ≡ slacks_of (hops_of net.now.net) self.now.labels) }
+        ensures list { OnOk result (slack_list (beyond (bound_of 127)) (hops_of net.now.net) self.now.labels ≡ Ok (slacks_of (hops_of net.now.net) self.now.labels)) }
+        ensures cause { IfErr result (IsCause (beyond (bound_of 127)) net.now.net horizon patterns self.now) }
+    {
+        let slacks = slacks(alloc, net.hops(), &self.labels)?;
+        Ok(slacks)
+    }
+
+    // A thin flow for the sets of the slacks, from the base pattern on.
+    fn thin(
+        &self,
+        alloc: Global,
+        net: &Network,
+        sets: &LinkSets,
+        patterns: u64,
+    ) -> Result<Thin, SearchFault>
+        requires reaches { Reaches (beyond (bound_of 127)) net.now.net self.now }
+        requires sets { sets.now ≡ sets_at net.now.net self.now.labels }
+        ensures { Searches (IsSearchHere (beyond (bound_of 127)) net.now.net patterns self.now) patterns result }
+    {
+        let base = base(alloc, net.node_count(), net.hops(), sets, &self.last)?;
+        search(alloc, net, sets, net.rate_at(self.reached), &base, patterns)
+    }
+
+    // The thin flow of the phase that begins here.
+    pub(crate) fn find(
+        &self,
+        alloc: Global,
+        net: &Network,
+        horizon: Q,
+        patterns: u64,
+    ) -> Result<Found, StepFault>
+        requires reaches { Reaches (beyond (bound_of 127)) net.now.net self.now }
+        requires below { self.now.time <ℚ horizon }
+        ensures found { IfOk result (IsFound (beyond (bound_of 127)) net.now.net horizon patterns self.now) }
+        ensures cause { IfErr result (IsCause (beyond (bound_of 127)) net.now.net horizon patterns self.now) }
+    {
+        let slacks = self.slacks(alloc, net, horizon, patterns)?;
+        let sets = sets(alloc, &slacks)?;
+        let thin = self.thin(alloc, net, &sets, patterns)?;
+        Ok(Found { slacks, sets, thin })
+    }
+}

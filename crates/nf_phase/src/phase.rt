@@ -1,0 +1,87 @@
+// One phase of a run, before it is made: how long it lasts, and how the labels and the links go on in it.
+ghost use Rattle.std.specs.Prelude.{◌≡◌, IfOk, IfErr, map};
+ghost use Rattle.nf_rational.specs.Order.{◌<ℚ◌};
+ghost use Rattle.nf_work.specs.Passing.{bound_of, beyond};
+ghost use Rattle.nf_lists.specs.ReportCurves.{amount_so_far};
+ghost use Rattle.nf_phase.specs.Stepping.{Reaches};
+ghost use Rattle.nf_phase.specs.Finding.{IsCause, IsFound, LeadsOn};
+
+use crate::advance::advance;
+use crate::fault::StepFault;
+use crate::finding::Found;
+use crate::lengths::extension;
+use crate::link_growth::amounts;
+use crate::link_steps::{LinkStep, link_steps};
+use crate::run::Run;
+use nf_frac::Q;
+use nf_net::Network;
+use nf_pattern::Pattern;
+use std::alloc::Global;
+
+// A phase: its length, the labels at its end, the slopes at which they move, how each link goes on, and the pattern by which the
+// thin flow was found.
+#[derive(Drop)]
+pub(crate) struct Phase {
+    pub(crate) length: Q,
+    pub(crate) labels: Vec<Q>,
+    pub(crate) slopes: Vec<Q>,
+    pub(crate) steps: Vec<LinkStep>,
+    pub(crate) pattern: Pattern,
+}
+
+impl Run {
+    // The phase by a thin flow.
+    fn phase_by(
+        &self,
+        alloc: Global,
+        net: &Network,
+        horizon: Q,
+        patterns: u64,
+        found: Found,
+    ) -> Result<Phase, StepFault>
+        requires reaches { Reaches (beyond (bound_of 127)) net.now.net self.now }
+        requires found { IsFound (beyond (bound_of 127)) net.now.net horizon patterns self.now found }
+        ensures leads { IfOk result (LeadsOn (beyond (bound_of 127)) net.now.net horizon patterns self.now) }
+        ensures cause { IfErr result (IsCause (beyond (bound_of 127)) net.now.net horizon patterns self.now) }
+    {
+        let slopes = &found.thin.labels;
+        let extension = extension(net, &found.slacks, slopes, self.reached)?;
+        let end = advance(alloc, horizon, self.reached, extension, &self.labels, slopes)?;
+        let amounts = amounts(alloc, &self.link_curves)?;
+        let steps = link_steps(
+            alloc,
+            net,
+            &found.sets,
+            &found.thin.pattern,
+            end.length,
+            &found.thin.flows,
+            slopes,
+            &end.labels,
+            &amounts,
+        )?;
+        Ok(Phase {
+            length: end.length,
+            labels: end.labels,
+            slopes: found.thin.labels,
+            steps,
+            pattern: found.thin.pattern,
+        })
+    }
+
+    // The phase that begins here.
+    pub(crate) fn phase(
+        &self,
+        alloc: Global,
+        net: &Network,
+        horizon: Q,
+        patterns: u64,
+    ) -> Result<Phase, StepFault>
+        requires reaches { Reaches (beyond (bound_of 127)) net.now.net self.now }
+        requires below { self.now.time <ℚ horizon }
+        ensures leads { IfOk result (LeadsOn (beyond (bound_of 127)) net.now.net horizon patterns self.now) }
+        ensures cause { IfErr result (IsCause (beyond (bound_of 127)) net.now.net horizon patterns self.now) }
+    {
+        let found = self.find(alloc, net, horizon, patterns)?;
+        self.phase_by(alloc, net, horizon, patterns, found)
+    }
+}
