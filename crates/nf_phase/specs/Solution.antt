@@ -1,21 +1,39 @@
 -- What solving to a horizon answers.
-use Rattle.std.specs.Prelude.{◌≡◌, ℕ, suc, List, length, Some, slice_get}
+use Rattle.std.specs.Prelude.{◌≡◌, ℕ, suc, Bool, if◌then◌else◌, List, length, Option, Some, None, slice_get}
 use Rattle.nf_rational.specs.Rational.{ℚ}
 use Rattle.nf_work.specs.Passing.{beyond}
 use Rattle.nf_model.specs.Network.{Network}
 use Rattle.nf_model.specs.Phases.{IsPhaseSequence}
 use Rattle.nf_model.specs.Equilibrium.{Equilibrium}
+use Rattle.nf_formats.specs.declared.Cause.{Cause}
+use Rattle.nf_formats.specs.declared.Cause.TheVariants as Cause
 use Rattle.nf_formats.specs.Numbers.{greatest}
 use Rattle.nf_formats.specs.Report.{Report, IsWellFormed}
 use Rattle.nf_lists.specs.PhaseRun.{Standing, Bounds, IsRunReport}
 use Rattle.nf_run_laws.specs.RunLaws.{reached_by}
 use Rattle.nf_curve.specs.Flows.{flow_of}
+use Rattle.nf_thin.specs.declared.searches.SearchFault.TheVariants as SearchFault
+use Rattle.nf_phase.specs.declared.fault.StepFault.{StepFault}
+use Rattle.nf_phase.specs.declared.fault.StepFault.TheVariants as StepFault
 use Rattle.nf_phase.specs.declared.solution.Budgets.{Budgets}
 use Rattle.nf_phase.specs.declared.solution.Solution.{Solution}
 
 -- how far a run goes with these budgets
 abbrev pub bounds_of : ℚ → Budgets → Bounds
 bounds_of horizon budgets = record { horizon = horizon; phases = budgets.phases; patterns = budgets.patterns }
+
+-- why a run stops where the phase of this number isn't made; wanting memory is no cause
+abbrev pub cause_of : ℕ → StepFault → Option (Cause ℚ)
+cause_of phase (StepFault.Search (SearchFault.Budget tried)) = Some (Cause.Patterns phase tried)
+cause_of phase (StepFault.Search (SearchFault.Passed place at)) = Some (Cause.Passed phase (Some place) at)
+cause_of phase (StepFault.Search SearchFault.NoPattern) = Some (Cause.NoPattern phase)
+cause_of phase (StepFault.Search SearchFault.Memory) = None
+cause_of phase (StepFault.Passed at) = Some (Cause.Passed phase None at)
+cause_of phase StepFault.Memory = None
+
+-- why it stops after all phases that it may make: only where it is below the horizon
+abbrev pub stop_after : Bool → ℕ → Option (Cause ℚ)
+stop_after below made = if below then Some (Cause.Phases made) else None
 
 -- the report of a solution
 abbrev pub report_in : ℚ → Solution → Report

@@ -7,8 +7,8 @@ ghost use Rattle.nf_model.specs.ThinFlow.{slacks_of, sets_at};
 ghost use Rattle.nf_lists.specs.PhaseRun.{IsSearchHere};
 ghost use Rattle.nf_lists.specs.Slack.{slack_list};
 ghost use Rattle.nf_thin.specs.Searching.{Searches};
-ghost use Rattle.nf_phase.specs.Stepping.{Reaches};
-ghost use Rattle.nf_phase.specs.Finding.{IsCause, IsFound};
+ghost use Rattle.nf_phase.specs.Stepping.{Reaches, IsCause};
+ghost use Rattle.nf_phase.specs.Finding.{IsFound};
 
 use crate::fault::StepFault;
 use crate::run::Run;

@@ -1,18 +1,18 @@
 // The curves of all links, as they grow.
-ghost use Rattle.std.specs.Prelude.{◌≡◌, ◌<◌, ℕ, length, map, slice_get, Some, IfOk};
-ghost use Rattle.nf_model.specs.Network.{Link as SeenLink, IsLink};
-ghost use Rattle.nf_model.specs.Entries.{number_at};
-ghost use Rattle.nf_lists.specs.ReportCurves.{amount_so_far, first_curves, link_curves_after};
+ghost use Rattle.std.specs.Prelude.{◌≡◌, ◌<◌, length, map, IfOk};
+ghost use Rattle.nf_lists.specs.ReportCurves.{amount_so_far, first_curves, curves_after, link_curves_after};
+ghost use Rattle.nf_phase.specs.Growing.{HasRoom, AllHaveRoom, all_grown};
+ghost use Rattle.nf_phase.specs.LinkGrowth.{EndBefore, AllEndBefore};
 
 use crate::link_curves::LinkCurves;
 use crate::link_steps::LinkStep;
 use nf_frac::Q;
-use nf_net::{LinkId, Network};
+use nf_net::{Link, LinkId, Network};
 use std::alloc::{AllocError, Global};
 
-// What has entered each link so far.
+/// What has entered each link so far.
 pub(crate) fn amounts(alloc: Global, curves: &[LinkCurves]) -> Result<Vec<Q>, AllocError>
-    ensures { IfOk result (λ amounts. amounts.items ≡ map amount_so_far (map VIEW curves.now)) }
+    ensures { IfOk result (λ amounts. amounts.items ≡ map amount_so_far (all_grown curves.now)) }
 {
     let mut amounts = Vec::new(alloc);
     for of_link in curves {
@@ -21,24 +21,52 @@ pub(crate) fn amounts(alloc: Global, curves: &[LinkCurves]) -> Result<Vec<Q>, Al
     Ok(amounts)
 }
 
-// The curves of departure 0, with these labels.
+/// The curves of departure 0, with these labels.
 pub(crate) fn first_links(
     alloc: Global,
     net: &Network,
     labels: &[Q],
 ) -> Result<Vec<LinkCurves>, AllocError>
     requires { length labels.now ≡ net.now.net.nodes }
-    ensures { IfOk result (λ curves. map VIEW curves.items ≡ map (first_curves labels.now) net.now.net.links) }
+    ensures { IfOk result (λ curves. all_grown curves.items ≡ map (first_curves labels.now) net.now.net.links) }
 {
     let mut curves = Vec::new(alloc);
     for e in 0..net.link_count() {
         let link = net.link(LinkId(e));
-        let of_link = LinkCurves::first(
-            alloc,
-            labels[link.tail.index()],
-            labels[link.head.index()],
-        )?;
+        let (tail, head) = (labels[link.tail.index()], labels[link.head.index()]);
+        let of_link = LinkCurves::first(alloc, tail, head)?;
         curves.push(of_link)?;
     }
     Ok(curves)
+}
+
+// The curves of one link go on to these labels.
+fn link_goes_on(curves: &mut LinkCurves, link: &Link, labels: &[Q], step: &LinkStep)
+    requires tail { link.now.tail < length labels.now }
+    requires head { link.now.head < length labels.now }
+    requires room { HasRoom curves.old }
+    requires later { EndBefore labels.now link.now curves.old.grown step.now }
+    ensures { curves.new.grown ≡ curves_after labels.now link.now curves.old.grown step.now }
+{
+    let (tail, head) = (labels[link.tail.index()], labels[link.head.index()]);
+    let queue = match step.queue {
+        Some(queue) => Some((queue.size, queue.slope)),
+        None => None,
+    };
+    curves.go_on(tail, head, step.amount, step.inflow_rate, step.outflow_rate, queue);
+}
+
+/// The curves of all links go on to these labels, by the links' steps.
+pub(crate) fn links_go_on(curves: &mut [LinkCurves], net: &Network, labels: &[Q], steps: &[LinkStep])
+    requires labels { length labels.now ≡ net.now.net.nodes }
+    requires curves { length curves.old ≡ length net.now.net.links }
+    requires steps { length steps.now ≡ length net.now.net.links }
+    requires room { AllHaveRoom curves.old }
+    requires later { AllEndBefore net.now.net labels.now (all_grown curves.old) steps.now }
+    ensures { all_grown curves.new ≡ link_curves_after labels.now net.now.net.links (all_grown curves.old) steps.now }
+{
+    for e in 0..curves.len() {
+        let link = net.link(LinkId(e as u32));
+        link_goes_on(&mut curves[e], &link, labels, &steps[e]);
+    }
 }

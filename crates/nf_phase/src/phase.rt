@@ -3,8 +3,8 @@ ghost use Rattle.std.specs.Prelude.{◌≡◌, IfOk, IfErr, map};
 ghost use Rattle.nf_rational.specs.Order.{◌<ℚ◌};
 ghost use Rattle.nf_work.specs.Passing.{bound_of, beyond};
 ghost use Rattle.nf_lists.specs.ReportCurves.{amount_so_far};
-ghost use Rattle.nf_phase.specs.Stepping.{Reaches};
-ghost use Rattle.nf_phase.specs.Finding.{IsCause, IsFound, LeadsOn};
+ghost use Rattle.nf_phase.specs.Stepping.{Reaches, IsCause};
+ghost use Rattle.nf_phase.specs.Finding.{IsFound, LeadsOn};
 
 use crate::advance::advance;
 use crate::fault::StepFault;

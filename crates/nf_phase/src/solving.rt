@@ -1,17 +1,120 @@
-// Solving to a horizon.
-ghost use Rattle.std.specs.Prelude.{IfOk};
+// Solving to a horizon: a run, phase by phase, until it ends.
+ghost use Rattle.std.specs.Prelude.{◌≡◌, IfOk};
 ghost use Rattle.nf_rational.specs.Operations.{0ℚ};
-ghost use Rattle.nf_rational.specs.Order.{◌≤ℚ◌};
-ghost use Rattle.nf_phase.specs.Solution.{IsSolution, bounds_of, report_in};
+ghost use Rattle.nf_rational.specs.Order.{◌≤ℚ◌, lt_ℚ};
+ghost use Rattle.nf_work.specs.Passing.{beyond};
+ghost use Rattle.nf_formats.specs.Numbers.{greatest};
+ghost use Rattle.nf_lists.specs.PhaseRun.{IsStart, IsPhaseRun, flow_of};
+ghost use Rattle.nf_curve.specs.Flows.{flow_of as flow_in};
+ghost use Rattle.nf_phase.specs.Solution.{IsSolution, bounds_of, report_in, cause_of, stop_after};
 
+use crate::fault::StepFault;
+use crate::growth::{finish_labels, finish_links};
+use crate::lengths::is_below;
+use crate::run::Run;
 use crate::solution::{Budgets, Solution};
+use nf_curve::{Flow, Stop};
 use nf_frac::Q;
 use nf_net::Network;
+use nf_thin::SearchFault;
 use std::alloc::{AllocError, Global};
+
+// Why a run stops where the phase of this number isn't made; None where memory is wanting.
+fn stop_by(phase: u64, fault: StepFault) -> Option<Stop>
+    ensures { result ≡ cause_of phase fault }
+{
+    match fault {
+        StepFault::Search(SearchFault::Budget { tried }) => Some(Stop::Patterns { phase, tried }),
+        StepFault::Search(SearchFault::Passed { place, at }) => Some(Stop::Passed {
+            phase,
+            place: Some(place),
+            at,
+        }),
+        StepFault::Search(SearchFault::NoPattern) => Some(Stop::NoPattern { phase }),
+        StepFault::Search(SearchFault::Memory) => None,
+        StepFault::Passed(at) => Some(Stop::Passed {
+            phase,
+            place: None,
+            at,
+        }),
+        StepFault::Memory => None,
+    }
+}
+
+impl Run {
+    // Why the run stops after as many phases as allowed; None where it has reached the horizon.
+    fn stop_after_all(&self, horizon: Q) -> Option<Stop>
+        ensures { result ≡ stop_after (lt_ℚ self.now.time horizon) self.now.made }
+    {
+        if is_below(self.reached, horizon) {
+            Some(Stop::Phases { made: self.made })
+        } else {
+            None
+        }
+    }
+
+    // The run goes on until it ends, and says why it stops, if it does so below the horizon.
+    fn go(
+        &mut self,
+        alloc: Global,
+        net: &Network,
+        horizon: Q,
+        budgets: Budgets,
+    ) -> Result<Option<Stop>, AllocError>
+        requires starts { IsStart net.now.net self.old }
+        requires horizon { 0ℚ ≤ℚ horizon }
+        ensures { IfOk result (IsPhaseRun (beyond greatest) net.now.net (bounds_of horizon budgets) self.new) }
+    {
+        for _ in 0..budgets.phases {
+            if !is_below(self.reached, horizon) {
+                return Ok(None);
+            }
+            if let Err(fault) = self.step(alloc, net, horizon, budgets.patterns) {
+                return match stop_by(self.made + 1, fault) {
+                    Some(stop) => Ok(Some(stop)),
+                    None => Err(AllocError),
+                };
+            }
+        }
+        Ok(self.stop_after_all(horizon))
+    }
+
+    // What the run came to.
+    fn solution(self, alloc: Global, stopped: Option<Stop>) -> Result<Solution, AllocError>
+        ensures flow { IfOk result (λ s. flow_in s.flow ≡ flow_of self) }
+        ensures phases { IfOk result (λ s. s.phases ≡ self.made) }
+        ensures last { IfOk result (λ s. s.last ≡ self.last) }
+        ensures stopped { IfOk result (λ s. s.stopped ≡ stopped) }
+    {
+        let Run {
+            reached,
+            labels: _,
+            label_curves,
+            link_curves,
+            made,
+            last,
+        } = self;
+        let labels = finish_labels(alloc, label_curves)?;
+        let links = finish_links(alloc, link_curves)?;
+        let flow = Flow {
+            reached,
+            labels,
+            inflows: links.inflows,
+            outflows: links.outflows,
+            queues: links.queues,
+        };
+        Ok(Solution {
+            flow,
+            phases: made,
+            last,
+            stopped,
+        })
+    }
+}
 
 /// Solves a network: goes on phase by phase from departure 0, each by the first accepted pattern, until the horizon is reached,
 /// as many phases as allowed were made, or one can't be made. The flow up to there is an equilibrium (a Nash flow over time:
-/// Koch and Skutella 2011).
+/// Koch and Skutella 2011). The horizon is a time of at least 0.
 pub fn solve(
     alloc: Global,
     net: &Network,
@@ -21,6 +124,7 @@ pub fn solve(
     requires { 0ℚ ≤ℚ horizon }
     ensures { IfOk result (λ s. IsSolution net.now.net (bounds_of horizon budgets) s.phases (report_in horizon s)) }
 {
-    let _ = (alloc, net.version(), horizon, budgets.phases);
-    Err(AllocError)
+    let mut run = Run::start(alloc, net)?;
+    let stopped = run.go(alloc, net, horizon, budgets)?;
+    run.solution(alloc, stopped)
 }

@@ -1,0 +1,78 @@
+-- What a run that has ended is.
+use Rattle.std.proofs.Common.{◌≡◌, ℕ, ◌<◌, ◌⊎◌, inl, inr, ⊎_elim, ◌↔◌, List, [], ◌∷◌, length, sym, ap, subst, refl, ◌∙◌}
+use Rattle.std.specs.Prelude.{Option, Some, None, is_none, map, slice_get}
+use Rattle.std.specs.Option.{option_map}
+use Rattle.std.proofs.lemmas.Option.{none-some, slice_get-map}
+use Rattle.nf_rational.specs.Rational.{ℚ}
+use Rattle.nf_rational.specs.Operations.{0ℚ, ◌+ℚ◌, ◌-ℚ◌}
+use Rattle.nf_rational.specs.Order.{◌≤ℚ◌, ◌<ℚ◌, min_ℚ}
+use Rattle.nf_rational_laws.proofs.Polynomial.{reading_of}
+use Rattle.nf_rational_laws.proofs.Order.{≤ℚ_of_same, <ℚ_irrefl}
+use Rattle.nf_rational_laws.proofs.Tests.{min_ℚ_cases}
+use Rattle.nf_rational_laws.proofs.Linear.{le, lt, eq, linear_le}
+use Rattle.nf_work.specs.Passing.{Passing}
+use Rattle.nf_model.specs.declared.State.TheVariants.{Full}
+use Rattle.nf_model.specs.Entries.{Has}
+use Rattle.nf_model.specs.Network.{Link, Network, IsNetwork, IsLink, hops, unbounded}
+use Rattle.nf_model.specs.ThinFlow.{slacks_of}
+use Rattle.nf_model.specs.Pattern.{HasState}
+use Rattle.nf_model.specs.Phases.{IsPhaseLength}
+use Rattle.nf_model.specs.Equilibrium.{Equilibrium}
+use Rattle.nf_formats.specs.declared.Cause.{Cause}
+use Rattle.nf_formats.specs.Report.{Report, IsWellFormed}
+use Rattle.nf_formats_laws.proofs.ReportFacts.{well_formed}
+use Rattle.nf_lists.specs.PhaseRun.{Standing, Bounds, Goes, Fails, at_slack, at_search, at_lists, Runs, at_horizon, at_phases, fails, goes, IsPhaseRun, flow_of, report_of}
+use Rattle.nf_run_laws.proofs.Run.{run_equilibrium}
+use Rattle.nf_phase.specs.Stepping.{Reaches, starts, goes_on}
+use Rattle.nf_phase.proofs.Reached.{Stands, Stands-reached}
+
+-- ---- a phase goes no further than the horizon
+no_further : (time horizon left length : ℚ) → left ≡ horizon -ℚ time → length ≤ℚ left → time +ℚ length ≤ℚ horizon
+no_further time horizon left length e h = linear_le (time ∷ horizon ∷ left ∷ length ∷ []) (eq e ∷ le h ∷ []) (search reading_of depth 12) tt
+
+pub length_within : (net : Network) (slacks slopes : List ℚ) (time horizon length : ℚ) → IsPhaseLength net slacks slopes time horizon length → time +ℚ length ≤ℚ horizon
+length_within net slacks slopes time horizon length (inl (x, _, e)) = ⊎_elim
+    (λ (w : (min_ℚ (horizon -ℚ time) x ≡ horizon -ℚ time) × (horizon -ℚ time ≤ℚ x)). no_further time horizon (horizon -ℚ time) length refl (≤ℚ_of_same _ _ (e ∙ w.0)))
+    (λ (w : (min_ℚ (horizon -ℚ time) x ≡ x) × (x <ℚ horizon -ℚ time)). no_further time horizon (horizon -ℚ time) length refl (below _ _ _ (e ∙ w.0) w.1))
+    (min_ℚ_cases (horizon -ℚ time) x)
+  where
+    below : (l x y : ℚ) → l ≡ x → x <ℚ y → l ≤ℚ y
+    below l x y e h = linear_le (l ∷ x ∷ y ∷ []) (eq e ∷ lt h ∷ []) (search reading_of depth 12) tt
+length_within net slacks slopes time horizon length (inr (_, e)) = no_further time horizon (horizon -ℚ time) length refl (≤ℚ_of_same _ _ e)
+
+module _ (passes : Passing) (net : Network) where
+  pub goes_within : (horizon : ℚ) (patterns : ℕ) (s t : Standing) → Goes passes net horizon patterns s t → t.time ≤ℚ horizon
+  goes_within horizon patterns s t g = subst (λ (n : Standing). n.time ≤ℚ horizon) (sym g.new_is) (length_within net (slacks_of (hops net) s.labels) g.slopes s.time horizon g.step.length g.is_length)
+
+  pub fails_below : (horizon : ℚ) (patterns : ℕ) (s : Standing) (cause : Cause ℚ) → Fails passes net horizon patterns s cause → s.time <ℚ horizon
+  fails_below horizon patterns s cause (at_slack p below list) = below
+  fails_below horizon patterns s cause (at_search answer c seeks is) = seeks.below
+  fails_below horizon patterns s cause (at_lists place pattern flows slopes p seeks lists) = seeks.below
+
+-- ---- where a run ends
+pub record EndsWell (passes : Passing) (net : Network) (horizon : ℚ) (last : Standing) (stop : Option (Cause ℚ)) : Type 0 where
+  pub reaches : Reaches passes net last
+  pub within : last.time ≤ℚ horizon
+  pub stops : (stop ≡ None) ↔ (last.time ≡ horizon)
+
+module _ (passes : Passing) (net : Network) (bounds : Bounds) where
+  below_stops : (s : Standing) (cause : Cause ℚ) → s.time <ℚ bounds.horizon → (Some cause ≡ None) ↔ (s.time ≡ bounds.horizon)
+  below_stops s cause below = (λ e. absurd (none-some cause (sym e)), λ e. absurd (<ℚ_irrefl bounds.horizon (subst (λ (t : ℚ). t <ℚ bounds.horizon) e below)))
+
+  ends_well : (s last : Standing) (stop : Option (Cause ℚ)) → Reaches passes net s → s.time ≤ℚ bounds.horizon → Runs passes net bounds s last stop → EndsWell passes net bounds.horizon last stop
+  ends_well s last stop reaches within (at_horizon e) = record { reaches = reaches; within = within; stops = (λ _. e, λ _. refl) }
+  ends_well s last stop reaches within (at_phases below e) = record { reaches = reaches; within = within; stops = below_stops s _ below }
+  ends_well s last stop reaches within (fails {cause = c} may f) = record { reaches = reaches; within = within; stops = below_stops s c (fails_below passes net bounds.horizon bounds.patterns s c f) }
+  ends_well s last stop reaches within (goes {new = t} may g rest) =
+      ends_well t last stop (goes_on bounds.horizon bounds.patterns reaches g) (goes_within passes net bounds.horizon bounds.patterns s t g) rest
+
+  pub EndsWell-run : 0ℚ ≤ℚ bounds.horizon → (last : Standing) (stop : Option (Cause ℚ)) → IsPhaseRun passes net bounds last stop → EndsWell passes net bounds.horizon last stop
+  EndsWell-run begins last stop run = ends_well run.first last stop (starts run.start) (subst (λ (t : ℚ). t ≤ℚ bounds.horizon) (sym run.start.time) begins) run.runs
+
+  pub well_formed_run : IsNetwork net → 0ℚ ≤ℚ bounds.horizon → (last : Standing) (stop : Option (Cause ℚ)) → IsPhaseRun passes net bounds last stop → IsWellFormed net (report_of bounds.horizon last stop)
+  well_formed_run good begins last stop run =
+      let ends = EndsWell-run begins last stop run in
+      let stands : Stands net last = Stands-reached passes net good last ends.reaches in
+      well_formed net (report_of bounds.horizon last stop) (run_equilibrium passes net good bounds last stop run) ends.within ends.stops stands.last_count
+      (λ e link p none full. stands.no_full e (slice_get-map (λ (l : Link). is_none l.capacity) net.links e ∙ ap (option_map (λ (l : Link). is_none l.capacity)) p
+      ∙ ap (λ (c : Option ℚ). Some (is_none c)) none) full)

@@ -1,0 +1,139 @@
+-- From the answers of a search and of the lists to what a phase is found to be, or why it isn't.
+use Rattle.std.proofs.Common.{◌≡◌, ℕ, suc, ◌<◌, ◌⊎◌, inl, inr, List, [], ◌∷◌, length, sym, ap, subst, refl, ◌∙◌}
+use Rattle.std.specs.Prelude.{Option, Some, None, map, Result, Ok, Err, MatchOption}
+use Rattle.nf_rational.specs.Rational.{ℚ}
+use Rattle.nf_rational.specs.Operations.{◌-ℚ◌}
+use Rattle.nf_rational.specs.Order.{◌<ℚ◌, min_ℚ}
+use Rattle.nf_work.specs.Passing.{Passing}
+use Rattle.nf_work.specs.declared.Part.{Part}
+use Rattle.nf_work.specs.declared.Part.TheVariants.{Slack, Extend, Advance, Curve}
+use Rattle.nf_work.specs.declared.Passed.{Passed}
+use Rattle.nf_work.specs.declared.PassedAt.{PassedAt}
+use Rattle.nf_work.specs.declared.Halt.{Halt}
+use Rattle.nf_work.specs.declared.Halt.TheVariants as Halt
+use Rattle.nf_work.specs.Checked.{Checked, at_part, placed, Gives, Stops, ◌>>=◌}
+use Rattle.nf_model.specs.Network.{Network, hops, rate_at}
+use Rattle.nf_model.specs.ThinFlow.{Sets, slacks_of, sets_at}
+use Rattle.nf_model.specs.Pattern.{Pattern, IsBase}
+use Rattle.nf_model.specs.Phases.{IsExtension, IsUnending, IsPhaseLength}
+use Rattle.nf_formats.specs.declared.Cause.TheVariants as Cause
+use Rattle.nf_lists.specs.Slack.{slack_list}
+use Rattle.nf_lists.specs.Extend.{extend_list}
+use Rattle.nf_lists.specs.Advance.{Advanced, cut_at, advance_list}
+use Rattle.nf_lists.specs.CurveList.{LinkStep, curve_list}
+use Rattle.nf_lists.specs.ReportCurves.{amount_so_far}
+use Rattle.nf_lists.specs.Search.{Answer, Found, OverBudget, PassesAt, NoPattern, IsSearch}
+use Rattle.nf_lists.specs.PhaseRun.{Standing, PhaseStep, Seeks, IsSearchHere, Fails, at_slack, at_search, at_lists, phase_lists}
+use Rattle.nf_lists_laws.proofs.Exact.{advanced_exact}
+use Rattle.nf_thin.specs.declared.searches.Thin.{Thin}
+use Rattle.nf_thin.specs.declared.searches.SearchFault.{SearchFault}
+use Rattle.nf_thin.specs.declared.searches.SearchFault.TheVariants as SearchFault
+use Rattle.nf_thin.specs.Searching.{Searches}
+use Rattle.nf_phase.specs.Faults.{of_halt, of_search}
+use Rattle.nf_phase.specs.Stepping.{IsCause}
+
+-- ---- what passes in a part
+pub part_err : {A : Type 0} (part : Part) (r : Checked A) (at : PassedAt ℚ) → at_part part r ≡ Err at → (p : Passed ℚ) × (r ≡ Err p) × (placed part p ≡ at)
+part_err part (Ok x) at h = absurd (cc)
+part_err part (Err p) at h = (p, refl, same (placed part p) at h)
+  where
+    same : {A : Type 0} (x y : PassedAt ℚ) → ◌≡◌ {A = Result A (PassedAt ℚ)} (Err x) (Err y) → x ≡ y
+    same x y e = cc
+
+-- ---- a search here, in place of one from a base
+pub search_here : (P Q : Answer → Type 0) → ((a : Answer) → P a → Q a) → (budget : ℕ) (r : Result Thin SearchFault) → Searches P budget r → Searches Q budget r
+search_here P Q f budget (Ok thin) h = f _ h
+search_here P Q f budget (Err (SearchFault.Budget tried)) h = (h.0, f _ h.1)
+search_here P Q f budget (Err (SearchFault.Passed place at)) h = f _ h
+search_here P Q f budget (Err SearchFault.NoPattern) h = f _ h
+search_here P Q f budget (Err SearchFault.Memory) h = tt
+
+module _ (passes : Passing) (net : Network) (horizon : ℚ) (patterns : ℕ) (s : Standing) where
+  -- ---- the slack list
+  pub slack_cause : (below : s.time <ℚ horizon) (halt : Halt ℚ) → Stops {A = List ℚ} (λ q. q) halt (at_part Slack (slack_list passes (hops net) s.labels)) → IsCause passes net horizon patterns s (of_halt halt)
+  slack_cause below (Halt.Passed at) h =
+      let p = part_err Slack (slack_list passes (hops net) s.labels) at h in
+      subst (λ (at : PassedAt ℚ). Fails passes net horizon patterns s (Cause.Passed (suc s.made) None at)) p.2 (at_slack p.0 below p.1)
+  slack_cause below Halt.Memory h = tt
+
+  -- ---- the search
+  module _ (below : s.time <ℚ horizon) (slacks : slack_list passes (hops net) s.labels ≡ Ok (slacks_of (hops net) s.labels)) where
+    seeks_here : (a : Answer) → IsSearchHere passes net patterns s a → Seeks passes net horizon patterns s a
+    seeks_here a h = record { below = below; slacks = slacks; search = h }
+
+    pub search_found : (thin : Thin) → Searches (IsSearchHere passes net patterns s) patterns (Ok thin)
+        → Seeks passes net horizon patterns s (Found thin.place thin.pattern thin.flows.items thin.labels.items)
+    search_found thin h = seeks_here _ h
+
+    pub search_cause : (fault : SearchFault) → Searches (IsSearchHere passes net patterns s) patterns (Err fault) → IsCause passes net horizon patterns s (of_search fault)
+    search_cause (SearchFault.Budget tried) h = at_search OverBudget _ (seeks_here OverBudget h.1) (ap (λ (n : ℕ). Some (Cause.Patterns (suc s.made) n)) (sym h.0))
+    search_cause (SearchFault.Passed place at) h = at_search (PassesAt place at) _ (seeks_here (PassesAt place at) h) refl
+    search_cause SearchFault.NoPattern h = at_search NoPattern _ (seeks_here NoPattern h) refl
+    search_cause SearchFault.Memory h = tt
+
+  -- ---- the lists of extend, advance and curve
+  module _ (place : ℕ) (pattern : Pattern) (flows slopes : List ℚ) (seeks : Seeks passes net horizon patterns s (Found place pattern flows slopes)) where
+    abbrev extend : Result (Option ℚ) (PassedAt ℚ)
+    extend = at_part Extend (extend_list passes net (slacks_of (hops net) s.labels) slopes s.time)
+
+    abbrev advance : Option ℚ → Result Advanced (PassedAt ℚ)
+    advance extension = at_part Advance (advance_list passes horizon s.time extension s.labels slopes)
+
+    abbrev curve : Advanced → Result (List LinkStep) (PassedAt ℚ)
+    curve end = at_part Curve (curve_list passes net (sets_at net s.labels) pattern end.length flows slopes end.labels (map amount_so_far s.link_curves))
+
+    abbrev from_curve : Advanced → List LinkStep → Result PhaseStep (PassedAt ℚ)
+    from_curve end links = Ok (record { length = end.length; labels = end.labels; links = links })
+
+    abbrev from_advance : Advanced → Result PhaseStep (PassedAt ℚ)
+    from_advance end = curve end >>= from_curve end
+
+    abbrev from_extend : Option ℚ → Result PhaseStep (PassedAt ℚ)
+    from_extend extension = advance extension >>= from_advance
+
+    whole : phase_lists passes net horizon s pattern flows slopes ≡ (extend >>= from_extend)
+    unfolding phase_lists
+    whole = refl
+
+    then : {A B E : Type 0} (r q : Result A E) (f : A → Result B E) → r ≡ q → (r >>= f) ≡ (q >>= f)
+    then r q f h = ap (λ (w : Result A E). w >>= f) h
+
+    fails_at : (at : PassedAt ℚ) → phase_lists passes net horizon s pattern flows slopes ≡ Err at → IsCause passes net horizon patterns s (of_halt (Halt.Passed at))
+    fails_at at h = at_lists place pattern flows slopes at seeks h
+
+    pub extend_cause : (at : PassedAt ℚ) → extend ≡ Err at → Fails passes net horizon patterns s (Cause.Passed (suc s.made) None at)
+    extend_cause at h = at_lists place pattern flows slopes at seeks (whole ∙ then extend (Err at) from_extend h)
+
+    module _ (extension : Option ℚ) (extended : extend ≡ Ok extension) where
+      to_advance : phase_lists passes net horizon s pattern flows slopes ≡ from_extend extension
+      to_advance = whole ∙ then extend (Ok extension) from_extend extended
+
+      pub advance_cause : (halt : Halt ℚ) → Stops {A = Advanced} (λ q. q) halt (advance extension) → IsCause passes net horizon patterns s (of_halt halt)
+      advance_cause (Halt.Passed at) h = fails_at at (to_advance ∙ then (advance extension) (Err at) from_advance h)
+      advance_cause Halt.Memory h = tt
+
+      module _ (end : Advanced) (advanced : advance extension ≡ Ok end) where
+        to_curve : phase_lists passes net horizon s pattern flows slopes ≡ from_advance end
+        to_curve = to_advance ∙ then (advance extension) (Ok end) from_advance advanced
+
+        pub curve_cause : (halt : Halt ℚ) → Stops {A = List LinkStep} (λ q. q) halt (curve end) → IsCause passes net horizon patterns s (of_halt halt)
+        curve_cause (Halt.Passed at) h = fails_at at (to_curve ∙ then (curve end) (Err at) (from_curve end) h)
+        curve_cause Halt.Memory h = tt
+
+        pub lists_made : (links : List LinkStep) → curve end ≡ Ok links → phase_lists passes net horizon s pattern flows slopes ≡ Ok (record { length = end.length; labels = end.labels; links = links })
+        lists_made links h = to_curve ∙ then (curve end) (Ok links) (from_curve end) h
+
+-- ---- how long the phase is
+ok_of_part : {A : Type 0} (part : Part) (r : Checked A) (x : A) → at_part part r ≡ Ok x → r ≡ Ok x
+ok_of_part part (Ok y) x h = cc
+ok_of_part part (Err p) x h = absurd (cc)
+
+module _ (passes : Passing) (net : Network) (slacks labels slopes : List ℚ) (time horizon : ℚ) where
+  cut_is : (extension : Option ℚ) (length : ℚ) → MatchOption extension (IsUnending net slacks slopes time) (IsExtension net slacks slopes time) → length ≡ cut_at (horizon -ℚ time) extension
+      → IsPhaseLength net slacks slopes time horizon length
+  cut_is None length h e = inr (h, e)
+  cut_is (Some extension) length h e = inl (extension, h, e)
+
+  pub phase_length : (extension : Option ℚ) (end : Advanced) → length slopes ≡ length labels → MatchOption extension (IsUnending net slacks slopes time) (IsExtension net slacks slopes time)
+      → at_part Advance (advance_list passes horizon time extension labels slopes) ≡ Ok end → IsPhaseLength net slacks slopes time horizon end.length
+  phase_length extension end count h list = cut_is extension end.length h (advanced_exact passes horizon time extension labels slopes end count (ok_of_part Advance _ end list)).0

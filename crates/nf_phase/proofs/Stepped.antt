@@ -1,0 +1,117 @@
+-- A phase that is found leads on: what making it needs, and what it comes to.
+use Rattle.std.proofs.Common.{◌≡◌, ℕ, ◌<◌, List, [], ◌∷◌, length, sym, ap, subst, refl, ◌∙◌}
+use Rattle.std.specs.Prelude.{Option, Some, map, slice_get}
+use Rattle.nf_rational.specs.Rational.{ℚ}
+use Rattle.nf_rational.specs.Operations.{0ℚ, ◌+ℚ◌}
+use Rattle.nf_rational.specs.Order.{◌<ℚ◌}
+use Rattle.nf_rational_laws.proofs.Polynomial.{reading_of}
+use Rattle.nf_rational_laws.proofs.Linear.{lt, eq, linear_lt}
+use Rattle.nf_work.specs.Passing.{Passing}
+use Rattle.nf_model.specs.Entries.{number_at}
+use Rattle.nf_model.specs.Network.{Link, Network, IsNetwork, IsLink, hops}
+use Rattle.nf_model.specs.ThinFlow.{slacks_of, sets_at}
+use Rattle.nf_model.specs.Equilibrium.{Equilibrium}
+use Rattle.nf_lists.specs.CurveList.{LinkStep}
+use Rattle.nf_lists.specs.ReportCurves.{GrowingCurve, LinkCurves}
+use Rattle.nf_lists.specs.PhaseRun.{Standing, Bounds, Goes, standing_after, flow_of}
+use Rattle.nf_lists.specs.Ends.{end_of, EndsAtLabels}
+use Rattle.nf_lists_laws.proofs.Ending.{PhaseParts, phase_parts}
+use Rattle.nf_phase_laws.proofs.Length.{IsPhaseLength-some}
+use Rattle.nf_thin_laws.proofs.Agree.{IsPhase-unique}
+use Rattle.nf_run_laws.specs.RunLaws.{reached_by}
+use Rattle.nf_run_laws.proofs.StepValues.{steps-length}
+use Rattle.nf_run_laws.proofs.Run.{IsPhase-goes, Equilibrium-well}
+use Rattle.nf_run_laws.proofs.Standing.{label_count_at, source_label_at, ends_at}
+use Rattle.nf_run_laws.proofs.Moving.{inflow_moves, outflow_moves, queue_steps}
+use Rattle.nf_phase.specs.declared.phase.Phase.{Phase}
+use Rattle.nf_phase.specs.Stepping.{Reaches, goes_on, LeadsOnlyTo}
+use Rattle.nf_phase.specs.Finding.{step_in, LeadsOn}
+use Rattle.nf_phase.specs.LinkGrowth.{EndBefore, AllEndBefore}
+use Rattle.nf_phase.proofs.Reached.{Stands, Stands-reached}
+
+-- ---- wherever a run comes to
+module _ (passes : Passing) (net : Network) (good : IsNetwork net) (s : Standing) (reaches : Reaches passes net s) where
+  abbrev stands : Stands net s
+  stands = Stands-reached passes net good s reaches
+
+  pub equilibrium_reached : Equilibrium net (flow_of s)
+  equilibrium_reached = Equilibrium-well net good s stands.well
+
+  pub ends_reached : EndsAtLabels net s
+  ends_reached = ends_at net good s stands.well
+
+  pub only_phase : (horizon : ℚ) (patterns : ℕ) (t : Standing) → Goes passes net horizon patterns s t → LeadsOnlyTo net horizon (reached_by s) (reached_by t)
+  only_phase horizon patterns t g =
+      let is = IsPhase-goes passes net good (record { horizon = horizon; phases = 0; patterns = patterns }) s t g stands.well in
+      record { is_phase = is; only = λ other is_other. sym (IsPhase-unique net horizon good (reached_by s) (reached_by t) other is is_other) }
+
+-- ---- a phase that is found
+module _ (passes : Passing) (net : Network) (good : IsNetwork net) (horizon : ℚ) (patterns : ℕ) (s : Standing) (reaches : Reaches passes net s) (phase : Phase)
+    (leads : LeadsOn passes net horizon patterns s phase) where
+  abbrev next : Standing
+  next = standing_after net s phase.pattern phase.slopes.items (step_in phase)
+
+  abbrev here : Stands net s
+  here = Stands-reached passes net good s reaches
+
+  pub goes_next : Goes passes net horizon patterns s next
+  goes_next = record {
+    place = leads.place;
+    pattern = phase.pattern;
+    flows = leads.flows;
+    slopes = phase.slopes.items;
+    finds = leads.finds;
+    step = step_in phase;
+    lists = leads.lists;
+    is_length = leads.is_length;
+    new_is = refl;
+  }
+
+  abbrev there : Stands net next
+  there = Stands-reached passes net good next (goes_on horizon patterns reaches goes_next)
+
+  some : 0ℚ <ℚ phase.length
+  some = IsPhaseLength-some net (slacks_of (hops net) s.labels) phase.slopes.items s.time horizon phase.length leads.finds.below leads.is_length
+
+  -- ---- counts
+  pub curve_count : length s.label_curves ≡ net.nodes
+  curve_count = here.well.label_count
+
+  pub link_count : length s.link_curves ≡ length net.links
+  link_count = here.well.link_count
+
+  pub new_label_count : length phase.labels.items ≡ net.nodes
+  new_label_count = label_count_at net good next there.well
+
+  pub slope_count : length phase.slopes.items ≡ net.nodes
+  slope_count = leads.finds.search.is_search.answers.solution.solves.slope_count
+
+  parts : PhaseParts passes net s phase.pattern leads.flows phase.slopes.items (step_in phase)
+  parts = phase_parts passes net good horizon patterns s phase.pattern leads.flows phase.slopes.items (step_in phase) (slope_count ∙ sym (label_count_at net good s here.well)) leads.lists
+
+  pub step_count : length phase.steps.items ≡ length net.links
+  step_count = steps-length passes net (sets_at net s.labels) phase.pattern phase.length leads.flows phase.slopes.items phase.labels.items _ phase.steps.items parts.links
+
+  -- ---- the labels move on
+  pub source_next : number_at phase.labels.items net.source ≡ s.time +ℚ phase.length
+  source_next = source_label_at net good next there.well
+
+  later : (a t : ℚ) → 0ℚ <ℚ t → a <ℚ a +ℚ t
+  later a t k = linear_lt (a ∷ t ∷ []) (lt k ∷ []) (search reading_of depth 12) tt
+
+  pub labels_later : (reached : ℚ) → reached ≡ s.time +ℚ phase.length → (v : ℕ) (curve : GrowingCurve) → slice_get s.label_curves v ≡ Some curve → end_of curve.points <ℚ reached
+  labels_later reached e v curve at = subst (λ (x : ℚ). end_of curve.points <ℚ x) (sym e)
+      (subst (λ (x : ℚ). x <ℚ s.time +ℚ phase.length) (sym ((ends_at net good s here.well).labels v curve at)) (later s.time phase.length some))
+
+  pub links_later : AllEndBefore net phase.labels.items s.link_curves phase.steps.items
+  links_later e link curves step p at one =
+      let ends : EndsAtLabels net s = ends_at net good s here.well in
+      let count = slope_count ∙ sym (label_count_at net good s here.well) in
+      record {
+        inflow = λ rate is. subst (λ (x : ℚ). x <ℚ number_at phase.labels.items link.tail) (sym (ends.inflows e link curves p at))
+            (inflow_moves passes net s phase.pattern leads.flows phase.slopes.items (step_in phase) parts count some e link p step one rate is);
+        outflow = λ rate is. subst (λ (x : ℚ). x <ℚ number_at phase.labels.items link.head) (sym (ends.outflows e link curves p at))
+            (outflow_moves passes net s phase.pattern leads.flows phase.slopes.items (step_in phase) parts count some e link p step one rate is);
+        queue = λ queue is. subst (λ (x : ℚ). x <ℚ number_at phase.labels.items link.tail) (sym (ends.queues e link curves p at))
+            (queue_steps passes net s phase.pattern leads.flows phase.slopes.items (step_in phase) parts count some e link p step one queue is);
+      }
