@@ -1,3 +1,4 @@
+pub mod Growing
 pub mod Lengths
 pub mod Stepping
 pub mod Solution
