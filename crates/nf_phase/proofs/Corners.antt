@@ -70,8 +70,8 @@ trace-with goes rates new curve after rate p before e made is =
     ∙ ap (λ (o : Option ℚ). record { points = with_point (goes_on o rate) curve.points p; rates = with_rate (goes_on o rate) (rates ++ option_to_list curve.slope) rate }) (sym (last_rate rates curve.slope before))
 
 -- ---- the first point of a curve at a node
-pub after_zero : (points : List Point) (value zero label : ℚ) (before : Bool) → points ≡ (0ℚ, value) ∷ [] → before ≡ lt_ℚ zero label → zero ≡ 0ℚ → before ≡ true → last_time points <ℚ label
-after_zero points value zero label before is test none t = subst (λ (l : List Point). last_time l <ℚ label) (sym is) (below (lt_ℚ_cases 0ℚ label))
+pub after_zero : (points : List Point) (value origin label : ℚ) (before : Bool) → points ≡ (0ℚ, value) ∷ [] → before ≡ lt_ℚ origin label → origin ≡ 0ℚ → before ≡ true → last_time points <ℚ label
+after_zero points value origin label before is test none t = subst (λ (l : List Point). last_time l <ℚ label) (sym is) (below (lt_ℚ_cases 0ℚ label))
   where
     tested : lt_ℚ 0ℚ label ≡ true
     tested = ap (λ (x : ℚ). lt_ℚ x label) (sym none) ∙ sym test ∙ t
