@@ -1,3 +1,5 @@
+pub mod Corners
+pub mod Places
 pub mod Signs
 pub mod Looping
 pub mod Meaning

@@ -1,3 +1,4 @@
+pub mod Growing
 pub mod Lengths
 pub mod Faults
 pub mod Growing

@@ -3,9 +3,13 @@
 #![tactic(auto)]
 
 mod fault;
+mod growing;
+mod growth;
 mod lengths;
+mod link_curves;
 mod solution;
 mod solving;
+mod traces;
 #[cfg(test)]
 mod tests;
 
