@@ -1,3 +1,5 @@
 pub mod Signs
 pub mod Looping
 pub mod Meaning
+pub mod Numbered
+pub mod LinkLoop

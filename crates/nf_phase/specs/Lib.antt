@@ -1,3 +1,4 @@
 pub mod Lengths
 pub mod Stepping
 pub mod Solution
+pub mod StepCodes

@@ -16,14 +16,14 @@ use nf_graph::LinkId;
 use nf_net::Network;
 
 #[tactic(auto, using(nf_net::proofs::Comparisons::le_by_order))]
-fn is_at_most(left: Q, right: Q) -> bool
+pub(crate) fn is_at_most(left: Q, right: Q) -> bool
     ensures { result ≡ le_ℚ left right }
 {
     left <= right
 }
 
 #[tactic(auto, using(nf_net::proofs::Comparisons::below_is))]
-fn is_below(left: Q, right: Q) -> bool
+pub(crate) fn is_below(left: Q, right: Q) -> bool
     ensures { result ≡ lt_ℚ left right }
 {
     !is_at_most(right, left)

@@ -2,10 +2,15 @@
 //! horizon.
 #![tactic(auto)]
 
+mod advance;
 mod fault;
 mod lengths;
+mod link_phase;
+mod link_steps;
 mod solution;
 mod solving;
+#[cfg(test)]
+mod steps_tests;
 #[cfg(test)]
 mod tests;
 
