@@ -3,6 +3,8 @@ pub mod Places
 pub mod Signs
 pub mod Looping
 pub mod Meaning
+pub mod Numbered
+pub mod LinkLoop
 pub mod Reached
 pub mod Ended
 pub mod Stepped

@@ -26,7 +26,7 @@ use Rattle.nf_run_laws.proofs.Moving.{inflow_moves, outflow_moves, queue_steps}
 use Rattle.nf_phase.specs.declared.phase.Phase.{Phase}
 use Rattle.nf_phase.specs.Stepping.{Reaches, goes_on, LeadsOnlyTo}
 use Rattle.nf_phase.specs.Finding.{step_in, LeadsOn}
-use Rattle.nf_phase.specs.LinkGrowth.{EndBefore, AllEndBefore}
+use Rattle.nf_phase.specs.LinkGrowth.{LinkEndsBefore, AllLinksEndBefore}
 use Rattle.nf_phase.proofs.Reached.{Stands, Stands-reached}
 
 -- ---- wherever a run comes to
@@ -103,7 +103,7 @@ module _ (passes : Passing) (net : Network) (good : IsNetwork net) (horizon : �
   labels_later reached e v curve at = subst (λ (x : ℚ). end_of curve.points <ℚ x) (sym e)
       (subst (λ (x : ℚ). x <ℚ s.time +ℚ phase.length) (sym ((ends_at net good s here.well).labels v curve at)) (later s.time phase.length some))
 
-  pub links_later : AllEndBefore net phase.labels.items s.link_curves phase.steps.items
+  pub links_later : AllLinksEndBefore net phase.labels.items s.link_curves phase.steps.items
   links_later e link curves step p at one =
       let ends : EndsAtLabels net s = ends_at net good s here.well in
       let count = slope_count ∙ sym (label_count_at net good s here.well) in

@@ -1,9 +1,8 @@
-pub mod Growing
 pub mod Lengths
-pub mod Faults
-pub mod Growing
 pub mod StepCodes
+pub mod Growing
 pub mod LinkGrowth
+pub mod Faults
 pub mod Stepping
 pub mod Finding
 pub mod Solution

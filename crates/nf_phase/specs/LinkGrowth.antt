@@ -14,15 +14,15 @@ use Rattle.nf_lists.specs.Ends.{end_of}
 use Rattle.nf_phase.specs.Growing.{coded_growing, coded_curves}
 
 -- the curves of a link that go on in a step end before the labels that they go on to
-pub record EndBefore (labels : List ℚ) (link : Link) (curves : LinkCurves) (step : LinkStep) : Type 0 where
+pub record LinkEndsBefore (labels : List ℚ) (link : Link) (curves : LinkCurves) (step : LinkStep) : Type 0 where
   pub inflow : (rate : ℚ) → step.inflow_rate ≡ Some rate → end_of curves.inflow.points <ℚ number_at labels link.tail
   pub outflow : (rate : ℚ) → step.outflow_rate ≡ Some rate → end_of curves.outflow.points <ℚ number_at labels link.head
   pub queue : (queue : QueueStep) → step.queue ≡ Some queue → end_of curves.queue.points <ℚ number_at labels link.tail
 
 -- so do those of all links
-abbrev pub AllEndBefore : Network → List ℚ → List LinkCurves → List LinkStep → Type 0
-AllEndBefore net labels curves steps = (e : ℕ) (link : Link) (c : LinkCurves) (step : LinkStep) → IsLink net e link → slice_get curves e ≡ Some c → slice_get steps e ≡ Some step
-    → EndBefore labels link c step
+abbrev pub AllLinksEndBefore : Network → List ℚ → List LinkCurves → List LinkStep → Type 0
+AllLinksEndBefore net labels curves steps = (e : ℕ) (link : Link) (c : LinkCurves) (step : LinkStep) → IsLink net e link → slice_get curves e ≡ Some c → slice_get steps e ≡ Some step
+    → LinkEndsBefore labels link c step
 
 abbrev pub coded_standing : Coded Standing
 coded_standing = code_by (ℚ × (List ℚ × (List GrowingCurve × (List LinkCurves × (ℕ × Pattern)))))

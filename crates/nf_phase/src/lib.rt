@@ -2,18 +2,28 @@
 //! horizon.
 #![tactic(auto)]
 
+mod advance;
 mod fault;
+mod finding;
 mod growing;
 mod growth;
 mod lengths;
 mod link_curves;
+mod link_growth;
+mod link_phase;
+mod link_steps;
+mod phase;
+mod run;
 mod solution;
 mod solving;
-mod traces;
+#[cfg(test)]
+mod steps_tests;
 #[cfg(test)]
 mod tests;
+mod traces;
 
 pub use fault::StepFault;
 pub use lengths::extension;
+pub use run::Run;
 pub use solution::{Budgets, Solution};
 pub use solving::solve;

@@ -2,7 +2,7 @@
 ghost use Rattle.std.specs.Prelude.{◌≡◌, ◌<◌, length, map, IfOk};
 ghost use Rattle.nf_lists.specs.ReportCurves.{amount_so_far, first_curves, curves_after, link_curves_after};
 ghost use Rattle.nf_phase.specs.Growing.{HasRoom, AllHaveRoom, all_grown};
-ghost use Rattle.nf_phase.specs.LinkGrowth.{EndBefore, AllEndBefore};
+ghost use Rattle.nf_phase.specs.LinkGrowth.{LinkEndsBefore, AllLinksEndBefore};
 
 use crate::link_curves::LinkCurves;
 use crate::link_steps::LinkStep;
@@ -45,7 +45,7 @@ fn link_goes_on(curves: &mut LinkCurves, link: &Link, labels: &[Q], step: &LinkS
     requires tail { link.now.tail < length labels.now }
     requires head { link.now.head < length labels.now }
     requires room { HasRoom curves.old }
-    requires later { EndBefore labels.now link.now curves.old.grown step.now }
+    requires later { LinkEndsBefore labels.now link.now curves.old.grown step.now }
     ensures { curves.new.grown ≡ curves_after labels.now link.now curves.old.grown step.now }
 {
     let (tail, head) = (labels[link.tail.index()], labels[link.head.index()]);
@@ -62,7 +62,7 @@ pub(crate) fn links_go_on(curves: &mut [LinkCurves], net: &Network, labels: &[Q]
     requires curves { length curves.old ≡ length net.now.net.links }
     requires steps { length steps.now ≡ length net.now.net.links }
     requires room { AllHaveRoom curves.old }
-    requires later { AllEndBefore net.now.net labels.now (all_grown curves.old) steps.now }
+    requires later { AllLinksEndBefore net.now.net labels.now (all_grown curves.old) steps.now }
     ensures { all_grown curves.new ≡ link_curves_after labels.now net.now.net.links (all_grown curves.old) steps.now }
 {
     for e in 0..curves.len() {

@@ -7,7 +7,7 @@ use std::alloc::Global;
 use std::test::Fail;
 
 // 2^127 - 1.
-const GREATEST: i128 = 170141183460469231731687303715884105727;
+pub(crate) const GREATEST: i128 = 170141183460469231731687303715884105727;
 
 const TWO_LINKS: &str =
     "nfot 1\nsource s\nsink t\nlink a s t 1 1\nlink b s t 3 1\ninflow 0 3\nend\n";
@@ -15,7 +15,7 @@ const TWO_LINKS: &str =
 const TWO_PIECES: &str =
     "nfot 1\nsource s\nsink t\nlink a s t 1 1\nlink b s t 3 1\ninflow 0 3\ninflow 1/2 0\nend\n";
 
-fn network(alloc: Global, file: &str) -> Result<Network, Fail> {
+pub(crate) fn network(alloc: Global, file: &str) -> Result<Network, Fail> {
     let bytes = file.as_bytes();
     if bytes.len() > 1_000 {
         return Err(Fail::from("the file is too long"));
@@ -23,7 +23,7 @@ fn network(alloc: Global, file: &str) -> Result<Network, Fail> {
     Ok(parse(alloc, bytes)?)
 }
 
-fn made(numer: i128, denom: i128) -> Result<Q, Fail> {
+pub(crate) fn made(numer: i128, denom: i128) -> Result<Q, Fail> {
     Ok(Q::make(numer, denom).ok_or("a fraction")?)
 }
 
