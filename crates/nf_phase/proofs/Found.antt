@@ -1,6 +1,7 @@
 -- From the answers of a search and of the lists to what a phase is found to be, or why it isn't.
 use Rattle.std.proofs.Common.{◌≡◌, ℕ, suc, ◌<◌, ◌⊎◌, inl, inr, List, [], ◌∷◌, length, sym, ap, subst, refl, ◌∙◌}
-use Rattle.std.specs.Prelude.{Option, Some, None, map, Result, Ok, Err, MatchOption}
+use Rattle.std.specs.Prelude.{Option, Some, None, map, Result, Ok, Err, MatchOption, IfErr}
+use Rattle.std.specs.Result.{IsErrAnd}
 use Rattle.nf_rational.specs.Rational.{ℚ}
 use Rattle.nf_rational.specs.Operations.{◌-ℚ◌}
 use Rattle.nf_rational.specs.Order.{◌<ℚ◌, min_ℚ}
@@ -12,6 +13,7 @@ use Rattle.nf_work.specs.declared.PassedAt.{PassedAt}
 use Rattle.nf_work.specs.declared.Halt.{Halt}
 use Rattle.nf_work.specs.declared.Halt.TheVariants as Halt
 use Rattle.nf_work.specs.Checked.{Checked, at_part, placed, Gives, Stops, ◌>>=◌}
+use Rattle.nf_model.specs.Walk.{Hop}
 use Rattle.nf_model.specs.Network.{Network, hops, rate_at}
 use Rattle.nf_model.specs.ThinFlow.{Sets, slacks_of, sets_at}
 use Rattle.nf_model.specs.Pattern.{Pattern, IsBase}
@@ -24,7 +26,7 @@ use Rattle.nf_lists.specs.CurveList.{LinkStep, curve_list}
 use Rattle.nf_lists.specs.ReportCurves.{amount_so_far}
 use Rattle.nf_lists.specs.Search.{Answer, Found, OverBudget, PassesAt, NoPattern, IsSearch}
 use Rattle.nf_lists.specs.PhaseRun.{Standing, PhaseStep, Seeks, IsSearchHere, Fails, at_slack, at_search, at_lists, phase_lists}
-use Rattle.nf_lists_laws.proofs.Exact.{advanced_exact}
+use Rattle.nf_lists_laws.proofs.Exact.{slacks_exact, advanced_exact}
 use Rattle.nf_thin.specs.declared.searches.Thin.{Thin}
 use Rattle.nf_thin.specs.declared.searches.SearchFault.{SearchFault}
 use Rattle.nf_thin.specs.declared.searches.SearchFault.TheVariants as SearchFault
@@ -39,6 +41,23 @@ part_err part (Err p) at h = (p, refl, same (placed part p) at h)
   where
     same : {A : Type 0} (x y : PassedAt ℚ) → ◌≡◌ {A = Result A (PassedAt ℚ)} (Err x) (Err y) → x ≡ y
     same x y e = cc
+
+ok_of_part : {A : Type 0} (part : Part) (r : Checked A) (x : A) → at_part part r ≡ Ok x → r ≡ Ok x
+ok_of_part part (Ok y) x h = cc
+ok_of_part part (Err p) x h = absurd (cc)
+
+-- ---- the slacks
+pub slacks_found : (passes : Passing) (net : Network) (labels slacks : List ℚ) → at_part Slack (slack_list passes (hops net) labels) ≡ Ok slacks
+    → (slacks ≡ slacks_of (hops net) labels) × (slack_list passes (hops net) labels ≡ Ok (slacks_of (hops net) labels))
+slacks_found passes net labels slacks h =
+    let list = ok_of_part Slack (slack_list passes (hops net) labels) slacks h in
+    let exact = slacks_exact passes (hops net) labels slacks list in
+    (exact, list ∙ ap (λ (l : List ℚ). Ok l) exact)
+
+-- ---- the fault that a call ends with
+pub by_fault : {A E : Type 0} (r : Result A E) (e : E) (P : E → Type 0) → IsErrAnd r (λ x. x ≡ e) → P e → IfErr r P
+by_fault (Ok x) e P h p = tt
+by_fault (Err x) e P h p = subst P (sym h) p
 
 -- ---- a search here, in place of one from a base
 pub search_here : (P Q : Answer → Type 0) → ((a : Answer) → P a → Q a) → (budget : ℕ) (r : Result Thin SearchFault) → Searches P budget r → Searches Q budget r
@@ -56,16 +75,27 @@ module _ (passes : Passing) (net : Network) (horizon : ℚ) (patterns : ℕ) (s 
       subst (λ (at : PassedAt ℚ). Fails passes net horizon patterns s (Cause.Passed (suc s.made) None at)) p.2 (at_slack p.0 below p.1)
   slack_cause below Halt.Memory h = tt
 
+  same_slacks : (hs : List Hop) (labels : List ℚ) → hs ≡ hops net → labels ≡ s.labels → slack_list passes hs labels ≡ slack_list passes (hops net) s.labels
+  same_slacks hs labels e f = ap (λ (h : List Hop). slack_list passes h labels) e ∙ ap (slack_list passes (hops net)) f
+
+  pub slacks_cause : (hs : List Hop) (labels : List ℚ) → hs ≡ hops net → labels ≡ s.labels → s.time <ℚ horizon → (halt : Halt ℚ) → Stops {A = List ℚ} (λ q. q) halt (at_part Slack (slack_list passes hs labels))
+      → IsCause passes net horizon patterns s (of_halt halt)
+  slacks_cause hs labels e f below halt h = slack_cause below halt (subst (λ (r : Checked (List ℚ)). Stops {A = List ℚ} (λ q. q) halt (at_part Slack r)) (same_slacks hs labels e f) h)
+
+  pub slacks_made : (hs : List Hop) (labels slacks : List ℚ) → hs ≡ hops net → labels ≡ s.labels → at_part Slack (slack_list passes hs labels) ≡ Ok slacks
+      → (slacks ≡ slacks_of (hops net) s.labels) × (slack_list passes (hops net) s.labels ≡ Ok (slacks_of (hops net) s.labels))
+  slacks_made hs labels slacks e f h = slacks_found passes net s.labels slacks (ap (λ (r : Checked (List ℚ)). at_part Slack r) (sym (same_slacks hs labels e f)) ∙ h)
+
   -- ---- the search
   module _ (below : s.time <ℚ horizon) (slacks : slack_list passes (hops net) s.labels ≡ Ok (slacks_of (hops net) s.labels)) where
-    seeks_here : (a : Answer) → IsSearchHere passes net patterns s a → Seeks passes net horizon patterns s a
+    seeks_here : (a : Answer) → IsSearchHere passes net horizon patterns s a → Seeks passes net horizon patterns s a
     seeks_here a h = record { below = below; slacks = slacks; search = h }
 
-    pub search_found : (thin : Thin) → Searches (IsSearchHere passes net patterns s) patterns (Ok thin)
+    pub search_found : (thin : Thin) → Searches (IsSearchHere passes net horizon patterns s) patterns (Ok thin)
         → Seeks passes net horizon patterns s (Found thin.place thin.pattern thin.flows.items thin.labels.items)
     search_found thin h = seeks_here _ h
 
-    pub search_cause : (fault : SearchFault) → Searches (IsSearchHere passes net patterns s) patterns (Err fault) → IsCause passes net horizon patterns s (of_search fault)
+    pub search_cause : (fault : SearchFault) → Searches (IsSearchHere passes net horizon patterns s) patterns (Err fault) → IsCause passes net horizon patterns s (of_search fault)
     search_cause (SearchFault.Budget tried) h = at_search OverBudget _ (seeks_here OverBudget h.1) (ap (λ (n : ℕ). Some (Cause.Patterns (suc s.made) n)) (sym h.0))
     search_cause (SearchFault.Passed place at) h = at_search (PassesAt place at) _ (seeks_here (PassesAt place at) h) refl
     search_cause SearchFault.NoPattern h = at_search NoPattern _ (seeks_here NoPattern h) refl
@@ -95,39 +125,35 @@ module _ (passes : Passing) (net : Network) (horizon : ℚ) (patterns : ℕ) (s 
     unfolding phase_lists
     whole = refl
 
-    then : {A B E : Type 0} (r q : Result A E) (f : A → Result B E) → r ≡ q → (r >>= f) ≡ (q >>= f)
-    then r q f h = ap (λ (w : Result A E). w >>= f) h
+    then_same : {A B E : Type 0} (r q : Result A E) (f : A → Result B E) → r ≡ q → (r >>= f) ≡ (q >>= f)
+    then_same {A = A} {E = E} r q f h = ap (λ (w : Result A E). w >>= f) h
 
     fails_at : (at : PassedAt ℚ) → phase_lists passes net horizon s pattern flows slopes ≡ Err at → IsCause passes net horizon patterns s (of_halt (Halt.Passed at))
     fails_at at h = at_lists place pattern flows slopes at seeks h
 
     pub extend_cause : (at : PassedAt ℚ) → extend ≡ Err at → Fails passes net horizon patterns s (Cause.Passed (suc s.made) None at)
-    extend_cause at h = at_lists place pattern flows slopes at seeks (whole ∙ then extend (Err at) from_extend h)
+    extend_cause at h = at_lists place pattern flows slopes at seeks (whole ∙ then_same extend (Err at) from_extend h)
 
     module _ (extension : Option ℚ) (extended : extend ≡ Ok extension) where
       to_advance : phase_lists passes net horizon s pattern flows slopes ≡ from_extend extension
-      to_advance = whole ∙ then extend (Ok extension) from_extend extended
+      to_advance = whole ∙ then_same extend (Ok extension) from_extend extended
 
       pub advance_cause : (halt : Halt ℚ) → Stops {A = Advanced} (λ q. q) halt (advance extension) → IsCause passes net horizon patterns s (of_halt halt)
-      advance_cause (Halt.Passed at) h = fails_at at (to_advance ∙ then (advance extension) (Err at) from_advance h)
+      advance_cause (Halt.Passed at) h = fails_at at (to_advance ∙ then_same (advance extension) (Err at) from_advance h)
       advance_cause Halt.Memory h = tt
 
       module _ (end : Advanced) (advanced : advance extension ≡ Ok end) where
         to_curve : phase_lists passes net horizon s pattern flows slopes ≡ from_advance end
-        to_curve = to_advance ∙ then (advance extension) (Ok end) from_advance advanced
+        to_curve = to_advance ∙ then_same (advance extension) (Ok end) from_advance advanced
 
         pub curve_cause : (halt : Halt ℚ) → Stops {A = List LinkStep} (λ q. q) halt (curve end) → IsCause passes net horizon patterns s (of_halt halt)
-        curve_cause (Halt.Passed at) h = fails_at at (to_curve ∙ then (curve end) (Err at) (from_curve end) h)
+        curve_cause (Halt.Passed at) h = fails_at at (to_curve ∙ then_same (curve end) (Err at) (from_curve end) h)
         curve_cause Halt.Memory h = tt
 
         pub lists_made : (links : List LinkStep) → curve end ≡ Ok links → phase_lists passes net horizon s pattern flows slopes ≡ Ok (record { length = end.length; labels = end.labels; links = links })
-        lists_made links h = to_curve ∙ then (curve end) (Ok links) (from_curve end) h
+        lists_made links h = to_curve ∙ then_same (curve end) (Ok links) (from_curve end) h
 
 -- ---- how long the phase is
-ok_of_part : {A : Type 0} (part : Part) (r : Checked A) (x : A) → at_part part r ≡ Ok x → r ≡ Ok x
-ok_of_part part (Ok y) x h = cc
-ok_of_part part (Err p) x h = absurd (cc)
-
 module _ (passes : Passing) (net : Network) (slacks labels slopes : List ℚ) (time horizon : ℚ) where
   cut_is : (extension : Option ℚ) (length : ℚ) → MatchOption extension (IsUnending net slacks slopes time) (IsExtension net slacks slopes time) → length ≡ cut_at (horizon -ℚ time) extension
       → IsPhaseLength net slacks slopes time horizon length

@@ -1,5 +1,6 @@
 // The search of a phase: the thin flow by which the run goes on.
-ghost use Rattle.std.specs.Prelude.{◌≡◌, IfOk, OnOk, IfErr};
+ghost use Rattle.std.specs.Prelude.{◌≡◌, Ok, IfOk, OnOk, IfErr};
+ghost use Rattle.nf_rational.specs.Rational.{ℚ};
 ghost use Rattle.nf_rational.specs.Order.{◌<ℚ◌};
 ghost use Rattle.nf_work.specs.Passing.{bound_of, beyond};
 ghost use Rattle.nf_model.specs.Network.{hops as hops_of};
@@ -51,7 +52,7 @@ impl Run {
     ) -> Result<Thin, SearchFault>
         requires reaches { Reaches (beyond (bound_of 127)) net.now.net self.now }
         requires sets { sets.now ≡ sets_at net.now.net self.now.labels }
-        ensures { Searches (IsSearchHere (beyond (bound_of 127)) net.now.net patterns self.now) patterns result }
+        ensures { (horizon : ℚ) → Searches (IsSearchHere (beyond (bound_of 127)) net.now.net horizon patterns self.now) patterns result }
     {
         let base = base(alloc, net.node_count(), net.hops(), sets, &self.last)?;
         search(alloc, net, sets, net.rate_at(self.reached), &base, patterns)

@@ -6,7 +6,7 @@ ghost use Rattle.nf_lists.specs.ReportCurves.{amount_so_far};
 ghost use Rattle.nf_phase.specs.Stepping.{Reaches, IsCause};
 ghost use Rattle.nf_phase.specs.Finding.{IsFound, LeadsOn};
 
-use crate::advance::advance;
+use crate::advance::{Advanced, advance};
 use crate::fault::StepFault;
 use crate::finding::Found;
 use crate::lengths::extension;
@@ -16,6 +16,7 @@ use crate::run::Run;
 use nf_frac::Q;
 use nf_net::Network;
 use nf_pattern::Pattern;
+use nf_thin::Thin;
 use std::alloc::Global;
 
 // A phase: its length, the labels at its end, the slopes at which they move, how each link goes on, and the pattern by which the
@@ -44,27 +45,26 @@ impl Run {
         ensures leads { IfOk result (LeadsOn (beyond (bound_of 127)) net.now.net horizon patterns self.now) }
         ensures cause { IfErr result (IsCause (beyond (bound_of 127)) net.now.net horizon patterns self.now) }
     {
-        let slopes = &found.thin.labels;
-        let extension = extension(net, &found.slacks, slopes, self.reached)?;
-        let end = advance(alloc, horizon, self.reached, extension, &self.labels, slopes)?;
+        let Found { slacks, sets, thin } = found;
+        let Thin {
+            flows,
+            labels: slopes,
+            pattern,
+            place: _,
+        } = thin;
+        let extension = extension(net, &slacks, &slopes, self.reached)?;
+        let end = advance(alloc, horizon, self.reached, extension, &self.labels, &slopes)?;
+        let Advanced { length, labels } = end;
         let amounts = amounts(alloc, &self.link_curves)?;
         let steps = link_steps(
-            alloc,
-            net,
-            &found.sets,
-            &found.thin.pattern,
-            end.length,
-            &found.thin.flows,
-            slopes,
-            &end.labels,
-            &amounts,
+            alloc, net, &sets, &pattern, length, &flows, &slopes, &labels, &amounts,
         )?;
         Ok(Phase {
-            length: end.length,
-            labels: end.labels,
-            slopes: found.thin.labels,
+            length,
+            labels,
+            slopes,
             steps,
-            pattern: found.thin.pattern,
+            pattern,
         })
     }
 
