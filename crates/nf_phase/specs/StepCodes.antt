@@ -1,5 +1,5 @@
 -- How what the advance and curve lists give is told apart, which the types of code that are seen so rest on.
-use Rattle.std.specs.Prelude.{ℕ, Bool, List, Option, refl}
+use Rattle.std.specs.Prelude.{Bool, List, Option, refl}
 use Rattle.std.specs.Coded.{Coded, code_by, coded×, coded_bool, coded_list, coded_option}
 use Rattle.nf_rational.specs.Rational.{ℚ, coded_ℚ}
 use Rattle.nf_lists.specs.Advance.{Advanced}

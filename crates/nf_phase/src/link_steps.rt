@@ -199,7 +199,9 @@ pub(crate) fn link_steps(
     let mut steps = Vec::new(alloc);
     for e in 0..net.link_count() {
         let link = LinkId(e);
-        let next = step_of(net, sets, pattern, length, flows, slopes, labels, amounts, link)?;
+        let next = step_of(
+            net, sets, pattern, length, flows, slopes, labels, amounts, link,
+        )?;
         steps.push(next)?;
     }
     Ok(steps)

@@ -15,7 +15,11 @@ const ONE_LINK: &str = "nfot 1\nsource s\nsink t\nlink a s t 1 1\ninflow 0 2\nen
 const UNBOUNDED: &str = "nfot 2\nsource s\nsink t\nlink a s t 1 inf\ninflow 0 2\nend\n";
 
 // A phase at time 1 in which the labels 1 and 2 have the slopes 1 and 3: its length, and the label of the sink at its end.
-fn advanced(alloc: Global, horizon: Q, extension: Option<Q>) -> Result<Result<(Q, Q), Halt<Q>>, Fail> {
+fn advanced(
+    alloc: Global,
+    horizon: Q,
+    extension: Option<Q>,
+) -> Result<Result<(Q, Q), Halt<Q>>, Fail> {
     let labels = [Q::one(), made(2, 1)?];
     let slopes = [Q::one(), made(3, 1)?];
     match advance(alloc, horizon, Q::one(), extension, &labels, &slopes) {
@@ -46,7 +50,17 @@ fn step_in(
     let mut pattern = Pattern::none(alloc, 1)?;
     pattern.set(LinkId(0), Some(state));
     let before = [Q::zero()];
-    match link_steps(alloc, &net, &sets, &pattern, length, &[flow], &slopes, &labels, &before) {
+    match link_steps(
+        alloc,
+        &net,
+        &sets,
+        &pattern,
+        length,
+        &[flow],
+        &slopes,
+        &labels,
+        &before,
+    ) {
         Ok(steps) => Ok(Ok(*steps.as_slice().first().ok_or("a step")?)),
         Err(halt) => Ok(Err(halt)),
     }
@@ -80,7 +94,15 @@ fn change_that_passes(rt: HostRuntime) -> Result<(), Fail> {
 fn nothing_enters(rt: HostRuntime) -> Result<(), Fail> {
     let zero = Q::zero();
     let one = Q::one();
-    let step = step_in(rt.alloc(), ONE_LINK, State::Zero, one, zero, [zero, one], [zero, one])?;
+    let step = step_in(
+        rt.alloc(),
+        ONE_LINK,
+        State::Zero,
+        one,
+        zero,
+        [zero, one],
+        [zero, one],
+    )?;
     let expected = LinkStep {
         amount: zero,
         inflow_rate: None,
@@ -96,7 +118,15 @@ fn full_link(rt: HostRuntime) -> Result<(), Fail> {
     let one = Q::one();
     let two = made(2, 1)?;
     let labels = [one, made(3, 1)?];
-    let step = step_in(rt.alloc(), ONE_LINK, State::Full, one, two, [one, two], labels)?;
+    let step = step_in(
+        rt.alloc(),
+        ONE_LINK,
+        State::Full,
+        one,
+        two,
+        [one, two],
+        labels,
+    )?;
     let expected = LinkStep {
         amount: two,
         inflow_rate: Some(two),
@@ -114,7 +144,15 @@ fn full_link(rt: HostRuntime) -> Result<(), Fail> {
 fn unbounded_link(rt: HostRuntime) -> Result<(), Fail> {
     let one = Q::one();
     let two = made(2, 1)?;
-    let step = step_in(rt.alloc(), UNBOUNDED, State::Tight, one, two, [one, one], [one, two])?;
+    let step = step_in(
+        rt.alloc(),
+        UNBOUNDED,
+        State::Tight,
+        one,
+        two,
+        [one, one],
+        [one, two],
+    )?;
     let expected = LinkStep {
         amount: two,
         inflow_rate: Some(two),
@@ -134,7 +172,15 @@ fn amount_that_passes(rt: HostRuntime) -> Result<(), Fail> {
     let one = Q::one();
     let two = made(2, 1)?;
     let greatest = made(GREATEST, 1)?;
-    let step = step_in(rt.alloc(), ONE_LINK, State::Full, two, greatest, [one, two], [two, two])?;
+    let step = step_in(
+        rt.alloc(),
+        ONE_LINK,
+        State::Full,
+        two,
+        greatest,
+        [one, two],
+        [two, two],
+    )?;
     let at = PassedAt {
         part: Part::Curve,
         op: Op::Product,

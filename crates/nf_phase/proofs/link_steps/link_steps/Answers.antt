@@ -12,12 +12,12 @@ unfolding curve_list
 returns-in_err-next c =
     let p = err_from_is_err_and c.from_residual.result c.from_residual.ensures.1 in
     rw (p.1, p.2) (step_passes (beyond (bound_of 127)) c.args.sets.now c.args.pattern.now c.args.length c.args.flows.now c.args.slopes.now c.args.labels.now c.args.amounts.now
-      c.args.net.now.net c.loop-e.steps.items c.loop-e.e (omega arith) c.loop-e.invariant c.in_err-next.field-0.0 c.in_err-next.ensures)
+    c.args.net.now.net c.loop-e.steps.items c.loop-e.e (omega arith) c.loop-e.invariant c.in_err-next.field-0.0 c.in_err-next.ensures)
 
 pub loop-e-preserved : goal.loop-e-preserved
 loop-e-preserved c =
     rw (c.in_ok-push.ensures.items) (one_step (beyond (bound_of 127)) c.args.sets.now c.args.pattern.now c.args.length c.args.flows.now c.args.slopes.now c.args.labels.now c.args.amounts.now
-      c.args.net.now.net c.loop-e.steps.items c.loop-e.e (omega arith) c.loop-e.invariant c.in_ok-next.next c.in_ok-next.ensures)
+    c.args.net.now.net c.loop-e.steps.items c.loop-e.e (omega arith) c.loop-e.invariant c.in_ok-next.next c.in_ok-next.ensures)
 
 pub returns : goal.returns
 unfolding curve_list
