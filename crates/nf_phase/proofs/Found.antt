@@ -42,7 +42,7 @@ part_err part (Err p) at h = (p, refl, same (placed part p) at h)
     same : {A : Type 0} (x y : PassedAt ℚ) → ◌≡◌ {A = Result A (PassedAt ℚ)} (Err x) (Err y) → x ≡ y
     same x y e = cc
 
-ok_of_part : {A : Type 0} (part : Part) (r : Checked A) (x : A) → at_part part r ≡ Ok x → r ≡ Ok x
+pub ok_of_part : {A : Type 0} (part : Part) (r : Checked A) (x : A) → at_part part r ≡ Ok x → r ≡ Ok x
 ok_of_part part (Ok y) x h = cc
 ok_of_part part (Err p) x h = absurd (cc)
 

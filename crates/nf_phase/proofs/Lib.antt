@@ -9,3 +9,5 @@ pub mod Reached
 pub mod Ended
 pub mod Stepped
 pub mod Found
+pub mod PhaseFound
+pub mod Going

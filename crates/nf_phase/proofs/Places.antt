@@ -1,5 +1,5 @@
 -- Curves that are changed place by place.
-use Rattle.std.proofs.Common.{◌≡◌, ◌≢◌, ℕ, zero, suc, ◌+◌, ◌<◌, ◌≤◌, List, [], ◌∷◌, length, set, refl, sym, ap, subst, ◌∙◌, inl, inr, arith}
+use Rattle.std.proofs.Common.{◌≡◌, ◌≢◌, ℕ, zero, suc, ◌+◌, ◌<◌, ◌≤◌, List, [], ◌∷◌, ◌++◌, length, set, refl, sym, ap, subst, ◌∙◌, inl, inr, arith}
 use Rattle.std.specs.Prelude.{◌⊎◌, Some, map, slice_get}
 use Rattle.std.specs.Option.{option_map}
 use Rattle.std.proofs.lemmas.Option.{same_Some, slice_get-map, slice_get_within}
@@ -45,6 +45,10 @@ module _ {A : Type 0} where
 module _ {A : Type 0} where
   grown_at : (several : List (Roomy A)) (k : ℕ) (r : Roomy A) → slice_get several k ≡ Some r → slice_get (all_grown several) k ≡ Some r.grown
   grown_at several k r h = slice_get-map (λ (r : Roomy A). r.grown) several k ∙ ap (option_map (λ (r : Roomy A). r.grown)) h
+
+  pub grown_pushed : (several : List (Roomy A)) (r : Roomy A) → all_grown (several ++ r ∷ []) ≡ all_grown several ++ r.grown ∷ []
+  grown_pushed [] r = refl
+  grown_pushed (x ∷ several) r = ap (λ (l : List A). x.grown ∷ l) (grown_pushed several r)
 
   -- it is that of another list
   pub record GrownBelow (whole : List A) (before now : List (Roomy A)) (i : ℕ) : Type 0 where

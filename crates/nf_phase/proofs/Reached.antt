@@ -36,7 +36,7 @@ Stands-start net s h = record {
   no_full = λ e u full. none_full (length net.links) e (subst (λ (p : Pattern). HasState p e Full) h.last full);
 }
 
-active_count : (net : Network) (labels : List ℚ) → length (sets_at net labels).active ≡ length net.links
+pub active_count : (net : Network) (labels : List ℚ) → length (sets_at net labels).active ≡ length net.links
 active_count net labels = (AreSets-sets_at net labels).count
 
 module _ (passes : Passing) (net : Network) (good : IsNetwork net) where

@@ -1,5 +1,5 @@
 -- A phase that is found leads on: what making it needs, and what it comes to.
-use Rattle.std.proofs.Common.{◌≡◌, ℕ, ◌<◌, List, [], ◌∷◌, length, sym, ap, subst, refl, ◌∙◌}
+use Rattle.std.proofs.Common.{◌≡◌, ℕ, suc, ◌<◌, List, [], ◌∷◌, length, sym, ap, subst, refl, ◌∙◌}
 use Rattle.std.specs.Prelude.{Option, Some, map, slice_get}
 use Rattle.nf_rational.specs.Rational.{ℚ}
 use Rattle.nf_rational.specs.Operations.{0ℚ, ◌+ℚ◌}
@@ -10,9 +10,10 @@ use Rattle.nf_work.specs.Passing.{Passing}
 use Rattle.nf_model.specs.Entries.{number_at}
 use Rattle.nf_model.specs.Network.{Link, Network, IsNetwork, IsLink, hops}
 use Rattle.nf_model.specs.ThinFlow.{slacks_of, sets_at}
+use Rattle.nf_model.specs.Pattern.{Pattern}
 use Rattle.nf_model.specs.Equilibrium.{Equilibrium}
 use Rattle.nf_lists.specs.CurveList.{LinkStep}
-use Rattle.nf_lists.specs.ReportCurves.{GrowingCurve, LinkCurves}
+use Rattle.nf_lists.specs.ReportCurves.{GrowingCurve, LinkCurves, label_curves_after, link_curves_after}
 use Rattle.nf_lists.specs.PhaseRun.{Standing, Bounds, Goes, standing_after, flow_of}
 use Rattle.nf_lists.specs.Ends.{end_of, EndsAtLabels}
 use Rattle.nf_lists_laws.proofs.Ending.{PhaseParts, phase_parts}
@@ -70,6 +71,18 @@ module _ (passes : Passing) (net : Network) (good : IsNetwork net) (horizon : �
   abbrev there : Stands net next
   there = Stands-reached passes net good next (goes_on horizon patterns reaches goes_next)
 
+  pub reaches_next : Reaches passes net next
+  reaches_next = goes_on horizon patterns reaches goes_next
+
+  pub only_next : LeadsOnlyTo net horizon (reached_by s) (reached_by next)
+  only_next = only_phase passes net good s reaches horizon patterns next goes_next
+
+  pub equilibrium_next : Equilibrium net (flow_of next)
+  equilibrium_next = equilibrium_reached passes net good next reaches_next
+
+  pub ends_next : EndsAtLabels net next
+  ends_next = ends_reached passes net good next reaches_next
+
   some : 0ℚ <ℚ phase.length
   some = IsPhaseLength-some net (slacks_of (hops net) s.labels) phase.slopes.items s.time horizon phase.length leads.finds.below leads.is_length
 
@@ -115,3 +128,12 @@ module _ (passes : Passing) (net : Network) (good : IsNetwork net) (horizon : �
         queue = λ queue is. subst (λ (x : ℚ). x <ℚ number_at phase.labels.items link.tail) (sym (ends.queues e link curves p at))
             (queue_steps passes net s phase.pattern leads.flows phase.slopes.items (step_in phase) parts count some e link p step one queue is);
       }
+
+  -- ---- the run after it
+  pub new_standing : (reached : ℚ) (label_curves : List GrowingCurve) (link_curves : List LinkCurves) (made : ℕ) (last : Pattern) → reached ≡ s.time +ℚ phase.length
+      → label_curves ≡ label_curves_after reached phase.labels.items phase.slopes.items s.label_curves → link_curves ≡ link_curves_after phase.labels.items net.links s.link_curves phase.steps.items
+      → made ≡ suc s.made → last ≡ phase.pattern
+      → record { time = reached; labels = phase.labels.items; label_curves = label_curves; link_curves = link_curves; made = made; last = last } ≡ next
+  new_standing reached label_curves link_curves made last e f g h k =
+      let f_next = f ∙ ap (λ (t : ℚ). label_curves_after t phase.labels.items phase.slopes.items s.label_curves) e in
+      λ i. record { time = e i; labels = phase.labels.items; label_curves = f_next i; link_curves = g i; made = h i; last = k i }

@@ -21,6 +21,16 @@ pub(crate) fn amounts(alloc: Global, curves: &[LinkCurves]) -> Result<Vec<Q>, Al
     Ok(amounts)
 }
 
+// Those of one link, with these labels of departure 0.
+fn first_of(alloc: Global, link: &Link, labels: &[Q]) -> Result<LinkCurves, AllocError>
+    requires tail { link.now.tail < length labels.now }
+    requires head { link.now.head < length labels.now }
+    ensures { IfOk result (λ curves. curves.grown ≡ first_curves labels.now link.now) }
+{
+    let (tail, head) = (labels[link.tail.index()], labels[link.head.index()]);
+    LinkCurves::first(alloc, tail, head)
+}
+
 /// The curves of departure 0, with these labels.
 pub(crate) fn first_links(
     alloc: Global,
@@ -33,8 +43,7 @@ pub(crate) fn first_links(
     let mut curves = Vec::new(alloc);
     for e in 0..net.link_count() {
         let link = net.link(LinkId(e));
-        let (tail, head) = (labels[link.tail.index()], labels[link.head.index()]);
-        let of_link = LinkCurves::first(alloc, tail, head)?;
+        let of_link = first_of(alloc, &link, labels)?;
         curves.push(of_link)?;
     }
     Ok(curves)
@@ -65,8 +74,8 @@ pub(crate) fn links_go_on(curves: &mut [LinkCurves], net: &Network, labels: &[Q]
     requires later { AllLinksEndBefore net.now.net labels.now (all_grown curves.old) steps.now }
     ensures { all_grown curves.new ≡ link_curves_after labels.now net.now.net.links (all_grown curves.old) steps.now }
 {
-    for e in 0..curves.len() {
-        let link = net.link(LinkId(e as u32));
-        link_goes_on(&mut curves[e], &link, labels, &steps[e]);
+    for e in 0..net.link_count() {
+        let link = net.link(LinkId(e));
+        link_goes_on(&mut curves[e as usize], &link, labels, &steps[e as usize]);
     }
 }

@@ -12,7 +12,7 @@ use crate::finding::Found;
 use crate::lengths::extension;
 use crate::link_growth::amounts;
 use crate::link_steps::{LinkStep, link_steps};
-use crate::run::Run;
+use crate::run::{Run, accepted};
 use nf_frac::Q;
 use nf_net::Network;
 use nf_pattern::Pattern;
@@ -45,6 +45,7 @@ impl Run {
         ensures leads { IfOk result (LeadsOn (beyond (bound_of 127)) net.now.net horizon patterns self.now) }
         ensures cause { IfErr result (IsCause (beyond (bound_of 127)) net.now.net horizon patterns self.now) }
     {
+        accepted(net);
         let Found { slacks, sets, thin } = found;
         let Thin {
             flows,

@@ -1,8 +1,10 @@
 // Runs: a flow over time that goes on phase by phase.
-ghost use Rattle.std.specs.Prelude.{◌≡◌, ◌<◌, ◌^◌, ◌-◌, IfOk, OnOk, OnErr, IfErr};
+ghost use Rattle.std.specs.Prelude.{◌≡◌, ◌<◌, ◌^◌, ◌-◌, length, IfOk, OnOk, OnErr, IfErr};
 ghost use Rattle.nf_rational.specs.Order.{◌<ℚ◌};
 ghost use Rattle.nf_work.specs.Passing.{bound_of, beyond};
+ghost use Rattle.nf_model.specs.Entries.{number_at};
 ghost use Rattle.nf_model.specs.Equilibrium.{Equilibrium};
+ghost use Rattle.nf_formats.specs.WellNamed.{IsNamed};
 ghost use Rattle.nf_lists.specs.PhaseRun.{IsStart, Goes, flow_of};
 ghost use Rattle.nf_lists.specs.Ends.{EndsAtLabels};
 ghost use Rattle.nf_run_laws.specs.RunLaws.{reached_by};
@@ -50,6 +52,21 @@ impl Model for Run {
     } };
 }
 
+// The network is that of an accepted file.
+pub(crate) fn accepted(net: &Network)
+    ensures { IsNamed net.now }
+{
+    let _ = net.version();
+}
+
+// The label of the source is the departure.
+fn departure_in(net: &Network, labels: &[Q]) -> Q
+    requires { length labels.now ≡ net.now.net.nodes }
+    ensures { result ≡ number_at labels.now net.now.net.source }
+{
+    labels[net.source().index()]
+}
+
 impl Run {
     /// The run before its first phase: at departure 0, with the least transit sums from the source as labels.
     pub fn start(alloc: Global, net: &Network) -> Result<Run, AllocError>
@@ -58,6 +75,7 @@ impl Run {
         ensures equilibrium { IfOk result (λ run. Equilibrium net.now.net (flow_of run)) }
         ensures ends { IfOk result (EndsAtLabels net.now.net) }
     {
+        accepted(net);
         let labels = start_labels(alloc, net)?;
         let label_curves = first_labels(alloc, &labels)?;
         let link_curves = first_links(alloc, net, &labels)?;
@@ -88,15 +106,16 @@ impl Run {
         ensures goes { OnOk result (Goes (beyond (bound_of 127)) net.now.net horizon patterns self.old self.new) }
         ensures only { OnOk result (LeadsOnlyTo net.now.net horizon (reached_by self.old) (reached_by self.new)) }
         ensures reaches { Reaches (beyond (bound_of 127)) net.now.net self.new }
-        ensures equilibrium { Equilibrium net.now.net (flow_of self.new) }
-        ensures ends { EndsAtLabels net.now.net self.new }
+        ensures equilibrium { OnOk result (Equilibrium net.now.net (flow_of self.new)) }
+        ensures ends { OnOk result (EndsAtLabels net.now.net self.new) }
         ensures kept { OnErr result (self.new ≡ self.old) }
         ensures cause { IfErr result (IsCause (beyond (bound_of 127)) net.now.net horizon patterns self.old) }
     {
+        accepted(net);
         let phase = self.phase(alloc, net, horizon, patterns)?;
         reserve_labels(&mut self.label_curves)?;
         reserve_links(&mut self.link_curves)?;
-        let reached = phase.labels[net.source().index()];
+        let reached = departure_in(net, &phase.labels);
         labels_go_on(&mut self.label_curves, reached, &phase.labels, &phase.slopes);
         links_go_on(&mut self.link_curves, net, &phase.labels, &phase.steps);
         self.reached = reached;

@@ -1,0 +1,117 @@
+-- The operations of a phase, as the code does them: what stops it, and that the phase leads on.
+use Rattle.std.proofs.Common.{◌≡◌, ℕ, suc, List, [], ◌∷◌, length, sym, ap, subst, refl, ◌∙◌}
+use Rattle.std.specs.Prelude.{Option, Some, None, map, Result, Ok, Err, MatchOption, IfErr}
+use Rattle.std.specs.Result.{IsErrAnd}
+use Rattle.std.proofs.lemmas.List.{length-map}
+use Rattle.nf_rational.specs.Rational.{ℚ}
+use Rattle.nf_work.specs.Passing.{Passing}
+use Rattle.nf_work.specs.declared.Part.TheVariants.{Extend, Advance, Curve}
+use Rattle.nf_work.specs.declared.PassedAt.{PassedAt}
+use Rattle.nf_work.specs.declared.Halt.{Halt}
+use Rattle.nf_work.specs.Checked.{at_part, Stops}
+use Rattle.nf_model.specs.Network.{Network, IsNetwork, hops}
+use Rattle.nf_model.specs.ThinFlow.{Sets, slacks_of, sets_at}
+use Rattle.nf_model.specs.Phases.{IsExtension, IsUnending}
+use Rattle.nf_lists.specs.Extend.{extend_list}
+use Rattle.nf_lists.specs.Advance.{Advanced, advance_list}
+use Rattle.nf_lists.specs.CurveList.{LinkStep, curve_list}
+use Rattle.nf_lists.specs.ReportCurves.{LinkCurves, amount_so_far}
+use Rattle.nf_lists.specs.PhaseRun.{Standing}
+use Rattle.nf_lists_laws.proofs.Exact.{advanced_exact}
+use Rattle.nf_lists_laws.proofs.Ending.{length-moved}
+use Rattle.nf_run_laws.proofs.Standing.{label_count_at}
+use Rattle.nf_phase.specs.declared.fault.StepFault.{StepFault}
+use Rattle.nf_phase.specs.declared.fault.StepFault.TheVariants as StepFault
+use Rattle.nf_phase.specs.declared.finding.Found.{Found}
+use Rattle.nf_phase.specs.declared.phase.Phase.{Phase}
+use Rattle.nf_phase.specs.Faults.{of_halt}
+use Rattle.nf_phase.specs.Stepping.{Reaches, IsCause}
+use Rattle.nf_phase.specs.Finding.{step_in, IsFound, LeadsOn}
+use Rattle.nf_phase.proofs.Reached.{Stands, Stands-reached, active_count}
+use Rattle.nf_phase.proofs.Found.{by_fault, ok_of_part, extend_cause, advance_cause, curve_cause, lists_made, phase_length}
+
+module _ (passes : Passing) (net : Network) (good : IsNetwork net) (horizon : ℚ) (patterns : ℕ) (s : Standing) (reaches : Reaches passes net s) (found : Found)
+    (is : IsFound passes net horizon patterns s found) where
+  abbrev thin_slopes : List ℚ
+  thin_slopes = found.thin.labels.items
+
+  abbrev stands : Stands net s
+  stands = Stands-reached passes net good s reaches
+
+  abbrev Stopped : StepFault → Type 0
+  Stopped = IsCause passes net horizon patterns s
+
+  pub pattern_count : length found.thin.pattern ≡ length net.links
+  pattern_count =
+      let first = is.seeks.search.is_search.answers in
+      (is.seeks.search.is_search.is_listing.listed found.thin.place found.thin.pattern first.has_place).states.count ∙ active_count net s.labels
+
+  slope_count : length thin_slopes ≡ length s.labels
+  slope_count = is.seeks.search.is_search.answers.solution.solves.slope_count ∙ sym (label_count_at net good s stands.well)
+
+  pub counts_agree : (labels slopes : List ℚ) → labels ≡ s.labels → slopes ≡ thin_slopes → length slopes ≡ length labels
+  counts_agree labels slopes e f = ap (λ (l : List ℚ). length l) f ∙ slope_count ∙ ap (λ (l : List ℚ). length l) (sym e)
+
+  pub amounts_count : (amounts : List ℚ) (curves : List LinkCurves) → amounts ≡ map amount_so_far curves → curves ≡ s.link_curves → length amounts ≡ length net.links
+  amounts_count amounts curves e f = ap (λ (l : List ℚ). length l) e ∙ length-map curves amount_so_far ∙ ap (λ (l : List LinkCurves). length l) f ∙ stands.well.link_count
+
+  -- ---- the extension
+  module _ (slacks slopes : List ℚ) (time : ℚ) (same_slacks : slacks ≡ found.slacks.items) (same_slopes : slopes ≡ thin_slopes) (same_time : time ≡ s.time) where
+    extend_is : at_part Extend (extend_list passes net (slacks_of (hops net) s.labels) thin_slopes s.time) ≡ at_part Extend (extend_list passes net slacks slopes time)
+    extend_is = rw (same_slacks ∙ is.slacks, same_slopes, same_time) refl
+
+    pub extension_stops : (at : PassedAt ℚ) → Err at ≡ at_part Extend (extend_list passes net slacks slopes time) → {A : Type 0} (result : Result A StepFault)
+        → IsErrAnd result (λ f. f ≡ StepFault.Passed at) → IfErr result Stopped
+    extension_stops at h result e = by_fault result (StepFault.Passed at) Stopped e
+        (extend_cause passes net horizon patterns s found.thin.place found.thin.pattern found.thin.flows.items thin_slopes is.seeks at (extend_is ∙ sym h))
+
+    module _ (extension : Option ℚ) (extended : Ok extension ≡ at_part Extend (extend_list passes net slacks slopes time)) where
+      extend_ok : at_part Extend (extend_list passes net (slacks_of (hops net) s.labels) thin_slopes s.time) ≡ Ok extension
+      extend_ok = extend_is ∙ sym extended
+
+      -- ---- the end of the phase
+      module _ (labels slopes_2 : List ℚ) (same_labels : labels ≡ s.labels) (same_slopes_2 : slopes_2 ≡ thin_slopes) where
+        advance_is : at_part Advance (advance_list passes horizon s.time extension s.labels thin_slopes) ≡ at_part Advance (advance_list passes horizon time extension labels slopes_2)
+        advance_is = rw (same_labels, same_slopes_2, same_time) refl
+
+        pub advance_stops : (halt : Halt ℚ) → Stops {A = Advanced} (λ q. q) halt (at_part Advance (advance_list passes horizon time extension labels slopes_2)) → {A : Type 0} (result : Result A StepFault)
+            → IsErrAnd result (λ f. f ≡ of_halt halt) → IfErr result Stopped
+        advance_stops halt h result e = by_fault result (of_halt halt) Stopped e
+            (advance_cause passes net horizon patterns s found.thin.place found.thin.pattern found.thin.flows.items thin_slopes is.seeks extension extend_ok halt
+            (subst (λ (r : Result Advanced (PassedAt ℚ)). Stops {A = Advanced} (λ q. q) halt r) (sym advance_is) h))
+
+        module _ (end : Advanced) (advanced : at_part Advance (advance_list passes horizon time extension labels slopes_2) ≡ Ok end) where
+          advance_ok : at_part Advance (advance_list passes horizon s.time extension s.labels thin_slopes) ≡ Ok end
+          advance_ok = advance_is ∙ advanced
+
+          pub end_count : length end.labels ≡ net.nodes
+          end_count =
+              ap (λ (l : List ℚ). length l) (advanced_exact passes horizon s.time extension s.labels thin_slopes end slope_count (ok_of_part Advance _ end advance_ok)).1
+              ∙ length-moved s.labels thin_slopes end.length slope_count ∙ label_count_at net good s stands.well
+
+          -- ---- the links
+          module _ (sets : Sets) (flows slopes_3 new_labels amounts : List ℚ) (curves : List LinkCurves) (same_sets : sets ≡ found.sets) (same_flows : flows ≡ found.thin.flows.items)
+              (same_slopes_3 : slopes_3 ≡ thin_slopes) (same_new : new_labels ≡ end.labels) (same_amounts : amounts ≡ map amount_so_far curves) (same_curves : curves ≡ s.link_curves) where
+            curve_is : at_part Curve (curve_list passes net (sets_at net s.labels) found.thin.pattern end.length found.thin.flows.items thin_slopes end.labels (map amount_so_far s.link_curves))
+                ≡ at_part Curve (curve_list passes net sets found.thin.pattern end.length flows slopes_3 new_labels amounts)
+            curve_is = rw (same_sets ∙ is.sets, same_flows, same_slopes_3, same_new, same_amounts ∙ ap (map amount_so_far) same_curves) refl
+
+            pub curve_stops : (halt : Halt ℚ) → Stops {A = List LinkStep} (λ q. q) halt (at_part Curve (curve_list passes net sets found.thin.pattern end.length flows slopes_3 new_labels amounts))
+                → {A : Type 0} (result : Result A StepFault) → IsErrAnd result (λ f. f ≡ of_halt halt) → IfErr result Stopped
+            curve_stops halt h result e = by_fault result (of_halt halt) Stopped e
+                (curve_cause passes net horizon patterns s found.thin.place found.thin.pattern found.thin.flows.items thin_slopes is.seeks extension extend_ok end advance_ok halt
+                (subst (λ (r : Result (List LinkStep) (PassedAt ℚ)). Stops {A = List LinkStep} (λ q. q) halt r) (sym curve_is) h))
+
+            pub leads_on : MatchOption extension (IsUnending net slacks slopes time) (IsExtension net slacks slopes time) → (phase : Phase) → phase.pattern ≡ found.thin.pattern
+                → phase.slopes.items ≡ thin_slopes → step_in phase ≡ record { length = end.length; labels = end.labels; links = phase.steps.items }
+                → at_part Curve (curve_list passes net sets found.thin.pattern end.length flows slopes_3 new_labels amounts) ≡ Ok phase.steps.items → LeadsOn passes net horizon patterns s phase
+            leads_on long phase same_pattern same_phase_slopes same_step h = record {
+              place = found.thin.place;
+              flows = found.thin.flows.items;
+              finds = rw (same_pattern, same_phase_slopes) is.seeks;
+              lists = rw (same_pattern, same_phase_slopes, same_step)
+                  (lists_made passes net horizon patterns s found.thin.place found.thin.pattern found.thin.flows.items thin_slopes is.seeks extension extend_ok end advance_ok phase.steps.items (curve_is ∙ h));
+              is_length = rw (ap (λ (t : _). t.length) same_step, same_phase_slopes)
+                  (phase_length passes net (slacks_of (hops net) s.labels) s.labels thin_slopes s.time horizon extension end slope_count
+                  (rw (sym (same_slacks ∙ is.slacks), sym same_slopes, sym same_time) long) advance_ok);
+            }
