@@ -1,6 +1,6 @@
 -- What a run that has ended is.
 use Rattle.std.proofs.Common.{◌≡◌, ℕ, ◌<◌, ◌⊎◌, inl, inr, ⊎_elim, ◌↔◌, List, [], ◌∷◌, length, sym, ap, subst, refl, ◌∙◌}
-use Rattle.std.specs.Prelude.{Option, Some, None, is_none, map, slice_get}
+use Rattle.std.specs.Prelude.{Option, Some, None, is_none, map, slice_get, Result, Ok, Err, IfOk}
 use Rattle.std.specs.Option.{option_map}
 use Rattle.std.proofs.lemmas.Option.{none-some, slice_get-map}
 use Rattle.nf_rational.specs.Rational.{ℚ}
@@ -10,7 +10,7 @@ use Rattle.nf_rational_laws.proofs.Polynomial.{reading_of}
 use Rattle.nf_rational_laws.proofs.Order.{≤ℚ_of_same, <ℚ_irrefl}
 use Rattle.nf_rational_laws.proofs.Tests.{min_ℚ_cases}
 use Rattle.nf_rational_laws.proofs.Linear.{le, lt, eq, linear_le}
-use Rattle.nf_work.specs.Passing.{Passing}
+use Rattle.nf_work.specs.Passing.{Passing, beyond}
 use Rattle.nf_model.specs.declared.State.TheVariants.{Full}
 use Rattle.nf_model.specs.Entries.{Has}
 use Rattle.nf_model.specs.Network.{Link, Network, IsNetwork, IsLink, hops, unbounded}
@@ -19,10 +19,15 @@ use Rattle.nf_model.specs.Pattern.{HasState}
 use Rattle.nf_model.specs.Phases.{IsPhaseLength}
 use Rattle.nf_model.specs.Equilibrium.{Equilibrium}
 use Rattle.nf_formats.specs.declared.Cause.{Cause}
+use Rattle.nf_formats.specs.Numbers.{greatest}
 use Rattle.nf_formats.specs.Report.{Report, IsWellFormed}
 use Rattle.nf_formats_laws.proofs.ReportFacts.{well_formed}
 use Rattle.nf_lists.specs.PhaseRun.{Standing, Bounds, Goes, Fails, at_slack, at_search, at_lists, Runs, at_horizon, at_phases, fails, goes, IsPhaseRun, flow_of, report_of}
 use Rattle.nf_run_laws.proofs.Run.{run_equilibrium}
+use Rattle.nf_run_laws.proofs.Sequence.{sequence_ends}
+use Rattle.nf_curve.specs.Flows.{flow_of as flow_in}
+use Rattle.nf_phase.specs.declared.solution.Solution.{Solution}
+use Rattle.nf_phase.specs.Solution.{IsSolution, report_in}
 use Rattle.nf_phase.specs.Stepping.{Reaches, starts, goes_on}
 use Rattle.nf_phase.proofs.Reached.{Stands, Stands-reached}
 
@@ -76,3 +81,21 @@ module _ (passes : Passing) (net : Network) (bounds : Bounds) where
       well_formed net (report_of bounds.horizon last stop) (run_equilibrium passes net good bounds last stop run) ends.within ends.stops stands.last_count
       (λ e link p none full. stands.no_full e (slice_get-map (λ (l : Link). is_none l.capacity) net.links e ∙ ap (option_map (λ (l : Link). is_none l.capacity)) p
       ∙ ap (λ (c : Option ℚ). Some (is_none c)) none) full)
+
+  -- ---- the solution
+  pub solution_of : IsNetwork net → 0ℚ ≤ℚ bounds.horizon → passes ≡ beyond greatest → (last : Standing) (stop : Option (Cause ℚ)) → IsPhaseRun passes net bounds last stop
+      → (phases : ℕ) (report : Report) → phases ≡ last.made → report ≡ report_of bounds.horizon last stop → IsSolution net bounds phases report
+  solution_of good begins bound last stop run phases report count is = record {
+    well_formed = subst (IsWellFormed net) (sym is) (well_formed_run good begins last stop run);
+    equilibrium = subst (λ (r : Report). Equilibrium net r.flow) (sym is) (run_equilibrium passes net good bounds last stop run);
+    run = record { last = last; stop = stop; run = subst (λ (p : Passing). IsPhaseRun p net bounds last stop) bound run; report_is = is };
+    made = sym count;
+    ends = λ others sequence many. sequence_ends passes net good bounds last stop run others sequence many;
+  }
+
+  pub solved : IsNetwork net → 0ℚ ≤ℚ bounds.horizon → passes ≡ beyond greatest → (last : Standing) (stop : Option (Cause ℚ)) → IsPhaseRun passes net bounds last stop → {E : Type 0} (result : Result Solution E)
+      → IfOk result (λ s. flow_in s.flow ≡ flow_of last) → IfOk result (λ s. s.phases ≡ last.made) → IfOk result (λ s. s.last ≡ last.last) → IfOk result (λ s. s.stopped ≡ stop)
+      → IfOk result (λ s. IsSolution net bounds s.phases (report_in bounds.horizon s))
+  solved good begins bound last stop run (Ok s) flow phases states stops =
+      solution_of good begins bound last stop run s.phases (report_in bounds.horizon s) phases (λ i. record { horizon = bounds.horizon; flow = flow i; stop = stops i; last = states i })
+  solved good begins bound last stop run (Err x) flow phases states stops = tt

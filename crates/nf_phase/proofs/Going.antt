@@ -1,16 +1,22 @@
 -- A run that has gone on so far, and what it takes for it to end.
-use Rattle.std.proofs.Common.{◌≡◌, ℕ, suc, ◌<◌, sym, ap, subst, refl, ◌∙◌}
-use Rattle.std.specs.Prelude.{Option, Some, None}
+use Rattle.std.proofs.Common.{◌≡◌, ℕ, suc, ◌+◌, ◌<◌, add-one, Bool, true, false, ⊎_elim, sym, ap, subst, refl, ◌∙◌}
+use Rattle.std.specs.Prelude.{Option, Some, None, IsSome, Result, Ok, Err, IfOk, not, MatchBool}
+use Rattle.std.proofs.lemmas.Option.{same_Some}
 use Rattle.nf_rational.specs.Rational.{ℚ}
 use Rattle.nf_rational.specs.Operations.{0ℚ}
-use Rattle.nf_rational.specs.Order.{◌≤ℚ◌, ◌<ℚ◌}
+use Rattle.nf_rational.specs.Order.{◌≤ℚ◌, ◌<ℚ◌, lt_ℚ}
 use Rattle.nf_rational_laws.proofs.Order.{≤ℚ_antisymm}
+use Rattle.nf_rational_laws.proofs.Tests.{lt_ℚ_cases}
 use Rattle.nf_work.specs.Passing.{Passing}
 use Rattle.nf_model.specs.Network.{Network}
 use Rattle.nf_formats.specs.declared.Cause.{Cause}
 use Rattle.nf_formats.specs.declared.Cause.TheVariants as Cause
 use Rattle.nf_lists.specs.PhaseRun.{Standing, Bounds, IsStart, Goes, Fails, Runs, at_horizon, at_phases, fails, goes, IsPhaseRun}
-use Rattle.nf_phase.specs.Stepping.{Reaches, starts, goes_on}
+use Rattle.nf_thin.specs.declared.searches.SearchFault.TheVariants as SearchFault
+use Rattle.nf_phase.specs.declared.fault.StepFault.{StepFault}
+use Rattle.nf_phase.specs.declared.fault.StepFault.TheVariants as StepFault
+use Rattle.nf_phase.specs.Stepping.{Reaches, starts, goes_on, IsCause}
+use Rattle.nf_phase.specs.Solution.{cause_of, stop_after}
 use Rattle.nf_phase.proofs.Ended.{goes_within}
 
 -- from the start it has gone on to here in so many phases, and what ends it here ends it from the start on
@@ -19,6 +25,13 @@ pub record GoneTo (passes : Passing) (net : Network) (bounds : Bounds) (first : 
   pub made : s.made ≡ phases
   pub within : s.time ≤ℚ bounds.horizon
   pub ends : (last : Standing) (stop : Option (Cause ℚ)) → Runs passes net bounds s last stop → Runs passes net bounds first last stop
+
+-- whether it has reached the horizon
+pub at_or_below : (below : Bool) (time horizon : ℚ) → below ≡ lt_ℚ time horizon → MatchBool (not below) (horizon ≤ℚ time) (time <ℚ horizon)
+at_or_below below time horizon e = ⊎_elim
+    (λ (w : (lt_ℚ time horizon ≡ true) × (time <ℚ horizon)). subst (λ (b : Bool). MatchBool (not b) (horizon ≤ℚ time) (time <ℚ horizon)) (sym (e ∙ w.0)) w.1)
+    (λ (w : (lt_ℚ time horizon ≡ false) × (horizon ≤ℚ time)). subst (λ (b : Bool). MatchBool (not b) (horizon ≤ℚ time) (time <ℚ horizon)) (sym (e ∙ w.0)) w.1)
+    (lt_ℚ_cases time horizon)
 
 module _ (passes : Passing) (net : Network) (bounds : Bounds) (first : Standing) where
   pub gone_nowhere : IsStart net first → 0ℚ ≤ℚ bounds.horizon → GoneTo passes net bounds first 0 first
@@ -40,10 +53,41 @@ module _ (passes : Passing) (net : Network) (bounds : Bounds) (first : Standing)
     pub ends_by : phases < bounds.phases → (cause : Cause ℚ) → Fails passes net bounds.horizon bounds.patterns s cause → IsPhaseRun passes net bounds s (Some cause)
     ends_by may cause f = run_of (Some cause) (fails (may_go may) f)
 
-    pub gone_further : phases < bounds.phases → (t : Standing) → Goes passes net bounds.horizon bounds.patterns s t → GoneTo passes net bounds first (suc phases) t
+    pub gone_further : phases < bounds.phases → (t : Standing) → Goes passes net bounds.horizon bounds.patterns s t → GoneTo passes net bounds first (phases + 1) t
     gone_further may t g = record {
       reaches = goes_on bounds.horizon bounds.patterns gone.reaches g;
-      made = ap (λ (n : Standing). n.made) g.new_is ∙ ap suc gone.made;
+      made = ap (λ (n : Standing). n.made) g.new_is ∙ ap suc gone.made ∙ sym (add-one phases);
       within = goes_within passes net bounds.horizon bounds.patterns s t g;
       ends = λ last stop runs. gone.ends last stop (goes (may_go may) g runs);
     }
+
+    -- ---- at the end of all phases
+    pub ends_after_all : (stop : Option (Cause ℚ)) → stop ≡ stop_after (lt_ℚ s.time bounds.horizon) s.made → phases ≡ bounds.phases → IsPhaseRun passes net bounds s stop
+    ends_after_all stop e all = ⊎_elim
+        (λ (w : (lt_ℚ s.time bounds.horizon ≡ true) × (s.time <ℚ bounds.horizon)).
+        subst (IsPhaseRun passes net bounds s) (sym (e ∙ ap (λ (b : Bool). stop_after b s.made) w.0)) (ends_at_phases w.1 all))
+        (λ (w : (lt_ℚ s.time bounds.horizon ≡ false) × (bounds.horizon ≤ℚ s.time)).
+        subst (IsPhaseRun passes net bounds s) (sym (e ∙ ap (λ (b : Bool). stop_after b s.made) w.0)) (ends_at_horizon w.1))
+        (lt_ℚ_cases s.time bounds.horizon)
+
+    -- ---- where the next phase isn't made
+    fails_by : (fault : StepFault) → IsCause passes net bounds.horizon bounds.patterns s fault → (cause : Cause ℚ) → cause_of (suc s.made) fault ≡ Some cause
+        → Fails passes net bounds.horizon bounds.patterns s cause
+    fails_by (StepFault.Search (SearchFault.Budget tried)) h cause e = subst (Fails passes net bounds.horizon bounds.patterns s) (same_Some _ cause e) h
+    fails_by (StepFault.Search (SearchFault.Passed place at)) h cause e = subst (Fails passes net bounds.horizon bounds.patterns s) (same_Some _ cause e) h
+    fails_by (StepFault.Search SearchFault.NoPattern) h cause e = subst (Fails passes net bounds.horizon bounds.patterns s) (same_Some _ cause e) h
+    fails_by (StepFault.Search SearchFault.Memory) h cause e = absurd h
+    fails_by (StepFault.Passed at) h cause e = subst (Fails passes net bounds.horizon bounds.patterns s) (same_Some _ cause e) h
+    fails_by StepFault.Memory h cause e = absurd (cc)
+
+    ended : phases < bounds.phases → (fault : StepFault) → IsCause passes net bounds.horizon bounds.patterns s fault → (stop : Option (Cause ℚ)) → stop ≡ cause_of (suc s.made) fault → IsSome stop
+        → IsPhaseRun passes net bounds s stop
+    ended may fault h None e some = absurd (cc)
+    ended may fault h (Some cause) e some = ends_by may cause (fails_by fault h cause (sym e))
+
+    pub ends_by_fault : phases < bounds.phases → (fault : StepFault) → IsCause passes net bounds.horizon bounds.patterns s fault → (after : Standing) → after ≡ s → (phase : ℕ) → phase ≡ suc after.made
+        → {E : Type 0} (result : Result (Option (Cause ℚ)) E) → IfOk result (λ stop. stop ≡ cause_of phase fault) → IfOk result IsSome → IfOk result (IsPhaseRun passes net bounds after)
+    ends_by_fault may fault h after same phase next (Ok stop) e some =
+        subst (λ (t : Standing). IsPhaseRun passes net bounds t stop) (sym same)
+        (ended may fault h stop (e ∙ ap (λ (n : ℕ). cause_of n fault) (next ∙ ap (λ (t : Standing). suc t.made) same)) some)
+    ends_by_fault may fault h after same phase next (Err x) e some = tt

@@ -31,7 +31,13 @@ pub(crate) struct Found {
 
 impl Run {
     // The slacks of the links.
-    fn slacks(&self, alloc: Global, net: &Network, horizon: Q, patterns: u64) -> Result<Vec<Q>, StepFault>
+    fn slacks(
+        &self,
+        alloc: Global,
+        net: &Network,
+        horizon: Q,
+        patterns: u64,
+    ) -> Result<Vec<Q>, StepFault>
         requires reaches { Reaches (beyond (bound_of 127)) net.now.net self.now }
         requires below { self.now.time <ℚ horizon }
         ensures slacks { IfOk result (λ slacks. slacks.items ≡ slacks_of (hops_of net.now.net) self.now.labels) }

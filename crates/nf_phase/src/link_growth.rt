@@ -62,11 +62,23 @@ fn link_goes_on(curves: &mut LinkCurves, link: &Link, labels: &[Q], step: &LinkS
         Some(queue) => Some((queue.size, queue.slope)),
         None => None,
     };
-    curves.go_on(tail, head, step.amount, step.inflow_rate, step.outflow_rate, queue);
+    curves.go_on(
+        tail,
+        head,
+        step.amount,
+        step.inflow_rate,
+        step.outflow_rate,
+        queue,
+    );
 }
 
 /// The curves of all links go on to these labels, by the links' steps.
-pub(crate) fn links_go_on(curves: &mut [LinkCurves], net: &Network, labels: &[Q], steps: &[LinkStep])
+pub(crate) fn links_go_on(
+    curves: &mut [LinkCurves],
+    net: &Network,
+    labels: &[Q],
+    steps: &[LinkStep],
+)
     requires labels { length labels.now ≡ net.now.net.nodes }
     requires curves { length curves.old ≡ length net.now.net.links }
     requires steps { length steps.now ≡ length net.now.net.links }

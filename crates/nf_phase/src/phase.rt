@@ -54,7 +54,14 @@ impl Run {
             place: _,
         } = thin;
         let extension = extension(net, &slacks, &slopes, self.reached)?;
-        let end = advance(alloc, horizon, self.reached, extension, &self.labels, &slopes)?;
+        let end = advance(
+            alloc,
+            horizon,
+            self.reached,
+            extension,
+            &self.labels,
+            &slopes,
+        )?;
         let Advanced { length, labels } = end;
         let amounts = amounts(alloc, &self.link_curves)?;
         let steps = link_steps(

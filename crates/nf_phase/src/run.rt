@@ -43,12 +43,12 @@ impl Model for Run {
     ghost coded = { coded_standing };
 
     ghost view = { λ a. record {
-        time = a.reached;
-        labels = a.labels.items;
-        label_curves = all_grown a.label_curves.items;
-        link_curves = all_grown a.link_curves.items;
-        made = a.made;
-        last = a.last;
+      time = a.reached;
+      labels = a.labels.items;
+      label_curves = all_grown a.label_curves.items;
+      link_curves = all_grown a.link_curves.items;
+      made = a.made;
+      last = a.last;
     } };
 }
 
@@ -116,7 +116,12 @@ impl Run {
         reserve_labels(&mut self.label_curves)?;
         reserve_links(&mut self.link_curves)?;
         let reached = departure_in(net, &phase.labels);
-        labels_go_on(&mut self.label_curves, reached, &phase.labels, &phase.slopes);
+        labels_go_on(
+            &mut self.label_curves,
+            reached,
+            &phase.labels,
+            &phase.slopes,
+        );
         links_go_on(&mut self.link_curves, net, &phase.labels, &phase.steps);
         self.reached = reached;
         self.labels = phase.labels;

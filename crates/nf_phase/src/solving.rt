@@ -1,7 +1,7 @@
 // Solving to a horizon: a run, phase by phase, until it ends.
-ghost use Rattle.std.specs.Prelude.{◌≡◌, IfOk};
+ghost use Rattle.std.specs.Prelude.{◌≡◌, IfOk, IsSome, MatchBool};
 ghost use Rattle.nf_rational.specs.Operations.{0ℚ};
-ghost use Rattle.nf_rational.specs.Order.{◌≤ℚ◌, lt_ℚ};
+ghost use Rattle.nf_rational.specs.Order.{◌≤ℚ◌, ◌<ℚ◌, lt_ℚ};
 ghost use Rattle.nf_work.specs.Passing.{beyond};
 ghost use Rattle.nf_formats.specs.Numbers.{greatest};
 ghost use Rattle.nf_lists.specs.PhaseRun.{IsStart, IsPhaseRun, flow_of};
@@ -11,7 +11,7 @@ ghost use Rattle.nf_phase.specs.Solution.{IsSolution, bounds_of, report_in, caus
 use crate::fault::StepFault;
 use crate::growth::{finish_labels, finish_links};
 use crate::lengths::is_below;
-use crate::run::Run;
+use crate::run::{Run, accepted};
 use crate::solution::{Budgets, Solution};
 use nf_curve::{Flow, Stop};
 use nf_frac::Q;
@@ -41,7 +41,25 @@ fn stop_by(phase: u64, fault: StepFault) -> Option<Stop>
     }
 }
 
+// The run ends where the phase of this number isn't made.
+fn ended_by(phase: u64, fault: StepFault) -> Result<Option<Stop>, AllocError>
+    ensures cause { IfOk result (λ stop. stop ≡ cause_of phase fault) }
+    ensures some { IfOk result IsSome }
+{
+    match stop_by(phase, fault) {
+        Some(stop) => Ok(Some(stop)),
+        None => Err(AllocError),
+    }
+}
+
 impl Run {
+    // The run has reached the horizon.
+    fn is_at(&self, horizon: Q) -> bool
+        ensures { MatchBool result (horizon ≤ℚ self.now.time) (self.now.time <ℚ horizon) }
+    {
+        !is_below(self.reached, horizon)
+    }
+
     // Why the run stops after as many phases as allowed; None where it has reached the horizon.
     fn stop_after_all(&self, horizon: Q) -> Option<Stop>
         ensures { result ≡ stop_after (lt_ℚ self.now.time horizon) self.now.made }
@@ -66,14 +84,11 @@ impl Run {
         ensures { IfOk result (IsPhaseRun (beyond greatest) net.now.net (bounds_of horizon budgets) self.new) }
     {
         for _ in 0..budgets.phases {
-            if !is_below(self.reached, horizon) {
+            if self.is_at(horizon) {
                 return Ok(None);
             }
             if let Err(fault) = self.step(alloc, net, horizon, budgets.patterns) {
-                return match stop_by(self.made + 1, fault) {
-                    Some(stop) => Ok(Some(stop)),
-                    None => Err(AllocError),
-                };
+                return ended_by(self.made + 1, fault);
             }
         }
         Ok(self.stop_after_all(horizon))
@@ -124,6 +139,7 @@ pub fn solve(
     requires { 0ℚ ≤ℚ horizon }
     ensures { IfOk result (λ s. IsSolution net.now.net (bounds_of horizon budgets) s.phases (report_in horizon s)) }
 {
+    accepted(net);
     let mut run = Run::start(alloc, net)?;
     let stopped = run.go(alloc, net, horizon, budgets)?;
     run.solution(alloc, stopped)

@@ -1,13 +1,41 @@
-use Rattle.std.proofs.Common.{sym, ap, refl, ◌∙◌}
+use Rattle.std.proofs.Common.{ℕ, List, map, refl, ap, ◌∙◌}
+use Rattle.std.specs.Prelude.{None, replicate}
+use Rattle.nf_rational.specs.Rational.{ℚ}
 use Rattle.nf_work.specs.Passing.{bound_of, beyond}
+use Rattle.nf_lists.specs.ReportCurves.{first_label_curve, first_curves}
 use Rattle.nf_phase.specs.Stepping.{starts}
+use Rattle.nf_phase.proofs.Stepped.{equilibrium_reached, ends_reached}
 use Rattle.nf_phase.proofs.run.Run.start.Goals as goal
 
 pub returns-clause-reaches : goal.returns-clause-reaches
-returns-clause-reaches c = ?
+returns-clause-reaches c =
+    starts (record {
+      time = c.zero.ensures;
+      labels = c.in_ok-labels.ensures;
+      label_curves = c.in_ok-label_curves.ensures ∙ ap (map first_label_curve) c.deref.ensures.value;
+      link_curves = c.in_ok-link_curves.ensures ∙ ap (λ (l : List ℚ). map (first_curves l) c.args.net.now.net.links) c.deref-2.ensures.value;
+      made = refl;
+      last = c.in_ok-last.ensures ∙ ap (λ (n : ℕ). replicate n None) c.link_count.ensures;
+    })
 
 pub returns-clause-equilibrium : goal.returns-clause-equilibrium
-returns-clause-equilibrium c = ?
+returns-clause-equilibrium c =
+    equilibrium_reached (beyond (bound_of 127)) c.args.net.now.net c.accepted.ensures.network _ (starts (record {
+      time = c.zero.ensures;
+      labels = c.in_ok-labels.ensures;
+      label_curves = c.in_ok-label_curves.ensures ∙ ap (map first_label_curve) c.deref.ensures.value;
+      link_curves = c.in_ok-link_curves.ensures ∙ ap (λ (l : List ℚ). map (first_curves l) c.args.net.now.net.links) c.deref-2.ensures.value;
+      made = refl;
+      last = c.in_ok-last.ensures ∙ ap (λ (n : ℕ). replicate n None) c.link_count.ensures;
+    }))
 
 pub returns-clause-ends : goal.returns-clause-ends
-returns-clause-ends c = ?
+returns-clause-ends c =
+    ends_reached (beyond (bound_of 127)) c.args.net.now.net c.accepted.ensures.network _ (starts (record {
+      time = c.zero.ensures;
+      labels = c.in_ok-labels.ensures;
+      label_curves = c.in_ok-label_curves.ensures ∙ ap (map first_label_curve) c.deref.ensures.value;
+      link_curves = c.in_ok-link_curves.ensures ∙ ap (λ (l : List ℚ). map (first_curves l) c.args.net.now.net.links) c.deref-2.ensures.value;
+      made = refl;
+      last = c.in_ok-last.ensures ∙ ap (λ (n : ℕ). replicate n None) c.link_count.ensures;
+    }))
