@@ -1,6 +1,7 @@
 //! The program as one call: words in, bytes to two sinks, a status out.
 #![tactic(auto)]
 
+mod budgets;
 mod fetching;
 mod outcome;
 mod output;
