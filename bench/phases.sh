@@ -8,7 +8,7 @@ trap 'rm -rf "$work"' EXIT
 bench=$work/repo/crates/bench_phases
 mkdir -p "$bench/src" "$bench/specs" "$bench/proofs"
 cp "$here/../HANDLES" "$work/repo/"
-grep -v '^nf_one_link:\|^nf_app:\|^nfot:\|^nf_phase:' "$here/../crates.txt" >"$work/repo/crates.txt"
+grep -v '^nf_app:\|^nfot:\|^nf_phase:' "$here/../crates.txt" >"$work/repo/crates.txt"
 for crate in $(sed -n 's/^\([a-z_]*\):.*/\1/p' "$work/repo/crates.txt"); do
     cp -r "$here/../crates/$crate" "$work/repo/crates/"
 done

@@ -1,6 +1,7 @@
 -- What a call answers, from what was fetched for its request and what the request gives.
-use Rattle.std.proofs.Common.{◌≡◌, ℕ, List, [], ◌∷◌, ◌++◌, sym, ◌∙◌, ap, subst, inl, inr}
+use Rattle.std.proofs.Common.{◌≡◌, ◌⊎◌, ℕ, ◌<◌, List, [], ◌∷◌, ◌++◌, length, sym, ◌∙◌, ap, subst, inl, inr}
 use Rattle.std.specs.Prelude.{Some, IfSome, Result, Ok, Err}
+use Rattle.nf_edge.specs.Faults.{Rose}
 use Rattle.nf_formats.specs.Named.{Named}
 use Rattle.nf_formats.specs.NetLines.{Broken}
 use Rattle.nf_formats.specs.NetFile.{Reads}
@@ -9,7 +10,7 @@ use Rattle.nf_app.specs.declared.refusal.Refusal.{Refusal}
 use Rattle.nf_app.specs.Requests.{Request, Show, Solve, file_of, request_of}
 use Rattle.nf_app.specs.Answers.{Answer}
 use Rattle.nf_app.specs.Refusals.{answer_of}
-use Rattle.nf_app.specs.Runs.{Asked, Read, IsAnswer}
+use Rattle.nf_app.specs.Runs.{Asked, Read, IsAnswer, file_limit}
 use Rattle.nf_app.specs.Fetching.{Fetch, AskedFor, ReadAs, IsFetched, call_with}
 use Rattle.nf_app.specs.Outcomes.{IsGiven, IsAnswered}
 
@@ -30,9 +31,10 @@ module _ (words : List (List ℕ)) (request : Request) (fetch : Fetch) (asks : r
   refused Refusal.NoMemory (inr asked) = inr (request, asked_of asked)
   refused Refusal.NoRequest h = absurd h
   refused Refusal.ShelfFailed h = (request, asked_of h.0, h.1, h.2)
-  refused Refusal.ShelfTooLong h = (request, asked_of h.0, h.1)
+  refused Refusal.ShelfTooLong h =
+      let P : List ℕ → Type 0 = λ f. IfSome (fetch.told f) (λ text. Rose fetch.faults_before fetch.faults_now ⊎ (file_limit < length text)) in
+      (request, asked_of h.0, (h.1, subst P file h.2))
   refused (Refusal.Malformed rule line) h = (request, read_of (Err (record { rule = rule; line = line })) h)
-  refused Refusal.Unbuilt h = absurd h
 
 -- a network was fetched
 module _ (words : List (List ℕ)) (fetch : Fetch) (n : Named) (h : ReadAs fetch (Ok n)) where
@@ -46,11 +48,6 @@ module _ (words : List (List ℕ)) (fetch : Fetch) (n : Named) (h : ReadAs fetch
   given (Show name) asks file (Ok outcome) g =
       (subst (λ (a : Answer). IsAnswer (call_with words fetch) a) (sym g.0) (name, read_of words (Show name) fetch asks file (Ok n) h), g.1)
   given (Show name) asks file (Err refusal) g = wants_memory (Show name) asks file refusal g
-  given (Solve name horizon) asks file (Ok outcome) g =
-      (subst (λ (a : Answer). IsAnswer (call_with words fetch) a) (sym g.2) (name, horizon, read_of words (Solve name horizon) fetch asks file (Ok n) h, g.1), g.3)
-  given (Solve name horizon) asks file (Err Refusal.Unbuilt) g = (name, horizon, n, read_of words (Solve name horizon) fetch asks file (Ok n) h, g)
-  given (Solve name horizon) asks file (Err Refusal.NoMemory) g = wants_memory (Solve name horizon) asks file Refusal.NoMemory g
-  given (Solve name horizon) asks file (Err Refusal.NoRequest) g = wants_memory (Solve name horizon) asks file Refusal.NoRequest g
-  given (Solve name horizon) asks file (Err Refusal.ShelfFailed) g = wants_memory (Solve name horizon) asks file Refusal.ShelfFailed g
-  given (Solve name horizon) asks file (Err Refusal.ShelfTooLong) g = wants_memory (Solve name horizon) asks file Refusal.ShelfTooLong g
-  given (Solve name horizon) asks file (Err (Refusal.Malformed rule line)) g = wants_memory (Solve name horizon) asks file (Refusal.Malformed rule line) g
+  given (Solve name horizon budgets) asks file (Ok outcome) g =
+      (subst (λ (a : Answer). IsAnswer (call_with words fetch) a) (sym g.2) (name, horizon, budgets, read_of words (Solve name horizon budgets) fetch asks file (Ok n) h, g.1), g.3)
+  given (Solve name horizon budgets) asks file (Err refusal) g = wants_memory (Solve name horizon budgets) asks file refusal g

@@ -1,2 +1,4 @@
 pub mod ErrorTexts
 pub mod Calls
+pub mod Completing
+pub mod Zeros

@@ -6,7 +6,7 @@ use Rattle.nf_formats.specs.Named.{Named}
 use Rattle.nf_formats.specs.NetLines.{Broken}
 use Rattle.nf_formats.specs.NetText.{canonical}
 use Rattle.nf_formats.specs.Report.{Report, report_text}
-use Rattle.nf_formats.specs.ErrorLines.{memory_line, usage_text, shelf_failed_line, shelf_too_long_line, network_line, stopped_line, unbuilt_line}
+use Rattle.nf_formats.specs.ErrorLines.{memory_line, usage_text, shelf_failed_line, shelf_too_long_line, network_line, stopped_line}
 use Rattle.nf_app.specs.declared.status.Status.{Status}
 
 -- `Shown`: the network of the file. `Solved`: a report of the network of the file.
@@ -18,7 +18,6 @@ pub data Answer : Type 0 where
   ShelfFailed : Answer
   ShelfTooLong : Answer
   Malformed : Broken → Answer
-  Unbuilt : Answer
 
 -- ---- the status
 abbrev pub number_of : Status → ℕ
@@ -27,13 +26,21 @@ number_of Status.Memory = 1
 number_of Status.Usage = 2
 number_of Status.Shelf = 3
 number_of Status.Malformed = 4
+number_of Status.Phases = 5
+number_of Status.Patterns = 6
 number_of Status.Passed = 7
+number_of Status.NoPattern = 8
 number_of Status.Output = 9
-number_of Status.Unbuilt = 13
+
+abbrev pub status_of_cause : Cause ℚ → Status
+status_of_cause (Cause.Phases made) = Status.Phases
+status_of_cause (Cause.Patterns phase tried) = Status.Patterns
+status_of_cause (Cause.Passed phase place at) = Status.Passed
+status_of_cause (Cause.NoPattern phase) = Status.NoPattern
 
 abbrev pub status_of_stop : Option (Cause ℚ) → Status
 status_of_stop None = Status.Ok
-status_of_stop (Some cause) = Status.Passed
+status_of_stop (Some cause) = status_of_cause cause
 
 abbrev pub status_of : Answer → Status
 status_of (Shown n) = Status.Ok
@@ -43,7 +50,6 @@ status_of NoRequest = Status.Usage
 status_of ShelfFailed = Status.Shelf
 status_of ShelfTooLong = Status.Shelf
 status_of (Malformed broken) = Status.Malformed
-status_of Unbuilt = Status.Unbuilt
 
 -- ---- what is written
 abbrev pub out_text : Answer → List ℕ
@@ -63,4 +69,3 @@ err_text NoRequest = usage_text
 err_text ShelfFailed = shelf_failed_line
 err_text ShelfTooLong = shelf_too_long_line
 err_text (Malformed broken) = network_line broken
-err_text Unbuilt = unbuilt_line

@@ -1,5 +1,5 @@
 -- What fetching the file of a request answers.
-use Rattle.std.specs.Prelude.{◌≡◌, ◌⊎◌, ℕ, ◌<◌, ◌≤◌, List, [], ◌∷◌, ◌++◌, Option, IfSome, Result, Ok, Err}
+use Rattle.std.specs.Prelude.{◌≡◌, ◌⊎◌, ℕ, ◌<◌, ◌≤◌, List, [], ◌∷◌, ◌++◌, length, Option, IfSome, Result, Ok, Err}
 use Rattle.nf_edge.specs.Faults.{Rose}
 use Rattle.nf_formats.specs.Named.{Named}
 use Rattle.nf_formats.specs.NetLines.{Broken}
@@ -32,10 +32,9 @@ abbrev pub IsFetched : Fetch → Result Named Refusal → Type 0
 IsFetched fetch (Ok n) = ReadAs fetch (Ok n)
 IsFetched fetch (Err (Refusal.Malformed rule line)) = ReadAs fetch (Err (record { rule = rule; line = line }))
 IsFetched fetch (Err Refusal.ShelfFailed) = AskedFor fetch × (fetch.taken ≤ file_limit) × Rose fetch.faults_before fetch.faults_now
-IsFetched fetch (Err Refusal.ShelfTooLong) = AskedFor fetch × (file_limit < fetch.taken)
+IsFetched fetch (Err Refusal.ShelfTooLong) = AskedFor fetch × (file_limit < fetch.taken) × IfSome (fetch.told fetch.file) (λ text. Rose fetch.faults_before fetch.faults_now ⊎ (file_limit < length text))
 IsFetched fetch (Err Refusal.NoMemory) = (fetch.asked_now ≡ fetch.asked_before) ⊎ AskedFor fetch
 IsFetched fetch (Err Refusal.NoRequest) = ⊥
-IsFetched fetch (Err Refusal.Unbuilt) = ⊥
 
 -- a call whose words ask for the file, and which did nothing else with the shelf
 abbrev pub call_with : List (List ℕ) → Fetch → Call

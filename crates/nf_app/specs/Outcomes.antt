@@ -1,24 +1,17 @@
 -- What an outcome of a request stands for: the answer, and its text.
-use Rattle.std.specs.Prelude.{◌≡◌, ℕ, List, Option, None, false, Result, Ok, Err}
+use Rattle.std.specs.Prelude.{◌≡◌, ℕ, List, Option, None, Result, Ok, Err}
 use Rattle.nf_rational.specs.Rational.{ℚ}
 use Rattle.nf_formats.specs.declared.Cause.{Cause}
 use Rattle.nf_formats.specs.Named.{Named}
 use Rattle.nf_formats.specs.NetText.{canonical}
 use Rattle.nf_formats.specs.Report.{Report, IsWellFormed, report_text}
-use Rattle.nf_curve.specs.Flows.{flow_of}
-use Rattle.nf_one_link.specs.FullPhase.{has_one_full_phase}
-use Rattle.nf_one_link.specs.Solution.{IsSolution}
-use Rattle.nf_one_link.specs.declared.solving.Solution.{Solution}
+use Rattle.nf_phase.specs.Solution.{bounds_of, report_in, IsSolution}
 use Rattle.nf_app.specs.declared.outcome.Outcome.{Outcome}
 use Rattle.nf_app.specs.declared.refusal.Refusal.{Refusal}
 use Rattle.nf_app.specs.Requests.{Request, Show, Solve}
 use Rattle.nf_app.specs.Answers.{Answer, Shown, Solved}
 use Rattle.nf_app.specs.Refusals.{answer_of}
 use Rattle.nf_app.specs.Runs.{Call, IsAnswer}
-
--- the report of a solution
-abbrev pub report_in : ℚ → Solution → Report
-report_in horizon s = record { horizon = horizon; flow = flow_of s.flow; stop = s.stop; last = s.last.items }
 
 abbrev pub answer_in : Outcome → Answer
 answer_in (Outcome.Shown net text) = Shown net
@@ -36,13 +29,13 @@ text_in (Outcome.Solved net horizon s) = report_text net (report_in horizon s)
 -- why the run of a report stopped
 abbrev pub stop_in : Outcome → Option (Cause ℚ)
 stop_in (Outcome.Shown net text) = None
-stop_in (Outcome.Solved net horizon s) = s.stop
+stop_in (Outcome.Solved net horizon s) = s.stopped
 
 -- what a request gives with a network, or why it gives nothing
 abbrev pub IsGiven : Named → Request → Result Outcome Refusal → Type 0
 IsGiven n (Show file) (Ok outcome) = (answer_in outcome ≡ Shown n) × HasText outcome
-IsGiven n (Solve file horizon) (Ok outcome) = (report : Report) × IsSolution n horizon report × (answer_in outcome ≡ Solved n report) × HasText outcome
-IsGiven n (Solve file horizon) (Err Refusal.Unbuilt) = has_one_full_phase n.net horizon ≡ false
+IsGiven n (Solve file horizon budgets) (Ok outcome) = (report : Report) × ((phases : ℕ) × IsSolution n.net (bounds_of horizon budgets) phases report)
+    × (answer_in outcome ≡ Solved n report) × HasText outcome
 IsGiven n request (Err refusal) = refusal ≡ Refusal.NoMemory
 
 -- an outcome that has its text, or a refusal, where that comes

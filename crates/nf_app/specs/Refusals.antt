@@ -3,7 +3,7 @@ use Rattle.nf_edge.specs.declared.FetchFault.{FetchFault}
 use Rattle.nf_edge.specs.declared.FetchFault.TheVariants.{Failed, TooLong, Memory}
 use Rattle.nf_net.specs.declared.fault.NetFault.{NetFault}
 use Rattle.nf_app.specs.declared.refusal.Refusal.{Refusal}
-use Rattle.nf_app.specs.Answers.{Answer, NoMemory, NoRequest, ShelfFailed, ShelfTooLong, Malformed, Unbuilt}
+use Rattle.nf_app.specs.Answers.{Answer, NoMemory, NoRequest, ShelfFailed, ShelfTooLong, Malformed}
 
 abbrev pub answer_of : Refusal → Answer
 answer_of Refusal.NoMemory = NoMemory
@@ -11,7 +11,6 @@ answer_of Refusal.NoRequest = NoRequest
 answer_of Refusal.ShelfFailed = ShelfFailed
 answer_of Refusal.ShelfTooLong = ShelfTooLong
 answer_of (Refusal.Malformed rule line) = Malformed (record { rule = rule; line = line })
-answer_of Refusal.Unbuilt = Unbuilt
 
 abbrev pub refusal_of_fetch : FetchFault → Refusal
 refusal_of_fetch Failed = Refusal.ShelfFailed

@@ -5,4 +5,4 @@ use Rattle.nf_app.specs.Requests.{Request, Show, Solve}
 
 abbrev pub requested : code.Request → Request
 requested (variants.Show file) = Show file.now
-requested (variants.Solve file horizon) = Solve file.now horizon
+requested (variants.Solve file horizon budgets) = Solve file.now horizon budgets

@@ -1,39 +1,114 @@
 -- What the words of the command line ask.
-use Rattle.std.specs.Prelude.{ℕ, ◌&&◌, if◌then◌else◌, List, [], ◌∷◌, Option, Some, None, Result, Ok, Err, codes}
+use Rattle.std.specs.Prelude.{ℕ, ◌&&◌, if◌then◌else◌, ◌==◌, nat_le, List, [], ◌∷◌, Option, Some, None, Result, Ok, Err, codes}
 use Rattle.std.specs.Str.{bytes_eq}
 use Rattle.nf_rational.specs.Rational.{ℚ}
 use Rattle.nf_rational.specs.Operations.{0ℚ}
-use Rattle.nf_rational.specs.Order.{le_ℚ}
+use Rattle.nf_rational.specs.Order.{◌≤ℚ◌, le_ℚ}
+use Rattle.nf_numerals.specs.Digits.{are_digits, value_of}
 use Rattle.nf_numerals.specs.Numbers.{number_of}
 use Rattle.nf_formats.specs.Numbers.{greatest}
+use Rattle.nf_phase.specs.declared.solution.Budgets.{Budgets}
 
--- `show NET`, and `solve NET --horizon Q`
+-- `show NET`, and `solve NET --horizon Q [--phases N] [--patterns N]`
 pub data Request : Type 0 where
   Show : List ℕ → Request
-  Solve : List ℕ → ℚ → Request
+  Solve : List ℕ → ℚ → Budgets → Request
 
 -- the name of the file that is asked for
 abbrev pub file_of : Request → List ℕ
 file_of (Show file) = file
-file_of (Solve file horizon) = file
+file_of (Solve file horizon budgets) = file
 
--- a horizon is a number of at least 0
-abbrev pub to_horizon : {F : Type 0} → List ℕ → Result ℚ F → Option Request
-to_horizon file (Ok horizon) = if le_ℚ 0ℚ horizon then Some (Solve file horizon) else None
-to_horizon file (Err fault) = None
+-- ---- the horizon
+-- a number of at least 0
+abbrev pub to_horizon : {F : Type 0} → Result ℚ F → Option ℚ
+to_horizon (Ok number) = if le_ℚ 0ℚ number then Some number else None
+to_horizon (Err fault) = None
 
+abbrev pub horizon_of : List ℕ → Option ℚ
+horizon_of word = to_horizon (number_of greatest word)
+
+-- what is asked can be: a horizon is at least 0
+abbrev pub CanBeAsked : Request → Type 0
+CanBeAsked (Show file) = Unit {0}
+CanBeAsked (Solve file horizon budgets) = 0ℚ ≤ℚ horizon
+
+-- ---- the budgets
+-- the most phases that may be asked for, and those that are meant where the words don't say
+abbrev pub most_phases : ℕ
+most_phases = 100000
+
+abbrev pub usual_phases : ℕ
+usual_phases = 10000
+
+-- the same for the patterns of each phase
+abbrev pub most_patterns : ℕ
+most_patterns = 1000000
+
+abbrev pub usual_patterns : ℕ
+usual_patterns = 100000
+
+-- A budget is written by decimal digits alone, of which the first may be zeros. It is at least 1, so that there is a digit, and
+-- at most so many.
+abbrev pub budget_of : ℕ → List ℕ → Option ℕ
+budget_of most word = if are_digits word && nat_le 1 (value_of word) && nat_le (value_of word) most then Some (value_of word) else None
+
+-- digits without the zeros that come first
+abbrev pub without_zeros : List ℕ → List ℕ
+without_zeros [] = []
+without_zeros (c ∷ rest) = if c == 48 then without_zeros rest else c ∷ rest
+
+-- both budgets, where each is one
+abbrev pub both_budgets : Option ℕ → Option ℕ → Option Budgets
+both_budgets (Some phases) (Some patterns) = Some (record { phases = phases; patterns = patterns })
+both_budgets (Some phases) None = None
+both_budgets None patterns = None
+
+-- `--phases N`
+abbrev pub phases_of : List ℕ → List ℕ → Option ℕ
+phases_of option word = if bytes_eq option (codes "--phases") then budget_of most_phases word else None
+
+-- `--patterns N`
+abbrev pub patterns_of : List ℕ → List ℕ → Option ℕ
+patterns_of option word = if bytes_eq option (codes "--patterns") then budget_of most_patterns word else None
+
+-- one option alone
+abbrev pub with_one_option : List ℕ → List ℕ → Option Budgets
+with_one_option option word =
+    if bytes_eq option (codes "--phases") then both_budgets (budget_of most_phases word) (Some usual_patterns)
+    else both_budgets (Some usual_phases) (patterns_of option word)
+
+-- The words behind the horizon. Of the two options each may be left out.
+abbrev pub budgets_of : List (List ℕ) → Option Budgets
+budgets_of [] = both_budgets (Some usual_phases) (Some usual_patterns)
+budgets_of (option ∷ word ∷ []) = with_one_option option word
+budgets_of (first ∷ phases ∷ second ∷ patterns ∷ []) = both_budgets (phases_of first phases) (patterns_of second patterns)
+budgets_of words = None
+
+-- ---- the commands
 -- `show NET`
 abbrev pub shown_file : List ℕ → List ℕ → Option Request
 shown_file command file = if bytes_eq command (codes "show") then Some (Show file) else None
 
--- `solve NET --horizon Q`
-abbrev pub solved_file : List ℕ → List ℕ → List ℕ → List ℕ → Option Request
-solved_file command file option word =
-    if bytes_eq command (codes "solve") && bytes_eq option (codes "--horizon") then to_horizon file (number_of greatest word) else None
+-- a file, a horizon and budgets, where each is one
+abbrev pub solve_request : List ℕ → Option ℚ → Option Budgets → Option Request
+solve_request file (Some horizon) (Some budgets) = Some (Solve file horizon budgets)
+solve_request file (Some horizon) None = None
+solve_request file None budgets = None
 
--- The words begin with the program's name. The command, its file and its option stand in this one order, and all else asks
+-- `solve NET --horizon Q [--phases N] [--patterns N]`
+abbrev pub solved_file : List ℕ → List ℕ → List ℕ → List ℕ → List (List ℕ) → Option Request
+solved_file command file option word more =
+    if bytes_eq command (codes "solve") && bytes_eq option (codes "--horizon") then solve_request file (horizon_of word) (budgets_of more) else None
+
+-- a command with its file, and the words behind them
+abbrev pub command_of : List ℕ → List ℕ → List (List ℕ) → Option Request
+command_of command file [] = shown_file command file
+command_of command file (option ∷ []) = None
+command_of command file (option ∷ word ∷ more) = solved_file command file option word more
+
+-- The words begin with the program's name. The command, its file and its options stand in this one order, and all else asks
 -- nothing.
 abbrev pub request_of : List (List ℕ) → Option Request
-request_of (program ∷ command ∷ file ∷ []) = shown_file command file
-request_of (program ∷ command ∷ file ∷ option ∷ word ∷ []) = solved_file command file option word
+request_of (program ∷ command ∷ file ∷ more) = command_of command file more
 request_of words = None

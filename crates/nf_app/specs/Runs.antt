@@ -1,5 +1,5 @@
 -- When a run of the program gives which answer, and what its sinks then took.
-use Rattle.std.specs.Prelude.{◌≡◌, ◌⊎◌, ℕ, ◌<◌, ◌≤◌, false, List, [], ◌∷◌, ◌++◌, Option, Some, None, IfSome, Result, Ok, Err}
+use Rattle.std.specs.Prelude.{◌≡◌, ◌⊎◌, ℕ, ◌<◌, ◌≤◌, List, [], ◌∷◌, ◌++◌, length, Option, Some, None, IfSome, Result, Ok, Err}
 use Rattle.nf_rational.specs.Rational.{ℚ}
 use Rattle.nf_edge.specs.Faults.{Rose}
 use Rattle.nf_edge.specs.Taken.{with_more, TookFront}
@@ -10,9 +10,9 @@ use Rattle.nf_formats.specs.Report.{Report}
 use Rattle.nf_formats.specs.ErrorLines.{output_line}
 use Rattle.nf_app.specs.declared.status.Status.{Status}
 use Rattle.nf_app.specs.Requests.{Request, Show, Solve, file_of, request_of}
-use Rattle.nf_one_link.specs.FullPhase.{has_one_full_phase}
-use Rattle.nf_one_link.specs.Solution.{IsSolution}
-use Rattle.nf_app.specs.Answers.{Answer, Shown, Solved, NoMemory, NoRequest, ShelfFailed, ShelfTooLong, Malformed, Unbuilt, status_of, out_text, err_text}
+use Rattle.nf_phase.specs.declared.solution.Budgets.{Budgets}
+use Rattle.nf_phase.specs.Solution.{bounds_of, IsSolution}
+use Rattle.nf_app.specs.Answers.{Answer, Shown, Solved, NoMemory, NoRequest, ShelfFailed, ShelfTooLong, Malformed, status_of, out_text, err_text}
 
 -- the most bytes that a network file may have
 abbrev pub file_limit : ℕ
@@ -48,16 +48,18 @@ pub record Read (call : Call) (request : Request) (read : Result Named Broken) :
   pub reads : FileReads call request read
 
 -- ---- what is answered
--- a request to show this file, and one to solve it to this horizon
+-- a request to show this file, and one to solve it to a horizon within budgets
 abbrev pub Shows : Call → Named → Type 0
 Shows call n = (file : List ℕ) × Read call (Show file) (Ok n)
 
 abbrev pub Solves : Call → Named → Report → Type 0
-Solves call n report = (file : List ℕ) × (horizon : ℚ) × Read call (Solve file horizon) (Ok n) × IsSolution n horizon report
+Solves call n report = (file : List ℕ) × (horizon : ℚ) × (budgets : Budgets) × Read call (Solve file horizon budgets) (Ok n)
+    × ((phases : ℕ) × IsSolution n.net (bounds_of horizon budgets) phases report)
 
--- the network or the horizon is none of those that are solved
-abbrev pub IsUnbuilt : Call → Type 0
-IsUnbuilt call = (file : List ℕ) × (horizon : ℚ) × (n : Named) × Read call (Solve file horizon) (Ok n) × (has_one_full_phase n.net horizon ≡ false)
+-- More than the limit was taken. Where the shelf tells the bytes of the file, and no fault of it was counted, there are more.
+abbrev pub HasTooMany : Call → Request → Type 0
+HasTooMany call request =
+    (file_limit < call.taken) × IfSome (call.told (file_of request)) (λ text. Rose call.faults_before call.faults_now ⊎ (file_limit < length text))
 
 -- When which answer is given. Memory may be wanting before the file was fetched, or after.
 abbrev pub IsAnswer : Call → Answer → Type 0
@@ -66,9 +68,8 @@ IsAnswer call (Solved n report) = Solves call n report
 IsAnswer call NoMemory = AskedNothing call ⊎ ((request : Request) × Asked call request)
 IsAnswer call NoRequest = (request_of call.words ≡ None) × AskedNothing call
 IsAnswer call ShelfFailed = (request : Request) × Asked call request × (call.taken ≤ file_limit) × Rose call.faults_before call.faults_now
-IsAnswer call ShelfTooLong = (request : Request) × Asked call request × (file_limit < call.taken)
+IsAnswer call ShelfTooLong = (request : Request) × Asked call request × HasTooMany call request
 IsAnswer call (Malformed broken) = (request : Request) × Read call request (Err broken)
-IsAnswer call Unbuilt = IsUnbuilt call
 
 -- ---- what a sink took in a call, and its faults
 pub record Taken : Type 0 where

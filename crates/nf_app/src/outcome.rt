@@ -1,9 +1,11 @@
 // What a request gives: a text for the output.
 ghost use Rattle.std.specs.Prelude.{◌≡◌, ℕ, List};
 ghost use Rattle.std.specs.Option.{option_copied};
+ghost use Rattle.nf_rational.specs.Operations.{0ℚ};
+ghost use Rattle.nf_rational.specs.Order.{◌≤ℚ◌};
 ghost use Rattle.nf_edge.specs.Names.{texts};
 ghost use Rattle.nf_app.specs.Requested.{requested};
-ghost use Rattle.nf_app.specs.Requests.{Show, Solve};
+ghost use Rattle.nf_app.specs.Requests.{Show, Solve, CanBeAsked};
 ghost use Rattle.nf_app.specs.Outcomes.{stop_in, IsGiven, IsAnswered};
 
 use crate::fetching::fetch_network;
@@ -13,7 +15,7 @@ use nf_curve::Stop;
 use nf_edge::Shelf;
 use nf_frac::Q;
 use nf_net::{Network, text};
-use nf_one_link::{Solution, is_built, solve};
+use nf_phase::{Budgets, Solution, solve};
 use std::alloc::Global;
 
 /// What a request gives.
@@ -39,7 +41,7 @@ impl Outcome {
     {
         match self {
             Outcome::Shown { .. } => None,
-            Outcome::Solved { solution, .. } => solution.stop.as_ref(),
+            Outcome::Solved { solution, .. } => solution.stopped.as_ref(),
         }
     }
 }
@@ -52,14 +54,12 @@ fn show(alloc: Global, net: Network) -> Result<Outcome, Refusal>
     Ok(Outcome::Shown { net, text })
 }
 
-// The solution, where the network and the horizon are among those that are solved.
-fn solve_to(alloc: Global, net: Network, horizon: Q) -> Result<Outcome, Refusal>
-    ensures { (file : List ℕ) → IsGiven net (Solve file horizon) result }
+// The network, with what solving it to a horizon gives.
+fn solve_to(alloc: Global, net: Network, horizon: Q, budgets: Budgets) -> Result<Outcome, Refusal>
+    requires { 0ℚ ≤ℚ horizon }
+    ensures { (file : List ℕ) → IsGiven net (Solve file horizon budgets) result }
 {
-    if !is_built(&net, horizon) {
-        return Err(Refusal::Unbuilt);
-    }
-    let solution = solve(alloc, &net, horizon)?;
+    let solution = solve(alloc, &net, horizon, budgets)?;
     Ok(Outcome::Solved {
         net,
         horizon,
@@ -69,11 +69,16 @@ fn solve_to(alloc: Global, net: Network, horizon: Q) -> Result<Outcome, Refusal>
 
 // What the request gives with this network.
 fn outcome_of(alloc: Global, net: Network, request: Request) -> Result<Outcome, Refusal>
+    requires { CanBeAsked (requested request) }
     ensures { IsGiven net (requested request.entry) result }
 {
     match request {
         Request::Show { .. } => show(alloc, net),
-        Request::Solve { horizon, .. } => solve_to(alloc, net, horizon),
+        Request::Solve {
+            horizon,
+            budgets,
+            ..
+        } => solve_to(alloc, net, horizon, budgets),
     }
 }
 

@@ -2,7 +2,7 @@
 ghost use Rattle.std.specs.Prelude.{◌≡◌};
 ghost use Rattle.std.specs.Option.{option_copied};
 ghost use Rattle.nf_edge.specs.Taken.{Wrote};
-ghost use Rattle.nf_app.specs.Answers.{status_of, status_of_stop, err_text, text_of_stop};
+ghost use Rattle.nf_app.specs.Answers.{status_of, status_of_cause, status_of_stop, err_text, text_of_stop};
 ghost use Rattle.nf_app.specs.Refusals.{answer_of};
 ghost use Rattle.nf_app.specs.Outcomes.{answer_in, text_in, HasText};
 ghost use Rattle.nf_app.specs.Runs.{TookText, IsShown};
@@ -30,10 +30,22 @@ fn write_outcome<O: Sink>(outcome: &Outcome, out: &mut O) -> Result<(), SinkFaul
             net,
             *horizon,
             &solution.flow,
-            solution.stop.as_ref(),
+            solution.stopped.as_ref(),
             &solution.last,
             out,
         ),
+    }
+}
+
+// How a run of the program ends whose report has this cause.
+fn status_of_cause(stop: &Stop) -> Status
+    ensures { result ≡ status_of_cause stop.now }
+{
+    match stop {
+        Stop::Phases { .. } => Status::Phases,
+        Stop::Patterns { .. } => Status::Patterns,
+        Stop::Passed { .. } => Status::Passed,
+        Stop::NoPattern { .. } => Status::NoPattern,
     }
 }
 
@@ -51,7 +63,7 @@ fn tell_stop<E: Sink>(stop: Option<&Stop>, err: &mut E) -> Status
         None => Status::Ok,
         Some(stop) => {
             let _ = write_stopped(err, stop);
-            Status::Passed
+            status_of_cause(stop)
         }
     }
 }

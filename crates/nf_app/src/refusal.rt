@@ -22,8 +22,6 @@ pub(crate) enum Refusal {
     ShelfTooLong,
     /// The file breaks this rule first, in this line.
     Malformed { rule: NetRule, line: u32 },
-    /// The network or the horizon asks for what isn't built yet.
-    Unbuilt,
 }
 
 impl Refusal {
@@ -37,7 +35,6 @@ impl Refusal {
             Refusal::ShelfFailed => Status::Shelf,
             Refusal::ShelfTooLong => Status::Shelf,
             Refusal::Malformed { .. } => Status::Malformed,
-            Refusal::Unbuilt => Status::Unbuilt,
         }
     }
 }

@@ -1,6 +1,7 @@
 // The top call.
 ghost use Rattle.nf_edge.specs.Names.{texts};
 ghost use Rattle.nf_app.specs.Runs.{Ran};
+ghost use Rattle.nf_app.specs.Completeness.{IsComplete};
 
 use crate::outcome::answer;
 use crate::output::{give, refuse};
@@ -10,8 +11,8 @@ use std::alloc::Global;
 
 /// Answers what the words ask, of which the first is the program's name: fetches the file of the request, and no other, within
 /// 1,048,576 bytes, writes the text of the answer to `out`, and says on `err` why there is none, or why it ends early. Nothing is
-/// written to `out` before the text is known. It is refused where memory is wanting, the words are no request, the file isn't
-/// given or breaks a rule, or the network or the horizon isn't among those that are solved.
+/// written to `out` before the text is known. It is refused where memory is wanting, the words are no request, or the file isn't
+/// given or breaks a rule. Of a network a report is written up to the horizon, or up to the departure where its run stops.
 pub fn run<S: Shelf, O: Sink, E: Sink>(
     alloc: Global,
     words: &[String],
@@ -19,7 +20,7 @@ pub fn run<S: Shelf, O: Sink, E: Sink>(
     out: &mut O,
     err: &mut E,
 ) -> Status
-    ensures { Ran (record {
+    ensures ran { Ran (record {
       words = texts words.now;
       told = S.told shelf.old;
       asked_before = S.asked shelf.old;
@@ -37,6 +38,22 @@ pub fn run<S: Shelf, O: Sink, E: Sink>(
       now = E.took err.new;
       faults_before = E.faults err.old;
       faults_now = E.faults err.new;
+    }) result }
+
+    // Nothing but want of memory keeps a network from being solved whose phase run reaches the horizon.
+    ensures complete { IsComplete (record {
+      words = texts words.now;
+      told = S.told shelf.old;
+      asked_before = S.asked shelf.old;
+      asked_now = S.asked shelf.new;
+      faults_before = S.faults shelf.old;
+      faults_now = S.faults shelf.new;
+      taken = S.taken shelf.new;
+    }) (record {
+      before = O.took out.old;
+      now = O.took out.new;
+      faults_before = O.faults out.old;
+      faults_now = O.faults out.new;
     }) result }
 {
     match answer(alloc, words, shelf) {

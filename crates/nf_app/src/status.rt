@@ -14,12 +14,16 @@ pub enum Status {
     Shelf,
     /// The file breaks a rule.
     Malformed,
+    /// As many phases as allowed were made, and the horizon isn't reached.
+    Phases,
+    /// As many patterns as allowed were tried in a phase, and there are more.
+    Patterns,
     /// A named operation passes 128 bits.
     Passed,
+    /// No pattern of a phase is accepted, and none passes.
+    NoPattern,
     /// The output takes no more bytes.
     Output,
-    /// The network or the horizon asks for what isn't built yet.
-    Unbuilt,
 }
 
 impl Status {
@@ -35,9 +39,11 @@ impl Status {
             Status::Usage => 2,
             Status::Shelf => 3,
             Status::Malformed => 4,
+            Status::Phases => 5,
+            Status::Patterns => 6,
             Status::Passed => 7,
+            Status::NoPattern => 8,
             Status::Output => 9,
-            Status::Unbuilt => 13,
         }
     }
 }
@@ -54,9 +60,11 @@ mod tests {
             (Status::Usage, 2),
             (Status::Shelf, 3),
             (Status::Malformed, 4),
+            (Status::Phases, 5),
+            (Status::Patterns, 6),
             (Status::Passed, 7),
+            (Status::NoPattern, 8),
             (Status::Output, 9),
-            (Status::Unbuilt, 13),
         ];
         for (status, number) in numbers {
             assert_eq!(rt; status.number(), number);

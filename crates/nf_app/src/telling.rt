@@ -93,7 +93,6 @@ pub(crate) fn write_refusal<E: Sink>(err: &mut E, refusal: Refusal) -> Result<()
         Refusal::ShelfFailed => write_text(err, b"nfot: shelf failed\n"),
         Refusal::ShelfTooLong => write_text(err, b"nfot: shelf too long\n"),
         Refusal::Malformed { rule, line } => write_rule(err, rule, line),
-        Refusal::Unbuilt => write_text(err, b"nfot: unbuilt\n"),
     }
 }
 

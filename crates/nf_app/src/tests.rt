@@ -7,14 +7,11 @@ use std::test::Fail;
 
 const ONE: &str = "nfot 1\nsource s\nsink t\nlink a s t 1 1\ninflow 0 2\ninflow 2 0\nend\n";
 
-const REPORT: &str =
-    "report 1\nhorizon 2\nreached 2\ncause done\nlabel s 0 0\nlabel s 2 2\nlabel t 0 1\nlabel t 2 5\ninflow a 0 0 2\ninflow a 2 4 -\noutflow a 0 0 0\noutflow a 1 0 1\noutflow a 5 4 -\nqueue a 0 0\nqueue a 2 2\nstate a full\nend\n";
-
 const USAGE: &str =
     "nfot: usage\nnfot solve NET --horizon Q [--phases N] [--patterns N]\nnfot show NET\nnfot load NET LOADS --horizon Q\nnfot check NET REPORT\nnfot quick NET --amount Q [--augments N]\nnfot gen --number N --rungs N --horizon Q [--phases N] [--patterns N]\n";
 
-// The words of a command line, behind the program's name.
-fn words_of(alloc: Global, line: &[&str]) -> Result<Vec<String>, AllocError> {
+/// The words of a command line, behind the program's name.
+pub(crate) fn words_of(alloc: Global, line: &[&str]) -> Result<Vec<String>, AllocError> {
     let mut words = Vec::new(alloc);
     words.push("nfot".to_owned(alloc)?)?;
     for word in line {
@@ -23,8 +20,8 @@ fn words_of(alloc: Global, line: &[&str]) -> Result<Vec<String>, AllocError> {
     Ok(words)
 }
 
-// A run over the file `net` ends with this status, and with these bytes in both sinks.
-fn ends<R: Abort + AllocGlobal>(
+/// A run over the file `net` ends with this status, and with these bytes in both sinks.
+pub(crate) fn ends<R: Abort + AllocGlobal>(
     rt: &R,
     net: &str,
     line: &[&str],
@@ -38,22 +35,10 @@ fn ends<R: Abort + AllocGlobal>(
     let mut err = MemSink::new(rt.alloc(), 5000, 100)?;
     let words = words_of(rt.alloc(), line)?;
     let ended = run(rt.alloc(), &words, &mut shelf, &mut out, &mut err);
-    assert_eq!(rt; ended, status);
-    assert!(rt; out.bytes() == out_text.as_bytes());
-    assert!(rt; err.bytes() == err_text.as_bytes());
+    assert_eq!(rt; ended, status, "{net}");
+    assert!(rt; out.bytes() == out_text.as_bytes(), "{net}");
+    assert!(rt; err.bytes() == err_text.as_bytes(), "{net}");
     Ok(())
-}
-
-#[test]
-fn one_link_is_solved(rt: HostRuntime) -> Result<(), Fail> {
-    ends(
-        &rt,
-        ONE,
-        &["solve", "net", "--horizon", "2"],
-        Status::Ok,
-        REPORT,
-        "",
-    )
 }
 
 #[test]
@@ -81,77 +66,58 @@ fn a_broken_file_is_told_with_its_rule_and_line(rt: HostRuntime) -> Result<(), F
 }
 
 #[test]
-fn an_operation_that_passes_is_told(rt: HostRuntime) -> Result<(), Fail> {
-    ends(
-        &rt,
-        "nfot 1\nsource s\nsink t\nlink a s t 1 1/170141183460469231731687303715884105727\ninflow 0 2\nend\n",
-        &["solve", "net", "--horizon", "1"],
-        Status::Passed,
-        "report 1\nhorizon 1\nreached 0\ncause passed 1 table 2 quotient -2 -1/170141183460469231731687303715884105727\nlabel s 0 0\nlabel t 0 1\ninflow a 0 0 -\noutflow a 0 0 0\noutflow a 1 0 -\nqueue a 0 0\nend\n",
-        "nfot: stopped: passed 1 table 2 quotient -2 -1/170141183460469231731687303715884105727\n",
-    )
-}
-
-#[test]
-fn two_links_are_unbuilt(rt: HostRuntime) -> Result<(), Fail> {
-    ends(
-        &rt,
-        "nfot 1\nsource s\nsink t\nlink a s t 1 1\nlink b s t 3 1\ninflow 0 3\nend\n",
-        &["solve", "net", "--horizon", "4"],
-        Status::Unbuilt,
-        "",
-        "nfot: unbuilt\n",
-    )
-}
-
-#[test]
 fn other_words_are_no_request(rt: HostRuntime) -> Result<(), Fail> {
-    ends(&rt, ONE, &["solve", "net"], Status::Usage, "", USAGE)?;
-    ends(&rt, ONE, &["draw", "net"], Status::Usage, "", USAGE)?;
-    ends(
-        &rt,
-        ONE,
+    let lines: [&[&str]; 18] = [
+        &[],
+        &["show"],
+        &["draw", "net"],
+        &["show", "net", "net"],
+        &["solve", "net"],
+        &["solve", "--horizon", "1", "net"],
         &["solve", "net", "--horizon=-1"],
-        Status::Usage,
-        "",
-        USAGE,
-    )?;
-    ends(
-        &rt,
-        ONE,
         &["solve", "net", "--horizon", "-1"],
-        Status::Usage,
-        "",
-        USAGE,
-    )
-}
-
-#[test]
-fn other_options_are_no_request(rt: HostRuntime) -> Result<(), Fail> {
-    ends(
-        &rt,
-        ONE,
-        &["solve", "net", "--horizon", "1", "--horizon", "2"],
-        Status::Usage,
-        "",
-        USAGE,
-    )?;
-    ends(
-        &rt,
-        ONE,
-        &["solve", "net", "--horizon", "2", "--amount", "1"],
-        Status::Usage,
-        "",
-        USAGE,
-    )?;
-    ends(
-        &rt,
-        ONE,
         &["solve", "net", "--amount", "2"],
-        Status::Usage,
-        "",
-        USAGE,
-    )
+        &["solve", "net", "--horizon", "2", "--amount", "1"],
+        &["solve", "net", "--horizon", "1", "--horizon", "2"],
+        &["solve", "net", "--horizon", "1", "--phases"],
+        &["solve", "net", "--horizon", "1", "--phases", "0"],
+        &["solve", "net", "--horizon", "1", "--phases", "100001"],
+        &["solve", "net", "--horizon", "1", "--patterns", "1000001"],
+        &[
+            "solve",
+            "net",
+            "--horizon",
+            "1",
+            "--phases",
+            "1",
+            "--phases",
+            "1",
+        ],
+        &[
+            "solve",
+            "net",
+            "--horizon",
+            "1",
+            "--patterns",
+            "1",
+            "--phases",
+            "1",
+        ],
+        &[
+            "solve",
+            "net",
+            "--horizon",
+            "1",
+            "--phases",
+            "1",
+            "--patterns",
+            "",
+        ],
+    ];
+    for line in lines {
+        ends(&rt, ONE, line, Status::Usage, "", USAGE)?;
+    }
+    Ok(())
 }
 
 #[test]
@@ -183,26 +149,6 @@ fn a_file_that_is_a_byte_too_long_is_told(rt: HostRuntime) -> Result<(), Fail> {
     assert_eq!(rt; ended, Status::Shelf);
     assert!(rt; out.bytes().is_empty());
     assert!(rt; err.bytes() == b"nfot: shelf too long\n".as_slice());
-    Ok(())
-}
-
-// The output takes a byte a write, and fails at each of the 207 in turn.
-#[test]
-fn an_output_that_fails_has_the_first_bytes(rt: HostRuntime) -> Result<(), Fail> {
-    let report = REPORT.as_bytes();
-    let words = words_of(rt.alloc(), &["solve", "net", "--horizon", "2"])?;
-    for k in 0..207u32 {
-        let mut shelf = MemShelf::new(rt.alloc());
-        shelf.put(rt.alloc(), "net", ONE.as_bytes())?;
-        let mut out = MemSink::new(rt.alloc(), 5000, 1)?;
-        out.fail(k + 1)?;
-        let mut err = MemSink::new(rt.alloc(), 100, 100)?;
-        let ended = run(rt.alloc(), &words, &mut shelf, &mut out, &mut err);
-        assert_eq!(rt; ended, Status::Output);
-        assert!(rt; k as usize <= report.len());
-        assert!(rt; out.bytes() == &report[..k as usize]);
-        assert!(rt; err.bytes() == b"nfot: output\n".as_slice());
-    }
     Ok(())
 }
 

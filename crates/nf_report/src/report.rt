@@ -17,9 +17,9 @@ use crate::line::write_line;
 use nf_curve::{Flow, Stop};
 use nf_edge::{Sink, SinkFault};
 use nf_frac::{Q, TextBuf};
-use nf_model::State;
 use nf_net::{LinkId, Network, NodeId};
 use nf_numerals::write_count;
+use nf_pattern::Pattern;
 
 // The label of a node.
 fn write_label<O: Sink>(out: &mut O, net: &Network, flow: &Flow, node: u32) -> Result<(), SinkFault>
@@ -88,7 +88,7 @@ pub(crate) fn write_links<O: Sink>(out: &mut O, net: &Network, flow: &Flow) -> R
 fn write_state_of<O: Sink>(
     out: &mut O,
     net: &Network,
-    last: &[Option<State>],
+    last: &Pattern,
     link: u32,
 ) -> Result<(), SinkFault>
     requires link { link < length net.now.net.links }
@@ -97,7 +97,7 @@ fn write_state_of<O: Sink>(
         (state_lines net.now last.now link) result }
 {
     let name = net.link_name(LinkId(link)).as_bytes();
-    let state = last[link as usize];
+    let state = last.state(LinkId(link));
     write_state(out, name, state)
 }
 
@@ -105,7 +105,7 @@ fn write_state_of<O: Sink>(
 pub(crate) fn write_states<O: Sink>(
     out: &mut O,
     net: &Network,
-    last: &[Option<State>],
+    last: &Pattern,
 ) -> Result<(), SinkFault>
     requires { length last.now ≡ length net.now.net.links }
     ensures { WroteLines (O.took out.old) (O.took out.new) (O.faults out.old) (O.faults out.new)
@@ -248,7 +248,7 @@ fn write_to_states<O: Sink>(
     horizon: Q,
     flow: &Flow,
     stopped: Option<&Stop>,
-    last: &[Option<State>],
+    last: &Pattern,
 ) -> Result<(), SinkFault>
     requires labels { length flow.now.labels.items ≡ net.now.net.nodes }
     requires inflows { length flow.now.inflows.items ≡ length net.now.net.links }
@@ -273,7 +273,7 @@ pub fn write_report<O: Sink>(
     horizon: Q,
     flow: &Flow,
     stopped: Option<&Stop>,
-    last: &[Option<State>],
+    last: &Pattern,
     out: &mut O,
 ) -> Result<(), SinkFault>
     requires { IsWellFormed net.now.net (record { horizon = horizon; flow = flow_of flow.now; stop = option_copied stopped; last = last.now }) }

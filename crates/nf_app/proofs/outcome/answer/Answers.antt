@@ -13,4 +13,4 @@ returns g c = let shelf = g.S.Shelf in
       faults_before = shelf.faults c.args.shelf.now;
       faults_now = shelf.faults c.fetch_network.new.shelf;
       taken = shelf.taken c.fetch_network.new.shelf;
-    }) c.in_ok-net.net c.in_ok-net.ensures (requested c.in-Some.request) c.in-Some.ensures c.file.ensures c.outcome_of.result c.outcome_of.ensures
+    }) c.in_ok-net.net c.in_ok-net.ensures (requested c.in-Some.request) c.in-Some.ensures.value c.file.ensures c.outcome_of.result c.outcome_of.ensures

@@ -1,4 +1,0 @@
-pub mod FlowOfPhase
-pub mod Numbers
-pub mod FullPhase
-pub mod Solution
