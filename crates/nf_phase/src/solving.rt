@@ -54,7 +54,7 @@ fn ended_by(phase: u64, fault: StepFault) -> Result<Option<Stop>, AllocError>
 
 impl Run {
     // The run has reached the horizon.
-    fn is_at(&self, horizon: Q) -> bool
+    pub(crate) fn is_at(&self, horizon: Q) -> bool
         ensures { MatchBool result (horizon ≤ℚ self.now.time) (self.now.time <ℚ horizon) }
     {
         !is_below(self.reached, horizon)
