@@ -21,3 +21,4 @@ pub mod Looping
 pub mod SourceRow
 pub mod Leading
 pub mod AllowedStates
+pub mod Changing

@@ -42,8 +42,16 @@ impl Drawn {
 fn random_line(alloc: Global, e: u32, drawn: &mut Drawn) -> Result<String, Fail> {
     let (one, other) = (drawn.up_to(4), drawn.up_to(4));
     let backward = drawn.up_to(9) == 0;
-    let tail = if backward { one.max(other) } else { one.min(other) };
-    let head = if backward { one.min(other) } else { one.max(other) };
+    let tail = if backward {
+        one.max(other)
+    } else {
+        one.min(other)
+    };
+    let head = if backward {
+        one.min(other)
+    } else {
+        one.max(other)
+    };
     let capacity = drawn.up_to(4);
     if tail == head {
         return Ok(String::new(alloc));

@@ -1,6 +1,7 @@
 // A guess of a pattern that is accepted: a first pattern is repaired until no link breaks its inequality. Nothing rests on it, since
 // what it comes to is tried like any other.
-ghost use Rattle.std.specs.Prelude.{◌≡◌, ◌<◌, length, IfOk, IfSome};
+ghost use Rattle.std.specs.Prelude.{◌≡◌, ◌<◌, length, IsTrue, IsSome, IfOk, IfSome};
+ghost use Rattle.nf_model.specs.declared.State.TheVariants.{Full};
 ghost use Rattle.nf_equation_laws.specs.Equations.{IsPatternIn};
 
 use crate::filling::table_of;
@@ -55,14 +56,19 @@ fn overfills(capacity: Option<Q>, flow: Q, head_slope: Q) -> bool {
     }
 }
 
-// The link goes over to a state, if it has one and, for Full, a capacity; whether it does.
-fn change(
-    net: &Network,
-    sets: &LinkSets,
-    pattern: &mut Pattern,
-    link: LinkId,
-    state: State,
-) -> bool
+// A link of this capacity may be in this state: in Full, if it has a capacity.
+fn fits(capacity: Option<Q>, state: State) -> bool
+    ensures { IsTrue result → state ≡ Full → IsSome capacity }
+{
+    match state {
+        State::Full => capacity.is_some(),
+        State::Tight => true,
+        State::Zero => true,
+    }
+}
+
+// The link goes over to a state, if it has one and may be in this; whether it does.
+fn change(net: &Network, sets: &LinkSets, pattern: &mut Pattern, link: LinkId, state: State) -> bool
     requires pattern { IsPatternIn net.now.net sets.now pattern.old }
     requires link { link < length net.now.net.links }
     ensures { IsPatternIn net.now.net sets.now pattern.new }
@@ -71,7 +77,8 @@ fn change(
     if pattern.state(link).is_none() {
         return false;
     }
-    if state == State::Full && net.link(link).capacity.is_none() {
+    let capacity = net.link(link).capacity;
+    if !fits(capacity, state) {
         return false;
     }
     pattern.set(link, Some(state));

@@ -172,17 +172,10 @@ pub(crate) fn listing(
     ensures base { IfOk result (λ patterns. patterns.question.base ≡ base.now) }
     ensures network { IsNetwork net.now.net }
 {
-    let unbounded = unbounded_flags(alloc, net)?;
+    let hops = net.hops();
     let nodes = net.node_count();
-    Patterns::new(
-        alloc,
-        nodes,
-        net.source(),
-        net.hops(),
-        sets,
-        base,
-        &unbounded,
-    )
+    let unbounded = unbounded_flags(alloc, net)?;
+    Patterns::new(alloc, nodes, net.source(), hops, sets, base, &unbounded)
 }
 
 /// The same search with each pattern tried, whatever is known of slopes.

@@ -45,15 +45,7 @@ fn sift_next(
     ensures { SiftsNext (beyond (bound_of 127)) net.now.net sets.now rate budget pattern.now sifted.old sifted.new result }
 {
     if agree(net, allowed, pattern) {
-        return try_next(
-            alloc,
-            net,
-            sets,
-            rate,
-            pattern,
-            budget,
-            &mut sifted.vain,
-        );
+        return try_next(alloc, net, sets, rate, pattern, budget, &mut sifted.vain);
     }
     if sifted.vain.tried == budget {
         return Err(SearchFault::Budget { tried: budget });
