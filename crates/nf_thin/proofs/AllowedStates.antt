@@ -1,6 +1,6 @@
 -- The slopes of a thin flow allow the states of each pattern that is listed and solvable.
-use Rattle.std.proofs.Common.{◌≡◌, ◌⊎◌, inl, inr, ℕ, ◌+◌, ◌<◌, Bool, true, false, List, length, get_or, sym, ap, subst, refl, ◌∙◌, arith}
-use Rattle.std.specs.Prelude.{◌&&◌, Option, Some, None, slice_get}
+use Rattle.std.proofs.Common.{◌≡◌, ◌⊎◌, inl, inr, ℕ, ◌+◌, ◌<◌, true, false, List, length, get_or, sym, ap, subst, refl, ◌∙◌, arith}
+use Rattle.std.specs.Prelude.{Option, Some, None, slice_get}
 use Rattle.std.specs.Option.{option_map}
 use Rattle.std.proofs.lemmas.List.{get_or_read}
 use Rattle.std.proofs.lemmas.Option.{slice_get-map, same_Some, unwrap_or-slice_get}
@@ -17,7 +17,6 @@ use Rattle.nf_model.specs.Pattern.{Pattern, HasState}
 use Rattle.nf_thin_laws.specs.ActiveLinks.{AreSets, HoldNoCycle}
 use Rattle.nf_thin_laws.specs.PatternLaws.{AllowState}
 use Rattle.nf_thin_laws.proofs.States.{AllowState-thin}
-use Rattle.nf_thin_laws.proofs.Flags.{entry}
 use Rattle.nf_thin.specs.declared.allowed.Allowed.{Allowed}
 use Rattle.nf_thin.specs.Slopes.{AreThinSlopes}
 use Rattle.nf_thin.specs.Allowing.{allows, allows_of, flags_of, flags_by, Agrees, AllowSolvable}

@@ -5,6 +5,7 @@ ghost use Rattle.nf_thin.specs.Searching.{AreSetsOf};
 
 use crate::phases::{begin, made, network};
 use crate::searches::plain_search;
+use crate::sifting::sifted_search;
 use crate::{SearchFault, Thin, search};
 use nf_frac::Q;
 use nf_graph::{LinkId, LinkSets};
@@ -16,6 +17,9 @@ use std::test::Fail;
 // Slopes of this phase aren't unique: the links between a and b are a cycle of active ones.
 const ACTIVE_CYCLE: &str =
     "nfot 1\nsource s\nsink t\nlink a s t 1 2\nlink b a b 1 2\nlink c b t 1 1\nlink d b a 1 2\nlink e s b 1 2\ninflow 0 1\nend\n";
+
+const PARALLEL_LINKS: &str =
+    "nfot 1\nsource s\nsink t\nlink a s t 1 1\nlink b s t 1 1\ninflow 0 1\nend\n";
 
 // Two links of capacity 1 / (2^127 - 1) side by side.
 const NARROW_LINKS: &str =
@@ -95,23 +99,38 @@ fn are_same(one: &Thin, other: &Thin) -> bool {
         && one.labels.as_slice() == other.labels.as_slice()
 }
 
+// The place of a thin flow that both searches find.
+fn same_thin(one: &Thin, other: &Thin) -> Result<Option<u64>, Fail> {
+    if are_same(one, other) {
+        Ok(Some(one.place))
+    } else {
+        Err(Fail::from("the same thin flow"))
+    }
+}
+
+// The same fault of both searches.
+fn same_fault(one: SearchFault, other: SearchFault) -> Result<Option<u64>, Fail> {
+    if one == other {
+        Ok(None)
+    } else {
+        Err(Fail::from("the same fault"))
+    }
+}
+
 // What both searches find, if they find the same.
 fn same(
     one: Result<Thin, SearchFault>,
     other: Result<Thin, SearchFault>,
 ) -> Result<Option<u64>, Fail> {
-    let fault = match one {
-        Ok(one) => {
-            return match other {
-                Ok(other) if are_same(&one, &other) => Ok(Some(one.place)),
-                _ => Err(Fail::from("the same thin flow")),
-            };
-        }
-        Err(fault) => fault,
-    };
-    match other {
-        Err(other) if other == fault => Ok(None),
-        _ => Err(Fail::from("the same fault")),
+    match one {
+        Ok(one) => match other {
+            Ok(other) => same_thin(&one, &other),
+            Err(_) => Err(Fail::from("a thin flow of both")),
+        },
+        Err(one) => match other {
+            Ok(_) => Err(Fail::from("a fault of both")),
+            Err(other) => same_fault(one, other),
+        },
     }
 }
 
@@ -207,4 +226,20 @@ fn operations_that_pass(rt: HostRuntime) -> Result<(), Fail> {
     let wider = agree_at(rt.alloc(), WIDER_LINK, &slacks, 2)?;
     assert_eq!(rt; wider, None);
     Ok(())
+}
+
+// Both links are Full at three times what one of them carries. Four patterns before are counted.
+#[test]
+fn found_by_slopes(rt: HostRuntime) -> Result<(), Fail> {
+    let net = network(rt.alloc(), PARALLEL_LINKS)?;
+    let last = Pattern::none(rt.alloc(), net.link_count())?;
+    let (sets, base) = begin(rt.alloc(), &net, &[Q::zero(), Q::zero()], &last)?;
+    let found = sifted_search(rt.alloc(), &net, &sets, made(3, 1)?, &base, 7);
+    match found {
+        Ok(Some(thin)) => {
+            assert_eq!(rt; thin.place, 5);
+            Ok(())
+        }
+        _ => Err(Fail::from("a thin flow by its slopes")),
+    }
 }

@@ -1,4 +1,4 @@
-use Rattle.std.proofs.Common.{◌≡◌, ℕ, ◌<◌, length, ap, subst, sym, ◌∙◌}
+use Rattle.std.proofs.Common.{ℕ, ◌<◌, ap, subst, sym, ◌∙◌}
 use Rattle.nf_model.specs.Network.{Link}
 use Rattle.nf_pattern.proofs.Each.{take_pushed}
 use Rattle.nf_thin.specs.Allowing.{flags_by}

@@ -1,6 +1,5 @@
-use Rattle.std.proofs.Common.{◌≡◌, ◌≢◌, ℕ, ◌<◌, arith}
+use Rattle.std.proofs.Common.{arith}
 use Rattle.std.proofs.lemmas.Bool.Decides.{nat_tests}
-use Rattle.nf_thin.specs.Slopes.{IsLed}
 use Rattle.nf_thin.proofs.Leading.{one_more_led}
 use Rattle.nf_thin.proofs.led.each_is_led.Goals.{then-ne+else-not-is_led, else-ne}
 use Rattle.nf_thin.proofs.led.each_is_led.Goals as goal
