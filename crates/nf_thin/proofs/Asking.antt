@@ -47,9 +47,9 @@ turned : (b : Bool) → not (not b) ≡ b
 turned true = refl
 turned false = refl
 
--- the flag of a link without a capacity
-pub none_flag : (o p : Option ℚ) (b : Bool) → o ≡ p → is_some o ≡ not b → is_none p ≡ b
-none_flag o p b same e = ap is_none (sym same) ∙ (ap not e ∙ turned b)
+-- the flag of where there is none, as that of a link without a capacity
+pub none_flag : {A : Type 0} (o p : Option A) (b : Bool) → o ≡ p → is_some o ≡ not b → is_none p ≡ b
+none_flag {A = A} o p b same e = ap is_none (sym same) ∙ (ap not e ∙ turned b)
 
 -- ---- what is found is a thin flow, and its slopes are the only ones
 module _ (passes : Passing) (net : Network) (sets : Sets) (rate : ℚ) (base : Pattern) (budget : ℕ) (good : IsNetwork net) (sets_are : AreSetsOf net sets) where

@@ -19,3 +19,6 @@ pub mod Searched
 pub mod Asking
 pub mod Looping
 pub mod SourceRow
+pub mod Leading
+pub mod AllowedStates
+pub mod Changing

@@ -2,3 +2,6 @@ pub mod Judging
 pub mod Trying
 pub mod Searching
 pub mod Filling
+pub mod Slopes
+pub mod Allowing
+pub mod Sifting

@@ -2,12 +2,19 @@
 //! and the search for the first pattern that is accepted.
 #![tactic(auto)]
 
+#[cfg(test)]
+mod agreeing_tests;
+mod allowed;
 mod filling;
+mod groups;
+mod guess;
+mod led;
 #[cfg(test)]
 mod phases;
 #[cfg(test)]
 mod search_tests;
 mod searches;
+mod sifting;
 #[cfg(test)]
 mod tests;
 mod trying;

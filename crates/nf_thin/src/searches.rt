@@ -8,6 +8,7 @@ ghost use Rattle.nf_lists.specs.Search.{IsSearch};
 ghost use Rattle.nf_equation_laws.specs.Equations.{IsPatternIn};
 ghost use Rattle.nf_thin.specs.Searching.{TriesNext, Searches, SlopesAreOnly, AreSetsOf, AsksOf};
 
+use crate::sifting::sifted_search;
 use crate::trying::{Tried, try_pattern};
 use nf_frac::{Halt, PassedAt, Q};
 use nf_graph::{LinkId, LinkSets};
@@ -49,11 +50,11 @@ impl From<AllocError> for SearchFault {
     }
 }
 
-// Patterns tried in vain: how many, and the first of them of which an operation passes, with its place.
+/// Patterns tried in vain: how many, and the first of them of which an operation passes, with its place.
 #[derive(Clone, Copy)]
-struct Vain {
-    tried: u64,
-    passed: Option<(u64, PassedAt<Q>)>,
+pub(crate) struct Vain {
+    pub(crate) tried: u64,
+    pub(crate) passed: Option<(u64, PassedAt<Q>)>,
 }
 
 impl Vain {
@@ -70,8 +71,8 @@ impl Vain {
         }
     }
 
-    // Why nothing was found, where no pattern is left.
-    fn fault(self) -> SearchFault
+    /// Why nothing was found, where no pattern is left.
+    pub(crate) fn fault(self) -> SearchFault
         ensures { result ≡ fault_of self.passed }
     {
         match self.passed {
@@ -93,8 +94,8 @@ fn unbounded_flags(alloc: Global, net: &Network) -> Result<Vec<bool>, AllocError
     Ok(flags)
 }
 
-// The next pattern is tried: its thin flow, or none.
-fn try_next(
+/// The next pattern is tried: its thin flow, or none.
+pub(crate) fn try_next(
     alloc: Global,
     net: &Network,
     sets: &LinkSets,
@@ -158,6 +159,42 @@ fn go_through(
     Err(vain.fault())
 }
 
+/// The listing of the patterns of a network for these sets, from a base on.
+pub(crate) fn listing(
+    alloc: Global,
+    net: &Network,
+    sets: &LinkSets,
+    base: &Pattern,
+) -> Result<Patterns, AllocError>
+    requires sets { AreSetsOf net.now.net sets.now }
+    requires base { IsPattern sets.now (unbounded_of net.now.net) base.now }
+    ensures asked { IfOk result (λ patterns. AsksOf net.now.net sets.now patterns) }
+    ensures base { IfOk result (λ patterns. patterns.question.base ≡ base.now) }
+    ensures network { IsNetwork net.now.net }
+{
+    let hops = net.hops();
+    let nodes = net.node_count();
+    let unbounded = unbounded_flags(alloc, net)?;
+    Patterns::new(alloc, nodes, net.source(), hops, sets, base, &unbounded)
+}
+
+/// The same search with each pattern tried, whatever is known of slopes.
+pub(crate) fn plain_search(
+    alloc: Global,
+    net: &Network,
+    sets: &LinkSets,
+    rate: Q,
+    base: &Pattern,
+    budget: u64,
+) -> Result<Thin, SearchFault>
+    requires sets { AreSetsOf net.now.net sets.now }
+    requires base { IsPattern sets.now (unbounded_of net.now.net) base.now }
+    ensures { Searches (IsSearch (beyond (bound_of 127)) net.now.net sets.now rate base.now budget) budget result }
+{
+    let patterns = listing(alloc, net, sets, base)?;
+    go_through(alloc, net, sets, rate, patterns, budget)
+}
+
 /// The search for a thin flow with resetting: the listed patterns are tried in their order, from a base on, until one is accepted. It
 /// is where its equations have exactly one solution, which meets its inequalities, and no operation of its table and its
 /// verdict passes. Budget comes exactly where the list is longer than the budget and none of so many patterns is accepted;
@@ -177,16 +214,9 @@ pub fn search(
     ensures thin { IfOk result (λ thin. IsThinFlow net.now.net sets.now rate thin.flows.items thin.labels.items) }
     ensures only { IfOk result (λ thin. SlopesAreOnly net.now.net sets.now rate thin.labels.items) }
 {
-    let unbounded = unbounded_flags(alloc, net)?;
-    let nodes = net.node_count();
-    let patterns = Patterns::new(
-        alloc,
-        nodes,
-        net.source(),
-        net.hops(),
-        sets,
-        base,
-        &unbounded,
-    )?;
-    go_through(alloc, net, sets, rate, patterns, budget)
+    let _ = net.hops();
+    match sifted_search(alloc, net, sets, rate, base, budget)? {
+        Some(thin) => Ok(thin),
+        None => plain_search(alloc, net, sets, rate, base, budget),
+    }
 }

@@ -75,8 +75,8 @@ fn judge_values(
     }
 }
 
-// The only solution of a table, and None where there is none or more than one.
-fn solved(alloc: Global, table: Table<Q>) -> Result<Option<Vec<Q>>, Halt<Q>>
+/// The only solution of a table, and None where there is none or more than one.
+pub(crate) fn solved(alloc: Global, table: Table<Q>) -> Result<Option<Vec<Q>>, Halt<Q>>
     ensures { Gives (option_map (λ values. values.items)) (λ q. q) result (at_part Part.Table (table_list (beyond (bound_of 127)) table)) }
 {
     match solve(alloc, table)? {

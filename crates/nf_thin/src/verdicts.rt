@@ -44,8 +44,8 @@ fn bound(state: Option<State>, capacity: Option<Q>, head_slope: Q) -> Result<Opt
     }
 }
 
-// x ≤ y.
-fn is_at_most(x: Q, y: Q) -> bool
+/// x ≤ y.
+pub(crate) fn is_at_most(x: Q, y: Q) -> bool
     ensures { result ≡ le_ℚ x y }
 {
     x <= y

@@ -1,0 +1,67 @@
+-- Active links that hold no cycle, and the slopes of a pattern by which each node is led to.
+use Rattle.std.proofs.Common.{◌≡◌, ◌≢◌, ⊎_elim, ℕ, zero, suc, ◌+◌, ◌<◌, Bool, List, [], ◌∷◌, sym, ap, subst, ◌∙◌, arith}
+use Rattle.std.specs.Prelude.{◌↔◌, Option, Some, IsNone, slice_get}
+use Rattle.std.specs.Option.{option_map}
+use Rattle.std.proofs.lemmas.Option.{slice_get-map, none-some, same_Some}
+use Rattle.nf_rational.specs.Rational.{ℚ}
+use Rattle.nf_model.specs.Entries.{Has}
+use Rattle.nf_model.specs.Walk.{Hop, IsHop, IsWalk}
+use Rattle.nf_model.specs.Network.{Link, Network, IsLink, hop_of, hops}
+use Rattle.nf_model.specs.ThinFlow.{Sets}
+use Rattle.nf_model.specs.Pattern.{Pattern, IsSolution}
+use Rattle.nf_graph.specs.Order.{IsChosenCycle}
+use Rattle.nf_equation_laws.specs.Equations.{IsPatternIn}
+use Rattle.nf_thin_laws.specs.ActiveLinks.{IsActiveWalk, HoldNoCycle}
+use Rattle.nf_thin_laws.specs.PatternLaws.{EachIsLed}
+use Rattle.nf_thin_laws.proofs.Accepted.{IsThinFlow-accepted}
+use Rattle.nf_pattern.proofs.Entering.{less_or_same}
+use Rattle.nf_thin.specs.Slopes.{MayCarry, IsLed, AreThinSlopes}
+
+-- a link is a hop
+pub hop_at : (net : Network) (e : ℕ) (link : Link) → IsLink net e link → IsHop (hops net) e (hop_of link)
+hop_at net e link h = slice_get-map hop_of net.links e ∙ ap (option_map hop_of) h
+
+-- a walk by active links is a walk by chosen hops
+active_walk : (net : Network) (sets : Sets) (walk : List ℕ) (v w : ℕ) → IsActiveWalk net sets walk v w → IsWalk (hops net) walk v w
+active_walk net sets [] v w s = s
+active_walk net sets (e ∷ walk) v w s = (hop_of s.0, hop_at net e s.0 s.1, s.3, active_walk net sets walk (s.0).head w s.4)
+
+all_active : (net : Network) (sets : Sets) (walk : List ℕ) (v w : ℕ) → IsActiveWalk net sets walk v w → (i e : ℕ) → slice_get walk i ≡ Some e → Has sets.active e
+all_active net sets [] v w s i e h = absurd (none-some e h)
+all_active net sets (x ∷ walk) v w s zero e h = subst (Has sets.active) (same_Some x e h) s.2
+all_active net sets (x ∷ walk) v w s (suc i) e h = all_active net sets walk (s.0).head w s.4 i e h
+
+pub none_round : (net : Network) (sets : Sets) → ((cycle : List ℕ) → IsChosenCycle (hops net) sets.active cycle → ⊥) → HoldNoCycle net sets
+none_round net sets none e walk v s = none (e ∷ walk) (record {
+  node = v;
+  some = omega arith;
+  closed = active_walk net sets (e ∷ walk) v v s;
+  allowed = all_active net sets (e ∷ walk) v v s;
+})
+
+-- so an order of the nodes along them says that they hold no cycle
+pub ordered_round : {A : Type 0} (net : Network) (sets : Sets) (given : List Hop) (active : List Bool) (found : Option A) (order : A) → given ≡ hops net → active ≡ sets.active → found ≡ Some order
+    → (IsNone found ↔ ((cycle : List ℕ) × IsChosenCycle given active cycle)) → HoldNoCycle net sets
+ordered_round {A = A} net sets given active found order same_hops same_flags is none =
+    none_round net sets (λ cycle chosen. no (subst (λ (o : Option A). IsNone o) is
+    (none.1 (cycle, subst (λ (l : List Hop). IsChosenCycle l active cycle) (sym same_hops) (subst (λ (f : List Bool). IsChosenCycle (hops net) f cycle) (sym same_flags) chosen)))))
+  where
+    no : IsNone (Some order) → ⊥
+    no e = cc
+
+-- what is accepted by a pattern that leads to each node is a thin flow
+pub led_slopes : (net : Network) (sets : Sets) (rate : ℚ) (pattern : Pattern) (flows slopes : List ℚ) → IsPatternIn net sets pattern → EachIsLed net sets pattern
+    → IsSolution net sets rate pattern flows slopes → AreThinSlopes net sets rate slopes
+led_slopes net sets rate pattern flows slopes p led s = (flows, IsThinFlow-accepted net sets rate pattern flows slopes p.network p.sets_are p.pattern_is led s.solves s.meets)
+
+-- a link that leads to a node
+pub led_by : (net : Network) (sets : Sets) (pattern : Pattern) (e : ℕ) (link : Link) → IsLink net e link → (node : ℕ) → link.head ≡ node → MayCarry sets pattern e → IsLed net sets pattern node
+led_by net sets pattern e link is node head carries = (e, hop_of link, hop_at net e link is, head, carries)
+
+-- one more node that is led to
+pub one_more_led : (net : Network) (sets : Sets) (pattern : Pattern) (n : ℕ) → ((v : ℕ) → v < n → v ≢ net.source → IsLed net sets pattern v) → (n ≢ net.source → IsLed net sets pattern n)
+    → (v : ℕ) → v < n + 1 → v ≢ net.source → IsLed net sets pattern v
+one_more_led net sets pattern n so here v less other = ⊎_elim
+    (λ (b : v < n). so v b other)
+    (λ (s : v ≡ n). subst (λ (w : ℕ). w ≢ net.source → IsLed net sets pattern w) (sym s) here other)
+    (less_or_same v n less)

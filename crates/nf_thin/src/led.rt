@@ -1,0 +1,113 @@
+// Slopes of a thin flow: those of a pattern by which each node is led to, if it is accepted.
+ghost use Rattle.std.specs.Prelude.{◌≡◌, ◌<◌, ℕ, length, IsTrue, IfOk, IfSome};
+ghost use Rattle.nf_equation_laws.specs.Equations.{IsPatternIn};
+ghost use Rattle.nf_thin_laws.specs.ActiveLinks.{HoldNoCycle};
+ghost use Rattle.nf_thin_laws.specs.PatternLaws.{EachIsLed};
+ghost use Rattle.nf_thin.specs.Slopes.{MayCarry, IsLed, AreThinSlopes};
+
+use crate::trying::{Tried, try_pattern};
+use nf_frac::{Halt, Q};
+use nf_graph::{LinkId, LinkSets, NodeId, topological};
+use nf_model::State;
+use nf_net::Network;
+use nf_pattern::Pattern;
+use std::alloc::{AllocError, Global};
+
+/// The link is Tight, Full or resetting.
+pub(crate) fn may_carry(sets: &LinkSets, pattern: &Pattern, link: LinkId) -> bool
+    requires link { link < length pattern.now }
+    requires sets { length sets.now.active ≡ length pattern.now }
+    ensures { IsTrue result → MayCarry sets.now pattern.now link }
+{
+    if sets.resetting(link) {
+        return true;
+    }
+    match pattern.state(link) {
+        Some(State::Tight) => true,
+        Some(State::Full) => true,
+        _ => false,
+    }
+}
+
+// Such a link leads to the node.
+fn is_led(net: &Network, sets: &LinkSets, pattern: &Pattern, node: NodeId) -> bool
+    requires { IsPatternIn net.now.net sets.now pattern.now }
+    ensures { IsTrue result → IsLed net.now.net sets.now pattern.now node }
+{
+    for e in 0..net.link_count() {
+        let here = net.link(LinkId(e));
+        if here.head == node {
+            if may_carry(sets, pattern, LinkId(e)) {
+                return true;
+            }
+        }
+    }
+    false
+}
+
+// One leads to each node but the source.
+fn each_is_led(net: &Network, sets: &LinkSets, pattern: &Pattern) -> bool
+    requires { IsPatternIn net.now.net sets.now pattern.now }
+    ensures { IsTrue result → EachIsLed net.now.net sets.now pattern.now }
+{
+    let source = net.source();
+    for v in 0..net.node_count() {
+        let node = NodeId(v);
+        if node != source {
+            if !is_led(net, sets, pattern, node) {
+                return false;
+            }
+        }
+    }
+    true
+}
+
+/// The slopes of a pattern by which each node is led to, if it is accepted.
+pub(crate) fn slopes_by(
+    alloc: Global,
+    net: &Network,
+    sets: &LinkSets,
+    rate: Q,
+    pattern: &Pattern,
+) -> Result<Option<Vec<Q>>, AllocError>
+    requires { IsPatternIn net.now.net sets.now pattern.now }
+    ensures { IfOk result (λ found. IfSome found (λ slopes. AreThinSlopes net.now.net sets.now rate slopes.items)) }
+{
+    if !each_is_led(net, sets, pattern) {
+        return Ok(None);
+    }
+    match try_pattern(alloc, net, sets, rate, pattern) {
+        Ok(Tried::Accepted { flows: _, slopes }) => Ok(Some(slopes)),
+        Ok(Tried::Refused) => Ok(None),
+        Err(Halt::Passed(_)) => Ok(None),
+        Err(Halt::Memory) => Err(AllocError),
+    }
+}
+
+// Of each link, whether it is active.
+fn active_flags(alloc: Global, net: &Network, sets: &LinkSets) -> Result<Vec<bool>, AllocError>
+    requires { length sets.now.active ≡ length net.now.net.links }
+    ensures { IfOk result (λ flags. flags.items ≡ sets.now.active) }
+{
+    let mut flags = Vec::new(alloc);
+    for e in 0..net.link_count() {
+        flags.push(sets.active(LinkId(e)))?;
+    }
+    Ok(flags)
+}
+
+/// Whether the active links are known to hold no cycle.
+pub(crate) fn hold_no_cycle(
+    alloc: Global,
+    net: &Network,
+    sets: &LinkSets,
+) -> Result<bool, AllocError>
+    requires { length sets.now.active ≡ length net.now.net.links }
+    ensures { IfOk result (λ none. IsTrue none → HoldNoCycle net.now.net sets.now) }
+{
+    let active = active_flags(alloc, net, sets)?;
+    match topological(alloc, net.node_count(), net.hops(), &active)? {
+        Some(_) => Ok(true),
+        None => Ok(false),
+    }
+}
