@@ -1,6 +1,6 @@
 -- What a run that has ended is.
-use Rattle.std.proofs.Common.{◌≡◌, ℕ, ◌<◌, ◌⊎◌, inl, inr, ⊎_elim, ◌↔◌, List, [], ◌∷◌, length, sym, ap, subst, refl, ◌∙◌}
-use Rattle.std.specs.Prelude.{Option, Some, None, is_none, map, slice_get, Result, Ok, Err, IfOk}
+use Rattle.std.proofs.Common.{◌≡◌, ℕ, inl, inr, ⊎_elim, ◌↔◌, List, [], ◌∷◌, length, sym, ap, subst, refl, ◌∙◌}
+use Rattle.std.specs.Prelude.{Option, Some, None, is_none, Result, Ok, Err, IfOk}
 use Rattle.std.specs.Option.{option_map}
 use Rattle.std.proofs.lemmas.Option.{none-some, slice_get-map}
 use Rattle.nf_rational.specs.Rational.{ℚ}
@@ -11,11 +11,8 @@ use Rattle.nf_rational_laws.proofs.Order.{≤ℚ_of_same, <ℚ_irrefl}
 use Rattle.nf_rational_laws.proofs.Tests.{min_ℚ_cases}
 use Rattle.nf_rational_laws.proofs.Linear.{le, lt, eq, linear_le}
 use Rattle.nf_work.specs.Passing.{Passing, beyond}
-use Rattle.nf_model.specs.declared.State.TheVariants.{Full}
-use Rattle.nf_model.specs.Entries.{Has}
-use Rattle.nf_model.specs.Network.{Link, Network, IsNetwork, IsLink, hops, unbounded}
+use Rattle.nf_model.specs.Network.{Link, Network, IsNetwork, hops}
 use Rattle.nf_model.specs.ThinFlow.{slacks_of}
-use Rattle.nf_model.specs.Pattern.{HasState}
 use Rattle.nf_model.specs.Phases.{IsPhaseLength}
 use Rattle.nf_model.specs.Equilibrium.{Equilibrium}
 use Rattle.nf_formats.specs.declared.Cause.{Cause}

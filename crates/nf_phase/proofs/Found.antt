@@ -1,22 +1,21 @@
 -- From the answers of a search and of the lists to what a phase is found to be, or why it isn't.
-use Rattle.std.proofs.Common.{◌≡◌, ℕ, suc, ◌<◌, ◌⊎◌, inl, inr, List, [], ◌∷◌, length, sym, ap, subst, refl, ◌∙◌}
+use Rattle.std.proofs.Common.{◌≡◌, ℕ, suc, inl, inr, List, length, sym, ap, subst, refl, ◌∙◌}
 use Rattle.std.specs.Prelude.{Option, Some, None, map, Result, Ok, Err, MatchOption, IfErr}
 use Rattle.std.specs.Result.{IsErrAnd}
 use Rattle.nf_rational.specs.Rational.{ℚ}
 use Rattle.nf_rational.specs.Operations.{◌-ℚ◌}
-use Rattle.nf_rational.specs.Order.{◌<ℚ◌, min_ℚ}
+use Rattle.nf_rational.specs.Order.{◌<ℚ◌}
 use Rattle.nf_work.specs.Passing.{Passing}
 use Rattle.nf_work.specs.declared.Part.{Part}
 use Rattle.nf_work.specs.declared.Part.TheVariants.{Slack, Extend, Advance, Curve}
 use Rattle.nf_work.specs.declared.Passed.{Passed}
 use Rattle.nf_work.specs.declared.PassedAt.{PassedAt}
 use Rattle.nf_work.specs.declared.Halt.{Halt}
-use Rattle.nf_work.specs.declared.Halt.TheVariants as Halt
-use Rattle.nf_work.specs.Checked.{Checked, at_part, placed, Gives, Stops, ◌>>=◌}
+use Rattle.nf_work.specs.Checked.{Checked, at_part, placed, Stops, ◌>>=◌}
 use Rattle.nf_model.specs.Walk.{Hop}
-use Rattle.nf_model.specs.Network.{Network, hops, rate_at}
-use Rattle.nf_model.specs.ThinFlow.{Sets, slacks_of, sets_at}
-use Rattle.nf_model.specs.Pattern.{Pattern, IsBase}
+use Rattle.nf_model.specs.Network.{Network, hops}
+use Rattle.nf_model.specs.ThinFlow.{slacks_of, sets_at}
+use Rattle.nf_model.specs.Pattern.{Pattern}
 use Rattle.nf_model.specs.Phases.{IsExtension, IsUnending, IsPhaseLength}
 use Rattle.nf_formats.specs.declared.Cause.TheVariants as Cause
 use Rattle.nf_lists.specs.Slack.{slack_list}
@@ -24,12 +23,11 @@ use Rattle.nf_lists.specs.Extend.{extend_list}
 use Rattle.nf_lists.specs.Advance.{Advanced, cut_at, advance_list}
 use Rattle.nf_lists.specs.CurveList.{LinkStep, curve_list}
 use Rattle.nf_lists.specs.ReportCurves.{amount_so_far}
-use Rattle.nf_lists.specs.Search.{Answer, Found, OverBudget, PassesAt, NoPattern, IsSearch}
+use Rattle.nf_lists.specs.Search.{Answer, Found, OverBudget, PassesAt, NoPattern}
 use Rattle.nf_lists.specs.PhaseRun.{Standing, PhaseStep, Seeks, IsSearchHere, Fails, at_slack, at_search, at_lists, phase_lists}
 use Rattle.nf_lists_laws.proofs.Exact.{slacks_exact, advanced_exact}
 use Rattle.nf_thin.specs.declared.searches.Thin.{Thin}
 use Rattle.nf_thin.specs.declared.searches.SearchFault.{SearchFault}
-use Rattle.nf_thin.specs.declared.searches.SearchFault.TheVariants as SearchFault
 use Rattle.nf_thin.specs.Searching.{Searches}
 use Rattle.nf_phase.specs.Faults.{of_halt, of_search}
 use Rattle.nf_phase.specs.Stepping.{IsCause}

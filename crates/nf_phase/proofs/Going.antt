@@ -1,5 +1,5 @@
 -- A run that has gone on so far, and what it takes for it to end.
-use Rattle.std.proofs.Common.{◌≡◌, ℕ, suc, ◌+◌, ◌<◌, add-one, Bool, true, false, ⊎_elim, sym, ap, subst, refl, ◌∙◌}
+use Rattle.std.proofs.Common.{◌≡◌, ℕ, suc, ◌+◌, ◌<◌, add-one, Bool, true, false, ⊎_elim, sym, ap, subst, ◌∙◌}
 use Rattle.std.specs.Prelude.{Option, Some, None, IsSome, Result, Ok, Err, IfOk, not, MatchBool}
 use Rattle.std.proofs.lemmas.Option.{same_Some}
 use Rattle.nf_rational.specs.Rational.{ℚ}
@@ -10,11 +10,9 @@ use Rattle.nf_rational_laws.proofs.Tests.{lt_ℚ_cases}
 use Rattle.nf_work.specs.Passing.{Passing}
 use Rattle.nf_model.specs.Network.{Network}
 use Rattle.nf_formats.specs.declared.Cause.{Cause}
-use Rattle.nf_formats.specs.declared.Cause.TheVariants as Cause
 use Rattle.nf_lists.specs.PhaseRun.{Standing, Bounds, IsStart, Goes, Fails, Runs, at_horizon, at_phases, fails, goes, IsPhaseRun}
 use Rattle.nf_thin.specs.declared.searches.SearchFault.TheVariants as SearchFault
 use Rattle.nf_phase.specs.declared.fault.StepFault.{StepFault}
-use Rattle.nf_phase.specs.declared.fault.StepFault.TheVariants as StepFault
 use Rattle.nf_phase.specs.Stepping.{Reaches, starts, goes_on, IsCause}
 use Rattle.nf_phase.specs.Solution.{cause_of, stop_after}
 use Rattle.nf_phase.proofs.Ended.{goes_within}

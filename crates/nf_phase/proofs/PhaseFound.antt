@@ -1,6 +1,6 @@
 -- The operations of a phase, as the code does them: what stops it, and that the phase leads on.
-use Rattle.std.proofs.Common.{◌≡◌, ℕ, suc, List, [], ◌∷◌, length, sym, ap, subst, refl, ◌∙◌}
-use Rattle.std.specs.Prelude.{Option, Some, None, map, Result, Ok, Err, MatchOption, IfErr}
+use Rattle.std.proofs.Common.{◌≡◌, ℕ, List, length, sym, ap, subst, refl, ◌∙◌}
+use Rattle.std.specs.Prelude.{Option, map, Result, Ok, Err, MatchOption, IfErr}
 use Rattle.std.specs.Result.{IsErrAnd}
 use Rattle.std.proofs.lemmas.List.{length-map}
 use Rattle.nf_rational.specs.Rational.{ℚ}
@@ -21,7 +21,6 @@ use Rattle.nf_lists_laws.proofs.Exact.{advanced_exact}
 use Rattle.nf_lists_laws.proofs.Ending.{length-moved}
 use Rattle.nf_run_laws.proofs.Standing.{label_count_at}
 use Rattle.nf_phase.specs.declared.fault.StepFault.{StepFault}
-use Rattle.nf_phase.specs.declared.fault.StepFault.TheVariants as StepFault
 use Rattle.nf_phase.specs.declared.finding.Found.{Found}
 use Rattle.nf_phase.specs.declared.phase.Phase.{Phase}
 use Rattle.nf_phase.specs.Faults.{of_halt}

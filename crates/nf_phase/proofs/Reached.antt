@@ -1,6 +1,6 @@
 -- What holds wherever a run comes to, and what the search of the next phase needs of it.
-use Rattle.std.proofs.Common.{◌≡◌, ℕ, ◌<◌, List, length, Bool, true, false, sym, ap, subst, refl, ◌∙◌}
-use Rattle.std.specs.Prelude.{Option, Some, None, is_none, replicate, map, slice_get}
+use Rattle.std.proofs.Common.{◌≡◌, ℕ, List, length, true, sym, ap, subst, refl, ◌∙◌}
+use Rattle.std.specs.Prelude.{Option, Some, None, is_none}
 use Rattle.std.proofs.lemmas.List.{length-map, length-replicate}
 use Rattle.nf_rational.specs.Rational.{ℚ}
 use Rattle.nf_rational.specs.Operations.{0ℚ}
@@ -10,10 +10,10 @@ use Rattle.nf_work.specs.Passing.{Passing}
 use Rattle.nf_model.specs.declared.State.TheVariants.{Full}
 use Rattle.nf_model.specs.Entries.{Has}
 use Rattle.nf_model.specs.Network.{Link, Network, IsNetwork, hop_of, hops, unbounded}
-use Rattle.nf_model.specs.ThinFlow.{Sets, slack, slacks_of, sets_at}
+use Rattle.nf_model.specs.ThinFlow.{slack, slacks_of, sets_at}
 use Rattle.nf_model.specs.Pattern.{Pattern, HasState, IsPattern, IsListedIn, IsBase}
 use Rattle.nf_model_laws.proofs.Slacks.{slack_of_resetting}
-use Rattle.nf_lists.specs.PhaseRun.{Standing, Bounds, IsStart, Goes}
+use Rattle.nf_lists.specs.PhaseRun.{Standing, IsStart, Goes}
 use Rattle.nf_lists_laws.proofs.Ending.{from_map}
 use Rattle.nf_pattern.proofs.FirstPatterns.{base_is_pattern, none_full}
 use Rattle.nf_thin.specs.Searching.{NoneResetsUnbounded, AreSetsOf}

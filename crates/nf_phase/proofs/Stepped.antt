@@ -1,20 +1,19 @@
 -- A phase that is found leads on: what making it needs, and what it comes to.
-use Rattle.std.proofs.Common.{◌≡◌, ℕ, suc, ◌<◌, List, [], ◌∷◌, length, sym, ap, subst, refl, ◌∙◌}
-use Rattle.std.specs.Prelude.{Option, Some, map, slice_get}
+use Rattle.std.proofs.Common.{◌≡◌, ℕ, suc, List, [], ◌∷◌, length, sym, ap, subst, refl, ◌∙◌}
+use Rattle.std.specs.Prelude.{Some, slice_get}
 use Rattle.nf_rational.specs.Rational.{ℚ}
 use Rattle.nf_rational.specs.Operations.{0ℚ, ◌+ℚ◌}
 use Rattle.nf_rational.specs.Order.{◌<ℚ◌}
 use Rattle.nf_rational_laws.proofs.Polynomial.{reading_of}
-use Rattle.nf_rational_laws.proofs.Linear.{lt, eq, linear_lt}
+use Rattle.nf_rational_laws.proofs.Linear.{lt, linear_lt}
 use Rattle.nf_work.specs.Passing.{Passing}
 use Rattle.nf_model.specs.Entries.{number_at}
-use Rattle.nf_model.specs.Network.{Link, Network, IsNetwork, IsLink, hops}
+use Rattle.nf_model.specs.Network.{Network, IsNetwork, hops}
 use Rattle.nf_model.specs.ThinFlow.{slacks_of, sets_at}
 use Rattle.nf_model.specs.Pattern.{Pattern}
 use Rattle.nf_model.specs.Equilibrium.{Equilibrium}
-use Rattle.nf_lists.specs.CurveList.{LinkStep}
 use Rattle.nf_lists.specs.ReportCurves.{GrowingCurve, LinkCurves, label_curves_after, link_curves_after}
-use Rattle.nf_lists.specs.PhaseRun.{Standing, Bounds, Goes, standing_after, flow_of}
+use Rattle.nf_lists.specs.PhaseRun.{Standing, Goes, standing_after, flow_of}
 use Rattle.nf_lists.specs.Ends.{end_of, EndsAtLabels}
 use Rattle.nf_lists_laws.proofs.Ending.{PhaseParts, phase_parts}
 use Rattle.nf_phase_laws.proofs.Length.{IsPhaseLength-some}
@@ -27,7 +26,7 @@ use Rattle.nf_run_laws.proofs.Moving.{inflow_moves, outflow_moves, queue_steps}
 use Rattle.nf_phase.specs.declared.phase.Phase.{Phase}
 use Rattle.nf_phase.specs.Stepping.{Reaches, goes_on, LeadsOnlyTo}
 use Rattle.nf_phase.specs.Finding.{step_in, LeadsOn}
-use Rattle.nf_phase.specs.LinkGrowth.{LinkEndsBefore, AllLinksEndBefore}
+use Rattle.nf_phase.specs.LinkGrowth.{AllLinksEndBefore}
 use Rattle.nf_phase.proofs.Reached.{Stands, Stands-reached}
 
 -- ---- wherever a run comes to

@@ -1,5 +1,5 @@
 -- The curves of all links, and of a whole run, as they grow.
-use Rattle.std.specs.Prelude.{◌≡◌, ℕ, List, Option, Some, slice_get, refl}
+use Rattle.std.specs.Prelude.{◌≡◌, ℕ, List, Some, slice_get, refl}
 use Rattle.std.specs.Coded.{Coded, code_by, coded×, coded_ℕ, coded_list}
 use Rattle.nf_rational.specs.Rational.{ℚ, coded_ℚ}
 use Rattle.nf_rational.specs.Order.{◌<ℚ◌}

@@ -1,6 +1,5 @@
-use Rattle.std.proofs.Common.{◌≡◌, map, sym, ap, ◌∙◌}
+use Rattle.std.proofs.Common.{map, sym, ap, ◌∙◌}
 use Rattle.std.specs.Prelude.{Some}
-use Rattle.nf_model.specs.Network.{Link}
 use Rattle.nf_lists.specs.ReportCurves.{LinkCurves, first_curves}
 use Rattle.nf_pattern.proofs.Each.{take_pushed}
 use Rattle.nf_run_laws.proofs.WellRun.{entry_of}

@@ -1,5 +1,4 @@
-use Rattle.std.proofs.Common.{◌≡◌, List, Ok, length, sym, ap, ◌∙◌}
-use Rattle.nf_rational.specs.Rational.{ℚ}
+use Rattle.std.proofs.Common.{◌≡◌, ap, ◌∙◌}
 use Rattle.nf_work.specs.Passing.{bound_of, beyond}
 use Rattle.nf_lists.specs.PhaseRun.{Standing}
 use Rattle.nf_run_laws.proofs.Standing.{label_count_at}
