@@ -1,11 +1,12 @@
 -- When the states of the first links keep a pattern from being listed, whatever the states of the later links.
-use Rattle.std.proofs.Common.{◌≡◌, ◌≢◌, ℕ, ◌+◌, ◌<◌, ◌≤◌, List, take, inl, inr, sym, ◌∙◌, arith}
-use Rattle.nf_model.specs.declared.State.{State}
+use Rattle.std.proofs.Common.{◌≡◌, ◌≢◌, ℕ, suc, ◌+◌, ◌<◌, Bool, List, take, Some, inl, inr, sym, ◌∙◌, arith}
+use Rattle.std.specs.Prelude.{slice_get}
+use Rattle.std.proofs.lemmas.Option.{slice_get_within}
 use Rattle.nf_model.specs.declared.State.TheVariants.{Tight, Full}
 use Rattle.nf_model.specs.Walk.{Hop, IsHop}
 use Rattle.nf_model.specs.Pattern.{Pattern, HasState, IsForest}
-use Rattle.nf_pattern.specs.Forest.{TightBefore, Closes, NoneCloses}
-use Rattle.nf_pattern.specs.Entered.{MayCarry, IsEntered}
+use Rattle.nf_pattern.specs.Forest.{TightBefore, Closes}
+use Rattle.nf_pattern.specs.Entered.{MayCarry, CanCarry, IsEntered, AreEnds, Strands}
 use Rattle.nf_pattern.specs.Successor.{IsAssignment}
 use Rattle.nf_pattern.specs.Given.{Question, IsQuestion, IsListedBy, IsBarren}
 use Rattle.nf_pattern.proofs.Forests.{no_forest}
@@ -27,32 +28,43 @@ closes_same hops p r n e less same closes = (
   },
 )
 
-pub none_closes_same : (hops : List Hop) (p r : Pattern) (m n : ℕ) → n ≤ m → NoneCloses hops p m → take n r ≡ take n p → NoneCloses hops r n
-none_closes_same hops p r m n few none same e less closes = none e (omega arith) (closes_same hops r p n e less (sym same) closes)
-
-pub none_closes_listed : (hops : List Hop) (p : Pattern) (n : ℕ) → IsForest hops (λ e. HasState p e Tight) → NoneCloses hops p n
-none_closes_listed hops p n forest e less closes = no_forest hops p e closes forest
+-- a link that may carry flow does so in each pattern that has the same state there
+pub may_carry_too : (resetting : List Bool) (p other : Pattern) (n e : ℕ) → e < n → take n other ≡ take n p → MayCarry resetting other e → MayCarry resetting p e
+may_carry_too resetting p other n e less same (inl resets) = inl resets
+may_carry_too resetting p other n e less same (inr (inl tight)) = inr (inl (sym (same_front_at n e other p less same) ∙ tight))
+may_carry_too resetting p other n e less same (inr (inr full)) = inr (inr (sym (same_front_at n e other p less same) ∙ full))
 
 module _ (question : Question) (is : IsQuestion question) (p : Pattern) where
   pub barren_cycle : (e : ℕ) → Closes question.hops p e → IsBarren question (e + 1) p
   barren_cycle e closes other listed same = no_forest question.hops other e (closes_same question.hops p other (e + 1) e (omega arith) same closes) listed.forest
 
-  -- a node that is not entered, with all links into it that have states among the first ones
-  pub barren_node : (v n : ℕ) → v < question.nodes → v ≢ question.source → (IsEntered question.hops question.sets.resetting p v → ⊥)
-      → ((e : ℕ) (hop : Hop) (state : State) → IsHop question.hops e hop → hop.head ≡ v → HasState question.base e state → e < n) → IsBarren question n p
-  barren_node v n below apart none all other listed same =
-      let way = listed.entered v below apart in
-      go way.0 way.1 way.2 way.3 way.4
-    where
-      there : (e : ℕ) (hop : Hop) (state : State) → IsHop question.hops e hop → hop.head ≡ v → HasState other e state → HasState p e state
-      there e hop state q head has =
-          let base = (is.base.states e).0 ((listed.states.states e).1 (state, has)) in
-          sym (same_front_at n e other p (all e hop base.0 q head base.1) same) ∙ has
+  -- a link that may carry flow in a listed pattern can do so from the start on
+  carries : (other : Pattern) (e : ℕ) → IsListedBy question other → MayCarry question.sets.resetting other e → CanCarry question.sets.resetting question.base e
+  carries other e listed (inl resetting) = inl resetting
+  carries other e listed (inr (inl tight)) = inr ((is.base.states e).0 ((listed.states.states e).1 (Tight, tight)))
+  carries other e listed (inr (inr full)) = inr ((is.base.states e).0 ((listed.states.states e).1 (Full, full)))
 
-      go : (e : ℕ) (hop : Hop) → IsHop question.hops e hop → hop.head ≡ v → MayCarry question.sets.resetting other e → ⊥
-      go e hop q head (inl resetting) = none (e, hop, q, head, inl resetting)
-      go e hop q head (inr (inl tight)) = none (e, hop, q, head, inr (inl (there e hop Tight q head tight)))
-      go e hop q head (inr (inr full)) = none (e, hop, q, head, inr (inr (there e hop Full q head full)))
+  module _ (ends : List ℕ) (are : AreEnds question.hops question.sets.resetting question.base ends) where
+    -- a node that a listed pattern enters, by a link before its end
+    enters : (other : Pattern) (v n : ℕ) → IsListedBy question other → v < question.nodes → v ≢ question.source → slice_get ends v ≡ Some n
+        → (e : ℕ) × (hop : Hop) × IsHop question.hops e hop × (hop.head ≡ v) × MayCarry question.sets.resetting other e × (e < n)
+    enters other v n listed below apart at =
+        let way = listed.entered v below apart in (
+          way.0,
+          way.1,
+          way.2,
+          way.3,
+          way.4,
+          (are v n at).all way.0 way.1 (slice_get_within question.hops way.0 way.1 way.2) way.2 way.3 (carries other way.0 listed way.4),
+        )
+
+    pub barren_stranded : (e : ℕ) → Strands question.source question.hops question.sets.resetting p ends e → IsBarren question (e + 1) p
+    barren_stranded e strands other listed same =
+        let w = enters other strands.hop.head (suc e) listed (is.ends.heads e strands.hop strands.is_hop) strands.other strands.last in
+        strands.unentered (w.0, w.5, (w.1, w.2, w.3, may_carry_too question.sets.resetting p other (e + 1) w.0 (let l = w.5 in omega arith) same w.4))
+
+    pub barren_lost : (v : ℕ) → v < question.nodes → v ≢ question.source → slice_get ends v ≡ Some 0 → IsBarren question 0 p
+    barren_lost v below apart at other listed same = let w = enters other v 0 listed below apart at in let l = w.5 in omega arith
 
   pub listed_by : IsAssignment question.base question.unbounded p → IsForest question.hops (λ e. HasState p e Tight)
       → ((v : ℕ) → v < question.nodes → v ≢ question.source → IsEntered question.hops question.sets.resetting p v) → IsListedBy question p

@@ -1,11 +1,11 @@
 -- How many links differ from a base, and may, link by link; and when there is an assignment with so many changes.
-use Rattle.std.proofs.Common.{◌≡◌, ℕ, suc, ◌+◌, ◌<◌, ◌≤◌, Bool, List, ◌∷◌, length, get_or, drop, drop-cons, add-one, refl, ap, ◌∙◌, arith}
+use Rattle.std.proofs.Common.{◌≡◌, ℕ, suc, ◌+◌, ◌<◌, ◌≤◌, Bool, List, [], ◌∷◌, length, get_or, drop, drop-cons, add-one, refl, ap, ◌∙◌, arith}
 use Rattle.std.specs.Prelude.{Option, Some, None}
 use Rattle.std.proofs.Math.ListN.{drop_of_length-le}
 use Rattle.nf_model.specs.Pattern.{Pattern, changes}
 use Rattle.nf_pattern.specs.Successor.{IsAssignment, free, change, earliest, later, or_else, next_assignment}
 use Rattle.nf_pattern.proofs.Filling.{free_first}
-use Rattle.nf_pattern.proofs.Successors.{changes_first, changes_few, earliest_is}
+use Rattle.nf_pattern.proofs.Successors.{changes_first, change_small, changes_few, earliest_is}
 
 pub changes_here : (base states : Pattern) (i : ℕ) → i < length base → length states ≡ length base
     → changes (drop i base) (drop i states) ≡ change (get_or base i None) (get_or states i None) + changes (drop (i + 1) base) (drop (i + 1) states)
@@ -23,6 +23,12 @@ free_at base i below = rw (add-one i) (ap free (drop-cons base i None below) ∙
 pub free_end : (base : Pattern) (i : ℕ) → length base ≤ i → free (drop i base) ≡ 0
 free_end base i end = ap free (drop_of_length-le base end)
 
+changes_within : (base states : Pattern) → changes base states ≤ length base
+changes_within [] [] = omega arith
+changes_within [] (a ∷ states) = omega arith
+changes_within (b ∷ base) [] = omega arith
+changes_within (b ∷ base) (a ∷ states) = let f = changes_first b a base states in let s = change_small b a in let r = changes_within base states in omega arith
+
 -- none has more changes than there can be
 pub none_earliest : (base : Pattern) (us : List Bool) (n : ℕ) → IsAssignment base us base → free base < n → earliest base us n ≡ None
 none_earliest base us n valid more = go (earliest base us n) refl
@@ -39,3 +45,6 @@ else_other i base us p o none e = ap (λ (x : Option Pattern). or_else x (earlie
 
 pub else_first : (i : ℕ) (base : Pattern) (us : List Bool) (p q : Pattern) → later i base us p ≡ Some q → next_assignment i base us p ≡ Some q
 else_first i base us p q e = ap (λ (x : Option Pattern). or_else x (earliest base us (suc (changes base p)))) e
+
+pub few_changes : (base states : Pattern) (n : ℕ) → n ≡ changes base states → n ≤ length base
+few_changes base states n is = let f = changes_within base states in omega arith

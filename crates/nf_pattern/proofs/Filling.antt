@@ -6,9 +6,9 @@ use Rattle.std.proofs.lemmas.List.{append-nil}
 use Rattle.nf_graph.proofs.Walks.{apart_from_test}
 use Rattle.nf_model.specs.declared.State.{State}
 use Rattle.nf_model.specs.declared.State.TheVariants.{Tight, Full, Zero}
-use Rattle.nf_model.specs.Pattern.{Pattern}
-use Rattle.nf_pattern.specs.Successor.{choices, IsAssignment, free, change, fits, first_good, before_all, with_rest, earliest}
-use Rattle.nf_pattern.proofs.Successors.{good_some, good_none, good_choice, fits_out}
+use Rattle.nf_model.specs.Pattern.{Pattern, rank}
+use Rattle.nf_pattern.specs.Successor.{choices, IsIn, IsAssignment, free, change, fits, first_good, before_all, with_rest, earliest, raised}
+use Rattle.nf_pattern.proofs.Successors.{same_rank, no_change, good_some, good_none, good_choice, fits_in, fits_out, higher, higher_out}
 
 pub free_first : (b : Option State) (base : Pattern) → free (b ∷ base) ≡ change None b + free base
 free_first None base = omega arith
@@ -114,3 +114,41 @@ all_filled base us n states i left more end filled =
     let few = filled.few in let count = filled.count in
     filled.said ∙ (ap (λ (x : Pattern). prefixed (take i states) (earliest x (drop i us) left)) nothing ∙ (ap (prefixed (take i states)) (none_left (drop i us) left (omega arith))
     ∙ ap Some (append-nil (take i states) ∙ take-all states i (omega arith))))
+
+-- ---- no change is left
+unchanged : (b s : Option State) → change b s ≤ 0 → rank b ≡ rank s
+unchanged b s h = grind arith
+
+same_first : (b : Option State) (u : Bool) (more : ℕ) → IsIn (choices b u) b → first_good (fits b 0 more) (choices b u) ≡ Some b
+same_first b u more h = go (first_good (fits b 0 more) (choices b u)) refl
+  where
+    go : (o : Option (Option State)) → first_good (fits b 0 more) (choices b u) ≡ o → first_good (fits b 0 more) (choices b u) ≡ Some b
+    go None e = absurd (good_none (fits b 0 more) (choices b u) b e h (let z = no_change b in fits_in b b 0 more (omega arith) (omega arith)))
+    go (Some s) e =
+        let good = good_some (fits b 0 more) (choices b u) s e in
+        let fit = fits_out b s 0 more good.1 in
+        e ∙ ap (λ (x : Option State). Some x) (sym (same_rank b s (unchanged b s fit.0)))
+
+pub earliest_same : (base : Pattern) (us : List Bool) → IsAssignment base us base → earliest base us 0 ≡ Some base
+earliest_same [] [] h = refl
+earliest_same [] (u ∷ us) h = absurd h
+earliest_same (b ∷ base) [] h = absurd h
+earliest_same (b ∷ base) (u ∷ us) h =
+    ap (λ (o : Option (Option State)). with_rest o (λ s. earliest base us (0 - change b s))) (same_first b u (free base) h.0)
+    ∙ (ap (λ (n : ℕ). before_all b (earliest base us n)) (let e = no_change b in omega arith) ∙ ap (before_all b) (earliest_same base us h.1))
+
+pub rest_filled : (base : Pattern) (us : List Bool) (n : ℕ) (states : Pattern) (i left more : ℕ) → left ≡ 0 → AreFilled base us n states i left more → earliest base us n ≡ Some (take i states ++ drop i base)
+rest_filled base us n states i left more none filled = filled.said ∙ (ap (λ (k : ℕ). prefixed (take i states) (earliest (drop i base) (drop i us) k)) none
+    ∙ ap (prefixed (take i states)) (earliest_same (drop i base) (drop i us) filled.valid))
+
+-- a link that doesn't differ from its base has no later state without a change
+pub none_raised : (b : Option State) (u : Bool) (base : Pattern) (us : List Bool) (a : Option State) → change b a ≡ 0 → raised b u base us a 0 ≡ None
+none_raised b u base us a same = go (first_good (higher b a 0 (free base)) (choices b u)) refl
+  where
+    go : (o : Option (Option State)) → first_good (higher b a 0 (free base)) (choices b u) ≡ o → raised b u base us a 0 ≡ None
+    go None e = ap (λ (o : Option (Option State)). with_rest o (λ s. earliest base us (0 - change b s))) e
+    go (Some s) e =
+        let good = good_some (higher b a 0 (free base)) (choices b u) s e in
+        let high = higher_out b a s 0 (free base) good.1 in
+        let fit = fits_out b s 0 (free base) high.1 in
+        let l = high.0 in let here = unchanged b s fit.0 in let there = unchanged b a (omega arith) in absurd (omega arith)

@@ -8,12 +8,15 @@ pub mod Raising
 pub mod Counting
 pub mod Trails
 pub mod Forests
-pub mod Walking
+pub mod Roots
+pub mod Growing
+pub mod Following
 pub mod Entering
+pub mod Entries
 pub mod Choosing
 pub mod Barren
 pub mod Ranging
 pub mod Seeking
-pub mod Failing
+pub mod OnTrail
 pub mod Fronts
 pub mod Deciding

@@ -1,17 +1,20 @@
 -- The next assignment with equally many changes, found from the last link backward.
 use borrow.Rule.Slice.PartMut.{put_mid}
 use Rattle.std.proofs.Common.{◌≡◌, ℕ, zero, suc, ◌+◌, ◌-◌, ◌<◌, ◌≤◌, Bool, false, List, [], ◌∷◌, ◌++◌, length, get_or, set, take, drop, drop-cons, take-suc-set, take_all, append_assoc, append-nil, add-one, length-drop, refl, sym, ap, subst, ◌∙◌, zero-add, arith}
-use Rattle.std.specs.Prelude.{Option, Some, None}
+use Rattle.std.specs.Prelude.{Option, Some, None, MatchOption}
 use Rattle.std.proofs.Math.ListN.{drop_of_length-le}
 use Rattle.nf_model.specs.declared.State.{State}
 use Rattle.nf_model.specs.Pattern.{Pattern, changes}
 use Rattle.nf_pattern.specs.Successor.{choices, IsAssignment, free, change, first_good, before_all, with_rest, earliest, or_else, raised, raised_at, RaisesAt, IsSameBefore, later}
-use Rattle.nf_pattern.proofs.Filling.{free_first}
+use Rattle.nf_pattern.proofs.Filling.{free_first, none_raised}
 use Rattle.nf_pattern.proofs.Successors.{changes_first, fits_out, good_some, higher, higher_out}
 
 -- ---- what stands behind a link
 pub from_one : {A : Type 0} (xs : List A) (i : ℕ) → take (length xs - (i + 1)) (drop (i + 1) xs) ≡ drop (suc i) xs
 from_one xs i = take_all (length xs - (i + 1)) (drop (i + 1) xs) (let l = length-drop (i + 1) xs in omega arith) ∙ ap (λ (n : ℕ). drop n xs) (add-one i)
+
+pub from_here : {A : Type 0} (xs : List A) (i : ℕ) → take (length xs - i) (drop i xs) ≡ drop i xs
+from_here xs i = take_all (length xs - i) (drop i xs) (let l = length-drop i xs in omega arith)
 
 pub put_end : {A : Type 0} (xs ys : List A) (i k : ℕ) → length xs ≤ i + k → put_mid i k xs ys ≡ take i xs ++ ys
 put_end xs ys i k all = ap (λ (zs : List _). take i xs ++ (ys ++ zs)) (drop_of_length-le (drop i xs) (let l = length-drop i xs in omega arith)) ∙ ap (λ (zs : List _). take i xs ++ zs) (append-nil ys)
@@ -71,18 +74,16 @@ pub record AreLast (base : Pattern) (us : List Bool) (states : Pattern) (same i 
   pub few : made + i ≤ length base
   pub few_free : more + i ≤ length base
 
-later_nothing : (k : ℕ) (us : List Bool) (states : Pattern) → later k [] us states ≡ None
-later_nothing zero us states = refl
-later_nothing (suc k) us states = refl
-
-pub none_last : (base : Pattern) (us : List Bool) (states : Pattern) (same : ℕ) → AreLast base us states same (length base) 0 0
-none_last base us states same =
-    let end : drop (length base) base ≡ [] = drop_of_length-le base (omega arith) in
+-- the links from that number on are counted
+pub last_from : (base : Pattern) (us : List Bool) (states : Pattern) (same made more : ℕ) → same ≤ length base → made ≡ changes (drop same base) (drop same states) → made ≤ length (drop same base)
+    → more ≡ free (drop same base) → more ≤ length (drop same base) → AreLast base us states same same made more
+last_from base us states same made more within is few is_free few_free =
+    let k : same - same ≡ 0 = omega arith in let l = length-drop same base in
     record {
-      none = subst (λ (x : Pattern). later (same - length base) x (drop (length base) us) (drop (length base) states) ≡ None) (sym end) (later_nothing (same - length base) (drop (length base) us) (drop (length base) states));
-      all_made = sym (ap (λ (x : Pattern). changes x (drop (length base) states)) end);
-      all_free = sym (ap free end);
-      within = omega arith;
+      none = ap (λ (m : ℕ). later m (drop same base) (drop same us) (drop same states)) k;
+      all_made = is;
+      all_free = is_free;
+      within = within;
       few = omega arith;
       few_free = omega arith;
     }
@@ -91,6 +92,39 @@ none_last base us states same =
 later_here : (b : Option State) (u : Bool) (base : Pattern) (us : List Bool) (a : Option State) (p : Pattern) (k n : ℕ) → later k base us p ≡ None → n ≡ changes (b ∷ base) (a ∷ p)
     → later (suc k) (b ∷ base) (u ∷ us) (a ∷ p) ≡ raised b u base us a n
 later_here b u base us a p k n last is = ap (λ (o : Option Pattern). or_else (before_all a o) (raised b u base us a (changes (b ∷ base) (a ∷ p)))) last ∙ ap (raised b u base us a) (sym is)
+
+-- where nothing differs from the base, nothing comes later with as many changes
+later_none : (k : ℕ) (base : Pattern) (us : List Bool) (states : Pattern) → length states ≡ length base → changes base states ≡ 0 → later k base us states ≡ None
+later_none zero base us states count none = refl
+later_none (suc k) [] us states count none = refl
+later_none (suc k) (b ∷ base) [] states count none = refl
+later_none (suc k) (b ∷ base) (u ∷ us) [] count none = refl
+later_none (suc k) (b ∷ base) (u ∷ us) (a ∷ states) count none =
+    let f = changes_first b a base states in
+    later_here b u base us a states k 0 (later_none k base us states (omega arith) (omega arith)) (sym none) ∙ none_raised b u base us a (omega arith)
+
+-- and so nothing up to a link behind which nothing differs
+pub later_quiet : (i k : ℕ) (base : Pattern) (us : List Bool) (states : Pattern) → length states ≡ length base → changes (drop i base) (drop i states) ≡ 0
+    → later (i + k) base us states ≡ later i base us states
+later_quiet zero k base us states count none = ap (λ (n : ℕ). later n base us states) (zero-add k) ∙ later_none k base us states count none
+later_quiet (suc i) k [] us states count none = ap (λ (n : ℕ). later n [] us states) (let e : suc i + k ≡ suc (i + k) = omega arith in e)
+later_quiet (suc i) k (b ∷ base) [] states count none = ap (λ (n : ℕ). later n (b ∷ base) [] states) (let e : suc i + k ≡ suc (i + k) = omega arith in e)
+later_quiet (suc i) k (b ∷ base) (u ∷ us) [] count none = ap (λ (n : ℕ). later n (b ∷ base) (u ∷ us) []) (let e : suc i + k ≡ suc (i + k) = omega arith in e)
+later_quiet (suc i) k (b ∷ base) (u ∷ us) (a ∷ states) count none =
+    ap (λ (n : ℕ). later n (b ∷ base) (u ∷ us) (a ∷ states)) (let e : suc i + k ≡ suc (i + k) = omega arith in e)
+    ∙ ap (λ (o : Option Pattern). or_else (before_all a o) (raised b u base us a (changes (b ∷ base) (a ∷ states)))) (later_quiet i k base us states (omega arith) none)
+
+pub later_up_to : (base : Pattern) (us : List Bool) (states : Pattern) (i same : ℕ) → i ≤ same → length states ≡ length base → changes (drop i base) (drop i states) ≡ 0
+    → later same base us states ≡ later i base us states
+later_up_to base us states i same few count none =
+    let n : i + (same - i) ≡ same = omega arith in
+    subst (λ (m : ℕ). later m base us states ≡ later i base us states) n (later_quiet i (same - i) base us states count none)
+
+pub match_up_to : (base : Pattern) (us : List Bool) (states after : Pattern) (end same : ℕ) (found : Option ℕ) → end ≤ same → later same base us states ≡ later end base us states
+    → MatchOption found ((later end base us states ≡ None) × (after ≡ states)) (λ link. (later end base us states ≡ Some after) × IsSameBefore end link states after)
+    → MatchOption found ((later same base us states ≡ None) × (after ≡ states)) (λ link. (later same base us states ≡ Some after) × IsSameBefore same link states after)
+match_up_to base us states after end same None few quiet h = (quiet ∙ h.0, h.1)
+match_up_to base us states after end same (Some link) few quiet h = (quiet ∙ h.0, (let l = h.1.0 in omega arith, h.1.1))
 
 -- the states before a link stay
 later_after : (k : ℕ) (base : Pattern) (us : List Bool) (states q : Pattern) (i : ℕ) → later k (drop i base) (drop i us) (drop i states) ≡ Some q → later (i + k) base us states ≡ Some (take i states ++ q)
@@ -179,11 +213,6 @@ module _ (base : Pattern) (us : List Bool) (states : Pattern) (same i j made mor
 
       pub last_kept : raised_at base us states i all ≡ None → i < same → c ≤ 1 → d ≤ 1 → AreLast base us states same i all rest
       last_kept none before small small_free = last_more (later_there before ∙ none) small small_free
-
-      pub last_cut : same ≤ i → c ≤ 1 → d ≤ 1 → AreLast base us states same i all rest
-      last_cut cut small small_free =
-          let k : same - i ≡ 0 = omega arith in
-          last_more (ap (λ (m : ℕ). later m (drop i base) (drop i us) (drop i states)) k) small small_free
 
 pub last_all : (base : Pattern) (us : List Bool) (states : Pattern) (same i made more : ℕ) → i ≤ 0 → AreLast base us states same i made more → later same base us states ≡ None
 last_all base us states same i made more first last =

@@ -6,6 +6,8 @@ use Rattle.nf_lists_laws.proofs.Listings.{IsBefore-asymmetric, IsBefore-transiti
 use Rattle.nf_pattern.specs.Successor.{IsAssignment, next_assignment}
 use Rattle.nf_pattern.specs.Given.{Question, IsQuestion, IsListedBy, IsBarren, IsFrom, IsFirstFrom, NoneFrom, AtStart, UpTo, IsNext, NoneLeft}
 use Rattle.nf_pattern.specs.declared.question.Stand.TheVariants.{Start}
+use Rattle.nf_pattern.specs.declared.trail.Trail.{Trail}
+use Rattle.nf_pattern.specs.Trail.{IsTrailOf}
 use Rattle.nf_pattern.specs.Stands.{IsStanding}
 use Rattle.nf_pattern.proofs.Choosing.{assigned_length, assignment_of}
 use Rattle.nf_pattern.proofs.Successors.{changes_few}
@@ -140,14 +142,13 @@ module _ (question : Question) (is : IsQuestion question) where
   match_after l q p n false h whole e none = none_left_after l h n whole q e none
 
 -- ---- where a listing begins
-pub standing_start : (question seen : Question) (current : Pattern) (flags : List Bool) → question ≡ seen → IsQuestion seen → current ≡ seen.base → length flags ≡ seen.nodes → IsStanding question Start current flags
-standing_start question seen current flags same is base count =
+pub standing_start : (question seen : Question) (current : Pattern) (trail : Trail) → question ≡ seen → IsQuestion seen → current ≡ seen.base → IsTrailOf question question.base trail → IsStanding question Start current trail
+standing_start question seen current trail same is at on_trail =
     let q : IsQuestion question = subst IsQuestion (sym same) is in
-    let at_base : current ≡ question.base = base ∙ ap (λ (x : Question). x.base) (sym same) in
+    let at_base : current ≡ question.base = at ∙ ap (λ (x : Question). x.base) (sym same) in
     record {
       is_question = q;
       assigned = subst (λ (x : Pattern). IsAssignment question.base question.unbounded x) (sym at_base) (valid question q);
       start = λ _. at_base;
-      listed = λ e. absurd (cc);
-      count = count ∙ ap (λ (x : Question). x.nodes) (sym same);
+      on_trail = subst (λ (x : Pattern). IsTrailOf question x trail) (sym at_base) on_trail;
     }

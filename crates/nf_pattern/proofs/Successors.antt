@@ -92,7 +92,7 @@ changes_first b s base states = go (rank b == rank s)
     go true = omega arith
     go false = omega arith
 
-change_small : (b s : Option State) → change b s ≤ 1
+pub change_small : (b s : Option State) → change b s ≤ 1
 change_small b s = go (rank b == rank s)
   where
     go : (t : Bool) → (if t then 0 else 1) ≤ 1

@@ -1,5 +1,6 @@
 -- Nodes that are entered by a Tight, Full or resetting link.
-use Rattle.std.specs.Prelude.{◌≡◌, ◌⊎◌, ℕ, Bool, List}
+use Rattle.std.specs.Prelude.{◌≡◌, ◌≢◌, ◌⊎◌, ℕ, suc, ◌<◌, Bool, List, length, Option, Some, None, slice_get, MatchBool}
+use Rattle.nf_model.specs.declared.State.{State}
 use Rattle.nf_model.specs.declared.State.TheVariants.{Tight, Full}
 use Rattle.nf_model.specs.Entries.{Has}
 use Rattle.nf_model.specs.Walk.{Hop, IsHop}
@@ -16,3 +17,42 @@ IsEntered hops resetting pattern v = (e : ℕ) × (hop : Hop) × IsHop hops e ho
 -- and it is link e
 abbrev pub EntersBy : List Hop → List Bool → Pattern → ℕ → ℕ → Type 0
 EntersBy hops resetting pattern e v = (hop : Hop) × IsHop hops e hop × (hop.head ≡ v) × MayCarry resetting pattern e
+
+-- a link before number n enters node v
+abbrev pub EnteredBefore : List Hop → List Bool → Pattern → ℕ → ℕ → Type 0
+EnteredBefore hops resetting pattern n v = (e : ℕ) × (e < n) × EntersBy hops resetting pattern e v
+
+-- the first link before number n that enters node v, or none
+abbrev pub IsFirstEntry : List Hop → List Bool → Pattern → ℕ → ℕ → Option ℕ → Type 0
+IsFirstEntry hops resetting pattern n v None = EnteredBefore hops resetting pattern n v → ⊥
+IsFirstEntry hops resetting pattern n v (Some e) = (e < n) × EntersBy hops resetting pattern e v × (EnteredBefore hops resetting pattern e v → ⊥)
+
+abbrev pub AreFirstEntries : List Hop → List Bool → Pattern → ℕ → List (Option ℕ) → Type 0
+AreFirstEntries hops resetting pattern n entered = (v : ℕ) (found : Option ℕ) → slice_get entered v ≡ Some found → IsFirstEntry hops resetting pattern n v found
+
+-- link e is resetting, or may have a state
+abbrev pub CanCarry : List Bool → Pattern → ℕ → Type 0
+CanCarry resetting base e = Has resetting e ⊎ ((state : State) × HasState base e state)
+
+-- those before number m into node v stand before number n, and link n - 1 leads to v
+pub record IsEndBefore (hops : List Hop) (resetting : List Bool) (base : Pattern) (m v n : ℕ) : Type 0 where
+  pub all : (e : ℕ) (hop : Hop) → e < m → IsHop hops e hop → hop.head ≡ v → CanCarry resetting base e → e < n
+  pub last : (e : ℕ) → n ≡ suc e → (hop : Hop) × IsHop hops e hop × (hop.head ≡ v)
+
+abbrev pub AreEndsBefore : List Hop → List Bool → Pattern → ℕ → List ℕ → Type 0
+AreEndsBefore hops resetting base m ends = (v n : ℕ) → slice_get ends v ≡ Some n → IsEndBefore hops resetting base m v n
+
+abbrev pub AreEnds : List Hop → List Bool → Pattern → List ℕ → Type 0
+AreEnds hops resetting base ends = AreEndsBefore hops resetting base (length hops) ends
+
+-- link e leads to a node but the source that no link up to it enters, and no later one can
+pub record Strands (source : ℕ) (hops : List Hop) (resetting : List Bool) (pattern : Pattern) (ends : List ℕ) (e : ℕ) : Type 0 where
+  pub hop : Hop
+  pub is_hop : IsHop hops e hop
+  pub other : hop.head ≢ source
+  pub last : slice_get ends hop.head ≡ Some (suc e)
+  pub unentered : EnteredBefore hops resetting pattern (suc e) hop.head → ⊥
+
+-- whether no link can enter a node but the source
+abbrev pub IsLost : ℕ → List ℕ → Bool → Type 0
+IsLost source ends lost = MatchBool lost ((v : ℕ) × (v ≢ source) × (slice_get ends v ≡ Some 0)) ((v : ℕ) → v ≢ source → slice_get ends v ≡ Some 0 → ⊥)

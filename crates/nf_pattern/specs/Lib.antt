@@ -1,7 +1,9 @@
 pub mod Base
 pub mod Successor
 pub mod Forest
+pub mod Groups
 pub mod Entered
 pub mod Given
+pub mod Trail
 pub mod Stands
 pub mod Front

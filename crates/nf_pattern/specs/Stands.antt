@@ -1,10 +1,12 @@
 -- Where a listing stands.
-use Rattle.std.specs.Prelude.{◌≡◌, Bool, List, length}
+use Rattle.std.specs.Prelude.{◌≡◌}
 use Rattle.nf_model.specs.Pattern.{Pattern}
 use Rattle.nf_pattern.specs.declared.question.Stand.{Stand}
 use Rattle.nf_pattern.specs.declared.question.Stand.TheVariants.{Start, Listed, End}
 use Rattle.nf_pattern.specs.Successor.{IsAssignment}
-use Rattle.nf_pattern.specs.Given.{Question, IsQuestion, IsListedBy, Last, AtStart, UpTo, AtEnd}
+use Rattle.nf_pattern.specs.declared.trail.Trail.{Trail}
+use Rattle.nf_pattern.specs.Trail.{IsTrailOf}
+use Rattle.nf_pattern.specs.Given.{Question, IsQuestion, Last, AtStart, UpTo, AtEnd}
 
 -- what was given last, with this current pattern
 abbrev pub last_of : Stand → Pattern → Last
@@ -12,10 +14,9 @@ last_of Start current = AtStart
 last_of Listed current = UpTo current
 last_of End current = AtEnd
 
--- a current assignment, which is the base at the start and later the listed pattern that was given last, and a flag for each node
-pub record IsStanding (question : Question) (stand : Stand) (current : Pattern) (flags : List Bool) : Type 0 where
+-- a current assignment, which is the base at the start and later the listed pattern that was given last, and a trail along it
+pub record IsStanding (question : Question) (stand : Stand) (current : Pattern) (trail : Trail) : Type 0 where
   pub is_question : IsQuestion question
   pub assigned : IsAssignment question.base question.unbounded current
   pub start : stand ≡ Start → current ≡ question.base
-  pub listed : stand ≡ Listed → IsListedBy question current
-  pub count : length flags ≡ question.nodes
+  pub on_trail : IsTrailOf question current trail

@@ -6,7 +6,8 @@ mod assignments;
 mod bases;
 mod choice;
 mod entered;
-mod forest;
+mod groups;
+mod joining;
 mod laws;
 #[cfg(test)]
 mod listing_tests;
@@ -15,6 +16,7 @@ mod patterns;
 mod question;
 #[cfg(test)]
 mod tests;
+mod trail;
 
 pub use bases::base;
 pub use laws::{given_are_fronts, questions_have_listings};

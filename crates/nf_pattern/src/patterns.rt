@@ -1,6 +1,7 @@
 // The listed patterns of a phase, one after the other.
 use crate::pattern::Pattern;
 use crate::question::{Question, Stand};
+use crate::trail::Trail;
 use nf_graph::{Hop, LinkSets, NodeId};
 use std::alloc::{AllocError, Global};
 use std::marker::Model;
@@ -13,7 +14,7 @@ use std::marker::Model;
 pub struct Patterns {
     question: Question,
     current: Pattern,
-    flags: Vec<bool>,
+    trail: Trail,
     stand: Stand,
     place: u64,
 }
@@ -28,7 +29,7 @@ impl Model for Patterns {
 
     ghost view = { λ p. record { question = p.question; last = last_of p.stand p.current; place = p.place } };
 
-    ghost invariant = { λ p. IsStanding p.question p.stand p.current p.flags.items };
+    ghost invariant = { λ p. IsStanding p.question p.stand p.current p.trail };
 }
 
 impl Patterns {
@@ -62,11 +63,11 @@ impl Patterns {
     {
         let question = Question::new(alloc, nodes, source, hops, sets, base, unbounded)?;
         let current = base.copy(alloc)?;
-        let flags = vec![in alloc; false; nodes as usize]?;
+        let trail = question.trail(alloc)?;
         Ok(Patterns {
             question,
             current,
-            flags,
+            trail,
             stand: Stand::Start,
             place: 0,
         })
@@ -79,7 +80,7 @@ impl Patterns {
         let current = &mut self.current;
         if self
             .question
-            .find(self.stand, &mut current.states, &mut self.flags)
+            .find(self.stand, &mut current.states, &mut self.trail)
         {
             self.stand = Stand::Listed;
             self.place = self.place.saturating_add(1);

@@ -2,9 +2,8 @@
 ghost use Rattle.std.specs.Prelude.{◌≡◌, ◌^◌, ◌<◌, length, IfOk};
 
 use crate::assignments::advance;
-use crate::entered::{end_into, unentered};
-use crate::forest::first_closing;
 use crate::pattern::Pattern;
+use crate::trail::Trail;
 use nf_graph::{Hop, LinkId, LinkSets, NodeId};
 use nf_model::State;
 use std::alloc::{AllocError, Global};
@@ -72,11 +71,12 @@ fn resetting_flags(alloc: Global, sets: &LinkSets, links: usize) -> Result<Vec<b
 }
 
 impl Question {
-    ghost use Rattle.std.specs.Prelude.{◌≡◌, ◌-◌, ◌≤◌, length, IfOk, MatchBool, MatchOption, Some, None};
-    ghost use Rattle.nf_pattern.specs.Forest.{NoneCloses};
+    ghost use Rattle.std.specs.Prelude.{◌≡◌, ◌≤◌, length, take, IfOk, MatchBool, MatchOption, Some, None};
+    ghost use Rattle.nf_model.specs.Pattern.{Pattern as SeenPattern};
+    ghost use Rattle.nf_pattern.specs.Trail.{IsLeft, IsTrailOf};
     ghost use Rattle.nf_pattern.specs.Successor.{IsAssignment, IsSameBefore, next_assignment};
     ghost use Rattle.nf_pattern.specs.Given.{IsQuestion, IsListedBy, IsBarren, IsFirstFrom, NoneFrom, IsNext, NoneLeft, AtStart, UpTo};
-    ghost use Rattle.nf_pattern.specs.declared.question.Stand.TheVariants.{Start, Listed};
+    ghost use Rattle.nf_pattern.specs.declared.question.Stand.TheVariants.{Start};
     ghost use Rattle.nf_pattern.specs.Stands.{last_of};
 
     // The question of these values, kept in memory of its own.
@@ -108,22 +108,36 @@ impl Question {
         })
     }
 
-    // Up to which link the states keep every pattern from being listed; None where they are listed. No link before number `clear`
-    // closes a cycle. The flags are for walks.
-    fn failing(&self, states: &[Option<State>], flags: &mut [bool], clear: usize) -> Option<usize>
-        requires assigned { IsAssignment self.now.base self.now.unbounded states.now }
-        requires flags { length flags.old ≡ self.now.nodes }
-        requires clear { NoneCloses self.now.hops states.now clear }
-        ensures { MatchOption result (IsListedBy self.now states.now)
-            (λ n. (n ≤ length self.now.base) × IsBarren self.now n states.now × NoneCloses self.now.hops states.now (n - 1)) }
+    // A trail at the start.
+    pub(crate) fn trail(&self, alloc: Global) -> Result<Trail, AllocError>
+        requires question { IsQuestion self.now }
+        ensures { IfOk result (λ trail. IsTrailOf self.now self.now.base trail) }
     {
-        if let Some(link) = first_closing(&self.hops, states, clear, flags) {
-            return Some(link + 1);
+        Trail::new(
+            alloc,
+            self.nodes,
+            self.source,
+            &self.hops,
+            self.base.states(),
+            &self.resetting,
+        )
+    }
+
+    // Up to which link the states keep every pattern from being listed; None where they are listed.
+    fn failing(&self, states: &[Option<State>], trail: &mut Trail) -> Option<usize>
+        requires question { IsQuestion self.now }
+        requires assigned { IsAssignment self.now.base self.now.unbounded states.now }
+        requires trail { IsTrailOf self.now states.now trail.old }
+        ensures trail { IsTrailOf self.now states.now trail.new }
+        ensures found { MatchOption result (IsListedBy self.now states.now) (λ n. (n ≤ length self.now.base) × IsBarren self.now n states.now) }
+    {
+        if trail.is_lost() {
+            return Some(0);
         }
-        match unentered(&self.hops, states, &self.resetting, self.source, flags) {
-            None => None,
-            Some(node) => Some(end_into(&self.hops, self.base.states(), node)),
+        if trail.extend(&self.hops, states, &self.resetting, self.source) {
+            return None;
         }
+        Some(trail.depth() + 1)
     }
 
     // The next assignment that isn't the same up to this link, and a link up to which it is; None where there is none.
@@ -136,71 +150,76 @@ impl Question {
         advance(states, self.base.states(), &self.unbounded, same)
     }
 
-    // On to the first listed pattern from this assignment on, in which no link before number `clear` closes a cycle; whether there
-    // is one.
-    fn seek(&self, states: &mut [Option<State>], flags: &mut [bool], clear: usize) -> bool
+    // The trail comes back to where these states are the same.
+    fn retreat(&self, link: usize, trail: &mut Trail)
+        requires left { IsLeft self.now.hops trail.old }
+        ensures { (before after : SeenPattern) → IsTrailOf self.now before trail.old → length after ≡ length before → take link after ≡ take link before → IsTrailOf self.now after trail.new }
+    {
+        trail.retreat(&self.hops, link);
+    }
+
+    // On to the first listed pattern from this assignment on; whether there is one.
+    fn seek(&self, states: &mut [Option<State>], trail: &mut Trail) -> bool
         requires question { IsQuestion self.now }
         requires assigned { IsAssignment self.now.base self.now.unbounded states.old }
-        requires flags { length flags.old ≡ self.now.nodes }
-        requires clear { NoneCloses self.now.hops states.old clear }
+        requires trail { IsTrailOf self.now states.old trail.old }
         ensures assigned { IsAssignment self.now.base self.now.unbounded states.new }
+        ensures trail { IsTrailOf self.now states.new trail.new }
         ensures found { MatchBool result (IsFirstFrom self.now states.old states.new) (NoneFrom self.now states.old) }
     {
-        let mut clear = clear;
-        while let Some(same) = self.failing(states, flags, clear) {
+        while let Some(same) = self.failing(states, trail) {
             let Some(link) = self.advance(states, same) else {
                 return false;
             };
-            clear = link;
+            self.retreat(link, trail);
         }
         true
     }
 
     // From the base on to the first listed pattern; whether there is one.
-    fn first(&self, states: &mut [Option<State>], flags: &mut [bool]) -> bool
+    fn first(&self, states: &mut [Option<State>], trail: &mut Trail) -> bool
         requires question { IsQuestion self.now }
         requires base { states.old ≡ self.now.base }
-        requires flags { length flags.old ≡ self.now.nodes }
+        requires trail { IsTrailOf self.now states.old trail.old }
         ensures assigned { IsAssignment self.now.base self.now.unbounded states.new }
+        ensures trail { IsTrailOf self.now states.new trail.new }
         ensures found { MatchBool result (IsNext self.now AtStart states.new) (NoneLeft self.now AtStart) }
     {
-        self.seek(states, flags, 0)
+        self.seek(states, trail)
     }
 
     // From a listed pattern on to the next one; whether there is one.
-    fn after(&self, states: &mut [Option<State>], flags: &mut [bool]) -> bool
+    fn after(&self, states: &mut [Option<State>], trail: &mut Trail) -> bool
         requires question { IsQuestion self.now }
         requires assigned { IsAssignment self.now.base self.now.unbounded states.old }
-        requires listed { IsListedBy self.now states.old }
-        requires flags { length flags.old ≡ self.now.nodes }
+        requires trail { IsTrailOf self.now states.old trail.old }
         ensures assigned { IsAssignment self.now.base self.now.unbounded states.new }
+        ensures trail { IsTrailOf self.now states.new trail.new }
         ensures found { MatchBool result (IsNext self.now (UpTo states.old) states.new) (NoneLeft self.now (UpTo states.old)) }
     {
         let links = states.len();
         match self.advance(states, links) {
             None => false,
-            Some(link) => self.seek(states, flags, link),
+            Some(link) => {
+                self.retreat(link, trail);
+                self.seek(states, trail)
+            }
         }
     }
 
     // From where a listing stands on to the next listed pattern; whether there is one.
-    pub(crate) fn find(
-        &self,
-        stand: Stand,
-        states: &mut [Option<State>],
-        flags: &mut [bool],
-    ) -> bool
+    pub(crate) fn find(&self, stand: Stand, states: &mut [Option<State>], trail: &mut Trail) -> bool
         requires question { IsQuestion self.now }
         requires assigned { IsAssignment self.now.base self.now.unbounded states.old }
         requires start { stand ≡ Start → states.old ≡ self.now.base }
-        requires listed { stand ≡ Listed → IsListedBy self.now states.old }
-        requires flags { length flags.old ≡ self.now.nodes }
+        requires trail { IsTrailOf self.now states.old trail.old }
         ensures assigned { IsAssignment self.now.base self.now.unbounded states.new }
+        ensures trail { IsTrailOf self.now states.new trail.new }
         ensures found { MatchBool result (IsNext self.now (last_of stand states.old) states.new) (NoneLeft self.now (last_of stand states.old)) }
     {
         match stand {
-            Stand::Start => self.first(states, flags),
-            Stand::Listed => self.after(states, flags),
+            Stand::Start => self.first(states, trail),
+            Stand::Listed => self.after(states, trail),
             Stand::End => false,
         }
     }

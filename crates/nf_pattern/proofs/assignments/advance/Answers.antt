@@ -1,7 +1,7 @@
-use Rattle.std.proofs.Common.{◌≡◌, ◌+◌, ◌<◌, ◌≤◌, ℕ, suc, ap, subst, refl, ◌∙◌, add-one, arith}
+use Rattle.std.proofs.Common.{◌≡◌, ℕ, suc, ap, subst, refl, ◌∙◌, add-one, arith}
 use Rattle.std.specs.Prelude.{Some, None}
-use Rattle.nf_model.specs.Pattern.{Pattern, changes}
-use Rattle.nf_pattern.specs.Successor.{free, earliest, later}
+use Rattle.nf_model.specs.Pattern.{changes}
+use Rattle.nf_pattern.specs.Successor.{free, earliest}
 use Rattle.nf_pattern.proofs.Counting.{none_earliest, else_other, else_first}
 use Rattle.nf_pattern.proofs.assignments.advance.Goals as goal
 
@@ -11,8 +11,8 @@ returns-in-Some c = (else_first c.args.same c.args.base.now c.args.unbounded.now
 pub returns-then-changes-more : goal.returns-then-changes-more
 returns-then-changes-more c =
     let stays = c.in_default.ensures.1 in
-    let counted : c.count_changes-changes.result ≡ changes c.args.base.now c.args.states.now = c.count_changes-changes.ensures ∙ ap (changes c.args.base.now) stays in
-    let all : c.count_free-more.result ≡ free c.args.base.now = c.count_free-more.ensures in (
+    let counted : c.count_changes-changes.result ≡ changes c.args.base.now c.args.states.now = c.count_changes-changes.ensures.changes ∙ ap (changes c.args.base.now) stays in
+    let all : c.count_free-more.result ≡ free c.args.base.now = c.count_free-more.ensures.free in (
       else_other c.args.same c.args.base.now c.args.unbounded.now c.args.states.now None c.in_default.ensures.0
           (none_earliest c.args.base.now c.args.unbounded.now (suc (changes c.args.base.now c.args.states.now)) c.requires.valid (omega arith)),
       stays,
@@ -20,7 +20,7 @@ returns-then-changes-more c =
 
 pub returns : goal.returns
 returns c =
-    let counted : c.count_changes-changes.result ≡ changes c.args.base.now c.args.states.now = c.count_changes-changes.ensures ∙ ap (changes c.args.base.now) c.in_default.ensures.1 in (
+    let counted : c.count_changes-changes.result ≡ changes c.args.base.now c.args.states.now = c.count_changes-changes.ensures.changes ∙ ap (changes c.args.base.now) c.in_default.ensures.1 in (
       else_other c.args.same c.args.base.now c.args.unbounded.now c.args.states.now (Some c.fill.new.states) c.in_default.ensures.0
           (subst (λ (n : ℕ). earliest c.args.base.now c.args.unbounded.now n ≡ Some c.fill.new.states) (add-one c.count_changes-changes.result ∙ ap suc counted) c.fill.ensures),
       (omega arith, refl),

@@ -1,7 +1,8 @@
-use Rattle.std.proofs.Common.{◌≡◌, refl, sym, ◌∙◌, arith, get_or, length, ◌+◌, ◌-◌, ◌<◌, ◌≤◌, false, subst, ℕ, suc, drop}
-use Rattle.std.specs.Prelude.{None}
+use Rattle.std.proofs.Common.{◌≡◌, ap, refl, sym, ◌∙◌, arith, get_or, length, ◌+◌, ◌-◌, ◌<◌, ◌≤◌, false, subst, ℕ, suc, drop}
+use Rattle.std.specs.Prelude.{Some, None}
+use Rattle.nf_model.specs.Pattern.{Pattern}
 use Rattle.nf_pattern.specs.Successor.{change, fits, choices, first_good, free}
-use Rattle.nf_pattern.proofs.Filling.{none_filled, all_filled, rest_free, has_choice, more_filled}
+use Rattle.nf_pattern.proofs.Filling.{none_filled, all_filled, rest_free, has_choice, more_filled, rest_filled}
 use Rattle.nf_pattern.proofs.assignments.fill.Goals as goal
 use Rattle.nf_pattern.proofs.assignments.fill.Goals.{in-Some, in_default}
 
@@ -33,3 +34,7 @@ loop-i-preserved c =
 
 pub returns : goal.returns
 returns c = all_filled c.args.base.now c.args.unbounded.now c.args.changes c.loop-i.states c.loop-i.i c.loop-i.left c.loop-i.later (omega arith) c.loop-i.invariant.filled
+
+pub returns-then-left-eq0 : goal.returns-then-left-eq0
+returns-then-left-eq0 c = rest_filled c.args.base.now c.args.unbounded.now c.args.changes c.loop-i.states c.loop-i.i c.loop-i.left c.loop-i.later c.if-left-eq0.true c.loop-i.invariant.filled
+    ∙ ap (λ (x : Pattern). Some x) (sym c.copy_rest.ensures)

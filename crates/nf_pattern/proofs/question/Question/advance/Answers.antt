@@ -1,4 +1,4 @@
-use Rattle.nf_pattern.proofs.Failing.{valid_base, count_base}
+use Rattle.nf_pattern.proofs.OnTrail.{valid_base, count_base}
 use Rattle.nf_pattern.proofs.question.Question.advance.Goals as goal
 
 pub advance-requires-clause-states : goal.advance-requires-clause-states

@@ -1,7 +1,6 @@
-use Rattle.std.proofs.Common.{◌≡◌, ◌≤◌, length, subst, sym, arith}
+use Rattle.std.proofs.Common.{length, subst, sym, arith}
 use Rattle.nf_model.specs.Pattern.{Pattern}
 use Rattle.nf_pattern.specs.Successor.{IsAssignment}
-use Rattle.nf_pattern.proofs.Barren.{none_closes_same, none_closes_listed}
 use Rattle.nf_pattern.proofs.Choosing.{assigned_length}
 use Rattle.nf_pattern.proofs.Seeking.{none_after, next_assigned, match_after}
 use Rattle.nf_pattern.proofs.question.Question.after.Goals as goal
@@ -19,10 +18,9 @@ returns-in-None-clause-found c = none_after c.args.self.now c.requires.question 
 pub seek-requires-clause-assigned : goal.seek-requires-clause-assigned
 seek-requires-clause-assigned c = next_assigned c.args.self.now c.requires.question (length c.args.states.now) c.args.states.now c.advance.new.states c.requires.assigned c.in-Some.ensures.0
 
-pub seek-requires-clause-clear : goal.seek-requires-clause-clear
-seek-requires-clause-clear c = none_closes_same c.args.self.now.hops c.args.states.now c.advance.new.states c.in-Some.link c.in-Some.link (omega arith)
-    (none_closes_listed c.args.self.now.hops c.args.states.now c.in-Some.link c.requires.listed.forest) c.in-Some.ensures.1.1
-
 pub returns-in-Some-clause-found : goal.returns-in-Some-clause-found
 returns-in-Some-clause-found c = match_after c.args.self.now c.requires.question c.args.states.now c.advance.new.states c.seek.new.states (length c.args.states.now) c.seek.result c.requires.assigned
     (let n = assigned_length c.args.self.now.base c.args.self.now.unbounded c.args.states.now c.requires.assigned in omega arith) c.in-Some.ensures.0 c.seek.ensures.found
+
+pub seek-requires-clause-trail : goal.seek-requires-clause-trail
+seek-requires-clause-trail c = c.retreat.ensures c.args.states.now c.advance.new.states c.requires.trail c.advance.auto.states c.in-Some.ensures.1.1

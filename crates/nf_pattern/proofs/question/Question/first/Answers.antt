@@ -1,4 +1,4 @@
-use Rattle.std.proofs.Common.{subst, sym, arith}
+use Rattle.std.proofs.Common.{subst, sym}
 use Rattle.nf_model.specs.Pattern.{Pattern}
 use Rattle.nf_pattern.specs.Successor.{IsAssignment}
 use Rattle.nf_pattern.proofs.Seeking.{valid, match_start}
@@ -9,6 +9,3 @@ seek-requires-clause-assigned c = subst (λ (x : Pattern). IsAssignment c.args.s
 
 pub returns-clause-found : goal.returns-clause-found
 returns-clause-found c = match_start c.args.self.now c.requires.question c.args.states.now c.requires.base c.seek.new.states c.seek.result c.seek.ensures.found
-
-pub seek-requires-clause-clear : goal.seek-requires-clause-clear
-seek-requires-clause-clear c = λ e less closes. omega arith

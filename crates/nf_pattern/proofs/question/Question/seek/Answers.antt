@@ -1,15 +1,13 @@
-use Rattle.std.proofs.Common.{◌≡◌, ◌-◌, subst, sym, ◌∙◌, arith}
+use Rattle.std.proofs.Common.{subst, sym}
 use Rattle.nf_model.specs.Pattern.{Pattern}
 use Rattle.nf_pattern.specs.Successor.{IsAssignment}
-use Rattle.nf_pattern.proofs.Barren.{none_closes_same}
 use Rattle.nf_pattern.proofs.Seeking.{sought_first, sought_found, sought_more, sought_none, step_fewer}
 use Rattle.nf_pattern.proofs.question.Question.seek.Goals as goal
 
 pub loop-same-init : goal.loop-same-init
 loop-same-init c = record {
   sought = sought_first c.args.self.now c.requires.question c.args.states.now c.requires.assigned;
-  count = c.requires.flags;
-  clear = c.requires.clear;
+  trail = c.requires.trail;
 }
 
 pub failing-requires-clause-assigned : goal.failing-requires-clause-assigned
@@ -23,20 +21,19 @@ returns-in_default-advance-clause-assigned c =
     subst (λ (x : Pattern). IsAssignment c.args.self.now.base c.args.self.now.unbounded x) (sym c.in_default-advance.ensures.1) c.loop-same.invariant.sought.assigned
 
 pub returns-in_default-advance-clause-found : goal.returns-in_default-advance-clause-found
-returns-in_default-advance-clause-found c = sought_none c.args.self.now c.requires.question c.args.states.now c.loop-same.states c.loop-same.invariant.sought c.in-Some.same c.in-Some.ensures.1 c.in_default-advance.ensures.0
+returns-in_default-advance-clause-found c = sought_none c.args.self.now c.requires.question c.args.states.now c.loop-same.states c.loop-same.invariant.sought c.in-Some.same c.in-Some.ensures.found.1 c.in_default-advance.ensures.0
 
 pub loop-same-smaller : goal.loop-same-smaller
 loop-same-smaller c = step_fewer c.args.self.now c.requires.question c.in-Some.same c.loop-same.states c.advance.new.states c.loop-same.invariant.sought.assigned c.in-Some-advance.ensures.0
 
 pub loop-same-preserved : goal.loop-same-preserved
 loop-same-preserved c = record {
-  sought = sought_more c.args.self.now c.requires.question c.args.states.now c.loop-same.states c.loop-same.invariant.sought c.in-Some.same c.in-Some.ensures.1 c.advance.new.states c.in-Some-advance.ensures.0;
-  count = c.failing.auto.flags ∙ c.loop-same.invariant.count;
-  clear = none_closes_same c.args.self.now.hops c.loop-same.states c.advance.new.states (c.in-Some.same - 1) c.in-Some-advance.link c.in-Some-advance.ensures.1.0 c.in-Some.ensures.2 c.in-Some-advance.ensures.1.1;
+  sought = sought_more c.args.self.now c.requires.question c.args.states.now c.loop-same.states c.loop-same.invariant.sought c.in-Some.same c.in-Some.ensures.found.1 c.advance.new.states c.in-Some-advance.ensures.0;
+  trail = c.retreat.ensures c.loop-same.states c.advance.new.states c.in-Some.ensures.trail c.advance.auto.states c.in-Some-advance.ensures.1.1;
 }
 
 pub returns-clause-assigned : goal.returns-clause-assigned
 returns-clause-assigned c = c.loop-same.invariant.sought.assigned
 
 pub returns-clause-found : goal.returns-clause-found
-returns-clause-found c = sought_found c.args.self.now c.requires.question c.args.states.now c.loop-same.states c.loop-same.invariant.sought c.in_default.ensures
+returns-clause-found c = sought_found c.args.self.now c.requires.question c.args.states.now c.loop-same.states c.loop-same.invariant.sought c.in_default.ensures.found

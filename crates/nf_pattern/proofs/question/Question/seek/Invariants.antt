@@ -1,12 +1,11 @@
-use Rattle.std.proofs.Common.{◌≡◌, length}
-use Rattle.nf_pattern.specs.Forest.{NoneCloses}
+use Rattle.nf_pattern.specs.Trail.{IsTrailOf}
 use Rattle.nf_pattern.proofs.Ranging.{left_after}
 use Rattle.nf_pattern.proofs.Seeking.{IsSought}
 use Rattle.nf_pattern.proofs.question.Question.seek.Given as goal
 
 -- no listed pattern is left behind
 abbrev pub invariant-loop-same : goal.invariant-loop-same
-invariant-loop-same l = record { sought : IsSought l.self l.initial.states l.states; count : length l.flags ≡ l.self.nodes; clear : NoneCloses l.self.hops l.states l.clear }
+invariant-loop-same l = record { sought : IsSought l.self l.initial.states l.states; trail : IsTrailOf l.self l.states l.trail }
 
 abbrev pub decreases-loop-same : goal.decreases-loop-same
 decreases-loop-same l = left_after l.self.base l.states

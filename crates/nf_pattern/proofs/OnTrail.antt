@@ -1,0 +1,145 @@
+-- What a trail says of a listing: whether its pattern is listed, or up to which link none is.
+use Rattle.std.proofs.Common.{◌≡◌, ◌≢◌, ℕ, zero, suc, ◌+◌, ◌<◌, ◌≤◌, ◌⊎◌, ⊎_elim, Bool, true, false, List, length, take, Option, Some, None, refl, sym, ap, subst, ◌∙◌, arith}
+use Rattle.std.specs.Prelude.{slice_get, get_or}
+use Rattle.std.proofs.lemmas.Option.{slice_get-get_or, slice_get_within}
+use Rattle.std.proofs.lemmas.List.{take-take}
+use Rattle.nf_model.specs.Walk.{Hop}
+use Rattle.nf_model.specs.Pattern.{Pattern}
+use Rattle.nf_pattern.specs.declared.trail.Trail.{Trail}
+use Rattle.nf_pattern.specs.Forest.{Closes}
+use Rattle.nf_pattern.specs.Entered.{IsEntered, EnteredBefore, IsFirstEntry, AreEnds, IsLost, Strands}
+use Rattle.nf_pattern.specs.Trail.{Follows, IsTrailOf, IsOnWay}
+use Rattle.nf_pattern.specs.Successor.{IsAssignment}
+use Rattle.nf_pattern.specs.Given.{Question, IsQuestion, IsListedBy, IsBarren}
+use Rattle.nf_pattern.proofs.Choosing.{assigned_length}
+use Rattle.nf_pattern.proofs.Seeking.{valid}
+use Rattle.nf_pattern.proofs.Forests.{is_forest, closing_below}
+use Rattle.nf_pattern.proofs.Growing.{grown_clear, grown_same}
+use Rattle.nf_pattern.proofs.Barren.{may_carry_too, barren_cycle, barren_stranded, barren_lost, listed_by}
+
+-- ---- a pattern that is the same up to where the trail stands
+module _ (hops : List Hop) (resetting : List Bool) (p r : Pattern) where
+  entered_too : (m n v : ℕ) → m ≤ n → take n r ≡ take n p → EnteredBefore hops resetting p m v → EnteredBefore hops resetting r m v
+  entered_too m n v few same (e, less, by) = (e, less, (by.0, by.1, by.2, may_carry_too resetting r p n e (omega arith) (sym same) by.3))
+
+  entered_back : (m n v : ℕ) → m ≤ n → take n r ≡ take n p → EnteredBefore hops resetting r m v → EnteredBefore hops resetting p m v
+  entered_back m n v few same (e, less, by) = (e, less, (by.0, by.1, by.2, may_carry_too resetting p r n e (omega arith) same by.3))
+
+  entry_too : (n v : ℕ) (found : Option ℕ) → take n r ≡ take n p → IsFirstEntry hops resetting p n v found → IsFirstEntry hops resetting r n v found
+  entry_too n v None same none = λ way. none (entered_back n n v (omega arith) same way)
+  entry_too n v (Some e) same (less, by, none) = (less, (by.0, by.1, by.2, may_carry_too resetting r p n e less (sym same) by.3), λ way. none (entered_back e n v (omega arith) same way))
+
+  pub follows_same : (source : ℕ) (trail : Trail) → take trail.depth r ≡ take trail.depth p → Follows source hops resetting p trail → Follows source hops resetting r trail
+  follows_same source trail same follows = record {
+    depth = follows.depth;
+    below = follows.below;
+    grown = grown_same (length trail.groups) hops p r trail.hung.items trail.hung.items trail.depth trail.groups follows.grown same (λ e less. refl);
+    hung = follows.hung;
+    count = follows.count;
+    count_ends = follows.count_ends;
+    entries = λ v found at. entry_too trail.depth v found same (follows.entries v found at);
+    entered = λ v n apart at some few. entered_too n trail.depth v few same (follows.entered v n apart at some few);
+    last = follows.last;
+  }
+
+-- the trail goes on, of the same pattern
+pub gone_on : (question : Question) (p : Pattern) (before after : Trail) → IsTrailOf question p before
+    → Follows question.source question.hops question.sets.resetting p after → IsOnWay before after → IsTrailOf question p after
+gone_on question p before after is follows way = record {
+  follows = follows;
+  nodes = way.nodes ∙ is.nodes;
+  ends = subst (λ (x : List ℕ). AreEnds question.hops question.sets.resetting question.base x) (sym (ap (λ (x : _). x.items) way.ends)) is.ends;
+  lost = subst (λ (b : Bool). IsLost question.source after.ends.items b) (sym way.lost) (subst (λ (x : List ℕ). IsLost question.source x before.lost) (sym (ap (λ (x : _). x.items) way.ends)) is.lost);
+}
+
+take_fewer : (n link : ℕ) (r p : Pattern) → n ≤ link → take link r ≡ take link p → take n r ≡ take n p
+take_fewer n link r p few same = sym (take-take n link r few) ∙ (ap (take n) same ∙ take-take n link p few)
+
+-- it comes back, to where another pattern is the same
+pub come_back : (question : Question) (p r : Pattern) (link : ℕ) (before after : Trail) → IsTrailOf question p before
+    → Follows question.source question.hops question.sets.resetting p after → IsOnWay before after → after.depth ≤ link → take link r ≡ take link p → IsTrailOf question r after
+come_back question p r link before after is follows way few same =
+    let on = gone_on question p before after is follows way in
+    record {
+      follows = follows_same question.hops question.sets.resetting p r question.source after (take_fewer after.depth link r p few same) follows;
+      nodes = on.nodes;
+      ends = on.ends;
+      lost = on.lost;
+    }
+
+module _ (question : Question) (is : IsQuestion question) (p : Pattern) (trail : Trail) (here : IsTrailOf question p trail) where
+  -- no node is lost, and all links were looked at
+  entered_all : trail.lost ≡ false → trail.depth ≡ length question.hops → (v : ℕ) → v < question.nodes → v ≢ question.source → IsEntered question.hops question.sets.resetting p v
+  entered_all kept whole v below apart =
+      let within : v < length trail.ends.items = (let a = here.follows.count_ends in let b = here.nodes in omega arith) in
+      let at = slice_get-get_or trail.ends.items v 0 within in
+      let none : slice_get trail.ends.items v ≡ Some 0 → ⊥ = subst (λ (b : Bool). IsLost question.source trail.ends.items b) kept here.lost v apart in
+      go (get_or trail.ends.items v 0) at none
+    where
+      go : (n : ℕ) → slice_get trail.ends.items v ≡ Some n → (slice_get trail.ends.items v ≡ Some 0 → ⊥) → IsEntered question.hops question.sets.resetting p v
+      go zero at none = absurd (none at)
+      go (suc e) at none =
+          let last = here.follows.last v e at in
+          let l = slice_get_within question.hops e last.0 last.1 in
+          let way = here.follows.entered v (suc e) apart at (omega arith) (omega arith) in
+          (way.0, way.2.0, way.2.1, way.2.2, way.2.3)
+
+  pub listed_on : IsAssignment question.base question.unbounded p → trail.lost ≡ false → trail.depth ≡ length question.hops → IsListedBy question p
+  listed_on assigned kept whole = listed_by question is p assigned
+      (is_forest question.hops p (λ e closes. grown_clear (length trail.groups) question.hops p trail.hung.items trail.depth trail.groups here.follows.below here.follows.grown e
+      (let l = closing_below question.hops p e closes in omega arith) closes))
+      (entered_all kept whole)
+
+  fewer : (n : ℕ) → n ≤ length question.hops → n ≤ length question.base
+  fewer n few = let a = is.base.count in let b = is.active in omega arith
+
+  pub barren_on : trail.depth < length question.hops → Strands question.source question.hops question.sets.resetting p trail.ends.items trail.depth ⊎ Closes question.hops p trail.depth
+      → (trail.depth + 1 ≤ length question.base) × IsBarren question (trail.depth + 1) p
+  barren_on less fails = (
+    fewer (trail.depth + 1) (omega arith),
+    ⊎_elim
+        (λ (s : Strands question.source question.hops question.sets.resetting p trail.ends.items trail.depth). barren_stranded question is p trail.ends.items here.ends trail.depth s)
+        (λ (c : Closes question.hops p trail.depth). barren_cycle question is p trail.depth c) fails,
+  )
+
+  pub barren_from_start : trail.lost ≡ true → (0 ≤ length question.base) × IsBarren question 0 p
+  barren_from_start lost =
+      let w : (v : ℕ) × (v ≢ question.source) × (slice_get trail.ends.items v ≡ Some 0) = subst (λ (b : Bool). IsLost question.source trail.ends.items b) lost here.lost in (
+        omega arith,
+        barren_lost question is p trail.ends.items here.ends w.0 (let l = slice_get_within trail.ends.items w.0 0 w.2 in let a = here.follows.count_ends in let b = here.nodes in omega arith) w.1 w.2,
+      )
+
+-- ---- what the parts of a question say
+module _ (q seen : Question) (same : q ≡ seen) (hops : List Hop) (resetting : List Bool) (is_hops : hops ≡ q.hops) (is_resetting : resetting ≡ q.sets.resetting) where
+  pub follows_seen : (p : Pattern) (trail : Trail) → Follows q.source hops resetting p trail → Follows seen.source seen.hops seen.sets.resetting p trail
+  follows_seen p trail follows = subst (λ (x : Question). Follows x.source x.hops x.sets.resetting p trail) same
+      (subst (λ (x : List Hop). Follows q.source x q.sets.resetting p trail) is_hops (subst (λ (x : List Bool). Follows q.source hops x p trail) is_resetting follows))
+
+  pub fails_seen : (p : Pattern) (ends : List ℕ) (e : ℕ) → (e < length hops) × (Strands q.source hops resetting p ends e ⊎ Closes hops p e)
+      → (e < length seen.hops) × (Strands seen.source seen.hops seen.sets.resetting p ends e ⊎ Closes seen.hops p e)
+  fails_seen p ends e fails = subst (λ (x : Question). (e < length x.hops) × (Strands x.source x.hops x.sets.resetting p ends e ⊎ Closes x.hops p e)) same
+      (subst (λ (x : List Hop). (e < length x) × (Strands q.source x q.sets.resetting p ends e ⊎ Closes x p e)) is_hops
+      (subst (λ (x : List Bool). (e < length hops) × (Strands q.source hops x p ends e ⊎ Closes hops p e)) is_resetting fails))
+
+  pub all_seen : length hops ≡ length seen.hops
+  all_seen = ap length (is_hops ∙ ap (λ (x : Question). x.hops) same)
+
+-- what goes on by the hops, goes on by the question
+pub follows_on : (q seen : Question) → q ≡ seen → (hops : List Hop) → hops ≡ q.hops → (before after : Trail)
+    → ((source : ℕ) (resetting : List Bool) (p : Pattern) → Follows source hops resetting p before → Follows source hops resetting p after)
+    → (p : Pattern) → Follows seen.source seen.hops seen.sets.resetting p before → Follows seen.source seen.hops seen.sets.resetting p after
+follows_on q seen same hops is_hops before after kept p follows =
+    let at : hops ≡ seen.hops = is_hops ∙ ap (λ (x : Question). x.hops) same in
+    subst (λ (x : List Hop). Follows seen.source x seen.sets.resetting p after) at
+    (kept seen.source seen.sets.resetting p (subst (λ (x : List Hop). Follows seen.source x seen.sets.resetting p before) (sym at) follows))
+
+pub count_links : (question : Question) → IsQuestion question → (p : Pattern) → IsAssignment question.base question.unbounded p → length p ≡ length question.hops
+count_links question is p assigned = assigned_length question.base question.unbounded p assigned ∙ (is.base.count ∙ is.active)
+
+-- ---- the way from assignment to assignment
+module _ (q seen : Question) (same : q ≡ seen) (is : IsQuestion q) where
+  pub valid_base : (base : Pattern) (us : List Bool) → base ≡ q.base → us ≡ q.unbounded → IsAssignment base us base
+  valid_base base us e f = subst (λ (x : Pattern). IsAssignment x us x) (sym e) (subst (λ (x : List Bool). IsAssignment q.base x q.base) (sym f) (valid q is))
+
+  pub count_base : (p : Pattern) → IsAssignment seen.base seen.unbounded p → (base : Pattern) → base ≡ q.base → length p ≡ length base
+  count_base p assigned base e = assigned_length seen.base seen.unbounded p assigned ∙ ap length (sym (e ∙ ap (λ (x : Question). x.base) same))

@@ -1,0 +1,59 @@
+use Rattle.std.proofs.Common.{◌≡◌, ◌<◌, ◌≤◌, ◌+◌, ◌-◌, length, get_or, drop, None, ap, subst, refl, ◌∙◌, arith}
+use Rattle.nf_model.specs.Pattern.{Pattern}
+use Rattle.nf_pattern.specs.Successor.{change, free, RaisesAt, raised_at}
+use Rattle.nf_pattern.proofs.Counting.{few_changes}
+use Rattle.nf_pattern.proofs.Raising.{last_from, from_here, free_behind, raised_later, raised_same, last_kept, last_all}
+use Rattle.nf_pattern.proofs.assignments.raise_from.Goals as goal
+
+pub loop-i-init : goal.loop-i-init
+loop-i-init c = record {
+  kept = refl;
+  below = omega arith;
+  last = last_from c.args.base.now c.args.unbounded.now c.args.states.now c.args.same c.args.changes c.count_free-more.result c.requires.same
+      c.requires.counted (few_changes (drop c.args.same c.args.base.now) (drop c.args.same c.args.states.now) c.args.changes c.requires.counted)
+      (c.count_free-more.ensures.free ∙ ap free (from_here c.args.base.now c.args.same))
+      (subst (λ (x : Pattern). c.count_free-more.result ≤ length x) (from_here c.args.base.now c.args.same) c.count_free-more.ensures.few);
+}
+
+pub slice_copy_out-change : goal.slice_copy_out-change
+slice_copy_out-change c =
+    let k = ap length c.loop-i.invariant.kept in let w = c.loop-i.invariant.last.within in let n = c.requires.states in omega arith
+
+pub overflow_add-changes : goal.overflow_add-changes
+overflow_add-changes c = let f = c.loop-i.invariant.last.few in let s = c.change-changes.ensures.small in omega arith
+
+pub raise_at-requires-clause-free : goal.raise_at-requires-clause-free
+raise_at-requires-clause-free c = free_behind c.args.base.now c.args.unbounded.now c.args.states.now c.args.same (c.loop-i.i - 1) c.loop-i.i c.loop-i.changes c.loop-i.more c.loop-i.invariant.last (omega arith)
+    c.requires.states c.requires.unbounded
+
+pub returns-then-raise_at : goal.returns-then-raise_at
+returns-then-raise_at c =
+    let less : c.loop-i.i - 1 < c.args.same = (let b = c.loop-i.invariant.below in omega arith) in
+    let raised : RaisesAt c.args.base.now c.args.unbounded.now c.args.states.now (c.loop-i.i - 1) (c.loop-i.changes + c.change-changes.result) c.raise_at.new.states =
+    subst (λ (x : Pattern). RaisesAt c.args.base.now c.args.unbounded.now x (c.loop-i.i - 1) (c.loop-i.changes + c.change-changes.result) c.raise_at.new.states) c.loop-i.invariant.kept c.if-raise_at.ensures in (
+      raised_later c.args.base.now c.args.unbounded.now c.args.states.now c.args.same (c.loop-i.i - 1) c.loop-i.i c.loop-i.changes c.loop-i.more c.loop-i.invariant.last (omega arith)
+          c.requires.states c.requires.unbounded c.change-changes.result (c.loop-i.changes + c.change-changes.result)
+          (subst (λ (x : Pattern). c.change-changes.result ≡ change (get_or c.args.base.now (c.loop-i.i - 1) None) (get_or x (c.loop-i.i - 1) None)) c.loop-i.invariant.kept c.change-changes.ensures.value) refl
+          c.raise_at.new.states less raised,
+      raised_same c.args.base.now c.args.unbounded.now c.args.states.now c.args.same (c.loop-i.i - 1) (c.loop-i.changes + c.change-changes.result) c.raise_at.new.states less
+          (let w = c.loop-i.invariant.last.within in let n = c.requires.states in omega arith) raised,
+    )
+
+pub overflow_add-more : goal.overflow_add-more
+overflow_add-more c = let f = c.loop-i.invariant.last.few_free in let s = c.change-more.ensures.small in omega arith
+
+pub loop-i-preserved : goal.loop-i-preserved
+loop-i-preserved c =
+    let is : c.change-changes.result ≡ change (get_or c.args.base.now (c.loop-i.i - 1) None) (get_or c.args.states.now (c.loop-i.i - 1) None) =
+    subst (λ (x : Pattern). c.change-changes.result ≡ change (get_or c.args.base.now (c.loop-i.i - 1) None) (get_or x (c.loop-i.i - 1) None)) c.loop-i.invariant.kept c.change-changes.ensures.value in
+    record {
+      kept = c.if-raise_at.ensures.1 ∙ c.loop-i.invariant.kept;
+      below = (let b = c.loop-i.invariant.below in omega arith);
+      last = last_kept c.args.base.now c.args.unbounded.now c.args.states.now c.args.same (c.loop-i.i - 1) c.loop-i.i c.loop-i.changes c.loop-i.more c.loop-i.invariant.last (omega arith)
+          c.requires.states c.requires.unbounded c.change-changes.result (c.loop-i.changes + c.change-changes.result) is refl c.change-more.result (c.loop-i.more + c.change-more.result) c.change-more.ensures.value refl
+          (subst (λ (x : Pattern). raised_at c.args.base.now c.args.unbounded.now x (c.loop-i.i - 1) (c.loop-i.changes + c.change-changes.result) ≡ None) c.loop-i.invariant.kept c.if-raise_at.ensures.0)
+          (let b = c.loop-i.invariant.below in omega arith) c.change-changes.ensures.small c.change-more.ensures.small;
+    }
+
+pub returns : goal.returns
+returns c = (last_all c.args.base.now c.args.unbounded.now c.args.states.now c.args.same c.loop-i.i c.loop-i.changes c.loop-i.more (omega arith) c.loop-i.invariant.last, c.loop-i.invariant.kept)

@@ -1,0 +1,23 @@
+use Rattle.std.proofs.Common.{ℕ, List, length, refl, sym, ap, subst, ◌∙◌, arith, rules}
+use Rattle.nf_pattern.specs.Entered.{IsLost}
+use Rattle.nf_pattern.proofs.Following.{follows_none}
+use Rattle.nf_pattern.proofs.trail.Trail.new.Goals as goal
+
+pub is_lost-lost-requires : goal.is_lost-lost-requires
+is_lost-lost-requires c =
+    let fits = c.ranges.nodes in
+    let count = ap (λ (es : List ℕ). length es) c.deref.ensures.value ∙ c.in_ok-ends.ensures.count in omega arith
+
+pub returns-clause-follows : goal.returns-clause-follows
+returns-clause-follows c p =
+    follows_none c.args.source c.args.hops.now c.args.resetting.now c.args.base.now p c.args.nodes c.requires.below refl c.in_ok-groups.ensures
+    (sym c.in_ok-hung.hung.ok.0 ∙ c.in_ok-hung.ensures.len) (c.in_ok-entered.ensures.items_if_clones_equal (λ y e. search rules)) c.in_ok-ends.ensures.count c.in_ok-ends.ensures.ends
+
+pub returns-clause-nodes : goal.returns-clause-nodes
+returns-clause-nodes c = c.in_ok-groups.ensures.count
+
+pub returns-clause-ends : goal.returns-clause-ends
+returns-clause-ends c = c.in_ok-ends.ensures.ends
+
+pub returns-clause-lost : goal.returns-clause-lost
+returns-clause-lost c = subst (λ (es : List ℕ). IsLost c.args.source es c.is_lost-lost.result) c.deref.ensures.value c.is_lost-lost.ensures

@@ -1,0 +1,39 @@
+-- How far the states of a pattern were looked at, link by link.
+use Rattle.std.specs.Prelude.{◌≡◌, ◌≢◌, ℕ, suc, ◌<◌, ◌≤◌, Bool, List, length, Some, slice_get}
+use Rattle.nf_model.specs.Walk.{Hop, IsHop}
+use Rattle.nf_model.specs.Pattern.{Pattern}
+use Rattle.nf_graph.specs.Graph.{AreBelow}
+use Rattle.nf_pattern.specs.Groups.{AreGrown}
+use Rattle.nf_pattern.specs.Entered.{EnteredBefore, AreFirstEntries, AreEnds, IsLost}
+use Rattle.nf_pattern.specs.Given.{Question}
+use Rattle.nf_pattern.specs.declared.trail.Trail.{Trail}
+
+-- The links before number `depth` were looked at: none of them closes a cycle of Tight links, and each node but the source is
+-- entered that no later link can enter, unless no link can from the start on. The last one that can enter a node leads to it.
+pub record Follows (source : ℕ) (hops : List Hop) (resetting : List Bool) (pattern : Pattern) (trail : Trail) : Type 0 where
+  pub depth : trail.depth ≤ length hops
+  pub below : AreBelow (length trail.groups) hops
+  pub grown : AreGrown (length trail.groups) hops pattern trail.hung.items trail.depth trail.groups
+  pub hung : length trail.hung.items ≡ length hops
+  pub count : length trail.entered.items ≡ length trail.groups
+  pub count_ends : length trail.ends.items ≡ length trail.groups
+  pub entries : AreFirstEntries hops resetting pattern trail.depth trail.entered.items
+  pub entered : (v n : ℕ) → v ≢ source → slice_get trail.ends.items v ≡ Some n → 0 < n → n ≤ trail.depth → EnteredBefore hops resetting pattern n v
+  pub last : (v e : ℕ) → slice_get trail.ends.items v ≡ Some (suc e) → (hop : Hop) × IsHop hops e hop × (hop.head ≡ v)
+
+-- the trail stands at a link of the pattern, in a listing's question
+pub record IsTrailOf (question : Question) (pattern : Pattern) (trail : Trail) : Type 0 where
+  pub follows : Follows question.source question.hops question.sets.resetting pattern trail
+  pub nodes : length trail.groups ≡ question.nodes
+  pub ends : AreEnds question.hops question.sets.resetting question.base trail.ends.items
+  pub lost : IsLost question.source trail.ends.items trail.lost
+
+-- of some pattern, for some source
+abbrev pub IsLeft : List Hop → Trail → Type 0
+IsLeft hops trail = (source : ℕ) × (resetting : List Bool) × (pattern : Pattern) × Follows source hops resetting pattern trail
+
+-- what a trail keeps on its way
+pub record IsOnWay (before after : Trail) : Type 0 where
+  pub nodes : length after.groups ≡ length before.groups
+  pub ends : after.ends ≡ before.ends
+  pub lost : after.lost ≡ before.lost

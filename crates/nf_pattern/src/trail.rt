@@ -1,0 +1,162 @@
+// A trail along the links: how far the states of a pattern were looked at. It goes on from what two patterns have in common.
+use crate::entered::{ends, forget_entry, is_lost, may_carry, note_entry, strands};
+use crate::groups::Groups;
+use crate::joining::{join_by, part_by};
+use nf_graph::{Hop, LinkId, NodeId};
+use nf_model::State;
+use std::alloc::{AllocError, Global};
+
+// The links before number `depth` were looked at: which groups of nodes their Tight ones join, which node hangs since each of
+// them, and of each node the first one that enters it. Of each node it is known behind which link no later one can enter it,
+// and whether none can enter some node.
+#[derive(Drop, Debug)]
+pub(crate) struct Trail {
+    depth: usize,
+    groups: Groups,
+    hung: Vec<Option<NodeId>>,
+    entered: Vec<Option<LinkId>>,
+    ends: Vec<usize>,
+    lost: bool,
+}
+
+impl Trail {
+    ghost use Rattle.std.specs.Prelude.{◌≡◌, ◌⊎◌, ◌^◌, ◌<◌, ◌≤◌, ℕ, suc, List, Bool, length, IfOk, MatchBool};
+    ghost use Rattle.nf_model.specs.Pattern.{Pattern as SeenPattern};
+    ghost use Rattle.nf_graph.specs.Graph.{AreBelow};
+    ghost use Rattle.nf_pattern.specs.Forest.{Closes};
+    ghost use Rattle.nf_pattern.specs.Entered.{Strands, AreEnds, IsLost};
+    ghost use Rattle.nf_pattern.specs.Trail.{Follows, IsLeft, IsOnWay};
+
+    // No link was looked at.
+    pub(crate) fn new(
+        alloc: Global,
+        nodes: u32,
+        source: NodeId,
+        hops: &[Hop],
+        base: &[Option<State>],
+        resetting: &[bool],
+    ) -> Result<Trail, AllocError>
+        requires below { AreBelow nodes hops.now }
+        requires base { length base.now ≡ length hops.now }
+        requires resetting { length resetting.now ≡ length hops.now }
+        ensures follows { IfOk result (λ trail. (p : SeenPattern) → Follows source hops.now resetting.now p trail) }
+        ensures nodes { IfOk result (λ trail. length trail.groups ≡ nodes) }
+        ensures ends { IfOk result (λ trail. AreEnds hops.now resetting.now base.now trail.ends.items) }
+        ensures lost { IfOk result (λ trail. IsLost source trail.ends.items trail.lost) }
+    {
+        let groups = Groups::alone(alloc, nodes)?;
+        let hung = vec![in alloc; None; hops.len()]?;
+        let entered = vec![in alloc; None; nodes as usize]?;
+        let ends = ends(alloc, nodes, hops, base, resetting)?;
+        let lost = is_lost(&ends, source);
+        Ok(Trail {
+            depth: 0,
+            groups,
+            hung,
+            entered,
+            ends,
+            lost,
+        })
+    }
+
+    // How many links were looked at.
+    pub(crate) fn depth(&self) -> usize
+        ensures { result ≡ self.now.depth }
+    {
+        self.depth
+    }
+
+    // Whether no link can enter a node but the source.
+    pub(crate) fn is_lost(&self) -> bool
+        ensures { result ≡ self.now.lost }
+    {
+        self.lost
+    }
+
+    // One link more; false where it closes a cycle, or a node can't be entered any longer.
+    fn enter(
+        &mut self,
+        hops: &[Hop],
+        states: &[Option<State>],
+        resetting: &[bool],
+        source: NodeId,
+    ) -> bool
+        requires states { length states.now ≡ length hops.now }
+        requires resetting { length resetting.now ≡ length hops.now }
+        requires fewer { length hops.now < 2 ^ 32 }
+        requires follows { Follows source hops.now resetting.now states.now self.old }
+        requires more { self.old.depth < length hops.now }
+        ensures follows { Follows source hops.now resetting.now states.now self.new }
+        ensures way { IsOnWay self.old self.new }
+        ensures entered { MatchBool result (self.new.depth ≡ suc self.old.depth)
+            ((self.new.depth ≡ self.old.depth) × (Strands source hops.now resetting.now states.now self.new.ends.items self.new.depth ⊎ Closes hops.now states.now self.new.depth)) }
+    {
+        let link = LinkId(self.depth as u32);
+        let carries = may_carry(states, resetting, link);
+        let entered = &self.entered;
+        if strands(
+            hops, states, resetting, source, link, carries, entered, &self.ends,
+        ) {
+            return false;
+        }
+        if !join_by(hops, states, link, &mut self.groups, &mut self.hung) {
+            return false;
+        }
+        note_entry(hops, states, resetting, link, carries, &mut self.entered);
+        self.depth += 1;
+        true
+    }
+
+    // On to the last link, or to the first one that closes a cycle or strands a node; whether it is there.
+    pub(crate) fn extend(
+        &mut self,
+        hops: &[Hop],
+        states: &[Option<State>],
+        resetting: &[bool],
+        source: NodeId,
+    ) -> bool
+        requires states { length states.now ≡ length hops.now }
+        requires resetting { length resetting.now ≡ length hops.now }
+        requires fewer { length hops.now < 2 ^ 32 }
+        requires follows { Follows source hops.now resetting.now states.now self.old }
+        ensures follows { Follows source hops.now resetting.now states.now self.new }
+        ensures way { IsOnWay self.old self.new }
+        ensures extended { MatchBool result (self.new.depth ≡ length hops.now)
+            ((self.new.depth < length hops.now) × (Strands source hops.now resetting.now states.now self.new.ends.items self.new.depth ⊎ Closes hops.now states.now self.new.depth)) }
+    {
+        while self.depth < hops.len() {
+            if !self.enter(hops, states, resetting, source) {
+                return false;
+            }
+        }
+        true
+    }
+
+    // The last link is taken back.
+    fn leave(&mut self, hops: &[Hop])
+        requires fewer { length hops.now < 2 ^ 32 }
+        requires left { IsLeft hops.now self.old }
+        requires some { 0 < self.old.depth }
+        ensures kept { (source : ℕ) (resetting : List Bool) (p : SeenPattern) → Follows source hops.now resetting p self.old → Follows source hops.now resetting p self.new }
+        ensures way { IsOnWay self.old self.new }
+        ensures depth { suc self.new.depth ≡ self.old.depth }
+    {
+        self.depth -= 1;
+        let link = LinkId(self.depth as u32);
+        part_by(link, &mut self.groups, &self.hung);
+        forget_entry(hops, link, &mut self.entered);
+    }
+
+    // Back until no link from this one on is left.
+    pub(crate) fn retreat(&mut self, hops: &[Hop], link: usize)
+        requires fewer { length hops.now < 2 ^ 32 }
+        requires left { IsLeft hops.now self.old }
+        ensures kept { (source : ℕ) (resetting : List Bool) (p : SeenPattern) → Follows source hops.now resetting p self.old → Follows source hops.now resetting p self.new }
+        ensures way { IsOnWay self.old self.new }
+        ensures depth { self.new.depth ≤ link }
+    {
+        while self.depth > link {
+            self.leave(hops);
+        }
+    }
+}
