@@ -1,8 +1,8 @@
 -- The slopes of a thin flow allow the states of each pattern that is listed and solvable.
-use Rattle.std.proofs.Common.{◌≡◌, ◌⊎◌, inl, inr, ℕ, ◌+◌, ◌<◌, true, false, List, length, get_or, sym, ap, subst, refl, ◌∙◌, arith}
+use Rattle.std.proofs.Common.{◌≡◌, ◌⊎◌, inl, inr, ℕ, ◌+◌, ◌<◌, true, List, length, get_or, sym, ap, subst, refl, ◌∙◌, arith}
 use Rattle.std.specs.Prelude.{Option, Some, None, slice_get}
 use Rattle.std.specs.Option.{option_map}
-use Rattle.std.proofs.lemmas.List.{get_or_read}
+use Rattle.std.proofs.lemmas.List.{get_or_read, length-map}
 use Rattle.std.proofs.lemmas.Option.{slice_get-map, same_Some, unwrap_or-slice_get}
 use Rattle.nf_rational.specs.Rational.{ℚ}
 use Rattle.nf_rational.specs.Operations.{0ℚ}
@@ -13,13 +13,13 @@ use Rattle.nf_model.specs.declared.State.TheVariants.{Tight, Full, Zero}
 use Rattle.nf_model.specs.Entries.{number_at}
 use Rattle.nf_model.specs.Network.{Link, Network, IsLink, IsNetwork}
 use Rattle.nf_model.specs.ThinFlow.{Sets}
-use Rattle.nf_model.specs.Pattern.{Pattern, HasState}
+use Rattle.nf_model.specs.Pattern.{Pattern}
 use Rattle.nf_thin_laws.specs.ActiveLinks.{AreSets, HoldNoCycle}
 use Rattle.nf_thin_laws.specs.PatternLaws.{AllowState}
 use Rattle.nf_thin_laws.proofs.States.{AllowState-thin}
 use Rattle.nf_thin.specs.declared.allowed.Allowed.{Allowed}
 use Rattle.nf_thin.specs.Slopes.{AreThinSlopes}
-use Rattle.nf_thin.specs.Allowing.{allows, allows_of, flags_of, flags_by, Agrees, AllowSolvable}
+use Rattle.nf_thin.specs.Allowing.{allows, flags_of, flags_by, IsAllowedAt, AllowSolvable}
 use Rattle.nf_pattern.proofs.Entering.{less_or_same}
 use Rattle.nf_thin.proofs.Inequalities.{all_true}
 
@@ -55,6 +55,9 @@ link_of_flags net slopes e flags h = go (slice_get net.links e) refl
     go None is = absurd (no (sym (slice_get-map (flags_at slopes) net.links e ∙ ap (option_map (flags_at slopes)) is) ∙ h))
     go (Some link) is = (link, is, same_Some flags (flags_at slopes link) (sym h ∙ flags_by-at net slopes e link is))
 
+pub flags_count : (net : Network) (slopes : List ℚ) → length (flags_by net slopes) ≡ length net.links
+flags_count net slopes = length-map net.links (flags_at slopes)
+
 pub slopes_allow : (net : Network) (sets : Sets) (rate : ℚ) (slopes : List ℚ) → IsNetwork net → AreSets net sets → HoldNoCycle net sets → AreThinSlopes net sets rate slopes
     → AllowSolvable net sets rate (flags_by net slopes)
 slopes_allow net sets rate slopes good are acyclic thin pattern listed solvable e flags state at has =
@@ -65,33 +68,11 @@ slopes_allow net sets rate slopes good are acyclic thin pattern listed solvable 
 -- ---- link by link
 -- the states of the first links are allowed
 abbrev pub AgreesBelow : List Allowed → Pattern → ℕ → Type 0
-AgreesBelow allowed pattern n = (e : ℕ) (flags : Allowed) (state : State) → e < n → slice_get allowed e ≡ Some flags → HasState pattern e state → allows flags state ≡ true
+AgreesBelow allowed pattern n = (e : ℕ) → e < n → IsAllowedAt allowed pattern e
 
-module _ (allowed : List Allowed) (pattern : Pattern) (e : ℕ) (flags : Allowed) (here : Option State) (at : slice_get allowed e ≡ Some flags) (has : slice_get pattern e ≡ Some here) where
-  state_here : (state : State) → HasState pattern e state → here ≡ Some state
-  state_here state h = same_Some here (Some state) (sym has ∙ h)
-
-  -- a state that isn't allowed
-  pub disagrees : allows_of flags here ≡ false → Agrees allowed pattern → ⊥
-  disagrees none all = go here refl none
-    where
-      no : true ≡ false → ⊥
-      no e = cc
-
-      go : (o : Option State) → here ≡ o → allows_of flags o ≡ false → ⊥
-      go None is f = no f
-      go (Some state) is f = no (sym (all e flags state at (has ∙ ap (λ (o : Option State). Some o) is)) ∙ f)
-
-  allowed_here : allows_of flags here ≡ true → (given : Allowed) (state : State) → slice_get allowed e ≡ Some given → HasState pattern e state → allows given state ≡ true
-  allowed_here t given state at_given h = subst (λ (x : Allowed). allows x state ≡ true) (same_Some flags given (sym at ∙ at_given))
-      (subst (λ (o : Option State). allows_of flags o ≡ true) (state_here state h) t)
-
-  pub agrees_more : AgreesBelow allowed pattern e → allows_of flags here ≡ true → AgreesBelow allowed pattern (e + 1)
-  agrees_more so t k given state less at_k h = go (below_or_last k less)
-    where
-      below_or_last : (k : ℕ) → k < e + 1 → (k < e) ⊎ (k ≡ e)
-      below_or_last k less = less_or_same k e (omega arith)
-
-      go : (k < e) ⊎ (k ≡ e) → allows given state ≡ true
-      go (inl b) = so k given state b at_k h
-      go (inr s) = allowed_here t given state (subst (λ (i : ℕ). slice_get allowed i ≡ Some given) s at_k) (subst (λ (i : ℕ). HasState pattern i state) s h)
+pub agrees_more : (allowed : List Allowed) (pattern : Pattern) (e : ℕ) → AgreesBelow allowed pattern e → IsAllowedAt allowed pattern e → AgreesBelow allowed pattern (e + 1)
+agrees_more allowed pattern e so here k less = go (less_or_same k e (omega arith))
+  where
+    go : (k < e) ⊎ (k ≡ e) → IsAllowedAt allowed pattern k
+    go (inl b) = so k b
+    go (inr s) = subst (IsAllowedAt allowed pattern) (sym s) here

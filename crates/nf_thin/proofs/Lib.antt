@@ -1,6 +1,7 @@
 pub mod Folds
 pub mod Inequalities
 pub mod Failing
+pub mod Comparing
 pub mod Concluding
 pub mod Places
 pub mod Patterns
@@ -17,6 +18,7 @@ pub mod LinkRows
 pub mod Sizes
 pub mod Searched
 pub mod Asking
+pub mod FirstListed
 pub mod Looping
 pub mod SourceRow
 pub mod Leading

@@ -27,19 +27,19 @@ InLoop passes net sets rate q budget given skipped vain = (given.question ≡ q)
 
 -- patterns of which none was passed over
 abbrev pub all_tried : Vain → Sifted
-all_tried vain = record { vain = vain; skips = false }
+all_tried vain = record { vain = vain; skips = false; last = 0 }
 
 -- what is tried is counted, and nothing more is passed over
-pub tried_counts : (passes : Passing) (net : Network) (sets : Sets) (rate : ℚ) (budget : ℕ) (pattern : Pattern) (skipped : Bool) (before after : Vain) (result : Result (Option Thin) SearchFault)
+pub tried_counts : (passes : Passing) (net : Network) (sets : Sets) (rate : ℚ) (budget : ℕ) (pattern : Pattern) (skipped : Bool) (last : ℕ) (before after : Vain) (result : Result (Option Thin) SearchFault)
     → TriesNext passes net sets rate budget pattern before after result
-    → SiftsNext passes net sets rate budget pattern (record { vain = before; skips = skipped }) (record { vain = after; skips = skipped }) result
-tried_counts passes net sets rate budget pattern skipped before after (Ok None) t =
+    → SiftsNext passes net sets rate budget pattern (record { vain = before; skips = skipped; last = last }) (record { vain = after; skips = skipped; last = last }) result
+tried_counts passes net sets rate budget pattern skipped last before after (Ok None) t =
     (t.0, record { one_more = t.1.one_more; not_accepted = t.1.not_accepted; noted = λ none. (none, t.1.noted) })
-tried_counts passes net sets rate budget pattern skipped before after (Ok (Some thin)) t = t
-tried_counts passes net sets rate budget pattern skipped before after (Err (SearchFault.Budget tried)) t = t
-tried_counts passes net sets rate budget pattern skipped before after (Err (SearchFault.Passed place at)) t = t
-tried_counts passes net sets rate budget pattern skipped before after (Err SearchFault.NoPattern) t = t
-tried_counts passes net sets rate budget pattern skipped before after (Err SearchFault.Memory) t = t
+tried_counts passes net sets rate budget pattern skipped last before after (Ok (Some thin)) t = t
+tried_counts passes net sets rate budget pattern skipped last before after (Err (SearchFault.Budget tried)) t = t
+tried_counts passes net sets rate budget pattern skipped last before after (Err (SearchFault.Passed place at)) t = t
+tried_counts passes net sets rate budget pattern skipped last before after (Err SearchFault.NoPattern) t = t
+tried_counts passes net sets rate budget pattern skipped last before after (Err SearchFault.Memory) t = t
 
 module _ (passes : Passing) (net : Network) (sets : Sets) (rate : ℚ) (first : Given) (budget : ℕ) (good : IsNetwork net) (sets_are : AreSetsOf net sets) (asks : AsksOf net sets first) where
   abbrev q : Question

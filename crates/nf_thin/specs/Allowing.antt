@@ -1,5 +1,5 @@
 -- The states of links that slopes allow.
-use Rattle.std.specs.Prelude.{◌≡◌, ℕ, Bool, true, ◌&&◌, List, map, Option, Some, None, slice_get}
+use Rattle.std.specs.Prelude.{◌≡◌, ℕ, Bool, true, false, ◌&&◌, List, map, Option, Some, None, slice_get}
 use Rattle.nf_rational.specs.Rational.{ℚ}
 use Rattle.nf_rational.specs.Order.{le_ℚ}
 use Rattle.nf_model.specs.declared.State.{State}
@@ -32,9 +32,17 @@ flags_of tail_slope head_slope = record {
 abbrev pub flags_by : Network → List ℚ → List Allowed
 flags_by net slopes = map (λ (link : Link). flags_of (number_at slopes link.tail) (number_at slopes link.head)) net.links
 
+-- the state of a link is allowed
+abbrev pub IsAllowedAt : List Allowed → Pattern → ℕ → Type 0
+IsAllowedAt allowed pattern e = (flags : Allowed) (state : State) → slice_get allowed e ≡ Some flags → HasState pattern e state → allows flags state ≡ true
+
+-- the link has a state, which isn't allowed
+abbrev pub IsForbidden : List Allowed → Pattern → ℕ → Type 0
+IsForbidden allowed pattern e = (flags : Allowed) × (state : State) × (slice_get allowed e ≡ Some flags) × HasState pattern e state × (allows flags state ≡ false)
+
 -- each state of a pattern is allowed
 abbrev pub Agrees : List Allowed → Pattern → Type 0
-Agrees allowed pattern = (e : ℕ) (flags : Allowed) (state : State) → slice_get allowed e ≡ Some flags → HasState pattern e state → allows flags state ≡ true
+Agrees allowed pattern = (e : ℕ) → IsAllowedAt allowed pattern e
 
 -- each pattern that is listed and solvable has allowed states alone
 abbrev pub AllowSolvable : Network → Sets → ℚ → List Allowed → Type 0

@@ -1,6 +1,7 @@
 pub mod Judging
 pub mod Trying
 pub mod Searching
+pub mod Beginning
 pub mod Filling
 pub mod Slopes
 pub mod Allowing

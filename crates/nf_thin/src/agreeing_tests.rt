@@ -1,17 +1,23 @@
-// The search beside the plain one, which tries each pattern: on random phases, and where slopes aren't unique or operations pass.
+// The search, and the one by slopes that it goes on with after its first try, beside the plain one, which tries each pattern: on
+// random phases, and where slopes aren't unique or operations pass.
+ghost use Rattle.std.specs.Prelude.{IfOk, IfSome};
+ghost use Rattle.nf_work.specs.Passing.{bound_of, beyond};
 ghost use Rattle.nf_model.specs.Network.{unbounded};
 ghost use Rattle.nf_model.specs.Pattern.{IsPattern};
 ghost use Rattle.nf_thin.specs.Searching.{AreSetsOf};
+ghost use Rattle.nf_thin.specs.Beginning.{IsSolved};
 
+use crate::first::first_listed;
+use crate::guess::{SolvedPattern, values_of};
 use crate::phases::{begin, made, network};
-use crate::searches::plain_search;
+use crate::searches::{plain_search, search_by_slopes};
 use crate::sifting::sifted_search;
 use crate::{SearchFault, Thin, search};
 use nf_frac::Q;
 use nf_graph::{LinkId, LinkSets};
 use nf_net::{Network, parse};
 use nf_pattern::Pattern;
-use std::alloc::Global;
+use std::alloc::{AllocError, Global};
 use std::test::Fail;
 
 // Slopes of this phase aren't unique: the links between a and b are a cycle of active ones.
@@ -31,11 +37,11 @@ const WIDER_LINK: &str =
 
 // Numbers, drawn one after the other.
 #[derive(Drop)]
-struct Drawn(u32);
+pub(crate) struct Drawn(pub(crate) u32);
 
 impl Drawn {
     // One below 1 + most.
-    fn up_to(&mut self, most: u32) -> u32 {
+    pub(crate) fn up_to(&mut self, most: u32) -> u32 {
         let next = self.0.wrapping_mul(75).wrapping_add(74) % 65_537;
         self.0 = next;
         next % most.saturating_add(1).max(1)
@@ -67,7 +73,7 @@ fn random_line(alloc: Global, e: u32, drawn: &mut Drawn) -> Result<String, Fail>
 }
 
 // A file of at most twelve links between five nodes.
-fn random_file(alloc: Global, drawn: &mut Drawn) -> Result<String, Fail> {
+pub(crate) fn random_file(alloc: Global, drawn: &mut Drawn) -> Result<String, Fail> {
     let mut file = String::new(alloc);
     file.push_str("nfot 2\nsource n0\nsink n4\n")?;
     for e in 0..12_u32 {
@@ -79,7 +85,11 @@ fn random_file(alloc: Global, drawn: &mut Drawn) -> Result<String, Fail> {
 }
 
 // Slacks of -1, 0 and, on links with a capacity, 1.
-fn random_slacks(alloc: Global, net: &Network, drawn: &mut Drawn) -> Result<Vec<Q>, Fail> {
+pub(crate) fn random_slacks(
+    alloc: Global,
+    net: &Network,
+    drawn: &mut Drawn,
+) -> Result<Vec<Q>, Fail> {
     let mut slacks = Vec::new(alloc);
     for e in 0..net.link_count() {
         let bounded = net.link(LinkId(e)).capacity.is_some();
@@ -119,22 +129,61 @@ fn same_fault(one: SearchFault, other: SearchFault) -> Result<Option<u64>, Fail>
 
 // What both searches find, if they find the same.
 fn same(
-    one: Result<Thin, SearchFault>,
-    other: Result<Thin, SearchFault>,
+    one: &Result<Thin, SearchFault>,
+    other: &Result<Thin, SearchFault>,
 ) -> Result<Option<u64>, Fail> {
     match one {
         Ok(one) => match other {
-            Ok(other) => same_thin(&one, &other),
+            Ok(other) => same_thin(one, other),
             Err(_) => Err(Fail::from("a thin flow of both")),
         },
         Err(one) => match other {
             Ok(_) => Err(Fail::from("a fault of both")),
-            Err(other) => same_fault(one, other),
+            Err(other) => same_fault(*one, *other),
         },
     }
 }
 
-// The place that both searches find with this budget, or none where they fail alike.
+// The first listed pattern with the values of its table, if there are any.
+fn solved_first(
+    alloc: Global,
+    net: &Network,
+    sets: &LinkSets,
+    rate: Q,
+    base: &Pattern,
+) -> Result<Option<SolvedPattern>, AllocError>
+    requires sets { AreSetsOf net.now.net sets.now }
+    requires base { IsPattern sets.now (unbounded net.now.net) base.now }
+    ensures { IfOk result (λ found. IfSome found (λ first. IsSolved (beyond (bound_of 127)) net.now.net sets.now rate first)) }
+{
+    let Some(pattern) = first_listed(alloc, net, sets, base)? else {
+        return Ok(None);
+    };
+    match values_of(alloc, net, sets, rate, &pattern)? {
+        Some(values) => Ok(Some(SolvedPattern { pattern, values })),
+        None => Ok(None),
+    }
+}
+
+// The search by slopes, also where the first listed pattern is accepted.
+fn by_slopes(
+    alloc: Global,
+    net: &Network,
+    sets: &LinkSets,
+    rate: Q,
+    base: &Pattern,
+    budget: u64,
+) -> Result<Thin, SearchFault>
+    requires sets { AreSetsOf net.now.net sets.now }
+    requires base { IsPattern sets.now (unbounded net.now.net) base.now }
+{
+    match solved_first(alloc, net, sets, rate, base)? {
+        Some(first) => search_by_slopes(alloc, net, sets, rate, base, first, budget),
+        None => plain_search(alloc, net, sets, rate, base, budget),
+    }
+}
+
+// The place that all three searches find with this budget, or none where they fail alike.
 fn place(
     alloc: Global,
     net: &Network,
@@ -146,9 +195,11 @@ fn place(
     requires sets { AreSetsOf net.now.net sets.now }
     requires base { IsPattern sets.now (unbounded net.now.net) base.now }
 {
-    let one = search(alloc, net, sets, rate, base, budget);
-    let other = plain_search(alloc, net, sets, rate, base, budget);
-    same(one, other)
+    let plain = plain_search(alloc, net, sets, rate, base, budget);
+    let by_first_slopes = by_slopes(alloc, net, sets, rate, base, budget);
+    let _ = same(&by_first_slopes, &plain)?;
+    let found = search(alloc, net, sets, rate, base, budget);
+    same(&found, &plain)
 }
 
 // The same with an ample budget, and then with small ones and the place itself.
@@ -170,34 +221,35 @@ fn agree(
     Ok(found)
 }
 
-// Whether the searches find a thin flow in a random phase, if there is a phase.
-fn random_phase(alloc: Global, drawn: &mut Drawn) -> Result<bool, Fail> {
+// The place of the thin flow that the searches find in a random phase, if there is a phase and they find one.
+fn random_phase(alloc: Global, drawn: &mut Drawn) -> Result<Option<u64>, Fail> {
     let file = random_file(alloc, drawn)?;
     let bytes = file.as_bytes();
     if bytes.len() > 1_000 {
-        return Ok(false);
+        return Ok(None);
     }
     let Ok(net) = parse(alloc, bytes) else {
-        return Ok(false);
+        return Ok(None);
     };
     let slacks = random_slacks(alloc, &net, drawn)?;
     let rate = made(i128::from(drawn.up_to(6)), 1)?;
     let last = Pattern::none(alloc, net.link_count())?;
     let (sets, base) = begin(alloc, &net, &slacks, &last)?;
-    let found = agree(alloc, &net, &sets, rate, &base)?;
-    Ok(found.is_some())
+    agree(alloc, &net, &sets, rate, &base)
 }
 
 #[test]
 fn random_phases(rt: HostRuntime) -> Result<(), Fail> {
     let mut drawn = Drawn(7);
     let mut found: u32 = 0;
+    let mut late: u32 = 0;
     for _ in 0..600 {
-        if random_phase(rt.alloc(), &mut drawn)? {
-            found = found.saturating_add(1);
-        }
+        let place = random_phase(rt.alloc(), &mut drawn)?.unwrap_or(0);
+        found = found.saturating_add(u32::from(place > 0));
+        late = late.saturating_add(u32::from(place > 1));
     }
     assert!(rt; found > 200, "{found} thin flows are too few");
+    assert!(rt; late > 80, "{late} after the first try are too few");
     Ok(())
 }
 
@@ -234,7 +286,11 @@ fn found_by_slopes(rt: HostRuntime) -> Result<(), Fail> {
     let net = network(rt.alloc(), PARALLEL_LINKS)?;
     let last = Pattern::none(rt.alloc(), net.link_count())?;
     let (sets, base) = begin(rt.alloc(), &net, &[Q::zero(), Q::zero()], &last)?;
-    let found = sifted_search(rt.alloc(), &net, &sets, made(3, 1)?, &base, 7);
+    let rate = made(3, 1)?;
+    let Some(first) = solved_first(rt.alloc(), &net, &sets, rate, &base)? else {
+        return Err(Fail::from("a first pattern with values"));
+    };
+    let found = sifted_search(rt.alloc(), &net, &sets, rate, &base, first, 7);
     match found {
         Ok(Some(thin)) => {
             assert_eq!(rt; thin.place, 5);

@@ -1,7 +1,7 @@
 // The states of links that slopes allow.
-ghost use Rattle.std.specs.Prelude.{◌≡◌, ◌<◌, length, slice_get, Some, IfOk, MatchBool};
+ghost use Rattle.std.specs.Prelude.{◌≡◌, ◌<◌, length, slice_get, Some, IfOk, MatchBool, MatchOption};
 ghost use Rattle.nf_model.specs.Entries.{number_at};
-ghost use Rattle.nf_thin.specs.Allowing.{allows_of, flags_of, flags_by, Agrees};
+ghost use Rattle.nf_thin.specs.Allowing.{allows_of, flags_of, flags_by, IsAllowedAt, IsForbidden, Agrees};
 
 use crate::verdicts::is_at_most;
 use nf_frac::Q;
@@ -68,17 +68,43 @@ fn states_of(allowed: &[Allowed], link: LinkId) -> Allowed
     allowed[link.index()]
 }
 
-/// The states of a pattern are all allowed.
-pub(crate) fn agree(net: &Network, allowed: &[Allowed], pattern: &Pattern) -> bool
+// The state of this link isn't allowed.
+fn is_forbidden(allowed: &[Allowed], pattern: &Pattern, link: LinkId) -> bool
+    requires allowed { link < length allowed.now }
+    requires states { link < length pattern.now }
+    ensures { MatchBool result (IsForbidden allowed.now pattern.now link) (IsAllowedAt allowed.now pattern.now link) }
+{
+    !allows(states_of(allowed, link), pattern.state(link))
+}
+
+// The first link whose state isn't allowed, if there is one.
+fn first_forbidden(net: &Network, allowed: &[Allowed], pattern: &Pattern) -> Option<LinkId>
     requires allowed { length allowed.now ≡ length net.now.net.links }
     requires states { length pattern.now ≡ length net.now.net.links }
-    ensures { MatchBool result (Agrees allowed.now pattern.now) (Agrees allowed.now pattern.now → ⊥) }
+    ensures { MatchOption result (Agrees allowed.now pattern.now) (λ link. IsForbidden allowed.now pattern.now link) }
 {
     for e in 0..net.link_count() {
         let link = LinkId(e);
-        if !allows(states_of(allowed, link), pattern.state(link)) {
-            return false;
+        if is_forbidden(allowed, pattern, link) {
+            return Some(link);
         }
     }
-    true
+    None
+}
+
+/// A link whose state isn't allowed, if there is one: the likely one, which is tested before the others, or else the first.
+pub(crate) fn forbidden_link(
+    net: &Network,
+    allowed: &[Allowed],
+    pattern: &Pattern,
+    likely: LinkId,
+) -> Option<LinkId>
+    requires allowed { length allowed.now ≡ length net.now.net.links }
+    requires states { length pattern.now ≡ length net.now.net.links }
+    ensures { MatchOption result (Agrees allowed.now pattern.now) (λ link. IsForbidden allowed.now pattern.now link) }
+{
+    if likely.0 < net.link_count() && is_forbidden(allowed, pattern, likely) {
+        return Some(likely);
+    }
+    first_forbidden(net, allowed, pattern)
 }

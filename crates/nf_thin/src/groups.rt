@@ -19,8 +19,8 @@ impl Groups {
         Ok(Groups { numbers })
     }
 
-    // The number of a node's group.
-    fn number(&self, node: NodeId) -> u32 {
+    /// The number of a node's group.
+    pub(crate) fn number(&self, node: NodeId) -> u32 {
         if node.index() < self.numbers.len() {
             self.numbers[node.index()]
         } else {

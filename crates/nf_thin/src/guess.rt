@@ -1,19 +1,29 @@
 // A guess of a pattern that is accepted: a first pattern is repaired until no link breaks its inequality. Nothing rests on it, since
-// what it comes to is tried like any other.
+// what it comes to is judged like any other.
 ghost use Rattle.std.specs.Prelude.{◌≡◌, ◌<◌, length, IsTrue, IsSome, IfOk, IfSome};
+ghost use Rattle.nf_work.specs.Passing.{bound_of, beyond};
 ghost use Rattle.nf_model.specs.declared.State.TheVariants.{Full};
 ghost use Rattle.nf_equation_laws.specs.Equations.{IsPatternIn};
+ghost use Rattle.nf_thin.specs.Trying.{AreValuesOf};
+ghost use Rattle.nf_thin.specs.Beginning.{IsSolved};
 
-use crate::filling::table_of;
+use crate::group_values::group_values;
 use crate::groups::Groups;
 use crate::led::may_carry;
-use crate::trying::solved;
+use crate::trying::pattern_values;
 use nf_frac::{Halt, Q};
 use nf_graph::{LinkId, LinkSets};
 use nf_model::State;
 use nf_net::Network;
 use nf_pattern::Pattern;
 use std::alloc::{AllocError, Global};
+
+/// A pattern, and the values that solve its table.
+#[derive(Drop)]
+pub(crate) struct SolvedPattern {
+    pub(crate) pattern: Pattern,
+    pub(crate) values: Vec<Q>,
+}
 
 // How often a pattern is repaired at most.
 const MOST_REPAIRS: u32 = 64;
@@ -27,8 +37,8 @@ fn value_at(values: &[Q], place: usize) -> Q {
     }
 }
 
-// The values that solve the table of a pattern. None where not just one does, or an operation passes.
-fn values_of(
+/// The values that solve the table of a pattern. None where not just one does, or an operation passes.
+pub(crate) fn values_of(
     alloc: Global,
     net: &Network,
     sets: &LinkSets,
@@ -36,9 +46,9 @@ fn values_of(
     pattern: &Pattern,
 ) -> Result<Option<Vec<Q>>, AllocError>
     requires { IsPatternIn net.now.net sets.now pattern.now }
+    ensures { IfOk result (λ found. IfSome found (λ values. AreValuesOf (beyond (bound_of 127)) net.now.net sets.now rate pattern.now values.items)) }
 {
-    let table = table_of(alloc, net, sets, rate, pattern)?;
-    match solved(alloc, table) {
+    match pattern_values(alloc, net, sets, rate, pattern) {
         Ok(values) => Ok(values),
         Err(Halt::Passed(_)) => Ok(None),
         Err(Halt::Memory) => Err(AllocError),
@@ -214,44 +224,61 @@ fn tighten(
     Ok(changes)
 }
 
-// One repair of the links that break their inequalities; whether there is one. None where the pattern's table gives no values.
+// One repair of the links that break their inequalities; whether there is one.
 fn repair(
     alloc: Global,
     net: &Network,
     sets: &LinkSets,
-    rate: Q,
+    values: &[Q],
     pattern: &mut Pattern,
-) -> Result<Option<bool>, AllocError>
+) -> Result<bool, AllocError>
     requires { IsPatternIn net.now.net sets.now pattern.old }
     ensures { IsPatternIn net.now.net sets.now pattern.new }
 {
-    match values_of(alloc, net, sets, rate, pattern)? {
+    let loosened = loosen(net, sets, values, pattern);
+    let tightened = tighten(alloc, net, sets, values, pattern)?;
+    Ok(loosened || tightened)
+}
+
+// The pattern with the values that solve its table, if just one does and no operation passes.
+fn solved_pattern(
+    alloc: Global,
+    net: &Network,
+    sets: &LinkSets,
+    rate: Q,
+    pattern: Pattern,
+) -> Result<Option<SolvedPattern>, AllocError>
+    requires { IsPatternIn net.now.net sets.now pattern }
+    ensures { IfOk result (λ found. IfSome found (λ last. IsSolved (beyond (bound_of 127)) net.now.net sets.now rate last)) }
+{
+    match values_of(alloc, net, sets, rate, &pattern)? {
+        Some(values) => Ok(Some(SolvedPattern { pattern, values })),
         None => Ok(None),
-        Some(values) => {
-            let loosened = loosen(net, sets, &values, pattern);
-            let tightened = tighten(alloc, net, sets, &values, pattern)?;
-            Ok(Some(loosened || tightened))
-        }
     }
 }
 
-/// What repairs of a pattern come to, if they come to an end.
+/// What repairs of a pattern come to, if they come to an end. The values that they go by on their way are found without a table.
 pub(crate) fn guess(
     alloc: Global,
     net: &Network,
     sets: &LinkSets,
     rate: Q,
-    first: Pattern,
-) -> Result<Option<Pattern>, AllocError>
-    requires { IsPatternIn net.now.net sets.now first }
-    ensures { IfOk result (λ found. IfSome found (λ pattern. IsPatternIn net.now.net sets.now pattern)) }
+    first: SolvedPattern,
+) -> Result<Option<SolvedPattern>, AllocError>
+    requires { IsSolved (beyond (bound_of 127)) net.now.net sets.now rate first }
+    ensures { IfOk result (λ found. IfSome found (λ last. IsSolved (beyond (bound_of 127)) net.now.net sets.now rate last)) }
 {
-    let mut pattern = first;
+    let SolvedPattern {
+        mut pattern,
+        mut values,
+    } = first;
     for _ in 0..MOST_REPAIRS {
-        match repair(alloc, net, sets, rate, &mut pattern)? {
+        if !repair(alloc, net, sets, &values, &mut pattern)? {
+            return solved_pattern(alloc, net, sets, rate, pattern);
+        }
+        match group_values(alloc, net, sets, rate, &pattern)? {
+            Some(next) => values = next,
             None => return Ok(None),
-            Some(false) => return Ok(Some(pattern)),
-            Some(true) => {}
         }
     }
     Ok(None)

@@ -1,11 +1,16 @@
-// Slopes of a thin flow: those of a pattern by which each node is led to, if it is accepted.
+// A pattern by which each node is led to: if it is accepted, its slopes are those of a thin flow.
 ghost use Rattle.std.specs.Prelude.{◌≡◌, ◌<◌, ℕ, length, IsTrue, IfOk, IfSome};
+ghost use Rattle.nf_work.specs.Passing.{bound_of, beyond};
 ghost use Rattle.nf_equation_laws.specs.Equations.{IsPatternIn};
 ghost use Rattle.nf_thin_laws.specs.ActiveLinks.{HoldNoCycle};
 ghost use Rattle.nf_thin_laws.specs.PatternLaws.{EachIsLed};
+ghost use Rattle.nf_thin.specs.Beginning.{IsSolved};
+ghost use Rattle.nf_thin.specs.Sifting.{IsKnown};
 ghost use Rattle.nf_thin.specs.Slopes.{MayCarry, IsLed, AreThinSlopes};
 
-use crate::trying::{Tried, try_pattern};
+use crate::guess::SolvedPattern;
+use crate::known::Known;
+use crate::trying::{Tried, judge_values};
 use nf_frac::{Halt, Q};
 use nf_graph::{LinkId, LinkSets, NodeId, topological};
 use nf_model::State;
@@ -62,22 +67,29 @@ fn each_is_led(net: &Network, sets: &LinkSets, pattern: &Pattern) -> bool
     true
 }
 
-/// The slopes of a pattern by which each node is led to, if it is accepted.
-pub(crate) fn slopes_by(
+/// The guessed pattern with its flows and slopes, if it is accepted and each node is led to.
+pub(crate) fn known_by(
     alloc: Global,
     net: &Network,
     sets: &LinkSets,
     rate: Q,
-    pattern: &Pattern,
-) -> Result<Option<Vec<Q>>, AllocError>
-    requires { IsPatternIn net.now.net sets.now pattern.now }
-    ensures { IfOk result (λ found. IfSome found (λ slopes. AreThinSlopes net.now.net sets.now rate slopes.items)) }
+    last: SolvedPattern,
+) -> Result<Option<Known>, AllocError>
+    requires { IsSolved (beyond (bound_of 127)) net.now.net sets.now rate last }
+    ensures known { IfOk result (λ found. IfSome found (λ known. IsKnown (beyond (bound_of 127)) net.now.net sets.now rate known)) }
+    ensures thin { IfOk result (λ found. IfSome found (λ known. AreThinSlopes net.now.net sets.now rate known.slopes.items)) }
 {
-    if !each_is_led(net, sets, pattern) {
+    let _ = rate;
+    let SolvedPattern { pattern, values } = last;
+    if !each_is_led(net, sets, &pattern) {
         return Ok(None);
     }
-    match try_pattern(alloc, net, sets, rate, pattern) {
-        Ok(Tried::Accepted { flows: _, slopes }) => Ok(Some(slopes)),
+    match judge_values(alloc, net, sets, &pattern, values) {
+        Ok(Tried::Accepted { flows, slopes }) => Ok(Some(Known {
+            pattern,
+            flows,
+            slopes,
+        })),
         Ok(Tried::Refused) => Ok(None),
         Err(Halt::Passed(_)) => Ok(None),
         Err(Halt::Memory) => Err(AllocError),

@@ -6,9 +6,16 @@
 mod agreeing_tests;
 mod allowed;
 mod filling;
+mod first;
+mod group_slopes;
+mod group_values;
+#[cfg(test)]
+mod group_values_tests;
 mod groups;
 mod guess;
+mod known;
 mod led;
+mod node_groups;
 #[cfg(test)]
 mod phases;
 #[cfg(test)]
@@ -17,6 +24,7 @@ mod searches;
 mod sifting;
 #[cfg(test)]
 mod tests;
+mod tight_flows;
 mod trying;
 #[cfg(test)]
 mod verdict_tests;

@@ -1,29 +1,39 @@
 // The search where slopes of a thin flow are known: patterns with a state that they don't allow are passed over.
-ghost use Rattle.std.specs.Prelude.{◌≡◌, ◌≤◌, length, IfOk, IfSome};
+ghost use Rattle.std.specs.Prelude.{◌≡◌, ◌≤◌, IfOk, IfSome};
 ghost use Rattle.nf_work.specs.Passing.{bound_of, beyond};
 ghost use Rattle.nf_model.specs.Network.{IsNetwork, unbounded as unbounded_of};
 ghost use Rattle.nf_model.specs.Pattern.{IsPattern, IsListedIn};
 ghost use Rattle.nf_lists.specs.Search.{IsSearch};
 ghost use Rattle.nf_equation_laws.specs.Equations.{IsPatternIn};
 ghost use Rattle.nf_thin.specs.Searching.{AreSetsOf, AsksOf};
-ghost use Rattle.nf_thin.specs.Allowing.{AllowSolvable};
-ghost use Rattle.nf_thin.specs.Sifting.{SiftsNext, Sifts};
+ghost use Rattle.nf_thin.specs.Beginning.{IsSolved};
+ghost use Rattle.nf_thin.specs.Sifting.{Guides, SiftsNext, Sifts};
 
-use crate::allowed::{Allowed, agree, allowed_by};
-use crate::guess::guess;
-use crate::led::{hold_no_cycle, slopes_by};
-use crate::searches::{SearchFault, Thin, Vain, listing, try_next};
+use crate::allowed::{Allowed, allowed_by, forbidden_link};
+use crate::guess::{SolvedPattern, guess};
+use crate::known::{Known, try_or_know};
+use crate::led::{hold_no_cycle, known_by};
+use crate::searches::{SearchFault, Thin, Vain, listing};
 use nf_frac::Q;
-use nf_graph::LinkSets;
+use nf_graph::{LinkId, LinkSets};
 use nf_net::Network;
 use nf_pattern::{Pattern, Patterns};
 use std::alloc::{AllocError, Global};
 
-// Patterns counted: those that were tried, in vain, and whether others were passed over.
+// What slopes of a thin flow tell of the list: the states that they allow, and a pattern that is known to be accepted.
+#[derive(Drop)]
+struct Guide {
+    allowed: Vec<Allowed>,
+    known: Known,
+}
+
+// Patterns counted: those that were tried, in vain, and whether others were passed over; and the link for which the last one was, since
+// patterns that follow each other mostly have the same state there.
 #[derive(Clone, Copy)]
 struct Sifted {
     vain: Vain,
     skips: bool,
+    last: LinkId,
 }
 
 // The next pattern is passed over where one of its states isn't allowed, and else tried.
@@ -32,24 +42,34 @@ fn sift_next(
     net: &Network,
     sets: &LinkSets,
     rate: Q,
-    allowed: &[Allowed],
+    guide: &Guide,
     pattern: &Pattern,
     budget: u64,
     sifted: &mut Sifted,
 ) -> Result<Option<Thin>, SearchFault>
     requires pattern { IsPatternIn net.now.net sets.now pattern.now }
     requires listed { IsListedIn net.now.net sets.now pattern.now }
-    requires allowed { AllowSolvable net.now.net sets.now rate allowed.now }
-    requires count { length allowed.now ≡ length net.now.net.links }
+    requires guide { Guides (beyond (bound_of 127)) net.now.net sets.now rate guide.now }
     requires within { sifted.old.vain.tried ≤ budget }
     ensures { SiftsNext (beyond (bound_of 127)) net.now.net sets.now rate budget pattern.now sifted.old sifted.new result }
 {
-    if agree(net, allowed, pattern) {
-        return try_next(alloc, net, sets, rate, pattern, budget, &mut sifted.vain);
-    }
+    let Guide { allowed, known } = guide;
+    let Some(link) = forbidden_link(net, allowed, pattern, sifted.last) else {
+        return try_or_know(
+            alloc,
+            net,
+            sets,
+            rate,
+            known,
+            pattern,
+            budget,
+            &mut sifted.vain,
+        );
+    };
     if sifted.vain.tried == budget {
         return Err(SearchFault::Budget { tried: budget });
     }
+    sifted.last = link;
     sifted.vain.tried += 1;
     sifted.skips = true;
     Ok(None)
@@ -62,15 +82,14 @@ fn sift(
     net: &Network,
     sets: &LinkSets,
     rate: Q,
-    allowed: &[Allowed],
+    guide: &Guide,
     patterns: Patterns,
     budget: u64,
 ) -> Result<Option<Thin>, SearchFault>
     requires network { IsNetwork net.now.net }
     requires sets { AreSetsOf net.now.net sets.now }
     requires question { AsksOf net.now.net sets.now patterns }
-    requires allowed { AllowSolvable net.now.net sets.now rate allowed.now }
-    requires count { length allowed.now ≡ length net.now.net.links }
+    requires guide { Guides (beyond (bound_of 127)) net.now.net sets.now rate guide.now }
     ensures { Sifts (IsSearch (beyond (bound_of 127)) net.now.net sets.now rate patterns.question.base budget) budget result }
 {
     let mut patterns = patterns;
@@ -80,18 +99,10 @@ fn sift(
             passed: None,
         },
         skips: false,
+        last: LinkId(0),
     };
     while let Some(pattern) = patterns.next() {
-        let found = sift_next(
-            alloc,
-            net,
-            sets,
-            rate,
-            allowed,
-            pattern,
-            budget,
-            &mut sifted,
-        )?;
+        let found = sift_next(alloc, net, sets, rate, guide, pattern, budget, &mut sifted)?;
         if let Some(thin) = found {
             return Ok(Some(thin));
         }
@@ -102,74 +113,51 @@ fn sift(
     Err(sifted.vain.fault())
 }
 
-// The first listed pattern.
-fn first_listed(
-    alloc: Global,
-    net: &Network,
-    sets: &LinkSets,
-    base: &Pattern,
-) -> Result<Option<Pattern>, AllocError>
-    requires sets { AreSetsOf net.now.net sets.now }
-    requires base { IsPattern sets.now (unbounded_of net.now.net) base.now }
-    ensures { IfOk result (λ found. IfSome found (λ pattern. IsPatternIn net.now.net sets.now pattern)) }
-{
-    let mut patterns = listing(alloc, net, sets, base)?;
-    match patterns.next() {
-        Some(pattern) => {
-            let pattern = pattern.copy(alloc)?;
-            Ok(Some(pattern))
-        }
-        None => Ok(None),
-    }
-}
-
-// The states that slopes of a thin flow allow, if such slopes are guessed, and the active links hold no cycle.
-fn allowed_states(
+// The guide by a guessed pattern, if it is accepted and leads to each node, and the active links hold no cycle.
+fn guide_of(
     alloc: Global,
     net: &Network,
     sets: &LinkSets,
     rate: Q,
-    base: &Pattern,
-) -> Result<Option<Vec<Allowed>>, AllocError>
+    first: SolvedPattern,
+) -> Result<Option<Guide>, AllocError>
     requires sets { AreSetsOf net.now.net sets.now }
-    requires base { IsPattern sets.now (unbounded_of net.now.net) base.now }
-    ensures allowed { IfOk result (λ found. IfSome found (λ allowed. AllowSolvable net.now.net sets.now rate allowed.items)) }
-    ensures count { IfOk result (λ found. IfSome found (λ allowed. length allowed.items ≡ length net.now.net.links)) }
+    requires first { IsSolved (beyond (bound_of 127)) net.now.net sets.now rate first }
+    ensures { IfOk result (λ found. IfSome found (λ guide. Guides (beyond (bound_of 127)) net.now.net sets.now rate guide)) }
 {
     if !hold_no_cycle(alloc, net, sets)? {
         return Ok(None);
     }
-    let Some(first) = first_listed(alloc, net, sets, base)? else {
-        return Ok(None);
-    };
     let Some(last) = guess(alloc, net, sets, rate, first)? else {
         return Ok(None);
     };
-    let Some(slopes) = slopes_by(alloc, net, sets, rate, &last)? else {
+    let Some(known) = known_by(alloc, net, sets, rate, last)? else {
         return Ok(None);
     };
-    let allowed = allowed_by(alloc, net, &slopes)?;
-    Ok(Some(allowed))
+    let allowed = allowed_by(alloc, net, &known.slopes)?;
+    Ok(Some(Guide { allowed, known }))
 }
 
-/// The search by the slopes of a thin flow. None where it comes to no end: no such slopes were found, or no pattern is accepted
-/// and some were passed over.
+/// The search by the slopes of a thin flow, which are guessed from a first pattern on. None where it comes to no end: no such slopes
+/// were found, or no pattern is accepted and some were passed over.
 pub(crate) fn sifted_search(
     alloc: Global,
     net: &Network,
     sets: &LinkSets,
     rate: Q,
     base: &Pattern,
+    first: SolvedPattern,
     budget: u64,
 ) -> Result<Option<Thin>, SearchFault>
     requires sets { AreSetsOf net.now.net sets.now }
+    requires first { IsSolved (beyond (bound_of 127)) net.now.net sets.now rate first }
     requires base { IsPattern sets.now (unbounded_of net.now.net) base.now }
     ensures { Sifts (IsSearch (beyond (bound_of 127)) net.now.net sets.now rate base.now budget) budget result }
 {
-    match allowed_states(alloc, net, sets, rate, base)? {
-        Some(allowed) => {
+    match guide_of(alloc, net, sets, rate, first)? {
+        Some(guide) => {
             let patterns = listing(alloc, net, sets, base)?;
-            sift(alloc, net, sets, rate, &allowed, patterns, budget)
+            sift(alloc, net, sets, rate, &guide, patterns, budget)
         }
         None => Ok(None),
     }

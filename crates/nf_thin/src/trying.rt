@@ -6,7 +6,7 @@ ghost use Rattle.nf_work.specs.Checked.{at_part, Gives};
 ghost use Rattle.nf_lists.specs.Table.{table_list};
 ghost use Rattle.nf_lists.specs.Verdict.{verdict_list};
 ghost use Rattle.nf_lists.specs.Accepted.{pattern_lists};
-ghost use Rattle.nf_lists.specs.Equations.{active_from, flows_in, slopes_in};
+ghost use Rattle.nf_lists.specs.Equations.{active_from, equations, flows_in, slopes_in};
 ghost use Rattle.nf_equation_laws.specs.Equations.{IsPatternIn};
 ghost use Rattle.nf_thin.specs.Trying.{JudgesValues, Tries};
 
@@ -52,8 +52,8 @@ fn flows_of(
     Ok(flows)
 }
 
-// The values that solve the table of a pattern, judged.
-fn judge_values(
+/// The values that solve the table of a pattern, judged.
+pub(crate) fn judge_values(
     alloc: Global,
     net: &Network,
     sets: &LinkSets,
@@ -85,6 +85,21 @@ pub(crate) fn solved(alloc: Global, table: Table<Q>) -> Result<Option<Vec<Q>>, H
     }
 }
 
+/// The only solution of a pattern's table, and None where there is none or more than one; or the first operation that passes.
+pub(crate) fn pattern_values(
+    alloc: Global,
+    net: &Network,
+    sets: &LinkSets,
+    rate: Q,
+    pattern: &Pattern,
+) -> Result<Option<Vec<Q>>, Halt<Q>>
+    requires { IsPatternIn net.now.net sets.now pattern.now }
+    ensures { Gives (option_map (λ values. values.items)) (λ q. q) result (at_part Part.Table (table_list (beyond (bound_of 127)) (equations net.now.net sets.now rate pattern.now))) }
+{
+    let table = table_of(alloc, net, sets, rate, pattern)?;
+    solved(alloc, table)
+}
+
 /// Whether a pattern is accepted, and with which flows and slopes; or the first of its operations that passes.
 pub fn try_pattern(
     alloc: Global,
@@ -96,8 +111,7 @@ pub fn try_pattern(
     requires { IsPatternIn net.now.net sets.now pattern.now }
     ensures { Tries (beyond (bound_of 127)) net.now.net sets.now rate pattern.now result }
 {
-    let table = table_of(alloc, net, sets, rate, pattern)?;
-    match solved(alloc, table)? {
+    match pattern_values(alloc, net, sets, rate, pattern)? {
         Some(values) => judge_values(alloc, net, sets, pattern, values),
         None => Ok(Tried::Refused),
     }

@@ -20,7 +20,7 @@ returns-in_err-found c =
     c.loop-pattern.patterns (all_tried c.loop-pattern.vain) c.loop-pattern.invariant c.in-Some.pattern.now c.next.follows.lender-at-none
     (subst (λ r. Gives c.loop-pattern.patterns (option_copied r) c.next.follows.lender-at-none) c.in-Some.is c.next.follows.holds-at-none)
     (all_tried c.try_next.new.vain) c.in_err-found.field-0.0
-    (tried_counts (beyond (bound_of 127)) c.args.net.now.net c.args.sets.now c.args.rate c.args.budget c.in-Some.pattern.now false c.loop-pattern.vain c.try_next.new.vain (Err c.in_err-found.field-0.0) c.in_err-found.ensures))
+    (tried_counts (beyond (bound_of 127)) c.args.net.now.net c.args.sets.now c.args.rate c.args.budget c.in-Some.pattern.now false 0 c.loop-pattern.vain c.try_next.new.vain (Err c.in_err-found.field-0.0) c.in_err-found.ensures))
 
 pub returns-in-Some-found : goal.returns-in-Some-found
 returns-in-Some-found c =
@@ -28,7 +28,7 @@ returns-in-Some-found c =
     c.loop-pattern.patterns (all_tried c.loop-pattern.vain) c.loop-pattern.invariant c.in-Some.pattern.now c.next.follows.lender-at-none
     (subst (λ r. Gives c.loop-pattern.patterns (option_copied r) c.next.follows.lender-at-none) c.in-Some.is c.next.follows.holds-at-none)
     (all_tried c.try_next.new.vain) c.in-Some-found.thin
-    (tried_counts (beyond (bound_of 127)) c.args.net.now.net c.args.sets.now c.args.rate c.args.budget c.in-Some.pattern.now false c.loop-pattern.vain c.try_next.new.vain (Ok (Some c.in-Some-found.thin))
+    (tried_counts (beyond (bound_of 127)) c.args.net.now.net c.args.sets.now c.args.rate c.args.budget c.in-Some.pattern.now false 0 c.loop-pattern.vain c.try_next.new.vain (Ok (Some c.in-Some-found.thin))
     (subst (λ o. TriesNext (beyond (bound_of 127)) c.args.net.now.net c.args.sets.now c.args.rate c.args.budget c.in-Some.pattern.now c.loop-pattern.vain c.try_next.new.vain (Ok o)) c.in-Some-found.is c.in_ok-found.ensures))
 
 pub loop-pattern-preserved : goal.loop-pattern-preserved
@@ -37,7 +37,7 @@ loop-pattern-preserved c =
     c.loop-pattern.patterns (all_tried c.loop-pattern.vain) c.loop-pattern.invariant c.in-Some.pattern.now c.next.follows.lender-at-none
     (subst (λ r. Gives c.loop-pattern.patterns (option_copied r) c.next.follows.lender-at-none) c.in-Some.is c.next.follows.holds-at-none)
     (all_tried c.try_next.new.vain)
-    (tried_counts (beyond (bound_of 127)) c.args.net.now.net c.args.sets.now c.args.rate c.args.budget c.in-Some.pattern.now false c.loop-pattern.vain c.try_next.new.vain (Ok None)
+    (tried_counts (beyond (bound_of 127)) c.args.net.now.net c.args.sets.now c.args.rate c.args.budget c.in-Some.pattern.now false 0 c.loop-pattern.vain c.try_next.new.vain (Ok None)
     (subst (λ o. TriesNext (beyond (bound_of 127)) c.args.net.now.net c.args.sets.now c.args.rate c.args.budget c.in-Some.pattern.now c.loop-pattern.vain c.try_next.new.vain (Ok o)) c.in_default-found.is c.in_ok-found.ensures))
 
 pub returns : goal.returns

@@ -1,0 +1,23 @@
+use Rattle.std.proofs.Common.{List, length, subst, sym, ap, ◌∙◌}
+use Rattle.std.specs.Prelude.{Option, IfSome}
+use Rattle.nf_rational.specs.Rational.{ℚ}
+use Rattle.nf_work.specs.Passing.{bound_of, beyond}
+use Rattle.nf_thin.specs.declared.known.Known.{Known}
+use Rattle.nf_thin.specs.declared.allowed.Allowed.{Allowed}
+use Rattle.nf_thin.specs.Slopes.{AreThinSlopes}
+use Rattle.nf_thin.specs.Sifting.{IsKnown}
+use Rattle.nf_thin.specs.Allowing.{flags_by, AllowSolvable}
+use Rattle.nf_thin.proofs.AllowedStates.{flags_count, slopes_allow}
+use Rattle.nf_thin.proofs.sifting.guide_of.Goals as goal
+
+pub returns : goal.returns
+returns c =
+    let known = subst (λ (found : Option Known). IfSome found (λ known. IsKnown (beyond (bound_of 127)) c.args.net.now.net c.args.sets.now c.args.rate known)) c.in-Some-2.is c.in_ok-known.ensures.known in
+    let thin = subst (λ (found : Option Known). IfSome found (λ known. AreThinSlopes c.args.net.now.net c.args.sets.now c.args.rate known.slopes.items)) c.in-Some-2.is c.in_ok-known.ensures.thin in
+    let allowed_are = c.in_ok-allowed.ensures ∙ ap (λ (slopes : List ℚ). flags_by c.args.net.now.net slopes) c.deref.ensures.value in
+    record {
+      allowed = subst (λ (allowed : List Allowed). AllowSolvable c.args.net.now.net c.args.sets.now c.args.rate allowed) (sym allowed_are)
+          (slopes_allow c.args.net.now.net c.args.sets.now c.args.rate c.in-Some-2.known.slopes.items c.requires.first.pattern_in.network c.requires.sets.sets_are (c.in_ok-hold_no_cycle.ensures c.if-not-branch.false) thin);
+      count = ap (λ (allowed : List Allowed). length allowed) allowed_are ∙ flags_count c.args.net.now.net c.in-Some-2.known.slopes.items;
+      known = known;
+    }
