@@ -1,5 +1,6 @@
 #!/usr/bin/env bash
-# Times whole runs of `nfot solve` on generated ladders and grids, in milliseconds: the least of seven runs, start of the process included.
+# Times whole runs of `nfot solve` on generated ladders and grids, in milliseconds: of three rounds of five runs the quickest, a run of it, with
+# the start of the process.
 # Outside the gate. With another program that takes the same words, and more words for it, that one is timed beside it:
 #     bench/runs.sh other --its-option
 set -euo pipefail
@@ -36,7 +37,7 @@ network() {
         }'
 }
 least_of() {
-    for _ in 1 2 3 4 5 6 7; do { TIMEFORMAT=%R; time "$@" >/dev/null 2>&1 || true; } 2>&1; done | sort -n | head -n 1
+    for _ in 1 2 3; do { TIMEFORMAT=%R; time for _ in 1 2 3 4 5; do "$@" >/dev/null 2>&1 || true; done; } 2>&1; done | sort -n | head -n 1
 }
 while read -r kind number size; do
     network "$kind" "$number" "$size" >"$work/network"
@@ -47,7 +48,7 @@ while read -r kind number size; do
         other=
         [ $# -eq 0 ] || other=$(least_of "$1" solve "$work/network" --horizon "$horizon" "${@:2}")
         awk -v k="$kind $number/$size" -v h="$horizon" -v c="$status" -v a="$ours" -v b="$other" \
-            'BEGIN { printf "%-14s horizon %3d  status %d  %8.1f", k, h, c, a * 1000; if (b != "") printf "  %8.1f", b * 1000; print "" }'
+            'BEGIN { printf "%-14s horizon %3d  status %d  %8.1f", k, h, c, a * 200; if (b != "") printf "  %8.1f", b * 200; print "" }'
     done
 done <<'E2'
 ladder 7 5
