@@ -6,6 +6,7 @@ pub mod InOrder
 pub mod Filling
 pub mod Raising
 pub mod Counting
+pub mod Quiet
 pub mod Trails
 pub mod Forests
 pub mod Roots

@@ -1,7 +1,7 @@
 -- The next assignment with equally many changes, found from the last link backward.
 use borrow.Rule.Slice.PartMut.{put_mid}
 use Rattle.std.proofs.Common.{◌≡◌, ℕ, zero, suc, ◌+◌, ◌-◌, ◌<◌, ◌≤◌, Bool, false, List, [], ◌∷◌, ◌++◌, length, get_or, set, take, drop, drop-cons, take-suc-set, take_all, append_assoc, append-nil, add-one, length-drop, refl, sym, ap, subst, ◌∙◌, zero-add, arith}
-use Rattle.std.specs.Prelude.{Option, Some, None, MatchOption}
+use Rattle.std.specs.Prelude.{Option, Some, None}
 use Rattle.std.proofs.Math.ListN.{drop_of_length-le}
 use Rattle.nf_model.specs.declared.State.{State}
 use Rattle.nf_model.specs.Pattern.{Pattern, changes}
@@ -104,7 +104,7 @@ later_none (suc k) (b ∷ base) (u ∷ us) (a ∷ states) count none =
     later_here b u base us a states k 0 (later_none k base us states (omega arith) (omega arith)) (sym none) ∙ none_raised b u base us a (omega arith)
 
 -- and so nothing up to a link behind which nothing differs
-pub later_quiet : (i k : ℕ) (base : Pattern) (us : List Bool) (states : Pattern) → length states ≡ length base → changes (drop i base) (drop i states) ≡ 0
+later_quiet : (i k : ℕ) (base : Pattern) (us : List Bool) (states : Pattern) → length states ≡ length base → changes (drop i base) (drop i states) ≡ 0
     → later (i + k) base us states ≡ later i base us states
 later_quiet zero k base us states count none = ap (λ (n : ℕ). later n base us states) (zero-add k) ∙ later_none k base us states count none
 later_quiet (suc i) k [] us states count none = ap (λ (n : ℕ). later n [] us states) (let e : suc i + k ≡ suc (i + k) = omega arith in e)
@@ -119,12 +119,6 @@ pub later_up_to : (base : Pattern) (us : List Bool) (states : Pattern) (i same :
 later_up_to base us states i same few count none =
     let n : i + (same - i) ≡ same = omega arith in
     subst (λ (m : ℕ). later m base us states ≡ later i base us states) n (later_quiet i (same - i) base us states count none)
-
-pub match_up_to : (base : Pattern) (us : List Bool) (states after : Pattern) (end same : ℕ) (found : Option ℕ) → end ≤ same → later same base us states ≡ later end base us states
-    → MatchOption found ((later end base us states ≡ None) × (after ≡ states)) (λ link. (later end base us states ≡ Some after) × IsSameBefore end link states after)
-    → MatchOption found ((later same base us states ≡ None) × (after ≡ states)) (λ link. (later same base us states ≡ Some after) × IsSameBefore same link states after)
-match_up_to base us states after end same None few quiet h = (quiet ∙ h.0, h.1)
-match_up_to base us states after end same (Some link) few quiet h = (quiet ∙ h.0, (let l = h.1.0 in omega arith, h.1.1))
 
 -- the states before a link stay
 later_after : (k : ℕ) (base : Pattern) (us : List Bool) (states q : Pattern) (i : ℕ) → later k (drop i base) (drop i us) (drop i states) ≡ Some q → later (i + k) base us states ≡ Some (take i states ++ q)

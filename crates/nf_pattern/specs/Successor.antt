@@ -1,5 +1,5 @@
 -- Which assignment of states comes next, among those that differ from a base at equally many links.
-use Rattle.std.specs.Prelude.{◌≡◌, ◌⊎◌, ℕ, suc, ◌+◌, ◌-◌, ◌≤◌, Bool, true, false, ◌&&◌, ◌==◌, nat_lt, nat_le, if◌then◌else◌, List, [], ◌∷◌, ◌++◌, get_or, take, drop, Option, Some, None}
+use Rattle.std.specs.Prelude.{◌≡◌, ◌⊎◌, ℕ, suc, ◌+◌, ◌-◌, ◌≤◌, Bool, true, false, ◌&&◌, ◌==◌, nat_lt, nat_le, if◌then◌else◌, List, [], ◌∷◌, ◌++◌, length, get_or, take, drop, Option, Some, None}
 use Rattle.nf_model.specs.declared.State.{State}
 use Rattle.nf_model.specs.declared.State.TheVariants.{Tight, Full, Zero}
 use Rattle.nf_model.specs.Pattern.{Pattern, rank, changes}
@@ -74,6 +74,11 @@ pub record RaisesAt (base : Pattern) (unbounded : List Bool) (states : Pattern) 
 -- the states before link e stay; it is none, or comes before link `same`
 abbrev pub IsSameBefore : ℕ → ℕ → Pattern → Pattern → Type 0
 IsSameBefore same e states after = (e ≤ same - 1) × (take e after ≡ take e states)
+
+-- nothing differs from the base from link n on
+pub record IsQuiet (base : Pattern) (n : ℕ) (states : Pattern) : Type 0 where
+  pub within : n ≤ length base
+  pub unchanged : changes (drop n base) (drop n states) ≡ 0
 
 -- the next assignment with equally many changes that isn't the same up to this link
 abbrev pub later : ℕ → Pattern → List Bool → Pattern → Option Pattern

@@ -15,6 +15,7 @@ pub struct Patterns {
     question: Question,
     current: Pattern,
     trail: Trail,
+    quiet: usize,
     stand: Stand,
     place: u64,
 }
@@ -29,7 +30,7 @@ impl Model for Patterns {
 
     ghost view = { λ p. record { question = p.question; last = last_of p.stand p.current; place = p.place } };
 
-    ghost invariant = { λ p. IsStanding p.question p.stand p.current p.trail };
+    ghost invariant = { λ p. IsStanding p.question p.stand p.current p.trail p.quiet };
 }
 
 impl Patterns {
@@ -68,6 +69,7 @@ impl Patterns {
             question,
             current,
             trail,
+            quiet: 0,
             stand: Stand::Start,
             place: 0,
         })
@@ -78,10 +80,12 @@ impl Patterns {
         ensures { MatchBool result ((pattern : SeenPattern) × Gives self.old (Some pattern) self.new) (Gives self.old None self.new) }
     {
         let current = &mut self.current;
-        if self
-            .question
-            .find(self.stand, &mut current.states, &mut self.trail)
-        {
+        if self.question.find(
+            self.stand,
+            &mut current.states,
+            &mut self.trail,
+            &mut self.quiet,
+        ) {
             self.stand = Stand::Listed;
             self.place = self.place.saturating_add(1);
             return true;

@@ -74,7 +74,7 @@ impl Question {
     ghost use Rattle.std.specs.Prelude.{◌≡◌, ◌≤◌, length, take, IfOk, MatchBool, MatchOption, Some, None};
     ghost use Rattle.nf_model.specs.Pattern.{Pattern as SeenPattern};
     ghost use Rattle.nf_pattern.specs.Trail.{IsLeft, IsTrailOf};
-    ghost use Rattle.nf_pattern.specs.Successor.{IsAssignment, IsSameBefore, next_assignment};
+    ghost use Rattle.nf_pattern.specs.Successor.{IsAssignment, IsSameBefore, IsQuiet, next_assignment};
     ghost use Rattle.nf_pattern.specs.Given.{IsQuestion, IsListedBy, IsBarren, IsFirstFrom, NoneFrom, IsNext, NoneLeft, AtStart, UpTo};
     ghost use Rattle.nf_pattern.specs.declared.question.Stand.TheVariants.{Start};
     ghost use Rattle.nf_pattern.specs.Stands.{last_of};
@@ -140,14 +140,19 @@ impl Question {
         Some(trail.depth() + 1)
     }
 
-    // The next assignment that isn't the same up to this link, and a link up to which it is; None where there is none.
-    fn advance(&self, states: &mut [Option<State>], same: usize) -> Option<usize>
+    // The next assignment that isn't the same up to this link, and a link up to which it is; None where there is none. `quiet` is the
+    // link from which on nothing differs from the base.
+    fn advance(&self, states: &mut [Option<State>], same: usize, quiet: &mut usize) -> Option<usize>
         requires assigned { IsAssignment self.now.base self.now.unbounded states.old }
         requires same { same ≤ length self.now.base }
-        ensures { MatchOption result ((next_assignment same self.now.base self.now.unbounded states.old ≡ None) × (states.new ≡ states.old))
+        requires quiet { IsQuiet self.now.base quiet.old states.old }
+        ensures quiet { IsQuiet self.now.base quiet.new states.new }
+        ensures found { MatchOption result ((next_assignment same self.now.base self.now.unbounded states.old ≡ None) × (states.new ≡ states.old))
             (λ link. (next_assignment same self.now.base self.now.unbounded states.old ≡ Some states.new) × IsSameBefore same link states.old states.new) }
     {
-        advance(states, self.base.states(), &self.unbounded, same)
+        let raised = advance(states, self.base.states(), &self.unbounded, same, *quiet)?;
+        *quiet = raised.quiet;
+        Some(raised.link)
     }
 
     // The trail comes back to where these states are the same.
@@ -159,16 +164,18 @@ impl Question {
     }
 
     // On to the first listed pattern from this assignment on; whether there is one.
-    fn seek(&self, states: &mut [Option<State>], trail: &mut Trail) -> bool
+    fn seek(&self, states: &mut [Option<State>], trail: &mut Trail, quiet: &mut usize) -> bool
         requires question { IsQuestion self.now }
         requires assigned { IsAssignment self.now.base self.now.unbounded states.old }
         requires trail { IsTrailOf self.now states.old trail.old }
+        requires quiet { IsQuiet self.now.base quiet.old states.old }
         ensures assigned { IsAssignment self.now.base self.now.unbounded states.new }
         ensures trail { IsTrailOf self.now states.new trail.new }
+        ensures quiet { IsQuiet self.now.base quiet.new states.new }
         ensures found { MatchBool result (IsFirstFrom self.now states.old states.new) (NoneFrom self.now states.old) }
     {
         while let Some(same) = self.failing(states, trail) {
-            let Some(link) = self.advance(states, same) else {
+            let Some(link) = self.advance(states, same, quiet) else {
                 return false;
             };
             self.retreat(link, trail);
@@ -177,49 +184,61 @@ impl Question {
     }
 
     // From the base on to the first listed pattern; whether there is one.
-    fn first(&self, states: &mut [Option<State>], trail: &mut Trail) -> bool
+    fn first(&self, states: &mut [Option<State>], trail: &mut Trail, quiet: &mut usize) -> bool
         requires question { IsQuestion self.now }
         requires base { states.old ≡ self.now.base }
         requires trail { IsTrailOf self.now states.old trail.old }
+        requires quiet { IsQuiet self.now.base quiet.old states.old }
         ensures assigned { IsAssignment self.now.base self.now.unbounded states.new }
         ensures trail { IsTrailOf self.now states.new trail.new }
+        ensures quiet { IsQuiet self.now.base quiet.new states.new }
         ensures found { MatchBool result (IsNext self.now AtStart states.new) (NoneLeft self.now AtStart) }
     {
-        self.seek(states, trail)
+        self.seek(states, trail, quiet)
     }
 
     // From a listed pattern on to the next one; whether there is one.
-    fn after(&self, states: &mut [Option<State>], trail: &mut Trail) -> bool
+    fn after(&self, states: &mut [Option<State>], trail: &mut Trail, quiet: &mut usize) -> bool
         requires question { IsQuestion self.now }
         requires assigned { IsAssignment self.now.base self.now.unbounded states.old }
         requires trail { IsTrailOf self.now states.old trail.old }
+        requires quiet { IsQuiet self.now.base quiet.old states.old }
         ensures assigned { IsAssignment self.now.base self.now.unbounded states.new }
         ensures trail { IsTrailOf self.now states.new trail.new }
+        ensures quiet { IsQuiet self.now.base quiet.new states.new }
         ensures found { MatchBool result (IsNext self.now (UpTo states.old) states.new) (NoneLeft self.now (UpTo states.old)) }
     {
         let links = states.len();
-        match self.advance(states, links) {
+        match self.advance(states, links, quiet) {
             None => false,
             Some(link) => {
                 self.retreat(link, trail);
-                self.seek(states, trail)
+                self.seek(states, trail, quiet)
             }
         }
     }
 
     // From where a listing stands on to the next listed pattern; whether there is one.
-    pub(crate) fn find(&self, stand: Stand, states: &mut [Option<State>], trail: &mut Trail) -> bool
+    pub(crate) fn find(
+        &self,
+        stand: Stand,
+        states: &mut [Option<State>],
+        trail: &mut Trail,
+        quiet: &mut usize,
+    ) -> bool
         requires question { IsQuestion self.now }
         requires assigned { IsAssignment self.now.base self.now.unbounded states.old }
         requires start { stand ≡ Start → states.old ≡ self.now.base }
         requires trail { IsTrailOf self.now states.old trail.old }
+        requires quiet { IsQuiet self.now.base quiet.old states.old }
         ensures assigned { IsAssignment self.now.base self.now.unbounded states.new }
         ensures trail { IsTrailOf self.now states.new trail.new }
+        ensures quiet { IsQuiet self.now.base quiet.new states.new }
         ensures found { MatchBool result (IsNext self.now (last_of stand states.old) states.new) (NoneLeft self.now (last_of stand states.old)) }
     {
         match stand {
-            Stand::Start => self.first(states, trail),
-            Stand::Listed => self.after(states, trail),
+            Stand::Start => self.first(states, trail, quiet),
+            Stand::Listed => self.after(states, trail, quiet),
             Stand::End => false,
         }
     }

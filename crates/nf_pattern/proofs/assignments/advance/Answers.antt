@@ -6,7 +6,7 @@ use Rattle.nf_pattern.proofs.Counting.{none_earliest, else_other, else_first}
 use Rattle.nf_pattern.proofs.assignments.advance.Goals as goal
 
 pub returns-in-Some : goal.returns-in-Some
-returns-in-Some c = (else_first c.args.same c.args.base.now c.args.unbounded.now c.args.states.now c.raise.new.states c.in-Some.ensures.0, c.in-Some.ensures.1)
+returns-in-Some c = (else_first c.args.same c.args.base.now c.args.unbounded.now c.args.states.now c.raise.new.states c.in-Some.ensures.0, c.in-Some.ensures.1, c.in-Some.ensures.2)
 
 pub returns-then-changes-more : goal.returns-then-changes-more
 returns-then-changes-more c =
@@ -21,7 +21,8 @@ returns-then-changes-more c =
 pub returns : goal.returns
 returns c =
     let counted : c.count_changes-changes.result ≡ changes c.args.base.now c.args.states.now = c.count_changes-changes.ensures.changes ∙ ap (changes c.args.base.now) c.in_default.ensures.1 in (
-      else_other c.args.same c.args.base.now c.args.unbounded.now c.args.states.now (Some c.fill.new.states) c.in_default.ensures.0
-          (subst (λ (n : ℕ). earliest c.args.base.now c.args.unbounded.now n ≡ Some c.fill.new.states) (add-one c.count_changes-changes.result ∙ ap suc counted) c.fill.ensures),
+      else_other c.args.same c.args.base.now c.args.unbounded.now c.args.states.now (Some c.fill-quiet.new.states) c.in_default.ensures.0
+          (subst (λ (n : ℕ). earliest c.args.base.now c.args.unbounded.now n ≡ Some c.fill-quiet.new.states) (add-one c.count_changes-changes.result ∙ ap suc counted) c.fill-quiet.ensures.filled),
       (omega arith, refl),
+      c.fill-quiet.ensures.quiet,
     )

@@ -3,6 +3,7 @@ use Rattle.std.specs.Prelude.{Some, None}
 use Rattle.nf_model.specs.Pattern.{Pattern}
 use Rattle.nf_pattern.specs.Successor.{change, fits, choices, first_good, free}
 use Rattle.nf_pattern.proofs.Filling.{none_filled, all_filled, rest_free, has_choice, more_filled, rest_filled}
+use Rattle.nf_pattern.proofs.Quiet.{quiet_rest, quiet_end}
 use Rattle.nf_pattern.proofs.assignments.fill.Goals as goal
 use Rattle.nf_pattern.proofs.assignments.fill.Goals.{in-Some, in_default}
 
@@ -33,8 +34,14 @@ loop-i-preserved c =
     }
 
 pub returns : goal.returns
-returns c = all_filled c.args.base.now c.args.unbounded.now c.args.changes c.loop-i.states c.loop-i.i c.loop-i.left c.loop-i.later (omega arith) c.loop-i.invariant.filled
+returns c = record {
+  filled = all_filled c.args.base.now c.args.unbounded.now c.args.changes c.loop-i.states c.loop-i.i c.loop-i.left c.loop-i.later (omega arith) c.loop-i.invariant.filled;
+  quiet = quiet_end c.args.base.now c.loop-i.states _ refl;
+}
 
 pub returns-then-left-eq0 : goal.returns-then-left-eq0
-returns-then-left-eq0 c = rest_filled c.args.base.now c.args.unbounded.now c.args.changes c.loop-i.states c.loop-i.i c.loop-i.left c.loop-i.later c.if-left-eq0.true c.loop-i.invariant.filled
-    ∙ ap (λ (x : Pattern). Some x) (sym c.copy_rest.ensures)
+returns-then-left-eq0 c = record {
+  filled = rest_filled c.args.base.now c.args.unbounded.now c.args.changes c.loop-i.states c.loop-i.i c.loop-i.left c.loop-i.later c.if-left-eq0.true c.loop-i.invariant.filled
+      ∙ ap (λ (x : Pattern). Some x) (sym c.copy_rest.ensures);
+  quiet = quiet_rest c.args.base.now c.loop-i.states c.copy_rest.new.states c.loop-i.i (omega arith) c.loop-i.invariant.filled.count c.copy_rest.ensures;
+}

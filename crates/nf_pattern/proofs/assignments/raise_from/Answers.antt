@@ -26,17 +26,18 @@ pub raise_at-requires-clause-free : goal.raise_at-requires-clause-free
 raise_at-requires-clause-free c = free_behind c.args.base.now c.args.unbounded.now c.args.states.now c.args.same (c.loop-i.i - 1) c.loop-i.i c.loop-i.changes c.loop-i.more c.loop-i.invariant.last (omega arith)
     c.requires.states c.requires.unbounded
 
-pub returns-then-raise_at : goal.returns-then-raise_at
-returns-then-raise_at c =
+pub returns-in-Some : goal.returns-in-Some
+returns-in-Some c =
     let less : c.loop-i.i - 1 < c.args.same = (let b = c.loop-i.invariant.below in omega arith) in
     let raised : RaisesAt c.args.base.now c.args.unbounded.now c.args.states.now (c.loop-i.i - 1) (c.loop-i.changes + c.change-changes.result) c.raise_at.new.states =
-    subst (λ (x : Pattern). RaisesAt c.args.base.now c.args.unbounded.now x (c.loop-i.i - 1) (c.loop-i.changes + c.change-changes.result) c.raise_at.new.states) c.loop-i.invariant.kept c.if-raise_at.ensures in (
+    subst (λ (x : Pattern). RaisesAt c.args.base.now c.args.unbounded.now x (c.loop-i.i - 1) (c.loop-i.changes + c.change-changes.result) c.raise_at.new.states) c.loop-i.invariant.kept c.in-Some.ensures.0 in (
       raised_later c.args.base.now c.args.unbounded.now c.args.states.now c.args.same (c.loop-i.i - 1) c.loop-i.i c.loop-i.changes c.loop-i.more c.loop-i.invariant.last (omega arith)
           c.requires.states c.requires.unbounded c.change-changes.result (c.loop-i.changes + c.change-changes.result)
           (subst (λ (x : Pattern). c.change-changes.result ≡ change (get_or c.args.base.now (c.loop-i.i - 1) None) (get_or x (c.loop-i.i - 1) None)) c.loop-i.invariant.kept c.change-changes.ensures.value) refl
           c.raise_at.new.states less raised,
       raised_same c.args.base.now c.args.unbounded.now c.args.states.now c.args.same (c.loop-i.i - 1) (c.loop-i.changes + c.change-changes.result) c.raise_at.new.states less
           (let w = c.loop-i.invariant.last.within in let n = c.requires.states in omega arith) raised,
+      c.in-Some.ensures.1,
     )
 
 pub overflow_add-more : goal.overflow_add-more
@@ -47,11 +48,11 @@ loop-i-preserved c =
     let is : c.change-changes.result ≡ change (get_or c.args.base.now (c.loop-i.i - 1) None) (get_or c.args.states.now (c.loop-i.i - 1) None) =
     subst (λ (x : Pattern). c.change-changes.result ≡ change (get_or c.args.base.now (c.loop-i.i - 1) None) (get_or x (c.loop-i.i - 1) None)) c.loop-i.invariant.kept c.change-changes.ensures.value in
     record {
-      kept = c.if-raise_at.ensures.1 ∙ c.loop-i.invariant.kept;
+      kept = c.in_default.ensures.1 ∙ c.loop-i.invariant.kept;
       below = (let b = c.loop-i.invariant.below in omega arith);
       last = last_kept c.args.base.now c.args.unbounded.now c.args.states.now c.args.same (c.loop-i.i - 1) c.loop-i.i c.loop-i.changes c.loop-i.more c.loop-i.invariant.last (omega arith)
           c.requires.states c.requires.unbounded c.change-changes.result (c.loop-i.changes + c.change-changes.result) is refl c.change-more.result (c.loop-i.more + c.change-more.result) c.change-more.ensures.value refl
-          (subst (λ (x : Pattern). raised_at c.args.base.now c.args.unbounded.now x (c.loop-i.i - 1) (c.loop-i.changes + c.change-changes.result) ≡ None) c.loop-i.invariant.kept c.if-raise_at.ensures.0)
+          (subst (λ (x : Pattern). raised_at c.args.base.now c.args.unbounded.now x (c.loop-i.i - 1) (c.loop-i.changes + c.change-changes.result) ≡ None) c.loop-i.invariant.kept c.in_default.ensures.0)
           (let b = c.loop-i.invariant.below in omega arith) c.change-changes.ensures.small c.change-more.ensures.small;
     }
 

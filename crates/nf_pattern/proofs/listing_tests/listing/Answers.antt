@@ -1,4 +1,4 @@
-use Rattle.std.proofs.Common.{◌≡◌, List, Bool, length, subst, sym, ap, ◌∙◌, arith}
+use Rattle.std.proofs.Common.{length, subst, ap, arith}
 use Rattle.std.specs.Prelude.{Option, None}
 use Rattle.std.proofs.lemmas.List.{length-map, length-replicate}
 use Rattle.nf_rational.specs.Operations.{0ℚ}

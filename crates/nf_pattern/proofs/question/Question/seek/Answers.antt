@@ -8,6 +8,7 @@ pub loop-same-init : goal.loop-same-init
 loop-same-init c = record {
   sought = sought_first c.args.self.now c.requires.question c.args.states.now c.requires.assigned;
   trail = c.requires.trail;
+  quiet = c.requires.quiet;
 }
 
 pub failing-requires-clause-assigned : goal.failing-requires-clause-assigned
@@ -18,18 +19,19 @@ advance-requires-clause-assigned c = c.loop-same.invariant.sought.assigned
 
 pub returns-in_default-advance-clause-assigned : goal.returns-in_default-advance-clause-assigned
 returns-in_default-advance-clause-assigned c =
-    subst (λ (x : Pattern). IsAssignment c.args.self.now.base c.args.self.now.unbounded x) (sym c.in_default-advance.ensures.1) c.loop-same.invariant.sought.assigned
+    subst (λ (x : Pattern). IsAssignment c.args.self.now.base c.args.self.now.unbounded x) (sym c.in_default-advance.ensures.found.1) c.loop-same.invariant.sought.assigned
 
 pub returns-in_default-advance-clause-found : goal.returns-in_default-advance-clause-found
-returns-in_default-advance-clause-found c = sought_none c.args.self.now c.requires.question c.args.states.now c.loop-same.states c.loop-same.invariant.sought c.in-Some.same c.in-Some.ensures.found.1 c.in_default-advance.ensures.0
+returns-in_default-advance-clause-found c = sought_none c.args.self.now c.requires.question c.args.states.now c.loop-same.states c.loop-same.invariant.sought c.in-Some.same c.in-Some.ensures.found.1 c.in_default-advance.ensures.found.0
 
 pub loop-same-smaller : goal.loop-same-smaller
-loop-same-smaller c = step_fewer c.args.self.now c.requires.question c.in-Some.same c.loop-same.states c.advance.new.states c.loop-same.invariant.sought.assigned c.in-Some-advance.ensures.0
+loop-same-smaller c = step_fewer c.args.self.now c.requires.question c.in-Some.same c.loop-same.states c.advance.new.states c.loop-same.invariant.sought.assigned c.in-Some-advance.ensures.found.0
 
 pub loop-same-preserved : goal.loop-same-preserved
 loop-same-preserved c = record {
-  sought = sought_more c.args.self.now c.requires.question c.args.states.now c.loop-same.states c.loop-same.invariant.sought c.in-Some.same c.in-Some.ensures.found.1 c.advance.new.states c.in-Some-advance.ensures.0;
-  trail = c.retreat.ensures c.loop-same.states c.advance.new.states c.in-Some.ensures.trail c.advance.auto.states c.in-Some-advance.ensures.1.1;
+  sought = sought_more c.args.self.now c.requires.question c.args.states.now c.loop-same.states c.loop-same.invariant.sought c.in-Some.same c.in-Some.ensures.found.1 c.advance.new.states c.in-Some-advance.ensures.found.0;
+  trail = c.retreat.ensures c.loop-same.states c.advance.new.states c.in-Some.ensures.trail c.advance.auto.states c.in-Some-advance.ensures.found.1.1;
+  quiet = c.in-Some-advance.ensures.quiet;
 }
 
 pub returns-clause-assigned : goal.returns-clause-assigned

@@ -1,3 +1,4 @@
+use Rattle.nf_pattern.specs.Successor.{IsQuiet}
 use Rattle.nf_pattern.specs.Trail.{IsTrailOf}
 use Rattle.nf_pattern.proofs.Ranging.{left_after}
 use Rattle.nf_pattern.proofs.Seeking.{IsSought}
@@ -5,7 +6,7 @@ use Rattle.nf_pattern.proofs.question.Question.seek.Given as goal
 
 -- no listed pattern is left behind
 abbrev pub invariant-loop-same : goal.invariant-loop-same
-invariant-loop-same l = record { sought : IsSought l.self l.initial.states l.states; trail : IsTrailOf l.self l.states l.trail }
+invariant-loop-same l = record { sought : IsSought l.self l.initial.states l.states; trail : IsTrailOf l.self l.states l.trail; quiet : IsQuiet l.self.base l.quiet l.states }
 
 abbrev pub decreases-loop-same : goal.decreases-loop-same
 decreases-loop-same l = left_after l.self.base l.states
