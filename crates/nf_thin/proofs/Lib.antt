@@ -18,7 +18,6 @@ pub mod LinkRows
 pub mod Sizes
 pub mod Searched
 pub mod Asking
-pub mod FirstListed
 pub mod Looping
 pub mod SourceRow
 pub mod Leading

@@ -1,7 +1,7 @@
 pub mod Judging
 pub mod Trying
 pub mod Searching
-pub mod Beginning
+pub mod Guessing
 pub mod Filling
 pub mod Slopes
 pub mod Allowing

@@ -1,23 +1,18 @@
-// The search, and the one by slopes that it goes on with after its first try, beside the plain one, which tries each pattern: on
-// random phases, and where slopes aren't unique or operations pass.
-ghost use Rattle.std.specs.Prelude.{IfOk, IfSome};
-ghost use Rattle.nf_work.specs.Passing.{bound_of, beyond};
+// The search, which goes by slopes, beside the plain one, which tries each pattern: on random phases, and where slopes aren't unique or
+// operations pass.
 ghost use Rattle.nf_model.specs.Network.{unbounded};
 ghost use Rattle.nf_model.specs.Pattern.{IsPattern};
 ghost use Rattle.nf_thin.specs.Searching.{AreSetsOf};
-ghost use Rattle.nf_thin.specs.Beginning.{IsSolved};
 
-use crate::first::first_listed;
-use crate::guess::{SolvedPattern, values_of};
 use crate::phases::{begin, made, network};
-use crate::searches::{plain_search, search_by_slopes};
+use crate::searches::plain_search;
 use crate::sifting::sifted_search;
 use crate::{SearchFault, Thin, search};
 use nf_frac::Q;
 use nf_graph::{LinkId, LinkSets};
 use nf_net::{Network, parse};
 use nf_pattern::Pattern;
-use std::alloc::{AllocError, Global};
+use std::alloc::Global;
 use std::test::Fail;
 
 // Slopes of this phase aren't unique: the links between a and b are a cycle of active ones.
@@ -144,46 +139,7 @@ fn same(
     }
 }
 
-// The first listed pattern with the values of its table, if there are any.
-fn solved_first(
-    alloc: Global,
-    net: &Network,
-    sets: &LinkSets,
-    rate: Q,
-    base: &Pattern,
-) -> Result<Option<SolvedPattern>, AllocError>
-    requires sets { AreSetsOf net.now.net sets.now }
-    requires base { IsPattern sets.now (unbounded net.now.net) base.now }
-    ensures { IfOk result (λ found. IfSome found (λ first. IsSolved (beyond (bound_of 127)) net.now.net sets.now rate first)) }
-{
-    let Some(pattern) = first_listed(alloc, net, sets, base)? else {
-        return Ok(None);
-    };
-    match values_of(alloc, net, sets, rate, &pattern)? {
-        Some(values) => Ok(Some(SolvedPattern { pattern, values })),
-        None => Ok(None),
-    }
-}
-
-// The search by slopes, also where the first listed pattern is accepted.
-fn by_slopes(
-    alloc: Global,
-    net: &Network,
-    sets: &LinkSets,
-    rate: Q,
-    base: &Pattern,
-    budget: u64,
-) -> Result<Thin, SearchFault>
-    requires sets { AreSetsOf net.now.net sets.now }
-    requires base { IsPattern sets.now (unbounded net.now.net) base.now }
-{
-    match solved_first(alloc, net, sets, rate, base)? {
-        Some(first) => search_by_slopes(alloc, net, sets, rate, base, first, budget),
-        None => plain_search(alloc, net, sets, rate, base, budget),
-    }
-}
-
-// The place that all three searches find with this budget, or none where they fail alike.
+// The place that both searches find with this budget, or none where they fail alike.
 fn place(
     alloc: Global,
     net: &Network,
@@ -196,8 +152,6 @@ fn place(
     requires base { IsPattern sets.now (unbounded net.now.net) base.now }
 {
     let plain = plain_search(alloc, net, sets, rate, base, budget);
-    let by_first_slopes = by_slopes(alloc, net, sets, rate, base, budget);
-    let _ = same(&by_first_slopes, &plain)?;
     let found = search(alloc, net, sets, rate, base, budget);
     same(&found, &plain)
 }
@@ -287,10 +241,7 @@ fn found_by_slopes(rt: HostRuntime) -> Result<(), Fail> {
     let last = Pattern::none(rt.alloc(), net.link_count())?;
     let (sets, base) = begin(rt.alloc(), &net, &[Q::zero(), Q::zero()], &last)?;
     let rate = made(3, 1)?;
-    let Some(first) = solved_first(rt.alloc(), &net, &sets, rate, &base)? else {
-        return Err(Fail::from("a first pattern with values"));
-    };
-    let found = sifted_search(rt.alloc(), &net, &sets, rate, &base, first, 7);
+    let found = sifted_search(rt.alloc(), &net, &sets, rate, &base, 7);
     match found {
         Ok(Some(thin)) => {
             assert_eq!(rt; thin.place, 5);

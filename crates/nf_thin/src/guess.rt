@@ -5,7 +5,7 @@ ghost use Rattle.nf_work.specs.Passing.{bound_of, beyond};
 ghost use Rattle.nf_model.specs.declared.State.TheVariants.{Full};
 ghost use Rattle.nf_equation_laws.specs.Equations.{IsPatternIn};
 ghost use Rattle.nf_thin.specs.Trying.{AreValuesOf};
-ghost use Rattle.nf_thin.specs.Beginning.{IsSolved};
+ghost use Rattle.nf_thin.specs.Guessing.{IsSolved};
 
 use crate::group_values::group_values;
 use crate::groups::Groups;
@@ -37,8 +37,8 @@ fn value_at(values: &[Q], place: usize) -> Q {
     }
 }
 
-/// The values that solve the table of a pattern. None where not just one does, or an operation passes.
-pub(crate) fn values_of(
+// The values that solve the table of a pattern. None where not just one does, or an operation passes.
+fn values_of(
     alloc: Global,
     net: &Network,
     sets: &LinkSets,
@@ -263,22 +263,18 @@ pub(crate) fn guess(
     net: &Network,
     sets: &LinkSets,
     rate: Q,
-    first: SolvedPattern,
+    first: Pattern,
 ) -> Result<Option<SolvedPattern>, AllocError>
-    requires { IsSolved (beyond (bound_of 127)) net.now.net sets.now rate first }
+    requires { IsPatternIn net.now.net sets.now first }
     ensures { IfOk result (λ found. IfSome found (λ last. IsSolved (beyond (bound_of 127)) net.now.net sets.now rate last)) }
 {
-    let SolvedPattern {
-        mut pattern,
-        mut values,
-    } = first;
+    let mut pattern = first;
     for _ in 0..MOST_REPAIRS {
+        let Some(values) = group_values(alloc, net, sets, rate, &pattern)? else {
+            return Ok(None);
+        };
         if !repair(alloc, net, sets, &values, &mut pattern)? {
             return solved_pattern(alloc, net, sets, rate, pattern);
-        }
-        match group_values(alloc, net, sets, rate, &pattern)? {
-            Some(next) => values = next,
-            None => return Ok(None),
         }
     }
     Ok(None)

@@ -4,7 +4,7 @@ ghost use Rattle.nf_work.specs.Passing.{bound_of, beyond};
 ghost use Rattle.nf_equation_laws.specs.Equations.{IsPatternIn};
 ghost use Rattle.nf_thin_laws.specs.ActiveLinks.{HoldNoCycle};
 ghost use Rattle.nf_thin_laws.specs.PatternLaws.{EachIsLed};
-ghost use Rattle.nf_thin.specs.Beginning.{IsSolved};
+ghost use Rattle.nf_thin.specs.Guessing.{IsSolved};
 ghost use Rattle.nf_thin.specs.Sifting.{IsKnown};
 ghost use Rattle.nf_thin.specs.Slopes.{MayCarry, IsLed, AreThinSlopes};
 

@@ -7,10 +7,7 @@ ghost use Rattle.nf_model.specs.Pattern.{IsPattern};
 ghost use Rattle.nf_lists.specs.Search.{IsSearch};
 ghost use Rattle.nf_equation_laws.specs.Equations.{IsPatternIn};
 ghost use Rattle.nf_thin.specs.Searching.{TriesNext, Searches, SlopesAreOnly, AreSetsOf, AsksOf};
-ghost use Rattle.nf_thin.specs.Beginning.{IsSolved};
 
-use crate::first::{First, first_listed, try_first};
-use crate::guess::SolvedPattern;
 use crate::sifting::sifted_search;
 use crate::trying::{Tried, try_pattern};
 use nf_frac::{Halt, PassedAt, Q};
@@ -198,51 +195,22 @@ pub(crate) fn plain_search(
     go_through(alloc, net, sets, rate, patterns, budget)
 }
 
-/// The same search by the slopes of a thin flow, which are guessed from a first pattern on, or plainly where they lead to no end.
-pub(crate) fn search_by_slopes(
+// The same search by the slopes of a thin flow, which are guessed, or plainly where they lead to no end.
+fn search_by_slopes(
     alloc: Global,
     net: &Network,
     sets: &LinkSets,
     rate: Q,
     base: &Pattern,
-    first: SolvedPattern,
     budget: u64,
 ) -> Result<Thin, SearchFault>
     requires sets { AreSetsOf net.now.net sets.now }
     requires base { IsPattern sets.now (unbounded_of net.now.net) base.now }
-    requires first { IsSolved (beyond (bound_of 127)) net.now.net sets.now rate first }
     ensures { Searches (IsSearch (beyond (bound_of 127)) net.now.net sets.now rate base.now budget) budget result }
 {
-    match sifted_search(alloc, net, sets, rate, base, first, budget)? {
+    match sifted_search(alloc, net, sets, rate, base, budget)? {
         Some(thin) => Ok(thin),
         None => plain_search(alloc, net, sets, rate, base, budget),
-    }
-}
-
-// The same search, with the first listed pattern tried before slopes are guessed: a guess costs several tables, and often that pattern
-// is accepted.
-fn search_from_first(
-    alloc: Global,
-    net: &Network,
-    sets: &LinkSets,
-    rate: Q,
-    base: &Pattern,
-    budget: u64,
-) -> Result<Thin, SearchFault>
-    requires sets { AreSetsOf net.now.net sets.now }
-    requires base { IsPattern sets.now (unbounded_of net.now.net) base.now }
-    ensures { Searches (IsSearch (beyond (bound_of 127)) net.now.net sets.now rate base.now budget) budget result }
-{
-    if budget == 0 {
-        return plain_search(alloc, net, sets, rate, base, budget);
-    }
-    let Some(pattern) = first_listed(alloc, net, sets, base)? else {
-        return plain_search(alloc, net, sets, rate, base, budget);
-    };
-    match try_first(alloc, net, sets, rate, pattern)? {
-        First::Found(thin) => Ok(thin),
-        First::Refused(first) => { search_by_slopes(alloc, net, sets, rate, base, first, budget) }
-        First::Unsolved => plain_search(alloc, net, sets, rate, base, budget),
     }
 }
 
@@ -266,5 +234,5 @@ pub fn search(
     ensures only { IfOk result (λ thin. SlopesAreOnly net.now.net sets.now rate thin.labels.items) }
 {
     let _ = net.hops();
-    search_from_first(alloc, net, sets, rate, base, budget)
+    search_by_slopes(alloc, net, sets, rate, base, budget)
 }

@@ -6,11 +6,11 @@ ghost use Rattle.nf_model.specs.Pattern.{IsPattern, IsListedIn};
 ghost use Rattle.nf_lists.specs.Search.{IsSearch};
 ghost use Rattle.nf_equation_laws.specs.Equations.{IsPatternIn};
 ghost use Rattle.nf_thin.specs.Searching.{AreSetsOf, AsksOf};
-ghost use Rattle.nf_thin.specs.Beginning.{IsSolved};
 ghost use Rattle.nf_thin.specs.Sifting.{Guides, SiftsNext, Sifts};
 
 use crate::allowed::{Allowed, allowed_by, forbidden_link};
-use crate::guess::{SolvedPattern, guess};
+use crate::first::first_listed;
+use crate::guess::guess;
 use crate::known::{Known, try_or_know};
 use crate::led::{hold_no_cycle, known_by};
 use crate::searches::{SearchFault, Thin, Vain, listing};
@@ -113,16 +113,16 @@ fn sift(
     Err(sifted.vain.fault())
 }
 
-// The guide by a guessed pattern, if it is accepted and leads to each node, and the active links hold no cycle.
+// The guide by a pattern that is guessed from a first one on, if it is accepted and leads to each node, and the active links hold no cycle.
 fn guide_of(
     alloc: Global,
     net: &Network,
     sets: &LinkSets,
     rate: Q,
-    first: SolvedPattern,
+    first: Pattern,
 ) -> Result<Option<Guide>, AllocError>
     requires sets { AreSetsOf net.now.net sets.now }
-    requires first { IsSolved (beyond (bound_of 127)) net.now.net sets.now rate first }
+    requires first { IsPatternIn net.now.net sets.now first }
     ensures { IfOk result (λ found. IfSome found (λ guide. Guides (beyond (bound_of 127)) net.now.net sets.now rate guide)) }
 {
     if !hold_no_cycle(alloc, net, sets)? {
@@ -138,27 +138,26 @@ fn guide_of(
     Ok(Some(Guide { allowed, known }))
 }
 
-/// The search by the slopes of a thin flow, which are guessed from a first pattern on. None where it comes to no end: no such slopes
-/// were found, or no pattern is accepted and some were passed over.
+/// The search by the slopes of a thin flow, which are guessed from the first listed pattern on. None where it comes to no end: no such
+/// slopes were found, or no pattern is accepted and some were passed over.
 pub(crate) fn sifted_search(
     alloc: Global,
     net: &Network,
     sets: &LinkSets,
     rate: Q,
     base: &Pattern,
-    first: SolvedPattern,
     budget: u64,
 ) -> Result<Option<Thin>, SearchFault>
     requires sets { AreSetsOf net.now.net sets.now }
-    requires first { IsSolved (beyond (bound_of 127)) net.now.net sets.now rate first }
     requires base { IsPattern sets.now (unbounded_of net.now.net) base.now }
     ensures { Sifts (IsSearch (beyond (bound_of 127)) net.now.net sets.now rate base.now budget) budget result }
 {
-    match guide_of(alloc, net, sets, rate, first)? {
-        Some(guide) => {
-            let patterns = listing(alloc, net, sets, base)?;
-            sift(alloc, net, sets, rate, &guide, patterns, budget)
-        }
-        None => Ok(None),
-    }
+    let Some(first) = first_listed(alloc, net, sets, base)? else {
+        return Ok(None);
+    };
+    let Some(guide) = guide_of(alloc, net, sets, rate, first)? else {
+        return Ok(None);
+    };
+    let patterns = listing(alloc, net, sets, base)?;
+    sift(alloc, net, sets, rate, &guide, patterns, budget)
 }

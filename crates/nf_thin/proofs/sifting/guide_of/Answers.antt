@@ -17,7 +17,7 @@ returns c =
     let allowed_are = c.in_ok-allowed.ensures ∙ ap (λ (slopes : List ℚ). flags_by c.args.net.now.net slopes) c.deref.ensures.value in
     record {
       allowed = subst (λ (allowed : List Allowed). AllowSolvable c.args.net.now.net c.args.sets.now c.args.rate allowed) (sym allowed_are)
-          (slopes_allow c.args.net.now.net c.args.sets.now c.args.rate c.in-Some-2.known.slopes.items c.requires.first.pattern_in.network c.requires.sets.sets_are (c.in_ok-hold_no_cycle.ensures c.if-not-branch.false) thin);
+          (slopes_allow c.args.net.now.net c.args.sets.now c.args.rate c.in-Some-2.known.slopes.items c.requires.first.network c.requires.sets.sets_are (c.in_ok-hold_no_cycle.ensures c.if-not-branch.false) thin);
       count = ap (λ (allowed : List Allowed). length allowed) allowed_are ∙ flags_count c.args.net.now.net c.in-Some-2.known.slopes.items;
       known = known;
     }
