@@ -1,17 +1,29 @@
--- Which link enters each node first, and behind which one no later one can, as links come and go.
-use Rattle.std.proofs.Common.{◌≡◌, ◌≢◌, ℕ, zero, suc, ◌+◌, ◌<◌, ◌≤◌, Bool, true, false, List, length, get_or, replicate, slice_set, inl, inr, ◌⊎◌, ⊎_elim, Option, Some, None, refl, sym, ap, subst, ◌∙◌, arith}
+-- Which links enter each node, backward from the last that leads to it; and behind which one no later one can.
+use Rattle.std.proofs.Common.{◌≡◌, ◌≢◌, ℕ, zero, suc, ◌+◌, ◌<◌, ◌≤◌, Bool, true, false, not, List, length, get_or, replicate, slice_set, inl, inr, ◌⊎◌, ⊎_elim, Option, Some, None, refl, sym, ap, subst, ◌∙◌, arith}
 use Rattle.std.specs.Prelude.{slice_get, MatchBool}
-use Rattle.std.proofs.lemmas.Option.{same_Some, slice_get_within, slice_get-get_or}
+use Rattle.std.proofs.lemmas.Option.{same_Some}
 use Rattle.nf_model.specs.Walk.{Hop, IsHop}
 use Rattle.nf_model.specs.Pattern.{Pattern}
 use Rattle.nf_graph.proofs.Walks.{IsHop-unique, IsHop-read}
-use Rattle.nf_pattern.specs.Entered.{MayCarry, EntersBy, EnteredBefore, IsFirstEntry, AreFirstEntries, CanCarry, IsEndBefore, AreEndsBefore, Strands}
+use Rattle.nf_pattern.specs.Entered.{MayCarry, EntersBy, EnteredBefore, LeadsTo, IsLastInto, AreLastInto, AreChained, CanCarry, IsEndBefore, AreEndsBefore, Strands, Keeps}
 use Rattle.nf_pattern.proofs.Entering.{less_or_same}
 use Rattle.nf_pattern.proofs.Roots.{set_same, set_other, tell}
+
+apart_or_same : (e k : ℕ) → (e < k) ⊎ ((k < e) ⊎ (e ≡ k))
+apart_or_same e k = grind arith
 
 -- the hop of a link's number
 pub hop_there : (hops : List Hop) (e i : ℕ) (hop : Hop) → e < length hops → i ≡ e → hop ≡ get_or hops i hop → IsHop hops e hop
 hop_there hops e i hop within same read = IsHop-read hops e hop within (read ∙ ap (λ (k : ℕ). get_or hops k hop) same)
+
+-- how many links may be left to go back to
+abbrev pub left_back_to : Option ℕ → ℕ
+left_back_to None = 0
+left_back_to (Some k) = suc k
+
+fewer_back : (hops : List Hop) (k v : ℕ) (found : Option ℕ) → IsLastInto hops k v found → left_back_to found < suc k
+fewer_back hops k v None last = (let z : left_back_to None ≡ 0 = refl in omega arith)
+fewer_back hops k v (Some j) last = (let z : left_back_to (Some j) ≡ suc j = refl in let l = last.0 in omega arith)
 
 module _ (hops : List Hop) (resetting : List Bool) (p : Pattern) where
   pub more_before : (n v : ℕ) → EnteredBefore hops resetting p (suc n) v → EnteredBefore hops resetting p n v ⊎ EntersBy hops resetting p n v
@@ -20,116 +32,136 @@ module _ (hops : List Hop) (resetting : List Bool) (p : Pattern) where
       (λ (same : e ≡ n). inr (subst (λ (k : ℕ). EntersBy hops resetting p k v) same by))
       (less_or_same e n (omega arith))
 
-  pub later_too : (m n v : ℕ) → m ≤ n → EnteredBefore hops resetting p m v → EnteredBefore hops resetting p n v
-  later_too m n v few (e, less, by) = (e, omega arith, by)
+  -- ---- the links that lead to a node, from the last one backward
+  -- none from number `from` on enters node v, and before that the last one is known that leads there
+  pub record IsBack (n v : ℕ) (at : Option ℕ) : Type 0 where
+    pub from : ℕ
+    pub few : from ≤ n
+    pub last : IsLastInto hops from v at
+    pub none : EnteredBefore hops resetting p n v → EnteredBefore hops resetting p from v
 
-  -- ---- one more link, or one fewer
-  module _ (n : ℕ) where
-    leads_to : (hop : Hop) (v : ℕ) → IsHop hops n hop → EntersBy hops resetting p n v → hop.head ≡ v
-    leads_to hop v is_hop by = ap (λ (h : Hop). h.head) (IsHop-unique hops n hop by.0 is_hop by.1) ∙ by.2
+  module _ (n v : ℕ) where
+    pub back_first : (chain : List (Option ℕ)) (at : Option ℕ) → AreChained hops chain → slice_get chain n ≡ Some at → LeadsTo hops n v → IsBack n v at
+    back_first chain at chained read leads = record {
+      from = n;
+      few = omega arith;
+      last = subst (λ (w : ℕ). IsLastInto hops n w at) leads.2 (chained n at read leads.0 leads.1);
+      none = λ before. before;
+    }
 
-    first_later : (v : ℕ) (found : Option ℕ) → (EntersBy hops resetting p n v → found ≡ None → ⊥) → IsFirstEntry hops resetting p n v found → IsFirstEntry hops resetting p (suc n) v found
-    first_later v None never first = λ before. ⊎_elim
-        (λ (w : EnteredBefore hops resetting p n v). first w)
-        (λ (by : EntersBy hops resetting p n v). never by refl)
-        (more_before n v before)
-    first_later v (Some e) never first = ((let l = first.0 in omega arith), first.1, first.2)
+    pub back_none : IsBack n v None → EnteredBefore hops resetting p n v → ⊥
+    back_none back before =
+        let way = back.none before in
+        back.last way.0 way.1 (way.2.0, way.2.1, way.2.2)
 
-    first_back : (v : ℕ) (found : Option ℕ) → (EntersBy hops resetting p n v → found ≡ Some n → ⊥) → IsFirstEntry hops resetting p (suc n) v found → IsFirstEntry hops resetting p n v found
-    first_back v None never first = λ before. first (later_too n (suc n) v (omega arith) before)
-    first_back v (Some e) never first = (
-      ⊎_elim
-          (λ (less : e < n). less)
-          (λ (same : e ≡ n). absurd (never (subst (λ (k : ℕ). EntersBy hops resetting p k v) same first.1) (ap (λ (k : ℕ). Some k) same)))
-          (less_or_same e n (let l = first.0 in omega arith)),
-      first.1,
-      first.2,
-    )
+    module _ (k : ℕ) (back : IsBack n v (Some k)) where
+      pub back_enters : MayCarry resetting p k → EnteredBefore hops resetting p n v
+      back_enters may =
+          let last = back.last in
+          let few = back.few in (k, (let l = last.0 in omega arith), (last.1.0, last.1.1, last.1.2, may))
 
-    module _ (entered : List (Option ℕ)) where
-      pub entries_kept : AreFirstEntries hops resetting p n entered → ((v : ℕ) → EntersBy hops resetting p n v → slice_get entered v ≡ Some None → ⊥) → AreFirstEntries hops resetting p (suc n) entered
-      entries_kept first never v found read = first_later v found (λ by same. never v by (read ∙ ap (λ (o : Option ℕ). Some o) same)) (first v found read)
+      earlier : (MayCarry resetting p k → ⊥) → EnteredBefore hops resetting p back.from v → EnteredBefore hops resetting p k v
+      earlier none (e, less, by) = ⊎_elim
+          (λ (before : e < k). (e, before, by))
+          (λ (from : (k < e) ⊎ (e ≡ k)). ⊎_elim
+          (λ (later : k < e). absurd (back.last.2 e later less (by.0, by.1, by.2)))
+          (λ (same : e ≡ k). absurd (none (subst (λ (i : ℕ). MayCarry resetting p i) same by.3))) from)
+          (apart_or_same e k)
 
-      pub entries_back : AreFirstEntries hops resetting p (suc n) entered → ((v : ℕ) → EntersBy hops resetting p n v → slice_get entered v ≡ Some (Some n) → ⊥) → AreFirstEntries hops resetting p n entered
-      entries_back first never v found read = first_back v found (λ by same. never v by (read ∙ ap (λ (o : Option ℕ). Some o) same)) (first v found read)
+      pub back_more : (chain : List (Option ℕ)) (found : Option ℕ) → AreChained hops chain → slice_get chain k ≡ Some found → (MayCarry resetting p k → ⊥) → IsBack n v found
+      back_more chain found chained read none = record {
+        from = k;
+        few = (let l = back.last.0 in let f = back.few in omega arith);
+        last = subst (λ (w : ℕ). IsLastInto hops k w found) back.last.1.2 (chained k found read back.last.1.0 back.last.1.1);
+        none = λ before. earlier none (back.none before);
+      }
 
-      -- where the link leads to
-      module _ (hop : Hop) (is_hop : IsHop hops n hop) (i : ℕ) (at : i ≡ hop.head) where
-        -- what is read after a change there
-        changed : (now : Option ℕ) (v : ℕ) (found : Option ℕ) → i < length entered → slice_get (slice_set entered i now) v ≡ Some found
-            → ((v ≡ i) × (now ≡ found)) ⊎ ((v ≢ i) × (slice_get entered v ≡ Some found))
-        changed now v found within read = ⊎_elim
-            (λ (same : v ≡ i). inl (same, same_Some now found (sym (set_same entered i now within) ∙ (ap (λ (k : ℕ). slice_get (slice_set entered i now) k) (sym same) ∙ read))))
-            (λ (other : v ≢ i). inr (other, sym (set_other entered i v now other) ∙ read))
-            (tell v i)
+      pub back_fewer : (chain : List (Option ℕ)) (found : Option ℕ) → AreChained hops chain → slice_get chain k ≡ Some found → left_back_to found < left_back_to (Some k)
+      back_fewer chain found chained read = fewer_back hops k back.last.1.0.head found (chained k found read back.last.1.0 back.last.1.1)
 
-        only_there : (v : ℕ) → v ≢ i → EntersBy hops resetting p n v → ⊥
-        only_there v other by = other (sym (leads_to hop v is_hop by) ∙ sym at)
-
-        pub kept_there : AreFirstEntries hops resetting p n entered → (slice_get entered i ≡ Some None → ⊥) → AreFirstEntries hops resetting p (suc n) entered
-        kept_there first held = entries_kept first (λ v by free. held (ap (λ (k : ℕ). slice_get entered k) (at ∙ leads_to hop v is_hop by) ∙ free))
-
-        pub back_there : AreFirstEntries hops resetting p (suc n) entered → (slice_get entered i ≡ Some (Some n) → ⊥) → AreFirstEntries hops resetting p n entered
-        back_there first held = entries_back first (λ v by here. held (ap (λ (k : ℕ). slice_get entered k) (at ∙ leads_to hop v is_hop by) ∙ here))
-
-        pub entry_noted : AreFirstEntries hops resetting p n entered → MayCarry resetting p n → slice_get entered i ≡ Some None → AreFirstEntries hops resetting p (suc n) (slice_set entered i (Some n))
-        entry_noted first may free v found read = ⊎_elim
-            (λ (w : (v ≡ i) × (Some n ≡ found)). subst (λ (o : Option ℕ). IsFirstEntry hops resetting p (suc n) v o) w.1
-            (omega arith, (hop, is_hop, sym at ∙ sym w.0, may), first v None (ap (λ (k : ℕ). slice_get entered k) w.0 ∙ free)))
-            (λ (w : (v ≢ i) × (slice_get entered v ≡ Some found)). first_later v found (λ by none. only_there v w.0 by) (first v found w.1))
-            (changed (Some n) v found (slice_get_within entered i None free) read)
-
-        pub entry_forgotten : AreFirstEntries hops resetting p (suc n) entered → slice_get entered i ≡ Some (Some n) → AreFirstEntries hops resetting p n (slice_set entered i None)
-        entry_forgotten first held v found read = ⊎_elim
-            (λ (w : (v ≡ i) × (None ≡ found)). subst (λ (o : Option ℕ). IsFirstEntry hops resetting p n v o) w.1
-            ((first v (Some n) (ap (λ (k : ℕ). slice_get entered k) w.0 ∙ held)).2))
-            (λ (w : (v ≢ i) × (slice_get entered v ≡ Some found)). first_back v found (λ by here. only_there v w.0 by) (first v found w.1))
-            (changed None v found (slice_get_within entered i (Some n) held) read)
+      pub back_within : k < n
+      back_within = let l = back.last.0 in let f = back.few in omega arith
 
   -- ---- stranded nodes
-  entered_then : (n v : ℕ) (found : Option ℕ) → found ≢ None → IsFirstEntry hops resetting p n v found → EnteredBefore hops resetting p n v
-  entered_then n v None some first = absurd (some refl)
-  entered_then n v (Some e) some first = (e, first.0, first.1)
-
   module _ (source : ℕ) (ends : List ℕ) (e : ℕ) where
-    pub carries_none : MayCarry resetting p e → Strands source hops resetting p ends e → ⊥
-    carries_none may s = s.unentered (e, omega arith, (s.hop, s.is_hop, refl, may))
+    pub carries_keeps : MayCarry resetting p e → Keeps source hops resetting p ends e
+    carries_keeps may v other leads last = (e, omega arith, (leads.0, leads.1, leads.2, may))
 
     module _ (hop : Hop) (is_hop : IsHop hops e hop) (i : ℕ) (at : i ≡ hop.head) where
-      its_head : (s : Strands source hops resetting p ends e) → s.hop.head ≡ i
-      its_head s = ap (λ (h : Hop). h.head) (IsHop-unique hops e s.hop hop s.is_hop is_hop) ∙ sym at
+      its_head : (v : ℕ) → LeadsTo hops e v → v ≡ i
+      its_head v leads = sym leads.2 ∙ (ap (λ (h : Hop). h.head) (IsHop-unique hops e leads.0 hop leads.1 is_hop) ∙ sym at)
 
-      pub source_none : i ≡ source → Strands source hops resetting p ends e → ⊥
-      source_none same s = s.other (its_head s ∙ same)
+      pub head_led : LeadsTo hops e i
+      head_led = (hop, is_hop, sym at)
 
-      pub end_none : (slice_get ends i ≡ Some (suc e) → ⊥) → Strands source hops resetting p ends e → ⊥
-      end_none later s = later (ap (λ (k : ℕ). slice_get ends k) (sym (its_head s)) ∙ s.last)
+      pub source_keeps : i ≡ source → Keeps source hops resetting p ends e
+      source_keeps same v other leads last = absurd (other (its_head v leads ∙ same))
 
-      module _ (entered : List (Option ℕ)) (first : AreFirstEntries hops resetting p e entered) where
-        entered_none : i < length entered → (slice_get entered i ≡ Some None → ⊥) → Strands source hops resetting p ends e → ⊥
-        entered_none within held s =
-            let read : slice_get entered i ≡ Some (get_or entered i None) = slice_get-get_or entered i None within in
-            let before = entered_then e i (get_or entered i None) (λ none. held (read ∙ ap (λ (o : Option ℕ). Some o) none)) (first i (get_or entered i None) read) in
-            s.unentered (later_too e (suc e) s.hop.head (omega arith) (subst (λ (k : ℕ). EnteredBefore hops resetting p e k) (sym (its_head s)) before))
+      pub later_keeps : (slice_get ends i ≡ Some (suc e) → ⊥) → Keeps source hops resetting p ends e
+      later_keeps later v other leads last = absurd (later (ap (λ (k : ℕ). slice_get ends k) (sym (its_head v leads)) ∙ last))
 
-        strands_there : i ≢ source → (MayCarry resetting p e → ⊥) → slice_get ends i ≡ Some (suc e) → slice_get entered i ≡ Some None → Strands source hops resetting p ends e
-        strands_there other none last free =
-            record {
-              hop = hop;
-              is_hop = is_hop;
-              other = λ same. other (at ∙ same);
-              last = ap (λ (k : ℕ). slice_get ends k) (sym at) ∙ last;
-              unentered = λ before. ⊎_elim
-                  (λ (w : EnteredBefore hops resetting p e hop.head). first hop.head None (ap (λ (k : ℕ). slice_get entered k) (sym at) ∙ free) w)
-                  (λ (by : EntersBy hops resetting p e hop.head). none by.3)
-                  (more_before e hop.head before);
-            }
+      entered_keeps : EnteredBefore hops resetting p e i → Keeps source hops resetting p ends e
+      entered_keeps before v other leads last =
+          let here : EnteredBefore hops resetting p e v = subst (λ (k : ℕ). EnteredBefore hops resetting p e k) (sym (its_head v leads)) before in
+          (here.0, (let l = here.1 in omega arith), here.2)
 
-        pub strands_told : i < length entered → i ≢ source → (MayCarry resetting p e → ⊥) → slice_get ends i ≡ Some (suc e)
-            → (free : Bool) → MatchBool free (slice_get entered i ≡ Some None) (slice_get entered i ≡ Some None → ⊥)
-            → MatchBool free (Strands source hops resetting p ends e) (Strands source hops resetting p ends e → ⊥)
-        strands_told within other none last true told = strands_there other none last told
-        strands_told within other none last false told = entered_none within told
+      strands_there : i ≢ source → (MayCarry resetting p e → ⊥) → slice_get ends i ≡ Some (suc e) → (EnteredBefore hops resetting p e i → ⊥) → Strands source hops resetting p ends e
+      strands_there other none last unentered =
+          record {
+            hop = hop;
+            is_hop = is_hop;
+            other = λ same. other (at ∙ same);
+            last = ap (λ (k : ℕ). slice_get ends k) (sym at) ∙ last;
+            unentered = λ before. ⊎_elim
+                (λ (w : EnteredBefore hops resetting p e hop.head). unentered (subst (λ (k : ℕ). EnteredBefore hops resetting p e k) (sym at) w))
+                (λ (by : EntersBy hops resetting p e hop.head). none by.3)
+                (more_before e hop.head before);
+          }
+
+      pub strands_told : i ≢ source → (MayCarry resetting p e → ⊥) → slice_get ends i ≡ Some (suc e) → (before : Bool) → MatchBool before (EnteredBefore hops resetting p e i) (EnteredBefore hops resetting p e i → ⊥)
+          → MatchBool (not before) (Strands source hops resetting p ends e) (Keeps source hops resetting p ends e)
+      strands_told other none last true told = entered_keeps told
+      strands_told other none last false told = strands_there other none last told
+
+-- ---- the last link into each node, with one link more
+module _ (hops : List Hop) (m : ℕ) (hop : Hop) (is_hop : IsHop hops m hop) (i : ℕ) (at : i ≡ hop.head) where
+  leads_there : (v : ℕ) → LeadsTo hops m v → v ≡ i
+  leads_there v leads = sym leads.2 ∙ (ap (λ (h : Hop). h.head) (IsHop-unique hops m leads.0 hop leads.1 is_hop) ∙ sym at)
+
+  last_later : (v : ℕ) (found : Option ℕ) → v ≢ i → IsLastInto hops m v found → IsLastInto hops (suc m) v found
+  last_later v None other none = λ e less leads. ⊎_elim
+      (λ (l : e < m). none e l leads)
+      (λ (same : e ≡ m). other (leads_there v (subst (λ (k : ℕ). LeadsTo hops k v) same leads)))
+      (less_or_same e m (omega arith))
+  last_later v (Some k) other last = (
+    (let l = last.0 in omega arith),
+    last.1,
+    λ e more less leads. ⊎_elim
+        (λ (l : e < m). last.2 e more l leads)
+        (λ (same : e ≡ m). other (leads_there v (subst (λ (k : ℕ). LeadsTo hops k v) same leads)))
+        (less_or_same e m (omega arith)),
+  )
+
+  pub last_noted : (last : List (Option ℕ)) → i < length last → AreLastInto hops m last → AreLastInto hops (suc m) (slice_set last i (Some m))
+  last_noted last within before v found read = ⊎_elim
+      (λ (same : v ≡ i). subst (λ (o : Option ℕ). IsLastInto hops (suc m) v o)
+      (same_Some (Some m) found (sym (set_same last i (Some m) within) ∙ (ap (λ (k : ℕ). slice_get (slice_set last i (Some m)) k) (sym same) ∙ read)))
+      (omega arith, (hop, is_hop, sym at ∙ sym same), λ e more less leads. omega arith))
+      (λ (other : v ≢ i). last_later v found other (before v found (sym (set_other last i v (Some m) other) ∙ read)))
+      (tell v i)
+
+  pub last_is : (last : List (Option ℕ)) (found : Option ℕ) → AreLastInto hops m last → slice_get last i ≡ Some found → (h : Hop) → IsHop hops m h → IsLastInto hops m h.head found
+  last_is last found before read h is_h =
+      subst (λ (k : ℕ). IsLastInto hops m k found) (at ∙ ap (λ (x : Hop). x.head) (IsHop-unique hops m hop h is_hop is_h)) (before i found read)
+
+-- before any link
+pub none_last : (hops : List Hop) (count : ℕ) → AreLastInto hops 0 (replicate count None)
+none_last hops count v found read = subst (λ (o : Option ℕ). IsLastInto hops 0 v o) (sym (none_only count v found read)) (λ e less leads. absurd (omega arith))
+  where
+    none_only : (n v : ℕ) (found : Option ℕ) → slice_get (replicate n None) v ≡ Some found → found ≡ None
+    none_only zero v found at = cc
+    none_only (suc n) zero found at = sym (same_Some None found at)
+    none_only (suc n) (suc v) found at = none_only n v found at
 
 -- ---- the ends of those into each node
 module _ (hops : List Hop) (resetting : List Bool) (base : Pattern) where

@@ -1,7 +1,7 @@
 -- How far the states of a pattern were looked at, as a link comes or goes.
-use Rattle.std.proofs.Common.{◌≡◌, ◌≢◌, ℕ, zero, suc, replicate, ◌<◌, Bool, List, length, inl, inr, ◌⊎◌, ⊎_elim, Option, Some, None, get_or, slice_get, slice_set, refl, sym, ap, subst, ◌∙◌, arith}
-use Rattle.std.proofs.Math.ListN.{length-set, length-replicate}
-use Rattle.std.proofs.lemmas.Option.{same_Some, slice_get_within, slice_get-get_or}
+use Rattle.std.proofs.Common.{◌≡◌, ℕ, zero, suc, ◌<◌, Bool, List, length, inl, inr, ⊎_elim, Option, Some, get_or, slice_get, slice_set, refl, sym, ap, subst, ◌∙◌, arith}
+use Rattle.std.proofs.Math.ListN.{length-set}
+use Rattle.std.proofs.lemmas.Option.{same_Some, slice_get_within}
 use Rattle.nf_model.specs.declared.State.TheVariants.{Tight}
 use Rattle.nf_model.specs.Walk.{Hop, IsHop}
 use Rattle.nf_model.specs.Pattern.{Pattern, HasState}
@@ -10,7 +10,7 @@ use Rattle.nf_graph.specs.Graph.{AreBelow}
 use Rattle.nf_pattern.specs.declared.trail.Trail.{Trail}
 use Rattle.nf_pattern.specs.Forest.{Closes}
 use Rattle.nf_pattern.specs.Groups.{AreAlone, IsOneGroup, Hangs, AreGrown, JoinsBy, IsRound, Parts}
-use Rattle.nf_pattern.specs.Entered.{EnteredBefore, IsFirstEntry, AreFirstEntries, AreEnds, Strands}
+use Rattle.nf_pattern.specs.Entered.{EnteredBefore, AreChained, AreEnds, Keeps}
 use Rattle.nf_pattern.specs.Trail.{Follows, IsOnWay}
 use Rattle.nf_pattern.proofs.Entering.{less_or_same}
 use Rattle.nf_pattern.proofs.Roots.{set_same, set_other, node_top, hangs_count}
@@ -42,52 +42,27 @@ joins_none hops p e parents tail head hop tight is from_tail from_head one =
 
 -- ---- a trail
 module _ (source : ℕ) (hops : List Hop) (resetting : List Bool) (p : Pattern) where
-  -- the entry of a node tells whether a link before number n enters it
-  entry_tells : (n v : ℕ) (entered : List (Option ℕ)) (found : Option ℕ) → slice_get entered v ≡ Some found → AreFirstEntries hops resetting p n entered
-      → EnteredBefore hops resetting p n v ⊎ (EnteredBefore hops resetting p n v → ⊥)
-  entry_tells n v entered None at entries = inr (entries v None at)
-  entry_tells n v entered (Some e) at entries = let first = entries v (Some e) at in inl (e, first.0, first.1)
-
-  -- where link n strands no node, each one is entered that it is the last one to lead to
-  not_stranded : (n v : ℕ) (entered : List (Option ℕ)) (ends : List ℕ) → v ≢ source → v < length entered → slice_get ends v ≡ Some (suc n)
-      → ((hop : Hop) × IsHop hops n hop × (hop.head ≡ v)) → AreFirstEntries hops resetting p (suc n) entered → (Strands source hops resetting p ends n → ⊥) → EnteredBefore hops resetting p (suc n) v
-  not_stranded n v entered ends other within last (hop, is, at) entries none = ⊎_elim
-      (λ (so : EnteredBefore hops resetting p (suc n) v). so)
-      (λ (not : EnteredBefore hops resetting p (suc n) v → ⊥). absurd (none (record {
-        hop = hop;
-        is_hop = is;
-        other = λ same. other (sym at ∙ same);
-        last = ap (λ (k : ℕ). slice_get ends k) at ∙ last;
-        unentered = λ e. not (subst (λ (k : ℕ). EnteredBefore hops resetting p (suc n) k) at e);
-      })))
-      (entry_tells (suc n) v entered (get_or entered v None) (slice_get-get_or entered v None within) entries)
-
   -- one link more
   pub entered_on : {trail after : Trail} → Follows source hops resetting p trail → trail.depth < length hops → after.depth ≡ suc trail.depth
       → JoinsBy hops p trail.depth trail.groups after.groups trail.hung.items after.hung.items
-      → after.ends.items ≡ trail.ends.items → length after.entered.items ≡ length trail.entered.items → AreFirstEntries hops resetting p (suc trail.depth) after.entered.items
-      → (Strands source hops resetting p trail.ends.items trail.depth → ⊥) → Follows source hops resetting p after
-  entered_on {trail} {after} follows more depth joins ends count entries none = record {
+      → after.ends.items ≡ trail.ends.items → after.chain.items ≡ trail.chain.items → Keeps source hops resetting p trail.ends.items trail.depth → Follows source hops resetting p after
+  entered_on {trail} {after} follows more depth joins ends chain keeps = record {
     depth = let d = depth in omega arith;
     below = subst (λ (k : ℕ). AreBelow k hops) (sym joins.count) follows.below;
     grown = subst (λ (k : ℕ). AreGrown k hops p after.hung.items after.depth after.groups) (sym joins.count)
         (subst (λ (k : ℕ). AreGrown (length trail.groups) hops p after.hung.items k after.groups) (sym depth)
         (grown_more (length trail.groups) hops p trail.hung.items after.hung.items trail.depth trail.groups after.groups follows.grown joins.grows joins.kept));
     hung = joins.count_hung ∙ follows.hung;
-    count = count ∙ (follows.count ∙ sym joins.count);
+    chain = subst (AreChained hops) (sym chain) follows.chain;
+    count_chain = ap (λ (cs : List (Option ℕ)). length cs) chain ∙ follows.count_chain;
     count_ends = ap (λ (es : List ℕ). length es) ends ∙ (follows.count_ends ∙ sym joins.count);
-    entries = subst (λ (k : ℕ). AreFirstEntries hops resetting p k after.entered.items) (sym depth) entries;
     entered = λ v n other at some few.
         let before : slice_get trail.ends.items v ≡ Some n = ap (λ (es : List ℕ). slice_get es v) (sym ends) ∙ at in
         ⊎_elim
         (λ (less : n < suc trail.depth). follows.entered v n other before some (omega arith))
         (λ (same : n ≡ suc trail.depth).
         let last : slice_get trail.ends.items v ≡ Some (suc trail.depth) = before ∙ ap (λ (k : ℕ). Some k) same in
-        let within = slice_get_within trail.ends.items v (suc trail.depth) last in
-        let count_ends = follows.count_ends in
-        let count_entered = follows.count in
-        subst (λ (k : ℕ). EnteredBefore hops resetting p k v) (sym same)
-        (not_stranded trail.depth v after.entered.items trail.ends.items other (omega arith) last (follows.last v trail.depth last) entries none))
+        subst (λ (k : ℕ). EnteredBefore hops resetting p k v) (sym same) (keeps v other (follows.last v trail.depth last) last))
         (less_or_same n (suc trail.depth) (omega arith));
     last = λ v e at. follows.last v e (ap (λ (es : List ℕ). slice_get es v) (sym ends) ∙ at);
   }
@@ -121,9 +96,8 @@ parted_grown nodes hops p hung n parents after grown (inr (node, at, set)) = sub
 
 module _ (source : ℕ) (hops : List Hop) (resetting : List Bool) (p : Pattern) where
   pub left_back : {trail after : Trail} → Follows source hops resetting p trail → trail.depth ≡ suc after.depth → Parts trail.hung.items after.depth trail.groups after.groups
-      → after.hung.items ≡ trail.hung.items → after.ends.items ≡ trail.ends.items → length after.entered.items ≡ length trail.entered.items
-      → (AreFirstEntries hops resetting p (suc after.depth) trail.entered.items → AreFirstEntries hops resetting p after.depth after.entered.items) → Follows source hops resetting p after
-  left_back {trail} {after} follows depth parts hung ends count entries = record {
+      → after.hung.items ≡ trail.hung.items → after.ends.items ≡ trail.ends.items → after.chain.items ≡ trail.chain.items → Follows source hops resetting p after
+  left_back {trail} {after} follows depth parts hung ends chain = record {
     depth = let few = follows.depth in omega arith;
     below = subst (λ (k : ℕ). AreBelow k hops) (sym groups) follows.below;
     grown = subst (λ (k : ℕ). AreGrown k hops p after.hung.items after.depth after.groups) (sym groups)
@@ -131,9 +105,9 @@ module _ (source : ℕ) (hops : List Hop) (resetting : List Bool) (p : Pattern) 
         (parted_grown (length trail.groups) hops p trail.hung.items after.depth trail.groups after.groups
         (subst (λ (k : ℕ). AreGrown (length trail.groups) hops p trail.hung.items k trail.groups) depth follows.grown) parts));
     hung = ap (λ (hs : List (Option ℕ)). length hs) hung ∙ follows.hung;
-    count = count ∙ (follows.count ∙ sym groups);
+    chain = subst (AreChained hops) (sym chain) follows.chain;
+    count_chain = ap (λ (cs : List (Option ℕ)). length cs) chain ∙ follows.count_chain;
     count_ends = ap (λ (es : List ℕ). length es) ends ∙ (follows.count_ends ∙ sym groups);
-    entries = entries (subst (λ (k : ℕ). AreFirstEntries hops resetting p k trail.entered.items) depth follows.entries);
     entered = λ v n other at some few. follows.entered v n other (ap (λ (es : List ℕ). slice_get es v) (sym ends) ∙ at) some (omega arith);
     last = λ v e at. follows.last v e (ap (λ (es : List ℕ). slice_get es v) (sym ends) ∙ at);
   }
@@ -149,25 +123,18 @@ pub way_on : {before now after : Trail} → IsOnWay before now → IsOnWay now a
 way_on a b = record { nodes = b.nodes ∙ a.nodes; ends = b.ends ∙ a.ends; lost = b.lost ∙ a.lost }
 
 -- ---- no link was looked at
-none_only : (n v : ℕ) (found : Option ℕ) → slice_get (replicate n None) v ≡ Some found → found ≡ None
-none_only zero v found at = cc
-none_only (suc n) zero found at = sym (same_Some None found at)
-none_only (suc n) (suc v) found at = none_only n v found at
-
 pub follows_none : (source : ℕ) (hops : List Hop) (resetting : List Bool) (base p : Pattern) (nodes : ℕ) {trail : Trail} → AreBelow nodes hops → trail.depth ≡ zero → AreAlone nodes trail.groups
-    → length trail.hung.items ≡ length hops → trail.entered.items ≡ replicate nodes None → length trail.ends.items ≡ nodes → AreEnds hops resetting base trail.ends.items
-    → Follows source hops resetting p trail
-follows_none source hops resetting base p nodes {trail} below depth alone hung entered count_ends ends = record {
+    → length trail.hung.items ≡ length hops → AreChained hops trail.chain.items → length trail.chain.items ≡ length hops → length trail.ends.items ≡ nodes
+    → AreEnds hops resetting base trail.ends.items → Follows source hops resetting p trail
+follows_none source hops resetting base p nodes {trail} below depth alone hung chain count_chain count_ends ends = record {
   depth = omega arith;
   below = subst (λ (k : ℕ). AreBelow k hops) (sym alone.count) below;
   grown = subst (λ (k : ℕ). AreGrown (length trail.groups) hops p trail.hung.items k trail.groups) (sym depth)
       (subst (λ (k : ℕ). AreAlone k trail.groups) (sym alone.count) alone);
   hung = hung;
-  count = ap (λ (es : List (Option ℕ)). length es) entered ∙ (length-replicate nodes None ∙ sym alone.count);
+  chain = chain;
+  count_chain = count_chain;
   count_ends = count_ends ∙ sym alone.count;
-  entries = λ v found at. subst (λ (f : Option ℕ). IsFirstEntry hops resetting p trail.depth v f)
-      (sym (none_only nodes v found (ap (λ (es : List (Option ℕ)). slice_get es v) (sym entered) ∙ at)))
-      (λ before. let less = before.1 in absurd (omega arith));
   entered = λ v n other at some few. absurd (omega arith);
   last = λ v e at. (ends v (suc e) at).last e refl;
 }

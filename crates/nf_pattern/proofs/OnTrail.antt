@@ -1,5 +1,5 @@
 -- What a trail says of a listing: whether its pattern is listed, or up to which link none is.
-use Rattle.std.proofs.Common.{◌≡◌, ◌≢◌, ℕ, zero, suc, ◌+◌, ◌<◌, ◌≤◌, ◌⊎◌, ⊎_elim, Bool, true, false, List, length, take, Option, Some, None, refl, sym, ap, subst, ◌∙◌, arith}
+use Rattle.std.proofs.Common.{◌≡◌, ◌≢◌, ℕ, zero, suc, ◌+◌, ◌<◌, ◌≤◌, ◌⊎◌, ⊎_elim, Bool, true, false, List, length, take, Some, refl, sym, ap, subst, ◌∙◌, arith}
 use Rattle.std.specs.Prelude.{slice_get, get_or}
 use Rattle.std.proofs.lemmas.Option.{slice_get-get_or, slice_get_within}
 use Rattle.std.proofs.lemmas.List.{take-take}
@@ -7,7 +7,7 @@ use Rattle.nf_model.specs.Walk.{Hop}
 use Rattle.nf_model.specs.Pattern.{Pattern}
 use Rattle.nf_pattern.specs.declared.trail.Trail.{Trail}
 use Rattle.nf_pattern.specs.Forest.{Closes}
-use Rattle.nf_pattern.specs.Entered.{IsEntered, EnteredBefore, IsFirstEntry, AreEnds, IsLost, Strands}
+use Rattle.nf_pattern.specs.Entered.{IsEntered, EnteredBefore, AreEnds, IsLost, Strands}
 use Rattle.nf_pattern.specs.Trail.{Follows, IsTrailOf, IsOnWay}
 use Rattle.nf_pattern.specs.Successor.{IsAssignment}
 use Rattle.nf_pattern.specs.Given.{Question, IsQuestion, IsListedBy, IsBarren}
@@ -22,22 +22,15 @@ module _ (hops : List Hop) (resetting : List Bool) (p r : Pattern) where
   entered_too : (m n v : ℕ) → m ≤ n → take n r ≡ take n p → EnteredBefore hops resetting p m v → EnteredBefore hops resetting r m v
   entered_too m n v few same (e, less, by) = (e, less, (by.0, by.1, by.2, may_carry_too resetting r p n e (omega arith) (sym same) by.3))
 
-  entered_back : (m n v : ℕ) → m ≤ n → take n r ≡ take n p → EnteredBefore hops resetting r m v → EnteredBefore hops resetting p m v
-  entered_back m n v few same (e, less, by) = (e, less, (by.0, by.1, by.2, may_carry_too resetting p r n e (omega arith) same by.3))
-
-  entry_too : (n v : ℕ) (found : Option ℕ) → take n r ≡ take n p → IsFirstEntry hops resetting p n v found → IsFirstEntry hops resetting r n v found
-  entry_too n v None same none = λ way. none (entered_back n n v (omega arith) same way)
-  entry_too n v (Some e) same (less, by, none) = (less, (by.0, by.1, by.2, may_carry_too resetting r p n e less (sym same) by.3), λ way. none (entered_back e n v (omega arith) same way))
-
   pub follows_same : (source : ℕ) (trail : Trail) → take trail.depth r ≡ take trail.depth p → Follows source hops resetting p trail → Follows source hops resetting r trail
   follows_same source trail same follows = record {
     depth = follows.depth;
     below = follows.below;
     grown = grown_same (length trail.groups) hops p r trail.hung.items trail.hung.items trail.depth trail.groups follows.grown same (λ e less. refl);
     hung = follows.hung;
-    count = follows.count;
+    chain = follows.chain;
+    count_chain = follows.count_chain;
     count_ends = follows.count_ends;
-    entries = λ v found at. entry_too trail.depth v found same (follows.entries v found at);
     entered = λ v n apart at some few. entered_too n trail.depth v few same (follows.entered v n apart at some few);
     last = follows.last;
   }

@@ -22,13 +22,21 @@ EntersBy hops resetting pattern e v = (hop : Hop) × IsHop hops e hop × (hop.he
 abbrev pub EnteredBefore : List Hop → List Bool → Pattern → ℕ → ℕ → Type 0
 EnteredBefore hops resetting pattern n v = (e : ℕ) × (e < n) × EntersBy hops resetting pattern e v
 
--- the first link before number n that enters node v, or none
-abbrev pub IsFirstEntry : List Hop → List Bool → Pattern → ℕ → ℕ → Option ℕ → Type 0
-IsFirstEntry hops resetting pattern n v None = EnteredBefore hops resetting pattern n v → ⊥
-IsFirstEntry hops resetting pattern n v (Some e) = (e < n) × EntersBy hops resetting pattern e v × (EnteredBefore hops resetting pattern e v → ⊥)
+-- link e leads to node v
+abbrev pub LeadsTo : List Hop → ℕ → ℕ → Type 0
+LeadsTo hops e v = (hop : Hop) × IsHop hops e hop × (hop.head ≡ v)
 
-abbrev pub AreFirstEntries : List Hop → List Bool → Pattern → ℕ → List (Option ℕ) → Type 0
-AreFirstEntries hops resetting pattern n entered = (v : ℕ) (found : Option ℕ) → slice_get entered v ≡ Some found → IsFirstEntry hops resetting pattern n v found
+-- the last link before number n that leads to node v, or none
+abbrev pub IsLastInto : List Hop → ℕ → ℕ → Option ℕ → Type 0
+IsLastInto hops n v None = (e : ℕ) → e < n → LeadsTo hops e v → ⊥
+IsLastInto hops n v (Some k) = (k < n) × LeadsTo hops k v × ((e : ℕ) → k < e → e < n → LeadsTo hops e v → ⊥)
+
+abbrev pub AreLastInto : List Hop → ℕ → List (Option ℕ) → Type 0
+AreLastInto hops n last = (v : ℕ) (found : Option ℕ) → slice_get last v ≡ Some found → IsLastInto hops n v found
+
+-- of each link, the last one before it that leads to the same node
+abbrev pub AreChained : List Hop → List (Option ℕ) → Type 0
+AreChained hops chain = (e : ℕ) (found : Option ℕ) → slice_get chain e ≡ Some found → (hop : Hop) → IsHop hops e hop → IsLastInto hops e hop.head found
 
 -- link e is resetting, or may have a state
 abbrev pub CanCarry : List Bool → Pattern → ℕ → Type 0
@@ -52,6 +60,10 @@ pub record Strands (source : ℕ) (hops : List Hop) (resetting : List Bool) (pat
   pub other : hop.head ≢ source
   pub last : slice_get ends hop.head ≡ Some (suc e)
   pub unentered : EnteredBefore hops resetting pattern (suc e) hop.head → ⊥
+
+-- or else it is entered, if link e is the last one that can enter it
+abbrev pub Keeps : ℕ → List Hop → List Bool → Pattern → List ℕ → ℕ → Type 0
+Keeps source hops resetting pattern ends e = (v : ℕ) → v ≢ source → LeadsTo hops e v → slice_get ends v ≡ Some (suc e) → EnteredBefore hops resetting pattern (suc e) v
 
 -- whether no link can enter a node but the source
 abbrev pub IsLost : ℕ → List ℕ → Bool → Type 0

@@ -1,10 +1,10 @@
 -- How far the states of a pattern were looked at, link by link.
 use Rattle.std.specs.Prelude.{◌≡◌, ◌≢◌, ℕ, suc, ◌<◌, ◌≤◌, Bool, List, length, Some, slice_get}
-use Rattle.nf_model.specs.Walk.{Hop, IsHop}
+use Rattle.nf_model.specs.Walk.{Hop}
 use Rattle.nf_model.specs.Pattern.{Pattern}
 use Rattle.nf_graph.specs.Graph.{AreBelow}
 use Rattle.nf_pattern.specs.Groups.{AreGrown}
-use Rattle.nf_pattern.specs.Entered.{EnteredBefore, AreFirstEntries, AreEnds, IsLost}
+use Rattle.nf_pattern.specs.Entered.{EnteredBefore, AreChained, LeadsTo, AreEnds, IsLost}
 use Rattle.nf_pattern.specs.Given.{Question}
 use Rattle.nf_pattern.specs.declared.trail.Trail.{Trail}
 
@@ -15,11 +15,11 @@ pub record Follows (source : ℕ) (hops : List Hop) (resetting : List Bool) (pat
   pub below : AreBelow (length trail.groups) hops
   pub grown : AreGrown (length trail.groups) hops pattern trail.hung.items trail.depth trail.groups
   pub hung : length trail.hung.items ≡ length hops
-  pub count : length trail.entered.items ≡ length trail.groups
+  pub chain : AreChained hops trail.chain.items
+  pub count_chain : length trail.chain.items ≡ length hops
   pub count_ends : length trail.ends.items ≡ length trail.groups
-  pub entries : AreFirstEntries hops resetting pattern trail.depth trail.entered.items
   pub entered : (v n : ℕ) → v ≢ source → slice_get trail.ends.items v ≡ Some n → 0 < n → n ≤ trail.depth → EnteredBefore hops resetting pattern n v
-  pub last : (v e : ℕ) → slice_get trail.ends.items v ≡ Some (suc e) → (hop : Hop) × IsHop hops e hop × (hop.head ≡ v)
+  pub last : (v e : ℕ) → slice_get trail.ends.items v ≡ Some (suc e) → LeadsTo hops e v
 
 -- the trail stands at a link of the pattern, in a listing's question
 pub record IsTrailOf (question : Question) (pattern : Pattern) (trail : Trail) : Type 0 where

@@ -1,8 +1,8 @@
 // Which nodes are entered by a Tight, Full or resetting link.
 ghost use Rattle.std.specs.Prelude.{◌≡◌, ◌≢◌, ◌^◌, ◌<◌, suc, length, List, Bool, Some, None, slice_get, MatchBool, IfOk};
-ghost use Rattle.nf_model.specs.Pattern.{Pattern};
+ghost use Rattle.nf_model.specs.Walk.{Hop as SeenHop, IsHop};
 ghost use Rattle.nf_graph.specs.Graph.{AreBelow};
-ghost use Rattle.nf_pattern.specs.Entered.{MayCarry, CanCarry, AreFirstEntries, AreEndsBefore, AreEnds, IsLost, Strands};
+ghost use Rattle.nf_pattern.specs.Entered.{MayCarry, CanCarry, LeadsTo, EnteredBefore, IsLastInto, AreLastInto, AreChained, AreEndsBefore, AreEnds, IsLost, Strands, Keeps};
 
 use nf_graph::{Hop, LinkId, NodeId};
 use nf_model::State;
@@ -25,22 +25,6 @@ pub(crate) fn may_carry(states: &[Option<State>], resetting: &[bool], link: Link
     }
 }
 
-// No link is kept for the node.
-fn is_free(entered: &[Option<LinkId>], node: NodeId) -> bool
-    requires { node < length entered.now }
-    ensures { MatchBool result (slice_get entered.now node ≡ Some None) (slice_get entered.now node ≡ Some None → ⊥) }
-{
-    entered[node.index()].is_none()
-}
-
-// This link is kept for it.
-fn is_kept(entered: &[Option<LinkId>], node: NodeId, link: LinkId) -> bool
-    requires { node < length entered.now }
-    ensures { MatchBool result (slice_get entered.now node ≡ Some (Some link)) (slice_get entered.now node ≡ Some (Some link) → ⊥) }
-{
-    entered[node.index()] == Some(link)
-}
-
 // No link after this one can enter the node, and this one leads to it.
 fn is_end(ends: &[usize], node: NodeId, link: LinkId) -> bool
     requires { node < length ends.now }
@@ -49,46 +33,33 @@ fn is_end(ends: &[usize], node: NodeId, link: LinkId) -> bool
     ends[node.index()] == link.index() + 1
 }
 
-// The link is kept as the first one that enters its head, where it may carry flow and none before it does.
-pub(crate) fn note_entry(
+// A link before this one enters the node that this one leads to. The links that lead there are gone through backward.
+fn is_entered_before(
     hops: &[Hop],
     states: &[Option<State>],
     resetting: &[bool],
     link: LinkId,
-    carries: bool,
-    entered: &mut [Option<LinkId>],
-)
-    requires link { link < length hops.now }
+    node: NodeId,
+    chain: &[Option<LinkId>],
+) -> bool
     requires states { length states.now ≡ length hops.now }
     requires resetting { length resetting.now ≡ length hops.now }
-    requires ends { AreBelow (length entered.old) hops.now }
-    requires carries { MatchBool carries (MayCarry resetting.now states.now link) (MayCarry resetting.now states.now link → ⊥) }
-    requires entries { AreFirstEntries hops.now resetting.now states.now link entered.old }
-    ensures { AreFirstEntries hops.now resetting.now states.now (suc link) entered.new }
-{
-    let _ = states;
-    let _ = resetting;
-    if carries {
-        let hop = &hops[link.index()];
-        let head = hop.head;
-        if is_free(entered, head) {
-            entered[head.index()] = Some(link);
-        }
-    }
-}
-
-// It is no longer.
-pub(crate) fn forget_entry(hops: &[Hop], link: LinkId, entered: &mut [Option<LinkId>])
+    requires chain { AreChained hops.now chain.now }
+    requires count { length chain.now ≡ length hops.now }
     requires link { link < length hops.now }
-    requires ends { AreBelow (length entered.old) hops.now }
-    ensures { (resetting : List Bool) (states : Pattern) → AreFirstEntries hops.now resetting states (suc link) entered.old
-        → AreFirstEntries hops.now resetting states link entered.new }
+    requires leads { LeadsTo hops.now link node }
+    ensures { MatchBool result (EnteredBefore hops.now resetting.now states.now link node) (EnteredBefore hops.now resetting.now states.now link node → ⊥) }
 {
-    let hop = &hops[link.index()];
-    let head = hop.head;
-    if is_kept(entered, head, link) {
-        entered[head.index()] = None;
+    let _ = hops;
+    let _ = node;
+    let mut at = chain[link.index()];
+    while let Some(before) = at {
+        if may_carry(states, resetting, before) {
+            return true;
+        }
+        at = chain[before.index()];
     }
+    false
 }
 
 // The link enters nothing, and so a node but the source stays without a link that enters it.
@@ -98,22 +69,18 @@ pub(crate) fn strands(
     resetting: &[bool],
     source: NodeId,
     link: LinkId,
-    carries: bool,
-    entered: &[Option<LinkId>],
+    chain: &[Option<LinkId>],
     ends: &[usize],
 ) -> bool
     requires link { link < length hops.now }
     requires states { length states.now ≡ length hops.now }
     requires resetting { length resetting.now ≡ length hops.now }
-    requires below { AreBelow (length entered.now) hops.now }
-    requires ends { length ends.now ≡ length entered.now }
-    requires carries { MatchBool carries (MayCarry resetting.now states.now link) (MayCarry resetting.now states.now link → ⊥) }
-    requires entries { AreFirstEntries hops.now resetting.now states.now link entered.now }
-    ensures { MatchBool result (Strands source hops.now resetting.now states.now ends.now link) (Strands source hops.now resetting.now states.now ends.now link → ⊥) }
+    requires below { AreBelow (length ends.now) hops.now }
+    requires chain { AreChained hops.now chain.now }
+    requires count { length chain.now ≡ length hops.now }
+    ensures { MatchBool result (Strands source hops.now resetting.now states.now ends.now link) (Keeps source hops.now resetting.now states.now ends.now link) }
 {
-    let _ = states;
-    let _ = resetting;
-    if carries {
+    if may_carry(states, resetting, link) {
         return false;
     }
     let hop = &hops[link.index()];
@@ -121,7 +88,46 @@ pub(crate) fn strands(
     if head == source {
         return false;
     }
-    is_end(ends, head, link) && is_free(entered, head)
+    if !is_end(ends, head, link) {
+        return false;
+    }
+    !is_entered_before(hops, states, resetting, link, head, chain)
+}
+
+// The last link so far that leads to each node, and then with one more: it is put into the chain which one was the last before it.
+fn chain_link(hops: &[Hop], link: usize, last: &mut [Option<LinkId>]) -> Option<LinkId>
+    requires link { link < length hops.now }
+    requires fewer { length hops.now < 2 ^ 32 }
+    requires below { AreBelow (length last.old) hops.now }
+    requires last { AreLastInto hops.now link last.old }
+    ensures last { AreLastInto hops.now (suc link) last.new }
+    ensures before { (hop : SeenHop) → IsHop hops.now link hop → IsLastInto hops.now link hop.head result }
+{
+    let hop = &hops[link];
+    let head = hop.head;
+    let before = last[head.index()];
+    last[head.index()] = Some(LinkId(link as u32));
+    before
+}
+
+/// Of each link, the last one before it that leads to the same node.
+pub(crate) fn chain(
+    alloc: Global,
+    nodes: u32,
+    hops: &[Hop],
+) -> Result<Vec<Option<LinkId>>, AllocError>
+    requires fewer { length hops.now < 2 ^ 32 }
+    requires below { AreBelow nodes hops.now }
+    ensures count { IfOk result (λ chain. length chain.items ≡ length hops.now) }
+    ensures chain { IfOk result (λ chain. AreChained hops.now chain.items) }
+{
+    let mut last = vec![in alloc; None; nodes as usize]?;
+    let mut chain = Vec::with_capacity(alloc, hops.len())?;
+    for e in 0..hops.len() {
+        let before = chain_link(hops, e, &mut last);
+        chain.push(before)?;
+    }
+    Ok(chain)
 }
 
 // The link is resetting, or may have a state.

@@ -1,20 +1,20 @@
 // A trail along the links: how far the states of a pattern were looked at. It goes on from what two patterns have in common.
-use crate::entered::{ends, forget_entry, is_lost, may_carry, note_entry, strands};
+use crate::entered::{chain, ends, is_lost, strands};
 use crate::groups::Groups;
 use crate::joining::{join_by, part_by};
 use nf_graph::{Hop, LinkId, NodeId};
 use nf_model::State;
 use std::alloc::{AllocError, Global};
 
-// The links before number `depth` were looked at: which groups of nodes their Tight ones join, which node hangs since each of
-// them, and of each node the first one that enters it. Of each node it is known behind which link no later one can enter it,
-// and whether none can enter some node.
+// The links before number `depth` were looked at: which groups of nodes their Tight ones join, and which node hangs since each of
+// them. Of each link it is known which one before it is the last to lead to the same node, of each node behind which link no
+// later one can enter it, and whether none can enter some node.
 #[derive(Drop, Debug)]
 pub(crate) struct Trail {
     depth: usize,
     groups: Groups,
     hung: Vec<Option<NodeId>>,
-    entered: Vec<Option<LinkId>>,
+    chain: Vec<Option<LinkId>>,
     ends: Vec<usize>,
     lost: bool,
 }
@@ -37,6 +37,7 @@ impl Trail {
         resetting: &[bool],
     ) -> Result<Trail, AllocError>
         requires below { AreBelow nodes hops.now }
+        requires fewer { length hops.now < 2 ^ 32 }
         requires base { length base.now ≡ length hops.now }
         requires resetting { length resetting.now ≡ length hops.now }
         ensures follows { IfOk result (λ trail. (p : SeenPattern) → Follows source hops.now resetting.now p trail) }
@@ -46,14 +47,14 @@ impl Trail {
     {
         let groups = Groups::alone(alloc, nodes)?;
         let hung = vec![in alloc; None; hops.len()]?;
-        let entered = vec![in alloc; None; nodes as usize]?;
+        let chain = chain(alloc, nodes, hops)?;
         let ends = ends(alloc, nodes, hops, base, resetting)?;
         let lost = is_lost(&ends, source);
         Ok(Trail {
             depth: 0,
             groups,
             hung,
-            entered,
+            chain,
             ends,
             lost,
         })
@@ -92,17 +93,20 @@ impl Trail {
             ((self.new.depth ≡ self.old.depth) × (Strands source hops.now resetting.now states.now self.new.ends.items self.new.depth ⊎ Closes hops.now states.now self.new.depth)) }
     {
         let link = LinkId(self.depth as u32);
-        let carries = may_carry(states, resetting, link);
-        let entered = &self.entered;
         if strands(
-            hops, states, resetting, source, link, carries, entered, &self.ends,
+            hops,
+            states,
+            resetting,
+            source,
+            link,
+            &self.chain,
+            &self.ends,
         ) {
             return false;
         }
         if !join_by(hops, states, link, &mut self.groups, &mut self.hung) {
             return false;
         }
-        note_entry(hops, states, resetting, link, carries, &mut self.entered);
         self.depth += 1;
         true
     }
@@ -144,7 +148,6 @@ impl Trail {
         self.depth -= 1;
         let link = LinkId(self.depth as u32);
         part_by(link, &mut self.groups, &self.hung);
-        forget_entry(hops, link, &mut self.entered);
     }
 
     // Back until no link from this one on is left.

@@ -1,32 +1,32 @@
-use Rattle.std.proofs.Common.{◌∙◌, Bool, MatchBool, ap, sym, subst, arith}
+use Rattle.std.proofs.Common.{◌∙◌, ap, sym}
 use Rattle.nf_model.specs.Walk.{Hop, IsHop}
 use Rattle.nf_graph.proofs.Walks.{same_from_test, apart_from_test}
-use Rattle.nf_pattern.specs.Entered.{MayCarry, Strands}
-use Rattle.nf_pattern.proofs.Entries.{hop_there, carries_none, source_none, end_none, strands_told}
+use Rattle.nf_pattern.proofs.Entries.{hop_there, head_led, carries_keeps, source_keeps, later_keeps, strands_told}
 use Rattle.nf_pattern.proofs.entered.strands.Goals as goal
 
-pub returns-then-carries : goal.returns-then-carries
-returns-then-carries c = carries_none c.args.hops.now c.args.resetting.now c.args.states.now c.args.source c.args.ends.now c.args.link
-    (subst (λ (b : Bool). MatchBool b (MayCarry c.args.resetting.now c.args.states.now c.args.link) (MayCarry c.args.resetting.now c.args.states.now c.args.link → ⊥)) c.if-carries.true c.requires.carries)
+pub returns-then-may_carry : goal.returns-then-may_carry
+returns-then-may_carry c = carries_keeps c.args.hops.now c.args.resetting.now c.args.states.now c.args.source c.args.ends.now c.args.link c.if-may_carry.ensures
 
 pub returns-then-eq : goal.returns-then-eq
 returns-then-eq c =
     let here : IsHop c.args.hops.now c.args.link c.index-hops-index.result = hop_there c.args.hops.now c.args.link c.index.result c.index-hops-index.result c.requires.link c.index.ensures c.index-hops-index.is in
-    source_none c.args.hops.now c.args.resetting.now c.args.states.now c.args.source c.args.ends.now c.args.link c.index-hops-index.result here c.hop.inside.head
+    source_keeps c.args.hops.now c.args.resetting.now c.args.states.now c.args.source c.args.ends.now c.args.link c.index-hops-index.result here c.hop.inside.head
     (ap (λ (h : Hop). h.head) c.hop.view_is) (same_from_test c.hop.inside.head c.args.source (sym c.if-eq.true ∙ c.eq.ensures))
 
-pub returns-then-is_end : goal.returns-then-is_end
-returns-then-is_end c =
+pub returns-then-not-is_end : goal.returns-then-not-is_end
+returns-then-not-is_end c =
     let here : IsHop c.args.hops.now c.args.link c.index-hops-index.result = hop_there c.args.hops.now c.args.link c.index.result c.index-hops-index.result c.requires.link c.index.ensures c.index-hops-index.is in
-    let at = ap (λ (h : Hop). h.head) c.hop.view_is in
-    strands_told c.args.hops.now c.args.resetting.now c.args.states.now c.args.source c.args.ends.now c.args.link c.index-hops-index.result here c.hop.inside.head at c.args.entered.now c.requires.entries
-    (let below = c.requires.below.heads c.args.link c.index-hops-index.result here in omega arith)
-    (apart_from_test c.hop.inside.head c.args.source (sym c.if-eq.false ∙ c.eq.ensures)) (subst (λ (b : Bool). MatchBool b (MayCarry c.args.resetting.now c.args.states.now c.args.link) (MayCarry c.args.resetting.now c.args.states.now c.args.link → ⊥)) c.if-carries.false c.requires.carries) c.if-is_end.ensures c.is_free.result c.is_free.ensures
+    later_keeps c.args.hops.now c.args.resetting.now c.args.states.now c.args.source c.args.ends.now c.args.link c.index-hops-index.result here c.hop.inside.head
+    (ap (λ (h : Hop). h.head) c.hop.view_is) c.if-not-is_end.ensures
 
-pub returns-else-is_end : goal.returns-else-is_end
-returns-else-is_end c =
+pub is_entered_before-requires-clause-leads : goal.is_entered_before-requires-clause-leads
+is_entered_before-requires-clause-leads c =
     let here : IsHop c.args.hops.now c.args.link c.index-hops-index.result = hop_there c.args.hops.now c.args.link c.index.result c.index-hops-index.result c.requires.link c.index.ensures c.index-hops-index.is in
-    let at = ap (λ (h : Hop). h.head) c.hop.view_is in
-    subst (λ (b : Bool). MatchBool b (Strands c.args.source c.args.hops.now c.args.resetting.now c.args.states.now c.args.ends.now c.args.link) (Strands c.args.source c.args.hops.now c.args.resetting.now c.args.states.now c.args.ends.now c.args.link → ⊥))
-    (sym c.if-is_end.false)
-    (end_none c.args.hops.now c.args.resetting.now c.args.states.now c.args.source c.args.ends.now c.args.link c.index-hops-index.result here c.hop.inside.head at c.if-is_end.ensures)
+    head_led c.args.hops.now c.args.resetting.now c.args.states.now c.args.source c.args.ends.now c.args.link c.index-hops-index.result here c.hop.inside.head (ap (λ (h : Hop). h.head) c.hop.view_is)
+
+pub returns : goal.returns
+returns c =
+    let here : IsHop c.args.hops.now c.args.link c.index-hops-index.result = hop_there c.args.hops.now c.args.link c.index.result c.index-hops-index.result c.requires.link c.index.ensures c.index-hops-index.is in
+    strands_told c.args.hops.now c.args.resetting.now c.args.states.now c.args.source c.args.ends.now c.args.link c.index-hops-index.result here c.hop.inside.head
+    (ap (λ (h : Hop). h.head) c.hop.view_is) (apart_from_test c.hop.inside.head c.args.source (sym c.if-eq.false ∙ c.eq.ensures)) c.if-may_carry.ensures c.if-not-is_end.ensures
+    c.is_entered_before.result c.is_entered_before.ensures

@@ -1,7 +1,7 @@
-use Rattle.std.proofs.Common.{ℕ, suc, List, Option, length, refl, inr, ap, sym, subst, ◌∙◌, arith}
+use Rattle.std.proofs.Common.{ℕ, List, Option, refl, inr, sym, subst, ◌∙◌, arith}
 use Rattle.std.proofs.lemmas.List.{with_items_is}
 use Rattle.nf_pattern.specs.Groups.{JoinsBy}
-use Rattle.nf_pattern.specs.Entered.{AreFirstEntries, Strands}
+use Rattle.nf_pattern.specs.Entered.{Keeps}
 use Rattle.nf_pattern.proofs.Following.{entered_on, round_closes}
 use Rattle.nf_pattern.proofs.trail.Trail.enter.Goals as goal
 
@@ -11,11 +11,8 @@ returns-then-not-join_by-clause-entered c = (refl, inr (round_closes c.args.sour
 pub returns-clause-follows : goal.returns-clause-follows
 returns-clause-follows c =
     let hung = with_items_is c.args.self.now.hung c.join_by.new.hung (c.join_by.auto.hung ∙ c.deref_mut.ensures.len) in
-    let entered = with_items_is c.args.self.now.entered c.note_entry.new.entered (c.note_entry.auto.entered ∙ c.deref_mut-2.ensures.len) in
     entered_on c.args.source c.args.hops.now c.args.resetting.now c.args.states.now c.requires.follows c.requires.more (omega arith)
     (subst (λ (hs : List (Option ℕ)). JoinsBy c.args.hops.now c.args.states.now c.args.self.now.depth c.args.self.now.groups c.join_by.new.groups c.args.self.now.hung.items hs) (sym hung)
     (subst (λ (hs : List (Option ℕ)). JoinsBy c.args.hops.now c.args.states.now c.args.self.now.depth c.args.self.now.groups c.join_by.new.groups hs c.join_by.new.hung) c.deref_mut.ensures.value c.if-not-join_by.ensures))
-    refl
-    (ap (λ (es : List (Option ℕ)). length es) entered ∙ (c.note_entry.auto.entered ∙ ap (λ (es : List (Option ℕ)). length es) c.deref_mut-2.ensures.value))
-    (subst (λ (es : List (Option ℕ)). AreFirstEntries c.args.hops.now c.args.resetting.now c.args.states.now (suc c.args.self.now.depth) es) (sym entered) c.note_entry.ensures)
-    (subst (λ (es : List ℕ). Strands c.args.source c.args.hops.now c.args.resetting.now c.args.states.now es c.args.self.now.depth → ⊥) c.deref-2.ensures.value c.if-strands.ensures)
+    refl refl
+    (subst (λ (es : List ℕ). Keeps c.args.source c.args.hops.now c.args.resetting.now c.args.states.now es c.args.self.now.depth) c.deref-2.ensures.value c.if-strands.ensures)

@@ -1,0 +1,20 @@
+use Rattle.std.proofs.Common.{◌∙◌, ℕ, ◌+◌, List, Option, length, ap, sym, subst, arith}
+use Rattle.std.proofs.lemmas.List.{with_items_is}
+use Rattle.nf_model.specs.Walk.{Hop, IsHop}
+use Rattle.nf_pattern.specs.Entered.{IsLastInto, AreLastInto, AreChained}
+use Rattle.nf_pattern.proofs.Each.{each_pushed, length_pushed}
+use Rattle.nf_pattern.proofs.entered.chain.Goals as goal
+
+pub loop-e-preserved : goal.loop-e-preserved
+loop-e-preserved c =
+    let len = c.chain_link-before.auto.last ∙ c.deref_mut.ensures.len in
+    let after = with_items_is c.loop-e.last c.chain_link-before.new.last len in
+    record {
+      count_last = ap (λ (os : List (Option ℕ)). length os) after ∙ (c.chain_link-before.auto.last ∙ (ap (λ (os : List (Option ℕ)). length os) c.deref_mut.ensures.value ∙ c.loop-e.invariant.count_last));
+      last = subst (λ (os : List (Option ℕ)). AreLastInto c.args.hops.now (c.loop-e.e + 1) os) (sym after)
+          (subst (λ (n : ℕ). AreLastInto c.args.hops.now n c.chain_link-before.new.last) (omega arith) c.chain_link-before.ensures.last);
+      count = ap (λ (os : List (Option ℕ)). length os) c.in_ok-push.ensures.items ∙ length_pushed c.loop-e.chain.items c.chain_link-before.result c.loop-e.e c.loop-e.invariant.count;
+      chain = subst (AreChained c.args.hops.now) (sym c.in_ok-push.ensures.items)
+          (each_pushed (λ (e : ℕ) (found : Option ℕ). (hop : Hop) → IsHop c.args.hops.now e hop → IsLastInto c.args.hops.now e hop.head found) c.loop-e.chain.items c.chain_link-before.result c.loop-e.e
+          c.loop-e.invariant.count c.loop-e.invariant.chain c.chain_link-before.ensures.before);
+    }

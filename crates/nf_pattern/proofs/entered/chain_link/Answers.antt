@@ -1,0 +1,20 @@
+use Rattle.std.proofs.Common.{◌∙◌, ℕ, Option, Some, refl, ap, sym, arith}
+use Rattle.std.proofs.lemmas.Option.{slice_get-get_or}
+use Rattle.nf_model.specs.Walk.{Hop, IsHop}
+use Rattle.nf_pattern.proofs.Entries.{hop_there, last_noted, last_is}
+use Rattle.nf_pattern.proofs.entered.chain_link.Goals as goal
+
+pub returns-clause-last : goal.returns-clause-last
+returns-clause-last c =
+    let here : IsHop c.args.hops.now c.args.link c.index-hops-link.result = hop_there c.args.hops.now c.args.link c.args.link c.index-hops-link.result c.requires.link refl c.index-hops-link.is in
+    let at = c.index-2.ensures ∙ ap (λ (h : Hop). h.head) c.hop.view_is in
+    last_noted c.args.hops.now c.args.link c.index-hops-link.result here c.index-2.result at c.args.last.now
+    (let below = c.requires.below.heads c.args.link c.index-hops-link.result here in omega arith) c.requires.last
+
+pub returns-clause-before : goal.returns-clause-before
+returns-clause-before c =
+    let here : IsHop c.args.hops.now c.args.link c.index-hops-link.result = hop_there c.args.hops.now c.args.link c.args.link c.index-hops-link.result c.requires.link refl c.index-hops-link.is in
+    let at = c.index.ensures ∙ ap (λ (h : Hop). h.head) c.hop.view_is in
+    last_is c.args.hops.now c.args.link c.index-hops-link.result here c.index.result at c.args.last.now c.index-last-index.result c.requires.last
+    (slice_get-get_or c.args.last.now c.index.result c.index-last-index.result (let below = c.requires.below.heads c.args.link c.index-hops-link.result here in omega arith)
+    ∙ ap (λ (o : Option ℕ). Some o) (sym c.index-last-index.is))
