@@ -4,45 +4,60 @@ use Rattle.std.specs.Prelude.{Option, Some, None, MatchOption, Bool}
 use Rattle.std.proofs.Math.Seq.{drop-append-add, drop-append_seam}
 use Rattle.std.proofs.lemmas.List.{drop-drop, length-take-le}
 use Rattle.nf_model.specs.Pattern.{Pattern, changes}
+use Rattle.nf_pattern.specs.declared.assignments.Quiet.{Quiet}
 use Rattle.nf_pattern.specs.declared.assignments.Raised.{Raised}
-use Rattle.nf_pattern.specs.Successor.{IsSameBefore, IsQuiet, later}
+use Rattle.nf_pattern.specs.Successor.{IsSameBefore, IsQuiet, free, later}
 use Rattle.nf_pattern.proofs.Successors.{changes_first, no_change}
-use Rattle.nf_pattern.proofs.Counting.{changes_end}
+use Rattle.nf_pattern.proofs.Counting.{changes_end, free_end}
 use Rattle.nf_pattern.proofs.Raising.{later_up_to}
 
 changes_self : (base : Pattern) → changes base base ≡ 0
 changes_self [] = refl
 changes_self (b ∷ base) = let f = changes_first b b base base in let z = no_change b in let rest = changes_self base in omega arith
 
-pub quiet_base : (base : Pattern) → IsQuiet base 0 base
-quiet_base base = record { within = omega arith; unchanged = changes_self base }
-
-pub quiet_end : (base states : Pattern) (n : ℕ) → n ≡ length base → IsQuiet base n states
-quiet_end base states n all = record { within = omega arith; unchanged = changes_end base states n (omega arith) }
+pub quiet_end : (base states : Pattern) (quiet : Quiet) → quiet.link ≡ length base → quiet.free ≡ 0 → IsQuiet base quiet states
+quiet_end base states quiet all none = record {
+  within = omega arith;
+  unchanged = changes_end base states quiet.link (omega arith);
+  free_is = none ∙ sym (free_end base quiet.link (omega arith));
+}
 
 -- the first links, and then the base
-pub quiet_rest : (base states after : Pattern) (i : ℕ) → i ≤ length base → length states ≡ length base → after ≡ take i states ++ drop i base → IsQuiet base i after
-quiet_rest base states after i within count is =
+pub quiet_rest : (base states after : Pattern) (quiet : Quiet) → quiet.link ≤ length base → length states ≡ length base → after ≡ take quiet.link states ++ drop quiet.link base → quiet.free ≡ free (drop quiet.link base)
+    → IsQuiet base quiet after
+quiet_rest base states after quiet within count is free_is =
+    let i : ℕ = quiet.link in
     let front : length (take i states) ≡ i = length-take-le i states (omega arith) in
     let rest : drop i after ≡ drop i base =
     ap (drop i) is ∙ subst (λ (n : ℕ). drop n (take i states ++ drop i base) ≡ drop i base) front (drop-append_seam (take i states) (drop i base)) in
-    record { within = within; unchanged = ap (changes (drop i base)) rest ∙ changes_self (drop i base) }
+    record { within = within; unchanged = ap (changes (drop i base)) rest ∙ changes_self (drop i base); free_is = free_is }
 
 -- the first links, and then such a rest
-pub quiet_behind : (base states rest after : Pattern) (i n : ℕ) → i ≤ length base → length states ≡ length base → after ≡ take i states ++ rest → IsQuiet (drop i base) n rest → IsQuiet base (i + n) after
-quiet_behind base states rest after i n within count is quiet =
+pub quiet_behind : (base states rest after : Pattern) (i : ℕ) (quiet behind : Quiet) → i ≤ length base → length states ≡ length base → after ≡ take i states ++ rest → IsQuiet (drop i base) quiet rest
+    → behind.link ≡ i + quiet.link → behind.free ≡ quiet.free → IsQuiet base behind after
+quiet_behind base states rest after i quiet behind within count is is_quiet link free_is =
+    let n : ℕ = quiet.link in
     let front : length (take i states) ≡ i = length-take-le i states (omega arith) in
     let same : drop (i + n) after ≡ drop n rest =
     ap (drop (i + n)) is ∙ subst (λ (k : ℕ). drop (k + n) (take i states ++ rest) ≡ drop n rest) front (drop-append-add (take i states) rest n) in
+    let from : drop n (drop i base) ≡ drop behind.link base = drop-drop n i base ∙ ap (λ (k : ℕ). drop k base) (sym link) in
     record {
-      within = (let w = quiet.within in let l = length-drop i base in omega arith);
-      unchanged = ap (changes (drop (i + n) base)) same ∙ (ap (λ (x : Pattern). changes x (drop n rest)) (sym (drop-drop n i base)) ∙ quiet.unchanged);
+      within = (let w = is_quiet.within in let l = length-drop i base in omega arith);
+      unchanged = ap (λ (k : ℕ). changes (drop k base) (drop k after)) link
+          ∙ (ap (changes (drop (i + n) base)) same ∙ (ap (λ (x : Pattern). changes x (drop n rest)) (sym (drop-drop n i base)) ∙ is_quiet.unchanged));
+      free_is = free_is ∙ (is_quiet.free_is ∙ ap free from);
     }
 
+-- so many links at most may differ
+pub free_few : (base : Pattern) → free base ≤ length base
+free_few [] = omega arith
+free_few (None ∷ base) = let w = free_few base in omega arith
+free_few (Some b ∷ base) = let w = free_few base in omega arith
+
 -- no link behind it can be raised with as many changes
-pub raised_up_to : (base : Pattern) (us : List Bool) (states after : Pattern) (quiet same : ℕ) (found : Option Raised) → quiet ≤ same → length states ≡ length base → IsQuiet base quiet states
-    → MatchOption found ((later quiet base us states ≡ None) × (after ≡ states)) (λ raised. (later quiet base us states ≡ Some after) × IsSameBefore quiet raised.link states after × IsQuiet base raised.quiet after)
+pub raised_up_to : (base : Pattern) (us : List Bool) (states after : Pattern) (quiet : Quiet) (same : ℕ) (found : Option Raised) → quiet.link ≤ same → length states ≡ length base → IsQuiet base quiet states
+    → MatchOption found ((later quiet.link base us states ≡ None) × (after ≡ states)) (λ raised. (later quiet.link base us states ≡ Some after) × IsSameBefore quiet.link raised.link states after × IsQuiet base raised.quiet after)
     → MatchOption found ((later same base us states ≡ None) × (after ≡ states)) (λ raised. (later same base us states ≡ Some after) × IsSameBefore same raised.link states after × IsQuiet base raised.quiet after)
-raised_up_to base us states after quiet same None few count is h = (later_up_to base us states quiet same few count is.unchanged ∙ h.0, h.1)
+raised_up_to base us states after quiet same None few count is h = (later_up_to base us states quiet.link same few count is.unchanged ∙ h.0, h.1)
 raised_up_to base us states after quiet same (Some raised) few count is h =
-    (later_up_to base us states quiet same few count is.unchanged ∙ h.0, (let l = h.1.0 in omega arith, h.1.1), h.2)
+    (later_up_to base us states quiet.link same few count is.unchanged ∙ h.0, (let l = h.1.0 in omega arith, h.1.1), h.2)

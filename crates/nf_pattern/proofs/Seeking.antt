@@ -3,16 +3,17 @@ use Rattle.std.proofs.Common.{◌≡◌, ℕ, ◌<◌, ◌≤◌, Bool, List, le
 use Rattle.std.specs.Prelude.{MatchBool, true, false}
 use Rattle.nf_model.specs.Pattern.{Pattern, IsBefore}
 use Rattle.nf_lists_laws.proofs.Listings.{IsBefore-asymmetric, IsBefore-transitive}
-use Rattle.nf_pattern.specs.Successor.{IsAssignment, IsQuiet, next_assignment}
+use Rattle.nf_pattern.specs.Successor.{IsAssignment, next_assignment}
 use Rattle.nf_pattern.specs.Given.{Question, IsQuestion, IsListedBy, IsBarren, IsFrom, IsFirstFrom, NoneFrom, AtStart, UpTo, IsNext, NoneLeft}
 use Rattle.nf_pattern.specs.declared.question.Stand.TheVariants.{Start}
+use Rattle.nf_pattern.specs.declared.assignments.Quiet.{Quiet}
 use Rattle.nf_pattern.specs.declared.trail.Trail.{Trail}
 use Rattle.nf_pattern.specs.Trail.{IsTrailOf}
 use Rattle.nf_pattern.specs.Stands.{IsStanding}
 use Rattle.nf_pattern.proofs.Choosing.{assigned_length, assignment_of}
 use Rattle.nf_pattern.proofs.Successors.{changes_few}
 use Rattle.nf_pattern.proofs.InOrder.{base_first, next_is, next_none, next_least}
-use Rattle.nf_pattern.proofs.Quiet.{quiet_base}
+use Rattle.nf_pattern.proofs.Quiet.{quiet_end}
 use Rattle.nf_pattern.proofs.Ranging.{before_or, left_after, fewer_left}
 
 -- no listed pattern from the start on comes before p
@@ -143,8 +144,9 @@ module _ (question : Question) (is : IsQuestion question) where
   match_after l q p n false h whole e none = none_left_after l h n whole q e none
 
 -- ---- where a listing begins
-pub standing_start : (question seen : Question) (current : Pattern) (trail : Trail) → question ≡ seen → IsQuestion seen → current ≡ seen.base → IsTrailOf question question.base trail → IsStanding question Start current trail 0
-standing_start question seen current trail same is at on_trail =
+pub standing_start : (question seen : Question) (current : Pattern) (trail : Trail) (quiet : Quiet) → question ≡ seen → IsQuestion seen → current ≡ seen.base → IsTrailOf question question.base trail
+    → quiet.link ≡ length seen.hops → quiet.free ≡ 0 → IsStanding question Start current trail quiet
+standing_start question seen current trail quiet same is at on_trail all none =
     let q : IsQuestion question = subst IsQuestion (sym same) is in
     let at_base : current ≡ question.base = at ∙ ap (λ (x : Question). x.base) (sym same) in
     record {
@@ -152,5 +154,6 @@ standing_start question seen current trail same is at on_trail =
       assigned = subst (λ (x : Pattern). IsAssignment question.base question.unbounded x) (sym at_base) (valid question q);
       start = λ _. at_base;
       on_trail = subst (λ (x : Pattern). IsTrailOf question x trail) (sym at_base) on_trail;
-      is_quiet = subst (λ (x : Pattern). IsQuiet question.base 0 x) (sym at_base) (quiet_base question.base);
+      is_quiet = quiet_end question.base current quiet
+          (all ∙ (ap (λ (x : Question). length x.hops) (sym same) ∙ sym (q.base.count ∙ q.active))) none;
     }

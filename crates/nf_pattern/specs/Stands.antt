@@ -1,9 +1,10 @@
 -- Where a listing stands.
-use Rattle.std.specs.Prelude.{◌≡◌, ℕ}
+use Rattle.std.specs.Prelude.{◌≡◌}
 use Rattle.nf_model.specs.Pattern.{Pattern}
 use Rattle.nf_pattern.specs.declared.question.Stand.{Stand}
 use Rattle.nf_pattern.specs.declared.question.Stand.TheVariants.{Start, Listed, End}
 use Rattle.nf_pattern.specs.Successor.{IsAssignment, IsQuiet}
+use Rattle.nf_pattern.specs.declared.assignments.Quiet.{Quiet}
 use Rattle.nf_pattern.specs.declared.trail.Trail.{Trail}
 use Rattle.nf_pattern.specs.Trail.{IsTrailOf}
 use Rattle.nf_pattern.specs.Given.{Question, IsQuestion, Last, AtStart, UpTo, AtEnd}
@@ -16,7 +17,7 @@ last_of End current = AtEnd
 
 -- a current assignment, which is the base at the start and later the listed pattern that was given last, a trail along it, and a
 -- link from which on nothing of it differs from the base
-pub record IsStanding (question : Question) (stand : Stand) (current : Pattern) (trail : Trail) (quiet : ℕ) : Type 0 where
+pub record IsStanding (question : Question) (stand : Stand) (current : Pattern) (trail : Trail) (quiet : Quiet) : Type 0 where
   pub is_question : IsQuestion question
   pub assigned : IsAssignment question.base question.unbounded current
   pub start : stand ≡ Start → current ≡ question.base

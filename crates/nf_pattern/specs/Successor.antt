@@ -3,6 +3,7 @@ use Rattle.std.specs.Prelude.{◌≡◌, ◌⊎◌, ℕ, suc, ◌+◌, ◌-◌, 
 use Rattle.nf_model.specs.declared.State.{State}
 use Rattle.nf_model.specs.declared.State.TheVariants.{Tight, Full, Zero}
 use Rattle.nf_model.specs.Pattern.{Pattern, rank, changes}
+use Rattle.nf_pattern.specs.declared.assignments.Quiet.{Quiet}
 
 -- the states that a link may have, in order: none where the base has none, and Full for no unbounded link
 abbrev pub choices : Option State → Bool → List (Option State)
@@ -75,10 +76,11 @@ pub record RaisesAt (base : Pattern) (unbounded : List Bool) (states : Pattern) 
 abbrev pub IsSameBefore : ℕ → ℕ → Pattern → Pattern → Type 0
 IsSameBefore same e states after = (e ≤ same - 1) × (take e after ≡ take e states)
 
--- nothing differs from the base from link n on
-pub record IsQuiet (base : Pattern) (n : ℕ) (states : Pattern) : Type 0 where
-  pub within : n ≤ length base
-  pub unchanged : changes (drop n base) (drop n states) ≡ 0
+-- from a link on nothing differs from the base, and so many of the links from there on may
+pub record IsQuiet (base : Pattern) (quiet : Quiet) (states : Pattern) : Type 0 where
+  pub within : quiet.link ≤ length base
+  pub unchanged : changes (drop quiet.link base) (drop quiet.link states) ≡ 0
+  pub free_is : quiet.free ≡ free (drop quiet.link base)
 
 -- the next assignment with equally many changes that isn't the same up to this link
 abbrev pub later : ℕ → Pattern → List Bool → Pattern → Option Pattern

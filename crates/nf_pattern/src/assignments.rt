@@ -6,12 +6,18 @@ ghost use Rattle.nf_pattern.specs.Successor.{IsAssignment, free, earliest, later
 use crate::choice::{change, first_choice, next_choice};
 use nf_model::State;
 
-// What a step to a later assignment tells: the link up to which it is the same as before, and from which link on nothing differs
-// from the base.
+// From which link on nothing differs from the base, and how many of the links from there on may.
+#[derive(Clone, Copy, Debug)]
+pub(crate) struct Quiet {
+    pub(crate) link: usize,
+    pub(crate) free: u32,
+}
+
+// What a step to a later assignment tells: the link up to which it is the same as before, and where it is quiet.
 #[derive(Clone, Copy)]
 pub(crate) struct Raised {
     pub(crate) link: usize,
-    pub(crate) quiet: usize,
+    pub(crate) quiet: Quiet,
 }
 
 // The links from this one on are as in the base.
@@ -23,14 +29,14 @@ fn copy_rest(states: &mut [Option<State>], base: &[Option<State>], link: usize)
     states[link..].copy_from_slice(&base[link..]);
 }
 
-// The earliest assignment with so many changes, where `more` links may differ from the base; and from which link on nothing does.
+// The earliest assignment with so many changes, where `more` links may differ from the base; and where it is quiet.
 fn fill(
     states: &mut [Option<State>],
     base: &[Option<State>],
     unbounded: &[bool],
     changes: u32,
     more: u32,
-) -> usize
+) -> Quiet
     requires states { length states.old ≡ length base.now }
     requires unbounded { length unbounded.now ≡ length base.now }
     requires valid { IsAssignment base.now unbounded.now base.now }
@@ -44,7 +50,10 @@ fn fill(
     for i in 0..base.len() {
         if left == 0 {
             copy_rest(states, base, i);
-            return i;
+            return Quiet {
+                link: i,
+                free: later,
+            };
         }
         let link = base[i];
         later = later.saturating_sub(change(None, link));
@@ -53,11 +62,14 @@ fn fill(
             left -= change(link, state);
         }
     }
-    base.len()
+    Quiet {
+        link: base.len(),
+        free: 0,
+    }
 }
 
-// This link gets its next state with so many changes from it on, and the links after it the earliest ones; and from which link on
-// nothing differs from the base then. None where it has no such state. `more` of the links after it may differ from the base.
+// This link gets its next state with so many changes from it on, and the links after it the earliest ones; and where it is quiet then.
+// None where it has no such state. `more` of the links after it may differ from the base.
 fn raise_at(
     states: &mut [Option<State>],
     base: &[Option<State>],
@@ -65,7 +77,7 @@ fn raise_at(
     link: usize,
     changes: u32,
     more: u32,
-) -> Option<usize>
+) -> Option<Quiet>
     requires link { link < length base.now }
     requires states { length states.old ≡ length base.now }
     requires unbounded { length unbounded.now ≡ length base.now }
@@ -88,19 +100,23 @@ fn raise_at(
                 left,
                 more,
             );
-            Some(after + quiet)
+            Some(Quiet {
+                link: after + quiet.link,
+                free: quiet.free,
+            })
         }
     }
 }
 
-// The next assignment with equally many changes that isn't the same up to this link, from which on there are so many changes; None
-// where there is none.
+// The next assignment with equally many changes that isn't the same up to this link, from which on there are so many changes and may be
+// so many; None where there is none.
 fn raise_from(
     states: &mut [Option<State>],
     base: &[Option<State>],
     unbounded: &[bool],
     same: usize,
     changes: u32,
+    more: u32,
 ) -> Option<Raised>
     requires same { same ≤ length base.now }
     requires states { length states.old ≡ length base.now }
@@ -108,12 +124,13 @@ fn raise_from(
     requires fewer { length base.now < 2 ^ 32 }
     requires valid { IsAssignment base.now unbounded.now base.now }
     requires counted { changes ≡ changes_of (drop same base.now) (drop same states.old) }
+    requires free { more ≡ free (drop same base.now) }
     ensures { MatchOption result ((later same base.now unbounded.now states.old ≡ None) × (states.new ≡ states.old))
         (λ raised. (later same base.now unbounded.now states.old ≡ Some states.new) × IsSameBefore same raised.link states.old states.new
         × IsQuiet base.now raised.quiet states.new) }
 {
     let mut changes = changes;
-    let mut more = count_free(&base[same..]);
+    let mut more = more;
     let mut i = same;
     while i > 0 {
         i -= 1;
@@ -126,14 +143,14 @@ fn raise_from(
     None
 }
 
-// The next assignment with equally many changes that isn't the same up to this link; None where there is none. Behind the link from
-// which on nothing differs from the base, no link can be raised.
+// The next assignment with equally many changes that isn't the same up to this link; None where there is none. Where it is quiet no
+// link can be raised.
 fn raise(
     states: &mut [Option<State>],
     base: &[Option<State>],
     unbounded: &[bool],
     same: usize,
-    quiet: usize,
+    quiet: Quiet,
 ) -> Option<Raised>
     requires same { same ≤ length base.now }
     requires states { length states.old ≡ length base.now }
@@ -145,11 +162,12 @@ fn raise(
         (λ raised. (later same base.now unbounded.now states.old ≡ Some states.new) × IsSameBefore same raised.link states.old states.new
         × IsQuiet base.now raised.quiet states.new) }
 {
-    if quiet <= same {
-        raise_from(states, base, unbounded, quiet, 0)
+    if quiet.link <= same {
+        raise_from(states, base, unbounded, quiet.link, 0, quiet.free)
     } else {
         let changes = count_changes(&base[same..], &states[same..]);
-        raise_from(states, base, unbounded, same, changes)
+        let more = count_free(&base[same..]);
+        raise_from(states, base, unbounded, same, changes, more)
     }
 }
 
@@ -186,7 +204,7 @@ pub(crate) fn advance(
     base: &[Option<State>],
     unbounded: &[bool],
     same: usize,
-    quiet: usize,
+    quiet: Quiet,
 ) -> Option<Raised>
     requires same { same ≤ length base.now }
     requires states { length states.old ≡ length base.now }

@@ -1,4 +1,5 @@
 // The listed patterns of a phase, one after the other.
+use crate::assignments::Quiet;
 use crate::pattern::Pattern;
 use crate::question::{Question, Stand};
 use crate::trail::Trail;
@@ -15,7 +16,7 @@ pub struct Patterns {
     question: Question,
     current: Pattern,
     trail: Trail,
-    quiet: usize,
+    quiet: Quiet,
     stand: Stand,
     place: u64,
 }
@@ -65,11 +66,15 @@ impl Patterns {
         let question = Question::new(alloc, nodes, source, hops, sets, base, unbounded)?;
         let current = base.copy(alloc)?;
         let trail = question.trail(alloc)?;
+        let quiet = Quiet {
+            link: hops.len(),
+            free: 0,
+        };
         Ok(Patterns {
             question,
             current,
             trail,
-            quiet: 0,
+            quiet,
             stand: Stand::Start,
             place: 0,
         })

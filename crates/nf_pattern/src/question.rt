@@ -1,7 +1,7 @@
 // What a listing is of, and the way from one listed pattern to the next.
 ghost use Rattle.std.specs.Prelude.{◌≡◌, ◌^◌, ◌<◌, length, IfOk};
 
-use crate::assignments::advance;
+use crate::assignments::{Quiet, advance};
 use crate::pattern::Pattern;
 use crate::trail::Trail;
 use nf_graph::{Hop, LinkId, LinkSets, NodeId};
@@ -140,9 +140,9 @@ impl Question {
         Some(trail.depth() + 1)
     }
 
-    // The next assignment that isn't the same up to this link, and a link up to which it is; None where there is none. `quiet` is the
-    // link from which on nothing differs from the base.
-    fn advance(&self, states: &mut [Option<State>], same: usize, quiet: &mut usize) -> Option<usize>
+    // The next assignment that isn't the same up to this link, and a link up to which it is; None where there is none. `quiet` is
+    // kept up with it.
+    fn advance(&self, states: &mut [Option<State>], same: usize, quiet: &mut Quiet) -> Option<usize>
         requires assigned { IsAssignment self.now.base self.now.unbounded states.old }
         requires same { same ≤ length self.now.base }
         requires quiet { IsQuiet self.now.base quiet.old states.old }
@@ -164,7 +164,7 @@ impl Question {
     }
 
     // On to the first listed pattern from this assignment on; whether there is one.
-    fn seek(&self, states: &mut [Option<State>], trail: &mut Trail, quiet: &mut usize) -> bool
+    fn seek(&self, states: &mut [Option<State>], trail: &mut Trail, quiet: &mut Quiet) -> bool
         requires question { IsQuestion self.now }
         requires assigned { IsAssignment self.now.base self.now.unbounded states.old }
         requires trail { IsTrailOf self.now states.old trail.old }
@@ -184,7 +184,7 @@ impl Question {
     }
 
     // From the base on to the first listed pattern; whether there is one.
-    fn first(&self, states: &mut [Option<State>], trail: &mut Trail, quiet: &mut usize) -> bool
+    fn first(&self, states: &mut [Option<State>], trail: &mut Trail, quiet: &mut Quiet) -> bool
         requires question { IsQuestion self.now }
         requires base { states.old ≡ self.now.base }
         requires trail { IsTrailOf self.now states.old trail.old }
@@ -198,7 +198,7 @@ impl Question {
     }
 
     // From a listed pattern on to the next one; whether there is one.
-    fn after(&self, states: &mut [Option<State>], trail: &mut Trail, quiet: &mut usize) -> bool
+    fn after(&self, states: &mut [Option<State>], trail: &mut Trail, quiet: &mut Quiet) -> bool
         requires question { IsQuestion self.now }
         requires assigned { IsAssignment self.now.base self.now.unbounded states.old }
         requires trail { IsTrailOf self.now states.old trail.old }
@@ -224,7 +224,7 @@ impl Question {
         stand: Stand,
         states: &mut [Option<State>],
         trail: &mut Trail,
-        quiet: &mut usize,
+        quiet: &mut Quiet,
     ) -> bool
         requires question { IsQuestion self.now }
         requires assigned { IsAssignment self.now.base self.now.unbounded states.old }

@@ -36,12 +36,12 @@ loop-i-preserved c =
 pub returns : goal.returns
 returns c = record {
   filled = all_filled c.args.base.now c.args.unbounded.now c.args.changes c.loop-i.states c.loop-i.i c.loop-i.left c.loop-i.later (omega arith) c.loop-i.invariant.filled;
-  quiet = quiet_end c.args.base.now c.loop-i.states _ refl;
+  quiet = quiet_end c.args.base.now c.loop-i.states _ refl refl;
 }
 
 pub returns-then-left-eq0 : goal.returns-then-left-eq0
 returns-then-left-eq0 c = record {
   filled = rest_filled c.args.base.now c.args.unbounded.now c.args.changes c.loop-i.states c.loop-i.i c.loop-i.left c.loop-i.later c.if-left-eq0.true c.loop-i.invariant.filled
       ∙ ap (λ (x : Pattern). Some x) (sym c.copy_rest.ensures);
-  quiet = quiet_rest c.args.base.now c.loop-i.states c.copy_rest.new.states c.loop-i.i (omega arith) c.loop-i.invariant.filled.count c.copy_rest.ensures;
+  quiet = quiet_rest c.args.base.now c.loop-i.states c.copy_rest.new.states _ (omega arith) c.loop-i.invariant.filled.count c.copy_rest.ensures c.loop-i.invariant.filled.all_free;
 }

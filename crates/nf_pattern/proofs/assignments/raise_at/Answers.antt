@@ -34,10 +34,9 @@ returns-in-Some c =
     ∙ ap (λ (n : ℕ). take n (set c.args.states.now c.args.link c.in-Some.state) ++ c.fill-quiet.new.states) (add-one c.args.link) in (
       raises c.args.base.now c.args.unbounded.now c.args.states.now c.args.link c.args.changes c.args.more c.requires.free c.in-Some.state c.fill-quiet.new.states _ c.change.result
           (let r = c.requires.states in let l = c.requires.link in omega arith) (sym c.in-Some.is ∙ c.next_choice.ensures) c.change.ensures.value filled stays,
-      subst (λ (n : ℕ). IsQuiet c.args.base.now (n + c.fill-quiet.result) (put_mid (c.args.link + 1) (length (set c.args.states.now c.args.link c.in-Some.state) - (c.args.link + 1)) (set c.args.states.now c.args.link c.in-Some.state) c.fill-quiet.new.states)) (sym (add-one c.args.link))
-          (quiet_behind c.args.base.now (set c.args.states.now c.args.link c.in-Some.state) c.fill-quiet.new.states _ (suc c.args.link) c.fill-quiet.result (let l = c.requires.link in omega arith)
+      quiet_behind c.args.base.now (set c.args.states.now c.args.link c.in-Some.state) c.fill-quiet.new.states _ (suc c.args.link) c.fill-quiet.result _ (let l = c.requires.link in omega arith)
           (length-set c.args.states.now c.args.link c.in-Some.state ∙ c.requires.states) stays
-          (subst (λ (x : Pattern). IsQuiet x c.fill-quiet.result c.fill-quiet.new.states) (from_one c.args.base.now c.args.link) c.fill-quiet.ensures.quiet)),
+          (subst (λ (x : Pattern). IsQuiet x c.fill-quiet.result c.fill-quiet.new.states) (from_one c.args.base.now c.args.link) c.fill-quiet.ensures.quiet) (omega arith) refl,
     )
 
 pub returns-in-None : goal.returns-in-None

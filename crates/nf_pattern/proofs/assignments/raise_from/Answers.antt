@@ -1,18 +1,18 @@
-use Rattle.std.proofs.Common.{◌≡◌, ◌<◌, ◌≤◌, ◌+◌, ◌-◌, length, get_or, drop, None, ap, subst, refl, ◌∙◌, arith}
+use Rattle.std.proofs.Common.{◌≡◌, ◌<◌, ◌+◌, ◌-◌, length, get_or, drop, None, ap, subst, refl, ◌∙◌, arith}
 use Rattle.nf_model.specs.Pattern.{Pattern}
-use Rattle.nf_pattern.specs.Successor.{change, free, RaisesAt, raised_at}
+use Rattle.nf_pattern.specs.Successor.{change, RaisesAt, raised_at}
 use Rattle.nf_pattern.proofs.Counting.{few_changes}
-use Rattle.nf_pattern.proofs.Raising.{last_from, from_here, free_behind, raised_later, raised_same, last_kept, last_all}
+use Rattle.nf_pattern.proofs.Quiet.{free_few}
+use Rattle.nf_pattern.proofs.Raising.{last_from, free_behind, raised_later, raised_same, last_kept, last_all}
 use Rattle.nf_pattern.proofs.assignments.raise_from.Goals as goal
 
 pub loop-i-init : goal.loop-i-init
 loop-i-init c = record {
   kept = refl;
   below = omega arith;
-  last = last_from c.args.base.now c.args.unbounded.now c.args.states.now c.args.same c.args.changes c.count_free-more.result c.requires.same
+  last = last_from c.args.base.now c.args.unbounded.now c.args.states.now c.args.same c.args.changes c.args.more c.requires.same
       c.requires.counted (few_changes (drop c.args.same c.args.base.now) (drop c.args.same c.args.states.now) c.args.changes c.requires.counted)
-      (c.count_free-more.ensures.free ∙ ap free (from_here c.args.base.now c.args.same))
-      (subst (λ (x : Pattern). c.count_free-more.result ≤ length x) (from_here c.args.base.now c.args.same) c.count_free-more.ensures.few);
+      c.requires.free (let f = c.requires.free in let few = free_few (drop c.args.same c.args.base.now) in omega arith);
 }
 
 pub slice_copy_out-change : goal.slice_copy_out-change

@@ -1,8 +1,9 @@
+use Rattle.std.proofs.Common.{refl}
 use Rattle.nf_pattern.proofs.Seeking.{standing_start}
 use Rattle.nf_pattern.proofs.patterns.Patterns.new.Goals as goal
 
 pub invariant_of-result : goal.invariant_of-result
-invariant_of-result c = standing_start c.in_ok-question.question _ c.in_ok-current.current c.in_ok-trail.trail c.in_ok-question.ensures
+invariant_of-result c = standing_start c.in_ok-question.question _ c.in_ok-current.current c.in_ok-trail.trail _ c.in_ok-question.ensures
     (record {
       ends = c.requires.ends;
       active = c.requires.active;
@@ -12,4 +13,4 @@ invariant_of-result c = standing_start c.in_ok-question.question _ c.in_ok-curre
       fewer = c.requires.fewer;
       nodes = c.ranges.nodes.fits;
     })
-    c.in_ok-current.ensures c.in_ok-trail.ensures
+    c.in_ok-current.ensures c.in_ok-trail.ensures refl refl
