@@ -7,9 +7,11 @@ ghost use Rattle.nf_equation_laws.specs.Equations.{IsPatternIn};
 ghost use Rattle.nf_thin.specs.Trying.{AreValuesOf};
 ghost use Rattle.nf_thin.specs.Guessing.{IsSolved};
 
+use crate::group_slopes::number_or_zero;
 use crate::group_values::group_values;
 use crate::groups::Groups;
 use crate::led::may_carry;
+use crate::node_groups::tight_groups;
 use crate::trying::pattern_values;
 use nf_frac::{Halt, Q};
 use nf_graph::{LinkId, LinkSets};
@@ -27,15 +29,6 @@ pub(crate) struct SolvedPattern {
 
 // How often a pattern is repaired at most.
 const MOST_REPAIRS: u32 = 64;
-
-// The value of an unknown, and 0 beyond the last.
-fn value_at(values: &[Q], place: usize) -> Q {
-    if place < values.len() {
-        values[place]
-    } else {
-        Q::zero()
-    }
-}
 
 // The values that solve the table of a pattern. None where not just one does, or an operation passes.
 fn values_of(
@@ -136,7 +129,11 @@ fn loosen_link(
         return change(net, sets, pattern, link, State::Zero);
     }
     let here = net.link(link);
-    if !overfills(here.capacity, flow, value_at(values, here.head.index())) {
+    if !overfills(
+        here.capacity,
+        flow,
+        number_or_zero(values, here.head.index()),
+    ) {
         return false;
     }
     change(net, sets, pattern, link, State::Full)
@@ -152,7 +149,14 @@ fn loosen(net: &Network, sets: &LinkSets, values: &[Q], pattern: &mut Pattern) -
     for e in 0..net.link_count() {
         let link = LinkId(e);
         if sets.active(link) {
-            if loosen_link(net, sets, values, value_at(values, column), link, pattern) {
+            if loosen_link(
+                net,
+                sets,
+                values,
+                number_or_zero(values, column),
+                link,
+                pattern,
+            ) {
                 changes = true;
             }
             column += 1;
@@ -176,8 +180,8 @@ fn tighten_link(
     ensures { IsPatternIn net.now.net sets.now pattern.new }
 {
     let here = net.link(link);
-    let tail_slope = value_at(values, here.tail.index());
-    let head_slope = value_at(values, here.head.index());
+    let tail_slope = number_or_zero(values, here.tail.index());
+    let head_slope = number_or_zero(values, here.head.index());
     let breaks = match pattern.state(link) {
         Some(State::Full) => head_slope < tail_slope,
         Some(State::Zero) => tail_slope < head_slope,
@@ -187,20 +191,6 @@ fn tighten_link(
         return false;
     }
     change(net, sets, pattern, link, State::Tight)
-}
-
-// The nodes that Tight links join.
-fn tight_groups(alloc: Global, net: &Network, pattern: &Pattern) -> Result<Groups, AllocError>
-    requires { length pattern.now ≡ length net.now.net.links }
-{
-    let mut groups = Groups::new(alloc, net.node_count())?;
-    for e in 0..net.link_count() {
-        let here = net.link(LinkId(e));
-        if let Some(State::Tight) = pattern.state(LinkId(e)) {
-            groups.join(here.tail, here.head);
-        }
-    }
-    Ok(groups)
 }
 
 // All Full and Zero links that break their inequalities, in link order; whether one changes.
@@ -214,7 +204,9 @@ fn tighten(
     requires { IsPatternIn net.now.net sets.now pattern.old }
     ensures { IsPatternIn net.now.net sets.now pattern.new }
 {
-    let mut groups = tight_groups(alloc, net, pattern)?;
+    let Some(mut groups) = tight_groups(alloc, net, sets, pattern)? else {
+        return Ok(false);
+    };
     let mut changes = false;
     for e in 0..net.link_count() {
         if tighten_link(net, sets, values, LinkId(e), &mut groups, pattern) {
