@@ -57,14 +57,6 @@ pub by_fault : {A E : Type 0} (r : Result A E) (e : E) (P : E → Type 0) → Is
 by_fault (Ok x) e P h p = tt
 by_fault (Err x) e P h p = subst P (sym h) p
 
--- ---- a search here, in place of one from a base
-pub search_here : (P Q : Answer → Type 0) → ((a : Answer) → P a → Q a) → (budget : ℕ) (r : Result Thin SearchFault) → Searches P budget r → Searches Q budget r
-search_here P Q f budget (Ok thin) h = f _ h
-search_here P Q f budget (Err (SearchFault.Budget tried)) h = (h.0, f _ h.1)
-search_here P Q f budget (Err (SearchFault.Passed place at)) h = f _ h
-search_here P Q f budget (Err SearchFault.NoPattern) h = f _ h
-search_here P Q f budget (Err SearchFault.Memory) h = tt
-
 module _ (passes : Passing) (net : Network) (horizon : ℚ) (patterns : ℕ) (s : Standing) where
   -- ---- the slack list
   pub slack_cause : (below : s.time <ℚ horizon) (halt : Halt ℚ) → Stops {A = List ℚ} (λ q. q) halt (at_part Slack (slack_list passes (hops net) s.labels)) → IsCause passes net horizon patterns s (of_halt halt)
