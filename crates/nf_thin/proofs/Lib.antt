@@ -23,3 +23,6 @@ pub mod SourceRow
 pub mod Leading
 pub mod AllowedStates
 pub mod Changing
+pub mod Within
+pub mod Balances
+pub mod Refusing

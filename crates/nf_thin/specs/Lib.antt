@@ -5,4 +5,6 @@ pub mod Guessing
 pub mod Filling
 pub mod Slopes
 pub mod Allowing
+pub mod Ranges
+pub mod Balancing
 pub mod Sifting

@@ -13,7 +13,9 @@ use Rattle.nf_thin.specs.declared.searches.SearchFault.{SearchFault}
 use Rattle.nf_thin.specs.declared.known.Known.{Known}
 use Rattle.nf_thin.specs.declared.sifting.Guide.{Guide}
 use Rattle.nf_thin.specs.declared.sifting.Sifted.{Sifted}
+use Rattle.nf_thin.specs.Slopes.{AreSlopesOfListed}
 use Rattle.nf_thin.specs.Allowing.{AllowSolvable}
+use Rattle.nf_thin.specs.Balancing.{full_by}
 use Rattle.nf_thin.specs.Searching.{Searches, Noted, IsFound}
 
 -- a known pattern is accepted, with its flows and slopes as the solution
@@ -34,6 +36,8 @@ pub record Guides (passes : Passing) (net : Network) (sets : Sets) (rate : ℚ) 
   pub allowed : AllowSolvable net sets rate guide.allowed.items
   pub count : length guide.allowed.items ≡ length net.links
   pub known : IsKnown passes net sets rate guide.known
+  pub slopes : AreSlopesOfListed net sets rate guide.known.slopes.items
+  pub full : guide.full.items ≡ full_by passes net guide.known.slopes.items
 
 -- the answer of the definition, if there is one, unless memory is wanting
 abbrev pub Sifts : (Answer → Type 0) → ℕ → Result (Option Thin) SearchFault → Type 0

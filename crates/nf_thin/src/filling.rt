@@ -66,8 +66,8 @@ fn leaves_less_enters(link: Link, node: NodeId) -> Q
     unit(link.tail == node, link.head == node)
 }
 
-// What leaves a node beyond what enters it.
-fn surplus(source: NodeId, rate: Q, node: NodeId) -> Q
+/// What leaves a node beyond what enters it.
+pub(crate) fn surplus(source: NodeId, rate: Q, node: NodeId) -> Q
     ensures { result ≡ (if node == source then rate else 0ℚ) }
 {
     if node == source { rate } else { Q::zero() }

@@ -16,8 +16,12 @@ mod guess;
 mod known;
 mod led;
 mod node_groups;
+mod node_test;
+#[cfg(test)]
+mod node_test_tests;
 #[cfg(test)]
 mod phases;
+mod ranges;
 #[cfg(test)]
 mod search_tests;
 mod searches;

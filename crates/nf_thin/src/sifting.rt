@@ -3,6 +3,7 @@ ghost use Rattle.std.specs.Prelude.{◌≡◌, ◌≤◌, IfOk, IfSome};
 ghost use Rattle.nf_work.specs.Passing.{bound_of, beyond};
 ghost use Rattle.nf_model.specs.Network.{IsNetwork, unbounded as unbounded_of};
 ghost use Rattle.nf_model.specs.Pattern.{IsPattern, IsListedIn};
+ghost use Rattle.nf_lists.specs.Accepted.{IsAccepted};
 ghost use Rattle.nf_lists.specs.Search.{IsSearch};
 ghost use Rattle.nf_equation_laws.specs.Equations.{IsPatternIn};
 ghost use Rattle.nf_thin.specs.Searching.{AreSetsOf, AsksOf};
@@ -13,6 +14,7 @@ use crate::first::first_listed;
 use crate::guess::guess;
 use crate::known::{Known, try_or_know};
 use crate::led::{hold_no_cycle, known_by};
+use crate::node_test::{balances, full_flows};
 use crate::searches::{SearchFault, Thin, Vain, listing};
 use nf_frac::Q;
 use nf_graph::{LinkId, LinkSets};
@@ -20,15 +22,17 @@ use nf_net::Network;
 use nf_pattern::{Pattern, Patterns};
 use std::alloc::{AllocError, Global};
 
-// What slopes of a thin flow tell of the list: the states that they allow, and a pattern that is known to be accepted.
+// What slopes of a thin flow tell of the list: the states that they allow, the flows that fill links, and a pattern that is known to be
+// accepted.
 #[derive(Drop)]
 struct Guide {
     allowed: Vec<Allowed>,
+    full: Vec<Option<Q>>,
     known: Known,
 }
 
-// Patterns counted: those that were tried, in vain, and whether others were passed over; and the link for which the last one was, since
-// patterns that follow each other mostly have the same state there.
+// Patterns counted: those that were tried, in vain, and whether others were passed over; and the link for whose state the last one was,
+// since patterns that follow each other mostly have the same state there.
 #[derive(Clone, Copy)]
 struct Sifted {
     vain: Vain,
@@ -36,7 +40,32 @@ struct Sifted {
     last: LinkId,
 }
 
-// The next pattern is passed over where one of its states isn't allowed, and else tried.
+// Where it is seen without a table that the pattern isn't accepted, a link that the next one is likely to be passed over for: one whose
+// state isn't allowed; or the likely link again, where only the balance of a node can't be met.
+fn refusing_link(
+    net: &Network,
+    sets: &LinkSets,
+    rate: Q,
+    guide: &Guide,
+    pattern: &Pattern,
+    likely: LinkId,
+) -> Option<LinkId>
+    requires pattern { IsPatternIn net.now.net sets.now pattern.now }
+    requires listed { IsListedIn net.now.net sets.now pattern.now }
+    requires guide { Guides (beyond (bound_of 127)) net.now.net sets.now rate guide.now }
+    ensures { IfSome result (λ _. IsAccepted (beyond (bound_of 127)) net.now.net sets.now rate pattern.now → ⊥) }
+{
+    if let Some(link) = forbidden_link(net, &guide.allowed, pattern, likely) {
+        return Some(link);
+    }
+    if balances(net, sets, rate, &guide.full, pattern) {
+        None
+    } else {
+        Some(likely)
+    }
+}
+
+// The next pattern is passed over where one of its states isn't allowed or the balance of a node can't be met, and else tried.
 fn sift_next(
     alloc: Global,
     net: &Network,
@@ -53,14 +82,13 @@ fn sift_next(
     requires within { sifted.old.vain.tried ≤ budget }
     ensures { SiftsNext (beyond (bound_of 127)) net.now.net sets.now rate budget pattern.now sifted.old sifted.new result }
 {
-    let Guide { allowed, known } = guide;
-    let Some(link) = forbidden_link(net, allowed, pattern, sifted.last) else {
+    let Some(link) = refusing_link(net, sets, rate, guide, pattern, sifted.last) else {
         return try_or_know(
             alloc,
             net,
             sets,
             rate,
-            known,
+            &guide.known,
             pattern,
             budget,
             &mut sifted.vain,
@@ -75,8 +103,8 @@ fn sift_next(
     Ok(None)
 }
 
-// The list is gone through from its start on, and what isn't allowed passed over. None where no pattern is accepted and some were
-// passed over.
+// The list is gone through from its start on, and what is seen not to be accepted is passed over. None where no pattern is accepted and
+// some were passed over.
 fn sift(
     alloc: Global,
     net: &Network,
@@ -135,7 +163,12 @@ fn guide_of(
         return Ok(None);
     };
     let allowed = allowed_by(alloc, net, &known.slopes)?;
-    Ok(Some(Guide { allowed, known }))
+    let full = full_flows(alloc, net, &known.slopes)?;
+    Ok(Some(Guide {
+        allowed,
+        full,
+        known,
+    }))
 }
 
 /// The search by the slopes of a thin flow, which are guessed from the first listed pattern on. None where it comes to no end: no such

@@ -8,6 +8,8 @@ use Rattle.nf_thin.specs.Slopes.{AreThinSlopes}
 use Rattle.nf_thin.specs.Sifting.{IsKnown}
 use Rattle.nf_thin.specs.Allowing.{flags_by, AllowSolvable}
 use Rattle.nf_thin.proofs.AllowedStates.{flags_count, slopes_allow}
+use Rattle.nf_thin.specs.Balancing.{full_by}
+use Rattle.nf_thin.proofs.Refusing.{slopes_of_listed}
 use Rattle.nf_thin.proofs.sifting.guide_of.Goals as goal
 
 pub returns : goal.returns
@@ -20,4 +22,7 @@ returns c =
           (slopes_allow c.args.net.now.net c.args.sets.now c.args.rate c.in-Some-2.known.slopes.items c.requires.first.network c.requires.sets.sets_are (c.in_ok-hold_no_cycle.ensures c.if-not-branch.false) thin);
       count = ap (λ (allowed : List Allowed). length allowed) allowed_are ∙ flags_count c.args.net.now.net c.in-Some-2.known.slopes.items;
       known = known;
+      slopes = slopes_of_listed c.args.net.now.net c.args.sets.now c.args.rate c.in-Some-2.known.slopes.items c.requires.first.network c.requires.sets.sets_are
+          (c.in_ok-hold_no_cycle.ensures c.if-not-branch.false) thin;
+      full = c.in_ok-full.ensures ∙ ap (λ (slopes : List ℚ). full_by (beyond (bound_of 127)) c.args.net.now.net slopes) c.deref-2.ensures.value;
     }

@@ -1,0 +1,29 @@
+-- Listed patterns that are seen not to be accepted, where the slopes of a thin flow are known.
+use Rattle.std.proofs.Common.{◌≡◌, List, sym, ap, ◌∙◌}
+use Rattle.std.specs.Prelude.{Option}
+use Rattle.nf_rational.specs.Rational.{ℚ}
+use Rattle.nf_work.specs.Passing.{Passing}
+use Rattle.nf_model.specs.Network.{Network, IsNetwork}
+use Rattle.nf_model.specs.ThinFlow.{Sets}
+use Rattle.nf_model.specs.Pattern.{Pattern, IsListedIn, IsSolvable}
+use Rattle.nf_thin_laws.specs.ActiveLinks.{AreSets, HoldNoCycle}
+use Rattle.nf_thin_laws.proofs.States.{slopes-same}
+use Rattle.nf_thin.specs.Slopes.{AreThinSlopes, AreSlopesOfListed}
+use Rattle.nf_thin.specs.Balancing.{full_by, CanFlow}
+
+-- the slopes of a thin flow are those of each solution of a listed pattern
+pub slopes_of_listed : (net : Network) (sets : Sets) (rate : ℚ) (slopes : List ℚ) → IsNetwork net → AreSets net sets → HoldNoCycle net sets → AreThinSlopes net sets rate slopes
+    → AreSlopesOfListed net sets rate slopes
+slopes_of_listed net sets rate slopes good are acyclic thin pattern flows other listed solves meets =
+    slopes-same net sets rate thin.0 slopes pattern good are acyclic thin.1 listed flows other solves meets
+
+module _ (net : Network) (sets : Sets) (rate : ℚ) (pattern : Pattern) (listed : IsListedIn net sets pattern) (solvable : IsSolvable net sets rate pattern) where
+  -- flows of its solution are such as there can be
+  pub can_flow : (passes : Passing) (slopes : List ℚ) (full : List (Option ℚ)) → AreSlopesOfListed net sets rate slopes → full ≡ full_by passes net slopes
+      → CanFlow passes net sets rate pattern full solvable.flows
+  can_flow passes slopes full only is = record {
+    slopes = solvable.slopes;
+    full_are = is ∙ ap (full_by passes net) (sym (only pattern solvable.flows solvable.slopes listed solvable.solution.solves solvable.solution.meets));
+    solves = solvable.solution.solves;
+    meets = solvable.solution.meets;
+  }

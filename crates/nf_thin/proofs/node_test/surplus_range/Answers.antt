@@ -1,0 +1,14 @@
+use Rattle.std.proofs.Common.{subst, add-one, arith}
+use Rattle.nf_thin.specs.Ranges.{IsWithin}
+use Rattle.nf_thin.proofs.Balances.{none_sent, surplus_of_all}
+use Rattle.nf_thin.proofs.node_test.surplus_range.Goals as goal
+
+pub loop-e-init : goal.loop-e-init
+loop-e-init c rate flows can = c.just-range.ensures _ (none_sent c.args.net.now.net flows c.args.node c.zero.result c.zero.ensures)
+
+pub loop-e-preserved : goal.loop-e-preserved
+loop-e-preserved c = rw (add-one c.loop-e.e) c.with_link-range.ensures
+
+pub returns : goal.returns
+returns c rate flows can = subst (IsWithin c.loop-e.range)
+    (surplus_of_all c.args.net.now.net flows c.args.node c.loop-e.e (let n = c.link_count-e-end.ensures in let t = c.loop-e-test.false in omega arith)) (c.loop-e.invariant rate flows can)

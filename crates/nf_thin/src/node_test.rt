@@ -1,0 +1,156 @@
+// Whether the links at each node can carry what the node needs, where slopes are known: a pattern of which one can't isn't accepted, and
+// no table is needed to see it.
+ghost use Rattle.std.specs.Prelude.{◌≡◌, ◌≢◌, ◌<◌, ℕ, suc, true, List, length, IfOk};
+ghost use Rattle.nf_rational.specs.Rational.{ℚ};
+ghost use Rattle.nf_work.specs.Passing.{bound_of, beyond};
+ghost use Rattle.nf_model.specs.Entries.{number_at};
+ghost use Rattle.nf_model.specs.Network.{Network as SeenNetwork, Link as SeenLink, IsLink};
+ghost use Rattle.nf_model.specs.ThinFlow.{surplus as surplus_of};
+ghost use Rattle.nf_thin.specs.Ranges.{IsWithin};
+ghost use Rattle.nf_thin.specs.Balancing.{full_of, full_by, CanFlow, BoundsFirst};
+
+use crate::filling::surplus;
+use crate::ranges::{Range, flow_range};
+use nf_frac::Q;
+use nf_graph::{LinkId, LinkSets, NodeId};
+use nf_net::Network;
+use nf_pattern::Pattern;
+use std::alloc::{AllocError, Global};
+
+// The flow that fills a link: its capacity times the slope of its head. None where it is unbounded, or that passes.
+fn full_flow(capacity: Option<Q>, head_slope: Q) -> Option<Q>
+    ensures { result ≡ full_of (beyond (bound_of 127)) capacity head_slope }
+{
+    match capacity {
+        Some(capacity) => capacity.product(head_slope).ok(),
+        None => None,
+    }
+}
+
+/// The same of each link, by these slopes of the nodes.
+pub(crate) fn full_flows(
+    alloc: Global,
+    net: &Network,
+    slopes: &[Q],
+) -> Result<Vec<Option<Q>>, AllocError>
+    requires { length slopes.now ≡ net.now.net.nodes }
+    ensures { IfOk result (λ full. full.items ≡ full_by (beyond (bound_of 127)) net.now.net slopes.now) }
+{
+    let mut full = Vec::new(alloc);
+    for e in 0..net.link_count() {
+        let link = net.link(LinkId(e));
+        let head_slope = slopes[link.head.index()];
+        full.push(full_flow(link.capacity, head_slope))?;
+    }
+    Ok(full)
+}
+
+// What a link may carry.
+fn range_of(sets: &LinkSets, full: &[Option<Q>], pattern: &Pattern, link: LinkId) -> Range
+    requires link { link < length pattern.now }
+    requires sets { length sets.now.active ≡ length pattern.now }
+    requires full { length full.now ≡ length pattern.now }
+    ensures { (net : SeenNetwork) (rate : ℚ) (flows : List ℚ) (here : SeenLink) → CanFlow (beyond (bound_of 127)) net sets.now rate pattern.now full.now flows → IsLink net link here → IsWithin result (number_at flows link) }
+{
+    flow_range(
+        pattern.state(link),
+        sets.resetting(link),
+        full[link.index()],
+    )
+}
+
+// What the links before this one send out of a node beyond what they bring to it lies in this range; and then with this one.
+fn with_link(
+    range: Range,
+    net: &Network,
+    sets: &LinkSets,
+    full: &[Option<Q>],
+    pattern: &Pattern,
+    node: NodeId,
+    link: LinkId,
+) -> Range
+    requires link { link < length net.now.net.links }
+    requires sets { length sets.now.active ≡ length net.now.net.links }
+    requires full { length full.now ≡ length net.now.net.links }
+    requires states { length pattern.now ≡ length net.now.net.links }
+    requires before { BoundsFirst (beyond (bound_of 127)) net.now.net sets.now pattern.now full.now node link range }
+    ensures { BoundsFirst (beyond (bound_of 127)) net.now.net sets.now pattern.now full.now node (suc link) result }
+{
+    let hop = &net.hops()[link.index()];
+    let leaves = hop.tail == node;
+    let enters = hop.head == node;
+    if leaves == enters {
+        return range;
+    }
+    let flow = range_of(sets, full, pattern, link);
+    if leaves {
+        range.sum(flow)
+    } else {
+        range.difference(flow)
+    }
+}
+
+// What all links send out of a node beyond what they bring to it.
+fn surplus_range(
+    net: &Network,
+    sets: &LinkSets,
+    full: &[Option<Q>],
+    pattern: &Pattern,
+    node: NodeId,
+) -> Range
+    requires sets { length sets.now.active ≡ length net.now.net.links }
+    requires full { length full.now ≡ length net.now.net.links }
+    requires states { length pattern.now ≡ length net.now.net.links }
+    ensures { (rate : ℚ) (flows : List ℚ) → CanFlow (beyond (bound_of 127)) net.now.net sets.now rate pattern.now full.now flows → IsWithin result (surplus_of net.now.net flows node) }
+{
+    let mut range = Range::just(Some(Q::zero()));
+    for e in 0..net.link_count() {
+        range = with_link(range, net, sets, full, pattern, node, LinkId(e));
+    }
+    range
+}
+
+// A node's balance can be met: its links can send out of it what they are to, beyond what they bring to it.
+fn balances_at(
+    net: &Network,
+    sets: &LinkSets,
+    rate: Q,
+    full: &[Option<Q>],
+    pattern: &Pattern,
+    node: NodeId,
+) -> bool
+    requires node { node < net.now.net.nodes }
+    requires inner { node ≢ net.now.net.sink }
+    requires sets { length sets.now.active ≡ length net.now.net.links }
+    requires full { length full.now ≡ length net.now.net.links }
+    requires states { length pattern.now ≡ length net.now.net.links }
+    ensures { (flows : List ℚ) → CanFlow (beyond (bound_of 127)) net.now.net sets.now rate pattern.now full.now flows → result ≡ true }
+{
+    let range = surplus_range(net, sets, full, pattern, node);
+    range.holds(surplus(net.source(), rate, node))
+}
+
+/// Whether the balance of each node but the sink can be met by what its links may carry in their states.
+pub(crate) fn balances(
+    net: &Network,
+    sets: &LinkSets,
+    rate: Q,
+    full: &[Option<Q>],
+    pattern: &Pattern,
+) -> bool
+    requires sets { length sets.now.active ≡ length net.now.net.links }
+    requires full { length full.now ≡ length net.now.net.links }
+    requires states { length pattern.now ≡ length net.now.net.links }
+    ensures { (flows : List ℚ) → CanFlow (beyond (bound_of 127)) net.now.net sets.now rate pattern.now full.now flows → result ≡ true }
+{
+    let sink = net.sink();
+    for v in 0..net.node_count() {
+        let node = NodeId(v);
+        if node != sink {
+            if !balances_at(net, sets, rate, full, pattern, node) {
+                return false;
+            }
+        }
+    }
+    true
+}
