@@ -7,21 +7,22 @@ use Rattle.std.specs.Option.{option_map}
 use Rattle.std.proofs.lemmas.Bool.Decides.{eqb_tells}
 use Rattle.std.proofs.lemmas.Option.{slice_get-map, slice_get_read, none-some, same_Some}
 use Rattle.nf_rational.specs.Rational.{ℚ}
-use Rattle.nf_rational.specs.Operations.{0ℚ, ◌+ℚ◌, ◌-ℚ◌}
+use Rattle.nf_rational.specs.Operations.{0ℚ, ◌+ℚ◌, ◌-ℚ◌, neg_ℚ}
 use Rattle.nf_rational_laws.proofs.Polynomial.{reading_of}
 use Rattle.nf_rational_laws.proofs.Linear.{eq, linear_eq}
 use Rattle.nf_work.specs.declared.Op.TheVariants.{Product}
 use Rattle.nf_work.specs.Passing.{Passing}
 use Rattle.nf_model.specs.declared.State.{State}
 use Rattle.nf_model.specs.Entries.{number_at}
-use Rattle.nf_model.specs.Network.{Link, Network, IsLink, hop_of, hops, sum_in, sum_out}
+use Rattle.nf_model.specs.Network.{IsNetwork, Link, Network, IsLink, hop_of, hops, sum_in, sum_out}
 use Rattle.nf_model.specs.Walk.{Hop}
 use Rattle.nf_model.specs.ThinFlow.{Sets, surplus}
 use Rattle.nf_model.specs.Pattern.{Pattern, Fills, Equation}
 use Rattle.nf_thin.specs.declared.ranges.Range.{Range}
 use Rattle.nf_thin.specs.Ranges.{IsWithin, MeetsState}
+use Rattle.nf_thin_laws.proofs.Totals.{sink_takes}
 use Rattle.nf_thin.proofs.Within.{checked_is}
-use Rattle.nf_thin.specs.Balancing.{full_of, full_by, CanFlow, surplus_of_first, BoundsFirst}
+use Rattle.nf_thin.specs.Balancing.{full_of, full_by, CanFlow, surplus_of_first, BoundsFirst, needed_at}
 
 -- ---- one link more
 first_term : (b : Bool) (a : ℚ) → (if b then a +ℚ 0ℚ else 0ℚ) ≡ 0ℚ +ℚ (if b then a else 0ℚ)
@@ -122,12 +123,21 @@ module _ (passes : Passing) (net : Network) (sets : Sets) (rate : ℚ) (pattern 
     inequality = can.meets.links e link state h at_state;
   }
 
-  -- what a node but the sink sends out beyond what comes in
-  pub needed : (v : ℕ) → v < net.nodes → v ≢ net.sink → surplus net flows v ≡ (if eqb v net.source then rate else 0ℚ)
-  needed v within inner = ⊎_elim
+  -- what a node sends out beyond what comes in
+  pub needed : IsNetwork net → (v : ℕ) → v < net.nodes → surplus net flows v ≡ needed_at net rate v
+  needed good v within = ⊎_elim
+      (λ (t : (eqb v net.sink ≡ true) × (v ≡ net.sink)). ap (surplus net flows) t.1
+      ∙ (sink_takes net good (number_at flows) rate can.solves.source can.solves.inner
+      ∙ (other_sign rate ∙ sym (ap (λ (b : Bool). if b then neg_ℚ rate else (if eqb v net.source then rate else 0ℚ)) t.0))))
+      (λ (t : (eqb v net.sink ≡ false) × (v ≢ net.sink)). ⊎_elim
       (λ (s : (eqb v net.source ≡ true) × (v ≡ net.source)). ap (surplus net flows) s.1 ∙ (can.solves.source ∙ sym (ap (λ (b : Bool). if b then rate else 0ℚ) s.0)))
-      (λ (s : (eqb v net.source ≡ false) × (v ≢ net.source)). can.solves.inner v within s.1 inner ∙ sym (ap (λ (b : Bool). if b then rate else 0ℚ) s.0))
+      (λ (s : (eqb v net.source ≡ false) × (v ≢ net.source)). can.solves.inner v within s.1 t.1 ∙ sym (ap (λ (b : Bool). if b then rate else 0ℚ) s.0))
       (eqb_tells v net.source)
+      ∙ sym (ap (λ (b : Bool). if b then neg_ℚ rate else (if eqb v net.source then rate else 0ℚ)) t.0))
+      (eqb_tells v net.sink)
+    where
+      other_sign : (r : ℚ) → 0ℚ -ℚ r ≡ neg_ℚ r
+      other_sign r = linear_eq (r ∷ []) [] (search reading_of depth 12) tt tt
 
 -- what lies in a range passes its test
 pub holds_true : {P : Type 0} (b : Bool) → MatchBool b P (P → ⊥) → P → b ≡ true

@@ -1,8 +1,8 @@
 -- What the links at a node may carry, where slopes are known.
-use Rattle.std.specs.Prelude.{◌≡◌, ℕ, List, map, take, Option, Some, None}
+use Rattle.std.specs.Prelude.{◌≡◌, ℕ, List, map, take, Option, Some, None, eqb, if◌then◌else◌}
 use Rattle.std.specs.Result.{result_ok}
 use Rattle.nf_rational.specs.Rational.{ℚ}
-use Rattle.nf_rational.specs.Operations.{◌-ℚ◌}
+use Rattle.nf_rational.specs.Operations.{0ℚ, ◌-ℚ◌, neg_ℚ}
 use Rattle.nf_work.specs.declared.Op.TheVariants.{Product}
 use Rattle.nf_work.specs.Passing.{Passing}
 use Rattle.nf_work.specs.Checked.{checked}
@@ -36,3 +36,7 @@ surplus_of_first net flows v count = sum_out (take count net.links) (number_at f
 -- it lies in this range, whatever flows there can be
 abbrev pub BoundsFirst : Passing → Network → Sets → Pattern → List (Option ℚ) → ℕ → ℕ → Range → Type 0
 BoundsFirst passes net sets pattern full v count range = (rate : ℚ) (flows : List ℚ) → CanFlow passes net sets rate pattern full flows → IsWithin range (surplus_of_first net flows v count)
+
+-- what a node is to send out beyond what comes in: the rate out of the source and into the sink, and nothing elsewhere
+abbrev pub needed_at : Network → ℚ → ℕ → ℚ
+needed_at net rate v = if eqb v net.sink then neg_ℚ rate else (if eqb v net.source then rate else 0ℚ)

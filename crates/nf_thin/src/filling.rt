@@ -16,8 +16,8 @@ use nf_net::{Link, Network};
 use nf_pattern::Pattern;
 use std::alloc::{AllocError, Global};
 
-// The number with the other sign.
-fn negated(value: Q) -> Q
+/// The number with the other sign.
+pub(crate) fn negated(value: Q) -> Q
     ensures { result ≡ neg_ℚ value }
 {
     match Q::make(-value.numer(), value.denom()) {

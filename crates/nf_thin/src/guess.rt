@@ -12,6 +12,7 @@ use crate::group_values::group_values;
 use crate::groups::Groups;
 use crate::led::may_carry;
 use crate::node_groups::tight_groups;
+use crate::settling::settled;
 use crate::trying::pattern_values;
 use nf_frac::{Halt, Q};
 use nf_graph::{LinkId, LinkSets};
@@ -70,8 +71,14 @@ fn fits(capacity: Option<Q>, state: State) -> bool
     }
 }
 
-// The link goes over to a state, if it has one and may be in this; whether it does.
-fn change(net: &Network, sets: &LinkSets, pattern: &mut Pattern, link: LinkId, state: State) -> bool
+/// The link goes over to a state, if it has one and may be in this; whether it does.
+pub(crate) fn change(
+    net: &Network,
+    sets: &LinkSets,
+    pattern: &mut Pattern,
+    link: LinkId,
+    state: State,
+) -> bool
     requires pattern { IsPatternIn net.now.net sets.now pattern.old }
     requires link { link < length net.now.net.links }
     ensures { IsPatternIn net.now.net sets.now pattern.new }
@@ -216,8 +223,8 @@ fn tighten(
     Ok(changes)
 }
 
-// One repair of the links that break their inequalities; whether there is one.
-fn repair(
+/// One repair of the links that break their inequalities; whether there is one.
+pub(crate) fn repair(
     alloc: Global,
     net: &Network,
     sets: &LinkSets,
@@ -255,18 +262,19 @@ pub(crate) fn guess(
     net: &Network,
     sets: &LinkSets,
     rate: Q,
-    first: Pattern,
+    first: &Pattern,
 ) -> Result<Option<SolvedPattern>, AllocError>
-    requires { IsPatternIn net.now.net sets.now first }
+    requires { IsPatternIn net.now.net sets.now first.now }
     ensures { IfOk result (λ found. IfSome found (λ last. IsSolved (beyond (bound_of 127)) net.now.net sets.now rate last)) }
 {
-    let mut pattern = first;
+    let mut pattern = first.copy(alloc)?;
     for _ in 0..MOST_REPAIRS {
         let Some(values) = group_values(alloc, net, sets, rate, &pattern)? else {
             return Ok(None);
         };
         if !repair(alloc, net, sets, &values, &mut pattern)? {
-            return solved_pattern(alloc, net, sets, rate, pattern);
+            let last = settled(alloc, net, sets, rate, first, &values, pattern)?;
+            return solved_pattern(alloc, net, sets, rate, last);
         }
     }
     Ok(None)

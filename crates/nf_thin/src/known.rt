@@ -43,8 +43,8 @@ fn is_one_state(one: Option<State>, other: Option<State>) -> bool
     one == other
 }
 
-// Two patterns have the same state at each link.
-fn is_one_pattern(net: &Network, one: &Pattern, other: &Pattern) -> bool
+/// Two patterns have the same state at each link.
+pub(crate) fn is_one_pattern(net: &Network, one: &Pattern, other: &Pattern) -> bool
     requires one { length one.now ≡ length net.now.net.links }
     requires other { length other.now ≡ length net.now.net.links }
     ensures { IsTrue result → one.now ≡ other.now }

@@ -50,8 +50,8 @@ fn is_led(net: &Network, sets: &LinkSets, pattern: &Pattern, node: NodeId) -> bo
     false
 }
 
-// One leads to each node but the source.
-fn each_is_led(net: &Network, sets: &LinkSets, pattern: &Pattern) -> bool
+/// One leads to each node but the source.
+pub(crate) fn each_is_led(net: &Network, sets: &LinkSets, pattern: &Pattern) -> bool
     requires { IsPatternIn net.now.net sets.now pattern.now }
     ensures { IsTrue result → EachIsLed net.now.net sets.now pattern.now }
 {

@@ -25,6 +25,7 @@ mod ranges;
 #[cfg(test)]
 mod search_tests;
 mod searches;
+mod settling;
 mod sifting;
 #[cfg(test)]
 mod tests;

@@ -1,15 +1,15 @@
 // Whether the links at each node can carry what the node needs, where slopes are known: a pattern of which one can't isn't accepted, and
 // no table is needed to see it.
-ghost use Rattle.std.specs.Prelude.{◌≡◌, ◌≢◌, ◌<◌, ℕ, suc, true, List, length, IfOk};
+ghost use Rattle.std.specs.Prelude.{◌≡◌, ◌<◌, ℕ, suc, true, List, length, IfOk};
 ghost use Rattle.nf_rational.specs.Rational.{ℚ};
 ghost use Rattle.nf_work.specs.Passing.{bound_of, beyond};
 ghost use Rattle.nf_model.specs.Entries.{number_at};
-ghost use Rattle.nf_model.specs.Network.{Network as SeenNetwork, Link as SeenLink, IsLink};
+ghost use Rattle.nf_model.specs.Network.{Network as SeenNetwork, Link as SeenLink, IsLink, IsNetwork};
 ghost use Rattle.nf_model.specs.ThinFlow.{surplus as surplus_of};
 ghost use Rattle.nf_thin.specs.Ranges.{IsWithin};
-ghost use Rattle.nf_thin.specs.Balancing.{full_of, full_by, CanFlow, BoundsFirst};
+ghost use Rattle.nf_thin.specs.Balancing.{full_of, full_by, CanFlow, BoundsFirst, needed_at};
 
-use crate::filling::surplus;
+use crate::filling::{negated, surplus};
 use crate::ranges::{Range, flow_range};
 use nf_frac::Q;
 use nf_graph::{LinkId, LinkSets, NodeId};
@@ -59,7 +59,7 @@ fn range_of(sets: &LinkSets, full: &[Option<Q>], pattern: &Pattern, link: LinkId
     )
 }
 
-// What the links before this one send out of a node beyond what they bring to it lies in this range; and then with this one.
+// What the links up to this one send out of a node beyond what they bring to it, where that of the links before it lies in this range.
 fn with_link(
     range: Range,
     net: &Network,
@@ -90,7 +90,7 @@ fn with_link(
     }
 }
 
-// What all links send out of a node beyond what they bring to it.
+// The same of all links.
 fn surplus_range(
     net: &Network,
     sets: &LinkSets,
@@ -110,6 +110,17 @@ fn surplus_range(
     range
 }
 
+// What a node is to send out beyond what comes in: the rate out of the source and into the sink, and nothing elsewhere.
+fn needed(net: &Network, rate: Q, node: NodeId) -> Q
+    ensures { result ≡ needed_at net.now.net rate node }
+{
+    if node == net.sink() {
+        negated(rate)
+    } else {
+        surplus(net.source(), rate, node)
+    }
+}
+
 // A node's balance can be met: its links can send out of it what they are to, beyond what they bring to it.
 fn balances_at(
     net: &Network,
@@ -119,18 +130,18 @@ fn balances_at(
     pattern: &Pattern,
     node: NodeId,
 ) -> bool
+    requires network { IsNetwork net.now.net }
     requires node { node < net.now.net.nodes }
-    requires inner { node ≢ net.now.net.sink }
     requires sets { length sets.now.active ≡ length net.now.net.links }
     requires full { length full.now ≡ length net.now.net.links }
     requires states { length pattern.now ≡ length net.now.net.links }
     ensures { (flows : List ℚ) → CanFlow (beyond (bound_of 127)) net.now.net sets.now rate pattern.now full.now flows → result ≡ true }
 {
     let range = surplus_range(net, sets, full, pattern, node);
-    range.holds(surplus(net.source(), rate, node))
+    range.holds(needed(net, rate, node))
 }
 
-/// Whether the balance of each node but the sink can be met by what its links may carry in their states.
+/// Whether the balance of each node can be met by what its links may carry in their states.
 pub(crate) fn balances(
     net: &Network,
     sets: &LinkSets,
@@ -138,18 +149,15 @@ pub(crate) fn balances(
     full: &[Option<Q>],
     pattern: &Pattern,
 ) -> bool
+    requires network { IsNetwork net.now.net }
     requires sets { length sets.now.active ≡ length net.now.net.links }
     requires full { length full.now ≡ length net.now.net.links }
     requires states { length pattern.now ≡ length net.now.net.links }
     ensures { (flows : List ℚ) → CanFlow (beyond (bound_of 127)) net.now.net sets.now rate pattern.now full.now flows → result ≡ true }
 {
-    let sink = net.sink();
     for v in 0..net.node_count() {
-        let node = NodeId(v);
-        if node != sink {
-            if !balances_at(net, sets, rate, full, pattern, node) {
-                return false;
-            }
+        if !balances_at(net, sets, rate, full, pattern, NodeId(v)) {
+            return false;
         }
     }
     true

@@ -147,10 +147,10 @@ fn guide_of(
     net: &Network,
     sets: &LinkSets,
     rate: Q,
-    first: Pattern,
+    first: &Pattern,
 ) -> Result<Option<Guide>, AllocError>
     requires sets { AreSetsOf net.now.net sets.now }
-    requires first { IsPatternIn net.now.net sets.now first }
+    requires first { IsPatternIn net.now.net sets.now first.now }
     ensures { IfOk result (λ found. IfSome found (λ guide. Guides (beyond (bound_of 127)) net.now.net sets.now rate guide)) }
 {
     if !hold_no_cycle(alloc, net, sets)? {
@@ -188,7 +188,7 @@ pub(crate) fn sifted_search(
     let Some(first) = first_listed(alloc, net, sets, base)? else {
         return Ok(None);
     };
-    let Some(guide) = guide_of(alloc, net, sets, rate, first)? else {
+    let Some(guide) = guide_of(alloc, net, sets, rate, &first)? else {
         return Ok(None);
     };
     let patterns = listing(alloc, net, sets, base)?;
