@@ -12,6 +12,7 @@ use crate::group_values::group_values;
 use crate::groups::Groups;
 use crate::led::may_carry;
 use crate::node_groups::tight_groups;
+use crate::node_test::full_flow;
 use crate::settling::settled;
 use crate::trying::pattern_values;
 use nf_frac::{Halt, Q};
@@ -51,11 +52,8 @@ fn values_of(
 
 // A flow is more than a link of this capacity carries at this slope of its head.
 fn overfills(capacity: Option<Q>, flow: Q, head_slope: Q) -> bool {
-    match capacity {
-        Some(capacity) => match capacity.product(head_slope) {
-            Ok(most) => flow > most,
-            Err(_) => false,
-        },
+    match full_flow(capacity, head_slope) {
+        Some(most) => flow > most,
         None => false,
     }
 }

@@ -17,8 +17,8 @@ use nf_net::Network;
 use nf_pattern::Pattern;
 use std::alloc::{AllocError, Global};
 
-// The flow that fills a link: its capacity times the slope of its head. None where it is unbounded, or that passes.
-fn full_flow(capacity: Option<Q>, head_slope: Q) -> Option<Q>
+/// The flow that fills a link: its capacity times the slope of its head. None where it is unbounded, or that passes.
+pub(crate) fn full_flow(capacity: Option<Q>, head_slope: Q) -> Option<Q>
     ensures { result ≡ full_of (beyond (bound_of 127)) capacity head_slope }
 {
     match capacity {

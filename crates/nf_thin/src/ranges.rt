@@ -111,6 +111,7 @@ impl Range {
             greatest: end_of_difference(self.greatest, other.least),
         }
     }
+
     /// Whether a number lies in it.
     pub(crate) fn holds(self, number: Q) -> bool
         ensures { MatchBool result (IsWithin self number) (IsWithin self number → ⊥) }

@@ -11,6 +11,7 @@ use crate::guess::{change, repair};
 use crate::known::is_one_pattern;
 use crate::led::each_is_led;
 use crate::node_groups::tight_groups;
+use crate::node_test::full_flow;
 use nf_frac::Q;
 use nf_graph::{LinkId, LinkSets};
 use nf_model::State;
@@ -18,24 +19,14 @@ use nf_net::{Link, Network};
 use nf_pattern::Pattern;
 use std::alloc::{AllocError, Global};
 
-// The flow fills a link of this capacity, at this slope of its head.
-fn fills(capacity: Option<Q>, flow: Q, head_slope: Q) -> bool {
-    match capacity {
-        Some(capacity) => match capacity.product(head_slope) {
-            Ok(most) => flow == most,
-            Err(_) => false,
-        },
-        None => false,
-    }
-}
-
 // The slopes of a link's ends and its flow suit a state.
 fn suits(link: Link, state: State, flow: Q, values: &[Q]) -> bool {
     let tail_slope = number_or_zero(values, link.tail.index());
     let head_slope = number_or_zero(values, link.head.index());
     match state {
         State::Tight => tail_slope == head_slope,
-        State::Full => tail_slope <= head_slope && fills(link.capacity, flow, head_slope),
+        State::Full => tail_slope <= head_slope
+            && full_flow(link.capacity, head_slope) == Some(flow),
         State::Zero => head_slope <= tail_slope && flow == Q::zero(),
     }
 }
