@@ -1,11 +1,12 @@
 -- What the tests of the order say, and which of two numbers is the lesser and the greater.
-use Rattle.std.proofs.Common.{◌≡◌, ◌⊎◌, inl, inr, ⊎_elim, Bool, true, false, not, cond, refl, ap, arith}
+use Rattle.std.proofs.Common.{◌≡◌, ◌⊎◌, inl, inr, ⊎_elim, Bool, true, false, not, cond, refl, ap, ◌∙◌, arith}
 use lib.IntN.{ℤ, pos, ◌*ℤ◌}
 use lib.Signed.{◌≤ℤ◌, ◌<ℤ◌, le_z}
 use borrow.Author.Differences.{ints}
 use Rattle.nf_rational.specs.Rational.{ℚ}
+use Rattle.nf_rational.specs.Operations.{0ℚ}
 use Rattle.nf_rational.specs.Order.{◌≤ℚ◌, ◌<ℚ◌, le_ℚ, lt_ℚ, min_ℚ, max_ℚ}
-use Rattle.nf_rational_laws.proofs.Order.{not_both_ℚ}
+use Rattle.nf_rational_laws.proofs.Order.{≤ℚ_antisymm, not_both_ℚ}
 
 -- what a test says
 pub le_ℚ_cases : (x y : ℚ) → ((le_ℚ x y ≡ true) × (x ≤ℚ y)) ⊎ ((le_ℚ x y ≡ false) × (y <ℚ x))
@@ -71,3 +72,10 @@ test_of_lt x y h = ⊎_elim
     (λ (w : (le_ℚ x y ≡ true) × (x ≤ℚ y)). absurd (not_both_ℚ y x h w.1))
     (λ (w : (le_ℚ x y ≡ false) × (y <ℚ x)). w.0)
     (le_ℚ_cases x y)
+
+-- ---- what is left of a number above 0
+pub max0_of : (x : ℚ) → 0ℚ ≤ℚ x → max_ℚ 0ℚ x ≡ x
+max0_of x h = ⊎_elim (λ (w : (max_ℚ 0ℚ x ≡ x) × (0ℚ ≤ℚ x)). w.0) (λ (w : (max_ℚ 0ℚ x ≡ 0ℚ) × (x <ℚ 0ℚ)). absurd (not_both_ℚ _ _ w.1 h)) (max_ℚ_cases 0ℚ x)
+
+pub max0_none : (x : ℚ) → x ≤ℚ 0ℚ → max_ℚ 0ℚ x ≡ 0ℚ
+max0_none x h = ⊎_elim (λ (w : (max_ℚ 0ℚ x ≡ x) × (0ℚ ≤ℚ x)). w.0 ∙ ≤ℚ_antisymm _ _ h w.1) (λ (w : (max_ℚ 0ℚ x ≡ 0ℚ) × (x <ℚ 0ℚ)). w.0) (max_ℚ_cases 0ℚ x)

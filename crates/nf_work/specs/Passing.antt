@@ -39,3 +39,7 @@ beyond bound Sum x y = sum_is_wide bound x y
 beyond bound Difference x y = sum_is_wide bound x (neg_ℚ y)
 beyond bound Product x y = is_wide bound (x *ℚ y)
 beyond bound Quotient x y = is_wide bound (x /ℚ y)
+
+-- the operations on fractions with parts of at most 127 bits that pass
+abbrev pub passes_Q : Passing
+passes_Q = beyond (bound_of 127)

@@ -1,14 +1,12 @@
-use Rattle.std.proofs.Common.{[], ◌∷◌, refl}
+use Rattle.std.proofs.Common.{[], ◌∷◌}
 use Rattle.nf_rational.specs.Rational.{ℚ}
 use Rattle.nf_rational.specs.Operations.{0ℚ, ◌+ℚ◌, ◌-ℚ◌, ◌*ℚ◌}
-use Rattle.nf_rational.specs.Order.{◌≤ℚ◌, ◌<ℚ◌}
+use Rattle.nf_rational.specs.Order.{◌<ℚ◌}
 use Rattle.nf_rational_laws.proofs.Polynomial.{reading_of}
-use Rattle.nf_rational_laws.proofs.Order.{≤ℚ_of_same, ≤ℚ_antisymm, ≤ℚ_of_lt, lt_or_le_ℚ, not_both_ℚ, less_ps, ps_times}
-use Rattle.nf_rational_laws.proofs.Linear.{le, lt, linear_le, linear_lt}
+use Rattle.nf_rational_laws.proofs.Order.{≤ℚ_antisymm, ≤ℚ_of_lt, lt_or_le_ℚ, not_both_ℚ, less_ps, ps_times}
+use Rattle.nf_rational_laws.proofs.Linear.{lt, linear_lt}
+use Rattle.nf_rational_laws.proofs.Chains.{≤ℚ_refl, ≤ℚ_trans}
 use Rattle.nf_rational_laws.proofs.order_laws.Goals as goal
-
-transitive : (x y z : ℚ) → x ≤ℚ y → y ≤ℚ z → x ≤ℚ z
-transitive x y z h k = linear_le (x ∷ y ∷ z ∷ []) (le h ∷ le k ∷ []) (search reading_of depth 12) tt
 
 sums_keep : (x y z : ℚ) → x <ℚ y → x +ℚ z <ℚ y +ℚ z
 sums_keep x y z h = linear_lt (x ∷ y ∷ z ∷ []) (lt h ∷ []) (search reading_of depth 12) tt
@@ -20,8 +18,8 @@ products_keep x y z h k =
 
 pub returns : goal.returns
 returns c = record {
-  reflexive = λ x. ≤ℚ_of_same x x refl;
-  transitive = transitive;
+  reflexive = ≤ℚ_refl;
+  transitive = ≤ℚ_trans;
   antisymmetric = ≤ℚ_antisymm;
   total = lt_or_le_ℚ;
   apart = not_both_ℚ;
