@@ -2,10 +2,9 @@
 use Rattle.std.proofs.Common.{◌≡◌, ◌⊎◌, ℕ, ◌<◌, ◌≤◌, List, length, refl, sym, ◌∙◌, ap, subst, inl, inr, arith}
 use Rattle.std.specs.Prelude.{Option, Some, None, IfSome, Result, Ok, Err}
 use Rattle.nf_rational.specs.Rational.{ℚ}
-use Rattle.nf_work.specs.Passing.{beyond}
+use Rattle.nf_work.specs.Passing.{passes_Q}
 use Rattle.nf_edge.specs.Faults.{Rose}
 use Rattle.nf_model.specs.Network.{Network}
-use Rattle.nf_formats.specs.Numbers.{greatest}
 use Rattle.nf_formats.specs.Named.{Named}
 use Rattle.nf_formats.specs.NetLines.{Broken}
 use Rattle.nf_formats.specs.NetFile.{Reads}
@@ -51,12 +50,12 @@ module _ (call : Call) (out : Taken) (can : CanBeSolved call out) where
 
   -- the report is that of the phase run, which reaches the horizon
   one_report_of_run : (net : Network) (horizon : ℚ) (budgets : Budgets) (report : Report) → net ≡ can.tells.net.net → horizon ≡ can.asks.horizon
-      → budgets ≡ can.asks.budgets → IsRunReport (beyond greatest) net (bounds_of horizon budgets) report → report ≡ can.reaches.report
+      → budgets ≡ can.asks.budgets → IsRunReport passes_Q net (bounds_of horizon budgets) report → report ≡ can.reaches.report
   one_report_of_run net horizon budgets report same_net same_horizon same_budgets run =
-      let with_net = subst (λ (n : Network). IsRunReport (beyond greatest) n (bounds_of horizon budgets) report) same_net run in
-      let with_horizon = subst (λ (q : ℚ). IsRunReport (beyond greatest) can.tells.net.net (bounds_of q budgets) report) same_horizon with_net in
-      let here = subst (λ (b : Budgets). IsRunReport (beyond greatest) can.tells.net.net (bounds_of can.asks.horizon b) report) same_budgets with_horizon in
-      one_report (beyond greatest) can.tells.net.net (bounds_of can.asks.horizon can.asks.budgets) report can.reaches.report here can.reaches.is_report
+      let with_net = subst (λ (n : Network). IsRunReport passes_Q n (bounds_of horizon budgets) report) same_net run in
+      let with_horizon = subst (λ (q : ℚ). IsRunReport passes_Q can.tells.net.net (bounds_of q budgets) report) same_horizon with_net in
+      let here = subst (λ (b : Budgets). IsRunReport passes_Q can.tells.net.net (bounds_of can.asks.horizon b) report) same_budgets with_horizon in
+      one_report passes_Q can.tells.net.net (bounds_of can.asks.horizon can.asks.budgets) report can.reaches.report here can.reaches.is_report
 
   solved_whole : (n : Named) (report : Report) → Solves call n report → report.stop ≡ None
   solved_whole n report h =

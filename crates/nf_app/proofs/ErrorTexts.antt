@@ -6,7 +6,7 @@ use Rattle.nf_rational.specs.Rational.{ℚ}
 use Rattle.nf_lines.specs.Words.{line_of_words}
 use Rattle.nf_formats.specs.declared.Cause.{Cause}
 use Rattle.nf_formats.specs.Causes.{cause_words}
-use Rattle.nf_formats.specs.ErrorLines.{said, stopped_line}
+use Rattle.nf_app.specs.ErrorLines.{said, stopped_line}
 
 pub rule_pieces : (digits rule : List ℕ) → codes "nfot: network line " ++ (digits ++ (codes ": " ++ (rule ++ (codes "\n" ++ []))))
     ≡ said (codes "network" ∷ codes "line" ∷ (digits ++ codes ":") ∷ rule ∷ [])

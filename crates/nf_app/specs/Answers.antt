@@ -6,7 +6,7 @@ use Rattle.nf_formats.specs.Named.{Named}
 use Rattle.nf_formats.specs.NetLines.{Broken}
 use Rattle.nf_formats.specs.NetText.{canonical}
 use Rattle.nf_formats.specs.Report.{Report, report_text}
-use Rattle.nf_formats.specs.ErrorLines.{memory_line, usage_text, shelf_failed_line, shelf_too_long_line, network_line, stopped_line}
+use Rattle.nf_app.specs.ErrorLines.{memory_line, usage_text, shelf_failed_line, shelf_too_long_line, network_line, stopped_line}
 use Rattle.nf_app.specs.declared.status.Status.{Status}
 
 -- `Shown`: the network of the file. `Solved`: a report of the network of the file.

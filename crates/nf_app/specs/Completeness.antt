@@ -1,9 +1,8 @@
 -- When nothing but want of memory keeps a run of the program from solving a network to its horizon.
 use Rattle.std.specs.Prelude.{◌≡◌, ◌⊎◌, ℕ, ◌≤◌, List, length, Some, None, Ok}
 use Rattle.nf_rational.specs.Rational.{ℚ}
-use Rattle.nf_work.specs.Passing.{beyond}
+use Rattle.nf_work.specs.Passing.{passes_Q}
 use Rattle.nf_edge.specs.Faults.{Rose}
-use Rattle.nf_formats.specs.Numbers.{greatest}
 use Rattle.nf_formats.specs.Named.{Named}
 use Rattle.nf_formats.specs.NetFile.{Reads}
 use Rattle.nf_formats.specs.Report.{Report}
@@ -32,7 +31,7 @@ pub record TellsNetwork (call : Call) (file : List ℕ) : Type 0 where
 -- the phase run of a network, within the budgets, reaches the horizon
 pub record ReachesHorizon (n : Named) (horizon : ℚ) (budgets : Budgets) : Type 0 where
   pub report : Report
-  pub is_report : IsRunReport (beyond greatest) n.net (bounds_of horizon budgets) report
+  pub is_report : IsRunReport passes_Q n.net (bounds_of horizon budgets) report
   pub no_stop : report.stop ≡ None
 
 -- A network is to be solved, and can be: its file is told, its phase run reaches the horizon, and in the call neither the shelf

@@ -1,3 +1,4 @@
+pub mod ErrorLines
 pub mod Requests
 pub mod Answers
 pub mod Runs

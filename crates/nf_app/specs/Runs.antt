@@ -7,7 +7,7 @@ use Rattle.nf_formats.specs.Named.{Named}
 use Rattle.nf_formats.specs.NetLines.{Broken}
 use Rattle.nf_formats.specs.NetFile.{Reads}
 use Rattle.nf_formats.specs.Report.{Report}
-use Rattle.nf_formats.specs.ErrorLines.{output_line}
+use Rattle.nf_app.specs.ErrorLines.{output_line}
 use Rattle.nf_app.specs.declared.status.Status.{Status}
 use Rattle.nf_app.specs.Requests.{Request, Show, Solve, file_of, request_of}
 use Rattle.nf_phase.specs.declared.solution.Budgets.{Budgets}

@@ -1,7 +1,7 @@
 // The lines on standard error.
 ghost use Rattle.std.specs.Prelude.{◌≡◌, flat_map};
 ghost use Rattle.nf_edge.specs.Taken.{Wrote};
-ghost use Rattle.nf_formats.specs.ErrorLines.{rule_word, network_line, stopped_line};
+ghost use Rattle.nf_app.specs.ErrorLines.{rule_word, network_line, stopped_line};
 ghost use Rattle.nf_app.specs.Answers.{err_text};
 ghost use Rattle.nf_app.specs.Refusals.{answer_of};
 

@@ -1,3 +1,4 @@
+pub mod Limits
 pub mod Names
 pub mod Numbers
 pub mod Named
@@ -8,4 +9,3 @@ pub mod WellNamed
 pub mod NetText
 pub mod Causes
 pub mod Report
-pub mod ErrorLines

@@ -3,6 +3,7 @@ use Rattle.std.specs.Prelude.{◌≡◌, ℕ, Bool, true, not, ◌&&◌, ◌||�
 use Rattle.std.specs.List.{list_all, list_any, position_or_len, IsDistinct}
 use Rattle.std.specs.Char.{is_ascii_alphanumeric}
 use Rattle.std.specs.Str.{bytes_eq}
+use Rattle.nf_formats.specs.Limits.{longest_name}
 
 abbrev pub Name : Type 0
 Name = List ℕ
@@ -11,9 +12,9 @@ Name = List ℕ
 abbrev pub is_name_byte : ℕ → Bool
 is_name_byte b = is_ascii_alphanumeric b || (b == 95 || (b == 45 || b == 46))
 
--- 1 to 24 of these
+-- at least one of these, and not too many
 abbrev pub is_name : Name → Bool
-is_name name = nat_le 1 (length name) && (nat_le (length name) 24 && list_all is_name_byte name)
+is_name name = nat_le 1 (length name) && (nat_le (length name) longest_name && list_all is_name_byte name)
 
 -- ---- a name among others
 abbrev pub has_name : List Name → Name → Bool

@@ -4,7 +4,7 @@ use Rattle.std.specs.Bool.{Decides, MatchBool}
 use Rattle.std.specs.List.{AllByRecursion, AllZip}
 use Rattle.nf_rational.specs.Rational.{ℚ}
 use Rattle.nf_rational.specs.Operations.{0ℚ}
-use Rattle.nf_work.specs.Passing.{is_wide, beyond}
+use Rattle.nf_work.specs.Passing.{is_wide, passes_Q}
 use Rattle.nf_work.specs.declared.Op.TheVariants.{Sum}
 use Rattle.nf_model.specs.Walk.{Hop, IsHop, IsWalk, transit_of, IsLeastTransit}
 use Rattle.nf_formats.specs.declared.NetRule.{NetRule}
@@ -54,7 +54,7 @@ pub record HasPassingSum (draft : Draft) : Type 0 where
   pub is_hop : IsHop (draft_hops draft) link hop
   pub is_least : IsLeastTransit (draft_hops draft) (source_place draft) hop.tail least
   pub is_fraction : is_wide greatest least ≡ false
-  pub passes : beyond greatest Sum least hop.transit ≡ true
+  pub passes : passes_Q Sum least hop.transit ≡ true
 
 abbrev pub Breaks : Draft → NetRule → Type 0
 Breaks draft N17 = draft.ended ≡ false

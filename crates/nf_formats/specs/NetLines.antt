@@ -13,6 +13,7 @@ use Rattle.nf_lines.specs.Words.{ReadLine}
 use Rattle.nf_formats.specs.Names.{Name, is_name, has_name, with_names}
 use Rattle.nf_formats.specs.Numbers.{number_in, capacity_in}
 use Rattle.nf_formats.specs.Named.{NamedLink, names_of}
+use Rattle.nf_formats.specs.Limits.{most_nodes, most_links, most_pieces}
 
 -- a rule that is broken, and the line in which it is seen
 pub record Broken : Type 0 where
@@ -96,9 +97,9 @@ abbrev pub first_rule : List (Bool × NetRule) → Option NetRule
 first_rule [] = None
 first_rule (test ∷ rest) = if test.0 then Some test.1 else first_rule rest
 
--- with these names there are more than 64 nodes
+-- with these names there are too many nodes
 abbrev pub too_many_nodes : Draft → List Name → Bool
-too_many_nodes draft names = nat_lt 64 (length (with_names draft.nodes names))
+too_many_nodes draft names = nat_lt most_nodes (length (with_names draft.nodes names))
 
 abbrev pub is_negative : ℚ → Bool
 is_negative x = lt_ℚ x 0ℚ
@@ -117,10 +118,10 @@ abbrev pub broken_rule : Draft → Entry → Option NetRule
 broken_rule draft (Source name) = first_rule ((is_some draft.source, N9) ∷ (too_many_nodes draft (name ∷ []), N10) ∷ [])
 broken_rule draft (Sink name) = first_rule ((is_some draft.sink, N9) ∷ (too_many_nodes draft (name ∷ []), N10) ∷ [])
 broken_rule draft (LinkLine l) = first_rule (
-    (has_name (names_of draft.links) l.name, N9) ∷ (too_many_nodes draft (l.tail ∷ l.head ∷ []), N10) ∷ (nat_le 200 (length draft.links), N11)
+    (has_name (names_of draft.links) l.name, N9) ∷ (too_many_nodes draft (l.tail ∷ l.head ∷ []), N10) ∷ (nat_le most_links (length draft.links), N11)
     ∷ (is_negative l.transit, N13) ∷ (is_no_capacity l.capacity, N14) ∷ [])
 broken_rule draft (InflowLine piece) = first_rule (
-    (nat_le 200 (length draft.pieces), N12) ∷ (is_negative piece.start || is_negative piece.rate, N15)
+    (nat_le most_pieces (length draft.pieces), N12) ∷ (is_negative piece.start || is_negative piece.rate, N15)
     ∷ (is_not_after piece.start (last_or None draft.pieces), N16) ∷ [])
 broken_rule draft End = None
 

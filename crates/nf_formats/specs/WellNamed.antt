@@ -4,13 +4,14 @@ use Rattle.std.specs.List.{AllByRecursion}
 use Rattle.nf_rational.specs.Rational.{ℚ}
 use Rattle.nf_rational.specs.Operations.{0ℚ}
 use Rattle.nf_rational.specs.Order.{◌≤ℚ◌, ◌<ℚ◌}
-use Rattle.nf_work.specs.Passing.{is_wide, beyond}
+use Rattle.nf_work.specs.Passing.{is_wide, passes_Q}
 use Rattle.nf_work.specs.declared.Op.TheVariants.{Sum}
 use Rattle.nf_model.specs.Walk.{Hop, IsHop, IsWalk, transit_sum, IsLeastTransit}
 use Rattle.nf_model.specs.Network.{Piece, IsNetwork, hops}
 use Rattle.nf_formats.specs.Names.{is_name, has_name, name_at, with_names, without, AreNames}
 use Rattle.nf_formats.specs.Numbers.{greatest}
 use Rattle.nf_formats.specs.Named.{NamedLink, Named, active_links, all_links, all_nodes, all_hops, ends, names_of}
+use Rattle.nf_formats.specs.Limits.{most_nodes, most_links, most_pieces}
 
 -- no part is beyond the greatest
 abbrev pub IsFraction : ℚ → Type 0
@@ -35,9 +36,9 @@ pub record IsFractionPiece (piece : Piece) : Type 0 where
 
 -- the limits of a file
 pub record IsWithinLimits (n : Named) : Type 0 where
-  pub nodes : length (all_nodes n) ≤ 64
-  pub links : length (all_links n) ≤ 200
-  pub pieces : length n.net.pieces ≤ 200
+  pub nodes : length (all_nodes n) ≤ most_nodes
+  pub links : length (all_links n) ≤ most_links
+  pub pieces : length n.net.pieces ≤ most_pieces
 
 -- The source is node 0 and the sink node 1. The others are numbered by first appearance in the lines of the links, and idle
 -- nodes by first appearance in the lines of idle links.
@@ -52,7 +53,7 @@ pub record IsNumbered (n : Named) : Type 0 where
 -- for each link the least transit sum of its tail, where that is a fraction, and its own transit have a sum that doesn't pass
 abbrev pub SumsFit : Named → Type 0
 SumsFit n = (e : ℕ) (hop : Hop) (least : ℚ) → IsHop (hops n.net) e hop → IsLeastTransit (hops n.net) n.net.source hop.tail least
-    → IsFraction least → beyond greatest Sum least hop.transit ≡ false
+    → IsFraction least → passes_Q Sum least hop.transit ≡ false
 
 -- The network of an accepted file: what its network says, the names, and what is idle.
 pub record IsNamed (n : Named) : Type 0 where

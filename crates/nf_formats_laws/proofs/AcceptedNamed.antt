@@ -6,12 +6,11 @@ use Rattle.nf_rational.specs.Rational.{ℚ}
 use Rattle.nf_rational.specs.Operations.{0ℚ}
 use Rattle.nf_rational.specs.Order.{◌≤ℚ◌, ◌<ℚ◌}
 use Rattle.nf_rational_laws.proofs.Tests.{lt_of_test}
-use Rattle.nf_work.specs.Passing.{beyond}
+use Rattle.nf_work.specs.Passing.{passes_Q}
 use Rattle.nf_work.specs.declared.Op.TheVariants.{Sum}
 use Rattle.nf_model.specs.Walk.{Hop, IsHop, IsWalk, transit_sum, IsLeastTransit}
 use Rattle.nf_model.specs.Network.{Link, Piece, IsLink, IsPiece, ArePieces, IsNetwork, hop_of, hops}
 use Rattle.nf_formats.specs.Names.{Name, is_name, has_name, place_of, name_at, with_names, without, AreNames}
-use Rattle.nf_formats.specs.Numbers.{greatest}
 use Rattle.nf_formats.specs.Named.{NamedLink, Named, numbered, hops_among, links_by_name, active_links, all_hops, ends, names_of}
 use Rattle.nf_lines.specs.Words.{read_lines, content_lines}
 use Rattle.nf_lines.specs.Faults.{LineFault, first_fault}
@@ -306,7 +305,7 @@ module _ (draft : Draft) (g : IsGoodDraft draft) (fine : AllByRecursion (λ rule
   }
 
   sum_passes : (e : ℕ) (hop : Hop) (least : ℚ) → IsHop (hops_among nodes active) e hop → IsLeastTransit (hops_among nodes active) 0 hop.tail least → IsFraction least
-      → beyond greatest Sum least hop.transit ≡ true → HasPassingSum draft
+      → passes_Q Sum least hop.transit ≡ true → HasPassingSum draft
   sum_passes e hop least is is_least fraction wide =
       let c : CameFrom (λ l. hop_of (numbered nodes l)) active e hop = came_from (λ l. hop_of (numbered nodes l)) active e hop is in
       let i = from_marked flags draft.links e c.entry c.is_entry in
@@ -318,16 +317,16 @@ module _ (draft : Draft) (g : IsGoodDraft draft) (fine : AllByRecursion (λ rule
         is_least = least_in_file i.0 c.entry least i.1 (active_ends e c.entry c.is_entry).0
             (subst (λ v. IsLeastTransit (hops_among nodes active) 0 v least) (sym (ap (λ (x : Hop). x.tail) c.is_image)) is_least);
         is_fraction = fraction;
-        passes = ap (λ (x : Hop). beyond greatest Sum least x.transit) c.is_image ∙ wide;
+        passes = ap (λ (x : Hop). passes_Q Sum least x.transit) c.is_image ∙ wide;
       }
 
   fits : (e : ℕ) (hop : Hop) (least : ℚ) (b : Bool) → IsHop (hops_among nodes active) e hop → IsLeastTransit (hops_among nodes active) 0 hop.tail least → IsFraction least
-      → beyond greatest Sum least hop.transit ≡ b → b ≡ false
+      → passes_Q Sum least hop.transit ≡ b → b ≡ false
   fits e hop least true is is_least fraction wide = absurd (fine.1.1.1.1.1.0 (sum_passes e hop least is is_least fraction wide))
   fits e hop least false is is_least fraction wide = refl
 
   sums_fit : SumsFit n
-  sums_fit e hop least is is_least fraction = fits e hop least (beyond greatest Sum least hop.transit)
+  sums_fit e hop least is is_least fraction = fits e hop least (passes_Q Sum least hop.transit)
       (subst (λ hops. IsHop hops e hop) hops_are is) (subst (λ hops. IsLeastTransit hops 0 hop.tail least) hops_are is_least) fraction refl
 
   pub is_named : IsNamed (network_of draft (marked flags draft.links) (marked (map not flags) draft.links))

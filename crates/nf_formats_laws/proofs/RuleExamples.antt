@@ -7,14 +7,13 @@ use Rattle.nf_rational.specs.Operations.{0ℚ, whole, ◌+ℚ◌}
 use Rattle.nf_rational.specs.Order.{◌≤ℚ◌, le_ℚ, lt_ℚ}
 use Rattle.nf_rational_laws.proofs.Order.{≤ℚ_of_same, ≤ℚ_antisymm}
 use Rattle.nf_rational_laws.proofs.Tests.{le_of_test}
-use Rattle.nf_work.specs.Passing.{beyond}
+use Rattle.nf_work.specs.Passing.{beyond, passes_Q}
 use Rattle.nf_work.specs.declared.Op.TheVariants.{Sum}
 use Rattle.nf_model.specs.Walk.{Hop, IsHop, IsWalk, transit_of, transit_sum, IsLeastTransit}
 use Rattle.nf_numerals.specs.Digits.{digits_of}
 use Rattle.nf_numerals.specs.Numbers.{number_of, decimal_of, parts_of, decimal_parts_of}
 use Rattle.nf_numerals.specs.Printed.{printed, printed_parts}
 use Rattle.nf_formats.specs.declared.NetRule.TheVariants.{N1, N2, N3, N4, N5, N6, N7, N8, N9, N10, N11, N12, N13, N14, N15, N16, N18, N19, N20, N21, N22}
-use Rattle.nf_formats.specs.Numbers.{greatest}
 use Rattle.nf_formats.specs.Named.{Named}
 use Rattle.nf_formats.specs.NetFile.{Reads}
 use Rattle.nf_formats.specs.NetText.{canonical}
@@ -310,11 +309,11 @@ to_itself hops v least positive h =
     ≤ℚ_antisymm least 0ℚ (h.bound [] refl) (subst (λ x. 0ℚ ≤ℚ x) h.taken.2 above)
 
 -- no sum passes at a link out of the source
-fits_at_source : (hops : List Hop) (source : ℕ) (h other : Hop) (least : ℚ) → AllByRecursion (λ hop. le_ℚ 0ℚ hop.transit ≡ true) hops → h.tail ≡ source → beyond greatest Sum 0ℚ h.transit ≡ false
-    → h ≡ other → IsLeastTransit hops source other.tail least → beyond greatest Sum least other.transit ≡ true → ⊥
+fits_at_source : (hops : List Hop) (source : ℕ) (h other : Hop) (least : ℚ) → AllByRecursion (λ hop. le_ℚ 0ℚ hop.transit ≡ true) hops → h.tail ≡ source → passes_Q Sum 0ℚ h.transit ≡ false
+    → h ≡ other → IsLeastTransit hops source other.tail least → passes_Q Sum least other.transit ≡ true → ⊥
 fits_at_source hops source h other least positive out fits same is_least wide =
     let zero_ : least ≡ 0ℚ = to_itself hops source least positive (subst (λ v. IsLeastTransit hops source v least) (sym (ap (λ (x : Hop). x.tail) same) ∙ out) is_least) in
-    let other_wide : beyond greatest Sum 0ℚ h.transit ≡ true = subst (λ x. beyond greatest Sum x h.transit ≡ true) zero_ (subst (λ (x : Hop). beyond greatest Sum least x.transit ≡ true) (sym same) wide) in
+    let other_wide : passes_Q Sum 0ℚ h.transit ≡ true = subst (λ x. passes_Q Sum x h.transit ≡ true) zero_ (subst (λ (x : Hop). passes_Q Sum least x.transit ≡ true) (sym same) wide) in
     absurd (cc)
 
 -- one link from source to sink, in a file with comments and CR LF that names the sink first
@@ -346,7 +345,7 @@ one_hop_reached zero h = (0 ∷ [], (hop 1 0 (ratio (pos 2) 4), refl, refl, refl
 one_hop_reached (suc zero) h = ([], refl)
 one_hop_reached (suc (suc v)) h = absurd (omega arith)
 
-one_hop_fits : (e : ℕ) (h : Hop) (least : ℚ) → IsHop one_hop e h → IsLeastTransit one_hop 1 h.tail least → beyond greatest Sum least h.transit ≡ true → ⊥
+one_hop_fits : (e : ℕ) (h : Hop) (least : ℚ) → IsHop one_hop e h → IsLeastTransit one_hop 1 h.tail least → passes_Q Sum least h.transit ≡ true → ⊥
 unfolding whole ratio gcd le_ℚ beyond
 one_hop_fits zero h least is is_least wide = fits_at_source one_hop 1 (hop 1 0 (ratio (pos 2) 4)) h least (refl, tt) refl refl (same_hop (hop 1 0 (ratio (pos 2) 4)) h is) is_least wide
 one_hop_fits (suc e) h least is is_least wide = absurd (let none : ◌≡◌ {A = Option Hop} None (Some h) = is in cc)
@@ -400,7 +399,7 @@ two_hops = hop 2 1 (n 1) ∷ hop 0 1 half ∷ []
 not_two : (walk : List ℕ) → IsWalk two_hops walk 0 2 → ⊥
 not_two walk h = let k : below_two 2 ≡ true = stays two_hops below_two ((λ e. refl), ((λ e. refl), tt)) walk 0 2 refl h in absurd (cc)
 
-two_hops_fit : (e : ℕ) (h : Hop) (least : ℚ) → IsHop two_hops e h → IsLeastTransit two_hops 0 h.tail least → beyond greatest Sum least h.transit ≡ true → ⊥
+two_hops_fit : (e : ℕ) (h : Hop) (least : ℚ) → IsHop two_hops e h → IsLeastTransit two_hops 0 h.tail least → passes_Q Sum least h.transit ≡ true → ⊥
 unfolding whole ratio gcd le_ℚ beyond
 two_hops_fit zero h least is is_least wide = not_two is_least.taken.0 (subst (IsWalk two_hops is_least.taken.0 0) (sym (tail_is (hop 2 1 (n 1)) h h.tail is refl)) is_least.taken.1)
 two_hops_fit (suc zero) h least is is_least wide = fits_at_source two_hops 0 (hop 0 1 half) h least (refl, (refl, tt)) refl refl (same_hop (hop 0 1 half) h is) is_least wide

@@ -8,7 +8,7 @@ use Rattle.nf_rational.specs.Operations.{0ℚ}
 use Rattle.nf_rational.specs.Order.{◌≤ℚ◌, le_ℚ}
 use Rattle.nf_rational_laws.proofs.Order.{≤ℚ_antisymm, ≤ℚ_of_same}
 use Rattle.nf_rational_laws.proofs.Tests.{le_of_test, test_of_le}
-use Rattle.nf_work.specs.Passing.{is_wide, beyond}
+use Rattle.nf_work.specs.Passing.{is_wide, passes_Q}
 use Rattle.nf_work.specs.declared.Op.TheVariants.{Sum}
 use Rattle.nf_model.specs.Walk.{Hop, IsHop, IsWalk, transit_of, IsLeastTransit}
 use Rattle.nf_model.specs.Network.{hop_of}
@@ -110,7 +110,7 @@ module _ (draft : Draft) (g : IsGoodDraft draft) where
   least_once v a b h k = ≤ℚ_antisymm a b (subst (λ x. a ≤ℚ x) k.taken.2 (h.bound k.taken.0 k.taken.1)) (subst (λ x. b ≤ℚ x) h.taken.2 (k.bound h.taken.0 h.taken.1))
 
   sum_test : Hop → Bool
-  sum_test h = settled.settled.set h.tail && (not (is_wide greatest (settled.settled.label h.tail)) && beyond greatest Sum (settled.settled.label h.tail) h.transit)
+  sum_test h = settled.settled.set h.tail && (not (is_wide greatest (settled.settled.label h.tail)) && passes_Q Sum (settled.settled.label h.tail) h.transit)
 
   three : (a b c : Bool) → a ≡ true → b ≡ false → c ≡ true → (a && (not b && c)) ≡ true
   three a b c e f k = λ i. e i && (not (f i) && k i)
@@ -124,8 +124,8 @@ module _ (draft : Draft) (g : IsGoodDraft draft) where
   decide_22 = elim (decided (list_any sum_test (draft_hops draft))) [
     | inl e ↦ inl (
         let r : Found sum_test (draft_hops draft) = found sum_test (draft_hops draft) e in
-        let p = and_parts (settled.settled.set r.entry.tail) (not (is_wide greatest (settled.settled.label r.entry.tail)) && beyond greatest Sum (settled.settled.label r.entry.tail) r.entry.transit) r.passes in
-        let q = and_parts (not (is_wide greatest (settled.settled.label r.entry.tail))) (beyond greatest Sum (settled.settled.label r.entry.tail) r.entry.transit) p.1 in
+        let p = and_parts (settled.settled.set r.entry.tail) (not (is_wide greatest (settled.settled.label r.entry.tail)) && passes_Q Sum (settled.settled.label r.entry.tail) r.entry.transit) r.passes in
+        let q = and_parts (not (is_wide greatest (settled.settled.label r.entry.tail))) (passes_Q Sum (settled.settled.label r.entry.tail) r.entry.transit) p.1 in
         record {
           link = r.place;
           hop = r.entry;
@@ -139,8 +139,8 @@ module _ (draft : Draft) (g : IsGoodDraft draft) where
         let inside : settled.settled.set p.hop.tail ≡ true = stays_closed (draft_hops draft) settled.settled.set settled.closed p.is_least.taken.0 (source_place draft) p.hop.tail settled.settled.start p.is_least.taken.1 in
         let same : p.least ≡ settled.settled.label p.hop.tail = least_once p.hop.tail p.least (settled.settled.label p.hop.tail) p.is_least (settled.settled.least p.hop.tail inside) in
         let there : list_any sum_test (draft_hops draft) ≡ true = any_there sum_test (draft_hops draft) p.link p.hop p.is_hop
-        (three (settled.settled.set p.hop.tail) (is_wide greatest (settled.settled.label p.hop.tail)) (beyond greatest Sum (settled.settled.label p.hop.tail) p.hop.transit) inside
-        (ap (is_wide greatest) (sym same) ∙ p.is_fraction) (ap (λ x. beyond greatest Sum x p.hop.transit) (sym same) ∙ p.passes)) in
+        (three (settled.settled.set p.hop.tail) (is_wide greatest (settled.settled.label p.hop.tail)) (passes_Q Sum (settled.settled.label p.hop.tail) p.hop.transit) inside
+        (ap (is_wide greatest) (sym same) ∙ p.is_fraction) (ap (λ x. passes_Q Sum x p.hop.transit) (sym same) ∙ p.passes)) in
         absurd (cc))
   ]
 

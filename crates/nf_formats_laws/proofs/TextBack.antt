@@ -1,6 +1,6 @@
 -- The lines and words of a text that is made of plain words, each line of which has one at least: what is read of it is what was
 -- written (by the laws of lines).
-use Rattle.std.proofs.Common.{◌≡◌, ◌≢◌, ℕ, ◌+◌, ◌<◌, ◌≤◌, ◌==◌, ◌&&◌, Bool, true, not, cond, List, [], ◌∷◌, length, flat_map, refl, ◌∙◌, ap, arith, None, le-leb, ne_eqb}
+use Rattle.std.proofs.Common.{◌≡◌, ◌≢◌, ℕ, ◌+◌, ◌<◌, ◌≤◌, ◌&&◌, Bool, true, not, cond, List, [], ◌∷◌, length, flat_map, refl, ◌∙◌, ap, arith, None, le-leb, ne_eqb}
 use Rattle.std.specs.List.{AllByRecursion, list_all, join_with_byte}
 use Rattle.nf_lines.specs.Words.{line_of_words, read_lines, content_lines}
 use Rattle.nf_lines.specs.Faults.{first_fault}

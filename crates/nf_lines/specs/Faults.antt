@@ -17,6 +17,10 @@ is_allowed b = b == 9 || (nat_le 32 b && nat_le b 126)
 abbrev pub longest_line : ℕ
 longest_line = 1000
 
+-- the most bytes of a text that is read
+abbrev pub longest_text : ℕ
+longest_text = 67108864
+
 -- of a line's bytes: another byte, and else too many of them
 abbrev pub fault_of : ℕ → List ℕ → Option LineFault
 fault_of number bytes =

@@ -2,7 +2,7 @@
 use Rattle.std.specs.Prelude.{ℕ, ◌-◌, ◌^◌, Option, ℤ, pos}
 use Rattle.nf_rational.specs.Rational.{ℚ}
 use Rattle.nf_rational.specs.Operations.{whole}
-use Rattle.nf_work.specs.Passing.{Passing, beyond, bound_of}
+use Rattle.nf_work.specs.Passing.{Passing, passes_Q}
 use Rattle.nf_model.specs.Network.{Link}
 
 abbrev pub n : ℕ → ℚ
@@ -14,7 +14,7 @@ L = 2 ^ 127 - 1
 
 -- which operation passes in such fractions
 abbrev pub in_127_bits : Passing
-in_127_bits = beyond (bound_of 127)
+in_127_bits = passes_Q
 
 abbrev pub link : ℕ → ℕ → ℚ → Option ℚ → Link
 link tail head transit capacity = record { tail = tail; head = head; transit = transit; capacity = capacity }

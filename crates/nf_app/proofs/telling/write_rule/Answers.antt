@@ -1,7 +1,7 @@
 use Rattle.std.proofs.Common.{[], ◌++◌, ◌∙◌}
 use Rattle.std.specs.Prelude.{codes}
 use Rattle.nf_numerals.specs.Digits.{digits_of}
-use Rattle.nf_formats.specs.ErrorLines.{rule_word}
+use Rattle.nf_app.specs.ErrorLines.{rule_word}
 use Rattle.nf_app.proofs.ErrorTexts.{rule_pieces, same_text}
 use Rattle.nf_app.proofs.telling.write_rule.Goals as goal
 

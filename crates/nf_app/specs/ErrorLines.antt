@@ -83,9 +83,6 @@ no_equilibrium_line = said (codes "no" ∷ codes "equilibrium" ∷ [])
 abbrev pub augments_line : ℕ → List ℕ
 augments_line budget = said (codes "augments" ∷ digits_of budget ∷ [])
 
-abbrev pub unbuilt_line : List ℕ
-unbuilt_line = said (codes "unbuilt" ∷ [])
-
 abbrev pub unbounded_line : List ℕ
 unbounded_line = said (codes "unbounded" ∷ [])
 
