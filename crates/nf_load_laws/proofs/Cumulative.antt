@@ -1,0 +1,290 @@
+-- The amount that pieces supply, as a curve: it is what they supply at every time up to the last.
+use Rattle.std.proofs.Common.{◌≡◌, List, [], ◌∷◌, ◌++◌, ⊎_elim, Bool, true, false, refl, sym, ap, subst, ◌∙◌}
+use Rattle.std.specs.Prelude.{Ok}
+use Rattle.nf_rational.specs.Rational.{ℚ}
+use Rattle.nf_rational.specs.Operations.{0ℚ, ◌+ℚ◌, ◌-ℚ◌, ◌*ℚ◌}
+use Rattle.nf_rational.specs.Order.{◌≤ℚ◌, ◌<ℚ◌, lt_ℚ, min_ℚ, max_ℚ}
+use Rattle.nf_rational_laws.proofs.Polynomial.{reading_of}
+use Rattle.nf_rational_laws.proofs.Linear.{le, lt, eq, eq_times, linear_le, linear_lt, linear_eq}
+use Rattle.nf_rational_laws.proofs.Order.{≤ℚ_of_lt, ≤ℚ_of_same, ≤ℚ_antisymm, lt_or_le_ℚ}
+use Rattle.nf_rational_laws.proofs.Tests.{lt_ℚ_cases, max_ℚ_cases, min_ℚ_cases}
+use Rattle.nf_work.specs.Passing.{Passing}
+use Rattle.nf_work.specs.Checked.{checked, ◌>>=◌}
+use Rattle.nf_work.specs.declared.Op.TheVariants.{Sum, Difference, Product}
+use Rattle.nf_model.specs.Curve.{Point, IsCurve, NeverFalls}
+use Rattle.nf_model.specs.Network.{Piece, ArePieces, time_in, supplied}
+use Rattle.nf_model_laws.specs.Affine.{IsAffine}
+use Rattle.nf_model_laws.specs.CurveLaws.{ValuesRise}
+use Rattle.nf_model_laws.proofs.Affine.{≤_refl, ≤_trans, clash}
+use Rattle.nf_model_laws.proofs.Curves.{NeverFalls-value}
+use Rattle.nf_model_laws.proofs.Supply.{StartsRise, StartsRise-pieces, NextFrom, supplied-none, supplied-rises, supplied-begins}
+use Rattle.nf_lists.specs.Signs.{is_same}
+use Rattle.nf_load_lists.specs.Cumulative.{end_of, point_after_0, point_if_after_0, with_piece, cumulative_from, checked_cumulative}
+use Rattle.nf_load_lists.specs.Meanings.{IsCumulative}
+use Rattle.nf_curve_laws.proofs.Operations.{then_ok, same_ok, is_same_cases, checked-is}
+use Rattle.nf_curve_laws.proofs.Following.{FollowsFrom, ends, goes, follows-point, value-follows_past}
+use Rattle.nf_curve_laws.proofs.Least.{min-left, min-right}
+use Rattle.nf_curve_laws.proofs.Values.{follows-curve, follows-values}
+
+-- ---- points after time 0
+after_0 : (t y : ℚ) → 0ℚ <ℚ t → point_if_after_0 t y ≡ (t, y) ∷ []
+after_0 t y h = ⊎_elim
+    (λ (w : (is_same t 0ℚ ≡ true) × (t ≡ 0ℚ)). absurd (clash 0ℚ t h (≤ℚ_of_same t 0ℚ w.1)))
+    (λ (w : (is_same t 0ℚ ≡ false) × (¬ (t ≡ 0ℚ))). ap (λ (b : Bool). point_after_0 b t y) w.0)
+    (is_same_cases t 0ℚ)
+
+at_0 : (t y : ℚ) → t ≡ 0ℚ → point_if_after_0 t y ≡ []
+at_0 t y e = ⊎_elim
+    (λ (w : (is_same t 0ℚ ≡ true) × (t ≡ 0ℚ)). ap (λ (b : Bool). point_after_0 b t y) w.0)
+    (λ (w : (is_same t 0ℚ ≡ false) × (¬ (t ≡ 0ℚ))). absurd (w.1 e))
+    (is_same_cases t 0ℚ)
+
+-- ---- how long a piece is the latest, up to the next start and after it
+max0_of : (x : ℚ) → 0ℚ ≤ℚ x → max_ℚ 0ℚ x ≡ x
+max0_of x h = ⊎_elim (λ (w : (max_ℚ 0ℚ x ≡ x) × (0ℚ ≤ℚ x)). w.0) (λ (w : (max_ℚ 0ℚ x ≡ 0ℚ) × (x <ℚ 0ℚ)). absurd (clash _ _ w.1 h)) (max_ℚ_cases 0ℚ x)
+
+gap_nn : (s t : ℚ) → s ≤ℚ t → 0ℚ ≤ℚ t -ℚ s
+gap_nn s t h = linear_le (s ∷ t ∷ []) (le h ∷ []) (search reading_of depth 12) tt
+
+time_in-up_to : (start : ℚ) (later : List Piece) (t : ℚ) → start ≤ℚ t → NextFrom later t → time_in start later t ≡ t -ℚ start
+time_in-up_to start [] t h n = max0_of _ (gap_nn start t h)
+time_in-up_to start (next ∷ later) t h n = ap (λ (x : ℚ). max_ℚ 0ℚ (x -ℚ start)) (min-left t next.start n) ∙ max0_of _ (gap_nn start t h)
+
+time_in-after : (start : ℚ) (next : Piece) (later : List Piece) (t : ℚ) → start ≤ℚ next.start → next.start ≤ℚ t → time_in start (next ∷ later) t ≡ next.start -ℚ start
+time_in-after start next later t h k = ap (λ (x : ℚ). max_ℚ 0ℚ (x -ℚ start)) (min-right t next.start k) ∙ max0_of _ (gap_nn start next.start h)
+
+rise_rest : (p : Piece) (rest : List Piece) → StartsRise (p ∷ rest) → StartsRise rest
+rise_rest p [] s = tt
+rise_rest p (q ∷ rest) s = s.1
+
+-- ---- the end of a piece
+end_up_to : (later : List Piece) (last : ℚ) → end_of later last ≤ℚ last
+end_up_to [] last = ≤_refl last
+end_up_to (next ∷ later) last = ⊎_elim
+    (λ (w : (min_ℚ next.start last ≡ next.start) × (next.start ≤ℚ last)). subst (λ (x : ℚ). x ≤ℚ last) (sym w.0) w.1)
+    (λ (w : (min_ℚ next.start last ≡ last) × (last <ℚ next.start)). ≤ℚ_of_same _ _ w.0)
+    (min_ℚ_cases next.start last)
+
+end_next : (later : List Piece) (last : ℚ) → NextFrom later (end_of later last)
+end_next [] last = tt
+end_next (next ∷ later) last = ⊎_elim
+    (λ (w : (min_ℚ next.start last ≡ next.start) × (next.start ≤ℚ last)). ≤ℚ_of_same _ _ w.0)
+    (λ (w : (min_ℚ next.start last ≡ last) × (last <ℚ next.start)). subst (λ (x : ℚ). x ≤ℚ next.start) (sym w.0) (≤ℚ_of_lt _ _ w.1))
+    (min_ℚ_cases next.start last)
+
+end_after : (start : ℚ) (later : List Piece) (last : ℚ) → start <ℚ last → ((next : Piece) (rest : List Piece) → later ≡ next ∷ rest → start <ℚ next.start) → start <ℚ end_of later last
+end_after start [] last h k = h
+end_after start (next ∷ later) last h k = ⊎_elim
+    (λ (w : (min_ℚ next.start last ≡ next.start) × (next.start ≤ℚ last)). subst (λ (x : ℚ). start <ℚ x) (sym w.0) (k next later refl))
+    (λ (w : (min_ℚ next.start last ≡ last) × (last <ℚ next.start)). subst (λ (x : ℚ). start <ℚ x) (sym w.0) h)
+    (min_ℚ_cases next.start last)
+
+next_up_to : (later : List Piece) (s t : ℚ) → s ≤ℚ t → NextFrom later t → NextFrom later s
+next_up_to [] s t h n = tt
+next_up_to (next ∷ later) s t h n = ≤_trans _ _ _ h n
+
+-- over plain numbers: the amount at t, of which `so_far` had come before the piece
+so_much : (so_far rate span later y t s : ℚ) → span ≡ t -ℚ s → later ≡ 0ℚ → y ≡ so_far +ℚ (rate *ℚ span +ℚ later) → y ≡ so_far +ℚ rate *ℚ (t -ℚ s)
+so_much so_far rate span later y t s e f g = linear_eq (so_far ∷ rate ∷ span ∷ later ∷ y ∷ t ∷ s ∷ []) (eq_times rate e ∷ eq f ∷ eq g ∷ []) (search reading_of depth 12) tt tt
+
+so_on : (so_far rate span later y n s sum : ℚ) → span ≡ n -ℚ s → sum ≡ so_far +ℚ rate *ℚ (n -ℚ s) → y ≡ so_far +ℚ (rate *ℚ span +ℚ later) → y ≡ sum +ℚ later
+so_on so_far rate span later y n s sum e f g = linear_eq (so_far ∷ rate ∷ span ∷ later ∷ y ∷ n ∷ s ∷ sum ∷ []) (eq_times rate e ∷ eq f ∷ eq g ∷ []) (search reading_of depth 12) tt tt
+
+module _ (passes : Passing) (f : ℚ → ℚ) (last : ℚ) where
+  with_piece-is : (so_far : ℚ) (piece : Piece) (end y : ℚ) → with_piece passes so_far piece end ≡ Ok y → y ≡ so_far +ℚ piece.rate *ℚ (end -ℚ piece.start)
+  with_piece-is so_far piece end y e =
+      let d = then_ok (checked passes Difference end piece.start) _ y e in
+      let p = then_ok (checked passes Product piece.rate d.between) _ y d.next in
+      checked-is passes Sum so_far p.between y p.next
+      ∙ ap (λ (x : ℚ). so_far +ℚ x) (checked-is passes Product piece.rate d.between p.between p.first ∙ ap (λ (x : ℚ). piece.rate *ℚ x) (checked-is passes Difference end piece.start d.between d.first))
+
+  -- what has come by then, and the pieces from there on, make the amount
+  abbrev GoesOn : ℚ → List Piece → Type 0
+  GoesOn so_far [] = Unit {0}
+  GoesOn so_far (piece ∷ later) = (t : ℚ) → piece.start ≤ℚ t → f t ≡ so_far +ℚ supplied (piece ∷ later) t
+
+  -- a piece, from its start to its end
+  over_piece : (so_far : ℚ) (piece : Piece) (later : List Piece) → StartsRise (piece ∷ later) → GoesOn so_far (piece ∷ later) → (t : ℚ) → piece.start ≤ℚ t → t ≤ℚ end_of later last
+      → f t ≡ so_far +ℚ piece.rate *ℚ (t -ℚ piece.start)
+  over_piece so_far piece later s on t i j =
+      let n : NextFrom later t = next_up_to later t (end_of later last) j (end_next later last) in
+      so_much so_far piece.rate _ _ (f t) t piece.start (time_in-up_to piece.start later t i n) (supplied-none later t (rise_rest piece later s) n) (on t i)
+
+  next_goes_on : (so_far sum : ℚ) (piece : Piece) (later : List Piece) → StartsRise (piece ∷ later) → GoesOn so_far (piece ∷ later) → piece.start ≤ℚ last → sum ≡ so_far +ℚ piece.rate *ℚ (end_of later last -ℚ piece.start)
+      → ((next : Piece) (rest : List Piece) → later ≡ next ∷ rest → next.start ≤ℚ last) → GoesOn sum later
+  next_goes_on so_far sum piece [] s on h e k = tt
+  next_goes_on so_far sum piece (next ∷ rest) s on h e k = λ t i.
+      so_on so_far piece.rate _ _ (f t) next.start piece.start sum (time_in-after piece.start next rest t (≤ℚ_of_lt _ _ s.0) i)
+      (e ∙ ap (λ (x : ℚ). so_far +ℚ piece.rate *ℚ (x -ℚ piece.start)) (min-left next.start last (k next rest refl))) (on t (≤_trans _ _ _ (≤ℚ_of_lt _ _ s.0) i))
+
+  -- only a piece that starts before the last time asks for it
+  abbrev Goes : ℚ → List Piece → Type 0
+  Goes so_far later = ((next : Piece) (rest : List Piece) → later ≡ next ∷ rest → next.start ≤ℚ last) → GoesOn so_far later
+
+  first_of : (piece : Piece) (later : List Piece) → (next : Piece) (rest : List Piece) → piece ∷ later ≡ next ∷ rest → piece.start ≡ next.start
+  first_of piece later next rest e = ap start e
+    where
+      start : List Piece → ℚ
+      start [] = 0ℚ
+      start (p ∷ rest) = p.start
+
+  -- from a point on, up to the end of the piece in which it lies
+  from_point : (p : Point) (k so_far : ℚ) (pieces : List Piece) (points : List Point) → f p.0 ≡ p.1 → 0ℚ ≤ℚ p.0 → p.0 <ℚ end_of pieces last → IsAffine f p.0 (end_of pieces last) k → f (end_of pieces last) ≡ so_far
+      → StartsRise pieces → Goes so_far pieces → cumulative_from passes so_far pieces last ≡ Ok points → FollowsFrom f last p points
+  from_point p k so_far [] points at n h line e s on g =
+      subst (λ (l : List Point). FollowsFrom f last p l) (sym (after_0 last so_far (zero_lt p.0 last n h)) ∙ same_ok _ _ g) (goes k at h line (ends e refl))
+    where
+      zero_lt : (x y : ℚ) → 0ℚ ≤ℚ x → x <ℚ y → 0ℚ <ℚ y
+      zero_lt x y h k = linear_lt (x ∷ y ∷ []) (le h ∷ lt k ∷ []) (search reading_of depth 12) tt
+  from_point p k so_far (piece ∷ later) points at n h line e s on g = ⊎_elim
+      (λ (w : (lt_ℚ piece.start last ≡ true) × (piece.start <ℚ last)).
+      let here : end_of (piece ∷ later) last ≡ piece.start = min-left piece.start last (≤ℚ_of_lt _ _ w.1) in
+      let goes_on : GoesOn so_far (piece ∷ later) = on (λ next rest q. subst (λ (x : ℚ). x ≤ℚ last) (first_of piece later next rest q) (≤ℚ_of_lt _ _ w.1)) in
+      let g' = sym (ap (λ (b : Bool). elim b [
+        | true ↦ with_piece passes so_far piece (end_of later last) >>= λ sum. cumulative_from passes sum later last >>= λ rest. Ok (point_if_after_0 piece.start so_far ++ rest)
+        | false ↦ Ok (point_if_after_0 last so_far)
+      ]) w.0) ∙ g in
+      let sum = then_ok (with_piece passes so_far piece (end_of later last)) _ points g' in
+      let rest = then_ok (cumulative_from passes sum.between later last) _ points sum.next in
+      let start_0 : 0ℚ <ℚ piece.start = zero_lt p.0 piece.start n (subst (λ (x : ℚ). p.0 <ℚ x) here h) in
+      let at_start : f piece.start ≡ so_far = subst (λ (x : ℚ). f x ≡ so_far) here e in
+      let later_start = later_than piece later s in
+      let end_later : piece.start <ℚ end_of later last = end_after piece.start later last w.1 later_start in
+      let line' : IsAffine f piece.start (end_of later last) piece.rate = record {
+        line = λ t i j. over_piece so_far piece later s goes_on t i j ∙ ap (λ (x : ℚ). x +ℚ piece.rate *ℚ (t -ℚ piece.start)) (sym at_start);
+      } in
+      let sum_is = with_piece-is so_far piece (end_of later last) sum.between sum.first in
+      subst (λ (l : List Point). FollowsFrom f last p l) (ap (λ (l : List Point). l ++ rest.between) (sym (after_0 piece.start so_far start_0)) ∙ same_ok _ _ rest.next)
+      (goes k at (subst (λ (x : ℚ). p.0 <ℚ x) here h) (subst (λ (x : ℚ). IsAffine f p.0 x k) here line)
+      (from_point (piece.start, so_far) piece.rate sum.between later rest.between at_start (≤ℚ_of_lt _ _ start_0) end_later line'
+      (over_piece so_far piece later s goes_on (end_of later last) (≤ℚ_of_lt _ _ end_later) (≤_refl _) ∙ sym sum_is) (rise_rest piece later s)
+      (λ q. next_goes_on so_far sum.between piece later s goes_on (≤ℚ_of_lt _ _ w.1) sum_is q) rest.first)))
+      (λ (w : (lt_ℚ piece.start last ≡ false) × (last ≤ℚ piece.start)).
+      let here : end_of (piece ∷ later) last ≡ last = min-right piece.start last w.1 in
+      let g' = sym (ap (λ (b : Bool). elim b [
+        | true ↦ with_piece passes so_far piece (end_of later last) >>= λ sum. cumulative_from passes sum later last >>= λ rest. Ok (point_if_after_0 piece.start so_far ++ rest)
+        | false ↦ Ok (point_if_after_0 last so_far)
+      ]) w.0) ∙ g in
+      subst (λ (l : List Point). FollowsFrom f last p l) (sym (after_0 last so_far (zero_lt p.0 last n (subst (λ (x : ℚ). p.0 <ℚ x) here h))) ∙ same_ok _ _ g')
+      (goes k at (subst (λ (x : ℚ). p.0 <ℚ x) here h) (subst (λ (x : ℚ). IsAffine f p.0 x k) here line) (ends (subst (λ (x : ℚ). f x ≡ so_far) here e) refl)))
+      (lt_ℚ_cases piece.start last)
+    where
+      zero_lt : (x y : ℚ) → 0ℚ ≤ℚ x → x <ℚ y → 0ℚ <ℚ y
+      zero_lt x y h k = linear_lt (x ∷ y ∷ []) (le h ∷ lt k ∷ []) (search reading_of depth 12) tt
+
+      later_than : (piece : Piece) (later : List Piece) → StartsRise (piece ∷ later) → (next : Piece) (rest : List Piece) → later ≡ next ∷ rest → piece.start <ℚ next.start
+      later_than piece [] s next rest q = absurd (cc)
+      later_than piece (x ∷ xs) s next rest q = subst (λ (y : ℚ). piece.start <ℚ y) (first_of x xs next rest q) s.0
+
+-- ---- from time 0 on
+pub follows-values_rise : (f : ℚ → ℚ) (last : ℚ) (p : Point) (rest : List Point) → 0ℚ ≤ℚ p.0 → NeverFalls f → FollowsFrom f last p rest → ValuesRise (p ∷ rest)
+follows-values_rise f last p [] n rises w = tt
+follows-values_rise f last p (q ∷ rest) n rises (goes k e h line later) = (
+  subst (λ (x : ℚ). x ≤ℚ q.1) e (subst (λ (x : ℚ). f p.0 ≤ℚ x) (follows-point f last q rest later) (rises p.0 q.0 n (≤ℚ_of_lt _ _ h))),
+  follows-values_rise f last q rest (≤_trans _ _ _ n (≤ℚ_of_lt _ _ h)) rises later,
+)
+
+module _ (passes : Passing) (pieces : List Piece) (last : ℚ) (good : ArePieces pieces) (from_0 : 0ℚ ≤ℚ last) where
+  amount : ℚ → ℚ
+  amount t = supplied pieces t
+
+  begins_0 : supplied pieces 0ℚ ≡ 0ℚ
+  begins_0 = supplied-begins pieces good
+
+  flat_0 : (t : ℚ) → 0ℚ ≡ 0ℚ +ℚ 0ℚ *ℚ (t -ℚ 0ℚ)
+  flat_0 t = linear_eq (t ∷ []) [] (search reading_of depth 12) tt tt
+
+  plus_0 : (x : ℚ) → x ≡ 0ℚ +ℚ x
+  plus_0 x = linear_eq (x ∷ []) [] (search reading_of depth 12) tt tt
+
+  -- before the first start nothing is supplied
+  none_up_to : (end : ℚ) → NextFrom pieces end → IsAffine (λ t. supplied pieces t) 0ℚ end 0ℚ
+  none_up_to end n = record {
+    line = λ t i j. supplied-none pieces t (StartsRise-pieces pieces good) (next_up_to pieces t end j n) ∙ flat_0 t ∙ ap (λ (x : ℚ). x +ℚ 0ℚ *ℚ (t -ℚ 0ℚ)) (sym begins_0);
+  }
+
+  goes_from_0 : (l : List Piece) → l ≡ pieces → GoesOn passes (λ t. supplied pieces t) last 0ℚ l
+  goes_from_0 [] e = tt
+  goes_from_0 (piece ∷ later) e = λ t i. subst (λ (l : List Piece). supplied l t ≡ 0ℚ +ℚ supplied (piece ∷ later) t) e (plus_0 (supplied (piece ∷ later) t))
+
+  starts_nn : (l : List Piece) (piece : Piece) (later : List Piece) → l ≡ pieces → l ≡ piece ∷ later → 0ℚ ≤ℚ piece.start
+  starts_nn l piece later e f = let a : ArePieces (piece ∷ later) = subst (λ (m : List Piece). ArePieces m) (sym e ∙ f) good in a.starts 0 piece refl
+
+  -- the first piece starts after time 0, or there is none
+  later_start : (points : List Point) → 0ℚ <ℚ end_of pieces last → cumulative_from passes 0ℚ pieces last ≡ Ok points → FollowsFrom (λ t. supplied pieces t) last (0ℚ, 0ℚ) points
+  later_start points h g = from_point passes (λ t. supplied pieces t) last (0ℚ, 0ℚ) 0ℚ 0ℚ pieces points begins_0 (≤_refl 0ℚ) h (none_up_to (end_of pieces last) (end_next pieces last))
+      (supplied-none pieces (end_of pieces last) (StartsRise-pieces pieces good) (end_next pieces last)) (StartsRise-pieces pieces good) (λ _. goes_from_0 pieces refl) g
+
+  at_start : (piece : Piece) (later : List Piece) (points : List Point) → piece ∷ later ≡ pieces → piece.start ≡ 0ℚ → 0ℚ <ℚ last → cumulative_from passes 0ℚ (piece ∷ later) last ≡ Ok points
+      → FollowsFrom (λ t. supplied pieces t) last (0ℚ, 0ℚ) points
+  at_start piece later points e z h g = ⊎_elim
+      (λ (w : (lt_ℚ piece.start last ≡ true) × (piece.start <ℚ last)).
+      let rise : StartsRise (piece ∷ later) = subst StartsRise (sym e) (StartsRise-pieces pieces good) in
+      let on : GoesOn passes (λ t. supplied pieces t) last 0ℚ (piece ∷ later) = goes_from_0 (piece ∷ later) e in
+      let g' = sym (ap (λ (b : Bool). elim b [
+        | true ↦ with_piece passes 0ℚ piece (end_of later last) >>= λ sum. cumulative_from passes sum later last >>= λ rest. Ok (point_if_after_0 piece.start 0ℚ ++ rest)
+        | false ↦ Ok (point_if_after_0 last 0ℚ)
+      ]) w.0) ∙ g in
+      let sum = then_ok (with_piece passes 0ℚ piece (end_of later last)) _ points g' in
+      let rest = then_ok (cumulative_from passes sum.between later last) _ points sum.next in
+      let end_later : piece.start <ℚ end_of later last = end_after piece.start later last w.1 (start_later piece later rise) in
+      let sum_is = with_piece-is passes (λ t. supplied pieces t) last 0ℚ piece (end_of later last) sum.between sum.first in
+      subst (λ (l : List Point). FollowsFrom (λ t. supplied pieces t) last (0ℚ, 0ℚ) l) (ap (λ (l : List Point). l ++ rest.between) (sym (at_0 piece.start 0ℚ z)) ∙ same_ok _ _ rest.next)
+      (from_point passes (λ t. supplied pieces t) last (0ℚ, 0ℚ) piece.rate sum.between later rest.between begins_0 (≤_refl 0ℚ) (subst (λ (x : ℚ). x <ℚ end_of later last) z end_later)
+      (subst (λ (x : ℚ). IsAffine (λ t. supplied pieces t) x (end_of later last) piece.rate) z (record {
+        line = λ t i j. over_piece passes (λ t. supplied pieces t) last 0ℚ piece later rise on t i j
+            ∙ ap (λ (x : ℚ). x +ℚ piece.rate *ℚ (t -ℚ piece.start)) (sym (ap (λ (x : ℚ). supplied pieces x) z ∙ begins_0));
+      }))
+      (over_piece passes (λ t. supplied pieces t) last 0ℚ piece later rise on (end_of later last) (≤ℚ_of_lt _ _ end_later) (≤_refl _) ∙ sym sum_is) (rise_rest piece later rise)
+      (λ q. next_goes_on passes (λ t. supplied pieces t) last 0ℚ sum.between piece later rise on (≤ℚ_of_lt _ _ w.1) sum_is q) rest.first))
+      (λ (w : (lt_ℚ piece.start last ≡ false) × (last ≤ℚ piece.start)). absurd (clash 0ℚ last h (subst (λ (x : ℚ). last ≤ℚ x) z w.1)))
+      (lt_ℚ_cases piece.start last)
+    where
+      start_later : (piece : Piece) (later : List Piece) → StartsRise (piece ∷ later) → (next : Piece) (rest : List Piece) → later ≡ next ∷ rest → piece.start <ℚ next.start
+      start_later piece [] s next rest q = absurd (cc)
+      start_later piece (x ∷ xs) s next rest q = subst (λ (y : ℚ). piece.start <ℚ y) (first_of passes (λ t. supplied pieces t) last x xs next rest q) s.0
+
+  from_start : (l : List Piece) (points : List Point) → l ≡ pieces → 0ℚ <ℚ last → cumulative_from passes 0ℚ l last ≡ Ok points → FollowsFrom (λ t. supplied pieces t) last (0ℚ, 0ℚ) points
+  from_start [] points e h g = later_start points (subst (λ (l : List Piece). 0ℚ <ℚ end_of l last) e h) (ap (λ (l : List Piece). cumulative_from passes 0ℚ l last) (sym e) ∙ g)
+  from_start (piece ∷ later) points e h g = ⊎_elim
+      (λ (l : 0ℚ <ℚ piece.start). later_start points (subst (λ (l : List Piece). 0ℚ <ℚ end_of l last) e (both piece.start last l h)) (ap (λ (l : List Piece). cumulative_from passes 0ℚ l last) (sym e) ∙ g))
+      (λ (l : piece.start ≤ℚ 0ℚ). at_start piece later points e (≤ℚ_antisymm _ _ l (starts_nn (piece ∷ later) piece later e refl)) h g)
+      (lt_or_le_ℚ 0ℚ piece.start)
+    where
+      both : (x y : ℚ) → 0ℚ <ℚ x → 0ℚ <ℚ y → 0ℚ <ℚ min_ℚ x y
+      both x y h k = ⊎_elim
+          (λ (w : (min_ℚ x y ≡ x) × (x ≤ℚ y)). subst (λ (z : ℚ). 0ℚ <ℚ z) (sym w.0) h)
+          (λ (w : (min_ℚ x y ≡ y) × (y <ℚ x)). subst (λ (z : ℚ). 0ℚ <ℚ z) (sym w.0) k)
+          (min_ℚ_cases x y)
+
+  -- with nothing to look at, there is the one point
+  at_once : (l : List Piece) (points : List Point) → l ≡ pieces → last ≡ 0ℚ → cumulative_from passes 0ℚ l last ≡ Ok points → FollowsFrom (λ t. supplied pieces t) last (0ℚ, 0ℚ) points
+  at_once [] points e z g = subst (λ (l : List Point). FollowsFrom (λ t. supplied pieces t) last (0ℚ, 0ℚ) l) (sym (at_0 last 0ℚ z) ∙ same_ok _ _ g) (ends begins_0 (sym z))
+  at_once (piece ∷ later) points e z g = ⊎_elim
+      (λ (w : (lt_ℚ piece.start last ≡ true) × (piece.start <ℚ last)).
+      absurd (clash piece.start last w.1 (subst (λ (x : ℚ). x ≤ℚ piece.start) (sym z) (starts_nn (piece ∷ later) piece later e refl))))
+      (λ (w : (lt_ℚ piece.start last ≡ false) × (last ≤ℚ piece.start)).
+      let g' = sym (ap (λ (b : Bool). elim b [
+        | true ↦ with_piece passes 0ℚ piece (end_of later last) >>= λ sum. cumulative_from passes sum later last >>= λ rest. Ok (point_if_after_0 piece.start 0ℚ ++ rest)
+        | false ↦ Ok (point_if_after_0 last 0ℚ)
+      ]) w.0) ∙ g in
+      subst (λ (l : List Point). FollowsFrom (λ t. supplied pieces t) last (0ℚ, 0ℚ) l) (sym (at_0 last 0ℚ z) ∙ same_ok _ _ g') (ends begins_0 (sym z)))
+      (lt_ℚ_cases piece.start last)
+
+  -- where no operation passes, it is what the pieces supply, up to the last time
+  pub checked_cumulative-is : (points : List Point) → checked_cumulative passes pieces last ≡ Ok points → IsCumulative pieces last points
+  unfolding checked_cumulative
+  checked_cumulative-is points e =
+      let rest = then_ok (cumulative_from passes 0ℚ pieces last) _ points e in
+      let w : FollowsFrom (λ t. supplied pieces t) last (0ℚ, 0ℚ) rest.between = ⊎_elim
+      (λ (l : 0ℚ <ℚ last). from_start pieces rest.between refl l rest.first)
+      (λ (l : last ≤ℚ 0ℚ). at_once pieces rest.between refl (≤ℚ_antisymm last 0ℚ l from_0) rest.first)
+      (lt_or_le_ℚ 0ℚ last) in
+      let c : IsCurve ((0ℚ, 0ℚ) ∷ rest.between) = follows-curve (λ t. supplied pieces t) last (0ℚ, 0ℚ) rest.between refl w in
+      subst (λ (l : List Point). IsCumulative pieces last l) (same_ok _ _ rest.next) (record {
+        curve = c;
+        begins = follows-values (λ t. supplied pieces t) last (0ℚ, 0ℚ) rest.between 0ℚ refl w (≤_refl 0ℚ) from_0 ∙ begins_0;
+        rises = NeverFalls-value ((0ℚ, 0ℚ) ∷ rest.between) c (follows-values_rise (λ t. supplied pieces t) last (0ℚ, 0ℚ) rest.between (≤_refl 0ℚ) (supplied-rises pieces good) w);
+        values = λ t u. follows-values (λ t. supplied pieces t) last (0ℚ, 0ℚ) rest.between t refl w u.0 u.1;
+        after = λ t h. value-follows_past (λ t. supplied pieces t) last (0ℚ, 0ℚ) rest.between t w h;
+      })

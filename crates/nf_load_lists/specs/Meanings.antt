@@ -1,0 +1,30 @@
+-- What cumulative amounts and the loading of a link have to give, at every time.
+use Rattle.std.specs.Prelude.{◌≡◌, List, Option}
+use Rattle.nf_rational.specs.Rational.{ℚ}
+use Rattle.nf_rational.specs.Operations.{0ℚ, ◌+ℚ◌}
+use Rattle.nf_rational.specs.Order.{◌≤ℚ◌}
+use Rattle.nf_model.specs.Curve.{Within, value, NeverFalls, IsCurve, IsShort}
+use Rattle.nf_model.specs.Network.{Piece, supplied}
+use Rattle.nf_model.specs.Queue.{IsQueue, IsExit, IsOutflow}
+use Rattle.nf_load_lists.specs.Loading.{Loaded}
+
+-- what the pieces supply, up to the last time, and constant after it
+pub record IsCumulative (pieces : List Piece) (last : ℚ) (points : List (ℚ × ℚ)) : Type 0 where
+  pub curve : IsCurve points
+  pub begins : value points 0ℚ ≡ 0ℚ
+  pub rises : NeverFalls (value points)
+  pub values : (time : ℚ) → Within 0ℚ last time → value points time ≡ supplied pieces time
+  pub after : (time : ℚ) → last ≤ℚ time → value points time ≡ supplied pieces last
+
+-- queue and exit up to the last time, and the outflow up to one transit time later, are those of the inflow by the law of the
+-- point queue
+pub record IsLoaded (transit : ℚ) (capacity : Option ℚ) (inflow : List (ℚ × ℚ)) (last : ℚ) (loaded : Loaded) : Type 0 where
+  pub queue_curve : IsCurve loaded.queue
+  pub outflow_curve : IsCurve loaded.outflow
+  pub exit_curve : IsCurve loaded.exit
+  pub queue_short : IsShort loaded.queue
+  pub outflow_short : IsShort loaded.outflow
+  pub exit_short : IsShort loaded.exit
+  pub queue_values : (time : ℚ) → Within 0ℚ last time → IsQueue capacity (value inflow) time (value loaded.queue time)
+  pub exit_values : (time : ℚ) → Within 0ℚ last time → IsExit transit capacity (value inflow) time (value loaded.exit time)
+  pub outflow_values : (time : ℚ) → Within 0ℚ (last +ℚ transit) time → IsOutflow transit capacity (value inflow) time (value loaded.outflow time)
