@@ -31,7 +31,7 @@ one_more_digit n ds high before (suc k) h =
     let long : length (ds ++ (48 + n % 10) ∷ []) ≡ length ds + 1 = length-append ds ((48 + n % 10) ∷ []) in
     omega arith
 
-length_digits : (n k : ℕ) → n < 10 ^ suc k → length (digits_of n) ≤ suc k
+pub length_digits : (n k : ℕ) → n < 10 ^ suc k → length (digits_of n) ≤ suc k
 length_digits = by_steps (λ n ds. (k : ℕ) → n < 10 ^ suc k → length ds ≤ suc k) (λ n low k h. omega arith) one_more_digit
 
 length_number : (n : ℕ) → n ≤ greatest → length (digits_of n) ≤ 39
@@ -41,7 +41,7 @@ length_signed : (n : ℤ) → nat_abs n ≤ greatest → length (signed_digits_o
 length_signed (pos n) h = let k : length (digits_of n) ≤ 39 = length_number n h in omega arith
 length_signed (negsuc n) h = let k : length (digits_of (suc n)) ≤ 39 = length_number (suc n) h in omega arith
 
-length_printed : (q : ℚ) → IsFraction q → length (printed q) ≤ 80
+pub length_printed : (q : ℚ) → IsFraction q → length (printed q) ≤ 80
 unfolding printed
 length_printed q h =
     let num : length (signed_digits_of q.num) ≤ 40 = length_signed q.num (within q h).0 in

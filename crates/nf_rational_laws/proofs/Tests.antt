@@ -73,6 +73,12 @@ test_of_lt x y h = ⊎_elim
     (λ (w : (le_ℚ x y ≡ false) × (y <ℚ x)). w.0)
     (le_ℚ_cases x y)
 
+pub less_of_test : (x y : ℚ) → lt_ℚ x y ≡ true → x <ℚ y
+less_of_test x y e = ⊎_elim (λ (w : (lt_ℚ x y ≡ true) × (x <ℚ y)). w.1) (λ (w : (lt_ℚ x y ≡ false) × (y ≤ℚ x)). cc) (lt_ℚ_cases x y)
+
+pub test_of_less : (x y : ℚ) → x <ℚ y → lt_ℚ x y ≡ true
+test_of_less x y h = ⊎_elim (λ (w : (lt_ℚ x y ≡ true) × (x <ℚ y)). w.0) (λ (w : (lt_ℚ x y ≡ false) × (y ≤ℚ x)). absurd (not_both_ℚ x y h w.1)) (lt_ℚ_cases x y)
+
 -- ---- what is left of a number above 0
 pub max0_of : (x : ℚ) → 0ℚ ≤ℚ x → max_ℚ 0ℚ x ≡ x
 max0_of x h = ⊎_elim (λ (w : (max_ℚ 0ℚ x ≡ x) × (0ℚ ≤ℚ x)). w.0) (λ (w : (max_ℚ 0ℚ x ≡ 0ℚ) × (x <ℚ 0ℚ)). absurd (not_both_ℚ _ _ w.1 h)) (max_ℚ_cases 0ℚ x)
