@@ -137,7 +137,7 @@ module _ (net : Network) (good : IsNetwork net) (horizon time time' : ℚ) (labe
   describes_on = DescriptionGoesOn-curves net (at curves.inflows) (at curves.labels) (at curves'.inflows) (at curves'.labels) time phase.length (number_at phase.flows) (number_at phase.slopes)
       curves.outflows curves.queues curves'.outflows curves'.queues good some phase.thin.no_negative_slope into grown.stands.holds holds_after goes grown.describes grown.description_stands describe
 
-  Grown-after : Grown net time' labels' curves'
+  pub Grown-after : Grown net time' labels' curves'
   Grown-after = record {
     stands = stands;
     curves_stand = subst (λ (z : ℚ). CurvesStand net curves'.inflows curves'.labels z) (sym phase.time)
@@ -155,19 +155,18 @@ grown_by net until labels curves good (begin _ _ least first) = Grown-first net 
 grown_by net until labels curves good (grow horizon time _ before _ curves_0 _ phase earlier go describe) =
     Grown-after net good horizon time until before labels curves_0 curves phase (grown_by net time before curves_0 good earlier) go describe
 
+pub Equilibrium-grown : (net : Network) (labels : List ℚ) (flow : Flow) → IsNetwork net → Grown net flow.reached labels (curves_of flow)
+    → HasShape net flow → HasSlopes flow.inflows → HasSlopes flow.outflows → Equilibrium net flow
+Equilibrium-grown net labels flow good g shape inflow_rates outflow_rates = record {
+  reached = g.stands.holds.begun;
+  shape = shape;
+  nash = IsNashFlow-from_HoldsUpTo net _ _ flow.reached good g.stands.holds;
+  inflow_rates = inflow_rates;
+  outflow_rates = outflow_rates;
+  outflows = IsOutflow-described net _ _ _ _ flow.reached good g.stands.holds g.describes;
+  queues = IsQueue-described net _ _ _ _ flow.reached good g.stands.holds g.describes;
+}
+
 pub Equilibrium-phases : (net : Network) (labels : List ℚ) (flow : Flow) → IsNetwork net → GrowByPhases net flow.reached labels (curves_of flow)
     → HasShape net flow → HasSlopes flow.inflows → HasSlopes flow.outflows → Equilibrium net flow
-Equilibrium-phases net labels flow good run shape inflow_rates outflow_rates =
-    let g : Grown net flow.reached labels (curves_of flow) = grown_by net flow.reached labels (curves_of flow) good run in
-    equilibrium (curves_of flow) g
-  where
-    equilibrium : (curves : Curves) → Grown net flow.reached labels (curves_of flow) → Equilibrium net flow
-    equilibrium curves g = record {
-      reached = g.stands.holds.begun;
-      shape = shape;
-      nash = IsNashFlow-from_HoldsUpTo net _ _ flow.reached good g.stands.holds;
-      inflow_rates = inflow_rates;
-      outflow_rates = outflow_rates;
-      outflows = IsOutflow-described net _ _ _ _ flow.reached good g.stands.holds g.describes;
-      queues = IsQueue-described net _ _ _ _ flow.reached good g.stands.holds g.describes;
-    }
+Equilibrium-phases net labels flow good run = Equilibrium-grown net labels flow good (grown_by net flow.reached labels (curves_of flow) good run)

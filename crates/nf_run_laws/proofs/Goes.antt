@@ -28,13 +28,13 @@ use Rattle.nf_thin_laws.proofs.ActiveLinks.{AreSets-sets_at}
 use Rattle.nf_phase_laws.specs.Invariant.{link_slack, queue_by_slack}
 use Rattle.nf_phase_laws.specs.CurveSteps.{LastPoint, GoesOnTo, at, CurvesGoOn}
 use Rattle.nf_phase_laws.specs.DescriptionCurves.{DescriptionCurvesGoOn}
-use Rattle.nf_phase_laws.specs.CurveRun.{Curves, grow, curves_of}
+use Rattle.nf_phase_laws.specs.CurveRun.{Curves, GrowByPhases, grow, curves_of}
 use Rattle.nf_phase_laws.proofs.Holds.{sent-is}
 use Rattle.nf_phase_laws.proofs.Thin.{slack-is}
 use Rattle.nf_phase_laws.proofs.Phases.{Lasts-phase}
 use Rattle.nf_phase_laws.proofs.Length.{IsPhaseLength-some}
 use Rattle.nf_phase_laws.proofs.CurveSteps.{ends_at}
-use Rattle.nf_phase_laws.proofs.CurveRun.{Grown, grown_by}
+use Rattle.nf_phase_laws.proofs.CurveRun.{Grown, Grown-after}
 use Rattle.nf_run_laws.proofs.Points.{LastSlope, LastSlope-rates, Went}
 use Rattle.nf_run_laws.proofs.StepValues.{filled_slope, step_value, step_value_at, steps-length}
 use Rattle.nf_run_laws.proofs.Filled.{queue_slope, Filled-at}
@@ -72,7 +72,7 @@ module _ (passes : Passing) (net : Network) (good : IsNetwork net) (horizon : �
   phase = record { before = below; flows = flows; slopes = slopes; thin = thin; length = step.length; is_length = is_length; time = refl; labels = parts.labels }
 
   grown : Grown net s.time s.labels curves
-  grown = grown_by net s.time s.labels curves good well.grow
+  grown = well.grow
 
   some : 0ℚ <ℚ step.length
   some = IsPhaseLength-some net (slacks_of (hops net) s.labels) slopes s.time horizon step.length below is_length
@@ -226,7 +226,7 @@ module _ (passes : Passing) (net : Network) (good : IsNetwork net) (horizon : �
   link_found : (e : ℕ) (link : Link) → IsLink net e link → (c : LinkCurves) × (slice_get s.link_curves e ≡ Some c)
   link_found e link p = found s.link_curves e (let n = well.link_count in let k = slice_get_within net.links e link p in omega arith)
 
-  curves_go : CurvesGoOn net curves.inflows curves.labels s.time step.length (number_at flows) (number_at slopes) curves'.inflows curves'.labels
+  pub curves_go : CurvesGoOn net curves.inflows curves.labels s.time step.length (number_at flows) (number_at slopes) curves'.inflows curves'.labels
   curves_go = record {
     labels_go = label_goes;
     inflows_go = λ e link p moves. (let f = link_found e link p in
@@ -236,7 +236,7 @@ module _ (passes : Passing) (net : Network) (good : IsNetwork net) (horizon : �
     inflows_stay = λ e link p still. (let f = link_found e link p in inflow_new e link p f.0 f.1 ∙ (inflow_step e link p f.0 f.1).stays still);
   }
 
-  description_goes : DescriptionCurvesGoOn net (at curves.labels) (at curves'.labels) curves.outflows curves.queues s.time step.length (number_at flows) (number_at slopes) curves'.outflows curves'.queues
+  pub description_goes : DescriptionCurvesGoOn net (at curves.labels) (at curves'.labels) curves.outflows curves.queues s.time step.length (number_at flows) (number_at slopes) curves'.outflows curves'.queues
   description_goes = record {
     outflows_go = λ e link p moves. (let f = link_found e link p in
         subst (λ (ps : List Point). GoesOnTo (curves.outflows e) ps (label_now link.head, at curves.outflows e (label_now link.head))
@@ -271,9 +271,12 @@ module _ (passes : Passing) (net : Network) (good : IsNetwork net) (horizon : �
       let c = link_found e l.0 l.1 in
       subst P (same_Some _ k (sym (link_after e l.0 l.1 c.0 c.1) ∙ there)) (f e l.0 l.1 c.0 c.1)
 
+  pub GrowByPhases-after : GrowByPhases net s.time s.labels curves → GrowByPhases net new.time new.labels curves'
+  GrowByPhases-after earlier = grow horizon s.time (s.time +ℚ step.length) s.labels step.labels curves curves' phase earlier curves_go description_goes
+
   pub WellRun-after : WellRun net (standing_after net s pattern slopes step)
   WellRun-after = record {
-    grow = grow horizon s.time (s.time +ℚ step.length) s.labels step.labels curves curves' phase well.grow curves_go description_goes;
+    grow = Grown-after net good horizon s.time (s.time +ℚ step.length) s.labels step.labels curves curves' phase well.grow curves_go description_goes;
     label_count = label_length;
     link_count = link_length;
     label_slopes = new_label_slope;

@@ -12,3 +12,5 @@ pub mod Extension
 pub mod Sequence
 pub mod Standing
 pub mod Moving
+pub mod Short
+pub mod ShortRun

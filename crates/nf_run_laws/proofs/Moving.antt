@@ -1,17 +1,17 @@
 -- How labels move in a phase of a run, and what that says of the rates of its links.
-use Rattle.std.proofs.Common.{◌≡◌, ℕ, ◌<◌, List, [], ◌∷◌, length, Bool, true, false, sym, ap, subst, refl, ◌∙◌}
-use Rattle.std.specs.Prelude.{Option, Some, None, map, slice_get}
+use Rattle.std.proofs.Common.{◌≡◌, ℕ, List, [], ◌∷◌, length, Bool, true, false, sym, ap, subst, refl, ◌∙◌}
+use Rattle.std.specs.Prelude.{Some, None, map, slice_get}
 use Rattle.std.proofs.lemmas.Option.{same_Some}
 use Rattle.nf_rational.specs.Rational.{ℚ}
 use Rattle.nf_rational.specs.Operations.{0ℚ, ◌+ℚ◌, ◌*ℚ◌}
-use Rattle.nf_rational.specs.Order.{◌≤ℚ◌, ◌<ℚ◌}
+use Rattle.nf_rational.specs.Order.{◌<ℚ◌}
 use Rattle.nf_rational_laws.proofs.Polynomial.{reading_of}
-use Rattle.nf_rational_laws.proofs.Linear.{lt, eq, linear_lt}
+use Rattle.nf_rational_laws.proofs.Linear.{lt, linear_lt}
 use Rattle.nf_rational_laws.proofs.Order.{ps_times}
 use Rattle.nf_work.specs.Passing.{Passing}
 use Rattle.nf_model.specs.Entries.{number_at}
-use Rattle.nf_model.specs.Network.{Link, Network, IsNetwork, IsLink, hops}
-use Rattle.nf_model.specs.ThinFlow.{slacks_of, sets_at}
+use Rattle.nf_model.specs.Network.{Link, Network, IsLink}
+use Rattle.nf_model.specs.ThinFlow.{sets_at}
 use Rattle.nf_model.specs.Pattern.{Pattern}
 use Rattle.nf_lists.specs.Signs.{is_positive}
 use Rattle.nf_lists.specs.CurveList.{QueueStep, LinkStep, LinkPhase, link_phase}

@@ -94,7 +94,7 @@ TimesRise-curve : (points : List Point) → IsCurve points → TimesRise points
 TimesRise-curve [] c = absurd c
 TimesRise-curve (p ∷ rest) c = c.1
 
-taken : (front : List Point) (before last new : Point) → take (length (front ++ before ∷ last ∷ []) - 1) (front ++ before ∷ last ∷ []) ++ new ∷ [] ≡ front ++ before ∷ new ∷ []
+pub taken : (front : List Point) (before last new : Point) → take (length (front ++ before ∷ last ∷ []) - 1) (front ++ before ∷ last ∷ []) ++ new ∷ [] ≡ front ++ before ∷ new ∷ []
 taken front before last new =
     ap (λ (ps : List Point). take (length ps - 1) ps ++ new ∷ []) (sym (append_assoc front (before ∷ []) (last ∷ [])))
     ∙ ap (λ (ps : List Point). ps ++ new ∷ []) (front_of (front ++ before ∷ []) last)

@@ -15,14 +15,14 @@ use Rattle.nf_lists.specs.PhaseRun.{Standing, Bounds, Goes, Runs, at_horizon, at
 use Rattle.nf_lists_laws.proofs.Ending.{from_map, PhaseParts, phase_parts}
 use Rattle.nf_phase_laws.specs.CurveRun.{GrowByPhases, curves_of}
 use Rattle.nf_phase_laws.proofs.Holds.{link_within}
-use Rattle.nf_phase_laws.proofs.CurveRun.{Grown, grown_by, Equilibrium-phases}
-use Rattle.nf_run_laws.proofs.WellRun.{WellRun, WellRun-start}
-use Rattle.nf_run_laws.proofs.Goes.{phase, WellRun-after}
+use Rattle.nf_phase_laws.proofs.CurveRun.{Grown, Equilibrium-grown}
+use Rattle.nf_run_laws.proofs.WellRun.{WellRun, WellRun-start, GrowByPhases-start}
+use Rattle.nf_run_laws.proofs.Goes.{phase, WellRun-after, GrowByPhases-after}
 
 -- ---- the flow of a standing
 module _ (net : Network) (good : IsNetwork net) (s : Standing) (well : WellRun net s) where
   grown : Grown net s.time s.labels (curves_of (flow_of s))
-  grown = grown_by net s.time s.labels (curves_of (flow_of s)) good well.grow
+  grown = well.grow
 
   many : {B : Type 0} (f : LinkCurves → B) → length (map f s.link_curves) ≡ length net.links
   many f = length-map s.link_curves f ∙ well.link_count
@@ -42,13 +42,13 @@ module _ (net : Network) (good : IsNetwork net) (s : Standing) (well : WellRun n
   )
 
   pub Equilibrium-well : Equilibrium net (flow_of s)
-  Equilibrium-well = Equilibrium-phases net s.labels (flow_of s) good well.grow HasShape-well HasSlopes-well.0 HasSlopes-well.1
+  Equilibrium-well = Equilibrium-grown net s.labels (flow_of s) good well.grow HasShape-well HasSlopes-well.0 HasSlopes-well.1
 
 -- ---- phase by phase
 module _ (passes : Passing) (net : Network) (good : IsNetwork net) (bounds : Bounds) where
-  parts_of : (s t : Standing) (g : Goes passes net bounds.horizon bounds.patterns s t) → WellRun net s → PhaseParts passes net s g.pattern g.flows g.slopes g.step
+  pub parts_of : (s t : Standing) (g : Goes passes net bounds.horizon bounds.patterns s t) → WellRun net s → PhaseParts passes net s g.pattern g.flows g.slopes g.step
   parts_of s t g well =
-      let grown : Grown net s.time s.labels (curves_of (flow_of s)) = grown_by net s.time s.labels (curves_of (flow_of s)) good well.grow in
+      let grown : Grown net s.time s.labels (curves_of (flow_of s)) = well.grow in
       let count : length g.slopes ≡ length s.labels = g.finds.search.is_search.answers.solution.solves.slope_count ∙ sym grown.stands.count in
       phase_parts passes net good bounds.horizon bounds.patterns s g.pattern g.flows g.slopes g.step count g.lists
 
@@ -58,6 +58,14 @@ module _ (passes : Passing) (net : Network) (good : IsNetwork net) (bounds : Bou
       subst (WellRun net) (sym g.new_is)
       (WellRun-after passes net good bounds.horizon s g.pattern g.flows g.slopes g.step well g.finds.below
       (g.finds.search.is_search.is_listing.listed g.place g.pattern first.has_place) first.solution.solves first.solution.meets (parts_of s t g well) g.is_length)
+
+  GrowByPhases-goes : (s t : Standing) → Goes passes net bounds.horizon bounds.patterns s t → WellRun net s → GrowByPhases net s.time s.labels (curves_of (flow_of s))
+      → GrowByPhases net t.time t.labels (curves_of (flow_of t))
+  GrowByPhases-goes s t g well earlier =
+      let first = g.finds.search.is_search.answers in
+      subst (λ (n : Standing). GrowByPhases net n.time n.labels (curves_of (flow_of n))) (sym g.new_is)
+      (GrowByPhases-after passes net good bounds.horizon s g.pattern g.flows g.slopes g.step well g.finds.below
+      (g.finds.search.is_search.is_listing.listed g.place g.pattern first.has_place) first.solution.solves first.solution.meets (parts_of s t g well) g.is_length earlier)
 
   pub IsPhase-goes : (s t : Standing) → Goes passes net bounds.horizon bounds.patterns s t → WellRun net s → IsPhase net bounds.horizon (s.time, s.labels) (t.time, t.labels)
   IsPhase-goes s t g well =
@@ -72,12 +80,19 @@ module _ (passes : Passing) (net : Network) (good : IsNetwork net) (bounds : Bou
   WellRun-runs s last stop well (fails may f) = well
   WellRun-runs s last stop well (goes {new = t} may g rest) = WellRun-runs t last stop (WellRun-goes s t g well) rest
 
+  GrowByPhases-runs : (s last : Standing) (stop : Option (Cause ℚ)) → WellRun net s → GrowByPhases net s.time s.labels (curves_of (flow_of s)) → Runs passes net bounds s last stop
+      → GrowByPhases net last.time last.labels (curves_of (flow_of last))
+  GrowByPhases-runs s last stop well earlier (at_horizon e) = earlier
+  GrowByPhases-runs s last stop well earlier (at_phases below e) = earlier
+  GrowByPhases-runs s last stop well earlier (fails may f) = earlier
+  GrowByPhases-runs s last stop well earlier (goes {new = t} may g rest) = GrowByPhases-runs t last stop (WellRun-goes s t g well) (GrowByPhases-goes s t g well earlier) rest
+
   module _ (last : Standing) (stop : Option (Cause ℚ)) (run : IsPhaseRun passes net bounds last stop) where
     well : WellRun net last
-    well = WellRun-runs run.first last stop (WellRun-start net run.first run.start) run.runs
+    well = WellRun-runs run.first last stop (WellRun-start net good run.first run.start) run.runs
 
     pub run_grows : GrowByPhases net last.time last.labels (curves_of (flow_of last))
-    run_grows = well.grow
+    run_grows = GrowByPhases-runs run.first last stop (WellRun-start net good run.first run.start) (GrowByPhases-start net good run.first run.start) run.runs
 
     pub run_shape : HasShape net (flow_of last)
     run_shape = HasShape-well net good last well

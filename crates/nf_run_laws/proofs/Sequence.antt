@@ -35,7 +35,7 @@ module _ (passes : Passing) (net : Network) (good : IsNetwork net) (bounds : Bou
 
   module _ (last : Standing) (stop : Option (Cause ℚ)) (run : IsPhaseRun passes net bounds last stop) where
     leads : Leads net bounds.horizon run.first last
-    leads = Leads-runs run.first last stop (WellRun-start net run.first run.start) run.runs
+    leads = Leads-runs run.first last stop (WellRun-start net good run.first run.start) run.runs
 
     abbrev phases : List (ℚ × List ℚ)
     phases = reached_by run.first ∷ leads.rest

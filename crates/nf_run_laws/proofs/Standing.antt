@@ -1,7 +1,6 @@
 -- What is known of labels and curves wherever a run stands.
-use Rattle.std.proofs.Common.{◌≡◌, ℕ, ◌<◌, List, [], ◌∷◌, ◌++◌, length, sym, ap, subst, ◌∙◌, arith}
-use Rattle.std.specs.Prelude.{Option, Some, None, slice_get}
-use Rattle.std.specs.List.{last_or}
+use Rattle.std.proofs.Common.{◌≡◌, ℕ, ◌<◌, List, length, sym, ap, subst, ◌∙◌, arith}
+use Rattle.std.specs.Prelude.{Option, None}
 use Rattle.std.specs.Option.{option_map_or}
 use Rattle.std.proofs.lemmas.Option.{slice_get_within}
 use Rattle.nf_rational.specs.Rational.{ℚ}
@@ -12,14 +11,12 @@ use Rattle.nf_model.specs.Curve.{Point, Within}
 use Rattle.nf_model.specs.Network.{Link, Network, IsNetwork, IsLink, hop_of}
 use Rattle.nf_model.specs.ThinFlow.{slack}
 use Rattle.nf_model_laws.proofs.Affine.{≤_refl}
-use Rattle.nf_lists.specs.ReportCurves.{GrowingCurve, LinkCurves}
 use Rattle.nf_lists.specs.PhaseRun.{Standing, flow_of}
 use Rattle.nf_lists.specs.Ends.{end_of, EndsAtLabels}
 use Rattle.nf_lists_laws.proofs.Ending.{last-append}
-use Rattle.nf_phase_laws.specs.Invariant.{link_slack}
 use Rattle.nf_phase_laws.specs.CurveSteps.{LastPoint, at}
 use Rattle.nf_phase_laws.specs.CurveRun.{Curves, curves_of}
-use Rattle.nf_phase_laws.proofs.CurveRun.{Grown, grown_by}
+use Rattle.nf_phase_laws.proofs.CurveRun.{Grown}
 use Rattle.nf_phase_laws.proofs.Thin.{slack-is}
 use Rattle.nf_run_laws.proofs.WellRun.{label_points, inflow_points, outflow_points, queue_points, WellRun}
 
@@ -31,7 +28,7 @@ module _ (net : Network) (good : IsNetwork net) (s : Standing) (well : WellRun n
   curves = curves_of (flow_of s)
 
   pub grown_at : Grown net s.time s.labels curves
-  grown_at = grown_by net s.time s.labels curves good well.grow
+  grown_at = well.grow
 
   now : Within 0ℚ s.time s.time
   now = (grown_at.stands.holds.begun, ≤_refl s.time)

@@ -11,13 +11,14 @@ use Rattle.nf_rational_laws.proofs.Polynomial.{reading_of}
 use Rattle.nf_rational_laws.proofs.Linear.{linear_eq}
 use Rattle.nf_model.specs.Entries.{number_at}
 use Rattle.nf_model.specs.Curve.{Point, slope, AreSlopes}
-use Rattle.nf_model.specs.Network.{Link, Network, IsLink}
+use Rattle.nf_model.specs.Network.{IsNetwork, Link, Network, IsLink}
 use Rattle.nf_model.specs.Equilibrium.{Trace, points_at, points_of}
 use Rattle.nf_lists.specs.Signs.{is_positive}
 use Rattle.nf_lists.specs.ReportCurves.{GrowingCurve, LinkCurves, first_label_curve, first_trace, first_queue, first_curves}
 use Rattle.nf_lists.specs.PhaseRun.{Standing, IsStart, flow_of}
 use Rattle.nf_lists_laws.proofs.Ending.{from_map}
 use Rattle.nf_phase_laws.specs.CurveRun.{FirstCurves, GrowByPhases, begin, curves_of}
+use Rattle.nf_phase_laws.proofs.CurveRun.{Grown, grown_by}
 use Rattle.nf_run_laws.proofs.Points.{slope_is, LastSlope}
 use Rattle.nf_run_laws.proofs.StepValues.{positive_of}
 
@@ -55,7 +56,7 @@ module _ (s : Standing) where
 
 -- ---- what holds
 pub record WellRun (net : Network) (s : Standing) : Type 0 where
-  pub grow : GrowByPhases net s.time s.labels (curves_of (flow_of s))
+  pub grow : Grown net s.time s.labels (curves_of (flow_of s))
   pub label_count : length s.label_curves ≡ net.nodes
   pub link_count : length s.link_curves ≡ length net.links
   pub label_slopes : (v : ℕ) (c : GrowingCurve) → slice_get s.label_curves v ≡ Some c → LastSlope c.points c.slope
@@ -86,7 +87,7 @@ queue_first : (b : Bool) (l : ℚ) → (first_queue b l).points ≡ (if b then (
 queue_first true l = refl
 queue_first false l = refl
 
-module _ (net : Network) (s : Standing) (h : IsStart net s) where
+module _ (net : Network) (good : IsNetwork net) (s : Standing) (h : IsStart net s) where
   link_entry : (e : ℕ) (link : Link) → IsLink net e link → slice_get s.link_curves e ≡ Some (first_curves s.labels link)
   link_entry e link p = ap (λ (l : List LinkCurves). slice_get l e) h.link_curves ∙ entry_of (first_curves s.labels) net.links e link p
 
@@ -109,9 +110,12 @@ module _ (net : Network) (s : Standing) (h : IsStart net s) where
     by_first : (P : LinkCurves → Type 0) → ((link : Link) → P (first_curves s.labels link)) → P c
     by_first P f = subst P from.2 (f from.0)
 
+  pub GrowByPhases-start : GrowByPhases net s.time s.labels (curves_of (flow_of s))
+  GrowByPhases-start = subst (λ (t : ℚ). GrowByPhases net t s.labels (curves_of (flow_of s))) (sym h.time) (begin s.labels (curves_of (flow_of s)) h.labels first)
+
   pub WellRun-start : WellRun net s
   WellRun-start = record {
-    grow = subst (λ (t : ℚ). GrowByPhases net t s.labels (curves_of (flow_of s))) (sym h.time) (begin s.labels (curves_of (flow_of s)) h.labels first);
+    grow = grown_by net s.time s.labels (curves_of (flow_of s)) good GrowByPhases-start;
     label_count = ap length h.label_curves ∙ length-map s.labels first_label_curve ∙ h.labels.count;
     link_count = ap length h.link_curves ∙ length-map net.links (first_curves s.labels);
     label_slopes = λ v c at. (let w = from_map first_label_curve s.labels v c (ap (λ (l : List GrowingCurve). slice_get l v) (sym h.label_curves) ∙ at) in

@@ -1,10 +1,12 @@
 -- What the report of a phase run says of the network.
-use Rattle.std.specs.Prelude.{◌≡◌, suc, List, length, Option, Some, None, Ok, slice_get}
+use Rattle.std.specs.Prelude.{◌≡◌, ℕ, suc, ◌<◌, List, length, Option, Some, None, Ok, slice_get}
 use Rattle.nf_rational.specs.Rational.{ℚ}
 use Rattle.nf_work.specs.Passing.{Passing}
+use Rattle.nf_model.specs.Entries.{number_at}
+use Rattle.nf_model.specs.Curve.{IsShort}
 use Rattle.nf_model.specs.Network.{Network, IsNetwork, ArePieces}
 use Rattle.nf_model.specs.Phases.{IsExtension, IsUnending, IsPhaseSequence}
-use Rattle.nf_model.specs.Equilibrium.{HasShape, HasSlopes, Equilibrium}
+use Rattle.nf_model.specs.Equilibrium.{Flow, points_at, points_of, label, HasShape, HasSlopes, Equilibrium}
 use Rattle.nf_formats.specs.declared.Cause.{Cause}
 use Rattle.nf_formats.specs.Report.{Report}
 use Rattle.nf_lists.specs.Extend.{extend_list}
@@ -29,6 +31,33 @@ RunHasSlopes = (passes : Passing) (net : Network) (bounds : Bounds) (last : Stan
 -- the report of a phase run is an equilibrium
 abbrev pub RunReportIsEquilibrium : Type 0
 RunReportIsEquilibrium = (passes : Passing) (net : Network) (bounds : Bounds) (report : Report) → IsNetwork net → IsRunReport passes net bounds report → Equilibrium net report.flow
+
+-- ---- short form
+
+-- each curve of a flow is in short form
+pub record IsShortFlow (net : Network) (flow : Flow) : Type 0 where
+  pub labels : (v : ℕ) → v < net.nodes → IsShort (points_at flow.labels v)
+  pub inflows : (e : ℕ) → e < length net.links → IsShort (points_at (points_of flow.inflows) e)
+  pub outflows : (e : ℕ) → e < length net.links → IsShort (points_at (points_of flow.outflows) e)
+  pub queues : (e : ℕ) → e < length net.links → IsShort (points_at flow.queues e)
+
+-- the curves of a run are in short form, and so are those of its report
+pub record RunIsShort : Type 0 where
+  pub run : (passes : Passing) (net : Network) (bounds : Bounds) (last : Standing) (stop : Option (Cause ℚ)) → IsNetwork net → IsPhaseRun passes net bounds last stop
+      → IsShortFlow net (flow_of last)
+  pub report : (passes : Passing) (net : Network) (bounds : Bounds) (report : Report) → IsNetwork net → IsRunReport passes net bounds report → IsShortFlow net report.flow
+
+-- ---- labels
+
+-- a standing keeps the label of each node: the value of its label curve at the departure reached
+pub record KeepsLabels (net : Network) (s : Standing) : Type 0 where
+  pub count : length s.labels ≡ net.nodes
+  pub values : (v : ℕ) → v < net.nodes → number_at s.labels v ≡ label (flow_of s) v s.time
+
+-- so does that to which a run has come
+abbrev pub RunKeepsLabels : Type 0
+RunKeepsLabels = (passes : Passing) (net : Network) (bounds : Bounds) (last : Standing) (stop : Option (Cause ℚ)) → IsNetwork net → IsPhaseRun passes net bounds last stop
+    → KeepsLabels net last
 
 -- ---- phases of a run
 

@@ -2,7 +2,7 @@
 //! contract of a public function with an empty body.
 #![tactic(auto)]
 
-ghost use Rattle.nf_run_laws.specs.RunLaws.{RunGrowsByPhases, RunHasShape, RunHasSlopes, RunReportIsEquilibrium, ExtendListIsExtension, RunIsPhaseSequence};
+ghost use Rattle.nf_run_laws.specs.RunLaws.{RunGrowsByPhases, RunHasShape, RunHasSlopes, RunReportIsEquilibrium, RunIsShort, RunKeepsLabels, ExtendListIsExtension, RunIsPhaseSequence};
 
 /// The curves of a run grow phase by phase from the start, each by one point as the phase's thin flow and length say.
 pub fn run_grows_by_phases()
@@ -23,6 +23,17 @@ pub fn run_has_slopes()
 /// Skutella 2011), with the outflows, queues and rates of its links.
 pub fn run_report_is_equilibrium()
     ensures { RunReportIsEquilibrium }
+{}
+
+/// The curves of a run and of its report are in short form: no inner point of a label, inflow, outflow or queue curve has equal slopes
+/// on both sides.
+pub fn run_is_short()
+    ensures { RunIsShort }
+{}
+
+/// The labels that a run has reached are the values of its label curves at the departure that it has reached.
+pub fn run_keeps_labels()
+    ensures { RunKeepsLabels }
 {}
 
 /// The value of the extend list is the greatest length for which a phase may last, and there is none only where it may last for any
