@@ -12,7 +12,6 @@ use Rattle.nf_work.specs.Passing.{Passing}
 use Rattle.nf_work.specs.Checked.{Checked}
 use Rattle.nf_model.specs.Curve.{Point, value, slope, TimesRise, IsCurve}
 use Rattle.nf_model_laws.specs.Affine.{IsAffine}
-use Rattle.nf_model_laws.proofs.Affine.{≤_refl, ≤_trans}
 use Rattle.nf_model_laws.proofs.Curves.{value-before, value-after, value-first, value-line}
 use Rattle.nf_lists.specs.Signs.{is_same}
 use Rattle.nf_curve_lists.specs.Lines.{checked_line}
@@ -20,6 +19,7 @@ use Rattle.nf_curve_lists.specs.Values.{points_before, value_from, checked_value
 use Rattle.nf_curve_lists.specs.Meanings.{IsCutOf}
 use Rattle.nf_curve_laws.proofs.Operations.{then_ok, same_ok, is_same_cases, checked_line-is}
 use Rattle.nf_curve_laws.proofs.Following.{FollowsFrom, ends, goes, follows-rises, value-follows}
+use Rattle.nf_rational_laws.proofs.Chains.{≤ℚ_refl, ≤ℚ_trans}
 
 module _ (passes : Passing) where
   by_same : (b : Bool) (x y : ℚ) (other : Checked ℚ) → b ≡ true → (if b then Ok x else other) ≡ Ok y → y ≡ x
@@ -60,20 +60,20 @@ module _ (passes : Passing) where
   -- up to a time of the first piece
   first_piece : (f : ℚ → ℚ) (p q : Point) (rest : List Point) (b : ℚ) → TimesRise (p ∷ q ∷ rest) → b ≤ℚ q.0 → ((t : ℚ) → p.0 ≤ℚ t → f t ≡ value (p ∷ q ∷ rest) t) → IsAffine f p.0 b (slope p q)
   first_piece f p q rest b r h same = record {
-    line = λ t i j. same t i ∙ value-line p q rest t r (≤_trans _ _ _ j h) ∙ ap (λ (x : ℚ). x +ℚ slope p q *ℚ (t -ℚ p.0)) (sym (same p.0 (≤_refl p.0) ∙ value-first p (q ∷ rest) r));
+    line = λ t i j. same t i ∙ value-line p q rest t r (≤ℚ_trans _ _ _ j h) ∙ ap (λ (x : ℚ). x +ℚ slope p q *ℚ (t -ℚ p.0)) (sym (same p.0 (≤ℚ_refl p.0) ∙ value-first p (q ∷ rest) r));
   }
 
   cut_from : (p : Point) (rest : List Point) (last y : ℚ) → TimesRise (p ∷ rest) → p.0 <ℚ last → y ≡ value (p ∷ rest) last
       → (f : ℚ → ℚ) → ((t : ℚ) → p.0 ≤ℚ t → f t ≡ value (p ∷ rest) t) → FollowsFrom f last p (points_before last rest ++ (last, y) ∷ [])
-  cut_from p [] last y r h e f same = goes 0ℚ (same p.0 (≤_refl p.0)) h
-      (record { line = λ t a b. same t a ∙ still p.1 t p.0 (f p.0) (same p.0 (≤_refl p.0)) }) (ends (same last (≤ℚ_of_lt _ _ h) ∙ sym e) refl)
+  cut_from p [] last y r h e f same = goes 0ℚ (same p.0 (≤ℚ_refl p.0)) h
+      (record { line = λ t a b. same t a ∙ still p.1 t p.0 (f p.0) (same p.0 (≤ℚ_refl p.0)) }) (ends (same last (≤ℚ_of_lt _ _ h) ∙ sym e) refl)
   cut_from p (q ∷ rest) last y r h e f same = ⊎_elim
       (λ (w : (lt_ℚ q.0 last ≡ true) × (q.0 <ℚ last)). subst (λ (b : Bool). FollowsFrom f last p ((if b then q ∷ points_before last rest else []) ++ (last, y) ∷ [])) (sym w.0)
-      (goes (slope p q) (same p.0 (≤_refl p.0) ∙ value-first p (q ∷ rest) r) r.0 (first_piece f p q rest q.0 r (≤_refl q.0) same)
+      (goes (slope p q) (same p.0 (≤ℚ_refl p.0) ∙ value-first p (q ∷ rest) r) r.0 (first_piece f p q rest q.0 r (≤ℚ_refl q.0) same)
       (cut_from q rest last y r.1 w.1 (e ∙ value-after p q rest last (≤ℚ_of_lt _ _ w.1)) f
-      (λ t i. same t (≤_trans _ _ _ (≤ℚ_of_lt _ _ r.0) i) ∙ value-after p q rest t i))))
+      (λ t i. same t (≤ℚ_trans _ _ _ (≤ℚ_of_lt _ _ r.0) i) ∙ value-after p q rest t i))))
       (λ (w : (lt_ℚ q.0 last ≡ false) × (last ≤ℚ q.0)). subst (λ (b : Bool). FollowsFrom f last p ((if b then q ∷ points_before last rest else []) ++ (last, y) ∷ [])) (sym w.0)
-      (goes (slope p q) (same p.0 (≤_refl p.0) ∙ value-first p (q ∷ rest) r) h (first_piece f p q rest last r w.1 same) (ends (same last (≤ℚ_of_lt _ _ h) ∙ sym e) refl)))
+      (goes (slope p q) (same p.0 (≤ℚ_refl p.0) ∙ value-first p (q ∷ rest) r) h (first_piece f p q rest last r w.1 same) (ends (same last (≤ℚ_of_lt _ _ h) ∙ sym e) refl)))
       (lt_ℚ_cases q.0 last)
 
   -- a cut follows its curve up to the last time, from time 0 on

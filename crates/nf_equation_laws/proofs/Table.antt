@@ -20,7 +20,7 @@ use Rattle.nf_model.specs.Pattern.{Pattern, HasState, Fills, Equation, Solves}
 use Rattle.nf_lists.specs.Table.{Row, row_at, table_list}
 use Rattle.nf_lists.specs.Equations.{Unknown, unknowns, row, source_factor, node_factor, node_row, link_factor, link_rows, equations, slopes_in, flows_in, onto_links}
 use Rattle.nf_thin_laws.specs.ActiveLinks.{AreSets}
-use Rattle.nf_thin_laws.proofs.Flags.{entry, entry_beyond, number_at-beyond, flag-cases}
+use Rattle.nf_thin_laws.proofs.Flags.{entry_beyond, number_at-beyond, flag-cases}
 use Rattle.nf_linear_laws.specs.Solution.{IsSquare, left_side, Solves as SolvesTable}
 use Rattle.nf_linear_laws.proofs.Solutions.{one_solution, not_one_solution}
 use Rattle.nf_equation_laws.specs.Equations.{IsPatternIn, SolvesAlone}
@@ -28,10 +28,10 @@ use Rattle.nf_equation_laws.proofs.Dots.{left_side-row, number_at-row, length-ro
 use Rattle.nf_equation_laws.proofs.Packed.{packed, packed-length, onto-length, onto-inactive, onto-packed, packed-onto, take-front, drop-front, both_parts, front-length, rest-length}
 use Rattle.nf_equation_laws.proofs.Rows.{Each, each_at, each_of, each-append, each-first, each-second, numbers_each, numbers_at, links_each, links_at, filtered-length, set_rows-length}
 use Rattle.nf_equation_laws.proofs.Equations.{flow_count, unknowns-length, total, source_total, node_total, tight_total, fills_total, zero_total}
+use Rattle.nf_rational_laws.proofs.Field.{same_from-less}
+use Rattle.nf_plain_laws.proofs.Entries.{entry}
 
 -- ---- over plain numbers
-level : (h t : ℚ) → h -ℚ t ≡ 0ℚ → h ≡ t
-level h t e = linear_eq (h ∷ t ∷ []) (eq e ∷ []) (search reading_of depth 12) tt tt
 
 no_step : (h t : ℚ) → h ≡ t → h -ℚ t ≡ 0ℚ
 no_step h t e = linear_eq (h ∷ t ∷ []) (eq e ∷ []) (search reading_of depth 12) tt tt
@@ -193,7 +193,7 @@ module _ (net : Network) (sets : Sets) (rate : ℚ) (pattern : Pattern) (p : IsP
             (flag-cases sets.resetting e)
 
         equation_is : (state : Option State) → slice_get pattern e ≡ Some state → Holds state (unwrap_or (slice_get sets.resetting e) false)
-        equation_is (Some Tight) at = level _ _ (sym (tight_total net sets good sets_are xs count e link is_link) ∙ link_is e link (Some Tight) is_link (active_with e Tight at) at)
+        equation_is (Some Tight) at = same_from-less _ _ (sym (tight_total net sets good sets_are xs count e link is_link) ∙ link_is e link (Some Tight) is_link (active_with e Tight at) at)
         equation_is (Some Full) at = filled_link e link is_link (λ u. p.pattern_is.no_full e u at) (number_at flows e) (number_at slopes link.head)
             (sym (fills_total net sets good sets_are xs count e link is_link) ∙ link_is e link (Some Full) is_link (active_with e Full at) at)
         equation_is (Some Zero) at = sym (zero_total net sets good sets_are xs count e link is_link) ∙ link_is e link (Some Zero) is_link (active_with e Zero at) at

@@ -19,12 +19,13 @@ use Rattle.nf_formats.specs.NetFile.{Closes, by_lines, by_bytes, Reads}
 use Rattle.nf_formats.specs.NetClosing.{draft_hops, source_name, sink_name, source_place, IsReached, HasPassingSum, Breaks, closing_rules, marked, network_of, AreActive}
 use Rattle.nf_formats.specs.WellNamed.{IsFraction, IsCapacity, IsNamedLink, IsWithinLimits, IsNumbered, SumsFit, IsNamed}
 use Rattle.nf_formats_laws.proofs.NameFacts.{same_names, has_at, place_below, name_at-place, place_at, with_names-split}
-use Rattle.nf_formats_laws.proofs.WalkFacts.{entry_all, IsIn, in_first, in_second, which, CameFrom, came_from, slice_get-image, Corresponds, Carried, carried}
+use Rattle.nf_formats_laws.proofs.WalkFacts.{entry_all, IsIn, in_first, in_second, which, CameFrom, came_from, Corresponds, Carried, carried}
 use Rattle.nf_formats_laws.proofs.LinesBack.{Rises, AreNotNegative, length-with_names}
 use Rattle.nf_formats_laws.proofs.DraftKept.{IsGoodDraft, draft_kept, distinct_with_names, still_there, now_there, all_with_names, all_pushed}
 use Rattle.nf_formats_laws.proofs.MarkedFacts.{Entry, from_marked, in_marked, others_lack, length_split, marked_all, distinct_split, no_more, has_all, has_every}
 use Rattle.nf_formats_laws.proofs.AcceptedNodes.{both_all, all_entries, all_implied, ends_among, s_there, t_there, two_nodes, there, reached_on, IsReachedName, nodes_reached}
 use Rattle.nf_formats_laws.proofs.AcceptedWalks.{AreOfFile, walk_to_file, circles}
+use Rattle.nf_plain_laws.proofs.Entries.{slice_get-image}
 
 -- ---- lists
 at_marked : {X : Type 0} (P : X → Type 0) (xs : List X) → AllByRecursion P xs → (e : ℕ) (x : X) → slice_get xs e ≡ Some x → P x

@@ -10,9 +10,10 @@ use Rattle.nf_formats.specs.Named.{NamedLink, numbered, ends}
 use Rattle.nf_formats.specs.NetLines.{Draft}
 use Rattle.nf_formats.specs.NetClosing.{draft_hops, source_name, sink_name, source_place, IsReached, LeavesUnreached, Breaks, closing_rules, marked, AreActive}
 use Rattle.nf_formats_laws.proofs.NameFacts.{decided, bytes_eq-self, place_below, name_at-place}
-use Rattle.nf_formats_laws.proofs.WalkFacts.{entry_all, CameFrom, came_from, slice_get-image, walk_push, LastHop, last_hop}
+use Rattle.nf_formats_laws.proofs.WalkFacts.{entry_all, CameFrom, came_from, walk_push, LastHop, last_hop}
 use Rattle.nf_formats_laws.proofs.DraftKept.{IsGoodDraft, or_left, or_right}
 use Rattle.nf_formats_laws.proofs.MarkedFacts.{Entry, in_marked, marked_have, marked_all, every_with_names, has_every}
+use Rattle.nf_plain_laws.proofs.Entries.{slice_get-image}
 
 -- ---- lists of links
 pub all_implied : {X : Type 0} (P Q : X → Type 0) → ((x : X) → P x → Q x) → (xs : List X) → AllByRecursion P xs → AllByRecursion Q xs

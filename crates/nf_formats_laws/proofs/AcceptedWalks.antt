@@ -11,8 +11,9 @@ use Rattle.nf_formats.specs.NetLines.{Draft}
 use Rattle.nf_formats.specs.NetClosing.{draft_hops, HasZeroCycle}
 use Rattle.nf_formats.specs.WellNamed.{IsNamedLink}
 use Rattle.nf_formats_laws.proofs.NameFacts.{name_at-place}
-use Rattle.nf_formats_laws.proofs.WalkFacts.{entry_all, CameFrom, came_from, slice_get-image, Corresponds, Carried, carried, starts_with_one, all_zero}
+use Rattle.nf_formats_laws.proofs.WalkFacts.{entry_all, CameFrom, came_from, Corresponds, Carried, carried, starts_with_one, all_zero}
 use Rattle.nf_formats_laws.proofs.DraftKept.{IsGoodDraft}
+use Rattle.nf_plain_laws.proofs.Entries.{slice_get-image}
 
 -- transits of a file's hops aren't negative
 pub file_transits : (draft : Draft) → IsGoodDraft draft → (i : ℕ) (hop : Hop) → IsHop (draft_hops draft) i hop → 0ℚ ≤ℚ hop.transit

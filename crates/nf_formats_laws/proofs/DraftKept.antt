@@ -20,6 +20,7 @@ use Rattle.nf_formats_laws.proofs.NameFacts.{has_name-append, with_name_there, w
 use Rattle.nf_formats_laws.proofs.LinkFacts.{ends-append, map-append}
 use Rattle.nf_formats_laws.proofs.LinesBack.{Rises, AreNotNegative}
 use Rattle.nf_formats_laws.proofs.NumbersKept.{IsReadCapacity, number_kept, capacity_kept, ok_same}
+use Rattle.std.proofs.lemmas.Option.{same_Some}
 
 -- ---- lists of names with some behind
 distinct_push : (xs : List Name) (y : Name) → IsDistinct bytes_eq xs → has_name xs y ≡ false → IsDistinct bytes_eq (xs ++ y ∷ [])
@@ -229,9 +230,6 @@ rises_push : (before : Option Piece) (xs : List Piece) (piece : Piece) → Rises
 rises_push before [] piece h e = (e, tt)
 rises_push before (x ∷ xs) piece h e = (h.0, rises_push (Some x) xs piece h.1 e)
 
-some_same : (a b : Name) → ◌≡◌ {A = Option Name} (Some a) (Some b) → a ≡ b
-some_same a b e = ap (λ o. unwrap_or o a) e
-
 one_there : (names : List Name) (x : Name) → has_name (with_names names (x ∷ [])) x ≡ true
 one_there names x = now_there names (x ∷ []) x (or_left (bytes_eq x x) false (bytes_eq-self x))
 
@@ -247,7 +245,7 @@ module _ (draft : Draft) (h : IsGoodDraft draft) where
       let b = first_says_no (too_many_nodes draft (name ∷ [])) N10 [] a.1 in
       record {
         version = h.version;
-        source = λ other is. subst (λ x. has_name (with_names draft.nodes (name ∷ [])) x ≡ true) (some_same name other is) (one_there draft.nodes name);
+        source = λ other is. subst (λ x. has_name (with_names draft.nodes (name ∷ [])) x ≡ true) (same_Some name other is) (one_there draft.nodes name);
         sink = λ other is. still_there draft.nodes (name ∷ []) other (h.sink other is);
         names = all_with_names is_name draft.nodes (name ∷ []) h.names (λ i. good i && true);
         distinct = distinct_with_names draft.nodes (name ∷ []) h.distinct;
@@ -269,7 +267,7 @@ module _ (draft : Draft) (h : IsGoodDraft draft) where
       record {
         version = h.version;
         source = λ other is. still_there draft.nodes (name ∷ []) other (h.source other is);
-        sink = λ other is. subst (λ x. has_name (with_names draft.nodes (name ∷ [])) x ≡ true) (some_same name other is) (one_there draft.nodes name);
+        sink = λ other is. subst (λ x. has_name (with_names draft.nodes (name ∷ [])) x ≡ true) (same_Some name other is) (one_there draft.nodes name);
         names = all_with_names is_name draft.nodes (name ∷ []) h.names (λ i. good i && true);
         distinct = distinct_with_names draft.nodes (name ∷ []) h.distinct;
         few_nodes = few_names draft (name ∷ []) b.0;

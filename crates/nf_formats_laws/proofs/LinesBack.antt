@@ -2,7 +2,7 @@
 use Rattle.std.proofs.Common.{◌≡◌, ℕ, zero, suc, ◌+◌, ◌<◌, ◌≤◌, ◌⊎◌, ◌==◌, ◌&&◌, ◌||◌, Bool, true, false, not, if◌then◌else◌, List, [], ◌∷◌, ◌++◌, length, map, nat_lt, nat_le, nat_abs, refl, sym, ◌∙◌, ap, subst, inl, inr, arith, append_assoc, append-nil, bytes_eq, length-append, codes, Option, Some, None, Result, Ok, Err, option_map}
 use Rattle.std.specs.List.{AllByRecursion, IsDistinct, last_or, list_all}
 use Rattle.std.specs.Result.{result_ok}
-use Rattle.std.proofs.lemmas.Bool.{le-ltb, lt-leb, ltb-false}
+use Rattle.std.proofs.lemmas.Bool.{le-ltb, lt-leb, ltb-false, or_from, or_parts}
 use Rattle.nf_rational.specs.Rational.{ℚ}
 use Rattle.nf_rational.specs.Operations.{0ℚ}
 use Rattle.nf_rational.specs.Order.{◌≤ℚ◌, ◌<ℚ◌, lt_ℚ}
@@ -28,16 +28,10 @@ use Rattle.nf_formats_laws.proofs.LinkFacts.{ends-append, map-append, names_of-l
 use Rattle.nf_formats_laws.proofs.ClosesBack.{draft_of, source_below, sink_below, names_apart}
 
 -- ---- tests that say no
-pub neither : (a b : Bool) → (a || b) ≡ false → (a ≡ false) × (b ≡ false)
-neither true b e = absurd (cc)
-neither false b e = (refl, e)
-
-pub no_either : (a b : Bool) → a ≡ false → b ≡ false → (a || b) ≡ false
-no_either a b e f = λ i. (e i || f i)
 
 -- ---- numbers are read back
 pub within : (q : ℚ) → IsFraction q → (nat_abs q.num ≤ greatest) × (q.den ≤ greatest)
-within q h = let both : (nat_lt greatest (nat_abs q.num) ≡ false) × (nat_lt greatest q.den ≡ false) = neither (nat_lt greatest (nat_abs q.num)) (nat_lt greatest q.den) h in
+within q h = let both : (nat_lt greatest (nat_abs q.num) ≡ false) × (nat_lt greatest q.den ≡ false) = or_parts (nat_lt greatest (nat_abs q.num)) (nat_lt greatest q.den) h in
     (ltb-false greatest (nat_abs q.num) both.0, ltb-false greatest q.den both.1)
 
 number_back : (q : ℚ) (b : Bool) → IsFraction q → result_ok (if b then number_of greatest (printed q) else decimal_of greatest (printed q)) ≡ Some q
@@ -117,7 +111,7 @@ lines_read draft last number (words ∷ lines) h =
 distinct_before : (xs : List Name) (y : Name) (ys : List Name) → IsDistinct bytes_eq (xs ++ y ∷ ys) → has_name xs y ≡ false
 unfolding IsDistinct
 distinct_before [] y ys h = refl
-distinct_before (x ∷ xs) y ys h = no_either (bytes_eq y x) (has_name xs y) (bytes_eq-turned x y (there xs h.0)) (distinct_before xs y ys h.1)
+distinct_before (x ∷ xs) y ys h = or_from (bytes_eq y x) (has_name xs y) (bytes_eq-turned x y (there xs h.0)) (distinct_before xs y ys h.1)
   where
     there : (zs : List Name) → AllByRecursion (λ z. bytes_eq x z ≡ false) (zs ++ y ∷ ys) → bytes_eq x y ≡ false
     there [] k = k.0
@@ -194,7 +188,7 @@ pieces_follow draft (piece ∷ pieces) all open_ good positive rises e few = (
   line_read draft (inflow_words piece) (InflowLine piece) open_ (inflow_says draft.version piece good.0)
       (three_no (nat_le 200 (length draft.pieces)) (is_negative piece.start || is_negative piece.rate) (is_not_after piece.start (last_or None draft.pieces)) N12 N15 N16
       (lt-leb 200 (length draft.pieces) (let long : length (draft.pieces ++ piece ∷ pieces) ≡ length draft.pieces + suc (length pieces) = length-append draft.pieces (piece ∷ pieces) in let same : length (draft.pieces ++ piece ∷ pieces) ≡ length all = ap (λ x. length x) e in omega arith))
-      (no_either (is_negative piece.start) (is_negative piece.rate) (not_negative piece.start positive.0.0) (not_negative piece.rate positive.0.1))
+      (or_from (is_negative piece.start) (is_negative piece.rate) (not_negative piece.start positive.0.0) (not_negative piece.rate positive.0.1))
       rises.0),
   pieces_follow (after draft (InflowLine piece)) pieces all open_ good.1 positive.1
       (subst (λ before. Rises before pieces) (sym (last_or-append None draft.pieces piece)) rises.1)

@@ -1,7 +1,7 @@
 -- A number that a word writes has no part beyond the greatest.
 use Rattle.std.proofs.Common.{◌≡◌, ◌≢◌, ℕ, zero, suc, ◌+◌, ◌*◌, ◌^◌, ◌/◌, ◌≤◌, ◌==◌, ◌&&◌, ◌||◌, Bool, true, false, not, if◌then◌else◌, List, length, nat_lt, nat_abs, ℤ, refl, sym, ap, subst, arith, div-le_self, codes, bytes_eq, Option, Some, None, Result, Ok, Err, option_map, unwrap_or, lit≤}
 use Rattle.std.specs.Result.{result_ok, result_unwrap_or}
-use Rattle.std.proofs.lemmas.Bool.{le-ltb, ltb-false}
+use Rattle.std.proofs.lemmas.Bool.{le-ltb, ltb-false, or_parts, or_from}
 use Rattle.nf_rational.specs.Gcd.{gcd}
 use Rattle.nf_rational.specs.Rational.{ℚ, ratio, abs_quot}
 use Rattle.nf_numerals.specs.declared.NumberFault.{NumberFault}
@@ -10,7 +10,6 @@ use Rattle.nf_numerals.specs.Digits.{are_digits, value_of}
 use Rattle.nf_numerals.specs.Numbers.{slash, point, before, after, unsigned, signed_by, denominator, is_decimal, parts_or_fault, parts_of, decimal_parts_of, as_ratio, number_of, decimal_of}
 use Rattle.nf_formats.specs.Numbers.{greatest, number_in, capacity_in}
 use Rattle.nf_formats.specs.WellNamed.{IsFraction}
-use Rattle.nf_formats_laws.proofs.LinesBack.{neither, no_either}
 
 -- parts that are within the bound, the second above 0
 pub record FitParts (bound : ℕ) (p : ℤ × ℕ) : Type 0 where
@@ -31,7 +30,7 @@ parts_fit bound a b n d p e =
     let second = says_no (not (are_digits a && are_digits b)) BadDigit _ p first.1 in
     let third = says_no (nat_lt bound (nat_abs n) || nat_lt bound d) TooWide _ p second.1 in
     let fourth = says_no (d == 0) ZeroDenominator _ p third.1 in
-    let both = neither (nat_lt bound (nat_abs n)) (nat_lt bound d) third.0 in
+    let both = or_parts (nat_lt bound (nat_abs n)) (nat_lt bound d) third.0 in
     let same : ◌≡◌ {A = ℤ × ℕ} (n, d) p = ok_same (n, d) p fourth.1 in
     subst (FitParts bound) same (record { num = ltb-false bound (nat_abs n) both.0; den = ltb-false bound d both.1 })
 
@@ -67,7 +66,7 @@ is_fraction : (n : ℤ) (d : ℕ) → FitParts greatest (n, d) → IsFraction (r
 is_fraction n d h =
     let small : nat_abs (ratio n d).num ≤ nat_abs n = lowest_num n d in
     let num : nat_abs n ≤ greatest = h.num in
-    no_either (nat_lt greatest (nat_abs (ratio n d).num)) (nat_lt greatest (ratio n d).den)
+    or_from (nat_lt greatest (nat_abs (ratio n d).num)) (nat_lt greatest (ratio n d).den)
     (le-ltb greatest (nat_abs (ratio n d).num) (omega arith)) (le-ltb greatest (ratio n d).den (lowest_den n d greatest (lit≤ tt) h.den))
 
 reduced : (r : Result (ℤ × ℕ) NumberFault) (q : ℚ) → ((p : ℤ × ℕ) → r ≡ Ok p → FitParts greatest p) → as_ratio r ≡ Ok q → IsFraction q

@@ -19,9 +19,11 @@ use Rattle.nf_formats.specs.NetFile.{Reads}
 use Rattle.nf_formats.specs.NetText.{canonical}
 use Rattle.nf_formats.specs.WellNamed.{IsNamed}
 use Rattle.nf_formats_laws.proofs.NameFacts.{bytes_eq-self}
-use Rattle.nf_formats_laws.proofs.WalkFacts.{entry_all, transit_of-hop, transit_sum_nn}
+use Rattle.nf_formats_laws.proofs.WalkFacts.{entry_all, transit_sum_nn}
 use Rattle.nf_formats_laws.proofs.CanonicalBack.{canonical_back}
 use Rattle.nf_formats_laws.proofs.AcceptedNamed.{accepted_named}
+use Rattle.std.proofs.lemmas.Option.{same_Some}
+use Rattle.nf_model_laws.proofs.Networks.{transit_of-hop}
 
 -- lines with LF
 abbrev text : List (List ℕ) → List ℕ
@@ -221,11 +223,8 @@ zero_cycle = (
 abbrev in_a_row : ℚ → List Hop
 in_a_row transit = hop 0 2 transit ∷ hop 2 1 (n 1) ∷ []
 
-same_hop : (a b : Hop) → ◌≡◌ {A = Option Hop} (Some a) (Some b) → a ≡ b
-same_hop a b e = ap (λ o. unwrap_or o a) e
-
 tail_is : (a b : Hop) (v : ℕ) → ◌≡◌ {A = Option Hop} (Some a) (Some b) → b.tail ≡ v → a.tail ≡ v
-tail_is a b v e h = ap (λ (x : Hop). x.tail) (same_hop a b e) ∙ h
+tail_is a b v e h = ap (λ (x : Hop). x.tail) (same_Some a b e) ∙ h
 
 abbrev is_one : ℕ → Bool
 is_one zero = false
@@ -237,7 +236,7 @@ nowhere : (transit : ℚ) (walk : List ℕ) → IsWalk (in_a_row transit) walk 2
 nowhere transit [] h = refl
 nowhere transit (zero ∷ walk) h = let tail : (hop 0 2 transit).tail ≡ 2 = tail_is (hop 0 2 transit) h.0 2 h.1 h.2 in absurd (omega arith)
 nowhere transit (suc zero ∷ walk) h =
-    let head : 1 ≡ h.0.head = ap (λ (x : Hop). x.head) (same_hop (hop 2 1 (n 1)) h.0 h.1) in
+    let head : 1 ≡ h.0.head = ap (λ (x : Hop). x.head) (same_Some (hop 2 1 (n 1)) h.0 h.1) in
     let k : is_one 2 ≡ true = stays (in_a_row transit) is_one ((λ e. e), ((λ e. absurd (cc)), tt)) walk h.0.head 2 (ap is_one (sym head)) h.3 in absurd (cc)
 nowhere transit (suc (suc e) ∷ walk) h = absurd (let none : ◌≡◌ {A = Option Hop} None (Some h.0) = h.1 in cc)
 
@@ -245,7 +244,7 @@ nowhere transit (suc (suc e) ∷ walk) h = absurd (let none : ◌≡◌ {A = Opt
 only_first : (transit : ℚ) (walk : List ℕ) → IsWalk (in_a_row transit) walk 0 2 → walk ≡ 0 ∷ []
 only_first transit [] h = absurd (omega arith)
 only_first transit (zero ∷ walk) h =
-    let head : 2 ≡ h.0.head = ap (λ (x : Hop). x.head) (same_hop (hop 0 2 transit) h.0 h.1) in
+    let head : 2 ≡ h.0.head = ap (λ (x : Hop). x.head) (same_Some (hop 0 2 transit) h.0 h.1) in
     ap (λ rest. 0 ∷ rest) (nowhere transit walk (subst (λ u. IsWalk (in_a_row transit) walk u 2) (sym head) h.3))
 only_first transit (suc zero ∷ walk) h = let tail : (hop 2 1 (n 1)).tail ≡ 0 = tail_is (hop 2 1 (n 1)) h.0 0 h.1 h.2 in absurd (omega arith)
 only_first transit (suc (suc e) ∷ walk) h = absurd (let none : ◌≡◌ {A = Option Hop} None (Some h.0) = h.1 in cc)
@@ -347,7 +346,7 @@ one_hop_reached (suc (suc v)) h = absurd (omega arith)
 
 one_hop_fits : (e : ℕ) (h : Hop) (least : ℚ) → IsHop one_hop e h → IsLeastTransit one_hop 1 h.tail least → passes_Q Sum least h.transit ≡ true → ⊥
 unfolding whole ratio gcd le_ℚ beyond
-one_hop_fits zero h least is is_least wide = fits_at_source one_hop 1 (hop 1 0 (ratio (pos 2) 4)) h least (refl, tt) refl refl (same_hop (hop 1 0 (ratio (pos 2) 4)) h is) is_least wide
+one_hop_fits zero h least is is_least wide = fits_at_source one_hop 1 (hop 1 0 (ratio (pos 2) 4)) h least (refl, tt) refl refl (same_Some (hop 1 0 (ratio (pos 2) 4)) h is) is_least wide
 one_hop_fits (suc e) h least is is_least wide = absurd (let none : ◌≡◌ {A = Option Hop} None (Some h) = is in cc)
 
 pub one_link_read : Reads commented (Ok one_link)
@@ -402,7 +401,7 @@ not_two walk h = let k : below_two 2 ≡ true = stays two_hops below_two ((λ e.
 two_hops_fit : (e : ℕ) (h : Hop) (least : ℚ) → IsHop two_hops e h → IsLeastTransit two_hops 0 h.tail least → passes_Q Sum least h.transit ≡ true → ⊥
 unfolding whole ratio gcd le_ℚ beyond
 two_hops_fit zero h least is is_least wide = not_two is_least.taken.0 (subst (IsWalk two_hops is_least.taken.0 0) (sym (tail_is (hop 2 1 (n 1)) h h.tail is refl)) is_least.taken.1)
-two_hops_fit (suc zero) h least is is_least wide = fits_at_source two_hops 0 (hop 0 1 half) h least (refl, (refl, tt)) refl refl (same_hop (hop 0 1 half) h is) is_least wide
+two_hops_fit (suc zero) h least is is_least wide = fits_at_source two_hops 0 (hop 0 1 half) h least (refl, (refl, tt)) refl refl (same_Some (hop 0 1 half) h is) is_least wide
 two_hops_fit (suc (suc e)) h least is is_least wide = absurd (let none : ◌≡◌ {A = Option Hop} None (Some h) = is in cc)
 
 pub one_idle_read : Reads with_idle (Ok one_idle)

@@ -9,12 +9,11 @@ use Rattle.nf_rational_laws.proofs.Polynomial.{reading_of}
 use Rattle.nf_rational_laws.proofs.Order.{lt_or_le_ℚ, ≤ℚ_of_lt, ≤ℚ_of_same}
 use Rattle.nf_rational_laws.proofs.Linear.{le, eq, linear_le, linear_eq}
 use Rattle.nf_model.specs.Walk.{Hop, IsHop, IsWalk, transit_of, transit_sum, IsLeastTransit}
-use Rattle.nf_formats_laws.proofs.WalkFacts.{walk_push, entry_all, transit_of-hop, transit_sum_nn}
+use Rattle.nf_formats_laws.proofs.WalkFacts.{walk_push, entry_all, transit_sum_nn}
 use Rattle.nf_formats_laws.proofs.DraftKept.{or_left, or_right}
 use Rattle.nf_formats_laws.proofs.Reaching.{heads_in, at_most_all, stays_in, one_more_head, stays_closed}
-
-through : (a b c : ℚ) → a ≤ℚ b → b ≤ℚ c → a ≤ℚ c
-through a b c h k = linear_le (a ∷ b ∷ c ∷ []) (le h ∷ le k ∷ []) (search reading_of depth 12) tt
+use Rattle.nf_rational_laws.proofs.Chains.{≤ℚ_trans}
+use Rattle.nf_model_laws.proofs.Networks.{transit_of-hop}
 
 module _ (hops : List Hop) (positive : (e : ℕ) (hop : Hop) → IsHop hops e hop → 0ℚ ≤ℚ hop.transit) (u : ℕ) where
   -- some nodes, with their least transit sums
@@ -59,7 +58,7 @@ module _ (hops : List Hop) (positive : (e : ℕ) (hop : Hop) → IsHop hops e ho
     weaker : (low high : ℚ) (others : List Hop) → low ≤ℚ high → AllByRecursion (λ g. s.set g.tail ≡ true → s.set g.head ≡ false → high ≤ℚ cost g) others
         → AllByRecursion (λ g. s.set g.tail ≡ true → s.set g.head ≡ false → low ≤ℚ cost g) others
     weaker low high [] h k = tt
-    weaker low high (g ∷ others) h k = ((λ e f. through low high (cost g) h (k.0 e f)), weaker low high others h k.1)
+    weaker low high (g ∷ others) h k = ((λ e f. ≤ℚ_trans low high (cost g) h (k.0 e f)), weaker low high others h k.1)
 
     behind : (h : Hop) (rest : List Hop) → (s.set h.tail ≡ true → s.set h.head ≡ false → ⊥) → Cheapest rest → Cheapest (h ∷ rest)
     behind h rest no_cross c = record {

@@ -2,7 +2,7 @@
 use Rattle.std.proofs.Common.{◌≡◌, ◌≢◌, ℕ, zero, suc, ◌<◌, ◌⊎◌, ◌==◌, ◌&&◌, ◌||◌, Bool, true, false, not, if◌then◌else◌, List, [], ◌∷◌, length, map, Option, Some, None, Result, Ok, Err, is_none, unwrap_or, refl, sym, ◌∙◌, ap, subst, inl, inr, arith, bytes_eq}
 use Rattle.std.specs.Bool.{MatchBool, Decides}
 use Rattle.std.specs.List.{AllByRecursion, AllZip, list_any}
-use Rattle.std.proofs.lemmas.Bool.{and_parts, eqb-true, eqb-false}
+use Rattle.std.proofs.lemmas.Bool.{and_parts, eqb-true, eqb-false, not-true}
 use Rattle.nf_rational.specs.Rational.{ℚ}
 use Rattle.nf_rational.specs.Operations.{0ℚ}
 use Rattle.nf_rational.specs.Order.{◌≤ℚ◌, le_ℚ}
@@ -23,12 +23,14 @@ use Rattle.nf_formats.specs.NetLines.{Broken, Draft, draft_from}
 use Rattle.nf_formats.specs.NetClosing.{draft_hops, sink_name, source_place, IsReached, LeavesUnreached, HasZeroCycle, HasPassingSum, Breaks, closing_rules, IsFirst, marked, network_of}
 use Rattle.nf_formats.specs.NetFile.{as_rule, Closes, by_lines, by_bytes, Reads}
 use Rattle.nf_formats_laws.proofs.NameFacts.{decided, same_names, bytes_eq-self, place_below}
-use Rattle.nf_formats_laws.proofs.WalkFacts.{CameFrom, came_from, entry_all, slice_get-image, transit_of-hop}
+use Rattle.nf_formats_laws.proofs.WalkFacts.{CameFrom, came_from, entry_all}
 use Rattle.nf_formats_laws.proofs.DraftKept.{IsGoodDraft, draft_kept}
 use Rattle.nf_formats_laws.proofs.AcceptedNodes.{ends_of_each}
 use Rattle.nf_formats_laws.proofs.AcceptedWalks.{file_transits}
 use Rattle.nf_formats_laws.proofs.Reaching.{Found, found, any_there, stays_closed, closure, reaching}
 use Rattle.nf_formats_laws.proofs.Settling.{AllSettled, all_settled}
+use Rattle.nf_plain_laws.proofs.Entries.{slice_get-image}
+use Rattle.nf_model_laws.proofs.Networks.{transit_of-hop}
 
 -- ---- the first of some rules that are decided
 decide_first : (P : NetRule → Type 0) → ((rule : NetRule) → P rule ⊎ (¬ P rule)) → (rules : List NetRule) → ((first : NetRule) × IsFirst P rules first) ⊎ AllByRecursion (λ rule. ¬ P rule) rules
@@ -115,10 +117,6 @@ module _ (draft : Draft) (g : IsGoodDraft draft) where
   three : (a b c : Bool) → a ≡ true → b ≡ false → c ≡ true → (a && (not b && c)) ≡ true
   three a b c e f k = λ i. e i && (not (f i) && k i)
 
-  not_wide : (b : Bool) → not b ≡ true → b ≡ false
-  not_wide true e = absurd (cc)
-  not_wide false e = refl
-
   decide_22 : HasPassingSum draft ⊎ (¬ HasPassingSum draft)
   unfolding sum_test
   decide_22 = elim (decided (list_any sum_test (draft_hops draft))) [
@@ -132,7 +130,7 @@ module _ (draft : Draft) (g : IsGoodDraft draft) where
           least = settled.settled.label r.entry.tail;
           is_hop = r.is_entry;
           is_least = settled.settled.least r.entry.tail p.0;
-          is_fraction = not_wide (is_wide greatest (settled.settled.label r.entry.tail)) q.0;
+          is_fraction = not-true (is_wide greatest (settled.settled.label r.entry.tail)) q.0;
           passes = q.1;
         })
     | inr e ↦ inr (λ p.

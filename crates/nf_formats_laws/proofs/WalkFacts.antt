@@ -1,15 +1,14 @@
 -- Walks along hops that correspond to those of another list.
 use Rattle.std.proofs.Common.{◌≡◌, ℕ, zero, suc, ◌+◌, List, [], ◌∷◌, ◌++◌, length, map, slice_get, Some, refl, sym, ◌∙◌, ap, subst, arith}
-use Rattle.std.specs.Prelude.{unwrap_or, option_map}
 use Rattle.std.specs.List.{AllByRecursion}
-use Rattle.std.proofs.lemmas.Option.{slice_get-map}
 use Rattle.nf_rational.specs.Rational.{ℚ}
 use Rattle.nf_rational.specs.Operations.{0ℚ, ◌+ℚ◌}
 use Rattle.nf_rational.specs.Order.{◌≤ℚ◌}
 use Rattle.nf_rational_laws.proofs.Polynomial.{reading_of}
-use Rattle.nf_rational_laws.proofs.Order.{≤ℚ_of_same, ≤ℚ_antisymm}
+use Rattle.nf_rational_laws.proofs.Order.{≤ℚ_of_same, ≤ℚ_antisymm, nn_plus}
 use Rattle.nf_rational_laws.proofs.Linear.{le, linear_le}
 use Rattle.nf_model.specs.Walk.{Hop, IsHop, IsWalk, transit_of, transit_sum}
+use Rattle.nf_model_laws.proofs.Networks.{transit_of-hop}
 
 -- ---- entries of joined lists
 module _ {X : Type 0} where
@@ -52,12 +51,7 @@ came_from f [] i y e = absurd (cc)
 came_from f (x ∷ xs) zero y e = let same : f x ≡ y = cc in record { entry = x; is_entry = refl; is_image = same }
 came_from f (x ∷ xs) (suc i) y e = let r : CameFrom f xs i y = came_from f xs i y e in record { entry = r.entry; is_entry = r.is_entry; is_image = r.is_image }
 
-pub slice_get-image : {X Y : Type 0} (f : X → Y) (xs : List X) (i : ℕ) (x : X) → slice_get xs i ≡ Some x → slice_get (map f xs) i ≡ Some (f x)
-slice_get-image f xs i x e = slice_get-map f xs i ∙ ap (option_map f) e
-
 -- ---- transit times
-pub transit_of-hop : (hops : List Hop) (e : ℕ) (hop : Hop) → IsHop hops e hop → transit_of hops e ≡ hop.transit
-transit_of-hop hops e hop h = ap (λ o. unwrap_or o 0ℚ) (slice_get-image (λ (hop : Hop). hop.transit) hops e hop h)
 
 -- ---- walks
 pub record Corresponds (other : List Hop) (f : ℕ → ℕ) (P : ℕ → Type 0) (hop : Hop) : Type 0 where
@@ -118,8 +112,6 @@ starts_with_one [] k e = absurd (omega arith)
 starts_with_one (i ∷ rest) k e = (i, rest, refl)
 
 -- ---- sums of transit times that aren't negative
-sum_nn : (a b : ℚ) → 0ℚ ≤ℚ a → 0ℚ ≤ℚ b → 0ℚ ≤ℚ a +ℚ b
-sum_nn a b h k = linear_le (a ∷ b ∷ []) (le h ∷ le k ∷ []) (search reading_of depth 12) tt
 
 none_left : (a b : ℚ) → 0ℚ ≤ℚ a → 0ℚ ≤ℚ b → a +ℚ b ≤ℚ 0ℚ → a ≡ 0ℚ
 none_left a b h k s = ≤ℚ_antisymm a 0ℚ (linear_le (a ∷ b ∷ []) (le k ∷ le s ∷ []) (search reading_of depth 12) tt) h
@@ -133,7 +125,7 @@ module _ (hops : List Hop) (positive : (e : ℕ) (hop : Hop) → IsHop hops e ho
 
   pub transit_sum_nn : (walk : List ℕ) (u v : ℕ) → IsWalk hops walk u v → 0ℚ ≤ℚ transit_sum hops walk
   transit_sum_nn [] u v h = ≤ℚ_of_same 0ℚ 0ℚ refl
-  transit_sum_nn (e ∷ walk) u v h = sum_nn (transit_of hops e) (transit_sum hops walk) (transit_nn e h.0 h.1) (transit_sum_nn walk h.0.head v h.3)
+  transit_sum_nn (e ∷ walk) u v h = nn_plus (transit_of hops e) (transit_sum hops walk) (transit_nn e h.0 h.1) (transit_sum_nn walk h.0.head v h.3)
 
   pub all_zero : (walk : List ℕ) (u v : ℕ) → IsWalk hops walk u v → transit_sum hops walk ≤ℚ 0ℚ → AllByRecursion (λ e. transit_of hops e ≡ 0ℚ) walk
   all_zero [] u v h s = tt

@@ -11,13 +11,13 @@ use Rattle.nf_work.specs.declared.Passed as Work
 use Rattle.nf_work.specs.Passing.{Passing, result_of}
 use Rattle.nf_work.specs.Checked.{checked}
 use Rattle.nf_model.specs.Walk.{Hop, IsHop}
-use Rattle.nf_model_laws.proofs.Affine.{≤_trans}
 use Rattle.nf_graph.specs.declared.distance.Step.{Step}
 use Rattle.nf_graph.specs.declared.distance.DistanceFault.{DistanceFault}
 use Rattle.nf_graph.specs.declared.distance.DistanceFault.TheVariants.{Passed, Memory}
 use Rattle.nf_graph.specs.Distances.{HasSum, IsOpen, Offers, SumPasses, StopsAt}
 use Rattle.nf_graph.specs.Steps.{ForPassed, OfferedBy, IsNearer, IsNearestBefore, IsNearest}
 use Rattle.nf_graph.proofs.Walks.{IsHop-unique, IsHop-read}
+use Rattle.nf_rational_laws.proofs.Chains.{≤ℚ_trans}
 
 -- ---- an operation that passed, and one that did not
 pub checked-ok : (passes : Passing) (op : Op) (x y r : ℚ) → Ok r ≡ checked passes op x y → (r ≡ result_of op x y) × (passes op x y ≡ true → ⊥)
@@ -90,7 +90,7 @@ module _ (hops : List Hop) (sums : List (Option ℚ)) (count : ℕ) where
   same_some a b q = cc
 
   through : (a b : Step) (o : Option Step) (sum : ℚ) → o ≡ Some a → a.sum ≤ℚ b.sum → (step : Step) × (Some b ≡ Some step) × (step.sum ≤ℚ sum) → AtMost o sum
-  through a b o sum e l w = (a, e, ≤_trans a.sum b.sum sum l (subst (λ (s : Step). s.sum ≤ℚ sum) (sym (same_some b w.0 w.1)) w.2))
+  through a b o sum e l w = (a, e, ≤ℚ_trans a.sum b.sum sum l (subst (λ (s : Step). s.sum ≤ℚ sum) (sym (same_some b w.0 w.1)) w.2))
 
   nearer_than_best : (best offered nearer : Option Step) (sum : ℚ) → IsNearer best offered nearer → AtMost best sum → AtMost nearer sum
   nearer_than_best None offered nearer sum n w = absurd (let q : None ≡ Some w.0 = w.1 in cc)

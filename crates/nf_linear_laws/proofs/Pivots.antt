@@ -4,7 +4,7 @@ use Rattle.std.specs.Prelude.{◌==◌, if◌then◌else◌, Option, Some, None}
 use Rattle.std.specs.List.{list_any}
 use Rattle.std.proofs.lemmas.Bool.Decides.{eqb_tells}
 use Rattle.std.proofs.lemmas.List.Folds.{list_any_at}
-use Rattle.std.proofs.lemmas.Bool.{eq-eqb}
+use Rattle.std.proofs.lemmas.Bool.{eq-eqb, and_parts}
 use Rattle.std.proofs.lemmas.Map.Keys.{IsDistinct-from_apart}
 use Rattle.std.proofs.lemmas.Map.Steps.{length-le_from_distinct_below}
 use Rattle.nf_rational.specs.Rational.{ℚ}
@@ -16,15 +16,12 @@ use Rattle.nf_model.specs.Entries.{number_at}
 use Rattle.nf_lists.specs.Signs.{is_zero}
 use Rattle.nf_lists.specs.Table.{Row, row_at, pivot_from}
 use Rattle.nf_linear_laws.proofs.Columns.{place}
+use Rattle.std.proofs.lemmas.Option.{same_Some}
 
 -- ---- the test for 0
-both_true : (a b : Bool) → (a && b) ≡ true → (a ≡ true) × (b ≡ true)
-both_true true true e = (refl, refl)
-both_true true false e = absurd (cc)
-both_true false b e = absurd (cc)
 
 pub zero_tested : (x : ℚ) → is_zero x ≡ true → x ≡ 0ℚ
-zero_tested x e = let h = both_true (le_ℚ x 0ℚ) (le_ℚ 0ℚ x) e in ≤ℚ_antisymm x 0ℚ (le_of_test x 0ℚ h.0) (le_of_test 0ℚ x h.1)
+zero_tested x e = let h = and_parts (le_ℚ x 0ℚ) (le_ℚ 0ℚ x) e in ≤ℚ_antisymm x 0ℚ (le_of_test x 0ℚ h.0) (le_of_test 0ℚ x h.1)
 
 pub is_zero-at : (x : ℚ) → x ≡ 0ℚ → is_zero x ≡ true
 is_zero-at x e = rw (test_of_le x 0ℚ (≤ℚ_of_same x 0ℚ e), test_of_le 0ℚ x (≤ℚ_of_same 0ℚ x (sym e))) refl
@@ -68,9 +65,6 @@ pub record IsPivot (k : ℕ) (rows : List Row) (pivots : List ℕ) (c p : ℕ) :
   pub other : list_any (λ q. q == p) pivots ≡ false
   pub some : is_zero (number_at (row_at rows number) c) ≡ false
 
-same_some : (k p : ℕ) → Some k ≡ Some p → k ≡ p
-same_some k p e = cc
-
 later : (k : ℕ) (row : Row) (rows : List Row) (pivots : List ℕ) (c p : ℕ) → IsPivot (suc k) rows pivots c p → IsPivot k (row ∷ rows) pivots c p
 later k row rows pivots c p h = record {
   number = suc h.number;
@@ -87,9 +81,9 @@ pivot_at true b k row rows pivots c p f g e next = later k row rows pivots c p (
 pivot_at false true k row rows pivots c p f g e next = later k row rows pivots c p (next e)
 pivot_at false false k row rows pivots c p f g e next = record {
   number = 0;
-  place = let h = same_some k p e in omega arith;
+  place = let h = same_Some k p e in omega arith;
   within = omega arith;
-  other = subst (λ (m : ℕ). list_any (λ q. q == m) pivots ≡ false) (same_some k p e) f;
+  other = subst (λ (m : ℕ). list_any (λ q. q == m) pivots ≡ false) (same_Some k p e) f;
   some = g;
 }
 

@@ -17,13 +17,9 @@ use Rattle.nf_linear_laws.specs.Solution.{IsSquare, left_side, Solves, IsOnlySol
 use Rattle.nf_linear_laws.proofs.Totals.{total, total_same, total_zero, total_less}
 use Rattle.nf_linear_laws.proofs.Steps.{Meets}
 use Rattle.nf_linear_laws.proofs.Elimination.{numbers, IsSolvedBy, IsLoose, table_says}
+use Rattle.nf_plain_laws.proofs.Entries.{same_entries}
 
 -- ---- lists and their numbers
-same_numbers : (xs ys : List ℚ) → length xs ≡ length ys → ((i : ℕ) → i < length xs → number_at xs i ≡ number_at ys i) → xs ≡ ys
-same_numbers [] [] h e = refl
-same_numbers [] (y ∷ ys) h e = absurd (cc)
-same_numbers (x ∷ xs) [] h e = absurd (cc)
-same_numbers (x ∷ xs) (y ∷ ys) h e = let a : x ≡ y = e 0 (omega arith) in let b : xs ≡ ys = same_numbers xs ys (cc) (λ i k. e (suc i) (omega arith)) in cc
 
 abbrev listed : ℕ → (ℕ → ℚ) → List ℚ
 listed zero f = []
@@ -56,7 +52,7 @@ solves_of rows xs e h = record { count = e; each = λ i b. left_side-is (row_at 
 only_solution : (rows : List Row) (xs : List ℚ) → IsSolvedBy (length rows) (numbers rows) xs → IsOnlySolution rows xs
 only_solution rows xs s = record {
   solves = solves_of rows xs s.count (s.met (number_at xs) (λ d b. refl));
-  only = λ ys t. same_numbers ys xs (t.count ∙ sym s.count) (λ i b. s.forced (number_at ys) (meets_of rows ys t) i (subst (λ (k : ℕ). i < k) t.count b));
+  only = λ ys t. same_entries 0ℚ ys xs (t.count ∙ sym s.count) (λ i b. s.forced (number_at ys) (meets_of rows ys t) i (subst (λ (k : ℕ). i < k) t.count b));
 }
 
 -- ---- none, or more than one: with a solution there is another one

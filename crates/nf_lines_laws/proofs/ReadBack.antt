@@ -7,7 +7,7 @@ use Rattle.std.specs.Str.{bytes_eq}
 use Rattle.std.proofs.lemmas.List.Elements.{All-from_recursion}
 use Rattle.std.proofs.lemmas.List.Splits.{slice_split_at, slice_split_none, length-slice_split}
 use Rattle.std.proofs.lemmas.List.Sums.{position_or_len_is}
-use Rattle.std.proofs.lemmas.Bool.{eq-eqb, ne_eqb, leb-true, le-leb, le-ltb}
+use Rattle.std.proofs.lemmas.Bool.{eq-eqb, ne_eqb, leb-true, le-leb, le-ltb, not-true}
 use Rattle.nf_lines.specs.Lines.{TextLine, lines_from, lines_of_parts, ended_line}
 use Rattle.nf_lines.specs.Words.{read_line, is_blank, words, without_comment, parts_with_bytes, line_of_words}
 use Rattle.nf_lines.specs.Faults.{NotAscii, LongLine, is_allowed, line_fault, first_fault_of, longest_line}
@@ -22,10 +22,6 @@ second_so : (a b : Bool) → (a && b) ≡ true → b ≡ true
 second_so true b h = h
 second_so false b h = absurd (true≢false (sym h))
 
-not_so : (b : Bool) → not b ≡ true → b ≡ false
-not_so true h = absurd (true≢false (sym h))
-not_so false h = refl
-
 bytes_eq-same : (bytes : List ℕ) → bytes_eq bytes bytes ≡ true
 bytes_eq-same [] = refl
 bytes_eq-same (b ∷ bytes) = ap (λ t. t && bytes_eq bytes bytes) (eq-eqb b b refl) ∙ bytes_eq-same bytes
@@ -35,7 +31,7 @@ above_space : (b : ℕ) → is_word_byte b ≡ true → 33 ≤ b
 above_space b h = leb-true 33 b (first_so (nat_le 33 b) (nat_le b 126 && not (b == 35)) h)
 
 not_hash : (b : ℕ) → is_word_byte b ≡ true → (b == 35) ≡ false
-not_hash b h = not_so (b == 35) (second_so (nat_le b 126) (not (b == 35)) (second_so (nat_le 33 b) (nat_le b 126 && not (b == 35)) h))
+not_hash b h = not-true (b == 35) (second_so (nat_le b 126) (not (b == 35)) (second_so (nat_le 33 b) (nat_le b 126 && not (b == 35)) h))
 
 not_low : (low b : ℕ) → low < 33 → is_word_byte b ≡ true → (b == low) ≡ false
 not_low low b l h = let above : 33 ≤ b = above_space b h in ne_eqb b low (omega (arith, l, above))

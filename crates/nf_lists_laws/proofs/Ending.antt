@@ -1,7 +1,7 @@
 -- The curves of a run end at the labels of the departure that it has reached.
-use Rattle.std.proofs.Common.{◌≡◌, ℕ, zero, suc, ◌+◌, ◌<◌, List, [], ◌∷◌, ◌++◌, Bool, true, false, length, refl, sym, ap, ◌∙◌, subst, arith, inl, inr}
+use Rattle.std.proofs.Common.{◌≡◌, ℕ, zero, suc, ◌+◌, ◌<◌, List, [], ◌∷◌, Bool, true, false, length, refl, sym, ap, ◌∙◌, subst, arith, inl, inr}
 use Rattle.std.specs.Prelude.{◌-◌, ◌⊎◌, Option, Some, None, Result, Ok, Err, map, take, slice_get, unwrap_or}
-use Rattle.std.specs.List.{last_or, enumerate_from}
+use Rattle.std.specs.List.{enumerate_from}
 use Rattle.std.specs.Option.{option_map, option_map_or}
 use Rattle.std.proofs.lemmas.Option.{none-some, same_Some, slice_get-map}
 use Rattle.nf_rational.specs.Rational.{ℚ}
@@ -33,11 +33,10 @@ use Rattle.nf_lists.specs.Extend.{extend_list}
 use Rattle.nf_lists.specs.Advance.{advance_list}
 use Rattle.nf_lists_laws.proofs.Exact.{advanced_exact}
 use Rattle.nf_lists.specs.Ends.{end_of, EndsAtLabels}
+use Rattle.nf_plain_laws.proofs.Entries.{last-append}
+use Rattle.nf_work.proofs.Binding.{bind_ok}
 
 -- ---- the last point
-pub last-append : {A : Type 0} (o : Option A) (xs : List A) (x : A) → last_or o (xs ++ x ∷ []) ≡ Some x
-last-append o [] x = refl
-last-append o (y ∷ xs) x = last-append (Some y) xs x
 
 end-with_point : (goes : Bool) (points : List Point) (point : Point) → end_of (with_point goes points point) ≡ point.0
 end-with_point true points point = ap (λ (o : Option Point). option_map_or (λ p. p.0) o 0ℚ) (last-append None (take (length points - 1) points) point)
@@ -105,9 +104,6 @@ module _ (net : Network) (is_network : IsNetwork net) where
   }
 
 -- ---- what a computation that ends with a value did
-bind_ok : {A B E : Type 0} (r : Result A E) (f : A → Result B E) (y : B) → (r >>= f) ≡ Ok y → (x : A) × (r ≡ Ok x) × (f x ≡ Ok y)
-bind_ok (Ok x) f y h = (x, refl, h)
-bind_ok (Err e) f y h = cc
 
 part_ok : {A : Type 0} (part : Part) (r : Checked A) (x : A) → at_part part r ≡ Ok x → r ≡ Ok x
 part_ok part (Ok y) x h = cc

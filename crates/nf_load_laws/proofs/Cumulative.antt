@@ -5,9 +5,9 @@ use Rattle.nf_rational.specs.Rational.{ℚ}
 use Rattle.nf_rational.specs.Operations.{0ℚ, ◌+ℚ◌, ◌-ℚ◌, ◌*ℚ◌}
 use Rattle.nf_rational.specs.Order.{◌≤ℚ◌, ◌<ℚ◌, lt_ℚ, min_ℚ, max_ℚ}
 use Rattle.nf_rational_laws.proofs.Polynomial.{reading_of}
-use Rattle.nf_rational_laws.proofs.Linear.{le, lt, eq, eq_times, linear_le, linear_lt, linear_eq}
-use Rattle.nf_rational_laws.proofs.Order.{≤ℚ_of_lt, ≤ℚ_of_same, ≤ℚ_antisymm, lt_or_le_ℚ}
-use Rattle.nf_rational_laws.proofs.Tests.{lt_ℚ_cases, max_ℚ_cases, min_ℚ_cases}
+use Rattle.nf_rational_laws.proofs.Linear.{le, lt, eq, eq_times, linear_lt, linear_eq}
+use Rattle.nf_rational_laws.proofs.Order.{≤ℚ_of_lt, ≤ℚ_of_same, ≤ℚ_antisymm, lt_or_le_ℚ, not_both_ℚ, less_nn}
+use Rattle.nf_rational_laws.proofs.Tests.{lt_ℚ_cases, min_ℚ_cases, max0_of}
 use Rattle.nf_work.specs.Passing.{Passing}
 use Rattle.nf_work.specs.Checked.{checked, ◌>>=◌}
 use Rattle.nf_work.specs.declared.Op.TheVariants.{Sum, Difference, Product}
@@ -15,7 +15,6 @@ use Rattle.nf_model.specs.Curve.{Point, IsCurve, NeverFalls}
 use Rattle.nf_model.specs.Network.{Piece, ArePieces, time_in, supplied}
 use Rattle.nf_model_laws.specs.Affine.{IsAffine}
 use Rattle.nf_model_laws.specs.CurveLaws.{ValuesRise}
-use Rattle.nf_model_laws.proofs.Affine.{≤_refl, ≤_trans, clash}
 use Rattle.nf_model_laws.proofs.Curves.{NeverFalls-value}
 use Rattle.nf_model_laws.proofs.Supply.{StartsRise, StartsRise-pieces, NextFrom, supplied-none, supplied-rises, supplied-begins}
 use Rattle.nf_lists.specs.Signs.{is_same}
@@ -25,11 +24,12 @@ use Rattle.nf_curve_laws.proofs.Operations.{then_ok, same_ok, is_same_cases, che
 use Rattle.nf_curve_laws.proofs.Following.{FollowsFrom, ends, goes, follows-point, value-follows_past}
 use Rattle.nf_curve_laws.proofs.Least.{min-left, min-right}
 use Rattle.nf_curve_laws.proofs.Values.{follows-curve, follows-values}
+use Rattle.nf_rational_laws.proofs.Chains.{≤ℚ_refl, ≤ℚ_trans}
 
 -- ---- points after time 0
 after_0 : (t y : ℚ) → 0ℚ <ℚ t → point_if_after_0 t y ≡ (t, y) ∷ []
 after_0 t y h = ⊎_elim
-    (λ (w : (is_same t 0ℚ ≡ true) × (t ≡ 0ℚ)). absurd (clash 0ℚ t h (≤ℚ_of_same t 0ℚ w.1)))
+    (λ (w : (is_same t 0ℚ ≡ true) × (t ≡ 0ℚ)). absurd (not_both_ℚ 0ℚ t h (≤ℚ_of_same t 0ℚ w.1)))
     (λ (w : (is_same t 0ℚ ≡ false) × (¬ (t ≡ 0ℚ))). ap (λ (b : Bool). point_after_0 b t y) w.0)
     (is_same_cases t 0ℚ)
 
@@ -40,18 +40,13 @@ at_0 t y e = ⊎_elim
     (is_same_cases t 0ℚ)
 
 -- ---- how long a piece is the latest, up to the next start and after it
-max0_of : (x : ℚ) → 0ℚ ≤ℚ x → max_ℚ 0ℚ x ≡ x
-max0_of x h = ⊎_elim (λ (w : (max_ℚ 0ℚ x ≡ x) × (0ℚ ≤ℚ x)). w.0) (λ (w : (max_ℚ 0ℚ x ≡ 0ℚ) × (x <ℚ 0ℚ)). absurd (clash _ _ w.1 h)) (max_ℚ_cases 0ℚ x)
-
-gap_nn : (s t : ℚ) → s ≤ℚ t → 0ℚ ≤ℚ t -ℚ s
-gap_nn s t h = linear_le (s ∷ t ∷ []) (le h ∷ []) (search reading_of depth 12) tt
 
 time_in-up_to : (start : ℚ) (later : List Piece) (t : ℚ) → start ≤ℚ t → NextFrom later t → time_in start later t ≡ t -ℚ start
-time_in-up_to start [] t h n = max0_of _ (gap_nn start t h)
-time_in-up_to start (next ∷ later) t h n = ap (λ (x : ℚ). max_ℚ 0ℚ (x -ℚ start)) (min-left t next.start n) ∙ max0_of _ (gap_nn start t h)
+time_in-up_to start [] t h n = max0_of _ (less_nn start t h)
+time_in-up_to start (next ∷ later) t h n = ap (λ (x : ℚ). max_ℚ 0ℚ (x -ℚ start)) (min-left t next.start n) ∙ max0_of _ (less_nn start t h)
 
 time_in-after : (start : ℚ) (next : Piece) (later : List Piece) (t : ℚ) → start ≤ℚ next.start → next.start ≤ℚ t → time_in start (next ∷ later) t ≡ next.start -ℚ start
-time_in-after start next later t h k = ap (λ (x : ℚ). max_ℚ 0ℚ (x -ℚ start)) (min-right t next.start k) ∙ max0_of _ (gap_nn start next.start h)
+time_in-after start next later t h k = ap (λ (x : ℚ). max_ℚ 0ℚ (x -ℚ start)) (min-right t next.start k) ∙ max0_of _ (less_nn start next.start h)
 
 rise_rest : (p : Piece) (rest : List Piece) → StartsRise (p ∷ rest) → StartsRise rest
 rise_rest p [] s = tt
@@ -59,7 +54,7 @@ rise_rest p (q ∷ rest) s = s.1
 
 -- ---- the end of a piece
 end_up_to : (later : List Piece) (last : ℚ) → end_of later last ≤ℚ last
-end_up_to [] last = ≤_refl last
+end_up_to [] last = ≤ℚ_refl last
 end_up_to (next ∷ later) last = ⊎_elim
     (λ (w : (min_ℚ next.start last ≡ next.start) × (next.start ≤ℚ last)). subst (λ (x : ℚ). x ≤ℚ last) (sym w.0) w.1)
     (λ (w : (min_ℚ next.start last ≡ last) × (last <ℚ next.start)). ≤ℚ_of_same _ _ w.0)
@@ -81,7 +76,7 @@ end_after start (next ∷ later) last h k = ⊎_elim
 
 next_up_to : (later : List Piece) (s t : ℚ) → s ≤ℚ t → NextFrom later t → NextFrom later s
 next_up_to [] s t h n = tt
-next_up_to (next ∷ later) s t h n = ≤_trans _ _ _ h n
+next_up_to (next ∷ later) s t h n = ≤ℚ_trans _ _ _ h n
 
 -- over plain numbers: the amount at t, of which `so_far` had come before the piece
 so_much : (so_far rate span later y t s : ℚ) → span ≡ t -ℚ s → later ≡ 0ℚ → y ≡ so_far +ℚ (rate *ℚ span +ℚ later) → y ≡ so_far +ℚ rate *ℚ (t -ℚ s)
@@ -115,7 +110,7 @@ module _ (passes : Passing) (f : ℚ → ℚ) (last : ℚ) where
   next_goes_on so_far sum piece [] s on h e k = tt
   next_goes_on so_far sum piece (next ∷ rest) s on h e k = λ t i.
       so_on so_far piece.rate _ _ (f t) next.start piece.start sum (time_in-after piece.start next rest t (≤ℚ_of_lt _ _ s.0) i)
-      (e ∙ ap (λ (x : ℚ). so_far +ℚ piece.rate *ℚ (x -ℚ piece.start)) (min-left next.start last (k next rest refl))) (on t (≤_trans _ _ _ (≤ℚ_of_lt _ _ s.0) i))
+      (e ∙ ap (λ (x : ℚ). so_far +ℚ piece.rate *ℚ (x -ℚ piece.start)) (min-left next.start last (k next rest refl))) (on t (≤ℚ_trans _ _ _ (≤ℚ_of_lt _ _ s.0) i))
 
   -- only a piece that starts before the last time asks for it
   abbrev Goes : ℚ → List Piece → Type 0
@@ -157,7 +152,7 @@ module _ (passes : Passing) (f : ℚ → ℚ) (last : ℚ) where
       subst (λ (l : List Point). FollowsFrom f last p l) (ap (λ (l : List Point). l ++ rest.between) (sym (after_0 piece.start so_far start_0)) ∙ same_ok _ _ rest.next)
       (goes k at (subst (λ (x : ℚ). p.0 <ℚ x) here h) (subst (λ (x : ℚ). IsAffine f p.0 x k) here line)
       (from_point (piece.start, so_far) piece.rate sum.between later rest.between at_start (≤ℚ_of_lt _ _ start_0) end_later line'
-      (over_piece so_far piece later s goes_on (end_of later last) (≤ℚ_of_lt _ _ end_later) (≤_refl _) ∙ sym sum_is) (rise_rest piece later s)
+      (over_piece so_far piece later s goes_on (end_of later last) (≤ℚ_of_lt _ _ end_later) (≤ℚ_refl _) ∙ sym sum_is) (rise_rest piece later s)
       (λ q. next_goes_on so_far sum.between piece later s goes_on (≤ℚ_of_lt _ _ w.1) sum_is q) rest.first)))
       (λ (w : (lt_ℚ piece.start last ≡ false) × (last ≤ℚ piece.start)).
       let here : end_of (piece ∷ later) last ≡ last = min-right piece.start last w.1 in
@@ -181,7 +176,7 @@ pub follows-values_rise : (f : ℚ → ℚ) (last : ℚ) (p : Point) (rest : Lis
 follows-values_rise f last p [] n rises w = tt
 follows-values_rise f last p (q ∷ rest) n rises (goes k e h line later) = (
   subst (λ (x : ℚ). x ≤ℚ q.1) e (subst (λ (x : ℚ). f p.0 ≤ℚ x) (follows-point f last q rest later) (rises p.0 q.0 n (≤ℚ_of_lt _ _ h))),
-  follows-values_rise f last q rest (≤_trans _ _ _ n (≤ℚ_of_lt _ _ h)) rises later,
+  follows-values_rise f last q rest (≤ℚ_trans _ _ _ n (≤ℚ_of_lt _ _ h)) rises later,
 )
 
 module _ (passes : Passing) (pieces : List Piece) (last : ℚ) (good : ArePieces pieces) (from_0 : 0ℚ ≤ℚ last) where
@@ -212,7 +207,7 @@ module _ (passes : Passing) (pieces : List Piece) (last : ℚ) (good : ArePieces
 
   -- the first piece starts after time 0, or there is none
   later_start : (points : List Point) → 0ℚ <ℚ end_of pieces last → cumulative_from passes 0ℚ pieces last ≡ Ok points → FollowsFrom (λ t. supplied pieces t) last (0ℚ, 0ℚ) points
-  later_start points h g = from_point passes (λ t. supplied pieces t) last (0ℚ, 0ℚ) 0ℚ 0ℚ pieces points begins_0 (≤_refl 0ℚ) h (none_up_to (end_of pieces last) (end_next pieces last))
+  later_start points h g = from_point passes (λ t. supplied pieces t) last (0ℚ, 0ℚ) 0ℚ 0ℚ pieces points begins_0 (≤ℚ_refl 0ℚ) h (none_up_to (end_of pieces last) (end_next pieces last))
       (supplied-none pieces (end_of pieces last) (StartsRise-pieces pieces good) (end_next pieces last)) (StartsRise-pieces pieces good) (λ _. goes_from_0 pieces refl) g
 
   at_start : (piece : Piece) (later : List Piece) (points : List Point) → piece ∷ later ≡ pieces → piece.start ≡ 0ℚ → 0ℚ <ℚ last → cumulative_from passes 0ℚ (piece ∷ later) last ≡ Ok points
@@ -230,14 +225,14 @@ module _ (passes : Passing) (pieces : List Piece) (last : ℚ) (good : ArePieces
       let end_later : piece.start <ℚ end_of later last = end_after piece.start later last w.1 (start_later piece later rise) in
       let sum_is = with_piece-is passes (λ t. supplied pieces t) last 0ℚ piece (end_of later last) sum.between sum.first in
       subst (λ (l : List Point). FollowsFrom (λ t. supplied pieces t) last (0ℚ, 0ℚ) l) (ap (λ (l : List Point). l ++ rest.between) (sym (at_0 piece.start 0ℚ z)) ∙ same_ok _ _ rest.next)
-      (from_point passes (λ t. supplied pieces t) last (0ℚ, 0ℚ) piece.rate sum.between later rest.between begins_0 (≤_refl 0ℚ) (subst (λ (x : ℚ). x <ℚ end_of later last) z end_later)
+      (from_point passes (λ t. supplied pieces t) last (0ℚ, 0ℚ) piece.rate sum.between later rest.between begins_0 (≤ℚ_refl 0ℚ) (subst (λ (x : ℚ). x <ℚ end_of later last) z end_later)
       (subst (λ (x : ℚ). IsAffine (λ t. supplied pieces t) x (end_of later last) piece.rate) z (record {
         line = λ t i j. over_piece passes (λ t. supplied pieces t) last 0ℚ piece later rise on t i j
             ∙ ap (λ (x : ℚ). x +ℚ piece.rate *ℚ (t -ℚ piece.start)) (sym (ap (λ (x : ℚ). supplied pieces x) z ∙ begins_0));
       }))
-      (over_piece passes (λ t. supplied pieces t) last 0ℚ piece later rise on (end_of later last) (≤ℚ_of_lt _ _ end_later) (≤_refl _) ∙ sym sum_is) (rise_rest piece later rise)
+      (over_piece passes (λ t. supplied pieces t) last 0ℚ piece later rise on (end_of later last) (≤ℚ_of_lt _ _ end_later) (≤ℚ_refl _) ∙ sym sum_is) (rise_rest piece later rise)
       (λ q. next_goes_on passes (λ t. supplied pieces t) last 0ℚ sum.between piece later rise on (≤ℚ_of_lt _ _ w.1) sum_is q) rest.first))
-      (λ (w : (lt_ℚ piece.start last ≡ false) × (last ≤ℚ piece.start)). absurd (clash 0ℚ last h (subst (λ (x : ℚ). last ≤ℚ x) z w.1)))
+      (λ (w : (lt_ℚ piece.start last ≡ false) × (last ≤ℚ piece.start)). absurd (not_both_ℚ 0ℚ last h (subst (λ (x : ℚ). last ≤ℚ x) z w.1)))
       (lt_ℚ_cases piece.start last)
     where
       start_later : (piece : Piece) (later : List Piece) → StartsRise (piece ∷ later) → (next : Piece) (rest : List Piece) → later ≡ next ∷ rest → piece.start <ℚ next.start
@@ -262,7 +257,7 @@ module _ (passes : Passing) (pieces : List Piece) (last : ℚ) (good : ArePieces
   at_once [] points e z g = subst (λ (l : List Point). FollowsFrom (λ t. supplied pieces t) last (0ℚ, 0ℚ) l) (sym (at_0 last 0ℚ z) ∙ same_ok _ _ g) (ends begins_0 (sym z))
   at_once (piece ∷ later) points e z g = ⊎_elim
       (λ (w : (lt_ℚ piece.start last ≡ true) × (piece.start <ℚ last)).
-      absurd (clash piece.start last w.1 (subst (λ (x : ℚ). x ≤ℚ piece.start) (sym z) (starts_nn (piece ∷ later) piece later e refl))))
+      absurd (not_both_ℚ piece.start last w.1 (subst (λ (x : ℚ). x ≤ℚ piece.start) (sym z) (starts_nn (piece ∷ later) piece later e refl))))
       (λ (w : (lt_ℚ piece.start last ≡ false) × (last ≤ℚ piece.start)).
       let g' = sym (ap (λ (b : Bool). elim b [
         | true ↦ with_piece passes 0ℚ piece (end_of later last) >>= λ sum. cumulative_from passes sum later last >>= λ rest. Ok (point_if_after_0 piece.start 0ℚ ++ rest)
@@ -283,8 +278,8 @@ module _ (passes : Passing) (pieces : List Piece) (last : ℚ) (good : ArePieces
       let c : IsCurve ((0ℚ, 0ℚ) ∷ rest.between) = follows-curve (λ t. supplied pieces t) last (0ℚ, 0ℚ) rest.between refl w in
       subst (λ (l : List Point). IsCumulative pieces last l) (same_ok _ _ rest.next) (record {
         curve = c;
-        begins = follows-values (λ t. supplied pieces t) last (0ℚ, 0ℚ) rest.between 0ℚ refl w (≤_refl 0ℚ) from_0 ∙ begins_0;
-        rises = NeverFalls-value ((0ℚ, 0ℚ) ∷ rest.between) c (follows-values_rise (λ t. supplied pieces t) last (0ℚ, 0ℚ) rest.between (≤_refl 0ℚ) (supplied-rises pieces good) w);
+        begins = follows-values (λ t. supplied pieces t) last (0ℚ, 0ℚ) rest.between 0ℚ refl w (≤ℚ_refl 0ℚ) from_0 ∙ begins_0;
+        rises = NeverFalls-value ((0ℚ, 0ℚ) ∷ rest.between) c (follows-values_rise (λ t. supplied pieces t) last (0ℚ, 0ℚ) rest.between (≤ℚ_refl 0ℚ) (supplied-rises pieces good) w);
         values = λ t u. follows-values (λ t. supplied pieces t) last (0ℚ, 0ℚ) rest.between t refl w u.0 u.1;
         after = λ t h. value-follows_past (λ t. supplied pieces t) last (0ℚ, 0ℚ) rest.between t w h;
       })

@@ -8,6 +8,7 @@ use Rattle.nf_rational_laws.proofs.Order.{≤ℚ_of_lt, ≤ℚ_of_same, ≤ℚ_a
 use Rattle.nf_rational_laws.proofs.Quotient.{/ℚ_is, /ℚ-times, ps_apart, ps_inv}
 use Rattle.nf_rational_laws.proofs.Linear.{le, lt, eq, le_times, eq_times, linear_le, linear_lt, linear_eq, linear_false}
 use Rattle.nf_model_laws.specs.Affine.{IsAffine}
+use Rattle.nf_rational_laws.proofs.Chains.{≤ℚ_refl, ≤ℚ_trans}
 
 -- ---- quotients
 pub nn-quotient : (x y : ℚ) → 0ℚ ≤ℚ x → 0ℚ <ℚ y → 0ℚ ≤ℚ x /ℚ y
@@ -16,9 +17,6 @@ nn-quotient x y h k = subst (λ (z : ℚ). 0ℚ ≤ℚ z) (sym (/ℚ_is x y)) (n
 pub quotient-times : (x y : ℚ) → 0ℚ <ℚ y → x /ℚ y *ℚ y ≡ x
 quotient-times x y h = /ℚ-times x y (ps_apart y h)
 
-pub ps_gap : (s u : ℚ) → s <ℚ u → 0ℚ <ℚ u -ℚ s
-ps_gap s u h = linear_lt (s ∷ u ∷ []) (lt h ∷ []) (search reading_of depth 12) tt
-
 pub quotient-gap : (x s u : ℚ) → s <ℚ u → x /ℚ (u -ℚ s) *ℚ (u -ℚ s) ≡ x
 quotient-gap x s u h = quotient-times x (u -ℚ s) (linear_lt (s ∷ u ∷ []) (lt h ∷ []) (search reading_of depth 12) tt)
 
@@ -26,17 +24,9 @@ pub nn-slope : (s v u w : ℚ) → s <ℚ u → v ≤ℚ w → 0ℚ ≤ℚ (w -�
 nn-slope s v u w h k = nn-quotient _ _ (linear_le (v ∷ w ∷ []) (le k ∷ []) (search reading_of depth 12) tt) (linear_lt (s ∷ u ∷ []) (lt h ∷ []) (search reading_of depth 12) tt)
 
 -- ---- orders
-pub ≤_refl : (x : ℚ) → x ≤ℚ x
-≤_refl x = linear_le (x ∷ []) [] (search reading_of depth 12) tt
-
-pub ≤_trans : (x y z : ℚ) → x ≤ℚ y → y ≤ℚ z → x ≤ℚ z
-≤_trans x y z h k = linear_le (x ∷ y ∷ z ∷ []) (le h ∷ le k ∷ []) (search reading_of depth 12) tt
 
 pub <_≤_trans : (x y z : ℚ) → x <ℚ y → y ≤ℚ z → x <ℚ z
 <_≤_trans x y z h k = linear_lt (x ∷ y ∷ z ∷ []) (lt h ∷ le k ∷ []) (search reading_of depth 12) tt
-
-pub clash : (x y : ℚ) → x <ℚ y → y ≤ℚ x → ⊥
-clash x y h k = linear_false (x ∷ y ∷ []) (lt h ∷ le k ∷ []) (search reading_of depth 12) tt
 
 -- ---- a line through v at s with the slope n
 pub line_end : (s v u w n : ℚ) → n *ℚ (u -ℚ s) ≡ w -ℚ v → v +ℚ n *ℚ (u -ℚ s) ≡ w
@@ -70,7 +60,7 @@ pub IsAffine-same : (f g : ℚ → ℚ) (a b k l t : ℚ) → IsAffine f a b k �
 IsAffine-same f g a b k l t p q h e d i j =
     let w : a ≤ℚ b = ≤ℚ_of_lt a b h in
     same_from_times (b -ℚ a) (f t) (g t) (linear_lt (a ∷ b ∷ []) (lt h ∷ []) (search reading_of depth 12) tt)
-    (same_line a b t k l (f a) (g a) (f b) (g b) (f t) (g t) h e d (p.line b w (≤_refl b)) (q.line b w (≤_refl b)) (p.line t i j) (q.line t i j))
+    (same_line a b t k l (f a) (g a) (f b) (g b) (f t) (g t) h e d (p.line b w (≤ℚ_refl b)) (q.line b w (≤ℚ_refl b)) (p.line t i j) (q.line t i j))
 
 -- an affine function that is at least 0 at both ends is so between
 nn_line : (a b t k x u z : ℚ) → a <ℚ b → a ≤ℚ t → t ≤ℚ b → 0ℚ ≤ℚ x → 0ℚ ≤ℚ u → u ≡ x +ℚ k *ℚ (b -ℚ a) → z ≡ x +ℚ k *ℚ (t -ℚ a) → (b -ℚ a) *ℚ 0ℚ ≤ℚ (b -ℚ a) *ℚ z
@@ -82,7 +72,7 @@ nn_line a b t k x u z h i j m n e f =
 pub IsAffine-nn : (f : ℚ → ℚ) (a b k t : ℚ) → IsAffine f a b k → a <ℚ b → 0ℚ ≤ℚ f a → 0ℚ ≤ℚ f b → a ≤ℚ t → t ≤ℚ b → 0ℚ ≤ℚ f t
 IsAffine-nn f a b k t p h m n i j =
     le_from_times (b -ℚ a) 0ℚ (f t) (linear_lt (a ∷ b ∷ []) (lt h ∷ []) (search reading_of depth 12) tt)
-    (nn_line a b t k (f a) (f b) (f t) h i j m n (p.line b (≤ℚ_of_lt a b h) (≤_refl b)) (p.line t i j))
+    (nn_line a b t k (f a) (f b) (f t) h i j m n (p.line b (≤ℚ_of_lt a b h) (≤ℚ_refl b)) (p.line t i j))
 
 -- ---- sums, differences and compositions
 plus_line : (x y u v k l t a : ℚ) → x ≡ y +ℚ k *ℚ (t -ℚ a) → u ≡ v +ℚ l *ℚ (t -ℚ a) → x +ℚ u ≡ (y +ℚ v) +ℚ (k +ℚ l) *ℚ (t -ℚ a)
@@ -104,12 +94,12 @@ composed_line x y z c m k u v t a e f g = linear_eq (x ∷ y ∷ z ∷ c ∷ m �
 pub IsAffine-composed : (f g : ℚ → ℚ) (a b c d k m : ℚ) → IsAffine g a b k → IsAffine f c d m → a ≤ℚ b → ((t : ℚ) → a ≤ℚ t → t ≤ℚ b → (c ≤ℚ g t) × (g t ≤ℚ d))
     → IsAffine (λ t. f (g t)) a b (m *ℚ k)
 IsAffine-composed f g a b c d k m p q o w = record {
-  line = λ t h i. composed_line _ _ (f c) c m k _ _ t a (q.line (g t) (w t h i).0 (w t h i).1) (q.line (g a) (w a (≤_refl a) o).0 (w a (≤_refl a) o).1) (p.line t h i);
+  line = λ t h i. composed_line _ _ (f c) c m k _ _ t a (q.line (g t) (w t h i).0 (w t h i).1) (q.line (g a) (w a (≤ℚ_refl a) o).0 (w a (≤ℚ_refl a) o).1) (p.line t h i);
 }
 
 -- from one time to a later one of the same stretch
 pub IsAffine-part : (f : ℚ → ℚ) (a b c d k : ℚ) → IsAffine f a d k → a ≤ℚ b → b ≤ℚ d → c ≤ℚ d → IsAffine f b c k
-IsAffine-part f a b c d k p h i j = record { line = λ t l n. part_line _ _ (f a) k t a b (p.line t (≤_trans a b t h l) (≤_trans t c d n j)) (p.line b h i) }
+IsAffine-part f a b c d k p h i j = record { line = λ t l n. part_line _ _ (f a) k t a b (p.line t (≤ℚ_trans a b t h l) (≤ℚ_trans t c d n j)) (p.line b h i) }
   where
     part_line : (x y z k t a b : ℚ) → x ≡ z +ℚ k *ℚ (t -ℚ a) → y ≡ z +ℚ k *ℚ (b -ℚ a) → x ≡ y +ℚ k *ℚ (t -ℚ b)
     part_line x y z k t a b e f = linear_eq (x ∷ y ∷ z ∷ k ∷ t ∷ a ∷ b ∷ []) (eq e ∷ eq f ∷ []) (search reading_of depth 12) tt tt

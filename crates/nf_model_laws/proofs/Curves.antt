@@ -4,14 +4,15 @@ use Rattle.nf_rational.specs.Rational.{ℚ}
 use Rattle.nf_rational.specs.Operations.{◌+ℚ◌, ◌-ℚ◌, ◌*ℚ◌, ◌/ℚ◌, 0ℚ}
 use Rattle.nf_rational.specs.Order.{◌≤ℚ◌, ◌<ℚ◌, lt_ℚ}
 use Rattle.nf_rational_laws.proofs.Polynomial.{reading_of}
-use Rattle.nf_rational_laws.proofs.Order.{≤ℚ_of_lt, ≤ℚ_antisymm, lt_or_le_ℚ}
+use Rattle.nf_rational_laws.proofs.Order.{≤ℚ_of_lt, ≤ℚ_antisymm, lt_or_le_ℚ, less_ps, not_both_ℚ}
 use Rattle.nf_rational_laws.proofs.Quotient.{/ℚ-unique, ps_apart}
 use Rattle.nf_rational_laws.proofs.Linear.{le, lt, eq, le_times, eq_times, linear_le, linear_lt, linear_eq}
 use Rattle.nf_rational_laws.proofs.Tests.{lt_ℚ_cases}
 use Rattle.nf_model.specs.Curve.{slope, value, TimesRise, IsCurve, NeverFalls}
 use Rattle.nf_model_laws.specs.Affine.{IsAffine}
 use Rattle.nf_model_laws.specs.CurveLaws.{ValuesRise}
-use Rattle.nf_model_laws.proofs.Affine.{quotient-times, le_from_times, quotient-gap, nn-slope, ps_gap, <_≤_trans, ≤_refl, ≤_trans, clash, line_end, line_start, line_rises}
+use Rattle.nf_model_laws.proofs.Affine.{quotient-times, le_from_times, quotient-gap, nn-slope, <_≤_trans, line_end, line_start, line_rises}
+use Rattle.nf_rational_laws.proofs.Chains.{≤ℚ_refl, ≤ℚ_trans}
 
 -- where t lies before the second point, and where it does not
 pub by_first : {P : Type 0} (p q : ℚ × ℚ) (rest : List (ℚ × ℚ)) (t : ℚ)
@@ -24,10 +25,10 @@ by_first {P} p q rest t f g = ⊎_elim
     (lt_ℚ_cases t q.0)
 
 pub value-before : (p q : ℚ × ℚ) (rest : List (ℚ × ℚ)) (t : ℚ) → t <ℚ q.0 → value (p ∷ q ∷ rest) t ≡ p.1 +ℚ slope p q *ℚ (t -ℚ p.0)
-value-before p q rest t h = by_first p q rest t (λ _ e. e) (λ k _. absurd (clash _ _ h k))
+value-before p q rest t h = by_first p q rest t (λ _ e. e) (λ k _. absurd (not_both_ℚ _ _ h k))
 
 pub value-after : (p q : ℚ × ℚ) (rest : List (ℚ × ℚ)) (t : ℚ) → q.0 ≤ℚ t → value (p ∷ q ∷ rest) t ≡ value (q ∷ rest) t
-value-after p q rest t h = by_first p q rest t (λ k _. absurd (clash _ _ k h)) (λ _ e. e)
+value-after p q rest t h = by_first p q rest t (λ k _. absurd (not_both_ℚ _ _ k h)) (λ _ e. e)
 
 -- at its first point a curve has that point's value
 pub value-first : (p : ℚ × ℚ) (rest : List (ℚ × ℚ)) → TimesRise (p ∷ rest) → value (p ∷ rest) p.0 ≡ p.1
@@ -66,11 +67,11 @@ pub value-rest : (front : List (ℚ × ℚ)) (p : ℚ × ℚ) (rest : List (ℚ 
 value-rest [] p rest t r h = refl
 value-rest (x ∷ []) p rest t r h = value-after x p rest t h
 value-rest (x ∷ y ∷ front) p rest t r h =
-    value-after x y (front ++ p ∷ rest) t (≤_trans _ _ _ (≤ℚ_of_lt _ _ (first_before y front p rest r.1)) h) ∙ value-rest (y ∷ front) p rest t r.1 h
+    value-after x y (front ++ p ∷ rest) t (≤ℚ_trans _ _ _ (≤ℚ_of_lt _ _ (first_before y front p rest r.1)) h) ∙ value-rest (y ∷ front) p rest t r.1 h
 
 -- each point is on the curve
 pub value-point : (front : List (ℚ × ℚ)) (p : ℚ × ℚ) (rest : List (ℚ × ℚ)) → TimesRise (front ++ p ∷ rest) → value (front ++ p ∷ rest) p.0 ≡ p.1
-value-point front p rest r = value-rest front p rest p.0 r (≤_refl p.0) ∙ value-first p rest (TimesRise-rest front p rest r)
+value-point front p rest r = value-rest front p rest p.0 r (≤ℚ_refl p.0) ∙ value-first p rest (TimesRise-rest front p rest r)
 
 -- between neighbouring points the curve is a line
 pub value-piece : (front : List (ℚ × ℚ)) (p q : ℚ × ℚ) (rest : List (ℚ × ℚ)) (t : ℚ) → TimesRise (front ++ p ∷ q ∷ rest) → p.0 ≤ℚ t → t ≤ℚ q.0
@@ -113,14 +114,14 @@ value-push_piece front p q t r h k l =
 pub value-push_after : (front : List (ℚ × ℚ)) (p q : ℚ × ℚ) (t : ℚ) → TimesRise (front ++ p ∷ []) → p.0 <ℚ q.0 → q.0 ≤ℚ t
     → value ((front ++ p ∷ []) ++ q ∷ []) t ≡ q.1
 value-push_after front p q t r h k =
-    ap (λ (l : List (ℚ × ℚ)). value l t) (append_one front p q) ∙ value-rest front p (q ∷ []) t (TimesRise-push front p q r h) (≤_trans _ _ _ (≤ℚ_of_lt _ _ h) k) ∙ value-after p q [] t k
+    ap (λ (l : List (ℚ × ℚ)). value l t) (append_one front p q) ∙ value-rest front p (q ∷ []) t (TimesRise-push front p q r h) (≤ℚ_trans _ _ _ (≤ℚ_of_lt _ _ h) k) ∙ value-after p q [] t k
 
 -- a point on the line between its neighbours may go
 joined : (p0 p1 q0 q1 r0 r1 n : ℚ) → n *ℚ (q0 -ℚ p0) ≡ q1 -ℚ p1 → n *ℚ (r0 -ℚ q0) ≡ r1 -ℚ q1 → n *ℚ (r0 -ℚ p0) ≡ r1 -ℚ p1
 joined p0 p1 q0 q1 r0 r1 n e f = linear_eq (p0 ∷ p1 ∷ q0 ∷ q1 ∷ r0 ∷ r1 ∷ n ∷ []) (eq e ∷ eq f ∷ []) (search reading_of depth 12) tt tt
 
 pub slope-unique : (p q : ℚ × ℚ) (n : ℚ) → p.0 <ℚ q.0 → n *ℚ (q.0 -ℚ p.0) ≡ q.1 -ℚ p.1 → n ≡ slope p q
-slope-unique p q n h e = /ℚ-unique (q.1 -ℚ p.1) (q.0 -ℚ p.0) n (ps_apart _ (ps_gap p.0 q.0 h)) e
+slope-unique p q n h e = /ℚ-unique (q.1 -ℚ p.1) (q.0 -ℚ p.0) n (ps_apart _ (less_ps p.0 q.0 h)) e
 
 slope-joined : (p q r : ℚ × ℚ) → p.0 <ℚ q.0 → q.0 <ℚ r.0 → slope p q ≡ slope q r → slope p q ≡ slope p r
 slope-joined p q r h k e = slope-unique p r (slope p q) (<_≤_trans _ _ _ h (≤ℚ_of_lt _ _ k))
@@ -155,19 +156,19 @@ value-merge front p q r rest t h e k =
 -- ---- curves that never fall
 -- s is below t, and on the curve from p on: not below p's value
 pub value-floor : (p : ℚ × ℚ) (rest : List (ℚ × ℚ)) (t : ℚ) → TimesRise (p ∷ rest) → ValuesRise (p ∷ rest) → p.0 ≤ℚ t → p.1 ≤ℚ value (p ∷ rest) t
-value-floor p [] t r v h = ≤_refl p.1
+value-floor p [] t r v h = ≤ℚ_refl p.1
 value-floor p (q ∷ rest) t r v h = by_first p q rest t
     (λ k e. line_rises p.0 p.1 p.0 t (slope p q) p.1 _ h (nn-slope p.0 p.1 q.0 q.1 r.0 v.0) (sym (line_start p.0 p.1 (slope p q))) e)
-    (λ k e. subst (λ (y : ℚ). p.1 ≤ℚ y) (sym e) (≤_trans _ _ _ v.0 (value-floor q rest t r.1 v.1 k)))
+    (λ k e. subst (λ (y : ℚ). p.1 ≤ℚ y) (sym e) (≤ℚ_trans _ _ _ v.0 (value-floor q rest t r.1 v.1 k)))
 
 pub value-rises : (p : ℚ × ℚ) (rest : List (ℚ × ℚ)) (s t : ℚ) → TimesRise (p ∷ rest) → ValuesRise (p ∷ rest) → p.0 ≤ℚ s → s ≤ℚ t → value (p ∷ rest) s ≤ℚ value (p ∷ rest) t
-value-rises p [] s t r v h k = ≤_refl p.1
+value-rises p [] s t r v h k = ≤ℚ_refl p.1
 value-rises p (q ∷ rest) s t r v h k = by_first p q rest s
     (λ a d. by_first p q rest t
     (λ b e. line_rises p.0 p.1 s t (slope p q) _ _ k (nn-slope p.0 p.1 q.0 q.1 r.0 v.0) d e)
     (λ b e. subst (λ (y : ℚ). value (p ∷ q ∷ rest) s ≤ℚ y) (sym e)
-    (≤_trans _ _ _ (line_rises p.0 p.1 s q.0 (slope p q) _ q.1 (≤ℚ_of_lt _ _ a) (nn-slope p.0 p.1 q.0 q.1 r.0 v.0) d (sym (line_end p.0 p.1 q.0 q.1 (slope p q) (slope-times p q r.0)))) (value-floor q rest t r.1 v.1 b))))
-    (λ a d. subst (λ (y : ℚ). y ≤ℚ value (p ∷ q ∷ rest) t) (sym d) (subst (λ (y : ℚ). value (q ∷ rest) s ≤ℚ y) (sym (value-after p q rest t (≤_trans _ _ _ a k))) (value-rises q rest s t r.1 v.1 a k)))
+    (≤ℚ_trans _ _ _ (line_rises p.0 p.1 s q.0 (slope p q) _ q.1 (≤ℚ_of_lt _ _ a) (nn-slope p.0 p.1 q.0 q.1 r.0 v.0) d (sym (line_end p.0 p.1 q.0 q.1 (slope p q) (slope-times p q r.0)))) (value-floor q rest t r.1 v.1 b))))
+    (λ a d. subst (λ (y : ℚ). y ≤ℚ value (p ∷ q ∷ rest) t) (sym d) (subst (λ (y : ℚ). value (q ∷ rest) s ≤ℚ y) (sym (value-after p q rest t (≤ℚ_trans _ _ _ a k))) (value-rises q rest s t r.1 v.1 a k)))
 
 pub NeverFalls-value : (points : List (ℚ × ℚ)) → IsCurve points → ValuesRise points → NeverFalls (value points)
 NeverFalls-value [] c v s t h k = absurd c
@@ -198,28 +199,28 @@ line_takes s t v n y z h e k l = ⊎_elim
     (λ (p : 0ℚ <ℚ n).
     let q : (y -ℚ v) /ℚ n *ℚ n ≡ y -ℚ v = quotient-times (y -ℚ v) n p in
     (s +ℚ (y -ℚ v) /ℚ n, le_from_times n _ _ p (times_after s v n y _ k q), le_from_times n _ _ p (times_before s t v n y z _ e l q), line_at s v n y _ q))
-    (λ (p : n ≤ℚ 0ℚ). (s, ≤_refl s, h, line_start s v n ∙ flat_line s t v n y z h p e l k))
+    (λ (p : n ≤ℚ 0ℚ). (s, ≤ℚ_refl s, h, line_start s v n ∙ flat_line s t v n y z h p e l k))
     (lt_or_le_ℚ 0ℚ n)
 
 pub value-takes : (p : ℚ × ℚ) (rest : List (ℚ × ℚ)) (t y : ℚ) → TimesRise (p ∷ rest) → p.0 ≤ℚ t → p.1 ≤ℚ y → y ≤ℚ value (p ∷ rest) t
     → (u : ℚ) × (p.0 ≤ℚ u) × (u ≤ℚ t) × (value (p ∷ rest) u ≡ y)
-value-takes p [] t y r h k l = (t, h, ≤_refl t, ≤ℚ_antisymm _ _ k l)
+value-takes p [] t y r h k l = (t, h, ≤ℚ_refl t, ≤ℚ_antisymm _ _ k l)
 value-takes p (q ∷ rest) t y r h k l = ⊎_elim
     (λ (a : q.1 <ℚ y). by_first p q rest t
-    (λ b e. on_line t h (≤ℚ_of_lt _ _ b) (≤_refl t) e l)
+    (λ b e. on_line t h (≤ℚ_of_lt _ _ b) (≤ℚ_refl t) e l)
     (λ b e. later (value-takes q rest t y r.1 b (≤ℚ_of_lt _ _ a) (subst (λ (z : ℚ). y ≤ℚ z) e l))))
     (λ (a : y ≤ℚ q.1). by_first p q rest t
-    (λ b e. on_line t h (≤ℚ_of_lt _ _ b) (≤_refl t) e l)
-    (λ b e. on_line q.0 (≤ℚ_of_lt _ _ r.0) (≤_refl q.0) b (sym (line_end p.0 p.1 q.0 q.1 (slope p q) (slope-times p q r.0))) a))
+    (λ b e. on_line t h (≤ℚ_of_lt _ _ b) (≤ℚ_refl t) e l)
+    (λ b e. on_line q.0 (≤ℚ_of_lt _ _ r.0) (≤ℚ_refl q.0) b (sym (line_end p.0 p.1 q.0 q.1 (slope p q) (slope-times p q r.0))) a))
     (lt_or_le_ℚ q.1 y)
   where
     on_line : {z : ℚ} (v : ℚ) → p.0 ≤ℚ v → v ≤ℚ q.0 → v ≤ℚ t → z ≡ p.1 +ℚ slope p q *ℚ (v -ℚ p.0) → y ≤ℚ z → (u : ℚ) × (p.0 ≤ℚ u) × (u ≤ℚ t) × (value (p ∷ q ∷ rest) u ≡ y)
     on_line {z} v a b c e d =
         let w : (u : ℚ) × (p.0 ≤ℚ u) × (u ≤ℚ v) × (p.1 +ℚ slope p q *ℚ (u -ℚ p.0) ≡ y) = line_takes p.0 v p.1 (slope p q) y z a e k d in
-        (w.0, w.1, ≤_trans _ _ _ w.2 c, value-line p q rest w.0 r (≤_trans _ _ _ w.2 b) ∙ w.3)
+        (w.0, w.1, ≤ℚ_trans _ _ _ w.2 c, value-line p q rest w.0 r (≤ℚ_trans _ _ _ w.2 b) ∙ w.3)
 
     later : (u : ℚ) × (q.0 ≤ℚ u) × (u ≤ℚ t) × (value (q ∷ rest) u ≡ y) → (u : ℚ) × (p.0 ≤ℚ u) × (u ≤ℚ t) × (value (p ∷ q ∷ rest) u ≡ y)
-    later w = (w.0, ≤_trans _ _ _ (≤ℚ_of_lt _ _ r.0) w.1, w.2, value-after p q rest w.0 w.1 ∙ w.3)
+    later w = (w.0, ≤ℚ_trans _ _ _ (≤ℚ_of_lt _ _ r.0) w.1, w.2, value-after p q rest w.0 w.1 ∙ w.3)
 
 -- ---- a curve with its last point
 pub record EndsAt (points : List (ℚ × ℚ)) (p : ℚ × ℚ) : Type 0 where
@@ -238,7 +239,7 @@ pub EndsAt-value : (points : List (ℚ × ℚ)) (p : ℚ × ℚ) (t : ℚ) → E
 EndsAt-value points p t e h = ap (λ (l : List (ℚ × ℚ)). value l t) e.same ∙ value-last e.front p t (rises_at points e.front p e.same e.curve) h
 
 nn_at : (front : List (ℚ × ℚ)) (p : ℚ × ℚ) → IsCurve (front ++ p ∷ []) → 0ℚ ≤ℚ p.0
-nn_at [] p c = subst (λ (z : ℚ). 0ℚ ≤ℚ z) (sym c.0) (≤_refl 0ℚ)
+nn_at [] p c = subst (λ (z : ℚ). 0ℚ ≤ℚ z) (sym c.0) (≤ℚ_refl 0ℚ)
 nn_at (x ∷ front) p c = subst (λ (z : ℚ). z ≤ℚ p.0) c.0 (≤ℚ_of_lt _ _ (first_before x front p [] c.1))
 
 pub EndsAt-nn : (points : List (ℚ × ℚ)) (p : ℚ × ℚ) → EndsAt points p → 0ℚ ≤ℚ p.0
@@ -260,7 +261,7 @@ EndsAt-push_line points p q t e h k l = ap (λ (l : List (ℚ × ℚ)). value (l
 
 push_before : (front : List (ℚ × ℚ)) (p q : ℚ × ℚ) (t : ℚ) → IsCurve (front ++ p ∷ []) → p.0 <ℚ q.0 → 0ℚ ≤ℚ t → t ≤ℚ p.0 → value ((front ++ p ∷ []) ++ q ∷ []) t ≡ value (front ++ p ∷ []) t
 push_before [] p q t c h i k =
-    value-line p q [] t (h, tt) (≤_trans _ _ _ k (≤ℚ_of_lt _ _ h)) ∙ subst (λ (u : ℚ). p.1 +ℚ slope p q *ℚ (u -ℚ p.0) ≡ p.1) (≤ℚ_antisymm _ _ (subst (λ (z : ℚ). z ≤ℚ t) (sym c.0) i) k) (line_start p.0 p.1 (slope p q))
+    value-line p q [] t (h, tt) (≤ℚ_trans _ _ _ k (≤ℚ_of_lt _ _ h)) ∙ subst (λ (u : ℚ). p.1 +ℚ slope p q *ℚ (u -ℚ p.0) ≡ p.1) (≤ℚ_antisymm _ _ (subst (λ (z : ℚ). z ≤ℚ t) (sym c.0) i) k) (line_start p.0 p.1 (slope p q))
 push_before (x ∷ front) p q t c h i k = value-push_before front x p q t c.1 h k
 
 pub EndsAt-push_before : (points : List (ℚ × ℚ)) (p q : ℚ × ℚ) (t : ℚ) → EndsAt points p → p.0 <ℚ q.0 → 0ℚ ≤ℚ t → t ≤ℚ p.0 → value (points ++ q ∷ []) t ≡ value points t

@@ -12,10 +12,10 @@ use Rattle.nf_model.specs.Equilibrium.{Flow, HasShape, inflow, label}
 use Rattle.nf_model_laws.specs.Capacity.{IsPositive}
 use Rattle.nf_model_laws.specs.EarliestLaws.{AreLabels, InflowsRise}
 use Rattle.nf_model_laws.proofs.Queues.{IsExit-after, IsExit-monotone}
-use Rattle.nf_model_laws.proofs.Affine.{≤_trans}
 use Rattle.nf_model_laws.proofs.Exists.{HasExit-curve}
 use Rattle.nf_model_laws.proofs.Networks.{IsLink-unique, hop_at, by_link}
 use Rattle.nf_model_laws.proofs.EarliestWalks.{AreLabelsBy, CanCross, AreHops, Comes, IsFirst, IsFirst-label, IsFirst-forward, AreLabelsBy-first}
+use Rattle.nf_rational_laws.proofs.Chains.{≤ℚ_trans}
 
 pub IsPositive-link : (net : Network) (e : ℕ) (link : Link) → IsNetwork net → IsLink net e link → IsPositive link.capacity
 IsPositive-link net e link good p = λ rate some. good.capacities e link rate p some
@@ -125,4 +125,4 @@ module _ (net : Network) (flow : Flow) (departure : ℚ) (good : IsNetwork net) 
       → AreLabels net (inflow flow) departure (λ v. label flow v departure)
   AreLabels-report h earliest = AreLabels-earliest net (inflow flow) departure (λ v. label flow v departure) good rises
       (λ e link p. exit_at e link (label flow link.tail departure) p
-      (≤_trans _ _ _ h (IsEarliest-forward net (inflow flow) link.tail departure (label flow link.tail departure) good rises (earliest link.tail (good.tails e link p))))) earliest
+      (≤ℚ_trans _ _ _ h (IsEarliest-forward net (inflow flow) link.tail departure (label flow link.tail departure) good rises (earliest link.tail (good.tails e link p))))) earliest

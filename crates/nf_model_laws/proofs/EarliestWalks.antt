@@ -8,9 +8,9 @@ use Rattle.nf_rational_laws.proofs.Polynomial.{reading_of}
 use Rattle.nf_rational_laws.proofs.Order.{≤ℚ_of_same, ≤ℚ_antisymm}
 use Rattle.nf_rational_laws.proofs.Linear.{le, lt, eq, linear_le, linear_false}
 use Rattle.nf_model.specs.Walk.{Hop, IsHop, IsWalk, transit_of, transit_sum}
-use Rattle.nf_model_laws.proofs.Affine.{≤_trans}
 use Rattle.nf_model_laws.proofs.Ways.{way_back}
 use Rattle.nf_model_laws.proofs.Networks.{transit_of-hop, IsWalk-append}
+use Rattle.nf_rational_laws.proofs.Chains.{≤ℚ_trans}
 
 -- ---- what is said of labels, hop by hop. `Cross e time exit`: who enters hop e at this time leaves it at that one
 
@@ -78,7 +78,7 @@ module _ (hops : List Hop) (nodes : ℕ) (Cross : ℕ → ℚ → ℚ → Type 0
 
   pub walks_forward : (walk : List ℕ) (u v : ℕ) (t a : ℚ) → IsWalk hops walk u v → Comes Cross walk t a → t ≤ℚ a
   walks_forward [] u v t a w c = ≤ℚ_of_same _ _ c
-  walks_forward (e ∷ walk) u v t a w c = ≤_trans _ _ _ (goes_forward e w.0 t c.0 w.1 c.1) (walks_forward walk w.0.head v c.0 a w.3 c.2)
+  walks_forward (e ∷ walk) u v t a w c = ≤ℚ_trans _ _ _ (goes_forward e w.0 t c.0 w.1 c.1) (walks_forward walk w.0.head v c.0 a w.3 c.2)
 
   pub IsFirst-forward : (source v : ℕ) (departure arrival : ℚ) → IsFirst hops source Cross v departure arrival → departure ≤ℚ arrival
   IsFirst-forward source v departure arrival f = walks_forward f.taken.0 source v departure arrival f.taken.1 f.taken.2
@@ -142,10 +142,10 @@ module _ (hops : List Hop) (nodes source : ℕ) (Cross : ℕ → ℚ → ℚ →
     one_hop : (e : ℕ) (hop : Hop) (a x : ℚ) → IsHop hops e hop → label hop.tail ≤ℚ a → Cross e a x → label hop.head ≤ℚ x
     one_hop e hop a x p h c = ⊎_elim
         (λ (q : (eqb hop.head source ≡ true) × (hop.head ≡ source)). subst (λ (k : ℕ). label k ≤ℚ x) (sym q.1)
-        (≤_trans _ _ _ (not_before hop.tail (good.tails e hop p)) (≤_trans _ _ _ h (goes_forward hops nodes Cross good can e hop a x p c))))
+        (≤ℚ_trans _ _ _ (not_before hop.tail (good.tails e hop p)) (≤ℚ_trans _ _ _ h (goes_forward hops nodes Cross good can e hop a x p c))))
         (λ (q : (eqb hop.head source ≡ false) × (hop.head ≢ source)).
         let o : (exit : ℚ) × Cross e (label hop.tail) exit × (label hop.head ≤ℚ exit) = labels.not_before e hop p q.1 in
-        ≤_trans _ _ _ o.2 (can.keeps e hop (label hop.tail) a o.0 x p h o.1 c))
+        ≤ℚ_trans _ _ _ o.2 (can.keeps e hop (label hop.tail) a o.0 x p h o.1 c))
         (eqb_tells hop.head source)
 
     no_earlier : (walk : List ℕ) (u v : ℕ) (a b : ℚ) → IsWalk hops walk u v → label u ≤ℚ a → Comes Cross walk a b → label v ≤ℚ b

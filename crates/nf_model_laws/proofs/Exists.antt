@@ -9,10 +9,10 @@ use Rattle.nf_rational_laws.proofs.Linear.{le, linear_le, linear_eq}
 use Rattle.nf_model.specs.Curve.{value, slope, IsCurve}
 use Rattle.nf_model.specs.Queue.{IsQueue, IsExit, IsOutflow, waiting}
 use Rattle.nf_model_laws.specs.Affine.{IsAffine, queue_after}
-use Rattle.nf_model_laws.proofs.Affine.{≤_refl}
 use Rattle.nf_model_laws.proofs.Curves.{IsCurve-rises, TimesRise-rest, value-last, value-affine}
 use Rattle.nf_model_laws.proofs.Queues.{IsOutflow-early, IsOutflow-from_IsQueue}
 use Rattle.nf_model_laws.proofs.Step.{IsQueue-at_0, IsQueue-after}
+use Rattle.nf_rational_laws.proofs.Chains.{≤ℚ_refl}
 
 abbrev pub HasQueue : Option ℚ → (ℚ → ℚ) → ℚ → Type 0
 HasQueue capacity amount time = (queue : ℚ) × IsQueue capacity amount time queue
@@ -28,13 +28,13 @@ flat y t = linear_eq (y ∷ t ∷ []) [] (search reading_of depth 12) tt tt
 -- after the last point the curve is affine with the slope 0
 pub IsAffine-last : (front : List (ℚ × ℚ)) (p : ℚ × ℚ) (end : ℚ) → IsCurve (front ++ p ∷ []) → IsAffine (value (front ++ p ∷ [])) p.0 end 0ℚ
 IsAffine-last front p end c = record {
-  line = λ t h k. value-last front p t (IsCurve-rises _ c) h ∙ sym (value-last front p p.0 (IsCurve-rises _ c) (≤_refl p.0)) ∙ flat _ (t -ℚ p.0);
+  line = λ t h k. value-last front p t (IsCurve-rises _ c) h ∙ sym (value-last front p p.0 (IsCurve-rises _ c) (≤ℚ_refl p.0)) ∙ flat _ (t -ℚ p.0);
 }
 
 -- from a point on, piece by piece
 from_point : (capacity : Option ℚ) (rest : List (ℚ × ℚ)) (front : List (ℚ × ℚ)) (p : ℚ × ℚ) (time : ℚ) → IsCurve (front ++ p ∷ rest) → HasQueue capacity (value (front ++ p ∷ rest)) p.0
     → p.0 ≤ℚ time → HasQueue capacity (value (front ++ p ∷ rest)) time
-from_point capacity [] front p time c was h = over_piece capacity _ p.0 time 0ℚ time (IsAffine-last front p time c) was h (≤_refl time)
+from_point capacity [] front p time c was h = over_piece capacity _ p.0 time 0ℚ time (IsAffine-last front p time c) was h (≤ℚ_refl time)
 from_point capacity (q ∷ rest) front p time c was h =
     let line : IsAffine (value (front ++ p ∷ q ∷ rest)) p.0 q.0 (slope p q) = value-affine front p q rest (IsCurve-rises _ c) in
     let order : p.0 ≤ℚ q.0 = ≤ℚ_of_lt _ _ (TimesRise-rest front p (q ∷ rest) (IsCurve-rises _ c)).0 in
@@ -43,7 +43,7 @@ from_point capacity (q ∷ rest) front p time c was h =
     (λ (l : time <ℚ q.0). over_piece capacity _ p.0 q.0 (slope p q) time line was h (≤ℚ_of_lt _ _ l))
     (λ (l : q.0 ≤ℚ time). subst (λ (g : List (ℚ × ℚ)). HasQueue capacity (value g) time) same
     (from_point capacity rest (front ++ p ∷ []) q time (subst (λ (g : List (ℚ × ℚ)). IsCurve g) (sym same) c)
-    (subst (λ (g : List (ℚ × ℚ)). HasQueue capacity (value g) q.0) (sym same) (over_piece capacity _ p.0 q.0 (slope p q) q.0 line was order (≤_refl q.0))) l))
+    (subst (λ (g : List (ℚ × ℚ)). HasQueue capacity (value g) q.0) (sym same) (over_piece capacity _ p.0 q.0 (slope p q) q.0 line was order (≤ℚ_refl q.0))) l))
     (lt_or_le_ℚ time q.0)
 
 pub HasQueue-curve : (capacity : Option ℚ) (points : List (ℚ × ℚ)) (time : ℚ) → IsCurve points → 0ℚ ≤ℚ time → HasQueue capacity (value points) time

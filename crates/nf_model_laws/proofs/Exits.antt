@@ -11,9 +11,10 @@ use Rattle.nf_rational_laws.proofs.Linear.{le, eq, le_times, eq_times, linear_le
 use Rattle.nf_model.specs.Curve.{IsGreatest, NeverFalls}
 use Rattle.nf_model.specs.Queue.{IsQueue, IsExit, IsOutflow, waiting}
 use Rattle.nf_model_laws.specs.Capacity.{IsPositive}
-use Rattle.nf_model_laws.proofs.Affine.{nn-quotient, quotient-times, ≤_trans}
+use Rattle.nf_model_laws.proofs.Affine.{nn-quotient, quotient-times}
 use Rattle.nf_model_laws.proofs.Queues.{IsQueue-some, IsQueue-nn, IsGreatest-order, IsQueue-unique, IsOutflow-from_IsQueue}
 use Rattle.nf_model_laws.proofs.Step.{IsQueue-at_0}
+use Rattle.nf_rational_laws.proofs.Chains.{≤ℚ_trans}
 
 -- ---- when what entered at a time leaves the queue, the queue is just what has entered since
 -- over plain numbers: a entered by x, b by the time t, d by z, which is x and the wait w
@@ -32,7 +33,7 @@ later_on x w z e h = linear_le (x ∷ w ∷ z ∷ []) (eq e ∷ le h ∷ []) (se
 pub IsQueue-served : (rate : ℚ) (amount : ℚ → ℚ) (time later queue : ℚ) → 0ℚ <ℚ rate → NeverFalls amount → IsQueue (Some rate) amount time queue → later ≡ time +ℚ queue /ℚ rate
     → IsQueue (Some rate) amount later (amount later -ℚ amount time)
 IsQueue-served rate amount time later queue c rises p e = IsQueue-some rate amount later _ (record {
-  taken = (g.taken.0, (g.taken.1.0, ≤_trans _ _ _ g.taken.1.1 after), still_taken _ _ rate _ g.taken.0 _ time later queue e served g.taken.2);
+  taken = (g.taken.0, (g.taken.1.0, ≤ℚ_trans _ _ _ g.taken.1.1 after), still_taken _ _ rate _ g.taken.0 _ time later queue e served g.taken.2);
   bound = λ since w. ⊎_elim
       (λ (l : since <ℚ time). before_entry _ _ rate _ since _ time later queue e served (g.bound since (w.0, ≤ℚ_of_lt _ _ l)))
       (λ (l : time ≤ℚ since). after_entry _ _ rate _ since later (rises time since (IsGreatest-order _ _ _ _ g) l) c w.1)
@@ -69,7 +70,7 @@ IsOutflow-at_exit transit None amount time exit c rises h p =
 IsOutflow-at_exit transit (Some rate) amount time exit c rises h p =
     subst (λ (y : ℚ). IsOutflow transit (Some rate) amount exit y) (all_but (amount time) (amount later))
     (IsOutflow-from_IsQueue transit (Some rate) amount later exit (amount later -ℚ amount time) (wait_first time transit (p.queue /ℚ rate) exit p.is_sum)
-    (≤_trans _ _ _ h (later_on time (p.queue /ℚ rate) later refl (nn-quotient p.queue rate (IsQueue-nn (Some rate) amount time p.queue p.is_queue) (c rate refl))))
+    (≤ℚ_trans _ _ _ h (later_on time (p.queue /ℚ rate) later refl (nn-quotient p.queue rate (IsQueue-nn (Some rate) amount time p.queue p.is_queue) (c rate refl))))
     (IsQueue-served rate amount time later p.queue (c rate refl) rises p.is_queue refl))
   where
     later : ℚ

@@ -8,9 +8,10 @@ use Rattle.nf_rational_laws.proofs.Order.{nn_whole, ps_whole}
 use Rattle.nf_rational_laws.proofs.Linear.{linear_le, linear_eq}
 use Rattle.nf_model.specs.Network.{Piece, IsPiece, ArePieces}
 use Rattle.nf_model_laws.specs.MemberLaws.{NotBefore, n, HasMember}
-use Rattle.nf_model_laws.proofs.Affine.{≤_refl}
 use Rattle.nf_model_laws.proofs.MemberLink.{IsNetwork-one_link}
 use Rattle.nf_model_laws.proofs.MemberPoints.{Equilibrium-full}
+use Rattle.nf_rational_laws.proofs.Chains.{≤ℚ_refl}
+use Rattle.std.proofs.lemmas.Option.{same_Some}
 
 abbrev first : Piece
 first = record { start = n 0; rate = n 2 }
@@ -21,31 +22,28 @@ second = record { start = n 2; rate = n 0 }
 abbrev later : List Piece
 later = second ∷ []
 
-same_piece : (a b : Piece) → ◌≡◌ {A = Option Piece} (Some a) (Some b) → a ≡ b
-same_piece a b q = cc
-
 no_piece : {X : Type 0} (b : Piece) → ◌≡◌ {A = Option Piece} None (Some b) → X
 no_piece b q = absurd (cc)
 
 each_piece : (P : Piece → Type 0) → P first → P second → (i : ℕ) (piece : Piece) → IsPiece (first ∷ later) i piece → P piece
-each_piece P a b zero piece p = subst P (same_piece first piece p) a
-each_piece P a b (suc zero) piece p = subst P (same_piece second piece p) b
+each_piece P a b zero piece p = subst P (same_Some first piece p) a
+each_piece P a b (suc zero) piece p = subst P (same_Some second piece p) b
 each_piece P a b (suc (suc i)) piece p = no_piece piece p
 
 pieces : ArePieces (first ∷ later)
 pieces = record {
-  starts = each_piece (λ (p : Piece). 0ℚ ≤ℚ p.start) (≤_refl 0ℚ) (nn_whole 2);
+  starts = each_piece (λ (p : Piece). 0ℚ ≤ℚ p.start) (≤ℚ_refl 0ℚ) (nn_whole 2);
   rise = rise;
-  rates = each_piece (λ (p : Piece). 0ℚ ≤ℚ p.rate) (nn_whole 2) (≤_refl 0ℚ);
+  rates = each_piece (λ (p : Piece). 0ℚ ≤ℚ p.rate) (nn_whole 2) (≤ℚ_refl 0ℚ);
 }
   where
     rise : (i : ℕ) (piece next : Piece) → IsPiece (first ∷ later) i piece → IsPiece (first ∷ later) (suc i) next → piece.start <ℚ next.start
     rise zero piece next p q =
-        subst (λ (a : Piece). a.start <ℚ next.start) (same_piece first piece p) (subst (λ (b : Piece). n 0 <ℚ b.start) (same_piece second next q) (ps_whole 1))
+        subst (λ (a : Piece). a.start <ℚ next.start) (same_Some first piece p) (subst (λ (b : Piece). n 0 <ℚ b.start) (same_Some second next q) (ps_whole 1))
     rise (suc i) piece next p q = no_piece next q
 
 alone : NotBefore (n 2) later
-alone zero piece p = subst (λ (a : Piece). n 2 ≤ℚ a.start) (same_piece second piece p) (≤_refl (n 2))
+alone zero piece p = subst (λ (a : Piece). n 2 ≤ℚ a.start) (same_Some second piece p) (≤ℚ_refl (n 2))
 alone (suc i) piece p = no_piece piece p
 
 pub has_member : HasMember

@@ -15,10 +15,10 @@ use Rattle.nf_model.specs.Equilibrium.{Flow, Balances, Conserves, OnlyShortest, 
 use Rattle.nf_model_laws.specs.Capacity.{IsPositive}
 use Rattle.nf_model_laws.specs.EarliestLaws.{AreLabels}
 use Rattle.nf_model_laws.specs.MemberLaws.{one_link, FillsLink}
-use Rattle.nf_model_laws.proofs.Affine.{≤_refl}
 use Rattle.nf_model_laws.proofs.Queues.{IsOutflow-early}
 use Rattle.nf_model_laws.proofs.Exits.{IsOutflow-at_exit, IsExit-at_0}
 use Rattle.nf_model_laws.proofs.Earliest.{IsEarliest-label}
+use Rattle.nf_rational_laws.proofs.Chains.{≤ℚ_refl}
 
 zero_one : {X : Type 0} → ◌≡◌ {A = ℕ} zero (suc zero) → X
 zero_one e = absurd (cc)
@@ -104,7 +104,7 @@ module _ (transit : ℚ) (capacity : Option ℚ) (pieces : List Piece) where
     rises_each e k = only_0 (λ (e : ℕ). NeverFalls (amount e)) e k fills.rises
 
     at_start : Within 0ℚ flow.reached 0ℚ
-    at_start = (≤_refl 0ℚ, fills.begins)
+    at_start = (≤ℚ_refl 0ℚ, fills.begins)
 
     -- who departs enters the link at once, and leaves it at the label of the sink
     leaves : (departure : ℚ) → Within 0ℚ flow.reached departure → IsExit transit capacity (amount 0) (label flow 0 departure) (label flow 1 departure)
@@ -116,7 +116,7 @@ module _ (transit : ℚ) (capacity : Option ℚ) (pieces : List Piece) where
       source = fills.source departure w;
       not_before = λ e link q _. by_link
           (λ (e : ℕ) (l : Link). (exit : ℚ) × IsExit l.transit l.capacity (amount e) (label flow l.tail departure) exit × (label flow l.head departure ≤ℚ exit)) e link q
-          (label flow 1 departure, leaves departure w, ≤_refl _);
+          (label flow 1 departure, leaves departure w, ≤ℚ_refl _);
       entered = λ v k other. (0, the_link, refl, node_cases (λ (v : ℕ). (v ≡ 0 → ⊥) → 1 ≡ v) v k (λ o. absurd (o refl)) (λ _. refl) other, leaves departure w);
     }
 
@@ -183,7 +183,7 @@ module _ (transit : ℚ) (capacity : Option ℚ) (pieces : List Piece) where
           (λ (e : ℕ) (l : Link). Within 0ℚ (label flow l.head flow.reached) time → IsOutflow l.transit l.capacity (amount e) time (outflow flow e time)) e link q (fills.outflows time);
       queues = λ e link time q. by_link
           (λ (e : ℕ) (l : Link). Within 0ℚ (label flow l.tail flow.reached) time → IsQueue l.capacity (amount e) time (queue flow e time)) e link q
-          (λ w. fills.queues time (w.0, subst (λ (t : ℚ). time ≤ℚ t) (fills.source flow.reached (fills.begins, ≤_refl flow.reached)) w.1));
+          (λ w. fills.queues time (w.0, subst (λ (t : ℚ). time ≤ℚ t) (fills.source flow.reached (fills.begins, ≤ℚ_refl flow.reached)) w.1));
     }
 
   -- ---- the other way: an equilibrium fills the link
@@ -226,5 +226,5 @@ module _ (transit : ℚ) (capacity : Option ℚ) (pieces : List Piece) where
       source = at_source;
       sink = at_sink;
       outflows = λ time w. is.outflows 0 the_link time refl w;
-      queues = λ time w. is.queues 0 the_link time refl (w.0, subst (λ (t : ℚ). time ≤ℚ t) (sym (at_source flow.reached (is.reached, ≤_refl flow.reached))) w.1);
+      queues = λ time w. is.queues 0 the_link time refl (w.0, subst (λ (t : ℚ). time ≤ℚ t) (sym (at_source flow.reached (is.reached, ≤ℚ_refl flow.reached))) w.1);
     }

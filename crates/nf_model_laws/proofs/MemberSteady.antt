@@ -2,10 +2,10 @@
 use Rattle.std.proofs.Common.{◌≡◌, zero, suc, List, [], ◌∷◌, Bool, if◌then◌else◌, ⊎_elim, Option, Some, None, sym, ap, subst, refl, ◌∙◌}
 use Rattle.nf_rational.specs.Rational.{ℚ}
 use Rattle.nf_rational.specs.Operations.{0ℚ, 1ℚ, ◌+ℚ◌, ◌-ℚ◌, ◌*ℚ◌, ◌/ℚ◌}
-use Rattle.nf_rational.specs.Order.{◌≤ℚ◌, ◌<ℚ◌, max_ℚ}
+use Rattle.nf_rational.specs.Order.{◌≤ℚ◌, ◌<ℚ◌}
 use Rattle.nf_rational_laws.proofs.Polynomial.{reading_of}
-use Rattle.nf_rational_laws.proofs.Order.{≤ℚ_of_lt, ≤ℚ_antisymm, lt_or_le_ℚ, not_both_ℚ, ps_whole}
-use Rattle.nf_rational_laws.proofs.Tests.{max_ℚ_cases, test_of_le, test_of_lt}
+use Rattle.nf_rational_laws.proofs.Order.{≤ℚ_of_lt, lt_or_le_ℚ, not_both_ℚ, ps_whole}
+use Rattle.nf_rational_laws.proofs.Tests.{test_of_le, test_of_lt, max0_none, max0_of}
 use Rattle.nf_rational_laws.proofs.Linear.{le, lt, eq, le_times, eq_times, linear_le, linear_lt, linear_eq}
 use Rattle.nf_model.specs.Curve.{Within, NeverFalls}
 use Rattle.nf_model.specs.Network.{Piece, ArePieces, rate_from, supplied}
@@ -14,40 +14,30 @@ use Rattle.nf_model.specs.Equilibrium.{Flow, label, inflow, outflow, queue, HasS
 use Rattle.nf_model_laws.specs.Affine.{IsAffine, queue_after}
 use Rattle.nf_model_laws.specs.Capacity.{IsPositive}
 use Rattle.nf_model_laws.specs.MemberLaws.{one_link, at_rate, NotBefore, FillsLink}
-use Rattle.nf_model_laws.proofs.Affine.{≤_refl, ≤_trans, quotient-times, le_from_times, same_from_times}
+use Rattle.nf_model_laws.proofs.Affine.{quotient-times, le_from_times, same_from_times}
 use Rattle.nf_model_laws.proofs.Queues.{IsOutflow-early}
 use Rattle.nf_model_laws.specs.SupplyLaws.{NoStartBetween}
 use Rattle.nf_model_laws.proofs.Supply.{supplied-goes_on, supplied-begins}
 use Rattle.nf_model_laws.proofs.Step.{IsQueue-after, IsQueue-at_0}
 use Rattle.nf_model_laws.proofs.Exits.{IsOutflow-at_exit, waiting-none}
+use Rattle.nf_rational_laws.proofs.Chains.{≤ℚ_refl, ≤ℚ_trans}
 
 -- ---- the supply
-max_none : (a : ℚ) → a ≤ℚ 0ℚ → max_ℚ 0ℚ a ≡ 0ℚ
-max_none a h = ⊎_elim
-    (λ (w : (max_ℚ 0ℚ a ≡ a) × (0ℚ ≤ℚ a)). w.0 ∙ ≤ℚ_antisymm _ _ h w.1)
-    (λ (w : (max_ℚ 0ℚ a ≡ 0ℚ) × (a <ℚ 0ℚ)). w.0)
-    (max_ℚ_cases 0ℚ a)
-
-pub max_nn : (a : ℚ) → 0ℚ ≤ℚ a → max_ℚ 0ℚ a ≡ a
-max_nn a h = ⊎_elim
-    (λ (w : (max_ℚ 0ℚ a ≡ a) × (0ℚ ≤ℚ a)). w.0)
-    (λ (w : (max_ℚ 0ℚ a ≡ 0ℚ) × (a <ℚ 0ℚ)). w.0 ∙ ≤ℚ_antisymm _ _ h (≤ℚ_of_lt _ _ w.1))
-    (max_ℚ_cases 0ℚ a)
 
 -- from time 0 on, as long as no other piece starts
 first_rate : (rate : ℚ) (later : List Piece) → ArePieces (at_rate rate later) → rate_from 0ℚ (at_rate rate later) 0ℚ ≡ rate
-first_rate rate later pieces = ap (λ (b : Bool). if b then rate_from rate later 0ℚ else 0ℚ) (test_of_le 0ℚ 0ℚ (≤_refl 0ℚ)) ∙ goes_on later pieces
+first_rate rate later pieces = ap (λ (b : Bool). if b then rate_from rate later 0ℚ else 0ℚ) (test_of_le 0ℚ 0ℚ (≤ℚ_refl 0ℚ)) ∙ goes_on later pieces
   where
     goes_on : (later : List Piece) → ArePieces (at_rate rate later) → rate_from rate later 0ℚ ≡ rate
     goes_on [] pieces = refl
     goes_on (next ∷ rest) pieces = ap (λ (b : Bool). if b then rate_from next.rate rest 0ℚ else rate) (test_of_lt next.start 0ℚ (pieces.rise 0 _ next refl refl))
 
 nothing_between : (rate : ℚ) (later : List Piece) (horizon time : ℚ) → NotBefore horizon later → time ≤ℚ horizon → NoStartBetween (at_rate rate later) 0ℚ time
-nothing_between rate later horizon time alone h zero piece p after = absurd (not_both_ℚ 0ℚ 0ℚ (subst (λ (q : Piece). 0ℚ <ℚ q.start) (sym (same _ piece p)) after) (≤_refl 0ℚ))
+nothing_between rate later horizon time alone h zero piece p after = absurd (not_both_ℚ 0ℚ 0ℚ (subst (λ (q : Piece). 0ℚ <ℚ q.start) (sym (same _ piece p)) after) (≤ℚ_refl 0ℚ))
   where
     same : (a b : Piece) → ◌≡◌ {A = Option Piece} (Some a) (Some b) → a ≡ b
     same a b e = cc
-nothing_between rate later horizon time alone h (suc i) piece p after = ≤_trans _ _ _ h (alone i piece p)
+nothing_between rate later horizon time alone h (suc i) piece p after = ≤ℚ_trans _ _ _ h (alone i piece p)
 
 from_none : (r t s u m : ℚ) → s ≡ u +ℚ m *ℚ (t -ℚ 0ℚ) → u ≡ 0ℚ → m ≡ r → s ≡ r *ℚ t
 from_none r t s u m e f g = linear_eq (r ∷ t ∷ s ∷ u ∷ m ∷ []) (eq e ∷ eq f ∷ eq_times t g ∷ []) (search reading_of depth 12) tt tt
@@ -105,7 +95,7 @@ module _ (transit : ℚ) (capacity : Option ℚ) (later : List Piece) (rate slop
   amount = inflow flow 0
 
   none_at_0 : amount 0ℚ ≡ 0ℚ
-  none_at_0 = no_time (amount 0ℚ) (amount 0ℚ) rate (steady.entered 0ℚ (≤_refl 0ℚ, steady.begins)) refl
+  none_at_0 = no_time (amount 0ℚ) (amount 0ℚ) rate (steady.entered 0ℚ (≤ℚ_refl 0ℚ, steady.begins)) refl
 
   line : IsAffine amount 0ℚ flow.reached rate
   line = record { line = λ t h k. on_line (amount t) (amount 0ℚ) rate t (steady.entered t (h, k)) none_at_0 }
@@ -127,7 +117,7 @@ module _ (transit : ℚ) (capacity : Option ℚ) (later : List Piece) (rate slop
       let e : d *ℚ slope ≡ t -ℚ transit = quotient-times (t -ℚ transit) slope state.slope_ps in
       let w : Within 0ℚ flow.reached d = (
         le_from_times slope 0ℚ d state.slope_ps (departs_after transit slope t d e h),
-        le_from_times slope d flow.reached state.slope_ps (departs_by transit slope t d flow.reached e (subst (λ (l : ℚ). t ≤ℚ l) (steady.sink flow.reached (steady.begins, ≤_refl flow.reached)) k)),
+        le_from_times slope d flow.reached state.slope_ps (departs_by transit slope t d flow.reached e (subst (λ (l : ℚ). t ≤ℚ l) (steady.sink flow.reached (steady.begins, ≤ℚ_refl flow.reached)) k)),
       ) in
       let at : transit +ℚ slope *ℚ d ≡ t = arrives transit slope t d e in
       subst (λ (s : ℚ). IsOutflow transit capacity amount s (outflow flow 0 s)) at
@@ -178,7 +168,7 @@ lt_from_times c x y h l = ⊎_elim
 pub IsState-full : (capacity rate slope : ℚ) → 0ℚ <ℚ capacity → capacity ≤ℚ rate → slope *ℚ capacity ≡ rate → IsState (Some capacity) rate slope (rate -ℚ capacity)
 IsState-full capacity rate slope c h e = record {
   slope_ps = lt_from_times capacity 0ℚ slope c (slope_above rate capacity slope c h e);
-  queue_is = λ t n. max_nn _ (gains rate capacity t h n) ∙ gained rate capacity t;
+  queue_is = λ t n. max0_of _ (gains rate capacity t h n) ∙ gained rate capacity t;
   exit_is = λ t. same_from_times capacity _ _ c (exit_full rate capacity t slope _ e (quotient-times ((rate -ℚ capacity) *ℚ t) capacity c));
 }
 
@@ -193,7 +183,7 @@ at_once t w e = linear_eq (t ∷ w ∷ []) (eq e ∷ []) (search reading_of dept
 
 stays_empty : (capacity : Option ℚ) (rate t : ℚ) → ((bound : ℚ) → capacity ≡ Some bound → rate ≤ℚ bound) → 0ℚ ≤ℚ t → queue_after capacity rate 0ℚ t ≡ 0ℚ
 stays_empty None rate t h n = refl
-stays_empty (Some bound) rate t h n = max_none _ (loses rate bound t (h bound refl) n)
+stays_empty (Some bound) rate t h n = max0_none _ (loses rate bound t (h bound refl) n)
 
 pub IsState-tight : (capacity : Option ℚ) (rate : ℚ) → ((bound : ℚ) → capacity ≡ Some bound → rate ≤ℚ bound) → IsState capacity rate 1ℚ 0ℚ
 IsState-tight capacity rate h = record {

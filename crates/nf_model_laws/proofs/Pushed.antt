@@ -8,8 +8,8 @@ use Rattle.nf_rational_laws.proofs.Order.{ps_times}
 use Rattle.nf_rational_laws.proofs.Linear.{le, lt, eq, eq_times, linear_le, linear_lt, linear_eq}
 use Rattle.nf_model.specs.Curve.{Within, value, slope}
 use Rattle.nf_model_laws.specs.Affine.{IsAffine}
-use Rattle.nf_model_laws.proofs.Affine.{≤_refl}
 use Rattle.nf_model_laws.proofs.Curves.{EndsAt, EndsAt-nn, EndsAt-value, EndsAt-push_line, EndsAt-push_before, slope-unique}
+use Rattle.nf_rational_laws.proofs.Chains.{≤ℚ_refl}
 
 -- from a point at a, with the value y, for the time d at the rate n
 abbrev pub onward : ℚ × ℚ → ℚ → ℚ → ℚ × ℚ
@@ -34,7 +34,7 @@ pushed-affine points p n d e h = record {
     later = onward_later p.0 d h
 
     start : value (points ++ onward p n d ∷ []) p.0 ≡ p.1
-    start = EndsAt-push_before points p (onward p n d) p.0 e later (EndsAt-nn points p e) (≤_refl p.0) ∙ EndsAt-value points p p.0 e (≤_refl p.0)
+    start = EndsAt-push_before points p (onward p n d) p.0 e later (EndsAt-nn points p e) (≤ℚ_refl p.0) ∙ EndsAt-value points p p.0 e (≤ℚ_refl p.0)
 
     along : (y z t n m : ℚ) → z ≡ y → n ≡ m → y +ℚ m *ℚ t ≡ z +ℚ n *ℚ t
     along y z t n m e f = linear_eq (y ∷ z ∷ t ∷ n ∷ m ∷ []) (eq e ∷ eq_times t f ∷ []) (search reading_of depth 12) tt tt
@@ -46,7 +46,7 @@ label_before points p n d t e h w = EndsAt-push_before points p (onward p n d) t
 pub label_after : (points : List (ℚ × ℚ)) (p : ℚ × ℚ) (n d t : ℚ) → EndsAt points p → 0ℚ <ℚ d → Within 0ℚ d t → value (points ++ onward p n d ∷ []) (p.0 +ℚ t) ≡ value points p.0 +ℚ n *ℚ t
 label_after points p n d t e h w =
     EndsAt-push_line points p (onward p n d) (p.0 +ℚ t) e (onward_later p.0 d h) (linear_le (p.0 ∷ t ∷ []) (le w.0 ∷ []) (search reading_of depth 12) tt) (linear_le (p.0 ∷ t ∷ d ∷ []) (le w.1 ∷ []) (search reading_of depth 12) tt)
-    ∙ along p.0 p.1 _ t n _ (EndsAt-value points p p.0 e (≤_refl p.0)) (onward_slope p n d h)
+    ∙ along p.0 p.1 _ t n _ (EndsAt-value points p p.0 e (≤ℚ_refl p.0)) (onward_slope p n d h)
   where
     along : (a y z t n m : ℚ) → z ≡ y → n ≡ m → y +ℚ m *ℚ ((a +ℚ t) -ℚ a) ≡ z +ℚ n *ℚ t
     along a y z t n m e f = linear_eq (a ∷ y ∷ z ∷ t ∷ n ∷ m ∷ []) (eq e ∷ eq_times t f ∷ []) (search reading_of depth 12) tt tt
@@ -56,12 +56,9 @@ pub data Pushed (points : List (ℚ × ℚ)) (p : ℚ × ℚ) (x l d : ℚ) : Li
   keeps : l ≡ 0ℚ → x ≡ 0ℚ → Pushed points p x l d points
   moves : (r : ℚ) → 0ℚ <ℚ l → r *ℚ l ≡ x → Pushed points p x l d (points ++ onward p r (l *ℚ d) ∷ [])
 
-times_ps : (l d : ℚ) → 0ℚ <ℚ l → 0ℚ <ℚ d → 0ℚ <ℚ l *ℚ d
-times_ps l d h k = ps_times l d h k
-
 pub Pushed-before : (points : List (ℚ × ℚ)) (p : ℚ × ℚ) (x l d : ℚ) (points' : List (ℚ × ℚ)) (t : ℚ) → Pushed points p x l d points' → EndsAt points p → 0ℚ <ℚ d → Within 0ℚ p.0 t → value points' t ≡ value points t
 Pushed-before points p x l d points' t (keeps a b) e h w = refl
-Pushed-before points p x l d points' t (moves r a b) e h w = EndsAt-push_before points p (onward p r (l *ℚ d)) t e (onward_later p.0 (l *ℚ d) (times_ps l d a h)) w.0 w.1
+Pushed-before points p x l d points' t (moves r a b) e h w = EndsAt-push_before points p (onward p r (l *ℚ d)) t e (onward_later p.0 (l *ℚ d) (ps_times l d a h)) w.0 w.1
 
 point_line : (f : ℚ → ℚ) (a l d : ℚ) → l ≡ 0ℚ → IsAffine f a (a +ℚ l *ℚ d) 0ℚ
 point_line f a l d e = record { line = λ t h k. ap f (end t h k) ∙ flat (f a) t }
@@ -78,4 +75,4 @@ Pushed-affine points p x l d points' (keeps a b) e h = (0ℚ, none l x b, point_
   where
     none : (l x : ℚ) → x ≡ 0ℚ → 0ℚ *ℚ l ≡ x
     none l x e = linear_eq (l ∷ x ∷ []) (eq e ∷ []) (search reading_of depth 12) tt tt
-Pushed-affine points p x l d points' (moves r a b) e h = (r, b, pushed-affine points p r (l *ℚ d) e (times_ps l d a h))
+Pushed-affine points p x l d points' (moves r a b) e h = (r, b, pushed-affine points p r (l *ℚ d) e (ps_times l d a h))

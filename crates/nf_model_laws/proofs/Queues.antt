@@ -4,12 +4,14 @@ use Rattle.nf_rational.specs.Rational.{ℚ}
 use Rattle.nf_rational.specs.Operations.{0ℚ, ◌+ℚ◌, ◌-ℚ◌, ◌*ℚ◌}
 use Rattle.nf_rational.specs.Order.{◌≤ℚ◌, ◌<ℚ◌}
 use Rattle.nf_rational_laws.proofs.Polynomial.{reading_of}
-use Rattle.nf_rational_laws.proofs.Order.{≤ℚ_of_same, ≤ℚ_antisymm, lt_or_le_ℚ}
+use Rattle.nf_rational_laws.proofs.Order.{≤ℚ_of_same, ≤ℚ_antisymm, lt_or_le_ℚ, not_both_ℚ}
 use Rattle.nf_rational_laws.proofs.Linear.{le, eq, eq_times, linear_le, linear_eq}
 use Rattle.nf_model.specs.Curve.{Within, IsGreatest, IsLeast, NeverFalls}
 use Rattle.nf_model.specs.Queue.{IsQueue, IsExit, IsOutflow, waiting}
 use Rattle.nf_model_laws.specs.Capacity.{IsPositive}
-use Rattle.nf_model_laws.proofs.Affine.{nn-quotient, quotient-times, le_from_times, ≤_refl, ≤_trans, clash}
+use Rattle.nf_model_laws.proofs.Affine.{nn-quotient, quotient-times, le_from_times}
+use Rattle.nf_rational_laws.proofs.Chains.{≤ℚ_refl, ≤ℚ_trans}
+use Rattle.std.proofs.lemmas.Option.{same_Some}
 
 -- ---- at most one value
 pub IsGreatest-unique : (f : ℚ → ℚ) (a b y z : ℚ) → IsGreatest f a b y → IsGreatest f a b z → y ≡ z
@@ -46,9 +48,6 @@ IsOutflow-unique transit capacity amount time y z p q = ⊎_elim
 no_rate : {X : Type 0} (rate : ℚ) → ◌≡◌ {A = Option ℚ} None (Some rate) → X
 no_rate rate e = absurd (cc)
 
-same_rate : (a b : ℚ) → ◌≡◌ {A = Option ℚ} (Some a) (Some b) → a ≡ b
-same_rate a b e = cc
-
 pub IsQueue-none : (amount : ℚ → ℚ) (time : ℚ) → IsQueue None amount time 0ℚ
 IsQueue-none amount time = record { unbounded = λ _. refl; bounded = λ rate e. no_rate rate e }
 
@@ -56,12 +55,12 @@ pub IsQueue-some : (rate : ℚ) (amount : ℚ → ℚ) (time queue : ℚ) → Is
     → IsQueue (Some rate) amount time queue
 IsQueue-some rate amount time queue p = record {
   unbounded = λ e. no_rate rate (sym e);
-  bounded = λ other e. subst (λ (r : ℚ). IsGreatest (λ since. amount time -ℚ amount since -ℚ r *ℚ (time -ℚ since)) 0ℚ time queue) (same_rate rate other e) p;
+  bounded = λ other e. subst (λ (r : ℚ). IsGreatest (λ since. amount time -ℚ amount since -ℚ r *ℚ (time -ℚ since)) 0ℚ time queue) (same_Some rate other e) p;
 }
 
 -- ---- a queue is at least 0
 pub IsGreatest-order : (f : ℚ → ℚ) (a b y : ℚ) → IsGreatest f a b y → a ≤ℚ b
-IsGreatest-order f a b y p = ≤_trans _ _ _ p.taken.1.0 p.taken.1.1
+IsGreatest-order f a b y p = ≤ℚ_trans _ _ _ p.taken.1.0 p.taken.1.1
 
 none_now : (a c t y : ℚ) → a -ℚ a -ℚ c *ℚ (t -ℚ t) ≤ℚ y → 0ℚ ≤ℚ y
 none_now a c t y h = linear_le (a ∷ c ∷ t ∷ y ∷ []) (le h ∷ []) (search reading_of depth 12) tt
@@ -70,10 +69,10 @@ pub IsQueue-nn : (capacity : Option ℚ) (amount : ℚ → ℚ) (time y : ℚ) �
 IsQueue-nn None amount time y p = ≤ℚ_of_same _ _ (sym (p.unbounded refl))
 IsQueue-nn (Some rate) amount time y p =
     let g : IsGreatest (λ since. amount time -ℚ amount since -ℚ rate *ℚ (time -ℚ since)) 0ℚ time y = p.bounded rate refl in
-    none_now (amount time) rate time y (g.bound time (IsGreatest-order _ _ _ _ g, ≤_refl time))
+    none_now (amount time) rate time y (g.bound time (IsGreatest-order _ _ _ _ g, ≤ℚ_refl time))
 
 pub waiting-nn : (capacity : Option ℚ) (queue : ℚ) → IsPositive capacity → 0ℚ ≤ℚ queue → 0ℚ ≤ℚ waiting capacity queue
-waiting-nn None queue c h = ≤_refl 0ℚ
+waiting-nn None queue c h = ≤ℚ_refl 0ℚ
 waiting-nn (Some rate) queue c h = nn-quotient queue rate h (c rate refl)
 
 -- ---- the outflow is what has come, less the queue, the transit time later
@@ -101,14 +100,14 @@ less_none a y e = linear_eq (a ∷ y ∷ []) (eq e ∷ []) (search reading_of de
 pub IsOutflow-early : (transit : ℚ) (capacity : Option ℚ) (amount : ℚ → ℚ) (time : ℚ) → time <ℚ transit → IsOutflow transit capacity amount time 0ℚ
 IsOutflow-early transit capacity amount time l = record {
   early = λ _. refl;
-  unbounded = λ h _. absurd (clash _ _ l h);
-  bounded = λ rate h _. absurd (clash _ _ l h);
+  unbounded = λ h _. absurd (not_both_ℚ _ _ l h);
+  bounded = λ rate h _. absurd (not_both_ℚ _ _ l h);
 }
 
 pub IsOutflow-from_IsQueue : (transit : ℚ) (capacity : Option ℚ) (amount : ℚ → ℚ) (time later y : ℚ) → later ≡ time +ℚ transit → 0ℚ ≤ℚ time → IsQueue capacity amount time y
     → IsOutflow transit capacity amount later (amount time -ℚ y)
 IsOutflow-from_IsQueue transit capacity amount time later y e h p = record {
-  early = λ l. absurd (clash _ _ l (later_by time later transit e h));
+  early = λ l. absurd (not_both_ℚ _ _ l (later_by time later transit e h));
   unbounded = λ _ none. less_none (amount time) y (p.unbounded none) ∙ ap amount (back time later transit e);
   bounded = λ rate _ some.
       let g : IsGreatest (λ since. amount time -ℚ amount since -ℚ rate *ℚ (time -ℚ since)) 0ℚ time y = p.bounded rate some in
@@ -154,7 +153,7 @@ kept a a' b c s t u y z h e k = linear_le (a ∷ a' ∷ b ∷ c ∷ s ∷ t ∷ 
 pub IsQueue-keeps : (rate : ℚ) (amount : ℚ → ℚ) (s t y z : ℚ) → amount s ≤ℚ amount t → s ≤ℚ t → IsQueue (Some rate) amount s y → IsQueue (Some rate) amount t z → rate *ℚ s +ℚ y ≤ℚ rate *ℚ t +ℚ z
 IsQueue-keeps rate amount s t y z h k p q =
     let g : IsGreatest (λ since. amount s -ℚ amount since -ℚ rate *ℚ (s -ℚ since)) 0ℚ s y = p.bounded rate refl in
-    kept (amount s) (amount t) (amount g.taken.0) rate s t g.taken.0 y z h g.taken.2 ((q.bounded rate refl).bound g.taken.0 (g.taken.1.0, ≤_trans _ _ _ g.taken.1.1 k))
+    kept (amount s) (amount t) (amount g.taken.0) rate s t g.taken.0 y z h g.taken.2 ((q.bounded rate refl).bound g.taken.0 (g.taken.1.0, ≤ℚ_trans _ _ _ g.taken.1.1 k))
 
 exit_order : (c s t r y z u v : ℚ) → c *ℚ s +ℚ y ≤ℚ c *ℚ t +ℚ z → u *ℚ c ≡ y → v *ℚ c ≡ z → c *ℚ (s +ℚ r +ℚ u) ≤ℚ c *ℚ (t +ℚ r +ℚ v)
 exit_order c s t r y z u v h e f = linear_le (c ∷ s ∷ t ∷ r ∷ y ∷ z ∷ u ∷ v ∷ []) (le h ∷ eq e ∷ eq f ∷ []) (search reading_of depth 12) tt
@@ -188,7 +187,7 @@ IsLeast-same f g a b y e p = record {
 pub IsQueue-same : (capacity : Option ℚ) (f g : ℚ → ℚ) (time y : ℚ) → ((t : ℚ) → Within 0ℚ time t → f t ≡ g t) → IsQueue capacity f time y → IsQueue capacity g time y
 IsQueue-same capacity f g time y e p = record {
   unbounded = p.unbounded;
-  bounded = λ rate some. IsGreatest-same _ _ 0ℚ time y (λ t w. both rate time t (e time (≤_trans _ _ _ w.0 w.1, ≤_refl time)) (e t w)) (p.bounded rate some);
+  bounded = λ rate some. IsGreatest-same _ _ 0ℚ time y (λ t w. both rate time t (e time (≤ℚ_trans _ _ _ w.0 w.1, ≤ℚ_refl time)) (e t w)) (p.bounded rate some);
 }
   where
     both : (rate s t : ℚ) → f s ≡ g s → f t ≡ g t → f s -ℚ f t -ℚ rate *ℚ (s -ℚ t) ≡ g s -ℚ g t -ℚ rate *ℚ (s -ℚ t)
@@ -204,6 +203,6 @@ pub IsOutflow-same : (transit : ℚ) (capacity : Option ℚ) (f g : ℚ → ℚ)
     → IsOutflow transit capacity f time out → IsOutflow transit capacity g time out
 IsOutflow-same transit capacity f g time out e p = record {
   early = p.early;
-  unbounded = λ l none. p.unbounded l none ∙ e (time -ℚ transit) (in_time time transit l, ≤_refl _);
+  unbounded = λ l none. p.unbounded l none ∙ e (time -ℚ transit) (in_time time transit l, ≤ℚ_refl _);
   bounded = λ rate l some. IsLeast-same _ _ 0ℚ (time -ℚ transit) out (λ t w. ap (λ (x : ℚ). x +ℚ rate *ℚ (time -ℚ transit -ℚ t)) (e t w)) (p.bounded rate l some);
 }

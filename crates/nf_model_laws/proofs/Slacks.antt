@@ -1,6 +1,6 @@
 -- Slacks, the sets that they make, and how they move.
 use Rattle.std.proofs.Common.{◌≡◌, ℕ, zero, suc, List, [], ◌∷◌, length, Bool, true, false, Some, slice_get, option_map, map, ⊎_elim, sym, ap, refl, ◌∙◌}
-use Rattle.std.proofs.lemmas.Option.{slice_get-map}
+use Rattle.std.proofs.lemmas.Option.{slice_get-map, same_Some}
 use Rattle.nf_rational.specs.Rational.{ℚ}
 use Rattle.nf_rational.specs.Operations.{0ℚ, ◌+ℚ◌, ◌-ℚ◌, ◌*ℚ◌}
 use Rattle.nf_rational.specs.Order.{◌≤ℚ◌, ◌<ℚ◌, le_ℚ, lt_ℚ}
@@ -11,8 +11,8 @@ use Rattle.nf_model.specs.Entries.{number_at, Has}
 use Rattle.nf_model.specs.Network.{Link, Network, IsLink, hop_of, hops}
 use Rattle.nf_model.specs.ThinFlow.{slack, slacks_of, sets_at}
 use Rattle.nf_model.specs.Phases.{moved, slack_after}
-use Rattle.nf_model_laws.proofs.Affine.{clash}
 use Rattle.nf_model_laws.proofs.Networks.{hop_at, number_at-is}
+use Rattle.nf_rational_laws.proofs.Order.{not_both_ℚ}
 
 -- the slack in the list is that of the link
 slack_entry : (net : Network) (labels : List ℚ) (e : ℕ) (link : Link) → IsLink net e link → slice_get (slacks_of (hops net) labels) e ≡ Some (slack labels (hop_of link))
@@ -25,19 +25,16 @@ slack_at net labels e link p = number_at-is (slacks_of (hops net) labels) e (sla
 flag_at : (test : ℚ → Bool) (net : Network) (labels : List ℚ) (e : ℕ) (link : Link) → IsLink net e link → slice_get (map test (slacks_of (hops net) labels)) e ≡ Some (test (slack labels (hop_of link)))
 flag_at test net labels e link p = slice_get-map test (slacks_of (hops net) labels) e ∙ ap (option_map test) (slack_entry net labels e link p)
 
-same_flag : (a b : Bool) → Some a ≡ Some b → a ≡ b
-same_flag a b e = cc
-
 pub active_of_slack : (net : Network) (labels : List ℚ) (e : ℕ) (link : Link) → IsLink net e link → 0ℚ ≤ℚ slack labels (hop_of link) → Has (sets_at net labels).active e
 active_of_slack net labels e link p h = flag_at (le_ℚ 0ℚ) net labels e link p ∙ ap (λ (b : Bool). Some b) (⊎_elim
     (λ (w : (le_ℚ 0ℚ (slack labels (hop_of link)) ≡ true) × (0ℚ ≤ℚ slack labels (hop_of link))). w.0)
-    (λ (w : (le_ℚ 0ℚ (slack labels (hop_of link)) ≡ false) × (slack labels (hop_of link) <ℚ 0ℚ)). absurd (clash _ _ w.1 h))
+    (λ (w : (le_ℚ 0ℚ (slack labels (hop_of link)) ≡ false) × (slack labels (hop_of link) <ℚ 0ℚ)). absurd (not_both_ℚ _ _ w.1 h))
     (le_ℚ_cases 0ℚ (slack labels (hop_of link))))
 
 pub slack_of_active : (net : Network) (labels : List ℚ) (e : ℕ) (link : Link) → IsLink net e link → Has (sets_at net labels).active e → 0ℚ ≤ℚ slack labels (hop_of link)
 slack_of_active net labels e link p h = ⊎_elim
     (λ (w : (le_ℚ 0ℚ (slack labels (hop_of link)) ≡ true) × (0ℚ ≤ℚ slack labels (hop_of link))). w.1)
-    (λ (w : (le_ℚ 0ℚ (slack labels (hop_of link)) ≡ false) × (slack labels (hop_of link) <ℚ 0ℚ)). absurd (both _ w.0 (same_flag _ _ (sym (flag_at (le_ℚ 0ℚ) net labels e link p) ∙ h))))
+    (λ (w : (le_ℚ 0ℚ (slack labels (hop_of link)) ≡ false) × (slack labels (hop_of link) <ℚ 0ℚ)). absurd (both _ w.0 (same_Some _ _ (sym (flag_at (le_ℚ 0ℚ) net labels e link p) ∙ h))))
     (le_ℚ_cases 0ℚ (slack labels (hop_of link)))
   where
     both : (b : Bool) → b ≡ false → b ≡ true → ⊥
@@ -46,13 +43,13 @@ slack_of_active net labels e link p h = ⊎_elim
 pub resetting_of_slack : (net : Network) (labels : List ℚ) (e : ℕ) (link : Link) → IsLink net e link → 0ℚ <ℚ slack labels (hop_of link) → Has (sets_at net labels).resetting e
 resetting_of_slack net labels e link p h = flag_at (lt_ℚ 0ℚ) net labels e link p ∙ ap (λ (b : Bool). Some b) (⊎_elim
     (λ (w : (lt_ℚ 0ℚ (slack labels (hop_of link)) ≡ true) × (0ℚ <ℚ slack labels (hop_of link))). w.0)
-    (λ (w : (lt_ℚ 0ℚ (slack labels (hop_of link)) ≡ false) × (slack labels (hop_of link) ≤ℚ 0ℚ)). absurd (clash _ _ h w.1))
+    (λ (w : (lt_ℚ 0ℚ (slack labels (hop_of link)) ≡ false) × (slack labels (hop_of link) ≤ℚ 0ℚ)). absurd (not_both_ℚ _ _ h w.1))
     (lt_ℚ_cases 0ℚ (slack labels (hop_of link))))
 
 pub slack_of_resetting : (net : Network) (labels : List ℚ) (e : ℕ) (link : Link) → IsLink net e link → Has (sets_at net labels).resetting e → 0ℚ <ℚ slack labels (hop_of link)
 slack_of_resetting net labels e link p h = ⊎_elim
     (λ (w : (lt_ℚ 0ℚ (slack labels (hop_of link)) ≡ true) × (0ℚ <ℚ slack labels (hop_of link))). w.1)
-    (λ (w : (lt_ℚ 0ℚ (slack labels (hop_of link)) ≡ false) × (slack labels (hop_of link) ≤ℚ 0ℚ)). absurd (both _ w.0 (same_flag _ _ (sym (flag_at (lt_ℚ 0ℚ) net labels e link p) ∙ h))))
+    (λ (w : (lt_ℚ 0ℚ (slack labels (hop_of link)) ≡ false) × (slack labels (hop_of link) ≤ℚ 0ℚ)). absurd (both _ w.0 (same_Some _ _ (sym (flag_at (lt_ℚ 0ℚ) net labels e link p) ∙ h))))
     (lt_ℚ_cases 0ℚ (slack labels (hop_of link)))
   where
     both : (b : Bool) → b ≡ false → b ≡ true → ⊥

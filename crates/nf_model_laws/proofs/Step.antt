@@ -10,8 +10,8 @@ use Rattle.nf_rational_laws.proofs.Linear.{le, eq, le_times, linear_le, linear_e
 use Rattle.nf_model.specs.Curve.{Within, IsGreatest}
 use Rattle.nf_model.specs.Queue.{IsQueue}
 use Rattle.nf_model_laws.specs.Affine.{IsAffine, queue_after}
-use Rattle.nf_model_laws.proofs.Affine.{≤_refl, ≤_trans}
 use Rattle.nf_model_laws.proofs.Queues.{IsQueue-nn, IsGreatest-order, IsQueue-none, IsQueue-some}
+use Rattle.nf_rational_laws.proofs.Chains.{≤ℚ_refl, ≤ℚ_trans}
 
 -- what each earlier time gives, over plain numbers: a is the amount at the start, b at the earlier time u, d at x
 from_before : (r c s x u q z a b d : ℚ) → d ≡ a +ℚ r *ℚ (x -ℚ s) → a -ℚ b -ℚ c *ℚ (s -ℚ u) ≤ℚ q → q +ℚ (r -ℚ c) *ℚ (x -ℚ s) ≤ℚ z → d -ℚ b -ℚ c *ℚ (x -ℚ u) ≤ℚ z
@@ -46,23 +46,23 @@ module _ (capacity : ℚ) (amount : ℚ → ℚ) (start end rate queue : ℚ) (l
   bound_step time y h k n m since w = ⊎_elim
       (λ (l : since <ℚ start). from_before rate capacity start time since queue y _ _ _ (line.line time h k) (was.bound since (w.0, ≤ℚ_of_lt _ _ l)) m)
       (λ (l : start ≤ℚ since). ⊎_elim
-      (λ (f : rate <ℚ capacity). slower rate capacity start time since y _ _ _ (line.line time h k) (line.line since l (≤_trans _ _ _ w.1 k)) (≤ℚ_of_lt _ _ f) w.1 n)
-      (λ (f : capacity ≤ℚ rate). faster rate capacity start time since queue y _ _ _ (line.line time h k) (line.line since l (≤_trans _ _ _ w.1 k)) f l (IsQueue-nn (Some capacity) amount start queue before) m)
+      (λ (f : rate <ℚ capacity). slower rate capacity start time since y _ _ _ (line.line time h k) (line.line since l (≤ℚ_trans _ _ _ w.1 k)) (≤ℚ_of_lt _ _ f) w.1 n)
+      (λ (f : capacity ≤ℚ rate). faster rate capacity start time since queue y _ _ _ (line.line time h k) (line.line since l (≤ℚ_trans _ _ _ w.1 k)) f l (IsQueue-nn (Some capacity) amount start queue before) m)
       (lt_or_le_ℚ rate capacity))
       (lt_or_le_ℚ since start)
 
   -- the queue goes by rate - capacity as long as that is not below 0
   pub IsQueue-step : (time y : ℚ) → start ≤ℚ time → time ≤ℚ end → y ≡ queue +ℚ (rate -ℚ capacity) *ℚ (time -ℚ start) → 0ℚ ≤ℚ y → IsQueue (Some capacity) amount time y
   IsQueue-step time y h k e n = IsQueue-some capacity amount time y (record {
-    taken = (was.taken.0, (was.taken.1.0, ≤_trans _ _ _ was.taken.1.1 h), taken_before rate capacity start time was.taken.0 queue _ _ _ (line.line time h k) was.taken.2 ∙ sym e);
+    taken = (was.taken.0, (was.taken.1.0, ≤ℚ_trans _ _ _ was.taken.1.1 h), taken_before rate capacity start time was.taken.0 queue _ _ _ (line.line time h k) was.taken.2 ∙ sym e);
     bound = bound_step time y h k n (≤ℚ_of_same _ _ (sym e));
   })
 
   -- and is 0 where that would be below 0
   pub IsQueue-step_empty : (time : ℚ) → start ≤ℚ time → time ≤ℚ end → queue +ℚ (rate -ℚ capacity) *ℚ (time -ℚ start) ≤ℚ 0ℚ → IsQueue (Some capacity) amount time 0ℚ
   IsQueue-step_empty time h k e = IsQueue-some capacity amount time 0ℚ (record {
-    taken = (time, (≤_trans _ _ _ (IsGreatest-order _ _ _ _ was) h, ≤_refl time), taken_now capacity time (amount time));
-    bound = bound_step time 0ℚ h k (≤_refl 0ℚ) e;
+    taken = (time, (≤ℚ_trans _ _ _ (IsGreatest-order _ _ _ _ was) h, ≤ℚ_refl time), taken_now capacity time (amount time));
+    bound = bound_step time 0ℚ h k (≤ℚ_refl 0ℚ) e;
   })
 
   -- both in one
@@ -88,6 +88,6 @@ no_gain a c t = linear_eq (a ∷ c ∷ t ∷ []) [] (search reading_of depth 12)
 pub IsQueue-at_0 : (capacity : Option ℚ) (amount : ℚ → ℚ) → IsQueue capacity amount 0ℚ 0ℚ
 IsQueue-at_0 None amount = IsQueue-none amount 0ℚ
 IsQueue-at_0 (Some capacity) amount = IsQueue-some capacity amount 0ℚ 0ℚ (record {
-  taken = (0ℚ, (≤_refl 0ℚ, ≤_refl 0ℚ), no_gain (amount 0ℚ) capacity 0ℚ);
+  taken = (0ℚ, (≤ℚ_refl 0ℚ, ≤ℚ_refl 0ℚ), no_gain (amount 0ℚ) capacity 0ℚ);
   bound = λ t w. ≤ℚ_of_same _ _ (subst (λ (s : ℚ). ahead capacity amount 0ℚ s ≡ 0ℚ) (≤ℚ_antisymm 0ℚ t w.0 w.1) (no_gain (amount 0ℚ) capacity 0ℚ));
 })

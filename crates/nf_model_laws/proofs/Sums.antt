@@ -7,7 +7,8 @@ use Rattle.nf_rational.specs.Order.{◌≤ℚ◌}
 use Rattle.nf_rational_laws.proofs.Polynomial.{reading_of}
 use Rattle.nf_rational_laws.proofs.Linear.{le, eq, linear_le, linear_eq}
 use Rattle.nf_model.specs.Network.{Link, sum_in, sum_out}
-use Rattle.nf_model_laws.proofs.Affine.{≤_refl}
+use Rattle.nf_rational_laws.proofs.Chains.{≤ℚ_refl}
+use Rattle.std.proofs.lemmas.Option.{same_Some}
 
 -- ---- the same terms
 if_same : (b : Bool) (a c s t : ℚ) → (b ≡ true → a ≡ c) → s ≡ t → (if b then a +ℚ s else s) ≡ (if b then c +ℚ t else t)
@@ -54,11 +55,11 @@ if_order true a c s t h k = let l : a ≤ℚ c = h refl in linear_le (a ∷ c �
 if_order false a c s t h k = k
 
 pub sum_in-order : (links : List Link) (f g : ℕ → ℚ) (v : ℕ) → ((e : ℕ) (link : Link) → slice_get links e ≡ Some link → link.head ≡ v → f e ≤ℚ g e) → sum_in links f v ≤ℚ sum_in links g v
-sum_in-order [] f g v h = ≤_refl 0ℚ
+sum_in-order [] f g v h = ≤ℚ_refl 0ℚ
 sum_in-order (link ∷ links) f g v h = if_order (eqb link.head v) (f 0) (g 0) _ _ (λ e. h 0 link refl (eqb-true link.head v e)) (sum_in-order links (λ e. f (suc e)) (λ e. g (suc e)) v (λ e l s. h (suc e) l s))
 
 pub sum_out-order : (links : List Link) (f g : ℕ → ℚ) (v : ℕ) → ((e : ℕ) (link : Link) → slice_get links e ≡ Some link → link.tail ≡ v → f e ≤ℚ g e) → sum_out links f v ≤ℚ sum_out links g v
-sum_out-order [] f g v h = ≤_refl 0ℚ
+sum_out-order [] f g v h = ≤ℚ_refl 0ℚ
 sum_out-order (link ∷ links) f g v h = if_order (eqb link.tail v) (f 0) (g 0) _ _ (λ e. h 0 link refl (eqb-true link.tail v e)) (sum_out-order links (λ e. f (suc e)) (λ e. g (suc e)) v (λ e l s. h (suc e) l s))
 
 if_nn : (b : Bool) (a s : ℚ) → 0ℚ ≤ℚ a → 0ℚ ≤ℚ s → 0ℚ ≤ℚ (if b then a +ℚ s else s)
@@ -66,11 +67,11 @@ if_nn true a s h k = linear_le (a ∷ s ∷ []) (le h ∷ le k ∷ []) (search r
 if_nn false a s h k = k
 
 pub sum_in-nn : (links : List Link) (f : ℕ → ℚ) (v : ℕ) → ((e : ℕ) → 0ℚ ≤ℚ f e) → 0ℚ ≤ℚ sum_in links f v
-sum_in-nn [] f v n = ≤_refl 0ℚ
+sum_in-nn [] f v n = ≤ℚ_refl 0ℚ
 sum_in-nn (link ∷ links) f v n = if_nn (eqb link.head v) (f 0) _ (n 0) (sum_in-nn links (λ e. f (suc e)) v (λ e. n (suc e)))
 
 pub sum_out-nn : (links : List Link) (f : ℕ → ℚ) (v : ℕ) → ((e : ℕ) → 0ℚ ≤ℚ f e) → 0ℚ ≤ℚ sum_out links f v
-sum_out-nn [] f v n = ≤_refl 0ℚ
+sum_out-nn [] f v n = ≤ℚ_refl 0ℚ
 sum_out-nn (link ∷ links) f v n = if_nn (eqb link.tail v) (f 0) _ (n 0) (sum_out-nn links (λ e. f (suc e)) v (λ e. n (suc e)))
 
 -- ---- where no term is negative, each is at most the sum
@@ -82,15 +83,12 @@ if_first : (b : Bool) (a s : ℚ) → b ≡ true → 0ℚ ≤ℚ s → a ≤ℚ 
 if_first true a s e h = linear_le (a ∷ s ∷ []) (le h ∷ []) (search reading_of depth 12) tt
 if_first false a s e h = absurd (cc)
 
-same_first : (a b : Link) → Some a ≡ Some b → a ≡ b
-same_first a b e = cc
-
 pub sum_in-each : (links : List Link) (f : ℕ → ℚ) (v : ℕ) → ((e : ℕ) → 0ℚ ≤ℚ f e) → (e : ℕ) (link : Link) → slice_get links e ≡ Some link → link.head ≡ v → f e ≤ℚ sum_in links f v
 sum_in-each [] f v n e link p at = absurd (cc)
-sum_in-each (l ∷ links) f v n zero link p at = if_first (eqb l.head v) (f 0) _ (eq-eqb l.head v (ap (λ (k : Link). k.head) (same_first l link p) ∙ at)) (sum_in-nn links (λ e. f (suc e)) v (λ e. n (suc e)))
+sum_in-each (l ∷ links) f v n zero link p at = if_first (eqb l.head v) (f 0) _ (eq-eqb l.head v (ap (λ (k : Link). k.head) (same_Some l link p) ∙ at)) (sum_in-nn links (λ e. f (suc e)) v (λ e. n (suc e)))
 sum_in-each (l ∷ links) f v n (suc e) link p at = if_rest (eqb l.head v) (f 0) _ _ (n 0) (sum_in-each links (λ e. f (suc e)) v (λ e. n (suc e)) e link p at)
 
 pub sum_out-each : (links : List Link) (f : ℕ → ℚ) (v : ℕ) → ((e : ℕ) → 0ℚ ≤ℚ f e) → (e : ℕ) (link : Link) → slice_get links e ≡ Some link → link.tail ≡ v → f e ≤ℚ sum_out links f v
 sum_out-each [] f v n e link p at = absurd (cc)
-sum_out-each (l ∷ links) f v n zero link p at = if_first (eqb l.tail v) (f 0) _ (eq-eqb l.tail v (ap (λ (k : Link). k.tail) (same_first l link p) ∙ at)) (sum_out-nn links (λ e. f (suc e)) v (λ e. n (suc e)))
+sum_out-each (l ∷ links) f v n zero link p at = if_first (eqb l.tail v) (f 0) _ (eq-eqb l.tail v (ap (λ (k : Link). k.tail) (same_Some l link p) ∙ at)) (sum_out-nn links (λ e. f (suc e)) v (λ e. n (suc e)))
 sum_out-each (l ∷ links) f v n (suc e) link p at = if_rest (eqb l.tail v) (f 0) _ _ (n 0) (sum_out-each links (λ e. f (suc e)) v (λ e. n (suc e)) e link p at)

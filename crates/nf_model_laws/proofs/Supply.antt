@@ -4,25 +4,19 @@ use Rattle.nf_rational.specs.Rational.{ℚ}
 use Rattle.nf_rational.specs.Operations.{◌+ℚ◌, ◌-ℚ◌, ◌*ℚ◌, 0ℚ}
 use Rattle.nf_rational.specs.Order.{◌≤ℚ◌, ◌<ℚ◌, le_ℚ, min_ℚ, max_ℚ}
 use Rattle.nf_rational_laws.proofs.Polynomial.{reading_of}
-use Rattle.nf_rational_laws.proofs.Order.{≤ℚ_of_lt, ≤ℚ_of_same, ≤ℚ_antisymm, lt_or_le_ℚ}
-use Rattle.nf_rational_laws.proofs.Tests.{le_ℚ_cases, min_ℚ_cases, max_ℚ_cases}
+use Rattle.nf_rational_laws.proofs.Order.{≤ℚ_of_lt, ≤ℚ_of_same, ≤ℚ_antisymm, lt_or_le_ℚ, not_both_ℚ, less_nn}
+use Rattle.nf_rational_laws.proofs.Tests.{le_ℚ_cases, min_ℚ_cases, max_ℚ_cases, max0_none, max0_of}
 use Rattle.nf_rational_laws.proofs.Linear.{le, lt, eq, le_times, eq_times, linear_le, linear_eq, linear_false}
 use Rattle.nf_model.specs.Curve.{NeverFalls}
 use Rattle.nf_model.specs.Network.{Piece, ArePieces, time_in, supplied, rate_from}
 use Rattle.nf_model_laws.specs.SupplyLaws.{NoStartBetween}
-use Rattle.nf_model_laws.proofs.Affine.{≤_refl, ≤_trans, clash}
+use Rattle.nf_rational_laws.proofs.Chains.{≤ℚ_refl, ≤ℚ_trans}
 
 min_left : (x y : ℚ) → x ≤ℚ y → min_ℚ x y ≡ x
-min_left x y h = ⊎_elim (λ (w : (min_ℚ x y ≡ x) × (x ≤ℚ y)). w.0) (λ (w : (min_ℚ x y ≡ y) × (y <ℚ x)). absurd (clash _ _ w.1 h)) (min_ℚ_cases x y)
+min_left x y h = ⊎_elim (λ (w : (min_ℚ x y ≡ x) × (x ≤ℚ y)). w.0) (λ (w : (min_ℚ x y ≡ y) × (y <ℚ x)). absurd (not_both_ℚ _ _ w.1 h)) (min_ℚ_cases x y)
 
 min_right : (x y : ℚ) → y ≤ℚ x → min_ℚ x y ≡ y
 min_right x y h = ⊎_elim (λ (w : (min_ℚ x y ≡ x) × (x ≤ℚ y)). w.0 ∙ ≤ℚ_antisymm _ _ w.1 h) (λ (w : (min_ℚ x y ≡ y) × (y <ℚ x)). w.0) (min_ℚ_cases x y)
-
-max0_of : (x : ℚ) → 0ℚ ≤ℚ x → max_ℚ 0ℚ x ≡ x
-max0_of x h = ⊎_elim (λ (w : (max_ℚ 0ℚ x ≡ x) × (0ℚ ≤ℚ x)). w.0) (λ (w : (max_ℚ 0ℚ x ≡ 0ℚ) × (x <ℚ 0ℚ)). absurd (clash _ _ w.1 h)) (max_ℚ_cases 0ℚ x)
-
-max0_none : (x : ℚ) → x ≤ℚ 0ℚ → max_ℚ 0ℚ x ≡ 0ℚ
-max0_none x h = ⊎_elim (λ (w : (max_ℚ 0ℚ x ≡ x) × (0ℚ ≤ℚ x)). w.0 ∙ ≤ℚ_antisymm _ _ h w.1) (λ (w : (max_ℚ 0ℚ x ≡ 0ℚ) × (x <ℚ 0ℚ)). w.0) (max_ℚ_cases 0ℚ x)
 
 -- each piece starts later than the one before
 abbrev pub StartsRise : List Piece → Type 0
@@ -46,16 +40,13 @@ time_in-before : (start : ℚ) (rest : List Piece) (time : ℚ) → NextFrom res
 time_in-before start [] time n = refl
 time_in-before start (q ∷ rest) time n = ap (λ (t : ℚ). max_ℚ 0ℚ (t -ℚ start)) (min_left time q.start n)
 
-gap_nn : (s t : ℚ) → s ≤ℚ t → 0ℚ ≤ℚ t -ℚ s
-gap_nn s t h = linear_le (s ∷ t ∷ []) (le h ∷ []) (search reading_of depth 12) tt
-
 gap_none : (s t : ℚ) → t ≤ℚ s → t -ℚ s ≤ℚ 0ℚ
 gap_none s t h = linear_le (s ∷ t ∷ []) (le h ∷ []) (search reading_of depth 12) tt
 
 -- before the first piece nothing is supplied
 next_after : (p : Piece) (rest : List Piece) (time : ℚ) → StartsRise (p ∷ rest) → time ≤ℚ p.start → NextFrom rest time
 next_after p [] time s h = tt
-next_after p (q ∷ rest) time s h = ≤_trans _ _ _ h (≤ℚ_of_lt _ _ s.0)
+next_after p (q ∷ rest) time s h = ≤ℚ_trans _ _ _ h (≤ℚ_of_lt _ _ s.0)
 
 StartsRise-rest : (p : Piece) (rest : List Piece) → StartsRise (p ∷ rest) → StartsRise rest
 StartsRise-rest p [] s = tt
@@ -80,7 +71,7 @@ rate_from-before before (p ∷ rest) time later h n = ⊎_elim
 rate_from-after : (before : ℚ) (p : Piece) (rest : List Piece) (time : ℚ) → p.start ≤ℚ time → rate_from before (p ∷ rest) time ≡ rate_from p.rate rest time
 rate_from-after before p rest time h = ⊎_elim
     (λ (w : (le_ℚ p.start time ≡ true) × (p.start ≤ℚ time)). ap (λ (b : Bool). if b then rate_from p.rate rest time else before) w.0)
-    (λ (w : (le_ℚ p.start time ≡ false) × (time <ℚ p.start)). absurd (clash _ _ w.1 h))
+    (λ (w : (le_ℚ p.start time ≡ false) × (time <ℚ p.start)). absurd (not_both_ℚ _ _ w.1 h))
     (le_ℚ_cases p.start time)
 
 -- no piece starts between
@@ -99,21 +90,21 @@ module _ (time later : ℚ) (h : time <ℚ later) where
       → supplied (p ∷ rest) later ≡ supplied (p ∷ rest) time +ℚ rate_from before (p ∷ rest) time *ℚ (later -ℚ time)
   last before p rest s k n =
       last_piece p.rate p.start time later _ _ _ _ _ 0ℚ
-      (time_in-before p.start rest time (sooner rest n) ∙ max0_of _ (gap_nn p.start time k))
-      (time_in-before p.start rest later n ∙ max0_of _ (gap_nn p.start later (≤_trans _ _ _ k (≤ℚ_of_lt _ _ h))))
+      (time_in-before p.start rest time (sooner rest n) ∙ max0_of _ (less_nn p.start time k))
+      (time_in-before p.start rest later n ∙ max0_of _ (less_nn p.start later (≤ℚ_trans _ _ _ k (≤ℚ_of_lt _ _ h))))
       (supplied-none rest time (StartsRise-rest p rest s) (sooner rest n)) (supplied-none rest later (StartsRise-rest p rest s) n)
       (rate_from-after before p rest time k ∙ rate_from-before p.rate rest time later h n)
     where
       sooner : (rest : List Piece) → NextFrom rest later → NextFrom rest time
       sooner [] n = tt
-      sooner (q ∷ rest) n = ≤_trans _ _ _ (≤ℚ_of_lt _ _ h) n
+      sooner (q ∷ rest) n = ≤ℚ_trans _ _ _ (≤ℚ_of_lt _ _ h) n
 
   step : (before : ℚ) (p : Piece) (rest : List Piece) → StartsRise (p ∷ rest) → p.start ≤ℚ time → NoneBetween rest time later
       → supplied (p ∷ rest) later ≡ supplied (p ∷ rest) time +ℚ rate_from before (p ∷ rest) time *ℚ (later -ℚ time)
   step before p [] s k n = last before p [] s k tt
   step before p (q ∷ rest) s k (inl l, n) =
       full_piece p.rate _ _ _ _ _ _ (later -ℚ time)
-      (ap (λ (t : ℚ). max_ℚ 0ℚ (t -ℚ p.start)) (min_right time q.start l ∙ sym (min_right later q.start (≤_trans _ _ _ l (≤ℚ_of_lt _ _ h)))))
+      (ap (λ (t : ℚ). max_ℚ 0ℚ (t -ℚ p.start)) (min_right time q.start l ∙ sym (min_right later q.start (≤ℚ_trans _ _ _ l (≤ℚ_of_lt _ _ h)))))
       (step p.rate q rest s.1 l n) (rate_from-after before p (q ∷ rest) time k)
   step before p (q ∷ rest) s k (inr l, n) = last before p (q ∷ rest) s k l
 
@@ -123,7 +114,7 @@ module _ (time later : ℚ) (h : time <ℚ later) where
   pub supplied-step : (pieces : List Piece) → StartsRise pieces → NoneBetween pieces time later → supplied pieces later ≡ supplied pieces time +ℚ rate_from 0ℚ pieces time *ℚ (later -ℚ time)
   supplied-step [] s n = none_yet _ _ _ (later -ℚ time) refl refl refl
   supplied-step (p ∷ rest) s (inl l, n) = step 0ℚ p rest s l n
-  supplied-step (p ∷ rest) s (inr l, n) = none_yet _ _ _ (later -ℚ time) (supplied-none (p ∷ rest) later s l) (supplied-none (p ∷ rest) time s (≤_trans _ _ _ (≤ℚ_of_lt _ _ h) l)) (rate_from-before 0ℚ (p ∷ rest) time later h l)
+  supplied-step (p ∷ rest) s (inr l, n) = none_yet _ _ _ (later -ℚ time) (supplied-none (p ∷ rest) later s l) (supplied-none (p ∷ rest) time s (≤ℚ_trans _ _ _ (≤ℚ_of_lt _ _ h) l)) (rate_from-before 0ℚ (p ∷ rest) time later h l)
 
 -- ---- the same, of pieces by their number
 NoneBetween-from : (pieces : List Piece) (time later : ℚ) → NoStartBetween pieces time later → NoneBetween pieces time later
@@ -159,12 +150,12 @@ rate_from-nn before [] time h a = h
 rate_from-nn before (p ∷ rest) time h a = if_nn (le_ℚ p.start time) _ before (rate_from-nn p.rate rest time (a.rates 0 p refl) (ArePieces-rest p rest a)) h
 
 pub rate_from-not_negative : (pieces : List Piece) (time : ℚ) → ArePieces pieces → 0ℚ ≤ℚ rate_from 0ℚ pieces time
-rate_from-not_negative pieces time a = rate_from-nn 0ℚ pieces time (≤_refl 0ℚ) a
+rate_from-not_negative pieces time a = rate_from-nn 0ℚ pieces time (≤ℚ_refl 0ℚ) a
 
 -- ---- the supply never falls
 max0_order : (x y : ℚ) → x ≤ℚ y → max_ℚ 0ℚ x ≤ℚ max_ℚ 0ℚ y
 max0_order x y h = ⊎_elim
-    (λ (v : (max_ℚ 0ℚ x ≡ x) × (0ℚ ≤ℚ x)). subst (λ (z : ℚ). z ≤ℚ max_ℚ 0ℚ y) (sym v.0) (subst (λ (z : ℚ). x ≤ℚ z) (sym (max0_of y (≤_trans _ _ _ v.1 h))) h))
+    (λ (v : (max_ℚ 0ℚ x ≡ x) × (0ℚ ≤ℚ x)). subst (λ (z : ℚ). z ≤ℚ max_ℚ 0ℚ y) (sym v.0) (subst (λ (z : ℚ). x ≤ℚ z) (sym (max0_of y (≤ℚ_trans _ _ _ v.1 h))) h))
     (λ (v : (max_ℚ 0ℚ x ≡ 0ℚ) × (x <ℚ 0ℚ)). subst (λ (z : ℚ). z ≤ℚ max_ℚ 0ℚ y) (sym v.0) (⊎_elim
     (λ (w : (max_ℚ 0ℚ y ≡ y) × (0ℚ ≤ℚ y)). subst (λ (z : ℚ). 0ℚ ≤ℚ z) (sym w.0) w.1)
     (λ (w : (max_ℚ 0ℚ y ≡ 0ℚ) × (y <ℚ 0ℚ)). ≤ℚ_of_same _ _ (sym w.0))
@@ -173,7 +164,7 @@ max0_order x y h = ⊎_elim
 
 min_order : (x y z : ℚ) → x ≤ℚ y → min_ℚ x z ≤ℚ min_ℚ y z
 min_order x y z h = ⊎_elim
-    (λ (w : (min_ℚ y z ≡ y) × (y ≤ℚ z)). subst (λ (u : ℚ). min_ℚ x z ≤ℚ u) (sym w.0) (subst (λ (u : ℚ). u ≤ℚ y) (sym (min_left x z (≤_trans _ _ _ h w.1))) h))
+    (λ (w : (min_ℚ y z ≡ y) × (y ≤ℚ z)). subst (λ (u : ℚ). min_ℚ x z ≤ℚ u) (sym w.0) (subst (λ (u : ℚ). u ≤ℚ y) (sym (min_left x z (≤ℚ_trans _ _ _ h w.1))) h))
     (λ (w : (min_ℚ y z ≡ z) × (z <ℚ y)). subst (λ (u : ℚ). min_ℚ x z ≤ℚ u) (sym w.0) (⊎_elim
     (λ (v : (min_ℚ x z ≡ x) × (x ≤ℚ z)). subst (λ (u : ℚ). u ≤ℚ z) (sym v.0) v.1)
     (λ (v : (min_ℚ x z ≡ z) × (z <ℚ x)). ≤ℚ_of_same _ _ v.0)
@@ -191,5 +182,5 @@ sum_order : (r x y u v : ℚ) → 0ℚ ≤ℚ r → x ≤ℚ y → u ≤ℚ v �
 sum_order r x y u v n h k = linear_le (r ∷ x ∷ y ∷ u ∷ v ∷ []) (le_times n h ∷ le k ∷ []) (search reading_of depth 12) tt
 
 pub supplied-rises : (pieces : List Piece) → ArePieces pieces → NeverFalls (supplied pieces)
-supplied-rises [] a s t h k = ≤_refl 0ℚ
+supplied-rises [] a s t h k = ≤ℚ_refl 0ℚ
 supplied-rises (p ∷ rest) a s t h k = sum_order p.rate _ _ _ _ (a.rates 0 p refl) (time_in-rises p.start rest s t k) (supplied-rises rest (ArePieces-rest p rest a) s t h k)

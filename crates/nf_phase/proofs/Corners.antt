@@ -13,11 +13,11 @@ use Rattle.nf_model.specs.Curve.{Point}
 use Rattle.nf_model.specs.Equilibrium.{Trace}
 use Rattle.nf_lists.specs.ReportCurves.{GrowingCurve, goes_on, with_point, with_rate, curve_with, trace_with}
 use Rattle.nf_lists.specs.Ends.{end_of}
-use Rattle.nf_lists_laws.proofs.Ending.{last-append}
 use Rattle.nf_run_laws.proofs.Points.{same_of_test}
 use Rattle.nf_curve.specs.Points.{last_time}
 use Rattle.nf_phase.specs.declared.growing.End.{End}
 use Rattle.nf_phase.specs.Growing.{points_to, corners_by, IsAfter, AreBefore, rates_by, end_value}
+use Rattle.nf_plain_laws.proofs.Entries.{last-append}
 
 -- ---- the last point
 last_time-end : (points : List Point) → last_time points ≡ end_of points

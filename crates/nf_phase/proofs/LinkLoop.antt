@@ -12,8 +12,8 @@ use Rattle.nf_model.specs.Network.{Link, Network, IsLink}
 use Rattle.nf_model.specs.ThinFlow.{Sets}
 use Rattle.nf_model.specs.Pattern.{Pattern}
 use Rattle.nf_lists.specs.CurveList.{LinkStep, link_phase, link_step}
-use Rattle.nf_thin_laws.proofs.Flags.{entry}
 use Rattle.nf_phase.proofs.Numbered.{SoFar, one_more, one_passes}
+use Rattle.nf_plain_laws.proofs.Entries.{entry}
 
 module _ (passes : Passing) (sets : Sets) (pattern : Pattern) (duration : ℚ) (flows slopes labels amounts : List ℚ) where
   -- the step of a link with its number

@@ -10,9 +10,9 @@ use Rattle.nf_work.specs.Checked.{Checked, fold_checked, at_part}
 use Rattle.nf_model.specs.Network.{Link, Network, IsLink}
 use Rattle.nf_lists.specs.Extend.{least_after}
 use Rattle.nf_lists_laws.proofs.Ending.{enumerated}
-use Rattle.nf_thin_laws.proofs.Flags.{entry}
 use Rattle.nf_thin.proofs.Folds.{goes_on, stops_in, ends, part_ok}
 use Rattle.nf_phase.specs.Lengths.{after_all}
+use Rattle.nf_plain_laws.proofs.Entries.{entry}
 
 length-enumerated : (k : ℕ) (xs : List Link) → length (enumerate_from k xs) ≡ length xs
 length-enumerated k [] = refl

@@ -9,11 +9,12 @@ use Rattle.nf_rational_laws.proofs.Linear.{le, eq, eq_times, linear_le, linear_e
 use Rattle.nf_model.specs.Curve.{Point, Within, value, slope}
 use Rattle.nf_model.specs.Network.{Link, Network, IsNetwork, IsLink}
 use Rattle.nf_model_laws.specs.Affine.{IsAffine}
-use Rattle.nf_model_laws.proofs.Affine.{≤_refl, ≤_trans, same_from_times}
+use Rattle.nf_model_laws.proofs.Affine.{same_from_times}
 use Rattle.nf_model_laws.proofs.Curves.{EndsAt, EndsAt-nn, EndsAt-value, EndsAt-push, EndsAt-push_line, EndsAt-push_before, slope-times}
 use Rattle.nf_model_laws.proofs.Merged.{value-push_or_merge, EndsAt-merged}
 use Rattle.nf_phase_laws.specs.Invariant.{GoesOn}
 use Rattle.nf_phase_laws.specs.CurveSteps.{LastPoint, GoesOnTo, at, CurvesStand, CurvesGoOn}
+use Rattle.nf_rational_laws.proofs.Chains.{≤ℚ_refl, ≤ℚ_trans}
 
 pub ends_at : (points : List Point) (p : Point) → LastPoint points p → EndsAt points p
 ends_at points p l = record { front = l.front; same = l.same; curve = l.curve }
@@ -41,7 +42,7 @@ GoesOnTo-appended points p q l h = record {
     e = ends_at points p l
 
     start : value (points ++ q ∷ []) p.0 ≡ p.1
-    start = EndsAt-push_before points p q p.0 e h (EndsAt-nn points p e) (≤_refl p.0) ∙ EndsAt-value points p p.0 e (≤_refl p.0)
+    start = EndsAt-push_before points p q p.0 e h (EndsAt-nn points p e) (≤ℚ_refl p.0) ∙ EndsAt-value points p p.0 e (≤ℚ_refl p.0)
 
 -- ---- one that takes the place of the last
 pub GoesOnTo-replaced : (front : List Point) (before last new : Point) → LastPoint (front ++ before ∷ last ∷ []) last → last.0 <ℚ new.0 → slope before last ≡ slope last new
@@ -49,7 +50,7 @@ pub GoesOnTo-replaced : (front : List Point) (before last new : Point) → LastP
 GoesOnTo-replaced front o p q l h e = record {
   later = h;
   before = λ t w. sym (same t w.0) ∙ appended.before t w;
-  line = record { line = λ t i k. sym (same t (≤_trans _ _ _ from_0 i)) ∙ appended.line.line t i k ∙ ap (λ (y : ℚ). y +ℚ slope p q *ℚ (t -ℚ p.0)) (same p.0 from_0) };
+  line = record { line = λ t i k. sym (same t (≤ℚ_trans _ _ _ from_0 i)) ∙ appended.line.line t i k ∙ ap (λ (y : ℚ). y +ℚ slope p q *ℚ (t -ℚ p.0)) (same p.0 from_0) };
   ends = last_point (front ++ o ∷ q ∷ []) q (EndsAt-merged front o p q (subst (λ (points : List Point). EndsAt points q) (append_assoc front (o ∷ p ∷ []) (q ∷ []))
       (ends_at ((front ++ o ∷ p ∷ []) ++ q ∷ []) q appended.ends)));
 }
@@ -90,7 +91,7 @@ module _ (net : Network) (inflows labels : ℕ → List Point) (until length : �
       let g : GoesOnTo (labels v) (labels' v) (until, at labels v until) (until +ℚ length, at labels v until +ℚ slope v *ℚ length) = go.labels_go v h in
       on_line _ (at labels' v until) (at labels v until) _ (slope v) until t
       (g.line.line (until +ℚ t) (linear_le (until ∷ t ∷ []) (le w.0 ∷ []) (search reading_of depth 12) tt) (linear_le (until ∷ t ∷ length ∷ []) (le w.1 ∷ []) (search reading_of depth 12) tt))
-      (label_before v until h (until_nn v h, ≤_refl until))
+      (label_before v until h (until_nn v h, ≤ℚ_refl until))
       (label_slope until (at labels v until) (slope v) length _ some (slope-times (until, at labels v until) (until +ℚ length, at labels v until +ℚ slope v *ℚ length) g.later))
 
   -- ---- inflows: where the tail's label moves and where it stands still
@@ -137,9 +138,9 @@ module _ (net : Network) (inflows labels : ℕ → List Point) (until length : �
   amount_ends : (e : ℕ) (link : Link) (time : ℚ) → IsLink net e link → end link ≤ℚ time → at inflows' e time ≡ at inflows' e (end link)
   amount_ends e link time p i = by_tail e link (λ points. value points time ≡ value points (end link)) p
       (λ h. let g : EndsAt (inflows' e) (end link, at inflows e (start link) +ℚ flow e *ℚ length) = ends_at _ _ (go.inflows_go e link p h).ends in
-      EndsAt-value (inflows' e) _ time g i ∙ sym (EndsAt-value (inflows' e) _ (end link) g (≤_refl _)))
+      EndsAt-value (inflows' e) _ time g i ∙ sym (EndsAt-value (inflows' e) _ (end link) g (≤ℚ_refl _)))
       (λ z. let n : start link ≤ℚ end link = past (slope link.tail) (start link) z in
-      EndsAt-value (inflows e) _ time (stands_at e link p) (≤_trans _ _ _ n i) ∙ sym (EndsAt-value (inflows e) _ (end link) (stands_at e link p) n))
+      EndsAt-value (inflows e) _ time (stands_at e link p) (≤ℚ_trans _ _ _ n i) ∙ sym (EndsAt-value (inflows e) _ (end link) (stands_at e link p) n))
 
   pub GoesOn-curves : GoesOn net (at inflows) (at labels) until length flow slope (at inflows') (at labels')
   GoesOn-curves = record { label_before = label_before; label_after = label_after; amount_before = amount_before; amount_after = amount_after; amount_ends = amount_ends }
@@ -151,7 +152,7 @@ module _ (net : Network) (inflows labels : ℕ → List Point) (until length : �
   pub CurvesStand-after : CurvesStand net inflows' labels' (until +ℚ length)
   CurvesStand-after = record {
     labels_end = λ v h. LastPoint-at (labels' v) _ (until +ℚ length) (go.labels_go v h).ends refl;
-    inflows_end = λ e link p. subst (λ (z : ℚ). LastPoint (inflows' e) (z, at inflows' e z)) (sym (label_after link.tail length (good.tails e link p) (≤ℚ_of_lt _ _ some, ≤_refl length)))
+    inflows_end = λ e link p. subst (λ (z : ℚ). LastPoint (inflows' e) (z, at inflows' e z)) (sym (label_after link.tail length (good.tails e link p) (≤ℚ_of_lt _ _ some, ≤ℚ_refl length)))
         (by_tail e link (λ points. LastPoint points (end link, value points (end link))) p
         (λ h. LastPoint-at (inflows' e) _ (end link) (go.inflows_go e link p h).ends refl)
         (λ z. LastPoint-at (inflows e) _ (end link) (stand.inflows_end e link p) (stays_there (start link) (slope link.tail) z)));

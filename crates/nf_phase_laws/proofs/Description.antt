@@ -13,14 +13,16 @@ use Rattle.nf_model.specs.Queue.{IsQueue, IsOutflow}
 use Rattle.nf_model.specs.ThinFlow.{slacks_of, sets_at, IsThinFlow}
 use Rattle.nf_model.specs.Phases.{Lasts, AreStartLabels}
 use Rattle.nf_model_laws.specs.Affine.{IsAffine}
-use Rattle.nf_model_laws.proofs.Affine.{≤_refl, ≤_trans, same_from_times}
+use Rattle.nf_model_laws.proofs.Affine.{same_from_times}
 use Rattle.nf_phase_laws.specs.Invariant.{link_slack, queue_by_slack, sent, HoldsUpTo, LabelsAre, IsStart, GoesOn}
 use Rattle.nf_phase_laws.specs.Description.{DescribesLinks, DescriptionGoesOn}
-use Rattle.nf_phase_laws.proofs.Idle.{max0_low, max0_high, queue_by_slack-low}
+use Rattle.nf_phase_laws.proofs.Idle.{queue_by_slack-low}
 use Rattle.nf_phase_laws.proofs.Holds as held
 use Rattle.nf_phase_laws.proofs.Start.{at_first, label_not_negative, nothing_sent, slack_none}
 use Rattle.nf_phase_laws.proofs.Lasting.{step_of}
 use Rattle.nf_phase_laws.proofs.Phase.{PhaseStep, sent_before, sent_after, slack_before, slack_after, rises_on}
+use Rattle.nf_rational_laws.proofs.Chains.{≤ℚ_refl, ≤ℚ_trans}
+use Rattle.nf_rational_laws.proofs.Tests.{max0_none, max0_of}
 
 module _ (net : Network) (amount label outflow queue : ℕ → ℚ → ℚ) (until : ℚ) (good : IsNetwork net) (holds : HoldsUpTo net amount label until) (describes : DescribesLinks net amount label outflow queue until) where
   pub IsOutflow-described : (e : ℕ) (link : Link) (time : ℚ) → IsLink net e link → Within 0ℚ (label link.head until) time → IsOutflow link.transit link.capacity (amount e) time (outflow e time)
@@ -63,12 +65,12 @@ Steadily capacity s m l d = (k : ℚ) × ((t : ℚ) → Within 0ℚ d t → queu
 runs_on : (c s m l d : ℚ) → 0ℚ ≤ℚ s → ((t : ℚ) → Within 0ℚ d t → 0ℚ ≤ℚ s +ℚ (m -ℚ l) *ℚ t) → Steadily (Some c) s m l d
 runs_on c s m l d h k = (
   c *ℚ (m -ℚ l),
-  λ t w. subst (λ (y : ℚ). c *ℚ y ≡ c *ℚ max_ℚ 0ℚ s +ℚ (c *ℚ (m -ℚ l)) *ℚ t) (sym (max0_high _ (k t w)))
-      (subst (λ (y : ℚ). c *ℚ (s +ℚ (m -ℚ l) *ℚ t) ≡ c *ℚ y +ℚ (c *ℚ (m -ℚ l)) *ℚ t) (sym (max0_high s h)) (steady c s m l t)),
+  λ t w. subst (λ (y : ℚ). c *ℚ y ≡ c *ℚ max_ℚ 0ℚ s +ℚ (c *ℚ (m -ℚ l)) *ℚ t) (sym (max0_of _ (k t w)))
+      (subst (λ (y : ℚ). c *ℚ (s +ℚ (m -ℚ l) *ℚ t) ≡ c *ℚ y +ℚ (c *ℚ (m -ℚ l)) *ℚ t) (sym (max0_of s h)) (steady c s m l t)),
 )
 
 stays_none : (c s m l d : ℚ) → s ≤ℚ 0ℚ → ((t : ℚ) → Within 0ℚ d t → s +ℚ (m -ℚ l) *ℚ t ≤ℚ 0ℚ) → Steadily (Some c) s m l d
-stays_none c s m l d h k = (0ℚ, λ t w. times_none c _ _ t (max0_low _ (k t w)) (max0_low s h))
+stays_none c s m l d h k = (0ℚ, λ t w. times_none c _ _ t (max0_none _ (k t w)) (max0_none s h))
 
 none_more : (t : ℚ) → 0ℚ ≡ 0ℚ +ℚ 0ℚ *ℚ t
 none_more t = linear_eq (t ∷ []) [] (search reading_of depth 12) tt tt
@@ -98,7 +100,7 @@ agree : (y z w v q a l t d r k : ℚ) → 0ℚ ≤ℚ t → t ≤ℚ d → v ≡
 agree y z w v q a l t d r k h j i e f g o = ⊎_elim
     (λ (n : 0ℚ <ℚ d). on_rate v q a l t r k y e i (same_rates r l k d q a w n (at_q f) g) ∙ sym o)
     (λ (n : d ≤ℚ 0ℚ).
-    let s : t ≡ 0ℚ = ≤ℚ_antisymm _ _ (≤_trans _ _ _ j n) h in
+    let s : t ≡ 0ℚ = ≤ℚ_antisymm _ _ (≤ℚ_trans _ _ _ j n) h in
     linear_eq (y ∷ z ∷ v ∷ q ∷ a ∷ l ∷ t ∷ r ∷ k ∷ []) (eq e ∷ eq i ∷ eq o ∷ eq_times (r *ℚ l) s ∷ eq_times k s ∷ []) (search reading_of depth 12) tt tt)
     (lt_or_le_ℚ 0ℚ d)
   where
@@ -115,10 +117,10 @@ module _ (net : Network) (amount label : ℕ → ℚ → ℚ) (until length rate
     (step : PhaseStep net amount label until length rate x slope amount' label') (outflow queue outflow' queue' : ℕ → ℚ → ℚ)
     (describes : DescribesLinks net amount label outflow queue until) (goes : DescriptionGoesOn net label until length x slope label' outflow queue outflow' queue') where
   now : Within 0ℚ until until
-  now = (step.holds.begun, ≤_refl until)
+  now = (step.holds.begun, ≤ℚ_refl until)
 
   first : Within 0ℚ until 0ℚ
-  first = (≤_refl 0ℚ, step.holds.begun)
+  first = (≤ℚ_refl 0ℚ, step.holds.begun)
 
   by_time : (P : ℚ → Type 0) → ((time : ℚ) → Within 0ℚ until time → P time) → ((t : ℚ) → Within 0ℚ length t → P (until +ℚ t)) → (time : ℚ) → Within 0ℚ (until +ℚ length) time → P time
   by_time P f g time w = ⊎_elim
@@ -165,18 +167,18 @@ module _ (net : Network) (amount label : ℕ → ℚ → ℚ) (until length rate
       queue_by_slack-steadily link.capacity s (slope link.head) (slope link.tail) length (λ t h w. step.below e link t p h w) (λ t h w. step.above e link t p h w) in
       let moves : (t : ℚ) → Within 0ℚ length t → queue_by_slack link.capacity (link_slack label' link (until +ℚ t)) ≡ queue_by_slack link.capacity s +ℚ k.0 *ℚ t =
       λ t w. ap (queue_by_slack link.capacity) (slack_after net amount label until length rate x slope amount' label' step e link t p w) ∙ k.1 t w in
-      let whole : Within 0ℚ length length = (step.some, ≤_refl length) in
+      let whole : Within 0ℚ length length = (step.some, ≤ℚ_refl length) in
       ap (queue' e) (step.goes.label_after link.tail t (step.good.tails e link p) w)
       ∙ agree _ _ _ (queue' e (label link.tail until)) (queue_by_slack link.capacity s) (label link.tail until) (slope link.tail) t length r.0 k.0 w.0 w.1 (queue_at_start e link until p now)
       (r.1.line (label link.tail until +ℚ slope link.tail *ℚ t) (past _ (slope link.tail) t n w.0) (before_end _ (slope link.tail) t length n w.1))
-      (r.1.line (label link.tail until +ℚ slope link.tail *ℚ length) (past _ (slope link.tail) length n step.some) (≤_refl _))
+      (r.1.line (label link.tail until +ℚ slope link.tail *ℚ length) (past _ (slope link.tail) length n step.some) (≤ℚ_refl _))
       (goes.queue_end e link p ∙ moves length whole) (moves t w)
 
   early : (v : ℕ) (time : ℚ) → v < net.nodes → Within 0ℚ (label' v 0ℚ) time → Within 0ℚ (label v 0ℚ) time
   early v time h w = (w.0, subst (λ (a : ℚ). time ≤ℚ a) (step.goes.label_before v 0ℚ h first) w.1)
 
   sooner : (v : ℕ) (time : ℚ) → v < net.nodes → Within 0ℚ (label v 0ℚ) time → Within 0ℚ (label v until) time
-  sooner v time h w = (w.0, ≤_trans _ _ _ w.1 (rises_on net amount label until length rate x slope amount' label' step v 0ℚ h first))
+  sooner v time h w = (w.0, ≤ℚ_trans _ _ _ w.1 (rises_on net amount label until length rate x slope amount' label' step v 0ℚ h first))
 
   pub DescribesLinks-phase : DescribesLinks net amount' label' outflow' queue' (until +ℚ length)
   DescribesLinks-phase = record {

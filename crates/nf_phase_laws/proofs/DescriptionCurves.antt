@@ -10,7 +10,6 @@ use Rattle.nf_model.specs.Curve.{Point, Within, value}
 use Rattle.nf_model.specs.Network.{Link, Network, IsNetwork, IsLink}
 use Rattle.nf_model.specs.Queue.{IsQueue}
 use Rattle.nf_model_laws.specs.Affine.{IsAffine}
-use Rattle.nf_model_laws.proofs.Affine.{≤_refl}
 use Rattle.nf_model_laws.proofs.Curves.{EndsAt-value}
 use Rattle.nf_model_laws.proofs.Queues.{IsQueue-unique}
 use Rattle.nf_phase_laws.specs.Invariant.{link_slack, queue_by_slack, HoldsUpTo, GoesOn}
@@ -18,6 +17,7 @@ use Rattle.nf_phase_laws.specs.Description.{DescribesLinks, DescriptionGoesOn}
 use Rattle.nf_phase_laws.specs.CurveSteps.{LastPoint, GoesOnTo, at}
 use Rattle.nf_phase_laws.specs.DescriptionCurves.{DescriptionStands, DescriptionCurvesGoOn}
 use Rattle.nf_phase_laws.proofs.CurveSteps.{ends_at, GoesOnTo-slope, LastPoint-at}
+use Rattle.nf_rational_laws.proofs.Chains.{≤ℚ_refl}
 
 -- ---- a curve that goes on while time does: from a on for l d, to the value z
 module _ (points points' : List Point) (a z l d : ℚ) (not_back : 0ℚ ≤ℚ l) (stand : LastPoint points (a, value points a))
@@ -62,7 +62,7 @@ module _ (points points' : List Point) (a z l d : ℚ) (not_back : 0ℚ ≤ℚ l
 
   end_value : (l ≡ 0ℚ → value points a ≡ z) → value points' (a +ℚ l *ℚ d) ≡ z
   end_value none = by_slope (λ ps. value ps (a +ℚ l *ℚ d) ≡ z)
-      (λ h. EndsAt-value points' _ (a +ℚ l *ℚ d) (ends_at points' _ (go h).ends) (≤_refl _))
+      (λ h. EndsAt-value points' _ (a +ℚ l *ℚ d) (ends_at points' _ (go h).ends) (≤ℚ_refl _))
       (λ e. ap (value points) (sym (stays_there e)) ∙ none e)
 
 module _ (net : Network) (amount label amount' label' : ℕ → ℚ → ℚ) (until length : ℚ) (flow slope : ℕ → ℚ) (outflows queues outflows' queues' : ℕ → List Point) (good : IsNetwork net)
@@ -70,16 +70,16 @@ module _ (net : Network) (amount label amount' label' : ℕ → ℚ → ℚ) (un
     (describes : DescribesLinks net amount label (at outflows) (at queues) until) (stand : DescriptionStands net label outflows queues until)
     (go : DescriptionCurvesGoOn net label label' outflows queues until length flow slope outflows' queues') where
   now : Within 0ℚ until until
-  now = (holds.begun, ≤_refl until)
+  now = (holds.begun, ≤ℚ_refl until)
 
   now' : Within 0ℚ (until +ℚ length) until
   now' = (holds.begun, linear_le (until ∷ length ∷ []) (lt some ∷ []) (search reading_of depth 12) tt)
 
   last : Within 0ℚ (until +ℚ length) (until +ℚ length)
-  last = (linear_le (until ∷ length ∷ []) (lt some ∷ le holds.begun ∷ []) (search reading_of depth 12) tt, ≤_refl _)
+  last = (linear_le (until ∷ length ∷ []) (lt some ∷ le holds.begun ∷ []) (search reading_of depth 12) tt, ≤ℚ_refl _)
 
   whole : Within 0ℚ length length
-  whole = (≤ℚ_of_lt _ _ some, ≤_refl length)
+  whole = (≤ℚ_of_lt _ _ some, ≤ℚ_refl length)
 
   -- where the tail's label stands still, so does the queue
   slack_now : (b a d c r : ℚ) → b ≡ d → a ≡ c → b -ℚ (a +ℚ r) ≡ d -ℚ (c +ℚ r)

@@ -5,7 +5,7 @@ use Rattle.nf_rational.specs.Rational.{ℚ}
 use Rattle.nf_rational.specs.Operations.{0ℚ, ◌+ℚ◌, ◌-ℚ◌, ◌*ℚ◌}
 use Rattle.nf_rational.specs.Order.{◌≤ℚ◌, ◌<ℚ◌, max_ℚ}
 use Rattle.nf_rational_laws.proofs.Polynomial.{reading_of}
-use Rattle.nf_rational_laws.proofs.Order.{≤ℚ_of_lt, ≤ℚ_antisymm, lt_or_le_ℚ}
+use Rattle.nf_rational_laws.proofs.Order.{≤ℚ_of_lt, ≤ℚ_antisymm, lt_or_le_ℚ, not_both_ℚ, less_nn}
 use Rattle.nf_rational_laws.proofs.Linear.{le, lt, eq, le_times, linear_le, linear_lt, linear_eq}
 use Rattle.nf_model.specs.Curve.{Within, NeverFalls, IsGreatest}
 use Rattle.nf_model.specs.Network.{Link, Network, IsNetwork, IsLink, sum_in, sum_out, supply}
@@ -14,13 +14,14 @@ use Rattle.nf_model.specs.Earliest.{IsEarliest}
 use Rattle.nf_model.specs.Equilibrium.{Balances, IsNashFlow}
 use Rattle.nf_model_laws.specs.Capacity.{IsPositive}
 use Rattle.nf_model_laws.specs.EarliestLaws.{AreLabels}
-use Rattle.nf_model_laws.proofs.Affine.{≤_refl, ≤_trans, clash, le_from_times}
+use Rattle.nf_model_laws.proofs.Affine.{le_from_times}
 use Rattle.nf_model_laws.proofs.Queues.{IsOutflow-from_IsQueue, IsOutflow-early}
 use Rattle.nf_model_laws.proofs.Exits.{IsOutflow-at_exit}
 use Rattle.nf_model_laws.proofs.Earliest.{IsEarliest-label, IsPositive-link}
 use Rattle.nf_model_laws.proofs.Sums.{sum_out-same, sum_in-none, sum_out-none}
 use Rattle.nf_phase_laws.specs.Invariant.{link_slack, queue_by_slack, tail_or, sent, HoldsUpTo}
 use Rattle.nf_phase_laws.proofs.Idle.{max0_cases, waiting-by_slack, IsQueue-before_any}
+use Rattle.nf_rational_laws.proofs.Chains.{≤ℚ_refl, ≤ℚ_trans}
 
 -- what is sent into a link, by its tail
 pub sent-is : (net : Network) (amount label : ℕ → ℚ → ℚ) (e : ℕ) (link : Link) (departure : ℚ) → IsLink net e link → sent net amount label e departure ≡ amount e (label link.tail departure)
@@ -42,7 +43,7 @@ late_enough a b r m e = max0_cases (b -ℚ (a +ℚ r)) m e
 just_then : (a b r m : ℚ) → m ≡ max_ℚ 0ℚ (b -ℚ (a +ℚ r)) → 0ℚ ≤ℚ b -ℚ (a +ℚ r) → b ≡ a +ℚ r +ℚ m
 just_then a b r m e h = max0_cases (b -ℚ (a +ℚ r)) m e
     (λ f _. linear_eq (a ∷ b ∷ r ∷ m ∷ []) (eq f ∷ []) (search reading_of depth 12) tt tt)
-    (λ f k. absurd (clash _ _ k h))
+    (λ f k. absurd (not_both_ℚ _ _ k h))
 
 -- nothing has entered, so nothing waits: f, g and z the amounts at a, at t and at 0, c the capacity
 empty : (f g z c a t m : ℚ) → f ≡ 0ℚ → z ≡ 0ℚ → z ≤ℚ g → 0ℚ ≤ℚ c → t ≤ℚ a → f -ℚ g -ℚ c *ℚ (a -ℚ t) ≡ c *ℚ m → c *ℚ m ≤ℚ c *ℚ 0ℚ
@@ -52,9 +53,9 @@ wait_none : (capacity : Option ℚ) (amount : ℚ → ℚ) (a s : ℚ) → IsPos
     → IsQueue capacity amount a (queue_by_slack capacity s) → s ≤ℚ 0ℚ
 wait_none None amount a s c rises z f none q = none refl
 wait_none (Some rate) amount a s c rises z f none q =
-    let g : IsGreatest (λ since. amount a -ℚ amount since -ℚ rate *ℚ (a -ℚ since)) 0ℚ a (rate *ℚ max_ℚ 0ℚ s) = q.bounded rate refl in
+    let g : IsGreatest (λ less_nn. amount a -ℚ amount less_nn -ℚ rate *ℚ (a -ℚ less_nn)) 0ℚ a (rate *ℚ max_ℚ 0ℚ s) = q.bounded rate refl in
     let low : max_ℚ 0ℚ s ≤ℚ 0ℚ = le_from_times rate _ _ (c rate refl)
-    (empty (amount a) (amount g.taken.0) (amount 0ℚ) rate a g.taken.0 _ f z (rises 0ℚ g.taken.0 (≤_refl 0ℚ) g.taken.1.0) (≤ℚ_of_lt _ _ (c rate refl)) g.taken.1.1 g.taken.2) in
+    (empty (amount a) (amount g.taken.0) (amount 0ℚ) rate a g.taken.0 _ f z (rises 0ℚ g.taken.0 (≤ℚ_refl 0ℚ) g.taken.1.0) (≤ℚ_of_lt _ _ (c rate refl)) g.taken.1.1 g.taken.2) in
     max0_cases s _ refl (λ e _. subst (λ (m : ℚ). m ≤ℚ 0ℚ) e low) (λ _ l. ≤ℚ_of_lt _ _ l)
 
 module _ (net : Network) (amount label : ℕ → ℚ → ℚ) (until : ℚ) (good : IsNetwork net) (holds : HoldsUpTo net amount label until) where
@@ -68,10 +69,10 @@ module _ (net : Network) (amount label : ℕ → ℚ → ℚ) (until : ℚ) (goo
   amount_starts e link p = holds.amount_starts e (slice_get_within net.links e link p)
 
   first : Within 0ℚ until 0ℚ
-  first = (≤_refl 0ℚ, holds.begun)
+  first = (≤ℚ_refl 0ℚ, holds.begun)
 
   pub label_not_negative : (v : ℕ) (departure : ℚ) → v < net.nodes → Within 0ℚ until departure → 0ℚ ≤ℚ label v departure
-  label_not_negative v departure h w = ≤_trans _ _ _ (holds.label_not_negative v h) (holds.label_rises v 0ℚ departure h (≤_refl 0ℚ) w.0 w.1)
+  label_not_negative v departure h w = ≤ℚ_trans _ _ _ (holds.label_not_negative v h) (holds.label_rises v 0ℚ departure h (≤ℚ_refl 0ℚ) w.0 w.1)
 
   -- ---- labels
   exit_at : (e : ℕ) (link : Link) (departure : ℚ) → IsLink net e link → Within 0ℚ until departure
@@ -125,10 +126,10 @@ module _ (net : Network) (amount label : ℕ → ℚ → ℚ) (until : ℚ) (goo
       → IsOutflow link.transit link.capacity (amount e) (label link.head departure) (sent net amount label e departure)
   outflow_unused e link departure p w l = ⊎_elim
       (λ (k : label link.head departure -ℚ link.transit <ℚ 0ℚ). subst (λ (x : ℚ). IsOutflow link.transit link.capacity (amount e) (label link.head departure) x)
-      (sym (amount_starts e link p) ∙ holds.idle e link departure 0ℚ p w l (≤_refl 0ℚ) (≤ℚ_of_lt _ _ k) (label_not_negative link.tail departure (good.tails e link p) w))
+      (sym (amount_starts e link p) ∙ holds.idle e link departure 0ℚ p w l (≤ℚ_refl 0ℚ) (≤ℚ_of_lt _ _ k) (label_not_negative link.tail departure (good.tails e link p) w))
       (IsOutflow-early link.transit link.capacity (amount e) (label link.head departure) (too_early _ _ k)))
       (λ (k : 0ℚ ≤ℚ label link.head departure -ℚ link.transit). subst (λ (x : ℚ). IsOutflow link.transit link.capacity (amount e) (label link.head departure) x)
-      (less_none _ _ (holds.idle e link departure (label link.head departure -ℚ link.transit) p w l k (≤_refl _) (in_time (label link.tail departure) (label link.head departure) link.transit l)))
+      (less_none _ _ (holds.idle e link departure (label link.head departure -ℚ link.transit) p w l k (≤ℚ_refl _) (in_time (label link.tail departure) (label link.head departure) link.transit l)))
       (IsOutflow-from_IsQueue link.transit link.capacity (amount e) (label link.head departure -ℚ link.transit) (label link.head departure) 0ℚ (back_again (label link.head departure) link.transit) k
       (holds.idle_queue e link departure p w l k)))
       (lt_or_le_ℚ (label link.head departure -ℚ link.transit) 0ℚ)
@@ -147,25 +148,22 @@ module _ (net : Network) (amount label : ℕ → ℚ → ℚ) (until : ℚ) (goo
   pub none_yet : (e : ℕ) (link : Link) (time : ℚ) → IsLink net e link → 0ℚ ≤ℚ time → time ≤ℚ label link.tail 0ℚ → amount e time ≡ 0ℚ
   none_yet e link time p h k = ≤ℚ_antisymm _ _
       (subst (λ (x : ℚ). amount e time ≤ℚ x) (sym (sent-is net amount label e link 0ℚ p) ∙ holds.sent_starts e link p) (amount_rises e link p time (label link.tail 0ℚ) h k))
-      (subst (λ (x : ℚ). x ≤ℚ amount e time) (amount_starts e link p) (amount_rises e link p 0ℚ time (≤_refl 0ℚ) h))
+      (subst (λ (x : ℚ). x ≤ℚ amount e time) (amount_starts e link p) (amount_rises e link p 0ℚ time (≤ℚ_refl 0ℚ) h))
 
   pub queue_early : (e : ℕ) (link : Link) (time : ℚ) → IsLink net e link → 0ℚ ≤ℚ time → time ≤ℚ label link.tail 0ℚ → IsQueue link.capacity (amount e) time 0ℚ
   queue_early e link time p h k = IsQueue-before_any link.capacity (amount e) time (positive e link p) h
-      (λ t i j. none_yet e link t p i (≤_trans _ _ _ j k) ∙ sym (amount_starts e link p))
+      (λ t i j. none_yet e link t p i (≤ℚ_trans _ _ _ j k) ∙ sym (amount_starts e link p))
 
   soon : (a b r z : ℚ) → z ≤ℚ b → b -ℚ (a +ℚ r) ≤ℚ 0ℚ → z -ℚ r ≤ℚ a
   soon a b r z h k = linear_le (a ∷ b ∷ r ∷ z ∷ []) (le h ∷ le k ∷ []) (search reading_of depth 12) tt
-
-  since : (r z : ℚ) → r ≤ℚ z → 0ℚ ≤ℚ z -ℚ r
-  since r z h = linear_le (r ∷ z ∷ []) (le h ∷ []) (search reading_of depth 12) tt
 
   pub outflow_early : (e : ℕ) (link : Link) (time : ℚ) → IsLink net e link → 0ℚ ≤ℚ time → time ≤ℚ label link.head 0ℚ → IsOutflow link.transit link.capacity (amount e) time 0ℚ
   outflow_early e link time p h k = ⊎_elim
       (λ (l : time <ℚ link.transit). IsOutflow-early link.transit link.capacity (amount e) time l)
       (λ (l : link.transit ≤ℚ time).
       let before : time -ℚ link.transit ≤ℚ label link.tail 0ℚ = soon (label link.tail 0ℚ) (label link.head 0ℚ) link.transit time k (slack_start e link p) in
-      subst (λ (x : ℚ). IsOutflow link.transit link.capacity (amount e) time x) (less_none _ _ (none_yet e link (time -ℚ link.transit) p (since _ _ l) before))
-      (IsOutflow-from_IsQueue link.transit link.capacity (amount e) (time -ℚ link.transit) time 0ℚ (back_again time link.transit) (since _ _ l) (queue_early e link (time -ℚ link.transit) p (since _ _ l) before)))
+      subst (λ (x : ℚ). IsOutflow link.transit link.capacity (amount e) time x) (less_none _ _ (none_yet e link (time -ℚ link.transit) p (less_nn _ _ l) before))
+      (IsOutflow-from_IsQueue link.transit link.capacity (amount e) (time -ℚ link.transit) time 0ℚ (back_again time link.transit) (less_nn _ _ l) (queue_early e link (time -ℚ link.transit) p (less_nn _ _ l) before)))
       (lt_or_le_ℚ time link.transit)
 
   -- ---- conservation

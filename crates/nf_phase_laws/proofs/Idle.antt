@@ -4,27 +4,22 @@ use Rattle.nf_rational.specs.Rational.{ℚ}
 use Rattle.nf_rational.specs.Operations.{0ℚ, ◌+ℚ◌, ◌-ℚ◌, ◌*ℚ◌, ◌/ℚ◌}
 use Rattle.nf_rational.specs.Order.{◌≤ℚ◌, ◌<ℚ◌, max_ℚ}
 use Rattle.nf_rational_laws.proofs.Polynomial.{reading_of}
-use Rattle.nf_rational_laws.proofs.Order.{≤ℚ_of_lt, ≤ℚ_antisymm}
-use Rattle.nf_rational_laws.proofs.Tests.{max_ℚ_cases}
+use Rattle.nf_rational_laws.proofs.Order.{≤ℚ_of_lt}
+use Rattle.nf_rational_laws.proofs.Tests.{max_ℚ_cases, max0_none}
 use Rattle.nf_rational_laws.proofs.Linear.{eq, le_times, eq_times, linear_le, linear_eq}
 use Rattle.nf_model.specs.Queue.{IsQueue, waiting}
 use Rattle.nf_model_laws.specs.Capacity.{IsPositive}
-use Rattle.nf_model_laws.proofs.Affine.{≤_refl, clash, quotient-times, same_from_times}
+use Rattle.nf_model_laws.proofs.Affine.{quotient-times, same_from_times}
 use Rattle.nf_model_laws.proofs.Queues.{IsQueue-none}
 use Rattle.nf_model_laws.proofs.Step.{IsQueue-step_empty, IsQueue-at_0}
 use Rattle.nf_phase_laws.specs.Invariant.{queue_by_slack}
+use Rattle.nf_rational_laws.proofs.Chains.{≤ℚ_refl}
 
 -- ---- the greater of 0 and a number
 pub max0_cases : {P : Type 0} (s m : ℚ) → m ≡ max_ℚ 0ℚ s → (m ≡ s → 0ℚ ≤ℚ s → P) → (m ≡ 0ℚ → s <ℚ 0ℚ → P) → P
 max0_cases s m e f g = ⊎_elim
     (λ (w : (max_ℚ 0ℚ s ≡ s) × (0ℚ ≤ℚ s)). f (e ∙ w.0) w.1)
     (λ (w : (max_ℚ 0ℚ s ≡ 0ℚ) × (s <ℚ 0ℚ)). g (e ∙ w.0) w.1) (max_ℚ_cases 0ℚ s)
-
-pub max0_low : (s : ℚ) → s ≤ℚ 0ℚ → max_ℚ 0ℚ s ≡ 0ℚ
-max0_low s h = max0_cases s _ refl (λ e k. e ∙ ≤ℚ_antisymm _ _ h k) (λ e _. e)
-
-pub max0_high : (s : ℚ) → 0ℚ ≤ℚ s → max_ℚ 0ℚ s ≡ s
-max0_high s h = max0_cases s _ refl (λ e _. e) (λ _ k. absurd (clash _ _ k h))
 
 -- ---- who meets the queue of a slack waits for the slack
 times-quotient : (c m : ℚ) → 0ℚ <ℚ c → c *ℚ m /ℚ c ≡ m
@@ -34,7 +29,7 @@ times-quotient c m h = same_from_times c _ m h (turn (c *ℚ m /ℚ c) c (c *ℚ
     turn q c p e = linear_eq (q ∷ c ∷ p ∷ []) (eq e ∷ []) (search reading_of depth 12) tt tt
 
 pub waiting-by_slack : (capacity : Option ℚ) (s : ℚ) → IsPositive capacity → (capacity ≡ None → s ≤ℚ 0ℚ) → waiting capacity (queue_by_slack capacity s) ≡ max_ℚ 0ℚ s
-waiting-by_slack None s c h = sym (max0_low s (h refl))
+waiting-by_slack None s c h = sym (max0_none s (h refl))
 waiting-by_slack (Some rate) s c h = times-quotient rate (max_ℚ 0ℚ s) (c rate refl)
 
 times_none : (c m : ℚ) → m ≡ 0ℚ → c *ℚ m ≡ 0ℚ
@@ -42,7 +37,7 @@ times_none c m e = linear_eq (c ∷ m ∷ []) (eq_times c e ∷ []) (search read
 
 pub queue_by_slack-low : (capacity : Option ℚ) (s : ℚ) → s ≤ℚ 0ℚ → queue_by_slack capacity s ≡ 0ℚ
 queue_by_slack-low None s h = refl
-queue_by_slack-low (Some rate) s h = times_none rate _ (max0_low s h)
+queue_by_slack-low (Some rate) s h = times_none rate _ (max0_none s h)
 
 -- ---- where nothing enters, an empty queue stays empty
 empties : (c z a : ℚ) → 0ℚ ≤ℚ c → a ≤ℚ z → 0ℚ +ℚ (0ℚ -ℚ c) *ℚ (z -ℚ a) ≤ℚ 0ℚ
@@ -55,7 +50,7 @@ pub IsQueue-stays_empty : (capacity : Option ℚ) (amount : ℚ → ℚ) (start 
     → ((t : ℚ) → start ≤ℚ t → t ≤ℚ time → amount t ≡ amount start) → IsQueue capacity amount start 0ℚ → IsQueue capacity amount time 0ℚ
 IsQueue-stays_empty None amount start time c h same q = IsQueue-none amount time
 IsQueue-stays_empty (Some rate) amount start time c h same q =
-    IsQueue-step_empty rate amount start time 0ℚ 0ℚ (record { line = λ t i j. level _ _ start t (same t i j) }) q time h (≤_refl time) (empties rate time start (≤ℚ_of_lt _ _ (c rate refl)) h)
+    IsQueue-step_empty rate amount start time 0ℚ 0ℚ (record { line = λ t i j. level _ _ start t (same t i j) }) q time h (≤ℚ_refl time) (empties rate time start (≤ℚ_of_lt _ _ (c rate refl)) h)
 
 -- where nothing has entered so far, nothing waits
 pub IsQueue-before_any : (capacity : Option ℚ) (amount : ℚ → ℚ) (time : ℚ) → IsPositive capacity → 0ℚ ≤ℚ time

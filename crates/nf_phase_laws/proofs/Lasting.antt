@@ -10,19 +10,19 @@ use Rattle.nf_model.specs.Curve.{Within}
 use Rattle.nf_model.specs.Network.{Link, Network, IsNetwork, IsLink, hops, supply, rate_at}
 use Rattle.nf_model.specs.ThinFlow.{slacks_of, sets_at, IsThinFlow}
 use Rattle.nf_model.specs.Phases.{Lasts}
-use Rattle.nf_model_laws.proofs.Affine.{≤_trans}
 use Rattle.nf_model_laws.proofs.Slacks.{slack_at}
 use Rattle.nf_model_laws.proofs.Supply.{supplied-goes_on}
 use Rattle.nf_phase_laws.specs.Invariant.{link_slack, HoldsUpTo, LabelsAre, GoesOn}
 use Rattle.nf_phase_laws.proofs.Thin.{slack-is, IsThinBy-of}
 use Rattle.nf_phase_laws.proofs.Phase.{PhaseStep, HoldsUpTo-phase}
+use Rattle.nf_rational_laws.proofs.Chains.{≤ℚ_trans}
 
 -- the supply grows at its rate, as long as no piece starts
 pub supply-lasts : (net : Network) (slacks slopes : List ℚ) (until length : ℚ) → IsNetwork net → Lasts net slacks slopes until length → (t : ℚ) → Within 0ℚ length t
     → supply net (until +ℚ t) ≡ supply net until +ℚ rate_at net until *ℚ t
 supply-lasts net slacks slopes until length good lasts t w =
     supplied-goes_on net.pieces until (until +ℚ t) good.pieces (linear_le (until ∷ t ∷ []) (le w.0 ∷ []) (search reading_of depth 12) tt)
-    (λ i piece p h. ≤_trans _ _ _ (linear_le (until ∷ t ∷ length ∷ []) (le w.1 ∷ []) (search reading_of depth 12) tt) (lasts.supply i piece p h))
+    (λ i piece p h. ≤ℚ_trans _ _ _ (linear_le (until ∷ t ∷ length ∷ []) (le w.1 ∷ []) (search reading_of depth 12) tt) (lasts.supply i piece p h))
     ∙ whole (supply net until) (rate_at net until) until t
   where
     whole : (u r a t : ℚ) → u +ℚ r *ℚ ((a +ℚ t) -ℚ a) ≡ u +ℚ r *ℚ t

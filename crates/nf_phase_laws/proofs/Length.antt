@@ -4,7 +4,7 @@ use Rattle.nf_rational.specs.Rational.{ℚ}
 use Rattle.nf_rational.specs.Operations.{0ℚ, 1ℚ, ◌+ℚ◌, ◌-ℚ◌, ◌*ℚ◌, ◌/ℚ◌}
 use Rattle.nf_rational.specs.Order.{◌≤ℚ◌, ◌<ℚ◌, min_ℚ}
 use Rattle.nf_rational_laws.proofs.Polynomial.{reading_of}
-use Rattle.nf_rational_laws.proofs.Order.{≤ℚ_of_lt, ps_times, lt_or_le_ℚ}
+use Rattle.nf_rational_laws.proofs.Order.{≤ℚ_of_lt, ps_times, lt_or_le_ℚ, not_both_ℚ, less_ps}
 use Rattle.nf_rational_laws.proofs.Quotient.{/ℚ_is, ps_inv}
 use Rattle.nf_rational_laws.proofs.Tests.{min_ℚ_cases}
 use Rattle.nf_rational_laws.proofs.Linear.{le, lt, eq, le_times, linear_le, linear_lt}
@@ -12,7 +12,8 @@ use Rattle.nf_model.specs.Entries.{number_at}
 use Rattle.nf_model.specs.Curve.{Within}
 use Rattle.nf_model.specs.Network.{Link, Piece, Network}
 use Rattle.nf_model.specs.Phases.{Lasts, IsExtension, IsPhaseLength, IsPhase}
-use Rattle.nf_model_laws.proofs.Affine.{≤_refl, ≤_trans, <_≤_trans, clash, quotient-times}
+use Rattle.nf_model_laws.proofs.Affine.{<_≤_trans, quotient-times}
+use Rattle.nf_rational_laws.proofs.Chains.{≤ℚ_refl, ≤ℚ_trans}
 
 -- ---- some time that fits each entry of a list fits all of them
 pub record Fitting {A : Type 0} (xs : List A) (Fits : ℕ → A → ℚ → Type 0) : Type 0 where
@@ -22,8 +23,8 @@ pub record Fitting {A : Type 0} (xs : List A) (Fits : ℕ → A → ℚ → Type
 
 lesser : (a b : ℚ) → 0ℚ <ℚ a → 0ℚ <ℚ b → (0ℚ <ℚ min_ℚ a b) × ((min_ℚ a b ≤ℚ a) × (min_ℚ a b ≤ℚ b))
 lesser a b h k = ⊎_elim
-    (λ (w : (min_ℚ a b ≡ a) × (a ≤ℚ b)). subst (λ (z : ℚ). (0ℚ <ℚ z) × ((z ≤ℚ a) × (z ≤ℚ b))) (sym w.0) (h, (≤_refl a, w.1)))
-    (λ (w : (min_ℚ a b ≡ b) × (b <ℚ a)). subst (λ (z : ℚ). (0ℚ <ℚ z) × ((z ≤ℚ a) × (z ≤ℚ b))) (sym w.0) (k, (≤ℚ_of_lt _ _ w.1, ≤_refl b)))
+    (λ (w : (min_ℚ a b ≡ a) × (a ≤ℚ b)). subst (λ (z : ℚ). (0ℚ <ℚ z) × ((z ≤ℚ a) × (z ≤ℚ b))) (sym w.0) (h, (≤ℚ_refl a, w.1)))
+    (λ (w : (min_ℚ a b ≡ b) × (b <ℚ a)). subst (λ (z : ℚ). (0ℚ <ℚ z) × ((z ≤ℚ a) × (z ≤ℚ b))) (sym w.0) (k, (≤ℚ_of_lt _ _ w.1, ≤ℚ_refl b)))
     (min_ℚ_cases a b)
 
 one_ps : 0ℚ <ℚ 1ℚ
@@ -73,12 +74,12 @@ keeps_side : (z k : ℚ) → (time : ℚ) × (0ℚ <ℚ time) × KeepsSide z k t
 keeps_side z k = ⊎_elim
     (λ (h : z <ℚ 0ℚ).
     let r : Room (0ℚ -ℚ z) k = room (0ℚ -ℚ z) k (linear_lt (z ∷ []) (lt h ∷ []) (search reading_of depth 12) tt) in
-    (r.0, r.1, record { below = λ w _ v. under w (r.2 w v); above = λ w i _. absurd (clash _ _ h (≤ℚ_of_lt _ _ i)) }))
+    (r.0, r.1, record { below = λ w _ v. under w (r.2 w v); above = λ w i _. absurd (not_both_ℚ _ _ h (≤ℚ_of_lt _ _ i)) }))
     (λ (h : 0ℚ ≤ℚ z). ⊎_elim
     (λ (i : 0ℚ <ℚ z).
     let r : Room z (0ℚ -ℚ k) = room z (0ℚ -ℚ k) i in
-    (r.0, r.1, record { below = λ w j _. absurd (clash _ _ j h); above = λ w _ v. over w (r.2 w v) }))
-    (λ (i : z ≤ℚ 0ℚ). (1ℚ, one_ps, record { below = λ w j _. absurd (clash _ _ j h); above = λ w j _. absurd (clash _ _ j i) }))
+    (r.0, r.1, record { below = λ w j _. absurd (not_both_ℚ _ _ j h); above = λ w _ v. over w (r.2 w v) }))
+    (λ (i : z ≤ℚ 0ℚ). (1ℚ, one_ps, record { below = λ w j _. absurd (not_both_ℚ _ _ j h); above = λ w j _. absurd (not_both_ℚ _ _ j i) }))
     (lt_or_le_ℚ 0ℚ z))
     (lt_or_le_ℚ z 0ℚ)
   where
@@ -98,7 +99,7 @@ module _ (net : Network) (slacks slopes : List ℚ) (time : ℚ) where
 
   links_fit : Fitting net.links LinkFits
   links_fit = fits_all net.links LinkFits
-      (λ e link long short f h. record { below = λ w i v. f.below w i (v.0, ≤_trans _ _ _ v.1 h); above = λ w i v. f.above w i (v.0, ≤_trans _ _ _ v.1 h) })
+      (λ e link long short f h. record { below = λ w i v. f.below w i (v.0, ≤ℚ_trans _ _ _ v.1 h); above = λ w i v. f.above w i (v.0, ≤ℚ_trans _ _ _ v.1 h) })
       (λ e link p. keeps_side (number_at slacks e) (number_at slopes link.head -ℚ number_at slopes link.tail))
 
   pieces_fit : Fitting net.pieces PieceFits
@@ -106,7 +107,7 @@ module _ (net : Network) (slacks slopes : List ℚ) (time : ℚ) where
       (λ i piece long short f h l. sooner piece.start long short (f l) h)
       (λ i piece p. ⊎_elim
       (λ (l : time <ℚ piece.start). (piece.start -ℚ time, until_then piece.start l, λ _. just piece.start))
-      (λ (l : piece.start ≤ℚ time). (1ℚ, one_ps, λ k. absurd (clash _ _ k l)))
+      (λ (l : piece.start ≤ℚ time). (1ℚ, one_ps, λ k. absurd (not_both_ℚ _ _ k l)))
       (lt_or_le_ℚ time piece.start))
     where
       sooner : (s long short : ℚ) → time +ℚ long ≤ℚ s → short ≤ℚ long → time +ℚ short ≤ℚ s
@@ -127,9 +128,9 @@ module _ (net : Network) (slacks slopes : List ℚ) (time : ℚ) where
         both.0,
         record {
           not_negative = ≤ℚ_of_lt _ _ both.0;
-          inactive = λ e link while p h w. (links_fit.fits e link p).below while h (w.0, ≤_trans _ _ _ w.1 both.1.0);
-          resetting = λ e link while p h w. (links_fit.fits e link p).above while h (w.0, ≤_trans _ _ _ w.1 both.1.0);
-          supply = λ i piece p h. ≤_trans _ _ _ (further (min_ℚ a b) b both.1.1) (pieces_fit.fits i piece p h);
+          inactive = λ e link while p h w. (links_fit.fits e link p).below while h (w.0, ≤ℚ_trans _ _ _ w.1 both.1.0);
+          resetting = λ e link while p h w. (links_fit.fits e link p).above while h (w.0, ≤ℚ_trans _ _ _ w.1 both.1.0);
+          supply = λ i piece p h. ≤ℚ_trans _ _ _ (further (min_ℚ a b) b both.1.1) (pieces_fit.fits i piece p h);
         },
       )
     where
@@ -141,13 +142,10 @@ IsExtension-some net slacks slopes time length x =
     let s : (short : ℚ) × (0ℚ <ℚ short) × Lasts net slacks slopes time short = Lasts-some net slacks slopes time in
     <_≤_trans _ _ _ s.1 (x.greatest s.0 s.2)
 
-left : (time horizon : ℚ) → time <ℚ horizon → 0ℚ <ℚ horizon -ℚ time
-left time horizon h = linear_lt (time ∷ horizon ∷ []) (lt h ∷ []) (search reading_of depth 12) tt
-
 pub IsPhaseLength-some : (net : Network) (slacks slopes : List ℚ) (time horizon length : ℚ) → time <ℚ horizon → IsPhaseLength net slacks slopes time horizon length → 0ℚ <ℚ length
 IsPhaseLength-some net slacks slopes time horizon length h (inl (x, is_x, e)) =
-    subst (λ (z : ℚ). 0ℚ <ℚ z) (sym e) (lesser (horizon -ℚ time) x (left time horizon h) (IsExtension-some net slacks slopes time x is_x)).0
-IsPhaseLength-some net slacks slopes time horizon length h (inr (_, e)) = subst (λ (z : ℚ). 0ℚ <ℚ z) (sym e) (left time horizon h)
+    subst (λ (z : ℚ). 0ℚ <ℚ z) (sym e) (lesser (horizon -ℚ time) x (less_ps time horizon h) (IsExtension-some net slacks slopes time x is_x)).0
+IsPhaseLength-some net slacks slopes time horizon length h (inr (_, e)) = subst (λ (z : ℚ). 0ℚ <ℚ z) (sym e) (less_ps time horizon h)
 
 pub IsPhase-some : (net : Network) (horizon : ℚ) (old new : ℚ × List ℚ) → IsPhase net horizon old new → old.0 <ℚ new.0
 IsPhase-some net horizon old new phase = later old.0 new.0 phase.length phase.time (IsPhaseLength-some net _ phase.slopes old.0 horizon phase.length phase.before phase.is_length)

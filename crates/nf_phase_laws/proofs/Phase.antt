@@ -5,13 +5,13 @@ use Rattle.nf_rational.specs.Rational.{ℚ}
 use Rattle.nf_rational.specs.Operations.{0ℚ, 1ℚ, ◌+ℚ◌, ◌-ℚ◌, ◌*ℚ◌}
 use Rattle.nf_rational.specs.Order.{◌≤ℚ◌, ◌<ℚ◌}
 use Rattle.nf_rational_laws.proofs.Polynomial.{reading_of}
-use Rattle.nf_rational_laws.proofs.Order.{≤ℚ_of_same, ≤ℚ_of_lt, ≤ℚ_antisymm, lt_or_le_ℚ}
+use Rattle.nf_rational_laws.proofs.Order.{≤ℚ_of_same, ≤ℚ_of_lt, ≤ℚ_antisymm, lt_or_le_ℚ, not_both_ℚ}
 use Rattle.nf_rational_laws.proofs.Linear.{le, lt, eq, le_times, eq_times, linear_le, linear_lt, linear_eq, linear_false}
 use Rattle.nf_model.specs.Curve.{Within, NeverFalls}
 use Rattle.nf_model.specs.Network.{Link, Network, IsNetwork, IsLink, sum_in, sum_out, supply}
 use Rattle.nf_model.specs.Queue.{IsQueue}
 use Rattle.nf_model_laws.specs.Affine.{IsAffine}
-use Rattle.nf_model_laws.proofs.Affine.{≤_refl, ≤_trans, clash, same_from_times}
+use Rattle.nf_model_laws.proofs.Affine.{same_from_times}
 use Rattle.nf_model_laws.proofs.Queues.{IsQueue-same}
 use Rattle.nf_model_laws.proofs.Step.{IsQueue-at_0}
 use Rattle.nf_model_laws.proofs.Curves.{line_takes}
@@ -24,6 +24,7 @@ use Rattle.nf_phase_laws.proofs.Holds.{link_within}
 use Rattle.nf_phase_laws.proofs.Thin.{IsThinBy}
 use Rattle.nf_phase_laws.proofs.QueueCases.{LinkStep, IsQueue-by_slack, unused_below, unbounded_below}
 use Rattle.nf_phase_laws.proofs.Rising.{NeverFalls-goes_on}
+use Rattle.nf_rational_laws.proofs.Chains.{≤ℚ_refl, ≤ℚ_trans}
 
 -- what is known of a phase
 pub record PhaseStep (net : Network) (amount label : ℕ → ℚ → ℚ) (until length rate : ℚ) (x slope : ℕ → ℚ) (amount' label' : ℕ → ℚ → ℚ) : Type 0 where
@@ -126,10 +127,10 @@ module _ (net : Network) (amount label : ℕ → ℚ → ℚ) (until length rate
       (lt_or_le_ℚ time until)
 
   now : Within 0ℚ until until
-  now = (step.holds.begun, ≤_refl until)
+  now = (step.holds.begun, ≤ℚ_refl until)
 
   first : Within 0ℚ until 0ℚ
-  first = (≤_refl 0ℚ, step.holds.begun)
+  first = (≤ℚ_refl 0ℚ, step.holds.begun)
 
   longer : (time : ℚ) → Within 0ℚ until time → Within 0ℚ (until +ℚ length) time
   longer time w = (w.0, linear_le (until ∷ length ∷ time ∷ []) (le w.1 ∷ le step.some ∷ []) (search reading_of depth 12) tt)
@@ -146,19 +147,19 @@ module _ (net : Network) (amount label : ℕ → ℚ → ℚ) (until length rate
   -- ---- labels
   label_rises : (v : ℕ) (s t : ℚ) → v < net.nodes → 0ℚ ≤ℚ s → s ≤ℚ t → t ≤ℚ until +ℚ length → label' v s ≤ℚ label' v t
   label_rises v s t h i j k = by_time (λ t. s ≤ℚ t → label' v s ≤ℚ label' v t)
-      (λ t w j. le_along _ _ _ _ (step.goes.label_before v s h (i, ≤_trans _ _ _ j w.1)) (step.goes.label_before v t h w) (step.holds.label_rises v s t h i j w.1))
+      (λ t w j. le_along _ _ _ _ (step.goes.label_before v s h (i, ≤ℚ_trans _ _ _ j w.1)) (step.goes.label_before v t h w) (step.holds.label_rises v s t h i j w.1))
       (λ t w j. by_time (λ s. s ≤ℚ until +ℚ t → label' v s ≤ℚ label' v (until +ℚ t))
-      (λ s u j. le_along _ _ _ _ (step.goes.label_before v s h u) refl (≤_trans _ _ _ (step.holds.label_rises v s until h u.0 u.1 (≤_refl until)) (after_start (label v until) (slope v) t _ (step.thin.slope_nn v) w.0 (step.goes.label_after v t h w))))
+      (λ s u j. le_along _ _ _ _ (step.goes.label_before v s h u) refl (≤ℚ_trans _ _ _ (step.holds.label_rises v s until h u.0 u.1 (≤ℚ_refl until)) (after_start (label v until) (slope v) t _ (step.thin.slope_nn v) w.0 (step.goes.label_after v t h w))))
       (λ s u j. le_along _ _ _ _ (step.goes.label_after v s h u) (step.goes.label_after v t h w)
       (line_order (label v until) (slope v) s t (step.thin.slope_nn v) (linear_le (until ∷ s ∷ t ∷ []) (le j ∷ []) (search reading_of depth 12) tt)))
-      s (i, ≤_trans _ _ _ j (linear_le (until ∷ t ∷ length ∷ []) (le w.1 ∷ []) (search reading_of depth 12) tt)) j)
-      t (≤_trans _ _ _ i j, k) j
+      s (i, ≤ℚ_trans _ _ _ j (linear_le (until ∷ t ∷ length ∷ []) (le w.1 ∷ []) (search reading_of depth 12) tt)) j)
+      t (≤ℚ_trans _ _ _ i j, k) j
 
   label_takes : (v : ℕ) (y : ℚ) → v < net.nodes → label' v 0ℚ ≤ℚ y → y ≤ℚ label' v (until +ℚ length) → (time : ℚ) × Within 0ℚ (until +ℚ length) time × (label' v time ≡ y)
   label_takes v y h i j = ⊎_elim
       (λ (l : label v until <ℚ y).
       let u : (u : ℚ) × (0ℚ ≤ℚ u) × (u ≤ℚ length) × (label v until +ℚ slope v *ℚ (u -ℚ 0ℚ) ≡ y) =
-      line_takes 0ℚ length (label v until) (slope v) y (label' v (until +ℚ length)) step.some (step.goes.label_after v length h (step.some, ≤_refl length) ∙ from_zero (label v until) (slope v) length) (≤ℚ_of_lt _ _ l) j in
+      line_takes 0ℚ length (label v until) (slope v) y (label' v (until +ℚ length)) step.some (step.goes.label_after v length h (step.some, ≤ℚ_refl length) ∙ from_zero (label v until) (slope v) length) (≤ℚ_of_lt _ _ l) j in
       (until +ℚ u.0, later u.0 (u.1, u.2), step.goes.label_after v u.0 h (u.1, u.2) ∙ from_zero (label v until) (slope v) u.0 ∙ u.3))
       (λ (l : y ≤ℚ label v until).
       let u : (time : ℚ) × Within 0ℚ until time × (label v time ≡ y) = step.holds.label_takes v y h (subst (λ (z : ℚ). z ≤ℚ y) (step.goes.label_before v 0ℚ h first) i) l in
@@ -169,7 +170,7 @@ module _ (net : Network) (amount label : ℕ → ℚ → ℚ) (until length rate
   label_nn v time h w = held.label_not_negative net amount label until step.good step.holds v time h w
 
   pub rises_on : (v : ℕ) (time : ℚ) → v < net.nodes → Within 0ℚ until time → label v time ≤ℚ label v until
-  rises_on v time h w = step.holds.label_rises v time until h w.0 w.1 (≤_refl until)
+  rises_on v time h w = step.holds.label_rises v time until h w.0 w.1 (≤ℚ_refl until)
 
   pub slack_before : (e : ℕ) (link : Link) (time : ℚ) → IsLink net e link → Within 0ℚ until time → link_slack label' link time ≡ link_slack label link time
   slack_before e link time p w = slack_same _ _ _ _ link.transit (step.goes.label_before link.head time (heads e link p) w) (step.goes.label_before link.tail time (tails e link p) w)
@@ -205,7 +206,7 @@ module _ (net : Network) (amount label : ℕ → ℚ → ℚ) (until length rate
   old_is e link time p = held.sent-is net amount label e link time p
 
   amount_until : (e : ℕ) (link : Link) → IsLink net e link → amount' e (label link.tail until) ≡ old_sent e until
-  amount_until e link p = step.goes.amount_before e link (label link.tail until) p (label_nn link.tail until (tails e link p) now, ≤_refl _) ∙ sym (old_is e link until p)
+  amount_until e link p = step.goes.amount_before e link (label link.tail until) p (label_nn link.tail until (tails e link p) now, ≤ℚ_refl _) ∙ sym (old_is e link until p)
 
   pub sent_before : (e : ℕ) (link : Link) (time : ℚ) → IsLink net e link → Within 0ℚ until time → new_sent e time ≡ old_sent e time
   sent_before e link time p w = new_is e link time p ∙ ap (amount' e) (step.goes.label_before link.tail time (tails e link p) w)
@@ -227,10 +228,10 @@ module _ (net : Network) (amount label : ℕ → ℚ → ℚ) (until length rate
 
   -- ---- queues
   same_amount : (e : ℕ) (link : Link) (time : ℚ) → IsLink net e link → time ≤ℚ label link.tail until → (t : ℚ) → Within 0ℚ time t → amount e t ≡ amount' e t
-  same_amount e link time p h t w = sym (step.goes.amount_before e link t p (w.0, ≤_trans _ _ _ w.1 h))
+  same_amount e link time p h t w = sym (step.goes.amount_before e link t p (w.0, ≤ℚ_trans _ _ _ w.1 h))
 
   queue_until : (e : ℕ) (link : Link) → IsLink net e link → IsQueue link.capacity (amount' e) (label link.tail until) (queue_by_slack link.capacity (link_slack label link until))
-  queue_until e link p = IsQueue-same link.capacity (amount e) (amount' e) (label link.tail until) _ (same_amount e link (label link.tail until) p (≤_refl _)) (step.holds.queue e link until p now)
+  queue_until e link p = IsQueue-same link.capacity (amount e) (amount' e) (label link.tail until) _ (same_amount e link (label link.tail until) p (≤ℚ_refl _)) (step.holds.queue e link until p now)
 
   abbrev QueueAt : ℕ → Link → ℚ → Type 0
   QueueAt e link time = IsQueue link.capacity (amount' e) (label' link.tail time) (queue_by_slack link.capacity (link_slack label' link time))
@@ -294,7 +295,7 @@ module _ (net : Network) (amount label : ℕ → ℚ → ℚ) (until length rate
       (λ (u : label link.tail until <ℚ z).
       let r : (r : ℚ) × (r *ℚ slope link.tail ≡ x e) × IsAffine (amount' e) (label link.tail until) (label link.tail until +ℚ slope link.tail *ℚ length) r = step.goes.amount_after e link p in
       flat (amount' e z) (amount' e (label link.tail until)) r.0 (label link.tail until) (slope link.tail) t z
-      (r.2.line z (≤ℚ_of_lt _ _ u) (≤_trans _ _ _ j (before_end e link t w))) (r.1 ∙ f) (step.thin.slope_nn link.tail) u j
+      (r.2.line z (≤ℚ_of_lt _ _ u) (≤ℚ_trans _ _ _ j (before_end e link t w))) (r.1 ∙ f) (step.thin.slope_nn link.tail) u j
       ∙ amount_until e link p)
       (λ (u : z ≤ℚ label link.tail until). step.goes.amount_before e link z p (h, u) ∙ step.holds.idle e link until z p now s h i u)
       (lt_or_le_ℚ (label link.tail until) z)
@@ -308,7 +309,7 @@ module _ (net : Network) (amount label : ℕ → ℚ → ℚ) (until length rate
   idle_before : (e : ℕ) (link : Link) (time : ℚ) → IsLink net e link → Within 0ℚ until time → IdleAt e link time
   idle_before e link time p w s z h i j =
       let k : z ≤ℚ label link.tail time = subst (λ (a : ℚ). z ≤ℚ a) (step.goes.label_before link.tail time (tails e link p) w) j in
-      step.goes.amount_before e link z p (h, ≤_trans _ _ _ k (rises_on link.tail time (tails e link p) w))
+      step.goes.amount_before e link z p (h, ≤ℚ_trans _ _ _ k (rises_on link.tail time (tails e link p) w))
       ∙ step.holds.idle e link time z p w (subst (λ (n : ℚ). n ≤ℚ 0ℚ) (slack_before e link time p w) s) h (subst (λ (b : ℚ). b -ℚ link.transit ≤ℚ z) (step.goes.label_before link.head time (heads e link p) w) i) k
       ∙ sym (sent_before e link time p w)
 
@@ -330,7 +331,7 @@ module _ (net : Network) (amount label : ℕ → ℚ → ℚ) (until length rate
       → 0ℚ ≤ℚ start → label link.head until -ℚ link.transit ≤ℚ start → start ≤ℚ z → z ≤ℚ label link.tail until +ℚ slope link.tail *ℚ t
       → IsQueue link.capacity (amount' e) start 0ℚ → IsQueue link.capacity (amount' e) z 0ℚ
   idle_from e link t start z p w s f h i j k q = IsQueue-stays_empty link.capacity (amount' e) start z (IsPositive-link net e link step.good p) j
-      (λ y a b. idle_amount e link t y p w s f (≤_trans _ _ _ h a) (≤_trans _ _ _ i a) (≤_trans _ _ _ b k) ∙ sym (idle_amount e link t start p w s f h i (≤_trans _ _ _ j k))) q
+      (λ y a b. idle_amount e link t y p w s f (≤ℚ_trans _ _ _ h a) (≤ℚ_trans _ _ _ i a) (≤ℚ_trans _ _ _ b k) ∙ sym (idle_amount e link t start p w s f h i (≤ℚ_trans _ _ _ j k))) q
 
   idle_queue_until : (e : ℕ) (link : Link) → IsLink net e link → link_slack label link until ≤ℚ 0ℚ → 0ℚ ≤ℚ label link.head until -ℚ link.transit
       → IsQueue link.capacity (amount' e) (label link.head until -ℚ link.transit) 0ℚ
@@ -344,7 +345,7 @@ module _ (net : Network) (amount label : ℕ → ℚ → ℚ) (until length rate
       let k : link_slack label link time ≤ℚ 0ℚ = subst (λ (n : ℚ). n ≤ℚ 0ℚ) (slack_before e link time p w) s in
       subst (λ (b : ℚ). IsQueue link.capacity (amount' e) (b -ℚ link.transit) 0ℚ) (sym (step.goes.label_before link.head time (heads e link p) w))
       (IsQueue-same link.capacity (amount e) (amount' e) _ 0ℚ
-      (same_amount e link _ p (≤_trans _ _ _ (in_time (label link.tail time) (label link.head time) link.transit k) (rises_on link.tail time (tails e link p) w)))
+      (same_amount e link _ p (≤ℚ_trans _ _ _ (in_time (label link.tail time) (label link.head time) link.transit k) (rises_on link.tail time (tails e link p) w)))
       (step.holds.idle_queue e link time p w k (subst (λ (b : ℚ). 0ℚ ≤ℚ b -ℚ link.transit) (step.goes.label_before link.head time (heads e link p) w) h)))
 
   empty_unused : (e : ℕ) (link : Link) (t : ℚ) → IsLink net e link → Within 0ℚ length t → (link_slack label link until ≤ℚ 0ℚ) × (x e ≡ 0ℚ) → EmptyAt e link (until +ℚ t)
@@ -353,8 +354,8 @@ module _ (net : Network) (amount label : ℕ → ℚ → ℚ) (until length rate
       let j : label' link.head (until +ℚ t) -ℚ link.transit ≤ℚ label link.tail until +ℚ slope link.tail *ℚ t =
       subst (λ (a : ℚ). label' link.head (until +ℚ t) -ℚ link.transit ≤ℚ a) (step.goes.label_after link.tail t (tails e link p) w) (in_time _ _ link.transit s) in
       ⊎_elim
-      (λ (l : label link.head until -ℚ link.transit <ℚ 0ℚ). idle_from e link t 0ℚ _ p w u.0 u.1 (≤_refl 0ℚ) (≤ℚ_of_lt _ _ l) h j (IsQueue-at_0 link.capacity (amount' e)))
-      (λ (l : 0ℚ ≤ℚ label link.head until -ℚ link.transit). idle_from e link t (label link.head until -ℚ link.transit) _ p w u.0 u.1 l (≤_refl _) k j (idle_queue_until e link p u.0 l))
+      (λ (l : label link.head until -ℚ link.transit <ℚ 0ℚ). idle_from e link t 0ℚ _ p w u.0 u.1 (≤ℚ_refl 0ℚ) (≤ℚ_of_lt _ _ l) h j (IsQueue-at_0 link.capacity (amount' e)))
+      (λ (l : 0ℚ ≤ℚ label link.head until -ℚ link.transit). idle_from e link t (label link.head until -ℚ link.transit) _ p w u.0 u.1 l (≤ℚ_refl _) k j (idle_queue_until e link p u.0 l))
       (lt_or_le_ℚ (label link.head until -ℚ link.transit) 0ℚ)
 
   empty_after : (e : ℕ) (link : Link) (t : ℚ) → IsLink net e link → Within 0ℚ length t → EmptyAt e link (until +ℚ t)
@@ -369,7 +370,7 @@ module _ (net : Network) (amount label : ℕ → ℚ → ℚ) (until length rate
   -- ---- what is used is active
   with_flow : (e : ℕ) (link : Link) (t : ℚ) → IsLink net e link → Within 0ℚ length t → 0ℚ <ℚ x e → 0ℚ ≤ℚ link_slack label' link (until +ℚ t)
   with_flow e link t p w f = ⊎_elim
-      (λ (n : link_slack label' link (until +ℚ t) <ℚ 0ℚ). absurd (clash _ _ f (≤ℚ_of_same _ _ (unused e link t p w n).1)))
+      (λ (n : link_slack label' link (until +ℚ t) <ℚ 0ℚ). absurd (not_both_ℚ _ _ f (≤ℚ_of_same _ _ (unused e link t p w n).1)))
       (λ (n : 0ℚ ≤ℚ link_slack label' link (until +ℚ t)). n)
       (lt_or_le_ℚ (link_slack label' link (until +ℚ t)) 0ℚ)
 
@@ -378,14 +379,14 @@ module _ (net : Network) (amount label : ℕ → ℚ → ℚ) (until length rate
   used e link time p h k grows = ⊎_elim
       (λ (l : time <ℚ until). let w : Within 0ℚ until time = (h, ≤ℚ_of_lt _ _ l) in
       subst (λ (n : ℚ). 0ℚ ≤ℚ n) (sym (slack_before e link time p w)) (step.holds.used e link time p h l
-      (λ after a b. let v : Within 0ℚ until after = (≤_trans _ _ _ h (≤ℚ_of_lt _ _ a), b) in
+      (λ after a b. let v : Within 0ℚ until after = (≤ℚ_trans _ _ _ h (≤ℚ_of_lt _ _ a), b) in
       lt_along _ _ _ _ (sent_before e link time p w) (sent_before e link after p v) (grows after a (longer after v).1))))
       (λ (l : until ≤ℚ time).
       let d : until +ℚ (time -ℚ until) ≡ time = linear_eq (until ∷ time ∷ []) [] (search reading_of depth 12) tt tt in
       let w : Within 0ℚ length (time -ℚ until) = (linear_le (until ∷ time ∷ []) (le l ∷ []) (search reading_of depth 12) tt, linear_le (until ∷ time ∷ length ∷ []) (lt k ∷ []) (search reading_of depth 12) tt) in
       subst (λ (z : ℚ). 0ℚ ≤ℚ link_slack label' link z) d (with_flow e link (time -ℚ until) p w
-      (has_flow (old_sent e until) (x e) (time -ℚ until) length _ _ (step.thin.flow_nn e) (sent_after e link (time -ℚ until) p w) (sent_after e link length p (step.some, ≤_refl length))
-      (subst (λ (z : ℚ). new_sent e z <ℚ new_sent e (until +ℚ length)) (sym d) (grows (until +ℚ length) k (≤_refl _))))))
+      (has_flow (old_sent e until) (x e) (time -ℚ until) length _ _ (step.thin.flow_nn e) (sent_after e link (time -ℚ until) p w) (sent_after e link length p (step.some, ≤ℚ_refl length))
+      (subst (λ (z : ℚ). new_sent e z <ℚ new_sent e (until +ℚ length)) (sym d) (grows (until +ℚ length) k (≤ℚ_refl _))))))
       (lt_or_le_ℚ time until)
 
   -- ---- conservation
@@ -412,7 +413,7 @@ module _ (net : Network) (amount label : ℕ → ℚ → ℚ) (until length rate
     label_takes = label_takes;
     label_not_negative = λ v h. subst (λ (a : ℚ). 0ℚ ≤ℚ a) (sym (step.goes.label_before v 0ℚ h first)) (step.holds.label_not_negative v h);
     amount_rises = λ e h. amount_rises e (link_within net e h).0 (link_within net e h).1;
-    amount_starts = λ e h. step.goes.amount_before e (link_within net e h).0 0ℚ (link_within net e h).1 (≤_refl 0ℚ, label_nn _ until (tails e (link_within net e h).0 (link_within net e h).1) now) ∙ step.holds.amount_starts e h;
+    amount_starts = λ e h. step.goes.amount_before e (link_within net e h).0 0ℚ (link_within net e h).1 (≤ℚ_refl 0ℚ, label_nn _ until (tails e (link_within net e h).0 (link_within net e h).1) now) ∙ step.holds.amount_starts e h;
     sent_starts = λ e link p. sent_before e link 0ℚ p first ∙ step.holds.sent_starts e link p;
     inner = λ v time h a b w. by_time (λ time. sum_in net.links (λ e. new_sent e time) v ≡ sum_out net.links (λ e. new_sent e time) v)
         (λ time w. in_before v time w ∙ step.holds.inner v time h a b w ∙ sym (out_before v time w))

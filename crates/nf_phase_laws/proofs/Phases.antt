@@ -11,21 +11,21 @@ use Rattle.nf_model.specs.Network.{Network, IsNetwork, hops}
 use Rattle.nf_model.specs.ThinFlow.{slacks_of}
 use Rattle.nf_model.specs.Phases.{Lasts, IsPhaseLength, IsPhase}
 use Rattle.nf_model.specs.Equilibrium.{IsNashFlow}
-use Rattle.nf_model_laws.proofs.Affine.{≤_refl, ≤_trans}
 use Rattle.nf_model_laws.proofs.Slacks.{moved-at, length-moved}
 use Rattle.nf_phase_laws.specs.Invariant.{HoldsUpTo, LabelsAre, GoesOn}
 use Rattle.nf_phase_laws.specs.Run.{GoesByPhases, begins, goes_on}
 use Rattle.nf_phase_laws.proofs.Holds.{IsNashFlow-from_HoldsUpTo}
 use Rattle.nf_phase_laws.proofs.Start.{HoldsUpTo-start}
 use Rattle.nf_phase_laws.proofs.Lasting.{HoldsUpTo-lasts}
+use Rattle.nf_rational_laws.proofs.Chains.{≤ℚ_refl, ≤ℚ_trans}
 
 -- what may last for a length may last for less
 pub Lasts-shorter : (net : Network) (slacks slopes : List ℚ) (time long short : ℚ) → Lasts net slacks slopes time long → 0ℚ ≤ℚ short → short ≤ℚ long → Lasts net slacks slopes time short
 Lasts-shorter net slacks slopes time long short l h k = record {
   not_negative = h;
-  inactive = λ e link t p a w. l.inactive e link t p a (w.0, ≤_trans _ _ _ w.1 k);
-  resetting = λ e link t p a w. l.resetting e link t p a (w.0, ≤_trans _ _ _ w.1 k);
-  supply = λ i piece p a. ≤_trans _ _ _ (linear_le (time ∷ long ∷ short ∷ []) (le k ∷ []) (search reading_of depth 12) tt) (l.supply i piece p a);
+  inactive = λ e link t p a w. l.inactive e link t p a (w.0, ≤ℚ_trans _ _ _ w.1 k);
+  resetting = λ e link t p a w. l.resetting e link t p a (w.0, ≤ℚ_trans _ _ _ w.1 k);
+  supply = λ i piece p a. ≤ℚ_trans _ _ _ (linear_le (time ∷ long ∷ short ∷ []) (le k ∷ []) (search reading_of depth 12) tt) (l.supply i piece p a);
 }
 
 -- a phase may last for its length
@@ -53,7 +53,7 @@ stands_after net horizon time time' labels labels' amount label amount' label' p
   holds = subst (λ (z : ℚ). HoldsUpTo net amount' label' z) (sym phase.time)
       (HoldsUpTo-lasts net amount label amount' label' time phase.length labels phase.flows phase.slopes good stands.holds stands.same phase.thin lasts goes);
   same = λ v h. subst (λ (z : ℚ). label' v z ≡ number_at labels' v) (sym phase.time)
-      (moved_label _ _ _ _ _ (goes.label_after v phase.length h (lasts.not_negative, ≤_refl _)) (stands.same v h) ∙ sym (moved-at labels phase.slopes phase.length v counts) ∙ ap (λ (l : List ℚ). number_at l v) (sym phase.labels));
+      (moved_label _ _ _ _ _ (goes.label_after v phase.length h (lasts.not_negative, ≤ℚ_refl _)) (stands.same v h) ∙ sym (moved-at labels phase.slopes phase.length v counts) ∙ ap (λ (l : List ℚ). number_at l v) (sym phase.labels));
   count = ap length phase.labels ∙ length-moved labels phase.slopes phase.length counts ∙ stands.count;
 }
   where

@@ -5,17 +5,18 @@ use Rattle.nf_rational.specs.Rational.{ℚ}
 use Rattle.nf_rational.specs.Operations.{0ℚ, ◌+ℚ◌, ◌-ℚ◌, ◌*ℚ◌}
 use Rattle.nf_rational.specs.Order.{◌≤ℚ◌, ◌<ℚ◌, max_ℚ}
 use Rattle.nf_rational_laws.proofs.Polynomial.{reading_of}
-use Rattle.nf_rational_laws.proofs.Order.{≤ℚ_of_same, ≤ℚ_of_lt, ≤ℚ_antisymm, lt_or_le_ℚ}
+use Rattle.nf_rational_laws.proofs.Order.{≤ℚ_of_same, ≤ℚ_of_lt, ≤ℚ_antisymm, lt_or_le_ℚ, not_both_ℚ}
 use Rattle.nf_rational_laws.proofs.Linear.{le, lt, eq, le_times, eq_times, linear_le, linear_eq, linear_false}
 use Rattle.nf_model.specs.Queue.{IsQueue}
 use Rattle.nf_model_laws.specs.Affine.{IsAffine}
 use Rattle.nf_model_laws.specs.Capacity.{IsPositive}
-use Rattle.nf_model_laws.proofs.Affine.{≤_trans, clash, le_from_times}
+use Rattle.nf_model_laws.proofs.Affine.{le_from_times}
 use Rattle.nf_model_laws.proofs.Queues.{IsQueue-none}
 use Rattle.nf_model_laws.proofs.Step.{IsQueue-step, IsQueue-step_empty}
 use Rattle.nf_phase_laws.specs.Invariant.{queue_by_slack}
-use Rattle.nf_phase_laws.proofs.Idle.{max0_low, max0_high}
 use Rattle.nf_phase_laws.proofs.Thin.{LinkLaw}
+use Rattle.nf_rational_laws.proofs.Chains.{≤ℚ_trans}
+use Rattle.nf_rational_laws.proofs.Tests.{max0_none, max0_of}
 
 queue_goal : (r c l x q t y : ℚ) → r *ℚ l ≡ x → y ≡ q +ℚ (x -ℚ c *ℚ l) *ℚ t → (a : ℚ) → y ≡ q +ℚ (r -ℚ c) *ℚ ((a +ℚ l *ℚ t) -ℚ a)
 queue_goal r c l x q t y e f a = linear_eq (r ∷ c ∷ l ∷ x ∷ q ∷ t ∷ y ∷ a ∷ []) (eq_times t e ∷ eq f ∷ []) (search reading_of depth 12) tt tt
@@ -60,7 +61,7 @@ tight_unused c s l m x t n h i j d e f w =
   where
     low : m ≤ℚ l
     low = ⊎_elim (λ (k : m ≤ℚ l). k)
-        (λ (k : c *ℚ m ≤ℚ x). ≤_trans _ _ _ (le_from_times c m 0ℚ h (linear_le (c ∷ m ∷ x ∷ []) (le k ∷ eq f ∷ []) (search reading_of depth 12) tt)) i) w
+        (λ (k : c *ℚ m ≤ℚ x). ≤ℚ_trans _ _ _ (le_from_times c m 0ℚ h (linear_le (c ∷ m ∷ x ∷ []) (le k ∷ eq f ∷ []) (search reading_of depth 12) tt)) i) w
 
 queue_tight : (c s l m x t n : ℚ) → 0ℚ <ℚ c → 0ℚ ≤ℚ l → 0ℚ ≤ℚ t → 0ℚ ≤ℚ x → s ≡ 0ℚ → n ≡ s +ℚ (m -ℚ l) *ℚ t → LinkLaw (Some c) s x l m → QueueCase c l x (c *ℚ s) t n
 queue_tight c s l m x t n h i j k d e p = ⊎_elim
@@ -82,11 +83,11 @@ pub record LinkStep (capacity : Option ℚ) (s n x l m t : ℚ) : Type 0 where
 
 queue_case : (c s n x l m t : ℚ) → LinkStep (Some c) s n x l m t → QueueCase c l x (c *ℚ max_ℚ 0ℚ s) t n
 queue_case c s n x l m t k = ⊎_elim
-    (λ (h : 0ℚ <ℚ s). subst (λ (y : ℚ). QueueCase c l x (c *ℚ y) t n) (sym (max0_high s (≤ℚ_of_lt _ _ h)))
+    (λ (h : 0ℚ <ℚ s). subst (λ (y : ℚ). QueueCase c l x (c *ℚ y) t n) (sym (max0_of s (≤ℚ_of_lt _ _ h)))
     (queue_resetting c s l m x t n ((k.law (≤ℚ_of_lt _ _ h)).full c refl h) k.moves (k.above h)))
     (λ (h : s ≤ℚ 0ℚ). ⊎_elim
-    (λ (i : s <ℚ 0ℚ). queue_inactive c _ l x t n (≤ℚ_of_lt _ _ (k.positive c refl)) k.slope_nn k.time_nn (no_queue c _ (max0_low s h)) (k.inactive i) (k.below i))
-    (λ (i : 0ℚ ≤ℚ s). subst (λ (y : ℚ). QueueCase c l x (c *ℚ y) t n) (sym (max0_high s i))
+    (λ (i : s <ℚ 0ℚ). queue_inactive c _ l x t n (≤ℚ_of_lt _ _ (k.positive c refl)) k.slope_nn k.time_nn (no_queue c _ (max0_none s h)) (k.inactive i) (k.below i))
+    (λ (i : 0ℚ ≤ℚ s). subst (λ (y : ℚ). QueueCase c l x (c *ℚ y) t n) (sym (max0_of s i))
     (queue_tight c s l m x t n (k.positive c refl) k.slope_nn k.time_nn k.flow_nn (≤ℚ_antisymm _ _ h i) k.moves (k.law i)))
     (lt_or_le_ℚ s 0ℚ))
     (lt_or_le_ℚ 0ℚ s)
@@ -96,12 +97,12 @@ queue_case c s n x l m t k = ⊎_elim
 
 by_case : (c : ℚ) (f : ℚ → ℚ) (a end r l x t q n : ℚ) → 0ℚ <ℚ c → r *ℚ l ≡ x → IsAffine f a end r → a ≤ℚ a +ℚ l *ℚ t → a +ℚ l *ℚ t ≤ℚ end
     → IsQueue (Some c) f a q → QueueCase c l x q t n → IsQueue (Some c) f (a +ℚ l *ℚ t) (c *ℚ max_ℚ 0ℚ n)
-by_case c f a end r l x t q n pos e line h k before (runs i d) = subst (λ (y : ℚ). IsQueue (Some c) f (a +ℚ l *ℚ t) (c *ℚ y)) (sym (max0_high n i))
+by_case c f a end r l x t q n pos e line h k before (runs i d) = subst (λ (y : ℚ). IsQueue (Some c) f (a +ℚ l *ℚ t) (c *ℚ y)) (sym (max0_of n i))
     (IsQueue-step c f a end r q line before (a +ℚ l *ℚ t) (c *ℚ n) h k (queue_goal r c l x q t _ e d a) (times_nn c n pos i))
   where
     times_nn : (c n : ℚ) → 0ℚ <ℚ c → 0ℚ ≤ℚ n → 0ℚ ≤ℚ c *ℚ n
     times_nn c n h k = let low : 0ℚ ≤ℚ c = ≤ℚ_of_lt _ _ h in linear_le (c ∷ n ∷ []) (le_times low k ∷ []) (search reading_of depth 12) tt
-by_case c f a end r l x t q n pos e line h k before (stays i d) = subst (λ (y : ℚ). IsQueue (Some c) f (a +ℚ l *ℚ t) y) (times_none c _ (max0_low n i))
+by_case c f a end r l x t q n pos e line h k before (stays i d) = subst (λ (y : ℚ). IsQueue (Some c) f (a +ℚ l *ℚ t) y) (times_none c _ (max0_none n i))
     (IsQueue-step_empty c f a end r q line before (a +ℚ l *ℚ t) h k (queue_goal_le r c l x q t e d a))
   where
     times_none : (c m : ℚ) → m ≡ 0ℚ → 0ℚ ≡ c *ℚ m
@@ -123,7 +124,7 @@ shrinks s n m l t e h k j i = linear_false (s ∷ n ∷ m ∷ l ∷ t ∷ []) (e
 
 pub unused_below : (capacity : Option ℚ) (s n x l m t : ℚ) → LinkStep capacity s n x l m t → n <ℚ 0ℚ → (s ≤ℚ 0ℚ) × (x ≡ 0ℚ)
 unused_below capacity s n x l m t k h = ⊎_elim
-    (λ (i : 0ℚ <ℚ s). absurd (clash _ _ h (k.above i)))
+    (λ (i : 0ℚ <ℚ s). absurd (not_both_ℚ _ _ h (k.above i)))
     (λ (i : s ≤ℚ 0ℚ). (
       i,
       ⊎_elim

@@ -8,7 +8,8 @@ use Rattle.nf_rational_laws.proofs.Order.{≤ℚ_of_same, ≤ℚ_of_lt, ≤ℚ_a
 use Rattle.nf_rational_laws.proofs.Linear.{le, eq, le_times, eq_times, linear_le, linear_eq}
 use Rattle.nf_model.specs.Curve.{Within, NeverFalls}
 use Rattle.nf_model_laws.specs.Affine.{IsAffine}
-use Rattle.nf_model_laws.proofs.Affine.{≤_refl, ≤_trans, le_from_times}
+use Rattle.nf_model_laws.proofs.Affine.{le_from_times}
+use Rattle.nf_rational_laws.proofs.Chains.{≤ℚ_refl, ≤ℚ_trans}
 
 -- over plain numbers: from a on at the rate r for the time l d, where r l = x
 rate_nn : (r l x : ℚ) → 0ℚ <ℚ l → r *ℚ l ≡ x → 0ℚ ≤ℚ x → 0ℚ ≤ℚ r
@@ -32,25 +33,25 @@ module _ (f g : ℚ → ℚ) (a l d r x : ℚ) (begins : 0ℚ ≤ℚ a) (slope_n
   last = linear_le (a ∷ l ∷ d ∷ []) (le_times slope_nn time_nn ∷ []) (search reading_of depth 12) tt
 
   on_piece : (s t : ℚ) → a ≤ℚ s → s ≤ℚ t → t ≤ℚ a +ℚ l *ℚ d → g s ≤ℚ g t
-  on_piece s t h k i = piece_rises (g s) (g t) (g a) a s t l d r x (line.line s h (≤_trans _ _ _ k i)) (line.line t (≤_trans _ _ _ h k) i) h k i slope_nn flow_nn rate_is
+  on_piece s t h k i = piece_rises (g s) (g t) (g a) a s t l d r x (line.line s h (≤ℚ_trans _ _ _ k i)) (line.line t (≤ℚ_trans _ _ _ h k) i) h k i slope_nn flow_nn rate_is
 
   from_piece : (s t : ℚ) → a ≤ℚ s → s ≤ℚ t → g s ≤ℚ g t
   from_piece s t h k = ⊎_elim
       (λ (i : t <ℚ a +ℚ l *ℚ d). on_piece s t h k (≤ℚ_of_lt _ _ i))
       (λ (i : a +ℚ l *ℚ d ≤ℚ t). ⊎_elim
-      (λ (j : s <ℚ a +ℚ l *ℚ d). subst (λ (y : ℚ). g s ≤ℚ y) (sym (ends t i)) (on_piece s (a +ℚ l *ℚ d) h (≤ℚ_of_lt _ _ j) (≤_refl _)))
+      (λ (j : s <ℚ a +ℚ l *ℚ d). subst (λ (y : ℚ). g s ≤ℚ y) (sym (ends t i)) (on_piece s (a +ℚ l *ℚ d) h (≤ℚ_of_lt _ _ j) (≤ℚ_refl _)))
       (λ (j : a +ℚ l *ℚ d ≤ℚ s). ≤ℚ_of_same _ _ (ends s j ∙ sym (ends t i)))
       (lt_or_le_ℚ s (a +ℚ l *ℚ d)))
       (lt_or_le_ℚ t (a +ℚ l *ℚ d))
 
   up_to : (s t : ℚ) → 0ℚ ≤ℚ s → s ≤ℚ t → t ≤ℚ a → g s ≤ℚ g t
-  up_to s t h k i = le_along _ _ _ _ (same s (h, ≤_trans _ _ _ k i)) (same t (≤_trans _ _ _ h k, i)) (rises s t h k)
+  up_to s t h k i = le_along _ _ _ _ (same s (h, ≤ℚ_trans _ _ _ k i)) (same t (≤ℚ_trans _ _ _ h k, i)) (rises s t h k)
 
   pub NeverFalls-goes_on : NeverFalls g
   NeverFalls-goes_on s t h k = ⊎_elim
       (λ (i : t <ℚ a). up_to s t h k (≤ℚ_of_lt _ _ i))
       (λ (i : a ≤ℚ t). ⊎_elim
-      (λ (j : s <ℚ a). ≤_trans _ _ _ (up_to s a h (≤ℚ_of_lt _ _ j) (≤_refl a)) (from_piece a t (≤_refl a) i))
+      (λ (j : s <ℚ a). ≤ℚ_trans _ _ _ (up_to s a h (≤ℚ_of_lt _ _ j) (≤ℚ_refl a)) (from_piece a t (≤ℚ_refl a) i))
       (λ (j : a ≤ℚ s). from_piece s t j k)
       (lt_or_le_ℚ s a))
       (lt_or_le_ℚ t a)

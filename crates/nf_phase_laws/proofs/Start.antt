@@ -6,7 +6,7 @@ use Rattle.nf_rational.specs.Rational.{ℚ}
 use Rattle.nf_rational.specs.Operations.{0ℚ, ◌+ℚ◌, ◌-ℚ◌}
 use Rattle.nf_rational.specs.Order.{◌≤ℚ◌}
 use Rattle.nf_rational_laws.proofs.Polynomial.{reading_of}
-use Rattle.nf_rational_laws.proofs.Order.{≤ℚ_of_same, ≤ℚ_antisymm, nn_plus}
+use Rattle.nf_rational_laws.proofs.Order.{≤ℚ_of_same, ≤ℚ_antisymm, nn_plus, not_both_ℚ}
 use Rattle.nf_rational_laws.proofs.Linear.{le, eq, linear_le, linear_eq}
 use Rattle.nf_model.specs.Entries.{number_at}
 use Rattle.nf_model.specs.Curve.{Within}
@@ -15,7 +15,6 @@ use Rattle.nf_model.specs.Network.{Link, Network, IsNetwork, IsLink, hops, sum_i
 use Rattle.nf_model.specs.Queue.{IsQueue}
 use Rattle.nf_model.specs.Phases.{AreStartLabels}
 use Rattle.nf_model_laws.specs.EarliestLaws.{AreTransitLabels}
-use Rattle.nf_model_laws.proofs.Affine.{≤_refl, clash}
 use Rattle.nf_model_laws.proofs.Networks.{IsWalk-starts, StartsWith, transit_of-is}
 use Rattle.nf_model_laws.proofs.Earliest.{IsPositive-link}
 use Rattle.nf_model_laws.proofs.EarliestTransits.{AreTransitLabels-least}
@@ -24,10 +23,11 @@ use Rattle.nf_model_laws.proofs.Supply.{supplied-begins}
 use Rattle.nf_phase_laws.specs.Invariant.{link_slack, queue_by_slack, sent, HoldsUpTo, IsStart}
 use Rattle.nf_phase_laws.proofs.Idle.{queue_by_slack-low, IsQueue-before_any}
 use Rattle.nf_phase_laws.proofs.Holds.{sent-is}
+use Rattle.nf_rational_laws.proofs.Chains.{≤ℚ_refl}
 
 -- no walk has a negative transit sum
 pub transit_sum-not_negative : (net : Network) → IsNetwork net → (walk : List ℕ) (u v : ℕ) → IsWalk (hops net) walk u v → 0ℚ ≤ℚ transit_sum (hops net) walk
-transit_sum-not_negative net good [] u v w = ≤_refl 0ℚ
+transit_sum-not_negative net good [] u v w = ≤ℚ_refl 0ℚ
 transit_sum-not_negative net good (e ∷ walk) u v w =
     let s : StartsWith net e walk u v = IsWalk-starts net e walk u v w in
     nn_plus _ _ (subst (λ (t : ℚ). 0ℚ ≤ℚ t) (sym (transit_of-is net e s.link s.is_link)) (good.transits e s.link s.is_link)) (transit_sum-not_negative net good walk s.link.head v s.rest)
@@ -80,7 +80,7 @@ module _ (net : Network) (labels : List ℚ) (amount label : ℕ → ℚ → ℚ
   nothing_sent e link p = sent-is net amount label e link 0ℚ p ∙ nothing_at e link (label link.tail 0ℚ) p (label_not_negative link.tail (good.tails e link p))
 
   no_queue : (e : ℕ) (link : Link) (time : ℚ) → IsLink net e link → 0ℚ ≤ℚ time → IsQueue link.capacity (amount e) time 0ℚ
-  no_queue e link time p h = IsQueue-before_any link.capacity (amount e) time (IsPositive-link net e link good p) h (λ t i _. nothing_at e link t p i ∙ sym (nothing_at e link 0ℚ p (≤_refl 0ℚ)))
+  no_queue e link time p h = IsQueue-before_any link.capacity (amount e) time (IsPositive-link net e link good p) h (λ t i _. nothing_at e link t p i ∙ sym (nothing_at e link 0ℚ p (≤ℚ_refl 0ℚ)))
 
   in_none : (v : ℕ) → sum_in net.links (λ e. sent net amount label e 0ℚ) v ≡ 0ℚ
   in_none v = sum_in-same net.links (λ e. sent net amount label e 0ℚ) (λ _. 0ℚ) v (λ e link p _. nothing_sent e link p) ∙ sum_in-none net.links v
@@ -103,13 +103,13 @@ module _ (net : Network) (labels : List ℚ) (amount label : ℕ → ℚ → ℚ
   -- ---- the theorem
   pub HoldsUpTo-start : HoldsUpTo net amount label 0ℚ
   HoldsUpTo-start = record {
-    begun = ≤_refl 0ℚ;
+    begun = ≤ℚ_refl 0ℚ;
     source = at_first (λ departure. label net.source departure ≡ departure) source_first;
     label_rises = λ v s t _ h k j. same_label v s t h k j;
-    label_takes = λ v time h i j. (0ℚ, (≤_refl 0ℚ, ≤_refl 0ℚ), ≤ℚ_antisymm _ _ i j);
+    label_takes = λ v time h i j. (0ℚ, (≤ℚ_refl 0ℚ, ≤ℚ_refl 0ℚ), ≤ℚ_antisymm _ _ i j);
     label_not_negative = label_not_negative;
     amount_rises = λ e h s t i j. same_none _ _ (start.nothing e s h i) (start.nothing e t h (linear_le (s ∷ t ∷ []) (le i ∷ le j ∷ []) (search reading_of depth 12) tt));
-    amount_starts = λ e h. start.nothing e 0ℚ h (≤_refl 0ℚ);
+    amount_starts = λ e h. start.nothing e 0ℚ h (≤ℚ_refl 0ℚ);
     sent_starts = nothing_sent;
     inner = λ v departure h a b w. at_first (λ departure. sum_in net.links (λ e. sent net amount label e departure) v ≡ sum_out net.links (λ e. sent net amount label e departure) v)
         (in_none v ∙ sym (out_none v)) departure w;
@@ -125,5 +125,5 @@ module _ (net : Network) (labels : List ℚ) (amount label : ℕ → ℚ → ℚ
         (entered_first v h other) departure w;
     idle = λ e link departure time p w _ h _ _. at_first (λ departure. amount e time ≡ sent net amount label e departure) (nothing_at e link time p h ∙ sym (nothing_sent e link p)) departure w;
     idle_queue = λ e link departure p w _ h. no_queue e link _ p h;
-    used = λ e link departure p h k grows. absurd (clash _ _ k h);
+    used = λ e link departure p h k grows. absurd (not_both_ℚ _ _ k h);
   }

@@ -8,7 +8,7 @@ use Rattle.nf_rational.specs.Rational.{ℚ}
 use Rattle.nf_rational.specs.Operations.{0ℚ, 1ℚ, ◌+ℚ◌, ◌-ℚ◌, ◌*ℚ◌, ◌/ℚ◌}
 use Rattle.nf_rational.specs.Order.{◌≤ℚ◌, ◌<ℚ◌, max_ℚ}
 use Rattle.nf_rational_laws.proofs.Polynomial.{reading_of}
-use Rattle.nf_rational_laws.proofs.Order.{≤ℚ_of_same, ≤ℚ_of_lt, ≤ℚ_antisymm, lt_or_le_ℚ}
+use Rattle.nf_rational_laws.proofs.Order.{≤ℚ_of_same, ≤ℚ_of_lt, ≤ℚ_antisymm, lt_or_le_ℚ, not_both_ℚ}
 use Rattle.nf_rational_laws.proofs.Tests.{max_ℚ_cases}
 use Rattle.nf_rational_laws.proofs.Linear.{le, lt, eq, le_times, linear_le, linear_lt, linear_false}
 use Rattle.nf_model.specs.Entries.{number_at, Has}
@@ -16,13 +16,14 @@ use Rattle.nf_model.specs.Walk.{IsWalk, transit_sum}
 use Rattle.nf_model.specs.Network.{Link, Network, IsNetwork, IsLink, hop_of, hops, sum_in, sum_out}
 use Rattle.nf_model.specs.ThinFlow.{slack, sets_at, exit_slope, IsThinFlow}
 use Rattle.nf_model_laws.specs.Capacity.{IsPositive}
-use Rattle.nf_model_laws.proofs.Affine.{≤_refl, ≤_trans, clash, quotient-times}
+use Rattle.nf_model_laws.proofs.Affine.{quotient-times}
 use Rattle.nf_model_laws.proofs.Ways.{way_back}
 use Rattle.nf_model_laws.proofs.Networks.{IsWalk-link, transit_of-is}
 use Rattle.nf_model_laws.proofs.Earliest.{IsPositive-link}
 use Rattle.nf_model_laws.proofs.Slacks.{slack_of_active}
 use Rattle.nf_model_laws.proofs.Sums.{sum_out-each}
 use Rattle.nf_phase_laws.proofs.Thin.{surplus-sink}
+use Rattle.nf_rational_laws.proofs.Chains.{≤ℚ_refl, ≤ℚ_trans}
 
 -- ---- where the sum is above 0, one of its terms is
 if_some : (b : Bool) (a s : ℚ) → 0ℚ <ℚ (if b then a +ℚ s else s) → ((b ≡ true) × (0ℚ <ℚ a)) ⊎ (0ℚ <ℚ s)
@@ -33,7 +34,7 @@ if_some true a s h = ⊎_elim
 if_some false a s h = inr h
 
 pub sum_in-some : (links : List Link) (f : ℕ → ℚ) (v : ℕ) → 0ℚ <ℚ sum_in links f v → (e : ℕ) × (link : Link) × (slice_get links e ≡ Some link) × (link.head ≡ v) × (0ℚ <ℚ f e)
-sum_in-some [] f v h = absurd (clash _ _ h (≤_refl 0ℚ))
+sum_in-some [] f v h = absurd (not_both_ℚ _ _ h (≤ℚ_refl 0ℚ))
 sum_in-some (link ∷ links) f v h = ⊎_elim
     (λ (w : (eqb link.head v ≡ true) × (0ℚ <ℚ f 0)). (0, link, refl, eqb-true link.head v w.0, w.1))
     (λ (w : 0ℚ <ℚ sum_in links (λ e. f (suc e)) v).
@@ -50,7 +51,7 @@ exit_still resets None x l c h e = e
 exit_still true (Some rate) x l c h e = absurd (no_quotient x rate (x /ℚ rate) (c rate refl) h (quotient-times x rate (c rate refl)) (≤ℚ_of_same _ _ e))
 exit_still false (Some rate) x l c h e = absurd (no_quotient x rate (x /ℚ rate) (c rate refl) h (quotient-times x rate (c rate refl)) (⊎_elim
     (λ (w : (max_ℚ l (x /ℚ rate) ≡ x /ℚ rate) × (l ≤ℚ x /ℚ rate)). ≤ℚ_of_same _ _ (sym w.0 ∙ e))
-    (λ (w : (max_ℚ l (x /ℚ rate) ≡ l) × (x /ℚ rate <ℚ l)). ≤_trans _ _ _ (≤ℚ_of_lt _ _ w.1) (≤ℚ_of_same _ _ (sym w.0 ∙ e)))
+    (λ (w : (max_ℚ l (x /ℚ rate) ≡ l) × (x /ℚ rate <ℚ l)). ≤ℚ_trans _ _ _ (≤ℚ_of_lt _ _ w.1) (≤ℚ_of_same _ _ (sym w.0 ∙ e)))
     (max_ℚ_cases l (x /ℚ rate))))
 
 module _ (net : Network) (labels : List ℚ) (rate : ℚ) (flows slopes : List ℚ) (good : IsNetwork net) (not_negative : 0ℚ ≤ℚ rate) (thin : IsThinFlow net (sets_at net labels) rate flows slopes) where
@@ -65,7 +66,7 @@ module _ (net : Network) (labels : List ℚ) (rate : ℚ) (flows slopes : List �
   active_of_flow e h = by_flag (slice_get (sets_at net labels).active e) refl
     where
       not_set : (o : Option Bool) → slice_get (sets_at net labels).active e ≡ o → (o ≡ Some true → ⊥) → Has (sets_at net labels).active e
-      not_set o f none = absurd (clash _ _ h (≤ℚ_of_same _ _ (thin.active_only e (λ a. none (sym f ∙ a)))))
+      not_set o f none = absurd (not_both_ℚ _ _ h (≤ℚ_of_same _ _ (thin.active_only e (λ a. none (sym f ∙ a)))))
 
       by_flag : (o : Option Bool) → slice_get (sets_at net labels).active e ≡ o → Has (sets_at net labels).active e
       by_flag (Some true) f = f

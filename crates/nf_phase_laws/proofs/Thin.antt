@@ -6,7 +6,7 @@ use Rattle.nf_rational.specs.Rational.{ℚ}
 use Rattle.nf_rational.specs.Operations.{0ℚ, 1ℚ, ◌+ℚ◌, ◌-ℚ◌, ◌*ℚ◌, ◌/ℚ◌}
 use Rattle.nf_rational.specs.Order.{◌≤ℚ◌, ◌<ℚ◌, max_ℚ}
 use Rattle.nf_rational_laws.proofs.Polynomial.{reading_of}
-use Rattle.nf_rational_laws.proofs.Order.{≤ℚ_of_same, ≤ℚ_of_lt, lt_or_le_ℚ}
+use Rattle.nf_rational_laws.proofs.Order.{≤ℚ_of_same, ≤ℚ_of_lt, lt_or_le_ℚ, not_both_ℚ}
 use Rattle.nf_rational_laws.proofs.Tests.{max_ℚ_cases}
 use Rattle.nf_rational_laws.proofs.Linear.{le, lt, eq, le_times, eq_times, linear_le, linear_eq, linear_false}
 use Rattle.nf_model.specs.Entries.{number_at}
@@ -16,7 +16,7 @@ use Rattle.nf_model.specs.Network.{Link, Network, IsNetwork, IsLink, hop_of, hop
 use Rattle.nf_model.specs.Earliest.{Arrives, IsEarliest}
 use Rattle.nf_model.specs.ThinFlow.{Sets, slack, sets_at, exit_slope, exit_slope_at, surplus, Enters, IsThinFlow}
 use Rattle.nf_model_laws.specs.Capacity.{IsPositive}
-use Rattle.nf_model_laws.proofs.Affine.{≤_refl, clash, quotient-times}
+use Rattle.nf_model_laws.proofs.Affine.{quotient-times}
 use Rattle.nf_model_laws.proofs.Queues.{IsExit-after}
 use Rattle.nf_model_laws.proofs.Networks.{IsWalk-link, transit_of-is}
 use Rattle.nf_model_laws.proofs.Earliest.{IsPositive-link}
@@ -24,6 +24,8 @@ use Rattle.nf_model_laws.proofs.Slacks.{active_of_slack, slack_of_active, resett
 use Rattle.nf_model_laws.proofs.Potential.{sum_to, sum_to-same, sum_to-plus, sum_to-only, only_at, only_at-here, only_at-else, carried, carried-is, EndsBelow, out_less_in}
 use Rattle.nf_phase_laws.specs.Invariant.{link_slack, HoldsUpTo}
 use Rattle.nf_phase_laws.proofs.Holds.{labels_earliest}
+use Rattle.nf_rational_laws.proofs.Chains.{≤ℚ_refl}
+use Rattle.std.proofs.lemmas.Option.{same_Some}
 
 -- ---- an active link: s is its slack, x its flow, l and m the slopes at its tail and its head
 pub record LinkLaw (capacity : Option ℚ) (s x l m : ℚ) : Type 0 where
@@ -47,13 +49,10 @@ filled x c m q h e k = let low : 0ℚ ≤ℚ c = ≤ℚ_of_lt _ _ h in linear_le
 at_most : (x c m q : ℚ) → 0ℚ <ℚ c → q *ℚ c ≡ x → q ≤ℚ m → x ≤ℚ c *ℚ m
 at_most x c m q h e k = let low : 0ℚ ≤ℚ c = ≤ℚ_of_lt _ _ h in linear_le (x ∷ c ∷ m ∷ q ∷ []) (eq e ∷ le_times low k ∷ []) (search reading_of depth 12) tt
 
-same_rate : (a b : ℚ) → ◌≡◌ {A = Option ℚ} (Some a) (Some b) → a ≡ b
-same_rate a b e = cc
-
 LinkLaw-bounded : (resets : Bool) (c s x l m : ℚ) → 0ℚ <ℚ c → 0ℚ ≤ℚ x → 0ℚ ≤ℚ m → (0ℚ <ℚ s → resets ≡ true) → (s ≤ℚ 0ℚ → resets ≡ false)
     → m ≤ℚ exit_slope resets (Some c) x l → (0ℚ <ℚ x → exit_slope resets (Some c) x l ≡ m) → LinkLaw (Some c) s x l m
 LinkLaw-bounded true c s x l m h n i above_0 none low u = record {
-  full = λ d e k. subst (λ (z : ℚ). x ≡ z *ℚ m) (same_rate c d e) (full_of x c m (x /ℚ c) h n i (quotient-times x c h) low u);
+  full = λ d e k. subst (λ (z : ℚ). x ≡ z *ℚ m) (same_Some c d e) (full_of x c m (x /ℚ c) h n i (quotient-times x c h) low u);
   upper = λ d e k. absurd (cc (none k));
   used = λ d e k. absurd (cc (none k));
   free = λ e. absurd (cc);
@@ -61,11 +60,11 @@ LinkLaw-bounded true c s x l m h n i above_0 none low u = record {
 }
 LinkLaw-bounded false c s x l m h n i above_0 none low u = record {
   full = λ d e k. absurd (cc (above_0 k));
-  upper = λ d e k. subst (λ (z : ℚ). (m ≤ℚ l) ⊎ (z *ℚ m ≤ℚ x)) (same_rate c d e) (⊎_elim
+  upper = λ d e k. subst (λ (z : ℚ). (m ≤ℚ l) ⊎ (z *ℚ m ≤ℚ x)) (same_Some c d e) (⊎_elim
       (λ (w : (max_ℚ l q ≡ q) × (l ≤ℚ q)). inr (filled x c m q h (quotient-times x c h) (subst (λ (z : ℚ). m ≤ℚ z) w.0 low)))
       (λ (w : (max_ℚ l q ≡ l) × (q <ℚ l)). inl (subst (λ (z : ℚ). m ≤ℚ z) w.0 low))
       (max_ℚ_cases l q));
-  used = λ d e k f. subst (λ (z : ℚ). (l ≤ℚ m) × (x ≤ℚ z *ℚ m)) (same_rate c d e) (⊎_elim
+  used = λ d e k f. subst (λ (z : ℚ). (l ≤ℚ m) × (x ≤ℚ z *ℚ m)) (same_Some c d e) (⊎_elim
       (λ (w : (max_ℚ l q ≡ q) × (l ≤ℚ q)). (subst (λ (z : ℚ). l ≤ℚ z) (sym w.0 ∙ u f) w.1, at_most x c m q h (quotient-times x c h) (≤ℚ_of_same _ _ (sym w.0 ∙ u f))))
       (λ (w : (max_ℚ l q ≡ l) × (q <ℚ l)). (≤ℚ_of_same _ _ (sym w.0 ∙ u f), at_most x c m q h (quotient-times x c h) (subst (λ (z : ℚ). q ≤ℚ z) (sym w.0 ∙ u f) (≤ℚ_of_lt _ _ w.1))))
       (max_ℚ_cases l q));
@@ -89,7 +88,7 @@ LinkLaw-of resets (Some c) s x l m h n i above_0 none low u = LinkLaw-bounded re
 
 -- on a link that is not resetting the exit slope is at least that of the tail
 pub exit_slope-tail : (capacity : Option ℚ) (x l : ℚ) → l ≤ℚ exit_slope false capacity x l
-exit_slope-tail None x l = ≤_refl l
+exit_slope-tail None x l = ≤ℚ_refl l
 exit_slope-tail (Some c) x l = ⊎_elim
     (λ (w : (max_ℚ l (x /ℚ c) ≡ x /ℚ c) × (l ≤ℚ x /ℚ c)). subst (λ (z : ℚ). l ≤ℚ z) (sym w.0) w.1)
     (λ (w : (max_ℚ l (x /ℚ c) ≡ l) × (x /ℚ c <ℚ l)). ≤ℚ_of_same _ _ (sym w.0))
@@ -169,7 +168,7 @@ Arrives-after net amount good (e ∷ walk) time arrival (link, p, exit, is_exit,
 module _ (net : Network) (amount label : ℕ → ℚ → ℚ) (until : ℚ) (labels : List ℚ) (good : IsNetwork net) (holds : HoldsUpTo net amount label until)
     (same : (v : ℕ) → v < net.nodes → label v until ≡ number_at labels v) where
   now : Within 0ℚ until until
-  now = (holds.begun, ≤_refl until)
+  now = (holds.begun, ≤ℚ_refl until)
 
   -- no active link leads into the source: else a walk there and back would take no time
   no_time : (a b u r q t : ℚ) → b ≡ u → 0ℚ ≤ℚ b -ℚ (a +ℚ r) → u +ℚ t ≤ℚ a → q ≡ r → 0ℚ <ℚ q +ℚ t → ⊥
@@ -206,7 +205,7 @@ module _ (net : Network) (amount label : ℕ → ℚ → ℚ) (until : ℚ) (lab
         by_flag : (o : Option Bool) → slice_get (sets_at net labels).resetting e ≡ o → resets e ≡ false
         by_flag None f = ap (λ (o : Option Bool). unwrap_or o false) f
         by_flag (Some false) f = ap (λ (o : Option Bool). unwrap_or o false) f
-        by_flag (Some true) f = absurd (clash _ _ (subst (λ (s : ℚ). 0ℚ <ℚ s) (slack-is e link p) (slack_of_resetting net labels e link p f)) h)
+        by_flag (Some true) f = absurd (not_both_ℚ _ _ (subst (λ (s : ℚ). 0ℚ <ℚ s) (slack-is e link p) (slack_of_resetting net labels e link p f)) h)
 
     inner_sum : (i o : ℚ) → o -ℚ i ≡ 0ℚ → i ≡ o
     inner_sum i o e = linear_eq (i ∷ o ∷ []) (eq e ∷ []) (search reading_of depth 12) tt tt
@@ -238,7 +237,7 @@ module _ (net : Network) (amount label : ℕ → ℚ → ℚ) (until : ℚ) (lab
       flow_nn = thin.no_negative_flow;
       slope_nn = thin.no_negative_slope;
       starts = thin.starts;
-      inactive = λ e link p h. thin.active_only e (λ a. clash _ _ h (subst (λ (s : ℚ). 0ℚ ≤ℚ s) (slack-is e link p) (slack_of_active net labels e link p a)));
+      inactive = λ e link p h. thin.active_only e (λ a. not_both_ℚ _ _ h (subst (λ (s : ℚ). 0ℚ ≤ℚ s) (slack-is e link p) (slack_of_active net labels e link p a)));
       law = λ e link p h. LinkLaw-of (resets e) link.capacity (link_slack label link until) (number_at flows e) (number_at slopes link.tail) (number_at slopes link.head)
           (IsPositive-link net e link good p) (thin.no_negative_flow e) (thin.no_negative_slope link.head) (resets_above e link p) (not_above e link p)
           (thin.least link.head e link (good.heads e link p) (no_entry e link p h) (active_at e link p h))

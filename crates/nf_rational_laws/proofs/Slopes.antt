@@ -4,15 +4,12 @@ use Rattle.nf_rational.specs.Rational.{ℚ}
 use Rattle.nf_rational.specs.Operations.{0ℚ, ◌+ℚ◌, ◌-ℚ◌, ◌*ℚ◌, ◌/ℚ◌}
 use Rattle.nf_rational.specs.Order.{◌≤ℚ◌, ◌<ℚ◌}
 use Rattle.nf_rational_laws.proofs.Polynomial.{reading_of}
-use Rattle.nf_rational_laws.proofs.Order.{lt_or_le_ℚ}
-use Rattle.nf_rational_laws.proofs.Linear.{le, lt, eq, le_times, linear_le, linear_lt, linear_eq}
+use Rattle.nf_rational_laws.proofs.Order.{lt_or_le_ℚ, less_ps}
+use Rattle.nf_rational_laws.proofs.Linear.{le, lt, eq, le_times, linear_le, linear_eq}
 use Rattle.nf_rational_laws.proofs.Quotient.{/ℚ-times, /ℚ-unique, ps_apart}
 
-pub run_ps : (t0 t1 : ℚ) → t0 <ℚ t1 → 0ℚ <ℚ t1 -ℚ t0
-run_ps t0 t1 h = linear_lt (t0 ∷ t1 ∷ []) (lt h ∷ []) (search reading_of depth 12) tt
-
 pub run_apart : (t0 t1 : ℚ) → t0 <ℚ t1 → t1 -ℚ t0 ≢ 0ℚ
-run_apart t0 t1 h = ps_apart _ (run_ps t0 t1 h)
+run_apart t0 t1 h = ps_apart _ (less_ps t0 t1 h)
 
 -- the slope times the run is the rise
 pub slope-times : (v0 v1 t0 t1 : ℚ) → t0 <ℚ t1 → (v1 -ℚ v0) /ℚ (t1 -ℚ t0) *ℚ (t1 -ℚ t0) ≡ v1 -ℚ v0

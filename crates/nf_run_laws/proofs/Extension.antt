@@ -1,6 +1,6 @@
 -- The extend list gives the extension length.
 use Rattle.std.proofs.Common.{◌≡◌, ℕ, zero, suc, ◌+◌, List, [], ◌∷◌, Bool, true, false, if◌then◌else◌, sym, ap, subst, refl, arith}
-use Rattle.std.specs.Prelude.{Option, Some, None, Result, Ok, Err, slice_get}
+use Rattle.std.specs.Prelude.{Option, Some, None, Result, Ok, slice_get}
 use Rattle.std.specs.List.{enumerate_from}
 use Rattle.std.proofs.lemmas.Option.{none-some, same_Some}
 use Rattle.nf_rational.specs.Rational.{ℚ}
@@ -8,20 +8,22 @@ use Rattle.nf_rational.specs.Operations.{0ℚ, ◌+ℚ◌, ◌-ℚ◌}
 use Rattle.nf_rational.specs.Order.{◌≤ℚ◌, ◌<ℚ◌, lt_ℚ}
 use Rattle.nf_rational_laws.proofs.Polynomial.{reading_of}
 use Rattle.nf_rational_laws.proofs.Linear.{le, lt, linear_le, linear_lt, linear_false}
-use Rattle.nf_rational_laws.proofs.Order.{≤ℚ_of_lt, ≤ℚ_of_same}
+use Rattle.nf_rational_laws.proofs.Order.{≤ℚ_of_lt, ≤ℚ_of_same, less_ps}
 use Rattle.nf_work.specs.Passing.{Passing}
-use Rattle.nf_work.specs.Checked.{checked, fold_checked, ◌>>=◌}
+use Rattle.nf_work.specs.Checked.{checked, fold_checked}
 use Rattle.nf_model.specs.Entries.{number_at}
 use Rattle.nf_model.specs.Network.{Link, Piece, Network, IsLink, IsPiece, ArePieces, first_start, next_change}
 use Rattle.nf_model.specs.Phases.{Lasts, IsExtension, IsUnending}
-use Rattle.nf_model_laws.proofs.Affine.{≤_refl, ≤_trans}
 use Rattle.nf_model_laws.proofs.Supply.{StartsRise, StartsRise-pieces}
 use Rattle.nf_lists.specs.Signs.{is_zero, are_opposite}
 use Rattle.nf_lists.specs.Extend.{to_zero, after_link, least_after, until_change, extend_list}
 use Rattle.nf_lists_laws.specs.Laws.{never}
 use Rattle.nf_lists_laws.proofs.Exact.{extend_list_as}
 use Rattle.nf_run_laws.proofs.Limits.{HoldsUpTo, IsLimit, Both, IsLimit-same, IsLimit-with, IsLimit-lesser}
-use Rattle.nf_run_laws.proofs.Sides.{KeepsSide, lt_true, lt_false, keeps_at_zero, keeps_away, keeps_until}
+use Rattle.nf_run_laws.proofs.Sides.{KeepsSide, lt_false, keeps_at_zero, keeps_away, keeps_until}
+use Rattle.nf_rational_laws.proofs.Chains.{≤ℚ_refl, ≤ℚ_trans}
+use Rattle.nf_work.proofs.Binding.{bind_ok}
+use Rattle.nf_rational_laws.proofs.Tests.{less_of_test}
 
 same_Ok : {A E : Type 0} (x y : A) → ◌≡◌ {A = Result A E} (Ok x) (Ok y) → x ≡ y
 same_Ok x y e = ap (λ (r : Result _ _). value_of x r) e
@@ -29,10 +31,6 @@ same_Ok x y e = ap (λ (r : Result _ _). value_of x r) e
     value_of : {A E : Type 0} → A → Result A E → A
     value_of d (Ok x) = x
     value_of d r = d
-
-bind_ok : {A B E : Type 0} (r : Result A E) (f : A → Result B E) (y : B) → (r >>= f) ≡ Ok y → (x : A) × (r ≡ Ok x) × (f x ≡ Ok y)
-bind_ok (Ok x) f y h = (x, refl, h)
-bind_ok (Err e) f y h = cc
 
 -- ---- one link
 module _ (P : ℚ → Type 0) where
@@ -83,9 +81,6 @@ module _ (slacks slopes : List ℚ) where
 same_start : (x y t : ℚ) → t <ℚ x → x <ℚ y → t <ℚ y
 same_start x y t h k = linear_lt (x ∷ y ∷ t ∷ []) (lt h ∷ lt k ∷ []) (search reading_of depth 12) tt
 
-gap : (t x : ℚ) → t <ℚ x → 0ℚ <ℚ x -ℚ t
-gap t x h = linear_lt (t ∷ x ∷ []) (lt h ∷ []) (search reading_of depth 12) tt
-
 fits : (t x y l : ℚ) → x ≤ℚ y → l ≤ℚ x -ℚ t → (t +ℚ l) ≤ℚ y
 fits t x y l h k = linear_le (t ∷ x ∷ y ∷ l ∷ []) (le h ∷ le k ∷ []) (search reading_of depth 12) tt
 
@@ -103,7 +98,7 @@ each_from : (piece : Piece) (later : List Piece) → StartsRise (piece ∷ later
 each_from piece [] rise zero p e = ≤ℚ_of_same _ _ (ap (λ (q : Piece). q.start) (same_Some piece p e))
 each_from piece [] rise (suc i) p e = absurd (none-some p e)
 each_from piece (next ∷ later) rise zero p e = ≤ℚ_of_same _ _ (ap (λ (q : Piece). q.start) (same_Some piece p e))
-each_from piece (next ∷ later) rise (suc i) p e = ≤_trans piece.start next.start p.start (≤ℚ_of_lt _ _ rise.0) (each_from next later rise.1 i p e)
+each_from piece (next ∷ later) rise (suc i) p e = ≤ℚ_trans piece.start next.start p.start (≤ℚ_of_lt _ _ rise.0) (each_from next later rise.1 i p e)
 
 StartsRise-later : (piece : Piece) (later : List Piece) → StartsRise (piece ∷ later) → StartsRise later
 StartsRise-later piece [] rise = tt
@@ -126,9 +121,9 @@ module _ (time : ℚ) where
   first_limits : (b : Bool) (piece : Piece) (later : List Piece) → StartsRise (piece ∷ later) → lt_ℚ time piece.start ≡ b
       → IsLimit (NoneStarts later) (limit_of (first_start later time)) → IsLimit (NoneStarts (piece ∷ later)) (limit_of (if b then Some piece.start else first_start later time))
   first_limits true piece later rise test rest = record {
-    positive = gap time piece.start (lt_true time piece.start test);
+    positive = less_ps time piece.start (less_of_test time piece.start test);
     within = λ length h k i p e after. fits time piece.start p.start length (each_from piece later rise i p e) k;
-    bound = λ length h none. room time piece.start length (none 0 piece refl (lt_true time piece.start test));
+    bound = λ length h none. room time piece.start length (none 0 piece refl (less_of_test time piece.start test));
   }
   first_limits false piece later rise test rest = IsLimit-same (NoneStarts later) (NoneStarts (piece ∷ later))
       (λ length none. started piece later length test none) (λ length none i p e h. none (suc i) p e h) (limit_of (first_start later time)) rest
@@ -178,7 +173,7 @@ module _ (net : Network) (slacks slopes : List ℚ) (time : ℚ) where
   extension_is passes length pieces h =
       let limit : HoldsUpTo Held length = whole (StartsRise-pieces net.pieces pieces) (Some length) (extend_list_as passes net slacks slopes time (Some length) h) in
       record {
-        lasts = lasts length (≤ℚ_of_lt _ _ limit.positive) (limit.within length (≤ℚ_of_lt _ _ limit.positive) (≤_refl length));
+        lasts = lasts length (≤ℚ_of_lt _ _ limit.positive) (limit.within length (≤ℚ_of_lt _ _ limit.positive) (≤ℚ_refl length));
         greatest = λ other l. limit.bound other l.not_negative (held other l);
       }
 

@@ -15,13 +15,16 @@ use Rattle.nf_model.specs.Network.{Link, Network, IsLink, hop_of, hops, unbounde
 use Rattle.nf_model.specs.ThinFlow.{slack, slacks_of, sets_at}
 use Rattle.nf_model.specs.Pattern.{Pattern, NeedsState, HasState, IsPattern, Fills, Equation, Solves, Meets}
 use Rattle.nf_model.specs.Phases.{slack_after, Lasts}
-use Rattle.nf_model_laws.proofs.Affine.{≤_refl, quotient-times}
+use Rattle.nf_model_laws.proofs.Affine.{quotient-times}
 use Rattle.nf_model_laws.proofs.Slacks.{slack_at, active_of_slack, slack_of_active, resetting_of_slack, slack_of_resetting}
 use Rattle.nf_lists.specs.CurveList.{is_filled}
 use Rattle.nf_thin_laws.proofs.ActiveLinks.{AreSets-sets_at}
 use Rattle.nf_phase_laws.specs.Invariant.{queue_by_slack}
-use Rattle.nf_phase_laws.proofs.Idle.{max0_high, queue_by_slack-low}
+use Rattle.nf_phase_laws.proofs.Idle.{queue_by_slack-low}
 use Rattle.nf_run_laws.proofs.StepValues.{filled_slope}
+use Rattle.nf_rational_laws.proofs.Chains.{≤ℚ_refl}
+use Rattle.nf_rational_laws.proofs.Tests.{max0_of}
+use Rattle.std.proofs.lemmas.Bool.{false≢true}
 
 -- what is known of a link that the flow fills, and of one that it doesn't: its slacks at the ends of the phase
 pub record Filled (capacity : Option ℚ) (s n x m : ℚ) (filled : Bool) : Type 0 where
@@ -42,7 +45,7 @@ queue_slope None s n x l m t true k e h = none_slope (l *ℚ t) 0ℚ 0ℚ refl r
 queue_slope None s n x l m t false k e h = none_slope (l *ℚ t) 0ℚ 0ℚ refl refl
 queue_slope (Some c) s n x l m t true k e h =
     let f = k.full refl c refl in
-    full_slope c s n x l m t (x /ℚ l) (max_ℚ 0ℚ n) (max_ℚ 0ℚ s) (quotient-times x l h) f.0 e (max0_high n f.2) (max0_high s f.1)
+    full_slope c s n x l m t (x /ℚ l) (max_ℚ 0ℚ n) (max_ℚ 0ℚ s) (quotient-times x l h) f.0 e (max0_of n f.2) (max0_of s f.1)
 queue_slope (Some c) s n x l m t false k e h =
     let f = k.empty refl in
     none_slope (l *ℚ t) _ _ (queue_by_slack-low (Some c) n f.1) (queue_by_slack-low (Some c) s f.0)
@@ -56,9 +59,6 @@ zero_low z t m l h k j = linear_le (z ∷ t ∷ m ∷ l ∷ []) (le h ∷ le_tim
 
 full_high : (z t m l : ℚ) → 0ℚ ≤ℚ z → l ≤ℚ m → 0ℚ ≤ℚ t → 0ℚ ≤ℚ z +ℚ t *ℚ (m -ℚ l)
 full_high z t m l h k j = linear_le (z ∷ t ∷ m ∷ l ∷ []) (le h ∷ le_times j k ∷ []) (search reading_of depth 12) tt
-
-clashing : false ≡ true → ⊥
-clashing e = cc
 
 not_some : (s : State) → ◌≡◌ {A = Option State} None (Some s) → ⊥
 not_some s e = cc
@@ -79,12 +79,12 @@ module _ (net : Network) (labels : List ℚ) (rate time length_of : ℚ) (patter
 
   module _ (e : ℕ) (link : Link) (p : IsLink net e link) where
     idle : (b : Bool) → b ≡ false → before e ≤ℚ 0ℚ → after e link ≤ℚ 0ℚ → FilledAt e link b
-    idle b f h k = record { full = λ t. absurd (clashing (sym f ∙ t)); empty = λ _. (h, k) }
+    idle b f h k = record { full = λ t. absurd (false≢true (sym f ∙ t)); empty = λ _. (h, k) }
 
     busy : (b : Bool) → b ≡ true → Fills link.capacity (number_at flows e) (number_at slopes link.head) → 0ℚ ≤ℚ before e → 0ℚ ≤ℚ after e link → FilledAt e link b
     busy b f fills h k = record {
       full = λ _ c d. (fills.2 ∙ ap (λ (y : ℚ). y *ℚ number_at slopes link.head) (same_Some fills.0 c (sym fills.1 ∙ d)), h, k);
-      empty = λ t. absurd (clashing (sym t ∙ f));
+      empty = λ t. absurd (false≢true (sym t ∙ f));
     }
 
     not_resetting : (Has (sets_at net labels).resetting e → ⊥) → resets e ≡ false
@@ -112,7 +112,7 @@ module _ (net : Network) (labels : List ℚ) (rate time length_of : ℚ) (patter
     inactive : slice_get pattern e ≡ Some None → (Has (sets_at net labels).resetting e → ⊥) → FilledAt e link (resets e)
     inactive h none =
         let outside : before e <ℚ 0ℚ = beyond (λ active. (let s = (is_pattern.states e).0 (active, none) in not_some s.0 (same_Some None (Some s.0) (sym h ∙ s.1)))) in
-        idle (resets e) (not_resetting none) (≤ℚ_of_lt _ _ outside) (lasts.inactive e link length_of p outside (lasts.not_negative, ≤_refl length_of))
+        idle (resets e) (not_resetting none) (≤ℚ_of_lt _ _ outside) (lasts.inactive e link length_of p outside (lasts.not_negative, ≤ℚ_refl length_of))
 
     stateless : slice_get pattern e ≡ Some None → (o : Option Bool) → slice_get (sets_at net labels).resetting e ≡ o → FilledAt e link (resets e)
     stateless h (Some true) f =
@@ -120,8 +120,8 @@ module _ (net : Network) (labels : List ℚ) (rate time length_of : ℚ) (patter
         let flag : resets e ≡ true = ap (λ (o : Option Bool). unwrap_or o false) f in
         busy (resets e) flag
         (subst (λ (b : Bool). Equation None b link.capacity (number_at flows e) (number_at slopes link.tail) (number_at slopes link.head)) flag (solves.links e link None p h))
-        (≤ℚ_of_lt _ _ above) (lasts.resetting e link length_of p above (lasts.not_negative, ≤_refl length_of))
-    stateless h (Some false) f = inactive h (λ k. absurd (clashing (same_Some false true (sym f ∙ k))))
+        (≤ℚ_of_lt _ _ above) (lasts.resetting e link length_of p above (lasts.not_negative, ≤ℚ_refl length_of))
+    stateless h (Some false) f = inactive h (λ k. absurd (false≢true (same_Some false true (sym f ∙ k))))
     stateless h None f = inactive h (λ k. absurd (none-some true (sym f ∙ k)))
 
     by_state : (state : Option State) → slice_get pattern e ≡ Some state → FilledAt e link (is_filled state (resets e))

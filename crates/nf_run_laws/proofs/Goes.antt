@@ -16,13 +16,12 @@ use Rattle.nf_model.specs.Network.{Link, Network, IsNetwork, IsLink, hop_of, hop
 use Rattle.nf_model.specs.ThinFlow.{slack, slacks_of, sets_at, IsThinFlow}
 use Rattle.nf_model.specs.Pattern.{Pattern, IsListedIn, Solves, Meets}
 use Rattle.nf_model.specs.Phases.{slack_after, Lasts, IsPhaseLength, IsPhase}
-use Rattle.nf_model_laws.proofs.Affine.{≤_refl}
 use Rattle.nf_model_laws.proofs.Curves.{EndsAt-value}
 use Rattle.nf_model_laws.proofs.Slacks.{slack_at, slack_after-moved}
 use Rattle.nf_lists.specs.CurveList.{LinkStep, LinkPhase, link_phase}
 use Rattle.nf_lists.specs.ReportCurves.{GrowingCurve, LinkCurves, curve_with, curves_after, amount_so_far}
 use Rattle.nf_lists.specs.PhaseRun.{Standing, PhaseStep, standing_after, flow_of}
-use Rattle.nf_lists_laws.proofs.Ending.{last-append, number-moved, length-moved, PhaseParts}
+use Rattle.nf_lists_laws.proofs.Ending.{number-moved, length-moved, PhaseParts}
 use Rattle.nf_thin_laws.proofs.Accepted.{IsThinFlow-accepted}
 use Rattle.nf_thin_laws.proofs.ActiveLinks.{AreSets-sets_at}
 use Rattle.nf_phase_laws.specs.Invariant.{link_slack, queue_by_slack}
@@ -40,7 +39,9 @@ use Rattle.nf_run_laws.proofs.StepValues.{filled_slope, step_value, step_value_a
 use Rattle.nf_run_laws.proofs.Filled.{queue_slope, Filled-at}
 use Rattle.nf_run_laws.proofs.Traces.{same_point, went_to, TraceStep, TraceStep-after, QueueStepped, QueueStepped-after}
 use Rattle.nf_run_laws.proofs.AfterPhase.{label_after_at, label_after-length, link_after_at, link_after-length}
-use Rattle.nf_run_laws.proofs.WellRun.{number_is, entry_of, found, label_points, inflow_points, outflow_points, queue_points, WellRun}
+use Rattle.nf_run_laws.proofs.WellRun.{number_is, label_points, inflow_points, outflow_points, queue_points, WellRun}
+use Rattle.nf_plain_laws.proofs.Entries.{last-append, slice_get-image, entry}
+use Rattle.nf_rational_laws.proofs.Chains.{≤ℚ_refl}
 
 -- ---- what has entered a link so far
 end_amount : (c : LinkCurves) (last : Point) → LastPoint c.inflow.points last → amount_so_far c ≡ last.1
@@ -84,7 +85,7 @@ module _ (passes : Passing) (net : Network) (good : IsNetwork net) (horizon : �
   count = solves.slope_count ∙ sym grown.stands.count
 
   now : Within 0ℚ s.time s.time
-  now = (grown.stands.holds.begun, ≤_refl s.time)
+  now = (grown.stands.holds.begun, ≤ℚ_refl s.time)
 
   new_count : length step.labels ≡ net.nodes
   new_count = ap length parts.labels ∙ length-moved s.labels slopes step.length count ∙ grown.stands.count
@@ -99,7 +100,7 @@ module _ (passes : Passing) (net : Network) (good : IsNetwork net) (horizon : �
   -- ---- labels
   module _ (v : ℕ) (h : v < net.nodes) where
     label_found : (c : GrowingCurve) × (slice_get s.label_curves v ≡ Some c)
-    label_found = found s.label_curves v (let n = well.label_count in omega arith)
+    label_found = entry s.label_curves v (let n = well.label_count in omega arith)
 
     abbrev label_new : GrowingCurve → GrowingCurve
     label_new c = curve_with c (s.time +ℚ step.length, number_at step.labels v) (number_at slopes v)
@@ -123,7 +124,7 @@ module _ (passes : Passing) (net : Network) (good : IsNetwork net) (horizon : �
 
     new_at : at curves'.labels v (s.time +ℚ step.length) ≡ number_at step.labels v
     new_at = EndsAt-value (curves'.labels v) (s.time +ℚ step.length, label_now v +ℚ number_at slopes v *ℚ step.length) (s.time +ℚ step.length)
-        (ends_at (curves'.labels v) (s.time +ℚ step.length, label_now v +ℚ number_at slopes v *ℚ step.length) label_goes.ends) (≤_refl (s.time +ℚ step.length)) ∙ sym (moved_is v h)
+        (ends_at (curves'.labels v) (s.time +ℚ step.length, label_now v +ℚ number_at slopes v *ℚ step.length) label_goes.ends) (≤ℚ_refl (s.time +ℚ step.length)) ∙ sym (moved_is v h)
 
   -- ---- links
   abbrev amount_before : ℕ → ℚ
@@ -156,7 +157,7 @@ module _ (passes : Passing) (net : Network) (good : IsNetwork net) (horizon : �
     sent_now = at curves.inflows e (label_now link.tail)
 
     so_far : amount_before e ≡ sent_now
-    so_far = ap (λ (o : Option ℚ). unwrap_or o 0ℚ) (entry_of amount_so_far s.link_curves e c here)
+    so_far = ap (λ (o : Option ℚ). unwrap_or o 0ℚ) (slice_get-image amount_so_far s.link_curves e c here)
         ∙ end_amount c (label_now link.tail, sent_now) (subst (λ (ps : List Point). LastPoint ps (label_now link.tail, sent_now)) (inflow_points s e c here) (grown.curves_stand.inflows_end e link p))
 
     amount_is : (y : ℚ) → y ≡ sent_now → amount_before e +ℚ step.length *ℚ number_at flows e ≡ y +ℚ number_at flows e *ℚ step.length
@@ -224,7 +225,7 @@ module _ (passes : Passing) (net : Network) (good : IsNetwork net) (horizon : �
     queue_new = queue_points new e (link_new e link c) link_after
 
   link_found : (e : ℕ) (link : Link) → IsLink net e link → (c : LinkCurves) × (slice_get s.link_curves e ≡ Some c)
-  link_found e link p = found s.link_curves e (let n = well.link_count in let k = slice_get_within net.links e link p in omega arith)
+  link_found e link p = entry s.link_curves e (let n = well.link_count in let k = slice_get_within net.links e link p in omega arith)
 
   pub curves_go : CurvesGoOn net curves.inflows curves.labels s.time step.length (number_at flows) (number_at slopes) curves'.inflows curves'.labels
   curves_go = record {
@@ -267,7 +268,7 @@ module _ (passes : Passing) (net : Network) (good : IsNetwork net) (horizon : �
   by_new : (P : LinkCurves → Type 0) → ((e : ℕ) (link : Link) (p : IsLink net e link) (c : LinkCurves) (here : slice_get s.link_curves e ≡ Some c) → P (link_new e link c))
       → (e : ℕ) (k : LinkCurves) → slice_get new.link_curves e ≡ Some k → P k
   by_new P f e k there =
-      let l = found net.links e (let n = link_length in let w = slice_get_within new.link_curves e k there in omega arith) in
+      let l = entry net.links e (let n = link_length in let w = slice_get_within new.link_curves e k there in omega arith) in
       let c = link_found e l.0 l.1 in
       subst P (same_Some _ k (sym (link_after e l.0 l.1 c.0 c.1) ∙ there)) (f e l.0 l.1 c.0 c.1)
 

@@ -7,8 +7,8 @@ use Rattle.nf_rational.specs.Order.{◌≤ℚ◌, ◌<ℚ◌, min_ℚ}
 use Rattle.nf_rational_laws.proofs.Polynomial.{reading_of}
 use Rattle.nf_rational_laws.proofs.Linear.{le, lt, linear_le}
 use Rattle.nf_rational_laws.proofs.Tests.{min_ℚ_cases}
-use Rattle.nf_model_laws.proofs.Affine.{≤_trans}
 use Rattle.nf_lists.specs.Extend.{lesser}
+use Rattle.nf_rational_laws.proofs.Chains.{≤ℚ_trans}
 
 pub record HoldsUpTo (P : ℚ → Type 0) (limit : ℚ) : Type 0 where
   pub positive : 0ℚ <ℚ limit
@@ -50,7 +50,7 @@ module _ (P Q : ℚ → Type 0) where
   first_limits : (x y : ℚ) → HoldsUpTo P x → HoldsUpTo Q y → x ≤ℚ y → HoldsUpTo (Both P Q) x
   first_limits x y p q order = record {
     positive = p.positive;
-    within = λ length h k. (p.within length h k, q.within length h (≤_trans length x y k order));
+    within = λ length h k. (p.within length h k, q.within length h (≤ℚ_trans length x y k order));
     bound = λ length h w. p.bound length h w.0;
   }
 

@@ -1,42 +1,36 @@
 -- Curves in short form that go on by a point: the slope that is recorded is that of the last two points.
 use Rattle.std.proofs.Common.{◌≡◌, ℕ, suc, List, [], ◌∷◌, ◌++◌, length, Bool, true, false, sym, ap, subst, refl, ◌∙◌, append_assoc, length-append, arith}
-use Rattle.std.specs.Prelude.{◌-◌, ◌+◌, ◌&&◌, Option, Some, None, take}
+use Rattle.std.specs.Prelude.{◌-◌, ◌+◌, Option, Some, None, take}
 use Rattle.std.specs.List.{last_or}
 use Rattle.std.proofs.lemmas.Option.{same_Some}
 use Rattle.nf_rational.specs.Rational.{ℚ}
 use Rattle.nf_rational.specs.Operations.{◌-ℚ◌, ◌*ℚ◌}
 use Rattle.nf_rational.specs.Order.{◌<ℚ◌, le_ℚ}
 use Rattle.nf_rational_laws.proofs.Polynomial.{reading_of}
-use Rattle.nf_rational_laws.proofs.Order.{≤ℚ_antisymm}
+use Rattle.nf_rational_laws.proofs.Order.{≤ℚ_antisymm, less_ps}
 use Rattle.nf_rational_laws.proofs.Tests.{le_of_test}
 use Rattle.nf_rational_laws.proofs.Linear.{eq, linear_eq}
 use Rattle.nf_model.specs.Curve.{Point, slope, TimesRise, IsCurve, AreSlopes}
-use Rattle.nf_model_laws.proofs.Affine.{ps_gap, same_from_times}
+use Rattle.nf_model_laws.proofs.Affine.{same_from_times}
 use Rattle.nf_model_laws.proofs.Curves.{slope-times, TimesRise-rest}
 use Rattle.nf_lists.specs.Signs.{is_same}
 use Rattle.nf_lists.specs.ReportCurves.{goes_on, with_point, with_rate}
-use Rattle.nf_lists_laws.proofs.Ending.{last-append}
 use Rattle.nf_phase_laws.specs.CurveSteps.{LastPoint, GoesOnTo}
 use Rattle.nf_phase_laws.proofs.CurveSteps.{GoesOnTo-appended, GoesOnTo-replaced}
+use Rattle.nf_plain_laws.proofs.Entries.{last-append}
+use Rattle.std.proofs.lemmas.Bool.{and_parts, false≢true}
 
 -- ---- the test whether two numbers are equal
-false_true : false ≡ true → ⊥
-false_true e = cc
-
-and_both : (a b : Bool) → (a && b) ≡ true → (a ≡ true) × (b ≡ true)
-and_both true true e = (refl, refl)
-and_both true false e = absurd (false_true e)
-and_both false b e = absurd (false_true e)
 
 pub same_of_test : (x y : ℚ) → is_same x y ≡ true → x ≡ y
-same_of_test x y e = let both : (le_ℚ x y ≡ true) × (le_ℚ y x ≡ true) = and_both (le_ℚ x y) (le_ℚ y x) e in ≤ℚ_antisymm x y (le_of_test x y both.0) (le_of_test y x both.1)
+same_of_test x y e = let both : (le_ℚ x y ≡ true) × (le_ℚ y x ≡ true) = and_parts (le_ℚ x y) (le_ℚ y x) e in ≤ℚ_antisymm x y (le_of_test x y both.0) (le_of_test y x both.1)
 
 -- ---- the slope from one point to another
 same_times : (a n r x : ℚ) → n *ℚ a ≡ x → r *ℚ a ≡ x → a *ℚ n ≡ a *ℚ r
 same_times a n r x e f = linear_eq (a ∷ n ∷ r ∷ x ∷ []) (eq e ∷ eq f ∷ []) (search reading_of depth 12) tt tt
 
 pub slope_is : (p q : Point) (r : ℚ) → p.0 <ℚ q.0 → r *ℚ (q.0 -ℚ p.0) ≡ q.1 -ℚ p.1 → slope p q ≡ r
-slope_is p q r h e = same_from_times (q.0 -ℚ p.0) (slope p q) r (ps_gap p.0 q.0 h) (same_times (q.0 -ℚ p.0) (slope p q) r _ (slope-times p q h) e)
+slope_is p q r h e = same_from_times (q.0 -ℚ p.0) (slope p q) r (less_ps p.0 q.0 h) (same_times (q.0 -ℚ p.0) (slope p q) r _ (slope-times p q h) e)
 
 add_times : (p0 p1 q0 q1 s0 s1 m n r : ℚ) → m *ℚ (q0 -ℚ p0) ≡ q1 -ℚ p1 → n *ℚ (s0 -ℚ q0) ≡ s1 -ℚ q1 → m ≡ r → n ≡ r → r *ℚ (s0 -ℚ p0) ≡ s1 -ℚ p1
 add_times p0 p1 q0 q1 s0 s1 m n r e f g h = added (subst (λ (z : ℚ). z *ℚ (q0 -ℚ p0) ≡ q1 -ℚ p1) g e) (subst (λ (z : ℚ). z *ℚ (s0 -ℚ q0) ≡ s1 -ℚ q1) h f)
@@ -69,7 +63,7 @@ LastSlope points None = Unit {0}
 LastSlope points (Some r) = EndsWithSlope points r
 
 same_slope : (points : List Point) (o : Option ℚ) (r : ℚ) → LastSlope points o → goes_on o r ≡ true → EndsWithSlope points r
-same_slope points None r s e = absurd (false_true e)
+same_slope points None r s e = absurd (false≢true e)
 same_slope points (Some b) r s e = subst (λ (z : ℚ). EndsWithSlope points z) (same_of_test b r e) s
 
 -- with the last point that is known

@@ -19,9 +19,10 @@ use Rattle.nf_lists_laws.proofs.Ending.{from_map}
 use Rattle.nf_run_laws.specs.RunLaws.{IsShortFlow, KeepsLabels}
 use Rattle.nf_run_laws.proofs.Points.{LastSlope}
 use Rattle.nf_run_laws.proofs.Short.{IsShortCurve, IsShortCurve-with, IsShortCurve-queue, IsShort-trace}
-use Rattle.nf_run_laws.proofs.WellRun.{found, label_points, inflow_points, outflow_points, queue_points, WellRun, WellRun-start}
+use Rattle.nf_run_laws.proofs.WellRun.{label_points, inflow_points, outflow_points, queue_points, WellRun, WellRun-start}
 use Rattle.nf_run_laws.proofs.Run.{WellRun-goes}
 use Rattle.nf_run_laws.proofs.Standing.{grown_at, label_count_at}
+use Rattle.nf_plain_laws.proofs.Entries.{entry}
 
 -- ---- what holds
 pub record AreShort (curves : LinkCurves) : Type 0 where
@@ -123,14 +124,14 @@ module _ (net : Network) (s : Standing) (pattern : Pattern) (slopes : List ℚ) 
 -- ---- the flow of a standing
 pub IsShortFlow-run : (net : Network) (s : Standing) → WellRun net s → ShortRun s → IsShortFlow net (flow_of s)
 IsShortFlow-run net s well short = record {
-  labels = λ v h. (let c = found s.label_curves v (let n = well.label_count in omega arith) in subst IsShort (sym (label_points s v c.0 c.1)) (short.labels v c.0 c.1).short);
+  labels = λ v h. (let c = entry s.label_curves v (let n = well.label_count in omega arith) in subst IsShort (sym (label_points s v c.0 c.1)) (short.labels v c.0 c.1).short);
   inflows = λ e h. (let c = link_found e h in subst IsShort (sym (inflow_points s e c.0 c.1)) (short.links e c.0 c.1).inflow);
   outflows = λ e h. (let c = link_found e h in subst IsShort (sym (outflow_points s e c.0 c.1)) (short.links e c.0 c.1).outflow);
   queues = λ e h. (let c = link_found e h in subst IsShort (sym (queue_points s e c.0 c.1)) (short.links e c.0 c.1).queue.short);
 }
   where
     link_found : (e : ℕ) → e < length net.links → (c : LinkCurves) × (slice_get s.link_curves e ≡ Some c)
-    link_found e h = found s.link_curves e (let n = well.link_count in omega arith)
+    link_found e h = entry s.link_curves e (let n = well.link_count in omega arith)
 
 -- the labels that it keeps are the values of its label curves
 pub KeepsLabels-run : (net : Network) → IsNetwork net → (s : Standing) → WellRun net s → KeepsLabels net s

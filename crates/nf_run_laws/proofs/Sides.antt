@@ -6,13 +6,14 @@ use Rattle.nf_rational.specs.Operations.{0ℚ, ◌+ℚ◌, ◌-ℚ◌, ◌*ℚ�
 use Rattle.nf_rational.specs.Order.{◌≤ℚ◌, ◌<ℚ◌, le_ℚ, lt_ℚ}
 use Rattle.nf_rational_laws.proofs.Polynomial.{reading_of}
 use Rattle.nf_rational_laws.proofs.Linear.{le, lt, eq, le_times, linear_le, linear_false}
-use Rattle.nf_rational_laws.proofs.Order.{lt_or_le_ℚ, ps_times, less_ps, ≤ℚ_antisymm}
+use Rattle.nf_rational_laws.proofs.Order.{lt_or_le_ℚ, ps_times, less_ps, ≤ℚ_antisymm, ≤ℚ_of_lt}
 use Rattle.nf_rational_laws.proofs.Quotient.{ps_apart, /ℚ-times}
-use Rattle.nf_rational_laws.proofs.Tests.{le_of_test, lt_ℚ_cases}
+use Rattle.nf_rational_laws.proofs.Tests.{le_of_test, lt_ℚ_cases, less_of_test, test_of_less}
 use Rattle.nf_model.specs.Curve.{Within}
-use Rattle.nf_model_laws.proofs.Affine.{≤_refl, ≤_trans}
 use Rattle.nf_lists.specs.Signs.{is_zero, are_opposite}
 use Rattle.nf_run_laws.proofs.Limits.{HoldsUpTo, HoldsAlways}
+use Rattle.nf_rational_laws.proofs.Chains.{≤ℚ_refl, ≤ℚ_trans}
+use Rattle.std.proofs.lemmas.Bool.{and_parts, false≢true}
 
 pub record KeepsSide (slack change length : ℚ) : Type 0 where
   pub inactive : (while : ℚ) → slack <ℚ 0ℚ → Within 0ℚ length while → (slack +ℚ while *ℚ change) ≤ℚ 0ℚ
@@ -80,17 +81,7 @@ pub record Away (s c : ℚ) : Type 0 where
   pub below : s <ℚ 0ℚ → c ≤ℚ 0ℚ
   pub above : 0ℚ <ℚ s → 0ℚ ≤ℚ c
 
-not_both : false ≡ true → ⊥
-not_both e = cc
-
-weak_lt : (x y : ℚ) → x <ℚ y → x ≤ℚ y
-weak_lt x y h = linear_le (x ∷ y ∷ []) (lt h ∷ []) (search reading_of depth 12) tt
-
 -- ---- by the tests
-two_of : (a b : Bool) → (a && b) ≡ true → (a ≡ true) × (b ≡ true)
-two_of true true e = (refl, refl)
-two_of true false e = absurd (not_both e)
-two_of false b e = absurd (not_both e)
 
 one_of : (a b : Bool) → (a || b) ≡ true → (a ≡ true) ⊎ (b ≡ true)
 one_of true b e = inl refl
@@ -99,36 +90,30 @@ one_of false b e = inr e
 none_of_first : (a b c : Bool) → ((a && b) || c) ≡ false → a ≡ true → b ≡ false
 none_of_first true true c e h = e
 none_of_first true false c e h = refl
-none_of_first false b c e h = absurd (not_both h)
+none_of_first false b c e h = absurd (false≢true h)
 
 none_of_second : (a b c : Bool) → (a || (b && c)) ≡ false → b ≡ true → c ≡ false
-none_of_second true b c e h = absurd (not_both (sym e))
+none_of_second true b c e h = absurd (false≢true (sym e))
 none_of_second false true c e h = e
-none_of_second false false c e h = absurd (not_both h)
-
-pub lt_true : (x y : ℚ) → lt_ℚ x y ≡ true → x <ℚ y
-lt_true x y e = ⊎_elim (λ (w : (lt_ℚ x y ≡ true) × (x <ℚ y)). w.1) (λ (w : (lt_ℚ x y ≡ false) × (y ≤ℚ x)). absurd (not_both (sym w.0 ∙ e))) (lt_ℚ_cases x y)
+none_of_second false false c e h = absurd (false≢true h)
 
 pub lt_false : (x y : ℚ) → lt_ℚ x y ≡ false → y ≤ℚ x
-lt_false x y e = ⊎_elim (λ (w : (lt_ℚ x y ≡ true) × (x <ℚ y)). absurd (not_both (sym e ∙ w.0))) (λ (w : (lt_ℚ x y ≡ false) × (y ≤ℚ x)). w.1) (lt_ℚ_cases x y)
-
-lt_test : (x y : ℚ) → x <ℚ y → lt_ℚ x y ≡ true
-lt_test x y h = ⊎_elim (λ (w : (lt_ℚ x y ≡ true) × (x <ℚ y)). w.0) (λ (w : (lt_ℚ x y ≡ false) × (y ≤ℚ x)). absurd (linear_false (x ∷ y ∷ []) (lt h ∷ le w.1 ∷ []) (search reading_of depth 12) tt)) (lt_ℚ_cases x y)
+lt_false x y e = ⊎_elim (λ (w : (lt_ℚ x y ≡ true) × (x <ℚ y)). absurd (false≢true (sym e ∙ w.0))) (λ (w : (lt_ℚ x y ≡ false) × (y ≤ℚ x)). w.1) (lt_ℚ_cases x y)
 
 opposite_of : (s c : ℚ) → are_opposite s c ≡ true → Opposite s c
 opposite_of s c e = ⊎_elim
-    (λ (h : (lt_ℚ s 0ℚ && lt_ℚ 0ℚ c) ≡ true). inl (lt_true s 0ℚ (two_of _ _ h).0, lt_true 0ℚ c (two_of _ _ h).1))
-    (λ (h : (lt_ℚ 0ℚ s && lt_ℚ c 0ℚ) ≡ true). inr (lt_true 0ℚ s (two_of _ _ h).0, lt_true c 0ℚ (two_of _ _ h).1))
+    (λ (h : (lt_ℚ s 0ℚ && lt_ℚ 0ℚ c) ≡ true). inl (less_of_test s 0ℚ (and_parts _ _ h).0, less_of_test 0ℚ c (and_parts _ _ h).1))
+    (λ (h : (lt_ℚ 0ℚ s && lt_ℚ c 0ℚ) ≡ true). inr (less_of_test 0ℚ s (and_parts _ _ h).0, less_of_test c 0ℚ (and_parts _ _ h).1))
     (one_of (lt_ℚ s 0ℚ && lt_ℚ 0ℚ c) (lt_ℚ 0ℚ s && lt_ℚ c 0ℚ) e)
 
 away_of : (s c : ℚ) → are_opposite s c ≡ false → Away s c
 away_of s c e = record {
-  below = λ h. lt_false 0ℚ c (none_of_first (lt_ℚ s 0ℚ) (lt_ℚ 0ℚ c) (lt_ℚ 0ℚ s && lt_ℚ c 0ℚ) e (lt_test s 0ℚ h));
-  above = λ h. lt_false c 0ℚ (none_of_second (lt_ℚ s 0ℚ && lt_ℚ 0ℚ c) (lt_ℚ 0ℚ s) (lt_ℚ c 0ℚ) e (lt_test 0ℚ s h));
+  below = λ h. lt_false 0ℚ c (none_of_first (lt_ℚ s 0ℚ) (lt_ℚ 0ℚ c) (lt_ℚ 0ℚ s && lt_ℚ c 0ℚ) e (test_of_less s 0ℚ h));
+  above = λ h. lt_false c 0ℚ (none_of_second (lt_ℚ s 0ℚ && lt_ℚ 0ℚ c) (lt_ℚ 0ℚ s) (lt_ℚ c 0ℚ) e (test_of_less 0ℚ s h));
 }
 
 zero_of : (s : ℚ) → is_zero s ≡ true → s ≡ 0ℚ
-zero_of s e = ≤ℚ_antisymm s 0ℚ (le_of_test s 0ℚ (two_of (le_ℚ s 0ℚ) (le_ℚ 0ℚ s) e).0) (le_of_test 0ℚ s (two_of (le_ℚ s 0ℚ) (le_ℚ 0ℚ s) e).1)
+zero_of s e = ≤ℚ_antisymm s 0ℚ (le_of_test s 0ℚ (and_parts (le_ℚ s 0ℚ) (le_ℚ 0ℚ s) e).0) (le_of_test 0ℚ s (and_parts (le_ℚ s 0ℚ) (le_ℚ 0ℚ s) e).1)
 
 -- ---- how long a link keeps its side
 pub keeps_at_zero : (s c : ℚ) → is_zero s ≡ true → HoldsAlways (KeepsSide s c)
@@ -154,10 +139,10 @@ module _ (s c : ℚ) where
   rises_towards below rises = record {
     positive = rising_positive s c x meets below rises;
     within = λ length h k. record {
-      inactive = λ while low w. rising_within s c x meets while (weak_lt 0ℚ c rises) (≤_trans while length x w.1 k);
+      inactive = λ while low w. rising_within s c x meets while (≤ℚ_of_lt 0ℚ c rises) (≤ℚ_trans while length x w.1 k);
       resetting = λ while above w. absurd (never_less s below above);
     };
-    bound = λ length h keeps. rising_bound s c x meets length rises (keeps.inactive length below (h, ≤_refl length));
+    bound = λ length h keeps. rising_bound s c x meets length rises (keeps.inactive length below (h, ≤ℚ_refl length));
   }
     where
       x : ℚ
@@ -171,9 +156,9 @@ module _ (s c : ℚ) where
     positive = falling_positive s c x meets above falls;
     within = λ length h k. record {
       inactive = λ while below w. absurd (never_less s below above);
-      resetting = λ while high w. falling_within s c x meets while falls (≤_trans while length x w.1 k);
+      resetting = λ while high w. falling_within s c x meets while falls (≤ℚ_trans while length x w.1 k);
     };
-    bound = λ length h keeps. falling_bound s c x meets length falls (keeps.resetting length above (h, ≤_refl length));
+    bound = λ length h keeps. falling_bound s c x meets length falls (keeps.resetting length above (h, ≤ℚ_refl length));
   }
     where
       apart : c ≡ 0ℚ → ⊥

@@ -10,15 +10,15 @@ use Rattle.nf_model.specs.Entries.{number_at}
 use Rattle.nf_model.specs.Curve.{Point, Within}
 use Rattle.nf_model.specs.Network.{Link, Network, IsNetwork, IsLink, hop_of}
 use Rattle.nf_model.specs.ThinFlow.{slack}
-use Rattle.nf_model_laws.proofs.Affine.{≤_refl}
 use Rattle.nf_lists.specs.PhaseRun.{Standing, flow_of}
 use Rattle.nf_lists.specs.Ends.{end_of, EndsAtLabels}
-use Rattle.nf_lists_laws.proofs.Ending.{last-append}
 use Rattle.nf_phase_laws.specs.CurveSteps.{LastPoint, at}
 use Rattle.nf_phase_laws.specs.CurveRun.{Curves, curves_of}
 use Rattle.nf_phase_laws.proofs.CurveRun.{Grown}
 use Rattle.nf_phase_laws.proofs.Thin.{slack-is}
 use Rattle.nf_run_laws.proofs.WellRun.{label_points, inflow_points, outflow_points, queue_points, WellRun}
+use Rattle.nf_plain_laws.proofs.Entries.{last-append}
+use Rattle.nf_rational_laws.proofs.Chains.{≤ℚ_refl}
 
 pub end-last : (points : List Point) (last : Point) → LastPoint points last → end_of points ≡ last.0
 end-last points last l = ap end_of l.same ∙ ap (λ (o : Option Point). option_map_or (λ (p : Point). p.0) o 0ℚ) (last-append None l.front last)
@@ -31,7 +31,7 @@ module _ (net : Network) (good : IsNetwork net) (s : Standing) (well : WellRun n
   grown_at = well.grow
 
   now : Within 0ℚ s.time s.time
-  now = (grown_at.stands.holds.begun, ≤_refl s.time)
+  now = (grown_at.stands.holds.begun, ≤ℚ_refl s.time)
 
   pub begun_at : 0ℚ ≤ℚ s.time
   begun_at = grown_at.stands.holds.begun

@@ -7,7 +7,7 @@ use Rattle.nf_rational.specs.Rational.{ℚ}
 use Rattle.nf_rational.specs.Operations.{0ℚ, ◌+ℚ◌, ◌-ℚ◌, ◌*ℚ◌, ◌/ℚ◌}
 use Rattle.nf_rational.specs.Order.{◌≤ℚ◌, ◌<ℚ◌, lt_ℚ}
 use Rattle.nf_rational_laws.proofs.Order.{≤ℚ_of_lt}
-use Rattle.nf_rational_laws.proofs.Tests.{lt_ℚ_cases}
+use Rattle.nf_rational_laws.proofs.Tests.{lt_ℚ_cases, max0_of}
 use Rattle.nf_work.specs.Passing.{Passing}
 use Rattle.nf_work.specs.Checked.{Checked, checked, each, ◌>>=◌}
 use Rattle.nf_model.specs.Entries.{number_at}
@@ -20,7 +20,8 @@ use Rattle.nf_lists_laws.specs.Laws.{never}
 use Rattle.nf_lists_laws.proofs.Exact.{curve_list_as}
 use Rattle.nf_lists_laws.proofs.Ending.{each_cons, enumerated}
 use Rattle.nf_phase_laws.specs.Invariant.{queue_by_slack}
-use Rattle.nf_phase_laws.proofs.Idle.{max0_high, queue_by_slack-low}
+use Rattle.nf_phase_laws.proofs.Idle.{queue_by_slack-low}
+use Rattle.std.proofs.lemmas.Bool.{false≢true}
 
 -- ---- the values
 abbrev pub filled_slope : Bool → Option ℚ → ℚ → ℚ
@@ -44,14 +45,12 @@ step_value length so_far link = record {
 }
 
 -- ---- tests of signs
-not_both : false ≡ true → ⊥
-not_both e = cc
 
 pub positive_of : (x : ℚ) → is_positive x ≡ true → 0ℚ <ℚ x
-positive_of x e = ⊎_elim (λ (w : (lt_ℚ 0ℚ x ≡ true) × (0ℚ <ℚ x)). w.1) (λ (w : (lt_ℚ 0ℚ x ≡ false) × (x ≤ℚ 0ℚ)). absurd (not_both (sym w.0 ∙ e))) (lt_ℚ_cases 0ℚ x)
+positive_of x e = ⊎_elim (λ (w : (lt_ℚ 0ℚ x ≡ true) × (0ℚ <ℚ x)). w.1) (λ (w : (lt_ℚ 0ℚ x ≡ false) × (x ≤ℚ 0ℚ)). absurd (false≢true (sym w.0 ∙ e))) (lt_ℚ_cases 0ℚ x)
 
 pub none_of : (x : ℚ) → is_positive x ≡ false → x ≤ℚ 0ℚ
-none_of x e = ⊎_elim (λ (w : (lt_ℚ 0ℚ x ≡ true) × (0ℚ <ℚ x)). absurd (not_both (sym e ∙ w.0))) (λ (w : (lt_ℚ 0ℚ x ≡ false) × (x ≤ℚ 0ℚ)). w.1) (lt_ℚ_cases 0ℚ x)
+none_of x e = ⊎_elim (λ (w : (lt_ℚ 0ℚ x ≡ true) × (0ℚ <ℚ x)). absurd (false≢true (sym e ∙ w.0))) (λ (w : (lt_ℚ 0ℚ x ≡ false) × (x ≤ℚ 0ℚ)). w.1) (lt_ℚ_cases 0ℚ x)
 
 -- ---- where nothing passes
 bind_at : {A B E : Type 0} (r : Result A E) (x : A) (f : A → Result B E) → r ≡ Ok x → (r >>= f) ≡ f x
@@ -64,7 +63,7 @@ rate_exact false flow slope = refl
 
 size_exact : (b : Bool) (capacity : Option ℚ) (slack : ℚ) → is_positive slack ≡ b → size_at never b capacity slack ≡ Ok (queue_by_slack capacity slack)
 unfolding checked
-size_exact true (Some c) slack e = ap (λ (y : ℚ). Ok (c *ℚ y)) (sym (max0_high slack (≤ℚ_of_lt _ _ (positive_of slack e))))
+size_exact true (Some c) slack e = ap (λ (y : ℚ). Ok (c *ℚ y)) (sym (max0_of slack (≤ℚ_of_lt _ _ (positive_of slack e))))
 size_exact true None slack e = refl
 size_exact false (Some c) slack e = ap (λ (y : ℚ). Ok y) (sym (queue_by_slack-low (Some c) slack (none_of slack e)))
 size_exact false None slack e = refl

@@ -6,11 +6,11 @@ use Rattle.nf_rational.specs.Rational.{ℚ}
 use Rattle.nf_rational.specs.Operations.{0ℚ, ◌+ℚ◌, ◌-ℚ◌, ◌*ℚ◌, ◌/ℚ◌}
 use Rattle.nf_rational.specs.Order.{◌<ℚ◌}
 use Rattle.nf_rational_laws.proofs.Polynomial.{reading_of}
-use Rattle.nf_rational_laws.proofs.Order.{ps_times, ≤ℚ_of_same}
+use Rattle.nf_rational_laws.proofs.Order.{ps_times, ≤ℚ_of_same, not_both_ℚ}
 use Rattle.nf_rational_laws.proofs.Linear.{lt, eq, eq_times, linear_lt, linear_eq}
 use Rattle.nf_model.specs.Curve.{Point, AreSlopes}
 use Rattle.nf_model.specs.Equilibrium.{Trace}
-use Rattle.nf_model_laws.proofs.Affine.{quotient-times, clash}
+use Rattle.nf_model_laws.proofs.Affine.{quotient-times}
 use Rattle.nf_lists.specs.Signs.{is_positive}
 use Rattle.nf_lists.specs.CurveList.{LinkPhase}
 use Rattle.nf_lists.specs.ReportCurves.{GrowingCurve, goes_on, with_point, with_rate, trace_after, queue_after}
@@ -57,12 +57,12 @@ module _ (trace : Trace) (flow sl : ℚ) (points : List Point) (a y t label amou
       went_to points trace.points (last_or None trace.rates) (flow /ℚ sl) (a, y) (a +ℚ sl *ℚ t, y +ℚ flow *ℚ t) (label, amount) same last_slope l later times raw in
       record {
         goes = λ _. w.goes;
-        stays = λ e. absurd (clash 0ℚ sl moves (≤ℚ_of_same _ _ e));
+        stays = λ e. absurd (not_both_ℚ 0ℚ sl moves (≤ℚ_of_same _ _ e));
         rates = subst (λ (p : Point). AreSlopes (with_point (goes_on (last_or None trace.rates) (flow /ℚ sl)) trace.points p) (with_rate (goes_on (last_or None trace.rates) (flow /ℚ sl)) trace.rates (flow /ℚ sl))) (sym raw)
             (AreSlopes-after trace.points trace.rates (a, y) (a +ℚ sl *ℚ t, y +ℚ flow *ℚ t) (flow /ℚ sl) (subst (λ (ps : List Point). LastPoint ps (a, y)) same l) later
             (slope_is (a, y) (a +ℚ sl *ℚ t, y +ℚ flow *ℚ t) (flow /ℚ sl) later times) are);
       }
-  trace_by false h = record { goes = λ m. absurd (clash 0ℚ sl m (none_of sl h)); stays = λ _. sym same; rates = are }
+  trace_by false h = record { goes = λ m. absurd (not_both_ℚ 0ℚ sl m (none_of sl h)); stays = λ _. sym same; rates = are }
 
   pub TraceStep-after : TraceStep points (trace_after trace label amount (rate_value (is_positive sl) flow sl)) a y t flow sl
   TraceStep-after = trace_by (is_positive sl) refl
@@ -83,8 +83,8 @@ module _ (curve : GrowingCurve) (link : LinkPhase) (flow sl : ℚ) (points : Lis
       let w = went_to points curve.points curve.slope (filled_slope link.filled link.capacity (flow /ℚ sl)) (a, y) (a +ℚ sl *ℚ t, size)
       (label, queue_by_slack link.capacity (link.head_label -ℚ (link.tail_label +ℚ link.transit))) same last_slope l (later_by a sl t moves some)
       (size_line a y size sl t (filled_slope link.filled link.capacity (flow /ℚ sl)) (times moves)) (same_point _ _ _ _ label_is size_is) in
-      record { goes = λ _. w.goes; stays = λ e. absurd (clash 0ℚ sl moves (≤ℚ_of_same _ _ e)); slopes = w.slopes }
-  queue_by false h = record { goes = λ m. absurd (clash 0ℚ sl m (none_of sl h)); stays = λ _. sym same; slopes = last_slope }
+      record { goes = λ _. w.goes; stays = λ e. absurd (not_both_ℚ 0ℚ sl moves (≤ℚ_of_same _ _ e)); slopes = w.slopes }
+  queue_by false h = record { goes = λ m. absurd (not_both_ℚ 0ℚ sl m (none_of sl h)); stays = λ _. sym same; slopes = last_slope }
 
   pub QueueStepped-after : QueueStepped points (queue_after curve label (queue_value link (rate_value (is_positive sl) flow sl))) a y t sl size
   QueueStepped-after = queue_by (is_positive sl) refl

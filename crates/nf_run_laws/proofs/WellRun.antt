@@ -1,8 +1,7 @@
 -- What holds of the curves of a run wherever it stands; and that it holds at the start.
 use Rattle.std.proofs.Common.{◌≡◌, ℕ, ◌<◌, List, [], ◌∷◌, length, get_or, if◌then◌else◌, Bool, true, false, sym, ap, subst, refl, ◌∙◌, arith}
-use Rattle.std.specs.Prelude.{Option, Some, map, slice_get, unwrap_or}
-use Rattle.std.specs.Option.{option_map}
-use Rattle.std.proofs.lemmas.Option.{slice_get-map, slice_get-get_or}
+use Rattle.std.specs.Prelude.{Option, Some, slice_get, unwrap_or}
+use Rattle.std.proofs.lemmas.Option.{slice_get-get_or}
 use Rattle.std.proofs.lemmas.List.{length-map}
 use Rattle.nf_rational.specs.Rational.{ℚ}
 use Rattle.nf_rational.specs.Operations.{0ℚ, ◌-ℚ◌, ◌*ℚ◌}
@@ -21,6 +20,7 @@ use Rattle.nf_phase_laws.specs.CurveRun.{FirstCurves, GrowByPhases, begin, curve
 use Rattle.nf_phase_laws.proofs.CurveRun.{Grown, grown_by}
 use Rattle.nf_run_laws.proofs.Points.{slope_is, LastSlope}
 use Rattle.nf_run_laws.proofs.StepValues.{positive_of}
+use Rattle.nf_plain_laws.proofs.Entries.{slice_get-image}
 
 -- ---- entries
 pub number_is : (xs : List ℚ) (v : ℕ) → v < length xs → slice_get xs v ≡ Some (number_at xs v)
@@ -28,31 +28,24 @@ number_is xs v h =
     let e : slice_get xs v ≡ Some (get_or xs v 0ℚ) = slice_get-get_or xs v 0ℚ h in
     e ∙ ap (λ (x : ℚ). Some x) (sym (ap (λ (o : Option ℚ). unwrap_or o 0ℚ) e))
 
-pub entry_of : {A B : Type 0} (f : A → B) (xs : List A) (e : ℕ) (x : A) → slice_get xs e ≡ Some x → slice_get (map f xs) e ≡ Some (f x)
-entry_of f xs e x h = slice_get-map f xs e ∙ ap (option_map f) h
-
-pub found : {A : Type 0} (xs : List A) (e : ℕ) → e < length xs → (x : A) × (slice_get xs e ≡ Some x)
-found (x ∷ xs) e h = (get_or (x ∷ xs) e x, slice_get-get_or (x ∷ xs) e x h)
-found [] e h = absurd (omega arith)
-
 pub points_is : (curves : List (List Point)) (i : ℕ) (points : List Point) → slice_get curves i ≡ Some points → points_at curves i ≡ points
 points_is curves i points h = ap (λ (o : Option (List Point)). unwrap_or o []) h
 
 -- ---- the curves of a standing's flow
 module _ (s : Standing) where
   pub label_points : (v : ℕ) (c : GrowingCurve) → slice_get s.label_curves v ≡ Some c → points_at (flow_of s).labels v ≡ c.points
-  label_points v c h = points_is (flow_of s).labels v c.points (entry_of (λ (c : GrowingCurve). c.points) s.label_curves v c h)
+  label_points v c h = points_is (flow_of s).labels v c.points (slice_get-image (λ (c : GrowingCurve). c.points) s.label_curves v c h)
 
   pub inflow_points : (e : ℕ) (c : LinkCurves) → slice_get s.link_curves e ≡ Some c → points_at (points_of (flow_of s).inflows) e ≡ c.inflow.points
   inflow_points e c h = points_is (points_of (flow_of s).inflows) e c.inflow.points
-      (entry_of (λ (t : Trace). t.points) (flow_of s).inflows e c.inflow (entry_of (λ (c : LinkCurves). c.inflow) s.link_curves e c h))
+      (slice_get-image (λ (t : Trace). t.points) (flow_of s).inflows e c.inflow (slice_get-image (λ (c : LinkCurves). c.inflow) s.link_curves e c h))
 
   pub outflow_points : (e : ℕ) (c : LinkCurves) → slice_get s.link_curves e ≡ Some c → points_at (points_of (flow_of s).outflows) e ≡ c.outflow.points
   outflow_points e c h = points_is (points_of (flow_of s).outflows) e c.outflow.points
-      (entry_of (λ (t : Trace). t.points) (flow_of s).outflows e c.outflow (entry_of (λ (c : LinkCurves). c.outflow) s.link_curves e c h))
+      (slice_get-image (λ (t : Trace). t.points) (flow_of s).outflows e c.outflow (slice_get-image (λ (c : LinkCurves). c.outflow) s.link_curves e c h))
 
   pub queue_points : (e : ℕ) (c : LinkCurves) → slice_get s.link_curves e ≡ Some c → points_at (flow_of s).queues e ≡ c.queue.points
-  queue_points e c h = points_is (flow_of s).queues e c.queue.points (entry_of (λ (c : LinkCurves). c.queue.points) s.link_curves e c h)
+  queue_points e c h = points_is (flow_of s).queues e c.queue.points (slice_get-image (λ (c : LinkCurves). c.queue.points) s.link_curves e c h)
 
 -- ---- what holds
 pub record WellRun (net : Network) (s : Standing) : Type 0 where
@@ -89,11 +82,11 @@ queue_first false l = refl
 
 module _ (net : Network) (good : IsNetwork net) (s : Standing) (h : IsStart net s) where
   link_entry : (e : ℕ) (link : Link) → IsLink net e link → slice_get s.link_curves e ≡ Some (first_curves s.labels link)
-  link_entry e link p = ap (λ (l : List LinkCurves). slice_get l e) h.link_curves ∙ entry_of (first_curves s.labels) net.links e link p
+  link_entry e link p = ap (λ (l : List LinkCurves). slice_get l e) h.link_curves ∙ slice_get-image (first_curves s.labels) net.links e link p
 
   label_entry : (v : ℕ) → v < net.nodes → slice_get s.label_curves v ≡ Some (first_label_curve (number_at s.labels v))
   label_entry v k = ap (λ (l : List GrowingCurve). slice_get l v) h.label_curves
-      ∙ entry_of first_label_curve s.labels v (number_at s.labels v) (number_is s.labels v (let c = h.labels.count in omega arith))
+      ∙ slice_get-image first_label_curve s.labels v (number_at s.labels v) (number_is s.labels v (let c = h.labels.count in omega arith))
 
   first : FirstCurves net s.labels (curves_of (flow_of s))
   first = record {

@@ -17,10 +17,11 @@ use Rattle.nf_model.specs.Network.{Link, Network, IsLink}
 use Rattle.nf_model.specs.Pattern.{Pattern, Meets}
 use Rattle.nf_lists.specs.Verdict.{verdict_list}
 use Rattle.nf_lists_laws.proofs.Ending.{enumerated}
-use Rattle.nf_thin_laws.proofs.Flags.{entry, number_at-beyond}
+use Rattle.nf_thin_laws.proofs.Flags.{number_at-beyond}
 use Rattle.nf_thin.specs.Judging.{NoneNegativeBefore, IsFirstFailing, first_of, numbered_verdict, broken_after, first_broken}
 use Rattle.nf_thin.proofs.Folds.{goes_on, stops_in, ends, part_ok}
 use Rattle.nf_thin.proofs.Failing.{AllMeet, SoFar, found_means, passes_means}
+use Rattle.nf_plain_laws.proofs.Entries.{entry}
 
 same_fault : {A : Type 0} (p q : PassedAt ℚ) → ◌≡◌ {A = Result A (PassedAt ℚ)} (Err p) (Err q) → p ≡ q
 same_fault p q e = cc

@@ -7,8 +7,8 @@ use Rattle.nf_lists.specs.Listing.{HasPlace}
 use Rattle.nf_lists_laws.proofs.Listings.{IsBefore-asymmetric}
 use Rattle.nf_pattern.specs.Front.{IsListingOf}
 use Rattle.nf_pattern.specs.Given.{Question, Last, AtStart, UpTo, IsLater, IsNext, NoneLeft}
-use Rattle.nf_thin_laws.proofs.Flags.{entry}
 use Rattle.nf_pattern.proofs.Entering.{less_or_same}
+use Rattle.nf_plain_laws.proofs.Entries.{entry}
 
 compared : (m n : ℕ) → (m < n) ⊎ ((m ≡ n) ⊎ (n < m))
 compared m n = ⊎_elim

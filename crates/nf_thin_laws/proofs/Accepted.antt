@@ -3,14 +3,13 @@ use Rattle.std.proofs.Common.{◌≡◌, ◌≢◌, ℕ, ◌<◌, ◌≤◌, Lis
 use Rattle.nf_rational.specs.Rational.{ℚ}
 use Rattle.nf_rational.specs.Operations.{0ℚ}
 use Rattle.nf_rational.specs.Order.{◌≤ℚ◌, ◌<ℚ◌}
-use Rattle.nf_rational_laws.proofs.Order.{≤ℚ_of_same}
+use Rattle.nf_rational_laws.proofs.Order.{≤ℚ_of_same, not_both_ℚ}
 use Rattle.nf_model.specs.declared.State.{State}
 use Rattle.nf_model.specs.declared.State.TheVariants.{Tight, Full, Zero}
 use Rattle.nf_model.specs.Entries.{number_at, Has}
 use Rattle.nf_model.specs.Network.{Link, Network, IsLink, IsNetwork, unbounded}
 use Rattle.nf_model.specs.ThinFlow.{Sets, exit_slope, exit_slope_at, Enters, IsThinFlow}
 use Rattle.nf_model.specs.Pattern.{Pattern, HasState, IsPattern, Equation, Solves, Meets}
-use Rattle.nf_model_laws.proofs.Affine.{clash}
 use Rattle.nf_model_laws.proofs.Earliest.{IsPositive-link}
 use Rattle.nf_thin_laws.specs.ActiveLinks.{AreSets}
 use Rattle.nf_thin_laws.specs.PatternLaws.{EachIsLed}
@@ -71,7 +70,7 @@ module _ (net : Network) (sets : Sets) (rate : ℚ) (pattern : Pattern) (flows s
 
   with_flow : (t exit x : ℚ) → Exits exit t x → 0ℚ <ℚ x → exit ≡ t
   with_flow t exit x (just e) h = e
-  with_flow t exit x (idle k e) h = absurd (clash _ _ h (≤ℚ_of_same _ _ e))
+  with_flow t exit x (idle k e) h = absurd (not_both_ℚ _ _ h (≤ℚ_of_same _ _ e))
 
   -- ---- a link that is not active carries nothing
   no_flow : (e : ℕ) → (Has sets.active e → ⊥) → number_at flows e ≡ 0ℚ

@@ -7,12 +7,12 @@ use Rattle.nf_model.specs.Network.{Network, IsNetwork, hops, rate_at}
 use Rattle.nf_model.specs.ThinFlow.{slacks_of, sets_at}
 use Rattle.nf_model.specs.Phases.{AreStartLabels, moved, IsPhaseLength, IsPhase, PhasesFrom, IsPhaseSequence}
 use Rattle.nf_model_laws.proofs.OneValue.{IsLeastTransit-unique, IsPhaseLength-unique}
-use Rattle.nf_thin_laws.proofs.Flags.{same_numbers}
 use Rattle.nf_thin_laws.proofs.ActiveLinks.{HoldNoCycle-sets_at}
 use Rattle.nf_thin_laws.proofs.Slopes.{slopes-unique}
+use Rattle.nf_plain_laws.proofs.Entries.{same_entries}
 
 pub AreStartLabels-unique : (net : Network) (labels others : List ℚ) → AreStartLabels net labels → AreStartLabels net others → labels ≡ others
-AreStartLabels-unique net labels others p q = same_numbers labels others (p.count ∙ sym q.count)
+AreStartLabels-unique net labels others p q = same_entries 0ℚ labels others (p.count ∙ sym q.count)
     (λ v h. let k : v < net.nodes = subst (λ (n : ℕ). v < n) p.count h in IsLeastTransit-unique (hops net) net.source v _ _ (p.each v k) (q.each v k))
 
 module _ (net : Network) (horizon : ℚ) (good : IsNetwork net) where

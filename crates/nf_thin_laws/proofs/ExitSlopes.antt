@@ -8,8 +8,9 @@ use Rattle.nf_rational_laws.proofs.Linear.{eq, linear_eq}
 use Rattle.nf_model.specs.ThinFlow.{exit_slope}
 use Rattle.nf_model.specs.Pattern.{Fills}
 use Rattle.nf_model_laws.specs.Capacity.{IsPositive}
-use Rattle.nf_model_laws.proofs.Affine.{quotient-times, le_from_times, same_from_times, ≤_trans}
+use Rattle.nf_model_laws.proofs.Affine.{quotient-times, le_from_times, same_from_times}
 use Rattle.nf_thin_laws.proofs.Greater.{max_same, max_first, max_at_least}
+use Rattle.nf_rational_laws.proofs.Chains.{≤ℚ_trans}
 
 swapped : (x c q : ℚ) → q *ℚ c ≡ x → c *ℚ q ≡ x
 swapped x c q e = linear_eq (x ∷ c ∷ q ∷ []) (eq e ∷ []) (search reading_of depth 12) tt tt
@@ -45,4 +46,4 @@ exit_tight (Some c) x s t positive e h = max_first s (x /ℚ c) (subst (λ (z : 
 -- one that carries nothing
 pub exit_zero : (capacity : Option ℚ) (x s t : ℚ) → t ≤ℚ s → t ≤ℚ exit_slope false capacity x s
 exit_zero None x s t h = h
-exit_zero (Some c) x s t h = ≤_trans _ _ _ h (max_at_least s (x /ℚ c))
+exit_zero (Some c) x s t h = ≤ℚ_trans _ _ _ h (max_at_least s (x /ℚ c))

@@ -1,16 +1,9 @@
 -- Entries of lists, and flags that are set or not.
-use Rattle.std.proofs.Common.{◌≡◌, ℕ, suc, ◌<◌, ◌≤◌, List, [], ◌∷◌, length, ◌⊎◌, inl, inr, Bool, true, false, Option, Some, None, slice_get, get_or, unwrap_or, sym, ap, refl, ◌∙◌, arith}
+use Rattle.std.proofs.Common.{◌≡◌, ℕ, ◌<◌, ◌≤◌, List, length, ◌⊎◌, inl, inr, Bool, true, false, Option, Some, None, slice_get, get_or, unwrap_or, sym, ap, refl, ◌∙◌}
 use Rattle.std.proofs.lemmas.Option.{slice_get_cases, slice_get_past}
 use Rattle.nf_rational.specs.Rational.{ℚ}
 use Rattle.nf_rational.specs.Operations.{0ℚ}
 use Rattle.nf_model.specs.Entries.{number_at, Has}
-
-pub entry : {A : Type 0} (xs : List A) (e : ℕ) → e < length xs → (x : A) × (slice_get xs e ≡ Some x)
-entry {A} xs e h = go (slice_get_cases xs e).1
-  where
-    go : ((x : A) × (e < length xs) × (slice_get xs e ≡ Some x) × (get_or xs e x ≡ x)) ⊎ ((length xs ≤ e) × (slice_get xs e ≡ None)) → (x : A) × (slice_get xs e ≡ Some x)
-    go (inl c) = (c.0, c.2)
-    go (inr c) = let l : length xs ≤ e = c.0 in absurd (omega arith)
 
 pub entry_beyond : {A : Type 0} (xs : List A) (e : ℕ) → slice_get xs e ≡ None → length xs ≤ e
 entry_beyond {A} xs e h = go (slice_get_cases xs e).1
@@ -24,12 +17,6 @@ entry_beyond {A} xs e h = go (slice_get_cases xs e).1
 
 pub number_at-beyond : (xs : List ℚ) (e : ℕ) → length xs ≤ e → number_at xs e ≡ 0ℚ
 number_at-beyond xs e h = ap (λ (o : Option ℚ). unwrap_or o 0ℚ) (slice_get_past xs e h)
-
-pub same_numbers : (xs ys : List ℚ) → length xs ≡ length ys → ((i : ℕ) → i < length xs → number_at xs i ≡ number_at ys i) → xs ≡ ys
-same_numbers [] [] h e = refl
-same_numbers [] (y ∷ ys) h e = absurd (cc)
-same_numbers (x ∷ xs) [] h e = absurd (cc)
-same_numbers (x ∷ xs) (y ∷ ys) h e = let a : x ≡ y = e 0 (omega arith) in let b : xs ≡ ys = same_numbers xs ys (cc) (λ i k. e (suc i) (omega arith)) in cc
 
 -- ---- a flag is set or not
 abbrev pub flag : List Bool → ℕ → Bool

@@ -13,11 +13,10 @@ use Rattle.nf_rational.specs.Rational.{ℚ}
 use Rattle.nf_rational.specs.Operations.{0ℚ, 1ℚ, ◌+ℚ◌, ◌-ℚ◌, ◌*ℚ◌}
 use Rattle.nf_rational.specs.Order.{◌≤ℚ◌, ◌<ℚ◌, max_ℚ}
 use Rattle.nf_rational_laws.proofs.Polynomial.{reading_of}
-use Rattle.nf_rational_laws.proofs.Order.{≤ℚ_antisymm, ≤ℚ_of_lt, lt_or_le_ℚ}
+use Rattle.nf_rational_laws.proofs.Order.{≤ℚ_antisymm, ≤ℚ_of_lt, lt_or_le_ℚ, not_both_ℚ}
 use Rattle.nf_rational_laws.proofs.Linear.{le, lt, eq, linear_le, linear_eq, linear_false}
 use Rattle.nf_model.specs.Network.{Link, Network, IsLink, IsNetwork, hop_of, hops, sum_in, sum_out}
 use Rattle.nf_model.specs.Pattern.{IsTrail, AllDiffer, IsForest}
-use Rattle.nf_model_laws.proofs.Affine.{clash}
 use Rattle.nf_model_laws.proofs.Networks.{hop_at, IsLink-unique}
 use Rattle.nf_model_laws.proofs.Sums.{sum_in-same, sum_out-same, sum_in-none, sum_out-none, sum_in-line, sum_in-order, sum_out-order, sum_in-each, sum_out-each}
 use Rattle.nf_model_laws.proofs.Potential.{out_less_in}
@@ -129,8 +128,8 @@ module _ (net : Network) (d : ℕ → ℚ) where
 
   one_way : (a b : Bool) (x : ℚ) → Carries a x → Carries b x → a ≡ b
   one_way true true x h k = refl
-  one_way true false x h k = absurd (clash _ _ h (≤ℚ_of_lt _ _ k))
-  one_way false true x h k = absurd (clash _ _ h (≤ℚ_of_lt _ _ k))
+  one_way true false x h k = absurd (not_both_ℚ _ _ h (≤ℚ_of_lt _ _ k))
+  one_way false true x h k = absurd (not_both_ℚ _ _ h (≤ℚ_of_lt _ _ k))
   one_way false false x h k = refl
 
   -- a link carries in one direction alone
@@ -154,14 +153,14 @@ module _ (net : Network) (d : ℕ → ℚ) where
   comes_or_not v e link = ⊎_elim
       (λ (h : 0ℚ <ℚ d e). ⊎_elim
       (λ (w : (eqb link.head v ≡ true) × (link.head ≡ v)). inl (inl (h, w.1)))
-      (λ (w : (eqb link.head v ≡ false) × (link.head ≢ v)). inr (λ c. ⊎_elim (λ (k : (0ℚ <ℚ d e) × (link.head ≡ v)). w.1 k.1) (λ (k : (d e <ℚ 0ℚ) × (link.tail ≡ v)). clash _ _ h (≤ℚ_of_lt _ _ k.0)) c))
+      (λ (w : (eqb link.head v ≡ false) × (link.head ≢ v)). inr (λ c. ⊎_elim (λ (k : (0ℚ <ℚ d e) × (link.head ≡ v)). w.1 k.1) (λ (k : (d e <ℚ 0ℚ) × (link.tail ≡ v)). not_both_ℚ _ _ h (≤ℚ_of_lt _ _ k.0)) c))
       (eqb_tells link.head v))
       (λ (h : d e ≤ℚ 0ℚ). ⊎_elim
       (λ (w : (eqb link.tail v ≡ true) × (link.tail ≡ v)). ⊎_elim
       (λ (k : d e <ℚ 0ℚ). inl (inr (k, w.1)))
-      (λ (k : 0ℚ ≤ℚ d e). inr (λ c. ⊎_elim (λ (j : (0ℚ <ℚ d e) × (link.head ≡ v)). clash _ _ j.0 h) (λ (j : (d e <ℚ 0ℚ) × (link.tail ≡ v)). clash _ _ j.0 k) c))
+      (λ (k : 0ℚ ≤ℚ d e). inr (λ c. ⊎_elim (λ (j : (0ℚ <ℚ d e) × (link.head ≡ v)). not_both_ℚ _ _ j.0 h) (λ (j : (d e <ℚ 0ℚ) × (link.tail ≡ v)). not_both_ℚ _ _ j.0 k) c))
       (lt_or_le_ℚ (d e) 0ℚ))
-      (λ (w : (eqb link.tail v ≡ false) × (link.tail ≢ v)). inr (λ c. ⊎_elim (λ (j : (0ℚ <ℚ d e) × (link.head ≡ v)). clash _ _ j.0 h) (λ (j : (d e <ℚ 0ℚ) × (link.tail ≡ v)). w.1 j.1) c))
+      (λ (w : (eqb link.tail v ≡ false) × (link.tail ≢ v)). inr (λ c. ⊎_elim (λ (j : (0ℚ <ℚ d e) × (link.head ≡ v)). not_both_ℚ _ _ j.0 h) (λ (j : (d e <ℚ 0ℚ) × (link.tail ≡ v)). w.1 j.1) c))
       (eqb_tells link.tail v))
       (lt_or_le_ℚ 0ℚ (d e))
 

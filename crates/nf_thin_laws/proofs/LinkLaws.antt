@@ -4,13 +4,14 @@ use Rattle.nf_rational.specs.Rational.{ℚ}
 use Rattle.nf_rational.specs.Operations.{0ℚ, ◌*ℚ◌, ◌/ℚ◌}
 use Rattle.nf_rational.specs.Order.{◌≤ℚ◌, ◌<ℚ◌, max_ℚ}
 use Rattle.nf_rational_laws.proofs.Polynomial.{reading_of}
-use Rattle.nf_rational_laws.proofs.Order.{≤ℚ_of_same, ≤ℚ_of_lt, lt_or_le_ℚ}
+use Rattle.nf_rational_laws.proofs.Order.{≤ℚ_of_same, ≤ℚ_of_lt, lt_or_le_ℚ, not_both_ℚ}
 use Rattle.nf_rational_laws.proofs.Tests.{max_ℚ_cases}
 use Rattle.nf_rational_laws.proofs.Linear.{le, lt, eq, le_times, eq_times, linear_le, linear_lt, linear_eq, linear_false}
 use Rattle.nf_model.specs.ThinFlow.{exit_slope}
 use Rattle.nf_model_laws.specs.Capacity.{IsPositive}
-use Rattle.nf_model_laws.proofs.Affine.{≤_trans, clash, quotient-times, le_from_times}
+use Rattle.nf_model_laws.proofs.Affine.{quotient-times, le_from_times}
 use Rattle.nf_thin_laws.proofs.Greater.{max_at_least}
+use Rattle.nf_rational_laws.proofs.Chains.{≤ℚ_trans}
 
 -- x is the flow of the link, c its capacity, s and t the slopes at its tail and its head
 pub record BoundedLaw (resets : Bool) (x c s t : ℚ) : Type 0 where
@@ -70,7 +71,7 @@ LinkLaw-of resets (Some c) x s t p n m l u = BoundedLaw-of resets x c s t (p c r
 
 -- ---- two flows on a link: x with slopes s and t, y with u and v
 grows : (c s t : ℚ) → 0ℚ <ℚ c → s <ℚ t → c *ℚ s <ℚ c *ℚ t
-grows c s t h k = ⊎_elim (λ (l : c *ℚ s <ℚ c *ℚ t). l) (λ (l : c *ℚ t ≤ℚ c *ℚ s). absurd (clash _ _ k (le_from_times c t s h l))) (lt_or_le_ℚ (c *ℚ s) (c *ℚ t))
+grows c s t h k = ⊎_elim (λ (l : c *ℚ s <ℚ c *ℚ t). l) (λ (l : c *ℚ t ≤ℚ c *ℚ s). absurd (not_both_ℚ _ _ k (le_from_times c t s h l))) (lt_or_le_ℚ (c *ℚ s) (c *ℚ t))
 
 -- into the nodes where the first slopes are greater
 into_positive : (x y c s t u v : ℚ) → 0ℚ <ℚ c → BoundedLaw false x c s t → BoundedLaw false y c u v → s ≤ℚ u → v <ℚ t → 0ℚ <ℚ y → y <ℚ x
@@ -92,11 +93,11 @@ pub into_le : (resets : Bool) (capacity : Option ℚ) (x y s t u v : ℚ) → Is
     → s ≤ℚ u → v <ℚ t → y ≤ℚ x
 into_le resets None x y s t u v h n p q i j = ⊎_elim
     (λ (k : 0ℚ <ℚ y). absurd (into_unbounded x y s t u v p q i j k))
-    (λ (k : y ≤ℚ 0ℚ). ≤_trans _ _ _ k n) (lt_or_le_ℚ 0ℚ y)
+    (λ (k : y ≤ℚ 0ℚ). ≤ℚ_trans _ _ _ k n) (lt_or_le_ℚ 0ℚ y)
 into_le true (Some c) x y s t u v h n p q i j = ≤ℚ_of_lt _ _ (into_resetting x y c s t u v (h c refl) p q j)
 into_le false (Some c) x y s t u v h n p q i j = ⊎_elim
     (λ (k : 0ℚ <ℚ y). ≤ℚ_of_lt _ _ (into_positive x y c s t u v (h c refl) p q i j k))
-    (λ (k : y ≤ℚ 0ℚ). ≤_trans _ _ _ k n) (lt_or_le_ℚ 0ℚ y)
+    (λ (k : y ≤ℚ 0ℚ). ≤ℚ_trans _ _ _ k n) (lt_or_le_ℚ 0ℚ y)
 
 -- out of those nodes
 out_bounded : (x y c s t u v : ℚ) → 0ℚ <ℚ c → BoundedLaw false x c s t → BoundedLaw false y c u v → u <ℚ s → t ≤ℚ v → 0ℚ <ℚ x → x ≤ℚ y
@@ -120,16 +121,16 @@ pub out_le : (resets : Bool) (capacity : Option ℚ) (x y s t u v : ℚ) → IsP
     → u <ℚ s → t ≤ℚ v → x ≤ℚ y
 out_le resets None x y s t u v h n p q i j = ⊎_elim
     (λ (k : 0ℚ <ℚ x). absurd (out_unbounded x y s t u v p q i j k))
-    (λ (k : x ≤ℚ 0ℚ). ≤_trans _ _ _ k n) (lt_or_le_ℚ 0ℚ x)
+    (λ (k : x ≤ℚ 0ℚ). ≤ℚ_trans _ _ _ k n) (lt_or_le_ℚ 0ℚ x)
 out_le true (Some c) x y s t u v h n p q i j = out_resetting x y c s t u v (h c refl) p q j
 out_le false (Some c) x y s t u v h n p q i j = ⊎_elim
     (λ (k : 0ℚ <ℚ x). out_bounded x y c s t u v (h c refl) p q i j k)
-    (λ (k : x ≤ℚ 0ℚ). ≤_trans _ _ _ k n) (lt_or_le_ℚ 0ℚ x)
+    (λ (k : x ≤ℚ 0ℚ). ≤ℚ_trans _ _ _ k n) (lt_or_le_ℚ 0ℚ x)
 
 -- ---- no link from elsewhere into those nodes carries equal flows and has, with the second, the exit slope of its head
 stuck_bounded : (x y c s t u v : ℚ) → 0ℚ <ℚ c → 0ℚ ≤ℚ y → 0ℚ ≤ℚ v → BoundedLaw false x c s t → BoundedLaw false y c u v → s ≤ℚ u → v <ℚ t → x ≡ y → u ≤ℚ v → ⊥
 stuck_bounded x y c s t u v h m n p q i j e k = ⊎_elim
-    (λ (l : 0ℚ <ℚ y). clash _ _ (into_positive x y c s t u v h p q i j l) (≤ℚ_of_same _ _ e))
+    (λ (l : 0ℚ <ℚ y). not_both_ℚ _ _ (into_positive x y c s t u v h p q i j l) (≤ℚ_of_same _ _ e))
     (λ (l : y ≤ℚ 0ℚ). ⊎_elim
     (λ (l : t ≤ℚ s). linear_false (s ∷ t ∷ u ∷ v ∷ []) (le l ∷ le i ∷ le k ∷ lt j ∷ []) (search reading_of depth 12) tt)
     (λ (o : c *ℚ t ≤ℚ x). let g : c *ℚ 0ℚ <ℚ c *ℚ t = grows c 0ℚ t h (linear_lt (v ∷ t ∷ []) (le n ∷ lt j ∷ []) (search reading_of depth 12) tt) in
@@ -143,5 +144,5 @@ stuck_unbounded x s t u v p i j e = linear_false (s ∷ t ∷ u ∷ v ∷ []) (l
 pub stuck : (resets : Bool) (capacity : Option ℚ) (x y s t u v : ℚ) → IsPositive capacity → 0ℚ ≤ℚ y → 0ℚ ≤ℚ v → LinkLaw resets capacity x s t → LinkLaw resets capacity y u v
     → s ≤ℚ u → v <ℚ t → x ≡ y → exit_slope resets capacity y u ≡ v → ⊥
 stuck resets None x y s t u v h m n p q i j e r = stuck_unbounded x s t u v p i j r
-stuck true (Some c) x y s t u v h m n p q i j e r = clash _ _ (into_resetting x y c s t u v (h c refl) p q j) (≤ℚ_of_same _ _ e)
+stuck true (Some c) x y s t u v h m n p q i j e r = not_both_ℚ _ _ (into_resetting x y c s t u v (h c refl) p q j) (≤ℚ_of_same _ _ e)
 stuck false (Some c) x y s t u v h m n p q i j e r = stuck_bounded x y c s t u v (h c refl) m n p q i j e (subst (λ (z : ℚ). u ≤ℚ z) r (max_at_least u (y /ℚ c)))

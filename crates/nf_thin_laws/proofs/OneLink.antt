@@ -6,7 +6,7 @@ use Rattle.nf_rational.specs.Rational.{ℚ}
 use Rattle.nf_rational.specs.Operations.{0ℚ, 1ℚ, ◌+ℚ◌, ◌-ℚ◌, ◌*ℚ◌, ◌/ℚ◌}
 use Rattle.nf_rational.specs.Order.{◌≤ℚ◌, ◌<ℚ◌, le_ℚ, lt_ℚ}
 use Rattle.nf_rational_laws.proofs.Polynomial.{reading_of}
-use Rattle.nf_rational_laws.proofs.Order.{≤ℚ_of_same, ≤ℚ_of_lt, ps_whole, <ℚ_irrefl}
+use Rattle.nf_rational_laws.proofs.Order.{≤ℚ_of_same, ≤ℚ_of_lt, ps_whole, <ℚ_irrefl, not_both_ℚ}
 use Rattle.nf_rational_laws.proofs.Tests.{lt_ℚ_cases, test_of_le}
 use Rattle.nf_rational_laws.proofs.Linear.{le, eq, linear_le, linear_eq}
 use Rattle.nf_model.specs.declared.State.{State}
@@ -20,7 +20,7 @@ use Rattle.nf_model.specs.Phases.{moved, AreStartLabels, Lasts, IsPhaseSequence}
 use Rattle.nf_model_laws.specs.Capacity.{IsPositive}
 use Rattle.nf_model_laws.specs.EarliestLaws.{AreTransitLabels}
 use Rattle.nf_model_laws.specs.MemberLaws.{one_link, at_rate}
-use Rattle.nf_model_laws.proofs.Affine.{≤_refl, ≤_trans, clash, quotient-times, nn-quotient, le_from_times}
+use Rattle.nf_model_laws.proofs.Affine.{quotient-times, nn-quotient, le_from_times}
 use Rattle.nf_model_laws.proofs.EarliestTransits.{IsLeastTransit-label}
 use Rattle.nf_model_laws.proofs.MemberLink.{IsNetwork-one_link}
 use Rattle.nf_thin_laws.specs.ActiveLinks.{AreSets, HoldNoCycle}
@@ -28,6 +28,7 @@ use Rattle.nf_thin_laws.specs.MemberLaws.{first_labels, first_sets}
 use Rattle.nf_thin_laws.proofs.Flags.{flag}
 use Rattle.nf_thin_laws.proofs.ActiveLinks.{AreSets-sets_at, HoldNoCycle-sets_at}
 use Rattle.nf_thin_laws.proofs.Singular.{IsSolution-met}
+use Rattle.nf_rational_laws.proofs.Chains.{≤ℚ_refl, ≤ℚ_trans}
 
 module _ (transit : ℚ) (capacity : Option ℚ) (pieces : List Piece) where
   abbrev net : Network
@@ -68,7 +69,7 @@ module _ (transit : ℚ) (capacity : Option ℚ) (pieces : List Piece) where
   slacks_are = ap (λ (s : ℚ). s ∷ []) (no_slack transit)
 
   at_0 : le_ℚ 0ℚ 0ℚ ≡ true
-  at_0 = test_of_le 0ℚ 0ℚ (≤_refl 0ℚ)
+  at_0 = test_of_le 0ℚ 0ℚ (≤ℚ_refl 0ℚ)
 
   not_above : lt_ℚ 0ℚ 0ℚ ≡ false
   not_above = go (lt_ℚ_cases 0ℚ 0ℚ)
@@ -161,8 +162,8 @@ module _ (transit : ℚ) (capacity : Option ℚ) (pieces : List Piece) where
 
   no_number : (x : ℚ) → 0ℚ ≤ℚ x → (e : ℕ) → 0ℚ ≤ℚ number_at (x ∷ []) e
   no_number x h zero = h
-  no_number x h (suc zero) = ≤_refl 0ℚ
-  no_number x h (suc (suc e)) = ≤_refl 0ℚ
+  no_number x h (suc zero) = ≤ℚ_refl 0ℚ
+  no_number x h (suc (suc e)) = ≤ℚ_refl 0ℚ
 
   no_numbers : (x y : ℚ) → 0ℚ ≤ℚ x → 0ℚ ≤ℚ y → (e : ℕ) → 0ℚ ≤ℚ number_at (x ∷ y ∷ []) e
   no_numbers x y h k zero = h
@@ -222,7 +223,7 @@ module _ (transit : ℚ) (capacity : Option ℚ) (pieces : List Piece) where
         positive = c most e
 
         nn : 0ℚ ≤ℚ rate
-        nn = ≤_trans _ _ _ (≤ℚ_of_lt _ _ positive) k
+        nn = ≤ℚ_trans _ _ _ (≤ℚ_of_lt _ _ positive) k
 
         turned : (x c q : ℚ) → q *ℚ c ≡ x → x ≡ c *ℚ q
         turned x c q e = linear_eq (x ∷ c ∷ q ∷ []) (eq e ∷ []) (search reading_of depth 12) tt tt
@@ -263,9 +264,9 @@ module _ (transit : ℚ) (capacity : Option ℚ) (pieces : List Piece) where
     lasts : (slopes : List ℚ) (length : ℚ) → ((i : ℕ) (piece : Piece) → IsPiece pieces i piece → piece.start ≡ 0ℚ) → 0ℚ ≤ℚ length → Lasts net slacks slopes 0ℚ length
     lasts slopes length at_once n = record {
       not_negative = n;
-      inactive = λ e link while p below w. absurd (by_link (λ (k : ℕ) (_ : Link). number_at slacks k <ℚ 0ℚ → ⊥) e link p (λ b. clash _ _ b (≤ℚ_of_same _ _ (sym slack_is))) below);
-      resetting = λ e link while p above w. absurd (by_link (λ (k : ℕ) (_ : Link). 0ℚ <ℚ number_at slacks k → ⊥) e link p (λ b. clash _ _ b (≤ℚ_of_same _ _ slack_is)) above);
-      supply = λ i piece p later. absurd (clash _ _ later (≤ℚ_of_same _ _ (at_once i piece p)));
+      inactive = λ e link while p below w. absurd (by_link (λ (k : ℕ) (_ : Link). number_at slacks k <ℚ 0ℚ → ⊥) e link p (λ b. not_both_ℚ _ _ b (≤ℚ_of_same _ _ (sym slack_is))) below);
+      resetting = λ e link while p above w. absurd (by_link (λ (k : ℕ) (_ : Link). 0ℚ <ℚ number_at slacks k → ⊥) e link p (λ b. not_both_ℚ _ _ b (≤ℚ_of_same _ _ slack_is)) above);
+      supply = λ i piece p later. absurd (not_both_ℚ _ _ later (≤ℚ_of_same _ _ (at_once i piece p)));
     }
 
     pub OneLink-phase : (rate horizon : ℚ) (flows slopes : List ℚ) → 0ℚ <ℚ horizon → ((i : ℕ) (piece : Piece) → IsPiece pieces i piece → piece.start ≡ 0ℚ) → rate_at net 0ℚ ≡ rate
@@ -316,7 +317,7 @@ ArePieces-rate rate n = record {
     none next q = cc
 
 pub rate_at-once : (transit : ℚ) (capacity : Option ℚ) (rate : ℚ) → rate_at (one_link transit capacity (at_rate rate [])) 0ℚ ≡ rate
-rate_at-once transit capacity rate = ap (λ (b : Bool). if b then rate else 0ℚ) (test_of_le 0ℚ 0ℚ (≤_refl 0ℚ))
+rate_at-once transit capacity rate = ap (λ (b : Bool). if b then rate else 0ℚ) (test_of_le 0ℚ 0ℚ (≤ℚ_refl 0ℚ))
 
 pub OneLink-full : (transit most : ℚ) (pieces : List Piece) (rate : ℚ) → 0ℚ ≤ℚ transit → 0ℚ <ℚ most → ArePieces pieces → most ≤ℚ rate
     → IsListedIn (one_link transit (Some most) pieces) first_sets (Some Full ∷ [])

@@ -16,7 +16,8 @@ use Rattle.nf_model_laws.specs.Capacity.{IsPositive}
 use Rattle.nf_model_laws.proofs.Networks.{link_at}
 use Rattle.nf_thin_laws.specs.ActiveLinks.{AreSets, EachIsEntered}
 use Rattle.nf_thin_laws.specs.PatternLaws.{EachIsLed}
-use Rattle.nf_thin_laws.proofs.Flags.{entry, flag, flag-cases}
+use Rattle.nf_thin_laws.proofs.Flags.{flag, flag-cases}
+use Rattle.nf_plain_laws.proofs.Entries.{entry}
 
 -- a link that is filled has a capacity; two flows that fill it, do so by that
 pub record FillBoth (x t y v : ℚ) : Type 0 where

@@ -9,7 +9,7 @@ use Rattle.nf_rational.specs.Rational.{ℚ}
 use Rattle.nf_rational.specs.Operations.{0ℚ, 1ℚ, ◌+ℚ◌, ◌-ℚ◌, ◌*ℚ◌}
 use Rattle.nf_rational.specs.Order.{◌≤ℚ◌, ◌<ℚ◌, lt_ℚ}
 use Rattle.nf_rational_laws.proofs.Polynomial.{reading_of}
-use Rattle.nf_rational_laws.proofs.Order.{≤ℚ_of_same, ≤ℚ_antisymm, ≤ℚ_of_lt, lt_or_le_ℚ}
+use Rattle.nf_rational_laws.proofs.Order.{≤ℚ_of_same, ≤ℚ_antisymm, ≤ℚ_of_lt, lt_or_le_ℚ, not_both_ℚ}
 use Rattle.nf_rational_laws.proofs.Tests.{lt_ℚ_cases}
 use Rattle.nf_rational_laws.proofs.Linear.{le, lt, eq, le_times, linear_le, linear_lt, linear_eq, linear_false}
 use Rattle.nf_model.specs.declared.State.{State}
@@ -18,18 +18,19 @@ use Rattle.nf_model.specs.Entries.{number_at}
 use Rattle.nf_model.specs.Network.{Link, Network, IsLink, IsNetwork}
 use Rattle.nf_model.specs.ThinFlow.{Sets, surplus, Enters}
 use Rattle.nf_model.specs.Pattern.{Pattern, HasState, IsListedIn, Fills, Equation, Solves, Meets, IsSolution}
-use Rattle.nf_model_laws.proofs.Affine.{clash, ps-times_gap}
+use Rattle.nf_model_laws.proofs.Affine.{ps-times_gap}
 use Rattle.nf_model_laws.proofs.Earliest.{IsPositive-link}
 use Rattle.nf_model_laws.proofs.Potential.{carried-each, fall, out_less_in}
 use Rattle.nf_model_laws.proofs.Sums.{sum_in-line, sum_out-line, sum_in-none, sum_out-none}
 use Rattle.nf_thin_laws.specs.ActiveLinks.{AreSets, HoldNoCycle}
 use Rattle.nf_thin_laws.specs.PatternLaws.{SolvesHomogeneous}
-use Rattle.nf_thin_laws.proofs.Flags.{flag, entry, entry_beyond, number_at-beyond, same_numbers}
+use Rattle.nf_thin_laws.proofs.Flags.{flag, entry_beyond, number_at-beyond}
 use Rattle.nf_thin_laws.proofs.Patterns.{FillBoth, FillBoth-of, Stands, with_state, resets, inactive, stands, Leads, by_tight, by_full, by_reset, led}
 use Rattle.nf_thin_laws.proofs.Cuts.{fall_none, fall_into, fall_out, fall_same, into_equal, same_carried}
 use Rattle.nf_thin_laws.proofs.Totals.{sink_takes}
 use Rattle.nf_thin_laws.proofs.Forests.{Dart, Carries, forest-none}
 use Rattle.nf_thin_laws.proofs.ActiveLinks.{none_first}
+use Rattle.nf_plain_laws.proofs.Entries.{entry, same_entries}
 
 -- ---- filled links: x and y are their flows, t and v the slopes of their heads
 fill_more : (x y c t v : ℚ) → 0ℚ <ℚ c → x ≡ c *ℚ t → y ≡ c *ℚ v → v <ℚ t → y <ℚ x
@@ -140,16 +141,16 @@ module _ (net : Network) (sets : Sets) (pattern : Pattern) (good : IsNetwork net
           head_side : side link.head ≡ 1ℚ
           head_side = ⊎_elim
               (λ (w : (side link.head ≡ 1ℚ) × Greater link.head). w.0)
-              (λ (w : (side link.head ≡ 0ℚ) × NotGreater link.head). absurd (clash _ _ g w.1))
+              (λ (w : (side link.head ≡ 0ℚ) × NotGreater link.head). absurd (not_both_ℚ _ _ g w.1))
               (side_cases link.head)
 
           go : Compared e link → side link.tail ≡ 0ℚ → NotGreater link.tail → ⊥
           go (tight h a b) s n = apart _ _ _ _ a b g n
-          go (filled f) s n = clash _ _ (fill_more _ _ f.rate _ _ f.positive f.first f.second g) (≤ℚ_of_same _ _ (into_equal (x e) (y e) _ _ s head_side (each_same e link p)))
+          go (filled f) s n = not_both_ℚ _ _ (fill_more _ _ f.rate _ _ f.positive f.first f.second g) (≤ℚ_of_same _ _ (into_equal (x e) (y e) _ _ s head_side (each_same e link p)))
 
       back : (v : ℕ) → v < net.nodes → Greater v → (e : ℕ) × (link : Link) × Enters net sets v e link × Greater link.tail
       back v h g =
-          let t : (e : ℕ) × (link : Link) × Enters net sets v e link × Leads pattern sets e = led net sets pattern are listed.states listed.entered v h (λ e. clash _ _ (subst Greater e g) (≤ℚ_of_same _ _ same_source)) in
+          let t : (e : ℕ) × (link : Link) × Enters net sets v e link × Leads pattern sets e = led net sets pattern are listed.states listed.entered v h (λ e. not_both_ℚ _ _ (subst Greater e g) (≤ℚ_of_same _ _ same_source)) in
           (t.0, t.1, t.2, tail_greater t.0 t.1 t.2.is_link (compared_leads t.0 t.1 t.2.is_link t.3) (subst Greater (sym t.2.head) g))
 
       at_most : (v : ℕ) → v < net.nodes → l v ≤ℚ m v
@@ -193,8 +194,8 @@ module _ (net : Network) (sets : Sets) (pattern : Pattern) (good : IsNetwork net
         (eqb_tells v net.sink)
 
     not_level : (forward : Bool) (z : ℚ) → Carries net difference forward z → z ≡ 0ℚ → ⊥
-    not_level true z h e = clash _ _ h (≤ℚ_of_same _ _ e)
-    not_level false z h e = clash _ _ h (≤ℚ_of_same _ _ (sym e))
+    not_level true z h e = not_both_ℚ _ _ h (≤ℚ_of_same _ _ e)
+    not_level false z h e = not_both_ℚ _ _ h (≤ℚ_of_same _ _ (sym e))
 
     allowed : (e : ℕ) (forward : Bool) (u v : ℕ) → Dart net difference e forward u v → HasState pattern e Tight
     allowed e forward u v dart = ⊎_elim
@@ -207,7 +208,7 @@ module _ (net : Network) (sets : Sets) (pattern : Pattern) (good : IsNetwork net
 
   -- ---- for lists
   same_lists : (x y : List ℚ) → length x ≡ length net.links → length y ≡ length net.links → ((e : ℕ) (link : Link) → IsLink net e link → number_at x e ≡ number_at y e) → x ≡ y
-  same_lists x y p q f = same_numbers x y (p ∙ sym q) (λ e h. let n : (link : Link) × IsLink net e link = entry net.links e (subst (λ (k : ℕ). e < k) p h) in f e n.0 n.1)
+  same_lists x y p q f = same_entries 0ℚ x y (p ∙ sym q) (λ e h. let n : (link : Link) × IsLink net e link = entry net.links e (subst (λ (k : ℕ). e < k) p h) in f e n.0 n.1)
 
   module _ (rate : ℚ) (x l y m : List ℚ) (p : Solves net sets rate pattern x l) (q : Solves net sets rate pattern y m) where
     same_source : number_at l net.source ≡ number_at m net.source
@@ -222,7 +223,7 @@ module _ (net : Network) (sets : Sets) (pattern : Pattern) (good : IsNetwork net
     pub Solves-unique : (x ≡ y) × (l ≡ m)
     Solves-unique = (
       same_lists x y p.flow_count q.flow_count (same_flows (number_at x) (number_at l) (number_at y) (number_at m) p.links q.links same_source same_nodes),
-      same_numbers l m (p.slope_count ∙ sym q.slope_count)
+      same_entries 0ℚ l m (p.slope_count ∙ sym q.slope_count)
           (λ v h. same_slopes (number_at x) (number_at l) (number_at y) (number_at m) p.links q.links same_source same_nodes v (subst (λ (k : ℕ). v < k) p.slope_count h)),
     )
 

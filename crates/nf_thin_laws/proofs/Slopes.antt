@@ -4,19 +4,19 @@ use Rattle.std.proofs.lemmas.Bool.Decides.{eqb_tells}
 use Rattle.nf_rational.specs.Rational.{ℚ}
 use Rattle.nf_rational.specs.Operations.{0ℚ, 1ℚ, ◌*ℚ◌}
 use Rattle.nf_rational.specs.Order.{◌≤ℚ◌, ◌<ℚ◌, lt_ℚ}
-use Rattle.nf_rational_laws.proofs.Order.{≤ℚ_of_same, ≤ℚ_antisymm, lt_or_le_ℚ}
+use Rattle.nf_rational_laws.proofs.Order.{≤ℚ_of_same, ≤ℚ_antisymm, lt_or_le_ℚ, not_both_ℚ}
 use Rattle.nf_rational_laws.proofs.Tests.{lt_ℚ_cases}
 use Rattle.nf_model.specs.Entries.{number_at, Has}
 use Rattle.nf_model.specs.Network.{Link, Network, IsLink, IsNetwork}
 use Rattle.nf_model.specs.ThinFlow.{Sets, surplus, exit_slope_at, Enters, IsThinFlow}
-use Rattle.nf_model_laws.proofs.Affine.{clash}
 use Rattle.nf_model_laws.proofs.Earliest.{IsPositive-link}
 use Rattle.nf_model_laws.proofs.Potential.{carried-each, fall, out_less_in}
 use Rattle.nf_thin_laws.specs.ActiveLinks.{HoldNoCycle, EachIsEntered, NoneEntersSource}
-use Rattle.nf_thin_laws.proofs.Flags.{flag, flag-cases, same_numbers}
+use Rattle.nf_thin_laws.proofs.Flags.{flag, flag-cases}
 use Rattle.nf_thin_laws.proofs.LinkLaws.{LinkLaw, LinkLaw-of, into_le, out_le, stuck}
 use Rattle.nf_thin_laws.proofs.Cuts.{fall_none, fall_into, fall_out, fall_same, into_equal, same_carried}
 use Rattle.nf_thin_laws.proofs.ActiveLinks.{none_first, NoneEntersSource-acyclic}
+use Rattle.nf_plain_laws.proofs.Entries.{same_entries}
 
 pub EachIsEntered-thin : (net : Network) (sets : Sets) (rate : ℚ) (flows slopes : List ℚ) → IsThinFlow net sets rate flows slopes → EachIsEntered net sets
 EachIsEntered-thin net sets rate flows slopes thin v h other =
@@ -104,7 +104,7 @@ module _ (net : Network) (sets : Sets) (rate : ℚ) (good : IsNetwork net) (acyc
         head_side : side link.head ≡ 1ℚ
         head_side = ⊎_elim
             (λ (w : (side link.head ≡ 1ℚ) × Greater link.head). w.0)
-            (λ (w : (side link.head ≡ 0ℚ) × NotGreater link.head). absurd (clash _ _ at_head w.1))
+            (λ (w : (side link.head ≡ 0ℚ) × NotGreater link.head). absurd (not_both_ℚ _ _ at_head w.1))
             (side_cases link.head)
 
     back : (v : ℕ) → v < net.nodes → Greater v → (e : ℕ) × (link : Link) × Enters net sets v e link × Greater link.tail
@@ -113,7 +113,7 @@ module _ (net : Network) (sets : Sets) (rate : ℚ) (good : IsNetwork net) (acyc
         (t.0, t.1, t.2, tail_greater v t.0 t.1 g t.2 t.3)
       where
         other : v ≢ net.source
-        other e = clash _ _ (subst Greater e g) (≤ℚ_of_same _ _ (p.starts ∙ sym q.starts))
+        other e = not_both_ℚ _ _ (subst Greater e g) (≤ℚ_of_same _ _ (p.starts ∙ sym q.starts))
 
     none_greater : (v : ℕ) → v < net.nodes → Greater v → ⊥
     none_greater = none_first net sets good acyclic Greater back
@@ -125,5 +125,5 @@ module _ (net : Network) (sets : Sets) (rate : ℚ) (good : IsNetwork net) (acyc
 
   -- the slopes are the same
   pub slopes-unique : (x l y m : List ℚ) → IsThinFlow net sets rate x l → IsThinFlow net sets rate y m → l ≡ m
-  slopes-unique x l y m p q = same_numbers l m (p.slope_count ∙ sym q.slope_count)
+  slopes-unique x l y m p q = same_entries 0ℚ l m (p.slope_count ∙ sym q.slope_count)
       (λ v h. let k : v < net.nodes = subst (λ (n : ℕ). v < n) p.slope_count h in ≤ℚ_antisymm _ _ (at_most x l y m p q v k) (at_most y m x l q p v k))
