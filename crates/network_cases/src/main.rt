@@ -8,8 +8,8 @@
 //! In a line of a text `\` and two hexadecimal digits stand for the byte of that number, and a `\` at the end says that no LF
 //! follows. Of each case the title is printed, and then: of a text its lines with their words, `+` before a plain one and `-`
 //! before another, or the first line that has a fault; of a network file the first rule that it breaks, with the line, or the
-//! canonical text of its network, the nodes with their start labels, the idle nodes, the links, and what the network answers to
-//! the words.
+//! canonical text of its network, the nodes with their start labels, the idle nodes, the links, as hops too, the nodes in an order
+//! along all links, and what the network answers to the words.
 #![tactic(auto)]
 
 mod case;

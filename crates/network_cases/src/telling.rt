@@ -2,8 +2,10 @@
 use crate::case::{Case, Kind};
 use crate::shown::{Amount, Found, Shown};
 use nf_frac::Q;
+use nf_graph::topological;
 use nf_net::{LONGEST_FILE, LinkId, NetFault, Network, NodeId, parse, start_labels, supply, text};
 use nf_text::{Line, TextFault, lines};
+use std::alloc::{AllocError, Global};
 use std::io;
 
 fn tell_nodes<R: Print + AllocGlobal>(rt: &R, net: &Network) -> io::Result<()> {
@@ -48,6 +50,24 @@ fn tell_hops<R: Print>(rt: &R, net: &Network) -> io::Result<()> {
     Ok(())
 }
 
+// The nodes in an order in which every link leads to a later one; None where the links hold a cycle.
+fn order_of(alloc: Global, net: &Network) -> Result<Option<Vec<NodeId>>, AllocError> {
+    let hops = net.hops();
+    let all = vec![in alloc; true; hops.len()]?;
+    topological(alloc, net.node_count(), hops, &all)
+}
+
+fn tell_order<R: Print + AllocGlobal>(rt: &R, net: &Network) -> io::Result<()> {
+    let Some(order) = order_of(rt.alloc(), net)? else {
+        return println!(rt; "order none");
+    };
+    print!(rt; "order")?;
+    for node in &order {
+        print!(rt; " {}", node.0)?;
+    }
+    println!(rt; "")
+}
+
 // What the source is supplied with up to a time; nothing is said of times below 0.
 #[tactic(auto, using(nf_rational_laws::proofs::Tests::le_of_test))]
 fn supplied(net: &Network, time: Q) -> Option<Amount> {
@@ -79,6 +99,7 @@ fn tell_network<R: Print + AllocGlobal>(rt: &R, net: &Network, words: &[String])
     tell_nodes(rt, net)?;
     tell_links(rt, net)?;
     tell_hops(rt, net)?;
+    tell_order(rt, net)?;
     for word in words {
         match Q::read(word.as_bytes()) {
             Ok(time) => tell_time(rt, net, time)?,
