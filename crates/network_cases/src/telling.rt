@@ -1,4 +1,6 @@
 // What a case's text is read as.
+ghost use Rattle.std.specs.Prelude.{◌≤◌, length};
+
 use crate::case::{Case, Kind};
 use crate::shown::{Amount, Found, Shown};
 use nf_frac::Q;
@@ -122,7 +124,9 @@ fn tell_line<R: Print>(rt: &R, text: &[u8], line: &Line) -> io::Result<()> {
 }
 
 // The lines of a text, or the first fault.
-fn tell_lines<R: Print + AllocGlobal>(rt: &R, text: &[u8]) -> io::Result<()> {
+fn tell_lines<R: Print + AllocGlobal>(rt: &R, text: &[u8]) -> io::Result<()>
+    requires { length text.now ≤ 67108864 }
+{
     let read = match lines(rt.alloc(), text) {
         Ok(read) => read,
         Err(TextFault::NotAscii { line }) => return println!(rt; "line {line} isn't ASCII"),
