@@ -103,37 +103,3 @@ impl Sink for MemSink {
         Ok(count)
     }
 }
-
-#[cfg(test)]
-mod tests {
-    use super::*;
-    use crate::write_text;
-    use std::test::Fail;
-
-    #[test]
-    fn takes_the_first_bytes_up_to_its_room_or_a_failing_write(
-        rt: HostRuntime,
-    ) -> Result<(), Fail> {
-        // room, most of one write, the number of a write that fails, what of `report` is taken, writes
-        let cases: [(u32, u32, u32, &str, u64); 7] = [
-            (9, 1, 0, "report", 6),
-            (9, 1, 3, "re", 3),
-            (6, 4, 3, "report", 2),
-            (4, 3, 0, "repo", 3),
-            (9, 4, 2, "repo", 2),
-            (9, 9, 1, "", 1),
-            (0, 1, 0, "", 1),
-        ];
-        for (room, most, failing, taken, writes) in cases {
-            assert!(rt; most > 0);
-            let mut sink = MemSink::new(rt.alloc(), room, most)?;
-            sink.fail(failing)?;
-            let written = write_text(&mut sink, b"report");
-            assert!(rt; sink.bytes() == taken.as_bytes(), "{taken}");
-            assert!(rt; written.is_ok() == (taken.len() == 6), "{taken}");
-            assert_eq!(rt; sink.calls, writes, "{taken}");
-            assert_eq!(rt; sink.faults, u64::from(written.is_err()), "{taken}");
-        }
-        Ok(())
-    }
-}

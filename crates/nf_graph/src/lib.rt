@@ -7,8 +7,6 @@ mod ids;
 mod order;
 mod reach;
 mod sets;
-#[cfg(test)]
-mod tests;
 
 pub use distance::{DistanceFault, distances};
 pub use ids::{Hop, LinkId, NodeId};

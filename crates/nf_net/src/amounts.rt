@@ -8,7 +8,6 @@ ghost use Rattle.nf_net.specs.Supply.{end_before, with_piece, supplied_after, ch
 
 use crate::link::Piece;
 use crate::network::Network;
-use crate::order::{is_below, lesser};
 use nf_frac::{Passed, Q};
 
 // The lesser of the next start and the time.
@@ -17,7 +16,7 @@ fn end_of(later: &[Piece], time: Q) -> Q
 {
     match later {
         [] => time,
-        [next, ..] => lesser(time, next.start),
+        [next, ..] => time.lesser(next.start),
     }
 }
 
@@ -35,7 +34,7 @@ fn amount_of(pieces: &[Piece], time: Q) -> Result<Q, Passed<Q>>
 {
     let mut so_far = Q::zero();
     for (index, piece) in pieces.iter().enumerate() {
-        if is_below(piece.start, time) {
+        if piece.start.is_below(time) {
             let end = end_of(&pieces[index + 1..], time);
             so_far = with_amount(so_far, piece, end)?;
         }

@@ -14,17 +14,11 @@ use crate::entry::{Entry, read_entry};
 use crate::link::{NamedLink, Piece};
 use crate::name::Name;
 use crate::names::Names;
-use crate::order::{is_at_most, is_below};
+use crate::sizes::{MOST_LINKS, MOST_NODES, MOST_PIECES};
 use crate::words::Words;
 use nf_formats::NetRule;
 use nf_frac::Q;
 use std::alloc::{AllocError, AllocFailed, Global};
-
-const MOST_NODES: usize = 64;
-
-const MOST_LINKS: usize = 200;
-
-const MOST_PIECES: usize = 200;
 
 /// What the lines so far say: the source and the sink, the nodes that they name, in the order of first appearance, the links,
 /// the pieces, and whether there was an `end` line.
@@ -110,7 +104,7 @@ fn is_empty_capacity(capacity: Option<Q>) -> bool
     ensures { result ≡ is_no_capacity capacity }
 {
     match capacity {
-        Some(capacity) => is_at_most(capacity, Q::zero()),
+        Some(capacity) => capacity.is_at_most(Q::zero()),
         None => false,
     }
 }
@@ -123,7 +117,7 @@ fn is_late(pieces: &[Piece], start: Q) -> bool
         return false;
     }
     let last = &pieces[pieces.len() - 1];
-    is_at_most(start, last.start)
+    start.is_at_most(last.start)
 }
 
 impl Draft {
@@ -165,7 +159,7 @@ impl Draft {
         if self.links.len() >= MOST_LINKS {
             return Some(NetRule::N11);
         }
-        if is_below(link.transit, Q::zero()) {
+        if link.transit.is_below(Q::zero()) {
             return Some(NetRule::N13);
         }
         if is_empty_capacity(link.capacity) {
@@ -180,10 +174,10 @@ impl Draft {
         if self.pieces.len() >= MOST_PIECES {
             return Some(NetRule::N12);
         }
-        if is_below(piece.start, Q::zero()) {
+        if piece.start.is_below(Q::zero()) {
             return Some(NetRule::N15);
         }
-        if is_below(piece.rate, Q::zero()) {
+        if piece.rate.is_below(Q::zero()) {
             return Some(NetRule::N15);
         }
         if is_late(&self.pieces, piece.start) {

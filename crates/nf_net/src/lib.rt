@@ -14,12 +14,10 @@ mod link;
 mod name;
 mod names;
 mod network;
-mod order;
 mod pieces;
 mod printing;
 mod reading;
-#[cfg(test)]
-mod tests;
+mod sizes;
 mod words;
 
 pub use amounts::supply;
@@ -31,3 +29,4 @@ pub use nf_formats::NetRule;
 pub use nf_graph::{Hop, LinkId, NodeId};
 pub use printing::text;
 pub use reading::parse;
+pub use sizes::{LONGEST_FILE, LONGEST_NAME, MOST_LINKS, MOST_NODES, MOST_PIECES};

@@ -6,11 +6,9 @@ ghost use Rattle.std.specs.Hash as fed;
 ghost use Rattle.nf_formats.specs.Names.{is_name, is_name_byte};
 ghost use Rattle.nf_net.specs.Names.{IsKeptName, name_equivalence, name_partial_equivalence, same_name_hash};
 
+use crate::sizes::LONGEST_NAME;
 use std::hash::{Hash, Hasher};
 use std::marker::Model;
-
-/// The most bytes of a name.
-const LONGEST_NAME: usize = 24;
 
 /// A name: 1 to 24 letters, digits, `_`, `-` and `.`. It takes no memory beside its own.
 #[derive(Drop, Debug)]

@@ -113,6 +113,7 @@ impl Network {
         ensures value { result ≡ self.now.net.source }
         ensures node { result < self.now.net.nodes }
     {
+        // For the proof: a network that is read has a source and a sink.
         let _ = &self.version;
         NodeId(0)
     }
@@ -122,6 +123,7 @@ impl Network {
         ensures value { result ≡ self.now.net.sink }
         ensures node { result < self.now.net.nodes }
     {
+        // For the proof: a network that is read has a source and a sink.
         let _ = &self.version;
         NodeId(1)
     }

@@ -4,7 +4,6 @@ ghost use Rattle.nf_rational.specs.Operations.{0ℚ};
 ghost use Rattle.nf_model.specs.Network.{rate_from, first_start};
 
 use crate::link::Piece;
-use crate::order::{is_at_most, is_below};
 use nf_frac::Q;
 
 // The rate of the last of the pieces that starts at or before the time, 0 where none does.
@@ -13,7 +12,7 @@ pub fn rate_of(pieces: &[Piece], time: Q) -> Q
 {
     let mut rate = Q::zero();
     for piece in pieces {
-        if !is_at_most(piece.start, time) {
+        if !piece.start.is_at_most(time) {
             return rate;
         }
         rate = piece.rate;
@@ -26,7 +25,7 @@ pub fn start_after(pieces: &[Piece], time: Q) -> Option<Q>
     ensures { result ≡ first_start pieces.now time }
 {
     for piece in pieces {
-        if is_below(time, piece.start) {
+        if time.is_below(piece.start) {
             return Some(piece.start);
         }
     }

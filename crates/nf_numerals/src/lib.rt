@@ -7,8 +7,6 @@
 ghost use Rattle.nf_numerals.specs.Laws.{PrintedReadsBack, PrintedIsInjective, CountsAreDigits, FractionsAreRead, DecimalsAreRead};
 
 mod reading;
-#[cfg(test)]
-mod tests;
 mod text;
 
 pub use reading::{count, decimal_parts, parts};

@@ -16,6 +16,9 @@ use reading::read_line;
 use std::alloc::{AllocError, AllocFailed, Global};
 use thiserror::Error;
 
+/// The most bytes of a line, without its ending.
+pub const LONGEST_LINE: usize = 1000;
+
 /// The place of a word in a text, in bytes.
 #[derive(Clone, Copy, Debug, PartialEq, Eq)]
 pub struct Span {
@@ -93,94 +96,4 @@ pub fn lines(alloc: Global, text: &[u8]) -> Result<Vec<Line>, TextFault>
         start = next;
     }
     Ok(lines)
-}
-
-#[cfg(test)]
-mod tests {
-    use super::*;
-    use std::test::Fail;
-
-    // The lines as one text: number, plain or not, words.
-    fn printed(alloc: Global, text: &[u8]) -> Result<Vec<u8>, TextFault>
-        requires { length text.now ≤ 67108864 }
-    {
-        let mut out = Vec::new(alloc);
-        for line in &lines(alloc, text)? {
-            out.extend_from_slice(if line.plain { b"+" } else { b"-" })?;
-            for word in &line.words {
-                let end = word.start as u64 + u64::from(word.len);
-                if end <= text.len() as u64 {
-                    out.extend_from_slice(word.of(text))?;
-                    out.push(b'|')?;
-                }
-            }
-        }
-        Ok(out)
-    }
-
-    #[test]
-    fn reads_lines_words_and_plainness(rt: HostRuntime) -> Result<(), Fail> {
-        let cases: [(&str, &str); 13] = [
-            ("", ""),
-            ("\n", "+"),
-            ("\n\n", "++"),
-            (" \n", "-"),
-            ("\r\n", "-"),
-            ("label s 0 1/2\nend\n", "+label|s|0|1/2|+end|"),
-            ("end", "-end|"),
-            ("end\r\n", "-end|"),
-            ("a\tb\n a b\na b \na  b\n", "-a|b|-a|b|-a|b|-a|b|"),
-            ("# one\na # b\na# b c\n#", "--a|-a|-"),
-            ("a#\n", "-a|"),
-            ("a a a\n a", "+a|a|a|-a|"),
-            ("nfot 1\r\nend\r\n\n", "-nfot|1|-end|+"),
-        ];
-        for (text, read) in cases {
-            assert!(rt; text.len() < 99);
-            let out = printed(rt.alloc(), text.as_bytes())?;
-            assert!(rt; out.as_slice() == read.as_bytes(), "{text:?}");
-        }
-        Ok(())
-    }
-
-    #[test]
-    fn numbers_lines_and_places_words(rt: HostRuntime) -> Result<(), Fail> {
-        let read = lines(rt.alloc(), b"a bc\r\n\n d")?;
-        assert_eq!(rt; read.len(), 3);
-        assert_eq!(rt; (read[0].number, read[1].number, read[2].number), (1, 2, 3));
-        assert!(rt;
-            read[0].words.as_slice()
-                == [Span { start: 0, len: 1 }, Span { start: 2, len: 2 }].as_slice()
-        );
-        assert!(rt; read[1].words.is_empty());
-        assert!(rt; read[2].words.as_slice() == [Span { start: 8, len: 1 }].as_slice());
-        Ok(())
-    }
-
-    #[test]
-    fn names_the_first_fault(rt: HostRuntime) -> Result<(), Fail> {
-        // bytes `a` in line 1, what follows them, the fault
-        let cases: [(usize, &[u8], Option<TextFault>); 13] = [
-            (1, b"\t\n~ !\n", None),
-            (1, b"\x7f\n", Some(TextFault::NotAscii { line: 1 })),
-            (1, b"\n\x1f", Some(TextFault::NotAscii { line: 2 })),
-            (1, b"\n\n\x80\n\xff", Some(TextFault::NotAscii { line: 3 })),
-            (1, b"\rb\n", Some(TextFault::NotAscii { line: 1 })),
-            (1, b"\r", Some(TextFault::NotAscii { line: 1 })),
-            (1, b"\r\r\n", Some(TextFault::NotAscii { line: 1 })),
-            (1000, b"\n", None),
-            (1000, b"\r\n", None),
-            (1000, b"", None),
-            (1001, b"\n", Some(TextFault::LongLine { line: 1 })),
-            (1001, b"\n\x00", Some(TextFault::LongLine { line: 1 })),
-            (1001, b"\x00", Some(TextFault::NotAscii { line: 1 })),
-        ];
-        for (count, rest, fault) in cases {
-            let mut text = vec![in rt.alloc(); b'a'; count]?;
-            text.extend_from_slice(rest)?;
-            assert!(rt; text.len() < 2000);
-            assert!(rt; lines(rt.alloc(), &text).err() == fault, "{fault:?}");
-        }
-        Ok(())
-    }
 }

@@ -9,11 +9,8 @@ ghost use Rattle.nf_text.specs.Reading.{seen_line, Tells, bytes_len, whole_len, 
 
 use crate::places::{comment_start, line_len};
 use crate::words::{is_plain, spans};
-use crate::{Line, TextFault};
+use crate::{LONGEST_LINE, Line, TextFault};
 use std::alloc::Global;
-
-/// The most bytes of a line, without its ending.
-const LONGEST_LINE: usize = 1000;
 
 fn is_text_byte(byte: u8) -> bool
     ensures { result ≡ is_allowed byte }
