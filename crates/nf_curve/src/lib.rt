@@ -5,6 +5,9 @@
 
 mod curve;
 mod flow;
+mod lines;
+mod places;
+mod walk;
 #[cfg(test)]
 mod tests;
 
