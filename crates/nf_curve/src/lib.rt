@@ -7,9 +7,10 @@ mod curve;
 mod flow;
 mod lines;
 mod places;
-mod walk;
+mod sums;
 #[cfg(test)]
 mod tests;
+mod walk;
 
 pub use curve::{Curve, Difference};
 pub use flow::{Flow, Stop, Trace};
