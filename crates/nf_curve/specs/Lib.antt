@@ -1,2 +1,5 @@
 pub mod Points
 pub mod Flows
+pub mod Sides
+pub mod Places
+pub mod Moments

@@ -1,11 +1,18 @@
 // Curves: points whose times rise strictly from 0.
 ghost use Rattle.std.specs.Prelude.{◌≡◌, ℕ, ◌+◌, ◌<◌, ◌≤◌, [], ◌∷◌, ◌++◌, length, IfOk, OnOk, OnErr, IsOk, slice_get, Some};
 ghost use Rattle.nf_rational.specs.Operations.{0ℚ};
-ghost use Rattle.nf_rational.specs.Order.{◌<ℚ◌};
-ghost use Rattle.nf_model.specs.Curve.{IsCurve};
+ghost use Rattle.nf_rational.specs.Order.{◌≤ℚ◌, ◌<ℚ◌};
+ghost use Rattle.nf_work.specs.Passing.{bound_of, beyond};
+ghost use Rattle.nf_work.specs.Checked.{at_part, Gives};
+ghost use Rattle.nf_model.specs.Curve.{IsCurve, value as value_of};
+ghost use Rattle.nf_curve_lists.specs.Values.{checked_value};
+ghost use Rattle.nf_curve_lists.specs.Sums.{checked_sum};
+ghost use Rattle.nf_curve_lists.specs.Meanings.{IsSumOf};
 ghost use Rattle.nf_curve.specs.Points.{last_time};
 
-use nf_frac::Q;
+use crate::places::{place_up, value_at};
+use crate::sums::sum_points;
+use nf_frac::{Halt, Part, PassedAt, Q};
 use std::alloc::{AllocError, Global};
 use std::marker::Model;
 
@@ -78,6 +85,28 @@ impl Curve {
         ensures { slice_get self.now.points index ≡ Some result }
     {
         self.points[index]
+    }
+
+    /// The value at a time of at least 0. Passed comes exactly at the first operation of its list that passes, and has this part.
+    /// Takes no memory.
+    pub fn value(&self, time: Q, part: Part) -> Result<Q, PassedAt<Q>>
+        requires { 0ℚ ≤ℚ time }
+        ensures list { result ≡ at_part part (checked_value (beyond (bound_of 127)) self.now.points time) }
+        ensures value { IfOk result (λ y. y ≡ value_of self.now.points time) }
+    {
+        let place = place_up(&self.points, 0, time);
+        value_at(&self.points, place, time, part)
+    }
+
+    /// The sum of two curves at every time. Passed comes exactly at the first operation of its list that passes, and has this
+    /// part.
+    pub fn sum(alloc: Global, left: &Curve, right: &Curve, part: Part) -> Result<Curve, Halt<Q>>
+        ensures list { Gives (λ c. c.points) (λ q. q) result
+            (at_part part (checked_sum (beyond (bound_of 127)) left.now.points right.now.points)) }
+        ensures sum { IfOk result (λ c. IsSumOf left.now.points right.now.points c.points) }
+    {
+        let points = sum_points(alloc, &left.points, &right.points, part)?;
+        Ok(Curve { points })
     }
 }
 

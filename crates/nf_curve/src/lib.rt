@@ -5,8 +5,12 @@
 
 mod curve;
 mod flow;
+mod lines;
+mod places;
+mod sums;
 #[cfg(test)]
 mod tests;
+mod walk;
 
 pub use curve::{Curve, Difference};
 pub use flow::{Flow, Stop, Trace};

@@ -1,0 +1,40 @@
+-- What a computation comes to where one before it ended: its value, or the operation that passes.
+use Rattle.std.proofs.Common.{◌≡◌, List, [], ◌∷◌, ◌++◌, refl, sym, ap, ◌∙◌, append-nil}
+use Rattle.std.specs.Prelude.{Result, Ok, Err, IfOk}
+use Rattle.nf_rational.specs.Rational.{ℚ}
+use Rattle.nf_work.specs.declared.Part.{Part}
+use Rattle.nf_work.specs.declared.Passed.{Passed}
+use Rattle.nf_work.specs.declared.PassedAt.{PassedAt}
+use Rattle.nf_work.specs.Checked.{placed, at_part, each, ◌>>=◌}
+use Rattle.nf_work.proofs.Each.{with_front, each_ok, each_err}
+
+pub after_err : {A B : Type 0} (part : Part) (r : Result A (Passed ℚ)) (f : A → Result B (Passed ℚ)) (p : PassedAt ℚ) → at_part part r ≡ Err p → at_part part (r >>= f) ≡ Err p
+after_err part (Ok x) f p e = absurd (cc)
+after_err part (Err q) f p e = let d : at_part {A = _} part (Err q) ≡ Err p = e in cc
+
+pub was_ok : {A : Type 0} (part : Part) (r : Result A (Passed ℚ)) (x : A) → at_part part r ≡ Ok x → r ≡ Ok x
+was_ok part (Ok y) x e = cc
+was_ok part (Err q) x e = absurd (cc)
+
+pub after_ok : {A B : Type 0} (part : Part) (r : Result A (Passed ℚ)) (f : A → Result B (Passed ℚ)) (x : A) → at_part part r ≡ Ok x → at_part part (r >>= f) ≡ at_part part (f x)
+after_ok part r f x e = ap (λ s. at_part part (s >>= f)) (was_ok part r x e)
+
+-- ---- a loop over a list, each of whose steps is a computation: what is there so far, before what the rest gives
+module _ {A B : Type 0} (part : Part) (f : A → Result B (Passed ℚ)) (front : List B) (all : Result (List B) (Passed ℚ)) (x : A) (rest : List A) (so_far : with_front front (each f (x ∷ rest)) ≡ all) where
+  pub each_goes : (y : B) → at_part part (f x) ≡ Ok y → with_front (front ++ y ∷ []) (each f rest) ≡ all
+  each_goes y e = sym (each_ok f front x rest y (was_ok part (f x) y e)) ∙ so_far
+
+  pub each_stops : (p : PassedAt ℚ) → at_part part (f x) ≡ Err p → at_part part all ≡ Err p
+  each_stops p e = ap (at_part part) (sym so_far) ∙ stop (f x) refl e
+    where
+      stop : (r : Result B (Passed ℚ)) → f x ≡ r → at_part part r ≡ Err p → at_part part (with_front front (each f (x ∷ rest))) ≡ Err p
+      stop (Ok y) d i = absurd (cc)
+      stop (Err q) d i = let same : placed part q ≡ p = cc in ap (at_part part) (each_err f front x rest q d) ∙ ap Err same
+
+pub each_ends : {A B : Type 0} (f : A → Result B (Passed ℚ)) (front : List B) (all : Result (List B) (Passed ℚ)) (part : Part) → with_front front (each f []) ≡ all → at_part part all ≡ Ok front
+each_ends f front all part e = ap (at_part part) (sym e) ∙ ap Ok (append-nil front)
+
+-- what holds of a computation's value holds of what is returned
+pub if_ok : {A : Type 0} (part : Part) (r : Result A (PassedAt ℚ)) (s : Result A (Passed ℚ)) (P : A → Type 0) → r ≡ at_part part s → ((y : A) → s ≡ Ok y → P y) → IfOk r P
+if_ok part (Ok y) s P e f = f y (was_ok part s y (sym e))
+if_ok part (Err p) s P e f = tt

@@ -1,0 +1,174 @@
+-- Places on curves: what lies before and behind them.
+use Rattle.std.proofs.Common.{◌≡◌, ℕ, zero, suc, ◌+◌, ◌-◌, ◌<◌, ◌≤◌, List, [], ◌∷◌, length, ⊎_elim, Bool, true, false, refl, sym, ap, subst, ◌∙◌, arith}
+use Rattle.std.specs.Prelude.{Option, Some, None, slice_get, Result, Ok, if◌then◌else◌}
+use Rattle.nf_rational.specs.Rational.{ℚ}
+use Rattle.nf_rational.specs.Operations.{0ℚ}
+use Rattle.nf_rational.specs.Order.{◌≤ℚ◌, ◌<ℚ◌, lt_ℚ}
+use Rattle.nf_rational_laws.proofs.Order.{≤ℚ_of_lt}
+use Rattle.nf_rational_laws.proofs.Polynomial.{reading_of}
+use Rattle.nf_rational_laws.proofs.Linear.{le, lt, linear_lt}
+use Rattle.nf_rational_laws.proofs.Tests.{lt_ℚ_cases}
+use Rattle.nf_work.specs.Passing.{Passing}
+use Rattle.nf_work.specs.Checked.{at_part}
+use Rattle.nf_work.specs.declared.Part.{Part}
+use Rattle.nf_work.specs.declared.PassedAt.{PassedAt}
+use Rattle.nf_model.specs.Curve.{Point, TimesRise, IsCurve}
+use Rattle.nf_model_laws.proofs.Affine.{<_≤_trans, ≤_trans, ≤_refl, clash}
+use Rattle.nf_lists.specs.Signs.{is_same}
+use Rattle.nf_curve_lists.specs.Lines.{checked_line}
+use Rattle.nf_curve_lists.specs.Values.{value_from, checked_value}
+use Rattle.nf_curve_laws.proofs.Operations.{is_same_cases}
+use Rattle.nf_curve.specs.Places.{place_of, value_between}
+
+-- ---- the place, by the first point's test
+pub place-behind : (time : ℚ) (p : Point) (rest : List Point) → time <ℚ p.0 → place_of time (p ∷ rest) ≡ zero
+place-behind time p rest h = ⊎_elim
+    (λ (w : (lt_ℚ time p.0 ≡ true) × (time <ℚ p.0)). ap (λ (b : Bool). if b then zero else suc (place_of time rest)) w.0)
+    (λ (w : (lt_ℚ time p.0 ≡ false) × (p.0 ≤ℚ time)). absurd (clash time p.0 h w.1))
+    (lt_ℚ_cases time p.0)
+
+pub place-past : (time : ℚ) (p : Point) (rest : List Point) → p.0 ≤ℚ time → place_of time (p ∷ rest) ≡ suc (place_of time rest)
+place-past time p rest h = ⊎_elim
+    (λ (w : (lt_ℚ time p.0 ≡ true) × (time <ℚ p.0)). absurd (clash time p.0 w.1 h))
+    (λ (w : (lt_ℚ time p.0 ≡ false) × (p.0 ≤ℚ time)). ap (λ (b : Bool). if b then zero else suc (place_of time rest)) w.0)
+    (lt_ℚ_cases time p.0)
+
+pub rises-rest : (p : Point) (rest : List Point) → TimesRise (p ∷ rest) → TimesRise rest
+rises-rest p [] r = tt
+rises-rest p (q ∷ rest) r = r.1
+
+-- ---- points before the place, and behind it
+pub place_within : (time : ℚ) (points : List Point) → place_of time points ≤ length points
+place_within time [] = omega arith
+place_within time (p ∷ rest) = ⊎_elim
+    (λ (w : (lt_ℚ time p.0 ≡ true) × (time <ℚ p.0)). let e = place-behind time p rest w.1 in omega arith)
+    (λ (w : (lt_ℚ time p.0 ≡ false) × (p.0 ≤ℚ time)). let e = place-past time p rest w.1 in let h = place_within time rest in omega arith)
+    (lt_ℚ_cases time p.0)
+
+-- a point before the place is at or before the time
+pub before-place : (time : ℚ) (points : List Point) (i : ℕ) (p : Point) → slice_get points i ≡ Some p → i < place_of time points → p.0 ≤ℚ time
+before-place time [] i p g h = absurd (cc)
+before-place time (x ∷ rest) i p g h = ⊎_elim
+    (λ (w : (lt_ℚ time x.0 ≡ true) × (time <ℚ x.0)). let e = place-behind time x rest w.1 in absurd (omega arith))
+    (λ (w : (lt_ℚ time x.0 ≡ false) × (x.0 ≤ℚ time)). at (λ i g k. before-place time rest i p g k) i g (let e = place-past time x rest w.1 in omega arith) w.1)
+    (lt_ℚ_cases time x.0)
+  where
+    at : ((i : ℕ) → slice_get rest i ≡ Some p → i < place_of time rest → p.0 ≤ℚ time) → (i : ℕ) → slice_get (x ∷ rest) i ≡ Some p → i < suc (place_of time rest) → x.0 ≤ℚ time → p.0 ≤ℚ time
+    at further zero g h k = subst (λ (q : Point). q.0 ≤ℚ time) (let same : x ≡ p = cc in same) k
+    at further (suc i) g h k = further i g (omega arith)
+
+-- all points of a curve come at or after its first
+first-least : (x : Point) (rest : List Point) (i : ℕ) (p : Point) → TimesRise (x ∷ rest) → slice_get (x ∷ rest) i ≡ Some p → x.0 ≤ℚ p.0
+first-least x rest zero p r g = subst (λ (q : Point). x.0 ≤ℚ q.0) (let same : x ≡ p = cc in same) (≤_refl x.0)
+first-least x [] (suc i) p r g = absurd (cc)
+first-least x (y ∷ rest) (suc i) p r g = ≤_trans _ _ _ (≤ℚ_of_lt _ _ r.0) (first-least y rest i p r.1 g)
+
+-- a point from the place on is after the time
+pub from-place : (time : ℚ) (points : List Point) (i : ℕ) (p : Point) → TimesRise points → slice_get points i ≡ Some p → place_of time points ≤ i → time <ℚ p.0
+from-place time [] i p r g h = absurd (cc)
+from-place time (x ∷ rest) i p r g h = ⊎_elim
+    (λ (w : (lt_ℚ time x.0 ≡ true) × (time <ℚ x.0)). <_≤_trans _ _ _ w.1 (first-least x rest i p r g))
+    (λ (w : (lt_ℚ time x.0 ≡ false) × (x.0 ≤ℚ time)). at (λ i g k. from-place time rest i p (rises-rest x rest r) g k) i g (let e = place-past time x rest w.1 in omega arith))
+    (lt_ℚ_cases time x.0)
+  where
+    at : ((i : ℕ) → slice_get rest i ≡ Some p → place_of time rest ≤ i → time <ℚ p.0) → (i : ℕ) → slice_get (x ∷ rest) i ≡ Some p → suc (place_of time rest) ≤ i → time <ℚ p.0
+    at further zero g h = absurd (omega arith)
+    at further (suc i) g h = further i g (omega arith)
+
+-- later times have later places
+pub place-rises : (time next : ℚ) (points : List Point) → time ≤ℚ next → place_of time points ≤ place_of next points
+place-rises time next [] h = omega arith
+place-rises time next (p ∷ rest) h = ⊎_elim
+    (λ (w : (lt_ℚ time p.0 ≡ true) × (time <ℚ p.0)). let e = place-behind time p rest w.1 in omega arith)
+    (λ (w : (lt_ℚ time p.0 ≡ false) × (p.0 ≤ℚ time)).
+    let e = place-past time p rest w.1 in
+    let f = place-past next p rest (≤_trans _ _ _ w.1 h) in
+    let k = place-rises time next rest h in omega arith)
+    (lt_ℚ_cases time p.0)
+
+-- ---- moving to a place, by the test of the point there
+pub not-yet : (time : ℚ) (points : List Point) (i : ℕ) (p : Point) → TimesRise points → slice_get points i ≡ Some p → lt_ℚ time p.0 ≡ false → i < place_of time points
+not-yet time points i p r g t = let h : place_of time points ≤ i → ⊥ = λ h. clash time p.0 (from-place time points i p r g h) later in omega arith
+  where
+    later : p.0 ≤ℚ time
+    later = ⊎_elim (λ (w : (lt_ℚ time p.0 ≡ true) × (time <ℚ p.0)). absurd (cc)) (λ (w : (lt_ℚ time p.0 ≡ false) × (p.0 ≤ℚ time)). w.1) (lt_ℚ_cases time p.0)
+
+pub too-far : (time : ℚ) (points : List Point) (i : ℕ) (p : Point) → slice_get points i ≡ Some p → lt_ℚ time p.0 ≡ true → place_of time points ≤ i
+too-far time points i p g t = let h : i < place_of time points → ⊥ = λ h. clash time p.0 earlier (before-place time points i p g h) in omega arith
+  where
+    earlier : time <ℚ p.0
+    earlier = ⊎_elim (λ (w : (lt_ℚ time p.0 ≡ true) × (time <ℚ p.0)). w.1) (λ (w : (lt_ℚ time p.0 ≡ false) × (p.0 ≤ℚ time)). absurd (cc)) (lt_ℚ_cases time p.0)
+
+-- ---- the value, by the two points at the place
+value_from-between : (passes : Passing) (time : ℚ) (p : Point) (rest : List Point) → TimesRise (p ∷ rest) → p.0 ≤ℚ time
+    → value_from passes p rest time ≡ value_between passes time (slice_get (p ∷ rest) (place_of time (p ∷ rest) - 1)) (slice_get (p ∷ rest) (place_of time (p ∷ rest)))
+value_from-between passes time p [] r h = sym (ap (λ (k : ℕ). value_between passes time (slice_get (p ∷ []) (k - 1)) (slice_get (p ∷ []) k)) (place-past time p [] h))
+value_from-between passes time p (q ∷ rest) r h = ⊎_elim
+    (λ (w : (lt_ℚ time q.0 ≡ true) × (time <ℚ q.0)). here w.0 w.1)
+    (λ (w : (lt_ℚ time q.0 ≡ false) × (q.0 ≤ℚ time)). ap (λ (b : Bool). if b then Ok p.1 else (if lt_ℚ time q.0 then checked_line passes p q time else value_from passes q rest time)) (apart w.1)
+    ∙ ap (λ (b : Bool). if b then checked_line passes p q time else value_from passes q rest time) w.0
+    ∙ value_from-between passes time q rest r.1 w.1 ∙ sym (further w.1 (place_of time rest) refl))
+    (lt_ℚ_cases time q.0)
+  where
+    here : lt_ℚ time q.0 ≡ true → time <ℚ q.0
+        → (if is_same time p.0 then Ok p.1 else (if lt_ℚ time q.0 then checked_line passes p q time else value_from passes q rest time))
+        ≡ value_between passes time (slice_get (p ∷ q ∷ rest) (place_of time (p ∷ q ∷ rest) - 1)) (slice_get (p ∷ q ∷ rest) (place_of time (p ∷ q ∷ rest)))
+    here t k = ap (λ (b : Bool). if is_same time p.0 then Ok p.1 else (if b then checked_line passes p q time else value_from passes q rest time)) t
+        ∙ sym (ap (λ (k : ℕ). value_between passes time (slice_get (p ∷ q ∷ rest) (k - 1)) (slice_get (p ∷ q ∷ rest) k)) (place-past time p (q ∷ rest) h ∙ ap suc (place-behind time q rest k)))
+
+    apart : q.0 ≤ℚ time → is_same time p.0 ≡ false
+    apart k = ⊎_elim
+        (λ (w : (is_same time p.0 ≡ true) × (time ≡ p.0)). absurd (clash p.0 time (<_≤_trans _ _ _ r.0 k) (Rattle.nf_rational_laws.proofs.Order.≤ℚ_of_same time p.0 w.1)))
+        (λ (w : (is_same time p.0 ≡ false) × (¬ (time ≡ p.0))). w.0)
+        (is_same_cases time p.0)
+
+    -- the place in all of them is one more than that in the later ones
+    further : q.0 ≤ℚ time → (n : ℕ) → place_of time rest ≡ n
+        → value_between passes time (slice_get (p ∷ q ∷ rest) (place_of time (p ∷ q ∷ rest) - 1)) (slice_get (p ∷ q ∷ rest) (place_of time (p ∷ q ∷ rest)))
+        ≡ value_between passes time (slice_get (q ∷ rest) (place_of time (q ∷ rest) - 1)) (slice_get (q ∷ rest) (place_of time (q ∷ rest)))
+    further k n e =
+        ap (λ (k : ℕ). value_between passes time (slice_get (p ∷ q ∷ rest) (k - 1)) (slice_get (p ∷ q ∷ rest) k)) (place-past time p (q ∷ rest) h ∙ ap suc (place-past time q rest k))
+        ∙ ap (λ (k : ℕ). value_between passes time (slice_get (p ∷ q ∷ rest) k) (slice_get (q ∷ rest) (suc (place_of time rest)))) (let one : suc (suc (place_of time rest)) - 1 ≡ suc (place_of time rest) = omega arith in one)
+        ∙ ap (λ (k : ℕ). value_between passes time (slice_get (q ∷ rest) k) (slice_get (q ∷ rest) (suc (place_of time rest)))) (let one : place_of time rest ≡ suc (place_of time rest) - 1 = omega arith in one)
+        ∙ sym (ap (λ (k : ℕ). value_between passes time (slice_get (q ∷ rest) (k - 1)) (slice_get (q ∷ rest) k)) (place-past time q rest k))
+
+-- the first point is at time 0, so its place is at least 1
+pub place_some : (time : ℚ) (points : List Point) → IsCurve points → 0ℚ ≤ℚ time → 0 < place_of time points
+place_some time [] c h = absurd c
+place_some time (p ∷ rest) c h = let e = place-past time p rest (subst (λ (z : ℚ). z ≤ℚ time) (sym c.0) h) in omega arith
+
+pub checked_value-between : (passes : Passing) (time : ℚ) (points : List Point) → IsCurve points → 0ℚ ≤ℚ time
+    → checked_value passes points time ≡ value_between passes time (slice_get points (place_of time points - 1)) (slice_get points (place_of time points))
+unfolding checked_value
+checked_value-between passes time [] c h = absurd c
+checked_value-between passes time (p ∷ rest) c h = value_from-between passes time p rest c.1 (subst (λ (z : ℚ). z ≤ℚ time) (sym c.0) h)
+
+pub value-at : (passes : Passing) (time : ℚ) (points : List Point) (k : ℕ) (p : Point) (next : Option Point) → IsCurve points → 0ℚ ≤ℚ time → k ≡ place_of time points
+    → slice_get points (k - 1) ≡ Some p → slice_get points k ≡ next → checked_value passes points time ≡ value_between passes time (Some p) next
+value-at passes time points k p next c h e f g =
+    checked_value-between passes time points c h
+    ∙ ap (λ (n : ℕ). value_between passes time (slice_get points (n - 1)) (slice_get points n)) (sym e)
+    ∙ ap (λ (o : Option Point). value_between passes time o (slice_get points k)) f
+    ∙ ap (λ (o : Option Point). value_between passes time (Some p) o) g
+
+below_all : (x y z : ℚ) → x ≤ℚ y → y <ℚ z → x <ℚ z
+below_all x y z h k = linear_lt (x ∷ y ∷ z ∷ []) (le h ∷ lt k ∷ []) (search reading_of depth 12) tt
+
+-- a point before the place and one at it
+pub around-place : (time : ℚ) (points : List Point) (k : ℕ) (p q : Point) → TimesRise points → k ≡ place_of time points → 0 < k → slice_get points (k - 1) ≡ Some p → slice_get points k ≡ Some q → p.0 <ℚ q.0
+around-place time points k p q r e o f g = below_all p.0 time q.0 (before-place time points (k - 1) p f (omega arith)) (from-place time points k q r g (omega arith))
+
+pub curve-rises : (points : List Point) → IsCurve points → TimesRise points
+curve-rises [] c = absurd c
+curve-rises (p ∷ rest) c = c.1
+
+-- ---- the exits of the value at a place
+module _ (passes : Passing) (part : Part) (time : ℚ) (points : List Point) (k : ℕ) (p : Point) (c : IsCurve points) (h : 0ℚ ≤ℚ time) (e : k ≡ place_of time points) (f : slice_get points (k - 1) ≡ Some p) where
+  pub value-last : slice_get points k ≡ None → ◌≡◌ {A = Result ℚ (PassedAt ℚ)} (Ok p.1) (at_part part (checked_value passes points time))
+  value-last g = sym (ap (at_part part) (value-at passes time points k p None c h e f g))
+
+  pub value-same : (q : Point) → slice_get points k ≡ Some q → is_same time p.0 ≡ true → ◌≡◌ {A = Result ℚ (PassedAt ℚ)} (Ok p.1) (at_part part (checked_value passes points time))
+  value-same q g t = sym (ap (at_part part) (value-at passes time points k p (Some q) c h e f g ∙ ap (λ (b : Bool). if b then Ok p.1 else checked_line passes p q time) t))
+
+  pub value-line : (q : Point) (r : Result ℚ (PassedAt ℚ)) → slice_get points k ≡ Some q → is_same time p.0 ≡ false → r ≡ at_part part (checked_line passes p q time) → r ≡ at_part part (checked_value passes points time)
+  value-line q r g t i = i ∙ sym (ap (at_part part) (value-at passes time points k p (Some q) c h e f g ∙ ap (λ (b : Bool). if b then Ok p.1 else checked_line passes p q time) t))

@@ -1,0 +1,152 @@
+-- A walk along two curves comes to their times, one after the other.
+use Rattle.std.proofs.Common.{◌≡◌, ℕ, zero, suc, List, [], ◌∷◌, length, ⊎_elim, Bool, true, false, refl, sym, ap, subst, ◌∙◌}
+use Rattle.std.specs.Prelude.{Option, Some, None, slice_get, option_map, if◌then◌else◌}
+use Rattle.nf_rational.specs.Rational.{ℚ}
+use Rattle.nf_rational.specs.Operations.{0ℚ}
+use Rattle.nf_rational.specs.Order.{◌≤ℚ◌, ◌<ℚ◌, lt_ℚ, min_ℚ}
+use Rattle.nf_rational_laws.proofs.Order.{≤ℚ_of_lt, ≤ℚ_of_same}
+use Rattle.nf_rational_laws.proofs.Tests.{lt_ℚ_cases}
+use Rattle.nf_model.specs.Curve.{Point, TimesRise, IsCurve}
+use Rattle.nf_model_laws.proofs.Affine.{<_≤_trans, ≤_trans, ≤_refl, clash}
+use Rattle.nf_curve_lists.specs.Times.{merged, merged_from, times_of, both_times}
+use Rattle.nf_curve_laws.proofs.Times.{merged_from-cases}
+use Rattle.nf_curve_laws.proofs.Least.{min-left, min-right}
+use Rattle.nf_curve.specs.Places.{place_of, later, times_after, earlier_of, ComesNext}
+use Rattle.nf_curve.specs.Moments.{IsMoment}
+use Rattle.nf_curve.specs.declared.walk.Moment.{Moment}
+use Rattle.nf_curve.proofs.Placing.{rises-rest, curve-rises}
+
+-- ---- the points after a time
+later-behind : (time : ℚ) (p : Point) (rest : List Point) → time <ℚ p.0 → later time (p ∷ rest) ≡ p ∷ rest
+later-behind time p rest h = ⊎_elim
+    (λ (w : (lt_ℚ time p.0 ≡ true) × (time <ℚ p.0)). ap (λ (b : Bool). if b then p ∷ rest else later time rest) w.0)
+    (λ (w : (lt_ℚ time p.0 ≡ false) × (p.0 ≤ℚ time)). absurd (clash time p.0 h w.1))
+    (lt_ℚ_cases time p.0)
+
+later-past : (time : ℚ) (p : Point) (rest : List Point) → p.0 ≤ℚ time → later time (p ∷ rest) ≡ later time rest
+later-past time p rest h = ⊎_elim
+    (λ (w : (lt_ℚ time p.0 ≡ true) × (time <ℚ p.0)). absurd (clash time p.0 w.1 h))
+    (λ (w : (lt_ℚ time p.0 ≡ false) × (p.0 ≤ℚ time)). ap (λ (b : Bool). if b then p ∷ rest else later time rest) w.0)
+    (lt_ℚ_cases time p.0)
+
+-- all but the first of rising points come after it
+later-first : (p : Point) (rest : List Point) → TimesRise (p ∷ rest) → later p.0 (p ∷ rest) ≡ rest
+later-first p [] r = later-past p.0 p [] (≤_refl p.0)
+later-first p (q ∷ rest) r = later-past p.0 p (q ∷ rest) (≤_refl p.0) ∙ later-behind p.0 q rest r.0
+
+abbrev head_of : List Point → Option ℚ
+head_of [] = None
+head_of (p ∷ rest) = Some p.0
+
+-- the first of them stands at the place of the time
+place-head : (time : ℚ) (points : List Point) → option_map (λ (p : Point). p.0) (slice_get points (place_of time points)) ≡ head_of (later time points)
+place-head time [] = refl
+place-head time (p ∷ rest) = go (lt_ℚ time p.0) (place-head time rest)
+  where
+    go : (b : Bool) → option_map (λ (p : Point). p.0) (slice_get rest (place_of time rest)) ≡ head_of (later time rest)
+        → option_map (λ (p : Point). p.0) (slice_get (p ∷ rest) (if b then zero else suc (place_of time rest))) ≡ head_of (if b then p ∷ rest else later time rest)
+    go true e = refl
+    go false e = e
+
+-- after the first of them come the others, and it is the first from any time on until then
+record Steps (time : ℚ) (points : List Point) (p : Point) (rest : List Point) : Type 0 where
+  pub after : time <ℚ p.0
+  pub next : later p.0 points ≡ rest
+  pub stays : (between : ℚ) → time ≤ℚ between → between <ℚ p.0 → later between points ≡ p ∷ rest
+
+later-steps : (time : ℚ) (points : List Point) (p : Point) (rest : List Point) → TimesRise points → later time points ≡ p ∷ rest → Steps time points p rest
+later-steps time [] p rest r e = absurd (cc)
+later-steps time (x ∷ xs) p rest r e = ⊎_elim
+    (λ (w : (lt_ℚ time x.0 ≡ true) × (time <ℚ x.0)). first w.1 (sym (later-behind time x xs w.1) ∙ e))
+    (λ (w : (lt_ℚ time x.0 ≡ false) × (x.0 ≤ℚ time)). further w.1 (later-steps time xs p rest (rises-rest x xs r) (sym (later-past time x xs w.1) ∙ e)))
+    (lt_ℚ_cases time x.0)
+  where
+    first : time <ℚ x.0 → x ∷ xs ≡ p ∷ rest → Steps time (x ∷ xs) p rest
+    first h d =
+        let same : x ≡ p = cc in
+        let others : xs ≡ rest = cc in
+        subst (λ (q : Point). Steps time (x ∷ xs) q rest) same (subst (λ (l : List Point). Steps time (x ∷ xs) x l) others
+        (record { after = h; next = later-first x xs r; stays = λ between i j. later-behind between x xs j }))
+
+    further : x.0 ≤ℚ time → Steps time xs p rest → Steps time (x ∷ xs) p rest
+    further h s = record {
+      after = s.after;
+      next = later-past p.0 x xs (≤_trans _ _ _ h (≤ℚ_of_lt _ _ s.after)) ∙ s.next;
+      stays = λ between i j. later-past between x xs (≤_trans _ _ _ h i) ∙ s.stays between i j;
+    }
+
+later-none : (time next : ℚ) (points : List Point) → later time points ≡ [] → time ≤ℚ next → later next points ≡ []
+later-none time next [] e h = refl
+later-none time next (x ∷ xs) e h = ⊎_elim
+    (λ (w : (lt_ℚ time x.0 ≡ true) × (time <ℚ x.0)). let d : x ∷ xs ≡ [] = sym (later-behind time x xs w.1) ∙ e in absurd (cc))
+    (λ (w : (lt_ℚ time x.0 ≡ false) × (x.0 ≤ℚ time)). later-past next x xs (≤_trans _ _ _ w.1 h) ∙ later-none time next xs (sym (later-past time x xs w.1) ∙ e) h)
+    (lt_ℚ_cases time x.0)
+
+-- ---- a step of the walk
+module _ (time : ℚ) (left right : List Point) (r : TimesRise left) (s : TimesRise right) where
+  steps : (ls rs : List Point) → later time left ≡ ls → later time right ≡ rs → ComesNext time left right (earlier_of (head_of ls) (head_of rs))
+  steps [] [] e f = ap (λ (l : List Point). merged (times_of l) (times_of (later time right))) e ∙ ap (λ (l : List Point). merged [] (times_of l)) f
+  steps (p ∷ ls) [] e f =
+      let w = later-steps time left p ls r e in (
+        w.after,
+        ap (λ (l : List Point). merged (times_of l) (times_of (later time right))) e ∙ ap (λ (l : List Point). merged (times_of (p ∷ ls)) (times_of l)) f
+            ∙ sym (ap (λ (l : List Point). p.0 ∷ merged (times_of l) (times_of (later p.0 right))) w.next
+            ∙ ap (λ (l : List Point). p.0 ∷ merged (times_of ls) (times_of l)) (later-none time p.0 right f (≤ℚ_of_lt _ _ w.after))),
+      )
+  steps [] (q ∷ rs) e f =
+      let w = later-steps time right q rs s f in (
+        w.after,
+        ap (λ (l : List Point). merged (times_of l) (times_of (later time right))) e ∙ ap (λ (l : List Point). merged [] (times_of l)) f
+            ∙ sym (ap (λ (l : List Point). q.0 ∷ merged (times_of l) (times_of (later q.0 right))) (later-none time q.0 left e (≤ℚ_of_lt _ _ w.after))
+            ∙ ap (λ (l : List Point). q.0 ∷ merged [] (times_of l)) w.next),
+      )
+  steps (p ∷ ls) (q ∷ rs) e f =
+      let v = later-steps time left p ls r e in
+      let w = later-steps time right q rs s f in
+      subst (λ (l : List ℚ). (time <ℚ min_ℚ p.0 q.0) × (l ≡ min_ℚ p.0 q.0 ∷ times_after (min_ℚ p.0 q.0) left right))
+      (sym (ap (λ (l : List Point). merged (times_of l) (times_of (later time right))) e ∙ ap (λ (l : List Point). merged (times_of (p ∷ ls)) (times_of l)) f))
+      (merged_from-cases (λ (l : List ℚ). (time <ℚ min_ℚ p.0 q.0) × (l ≡ min_ℚ p.0 q.0 ∷ times_after (min_ℚ p.0 q.0) left right)) p.0 (merged (times_of ls)) q.0 (times_of rs)
+      (λ h. on p.0 (p.0 ∷ merged (times_of ls) (times_of (q ∷ rs))) (min-left p.0 q.0 (≤ℚ_of_lt _ _ h)) v.after
+      (ap (λ (l : List Point). p.0 ∷ merged (times_of l) (times_of (later p.0 right))) v.next ∙ ap (λ (l : List Point). p.0 ∷ merged (times_of ls) (times_of l)) (w.stays p.0 (≤ℚ_of_lt _ _ v.after) h)))
+      (λ h. on q.0 (q.0 ∷ merged (times_of (p ∷ ls)) (times_of rs)) (min-right p.0 q.0 (≤ℚ_of_lt _ _ h)) w.after
+      (ap (λ (l : List Point). q.0 ∷ merged (times_of l) (times_of (later q.0 right))) (v.stays q.0 (≤ℚ_of_lt _ _ w.after) h) ∙ ap (λ (l : List Point). q.0 ∷ merged (times_of (p ∷ ls)) (times_of l)) w.next))
+      (λ h. on p.0 (p.0 ∷ merged (times_of ls) (times_of rs)) (min-left p.0 q.0 (≤ℚ_of_same _ _ h)) v.after
+      (ap (λ (l : List Point). p.0 ∷ merged (times_of l) (times_of (later p.0 right))) v.next
+      ∙ ap (λ (l : List Point). p.0 ∷ merged (times_of ls) (times_of l)) (ap (λ (t : ℚ). later t right) h ∙ w.next))))
+    where
+      on : (next : ℚ) (l : List ℚ) → min_ℚ p.0 q.0 ≡ next → time <ℚ next → next ∷ times_after next left right ≡ l → (time <ℚ min_ℚ p.0 q.0) × (l ≡ min_ℚ p.0 q.0 ∷ times_after (min_ℚ p.0 q.0) left right)
+      on next l i h j = (subst (λ (t : ℚ). time <ℚ t) (sym i) h, sym j ∙ ap (λ (t : ℚ). t ∷ times_after t left right) (sym i))
+
+  -- the earlier of the times at the places comes next
+  pub comes-next : (next : Option ℚ) → next ≡ earlier_of (option_map (λ (p : Point). p.0) (slice_get left (place_of time left))) (option_map (λ (p : Point). p.0) (slice_get right (place_of time right))) → ComesNext time left right next
+  comes-next next e = subst (λ (o : Option ℚ). ComesNext time left right o)
+      (sym (e ∙ ap (λ (o : Option ℚ). earlier_of o (option_map (λ (p : Point). p.0) (slice_get right (place_of time right)))) (place-head time left) ∙ ap (λ (o : Option ℚ). earlier_of (head_of (later time left)) o) (place-head time right)))
+      (steps (later time left) (later time right) refl refl)
+
+-- ---- the walk begins at time 0
+begins : (p q : Point) (left right : List Point) → TimesRise (p ∷ left) → TimesRise (q ∷ right) → p.0 ≡ q.0 → both_times (p ∷ left) (q ∷ right) ≡ p.0 ∷ times_after p.0 (p ∷ left) (q ∷ right)
+unfolding both_times
+begins p q left right r s e = merged_from-cases (λ (l : List ℚ). l ≡ p.0 ∷ times_after p.0 (p ∷ left) (q ∷ right)) p.0 (merged (times_of left)) q.0 (times_of right)
+    (λ h. absurd (clash p.0 q.0 h (≤ℚ_of_same _ _ (sym e))))
+    (λ h. absurd (clash q.0 p.0 h (≤ℚ_of_same _ _ e)))
+    (λ h. sym (ap (λ (l : List Point). p.0 ∷ merged (times_of l) (times_of (later p.0 (q ∷ right)))) (later-first p left r)
+    ∙ ap (λ (l : List Point). p.0 ∷ merged (times_of left) (times_of l)) (ap (λ (t : ℚ). later t (q ∷ right)) e ∙ later-first q right s)))
+
+pub walk-begins : (left right : List Point) (time : ℚ) → IsCurve left → IsCurve right → time ≡ 0ℚ → both_times left right ≡ time ∷ times_after time left right
+walk-begins [] right time c d e = absurd c
+walk-begins (p ∷ left) [] time c d e = absurd d
+walk-begins (p ∷ left) (q ∷ right) time c d e = subst (λ (t : ℚ). both_times (p ∷ left) (q ∷ right) ≡ t ∷ times_after t (p ∷ left) (q ∷ right)) (c.0 ∙ sym e) (begins p q left right c.1 d.1 (c.0 ∙ sym d.0))
+
+-- ---- where the walk is next
+module _ (left right : List Point) (c : IsCurve left) (d : IsCurve right) (now : Moment) (there : IsMoment left right now) (s t next : Option ℚ)
+    (e : s ≡ option_map (λ (p : Point). p.0) (slice_get left now.left)) (f : t ≡ option_map (λ (p : Point). p.0) (slice_get right now.right)) (g : next ≡ earlier_of s t) where
+  next-is : ComesNext now.time left right next
+  next-is = comes-next now.time left right (curve-rises left c) (curve-rises right d) next
+      (g ∙ ap (λ (o : Option ℚ). earlier_of o t) (e ∙ ap (λ (k : ℕ). option_map (λ (p : Point). p.0) (slice_get left k)) there.left_place)
+      ∙ ap (λ (o : Option ℚ). earlier_of (option_map (λ (p : Point). p.0) (slice_get left (place_of now.time left))) o) (f ∙ ap (λ (k : ℕ). option_map (λ (p : Point). p.0) (slice_get right k)) there.right_place))
+
+  pub walk-ends : next ≡ None → times_after now.time left right ≡ []
+  walk-ends h = subst (λ (o : Option ℚ). ComesNext now.time left right o) h next-is
+
+  pub walk-goes : (time : ℚ) → next ≡ Some time → (now.time <ℚ time) × (times_after now.time left right ≡ time ∷ times_after time left right)
+  walk-goes time h = subst (λ (o : Option ℚ). ComesNext now.time left right o) h next-is

@@ -1,0 +1,18 @@
+use Rattle.std.proofs.Common.{◌≡◌, ℕ, length}
+use Rattle.nf_work.specs.Passing.{bound_of, beyond}
+use Rattle.nf_work.specs.Checked.{each}
+use Rattle.nf_work.proofs.Each.{with_front}
+use Rattle.nf_curve_lists.specs.Times.{both_times}
+use Rattle.nf_curve_lists.specs.Sums.{sum_at}
+use Rattle.nf_curve.specs.Moments.{IsThere, times_left}
+use Rattle.nf_curve.proofs.sums.sum_points.Given as goal
+
+-- the points so far, and those at the times to come
+abbrev pub invariant-loop-now : goal.invariant-loop-now
+invariant-loop-now l = record {
+  there : IsThere l.left l.right l.now;
+  so_far : with_front l.points.items (each (sum_at (beyond (bound_of 127)) l.left l.right) (times_left l.left l.right l.now)) ≡ each (sum_at (beyond (bound_of 127)) l.left l.right) (both_times l.left l.right);
+}
+
+abbrev pub decreases-loop-now : goal.decreases-loop-now
+decreases-loop-now l = length (times_left l.left l.right l.now)

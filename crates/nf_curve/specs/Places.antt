@@ -1,0 +1,43 @@
+-- Places on curves: how many of the points are at or before a time; and the times of two curves after a time.
+use Rattle.std.specs.Prelude.{◌≡◌, ℕ, zero, suc, if◌then◌else◌, List, [], ◌∷◌, Option, Some, None, Ok}
+use Rattle.nf_rational.specs.Rational.{ℚ}
+use Rattle.nf_rational.specs.Operations.{0ℚ}
+use Rattle.nf_rational.specs.Order.{◌<ℚ◌, lt_ℚ, min_ℚ}
+use Rattle.nf_work.specs.Passing.{Passing}
+use Rattle.nf_work.specs.Checked.{Checked}
+use Rattle.nf_model.specs.Curve.{Point}
+use Rattle.nf_lists.specs.Signs.{is_same}
+use Rattle.nf_curve_lists.specs.Lines.{checked_line}
+use Rattle.nf_curve_lists.specs.Times.{merged, times_of}
+
+-- how many of the first points are at or before a time
+abbrev pub place_of : ℚ → List Point → ℕ
+place_of time [] = zero
+place_of time (p ∷ rest) = if lt_ℚ time p.0 then zero else suc (place_of time rest)
+
+-- the value at a time, by the last point at or before it and the one after it
+abbrev pub value_between : Passing → ℚ → Option Point → Option Point → Checked ℚ
+value_between passes time None next = Ok 0ℚ
+value_between passes time (Some p) None = Ok p.1
+value_between passes time (Some p) (Some q) = if is_same time p.0 then Ok p.1 else checked_line passes p q time
+
+-- ---- the times of two curves, one after the other
+-- the points after a time
+abbrev pub later : ℚ → List Point → List Point
+later time [] = []
+later time (p ∷ rest) = if lt_ℚ time p.0 then p ∷ rest else later time rest
+
+abbrev pub times_after : ℚ → List Point → List Point → List ℚ
+times_after time left right = merged (times_of (later time left)) (times_of (later time right))
+
+-- the earlier of two times, if there are any
+abbrev pub earlier_of : Option ℚ → Option ℚ → Option ℚ
+earlier_of None None = None
+earlier_of (Some s) None = Some s
+earlier_of None (Some t) = Some t
+earlier_of (Some s) (Some t) = Some (min_ℚ s t)
+
+-- what a walk along two curves comes to after a time: nothing, or a time, and then what comes after that
+abbrev pub ComesNext : ℚ → List Point → List Point → Option ℚ → Type 0
+ComesNext time left right None = times_after time left right ≡ []
+ComesNext time left right (Some next) = (time <ℚ next) × (times_after time left right ≡ next ∷ times_after next left right)

@@ -1,0 +1,6 @@
+-- The values of two curves at a time, as the lists of operations have them.
+use Rattle.nf_curve_lists.specs.Lines as lists
+use Rattle.nf_curve.specs.declared.lines.Sides.{Sides}
+
+abbrev pub sides_of : Sides → lists.Sides
+sides_of s = record { time = s.time; left = s.left; right = s.right }

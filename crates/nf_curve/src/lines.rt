@@ -1,0 +1,76 @@
+// Pieces of curves, from one point to a later one: the slope, the value at a time, the time of a value, and where two cross.
+ghost use Rattle.std.specs.Prelude.{◌≡◌, ◌≢◌, true};
+ghost use Rattle.nf_rational.specs.Order.{◌<ℚ◌};
+ghost use Rattle.nf_work.specs.Passing.{bound_of, beyond};
+ghost use Rattle.nf_work.specs.Checked.{at_part};
+ghost use Rattle.nf_curve_lists.specs.Lines.{checked_slope, checked_line, checked_inverse, checked_cross};
+ghost use Rattle.nf_curve_lists.specs.Least.{is_crossed};
+ghost use Rattle.nf_curve.specs.Sides.{sides_of};
+
+use nf_frac::{Part, PassedAt, Q, at};
+
+/// A time and the value there.
+pub(crate) type Point = (Q, Q);
+
+/// Two curves at a time: the values of the left one and of the right one.
+#[derive(Clone, Copy, Debug)]
+pub(crate) struct Sides {
+    pub time: Q,
+    pub left: Q,
+    pub right: Q,
+}
+
+/// The slope from one point to a later one.
+#[tactic(auto, unfolding(nf_curve_lists::specs::Lines::checked_slope), using(crate::proofs::Pieces::run_apart))]
+pub(crate) fn slope(p: &Point, q: &Point, part: Part) -> Result<Q, PassedAt<Q>>
+    requires { p.now.0 <ℚ q.now.0 }
+    ensures { result ≡ at_part part (checked_slope (beyond (bound_of 127)) p.now q.now) }
+{
+    let rise = at!(part, q.1.difference(p.1));
+    let run = at!(part, q.0.difference(p.0));
+    let slope = at!(part, rise.quotient(run));
+    Ok(slope)
+}
+
+/// The value at a time, on the line through two points.
+#[tactic(auto, unfolding(nf_curve_lists::specs::Lines::checked_line))]
+pub(crate) fn line(p: &Point, q: &Point, time: Q, part: Part) -> Result<Q, PassedAt<Q>>
+    requires { p.now.0 <ℚ q.now.0 }
+    ensures { result ≡ at_part part (checked_line (beyond (bound_of 127)) p.now q.now time) }
+{
+    let slope = slope(p, q, part)?;
+    let run = at!(part, time.difference(p.0));
+    let rise = at!(part, slope.product(run));
+    let value = at!(part, p.1.sum(rise));
+    Ok(value)
+}
+
+/// The time of a value, on the line through two points of different values.
+#[tactic(auto, unfolding(nf_curve_lists::specs::Lines::checked_inverse), using(crate::proofs::Pieces::slope_apart))]
+pub(crate) fn inverse(p: &Point, q: &Point, value: Q, part: Part) -> Result<Q, PassedAt<Q>>
+    requires later { p.now.0 <ℚ q.now.0 }
+    requires apart { p.now.1 ≢ q.now.1 }
+    ensures { result ≡ at_part part (checked_inverse (beyond (bound_of 127)) p.now q.now value) }
+{
+    let slope = slope(p, q, part)?;
+    let rise = at!(part, value.difference(p.1));
+    let run = at!(part, rise.quotient(slope));
+    let time = at!(part, p.0.sum(run));
+    Ok(time)
+}
+
+/// The time at which two curves cross that are linear from one time to a later one: the one that is below is above then.
+#[tactic(auto, unfolding(nf_curve_lists::specs::Lines::checked_cross), using(crate::proofs::Pieces::change_apart))]
+pub(crate) fn crossing_time(a: Sides, b: Sides, part: Part) -> Result<Q, PassedAt<Q>>
+    requires { is_crossed (sides_of a) (sides_of b) ≡ true }
+    ensures { result ≡ at_part part (checked_cross (beyond (bound_of 127)) (sides_of a) (sides_of b)) }
+{
+    let before = at!(part, a.left.difference(a.right));
+    let after = at!(part, b.left.difference(b.right));
+    let change = at!(part, before.difference(after));
+    let share = at!(part, before.quotient(change));
+    let length = at!(part, b.time.difference(a.time));
+    let run = at!(part, share.product(length));
+    let time = at!(part, a.time.sum(run));
+    Ok(time)
+}

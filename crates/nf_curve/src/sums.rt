@@ -1,0 +1,45 @@
+// The sum of two curves.
+ghost use Rattle.std.specs.Prelude.{◌≡◌};
+ghost use Rattle.nf_work.specs.Passing.{bound_of, beyond};
+ghost use Rattle.nf_work.specs.Checked.{at_part, Gives};
+ghost use Rattle.nf_model.specs.Curve.{IsCurve};
+ghost use Rattle.nf_curve_lists.specs.Sums.{sum_at as sum_by, checked_sum};
+ghost use Rattle.nf_curve.specs.Moments.{IsMoment};
+
+use crate::lines::Point;
+use crate::walk::{Moment, first_moment, next_moment, sides_at};
+use nf_frac::{Halt, Part, PassedAt, Q, at};
+use std::alloc::Global;
+
+// The point of the sum at a time.
+fn sum_at(left: &[Point], right: &[Point], now: &Moment, part: Part) -> Result<Point, PassedAt<Q>>
+    requires left { IsCurve left.now }
+    requires right { IsCurve right.now }
+    requires there { IsMoment left.now right.now now.now }
+    ensures { result ≡ at_part part (sum_by (beyond (bound_of 127)) left.now right.now now.now.time) }
+{
+    let sides = sides_at(left, right, now, part)?;
+    let value = at!(part, sides.left.sum(sides.right));
+    Ok((now.time, value))
+}
+
+/// The points of the sum of two curves: one at each time of either.
+pub(crate) fn sum_points(
+    alloc: Global,
+    left: &[Point],
+    right: &[Point],
+    part: Part,
+) -> Result<Vec<Point>, Halt<Q>>
+    requires left { IsCurve left.now }
+    requires right { IsCurve right.now }
+    ensures { Gives (λ points. points.items) (λ q. q) result (at_part part (checked_sum (beyond (bound_of 127)) left.now right.now)) }
+{
+    let mut points = Vec::new(alloc);
+    let mut now = Some(first_moment(left, right));
+    while let Some(moment) = now {
+        let point = sum_at(left, right, &moment, part)?;
+        points.push(point)?;
+        now = next_moment(left, right, &moment);
+    }
+    Ok(points)
+}
