@@ -102,7 +102,9 @@ impl<const BITS: u32> Frac<BITS> {
         ensures { result ≡ checked (beyond (bound_of BITS)) Product self.entry right.entry }
     {
         if let Some((x, y)) = self.small_pair(right) {
-            return Ok(Frac { value: x.by(y) });
+            return Ok(Frac {
+                value: x.multiplied(y),
+            });
         }
         match self
             .value
@@ -127,7 +129,7 @@ impl<const BITS: u32> Frac<BITS> {
     {
         if let Some((x, y)) = self.small_pair(right) {
             return Ok(Frac {
-                value: x.by(y.inverted()),
+                value: x.multiplied(y.inverted()),
             });
         }
         match self

@@ -13,6 +13,8 @@ mod short;
 mod small;
 mod small_arithmetic;
 #[cfg(test)]
+mod small_tests;
+#[cfg(test)]
 mod tests;
 mod whole;
 mod words;

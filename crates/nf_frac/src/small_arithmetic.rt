@@ -31,7 +31,7 @@ impl Small {
     }
 
     // The product, each numerator reduced with the other's denominator before they meet.
-    pub(crate) fn by(self, right: Small) -> Number
+    pub(crate) fn multiplied(self, right: Small) -> Number
         ensures { result ≡ self *ℚ right }
     {
         let left = self.common_with(right);
@@ -77,7 +77,7 @@ impl Small {
         ensures { result ≡ self *ℚ right }
     {
         Frac {
-            value: self.by(right),
+            value: self.multiplied(right),
         }
     }
 
@@ -87,7 +87,7 @@ impl Small {
         ensures { result ≡ self /ℚ right }
     {
         Frac {
-            value: self.by(right.inverted()),
+            value: self.multiplied(right.inverted()),
         }
     }
 }

@@ -6,12 +6,12 @@ use Rattle.nf_frac.proofs.fraction.Frac.product.Goals as goal
 
 pub invariant_of-result : goal.invariant_of-result
 invariant_of-result g c =
-    let w = small_product (bound_of g.row.BITS) c.args.self c.args.right _ (c.in-Some.ensures {u = tt}) c.by.result c.by.ensures in
+    let w = small_product (bound_of g.row.BITS) c.args.self c.args.right _ (c.in-Some.ensures {u = tt}) c.multiplied.result c.multiplied.ensures in
     within_along (bound_of g.row.BITS) _ _ w.1 w.0
 
 pub returns-in-Some : goal.returns-in-Some
 returns-in-Some g c =
-    product_done (bound_of g.row.BITS) c.args.self c.args.right c.by.result (small_product (bound_of g.row.BITS) c.args.self c.args.right _ (c.in-Some.ensures {u = tt}) c.by.result c.by.ensures)
+    product_done (bound_of g.row.BITS) c.args.self c.args.right c.multiplied.result (small_product (bound_of g.row.BITS) c.args.self c.args.right _ (c.in-Some.ensures {u = tt}) c.multiplied.result c.multiplied.ensures)
 
 pub returns-in-Some-product : goal.returns-in-Some-product
 returns-in-Some-product g c =

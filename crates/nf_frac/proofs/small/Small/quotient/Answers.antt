@@ -5,4 +5,4 @@ use Rattle.nf_frac.proofs.small.Small.quotient.Goals as goal
 
 pub returns : goal.returns
 unfolding ◌/ℚ◌
-returns c = c.by.ensures ∙ ap (λ (q : ℚ). c.args.self *ℚ q) c.inverted.ensures
+returns c = c.multiplied.ensures ∙ ap (λ (q : ℚ). c.args.self *ℚ q) c.inverted.ensures

@@ -1,7 +1,7 @@
 use Rattle.std.proofs.Common.{◌∙◌}
 use Rattle.nf_frac.proofs.SmallParts.{called_short, plain_64}
 use Rattle.nf_frac.proofs.SmallSums.{product_form, product_value, part_plain}
-use Rattle.nf_frac.proofs.small.Small.by.Goals as goal
+use Rattle.nf_frac.proofs.small.Small.multiplied.Goals as goal
 
 pub of-requires : goal.of-requires
 of-requires c =
