@@ -24,7 +24,7 @@ pub plain : (z : ℤ) → nat_abs z ≤ greatest → bits_of z ≡ z
 plain z h = to_z-of_z (fits_128 z h)
 
 -- a product of two short numbers
-short_product : (a b : ℤ) → nat_abs a ≤ 9223372036854775807 → nat_abs b ≤ 9223372036854775807 → nat_abs (a *ℤ b) ≤ greatest
+pub short_product : (a b : ℤ) → nat_abs a ≤ 9223372036854775807 → nat_abs b ≤ 9223372036854775807 → nat_abs (a *ℤ b) ≤ greatest
 short_product a b h k = omega (arith, abs-product a b, mul-le (nat_abs a) (nat_abs b) 9223372036854775807 9223372036854775807 h k)
 
 pub short_times : (a b : ℤ) → SFits w128 a → SFits w128 b → nat_abs a ≤ 9223372036854775807 → nat_abs b ≤ 9223372036854775807 → bits_of (bits_of a *ℤ bits_of b) ≡ a *ℤ b

@@ -1,6 +1,9 @@
 pub mod Bits
 pub mod Compare
 pub mod Form
+pub mod SmallParts
+pub mod SmallSums
+pub mod SmallPassing
 pub mod Factors
 pub mod Sums
 pub mod Products

@@ -1,5 +1,5 @@
 -- What the answers of the four operations say of the list of those that pass.
-use Rattle.std.proofs.Common.{◌≡◌, ℕ, ◌*◌, ◌/◌, ◌≤◌, Bool, true, false, cond, ◌||◌, ltb, pos, ◌*ℤ◌, nat_abs, refl, sym, ◌∙◌, ap, subst, arith}
+use Rattle.std.proofs.Common.{◌≡◌, ℕ, ◌*◌, ◌/◌, Bool, true, false, cond, ltb, pos, ◌*ℤ◌, nat_abs, refl, sym, ◌∙◌, ap, subst}
 use Rattle.std.specs.Prelude.{Ok, Err}
 use native.Mathlib.Nat.{mul-pos}
 use borrow.Author.Tests.{ltb-false}
@@ -11,25 +11,8 @@ use Rattle.nf_work.specs.declared.Op.TheVariants.{Sum, Difference, Product, Quot
 use Rattle.nf_work.specs.Passing.{beyond, is_wide, sum_is_wide}
 use Rattle.nf_work.specs.Checked.{checked}
 use Rattle.nf_frac.specs.Parts.{IsWithin, SumFits}
+use Rattle.nf_frac.specs.Narrow.{none_of, neither, at_most, narrow_in, narrow_out}
 use Rattle.nf_frac.proofs.Form.{ratio_within}
-
-none_of : (a b : Bool) → (a || b) ≡ false → (a ≡ false) × (b ≡ false)
-none_of true b e = cc
-none_of false b e = (refl, e)
-
-neither : (a b : Bool) → a ≡ false → b ≡ false → (a || b) ≡ false
-neither true b e f = e
-neither false b e f = f
-
-at_most : (m k : ℕ) → k ≤ m → ltb m k ≡ false
-at_most m k h = grind arith
-
--- ---- a number
-pub narrow_in : (b : ℕ) (q : ℚ) → IsWithin b q → is_wide b q ≡ false
-narrow_in b q w = neither _ _ (at_most b (nat_abs q.num) w.small) (at_most b q.den w.small_den)
-
-pub narrow_out : (b : ℕ) (q : ℚ) → is_wide b q ≡ false → IsWithin b q
-narrow_out b q e = let h = none_of _ _ e in record { small = ltb-false b (nat_abs q.num) h.0; small_den = ltb-false b q.den h.1 }
 
 -- ---- a sum
 pub sum_in : (b : ℕ) (x y : ℚ) → SumFits b x y → sum_is_wide b x y ≡ false

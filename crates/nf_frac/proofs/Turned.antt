@@ -82,3 +82,10 @@ inverse_num x n s d h e f k = k ∙ signed_so n d ∙ ap₂ signed_as e (sym f) 
 
 pub inverse_den : (x : ℚ) (n : ℤ) (a : ℕ) → x ≢ 0ℚ → n ≡ x.num → a ≡ nat_abs n → a ≡ (inv_ℚ x).den
 inverse_den x n a h e f = f ∙ ap nat_abs e ∙ sym (den-inv x h)
+
+-- a number with the other sign has a wide part where it has one
+pub neg_beyond : (limit : ℕ) (x q : ℚ) → q ≡ neg_ℚ x → (IsWithin limit x → ⊥) → IsWithin limit q → ⊥
+neg_beyond limit x q e n w = n (record {
+  small = subst (λ (k : ℕ). k ≤ limit) (ap (λ (z : ℚ). nat_abs z.num) e ∙ ap nat_abs (num-neg x) ∙ abs-neg x.num) w.small;
+  small_den = subst (λ (k : ℕ). k ≤ limit) (ap (λ (z : ℚ). z.den) e ∙ den-neg x) w.small_den;
+})

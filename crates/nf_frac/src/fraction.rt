@@ -5,13 +5,14 @@ ghost use Rattle.nf_work.specs.Passing.{bound_of};
 ghost use Rattle.nf_frac.specs.Parts.{greatest, IsWithin, IsMade};
 
 use crate::lowest::Lowest;
+use crate::number::Number;
 use std::marker::Model;
 
 /// A rational number as a fraction in lowest terms. Its denominator is at least 1, and neither part is beyond 2^b - 1 in
 /// magnitude, where b is BITS, or 8 where that is less, or 127 where that is more. Zero is 0/1.
 #[derive(Clone, Copy, Debug)]
 pub struct Frac<const BITS: u32> {
-    pub(crate) value: Lowest,
+    pub(crate) value: Number,
 }
 
 /// The fractions that everything is counted in.
@@ -57,7 +58,9 @@ impl<const BITS: u32> Frac<BITS> {
             den.unsigned_abs(),
             bound(BITS),
         )?;
-        Some(Frac { value })
+        Some(Frac {
+            value: Number::held(value),
+        })
     }
 
     /// The numerator.

@@ -6,8 +6,14 @@ mod arithmetic;
 mod compared;
 mod fraction;
 mod lowest;
+mod number;
 mod order;
 mod scalar;
+mod short;
+mod small;
+mod small_arithmetic;
+#[cfg(test)]
+mod small_tests;
 #[cfg(test)]
 mod tests;
 mod whole;
@@ -17,6 +23,7 @@ pub use fraction::{Frac, Q};
 pub use nf_numerals::{NumberFault, TextBuf};
 pub use nf_work::{Halt, Op, Part, Passed, PassedAt};
 pub use scalar::Scalar;
+pub use small::Small;
 
 /// The value of an operation that may pass, or a return from the function with the part of the work, the operation and its
 /// operands, turned by `From` into the function's error.

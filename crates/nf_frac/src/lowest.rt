@@ -4,7 +4,7 @@ ghost use Rattle.nf_rational.specs.Gcd.{gcd};
 ghost use Rattle.nf_rational.specs.Rational.{ratio};
 ghost use Rattle.nf_rational.specs.Operations.{0ℚ, whole, ◌+ℚ◌, ◌*ℚ◌, neg_ℚ, inv_ℚ};
 ghost use Rattle.nf_rational.specs.Order.{cmp_ℚ};
-ghost use Rattle.nf_frac.specs.Parts.{greatest, signed, IsWithin, SumFits};
+ghost use Rattle.nf_frac.specs.Parts.{greatest, signed, InForm, IsWithin, SumFits};
 ghost use Rattle.nf_frac.specs.Order.{same_ℚ};
 
 use crate::whole::{
@@ -39,6 +39,14 @@ impl Model for Lowest {
 }
 
 impl Lowest {
+    /// The fraction of these parts.
+    pub(crate) fn of(num: i128, den: u128) -> Lowest
+        requires { InForm num den }
+        ensures { result ≡ ratio num den }
+    {
+        Lowest { num, den }
+    }
+
     /// The numerator.
     pub(crate) fn numer(self) -> i128
         ensures value { result ≡ self.num }

@@ -74,7 +74,7 @@ fn lesser<S: Scalar>(a: S, b: S) -> S
 }
 
 // A fraction that fits.
-fn made<const BITS: u32>(parts: (i128, i128)) -> Result<Frac<BITS>, Fail> {
+pub(crate) fn made<const BITS: u32>(parts: (i128, i128)) -> Result<Frac<BITS>, Fail> {
     let value = Frac::make(parts.0, parts.1).ok_or("a fraction does not fit")?;
     Ok(value)
 }
@@ -277,7 +277,7 @@ fn compared_without_a_wide_product(rt: HostRuntime) -> Result<(), Fail> {
     Ok(())
 }
 
-fn hash_of<S: Scalar>(value: S) -> u64 {
+pub(crate) fn hash_of<S: Scalar>(value: S) -> u64 {
     let mut state = DefaultHasher::new();
     value.hash(&mut state);
     state.finish()

@@ -6,11 +6,11 @@ ghost use Rattle.nf_frac.specs.Parts.{greatest, signed};
 
 use std::cmp::Ordering;
 
-// The greatest number of 63 bits.
-const SHORT: u128 = 0x7fff_ffff_ffff_ffff;
+/// The greatest number of 63 bits.
+pub(crate) const SHORT: u128 = 0x7fff_ffff_ffff_ffff;
 
-// The greatest common divisor of two short numbers.
-fn gcd_short(a: u64, b: u64) -> u64
+/// The greatest common divisor of two short numbers.
+pub(crate) fn gcd_short(a: u64, b: u64) -> u64
     ensures { result ≡ gcd a b }
 {
     let mut x = a;

@@ -6,6 +6,7 @@ ghost use Rattle.nf_numerals.specs.Printed.{printed};
 
 use crate::fraction::{Frac, bound};
 use crate::lowest::Lowest;
+use crate::number::Number;
 use nf_numerals::{NumberFault, TextBuf, decimal_parts, parts, write_parts};
 
 impl<const BITS: u32> Frac<BITS> {
@@ -16,7 +17,7 @@ impl<const BITS: u32> Frac<BITS> {
     {
         let (num, den) = parts(word, bound(BITS))?;
         Ok(Frac {
-            value: Lowest::over(num, den, den),
+            value: Number::held(Lowest::over(num, den, den)),
         })
     }
 
@@ -26,7 +27,7 @@ impl<const BITS: u32> Frac<BITS> {
     {
         let (num, den) = decimal_parts(word, bound(BITS))?;
         Ok(Frac {
-            value: Lowest::over(num, den, den),
+            value: Number::held(Lowest::over(num, den, den)),
         })
     }
 

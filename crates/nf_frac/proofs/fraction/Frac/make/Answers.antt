@@ -16,4 +16,4 @@ returns-in_err-value g c =
 pub returns : goal.returns
 returns g c =
     made c.args.num c.args.den _ _ _ _ (bound_of g.row.BITS) (to_z-of_z c.ranges.num) (to_z-of_z c.ranges.den) c.unsigned_abs.ensures.value c.unsigned_abs-2.ensures.value (λ e. c.if-den-eq0.false (ap (of_z w128) e))
-    c.in_ok-value.value (rw c.bound.ensures.value at c.in_ok-value.ensures)
+    c.held.result (rw (c.bound.ensures.value, ← c.held.ensures) at c.in_ok-value.ensures)

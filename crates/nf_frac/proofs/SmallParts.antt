@@ -1,0 +1,99 @@
+-- What the parts of a small fraction in code say of the number, and back.
+use Rattle.std.proofs.Common.{◌≡◌, ℕ, ◌%◌, ◌<◌, ◌≤◌, ℤ, pos, negsuc, ◌*ℤ◌, nat_abs, ◌⊎◌, inl, inr, refl, sym, ◌∙◌, ap, subst, arith}
+use mathlib.Core.Path.{ap₂}
+use mir.Syntax.{w64}
+use mir.Val.{to_z, of_z, SFits}
+use mir.Facts.{to_z-of_z}
+use native.Mathlib.Nat.{one-dvd}
+use Rattle.std.specs.Int.{IsGcd}
+use Rattle.std.proofs.lemmas.Nat.Gcd.{same_from_IsGcd, IsGcd-from_mod, dvd_refl}
+use Rattle.nf_rational.specs.Gcd.{gcd, IsGcd-gcd}
+use Rattle.nf_rational.specs.Rational.{ℚ, ratio}
+use Rattle.nf_rational.proofs.Lowest.{parts_ratio}
+use Rattle.nf_frac.specs.Parts.{InForm, IsWithin}
+use Rattle.nf_frac.specs.Short.{short, IsShort, short_back}
+use Rattle.nf_frac.proofs.Bits.{bits_of, plain, short_product}
+use Rattle.nf_frac.proofs.Form.{Parts, parts_of}
+
+abbrev pub bits_64 : ℤ → ℤ
+bits_64 z = to_z w64 (of_z w64 z)
+
+pub fits_64 : (z : ℤ) → nat_abs z ≤ short → SFits w64 z
+fits_64 (pos n) h = record { sfits = omega arith }
+fits_64 (negsuc n) h = record { sfits = omega arith }
+
+pub plain_64 : (z : ℤ) → nat_abs z ≤ short → bits_64 z ≡ z
+plain_64 z h = to_z-of_z (fits_64 z h)
+
+pub wider : {n : ℤ} {d : ℕ} → IsShort n d → InForm n d
+wider {n} {d} h = record { positive = h.positive; small = omega (arith, h.small); small_den = omega (arith, h.small_den); lowest = h.lowest }
+
+pub short_parts : {x : ℚ} {n : ℤ} {d : ℕ} → IsShort n d → ratio n d ≡ x → Parts x n d
+short_parts {x} {n} {d} h e = record {
+  num = ap (λ (z : ℚ). z.num) (sym e) ∙ (short_back n d h).0;
+  den = ap (λ (z : ℚ). z.den) (sym e) ∙ (short_back n d h).1;
+}
+
+pub short_num : {x : ℚ} {n : ℤ} {d : ℕ} → IsShort n d → ratio n d ≡ x → bits_64 n ≡ x.num
+short_num {x} {n} {d} h e = plain_64 n h.small ∙ sym (short_parts h e).num
+
+pub own_short : {x : ℚ} {n : ℤ} {d : ℕ} → IsShort n d → ratio n d ≡ x → IsWithin short x
+own_short {x} {n} {d} h e = record {
+  small = subst (λ (z : ℤ). nat_abs z ≤ short) (sym (short_parts h e).num) h.small;
+  small_den = subst (λ (k : ℕ). k ≤ short) (sym (short_parts h e).den) h.small_den;
+}
+
+-- what the calls for the parts say
+pub called_short : (x : ℚ) (n : ℤ) (d : ℕ) → n ≡ x.num → nat_abs n ≤ short → d ≡ x.den → d ≤ short → IsWithin short x
+called_short x n d e h f k = record { small = subst (λ (z : ℤ). nat_abs z ≤ short) e h; small_den = subst (λ (j : ℕ). j ≤ short) f k }
+
+-- ---- a small fraction that is made of a number's own parts
+own_plain : (q : ℚ) (n : ℤ) → n ≡ q.num → nat_abs q.num ≤ short → bits_64 n ≡ q.num
+own_plain q n e h = plain_64 n (subst (λ (z : ℤ). nat_abs z ≤ short) (sym e) h) ∙ e
+
+pub short_form : (q : ℚ) (n : ℤ) (d : ℕ) → n ≡ q.num → d ≡ q.den → IsWithin short q → IsShort (bits_64 n) d
+short_form q n d e f h =
+    subst (λ (z : ℤ). IsShort z d) (sym (own_plain q n e h.small))
+    (subst (λ (k : ℕ). IsShort q.num k) (sym f) (record { positive = q.positive; small = h.small; small_den = h.small_den; lowest = q.reduced }))
+
+pub short_value : (q : ℚ) (n : ℤ) (d : ℕ) → n ≡ q.num → d ≡ q.den → IsWithin short q → ratio (bits_64 n) d ≡ q
+short_value q n d e f h = ap₂ ratio (own_plain q n e h.small) f ∙ parts_ratio q
+
+-- the fraction of these parts, as it is stored
+pub stored : (n : ℤ) (d : ℕ) → IsShort n d → IsWithin short (ratio (bits_64 n) d)
+stored n d h = subst (λ (z : ℤ). IsWithin short (ratio z d)) (sym (plain_64 n h.small)) (own_short h refl)
+
+-- ---- greatest common divisors that nothing is divided for
+pub gcd_one : (a b : ℕ) → b ≡ 1 → 1 ≡ gcd a b
+gcd_one a b e = same_from_IsGcd a b _ _ (subst (λ (k : ℕ). IsGcd a k 1) (sym e) (one-dvd a, one-dvd 1, λ g u v. v)) (IsGcd-gcd a b)
+
+pub gcd_itself : (a b : ℕ) → a ≡ b → b ≡ gcd a b
+gcd_itself a b e = same_from_IsGcd a b _ _ (subst (λ (k : ℕ). IsGcd k b b) (sym e) (dvd_refl b, dvd_refl b, λ g u v. v)) (IsGcd-gcd a b)
+
+pub gcd_step : (a b g : ℕ) → g ≡ gcd b (a % b) → g ≡ gcd a b
+gcd_step a b g e = e ∙ same_from_IsGcd a b _ _ (IsGcd-from_mod a b _ (IsGcd-gcd b (a % b))) (IsGcd-gcd a b)
+
+-- a numerator has no factor in common with its own denominator
+pub own_factor : (x y : ℚ) (d e : ℕ) → x.den ≡ d → y.den ≡ e → d ≡ e → 1 ≡ gcd (nat_abs x.num) y.den
+own_factor x y d e p q h = sym x.reduced ∙ ap (λ (k : ℕ). gcd (nat_abs x.num) k) (p ∙ h ∙ sym q)
+
+-- a product of short numbers is stored as it is
+pub times_plain : (r a : ℤ) (b : ℕ) → r ≡ a *ℤ pos b → nat_abs a ≤ short → b ≤ short → bits_of r ≡ a *ℤ pos b
+times_plain r a b e h k = ap bits_of e ∙ plain (a *ℤ pos b) (short_product a (pos b) h k)
+
+-- a fraction with a part that isn't short
+pub not_short : (q : ℚ) (n : ℤ) (d m : ℕ) → InForm n d → q ≡ ratio (bits_of n) d → m ≡ nat_abs (bits_of n) → ((m ≤ short) × (short < d)) ⊎ (short < m) → IsWithin short q → ⊥
+not_short q n d m h e f either w = go either
+  where
+    same : q ≡ ratio n d
+    same = e ∙ ap (λ (z : ℤ). ratio z d) (plain n h.small)
+
+    small : m ≤ short
+    small = subst (λ (k : ℕ). k ≤ short) (ap nat_abs (parts_of h (sym same)).num ∙ sym (f ∙ ap nat_abs (plain n h.small))) w.small
+
+    small_den : d ≤ short
+    small_den = subst (λ (k : ℕ). k ≤ short) (parts_of h (sym same)).den w.small_den
+
+    go : ((m ≤ short) × (short < d)) ⊎ (short < m) → ⊥
+    go (inl l) = omega (arith, l.1, small_den)
+    go (inr l) = omega (arith, l, small)

@@ -1,0 +1,98 @@
+// Arithmetic of whole numbers of at most 63 bits.
+ghost use Rattle.std.specs.Prelude.{◌≡◌, ◌*◌, ◌/◌, ◌<◌, ◌≤◌, pos, ◌*ℤ◌, nat_abs, int_div};
+ghost use Rattle.nf_rational.specs.Gcd.{gcd};
+ghost use Rattle.nf_frac.specs.Parts.{signed};
+ghost use Rattle.nf_frac.specs.Short.{short};
+
+use crate::whole::gcd_short;
+
+/// The greatest common divisor. Where one is 1 or both are equal there is nothing to divide.
+pub(crate) fn common_factor(a: u64, b: u64) -> u64
+    ensures value { result ≡ gcd a b }
+    ensures positive { 0 < b → 0 < result }
+    ensures small { 0 < b → result ≤ b }
+{
+    if b == 1 {
+        1
+    } else if a == b {
+        b
+    } else {
+        gcd_short(a, b)
+    }
+}
+
+/// The quotient of two natural numbers, rounded down.
+pub(crate) fn divided_short(a: u64, b: u64) -> u64
+    requires { 0 < b }
+    ensures { result ≡ a / b }
+{
+    if b == 1 {
+        a
+    } else if a == b {
+        1
+    } else {
+        a / b
+    }
+}
+
+/// The whole number of this sign and magnitude.
+pub(crate) fn signed_short(negative: bool, magnitude: u64) -> i64
+    requires { magnitude ≤ short }
+    ensures { result ≡ signed negative magnitude }
+{
+    if negative {
+        -(magnitude as i64)
+    } else {
+        magnitude as i64
+    }
+}
+
+/// The product.
+pub(crate) fn times(a: i64, b: u64) -> i128
+    requires small { nat_abs a ≤ short }
+    requires short { b ≤ short }
+    ensures { result ≡ a *ℤ pos b }
+{
+    a as i128 * (b as i64) as i128
+}
+
+/// The greatest common divisor of a number of any length and a short one.
+pub(crate) fn rest_factor(a: u128, b: u64) -> u64
+    requires { 0 < b }
+    ensures value { result ≡ gcd a b }
+    ensures positive { 0 < result }
+    ensures small { result ≤ b }
+{
+    if b == 1 {
+        1
+    } else if a <= u64::MAX as u128 {
+        gcd_short(a as u64, b)
+    } else {
+        gcd_short(b, (a % b as u128) as u64)
+    }
+}
+
+/// The quotient, rounded toward zero.
+pub(crate) fn part_of(a: i64, b: u64) -> i64
+    requires positive { 0 < b }
+    requires bounded { b ≤ short }
+    ensures { result ≡ int_div a (pos b) }
+{
+    if b == 1 { a } else { a / b as i64 }
+}
+
+/// The product of two short signed numbers.
+pub(crate) fn wide_product(a: i64, b: i64) -> i128
+    requires left { nat_abs a ≤ short }
+    requires right { nat_abs b ≤ short }
+    ensures { result ≡ a *ℤ b }
+{
+    a as i128 * b as i128
+}
+
+/// The product of two natural numbers.
+pub(crate) fn widened(a: u64, b: u64) -> u128
+    ensures { result ≡ a * b }
+{
+    a as u128 * b as u128
+}

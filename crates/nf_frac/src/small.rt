@@ -1,0 +1,133 @@
+// Fractions in lowest terms with parts of at most 63 bits.
+ghost use Rattle.std.specs.Prelude.{◌≡◌, ◌≢◌, ◌<◌, ◌≤◌, pos, nat_abs};
+ghost use Rattle.nf_rational.specs.Gcd.{gcd};
+ghost use Rattle.nf_rational.specs.Rational.{ratio};
+ghost use Rattle.nf_rational.specs.Operations.{0ℚ, neg_ℚ, inv_ℚ};
+ghost use Rattle.nf_rational.specs.Order.{cmp_ℚ};
+ghost use Rattle.nf_frac.specs.Parts.{IsWithin};
+ghost use Rattle.nf_frac.specs.Short.{short, IsShort};
+ghost use Rattle.nf_frac.specs.Order.{same_ℚ};
+
+use crate::lowest::Lowest;
+use crate::short::{common_factor, signed_short, times};
+use std::cmp::Ordering;
+use std::marker::Model;
+
+/// A rational number whose numerator and denominator, in lowest terms, are at most 2^63 - 1 in magnitude.
+#[derive(Clone, Copy, Debug)]
+pub struct Small {
+    num: i64,
+    den: u64,
+}
+
+impl Model for Small {
+    ghost use Rattle.nf_rational.specs.Rational.{ℚ, ratio, coded_ℚ};
+    ghost use Rattle.nf_frac.specs.Short.{IsShort, short_back};
+
+    ghost Value = { ℚ };
+
+    ghost coded = { coded_ℚ };
+
+    ghost view = { λ f. ratio f.num f.den };
+
+    ghost invariant = { λ f. IsShort f.num f.den };
+
+    ghost inverse = { λ q. record { num = q.num; den = q.den } };
+
+    ghost inverse_ok = { λ a h. λ i. record { num = (short_back a.num a.den h).0 i; den = (short_back a.num a.den h).1 i } };
+}
+
+impl Small {
+    // The fraction of these parts.
+    pub(crate) fn of(num: i64, den: u64) -> Small
+        requires { IsShort num den }
+        ensures value { result ≡ ratio num den }
+        ensures small { IsWithin short result }
+    {
+        Small { num, den }
+    }
+
+    // The numerator.
+    pub(crate) fn numer(self) -> i64
+        ensures value { result ≡ self.num }
+        ensures small { nat_abs result ≤ short }
+    {
+        self.num
+    }
+
+    // The denominator.
+    pub(crate) fn denom(self) -> u64
+        ensures value { result ≡ self.den }
+        ensures small { result ≤ short }
+        ensures positive { 0 < result }
+    {
+        self.den
+    }
+
+    // The same number, whose parts are known to be short.
+    pub(crate) fn known(self) -> Small
+        ensures value { result ≡ self }
+        ensures small { IsWithin short self }
+    {
+        Small {
+            num: self.num,
+            den: self.den,
+        }
+    }
+
+    // The same number with wider parts.
+    pub(crate) fn lowest(self) -> Lowest
+        ensures { result ≡ self }
+    {
+        Lowest::of(self.num as i128, self.den as u128)
+    }
+
+    // The same with the other sign.
+    pub(crate) fn negated(self) -> Small
+        ensures value { result ≡ neg_ℚ self }
+        ensures small { IsWithin short result }
+    {
+        Small {
+            num: -self.num,
+            den: self.den,
+        }
+    }
+
+    // One over it.
+    pub(crate) fn inverted(self) -> Small
+        requires { self ≢ 0ℚ }
+        ensures { result ≡ inv_ℚ self }
+    {
+        Small {
+            num: signed_short(self.num < 0, self.den),
+            den: self.num.unsigned_abs(),
+        }
+    }
+
+    // Whether the two are the same number.
+    pub(crate) fn is_same(self, right: Small) -> bool
+        ensures { result ≡ same_ℚ self right }
+    {
+        self.num == right.num && self.den == right.den
+    }
+
+    // How the two compare.
+    pub(crate) fn compare(self, right: Small) -> Ordering
+        ensures { result ≡ cmp_ℚ self right }
+    {
+        times(self.num, right.den).cmp(&times(right.num, self.den))
+    }
+
+    // The greatest common divisor of this numerator and the other's denominator. It is 1 where the two denominators are equal.
+    pub(crate) fn common_with(self, other: Small) -> u64
+        ensures value { result ≡ gcd (nat_abs self.num) other.den }
+        ensures positive { 0 < result }
+        ensures small { result ≤ short }
+    {
+        if self.den == other.den {
+            1
+        } else {
+            common_factor(self.num.unsigned_abs(), other.den)
+        }
+    }
+}
