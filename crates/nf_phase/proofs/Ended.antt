@@ -20,8 +20,10 @@ use Rattle.nf_formats.specs.Numbers.{greatest}
 use Rattle.nf_formats.specs.Report.{Report, IsWellFormed}
 use Rattle.nf_formats_laws.proofs.ReportFacts.{well_formed}
 use Rattle.nf_lists.specs.PhaseRun.{Standing, Bounds, Goes, Fails, at_slack, at_search, at_lists, Runs, at_horizon, at_phases, fails, goes, IsPhaseRun, flow_of, report_of}
+use Rattle.nf_run_laws.specs.RunLaws.{IsShortFlow}
 use Rattle.nf_run_laws.proofs.Run.{run_equilibrium}
 use Rattle.nf_run_laws.proofs.Sequence.{sequence_ends}
+use Rattle.nf_run_laws.proofs.ShortRun.{run_short, run_keeps}
 use Rattle.nf_curve.specs.Flows.{flow_of as flow_in}
 use Rattle.nf_phase.specs.declared.solution.Solution.{Solution}
 use Rattle.nf_phase.specs.Solution.{IsSolution, report_in}
@@ -88,6 +90,8 @@ module _ (passes : Passing) (net : Network) (bounds : Bounds) where
     run = record { last = last; stop = stop; run = subst (λ (p : Passing). IsPhaseRun p net bounds last stop) bound run; report_is = is };
     made = sym count;
     ends = λ others sequence many. sequence_ends passes net good bounds last stop run others sequence many;
+    labels = run_keeps passes net good bounds last stop run;
+    short = subst (λ (r : Report). IsShortFlow net r.flow) (sym is) (run_short passes net good bounds last stop run);
   }
 
   pub solved : IsNetwork net → 0ℚ ≤ℚ bounds.horizon → passes ≡ beyond greatest → (last : Standing) (stop : Option (Cause ℚ)) → IsPhaseRun passes net bounds last stop → {E : Type 0} (result : Result Solution E)

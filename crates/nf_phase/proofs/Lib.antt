@@ -6,6 +6,7 @@ pub mod Meaning
 pub mod Numbered
 pub mod LinkLoop
 pub mod Reached
+pub mod ShortReached
 pub mod Ended
 pub mod Stepped
 pub mod Found

@@ -29,9 +29,9 @@ pub record Stands (net : Network) (s : Standing) : Type 0 where
   pub last_count : length s.last ≡ length net.links
   pub no_full : (e : ℕ) → Has (unbounded net) e → HasState s.last e Full → ⊥
 
-Stands-start : (net : Network) (s : Standing) → IsStart net s → Stands net s
-Stands-start net s h = record {
-  well = WellRun-start net s h;
+Stands-start : (net : Network) (good : IsNetwork net) (s : Standing) → IsStart net s → Stands net s
+Stands-start net good s h = record {
+  well = WellRun-start net good s h;
   last_count = ap length h.last ∙ length-replicate (length net.links) None;
   no_full = λ e u full. none_full (length net.links) e (subst (λ (p : Pattern). HasState p e Full) h.last full);
 }
@@ -51,7 +51,7 @@ module _ (passes : Passing) (net : Network) (good : IsNetwork net) where
       }
 
   pub Stands-reached : (s : Standing) → Reaches passes net s → Stands net s
-  Stands-reached s (starts h) = Stands-start net s h
+  Stands-reached s (starts h) = Stands-start net good s h
   Stands-reached s (goes_on horizon patterns {s = before} earlier g) = Stands-goes horizon patterns before s g (Stands-reached before earlier)
 
 -- ---- what the search needs

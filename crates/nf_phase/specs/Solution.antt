@@ -10,7 +10,7 @@ use Rattle.nf_formats.specs.declared.Cause.TheVariants as Cause
 use Rattle.nf_formats.specs.Numbers.{greatest}
 use Rattle.nf_formats.specs.Report.{Report, IsWellFormed}
 use Rattle.nf_lists.specs.PhaseRun.{Standing, Bounds, IsRunReport}
-use Rattle.nf_run_laws.specs.RunLaws.{reached_by}
+use Rattle.nf_run_laws.specs.RunLaws.{IsShortFlow, KeepsLabels, reached_by}
 use Rattle.nf_curve.specs.Flows.{flow_of}
 use Rattle.nf_thin.specs.declared.searches.SearchFault.TheVariants as SearchFault
 use Rattle.nf_phase.specs.declared.fault.StepFault.{StepFault}
@@ -44,10 +44,13 @@ abbrev pub EndsAll : Network → ℚ → Standing → Type 0
 EndsAll net horizon last = (phases : List (ℚ × List ℚ)) → IsPhaseSequence net horizon phases → length phases ≡ suc last.made → slice_get phases last.made ≡ Some (reached_by last)
 
 -- The report describes a flow which is an equilibrium up to the time reached, and it is the report of the phase run: so it reaches
--- the horizon, or it has the cause that stopped the run there. The run made so many phases.
+-- the horizon, or it has the cause that stopped the run there. The run made so many phases, and the labels that it keeps are the values of
+-- the label curves at the end. The curves are in short form.
 pub record IsSolution (net : Network) (bounds : Bounds) (phases : ℕ) (report : Report) : Type 0 where
   pub well_formed : IsWellFormed net report
   pub equilibrium : Equilibrium net report.flow
   pub run : IsRunReport (beyond greatest) net bounds report
   pub made : run.last.made ≡ phases
   pub ends : EndsAll net bounds.horizon run.last
+  pub labels : KeepsLabels net run.last
+  pub short : IsShortFlow net report.flow

@@ -7,7 +7,7 @@ ghost use Rattle.nf_model.specs.Equilibrium.{Equilibrium};
 ghost use Rattle.nf_formats.specs.WellNamed.{IsNamed};
 ghost use Rattle.nf_lists.specs.PhaseRun.{IsStart, Goes, flow_of};
 ghost use Rattle.nf_lists.specs.Ends.{EndsAtLabels};
-ghost use Rattle.nf_run_laws.specs.RunLaws.{reached_by};
+ghost use Rattle.nf_run_laws.specs.RunLaws.{IsShortFlow, KeepsLabels, reached_by};
 ghost use Rattle.nf_phase.specs.Stepping.{Reaches, IsCause, LeadsOnlyTo};
 
 use crate::fault::StepFault;
@@ -74,6 +74,8 @@ impl Run {
         ensures reaches { IfOk result (Reaches (beyond (bound_of 127)) net.now.net) }
         ensures equilibrium { IfOk result (λ run. Equilibrium net.now.net (flow_of run)) }
         ensures ends { IfOk result (EndsAtLabels net.now.net) }
+        ensures labels { IfOk result (KeepsLabels net.now.net) }
+        ensures short { IfOk result (λ run. IsShortFlow net.now.net (flow_of run)) }
     {
         accepted(net);
         let labels = start_labels(alloc, net)?;
@@ -108,6 +110,8 @@ impl Run {
         ensures reaches { Reaches (beyond (bound_of 127)) net.now.net self.new }
         ensures equilibrium { OnOk result (Equilibrium net.now.net (flow_of self.new)) }
         ensures ends { OnOk result (EndsAtLabels net.now.net self.new) }
+        ensures labels { OnOk result (KeepsLabels net.now.net self.new) }
+        ensures short { OnOk result (IsShortFlow net.now.net (flow_of self.new)) }
         ensures kept { OnErr result (self.new ≡ self.old) }
         ensures cause { IfErr result (IsCause (beyond (bound_of 127)) net.now.net horizon patterns self.old) }
     {

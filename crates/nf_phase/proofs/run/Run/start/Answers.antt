@@ -5,6 +5,7 @@ use Rattle.nf_work.specs.Passing.{bound_of, beyond}
 use Rattle.nf_lists.specs.ReportCurves.{first_label_curve, first_curves}
 use Rattle.nf_phase.specs.Stepping.{starts}
 use Rattle.nf_phase.proofs.Stepped.{equilibrium_reached, ends_reached}
+use Rattle.nf_phase.proofs.ShortReached.{short_reached, keeps_reached}
 use Rattle.nf_phase.proofs.run.Run.start.Goals as goal
 
 pub returns-clause-reaches : goal.returns-clause-reaches
@@ -39,3 +40,11 @@ returns-clause-ends c =
       made = refl;
       last = c.in_ok-last.ensures ∙ ap (λ (n : ℕ). replicate n None) c.link_count.ensures;
     }))
+
+pub returns-clause-labels : goal.returns-clause-labels
+returns-clause-labels c =
+    keeps_reached (beyond (bound_of 127)) c.args.net.now.net c.accepted.ensures.network _ (returns-clause-reaches c)
+
+pub returns-clause-short : goal.returns-clause-short
+returns-clause-short c =
+    short_reached (beyond (bound_of 127)) c.args.net.now.net c.accepted.ensures.network _ (returns-clause-reaches c)

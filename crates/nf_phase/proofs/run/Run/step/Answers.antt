@@ -13,6 +13,7 @@ use Rattle.nf_run_laws.specs.RunLaws.{reached_by}
 use Rattle.nf_phase.specs.Growing.{Roomy, all_grown}
 use Rattle.nf_phase.specs.Stepping.{Reaches, LeadsOnlyTo}
 use Rattle.nf_phase.proofs.Stepped.{goes_next, only_next, reaches_next, equilibrium_next, ends_next, curve_count, link_count, new_label_count, slope_count, step_count, source_next, labels_later, links_later, new_standing}
+use Rattle.nf_phase.proofs.ShortReached.{short_reached, keeps_reached}
 use Rattle.nf_phase.proofs.run.Run.step.Goals as goal
 
 pub departure_in-reached-requires : goal.departure_in-reached-requires
@@ -98,3 +99,11 @@ returns-clause-ends c =
     (ap all_grown (with_items_is (with_items c.self.inside.label_curves c.reserve_labels.new.curves) c.labels_go_on.new.curves (c.labels_go_on.auto.curves ∙ c.deref_mut-3.ensures.len)) ∙ c.labels_go_on.ensures ∙ rw (c.deref-2.ensures.value, c.deref-3.ensures.value, (ap all_grown (c.deref_mut-3.ensures.value ∙ with_items_is c.self.inside.label_curves c.reserve_labels.new.curves (c.reserve_labels.auto.curves ∙ c.deref_mut.ensures.len)) ∙ c.in_ok-reserve_labels.ensures.same ∙ ap all_grown c.deref_mut.ensures.value ∙ ap (λ (s : Standing). s.label_curves) c.self.view_is)) refl)
     (ap all_grown (with_items_is (with_items c.self.inside.link_curves c.reserve_links.new.curves) c.links_go_on.new.curves (c.links_go_on.auto.curves ∙ c.deref_mut-4.ensures.len)) ∙ c.links_go_on.ensures ∙ rw (c.deref-4.ensures.value, c.deref-5.ensures.value, (ap all_grown (c.deref_mut-4.ensures.value ∙ with_items_is c.self.inside.link_curves c.reserve_links.new.curves (c.reserve_links.auto.curves ∙ c.deref_mut-2.ensures.len)) ∙ c.in_ok-reserve_links.ensures.same ∙ ap all_grown c.deref_mut-2.ensures.value ∙ ap (λ (s : Standing). s.link_curves) c.self.view_is)) refl)
     (add-one c.self.inside.made ∙ ap (λ (s : Standing). suc s.made) c.self.view_is) refl)) (ends_next (beyond (bound_of 127)) c.args.net.now.net c.accepted.ensures.network c.args.horizon c.args.patterns c.args.self.now c.requires.reaches c.in_ok-phase.phase c.in_ok-phase.ensures.leads)
+
+pub returns-clause-labels : goal.returns-clause-labels
+returns-clause-labels c =
+    keeps_reached (beyond (bound_of 127)) c.args.net.now.net c.accepted.ensures.network _ (returns-clause-reaches c)
+
+pub returns-clause-short : goal.returns-clause-short
+returns-clause-short c =
+    short_reached (beyond (bound_of 127)) c.args.net.now.net c.accepted.ensures.network _ (returns-clause-reaches c)
