@@ -1,4 +1,6 @@
 // A run over the files, and what it ends with.
+ghost use Rattle.std.specs.Prelude.{◌<◌};
+
 use crate::faults::Faults;
 use crate::files::File;
 use nf_app::{Status, run};
@@ -40,10 +42,16 @@ fn shelf_of(
     Ok(shelf)
 }
 
+// The most bytes of a write: one where a write fails, so that each byte is a write.
+fn most_of(failing: u32) -> u32
+    ensures { 0 < result }
+{
+    if failing == 0 { MOST } else { 1 }
+}
+
 // A sink whose write of this number fails, if it isn't 0.
 fn sink(alloc: Global, failing: u32) -> Result<MemSink, AllocError> {
-    let most = if failing == 0 { MOST } else { 1 };
-    let mut sink = MemSink::new(alloc, ROOM, most)?;
+    let mut sink = MemSink::new(alloc, ROOM, most_of(failing))?;
     sink.fail(failing)?;
     Ok(sink)
 }
