@@ -97,30 +97,3 @@ pub(crate) fn read_budgets(words: &[String]) -> Option<Budgets>
         _ => None,
     }
 }
-
-#[cfg(test)]
-mod tests {
-    use super::*;
-
-    #[test]
-    fn budgets_are_digits(rt: HostRuntime) {
-        let words = [
-            ("1", Some(1)),
-            ("007", Some(7)),
-            ("1000", Some(1000)),
-            ("0000000000000000000000000000000000001000", Some(1000)),
-            ("1001", None),
-            ("100000000000000000000000000000000000000", None),
-            ("0", None),
-            ("000", None),
-            ("", None),
-            ("+7", None),
-            ("-7", None),
-            ("7.0", None),
-            ("0x7", None),
-        ];
-        for (word, budget) in words {
-            assert!(rt; read_budget(word, 1000) == budget, "{word}");
-        }
-    }
-}

@@ -47,27 +47,3 @@ impl Status {
         }
     }
 }
-
-#[cfg(test)]
-mod tests {
-    use super::*;
-
-    #[test]
-    fn each_status_has_its_number(rt: HostRuntime) {
-        let numbers = [
-            (Status::Ok, 0),
-            (Status::Memory, 1),
-            (Status::Usage, 2),
-            (Status::Shelf, 3),
-            (Status::Malformed, 4),
-            (Status::Phases, 5),
-            (Status::Patterns, 6),
-            (Status::Passed, 7),
-            (Status::NoPattern, 8),
-            (Status::Output, 9),
-        ];
-        for (status, number) in numbers {
-            assert_eq!(rt; status.number(), number);
-        }
-    }
-}
