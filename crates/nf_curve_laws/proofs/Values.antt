@@ -17,20 +17,21 @@ use Rattle.nf_lists.specs.Signs.{is_same}
 use Rattle.nf_curve_lists.specs.Lines.{checked_line}
 use Rattle.nf_curve_lists.specs.Values.{points_before, value_from, checked_value, checked_cut}
 use Rattle.nf_curve_lists.specs.Meanings.{IsCutOf}
-use Rattle.nf_curve_laws.proofs.Operations.{then_ok, same_ok, is_same_cases, checked_line-is}
+use Rattle.nf_curve_laws.proofs.Operations.{then_ok, is_same_cases, checked_line-is}
 use Rattle.nf_curve_laws.proofs.Following.{FollowsFrom, ends, goes, follows-rises, value-follows}
 use Rattle.nf_rational_laws.proofs.Chains.{≤ℚ_refl, ≤ℚ_trans}
+use Rattle.nf_plain_laws.proofs.Results.{same_Ok}
 
 module _ (passes : Passing) where
   by_same : (b : Bool) (x y : ℚ) (other : Checked ℚ) → b ≡ true → (if b then Ok x else other) ≡ Ok y → y ≡ x
-  by_same true x y other t e = sym (same_ok x y e)
+  by_same true x y other t e = sym (same_Ok x y e)
   by_same false x y other t e = absurd (cc)
 
   -- the two tests of a piece
   piece_cases : {P : Type 0} (p q : Point) (rest : List Point) (time y : ℚ) → value_from passes p (q ∷ rest) time ≡ Ok y
       → (time ≡ p.0 → y ≡ p.1 → P) → (time <ℚ q.0 → checked_line passes p q time ≡ Ok y → P) → (q.0 ≤ℚ time → value_from passes q rest time ≡ Ok y → P) → P
   piece_cases {P} p q rest time y e f g h = ⊎_elim
-      (λ (a : (is_same time p.0 ≡ true) × (time ≡ p.0)). f a.1 (same_ok _ _ (sym e ∙ ap (λ (b : Bool). if b then Ok p.1 else (if lt_ℚ time q.0 then checked_line passes p q time else value_from passes q rest time)) a.0)))
+      (λ (a : (is_same time p.0 ≡ true) × (time ≡ p.0)). f a.1 (same_Ok _ _ (sym e ∙ ap (λ (b : Bool). if b then Ok p.1 else (if lt_ℚ time q.0 then checked_line passes p q time else value_from passes q rest time)) a.0)))
       (λ (a : (is_same time p.0 ≡ false) × (¬ (time ≡ p.0))).
       let e' : (if lt_ℚ time q.0 then checked_line passes p q time else value_from passes q rest time) ≡ Ok y =
       sym (ap (λ (b : Bool). if b then Ok p.1 else (if lt_ℚ time q.0 then checked_line passes p q time else value_from passes q rest time)) a.0) ∙ e in
@@ -41,7 +42,7 @@ module _ (passes : Passing) where
       (is_same_cases time p.0)
 
   value_from-is : (p : Point) (rest : List Point) (time y : ℚ) → TimesRise (p ∷ rest) → p.0 ≤ℚ time → value_from passes p rest time ≡ Ok y → y ≡ value (p ∷ rest) time
-  value_from-is p [] time y r h e = sym (same_ok _ _ e)
+  value_from-is p [] time y r h e = sym (same_Ok _ _ e)
   value_from-is p (q ∷ rest) time y r h e = piece_cases p q rest time y e
       (λ s d. d ∙ sym (value-first p (q ∷ rest) r) ∙ ap (value (p ∷ q ∷ rest)) (sym s))
       (λ l d. checked_line-is passes p q time y d ∙ sym (value-before p q rest time l))
@@ -90,7 +91,7 @@ module _ (passes : Passing) where
   checked_cut-is (p ∷ rest) last cut c h e =
       let w = then_ok (checked_value passes (p ∷ rest) last) _ cut e in
       let y : w.between ≡ value (p ∷ rest) last = checked_value-is (p ∷ rest) last w.between c h w.first in
-      subst (λ (l : List Point). Cut (p ∷ rest) last l) (same_ok _ _ w.next)
+      subst (λ (l : List Point). Cut (p ∷ rest) last l) (same_Ok _ _ w.next)
       (⊎_elim
       (λ (v : (lt_ℚ p.0 last ≡ true) × (p.0 <ℚ last)). subst (λ (b : Bool). Cut (p ∷ rest) last ((if b then p ∷ points_before last rest else []) ++ (last, w.between) ∷ [])) (sym v.0)
       (record { first = p; rest = points_before last rest ++ (last, w.between) ∷ []; cut_is = refl; begins = c.0; follows = cut_from p rest last w.between c.1 v.1 y (value (p ∷ rest)) (λ t i. refl) }))
@@ -113,7 +114,7 @@ pub checked_cut-exact : (passes : Passing) (points : List Point) (last : ℚ) (c
 unfolding checked_cut
 checked_cut-exact passes points last cut c h e =
     let w = then_ok (checked_value passes points last) _ cut e in
-    sym (same_ok _ _ w.next) ∙ ap (λ (y : ℚ). points_before last points ++ (last, y) ∷ []) (checked_value-is passes points last w.between c h w.first)
+    sym (same_Ok _ _ w.next) ∙ ap (λ (y : ℚ). points_before last points ++ (last, y) ∷ []) (checked_value-is passes points last w.between c h w.first)
 
 -- a list that follows a function from time 0 on is a curve with its values
 pub follows-curve : (f : ℚ → ℚ) (last : ℚ) (p : Point) (rest : List Point) → p.0 ≡ 0ℚ → FollowsFrom f last p rest → IsCurve (p ∷ rest)

@@ -19,8 +19,9 @@ use Rattle.nf_formats.specs.WellNamed.{IsFraction, IsCapacity, IsNamedLink, IsFr
 use Rattle.nf_formats_laws.proofs.NameFacts.{has_name-append, with_name_there, with_name_new, bytes_eq-turned, same_names, bytes_eq-self}
 use Rattle.nf_formats_laws.proofs.LinkFacts.{ends-append, map-append}
 use Rattle.nf_formats_laws.proofs.LinesBack.{Rises, AreNotNegative}
-use Rattle.nf_formats_laws.proofs.NumbersKept.{IsReadCapacity, number_kept, capacity_kept, ok_same}
+use Rattle.nf_formats_laws.proofs.NumbersKept.{IsReadCapacity, number_kept, capacity_kept}
 use Rattle.std.proofs.lemmas.Option.{same_Some}
+use Rattle.nf_plain_laws.proofs.Results.{same_Ok}
 
 -- ---- lists of names with some behind
 distinct_push : (xs : List Name) (y : Name) → IsDistinct bytes_eq xs → has_name xs y ≡ false → IsDistinct bytes_eq (xs ++ y ∷ [])
@@ -130,14 +131,14 @@ node_read_as : (version : ℕ) (make : Name → Entry) → ((name : Name) → is
     → node_line make words ≡ Ok entry → IsReadEntry version entry
 node_read_as version make good (name ∷ []) entry e =
     let p = if_or_fault (is_name name) (Ok (make name)) N7 entry e in
-    subst (IsReadEntry version) (ok_same (make name) entry p.1) (good name p.0)
+    subst (IsReadEntry version) (same_Ok (make name) entry p.1) (good name p.0)
 node_read_as version make good words entry e = absurd (cc)
 
 link_numbers : (version : ℕ) (name tail head : Name) (transit : Option ℚ) (capacity : Option (Option ℚ)) (entry : Entry)
     → is_name name ≡ true → is_name tail ≡ true → is_name head ≡ true → ((q : ℚ) → transit ≡ Some q → IsFraction q) → ((c : Option ℚ) → capacity ≡ Some c → IsReadCapacity version c)
     → link_entry name tail head transit capacity ≡ Ok entry → IsReadEntry version entry
 link_numbers version name tail head (Some q) (Some c) entry a b d f g e =
-    subst (IsReadEntry version) (ok_same _ entry e) (record { name = a; tail = b; head = d; fraction = f q refl; capacity = g c refl })
+    subst (IsReadEntry version) (same_Ok _ entry e) (record { name = a; tail = b; head = d; fraction = f q refl; capacity = g c refl })
 link_numbers version name tail head transit capacity entry a b d f g e = absurd (cc)
 
 link_read_as : (version : ℕ) (words : List (List ℕ)) (entry : Entry) → link_line version words ≡ Ok entry → IsReadEntry version entry
@@ -151,7 +152,7 @@ link_read_as version words entry e = absurd (cc)
 
 inflow_numbers : (version : ℕ) (start rate : Option ℚ) (entry : Entry) → ((q : ℚ) → start ≡ Some q → IsFraction q) → ((q : ℚ) → rate ≡ Some q → IsFraction q)
     → inflow_entry start rate ≡ Ok entry → IsReadEntry version entry
-inflow_numbers version (Some s) (Some r) entry f g e = subst (IsReadEntry version) (ok_same _ entry e) (record { start = f s refl; rate = g r refl })
+inflow_numbers version (Some s) (Some r) entry f g e = subst (IsReadEntry version) (same_Ok _ entry e) (record { start = f s refl; rate = g r refl })
 inflow_numbers version start rate entry f g e = absurd (cc)
 
 inflow_read_as : (version : ℕ) (words : List (List ℕ)) (entry : Entry) → inflow_line version words ≡ Ok entry → IsReadEntry version entry
@@ -160,7 +161,7 @@ inflow_read_as version (start ∷ rate ∷ []) entry e =
 inflow_read_as version words entry e = absurd (cc)
 
 end_read_as : (version : ℕ) (words : List (List ℕ)) (entry : Entry) → end_line words ≡ Ok entry → IsReadEntry version entry
-end_read_as version [] entry e = subst (IsReadEntry version) (ok_same End entry e) tt
+end_read_as version [] entry e = subst (IsReadEntry version) (same_Ok End entry e) tt
 end_read_as version (w ∷ words) entry e = absurd (cc)
 
 entry_read_as : (version : ℕ) (words : List (List ℕ)) (entry : Entry) → entry_of version words ≡ Ok entry → IsReadEntry version entry
@@ -365,7 +366,7 @@ module _ (draft : Draft) (h : IsGoodDraft draft) where
   entry_kept End good e = end_kept
 
   unless_kept : (entry : Entry) (rule : Option NetRule) (next : Draft) → IsReadEntry draft.version entry → broken_rule draft entry ≡ rule → unless rule (after draft entry) ≡ Ok next → IsGoodDraft next
-  unless_kept entry None next good f e = subst IsGoodDraft (ok_same (after draft entry) next e) (entry_kept entry good f)
+  unless_kept entry None next good f e = subst IsGoodDraft (same_Ok (after draft entry) next e) (entry_kept entry good f)
   unless_kept entry (Some rule) next good f e = absurd (cc)
 
   said_kept : (says : Result Entry NetRule) (next : Draft) → ((entry : Entry) → says ≡ Ok entry → IsReadEntry draft.version entry)
@@ -383,7 +384,7 @@ module _ (draft : Draft) (h : IsGoodDraft draft) where
 
 -- ---- with all lines
 lines_kept : (lines : List ReadLine) (draft last : Draft) → IsGoodDraft draft → add_lines draft lines ≡ Ok last → IsGoodDraft last
-lines_kept [] draft last h e = subst IsGoodDraft (ok_same draft last e) h
+lines_kept [] draft last h e = subst IsGoodDraft (same_Ok draft last e) h
 lines_kept (line ∷ rest) draft last h e = step (add_line draft line.words) (line_kept draft h line.words) e (λ next. lines_kept rest next last)
   where
     step : (r : Result Draft NetRule) → ((next : Draft) → r ≡ Ok next → IsGoodDraft next) → (in_line line.number r >>= λ next. add_lines next rest) ≡ Ok last

@@ -1,6 +1,6 @@
 -- A number that a word writes has no part beyond the greatest.
 use Rattle.std.proofs.Common.{◌≡◌, ◌≢◌, ℕ, zero, suc, ◌+◌, ◌*◌, ◌^◌, ◌/◌, ◌≤◌, ◌==◌, ◌&&◌, ◌||◌, Bool, true, false, not, if◌then◌else◌, List, length, nat_lt, nat_abs, ℤ, refl, sym, ap, subst, arith, div-le_self, codes, bytes_eq, Option, Some, None, Result, Ok, Err, option_map, unwrap_or, lit≤}
-use Rattle.std.specs.Result.{result_ok, result_unwrap_or}
+use Rattle.std.specs.Result.{result_ok}
 use Rattle.std.proofs.lemmas.Bool.{le-ltb, ltb-false, or_parts, or_from}
 use Rattle.nf_rational.specs.Gcd.{gcd}
 use Rattle.nf_rational.specs.Rational.{ℚ, ratio, abs_quot}
@@ -10,6 +10,7 @@ use Rattle.nf_numerals.specs.Digits.{are_digits, value_of}
 use Rattle.nf_numerals.specs.Numbers.{slash, point, before, after, unsigned, signed_by, denominator, is_decimal, parts_or_fault, parts_of, decimal_parts_of, as_ratio, number_of, decimal_of}
 use Rattle.nf_formats.specs.Numbers.{greatest, number_in, capacity_in}
 use Rattle.nf_formats.specs.WellNamed.{IsFraction}
+use Rattle.nf_plain_laws.proofs.Results.{same_Ok}
 
 -- parts that are within the bound, the second above 0
 pub record FitParts (bound : ℕ) (p : ℤ × ℕ) : Type 0 where
@@ -21,9 +22,6 @@ says_no : {A : Type 0} (b : Bool) (fault : NumberFault) (rest : Result A NumberF
 says_no true fault rest x e = absurd (cc)
 says_no false fault rest x e = (refl, e)
 
-pub ok_same : {A E : Type 0} (x y : A) → ◌≡◌ {A = Result A E} (Ok x) (Ok y) → x ≡ y
-ok_same x y e = ap (λ r. result_unwrap_or r x) e
-
 pub parts_fit : (bound : ℕ) (a b : List ℕ) (n : ℤ) (d : ℕ) (p : ℤ × ℕ) → parts_or_fault bound a b n d ≡ Ok p → FitParts bound p
 parts_fit bound a b n d p e =
     let first = says_no (length a == 0 || length b == 0) Empty _ p e in
@@ -31,7 +29,7 @@ parts_fit bound a b n d p e =
     let third = says_no (nat_lt bound (nat_abs n) || nat_lt bound d) TooWide _ p second.1 in
     let fourth = says_no (d == 0) ZeroDenominator _ p third.1 in
     let both = or_parts (nat_lt bound (nat_abs n)) (nat_lt bound d) third.0 in
-    let same : ◌≡◌ {A = ℤ × ℕ} (n, d) p = ok_same (n, d) p fourth.1 in
+    let same : ◌≡◌ {A = ℤ × ℕ} (n, d) p = same_Ok (n, d) p fourth.1 in
     subst (FitParts bound) same (record { num = ltb-false bound (nat_abs n) both.0; den = ltb-false bound d both.1 })
 
 pub fraction_parts_fit : (bound : ℕ) (word : List ℕ) (p : ℤ × ℕ) → parts_of bound word ≡ Ok p → FitParts bound p
@@ -70,7 +68,7 @@ is_fraction n d h =
     (le-ltb greatest (nat_abs (ratio n d).num) (omega arith)) (le-ltb greatest (ratio n d).den (lowest_den n d greatest (lit≤ tt) h.den))
 
 reduced : (r : Result (ℤ × ℕ) NumberFault) (q : ℚ) → ((p : ℤ × ℕ) → r ≡ Ok p → FitParts greatest p) → as_ratio r ≡ Ok q → IsFraction q
-reduced (Ok p) q fit e = subst IsFraction (ok_same (ratio p.0 p.1) q e) (is_fraction p.0 p.1 (fit p refl))
+reduced (Ok p) q fit e = subst IsFraction (same_Ok (ratio p.0 p.1) q e) (is_fraction p.0 p.1 (fit p refl))
 reduced (Err fault) q fit e = absurd (cc)
 
 fraction_kept : (word : List ℕ) (q : ℚ) → number_of greatest word ≡ Ok q → IsFraction q

@@ -1,5 +1,5 @@
 -- Signed numbers of 128 bits that go to their bits and are read again, as a call's clause has them.
-use Rattle.std.proofs.Common.{◌≡◌, refl, neg_ℤ, suc, zero, ◌≢◌, ℕ, ◌<◌, ◌≤◌, ℤ, pos, negsuc, ◌*ℤ◌, nat_abs, sym, ◌∙◌, ap, subst, arith}
+use Rattle.std.proofs.Common.{◌≡◌, refl, neg_ℤ, suc, zero, ℕ, ◌<◌, ◌≤◌, ℤ, pos, negsuc, ◌*ℤ◌, nat_abs, sym, ◌∙◌, ap, subst, arith}
 use mathlib.Core.Path.{ap₂}
 use mir.Syntax.{w128}
 use mir.Val.{to_z, of_z, SFits}
@@ -57,8 +57,3 @@ pub abs-neg : (a : ℤ) → nat_abs (neg_ℤ a) ≡ nat_abs a
 abs-neg (pos zero) = refl
 abs-neg (pos (suc a)) = refl
 abs-neg (negsuc a) = refl
-
-pub abs_positive : (n : ℤ) → n ≢ pos 0 → 0 < nat_abs n
-abs_positive (pos zero) h = absurd (h refl)
-abs_positive (pos (suc n)) h = omega arith
-abs_positive (negsuc n) h = omega arith

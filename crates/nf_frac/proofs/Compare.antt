@@ -10,6 +10,7 @@ use borrow.Author.Differences.{ints}
 use Rattle.nf_rational.specs.Rational.{ℚ}
 use Rattle.nf_rational.specs.Order.{cmp_ℚ}
 use Rattle.nf_rational_laws.proofs.Ints.{lt-times, le-times, pos_in}
+use Rattle.nf_plain_laws.proofs.Naturals.{compared}
 
 pub cmp_less : (x y : ℕ) → x < y → nat_cmp x y ≡ Less
 cmp_less x y h = grind arith
@@ -20,9 +21,6 @@ cmp_greater x y h = grind arith
 pub cmp_equal : (x y : ℕ) → x ≡ y → nat_cmp x y ≡ Equal
 cmp_equal x y h = grind arith
 
-three : (x y : ℕ) → (x < y) ⊎ ((x ≡ y) ⊎ (y < x))
-three x y = grind arith
-
 -- a common summand does not matter
 pub cmp_shift : (k u v : ℕ) → nat_cmp (k + u) (k + v) ≡ nat_cmp u v
 cmp_shift k u v = ⊎_elim
@@ -30,7 +28,7 @@ cmp_shift k u v = ⊎_elim
     (λ (w : (u ≡ v) ⊎ (v < u)). ⊎_elim
     (λ (h : u ≡ v). cmp_equal (k + u) (k + v) (omega arith) ∙ sym (cmp_equal u v h))
     (λ (h : v < u). cmp_greater (k + u) (k + v) (omega arith) ∙ sym (cmp_greater u v h)) w)
-    (three u v)
+    (compared u v)
 
 whole_less : (a b c d q p r s : ℕ) → b * q + r ≡ a → d * p + s ≡ c → r < b → 0 < d → q < p → a * d < c * b
 whole_less a b c d q p r s e f h some less =
@@ -49,7 +47,7 @@ decided a b c d h k n = ⊎_elim
     (λ (w : (a / b ≡ c / d) ⊎ (c / d < a / b)). ⊎_elim
     (λ (e : a / b ≡ c / d). absurd (n e))
     (λ (l : c / d < a / b). cmp_greater _ _ l ∙ sym (cmp_greater _ _ (quotients_less c d a b k h l))) w)
-    (three (a / b) (c / d))
+    (compared (a / b) (c / d))
 
 same_whole : (a b c d q r s : ℕ) → b * q + r ≡ a → d * q + s ≡ c → nat_cmp (a * d) (c * b) ≡ nat_cmp (r * d) (s * b)
 same_whole a b c d q r s e f =
@@ -144,7 +142,7 @@ up_is u v = ⊎_elim
     (λ (w : (u ≡ v) ⊎ (v < u)). ⊎_elim
     (λ (h : u ≡ v). cmp_equal u v h ∙ sym (ap (λ (k : ℕ). int_cmp (pos k) (pos v)) h ∙ int_equal (pos v)))
     (λ (h : v < u). cmp_greater u v h ∙ sym (int_greater (pos u) (pos v) (omega (arith, ints)))) w)
-    (three u v)
+    (compared u v)
 
 down_is : (u v : ℕ) → nat_cmp v u ≡ int_cmp (neg_ℤ (pos u)) (neg_ℤ (pos v))
 down_is u v = ⊎_elim
@@ -152,7 +150,7 @@ down_is u v = ⊎_elim
     (λ (w : (u ≡ v) ⊎ (v < u)). ⊎_elim
     (λ (h : u ≡ v). cmp_equal v u (sym h) ∙ sym (ap (λ (k : ℕ). int_cmp (neg_ℤ (pos k)) (neg_ℤ (pos v))) h ∙ int_equal (neg_ℤ (pos v))))
     (λ (h : v < u). cmp_less v u h ∙ sym (int_less (neg_ℤ (pos u)) (neg_ℤ (pos v)) (omega (arith, ints)))) w)
-    (three u v)
+    (compared u v)
 
 -- the four cases of the signs
 pub both_not_negative : (n m : ℤ) (d e : ℕ) → lt_z n (pos 0) ≡ false → lt_z m (pos 0) ≡ false → nat_cmp (nat_abs n * e) (nat_abs m * d) ≡ int_cmp (n *ℤ pos e) (m *ℤ pos d)

@@ -1,6 +1,6 @@
 -- What links offer, and the least of it.
 use Rattle.std.proofs.Common.{◌≡◌, ◌≢◌, ℕ, ◌+◌, ◌<◌, ◌≤◌, List, length, get_or, Bool, true, false, if◌then◌else◌, Option, Some, None, Result, Ok, Err, slice_get, ⊎_elim, eqb, sym, ap, subst, refl, ◌∙◌, arith}
-use Rattle.std.proofs.lemmas.Option.{slice_get_within, slice_get-get_or}
+use Rattle.std.proofs.lemmas.Option.{slice_get_within, slice_get-get_or, same_Some}
 use Rattle.std.proofs.lemmas.Bool.Decides.{eqb_tells}
 use Rattle.nf_rational.specs.Rational.{ℚ}
 use Rattle.nf_rational.specs.Operations.{◌+ℚ◌}
@@ -86,11 +86,8 @@ module _ (hops : List Hop) (sums : List (Option ℚ)) (count : ℕ) where
   abbrev AtMost : Option Step → ℚ → Type 0
   AtMost o sum = (step : Step) × (o ≡ Some step) × (step.sum ≤ℚ sum)
 
-  same_some : (a b : Step) → Some a ≡ Some b → a ≡ b
-  same_some a b q = cc
-
   through : (a b : Step) (o : Option Step) (sum : ℚ) → o ≡ Some a → a.sum ≤ℚ b.sum → (step : Step) × (Some b ≡ Some step) × (step.sum ≤ℚ sum) → AtMost o sum
-  through a b o sum e l w = (a, e, ≤ℚ_trans a.sum b.sum sum l (subst (λ (s : Step). s.sum ≤ℚ sum) (sym (same_some b w.0 w.1)) w.2))
+  through a b o sum e l w = (a, e, ≤ℚ_trans a.sum b.sum sum l (subst (λ (s : Step). s.sum ≤ℚ sum) (sym (same_Some b w.0 w.1)) w.2))
 
   nearer_than_best : (best offered nearer : Option Step) (sum : ℚ) → IsNearer best offered nearer → AtMost best sum → AtMost nearer sum
   nearer_than_best None offered nearer sum n w = absurd (let q : None ≡ Some w.0 = w.1 in cc)

@@ -5,7 +5,8 @@ use Rattle.nf_model.specs.Entries.{Has}
 use Rattle.nf_model.specs.Walk.{Hop, IsWalk}
 use Rattle.nf_graph.specs.Graph.{AreBelow, Leaves, IsClosed, AreReached}
 use Rattle.nf_graph.proofs.Flags.{free, free-set, not_set, Has-set_same, Has-set_other, Has-set_cases}
-use Rattle.nf_graph.proofs.Walks.{IsWalk-append, IsClosed-walk}
+use Rattle.nf_graph.proofs.Walks.{IsClosed-walk}
+use Rattle.nf_model_laws.proofs.Networks.{IsWalk-append}
 
 pub record AreWalked (nodes : ℕ) (hops : List Hop) (from : ℕ) (flags : List Bool) : Type 0 where
   pub count : length flags ≡ nodes

@@ -5,28 +5,24 @@ use Rattle.nf_rational.specs.Rational.{ℚ}
 use Rattle.nf_rational.specs.Operations.{0ℚ, ◌+ℚ◌}
 use Rattle.nf_rational.specs.Order.{◌≤ℚ◌}
 use Rattle.nf_rational_laws.proofs.Polynomial.{reading_of}
-use Rattle.nf_rational_laws.proofs.Order.{≤ℚ_of_same, ≤ℚ_antisymm}
+use Rattle.nf_rational_laws.proofs.Order.{≤ℚ_of_same, ≤ℚ_antisymm, nn_plus}
 use Rattle.nf_rational_laws.proofs.Linear.{le, eq, linear_le, linear_eq}
 use Rattle.nf_model.specs.Walk.{Hop, IsHop, IsWalk, transit_of, transit_sum, IsLeastTransit}
 use Rattle.nf_graph.specs.Graph.{AreBelow}
 use Rattle.nf_graph.specs.Distances.{NoneNegative, AreDistances, PassesAt, StopsAt, HasSum, IsOpen, Offers, AllFit, SumPasses}
-use Rattle.nf_graph.proofs.Walks.{IsWalk-append}
-use Rattle.nf_graph.proofs.ZeroLinks.{transit_of-hop}
 use Rattle.nf_graph.proofs.Offering.{HasSum-not_open}
+use Rattle.nf_model_laws.proofs.Networks.{IsWalk-append, transit_of-hop}
 
 -- ---- sums along walks
 none_nn : 0ℚ ≤ℚ 0ℚ
 none_nn = ≤ℚ_of_same 0ℚ 0ℚ refl
-
-plus_nn : (a b : ℚ) → 0ℚ ≤ℚ a → 0ℚ ≤ℚ b → 0ℚ ≤ℚ a +ℚ b
-plus_nn a b h k = linear_le (a ∷ b ∷ []) (le h ∷ le k ∷ []) (search reading_of depth 12) tt
 
 transit_of-nn : (hops : List Hop) (e : ℕ) (hop : Hop) → NoneNegative hops → IsHop hops e hop → 0ℚ ≤ℚ transit_of hops e
 transit_of-nn hops e hop n p = subst (λ (t : ℚ). 0ℚ ≤ℚ t) (sym (transit_of-hop hops e hop p)) (n e hop p)
 
 pub transit_sum-nn : (hops : List Hop) (walk : List ℕ) (v w : ℕ) → NoneNegative hops → IsWalk hops walk v w → 0ℚ ≤ℚ transit_sum hops walk
 transit_sum-nn hops [] v w n h = none_nn
-transit_sum-nn hops (e ∷ walk) v w n h = plus_nn _ _ (transit_of-nn hops e h.0 n h.1) (transit_sum-nn hops walk h.0.head w n h.3)
+transit_sum-nn hops (e ∷ walk) v w n h = nn_plus _ _ (transit_of-nn hops e h.0 n h.1) (transit_sum-nn hops walk h.0.head w n h.3)
 
 one_more : (a b c d s : ℚ) → s ≡ b +ℚ c → d ≡ a +ℚ b → a +ℚ s ≡ d +ℚ c
 one_more a b c d s e f = linear_eq (a ∷ b ∷ c ∷ d ∷ s ∷ []) (eq e ∷ eq f ∷ []) (search reading_of depth 12) tt tt

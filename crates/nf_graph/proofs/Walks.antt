@@ -5,14 +5,12 @@ use Rattle.std.proofs.lemmas.Bool.Decides.{eqb_tells}
 use Rattle.nf_model.specs.Entries.{Has}
 use Rattle.nf_model.specs.Walk.{Hop, IsHop, IsWalk}
 use Rattle.nf_graph.specs.Graph.{IsClosed}
+use Rattle.nf_model_laws.proofs.Networks.{IsWalk-append}
 
 pub IsHop-unique : (hops : List Hop) (e : ℕ) (a b : Hop) → IsHop hops e a → IsHop hops e b → a ≡ b
 IsHop-unique hops e a b p q = cc
 
 -- one hop more at the end
-pub IsWalk-append : (hops : List Hop) (walk : List ℕ) (v e : ℕ) (hop : Hop) → IsWalk hops walk v hop.tail → IsHop hops e hop → IsWalk hops (walk ++ e ∷ []) v hop.head
-IsWalk-append hops [] v e hop h p = (hop, p, sym h, refl)
-IsWalk-append hops (f ∷ walk) v e hop h p = (h.0, h.1, h.2, IsWalk-append hops walk h.0.head e hop h.3 p)
 
 -- from flags that no hop leaves, no walk leaves them
 pub IsClosed-walk : (hops : List Hop) (flags : List Bool) (walk : List ℕ) (v w : ℕ) → IsClosed hops flags → Has flags v → IsWalk hops walk v w → Has flags w

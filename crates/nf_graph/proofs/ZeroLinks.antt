@@ -6,15 +6,11 @@ use Rattle.nf_frac.specs.Order.{same_ℚ}
 use Rattle.nf_frac.specs.Total.{same_decides}
 use Rattle.nf_model.specs.Entries.{Has}
 use Rattle.nf_model.specs.Walk.{Hop, IsHop, IsWalk, transit_of}
-use Rattle.nf_model_laws.proofs.Networks.{number_at-is}
+use Rattle.nf_model_laws.proofs.Networks.{number_at-is, transit_of-hop}
 use Rattle.nf_graph.specs.Order.{IsChosenCycle, IsZeroCycle}
 
 abbrev pub zero_flags : List Hop → List Bool
 zero_flags hops = map (λ hop. same_ℚ hop.transit 0ℚ) hops
-
-pub transit_of-hop : (hops : List Hop) (e : ℕ) (hop : Hop) → IsHop hops e hop → transit_of hops e ≡ hop.transit
-transit_of-hop hops e hop p =
-    number_at-is (map (λ (h : Hop). h.transit) hops) e hop.transit (slice_get-map (λ (h : Hop). h.transit) hops e ∙ ap (option_map (λ (h : Hop). h.transit)) p)
 
 zero_of_flag : (hops : List Hop) (e : ℕ) → Has (zero_flags hops) e → transit_of hops e ≡ 0ℚ
 zero_of_flag hops e h = found (slice_get hops e) refl (sym (slice_get-map (λ (hop : Hop). same_ℚ hop.transit 0ℚ) hops e) ∙ h)

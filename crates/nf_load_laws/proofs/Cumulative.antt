@@ -20,11 +20,12 @@ use Rattle.nf_model_laws.proofs.Supply.{StartsRise, StartsRise-pieces, NextFrom,
 use Rattle.nf_lists.specs.Signs.{is_same}
 use Rattle.nf_load_lists.specs.Cumulative.{end_of, point_after_0, point_if_after_0, with_piece, cumulative_from, checked_cumulative}
 use Rattle.nf_load_lists.specs.Meanings.{IsCumulative}
-use Rattle.nf_curve_laws.proofs.Operations.{then_ok, same_ok, is_same_cases, checked-is}
+use Rattle.nf_curve_laws.proofs.Operations.{then_ok, is_same_cases, checked-is}
 use Rattle.nf_curve_laws.proofs.Following.{FollowsFrom, ends, goes, follows-point, value-follows_past}
 use Rattle.nf_curve_laws.proofs.Least.{min-left, min-right}
 use Rattle.nf_curve_laws.proofs.Values.{follows-curve, follows-values}
 use Rattle.nf_rational_laws.proofs.Chains.{≤ℚ_refl, ≤ℚ_trans}
+use Rattle.nf_plain_laws.proofs.Results.{same_Ok}
 
 -- ---- points after time 0
 after_0 : (t y : ℚ) → 0ℚ <ℚ t → point_if_after_0 t y ≡ (t, y) ∷ []
@@ -127,7 +128,7 @@ module _ (passes : Passing) (f : ℚ → ℚ) (last : ℚ) where
   from_point : (p : Point) (k so_far : ℚ) (pieces : List Piece) (points : List Point) → f p.0 ≡ p.1 → 0ℚ ≤ℚ p.0 → p.0 <ℚ end_of pieces last → IsAffine f p.0 (end_of pieces last) k → f (end_of pieces last) ≡ so_far
       → StartsRise pieces → Goes so_far pieces → cumulative_from passes so_far pieces last ≡ Ok points → FollowsFrom f last p points
   from_point p k so_far [] points at n h line e s on g =
-      subst (λ (l : List Point). FollowsFrom f last p l) (sym (after_0 last so_far (zero_lt p.0 last n h)) ∙ same_ok _ _ g) (goes k at h line (ends e refl))
+      subst (λ (l : List Point). FollowsFrom f last p l) (sym (after_0 last so_far (zero_lt p.0 last n h)) ∙ same_Ok _ _ g) (goes k at h line (ends e refl))
     where
       zero_lt : (x y : ℚ) → 0ℚ ≤ℚ x → x <ℚ y → 0ℚ <ℚ y
       zero_lt x y h k = linear_lt (x ∷ y ∷ []) (le h ∷ lt k ∷ []) (search reading_of depth 12) tt
@@ -149,7 +150,7 @@ module _ (passes : Passing) (f : ℚ → ℚ) (last : ℚ) where
         line = λ t i j. over_piece so_far piece later s goes_on t i j ∙ ap (λ (x : ℚ). x +ℚ piece.rate *ℚ (t -ℚ piece.start)) (sym at_start);
       } in
       let sum_is = with_piece-is so_far piece (end_of later last) sum.between sum.first in
-      subst (λ (l : List Point). FollowsFrom f last p l) (ap (λ (l : List Point). l ++ rest.between) (sym (after_0 piece.start so_far start_0)) ∙ same_ok _ _ rest.next)
+      subst (λ (l : List Point). FollowsFrom f last p l) (ap (λ (l : List Point). l ++ rest.between) (sym (after_0 piece.start so_far start_0)) ∙ same_Ok _ _ rest.next)
       (goes k at (subst (λ (x : ℚ). p.0 <ℚ x) here h) (subst (λ (x : ℚ). IsAffine f p.0 x k) here line)
       (from_point (piece.start, so_far) piece.rate sum.between later rest.between at_start (≤ℚ_of_lt _ _ start_0) end_later line'
       (over_piece so_far piece later s goes_on (end_of later last) (≤ℚ_of_lt _ _ end_later) (≤ℚ_refl _) ∙ sym sum_is) (rise_rest piece later s)
@@ -160,7 +161,7 @@ module _ (passes : Passing) (f : ℚ → ℚ) (last : ℚ) where
         | true ↦ with_piece passes so_far piece (end_of later last) >>= λ sum. cumulative_from passes sum later last >>= λ rest. Ok (point_if_after_0 piece.start so_far ++ rest)
         | false ↦ Ok (point_if_after_0 last so_far)
       ]) w.0) ∙ g in
-      subst (λ (l : List Point). FollowsFrom f last p l) (sym (after_0 last so_far (zero_lt p.0 last n (subst (λ (x : ℚ). p.0 <ℚ x) here h))) ∙ same_ok _ _ g')
+      subst (λ (l : List Point). FollowsFrom f last p l) (sym (after_0 last so_far (zero_lt p.0 last n (subst (λ (x : ℚ). p.0 <ℚ x) here h))) ∙ same_Ok _ _ g')
       (goes k at (subst (λ (x : ℚ). p.0 <ℚ x) here h) (subst (λ (x : ℚ). IsAffine f p.0 x k) here line) (ends (subst (λ (x : ℚ). f x ≡ so_far) here e) refl)))
       (lt_ℚ_cases piece.start last)
     where
@@ -224,7 +225,7 @@ module _ (passes : Passing) (pieces : List Piece) (last : ℚ) (good : ArePieces
       let rest = then_ok (cumulative_from passes sum.between later last) _ points sum.next in
       let end_later : piece.start <ℚ end_of later last = end_after piece.start later last w.1 (start_later piece later rise) in
       let sum_is = with_piece-is passes (λ t. supplied pieces t) last 0ℚ piece (end_of later last) sum.between sum.first in
-      subst (λ (l : List Point). FollowsFrom (λ t. supplied pieces t) last (0ℚ, 0ℚ) l) (ap (λ (l : List Point). l ++ rest.between) (sym (at_0 piece.start 0ℚ z)) ∙ same_ok _ _ rest.next)
+      subst (λ (l : List Point). FollowsFrom (λ t. supplied pieces t) last (0ℚ, 0ℚ) l) (ap (λ (l : List Point). l ++ rest.between) (sym (at_0 piece.start 0ℚ z)) ∙ same_Ok _ _ rest.next)
       (from_point passes (λ t. supplied pieces t) last (0ℚ, 0ℚ) piece.rate sum.between later rest.between begins_0 (≤ℚ_refl 0ℚ) (subst (λ (x : ℚ). x <ℚ end_of later last) z end_later)
       (subst (λ (x : ℚ). IsAffine (λ t. supplied pieces t) x (end_of later last) piece.rate) z (record {
         line = λ t i j. over_piece passes (λ t. supplied pieces t) last 0ℚ piece later rise on t i j
@@ -254,7 +255,7 @@ module _ (passes : Passing) (pieces : List Piece) (last : ℚ) (good : ArePieces
 
   -- with nothing to look at, there is the one point
   at_once : (l : List Piece) (points : List Point) → l ≡ pieces → last ≡ 0ℚ → cumulative_from passes 0ℚ l last ≡ Ok points → FollowsFrom (λ t. supplied pieces t) last (0ℚ, 0ℚ) points
-  at_once [] points e z g = subst (λ (l : List Point). FollowsFrom (λ t. supplied pieces t) last (0ℚ, 0ℚ) l) (sym (at_0 last 0ℚ z) ∙ same_ok _ _ g) (ends begins_0 (sym z))
+  at_once [] points e z g = subst (λ (l : List Point). FollowsFrom (λ t. supplied pieces t) last (0ℚ, 0ℚ) l) (sym (at_0 last 0ℚ z) ∙ same_Ok _ _ g) (ends begins_0 (sym z))
   at_once (piece ∷ later) points e z g = ⊎_elim
       (λ (w : (lt_ℚ piece.start last ≡ true) × (piece.start <ℚ last)).
       absurd (not_both_ℚ piece.start last w.1 (subst (λ (x : ℚ). x ≤ℚ piece.start) (sym z) (starts_nn (piece ∷ later) piece later e refl))))
@@ -263,7 +264,7 @@ module _ (passes : Passing) (pieces : List Piece) (last : ℚ) (good : ArePieces
         | true ↦ with_piece passes 0ℚ piece (end_of later last) >>= λ sum. cumulative_from passes sum later last >>= λ rest. Ok (point_if_after_0 piece.start 0ℚ ++ rest)
         | false ↦ Ok (point_if_after_0 last 0ℚ)
       ]) w.0) ∙ g in
-      subst (λ (l : List Point). FollowsFrom (λ t. supplied pieces t) last (0ℚ, 0ℚ) l) (sym (at_0 last 0ℚ z) ∙ same_ok _ _ g') (ends begins_0 (sym z)))
+      subst (λ (l : List Point). FollowsFrom (λ t. supplied pieces t) last (0ℚ, 0ℚ) l) (sym (at_0 last 0ℚ z) ∙ same_Ok _ _ g') (ends begins_0 (sym z)))
       (lt_ℚ_cases piece.start last)
 
   -- where no operation passes, it is what the pieces supply, up to the last time
@@ -276,7 +277,7 @@ module _ (passes : Passing) (pieces : List Piece) (last : ℚ) (good : ArePieces
       (λ (l : last ≤ℚ 0ℚ). at_once pieces rest.between refl (≤ℚ_antisymm last 0ℚ l from_0) rest.first)
       (lt_or_le_ℚ 0ℚ last) in
       let c : IsCurve ((0ℚ, 0ℚ) ∷ rest.between) = follows-curve (λ t. supplied pieces t) last (0ℚ, 0ℚ) rest.between refl w in
-      subst (λ (l : List Point). IsCumulative pieces last l) (same_ok _ _ rest.next) (record {
+      subst (λ (l : List Point). IsCumulative pieces last l) (same_Ok _ _ rest.next) (record {
         curve = c;
         begins = follows-values (λ t. supplied pieces t) last (0ℚ, 0ℚ) rest.between 0ℚ refl w (≤ℚ_refl 0ℚ) from_0 ∙ begins_0;
         rises = NeverFalls-value ((0ℚ, 0ℚ) ∷ rest.between) c (follows-values_rise (λ t. supplied pieces t) last (0ℚ, 0ℚ) rest.between (≤ℚ_refl 0ℚ) (supplied-rises pieces good) w);

@@ -29,24 +29,21 @@ use Rattle.nf_formats_laws.proofs.DraftKept.{IsGoodDraft, draft_kept}
 use Rattle.nf_formats_laws.proofs.AcceptedWalks.{file_transits}
 use Rattle.nf_net.specs.Contents.{IsRead}
 use Rattle.nf_net.specs.Closing.{HasEnds, flag_at, some_unreached, AreFlags, HasFraction}
+use Rattle.std.proofs.lemmas.Bool.{and_parts, not-false}
 
 pub good_of : (draft : Draft) → IsRead draft → IsGoodDraft draft
 good_of draft h = draft_kept h.lines draft h.read
 
-both : (a b : Bool) → (a && b) ≡ true → (a ≡ true) × (b ≡ true)
-both true b e = (refl, e)
-both false b e = absurd (cc)
-
 ends_at : (P : Name → Bool) (links : List NamedLink) (i : ℕ) (l : NamedLink) → list_all P (ends links) ≡ true → slice_get links i ≡ Some l → (P l.tail ≡ true) × (P l.head ≡ true)
 ends_at P [] i l h e = absurd (cc)
 ends_at P (k ∷ links) zero l h e =
-    let p = both (P k.tail) (P k.head && list_all P (ends links)) h in
-    let q = both (P k.head) (list_all P (ends links)) p.1 in
+    let p = and_parts (P k.tail) (P k.head && list_all P (ends links)) h in
+    let q = and_parts (P k.head) (list_all P (ends links)) p.1 in
     let same : k ≡ l = cc in
     (subst (λ (x : NamedLink). P x.tail ≡ true) same p.0, subst (λ (x : NamedLink). P x.head ≡ true) same q.0)
 ends_at P (k ∷ links) (suc i) l h e =
-    let p = both (P k.tail) (P k.head && list_all P (ends links)) h in
-    let q = both (P k.head) (list_all P (ends links)) p.1 in
+    let p = and_parts (P k.tail) (P k.head && list_all P (ends links)) h in
+    let q = and_parts (P k.head) (list_all P (ends links)) p.1 in
     ends_at P links i l q.1 e
 
 module _ (draft : Draft) (g : IsGoodDraft draft) where
@@ -122,10 +119,6 @@ two_flags flags v e h = cc
 not_flag : (flags : List Bool) (v : ℕ) → not (flag_at flags v) ≡ true → Has flags v → ⊥
 not_flag flags v e h = let is : flag_at flags v ≡ true = ap (λ (o : Option Bool). unwrap_or o false) h in let k : not (flag_at flags v) ≡ false = ap not is in cc
 
-not_false : (b : Bool) → not b ≡ false → b ≡ true
-not_false true e = refl
-not_false false e = absurd (cc)
-
 module _ (draft : Draft) (flags : List Bool) (are : AreFlags draft flags) (sink : ℕ) (is_sink : sink ≡ place_of draft.nodes (sink_name draft)) where
   not_reached : (v : ℕ) → (Has flags v → ⊥) → IsReached draft v → ⊥
   not_reached v f r = f ((are.each v).1 r)
@@ -139,7 +132,7 @@ module _ (draft : Draft) (flags : List Bool) (are : AreFlags draft flags) (sink 
   not_by_version : (one : Bool) → (cond one (list_any not flags) (not (flag_at flags sink)) ≡ false)
       → MatchBool one ((v : ℕ) × (v < length draft.nodes) × (IsReached draft v → ⊥)) (IsReached draft (place_of draft.nodes (sink_name draft)) → ⊥) → ⊥
   not_by_version true e w = let lt : w.0 < length draft.nodes = w.1 in w.2 ((are.each w.0).0 (none_not flags w.0 e (omega (arith, are.count))))
-  not_by_version false e w = subst (λ (v : ℕ). IsReached draft v → ⊥) (sym is_sink) w ((are.each sink).0 (flag_is flags sink (not_false (flag_at flags sink) e)))
+  not_by_version false e w = subst (λ (v : ℕ). IsReached draft v → ⊥) (sym is_sink) w ((are.each sink).0 (flag_is flags sink (not-false (flag_at flags sink) e)))
 
   pub some_left : some_unreached draft.version flags sink ≡ true → LeavesUnreached draft
   some_left e = by_version (draft.version == 1) e

@@ -8,22 +8,19 @@ use Rattle.std.proofs.lemmas.Str.Ascii.{IsAscii-nil, IsAscii-cons}
 use Rattle.std.proofs.lemmas.Bool.Decides.{nat_tests}
 use Rattle.nf_formats.specs.Names.{is_name, is_name_byte}
 use Rattle.std.proofs.Common.{[], ◌∷◌, ◌&&◌, refl, nat_le, length}
+use Rattle.std.proofs.lemmas.Bool.{and_parts}
 
 small_byte : (b : ℕ) → is_name_byte b ≡ true → b < 128
 small_byte b e = grind (arith, nat_tests)
 
-both : (a b : Bool) → (a && b) ≡ true → (a ≡ true) × (b ≡ true)
-both true b e = (refl, e)
-both false b e = absurd (cc)
-
 ascii : (bytes : List ℕ) → list_all is_name_byte bytes ≡ true → IsAscii bytes
 ascii [] e = IsAscii-nil
-ascii (b ∷ rest) e = let p = both (is_name_byte b) (list_all is_name_byte rest) e in IsAscii-cons b rest (small_byte b p.0) (ascii rest p.1)
+ascii (b ∷ rest) e = let p = and_parts (is_name_byte b) (list_all is_name_byte rest) e in IsAscii-cons b rest (small_byte b p.0) (ascii rest p.1)
 
 pub name_is_text : (name : List ℕ) → is_name name ≡ true → IsUtf8 name
 name_is_text name e =
-    let p = both (nat_le 1 (length name)) (nat_le (length name) 24 && list_all is_name_byte name) e in
-    let q = both (nat_le (length name) 24) (list_all is_name_byte name) p.1 in
+    let p = and_parts (nat_le 1 (length name)) (nat_le (length name) 24 && list_all is_name_byte name) e in
+    let q = and_parts (nat_le (length name) 24) (list_all is_name_byte name) p.1 in
     IsUtf8-from_ascii name (ascii name q.1)
 
 pub ok_by_cases : {X Y : Type 0} (r : Result X Y) (P : X → Type 0) (Q : Y → Type 0) → MatchResult r P Q → ((y : Y) → Q y → ⊥) → IsOk r

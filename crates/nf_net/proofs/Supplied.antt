@@ -6,8 +6,8 @@ use Rattle.nf_rational.specs.Operations.{0ℚ, ◌+ℚ◌, ◌-ℚ◌, ◌*ℚ�
 use Rattle.nf_rational.specs.Order.{◌≤ℚ◌, ◌<ℚ◌, lt_ℚ, min_ℚ, max_ℚ}
 use Rattle.nf_rational_laws.proofs.Polynomial.{reading_of}
 use Rattle.nf_rational_laws.proofs.Linear.{le, lt, eq, linear_le, linear_lt, linear_eq}
-use Rattle.nf_rational_laws.proofs.Order.{not_both_ℚ, ≤ℚ_antisymm}
-use Rattle.nf_rational_laws.proofs.Tests.{lt_ℚ_cases, min_ℚ_cases, max_ℚ_cases}
+use Rattle.nf_rational_laws.proofs.Order.{not_both_ℚ, ≤ℚ_antisymm, less_ps}
+use Rattle.nf_rational_laws.proofs.Tests.{lt_ℚ_cases, min_ℚ_cases, max_ℚ_cases, max0_none}
 use Rattle.nf_work.specs.declared.Op.{Op}
 use Rattle.nf_work.specs.declared.Op.TheVariants.{Sum, Difference, Product}
 use Rattle.nf_work.specs.declared.Passed.{Passed}
@@ -15,18 +15,14 @@ use Rattle.nf_work.specs.Passing.{Passing, result_of}
 use Rattle.nf_work.specs.Checked.{Checked, checked, ◌>>=◌}
 use Rattle.nf_model.specs.Network.{Piece, ArePieces, time_in, supplied}
 use Rattle.nf_net.specs.Supply.{end_before, with_piece, supplied_after}
+use Rattle.nf_work.proofs.Binding.{bind_ok}
+use Rattle.nf_plain_laws.proofs.Results.{same_Ok}
 
 -- ---- computations that give a value
-pub same_ok : {A E : Type 0} (x y : A) → ◌≡◌ {A = Result A E} (Ok x) (Ok y) → x ≡ y
-same_ok x y e = cc
-
-pub bound_ok : {A B E : Type 0} (r : Result A E) (f : A → Result B E) (y : B) → (r >>= f) ≡ Ok y → (x : A) × (r ≡ Ok x) × (f x ≡ Ok y)
-bound_ok (Ok x) f y e = (x, refl, e)
-bound_ok (Err p) f y e = absurd (cc)
 
 value_is : (b : Bool) (p : Passed ℚ) (x y : ℚ) → ◌≡◌ {A = Checked ℚ} (cond b (Err p) (Ok x)) (Ok y) → y ≡ x
 value_is true p x y e = absurd (cc)
-value_is false p x y e = sym (same_ok x y e)
+value_is false p x y e = sym (same_Ok x y e)
 
 checked_is : (passes : Passing) (op : Op) (x y r : ℚ) → checked passes op x y ≡ Ok r → r ≡ result_of op x y
 unfolding checked
@@ -35,8 +31,8 @@ checked_is passes op x y r e = value_is (passes op x y) (record { op = op; left 
 with_piece_is : (passes : Passing) (so_far : ℚ) (piece : Piece) (end sum : ℚ) → with_piece passes so_far piece end ≡ Ok sum
     → sum ≡ so_far +ℚ piece.rate *ℚ (end -ℚ piece.start)
 with_piece_is passes so_far piece end sum e =
-    let first = bound_ok (checked passes Difference end piece.start) (λ length. checked passes Product piece.rate length >>= λ amount. checked passes Sum so_far amount) sum e in
-    let second = bound_ok (checked passes Product piece.rate first.0) (λ amount. checked passes Sum so_far amount) sum first.2 in
+    let first = bind_ok (checked passes Difference end piece.start) (λ length. checked passes Product piece.rate length >>= λ amount. checked passes Sum so_far amount) sum e in
+    let second = bind_ok (checked passes Product piece.rate first.0) (λ amount. checked passes Sum so_far amount) sum first.2 in
     checked_is passes Sum so_far second.0 sum second.2
     ∙ ap (λ (x : ℚ). so_far +ℚ x) (checked_is passes Product piece.rate first.0 second.0 second.1
     ∙ ap (λ (x : ℚ). piece.rate *ℚ x) (checked_is passes Difference end piece.start first.0 first.1))
@@ -47,12 +43,6 @@ longer d h = ⊎_elim (λ (w : (max_ℚ 0ℚ d ≡ d) × (0ℚ ≤ℚ d)). w.0) 
   where
     <ℚ_both : d <ℚ 0ℚ → ⊥
     <ℚ_both k = not_both_ℚ 0ℚ d h (linear_le (d ∷ []) (lt k ∷ []) (search reading_of depth 12) tt)
-
-none_left : (d : ℚ) → d ≤ℚ 0ℚ → max_ℚ 0ℚ d ≡ 0ℚ
-none_left d h = ⊎_elim (λ (w : (max_ℚ 0ℚ d ≡ d) × (0ℚ ≤ℚ d)). w.0 ∙ ≤ℚ_antisymm d 0ℚ h w.1) (λ (w : (max_ℚ 0ℚ d ≡ 0ℚ) × (d <ℚ 0ℚ)). w.0) (max_ℚ_cases 0ℚ d)
-
-above : (s m : ℚ) → s <ℚ m → 0ℚ <ℚ m -ℚ s
-above s m h = linear_lt (s ∷ m ∷ []) (lt h ∷ []) (search reading_of depth 12) tt
 
 not_above : (s m : ℚ) → m ≤ℚ s → m -ℚ s ≤ℚ 0ℚ
 not_above s m h = linear_le (s ∷ m ∷ []) (le h ∷ []) (search reading_of depth 12) tt
@@ -68,12 +58,12 @@ RisesFrom start [] = Unit {0}
 RisesFrom start (next ∷ later) = start <ℚ next.start
 
 time_when : (start : ℚ) (later : List Piece) (time : ℚ) → RisesFrom start later → start <ℚ time → time_in start later time ≡ end_before later time -ℚ start
-time_when start [] time r h = longer (time -ℚ start) (above start time h)
-time_when start (next ∷ later) time r h = longer (min_ℚ time next.start -ℚ start) (above start (min_ℚ time next.start) (below_both start time next.start h r))
+time_when start [] time r h = longer (time -ℚ start) (less_ps start time h)
+time_when start (next ∷ later) time r h = longer (min_ℚ time next.start -ℚ start) (less_ps start (min_ℚ time next.start) (below_both start time next.start h r))
 
 time_unless : (start : ℚ) (later : List Piece) (time : ℚ) → time ≤ℚ start → time_in start later time ≡ 0ℚ
-time_unless start [] time h = none_left (time -ℚ start) (not_above start time h)
-time_unless start (next ∷ later) time h = none_left (min_ℚ time next.start -ℚ start) (not_above start (min_ℚ time next.start) (at_most start time next.start h))
+time_unless start [] time h = max0_none (time -ℚ start) (not_above start time h)
+time_unless start (next ∷ later) time h = max0_none (min_ℚ time next.start -ℚ start) (not_above start (min_ℚ time next.start) (at_most start time next.start h))
 
 -- ---- the sums
 joined : (v x s r e t y : ℚ) → v ≡ x +ℚ y → x ≡ s +ℚ r *ℚ (e -ℚ t) → v ≡ s +ℚ (r *ℚ (e -ℚ t) +ℚ y)
@@ -97,7 +87,7 @@ first_rises piece (next ∷ later) r = r 0 piece next refl refl
 
 module _ (passes : Passing) (time : ℚ) where
   supplied_is : (so_far : ℚ) (pieces : List Piece) (v : ℚ) → Rise pieces → supplied_after passes so_far pieces time ≡ Ok v → v ≡ so_far +ℚ supplied pieces time
-  supplied_is so_far [] v r e = with_nothing v so_far (sym (same_ok so_far v e))
+  supplied_is so_far [] v r e = with_nothing v so_far (sym (same_Ok so_far v e))
   supplied_is so_far (piece ∷ later) v r e = step (lt_ℚ piece.start time) refl (lt_ℚ_cases piece.start time) e (λ next k. supplied_is next later v (λ i p q h k. r (suc i) p q h k) k)
     where
       step : (b : Bool) → lt_ℚ piece.start time ≡ b → ((lt_ℚ piece.start time ≡ true) × (piece.start <ℚ time)) ⊎ ((lt_ℚ piece.start time ≡ false) × (time ≤ℚ piece.start))
@@ -105,7 +95,7 @@ module _ (passes : Passing) (time : ℚ) where
           → ((next : ℚ) → supplied_after passes next later time ≡ Ok v → v ≡ next +ℚ supplied later time)
           → v ≡ so_far +ℚ (piece.rate *ℚ time_in piece.start later time +ℚ supplied later time)
       step true is cases e rest =
-          let found = bound_ok (with_piece passes so_far piece (end_before later time)) (λ sum. supplied_after passes sum later time) v e in
+          let found = bind_ok (with_piece passes so_far piece (end_before later time)) (λ sum. supplied_after passes sum later time) v e in
           let starts : piece.start <ℚ time = ⊎_elim (λ (w : (lt_ℚ piece.start time ≡ true) × (piece.start <ℚ time)). w.1) (λ (w : (lt_ℚ piece.start time ≡ false) × (time ≤ℚ piece.start)). cc) cases in
           joined v found.0 so_far piece.rate (end_before later time) piece.start (supplied later time) (rest found.0 found.2) (with_piece_is passes so_far piece (end_before later time) found.0 found.1)
           ∙ ap (λ (t : ℚ). so_far +ℚ (piece.rate *ℚ t +ℚ supplied later time)) (sym (time_when piece.start later time (first_rises piece later r) starts))

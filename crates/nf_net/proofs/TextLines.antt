@@ -10,6 +10,7 @@ use Rattle.nf_formats.specs.NetText.{link_words}
 use Rattle.nf_formats.specs.WellNamed.{IsNamed}
 use Rattle.nf_net.specs.Printing.{PushesLink}
 use Rattle.nf_net.proofs.Limits.{length-links_by_name}
+use Rattle.std.proofs.lemmas.Option.{same_Some}
 
 -- ---- texts put behind each other
 -- with one word more
@@ -25,10 +26,10 @@ pub drop-links_by_name : (nodes names : List Name) (links : List Link) (i : ℕ)
 drop-links_by_name nodes [] [] i link e h = absurd (cc)
 drop-links_by_name nodes [] (l ∷ links) i link e h = absurd (omega arith)
 drop-links_by_name nodes (name ∷ names) [] i link e h = absurd (omega arith)
-drop-links_by_name nodes (name ∷ names) (l ∷ links) zero link e h = ap (λ (k : Link). link_by_name nodes name k ∷ links_by_name nodes names links) (same_some l link h)
+drop-links_by_name nodes (name ∷ names) (l ∷ links) zero link e h = ap (λ (k : Link). link_by_name nodes name k ∷ links_by_name nodes names links) (same_Some l link h)
   where
-    same_some : (a b : Link) → ◌≡◌ {A = Option Link} (Some a) (Some b) → a ≡ b
-    same_some a b e = cc
+    same_Some : (a b : Link) → ◌≡◌ {A = Option Link} (Some a) (Some b) → a ≡ b
+    same_Some a b e = cc
 drop-links_by_name nodes (name ∷ names) (l ∷ links) (suc i) link e h =
     drop-links_by_name nodes names links i link (omega arith) h
     ∙ ap (λ (k : ℕ). link_by_name nodes (name_at names i) link ∷ drop k (link_by_name nodes name l ∷ links_by_name nodes names links)) (later i)
@@ -37,8 +38,6 @@ drop-links_by_name nodes (name ∷ names) (l ∷ links) (suc i) link e h =
     later i = omega arith
 
 -- a link by its number, with the names that are found
-same_some : (a b : Link) → ◌≡◌ {A = Option Link} (Some a) (Some b) → a ≡ b
-same_some a b e = cc
 
 pub link_pushed : (n : Named) (id : ℕ) (v : Link) (name tail head : Name) (old new : List ℕ) → IsNamed n → IsLink n.net id v
     → name ≡ name_at n.link_names id → tail ≡ name_at n.node_names v.tail → head ≡ name_at n.node_names v.head

@@ -1,6 +1,6 @@
 -- The extend list gives the extension length.
 use Rattle.std.proofs.Common.{◌≡◌, ℕ, zero, suc, ◌+◌, List, [], ◌∷◌, Bool, true, false, if◌then◌else◌, sym, ap, subst, refl, arith}
-use Rattle.std.specs.Prelude.{Option, Some, None, Result, Ok, slice_get}
+use Rattle.std.specs.Prelude.{Option, Some, None, Ok, slice_get}
 use Rattle.std.specs.List.{enumerate_from}
 use Rattle.std.proofs.lemmas.Option.{none-some, same_Some}
 use Rattle.nf_rational.specs.Rational.{ℚ}
@@ -24,13 +24,7 @@ use Rattle.nf_run_laws.proofs.Sides.{KeepsSide, lt_false, keeps_at_zero, keeps_a
 use Rattle.nf_rational_laws.proofs.Chains.{≤ℚ_refl, ≤ℚ_trans}
 use Rattle.nf_work.proofs.Binding.{bind_ok}
 use Rattle.nf_rational_laws.proofs.Tests.{less_of_test}
-
-same_Ok : {A E : Type 0} (x y : A) → ◌≡◌ {A = Result A E} (Ok x) (Ok y) → x ≡ y
-same_Ok x y e = ap (λ (r : Result _ _). value_of x r) e
-  where
-    value_of : {A E : Type 0} → A → Result A E → A
-    value_of d (Ok x) = x
-    value_of d r = d
+use Rattle.nf_plain_laws.proofs.Results.{same_Ok}
 
 -- ---- one link
 module _ (P : ℚ → Type 0) where
