@@ -1,6 +1,6 @@
 use Rattle.std.proofs.Common.{◌+◌, ◌≤◌}
 use Rattle.nf_equation_laws.specs.Equations.{IsPatternIn}
-use Rattle.nf_thin.proofs.guess.loosen.Given as goal
+use Rattle.nf_thin.proofs.repairs.loosen.Given as goal
 
 -- it is still a pattern, and the column no further than the links
 abbrev pub invariant-loop-e : goal.invariant-loop-e

@@ -6,7 +6,7 @@ use Rattle.nf_model.specs.Pattern.{Pattern}
 use Rattle.nf_equation_laws.specs.Equations.{IsPatternIn}
 use Rattle.nf_thin.proofs.Asking.{none_flag}
 use Rattle.nf_thin.proofs.Changing.{IsPatternIn-changed}
-use Rattle.nf_thin.proofs.guess.change.Goals as goal
+use Rattle.nf_thin.proofs.repairs.change.Goals as goal
 
 pub returns : goal.returns
 returns c = subst (λ (p : Pattern). IsPatternIn c.args.net.now.net c.args.sets.now p) (sym c.set.ensures)

@@ -1,5 +1,5 @@
 use Rattle.nf_equation_laws.specs.Equations.{IsPatternIn}
-use Rattle.nf_thin.proofs.guess.tighten.Given as goal
+use Rattle.nf_thin.proofs.repairs.tighten.Given as goal
 
 -- it is still a pattern
 abbrev pub invariant-loop-e : goal.invariant-loop-e
