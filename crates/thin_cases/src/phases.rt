@@ -1,5 +1,5 @@
 // Phases: a network, its link sets, and the pattern to begin with.
-ghost use Rattle.std.specs.Prelude.{◌≡◌, ◌<◌, ℕ, length, Some, true, false, IfSome, IsTrue};
+ghost use Rattle.std.specs.Prelude.{◌≡◌, ◌<◌, ℕ, length, Some, true, false, IfOk, IfSome, IsTrue};
 ghost use Rattle.nf_model.specs.Entries.{Has};
 ghost use Rattle.nf_model.specs.Network.{unbounded};
 ghost use Rattle.nf_model.specs.declared.State.TheVariants.{Full};
@@ -13,7 +13,7 @@ use nf_model::State;
 use nf_net::Network;
 use nf_pattern::{Pattern, base};
 use nf_sets::sets;
-use std::alloc::Global;
+use std::alloc::{AllocError, Global};
 
 fn is_full(state: Option<State>) -> bool
     ensures { result ≡ false → state ≡ Some Full → ⊥ }
@@ -54,20 +54,25 @@ fn are_fit(net: &Network, sets: &LinkSets, last: &Pattern) -> bool
 }
 
 // The sets of these slacks, and the pattern to begin with after this last one.
-fn begin(alloc: Global, net: &Network, slacks: &[Q], last: &Pattern) -> Option<(LinkSets, Pattern)>
+fn begin(
+    alloc: Global,
+    net: &Network,
+    slacks: &[Q],
+    last: &Pattern,
+) -> Result<Option<(LinkSets, Pattern)>, AllocError>
     requires last { length last.now ≡ length net.now.net.links }
-    ensures sets { IfSome result (λ phase. AreSetsOf net.now.net phase.0) }
-    ensures base { IfSome result (λ phase. IsPattern phase.0 (unbounded net.now.net) phase.1) }
+    ensures sets { IfOk result (λ found. IfSome found (λ phase. AreSetsOf net.now.net phase.0)) }
+    ensures base { IfOk result (λ found. IfSome found (λ phase. IsPattern phase.0 (unbounded net.now.net) phase.1)) }
 {
     if slacks.len() != net.link_count() as usize {
-        return None;
+        return Ok(None);
     }
-    let sets = sets(alloc, slacks).ok()?;
+    let sets = sets(alloc, slacks)?;
     if !are_fit(net, &sets, last) {
-        return None;
+        return Ok(None);
     }
-    let first = base(alloc, net.node_count(), net.hops(), &sets, last).ok()?;
-    Some((sets, first))
+    let first = base(alloc, net.node_count(), net.hops(), &sets, last)?;
+    Ok(Some((sets, first)))
 }
 
 /// The phase of a network with these slacks of its links, after one with these states.
@@ -82,5 +87,8 @@ pub fn phase(
 {
     let slacks = numbers(alloc, slacks)?;
     let last = pattern(alloc, net.link_count(), states)?;
-    begin(alloc, net, &slacks, &last)
+    match begin(alloc, net, &slacks, &last) {
+        Ok(found) => found,
+        Err(_) => None,
+    }
 }

@@ -12,14 +12,11 @@ use nf_thin::parts::{balances as balances_of, full_flows, group_values, listing}
 use nf_thin::{Judged, verdict as verdict_of};
 use std::alloc::Global;
 
-/// The slacks of a network's links: the labels of its nodes, and the network.
-pub fn slacks(alloc: Global, fields: Fields) -> Option<String> {
-    let labels = numbers(alloc, fields.first)?;
-    let net = network(alloc, fields.second)?;
-    if labels.len() != net.node_count() as usize {
-        return None;
-    }
-    match nf_sets::slacks(alloc, net.hops(), &labels) {
+// The slacks at these labels.
+fn slacks_text(alloc: Global, net: &Network, labels: &[Q]) -> Option<String>
+    requires { length labels.now ≡ net.now.net.nodes }
+{
+    match nf_sets::slacks(alloc, net.hops(), labels) {
         Ok(slacks) => {
             let mut text = String::from_str(alloc, "slacks").ok()?;
             put_all(alloc, &mut text, &slacks)?;
@@ -28,6 +25,16 @@ pub fn slacks(alloc: Global, fields: Fields) -> Option<String> {
         Err(Halt::Passed(at)) => passed(alloc, at),
         Err(Halt::Memory) => None,
     }
+}
+
+/// The slacks of a network's links: the labels of its nodes, and the network.
+pub fn slacks(alloc: Global, fields: Fields) -> Option<String> {
+    let labels = numbers(alloc, fields.first)?;
+    let net = network(alloc, fields.second)?;
+    if labels.len() != net.node_count() as usize {
+        return None;
+    }
+    slacks_text(alloc, &net, &labels)
 }
 
 /// The sets of links with these slacks.
