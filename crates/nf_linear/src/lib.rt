@@ -5,8 +5,6 @@ mod elimination;
 mod row;
 mod solution;
 mod table;
-#[cfg(test)]
-mod tests;
 
 pub use solution::{Solved, solve};
 pub use table::Table;

@@ -69,7 +69,7 @@ module _ (source : ℕ) (hops : List Hop) (resetting : List Bool) (p : Pattern) 
 
   -- where its ends are of one group, the link closes a cycle
   pub round_closes : {trail : Trail} → Follows source hops resetting p trail → IsRound hops p trail.depth trail.groups → Closes hops p trail.depth
-  round_closes {trail} follows round = one_group_closes (length trail.groups) hops p trail.hung.items trail.depth trail.groups round.1 follows.below follows.grown round.0 round.2 round.3
+  round_closes {trail} follows round = one_group_closes (length trail.groups) hops p trail.hung.items trail.depth trail.groups round.1 follows.grown round.0 round.2 round.3
 
   -- ---- the last link is taken back
   pub hung_within : {trail : Trail} (n node : ℕ) → Follows source hops resetting p trail → trail.depth ≡ suc n → slice_get trail.hung.items n ≡ Some (Some node) → node < length trail.groups

@@ -130,23 +130,20 @@ grown_descends nodes hops p hung zero parents grown = alone_descends nodes paren
 grown_descends nodes hops p hung (suc n) parents (before, grown, inl (kept, none, same)) = subst (λ (ps : List ℕ). Descend ps) (sym same) (grown_descends nodes hops p hung n before grown)
 grown_descends nodes hops p hung (suc n) parents (before, grown, inr (node, kept, tight, hop, is, hangs)) = hangs_descend before hop.tail hop.head node parents hangs (grown_descends nodes hops p hung n before grown)
 
-groups_of : (nodes : ℕ) (hops : List Hop) (p : Pattern) (hung : List (Option ℕ)) (n : ℕ) (parents : List ℕ) → AreGrown nodes hops p hung n parents → AreGroups hops (TightBefore p n) parents
-groups_of nodes hops p hung zero parents grown = record {
+grown_groups : (nodes : ℕ) (hops : List Hop) (p : Pattern) (hung : List (Option ℕ)) (n : ℕ) (parents : List ℕ) → AreGrown nodes hops p hung n parents → AreGroups hops (TightBefore p n) parents
+grown_groups nodes hops p hung zero parents grown = record {
   sound = λ v r root. ([], alone_root nodes parents v r grown root);
   whole = λ e hop t is. let l = t.0 in absurd (omega arith);
 }
-groups_of nodes hops p hung (suc n) parents (before, grown, inl (kept, none, same)) = groups_still hops p n before parents (groups_of nodes hops p hung n before grown) none same
-groups_of nodes hops p hung (suc n) parents (before, grown, inr (node, kept, tight, hop, is, hangs)) =
-    groups_joined hops p n before parents (groups_of nodes hops p hung n before grown) (grown_descends nodes hops p hung n before grown) tight hop is node hangs
-
-pub grown_groups : (nodes : ℕ) (hops : List Hop) (p : Pattern) (hung : List (Option ℕ)) (n : ℕ) (parents : List ℕ) → AreBelow nodes hops → AreGrown nodes hops p hung n parents → AreGroups hops (TightBefore p n) parents
-grown_groups nodes hops p hung n parents below grown = groups_of nodes hops p hung n parents grown
+grown_groups nodes hops p hung (suc n) parents (before, grown, inl (kept, none, same)) = groups_still hops p n before parents (grown_groups nodes hops p hung n before grown) none same
+grown_groups nodes hops p hung (suc n) parents (before, grown, inr (node, kept, tight, hop, is, hangs)) =
+    groups_joined hops p n before parents (grown_groups nodes hops p hung n before grown) (grown_descends nodes hops p hung n before grown) tight hop is node hangs
 
 -- a Tight link between nodes of one group closes a cycle
-pub one_group_closes : (nodes : ℕ) (hops : List Hop) (p : Pattern) (hung : List (Option ℕ)) (n : ℕ) (parents : List ℕ) (hop : Hop) → AreBelow nodes hops → AreGrown nodes hops p hung n parents
+pub one_group_closes : (nodes : ℕ) (hops : List Hop) (p : Pattern) (hung : List (Option ℕ)) (n : ℕ) (parents : List ℕ) (hop : Hop) → AreGrown nodes hops p hung n parents
     → HasState p n Tight → IsHop hops n hop → IsOneGroup parents hop.tail hop.head → Closes hops p n
-one_group_closes nodes hops p hung n parents hop below grown tight is one =
-    let groups = groups_of nodes hops p hung n parents grown in (
+one_group_closes nodes hops p hung n parents hop grown tight is one =
+    let groups = grown_groups nodes hops p hung n parents grown in (
       tight,
       record {
         hop = hop;
@@ -160,7 +157,7 @@ one_group_closes nodes hops p hung n parents hop below grown tight is one =
 joined_none : (nodes : ℕ) (hops : List Hop) (p : Pattern) (hung : List (Option ℕ)) (n : ℕ) (before after : List ℕ) → AreGrown nodes hops p hung n before → GrowsBy hops p hung n before after → Closes hops p n → ⊥
 joined_none nodes hops p hung n before after grown (inl (kept, none, same)) closes = none closes.0
 joined_none nodes hops p hung n before after grown (inr (node, kept, tight, hop, is, hangs)) closes =
-    let groups = groups_of nodes hops p hung n before grown in
+    let groups = grown_groups nodes hops p hung n before grown in
     let here = IsHop-unique hops n closes.1.hop hop closes.1.is_hop is in
     let joined : AreJoined hops (TightBefore p n) hop.head hop.tail = subst (λ (h : Hop). AreJoined hops (TightBefore p n) h.head h.tail) here closes.1.joined in
     let within = ⊎_elim
@@ -170,15 +167,12 @@ joined_none nodes hops p hung n before after grown (inr (node, kept, tight, hop,
     let root = root_there before (grown_descends nodes hops p hung n before grown) hop.head within in
     hangs_apart before hop.tail hop.head node after hangs (root.0, trail_root hops (TightBefore p n) before groups.whole joined.0 hop.head hop.tail root.0 joined.1 root.1, root.1)
 
-clear_of : (nodes : ℕ) (hops : List Hop) (p : Pattern) (hung : List (Option ℕ)) (n : ℕ) (parents : List ℕ) → AreGrown nodes hops p hung n parents → NoneCloses hops p n
-clear_of nodes hops p hung zero parents grown e less closes = absurd (omega arith)
-clear_of nodes hops p hung (suc n) parents (before, grown, by) e less closes = ⊎_elim
+pub grown_clear : (nodes : ℕ) (hops : List Hop) (p : Pattern) (hung : List (Option ℕ)) (n : ℕ) (parents : List ℕ) → AreGrown nodes hops p hung n parents → NoneCloses hops p n
+grown_clear nodes hops p hung zero parents grown e less closes = absurd (omega arith)
+grown_clear nodes hops p hung (suc n) parents (before, grown, by) e less closes = ⊎_elim
     (λ (last : e ≡ n). joined_none nodes hops p hung n before parents grown by (subst (λ (k : ℕ). Closes hops p k) last closes))
-    (λ (other : e ≢ n). clear_of nodes hops p hung n before grown e (omega arith) closes)
+    (λ (other : e ≢ n). grown_clear nodes hops p hung n before grown e (omega arith) closes)
     (tell e n)
-
-pub grown_clear : (nodes : ℕ) (hops : List Hop) (p : Pattern) (hung : List (Option ℕ)) (n : ℕ) (parents : List ℕ) → AreBelow nodes hops → AreGrown nodes hops p hung n parents → NoneCloses hops p n
-grown_clear nodes hops p hung n parents below grown = clear_of nodes hops p hung n parents grown
 
 -- ---- the same first links
 module _ (nodes : ℕ) (hops : List Hop) (p r : Pattern) (hung other : List (Option ℕ)) where

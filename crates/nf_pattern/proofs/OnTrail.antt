@@ -79,7 +79,7 @@ module _ (question : Question) (is : IsQuestion question) (p : Pattern) (trail :
 
   pub listed_on : IsAssignment question.base question.unbounded p → trail.lost ≡ false → trail.depth ≡ length question.hops → IsListedBy question p
   listed_on assigned kept whole = listed_by question is p assigned
-      (is_forest question.hops p (λ e closes. grown_clear (length trail.groups) question.hops p trail.hung.items trail.depth trail.groups here.follows.below here.follows.grown e
+      (is_forest question.hops p (λ e closes. grown_clear (length trail.groups) question.hops p trail.hung.items trail.depth trail.groups here.follows.grown e
       (let l = closing_below question.hops p e closes in omega arith) closes))
       (entered_all kept whole)
 

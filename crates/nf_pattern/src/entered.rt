@@ -50,8 +50,6 @@ fn is_entered_before(
     requires leads { LeadsTo hops.now link node }
     ensures { MatchBool result (EnteredBefore hops.now resetting.now states.now link node) (EnteredBefore hops.now resetting.now states.now link node → ⊥) }
 {
-    let _ = hops;
-    let _ = node;
     let mut at = chain[link.index()];
     while let Some(before) = at {
         if may_carry(states, resetting, before) {
@@ -94,7 +92,7 @@ pub(crate) fn strands(
     !is_entered_before(hops, states, resetting, link, head, chain)
 }
 
-// The last link so far that leads to each node, and then with one more: it is put into the chain which one was the last before it.
+// The last link before this one that leads to the same node. From then on this one is the last into that node.
 fn chain_link(hops: &[Hop], link: usize, last: &mut [Option<LinkId>]) -> Option<LinkId>
     requires link { link < length hops.now }
     requires fewer { length hops.now < 2 ^ 32 }

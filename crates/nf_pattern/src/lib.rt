@@ -9,13 +9,9 @@ mod entered;
 mod groups;
 mod joining;
 mod laws;
-#[cfg(test)]
-mod listing_tests;
 mod pattern;
 mod patterns;
 mod question;
-#[cfg(test)]
-mod tests;
 mod trail;
 
 pub use bases::base;

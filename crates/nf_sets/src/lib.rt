@@ -1,9 +1,6 @@
 //! Slacks of links at labels of the nodes, and which links are active and resetting there (Koch and Skutella 2011).
 #![tactic(auto)]
 
-#[cfg(test)]
-mod tests;
-
 ghost use Rattle.std.specs.Prelude.{◌≡◌, ◌<◌, length, map, IfOk};
 ghost use Rattle.nf_rational.specs.Operations.{0ℚ};
 ghost use Rattle.nf_rational.specs.Order.{le_ℚ, lt_ℚ};

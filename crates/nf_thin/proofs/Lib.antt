@@ -12,7 +12,6 @@ pub mod ActivePlaces
 pub mod EquationRows
 pub mod NodeEntries
 pub mod LinkEntries
-pub mod Negative
 pub mod NodeRows
 pub mod LinkRows
 pub mod Sizes

@@ -3,7 +3,6 @@ ghost use Rattle.std.specs.Prelude.{◌≡◌, ◌<◌, length, slice_get, Some,
 ghost use Rattle.nf_model.specs.Entries.{number_at};
 ghost use Rattle.nf_thin.specs.Allowing.{allows_of, flags_of, flags_by, IsAllowedAt, IsForbidden, Agrees};
 
-use crate::verdicts::is_at_most;
 use nf_frac::Q;
 use nf_graph::LinkId;
 use nf_model::State;
@@ -36,8 +35,8 @@ fn allowed_at(tail_slope: Q, head_slope: Q) -> Allowed
     ensures { result ≡ flags_of tail_slope head_slope }
 {
     Allowed {
-        full: is_at_most(tail_slope, head_slope),
-        zero: is_at_most(head_slope, tail_slope),
+        full: tail_slope.is_at_most(head_slope),
+        zero: head_slope.is_at_most(tail_slope),
     }
 }
 

@@ -1,7 +1,7 @@
 // The table of the equations of a pattern.
 ghost use Rattle.std.specs.Prelude.{◌≡◌, ◌<◌, ◌≤◌, length, Some, IfOk, if◌then◌else◌, ◌==◌};
 ghost use Rattle.nf_rational.specs.Rational.{ℚ};
-ghost use Rattle.nf_rational.specs.Operations.{0ℚ, neg_ℚ, ◌-ℚ◌};
+ghost use Rattle.nf_rational.specs.Operations.{0ℚ, ◌-ℚ◌};
 ghost use Rattle.nf_model.specs.Pattern.{Pattern as SeenPattern};
 ghost use Rattle.nf_formats.specs.WellNamed.{IsNamed};
 ghost use Rattle.nf_lists.specs.Table.{row_at};
@@ -15,16 +15,6 @@ use nf_model::State;
 use nf_net::{Link, Network};
 use nf_pattern::Pattern;
 use std::alloc::{AllocError, Global};
-
-/// The number with the other sign.
-pub(crate) fn negated(value: Q) -> Q
-    ensures { result ≡ neg_ℚ value }
-{
-    match Q::make(-value.numer(), value.denom()) {
-        Some(negative) => negative,
-        None => unreachable!(),
-    }
-}
 
 // How many unknowns there are: the slope of each node, and the flow of each active link.
 fn unknown_count(net: &Network, sets: &LinkSets) -> u32
@@ -55,7 +45,7 @@ fn unit(leaves: bool, enters: bool) -> Q
     } else if leaves {
         Q::one()
     } else {
-        negated(Q::one())
+        Q::one().negated()
     }
 }
 
@@ -119,7 +109,7 @@ fn fill_tight(table: &mut Table<Q>, row: u32, link: Link)
 {
     if link.head != link.tail {
         table.set(row, link.head.0, Q::one());
-        table.set(row, link.tail.0, negated(Q::one()));
+        table.set(row, link.tail.0, Q::one().negated());
     }
 }
 
@@ -130,7 +120,7 @@ fn fill_full(table: &mut Table<Q>, row: u32, link: Link)
     ensures { ChangesRow table.old table.new row (with_entries (row_at table.old row) (full_entries row link)) }
 {
     let capacity = link.capacity.unwrap_or(Q::zero());
-    table.set(row, link.head.0, negated(capacity));
+    table.set(row, link.head.0, capacity.negated());
     table.set(row, row, Q::one());
 }
 

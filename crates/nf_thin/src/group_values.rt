@@ -29,7 +29,7 @@ fn slopes_and_flows(
 
 /// The values that solve the table of a pattern: the slopes of the nodes, in node order, and the flows of the active links, in link
 /// order. None where not just one does, or an operation passes.
-pub(crate) fn group_values(
+pub fn group_values(
     alloc: Global,
     net: &Network,
     sets: &LinkSets,

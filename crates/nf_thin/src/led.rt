@@ -79,6 +79,7 @@ pub(crate) fn known_by(
     ensures known { IfOk result (λ found. IfSome found (λ known. IsKnown (beyond (bound_of 127)) net.now.net sets.now rate known)) }
     ensures thin { IfOk result (λ found. IfSome found (λ known. AreThinSlopes net.now.net sets.now rate known.slopes.items)) }
 {
+    // For the proof: the rate at which the values solve the pattern's table.
     let _ = rate;
     let SolvedPattern { pattern, values } = last;
     if !each_is_led(net, sets, &pattern) {

@@ -2,37 +2,25 @@
 //! and the search for the first pattern that is accepted.
 #![tactic(auto)]
 
-#[cfg(test)]
-mod agreeing_tests;
 mod allowed;
 mod filling;
 mod first;
 mod group_slopes;
 mod group_values;
-#[cfg(test)]
-mod group_values_tests;
 mod groups;
 mod guess;
 mod known;
 mod led;
 mod node_groups;
 mod node_test;
-#[cfg(test)]
-mod node_test_tests;
-#[cfg(test)]
-mod phases;
+pub mod parts;
 mod ranges;
-#[cfg(test)]
-mod search_tests;
+mod repairs;
 mod searches;
 mod settling;
 mod sifting;
-#[cfg(test)]
-mod tests;
 mod tight_flows;
 mod trying;
-#[cfg(test)]
-mod verdict_tests;
 mod verdicts;
 
 pub use searches::{SearchFault, Thin, search};

@@ -9,7 +9,7 @@ ghost use Rattle.nf_model.specs.ThinFlow.{surplus as surplus_of};
 ghost use Rattle.nf_thin.specs.Ranges.{IsWithin};
 ghost use Rattle.nf_thin.specs.Balancing.{full_of, full_by, CanFlow, BoundsFirst, needed_at};
 
-use crate::filling::{negated, surplus};
+use crate::filling::surplus;
 use crate::ranges::{Range, flow_range};
 use nf_frac::Q;
 use nf_graph::{LinkId, LinkSets, NodeId};
@@ -28,11 +28,7 @@ pub(crate) fn full_flow(capacity: Option<Q>, head_slope: Q) -> Option<Q>
 }
 
 /// The same of each link, by these slopes of the nodes.
-pub(crate) fn full_flows(
-    alloc: Global,
-    net: &Network,
-    slopes: &[Q],
-) -> Result<Vec<Option<Q>>, AllocError>
+pub fn full_flows(alloc: Global, net: &Network, slopes: &[Q]) -> Result<Vec<Option<Q>>, AllocError>
     requires { length slopes.now ≡ net.now.net.nodes }
     ensures { IfOk result (λ full. full.items ≡ full_by (beyond (bound_of 127)) net.now.net slopes.now) }
 {
@@ -115,7 +111,7 @@ fn needed(net: &Network, rate: Q, node: NodeId) -> Q
     ensures { result ≡ needed_at net.now.net rate node }
 {
     if node == net.sink() {
-        negated(rate)
+        rate.negated()
     } else {
         surplus(net.source(), rate, node)
     }
@@ -142,7 +138,7 @@ fn balances_at(
 }
 
 /// Whether the balance of each node can be met by what its links may carry in their states.
-pub(crate) fn balances(
+pub fn balances(
     net: &Network,
     sets: &LinkSets,
     rate: Q,

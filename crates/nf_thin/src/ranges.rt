@@ -1,11 +1,10 @@
 // Ranges of numbers, and what range the flow of a link has by its state.
-ghost use Rattle.std.specs.Prelude.{◌≡◌, IsTrue, MatchBool, Bool, Option, Some};
+ghost use Rattle.std.specs.Prelude.{◌≡◌, MatchBool, Bool, Option, Some};
 ghost use Rattle.nf_rational.specs.Rational.{ℚ};
 ghost use Rattle.nf_rational.specs.Operations.{0ℚ, ◌+ℚ◌, ◌-ℚ◌};
 ghost use Rattle.nf_rational.specs.Order.{◌≤ℚ◌};
 ghost use Rattle.nf_thin.specs.Ranges.{IsFrom, IsUpTo, IsWithin, IsEndOfSum, IsEndOfDifference, MeetsState};
 
-use crate::verdicts::is_at_most;
 use nf_frac::Q;
 use nf_model::State;
 
@@ -16,23 +15,16 @@ pub(crate) struct Range {
     pub(crate) greatest: Option<Q>,
 }
 
-// The number is 0.
-fn is_zero(number: Q) -> bool
-    ensures { IsTrue result → number ≡ 0ℚ }
-{
-    number == Q::zero()
-}
-
 // The sum of two ends, if both are known and it doesn't pass.
 fn end_of_sum(one: Option<Q>, other: Option<Q>) -> Option<Q>
     ensures { IsEndOfSum one other result }
 {
     let end = one?;
     let more = other?;
-    if is_zero(more) {
+    if more.is_zero() {
         return Some(end);
     }
-    if is_zero(end) {
+    if end.is_zero() {
         return Some(more);
     }
     end.sum(more).ok()
@@ -44,7 +36,7 @@ fn end_of_difference(one: Option<Q>, other: Option<Q>) -> Option<Q>
 {
     let end = one?;
     let less = other?;
-    if is_zero(less) {
+    if less.is_zero() {
         return Some(end);
     }
     end.difference(less).ok()
@@ -55,7 +47,7 @@ fn is_from(least: Option<Q>, number: Q) -> bool
     ensures { MatchBool result (IsFrom least number) (IsFrom least number → ⊥) }
 {
     match least {
-        Some(least) => is_at_most(least, number),
+        Some(least) => least.is_at_most(number),
         None => true,
     }
 }
@@ -65,7 +57,7 @@ fn is_up_to(greatest: Option<Q>, number: Q) -> bool
     ensures { MatchBool result (IsUpTo greatest number) (IsUpTo greatest number → ⊥) }
 {
     match greatest {
-        Some(greatest) => is_at_most(number, greatest),
+        Some(greatest) => number.is_at_most(greatest),
         None => true,
     }
 }

@@ -160,7 +160,7 @@ fn go_through(
 }
 
 /// The listing of the patterns of a network for these sets, from a base on.
-pub(crate) fn listing(
+pub fn listing(
     alloc: Global,
     net: &Network,
     sets: &LinkSets,
@@ -233,6 +233,7 @@ pub fn search(
     ensures thin { IfOk result (λ thin. IsThinFlow net.now.net sets.now rate thin.flows.items thin.labels.items) }
     ensures only { IfOk result (λ thin. SlopesAreOnly net.now.net sets.now rate thin.labels.items) }
 {
+    // For the proof: the network is well formed.
     let _ = net.hops();
     search_by_slopes(alloc, net, sets, rate, base, budget)
 }

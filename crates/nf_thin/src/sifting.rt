@@ -173,7 +173,7 @@ fn guide_of(
 
 /// The search by the slopes of a thin flow, which are guessed from the first listed pattern on. None where it comes to no end: no such
 /// slopes were found, or no pattern is accepted and some were passed over.
-pub(crate) fn sifted_search(
+pub fn sifted_search(
     alloc: Global,
     net: &Network,
     sets: &LinkSets,

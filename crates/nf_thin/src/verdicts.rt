@@ -44,13 +44,6 @@ fn bound(state: Option<State>, capacity: Option<Q>, head_slope: Q) -> Result<Opt
     }
 }
 
-/// x ≤ y.
-pub(crate) fn is_at_most(x: Q, y: Q) -> bool
-    ensures { result ≡ le_ℚ x y }
-{
-    x <= y
-}
-
 // The inequality of a state holds, with this bound on the flow.
 fn keeps_state(
     state: Option<State>,
@@ -63,11 +56,11 @@ fn keeps_state(
 {
     match state {
         Some(State::Tight) => match bound {
-            Some(bound) => is_at_most(flow, bound),
+            Some(bound) => flow.is_at_most(bound),
             None => true,
         },
-        Some(State::Full) => is_at_most(tail_slope, head_slope),
-        Some(State::Zero) => is_at_most(head_slope, tail_slope),
+        Some(State::Full) => tail_slope.is_at_most(head_slope),
+        Some(State::Zero) => head_slope.is_at_most(tail_slope),
         None => true,
     }
 }
@@ -76,7 +69,7 @@ fn keeps_state(
 fn is_not_negative(number: Q) -> bool
     ensures { result ≡ le_ℚ 0ℚ number }
 {
-    is_at_most(Q::zero(), number)
+    Q::zero().is_at_most(number)
 }
 
 // The slope of a node is below 0.
@@ -186,7 +179,6 @@ pub fn verdict(
     requires slopes { length slopes.now ≡ net.now.net.nodes }
     ensures { Judges (IsJudged net.now.net pattern.now flows.now slopes.now) (at_part Verdict (verdict_list (beyond (bound_of 127)) net.now.net pattern.now slopes.now)) result }
 {
-    let _ = sets;
     let failing = first_failing(net, pattern, flows, slopes)?;
     match first_negative(net, slopes) {
         Some(node) => Ok(Judged::FailsNode(node)),
