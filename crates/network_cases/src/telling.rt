@@ -1,5 +1,6 @@
 // What a case's text is read as.
 ghost use Rattle.std.specs.Prelude.{◌≤◌, length};
+ghost use Rattle.nf_lines.specs.Faults.{longest_text};
 
 use crate::case::{Case, Kind};
 use crate::shown::{Amount, Found, Shown};
@@ -125,7 +126,7 @@ fn tell_line<R: Print>(rt: &R, text: &[u8], line: &Line) -> io::Result<()> {
 
 // The lines of a text, or the first fault.
 fn tell_lines<R: Print + AllocGlobal>(rt: &R, text: &[u8]) -> io::Result<()>
-    requires { length text.now ≤ 67108864 }
+    requires { length text.now ≤ longest_text }
 {
     let read = match lines(rt.alloc(), text) {
         Ok(read) => read,

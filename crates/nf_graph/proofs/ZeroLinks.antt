@@ -6,7 +6,7 @@ use Rattle.nf_frac.specs.Order.{same_ℚ}
 use Rattle.nf_frac.specs.Total.{same_decides}
 use Rattle.nf_model.specs.Entries.{Has}
 use Rattle.nf_model.specs.Walk.{Hop, IsHop, IsWalk, transit_of}
-use Rattle.nf_model_laws.proofs.Networks.{number_at-is, transit_of-hop}
+use Rattle.nf_model_laws.proofs.Networks.{transit_of-hop}
 use Rattle.nf_graph.specs.Order.{IsChosenCycle, IsZeroCycle}
 
 abbrev pub zero_flags : List Hop → List Bool

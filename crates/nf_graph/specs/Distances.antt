@@ -4,7 +4,7 @@ use Rattle.nf_rational.specs.Rational.{ℚ}
 use Rattle.nf_rational.specs.Operations.{0ℚ, ◌+ℚ◌}
 use Rattle.nf_rational.specs.Order.{◌≤ℚ◌}
 use Rattle.nf_work.specs.declared.Op.TheVariants.{Sum}
-use Rattle.nf_work.specs.Passing.{bound_of, beyond}
+use Rattle.nf_work.specs.Passing.{passes_Q}
 use Rattle.nf_model.specs.Walk.{Hop, IsHop, IsWalk, IsLeastTransit}
 
 -- no transit time is negative
@@ -19,7 +19,7 @@ pub record AreDistances (nodes : ℕ) (hops : List Hop) (from : ℕ) (sums : Lis
 
 -- the sum of these two passes
 abbrev pub SumPasses : ℚ → ℚ → Type 0
-SumPasses left right = beyond (bound_of 127) Sum left right ≡ true
+SumPasses left right = passes_Q Sum left right ≡ true
 
 -- the sum of the least transit sum of the tail of link e and the transit time of the link passes
 pub record PassesAt (hops : List Hop) (from e : ℕ) (left right : ℚ) : Type 0 where

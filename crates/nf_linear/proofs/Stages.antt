@@ -18,6 +18,8 @@ use Rattle.nf_linear_laws.proofs.Elimination.{IsCleared, next_cleared}
 use Rattle.nf_linear.specs.Pivots.{eliminated}
 use Rattle.nf_linear.proofs.Fronts.{stops}
 use Rattle.nf_linear.proofs.Taken.{ok_of_part}
+use Rattle.nf_plain_laws.proofs.Results.{same_Ok}
+use Rattle.std.proofs.lemmas.Option.{same_Some}
 
 -- ---- the pivot of a column
 module _ (rows : List Row) (pivots : List ℕ) (column pivot : ℕ) (e : pivot_of rows pivots column ≡ Some pivot) where
@@ -34,15 +36,10 @@ module _ (rows : List Row) (pivots : List ℕ) (column pivot : ℕ) (e : pivot_o
   pivot_some = subst (λ (i : ℕ). number_at (row_at rows i) column ≢ 0ℚ) place (some_tested (number_at (row_at rows found.number) column) found.some)
 
 -- ---- the next column
-same_ok : {A E : Type 0} (x y : A) → ◌≡◌ {A = Result A E} (Ok x) (Ok y) → x ≡ y
-same_ok x y e = cc
-
-same_some : (done next : Eliminated) → Some done ≡ Some next → done ≡ next
-same_some done next e = cc
 
 after_rows : (r s : Checked (List Row)) (f : List Row → Eliminated) (next : Eliminated) (exact : List Row) → ((rows : List Row) → r ≡ Ok rows → s ≡ Ok rows) → s ≡ Ok exact
     → (r >>= λ rows. Ok (Some (f rows))) ≡ Ok (Some next) → f exact ≡ next
-after_rows (Ok rows) s f next exact h k e = ap f (same_ok exact rows (sym k ∙ h rows refl)) ∙ same_some (f rows) next (same_ok (Some (f rows)) (Some next) e)
+after_rows (Ok rows) s f next exact h k e = ap f (same_Ok exact rows (sym k ∙ h rows refl)) ∙ same_Some (f rows) next (same_Ok (Some (f rows)) (Some next) e)
 after_rows (Err p) s f next exact h k e = absurd (cc)
 
 module _ (passes : Passing) (n column : ℕ) (done : Eliminated) (s : IsCleared n column done.rows done.pivots) (inside : column < n) (next : Eliminated) where

@@ -10,7 +10,7 @@ use Rattle.nf_graph.specs.Steps.{ForPassed}
 use Rattle.std.specs.List.{AllByRecursion, list_all, list_any}
 use Rattle.nf_rational.specs.Rational.{ℚ}
 use Rattle.nf_rational.specs.Operations.{0ℚ}
-use Rattle.nf_work.specs.Passing.{is_wide, beyond, bound_of}
+use Rattle.nf_work.specs.Passing.{is_wide, passes_Q}
 use Rattle.nf_work.specs.declared.Op.TheVariants.{Sum}
 use Rattle.nf_model.specs.Entries.{Has}
 use Rattle.nf_model.specs.Walk.{Hop, IsHop, IsWalk, transit_of}
@@ -166,7 +166,7 @@ module _ (draft : Draft) (hops : List Hop) (are : hops ≡ draft_hops draft) whe
   pub has_passing : (from e : ℕ) (left right : ℚ) → from ≡ source_place draft → PassesAt hops from e left right → is_wide greatest left ≡ false → HasPassingSum draft
   has_passing from e left right is given fraction =
       let p : PassesAt (draft_hops draft) (source_place draft) e left right = subst (λ (hs : List Hop). PassesAt hs (source_place draft) e left right) are (subst (λ (v : ℕ). PassesAt hops v e left right) is given) in
-      record { link = e; hop = p.hop; least = left; is_hop = p.is_hop; is_least = p.least; is_fraction = fraction; passes = ap (λ (t : ℚ). beyond (bound_of 127) Sum left t) p.transit ∙ p.passes }
+      record { link = e; hop = p.hop; least = left; is_hop = p.is_hop; is_least = p.least; is_fraction = fraction; passes = ap (λ (t : ℚ). passes_Q Sum left t) p.transit ∙ p.passes }
 
   pub has_no_passing : (from : ℕ) → from ≡ source_place draft → ((link : ℕ) (left right : ℚ) → PassesAt hops from link left right → ⊥) → HasPassingSum draft → ⊥
   has_no_passing from is f p =

@@ -5,7 +5,7 @@ use Rattle.std.proofs.lemmas.Option.{slice_get_within}
 use Rattle.nf_rational.specs.Rational.{ℚ}
 use Rattle.nf_rational.specs.Operations.{0ℚ}
 use Rattle.nf_rational.specs.Order.{◌≤ℚ◌}
-use Rattle.nf_work.specs.Passing.{is_wide, beyond}
+use Rattle.nf_work.specs.Passing.{is_wide, passes_Q}
 use Rattle.nf_work.specs.declared.Op.TheVariants.{Sum}
 use Rattle.nf_model.specs.Entries.{number_at}
 use Rattle.nf_model.specs.Walk.{Hop, IsHop, IsWalk, IsLeastTransit}
@@ -56,8 +56,8 @@ module _ (n : Named) (h : IsNamed n) (kept : List Hop) (are : kept ≡ hops n.ne
   pub never_passes : (e : ℕ) (left right : ℚ) → PassesAt kept n.net.source e left right → is_wide greatest left ≡ false → ⊥
   never_passes e left right given fraction =
       let p : PassesAt (hops n.net) n.net.source e left right = subst (λ (hs : List Hop). PassesAt hs n.net.source e left right) are given in
-      let fits : beyond greatest Sum left p.hop.transit ≡ false = h.sums_fit e p.hop left p.is_hop p.least fraction in
-      let over : beyond greatest Sum left p.hop.transit ≡ true = ap (λ (t : ℚ). beyond greatest Sum left t) p.transit ∙ p.passes in
+      let fits : passes_Q Sum left p.hop.transit ≡ false = h.sums_fit e p.hop left p.is_hop p.least fraction in
+      let over : passes_Q Sum left p.hop.transit ≡ true = ap (λ (t : ℚ). passes_Q Sum left t) p.transit ∙ p.passes in
       cc
 
   pub labels_are : (sums : List (Option ℚ)) (labels : List ℚ) → AreDistances n.net.nodes kept n.net.source sums → map (λ q. Some q) labels ≡ sums → AreStartLabels n.net labels

@@ -6,10 +6,11 @@ use Rattle.std.specs.Cmp.Lexicographic.{nat_list_eq_equiv, bytes_decides}
 use Rattle.std.specs.Hash as fed
 use Rattle.std.proofs.Common.{ap}
 use Rattle.nf_formats.specs.Names.{is_name}
+use Rattle.nf_formats.specs.Limits.{longest_name}
 
 -- the bytes in front are a name, and fit
 pub record IsKeptName (bytes : List ℕ) (len : ℕ) : Type 0 where
-  pub fits : len ≤ 24
+  pub fits : len ≤ longest_name
   pub is_name : is_name (take len bytes) ≡ true
 
 abbrev pub name_equivalence : IsEquivalence bytes_eq

@@ -2,7 +2,7 @@
 ghost use Rattle.std.specs.Prelude.{◌≡◌, drop, IfOk};
 ghost use Rattle.nf_rational.specs.Operations.{0ℚ};
 ghost use Rattle.nf_rational.specs.Order.{◌≤ℚ◌};
-ghost use Rattle.nf_work.specs.Passing.{bound_of, beyond};
+ghost use Rattle.nf_work.specs.Passing.{passes_Q};
 ghost use Rattle.nf_model.specs.Network.{supply as supply_of};
 ghost use Rattle.nf_net.specs.Supply.{end_before, with_piece, supplied_after, checked_supply};
 
@@ -22,7 +22,7 @@ fn end_of(later: &[Piece], time: Q) -> Q
 
 // The amount so far with that of a piece up to its end.
 fn with_amount(so_far: Q, piece: &Piece, end: Q) -> Result<Q, Passed<Q>>
-    ensures { result ≡ with_piece (beyond (bound_of 127)) so_far piece.now end }
+    ensures { result ≡ with_piece passes_Q so_far piece.now end }
 {
     let length = end.difference(piece.start)?;
     let amount = piece.rate.product(length)?;
@@ -30,7 +30,7 @@ fn with_amount(so_far: Q, piece: &Piece, end: Q) -> Result<Q, Passed<Q>>
 }
 
 fn amount_of(pieces: &[Piece], time: Q) -> Result<Q, Passed<Q>>
-    ensures { result ≡ supplied_after (beyond (bound_of 127)) 0ℚ pieces.now time }
+    ensures { result ≡ supplied_after passes_Q 0ℚ pieces.now time }
 {
     let mut so_far = Q::zero();
     for (index, piece) in pieces.iter().enumerate() {
@@ -48,7 +48,7 @@ fn amount_of(pieces: &[Piece], time: Q) -> Result<Q, Passed<Q>>
 /// the sum of what came before and that.
 pub fn supply(net: &Network, time: Q) -> Result<Q, Passed<Q>>
     requires { 0ℚ ≤ℚ time }
-    ensures operations { result ≡ checked_supply (beyond (bound_of 127)) net.now.net time }
+    ensures operations { result ≡ checked_supply passes_Q net.now.net time }
     ensures value { IfOk result (λ amount. amount ≡ supply_of net.now.net time) }
 {
     amount_of(net.pieces(), time)

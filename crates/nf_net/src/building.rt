@@ -6,6 +6,7 @@ ghost use Rattle.nf_formats.specs.NetClosing.{marked, StandsFor};
 ghost use Rattle.nf_net.specs.Drafts.{seen_draft};
 ghost use Rattle.nf_net.specs.Contents.{IsRead};
 ghost use Rattle.nf_net.specs.Closing.{HasEnds, BreaksNone, AreFlags, flag_at, tail_flags};
+ghost use Rattle.nf_formats.specs.Limits.{most_nodes};
 
 use crate::closing::hops_of;
 use crate::draft::Draft;
@@ -92,7 +93,7 @@ fn link_names(alloc: Global, links: &[NamedLink]) -> Result<Names, AllocError>
 }
 
 fn number(nodes: &Names, link: &NamedLink) -> Link
-    requires { length nodes.now ≤ 64 }
+    requires { length nodes.now ≤ most_nodes }
     ensures { result ≡ numbered nodes.now link.now }
 {
     let tail = nodes.place_or_len(&link.tail);
@@ -110,7 +111,7 @@ fn numbered_links(
     nodes: &Names,
     links: &[NamedLink],
 ) -> Result<Vec<Link>, AllocError>
-    requires { length nodes.now ≤ 64 }
+    requires { length nodes.now ≤ most_nodes }
     ensures { IfOk result (λ numbers. numbers.items ≡ map (numbered nodes.now) links.now) }
 {
     let mut numbers = Vec::new(alloc);

@@ -10,6 +10,7 @@ ghost use Rattle.nf_formats.specs.NetClosing.{draft_hops, LeavesUnreached, HasZe
 ghost use Rattle.nf_net.specs.Drafts.{seen_draft};
 ghost use Rattle.nf_net.specs.Contents.{IsRead};
 ghost use Rattle.nf_net.specs.Closing.{HasEnds, BreaksNone, BreaksFirst, flag_at, some_unreached, AreFlags, HasFraction};
+ghost use Rattle.nf_formats.specs.Limits.{most_nodes};
 
 use crate::draft::Draft;
 use crate::link::NamedLink;
@@ -21,7 +22,7 @@ use nf_graph::{DistanceFault, Hop, NodeId, distances, reached, zero_cycle};
 use std::alloc::{AllocError, Global};
 
 fn hop_between(nodes: &Names, link: &NamedLink) -> Hop
-    requires { length nodes.now ≤ 64 }
+    requires { length nodes.now ≤ most_nodes }
     ensures { result ≡ hop_of (numbered nodes.now link.now) }
 {
     let tail = nodes.place_or_len(&link.tail);
@@ -35,7 +36,7 @@ fn hop_between(nodes: &Names, link: &NamedLink) -> Hop
 
 /// The links without capacities, by the places of their ends among these names.
 pub fn hops_of(alloc: Global, nodes: &Names, links: &[NamedLink]) -> Result<Vec<Hop>, AllocError>
-    requires { length nodes.now ≤ 64 }
+    requires { length nodes.now ≤ most_nodes }
     ensures { IfOk result (λ hops. hops.items ≡ hops_among nodes.now links.now) }
 {
     let mut hops = Vec::new(alloc);
@@ -48,7 +49,7 @@ pub fn hops_of(alloc: Global, nodes: &Names, links: &[NamedLink]) -> Result<Vec<
 /// The place of a name that is given.
 pub fn place_in(nodes: &Names, name: &Option<Name>) -> NodeId
     requires given { is_some name.now ≡ true }
-    requires few { length nodes.now ≤ 64 }
+    requires few { length nodes.now ≤ most_nodes }
     ensures { result ≡ place_of nodes.now (unwrap_or name.now []) }
 {
     match name {

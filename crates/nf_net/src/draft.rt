@@ -9,6 +9,7 @@ ghost use Rattle.nf_formats.specs.NetLines.{LinkLine, InflowLine, empty_draft, a
 ghost use Rattle.nf_net.specs.declared.draft.LineFault.TheVariants as LineFault;
 ghost use Rattle.nf_net.specs.Reading.{seen_entry};
 ghost use Rattle.nf_net.specs.Drafts.{seen_draft, IfRule, one_unless};
+ghost use Rattle.nf_formats.specs.Limits.{most_nodes};
 
 use crate::entry::{Entry, read_entry};
 use crate::link::{NamedLink, Piece};
@@ -73,7 +74,7 @@ fn new_names(nodes: &Names, first: &Name, second: &Name) -> usize
 // With this name there are more than 64 nodes.
 #[tactic(auto, using(crate::proofs::NodeCounts::length_with_one))]
 fn is_too_many(nodes: &Names, name: &Name) -> bool
-    ensures { result ≡ nat_lt 64 (length (with_name nodes.now name.now)) }
+    ensures { result ≡ nat_lt most_nodes (length (with_name nodes.now name.now)) }
 {
     let more = count_new(nodes.has(name));
     nodes.len() > MOST_NODES - more
@@ -81,7 +82,7 @@ fn is_too_many(nodes: &Names, name: &Name) -> bool
 
 // With these names there are more than 64 nodes.
 fn are_too_many(nodes: &Names, first: &Name, second: &Name) -> bool
-    ensures { result ≡ nat_lt 64 (length (with_names nodes.now (first.now ∷ second.now ∷ []))) }
+    ensures { result ≡ nat_lt most_nodes (length (with_names nodes.now (first.now ∷ second.now ∷ []))) }
 {
     let more = new_names(nodes, first, second);
     nodes.len() > MOST_NODES - more

@@ -5,6 +5,7 @@ ghost use Rattle.nf_model.specs.Network.{IsLink, hops as hops_of, rate_at as rat
 ghost use Rattle.nf_formats.specs.Names.{has_name, is_name, name_at};
 ghost use Rattle.nf_formats.specs.WellNamed.{IsNamed};
 ghost use Rattle.nf_net.specs.Kept.{with_parts, IsKept};
+ghost use Rattle.nf_formats.specs.Limits.{most_links};
 
 use crate::link::{Link, NamedLink, Piece};
 use crate::name::Name;
@@ -45,7 +46,7 @@ impl Model for Network {
 // The place of a name in a table of names.
 #[tactic(auto, using(crate::proofs::Limits::not_there, crate::proofs::Limits::position_there))]
 fn found(names: &Names, text: &str) -> Option<u32>
-    requires few { length names.now ≤ 200 }
+    requires few { length names.now ≤ most_links }
     requires names { list_all is_name names.now ≡ true }
     ensures { MatchOption result (has_name names.now text.now ≡ false) (λ place. slice_get names.now place ≡ Some text.now) }
 {

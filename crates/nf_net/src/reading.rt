@@ -1,7 +1,7 @@
 // The reading of a network file.
 ghost use Rattle.std.specs.Prelude.{◌≡◌, ◌≤◌, length, map, None, Ok, Err, IfOk, IfErr, OnOk, MatchResult};
 ghost use Rattle.nf_lines.specs.Words.{read_lines};
-ghost use Rattle.nf_lines.specs.Faults.{first_fault};
+ghost use Rattle.nf_lines.specs.Faults.{first_fault, longest_text};
 ghost use Rattle.nf_text.specs.Reading.{seen_line};
 ghost use Rattle.nf_formats.specs.NetFile.{Closes, Reads};
 ghost use Rattle.nf_net.specs.Drafts.{seen_draft};
@@ -20,7 +20,7 @@ use std::alloc::Global;
 // The lines of the text, or the first line that has a fault.
 #[tactic(auto, using(crate::proofs::ContentLines::lines_within))]
 fn lines_of(alloc: Global, text: &[u8]) -> Result<Vec<Line>, NetFault>
-    requires { length text.now ≤ 67108864 }
+    requires { length text.now ≤ longest_text }
     ensures ok { IfOk result (λ read. map (seen_line text.now) read.items ≡ read_lines text.now) }
     ensures within { IfOk result (λ read. AreLinesWithin text.now read.items) }
     ensures fine { OnOk result (first_fault text.now ≡ None) }
@@ -66,7 +66,7 @@ fn close(alloc: Global, draft: Draft) -> Result<Network, NetFault>
 /// The network that a text of at most 67,108,864 bytes stands for; or the first rule that it breaks, and the line. The rules of
 /// all bytes and lines come first, then those of the lines one by one, then those of the file as a whole, with line 0.
 pub fn parse(alloc: Global, text: &[u8]) -> Result<Network, NetFault>
-    requires { length text.now ≤ 67108864 }
+    requires { length text.now ≤ longest_text }
     ensures { MatchResult result (λ net. Reads text.now (Ok net)) (λ fault. IfBroken fault (λ broken. Reads text.now (Err broken))) }
 {
     let lines = lines_of(alloc, text)?;

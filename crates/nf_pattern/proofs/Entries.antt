@@ -6,8 +6,8 @@ use Rattle.nf_model.specs.Walk.{Hop, IsHop}
 use Rattle.nf_model.specs.Pattern.{Pattern}
 use Rattle.nf_graph.proofs.Walks.{IsHop-unique, IsHop-read}
 use Rattle.nf_pattern.specs.Entered.{MayCarry, EntersBy, EnteredBefore, LeadsTo, IsLastInto, AreLastInto, AreChained, CanCarry, IsEndBefore, AreEndsBefore, Strands, Keeps}
-use Rattle.nf_pattern.proofs.Entering.{less_or_same}
 use Rattle.nf_pattern.proofs.Roots.{set_same, set_other, tell}
+use Rattle.nf_plain_laws.proofs.Naturals.{before_or_at}
 
 apart_or_same : (e k : ℕ) → (e < k) ⊎ ((k < e) ⊎ (e ≡ k))
 apart_or_same e k = grind arith
@@ -30,7 +30,7 @@ module _ (hops : List Hop) (resetting : List Bool) (p : Pattern) where
   more_before n v (e, less, by) = ⊎_elim
       (λ (l : e < n). inl (e, l, by))
       (λ (same : e ≡ n). inr (subst (λ (k : ℕ). EntersBy hops resetting p k v) same by))
-      (less_or_same e n (omega arith))
+      (before_or_at e n (omega arith))
 
   -- ---- the links that lead to a node, from the last one backward
   -- none from number `from` on enters node v, and before that the last one is known that leads there
@@ -132,14 +132,14 @@ module _ (hops : List Hop) (m : ℕ) (hop : Hop) (is_hop : IsHop hops m hop) (i 
   last_later v None other none = λ e less leads. ⊎_elim
       (λ (l : e < m). none e l leads)
       (λ (same : e ≡ m). other (leads_there v (subst (λ (k : ℕ). LeadsTo hops k v) same leads)))
-      (less_or_same e m (omega arith))
+      (before_or_at e m (omega arith))
   last_later v (Some k) other last = (
     (let l = last.0 in omega arith),
     last.1,
     λ e more less leads. ⊎_elim
         (λ (l : e < m). last.2 e more l leads)
         (λ (same : e ≡ m). other (leads_there v (subst (λ (k : ℕ). LeadsTo hops k v) same leads)))
-        (less_or_same e m (omega arith)),
+        (before_or_at e m (omega arith)),
   )
 
   pub last_noted : (last : List (Option ℕ)) → i < length last → AreLastInto hops m last → AreLastInto hops (suc m) (slice_set last i (Some m))
@@ -170,7 +170,7 @@ module _ (hops : List Hop) (resetting : List Bool) (base : Pattern) where
     all = λ e hop less is_hop head can. ⊎_elim
         (λ (l : e < m). end.all e hop l is_hop head can)
         (λ (same : e ≡ m). absurd (none hop (subst (λ (k : ℕ). IsHop hops k hop) same is_hop) head (subst (λ (k : ℕ). CanCarry resetting base k) same can)))
-        (less_or_same e m (omega arith));
+        (before_or_at e m (omega arith));
     last = end.last;
   }
 
@@ -211,4 +211,4 @@ pub none_more : (source v : ℕ) (ends : List ℕ) → ((w : ℕ) → w < v → 
 none_more source v ends so_far here w less other lost = ⊎_elim
     (λ (l : w < v). so_far w l other lost)
     (λ (same : w ≡ v). here (λ at. other (same ∙ at)) (ap (λ (k : ℕ). slice_get ends k) (sym same) ∙ lost))
-    (less_or_same w v less)
+    (before_or_at w v less)

@@ -12,9 +12,9 @@ use Rattle.nf_pattern.specs.Forest.{Closes}
 use Rattle.nf_pattern.specs.Groups.{AreAlone, IsOneGroup, Hangs, AreGrown, JoinsBy, IsRound, Parts}
 use Rattle.nf_pattern.specs.Entered.{EnteredBefore, AreChained, AreEnds, Keeps}
 use Rattle.nf_pattern.specs.Trail.{Follows, IsOnWay}
-use Rattle.nf_pattern.proofs.Entering.{less_or_same}
 use Rattle.nf_pattern.proofs.Roots.{set_same, set_other, node_top, hangs_count}
 use Rattle.nf_pattern.proofs.Growing.{grown_count, grown_more, grown_back, one_group_closes}
+use Rattle.nf_plain_laws.proofs.Naturals.{before_or_at}
 
 -- ---- one link
 pub read_hop : (hops : List Hop) (i e : ℕ) (hop : Hop) → i ≡ e → e < length hops → hop ≡ get_or hops i hop → IsHop hops e hop
@@ -63,7 +63,7 @@ module _ (source : ℕ) (hops : List Hop) (resetting : List Bool) (p : Pattern) 
         (λ (same : n ≡ suc trail.depth).
         let last : slice_get trail.ends.items v ≡ Some (suc trail.depth) = before ∙ ap (λ (k : ℕ). Some k) same in
         subst (λ (k : ℕ). EnteredBefore hops resetting p k v) (sym same) (keeps v other (follows.last v trail.depth last) last))
-        (less_or_same n (suc trail.depth) (omega arith));
+        (before_or_at n (suc trail.depth) (omega arith));
     last = λ v e at. follows.last v e (ap (λ (es : List ℕ). slice_get es v) (sym ends) ∙ at);
   }
 

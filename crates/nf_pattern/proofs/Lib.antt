@@ -12,7 +12,6 @@ pub mod Forests
 pub mod Roots
 pub mod Growing
 pub mod Following
-pub mod Entering
 pub mod Entries
 pub mod Choosing
 pub mod Barren

@@ -6,15 +6,7 @@ use Rattle.nf_model.specs.declared.State.TheVariants.{Tight, Full, Zero}
 use Rattle.nf_model.specs.Pattern.{Pattern, rank, changes, IsEarlier, IsBefore}
 use Rattle.nf_pattern.specs.Successor.{free}
 use Rattle.nf_pattern.proofs.Successors.{same_rank}
-
-compared : (m n : ℕ) → (m < n) ⊎ ((m ≡ n) ⊎ (n < m))
-compared m n = ⊎_elim
-    (λ (w : (leb n m ≡ true) × (n ≤ m)). ⊎_elim
-    (λ (x : (eqb m n ≡ true) × (m ≡ n)). inr (inl x.1))
-    (λ (x : (eqb m n ≡ false) × (m ≢ n)). inr (inr (let l = w.1 in let a = x.1 in omega arith)))
-    (eqb_tells m n))
-    (λ (w : (leb n m ≡ false) × (m < n)). inl w.1)
-    (leb_tells n m)
+use Rattle.nf_plain_laws.proofs.Naturals.{compared}
 
 abbrev pub Trio : Pattern → Pattern → Type 0
 Trio p q = IsEarlier p q ⊎ ((p ≡ q) ⊎ IsEarlier q p)

@@ -8,6 +8,7 @@ use Rattle.nf_model.specs.declared.State.{State}
 use Rattle.nf_model.specs.declared.State.TheVariants.{Tight, Full, Zero}
 use Rattle.nf_model.specs.Pattern.{Pattern, rank, changes, IsEarlier}
 use Rattle.nf_pattern.specs.Successor.{choices, IsIn, IsAssignment, free, change, fits, first_good, before_all, with_rest, earliest, or_else}
+use Rattle.std.proofs.lemmas.Bool.{and_parts}
 
 -- ---- choices
 abbrev pub Ascending : List (Option State) → Type 0
@@ -259,9 +260,5 @@ higher b a n more s = nat_lt (rank a) (rank s) && fits b n more s
 pub higher_in : (b a s : Option State) (n more : ℕ) → rank a < rank s → fits b n more s ≡ true → higher b a n more s ≡ true
 higher_in b a s n more h k = grind arith
 
-both_true : (x y : Bool) → (x && y) ≡ true → (x ≡ true) × (y ≡ true)
-both_true true y e = (refl, e)
-both_true false y e = absurd (cc)
-
 pub higher_out : (b a s : Option State) (n more : ℕ) → higher b a n more s ≡ true → (rank a < rank s) × (fits b n more s ≡ true)
-higher_out b a s n more e = let t = both_true (nat_lt (rank a) (rank s)) (fits b n more s) e in (let l = t.0 in grind arith, t.1)
+higher_out b a s n more e = let t = and_parts (nat_lt (rank a) (rank s)) (fits b n more s) e in (let l = t.0 in grind arith, t.1)

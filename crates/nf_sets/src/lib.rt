@@ -5,7 +5,7 @@ ghost use Rattle.std.specs.Prelude.{◌≡◌, ◌<◌, length, map, IfOk};
 ghost use Rattle.nf_rational.specs.Operations.{0ℚ};
 ghost use Rattle.nf_rational.specs.Order.{le_ℚ, lt_ℚ};
 ghost use Rattle.nf_work.specs.declared.Part.TheVariants.{Slack};
-ghost use Rattle.nf_work.specs.Passing.{bound_of, beyond};
+ghost use Rattle.nf_work.specs.Passing.{passes_Q};
 ghost use Rattle.nf_work.specs.Checked.{at_part, Gives};
 ghost use Rattle.nf_model.specs.Entries.{number_at};
 ghost use Rattle.nf_model.specs.ThinFlow.{sets_of};
@@ -29,7 +29,7 @@ fn label_of(labels: &[Q], node: NodeId) -> Q
 fn slack(labels: &[Q], hop: &Hop) -> Result<Q, PassedAt<Q>>
     requires tail { hop.now.tail < length labels.now }
     requires head { hop.now.head < length labels.now }
-    ensures { result ≡ at_part Slack (slack_of (beyond (bound_of 127)) labels.now hop.now) }
+    ensures { result ≡ at_part Slack (slack_of passes_Q labels.now hop.now) }
 {
     let arrival = at!(Part::Slack, label_of(labels, hop.tail).sum(hop.transit));
     let slack = at!(Part::Slack, label_of(labels, hop.head).difference(arrival));
@@ -42,7 +42,7 @@ fn slack(labels: &[Q], hop: &Hop) -> Result<Q, PassedAt<Q>>
 pub fn slacks(alloc: Global, hops: &[Hop], labels: &[Q]) -> Result<Vec<Q>, Halt<Q>>
     requires { AreBelow (length labels.now) hops.now }
     ensures { Gives (λ slacks. slacks.items) (λ q. q) result
-        (at_part Slack (slack_list (beyond (bound_of 127)) hops.now labels.now)) }
+        (at_part Slack (slack_list passes_Q hops.now labels.now)) }
 {
     let mut slacks = Vec::new(alloc);
     for hop in hops {

@@ -3,7 +3,7 @@
 
 ghost use Rattle.std.specs.Prelude.{◌≡◌, ◌+◌, ◌≤◌, length, map, All, None, IfOk, IfErr, OnOk};
 ghost use Rattle.nf_lines.specs.Words.{read_lines};
-ghost use Rattle.nf_lines.specs.Faults.{first_fault};
+ghost use Rattle.nf_lines.specs.Faults.{first_fault, longest_text};
 ghost use Rattle.nf_text.specs.Reading.{seen_line, spans_of, WordsAreIn, Tells};
 ghost use Rattle.nf_text.specs.Spans.{text_of, Rise};
 ghost use Rattle.nf_text.specs.declared.TextFault.TheVariants as TextFault;
@@ -77,7 +77,7 @@ impl<T: Drop> From<AllocFailed<T>> for TextFault {
 
 /// The lines of a text of at most 67,108,864 bytes, each with its words; or the fault of the first line that has one.
 pub fn lines(alloc: Global, text: &[u8]) -> Result<Vec<Line>, TextFault>
-    requires { length text.now ≤ 67108864 }
+    requires { length text.now ≤ longest_text }
 
     // Each word's text is the slice of its span.
     ensures lines { IfOk result (λ read. map (seen_line text.now) read.items ≡ read_lines text.now) }

@@ -3,7 +3,7 @@ ghost use Rattle.std.specs.Prelude.{◌≡◌, ◌+◌, ◌<◌, ◌≤◌, ◌�
 ghost use Rattle.std.specs.List.{list_all};
 ghost use Rattle.nf_lines.specs.Lines.{lines_from};
 ghost use Rattle.nf_lines.specs.Words.{read_line as as_read};
-ghost use Rattle.nf_lines.specs.Faults.{is_allowed, fault_of, line_fault};
+ghost use Rattle.nf_lines.specs.Faults.{is_allowed, fault_of, line_fault, longest_text};
 ghost use Rattle.nf_text.specs.Spans.{Rise};
 ghost use Rattle.nf_text.specs.Reading.{seen_line, Tells, bytes_len, whole_len, first_line};
 
@@ -78,7 +78,7 @@ pub fn read_line(
     number: u32,
 ) -> Result<(Line, usize), TextFault>
     requires some { start < length text.now }
-    requires small { length text.now ≤ 67108864 }
+    requires small { length text.now ≤ longest_text }
     ensures line { IfOk result (λ r. seen_line text.now r.0 ≡ as_read (first_line number (drop start text.now))) }
     ensures rise { IfOk result (λ r. Rise start r.1 r.0.words.items) }
     ensures next { IfOk result (λ r. r.1 ≡ start + whole_len (drop start text.now)) }

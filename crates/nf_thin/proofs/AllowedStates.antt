@@ -20,8 +20,8 @@ use Rattle.nf_thin_laws.proofs.States.{AllowState-thin}
 use Rattle.nf_thin.specs.declared.allowed.Allowed.{Allowed}
 use Rattle.nf_thin.specs.Slopes.{AreThinSlopes}
 use Rattle.nf_thin.specs.Allowing.{allows, flags_of, flags_by, IsAllowedAt, AllowSolvable}
-use Rattle.nf_pattern.proofs.Entering.{less_or_same}
 use Rattle.nf_thin.proofs.Inequalities.{all_true}
+use Rattle.nf_plain_laws.proofs.Naturals.{before_or_at}
 
 -- what slopes allow has its flag
 flag_set : (tail_slope head_slope : ℚ) (state : State) → AllowState tail_slope head_slope state → allows (flags_of tail_slope head_slope) state ≡ true
@@ -71,7 +71,7 @@ abbrev pub AgreesBelow : List Allowed → Pattern → ℕ → Type 0
 AgreesBelow allowed pattern n = (e : ℕ) → e < n → IsAllowedAt allowed pattern e
 
 pub agrees_more : (allowed : List Allowed) (pattern : Pattern) (e : ℕ) → AgreesBelow allowed pattern e → IsAllowedAt allowed pattern e → AgreesBelow allowed pattern (e + 1)
-agrees_more allowed pattern e so here k less = go (less_or_same k e (omega arith))
+agrees_more allowed pattern e so here k less = go (before_or_at k e (omega arith))
   where
     go : (k < e) ⊎ (k ≡ e) → IsAllowedAt allowed pattern k
     go (inl b) = so k b

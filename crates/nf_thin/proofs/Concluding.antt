@@ -22,9 +22,7 @@ use Rattle.nf_thin.specs.Judging.{NoneNegativeBefore, IsFirstFailing, first_of, 
 use Rattle.nf_thin.proofs.Folds.{goes_on, stops_in, ends, part_ok}
 use Rattle.nf_thin.proofs.Failing.{AllMeet, SoFar, found_means, passes_means}
 use Rattle.nf_plain_laws.proofs.Entries.{entry}
-
-same_fault : {A : Type 0} (p q : PassedAt ℚ) → ◌≡◌ {A = Result A (PassedAt ℚ)} (Err p) (Err q) → p ≡ q
-same_fault p q e = cc
+use Rattle.nf_plain_laws.proofs.Results.{same_Err}
 
 is_ok_part : {A : Type 0} (part : Part) (r : Checked A) → IsOk r → IsOk (at_part part r)
 is_ok_part part (Ok x) h = refl
@@ -33,7 +31,7 @@ is_ok_part part (Err p) h = h
 -- what passes on the way passes in the end
 bind_part : {A B : Type 0} (part : Part) (r : Checked A) (f : A → Checked B) (p : PassedAt ℚ) → Err p ≡ at_part part r → at_part part (r >>= f) ≡ Err p
 bind_part part (Ok x) f p e = absurd (cc)
-bind_part part (Err q) f p e = ap Err (sym (same_fault p (placed part q) e))
+bind_part part (Err q) f p e = ap Err (sym (same_Err p (placed part q) e))
 
 module _ (passes : Passing) (net : Network) (pattern : Pattern) (flows slopes : List ℚ) where
   abbrev whole : List (ℕ × Link)
@@ -78,7 +76,7 @@ module _ (passes : Passing) (net : Network) (pattern : Pattern) (flows slopes : 
     where
       go : (r : Checked (Option ℕ)) → first_broken passes net pattern flows slopes ≡ r → ◌≡◌ {A = Result (Option ℕ) (PassedAt ℚ)} (Err p) (at_part Verdict r) → at_part Verdict (verdict_list passes net pattern slopes) ≡ Err p
       go (Ok x) h e = absurd (cc)
-      go (Err q) h e = ap (at_part Verdict) (passes_means passes net pattern flows slopes q h) ∙ ap Err (sym (same_fault p (placed Verdict q) e))
+      go (Err q) h e = ap (at_part Verdict) (passes_means passes net pattern flows slopes q h) ∙ ap Err (sym (same_Err p (placed Verdict q) e))
 
   module _ (states : length pattern ≡ length net.links) (found : Option ℕ) (judged : Ok found ≡ at_part Verdict (first_broken passes net pattern flows slopes)) where
     means : IsOk (verdict_list passes net pattern slopes) × SoFar passes net pattern flows slopes found (length net.links)

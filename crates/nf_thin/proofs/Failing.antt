@@ -17,7 +17,8 @@ use Rattle.nf_model.specs.Network.{Link, Network, IsLink}
 use Rattle.nf_model.specs.Pattern.{Pattern, Inequality}
 use Rattle.nf_lists.specs.Verdict.{bound_of, verdict_list}
 use Rattle.nf_thin.specs.Judging.{MeetsAt, keeps, first_of, link_verdict, broken_after, first_broken}
-use Rattle.nf_thin.proofs.Inequalities.{bound_value, bound_exact, keeps_inequality, inequality_keeps, both_true, all_true}
+use Rattle.nf_thin.proofs.Inequalities.{bound_value, bound_exact, keeps_inequality, inequality_keeps, all_true}
+use Rattle.std.proofs.lemmas.Bool.{and_parts}
 
 module _ (passes : Passing) (net : Network) (pattern : Pattern) (flows slopes : List ℚ) where
   abbrev state_of : ℕ → Option State
@@ -52,7 +53,7 @@ module _ (passes : Passing) (net : Network) (pattern : Pattern) (flows slopes : 
 
     test_meets : test e link ≡ true → MeetsAt net pattern flows slopes e
     test_meets h =
-        let b = both_true (le_ℚ 0ℚ (number_at flows e)) (keeps (state_of e) (bound_value (state_of e) link.capacity (number_at slopes link.head)) (number_at flows e) (number_at slopes link.tail) (number_at slopes link.head)) h in
+        let b = and_parts (le_ℚ 0ℚ (number_at flows e)) (keeps (state_of e) (bound_value (state_of e) link.capacity (number_at slopes link.head)) (number_at flows e) (number_at slopes link.tail) (number_at slopes link.head)) h in
         record {
           no_negative = le_of_test 0ℚ (number_at flows e) b.0;
           inequality = λ other state at_link at_state. subst (λ (l : Link). Inequality state l.capacity (number_at flows e) (number_at slopes l.tail) (number_at slopes l.head)) (same_link other at_link)

@@ -16,14 +16,13 @@ use Rattle.nf_model.specs.declared.State.TheVariants.{Tight, Full, Zero}
 use Rattle.nf_model.specs.Pattern.{Inequality}
 use Rattle.nf_lists.specs.Verdict.{bound_on}
 use Rattle.nf_thin.specs.Judging.{keeps}
+use Rattle.nf_plain_laws.proofs.Results.{same_Ok}
+use Rattle.std.proofs.lemmas.Bool.{and_parts, true≢false}
 
 -- the bound on the flow, where no operation passes
 abbrev pub bound_value : Option State → Option ℚ → ℚ → Option ℚ
 bound_value (Some Tight) (Some capacity) head_slope = Some (capacity *ℚ head_slope)
 bound_value state capacity head_slope = None
-
-same_Ok : {A E : Type 0} (x y : A) → ◌≡◌ {A = Result A E} (Ok x) (Ok y) → x ≡ y
-same_Ok x y e = cc
 
 module _ (passes : Passing) where
   product_exact : (b : Bool) (q : Passed ℚ) (x : ℚ) (bound : Option ℚ) → ((if b then Err q else Ok x) >>= λ v. Ok (Some v)) ≡ Ok bound → bound ≡ Some x
@@ -37,9 +36,6 @@ module _ (passes : Passing) where
   bound_exact (Some Full) capacity head_slope bound e = sym (same_Ok None bound e)
   bound_exact (Some Zero) capacity head_slope bound e = sym (same_Ok None bound e)
   bound_exact None capacity head_slope bound e = sym (same_Ok None bound e)
-
-not_both : true ≡ false → ⊥
-not_both e = cc
 
 pub keeps_inequality : (state : Option State) (capacity : Option ℚ) (flow tail_slope head_slope : ℚ) → keeps state (bound_value state capacity head_slope) flow tail_slope head_slope ≡ true
     → Inequality state capacity flow tail_slope head_slope
@@ -62,11 +58,6 @@ inequality_keeps (Some Tight) None flow tail_slope head_slope h = refl
 inequality_keeps (Some Full) capacity flow tail_slope head_slope h = test_of_le tail_slope head_slope h
 inequality_keeps (Some Zero) capacity flow tail_slope head_slope h = test_of_le head_slope tail_slope h
 inequality_keeps None capacity flow tail_slope head_slope h = refl
-
-pub both_true : (a b : Bool) → (a && b) ≡ true → (a ≡ true) × (b ≡ true)
-both_true true true e = (refl, refl)
-both_true true false e = absurd (not_both (sym e))
-both_true false b e = absurd (not_both (sym e))
 
 pub all_true : (a b : Bool) → a ≡ true → b ≡ true → (a && b) ≡ true
 all_true true true e f = refl

@@ -14,12 +14,11 @@ use Rattle.nf_equation_laws.specs.Equations.{IsPatternIn}
 use Rattle.nf_thin_laws.specs.ActiveLinks.{IsActiveWalk, HoldNoCycle}
 use Rattle.nf_thin_laws.specs.PatternLaws.{EachIsLed}
 use Rattle.nf_thin_laws.proofs.Accepted.{IsThinFlow-accepted}
-use Rattle.nf_pattern.proofs.Entering.{less_or_same}
 use Rattle.nf_thin.specs.Slopes.{MayCarry, IsLed, AreThinSlopes}
+use Rattle.nf_plain_laws.proofs.Naturals.{before_or_at}
+use Rattle.nf_model_laws.proofs.Networks.{hop_at}
 
 -- a link is a hop
-pub hop_at : (net : Network) (e : ℕ) (link : Link) → IsLink net e link → IsHop (hops net) e (hop_of link)
-hop_at net e link h = slice_get-map hop_of net.links e ∙ ap (option_map hop_of) h
 
 -- a walk by active links is a walk by chosen hops
 active_walk : (net : Network) (sets : Sets) (walk : List ℕ) (v w : ℕ) → IsActiveWalk net sets walk v w → IsWalk (hops net) walk v w
@@ -64,4 +63,4 @@ pub one_more_led : (net : Network) (sets : Sets) (pattern : Pattern) (n : ℕ) �
 one_more_led net sets pattern n so here v less other = ⊎_elim
     (λ (b : v < n). so v b other)
     (λ (s : v ≡ n). subst (λ (w : ℕ). w ≢ net.source → IsLed net sets pattern w) (sym s) here other)
-    (less_or_same v n less)
+    (before_or_at v n less)

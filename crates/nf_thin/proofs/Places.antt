@@ -7,17 +7,8 @@ use Rattle.nf_lists.specs.Listing.{HasPlace}
 use Rattle.nf_lists_laws.proofs.Listings.{IsBefore-asymmetric}
 use Rattle.nf_pattern.specs.Front.{IsListingOf}
 use Rattle.nf_pattern.specs.Given.{Question, Last, AtStart, UpTo, IsLater, IsNext, NoneLeft}
-use Rattle.nf_pattern.proofs.Entering.{less_or_same}
 use Rattle.nf_plain_laws.proofs.Entries.{entry}
-
-compared : (m n : ℕ) → (m < n) ⊎ ((m ≡ n) ⊎ (n < m))
-compared m n = ⊎_elim
-    (λ (w : (leb n m ≡ true) × (n ≤ m)). ⊎_elim
-    (λ (x : (eqb m n ≡ true) × (m ≡ n)). inr (inl x.1))
-    (λ (x : (eqb m n ≡ false) × (m ≢ n)). inr (inr (let l = w.1 in let a = x.1 in omega arith)))
-    (eqb_tells m n))
-    (λ (w : (leb n m ≡ false) × (m < n)). inl w.1)
-    (leb_tells n m)
+use Rattle.nf_plain_laws.proofs.Naturals.{before_or_at, compared}
 
 -- so many patterns of a listing were given, and this is the last
 abbrev pub GivenUpTo : List Pattern → ℕ → Last → Type 0
@@ -34,7 +25,7 @@ module _ (q : Question) (listing : List Pattern) (is : IsListingOf q listing) wh
       (λ (same : i ≡ j).
       let s : p ≡ r = same_Some p r (sym at_p ∙ (ap (slice_get listing) (sym same) ∙ at_r)) in
       let b : IsBefore q.base r r = subst (λ (x : Pattern). IsBefore q.base x r) s before in IsBefore-asymmetric q.base r r b b)
-      (less_or_same i j (omega arith))
+      (before_or_at i j (omega arith))
 
   module _ (last : Last) (p : Pattern) (next : IsNext q last p) where
     place : (place : ℕ) × HasPlace listing place p

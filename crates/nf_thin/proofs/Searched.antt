@@ -12,7 +12,6 @@ use Rattle.nf_lists.specs.Accepted.{pattern_lists, IsAccepted}
 use Rattle.nf_lists.specs.Listing.{HasPlace, IsListingIn}
 use Rattle.nf_lists.specs.Search.{Answer, Found, OverBudget, PassesAt, NoPattern, NoneAcceptedBefore, IsOverBudget, IsInVain, IsFirstPassing, Answers, IsSearch}
 use Rattle.nf_pattern.specs.Given.{Question, Last, AtStart, UpTo, IsNext, NoneLeft}
-use Rattle.nf_pattern.proofs.Entering.{less_or_same}
 use Rattle.nf_thin.specs.declared.searches.Thin.{Thin}
 use Rattle.nf_thin.specs.declared.searches.Vain.{Vain}
 use Rattle.nf_thin.specs.declared.searches.SearchFault.{SearchFault}
@@ -20,6 +19,7 @@ use Rattle.nf_thin.specs.Searching.{Searches, or_first, fault_of, Noted, IsFound
 use Rattle.nf_thin.specs.Sifting.{IsCounted}
 use Rattle.nf_pattern.specs.Front.{IsListingOf}
 use Rattle.nf_thin.proofs.Places.{GivenUpTo, given_next, given_all}
+use Rattle.nf_plain_laws.proofs.Naturals.{before_or_at}
 
 module _ (passes : Passing) (net : Network) (sets : Sets) (rate : ℚ) (listing : List Pattern) where
   -- no operation of those tried passes, or this is the first that does
@@ -74,7 +74,7 @@ module _ (passes : Passing) (net : Network) (sets : Sets) (rate : ℚ) (listing 
 
     module _ (after : Vain) (skips : Bool) (counted : IsCounted passes net sets rate pattern vain after skipped skips) where
       before_or_here : (place : ℕ) → place < suc after.tried → (place < suc vain.tried) ⊎ (place ≡ suc vain.tried)
-      before_or_here place less = less_or_same place (suc vain.tried) (let s = counted.one_more in omega arith)
+      before_or_here place less = before_or_at place (suc vain.tried) (let s = counted.one_more in omega arith)
 
       none_more : NoneAcceptedBefore passes net sets rate listing (suc after.tried)
       none_more place p less has accepted = ⊎_elim

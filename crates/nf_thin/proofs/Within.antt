@@ -19,6 +19,7 @@ use Rattle.nf_model.specs.declared.State.{State}
 use Rattle.nf_model.specs.declared.State.TheVariants.{Tight, Full, Zero}
 use Rattle.nf_model.specs.Pattern.{Fills, Equation, Inequality}
 use Rattle.nf_thin.specs.Ranges.{IsFrom, IsUpTo, IsWithin, IsEndOfSum, IsEndOfDifference, MeetsState}
+use Rattle.std.proofs.lemmas.Bool.{true≢false}
 
 -- ---- ends that are known
 le_sum : (a b x y : ℚ) → a ≤ℚ x → b ≤ℚ y → (a +ℚ b) ≤ℚ (x +ℚ y)
@@ -75,16 +76,14 @@ module _ (passes : Passing) (one other : Option ℚ) (a b : ℚ) (is : one ≡ S
   end_difference e end at = (a, b, is, has, checked_is passes Difference a b end (sym (kept ∙ ap result_ok e) ∙ at))
 
 -- ---- tests of ends
-pub true_false : true ≡ false → ⊥
-true_false e = cc
 
 test_from : (least x : ℚ) (b : Bool) → b ≡ le_ℚ least x → MatchBool b (IsFrom (Some least) x) (IsFrom (Some least) x → ⊥)
 test_from least x true is = λ end at. subst (λ (z : ℚ). z ≤ℚ x) (same_Some least end at) (le_of_test least x (sym is))
-test_from least x false is = λ from. true_false (sym (test_of_le least x (from least refl)) ∙ sym is)
+test_from least x false is = λ from. true≢false (sym (test_of_le least x (from least refl)) ∙ sym is)
 
 test_up_to : (greatest x : ℚ) (b : Bool) → b ≡ le_ℚ x greatest → MatchBool b (IsUpTo (Some greatest) x) (IsUpTo (Some greatest) x → ⊥)
 test_up_to greatest x true is = λ end at. subst (λ (z : ℚ). x ≤ℚ z) (same_Some greatest end at) (le_of_test x greatest (sym is))
-test_up_to greatest x false is = λ up_to. true_false (sym (test_of_le x greatest (up_to greatest refl)) ∙ sym is)
+test_up_to greatest x false is = λ up_to. true≢false (sym (test_of_le x greatest (up_to greatest refl)) ∙ sym is)
 
 pub from_test : (end : Option ℚ) (least x : ℚ) (b : Bool) → end ≡ Some least → b ≡ le_ℚ least x → MatchBool b (IsFrom end x) (IsFrom end x → ⊥)
 from_test end least x b at is = subst (λ (o : Option ℚ). MatchBool b (IsFrom o x) (IsFrom o x → ⊥)) (sym at) (test_from least x b is)

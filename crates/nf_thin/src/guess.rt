@@ -1,7 +1,7 @@
 // A guess of a pattern that is accepted: a first pattern is repaired until no link breaks its inequality. Nothing rests on it, since
 // what it comes to is judged like any other.
 ghost use Rattle.std.specs.Prelude.{IfOk, IfSome};
-ghost use Rattle.nf_work.specs.Passing.{bound_of, beyond};
+ghost use Rattle.nf_work.specs.Passing.{passes_Q};
 ghost use Rattle.nf_equation_laws.specs.Equations.{IsPatternIn};
 ghost use Rattle.nf_thin.specs.Trying.{AreValuesOf};
 ghost use Rattle.nf_thin.specs.Guessing.{IsSolved};
@@ -35,7 +35,7 @@ fn values_of(
     pattern: &Pattern,
 ) -> Result<Option<Vec<Q>>, AllocError>
     requires { IsPatternIn net.now.net sets.now pattern.now }
-    ensures { IfOk result (λ found. IfSome found (λ values. AreValuesOf (beyond (bound_of 127)) net.now.net sets.now rate pattern.now values.items)) }
+    ensures { IfOk result (λ found. IfSome found (λ values. AreValuesOf passes_Q net.now.net sets.now rate pattern.now values.items)) }
 {
     match pattern_values(alloc, net, sets, rate, pattern) {
         Ok(values) => Ok(values),
@@ -53,7 +53,7 @@ fn solved_pattern(
     pattern: Pattern,
 ) -> Result<Option<SolvedPattern>, AllocError>
     requires { IsPatternIn net.now.net sets.now pattern }
-    ensures { IfOk result (λ found. IfSome found (λ last. IsSolved (beyond (bound_of 127)) net.now.net sets.now rate last)) }
+    ensures { IfOk result (λ found. IfSome found (λ last. IsSolved passes_Q net.now.net sets.now rate last)) }
 {
     match values_of(alloc, net, sets, rate, &pattern)? {
         Some(values) => Ok(Some(SolvedPattern { pattern, values })),
@@ -70,7 +70,7 @@ pub(crate) fn guess(
     first: &Pattern,
 ) -> Result<Option<SolvedPattern>, AllocError>
     requires { IsPatternIn net.now.net sets.now first.now }
-    ensures { IfOk result (λ found. IfSome found (λ last. IsSolved (beyond (bound_of 127)) net.now.net sets.now rate last)) }
+    ensures { IfOk result (λ found. IfSome found (λ last. IsSolved passes_Q net.now.net sets.now rate last)) }
 {
     let mut pattern = first.copy(alloc)?;
     for _ in 0..MOST_REPAIRS {

@@ -1,6 +1,6 @@
 // A pattern that is known to be accepted: where it is listed, it is found without a table.
 ghost use Rattle.std.specs.Prelude.{◌≡◌, ◌≤◌, length, IsTrue, IfOk};
-ghost use Rattle.nf_work.specs.Passing.{bound_of, beyond};
+ghost use Rattle.nf_work.specs.Passing.{passes_Q};
 ghost use Rattle.nf_equation_laws.specs.Equations.{IsPatternIn};
 ghost use Rattle.nf_thin.specs.Searching.{TriesNext};
 ghost use Rattle.nf_thin.specs.Sifting.{IsKnown, IsThinAt};
@@ -70,9 +70,9 @@ pub(crate) fn try_or_know(
     vain: &mut Vain,
 ) -> Result<Option<Thin>, SearchFault>
     requires pattern { IsPatternIn net.now.net sets.now pattern.now }
-    requires known { IsKnown (beyond (bound_of 127)) net.now.net sets.now rate known.now }
+    requires known { IsKnown passes_Q net.now.net sets.now rate known.now }
     requires within { vain.old.tried ≤ budget }
-    ensures { TriesNext (beyond (bound_of 127)) net.now.net sets.now rate budget pattern.now vain.old vain.new result }
+    ensures { TriesNext passes_Q net.now.net sets.now rate budget pattern.now vain.old vain.new result }
 {
     if vain.tried < budget && is_one_pattern(net, &known.pattern, pattern) {
         let thin = thin_at(alloc, known, vain.tried + 1)?;

@@ -1,6 +1,6 @@
 // A pattern by which each node is led to: if it is accepted, its slopes are those of a thin flow.
 ghost use Rattle.std.specs.Prelude.{◌≡◌, ◌<◌, ℕ, length, IsTrue, IfOk, IfSome};
-ghost use Rattle.nf_work.specs.Passing.{bound_of, beyond};
+ghost use Rattle.nf_work.specs.Passing.{passes_Q};
 ghost use Rattle.nf_equation_laws.specs.Equations.{IsPatternIn};
 ghost use Rattle.nf_thin_laws.specs.ActiveLinks.{HoldNoCycle};
 ghost use Rattle.nf_thin_laws.specs.PatternLaws.{EachIsLed};
@@ -75,8 +75,8 @@ pub(crate) fn known_by(
     rate: Q,
     last: SolvedPattern,
 ) -> Result<Option<Known>, AllocError>
-    requires { IsSolved (beyond (bound_of 127)) net.now.net sets.now rate last }
-    ensures known { IfOk result (λ found. IfSome found (λ known. IsKnown (beyond (bound_of 127)) net.now.net sets.now rate known)) }
+    requires { IsSolved passes_Q net.now.net sets.now rate last }
+    ensures known { IfOk result (λ found. IfSome found (λ known. IsKnown passes_Q net.now.net sets.now rate known)) }
     ensures thin { IfOk result (λ found. IfSome found (λ known. AreThinSlopes net.now.net sets.now rate known.slopes.items)) }
 {
     // For the proof: the rate at which the values solve the pattern's table.

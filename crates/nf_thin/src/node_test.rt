@@ -2,7 +2,7 @@
 // no table is needed to see it.
 ghost use Rattle.std.specs.Prelude.{◌≡◌, ◌<◌, ℕ, suc, true, List, length, IfOk};
 ghost use Rattle.nf_rational.specs.Rational.{ℚ};
-ghost use Rattle.nf_work.specs.Passing.{bound_of, beyond};
+ghost use Rattle.nf_work.specs.Passing.{beyond, passes_Q};
 ghost use Rattle.nf_model.specs.Entries.{number_at};
 ghost use Rattle.nf_model.specs.Network.{Network as SeenNetwork, Link as SeenLink, IsLink, IsNetwork};
 ghost use Rattle.nf_model.specs.ThinFlow.{surplus as surplus_of};
@@ -19,7 +19,7 @@ use std::alloc::{AllocError, Global};
 
 /// The flow that fills a link: its capacity times the slope of its head. None where it is unbounded, or that passes.
 pub(crate) fn full_flow(capacity: Option<Q>, head_slope: Q) -> Option<Q>
-    ensures { result ≡ full_of (beyond (bound_of 127)) capacity head_slope }
+    ensures { result ≡ full_of passes_Q capacity head_slope }
 {
     match capacity {
         Some(capacity) => capacity.product(head_slope).ok(),
@@ -30,7 +30,7 @@ pub(crate) fn full_flow(capacity: Option<Q>, head_slope: Q) -> Option<Q>
 /// The same of each link, by these slopes of the nodes.
 pub fn full_flows(alloc: Global, net: &Network, slopes: &[Q]) -> Result<Vec<Option<Q>>, AllocError>
     requires { length slopes.now ≡ net.now.net.nodes }
-    ensures { IfOk result (λ full. full.items ≡ full_by (beyond (bound_of 127)) net.now.net slopes.now) }
+    ensures { IfOk result (λ full. full.items ≡ full_by passes_Q net.now.net slopes.now) }
 {
     let mut full = Vec::new(alloc);
     for e in 0..net.link_count() {
@@ -46,7 +46,7 @@ fn range_of(sets: &LinkSets, full: &[Option<Q>], pattern: &Pattern, link: LinkId
     requires link { link < length pattern.now }
     requires sets { length sets.now.active ≡ length pattern.now }
     requires full { length full.now ≡ length pattern.now }
-    ensures { (net : SeenNetwork) (rate : ℚ) (flows : List ℚ) (here : SeenLink) → CanFlow (beyond (bound_of 127)) net sets.now rate pattern.now full.now flows → IsLink net link here → IsWithin result (number_at flows link) }
+    ensures { (net : SeenNetwork) (rate : ℚ) (flows : List ℚ) (here : SeenLink) → CanFlow passes_Q net sets.now rate pattern.now full.now flows → IsLink net link here → IsWithin result (number_at flows link) }
 {
     flow_range(
         pattern.state(link),
@@ -69,8 +69,8 @@ fn with_link(
     requires sets { length sets.now.active ≡ length net.now.net.links }
     requires full { length full.now ≡ length net.now.net.links }
     requires states { length pattern.now ≡ length net.now.net.links }
-    requires before { BoundsFirst (beyond (bound_of 127)) net.now.net sets.now pattern.now full.now node link range }
-    ensures { BoundsFirst (beyond (bound_of 127)) net.now.net sets.now pattern.now full.now node (suc link) result }
+    requires before { BoundsFirst passes_Q net.now.net sets.now pattern.now full.now node link range }
+    ensures { BoundsFirst passes_Q net.now.net sets.now pattern.now full.now node (suc link) result }
 {
     let hop = &net.hops()[link.index()];
     let leaves = hop.tail == node;
@@ -97,7 +97,7 @@ fn surplus_range(
     requires sets { length sets.now.active ≡ length net.now.net.links }
     requires full { length full.now ≡ length net.now.net.links }
     requires states { length pattern.now ≡ length net.now.net.links }
-    ensures { (rate : ℚ) (flows : List ℚ) → CanFlow (beyond (bound_of 127)) net.now.net sets.now rate pattern.now full.now flows → IsWithin result (surplus_of net.now.net flows node) }
+    ensures { (rate : ℚ) (flows : List ℚ) → CanFlow passes_Q net.now.net sets.now rate pattern.now full.now flows → IsWithin result (surplus_of net.now.net flows node) }
 {
     let mut range = Range::just(Some(Q::zero()));
     for e in 0..net.link_count() {
@@ -131,7 +131,7 @@ fn balances_at(
     requires sets { length sets.now.active ≡ length net.now.net.links }
     requires full { length full.now ≡ length net.now.net.links }
     requires states { length pattern.now ≡ length net.now.net.links }
-    ensures { (flows : List ℚ) → CanFlow (beyond (bound_of 127)) net.now.net sets.now rate pattern.now full.now flows → result ≡ true }
+    ensures { (flows : List ℚ) → CanFlow passes_Q net.now.net sets.now rate pattern.now full.now flows → result ≡ true }
 {
     let range = surplus_range(net, sets, full, pattern, node);
     range.holds(needed(net, rate, node))
@@ -149,7 +149,7 @@ pub fn balances(
     requires sets { length sets.now.active ≡ length net.now.net.links }
     requires full { length full.now ≡ length net.now.net.links }
     requires states { length pattern.now ≡ length net.now.net.links }
-    ensures { (flows : List ℚ) → CanFlow (beyond (bound_of 127)) net.now.net sets.now rate pattern.now full.now flows → result ≡ true }
+    ensures { (flows : List ℚ) → CanFlow passes_Q net.now.net sets.now rate pattern.now full.now flows → result ≡ true }
 {
     for v in 0..net.node_count() {
         if !balances_at(net, sets, rate, full, pattern, NodeId(v)) {

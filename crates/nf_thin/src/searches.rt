@@ -1,6 +1,6 @@
 // The search for a thin flow: the first accepted pattern of the list.
 ghost use Rattle.std.specs.Prelude.{◌≡◌, ◌≤◌, IfOk};
-ghost use Rattle.nf_work.specs.Passing.{bound_of, beyond};
+ghost use Rattle.nf_work.specs.Passing.{passes_Q};
 ghost use Rattle.nf_model.specs.Network.{IsNetwork, unbounded as unbounded_of};
 ghost use Rattle.nf_model.specs.ThinFlow.{IsThinFlow};
 ghost use Rattle.nf_model.specs.Pattern.{IsPattern};
@@ -106,7 +106,7 @@ pub(crate) fn try_next(
 ) -> Result<Option<Thin>, SearchFault>
     requires pattern { IsPatternIn net.now.net sets.now pattern.now }
     requires within { vain.old.tried ≤ budget }
-    ensures { TriesNext (beyond (bound_of 127)) net.now.net sets.now rate budget pattern.now vain.old vain.new result }
+    ensures { TriesNext passes_Q net.now.net sets.now rate budget pattern.now vain.old vain.new result }
 {
     if vain.tried == budget {
         return Err(SearchFault::Budget { tried: budget });
@@ -143,7 +143,7 @@ fn go_through(
     requires network { IsNetwork net.now.net }
     requires sets { AreSetsOf net.now.net sets.now }
     requires question { AsksOf net.now.net sets.now patterns }
-    ensures { Searches (IsSearch (beyond (bound_of 127)) net.now.net sets.now rate patterns.question.base budget) budget result }
+    ensures { Searches (IsSearch passes_Q net.now.net sets.now rate patterns.question.base budget) budget result }
 {
     let mut patterns = patterns;
     let mut vain = Vain {
@@ -189,7 +189,7 @@ pub(crate) fn plain_search(
 ) -> Result<Thin, SearchFault>
     requires sets { AreSetsOf net.now.net sets.now }
     requires base { IsPattern sets.now (unbounded_of net.now.net) base.now }
-    ensures { Searches (IsSearch (beyond (bound_of 127)) net.now.net sets.now rate base.now budget) budget result }
+    ensures { Searches (IsSearch passes_Q net.now.net sets.now rate base.now budget) budget result }
 {
     let patterns = listing(alloc, net, sets, base)?;
     go_through(alloc, net, sets, rate, patterns, budget)
@@ -206,7 +206,7 @@ fn search_by_slopes(
 ) -> Result<Thin, SearchFault>
     requires sets { AreSetsOf net.now.net sets.now }
     requires base { IsPattern sets.now (unbounded_of net.now.net) base.now }
-    ensures { Searches (IsSearch (beyond (bound_of 127)) net.now.net sets.now rate base.now budget) budget result }
+    ensures { Searches (IsSearch passes_Q net.now.net sets.now rate base.now budget) budget result }
 {
     match sifted_search(alloc, net, sets, rate, base, budget)? {
         Some(thin) => Ok(thin),
@@ -229,7 +229,7 @@ pub fn search(
 ) -> Result<Thin, SearchFault>
     requires sets { AreSetsOf net.now.net sets.now }
     requires base { IsPattern sets.now (unbounded_of net.now.net) base.now }
-    ensures search { Searches (IsSearch (beyond (bound_of 127)) net.now.net sets.now rate base.now budget) budget result }
+    ensures search { Searches (IsSearch passes_Q net.now.net sets.now rate base.now budget) budget result }
     ensures thin { IfOk result (λ thin. IsThinFlow net.now.net sets.now rate thin.flows.items thin.labels.items) }
     ensures only { IfOk result (λ thin. SlopesAreOnly net.now.net sets.now rate thin.labels.items) }
 {

@@ -1,6 +1,6 @@
 // The search where slopes of a thin flow are known: patterns with a state that they don't allow are passed over.
 ghost use Rattle.std.specs.Prelude.{◌≡◌, ◌≤◌, IfOk, IfSome};
-ghost use Rattle.nf_work.specs.Passing.{bound_of, beyond};
+ghost use Rattle.nf_work.specs.Passing.{passes_Q};
 ghost use Rattle.nf_model.specs.Network.{IsNetwork, unbounded as unbounded_of};
 ghost use Rattle.nf_model.specs.Pattern.{IsPattern, IsListedIn};
 ghost use Rattle.nf_lists.specs.Accepted.{IsAccepted};
@@ -52,8 +52,8 @@ fn refusing_link(
 ) -> Option<LinkId>
     requires pattern { IsPatternIn net.now.net sets.now pattern.now }
     requires listed { IsListedIn net.now.net sets.now pattern.now }
-    requires guide { Guides (beyond (bound_of 127)) net.now.net sets.now rate guide.now }
-    ensures { IfSome result (λ _. IsAccepted (beyond (bound_of 127)) net.now.net sets.now rate pattern.now → ⊥) }
+    requires guide { Guides passes_Q net.now.net sets.now rate guide.now }
+    ensures { IfSome result (λ _. IsAccepted passes_Q net.now.net sets.now rate pattern.now → ⊥) }
 {
     if let Some(link) = forbidden_link(net, &guide.allowed, pattern, likely) {
         return Some(link);
@@ -78,9 +78,9 @@ fn sift_next(
 ) -> Result<Option<Thin>, SearchFault>
     requires pattern { IsPatternIn net.now.net sets.now pattern.now }
     requires listed { IsListedIn net.now.net sets.now pattern.now }
-    requires guide { Guides (beyond (bound_of 127)) net.now.net sets.now rate guide.now }
+    requires guide { Guides passes_Q net.now.net sets.now rate guide.now }
     requires within { sifted.old.vain.tried ≤ budget }
-    ensures { SiftsNext (beyond (bound_of 127)) net.now.net sets.now rate budget pattern.now sifted.old sifted.new result }
+    ensures { SiftsNext passes_Q net.now.net sets.now rate budget pattern.now sifted.old sifted.new result }
 {
     let Some(link) = refusing_link(net, sets, rate, guide, pattern, sifted.last) else {
         return try_or_know(
@@ -117,8 +117,8 @@ fn sift(
     requires network { IsNetwork net.now.net }
     requires sets { AreSetsOf net.now.net sets.now }
     requires question { AsksOf net.now.net sets.now patterns }
-    requires guide { Guides (beyond (bound_of 127)) net.now.net sets.now rate guide.now }
-    ensures { Sifts (IsSearch (beyond (bound_of 127)) net.now.net sets.now rate patterns.question.base budget) budget result }
+    requires guide { Guides passes_Q net.now.net sets.now rate guide.now }
+    ensures { Sifts (IsSearch passes_Q net.now.net sets.now rate patterns.question.base budget) budget result }
 {
     let mut patterns = patterns;
     let mut sifted = Sifted {
@@ -151,7 +151,7 @@ fn guide_of(
 ) -> Result<Option<Guide>, AllocError>
     requires sets { AreSetsOf net.now.net sets.now }
     requires first { IsPatternIn net.now.net sets.now first.now }
-    ensures { IfOk result (λ found. IfSome found (λ guide. Guides (beyond (bound_of 127)) net.now.net sets.now rate guide)) }
+    ensures { IfOk result (λ found. IfSome found (λ guide. Guides passes_Q net.now.net sets.now rate guide)) }
 {
     if !hold_no_cycle(alloc, net, sets)? {
         return Ok(None);
@@ -183,7 +183,7 @@ pub fn sifted_search(
 ) -> Result<Option<Thin>, SearchFault>
     requires sets { AreSetsOf net.now.net sets.now }
     requires base { IsPattern sets.now (unbounded_of net.now.net) base.now }
-    ensures { Sifts (IsSearch (beyond (bound_of 127)) net.now.net sets.now rate base.now budget) budget result }
+    ensures { Sifts (IsSearch passes_Q net.now.net sets.now rate base.now budget) budget result }
 {
     let Some(first) = first_listed(alloc, net, sets, base)? else {
         return Ok(None);

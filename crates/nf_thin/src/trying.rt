@@ -1,7 +1,7 @@
 // One pattern is tried: its table is solved, and the solution judged.
 ghost use Rattle.std.specs.Prelude.{◌≡◌, ◌+◌, length, option_map, IfOk};
 ghost use Rattle.nf_work.specs.declared.Part.TheVariants as Part;
-ghost use Rattle.nf_work.specs.Passing.{bound_of, beyond};
+ghost use Rattle.nf_work.specs.Passing.{passes_Q};
 ghost use Rattle.nf_work.specs.Checked.{at_part, Gives};
 ghost use Rattle.nf_lists.specs.Table.{table_list};
 ghost use Rattle.nf_lists.specs.Verdict.{verdict_list};
@@ -63,7 +63,7 @@ pub(crate) fn judge_values(
     requires pattern { IsPatternIn net.now.net sets.now pattern.now }
     requires values { length values.items ≡ net.now.net.nodes + length (active_from 0 sets.now.active) }
     ensures { JudgesValues net.now.net pattern.now (flows_in net.now.net.nodes sets.now.active values.items) (slopes_in net.now.net.nodes values.items)
-        (at_part Part.Verdict (verdict_list (beyond (bound_of 127)) net.now.net pattern.now (slopes_in net.now.net.nodes values.items))) result }
+        (at_part Part.Verdict (verdict_list passes_Q net.now.net pattern.now (slopes_in net.now.net.nodes values.items))) result }
 {
     let flows = flows_of(alloc, net, sets, &values)?;
     let mut slopes = values;
@@ -77,7 +77,7 @@ pub(crate) fn judge_values(
 
 /// The only solution of a table, and None where there is none or more than one.
 pub(crate) fn solved(alloc: Global, table: Table<Q>) -> Result<Option<Vec<Q>>, Halt<Q>>
-    ensures { Gives (option_map (λ values. values.items)) (λ q. q) result (at_part Part.Table (table_list (beyond (bound_of 127)) table)) }
+    ensures { Gives (option_map (λ values. values.items)) (λ q. q) result (at_part Part.Table (table_list passes_Q table)) }
 {
     match solve(alloc, table)? {
         Solved::One(values) => Ok(Some(values)),
@@ -94,7 +94,7 @@ pub(crate) fn pattern_values(
     pattern: &Pattern,
 ) -> Result<Option<Vec<Q>>, Halt<Q>>
     requires { IsPatternIn net.now.net sets.now pattern.now }
-    ensures { Gives (option_map (λ values. values.items)) (λ q. q) result (at_part Part.Table (table_list (beyond (bound_of 127)) (equations net.now.net sets.now rate pattern.now))) }
+    ensures { Gives (option_map (λ values. values.items)) (λ q. q) result (at_part Part.Table (table_list passes_Q (equations net.now.net sets.now rate pattern.now))) }
 {
     let table = table_of(alloc, net, sets, rate, pattern)?;
     solved(alloc, table)
@@ -109,7 +109,7 @@ pub fn try_pattern(
     pattern: &Pattern,
 ) -> Result<Tried, Halt<Q>>
     requires { IsPatternIn net.now.net sets.now pattern.now }
-    ensures { Tries (beyond (bound_of 127)) net.now.net sets.now rate pattern.now result }
+    ensures { Tries passes_Q net.now.net sets.now rate pattern.now result }
 {
     match pattern_values(alloc, net, sets, rate, pattern)? {
         Some(values) => judge_values(alloc, net, sets, pattern, values),

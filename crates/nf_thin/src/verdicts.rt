@@ -3,7 +3,7 @@ ghost use Rattle.std.specs.Prelude.{◌≡◌, ◌<◌, ◌&&◌, not, length, S
 ghost use Rattle.nf_rational.specs.Operations.{0ℚ};
 ghost use Rattle.nf_rational.specs.Order.{le_ℚ};
 ghost use Rattle.nf_work.specs.declared.Part.TheVariants.{Verdict};
-ghost use Rattle.nf_work.specs.Passing.{bound_of, beyond};
+ghost use Rattle.nf_work.specs.Passing.{passes_Q};
 ghost use Rattle.nf_work.specs.Checked.{at_part};
 ghost use Rattle.nf_model.specs.Entries.{number_at};
 ghost use Rattle.nf_model.specs.Network.{Link as SeenLink, IsLink, unbounded};
@@ -30,7 +30,7 @@ pub enum Judged {
 
 // The greatest flow that a link may carry in its state: where it is Tight and has a capacity.
 fn bound(state: Option<State>, capacity: Option<Q>, head_slope: Q) -> Result<Option<Q>, PassedAt<Q>>
-    ensures { result ≡ at_part Verdict (bound_on (beyond (bound_of 127)) state capacity head_slope) }
+    ensures { result ≡ at_part Verdict (bound_on passes_Q state capacity head_slope) }
 {
     match state {
         Some(State::Tight) => match capacity {
@@ -89,7 +89,7 @@ fn judge_link(
     tail_slope: Q,
     head_slope: Q,
 ) -> Result<bool, PassedAt<Q>>
-    ensures { result ≡ at_part Verdict (link_verdict (beyond (bound_of 127)) state capacity flow tail_slope head_slope) }
+    ensures { result ≡ at_part Verdict (link_verdict passes_Q state capacity flow tail_slope head_slope) }
 {
     let bound = bound(state, capacity, head_slope)?;
     Ok(is_not_negative(flow) && keeps_state(state, bound, flow, tail_slope, head_slope))
@@ -107,7 +107,7 @@ fn judge(
     requires states { length pattern.now ≡ length net.now.net.links }
     requires flows { length flows.now ≡ length net.now.net.links }
     requires slopes { length slopes.now ≡ net.now.net.nodes }
-    ensures { (here : SeenLink) → IsLink net.now.net link here → result ≡ at_part Verdict (numbered_verdict (beyond (bound_of 127)) pattern.now flows.now slopes.now (link, here)) }
+    ensures { (here : SeenLink) → IsLink net.now.net link here → result ≡ at_part Verdict (numbered_verdict passes_Q pattern.now flows.now slopes.now (link, here)) }
 {
     let here = net.link(link);
     judge_link(
@@ -139,7 +139,7 @@ fn first_failing(
     requires states { length pattern.now ≡ length net.now.net.links }
     requires flows { length flows.now ≡ length net.now.net.links }
     requires slopes { length slopes.now ≡ net.now.net.nodes }
-    ensures { result ≡ at_part Verdict (first_broken (beyond (bound_of 127)) net.now.net pattern.now flows.now slopes.now) }
+    ensures { result ≡ at_part Verdict (first_broken passes_Q net.now.net pattern.now flows.now slopes.now) }
 {
     let mut found = None;
     for e in 0..net.link_count() {
@@ -177,7 +177,7 @@ pub fn verdict(
     requires sets { length sets.now.active ≡ length net.now.net.links }
     requires flows { length flows.now ≡ length net.now.net.links }
     requires slopes { length slopes.now ≡ net.now.net.nodes }
-    ensures { Judges (IsJudged net.now.net pattern.now flows.now slopes.now) (at_part Verdict (verdict_list (beyond (bound_of 127)) net.now.net pattern.now slopes.now)) result }
+    ensures { Judges (IsJudged net.now.net pattern.now flows.now slopes.now) (at_part Verdict (verdict_list passes_Q net.now.net pattern.now slopes.now)) result }
 {
     let failing = first_failing(net, pattern, flows, slopes)?;
     match first_negative(net, slopes) {

@@ -1,5 +1,5 @@
 use Rattle.std.proofs.Common.{◌≡◌, drop}
-use Rattle.nf_work.specs.Passing.{bound_of, beyond}
+use Rattle.nf_work.specs.Passing.{passes_Q}
 use Rattle.nf_work.specs.Checked.{each}
 use Rattle.nf_work.proofs.Each.{with_front}
 use Rattle.nf_lists.specs.Slack.{slack_of}
@@ -7,4 +7,4 @@ use Rattle.nf_sets.proofs.slacks.Given as goal
 
 -- the slacks so far stand before what comes of the other hops
 abbrev pub invariant-loop-hop : goal.invariant-loop-hop
-invariant-loop-hop l = each (slack_of (beyond (bound_of 127)) l.labels) l.hops ≡ with_front l.slacks.items (each (slack_of (beyond (bound_of 127)) l.labels) (drop l.hop-index l.hops))
+invariant-loop-hop l = each (slack_of passes_Q l.labels) l.hops ≡ with_front l.slacks.items (each (slack_of passes_Q l.labels) (drop l.hop-index l.hops))

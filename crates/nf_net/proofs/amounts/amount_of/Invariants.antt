@@ -1,8 +1,8 @@
 use Rattle.std.proofs.Common.{◌≡◌, drop}
 use Rattle.nf_rational.specs.Operations.{0ℚ}
-use Rattle.nf_work.specs.Passing.{bound_of, beyond}
+use Rattle.nf_work.specs.Passing.{passes_Q}
 use Rattle.nf_net.specs.Supply.{supplied_after}
 use Rattle.nf_net.proofs.amounts.amount_of.Given as goal
 
 abbrev pub invariant-loop-index : goal.invariant-loop-index
-invariant-loop-index l = supplied_after (beyond (bound_of 127)) l.so_far (drop l.index l.pieces) l.time ≡ supplied_after (beyond (bound_of 127)) 0ℚ l.pieces l.time
+invariant-loop-index l = supplied_after passes_Q l.so_far (drop l.index l.pieces) l.time ≡ supplied_after passes_Q 0ℚ l.pieces l.time

@@ -1,6 +1,6 @@
 use Rattle.std.proofs.Common.{◌∙◌, ap, List}
 use Rattle.nf_rational.specs.Operations.{0ℚ}
-use Rattle.nf_work.specs.Passing.{bound_of, beyond}
+use Rattle.nf_work.specs.Passing.{passes_Q}
 use Rattle.nf_model.specs.Network.{Piece}
 use Rattle.nf_net.specs.Supply.{supplied_after}
 use Rattle.nf_net.proofs.Supplied.{value_supplied}
@@ -8,5 +8,5 @@ use Rattle.nf_net.proofs.amounts.supply.Goals as goal
 
 pub returns-clause-value : goal.returns-clause-value
 returns-clause-value c =
-    value_supplied (beyond (bound_of 127)) c.args.time c.amount_of.result c.args.net.now.net.pieces c.pieces.ensures.named.network.pieces
-    (c.amount_of.ensures ∙ ap (λ (pieces : List Piece). supplied_after (beyond (bound_of 127)) 0ℚ pieces c.args.time) c.pieces.ensures.value)
+    value_supplied passes_Q c.args.time c.amount_of.result c.args.net.now.net.pieces c.pieces.ensures.named.network.pieces
+    (c.amount_of.ensures ∙ ap (λ (pieces : List Piece). supplied_after passes_Q 0ℚ pieces c.args.time) c.pieces.ensures.value)

@@ -1,7 +1,7 @@
 use Rattle.std.proofs.Common.{ℕ, ◌<◌, sym, ap, subst, ◌∙◌}
 use Rattle.std.specs.Prelude.{Option}
 use Rattle.nf_rational.specs.Rational.{ℚ}
-use Rattle.nf_work.specs.Passing.{bound_of, beyond}
+use Rattle.nf_work.specs.Passing.{passes_Q}
 use Rattle.nf_model.specs.Network.{Link}
 use Rattle.nf_pattern.proofs.Each.{take_pushed}
 use Rattle.nf_thin.specs.Balancing.{full_of, full_by}
@@ -12,9 +12,9 @@ use Rattle.nf_thin.proofs.node_test.full_flows.Goals as goal
 pub loop-e-preserved : goal.loop-e-preserved
 loop-e-preserved c =
     let good = c.link-link.ensures.named.network in
-    take_pushed (full_by (beyond (bound_of 127)) c.args.net.now.net c.args.slopes.now) c.loop-e.full.items c.push.new.self.items c.loop-e.e c.full_flow.result
-    (full_there (beyond (bound_of 127)) c.args.net.now.net c.args.slopes.now c.loop-e.e c.link-link.result c.index-slopes-index.result c.full_flow.result c.link-link.ensures.link
-    (c.full_flow.ensures ∙ ap (λ (o : Option ℚ). full_of (beyond (bound_of 127)) o c.index-slopes-index.result) (ap (λ (l : Link). l.capacity) c.link.view_is))
+    take_pushed (full_by passes_Q c.args.net.now.net c.args.slopes.now) c.loop-e.full.items c.push.new.self.items c.loop-e.e c.full_flow.result
+    (full_there passes_Q c.args.net.now.net c.args.slopes.now c.loop-e.e c.link-link.result c.index-slopes-index.result c.full_flow.result c.link-link.ensures.link
+    (c.full_flow.ensures ∙ ap (λ (o : Option ℚ). full_of passes_Q o c.index-slopes-index.result) (ap (λ (l : Link). l.capacity) c.link.view_is))
     (number_read c.args.slopes.now c.index.result c.link-link.result.head _ (c.index.ensures ∙ ap (λ (l : Link). l.head) c.link.view_is)
     (subst (λ (n : ℕ). c.link-link.result.head < n) (sym c.requires) (good.heads c.loop-e.e c.link-link.result c.link-link.ensures.link)) c.index-slopes-index.is))
     c.loop-e.invariant c.in_ok-push.ensures.items

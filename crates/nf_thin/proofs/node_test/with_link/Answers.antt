@@ -1,5 +1,5 @@
 use Rattle.std.proofs.Common.{ap}
-use Rattle.nf_work.specs.Passing.{bound_of, beyond}
+use Rattle.nf_work.specs.Passing.{passes_Q}
 use Rattle.nf_model.specs.Walk.{Hop}
 use Rattle.nf_thin.proofs.Balances.{link_read, end_test, bounds_still, bounds_sum, bounds_difference}
 use Rattle.nf_thin.proofs.node_test.with_link.Goals as goal
@@ -7,7 +7,7 @@ use Rattle.nf_thin.proofs.node_test.with_link.Goals as goal
 pub returns-then-leaves-enters : goal.returns-then-leaves-enters
 returns-then-leaves-enters c =
     let f = link_read c.args.net.now.net c.hops.result.now c.args.link c.index.result c.index-hops-index.result c.hops.ensures.value c.index.ensures c.requires.link c.index-hops-index.is in
-    bounds_still (beyond (bound_of 127)) c.args.net.now.net c.args.sets.now c.args.pattern.now c.args.full.now c.args.node c.args.link c.args.range f.0 f.1 c.requires.before
+    bounds_still passes_Q c.args.net.now.net c.args.sets.now c.args.pattern.now c.args.full.now c.args.node c.args.link c.args.range f.0 f.1 c.requires.before
     c.eq-leaves.result c.eq-enters.result
     (end_test c.eq-leaves.result c.hop.inside.tail c.index-hops-index.result.tail (f.0).tail c.args.node c.eq-leaves.ensures (ap (λ (h : Hop). h.tail) c.hop.view_is) f.2)
     (end_test c.eq-enters.result c.hop.inside.head c.index-hops-index.result.head (f.0).head c.args.node c.eq-enters.ensures (ap (λ (h : Hop). h.head) c.hop.view_is) f.3)
@@ -16,7 +16,7 @@ returns-then-leaves-enters c =
 pub returns-then-leaves : goal.returns-then-leaves
 returns-then-leaves c =
     let f = link_read c.args.net.now.net c.hops.result.now c.args.link c.index.result c.index-hops-index.result c.hops.ensures.value c.index.ensures c.requires.link c.index-hops-index.is in
-    bounds_sum (beyond (bound_of 127)) c.args.net.now.net c.args.sets.now c.args.pattern.now c.args.full.now c.args.node c.args.link c.args.range f.0 f.1 c.requires.before
+    bounds_sum passes_Q c.args.net.now.net c.args.sets.now c.args.pattern.now c.args.full.now c.args.node c.args.link c.args.range f.0 f.1 c.requires.before
     c.eq-leaves.result c.eq-enters.result
     (end_test c.eq-leaves.result c.hop.inside.tail c.index-hops-index.result.tail (f.0).tail c.args.node c.eq-leaves.ensures (ap (λ (h : Hop). h.tail) c.hop.view_is) f.2)
     (end_test c.eq-enters.result c.hop.inside.head c.index-hops-index.result.head (f.0).head c.args.node c.eq-enters.ensures (ap (λ (h : Hop). h.head) c.hop.view_is) f.3)
@@ -25,7 +25,7 @@ returns-then-leaves c =
 pub returns-else-leaves : goal.returns-else-leaves
 returns-else-leaves c =
     let f = link_read c.args.net.now.net c.hops.result.now c.args.link c.index.result c.index-hops-index.result c.hops.ensures.value c.index.ensures c.requires.link c.index-hops-index.is in
-    bounds_difference (beyond (bound_of 127)) c.args.net.now.net c.args.sets.now c.args.pattern.now c.args.full.now c.args.node c.args.link c.args.range f.0 f.1 c.requires.before
+    bounds_difference passes_Q c.args.net.now.net c.args.sets.now c.args.pattern.now c.args.full.now c.args.node c.args.link c.args.range f.0 f.1 c.requires.before
     c.eq-leaves.result c.eq-enters.result
     (end_test c.eq-leaves.result c.hop.inside.tail c.index-hops-index.result.tail (f.0).tail c.args.node c.eq-leaves.ensures (ap (λ (h : Hop). h.tail) c.hop.view_is) f.2)
     (end_test c.eq-enters.result c.hop.inside.head c.index-hops-index.result.head (f.0).head c.args.node c.eq-enters.ensures (ap (λ (h : Hop). h.head) c.hop.view_is) f.3)

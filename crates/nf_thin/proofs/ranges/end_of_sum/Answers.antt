@@ -1,4 +1,4 @@
-use Rattle.nf_work.specs.Passing.{bound_of, beyond}
+use Rattle.nf_work.specs.Passing.{passes_Q}
 use Rattle.nf_thin.proofs.Within.{sum_with_none, none_with_sum, end_sum}
 use Rattle.nf_thin.proofs.ranges.end_of_sum.Goals as goal
 
@@ -9,4 +9,4 @@ pub returns-then-is_zero-2 : goal.returns-then-is_zero-2
 returns-then-is_zero-2 c = none_with_sum c.args.one c.args.other c.in_ok-end.end c.in_ok-more.more c.in_ok-end.was c.in_ok-more.was (c.is_zero-2.ensures.zero.0 c.if-is_zero-2.true)
 
 pub returns : goal.returns
-returns c = end_sum (beyond (bound_of 127)) c.args.one c.args.other c.in_ok-end.end c.in_ok-more.more c.in_ok-end.was c.in_ok-more.was c.ok.result c.sum.result c.ok.ensures.value c.sum.ensures
+returns c = end_sum passes_Q c.args.one c.args.other c.in_ok-end.end c.in_ok-more.more c.in_ok-end.was c.in_ok-more.was c.ok.result c.sum.result c.ok.ensures.value c.sum.ensures

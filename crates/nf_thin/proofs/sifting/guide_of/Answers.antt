@@ -1,7 +1,7 @@
 use Rattle.std.proofs.Common.{List, length, subst, sym, ap, ◌∙◌}
 use Rattle.std.specs.Prelude.{Option, IfSome}
 use Rattle.nf_rational.specs.Rational.{ℚ}
-use Rattle.nf_work.specs.Passing.{bound_of, beyond}
+use Rattle.nf_work.specs.Passing.{passes_Q}
 use Rattle.nf_thin.specs.declared.known.Known.{Known}
 use Rattle.nf_thin.specs.declared.allowed.Allowed.{Allowed}
 use Rattle.nf_thin.specs.Slopes.{AreThinSlopes}
@@ -14,7 +14,7 @@ use Rattle.nf_thin.proofs.sifting.guide_of.Goals as goal
 
 pub returns : goal.returns
 returns c =
-    let known = subst (λ (found : Option Known). IfSome found (λ known. IsKnown (beyond (bound_of 127)) c.args.net.now.net c.args.sets.now c.args.rate known)) c.in-Some-2.is c.in_ok-known.ensures.known in
+    let known = subst (λ (found : Option Known). IfSome found (λ known. IsKnown passes_Q c.args.net.now.net c.args.sets.now c.args.rate known)) c.in-Some-2.is c.in_ok-known.ensures.known in
     let thin = subst (λ (found : Option Known). IfSome found (λ known. AreThinSlopes c.args.net.now.net c.args.sets.now c.args.rate known.slopes.items)) c.in-Some-2.is c.in_ok-known.ensures.thin in
     let allowed_are = c.in_ok-allowed.ensures ∙ ap (λ (slopes : List ℚ). flags_by c.args.net.now.net slopes) c.deref.ensures.value in
     record {
@@ -24,5 +24,5 @@ returns c =
       known = known;
       slopes = slopes_of_listed c.args.net.now.net c.args.sets.now c.args.rate c.in-Some-2.known.slopes.items c.requires.first.network c.requires.sets.sets_are
           (c.in_ok-hold_no_cycle.ensures c.if-not-branch.false) thin;
-      full = c.in_ok-full.ensures ∙ ap (λ (slopes : List ℚ). full_by (beyond (bound_of 127)) c.args.net.now.net slopes) c.deref-2.ensures.value;
+      full = c.in_ok-full.ensures ∙ ap (λ (slopes : List ℚ). full_by passes_Q c.args.net.now.net slopes) c.deref-2.ensures.value;
     }

@@ -1,7 +1,7 @@
 use Rattle.std.proofs.Common.{subst}
 use Rattle.std.specs.Prelude.{option_copied, Ok}
 use Rattle.std.proofs.lemmas.Result.{err_from_is_err_and}
-use Rattle.nf_work.specs.Passing.{bound_of, beyond}
+use Rattle.nf_work.specs.Passing.{passes_Q}
 use Rattle.nf_pattern.specs.Given.{Gives}
 use Rattle.nf_thin.specs.Sifting.{SiftsNext}
 use Rattle.nf_thin.proofs.Looping.{loop_pattern, loop_listed, loop_finds, loop_fails, loop_goes_on, loop_ends}
@@ -9,43 +9,43 @@ use Rattle.nf_thin.proofs.sifting.sift.Goals as goal
 
 pub sift_next-requires-clause-pattern : goal.sift_next-requires-clause-pattern
 sift_next-requires-clause-pattern c =
-    loop_pattern (beyond (bound_of 127)) c.args.net.now.net c.args.sets.now c.args.rate c.args.patterns c.args.budget c.requires.network c.requires.sets c.requires.question
+    loop_pattern passes_Q c.args.net.now.net c.args.sets.now c.args.rate c.args.patterns c.args.budget c.requires.network c.requires.sets c.requires.question
     c.loop-pattern.patterns c.loop-pattern.sifted c.loop-pattern.invariant c.in-Some.pattern.now c.next.follows.lender-at-none
     (subst (λ r. Gives c.loop-pattern.patterns (option_copied r) c.next.follows.lender-at-none) c.in-Some.is c.next.follows.holds-at-none)
 
 pub sift_next-requires-clause-listed : goal.sift_next-requires-clause-listed
 sift_next-requires-clause-listed c =
-    loop_listed (beyond (bound_of 127)) c.args.net.now.net c.args.sets.now c.args.rate c.args.patterns c.args.budget c.requires.network c.requires.sets c.requires.question
+    loop_listed passes_Q c.args.net.now.net c.args.sets.now c.args.rate c.args.patterns c.args.budget c.requires.network c.requires.sets c.requires.question
     c.loop-pattern.patterns c.loop-pattern.sifted c.loop-pattern.invariant c.in-Some.pattern.now c.next.follows.lender-at-none
     (subst (λ r. Gives c.loop-pattern.patterns (option_copied r) c.next.follows.lender-at-none) c.in-Some.is c.next.follows.holds-at-none)
 
 pub returns-in_err-found : goal.returns-in_err-found
 returns-in_err-found c =
     let p = err_from_is_err_and c.from_residual.result c.from_residual.ensures.1 in
-    rw (p.1, p.2) (loop_fails (beyond (bound_of 127)) c.args.net.now.net c.args.sets.now c.args.rate c.args.patterns c.args.budget c.requires.network c.requires.sets c.requires.question
+    rw (p.1, p.2) (loop_fails passes_Q c.args.net.now.net c.args.sets.now c.args.rate c.args.patterns c.args.budget c.requires.network c.requires.sets c.requires.question
     c.loop-pattern.patterns c.loop-pattern.sifted c.loop-pattern.invariant c.in-Some.pattern.now c.next.follows.lender-at-none
     (subst (λ r. Gives c.loop-pattern.patterns (option_copied r) c.next.follows.lender-at-none) c.in-Some.is c.next.follows.holds-at-none)
     c.sift_next.new.sifted c.in_err-found.field-0.0 c.in_err-found.ensures)
 
 pub returns-in-Some-found : goal.returns-in-Some-found
 returns-in-Some-found c =
-    loop_finds (beyond (bound_of 127)) c.args.net.now.net c.args.sets.now c.args.rate c.args.patterns c.args.budget c.requires.network c.requires.sets c.requires.question
+    loop_finds passes_Q c.args.net.now.net c.args.sets.now c.args.rate c.args.patterns c.args.budget c.requires.network c.requires.sets c.requires.question
     c.loop-pattern.patterns c.loop-pattern.sifted c.loop-pattern.invariant c.in-Some.pattern.now c.next.follows.lender-at-none
     (subst (λ r. Gives c.loop-pattern.patterns (option_copied r) c.next.follows.lender-at-none) c.in-Some.is c.next.follows.holds-at-none)
     c.sift_next.new.sifted c.in-Some-found.thin
-    (subst (λ o. SiftsNext (beyond (bound_of 127)) c.args.net.now.net c.args.sets.now c.args.rate c.args.budget c.in-Some.pattern.now c.loop-pattern.sifted c.sift_next.new.sifted (Ok o)) c.in-Some-found.is c.in_ok-found.ensures)
+    (subst (λ o. SiftsNext passes_Q c.args.net.now.net c.args.sets.now c.args.rate c.args.budget c.in-Some.pattern.now c.loop-pattern.sifted c.sift_next.new.sifted (Ok o)) c.in-Some-found.is c.in_ok-found.ensures)
 
 pub loop-pattern-preserved : goal.loop-pattern-preserved
 loop-pattern-preserved c =
-    loop_goes_on (beyond (bound_of 127)) c.args.net.now.net c.args.sets.now c.args.rate c.args.patterns c.args.budget c.requires.network c.requires.sets c.requires.question
+    loop_goes_on passes_Q c.args.net.now.net c.args.sets.now c.args.rate c.args.patterns c.args.budget c.requires.network c.requires.sets c.requires.question
     c.loop-pattern.patterns c.loop-pattern.sifted c.loop-pattern.invariant c.in-Some.pattern.now c.next.follows.lender-at-none
     (subst (λ r. Gives c.loop-pattern.patterns (option_copied r) c.next.follows.lender-at-none) c.in-Some.is c.next.follows.holds-at-none)
     c.sift_next.new.sifted
-    (subst (λ o. SiftsNext (beyond (bound_of 127)) c.args.net.now.net c.args.sets.now c.args.rate c.args.budget c.in-Some.pattern.now c.loop-pattern.sifted c.sift_next.new.sifted (Ok o)) c.in_default-found.is c.in_ok-found.ensures)
+    (subst (λ o. SiftsNext passes_Q c.args.net.now.net c.args.sets.now c.args.rate c.args.budget c.in-Some.pattern.now c.loop-pattern.sifted c.sift_next.new.sifted (Ok o)) c.in_default-found.is c.in_ok-found.ensures)
 
 pub returns : goal.returns
 returns c =
-    loop_ends (beyond (bound_of 127)) c.args.net.now.net c.args.sets.now c.args.rate c.args.patterns c.args.budget c.requires.network c.requires.sets c.requires.question
+    loop_ends passes_Q c.args.net.now.net c.args.sets.now c.args.rate c.args.patterns c.args.budget c.requires.network c.requires.sets c.requires.question
     c.loop-pattern.patterns c.loop-pattern.sifted c.loop-pattern.invariant c.if-sifted.false c.next.follows.lender-at-none
     (subst (λ r. Gives c.loop-pattern.patterns (option_copied r) c.next.follows.lender-at-none) c.in_default.is c.next.follows.holds-at-none)
     c.fault.result c.fault.ensures
