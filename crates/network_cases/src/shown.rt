@@ -2,6 +2,11 @@
 use nf_frac::{Op, Passed, Q, TextBuf};
 use std::fmt;
 
+/// Bytes as text; `?` where they are none.
+pub fn as_text(bytes: &[u8]) -> &str {
+    std::str::from_utf8(bytes).unwrap_or("?")
+}
+
 /// A number as files write it, `-` for none.
 #[derive(Drop)]
 pub struct Shown(pub Option<Q>);
@@ -13,7 +18,7 @@ impl fmt::Display for Shown {
         };
         let mut room = TextBuf::new();
         number.write(&mut room);
-        f.write_str(std::str::from_utf8(room.text()).unwrap_or("?"))
+        f.write_str(as_text(room.text()))
     }
 }
 

@@ -3,11 +3,11 @@ ghost use Rattle.std.specs.Prelude.{◌≤◌, length};
 ghost use Rattle.nf_lines.specs.Faults.{longest_text};
 
 use crate::case::{Case, Kind};
-use crate::shown::{Amount, Found, Shown};
+use crate::shown::{Amount, Found, Shown, as_text};
 use nf_frac::Q;
 use nf_graph::topological;
 use nf_net::{LONGEST_FILE, LinkId, NetFault, Network, NodeId, parse, start_labels, supply, text};
-use nf_text::{Line, TextFault, lines};
+use nf_text::{Line, Span, TextFault, lines};
 use std::alloc::{AllocError, Global};
 use std::io;
 
@@ -98,7 +98,7 @@ fn tell_name<R: Print>(rt: &R, net: &Network, name: &str) -> io::Result<()> {
 
 fn tell_network<R: Print + AllocGlobal>(rt: &R, net: &Network, words: &[String]) -> io::Result<()> {
     let canonical = text(rt.alloc(), net)?;
-    print!(rt; "{}", std::str::from_utf8(&canonical).unwrap_or("?"))?;
+    print!(rt; "{}", as_text(&canonical))?;
     tell_nodes(rt, net)?;
     tell_links(rt, net)?;
     tell_hops(rt, net)?;
@@ -112,14 +112,20 @@ fn tell_network<R: Print + AllocGlobal>(rt: &R, net: &Network, words: &[String])
     Ok(())
 }
 
+// A word of a text; `?` where its place lies outside.
+fn word_of(text: &[u8], place: Span) -> &str {
+    if u64::from(place.start) + u64::from(place.len) > text.len() as u64 {
+        return "?";
+    }
+    as_text(place.of(text))
+}
+
 // A line: whether it is plain, its number, and its words, each behind a `|`.
 fn tell_line<R: Print>(rt: &R, text: &[u8], line: &Line) -> io::Result<()> {
     let sign = if line.plain { "+" } else { "-" };
     print!(rt; "{sign} {}", line.number)?;
     for word in &line.words {
-        if u64::from(word.start) + u64::from(word.len) <= text.len() as u64 {
-            print!(rt; "|{}", std::str::from_utf8(word.of(text)).unwrap_or("?"))?;
-        }
+        print!(rt; "|{}", word_of(text, *word))?;
     }
     println!(rt; "")
 }
