@@ -1,15 +1,16 @@
 -- What the comparisons of fractions in code say: `<`, `<=`, `>`, `>=` and `==`, at fractions and at any type that is ordered by what its values mean.
-use Rattle.std.proofs.Common.{◌≡◌, ◌≢◌, Bool, true, false, not, cond, refl, sym, ◌∙◌, ap}
+use Rattle.std.proofs.Common.{◌≡◌, ◌≢◌, Bool, true, false, not, cond, ◌&&◌, refl, sym, ◌∙◌, ap}
 use Rattle.std.specs.Prelude.{Option, Some}
-use Rattle.std.specs.Ordering.{is_lt, is_le, is_gt, is_ge, is_some_and, MatchOrdering, partial_lt, partial_le, partial_gt, partial_ge}
+use Rattle.std.specs.Ordering.{is_eq, is_lt, is_le, is_gt, is_ge, is_some_and, MatchOrdering, partial_lt, partial_le, partial_gt, partial_ge}
 use Rattle.std.specs.declared.cmp.Ordering.{Ordering}
 use Rattle.std.specs.declared.cmp.Ordering.TheVariants.{Less, Equal, Greater}
+use mathlib.Core.Path.{ap₂}
 use Rattle.nf_rational.specs.Rational.{ℚ}
-use Rattle.nf_rational.specs.Order.{◌<ℚ◌, cmp_ℚ, le_ℚ, lt_ℚ, min_ℚ}
+use Rattle.nf_rational.specs.Order.{◌<ℚ◌, cmp_ℚ, le_ℚ, lt_ℚ, min_ℚ, max_ℚ}
 use Rattle.nf_rational_laws.proofs.Order.{≤ℚ_of_lt, ≤ℚ_of_same}
 use Rattle.nf_rational_laws.proofs.Tests.{test_of_le, test_of_lt}
 use Rattle.nf_frac.specs.Order.{same_ℚ}
-use Rattle.nf_frac.specs.Total.{ranks_ℚ, same_decides}
+use Rattle.nf_frac.specs.Total.{ranks_ℚ, same_decides, cmp_matches_same}
 
 -- the order of two numbers as a test
 pub le-cmp : (x y : ℚ) → is_le (cmp_ℚ x y) ≡ le_ℚ x y
@@ -46,9 +47,35 @@ ge-cmp x y = go (cmp_ℚ x y) (ranks_ℚ x y)
     go Equal h = sym (test_of_le y x (≤ℚ_of_same y x (sym h)))
     go Greater h = sym (test_of_le y x (≤ℚ_of_lt y x h))
 
+pub le_by_order : (x y : ℚ) → partial_le (λ (x y : ℚ). Some (cmp_ℚ x y)) x y ≡ le_ℚ x y
+le_by_order x y = le-cmp x y
+
+pub below_is : (x y : ℚ) → lt_ℚ x y ≡ not (le_ℚ y x)
+unfolding lt_ℚ
+below_is x y = refl
+
+pub lesser_is : (x y : ℚ) → min_ℚ x y ≡ cond (le_ℚ x y) x y
+unfolding min_ℚ
+lesser_is x y = refl
+
+pub greater_is : (x y : ℚ) → max_ℚ x y ≡ cond (le_ℚ x y) y x
+unfolding max_ℚ
+greater_is x y = refl
+
 -- equality as a test
 pub same_of_test : (x y : ℚ) → same_ℚ x y ≡ true → x ≡ y
 same_of_test x y t = (same_decides x y).0 t
+
+pub same_by_order : (x y : ℚ) → same_ℚ x y ≡ (le_ℚ x y && le_ℚ y x)
+same_by_order x y = cmp_matches_same x y ∙ go (cmp_ℚ x y) (ranks_ℚ x y)
+  where
+    both : (s t : Bool) → le_ℚ x y ≡ s → le_ℚ y x ≡ t → (s && t) ≡ (le_ℚ x y && le_ℚ y x)
+    both s t e f = sym (ap₂ (λ (a b : Bool). a && b) e f)
+
+    go : (r : Ordering) → MatchOrdering r (x <ℚ y) (x ≡ y) (y <ℚ x) → is_eq r ≡ (le_ℚ x y && le_ℚ y x)
+    go Less h = both true false (test_of_le x y (≤ℚ_of_lt x y h)) (test_of_lt y x h)
+    go Equal h = both true true (test_of_le x y (≤ℚ_of_same x y h)) (test_of_le y x (≤ℚ_of_same y x (sym h)))
+    go Greater h = both false true (test_of_lt x y h) (test_of_le y x (≤ℚ_of_lt y x h))
 
 pub apart_of_test : (x y : ℚ) → same_ℚ x y ≡ false → x ≢ y
 apart_of_test x y t e = let s : same_ℚ x y ≡ true = (same_decides x y).1 e in cc

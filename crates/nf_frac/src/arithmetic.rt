@@ -1,6 +1,6 @@
 // The four operations on fractions. Each gives the exact result, or its operands where it passes the bound.
 ghost use Rattle.std.specs.Prelude.{◌≡◌, ◌≢◌};
-ghost use Rattle.nf_rational.specs.Operations.{0ℚ, 1ℚ};
+ghost use Rattle.nf_rational.specs.Operations.{0ℚ, 1ℚ, neg_ℚ};
 ghost use Rattle.nf_work.specs.declared.Op.TheVariants.{Sum, Difference, Product, Quotient};
 ghost use Rattle.nf_work.specs.Passing.{bound_of, beyond};
 ghost use Rattle.nf_work.specs.Checked.{checked};
@@ -54,6 +54,15 @@ impl<const BITS: u32> Frac<BITS> {
                 left: self,
                 right,
             }),
+        }
+    }
+
+    /// The same value with the other sign.
+    pub fn negated(self) -> Frac<BITS>
+        ensures { result ≡ neg_ℚ self.entry }
+    {
+        Frac {
+            value: self.value.negated(),
         }
     }
 

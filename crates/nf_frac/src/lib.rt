@@ -3,6 +3,7 @@
 #![tactic(auto)]
 
 mod arithmetic;
+mod compared;
 mod fraction;
 mod lowest;
 mod order;
