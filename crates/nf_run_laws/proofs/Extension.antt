@@ -80,9 +80,6 @@ module _ (slacks slopes : List ℚ) where
       (after_limits P (is_zero (number_at slacks k)) least one.0 (number_at slacks k) (number_at slopes link.tail) (number_at slopes link.head) refl p one.1) one.2)
 
 -- ---- the next inflow change
-same_start : (x y t : ℚ) → t <ℚ x → x <ℚ y → t <ℚ y
-same_start x y t h k = linear_lt (x ∷ y ∷ t ∷ []) (lt h ∷ lt k ∷ []) (search reading_of depth 12) tt
-
 gap : (t x : ℚ) → t <ℚ x → 0ℚ <ℚ x -ℚ t
 gap t x h = linear_lt (t ∷ x ∷ []) (lt h ∷ []) (search reading_of depth 12) tt
 
