@@ -26,9 +26,9 @@ use Rattle.nf_lists.specs.ReportCurves.{amount_so_far}
 use Rattle.nf_lists.specs.Search.{Answer, Found, OverBudget, PassesAt, NoPattern}
 use Rattle.nf_lists.specs.PhaseRun.{Standing, PhaseStep, Seeks, IsSearchHere, Fails, at_slack, at_search, at_lists, phase_lists}
 use Rattle.nf_lists_laws.proofs.Exact.{slacks_exact, advanced_exact}
-use Rattle.nf_thin.specs.declared.searches.Thin.{Thin}
 use Rattle.nf_thin.specs.declared.searches.SearchFault.{SearchFault}
 use Rattle.nf_thin.specs.Searching.{Searches}
+use Rattle.nf_thin.proofs.Folds.{part_ok}
 use Rattle.nf_phase.specs.Faults.{of_halt, of_search}
 use Rattle.nf_phase.specs.Stepping.{IsCause}
 
@@ -40,15 +40,11 @@ part_err part (Err p) at h = (p, refl, same (placed part p) at h)
     same : {A : Type 0} (x y : PassedAt ℚ) → ◌≡◌ {A = Result A (PassedAt ℚ)} (Err x) (Err y) → x ≡ y
     same x y e = cc
 
-pub ok_of_part : {A : Type 0} (part : Part) (r : Checked A) (x : A) → at_part part r ≡ Ok x → r ≡ Ok x
-ok_of_part part (Ok y) x h = cc
-ok_of_part part (Err p) x h = absurd (cc)
-
 -- ---- the slacks
 pub slacks_found : (passes : Passing) (net : Network) (labels slacks : List ℚ) → at_part Slack (slack_list passes (hops net) labels) ≡ Ok slacks
     → (slacks ≡ slacks_of (hops net) labels) × (slack_list passes (hops net) labels ≡ Ok (slacks_of (hops net) labels))
 slacks_found passes net labels slacks h =
-    let list = ok_of_part Slack (slack_list passes (hops net) labels) slacks h in
+    let list = part_ok Slack (slack_list passes (hops net) labels) slacks (sym h) in
     let exact = slacks_exact passes (hops net) labels slacks list in
     (exact, list ∙ ap (λ (l : List ℚ). Ok l) exact)
 
@@ -80,10 +76,6 @@ module _ (passes : Passing) (net : Network) (horizon : ℚ) (patterns : ℕ) (s 
   module _ (below : s.time <ℚ horizon) (slacks : slack_list passes (hops net) s.labels ≡ Ok (slacks_of (hops net) s.labels)) where
     seeks_here : (a : Answer) → IsSearchHere passes net horizon patterns s a → Seeks passes net horizon patterns s a
     seeks_here a h = record { below = below; slacks = slacks; search = h }
-
-    pub search_found : (thin : Thin) → Searches (IsSearchHere passes net horizon patterns s) patterns (Ok thin)
-        → Seeks passes net horizon patterns s (Found thin.place thin.pattern thin.flows.items thin.labels.items)
-    search_found thin h = seeks_here _ h
 
     pub search_cause : (fault : SearchFault) → Searches (IsSearchHere passes net horizon patterns s) patterns (Err fault) → IsCause passes net horizon patterns s (of_search fault)
     search_cause (SearchFault.Budget tried) h = at_search OverBudget _ (seeks_here OverBudget h.1) (ap (λ (n : ℕ). Some (Cause.Patterns (suc s.made) n)) (sym h.0))
@@ -152,4 +144,4 @@ module _ (passes : Passing) (net : Network) (slacks labels slopes : List ℚ) (t
 
   pub phase_length : (extension : Option ℚ) (end : Advanced) → length slopes ≡ length labels → MatchOption extension (IsUnending net slacks slopes time) (IsExtension net slacks slopes time)
       → at_part Advance (advance_list passes horizon time extension labels slopes) ≡ Ok end → IsPhaseLength net slacks slopes time horizon end.length
-  phase_length extension end count h list = cut_is extension end.length h (advanced_exact passes horizon time extension labels slopes end count (ok_of_part Advance _ end list)).0
+  phase_length extension end count h list = cut_is extension end.length h (advanced_exact passes horizon time extension labels slopes end count (part_ok Advance _ end (sym list))).0

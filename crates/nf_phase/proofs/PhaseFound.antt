@@ -20,6 +20,7 @@ use Rattle.nf_lists.specs.PhaseRun.{Standing}
 use Rattle.nf_lists_laws.proofs.Exact.{advanced_exact}
 use Rattle.nf_lists_laws.proofs.Ending.{length-moved}
 use Rattle.nf_run_laws.proofs.Standing.{label_count_at}
+use Rattle.nf_thin.proofs.Folds.{part_ok}
 use Rattle.nf_phase.specs.declared.fault.StepFault.{StepFault}
 use Rattle.nf_phase.specs.declared.finding.Found.{Found}
 use Rattle.nf_phase.specs.declared.phase.Phase.{Phase}
@@ -27,7 +28,7 @@ use Rattle.nf_phase.specs.Faults.{of_halt}
 use Rattle.nf_phase.specs.Stepping.{Reaches, IsCause}
 use Rattle.nf_phase.specs.Finding.{step_in, IsFound, LeadsOn}
 use Rattle.nf_phase.proofs.Reached.{Stands, Stands-reached, active_count}
-use Rattle.nf_phase.proofs.Found.{by_fault, ok_of_part, extend_cause, advance_cause, curve_cause, lists_made, phase_length}
+use Rattle.nf_phase.proofs.Found.{by_fault, extend_cause, advance_cause, curve_cause, lists_made, phase_length}
 
 module _ (passes : Passing) (net : Network) (good : IsNetwork net) (horizon : ℚ) (patterns : ℕ) (s : Standing) (reaches : Reaches passes net s) (found : Found)
     (is : IsFound passes net horizon patterns s found) where
@@ -85,7 +86,7 @@ module _ (passes : Passing) (net : Network) (good : IsNetwork net) (horizon : �
 
           pub end_count : length end.labels ≡ net.nodes
           end_count =
-              ap (λ (l : List ℚ). length l) (advanced_exact passes horizon s.time extension s.labels thin_slopes end slope_count (ok_of_part Advance _ end advance_ok)).1
+              ap (λ (l : List ℚ). length l) (advanced_exact passes horizon s.time extension s.labels thin_slopes end slope_count (part_ok Advance _ end (sym advance_ok))).1
               ∙ length-moved s.labels thin_slopes end.length slope_count ∙ label_count_at net good s stands.well
 
           -- ---- the links

@@ -45,6 +45,11 @@ module _ (passes : Passing) (net : Network) (good : IsNetwork net) (s : Standing
       let is = IsPhase-goes passes net good (record { horizon = horizon; phases = 0; patterns = patterns }) s t g stands.well in
       record { is_phase = is; only = λ other is_other. sym (IsPhase-unique net horizon good (reached_by s) (reached_by t) other is is_other) }
 
+-- curves that are the same make the same standing
+pub same_standing : (s t : Standing) (label_curves : List GrowingCurve) (link_curves : List LinkCurves) → s ≡ t → label_curves ≡ s.label_curves → link_curves ≡ s.link_curves
+    → record { time = s.time; labels = s.labels; label_curves = label_curves; link_curves = link_curves; made = s.made; last = s.last } ≡ t
+same_standing s t label_curves link_curves e f g = (λ i. record { time = s.time; labels = s.labels; label_curves = f i; link_curves = g i; made = s.made; last = s.last }) ∙ e
+
 -- ---- a phase that is found
 module _ (passes : Passing) (net : Network) (good : IsNetwork net) (horizon : ℚ) (patterns : ℕ) (s : Standing) (reaches : Reaches passes net s) (phase : Phase)
     (leads : LeadsOn passes net horizon patterns s phase) where
@@ -69,18 +74,6 @@ module _ (passes : Passing) (net : Network) (good : IsNetwork net) (horizon : �
 
   abbrev there : Stands net next
   there = Stands-reached passes net good next (goes_on horizon patterns reaches goes_next)
-
-  pub reaches_next : Reaches passes net next
-  reaches_next = goes_on horizon patterns reaches goes_next
-
-  pub only_next : LeadsOnlyTo net horizon (reached_by s) (reached_by next)
-  only_next = only_phase passes net good s reaches horizon patterns next goes_next
-
-  pub equilibrium_next : Equilibrium net (flow_of next)
-  equilibrium_next = equilibrium_reached passes net good next reaches_next
-
-  pub ends_next : EndsAtLabels net next
-  ends_next = ends_reached passes net good next reaches_next
 
   some : 0ℚ <ℚ phase.length
   some = IsPhaseLength-some net (slacks_of (hops net) s.labels) phase.slopes.items s.time horizon phase.length leads.finds.below leads.is_length

@@ -1,11 +1,8 @@
 -- Which fault of a step the faults of its parts are.
 use Rattle.nf_rational.specs.Rational.{ℚ}
 use Rattle.nf_work.specs.declared.Halt.{Halt}
-use Rattle.nf_work.specs.declared.Halt.TheVariants as Halt
 use Rattle.nf_thin.specs.declared.searches.SearchFault.{SearchFault}
-use Rattle.nf_thin.specs.declared.searches.SearchFault.TheVariants as SearchFault
 use Rattle.nf_phase.specs.declared.fault.StepFault.{StepFault}
-use Rattle.nf_phase.specs.declared.fault.StepFault.TheVariants as StepFault
 
 abbrev pub of_halt : Halt ℚ → StepFault
 of_halt (Halt.Passed at) = StepFault.Passed at

@@ -6,7 +6,6 @@ use Rattle.nf_model.specs.Network.{Network}
 use Rattle.nf_model.specs.Phases.{IsPhaseSequence}
 use Rattle.nf_model.specs.Equilibrium.{Equilibrium}
 use Rattle.nf_formats.specs.declared.Cause.{Cause}
-use Rattle.nf_formats.specs.declared.Cause.TheVariants as Cause
 use Rattle.nf_formats.specs.Numbers.{greatest}
 use Rattle.nf_formats.specs.Report.{Report, IsWellFormed}
 use Rattle.nf_lists.specs.PhaseRun.{Standing, Bounds, IsRunReport}
@@ -14,7 +13,6 @@ use Rattle.nf_run_laws.specs.RunLaws.{IsShortFlow, KeepsLabels, reached_by}
 use Rattle.nf_curve.specs.Flows.{flow_of}
 use Rattle.nf_thin.specs.declared.searches.SearchFault.TheVariants as SearchFault
 use Rattle.nf_phase.specs.declared.fault.StepFault.{StepFault}
-use Rattle.nf_phase.specs.declared.fault.StepFault.TheVariants as StepFault
 use Rattle.nf_phase.specs.declared.solution.Budgets.{Budgets}
 use Rattle.nf_phase.specs.declared.solution.Solution.{Solution}
 

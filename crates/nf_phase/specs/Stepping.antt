@@ -8,7 +8,6 @@ use Rattle.nf_formats.specs.declared.Cause.TheVariants as Cause
 use Rattle.nf_lists.specs.PhaseRun.{Standing, IsStart, Goes, Fails}
 use Rattle.nf_thin.specs.declared.searches.SearchFault.TheVariants as SearchFault
 use Rattle.nf_phase.specs.declared.fault.StepFault.{StepFault}
-use Rattle.nf_phase.specs.declared.fault.StepFault.TheVariants as StepFault
 
 -- a run begins at departure 0, and goes on phase by phase, each to a horizon and with a budget of patterns of its own
 pub data Reaches (passes : Passing) (net : Network) : Standing → Type 0 where

@@ -1,18 +1,16 @@
 // The length of a phase, and the labels at its end.
 ghost use Rattle.std.specs.Prelude.{◌≡◌, ◌<◌, length as count_of};
-ghost use Rattle.nf_rational.specs.Order.{min_ℚ};
 ghost use Rattle.nf_work.specs.declared.Part.TheVariants.{Advance};
 ghost use Rattle.nf_work.specs.Passing.{bound_of, beyond};
 ghost use Rattle.nf_work.specs.Checked.{at_part, Gives};
 ghost use Rattle.nf_lists.specs.Advance.{cut_at, label_after as label_after_by, labels_after as labels_after_by, advance_list};
 
-use crate::lengths::is_at_most;
 use nf_frac::{Halt, Part, PassedAt, Q, at};
 use std::alloc::Global;
 use std::marker::Model;
 
 /// A phase's length, and of each node the label at its end.
-#[derive(Drop, Debug)]
+#[derive(Drop)]
 pub(crate) struct Advanced {
     pub length: Q,
     pub labels: Vec<Q>,
@@ -29,20 +27,13 @@ impl Model for Advanced {
     ghost view = { λ a. record { length = a.length; labels = a.labels.items } };
 }
 
-#[tactic(auto, using(nf_net::proofs::Comparisons::lesser_is))]
-fn least_of(left: Q, right: Q) -> Q
-    ensures { result ≡ min_ℚ left right }
-{
-    if is_at_most(left, right) { left } else { right }
-}
-
 // An extension length, where there is one, but no more than what is left to the horizon.
 fn cut(left: Q, extension: Option<Q>) -> Q
     ensures { result ≡ cut_at left extension }
 {
     match extension {
         None => left,
-        Some(extension) => least_of(left, extension),
+        Some(extension) => left.lesser(extension),
     }
 }
 

@@ -5,6 +5,7 @@ ghost use Rattle.nf_rational.specs.Order.{◌<ℚ◌};
 ghost use Rattle.nf_work.specs.Passing.{bound_of, beyond};
 ghost use Rattle.nf_model.specs.Network.{hops as hops_of};
 ghost use Rattle.nf_model.specs.ThinFlow.{slacks_of, sets_at};
+ghost use Rattle.nf_formats.specs.WellNamed.{IsNamed};
 ghost use Rattle.nf_lists.specs.PhaseRun.{IsSearchHere};
 ghost use Rattle.nf_lists.specs.Slack.{slack_list};
 ghost use Rattle.nf_thin.specs.Searching.{Searches};
@@ -40,6 +41,7 @@ impl Run {
     ) -> Result<Vec<Q>, StepFault>
         requires reaches { Reaches (beyond (bound_of 127)) net.now.net self.now }
         requires below { self.now.time <ℚ horizon }
+        ensures named { IsNamed net.now }
         ensures slacks { IfOk result (λ slacks. slacks.items ≡ slacks_of (hops_of net.now.net) self.now.labels) }
         ensures list { OnOk result (slack_list (beyond (bound_of 127)) (hops_of net.now.net) self.now.labels ≡ Ok (slacks_of (hops_of net.now.net) self.now.labels)) }
         ensures cause { IfErr result (IsCause (beyond (bound_of 127)) net.now.net horizon patterns self.now) }
@@ -74,6 +76,7 @@ impl Run {
     ) -> Result<Found, StepFault>
         requires reaches { Reaches (beyond (bound_of 127)) net.now.net self.now }
         requires below { self.now.time <ℚ horizon }
+        ensures named { IsNamed net.now }
         ensures found { IfOk result (IsFound (beyond (bound_of 127)) net.now.net horizon patterns self.now) }
         ensures cause { IfErr result (IsCause (beyond (bound_of 127)) net.now.net horizon patterns self.now) }
     {

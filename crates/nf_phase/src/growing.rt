@@ -6,14 +6,13 @@ ghost use Rattle.nf_lists.specs.Ends.{end_of};
 ghost use Rattle.nf_lists.specs.ReportCurves.{goes_on as goes_on_by, curve_with, queue_after, first_label_curve, first_queue as queue_at_start};
 ghost use Rattle.nf_phase.specs.Growing.{HasRoom, IsAfter, corners_by, end_value, step_of};
 
-use crate::lengths::{is_at_most, is_below};
 use nf_curve::Curve;
 use nf_frac::Q;
 use std::alloc::{AllocError, Global};
 use std::marker::Model;
 
 // The last point of a curve, with the slope by which the curve came to it.
-#[derive(Clone, Copy, Debug)]
+#[derive(Clone, Copy)]
 struct End {
     time: Q,
     value: Q,
@@ -22,7 +21,7 @@ struct End {
 
 /// A curve that grows, in short form. While it goes on with one slope its end moves; where the slope changes, the end becomes a
 /// corner. No end: the curve has but one point.
-#[derive(Drop, Debug)]
+#[derive(Drop)]
 pub(crate) struct GrowingCurve {
     corners: Curve,
     end: Option<End>,
@@ -45,7 +44,7 @@ impl Model for GrowingCurve {
 fn is_same(left: Q, right: Q) -> bool
     ensures { result ≡ is_same_by left right }
 {
-    is_at_most(left, right) && is_at_most(right, left)
+    left.is_at_most(right) && right.is_at_most(left)
 }
 
 // A curve that came to its last point with a slope goes on with the same.
@@ -91,7 +90,7 @@ impl GrowingCurve {
         ensures { IfOk result (λ c. c.grown ≡ queue_at_start (is_positive label) label) }
     {
         let corners = Curve::start(alloc, Q::zero())?;
-        if !is_below(Q::zero(), label) {
+        if !Q::zero().is_below(label) {
             return Ok(GrowingCurve { corners, end: None });
         }
         let end = End {

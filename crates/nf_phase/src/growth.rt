@@ -71,7 +71,7 @@ pub(crate) fn finish_labels(
 }
 
 /// The curves of the links at the end of a run.
-#[derive(Drop, Debug)]
+#[derive(Drop)]
 pub(crate) struct FinishedLinks {
     pub(crate) inflows: Vec<Trace>,
     pub(crate) outflows: Vec<Trace>,

@@ -1,7 +1,6 @@
 // How long a phase may last.
 ghost use Rattle.std.specs.Prelude.{◌≡◌, ◌≢◌, ◌<◌, length, true, MatchOption, IfOk};
 ghost use Rattle.nf_rational.specs.Operations.{0ℚ};
-ghost use Rattle.nf_rational.specs.Order.{le_ℚ, lt_ℚ};
 ghost use Rattle.nf_work.specs.declared.Part.TheVariants.{Extend};
 ghost use Rattle.nf_work.specs.Passing.{bound_of, beyond};
 ghost use Rattle.nf_work.specs.Checked.{at_part};
@@ -15,47 +14,19 @@ use nf_frac::{Part, PassedAt, Q, at};
 use nf_graph::LinkId;
 use nf_net::Network;
 
-#[tactic(auto, using(nf_net::proofs::Comparisons::le_by_order))]
-pub(crate) fn is_at_most(left: Q, right: Q) -> bool
-    ensures { result ≡ le_ℚ left right }
-{
-    left <= right
-}
-
-#[tactic(auto, using(nf_net::proofs::Comparisons::below_is))]
-pub(crate) fn is_below(left: Q, right: Q) -> bool
-    ensures { result ≡ lt_ℚ left right }
-{
-    !is_at_most(right, left)
-}
-
-fn is_zero(number: Q) -> bool
-    ensures { result ≡ is_zero_by number }
-{
-    is_at_most(number, Q::zero()) && is_at_most(Q::zero(), number)
-}
-
 // One is above 0 and the other below.
 fn are_opposite(x: Q, y: Q) -> bool
     ensures { result ≡ are_opposite_by x y }
 {
-    is_below(x, Q::zero()) && is_below(Q::zero(), y)
-        || is_below(Q::zero(), x) && is_below(y, Q::zero())
+    x.is_below(Q::zero()) && Q::zero().is_below(y) || Q::zero().is_below(x) && y.is_below(Q::zero())
 }
 
 // The lesser of the lengths so far and one more.
-#[tactic(auto, using(nf_net::proofs::Comparisons::lesser_is))]
 fn lesser(least: Option<Q>, length: Q) -> Option<Q>
     ensures { result ≡ lesser_of least length }
 {
     match least {
-        Some(least) => {
-            if is_at_most(least, length) {
-                Some(least)
-            } else {
-                Some(length)
-            }
-        }
+        Some(least) => Some(least.lesser(length)),
         None => Some(length),
     }
 }
@@ -83,7 +54,7 @@ fn after_link(
 ) -> Result<Option<Q>, PassedAt<Q>>
     ensures { result ≡ at_part Extend (after_link_by (beyond (bound_of 127)) (is_zero_by slack) least slack tail_slope head_slope) }
 {
-    if is_zero(slack) {
+    if slack.is_zero() {
         return Ok(least);
     }
     let change = at!(Part::Extend, head_slope.difference(tail_slope));
@@ -143,6 +114,7 @@ fn next_change(net: &Network, time: Q) -> Option<Q>
     ensures change { result ≡ change_of net.now.net time }
     ensures pieces { ArePieces net.now.net.pieces }
 {
+    // For the proof: the network is that of an accepted file, so its pieces are in order.
     let _ = net.pieces();
     net.next_change(time)
 }

@@ -14,12 +14,8 @@ mod link_phase;
 mod link_steps;
 mod phase;
 mod run;
-#[cfg(test)]
-mod run_tests;
 mod solution;
 mod solving;
-#[cfg(test)]
-mod steps_tests;
 #[cfg(test)]
 mod tests;
 mod traces;

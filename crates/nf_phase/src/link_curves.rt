@@ -15,7 +15,7 @@ use std::alloc::{AllocError, Global};
 use std::marker::Model;
 
 /// What has entered a link and what waits in it, by the time at its tail, and what has left it, by the time at its head.
-#[derive(Drop, Debug)]
+#[derive(Drop)]
 pub(crate) struct LinkCurves {
     inflow: GrowingTrace,
     outflow: GrowingTrace,

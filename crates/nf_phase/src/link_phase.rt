@@ -12,7 +12,7 @@ use std::marker::Model;
 
 /// A link in a phase: the flow that it carries, whether that fills it, the slopes of the labels of its ends, and these labels at
 /// the phase's end.
-#[derive(Clone, Copy, Debug)]
+#[derive(Clone, Copy)]
 pub(crate) struct LinkPhase {
     pub capacity: Option<Q>,
     pub transit: Q,

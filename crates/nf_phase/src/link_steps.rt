@@ -9,7 +9,6 @@ ghost use Rattle.nf_model.specs.Network.{Link as SeenLink, IsLink};
 ghost use Rattle.nf_lists.specs.Signs.{is_positive as is_positive_by};
 ghost use Rattle.nf_lists.specs.CurveList.{rate_over as rate_over_by, size_at as size_at_by, slope_at as slope_at_by, queue_step as queue_step_by, link_step as link_step_by, link_phase as link_phase_of, curve_list};
 
-use crate::lengths::is_below;
 use crate::link_phase::{LinkPhase, link_phase};
 use nf_frac::{Halt, Part, PassedAt, Q, at};
 use nf_graph::{LinkId, LinkSets};
@@ -19,7 +18,7 @@ use std::alloc::Global;
 use std::marker::Model;
 
 /// How a queue goes on: what is in it at the phase's end, and its slope until then, by the time at the tail.
-#[derive(Clone, Copy, Debug, PartialEq, Eq)]
+#[derive(Clone, Copy)]
 pub(crate) struct QueueStep {
     pub size: Q,
     pub slope: Q,
@@ -41,7 +40,7 @@ impl Model for QueueStep {
 /// How a link goes on in a phase: what has entered it by the phase's end; the rates at which flow enters it, by the time at its
 /// tail, and leaves it, by the time at its head; and its queue. Where the label of the tail stands still there is no inflow rate
 /// and no step of the queue, and where that of the head does, no outflow rate.
-#[derive(Clone, Copy, Debug, PartialEq, Eq)]
+#[derive(Clone, Copy)]
 pub(crate) struct LinkStep {
     pub amount: Q,
     pub inflow_rate: Option<Q>,
@@ -65,7 +64,7 @@ impl Model for LinkStep {
 fn is_positive(number: Q) -> bool
     ensures { result ≡ is_positive_by number }
 {
-    is_below(Q::zero(), number)
+    Q::zero().is_below(number)
 }
 
 // The flow over a slope that is above 0.

@@ -2,6 +2,7 @@
 ghost use Rattle.std.specs.Prelude.{◌≡◌, IfOk, IfErr, map};
 ghost use Rattle.nf_rational.specs.Order.{◌<ℚ◌};
 ghost use Rattle.nf_work.specs.Passing.{bound_of, beyond};
+ghost use Rattle.nf_formats.specs.WellNamed.{IsNamed};
 ghost use Rattle.nf_lists.specs.ReportCurves.{amount_so_far};
 ghost use Rattle.nf_phase.specs.Stepping.{Reaches, IsCause};
 ghost use Rattle.nf_phase.specs.Finding.{IsFound, LeadsOn};
@@ -12,7 +13,7 @@ use crate::finding::Found;
 use crate::lengths::extension;
 use crate::link_growth::amounts;
 use crate::link_steps::{LinkStep, link_steps};
-use crate::run::{Run, accepted};
+use crate::run::Run;
 use nf_frac::Q;
 use nf_net::Network;
 use nf_pattern::Pattern;
@@ -41,11 +42,11 @@ impl Run {
         found: Found,
     ) -> Result<Phase, StepFault>
         requires reaches { Reaches (beyond (bound_of 127)) net.now.net self.now }
+        requires named { IsNamed net.now }
         requires found { IsFound (beyond (bound_of 127)) net.now.net horizon patterns self.now found }
         ensures leads { IfOk result (LeadsOn (beyond (bound_of 127)) net.now.net horizon patterns self.now) }
         ensures cause { IfErr result (IsCause (beyond (bound_of 127)) net.now.net horizon patterns self.now) }
     {
-        accepted(net);
         let Found { slacks, sets, thin } = found;
         let Thin {
             flows,
@@ -86,6 +87,7 @@ impl Run {
     ) -> Result<Phase, StepFault>
         requires reaches { Reaches (beyond (bound_of 127)) net.now.net self.now }
         requires below { self.now.time <ℚ horizon }
+        ensures named { IsNamed net.now }
         ensures leads { IfOk result (LeadsOn (beyond (bound_of 127)) net.now.net horizon patterns self.now) }
         ensures cause { IfErr result (IsCause (beyond (bound_of 127)) net.now.net horizon patterns self.now) }
     {

@@ -4,7 +4,6 @@ ghost use Rattle.nf_rational.specs.Order.{◌<ℚ◌};
 ghost use Rattle.nf_work.specs.Passing.{bound_of, beyond};
 ghost use Rattle.nf_model.specs.Entries.{number_at};
 ghost use Rattle.nf_model.specs.Equilibrium.{Equilibrium};
-ghost use Rattle.nf_formats.specs.WellNamed.{IsNamed};
 ghost use Rattle.nf_lists.specs.PhaseRun.{IsStart, Goes, flow_of};
 ghost use Rattle.nf_lists.specs.Ends.{EndsAtLabels};
 ghost use Rattle.nf_run_laws.specs.RunLaws.{IsShortFlow, KeepsLabels, reached_by};
@@ -52,13 +51,6 @@ impl Model for Run {
     } };
 }
 
-// The network is that of an accepted file.
-pub(crate) fn accepted(net: &Network)
-    ensures { IsNamed net.now }
-{
-    let _ = net.version();
-}
-
 // The label of the source is the departure.
 fn departure_in(net: &Network, labels: &[Q]) -> Q
     requires { length labels.now ≡ net.now.net.nodes }
@@ -77,7 +69,8 @@ impl Run {
         ensures labels { IfOk result (KeepsLabels net.now.net) }
         ensures short { IfOk result (λ run. IsShortFlow net.now.net (flow_of run)) }
     {
-        accepted(net);
+        // For the proof: the network is that of an accepted file.
+        let _ = net.version();
         let labels = start_labels(alloc, net)?;
         let label_curves = first_labels(alloc, &labels)?;
         let link_curves = first_links(alloc, net, &labels)?;
@@ -108,14 +101,13 @@ impl Run {
         ensures goes { OnOk result (Goes (beyond (bound_of 127)) net.now.net horizon patterns self.old self.new) }
         ensures only { OnOk result (LeadsOnlyTo net.now.net horizon (reached_by self.old) (reached_by self.new)) }
         ensures reaches { Reaches (beyond (bound_of 127)) net.now.net self.new }
-        ensures equilibrium { OnOk result (Equilibrium net.now.net (flow_of self.new)) }
-        ensures ends { OnOk result (EndsAtLabels net.now.net self.new) }
-        ensures labels { OnOk result (KeepsLabels net.now.net self.new) }
-        ensures short { OnOk result (IsShortFlow net.now.net (flow_of self.new)) }
+        ensures equilibrium { Equilibrium net.now.net (flow_of self.new) }
+        ensures ends { EndsAtLabels net.now.net self.new }
+        ensures labels { KeepsLabels net.now.net self.new }
+        ensures short { IsShortFlow net.now.net (flow_of self.new) }
         ensures kept { OnErr result (self.new ≡ self.old) }
         ensures cause { IfErr result (IsCause (beyond (bound_of 127)) net.now.net horizon patterns self.old) }
     {
-        accepted(net);
         let phase = self.phase(alloc, net, horizon, patterns)?;
         reserve_labels(&mut self.label_curves)?;
         reserve_links(&mut self.link_curves)?;

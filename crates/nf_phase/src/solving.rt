@@ -10,8 +10,7 @@ ghost use Rattle.nf_phase.specs.Solution.{IsSolution, bounds_of, report_in, caus
 
 use crate::fault::StepFault;
 use crate::growth::{finish_labels, finish_links};
-use crate::lengths::is_below;
-use crate::run::{Run, accepted};
+use crate::run::Run;
 use crate::solution::{Budgets, Solution};
 use nf_curve::{Flow, Stop};
 use nf_frac::Q;
@@ -57,14 +56,14 @@ impl Run {
     pub(crate) fn is_at(&self, horizon: Q) -> bool
         ensures { MatchBool result (horizon ≤ℚ self.now.time) (self.now.time <ℚ horizon) }
     {
-        !is_below(self.reached, horizon)
+        !self.reached.is_below(horizon)
     }
 
     // Why the run stops after as many phases as allowed; None where it has reached the horizon.
     fn stop_after_all(&self, horizon: Q) -> Option<Stop>
         ensures { result ≡ stop_after (lt_ℚ self.now.time horizon) self.now.made }
     {
-        if is_below(self.reached, horizon) {
+        if self.reached.is_below(horizon) {
             Some(Stop::Phases { made: self.made })
         } else {
             None
@@ -139,7 +138,8 @@ pub fn solve(
     requires { 0ℚ ≤ℚ horizon }
     ensures { IfOk result (λ s. IsSolution net.now.net (bounds_of horizon budgets) s.phases (report_in horizon s)) }
 {
-    accepted(net);
+    // For the proof: the network is that of an accepted file.
+    let _ = net.version();
     let mut run = Run::start(alloc, net)?;
     let stopped = run.go(alloc, net, horizon, budgets)?;
     run.solution(alloc, stopped)

@@ -16,7 +16,7 @@ use std::marker::Model;
 
 /// A trace that grows, in short form: its curve, and the rates of the pieces between its corners. The rate of the last piece is
 /// the slope of the curve's end.
-#[derive(Drop, Debug)]
+#[derive(Drop)]
 pub(crate) struct GrowingTrace {
     curve: GrowingCurve,
     rates: Vec<Q>,

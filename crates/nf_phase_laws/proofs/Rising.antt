@@ -29,9 +29,6 @@ le_along a b c d e f h = linear_le (a ∷ b ∷ c ∷ d ∷ []) (eq e ∷ eq f �
 
 module _ (f g : ℚ → ℚ) (a l d r x : ℚ) (begins : 0ℚ ≤ℚ a) (slope_nn : 0ℚ ≤ℚ l) (flow_nn : 0ℚ ≤ℚ x) (time_nn : 0ℚ ≤ℚ d) (rises : NeverFalls f) (same : (t : ℚ) → Within 0ℚ a t → g t ≡ f t)
     (rate_is : r *ℚ l ≡ x) (line : IsAffine g a (a +ℚ l *ℚ d) r) (ends : (t : ℚ) → a +ℚ l *ℚ d ≤ℚ t → g t ≡ g (a +ℚ l *ℚ d)) where
-  last : a ≤ℚ a +ℚ l *ℚ d
-  last = linear_le (a ∷ l ∷ d ∷ []) (le_times slope_nn time_nn ∷ []) (search reading_of depth 12) tt
-
   on_piece : (s t : ℚ) → a ≤ℚ s → s ≤ℚ t → t ≤ℚ a +ℚ l *ℚ d → g s ≤ℚ g t
   on_piece s t h k i = piece_rises (g s) (g t) (g a) a s t l d r x (line.line s h (≤ℚ_trans _ _ _ k i)) (line.line t (≤ℚ_trans _ _ _ h k) i) h k i slope_nn flow_nn rate_is
 

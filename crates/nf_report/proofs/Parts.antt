@@ -76,9 +76,6 @@ module _ (key : List ℕ) (name : Name) where
       → (point_lines key name (take i points) ++ point_line key name p ∷ []) ++ point_lines key name (drop (suc i) points) ≡ point_lines key name points
   point_lines_left points i p h = ap (λ l. l ++ point_lines key name (drop (suc i) points)) (point_next points i p h) ∙ point_parted points (suc i)
 
-  pub point_lines_all : (points : List (ℚ × ℚ)) (i : ℕ) → i ≡ length points → point_lines key name (take i points) ≡ point_lines key name points
-  point_lines_all points i e = ap (λ n. point_lines key name (take n points)) e ∙ ap (λ l. point_lines key name l) (take-length points)
-
   -- with rates
   trace_next : (points : List (ℚ × ℚ)) (rates : List ℚ) (i : ℕ) (p : ℚ × ℚ) → slice_get points i ≡ Some p
       → trace_lines key name (take i points) rates ++ trace_line key name p (slice_get rates i) ∷ [] ≡ trace_lines key name (take (suc i) points) rates
@@ -111,9 +108,6 @@ module _ (key : List ℕ) (name : Name) where
   trace_lines_left points rates i p rate h e =
       ap (λ r. (trace_lines key name (take i points) rates ++ trace_line key name p r ∷ []) ++ trace_lines key name (drop (suc i) points) (drop (suc i) rates)) e
       ∙ ap (λ l. l ++ trace_lines key name (drop (suc i) points) (drop (suc i) rates)) (trace_next points rates i p h) ∙ trace_parted points rates (suc i)
-
-  pub trace_lines_all : (points : List (ℚ × ℚ)) (rates : List ℚ) (i : ℕ) → i ≡ length points → trace_lines key name (take i points) rates ≡ trace_lines key name points rates
-  trace_lines_all points rates i e = ap (λ n. trace_lines key name (take n points) rates) e ∙ ap (λ l. trace_lines key name l rates) (take-length points)
 
 -- ---- for each number below a count
 number_there : (a n i : ℕ) → i < n → slice_get (range_with_len a n) i ≡ Some (a + i)

@@ -72,9 +72,6 @@ module _ (slacks slopes : List ℚ) where
       (after_limits P (is_zero (number_at slacks k)) least one.0 (number_at slacks k) (number_at slopes link.tail) (number_at slopes link.head) refl p one.1) one.2)
 
 -- ---- the next inflow change
-same_start : (x y t : ℚ) → t <ℚ x → x <ℚ y → t <ℚ y
-same_start x y t h k = linear_lt (x ∷ y ∷ t ∷ []) (lt h ∷ lt k ∷ []) (search reading_of depth 12) tt
-
 fits : (t x y l : ℚ) → x ≤ℚ y → l ≤ℚ x -ℚ t → (t +ℚ l) ≤ℚ y
 fits t x y l h k = linear_le (t ∷ x ∷ y ∷ l ∷ []) (le h ∷ le k ∷ []) (search reading_of depth 12) tt
 

@@ -33,9 +33,6 @@ module _ (net : Network) (good : IsNetwork net) (s : Standing) (well : WellRun n
   now : Within 0ℚ s.time s.time
   now = (grown_at.stands.holds.begun, ≤ℚ_refl s.time)
 
-  pub begun_at : 0ℚ ≤ℚ s.time
-  begun_at = grown_at.stands.holds.begun
-
   pub label_count_at : length s.labels ≡ net.nodes
   label_count_at = grown_at.stands.count
 
@@ -47,9 +44,6 @@ module _ (net : Network) (good : IsNetwork net) (s : Standing) (well : WellRun n
   pub unbounded_slack_at : (e : ℕ) (link : Link) → IsLink net e link → link.capacity ≡ None → slack s.labels (hop_of link) ≤ℚ 0ℚ
   unbounded_slack_at e link p none = subst (λ (x : ℚ). x ≤ℚ 0ℚ)
       (sym (slack-is net (at curves.inflows) (at curves.labels) s.time s.labels good grown_at.stands.holds grown_at.stands.same e link p)) (grown_at.stands.holds.unbounded e link s.time p none now)
-
-  ended : (points points' : List Point) (last : Point) (label : ℚ) → points' ≡ points → LastPoint points' last → last.0 ≡ label → end_of points ≡ label
-  ended points points' last label e l f = ap end_of (sym e) ∙ end-last points' last l ∙ f
 
   pub ends_at : EndsAtLabels net s
   ends_at = record {

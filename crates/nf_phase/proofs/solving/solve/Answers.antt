@@ -6,5 +6,5 @@ use Rattle.nf_phase.proofs.solving.solve.Goals as goal
 
 pub returns : goal.returns
 returns c =
-    solved (beyond (bound_of 127)) c.args.net.now.net (bounds_of c.args.horizon c.args.budgets) c.accepted.ensures.network c.requires refl c.go.new.self c.in_ok-stopped.stopped c.in_ok-stopped.ensures c.solution.result
+    solved (beyond (bound_of 127)) c.args.net.now.net (bounds_of c.args.horizon c.args.budgets) c.version.ensures.named.network c.requires refl c.go.new.self c.in_ok-stopped.stopped c.in_ok-stopped.ensures c.solution.result
     c.solution.ensures.flow c.solution.ensures.phases c.solution.ensures.last c.solution.ensures.stopped

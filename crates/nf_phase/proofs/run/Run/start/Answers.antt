@@ -20,31 +20,13 @@ returns-clause-reaches c =
     })
 
 pub returns-clause-equilibrium : goal.returns-clause-equilibrium
-returns-clause-equilibrium c =
-    equilibrium_reached (beyond (bound_of 127)) c.args.net.now.net c.accepted.ensures.network _ (starts (record {
-      time = c.zero.ensures;
-      labels = c.in_ok-labels.ensures;
-      label_curves = c.in_ok-label_curves.ensures ∙ ap (map first_label_curve) c.deref.ensures.value;
-      link_curves = c.in_ok-link_curves.ensures ∙ ap (λ (l : List ℚ). map (first_curves l) c.args.net.now.net.links) c.deref-2.ensures.value;
-      made = refl;
-      last = c.in_ok-last.ensures ∙ ap (λ (n : ℕ). replicate n None) c.link_count.ensures;
-    }))
+returns-clause-equilibrium c = equilibrium_reached (beyond (bound_of 127)) c.args.net.now.net c.version.ensures.named.network _ (returns-clause-reaches c)
 
 pub returns-clause-ends : goal.returns-clause-ends
-returns-clause-ends c =
-    ends_reached (beyond (bound_of 127)) c.args.net.now.net c.accepted.ensures.network _ (starts (record {
-      time = c.zero.ensures;
-      labels = c.in_ok-labels.ensures;
-      label_curves = c.in_ok-label_curves.ensures ∙ ap (map first_label_curve) c.deref.ensures.value;
-      link_curves = c.in_ok-link_curves.ensures ∙ ap (λ (l : List ℚ). map (first_curves l) c.args.net.now.net.links) c.deref-2.ensures.value;
-      made = refl;
-      last = c.in_ok-last.ensures ∙ ap (λ (n : ℕ). replicate n None) c.link_count.ensures;
-    }))
+returns-clause-ends c = ends_reached (beyond (bound_of 127)) c.args.net.now.net c.version.ensures.named.network _ (returns-clause-reaches c)
 
 pub returns-clause-labels : goal.returns-clause-labels
-returns-clause-labels c =
-    keeps_reached (beyond (bound_of 127)) c.args.net.now.net c.accepted.ensures.network _ (returns-clause-reaches c)
+returns-clause-labels c = keeps_reached (beyond (bound_of 127)) c.args.net.now.net c.version.ensures.named.network _ (returns-clause-reaches c)
 
 pub returns-clause-short : goal.returns-clause-short
-returns-clause-short c =
-    short_reached (beyond (bound_of 127)) c.args.net.now.net c.accepted.ensures.network _ (returns-clause-reaches c)
+returns-clause-short c = short_reached (beyond (bound_of 127)) c.args.net.now.net c.version.ensures.named.network _ (returns-clause-reaches c)
