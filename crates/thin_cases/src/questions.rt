@@ -146,6 +146,9 @@ pub fn balances(alloc: Global, fields: Fields) -> Option<String> {
         return None;
     }
     let full = full_flows(alloc, &net, &slopes).ok()?;
+    if full.len() != net.link_count() as usize {
+        return None;
+    }
     let balance = balances_of(&net, &sets, rate, &full, &pattern);
     format!(in alloc; "{balance}").ok()
 }
