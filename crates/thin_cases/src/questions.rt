@@ -172,6 +172,8 @@ fn can_balance(
     if full.len() != net.link_count() as usize {
         return None;
     }
+    // For the proof: the network is well formed.
+    let _ = net.hops();
     Some(balances_of(net, sets, rate, &full, pattern))
 }
 
