@@ -1,5 +1,8 @@
 // Slacks, link sets, patterns, and what holds of one pattern.
 ghost use Rattle.std.specs.Prelude.{◌≡◌, length};
+ghost use Rattle.nf_model.specs.Network.{unbounded};
+ghost use Rattle.nf_model.specs.Pattern.{IsPattern};
+ghost use Rattle.nf_thin.specs.Searching.{AreSetsOf};
 
 use crate::asking::{Fields, network, number, numbers, pattern};
 use crate::phases::phase;
@@ -7,7 +10,7 @@ use crate::telling::{passed, put_all};
 use nf_frac::{Halt, Q};
 use nf_graph::LinkSets;
 use nf_net::Network;
-use nf_pattern::Patterns;
+use nf_pattern::{Pattern, Patterns};
 use nf_thin::parts::{balances as balances_of, full_flows, group_values, listing};
 use nf_thin::{Judged, verdict as verdict_of};
 use std::alloc::Global;
@@ -74,20 +77,34 @@ pub fn patterns(alloc: Global, fields: Fields) -> Option<String> {
     listed(alloc, patterns, 100)
 }
 
-/// The verdict on a pattern: its states, its flows and then its slopes, the slacks and the network.
-pub fn verdict(alloc: Global, fields: Fields) -> Option<String> {
-    let numbers = numbers(alloc, fields.second)?;
-    let net = network(alloc, fields.fourth)?;
-    let (sets, pattern) = phase(alloc, &net, fields.third, fields.first)?;
+// The verdict on these numbers: flows, and then slopes.
+fn verdict_text(
+    alloc: Global,
+    net: &Network,
+    sets: &LinkSets,
+    pattern: &Pattern,
+    numbers: &[Q],
+) -> Option<String>
+    requires sets { AreSetsOf net.now.net sets.now }
+    requires pattern { IsPattern sets.now (unbounded net.now.net) pattern.now }
+{
     let links = net.link_count() as usize;
     if numbers.len() != links + net.node_count() as usize {
         return None;
     }
     let (flows, slopes) = (&numbers[..links], &numbers[links..]);
-    match verdict_of(&net, &sets, &pattern, flows, slopes) {
+    match verdict_of(net, sets, pattern, flows, slopes) {
         Ok(judged) => format!(in alloc; "{judged:?}").ok(),
         Err(at) => passed(alloc, at),
     }
+}
+
+/// The verdict on a pattern: its states, its flows and then its slopes, the slacks and the network.
+pub fn verdict(alloc: Global, fields: Fields) -> Option<String> {
+    let numbers = numbers(alloc, fields.second)?;
+    let net = network(alloc, fields.fourth)?;
+    let (sets, pattern) = phase(alloc, &net, fields.third, fields.first)?;
+    verdict_text(alloc, &net, &sets, &pattern, &numbers)
 }
 
 // The slopes and flows of a pattern with these states.
@@ -136,16 +153,36 @@ pub fn values(alloc: Global, fields: Fields) -> Option<String> {
     values_texts(alloc, &net, &sets, rate, fields.second)
 }
 
+// Whether the nodes can balance at these slopes.
+fn can_balance(
+    alloc: Global,
+    net: &Network,
+    sets: &LinkSets,
+    rate: Q,
+    pattern: &Pattern,
+    slopes: &[Q],
+) -> Option<bool>
+    requires sets { AreSetsOf net.now.net sets.now }
+    requires pattern { IsPattern sets.now (unbounded net.now.net) pattern.now }
+{
+    if slopes.len() != net.node_count() as usize {
+        return None;
+    }
+    let full = full_flows(alloc, net, slopes).ok()?;
+    if full.len() != net.link_count() as usize {
+        return None;
+    }
+    // For the proof: the network is well formed.
+    let _ = net.hops();
+    Some(balances_of(net, sets, rate, &full, pattern))
+}
+
 /// Whether nodes can balance: a rate, the states of links, their slacks, the slopes of nodes, and the network.
 pub fn balances(alloc: Global, fields: Fields) -> Option<String> {
     let rate = number(fields.first)?;
     let slopes = numbers(alloc, fields.fourth)?;
     let net = network(alloc, fields.fifth)?;
     let (sets, pattern) = phase(alloc, &net, fields.third, fields.second)?;
-    if slopes.len() != net.node_count() as usize {
-        return None;
-    }
-    let full = full_flows(alloc, &net, &slopes).ok()?;
-    let balance = balances_of(&net, &sets, rate, &full, &pattern);
+    let balance = can_balance(alloc, &net, &sets, rate, &pattern, &slopes)?;
     format!(in alloc; "{balance}").ok()
 }
