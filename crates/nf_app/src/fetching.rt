@@ -3,11 +3,8 @@ ghost use Rattle.nf_app.specs.Fetching.{IsFetched};
 
 use crate::refusal::Refusal;
 use nf_edge::Shelf;
-use nf_net::{Network, parse};
+use nf_net::{LONGEST_FILE, Network, parse};
 use std::alloc::Global;
-
-/// The most bytes that a network file may have.
-const FILE_LIMIT: u32 = 1_048_576;
 
 /// Fetches a file, and reads it as a network.
 pub(crate) fn fetch_network<S: Shelf>(
@@ -25,7 +22,7 @@ pub(crate) fn fetch_network<S: Shelf>(
       taken = S.taken shelf.new;
     }) result }
 {
-    let text = shelf.fetch(alloc, file, FILE_LIMIT)?;
+    let text = shelf.fetch(alloc, file, LONGEST_FILE)?;
     let net = parse(alloc, &text)?;
     Ok(net)
 }

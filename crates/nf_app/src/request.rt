@@ -38,7 +38,7 @@ impl<'w> Request<'w> {
 }
 
 // A horizon is a number of at least 0.
-#[tactic(auto, using(nf_net::proofs::Comparisons::le_by_order))]
+#[tactic(auto, using(nf_frac::proofs::Comparisons::le_by_order))]
 fn read_horizon(word: &str) -> Option<Q>
     ensures value { result ≡ horizon_of word.now }
     ensures at_least_0 { IfSome result (λ horizon. 0ℚ ≤ℚ horizon) }

@@ -1,5 +1,4 @@
 pub mod NameText
-pub mod Comparisons
 pub mod Limits
 pub mod Supplied
 pub mod LineWords

@@ -18,6 +18,7 @@ use Rattle.nf_curve.specs.Points.{last_time}
 use Rattle.nf_phase.specs.declared.growing.End.{End}
 use Rattle.nf_phase.specs.Growing.{points_to, corners_by, IsAfter, AreBefore, rates_by, end_value}
 use Rattle.nf_plain_laws.proofs.Entries.{last-append}
+use Rattle.nf_rational_laws.proofs.Chains.{<ℚ_trans}
 
 -- ---- the last point
 last_time-end : (points : List Point) → last_time points ≡ end_of points
@@ -42,12 +43,10 @@ value_at_last points k p h e = sym (ap (λ (o : Option Point). option_map_or (λ
     last_at o (x ∷ y ∷ rest) (suc k) p h e = last_at (Some x) (y ∷ rest) k p h (omega arith)
 
 -- ---- a new end
-below_below : (x y z : ℚ) → x <ℚ y → y <ℚ z → x <ℚ z
-below_below x y z h k = linear_lt (x ∷ y ∷ z ∷ []) (lt h ∷ lt k ∷ []) (search reading_of depth 12) tt
 
 pub still_after : (goes : Bool) (corners : List Point) (end : Option End) (time : ℚ) → IsAfter corners end → end_of (points_to corners end) <ℚ time → last_time (corners_by goes corners end) <ℚ time
 still_after true corners None time after later = subst (λ (t : ℚ). t <ℚ time) (sym (last_time-end corners)) later
-still_after true corners (Some e) time after later = below_below _ e.time time after (subst (λ (t : ℚ). t <ℚ time) (end-append corners (e.time, e.value)) later)
+still_after true corners (Some e) time after later = <ℚ_trans _ e.time time after (subst (λ (t : ℚ). t <ℚ time) (end-append corners (e.time, e.value)) later)
 still_after false corners end time after later = subst (λ (t : ℚ). t <ℚ time) (sym (last_time-end (points_to corners end))) later
 
 -- ---- a new rate

@@ -10,13 +10,12 @@ use Rattle.nf_rational_laws.proofs.Polynomial.{reading_of}
 use Rattle.nf_rational_laws.proofs.Order.{≤ℚ_of_same, <ℚ_irrefl}
 use Rattle.nf_rational_laws.proofs.Tests.{min_ℚ_cases}
 use Rattle.nf_rational_laws.proofs.Linear.{le, lt, eq, linear_le}
-use Rattle.nf_work.specs.Passing.{Passing, beyond}
+use Rattle.nf_work.specs.Passing.{Passing, passes_Q}
 use Rattle.nf_model.specs.Network.{Link, Network, IsNetwork, hops}
 use Rattle.nf_model.specs.ThinFlow.{slacks_of}
 use Rattle.nf_model.specs.Phases.{IsPhaseLength}
 use Rattle.nf_model.specs.Equilibrium.{Equilibrium}
 use Rattle.nf_formats.specs.declared.Cause.{Cause}
-use Rattle.nf_formats.specs.Numbers.{greatest}
 use Rattle.nf_formats.specs.Report.{Report, IsWellFormed}
 use Rattle.nf_formats_laws.proofs.ReportFacts.{well_formed}
 use Rattle.nf_lists.specs.PhaseRun.{Standing, Bounds, Goes, Fails, at_slack, at_search, at_lists, Runs, at_horizon, at_phases, fails, goes, IsPhaseRun, flow_of, report_of}
@@ -82,7 +81,7 @@ module _ (passes : Passing) (net : Network) (bounds : Bounds) where
       ∙ ap (λ (c : Option ℚ). Some (is_none c)) none) full)
 
   -- ---- the solution
-  pub solution_of : IsNetwork net → 0ℚ ≤ℚ bounds.horizon → passes ≡ beyond greatest → (last : Standing) (stop : Option (Cause ℚ)) → IsPhaseRun passes net bounds last stop
+  pub solution_of : IsNetwork net → 0ℚ ≤ℚ bounds.horizon → passes ≡ passes_Q → (last : Standing) (stop : Option (Cause ℚ)) → IsPhaseRun passes net bounds last stop
       → (phases : ℕ) (report : Report) → phases ≡ last.made → report ≡ report_of bounds.horizon last stop → IsSolution net bounds phases report
   solution_of good begins bound last stop run phases report count is = record {
     well_formed = subst (IsWellFormed net) (sym is) (well_formed_run good begins last stop run);
@@ -94,7 +93,7 @@ module _ (passes : Passing) (net : Network) (bounds : Bounds) where
     short = subst (λ (r : Report). IsShortFlow net r.flow) (sym is) (run_short passes net good bounds last stop run);
   }
 
-  pub solved : IsNetwork net → 0ℚ ≤ℚ bounds.horizon → passes ≡ beyond greatest → (last : Standing) (stop : Option (Cause ℚ)) → IsPhaseRun passes net bounds last stop → {E : Type 0} (result : Result Solution E)
+  pub solved : IsNetwork net → 0ℚ ≤ℚ bounds.horizon → passes ≡ passes_Q → (last : Standing) (stop : Option (Cause ℚ)) → IsPhaseRun passes net bounds last stop → {E : Type 0} (result : Result Solution E)
       → IfOk result (λ s. flow_in s.flow ≡ flow_of last) → IfOk result (λ s. s.phases ≡ last.made) → IfOk result (λ s. s.last ≡ last.last) → IfOk result (λ s. s.stopped ≡ stop)
       → IfOk result (λ s. IsSolution net bounds s.phases (report_in bounds.horizon s))
   solved good begins bound last stop run (Ok s) flow phases states stops =

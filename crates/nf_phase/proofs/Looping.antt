@@ -12,11 +12,7 @@ use Rattle.nf_lists.specs.Extend.{least_after}
 use Rattle.nf_lists_laws.proofs.Ending.{enumerated}
 use Rattle.nf_thin.proofs.Folds.{goes_on, stops_in, ends, part_ok}
 use Rattle.nf_phase.specs.Lengths.{after_all}
-use Rattle.nf_plain_laws.proofs.Entries.{entry}
-
-length-enumerated : (k : ℕ) (xs : List Link) → length (enumerate_from k xs) ≡ length xs
-length-enumerated k [] = refl
-length-enumerated k (x ∷ xs) = ap suc (length-enumerated (k + 1) xs)
+use Rattle.nf_plain_laws.proofs.Entries.{entry, length-enumerated}
 
 module _ (passes : Passing) (net : Network) (slacks slopes : List ℚ) where
   abbrev whole : List (ℕ × Link)

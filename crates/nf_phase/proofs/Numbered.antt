@@ -13,9 +13,7 @@ use Rattle.nf_work.specs.Checked.{each, at_part, placed}
 use Rattle.nf_work.proofs.Each.{with_front, each_ok, each_err}
 use Rattle.nf_lists_laws.proofs.Ending.{enumerated}
 use Rattle.nf_thin.proofs.Folds.{drop_at, part_ok}
-
-same_fault : {B : Type 0} (p q : PassedAt ℚ) → ◌≡◌ {A = Result B (PassedAt ℚ)} (Err p) (Err q) → p ≡ q
-same_fault p q e = cc
+use Rattle.nf_plain_laws.proofs.Results.{same_Err}
 
 module _ {A B : Type 0} (f : ℕ × A → Result B (Passed ℚ)) (xs : List A) where
   abbrev pub SoFar : List B → ℕ → Type 0
@@ -40,7 +38,7 @@ module _ {A B : Type 0} (f : ℕ × A → Result B (Passed ℚ)) (xs : List A) w
       where
         go : (r : Result B (Passed ℚ)) → f (i, x) ≡ r → ◌≡◌ {A = Result B (PassedAt ℚ)} (Err p) (at_part part r) → at_part part (each f (enumerate_from 0 xs)) ≡ Err p
         go (Ok y) e k = absurd (cc)
-        go (Err q) e k = ap (at_part part) (so_now ∙ each_err f front (i, x) (drop (suc i) (enumerate_from 0 xs)) q e) ∙ ap Err (same_fault {B = B} (placed part q) p (sym k))
+        go (Err q) e k = ap (at_part part) (so_now ∙ each_err f front (i, x) (drop (suc i) (enumerate_from 0 xs)) q e) ∙ ap Err (same_Err {B = B} (placed part q) p (sym k))
 
   -- after the last
   pub all_done : (part : Part) (front : List B) (i : ℕ) → length xs ≤ i → SoFar front i → at_part part (each f (enumerate_from 0 xs)) ≡ Ok front

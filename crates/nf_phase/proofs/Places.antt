@@ -8,17 +8,9 @@ use Rattle.nf_model.specs.Curve.{Point}
 use Rattle.nf_model.specs.Equilibrium.{Trace}
 use Rattle.nf_lists.specs.ReportCurves.{LinkCurves}
 use Rattle.nf_phase.specs.Growing.{Roomy, HasRoom, AllHaveRoom, all_grown}
+use Rattle.nf_plain_laws.proofs.Naturals.{before_or_at}
 
 -- ---- places of lists
-before_or_at : (k i : ℕ) → k < i + 1 → (k < i) ⊎ (k ≡ i)
-before_or_at zero zero b = inr refl
-before_or_at zero (suc i) b = inl (omega arith)
-before_or_at (suc k) zero b = absurd (omega arith)
-before_or_at (suc k) (suc i) b = shifted (before_or_at k i (omega arith))
-  where
-    shifted : (k < i) ⊎ (k ≡ i) → (suc k < suc i) ⊎ (suc k ≡ suc i)
-    shifted (inl h) = inl (omega arith)
-    shifted (inr e) = inr (ap suc e)
 
 module _ {A : Type 0} where
   at_set : (xs : List A) (i : ℕ) (y : A) → i < length xs → slice_get (set xs i y) i ≡ Some y

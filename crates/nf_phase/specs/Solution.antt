@@ -1,12 +1,11 @@
 -- What solving to a horizon answers.
 use Rattle.std.specs.Prelude.{◌≡◌, ℕ, suc, Bool, if◌then◌else◌, List, length, Option, Some, None, slice_get}
 use Rattle.nf_rational.specs.Rational.{ℚ}
-use Rattle.nf_work.specs.Passing.{beyond}
+use Rattle.nf_work.specs.Passing.{passes_Q}
 use Rattle.nf_model.specs.Network.{Network}
 use Rattle.nf_model.specs.Phases.{IsPhaseSequence}
 use Rattle.nf_model.specs.Equilibrium.{Equilibrium}
 use Rattle.nf_formats.specs.declared.Cause.{Cause}
-use Rattle.nf_formats.specs.Numbers.{greatest}
 use Rattle.nf_formats.specs.Report.{Report, IsWellFormed}
 use Rattle.nf_lists.specs.PhaseRun.{Standing, Bounds, IsRunReport}
 use Rattle.nf_run_laws.specs.RunLaws.{IsShortFlow, KeepsLabels, reached_by}
@@ -47,7 +46,7 @@ EndsAll net horizon last = (phases : List (ℚ × List ℚ)) → IsPhaseSequence
 pub record IsSolution (net : Network) (bounds : Bounds) (phases : ℕ) (report : Report) : Type 0 where
   pub well_formed : IsWellFormed net report
   pub equilibrium : Equilibrium net report.flow
-  pub run : IsRunReport (beyond greatest) net bounds report
+  pub run : IsRunReport passes_Q net bounds report
   pub made : run.last.made ≡ phases
   pub ends : EndsAll net bounds.horizon run.last
   pub labels : KeepsLabels net run.last

@@ -1,7 +1,7 @@
 // The length of a phase, and the labels at its end.
 ghost use Rattle.std.specs.Prelude.{◌≡◌, ◌<◌, length as count_of};
 ghost use Rattle.nf_work.specs.declared.Part.TheVariants.{Advance};
-ghost use Rattle.nf_work.specs.Passing.{bound_of, beyond};
+ghost use Rattle.nf_work.specs.Passing.{passes_Q};
 ghost use Rattle.nf_work.specs.Checked.{at_part, Gives};
 ghost use Rattle.nf_lists.specs.Advance.{cut_at, label_after as label_after_by, labels_after as labels_after_by, advance_list};
 
@@ -40,7 +40,7 @@ fn cut(left: Q, extension: Option<Q>) -> Q
 // The label of a node after a phase of this length.
 fn label_after(length: Q, slopes: &[Q], node: usize, label: Q) -> Result<Q, PassedAt<Q>>
     requires { node < count_of slopes.now }
-    ensures { result ≡ at_part Advance (label_after_by (beyond (bound_of 127)) length slopes.now (node, label)) }
+    ensures { result ≡ at_part Advance (label_after_by passes_Q length slopes.now (node, label)) }
 {
     let change = at!(Part::Advance, length.product(slopes[node]));
     let moved = at!(Part::Advance, label.sum(change));
@@ -51,7 +51,7 @@ fn label_after(length: Q, slopes: &[Q], node: usize, label: Q) -> Result<Q, Pass
 fn labels_after(alloc: Global, length: Q, labels: &[Q], slopes: &[Q]) -> Result<Vec<Q>, Halt<Q>>
     requires { count_of slopes.now ≡ count_of labels.now }
     ensures { Gives (λ moved. moved.items) (λ q. q) result
-        (at_part Advance (labels_after_by (beyond (bound_of 127)) length labels.now slopes.now)) }
+        (at_part Advance (labels_after_by passes_Q length labels.now slopes.now)) }
 {
     let mut moved = Vec::new(alloc);
     for (v, label) in labels.iter().enumerate() {
@@ -74,7 +74,7 @@ pub(crate) fn advance(
 ) -> Result<Advanced, Halt<Q>>
     requires { count_of slopes.now ≡ count_of labels.now }
     ensures { Gives (λ advanced. advanced) (λ q. q) result
-        (at_part Advance (advance_list (beyond (bound_of 127)) horizon time extension labels.now slopes.now)) }
+        (at_part Advance (advance_list passes_Q horizon time extension labels.now slopes.now)) }
 {
     let left = at!(Part::Advance, horizon.difference(time));
     let length = cut(left, extension);

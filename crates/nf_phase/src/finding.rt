@@ -2,7 +2,7 @@
 ghost use Rattle.std.specs.Prelude.{◌≡◌, Ok, IfOk, OnOk, IfErr};
 ghost use Rattle.nf_rational.specs.Rational.{ℚ};
 ghost use Rattle.nf_rational.specs.Order.{◌<ℚ◌};
-ghost use Rattle.nf_work.specs.Passing.{bound_of, beyond};
+ghost use Rattle.nf_work.specs.Passing.{passes_Q};
 ghost use Rattle.nf_model.specs.Network.{hops as hops_of};
 ghost use Rattle.nf_model.specs.ThinFlow.{slacks_of, sets_at};
 ghost use Rattle.nf_formats.specs.WellNamed.{IsNamed};
@@ -39,12 +39,12 @@ impl Run {
         horizon: Q,
         patterns: u64,
     ) -> Result<Vec<Q>, StepFault>
-        requires reaches { Reaches (beyond (bound_of 127)) net.now.net self.now }
+        requires reaches { Reaches passes_Q net.now.net self.now }
         requires below { self.now.time <ℚ horizon }
         ensures named { IsNamed net.now }
         ensures slacks { IfOk result (λ slacks. slacks.items ≡ slacks_of (hops_of net.now.net) self.now.labels) }
-        ensures list { OnOk result (slack_list (beyond (bound_of 127)) (hops_of net.now.net) self.now.labels ≡ Ok (slacks_of (hops_of net.now.net) self.now.labels)) }
-        ensures cause { IfErr result (IsCause (beyond (bound_of 127)) net.now.net horizon patterns self.now) }
+        ensures list { OnOk result (slack_list passes_Q (hops_of net.now.net) self.now.labels ≡ Ok (slacks_of (hops_of net.now.net) self.now.labels)) }
+        ensures cause { IfErr result (IsCause passes_Q net.now.net horizon patterns self.now) }
     {
         let slacks = slacks(alloc, net.hops(), &self.labels)?;
         Ok(slacks)
@@ -58,9 +58,9 @@ impl Run {
         sets: &LinkSets,
         patterns: u64,
     ) -> Result<Thin, SearchFault>
-        requires reaches { Reaches (beyond (bound_of 127)) net.now.net self.now }
+        requires reaches { Reaches passes_Q net.now.net self.now }
         requires sets { sets.now ≡ sets_at net.now.net self.now.labels }
-        ensures { (horizon : ℚ) → Searches (IsSearchHere (beyond (bound_of 127)) net.now.net horizon patterns self.now) patterns result }
+        ensures { (horizon : ℚ) → Searches (IsSearchHere passes_Q net.now.net horizon patterns self.now) patterns result }
     {
         let base = base(alloc, net.node_count(), net.hops(), sets, &self.last)?;
         search(alloc, net, sets, net.rate_at(self.reached), &base, patterns)
@@ -74,11 +74,11 @@ impl Run {
         horizon: Q,
         patterns: u64,
     ) -> Result<Found, StepFault>
-        requires reaches { Reaches (beyond (bound_of 127)) net.now.net self.now }
+        requires reaches { Reaches passes_Q net.now.net self.now }
         requires below { self.now.time <ℚ horizon }
         ensures named { IsNamed net.now }
-        ensures found { IfOk result (IsFound (beyond (bound_of 127)) net.now.net horizon patterns self.now) }
-        ensures cause { IfErr result (IsCause (beyond (bound_of 127)) net.now.net horizon patterns self.now) }
+        ensures found { IfOk result (IsFound passes_Q net.now.net horizon patterns self.now) }
+        ensures cause { IfErr result (IsCause passes_Q net.now.net horizon patterns self.now) }
     {
         let slacks = self.slacks(alloc, net, horizon, patterns)?;
         let sets = sets(alloc, &slacks)?;

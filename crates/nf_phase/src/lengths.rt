@@ -2,7 +2,7 @@
 ghost use Rattle.std.specs.Prelude.{◌≡◌, ◌≢◌, ◌<◌, length, true, MatchOption, IfOk};
 ghost use Rattle.nf_rational.specs.Operations.{0ℚ};
 ghost use Rattle.nf_work.specs.declared.Part.TheVariants.{Extend};
-ghost use Rattle.nf_work.specs.Passing.{bound_of, beyond};
+ghost use Rattle.nf_work.specs.Passing.{passes_Q};
 ghost use Rattle.nf_work.specs.Checked.{at_part};
 ghost use Rattle.nf_model.specs.Network.{Link as SeenLink, IsLink, ArePieces, next_change as change_of};
 ghost use Rattle.nf_model.specs.Phases.{IsExtension, IsUnending};
@@ -34,7 +34,7 @@ fn lesser(least: Option<Q>, length: Q) -> Option<Q>
 // How long a slack takes to become 0, if it goes towards it.
 fn to_zero(goes: bool, least: Option<Q>, slack: Q, change: Q) -> Result<Option<Q>, PassedAt<Q>>
     requires { goes ≡ true → change ≢ 0ℚ }
-    ensures { result ≡ at_part Extend (to_zero_by (beyond (bound_of 127)) goes least slack change) }
+    ensures { result ≡ at_part Extend (to_zero_by passes_Q goes least slack change) }
 {
     if !goes {
         return Ok(least);
@@ -52,7 +52,7 @@ fn after_link(
     tail_slope: Q,
     head_slope: Q,
 ) -> Result<Option<Q>, PassedAt<Q>>
-    ensures { result ≡ at_part Extend (after_link_by (beyond (bound_of 127)) (is_zero_by slack) least slack tail_slope head_slope) }
+    ensures { result ≡ at_part Extend (after_link_by passes_Q (is_zero_by slack) least slack tail_slope head_slope) }
 {
     if slack.is_zero() {
         return Ok(least);
@@ -72,7 +72,7 @@ fn after(
     requires link { link < length net.now.net.links }
     requires slacks { length slacks.now ≡ length net.now.net.links }
     requires slopes { length slopes.now ≡ net.now.net.nodes }
-    ensures { (here : SeenLink) → IsLink net.now.net link here → result ≡ at_part Extend (least_after (beyond (bound_of 127)) slacks.now slopes.now least (link, here)) }
+    ensures { (here : SeenLink) → IsLink net.now.net link here → result ≡ at_part Extend (least_after passes_Q slacks.now slopes.now least (link, here)) }
 {
     let here = net.link(link);
     after_link(
@@ -87,7 +87,7 @@ fn after(
 fn after_links(net: &Network, slacks: &[Q], slopes: &[Q]) -> Result<Option<Q>, PassedAt<Q>>
     requires slacks { length slacks.now ≡ length net.now.net.links }
     requires slopes { length slopes.now ≡ net.now.net.nodes }
-    ensures { result ≡ at_part Extend (after_all (beyond (bound_of 127)) net.now.net slacks.now slopes.now) }
+    ensures { result ≡ at_part Extend (after_all passes_Q net.now.net slacks.now slopes.now) }
 {
     let mut least = None;
     for e in 0..net.link_count() {
@@ -98,7 +98,7 @@ fn after_links(net: &Network, slacks: &[Q], slopes: &[Q]) -> Result<Option<Q>, P
 
 // And until the next inflow change, if there is one.
 fn until_change(least: Option<Q>, time: Q, change: Option<Q>) -> Result<Option<Q>, PassedAt<Q>>
-    ensures { result ≡ at_part Extend (until_change_by (beyond (bound_of 127)) least time change) }
+    ensures { result ≡ at_part Extend (until_change_by passes_Q least time change) }
 {
     match change {
         None => Ok(least),
@@ -132,7 +132,7 @@ pub fn extension(
 ) -> Result<Option<Q>, PassedAt<Q>>
     requires slacks { length slacks.now ≡ length net.now.net.links }
     requires slopes { length slopes.now ≡ net.now.net.nodes }
-    ensures list { result ≡ at_part Extend (extend_list (beyond (bound_of 127)) net.now.net slacks.now slopes.now time) }
+    ensures list { result ≡ at_part Extend (extend_list passes_Q net.now.net slacks.now slopes.now time) }
     ensures length { IfOk result (λ length. MatchOption length (IsUnending net.now.net slacks.now slopes.now time) (IsExtension net.now.net slacks.now slopes.now time)) }
 {
     let least = after_links(net, slacks, slopes)?;

@@ -1,7 +1,7 @@
 // One phase of a run, before it is made: how long it lasts, and how the labels and the links go on in it.
 ghost use Rattle.std.specs.Prelude.{◌≡◌, IfOk, IfErr, map};
 ghost use Rattle.nf_rational.specs.Order.{◌<ℚ◌};
-ghost use Rattle.nf_work.specs.Passing.{bound_of, beyond};
+ghost use Rattle.nf_work.specs.Passing.{passes_Q};
 ghost use Rattle.nf_formats.specs.WellNamed.{IsNamed};
 ghost use Rattle.nf_lists.specs.ReportCurves.{amount_so_far};
 ghost use Rattle.nf_phase.specs.Stepping.{Reaches, IsCause};
@@ -41,11 +41,11 @@ impl Run {
         patterns: u64,
         found: Found,
     ) -> Result<Phase, StepFault>
-        requires reaches { Reaches (beyond (bound_of 127)) net.now.net self.now }
+        requires reaches { Reaches passes_Q net.now.net self.now }
         requires named { IsNamed net.now }
-        requires found { IsFound (beyond (bound_of 127)) net.now.net horizon patterns self.now found }
-        ensures leads { IfOk result (LeadsOn (beyond (bound_of 127)) net.now.net horizon patterns self.now) }
-        ensures cause { IfErr result (IsCause (beyond (bound_of 127)) net.now.net horizon patterns self.now) }
+        requires found { IsFound passes_Q net.now.net horizon patterns self.now found }
+        ensures leads { IfOk result (LeadsOn passes_Q net.now.net horizon patterns self.now) }
+        ensures cause { IfErr result (IsCause passes_Q net.now.net horizon patterns self.now) }
     {
         let Found { slacks, sets, thin } = found;
         let Thin {
@@ -85,11 +85,11 @@ impl Run {
         horizon: Q,
         patterns: u64,
     ) -> Result<Phase, StepFault>
-        requires reaches { Reaches (beyond (bound_of 127)) net.now.net self.now }
+        requires reaches { Reaches passes_Q net.now.net self.now }
         requires below { self.now.time <ℚ horizon }
         ensures named { IsNamed net.now }
-        ensures leads { IfOk result (LeadsOn (beyond (bound_of 127)) net.now.net horizon patterns self.now) }
-        ensures cause { IfErr result (IsCause (beyond (bound_of 127)) net.now.net horizon patterns self.now) }
+        ensures leads { IfOk result (LeadsOn passes_Q net.now.net horizon patterns self.now) }
+        ensures cause { IfErr result (IsCause passes_Q net.now.net horizon patterns self.now) }
     {
         let found = self.find(alloc, net, horizon, patterns)?;
         self.phase_by(alloc, net, horizon, patterns, found)

@@ -1,7 +1,7 @@
 // Runs: a flow over time that goes on phase by phase.
 ghost use Rattle.std.specs.Prelude.{◌≡◌, ◌<◌, ◌^◌, ◌-◌, length, IfOk, OnOk, OnErr, IfErr};
 ghost use Rattle.nf_rational.specs.Order.{◌<ℚ◌};
-ghost use Rattle.nf_work.specs.Passing.{bound_of, beyond};
+ghost use Rattle.nf_work.specs.Passing.{passes_Q};
 ghost use Rattle.nf_model.specs.Entries.{number_at};
 ghost use Rattle.nf_model.specs.Equilibrium.{Equilibrium};
 ghost use Rattle.nf_lists.specs.PhaseRun.{IsStart, Goes, flow_of};
@@ -63,7 +63,7 @@ impl Run {
     /// The run before its first phase: at departure 0, with the least transit sums from the source as labels.
     pub fn start(alloc: Global, net: &Network) -> Result<Run, AllocError>
         ensures starts { IfOk result (IsStart net.now.net) }
-        ensures reaches { IfOk result (Reaches (beyond (bound_of 127)) net.now.net) }
+        ensures reaches { IfOk result (Reaches passes_Q net.now.net) }
         ensures equilibrium { IfOk result (λ run. Equilibrium net.now.net (flow_of run)) }
         ensures ends { IfOk result (EndsAtLabels net.now.net) }
         ensures labels { IfOk result (KeepsLabels net.now.net) }
@@ -95,18 +95,18 @@ impl Run {
         horizon: Q,
         patterns: u64,
     ) -> Result<(), StepFault>
-        requires reaches { Reaches (beyond (bound_of 127)) net.now.net self.old }
+        requires reaches { Reaches passes_Q net.now.net self.old }
         requires below { self.old.time <ℚ horizon }
         requires more { self.old.made < 2 ^ 64 - 1 }
-        ensures goes { OnOk result (Goes (beyond (bound_of 127)) net.now.net horizon patterns self.old self.new) }
+        ensures goes { OnOk result (Goes passes_Q net.now.net horizon patterns self.old self.new) }
         ensures only { OnOk result (LeadsOnlyTo net.now.net horizon (reached_by self.old) (reached_by self.new)) }
-        ensures reaches { Reaches (beyond (bound_of 127)) net.now.net self.new }
+        ensures reaches { Reaches passes_Q net.now.net self.new }
         ensures equilibrium { Equilibrium net.now.net (flow_of self.new) }
         ensures ends { EndsAtLabels net.now.net self.new }
         ensures labels { KeepsLabels net.now.net self.new }
         ensures short { IsShortFlow net.now.net (flow_of self.new) }
         ensures kept { OnErr result (self.new ≡ self.old) }
-        ensures cause { IfErr result (IsCause (beyond (bound_of 127)) net.now.net horizon patterns self.old) }
+        ensures cause { IfErr result (IsCause passes_Q net.now.net horizon patterns self.old) }
     {
         let phase = self.phase(alloc, net, horizon, patterns)?;
         reserve_labels(&mut self.label_curves)?;

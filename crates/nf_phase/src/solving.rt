@@ -2,8 +2,7 @@
 ghost use Rattle.std.specs.Prelude.{◌≡◌, IfOk, IsSome, MatchBool};
 ghost use Rattle.nf_rational.specs.Operations.{0ℚ};
 ghost use Rattle.nf_rational.specs.Order.{◌≤ℚ◌, ◌<ℚ◌, lt_ℚ};
-ghost use Rattle.nf_work.specs.Passing.{beyond};
-ghost use Rattle.nf_formats.specs.Numbers.{greatest};
+ghost use Rattle.nf_work.specs.Passing.{passes_Q};
 ghost use Rattle.nf_lists.specs.PhaseRun.{IsStart, IsPhaseRun, flow_of};
 ghost use Rattle.nf_curve.specs.Flows.{flow_of as flow_in};
 ghost use Rattle.nf_phase.specs.Solution.{IsSolution, bounds_of, report_in, cause_of, stop_after};
@@ -80,7 +79,7 @@ impl Run {
     ) -> Result<Option<Stop>, AllocError>
         requires starts { IsStart net.now.net self.old }
         requires horizon { 0ℚ ≤ℚ horizon }
-        ensures { IfOk result (IsPhaseRun (beyond greatest) net.now.net (bounds_of horizon budgets) self.new) }
+        ensures { IfOk result (IsPhaseRun passes_Q net.now.net (bounds_of horizon budgets) self.new) }
     {
         for _ in 0..budgets.phases {
             if self.is_at(horizon) {

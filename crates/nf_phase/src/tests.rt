@@ -2,7 +2,7 @@
 ghost use Rattle.std.specs.Prelude.{IfOk, OnOk};
 ghost use Rattle.nf_rational.specs.Operations.{0ℚ};
 ghost use Rattle.nf_rational.specs.Order.{◌≤ℚ◌};
-ghost use Rattle.nf_work.specs.Passing.{bound_of, beyond};
+ghost use Rattle.nf_work.specs.Passing.{passes_Q};
 ghost use Rattle.nf_phase.specs.Stepping.{Reaches};
 
 use crate::{Budgets, Run, extension, solve};
@@ -47,8 +47,8 @@ fn phases_last_until_a_link_becomes_active(rt: HostRuntime) -> Result<(), Fail> 
 
 // One phase more, if the run is below the horizon.
 fn go_on(run: &mut Run, alloc: Global, net: &Network, horizon: Q) -> Result<(), Fail>
-    requires { Reaches (beyond (bound_of 127)) net.now.net run.old }
-    ensures { OnOk result (Reaches (beyond (bound_of 127)) net.now.net run.new) }
+    requires { Reaches passes_Q net.now.net run.old }
+    ensures { OnOk result (Reaches passes_Q net.now.net run.new) }
 {
     if run.is_at(horizon) || run.phases() > 100 {
         return Err(Fail::from("the run is at the horizon"));

@@ -1,6 +1,6 @@
 use Rattle.std.proofs.Common.{List, length, Ok, refl, sym, ap, ◌∙◌}
 use Rattle.nf_rational.specs.Rational.{ℚ}
-use Rattle.nf_work.specs.Passing.{bound_of, beyond}
+use Rattle.nf_work.specs.Passing.{passes_Q}
 use Rattle.nf_lists.specs.Advance.{Advanced}
 use Rattle.nf_lists.specs.PhaseRun.{Standing}
 use Rattle.nf_phase.specs.Growing.{all_grown}
@@ -9,39 +9,39 @@ use Rattle.nf_phase.proofs.run.Run.phase_by.Goals as goal
 
 pub returns-in_err-extension-clause-cause : goal.returns-in_err-extension-clause-cause
 returns-in_err-extension-clause-cause c =
-    extension_stops (beyond (bound_of 127)) c.args.net.now.net c.requires.named.network c.args.horizon c.args.patterns c.args.self.now c.requires.reaches c.args.found c.requires.found
+    extension_stops passes_Q c.args.net.now.net c.requires.named.network c.args.horizon c.args.patterns c.args.self.now c.requires.reaches c.args.found c.requires.found
     c.deref.result.now c.deref-2.result.now c.self.inside.reached c.deref.ensures.value c.deref-2.ensures.value (ap (λ (s : Standing). s.time) c.self.view_is) c.in_err-extension.field-0.0 c.in_err-extension.ensures.list c.from_residual.result c.from_residual.ensures.1
 
 pub advance-requires : goal.advance-requires
 advance-requires c =
-    counts_agree (beyond (bound_of 127)) c.args.net.now.net c.requires.named.network c.args.horizon c.args.patterns c.args.self.now c.requires.reaches c.args.found c.requires.found c.deref-3.result.now c.deref-4.result.now
+    counts_agree passes_Q c.args.net.now.net c.requires.named.network c.args.horizon c.args.patterns c.args.self.now c.requires.reaches c.args.found c.requires.found c.deref-3.result.now c.deref-4.result.now
     (c.deref-3.ensures.value ∙ ap (λ (s : Standing). s.labels) c.self.view_is) c.deref-4.ensures.value
 
 pub returns-in_err-end-clause-cause : goal.returns-in_err-end-clause-cause
 returns-in_err-end-clause-cause c =
-    advance_stops (beyond (bound_of 127)) c.args.net.now.net c.requires.named.network c.args.horizon c.args.patterns c.args.self.now c.requires.reaches c.args.found c.requires.found
+    advance_stops passes_Q c.args.net.now.net c.requires.named.network c.args.horizon c.args.patterns c.args.self.now c.requires.reaches c.args.found c.requires.found
     c.deref.result.now c.deref-2.result.now c.self.inside.reached c.deref.ensures.value c.deref-2.ensures.value (ap (λ (s : Standing). s.time) c.self.view_is) c.in_ok-extension.extension c.in_ok-extension.ensures.list
     c.deref-3.result.now c.deref-4.result.now (c.deref-3.ensures.value ∙ ap (λ (s : Standing). s.labels) c.self.view_is) c.deref-4.ensures.value c.in_err-end.field-0.0 c.in_err-end.ensures c.from_residual-in_err-end.result c.from_residual-in_err-end.ensures.1
 
 pub link_steps-requires-clause-states : goal.link_steps-requires-clause-states
 link_steps-requires-clause-states c =
-    pattern_count (beyond (bound_of 127)) c.args.net.now.net c.requires.named.network c.args.horizon c.args.patterns c.args.self.now c.requires.reaches c.args.found c.requires.found
+    pattern_count passes_Q c.args.net.now.net c.requires.named.network c.args.horizon c.args.patterns c.args.self.now c.requires.reaches c.args.found c.requires.found
 
 pub link_steps-requires-clause-labels : goal.link_steps-requires-clause-labels
 link_steps-requires-clause-labels c =
-    ap (λ (l : List ℚ). length l) c.deref-8.ensures.value ∙ end_count (beyond (bound_of 127)) c.args.net.now.net c.requires.named.network c.args.horizon c.args.patterns c.args.self.now c.requires.reaches c.args.found c.requires.found
+    ap (λ (l : List ℚ). length l) c.deref-8.ensures.value ∙ end_count passes_Q c.args.net.now.net c.requires.named.network c.args.horizon c.args.patterns c.args.self.now c.requires.reaches c.args.found c.requires.found
     c.deref.result.now c.deref-2.result.now c.self.inside.reached c.deref.ensures.value c.deref-2.ensures.value (ap (λ (s : Standing). s.time) c.self.view_is) c.in_ok-extension.extension c.in_ok-extension.ensures.list
     c.deref-3.result.now c.deref-4.result.now (c.deref-3.ensures.value ∙ ap (λ (s : Standing). s.labels) c.self.view_is) c.deref-4.ensures.value
     (record { length = c.end.inside.length; labels = c.end.inside.labels.items }) (c.in_ok-end.ensures ∙ ap (λ (a : Advanced). Ok a) (sym c.end.view_is))
 
 pub link_steps-requires-clause-amounts : goal.link_steps-requires-clause-amounts
 link_steps-requires-clause-amounts c =
-    amounts_count (beyond (bound_of 127)) c.args.net.now.net c.requires.named.network c.args.horizon c.args.patterns c.args.self.now c.requires.reaches c.args.found c.requires.found c.deref-9.result.now (all_grown c.deref-5.result.now)
+    amounts_count passes_Q c.args.net.now.net c.requires.named.network c.args.horizon c.args.patterns c.args.self.now c.requires.reaches c.args.found c.requires.found c.deref-9.result.now (all_grown c.deref-5.result.now)
     (c.deref-9.ensures.value ∙ c.in_ok-amounts.ensures) (ap all_grown c.deref-5.ensures.value ∙ ap (λ (s : Standing). s.link_curves) c.self.view_is)
 
 pub returns-in_err-steps-clause-cause : goal.returns-in_err-steps-clause-cause
 returns-in_err-steps-clause-cause c =
-    curve_stops (beyond (bound_of 127)) c.args.net.now.net c.requires.named.network c.args.horizon c.args.patterns c.args.self.now c.requires.reaches c.args.found c.requires.found
+    curve_stops passes_Q c.args.net.now.net c.requires.named.network c.args.horizon c.args.patterns c.args.self.now c.requires.reaches c.args.found c.requires.found
     c.deref.result.now c.deref-2.result.now c.self.inside.reached c.deref.ensures.value c.deref-2.ensures.value (ap (λ (s : Standing). s.time) c.self.view_is) c.in_ok-extension.extension c.in_ok-extension.ensures.list
     c.deref-3.result.now c.deref-4.result.now (c.deref-3.ensures.value ∙ ap (λ (s : Standing). s.labels) c.self.view_is) c.deref-4.ensures.value
     (record { length = c.end.inside.length; labels = c.end.inside.labels.items }) (c.in_ok-end.ensures ∙ ap (λ (a : Advanced). Ok a) (sym c.end.view_is))
@@ -50,7 +50,7 @@ returns-in_err-steps-clause-cause c =
 
 pub returns-clause-leads : goal.returns-clause-leads
 returns-clause-leads c =
-    leads_on (beyond (bound_of 127)) c.args.net.now.net c.requires.named.network c.args.horizon c.args.patterns c.args.self.now c.requires.reaches c.args.found c.requires.found
+    leads_on passes_Q c.args.net.now.net c.requires.named.network c.args.horizon c.args.patterns c.args.self.now c.requires.reaches c.args.found c.requires.found
     c.deref.result.now c.deref-2.result.now c.self.inside.reached c.deref.ensures.value c.deref-2.ensures.value (ap (λ (s : Standing). s.time) c.self.view_is) c.in_ok-extension.extension c.in_ok-extension.ensures.list
     c.deref-3.result.now c.deref-4.result.now (c.deref-3.ensures.value ∙ ap (λ (s : Standing). s.labels) c.self.view_is) c.deref-4.ensures.value
     (record { length = c.end.inside.length; labels = c.end.inside.labels.items }) (c.in_ok-end.ensures ∙ ap (λ (a : Advanced). Ok a) (sym c.end.view_is))

@@ -1,5 +1,5 @@
 use Rattle.std.proofs.Common.{◌≡◌, ap, ◌∙◌}
-use Rattle.nf_work.specs.Passing.{bound_of, beyond}
+use Rattle.nf_work.specs.Passing.{passes_Q}
 use Rattle.nf_lists.specs.PhaseRun.{Standing}
 use Rattle.nf_run_laws.proofs.Standing.{label_count_at}
 use Rattle.nf_thin.proofs.Asking.{below_nodes}
@@ -12,22 +12,22 @@ use Rattle.nf_phase.proofs.run.Run.slacks.Goals as goal
 pub slacks-requires : goal.slacks-requires
 slacks-requires c =
     let good = c.hops.ensures.named.network in
-    let stands = Stands-reached (beyond (bound_of 127)) c.args.net.now.net good c.args.self.now c.requires.reaches in
+    let stands = Stands-reached passes_Q c.args.net.now.net good c.args.self.now c.requires.reaches in
     let labels : c.deref.result.now ≡ c.args.self.now.labels = c.deref.ensures.value ∙ ap (λ (s : Standing). s.labels) c.self.view_is in
     rw (labels, c.hops.ensures.value, label_count_at c.args.net.now.net good c.args.self.now stands.well) (below_nodes c.args.net.now.net good)
 
 pub returns-in_err-slacks-clause-cause : goal.returns-in_err-slacks-clause-cause
 returns-in_err-slacks-clause-cause c =
-    by_fault c.from_residual.result (of_halt c.in_err-slacks.field-0.0) (IsCause (beyond (bound_of 127)) c.args.net.now.net c.args.horizon c.args.patterns c.args.self.now) c.from_residual.ensures.1
-    (slacks_cause (beyond (bound_of 127)) c.args.net.now.net c.args.horizon c.args.patterns c.args.self.now c.hops.result.now c.deref.result.now c.hops.ensures.value
+    by_fault c.from_residual.result (of_halt c.in_err-slacks.field-0.0) (IsCause passes_Q c.args.net.now.net c.args.horizon c.args.patterns c.args.self.now) c.from_residual.ensures.1
+    (slacks_cause passes_Q c.args.net.now.net c.args.horizon c.args.patterns c.args.self.now c.hops.result.now c.deref.result.now c.hops.ensures.value
     (c.deref.ensures.value ∙ ap (λ (s : Standing). s.labels) c.self.view_is) c.requires.below c.in_err-slacks.field-0.0 c.in_err-slacks.ensures)
 
 pub returns-clause-slacks : goal.returns-clause-slacks
 returns-clause-slacks c =
-    (slacks_made (beyond (bound_of 127)) c.args.net.now.net c.args.horizon c.args.patterns c.args.self.now c.hops.result.now c.deref.result.now c.in_ok-slacks.slacks.items c.hops.ensures.value
+    (slacks_made passes_Q c.args.net.now.net c.args.horizon c.args.patterns c.args.self.now c.hops.result.now c.deref.result.now c.in_ok-slacks.slacks.items c.hops.ensures.value
     (c.deref.ensures.value ∙ ap (λ (s : Standing). s.labels) c.self.view_is) c.in_ok-slacks.ensures).0
 
 pub returns-clause-list : goal.returns-clause-list
 returns-clause-list c =
-    (slacks_made (beyond (bound_of 127)) c.args.net.now.net c.args.horizon c.args.patterns c.args.self.now c.hops.result.now c.deref.result.now c.in_ok-slacks.slacks.items c.hops.ensures.value
+    (slacks_made passes_Q c.args.net.now.net c.args.horizon c.args.patterns c.args.self.now c.hops.result.now c.deref.result.now c.in_ok-slacks.slacks.items c.hops.ensures.value
     (c.deref.ensures.value ∙ ap (λ (s : Standing). s.labels) c.self.view_is) c.in_ok-slacks.ensures).1

@@ -1,7 +1,7 @@
 use Rattle.std.proofs.Common.{ℕ, List, map, refl, ap, ◌∙◌}
 use Rattle.std.specs.Prelude.{None, replicate}
 use Rattle.nf_rational.specs.Rational.{ℚ}
-use Rattle.nf_work.specs.Passing.{bound_of, beyond}
+use Rattle.nf_work.specs.Passing.{passes_Q}
 use Rattle.nf_lists.specs.ReportCurves.{first_label_curve, first_curves}
 use Rattle.nf_phase.specs.Stepping.{starts}
 use Rattle.nf_phase.proofs.Stepped.{equilibrium_reached, ends_reached}
@@ -20,13 +20,13 @@ returns-clause-reaches c =
     })
 
 pub returns-clause-equilibrium : goal.returns-clause-equilibrium
-returns-clause-equilibrium c = equilibrium_reached (beyond (bound_of 127)) c.args.net.now.net c.version.ensures.named.network _ (returns-clause-reaches c)
+returns-clause-equilibrium c = equilibrium_reached passes_Q c.args.net.now.net c.version.ensures.named.network _ (returns-clause-reaches c)
 
 pub returns-clause-ends : goal.returns-clause-ends
-returns-clause-ends c = ends_reached (beyond (bound_of 127)) c.args.net.now.net c.version.ensures.named.network _ (returns-clause-reaches c)
+returns-clause-ends c = ends_reached passes_Q c.args.net.now.net c.version.ensures.named.network _ (returns-clause-reaches c)
 
 pub returns-clause-labels : goal.returns-clause-labels
-returns-clause-labels c = keeps_reached (beyond (bound_of 127)) c.args.net.now.net c.version.ensures.named.network _ (returns-clause-reaches c)
+returns-clause-labels c = keeps_reached passes_Q c.args.net.now.net c.version.ensures.named.network _ (returns-clause-reaches c)
 
 pub returns-clause-short : goal.returns-clause-short
-returns-clause-short c = short_reached (beyond (bound_of 127)) c.args.net.now.net c.version.ensures.named.network _ (returns-clause-reaches c)
+returns-clause-short c = short_reached passes_Q c.args.net.now.net c.version.ensures.named.network _ (returns-clause-reaches c)

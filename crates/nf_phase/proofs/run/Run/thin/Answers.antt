@@ -1,5 +1,5 @@
 use Rattle.std.proofs.Common.{◌≡◌, List, length, sym, ap, subst, ◌∙◌}
-use Rattle.nf_work.specs.Passing.{bound_of, beyond}
+use Rattle.nf_work.specs.Passing.{passes_Q}
 use Rattle.nf_model.specs.Walk.{Hop}
 use Rattle.nf_model.specs.Network.{hops as hops_of, unbounded}
 use Rattle.nf_model.specs.ThinFlow.{Sets, sets_at}
@@ -16,7 +16,7 @@ base-requires-clause-ends c = rw (c.node_count.ensures, c.hops.ensures.value) (b
 pub base-requires-clause-last : goal.base-requires-clause-last
 base-requires-clause-last c =
     let good = c.hops.ensures.named.network in
-    let stands = Stands-reached (beyond (bound_of 127)) c.args.net.now.net good c.args.self.now c.requires.reaches in
+    let stands = Stands-reached passes_Q c.args.net.now.net good c.args.self.now c.requires.reaches in
     ap (λ (s : Standing). length s.last) c.self.view_is ∙ stands.last_count ∙ sym (hops_length c.args.net.now.net) ∙ ap (λ (hs : List Hop). length hs) (sym c.hops.ensures.value)
 
 pub base-requires-clause-fewer : goal.base-requires-clause-fewer
@@ -25,13 +25,13 @@ base-requires-clause-fewer c = rw (c.hops.ensures.value) (few_hops c.args.net.no
 pub search-requires-clause-sets : goal.search-requires-clause-sets
 search-requires-clause-sets c =
     let good = c.hops.ensures.named.network in
-    let stands = Stands-reached (beyond (bound_of 127)) c.args.net.now.net good c.args.self.now c.requires.reaches in
+    let stands = Stands-reached passes_Q c.args.net.now.net good c.args.self.now c.requires.reaches in
     subst (λ (sets : Sets). AreSetsOf c.args.net.now.net sets) (sym c.requires.sets) (sets_fit c.args.net.now.net good c.args.self.now stands)
 
 pub search-requires-clause-base : goal.search-requires-clause-base
 search-requires-clause-base c =
     let good = c.hops.ensures.named.network in
-    let stands = Stands-reached (beyond (bound_of 127)) c.args.net.now.net good c.args.self.now c.requires.reaches in
+    let stands = Stands-reached passes_Q c.args.net.now.net good c.args.self.now c.requires.reaches in
     let last : c.self.inside.last ≡ c.args.self.now.last = ap (λ (s : Standing). s.last) c.self.view_is in
     subst (λ (sets : Sets). IsPattern sets (unbounded c.args.net.now.net) c.in_ok-base.base) (sym c.requires.sets)
     (base_fits c.args.net.now.net good c.args.self.now stands c.in_ok-base.base
