@@ -63,6 +63,14 @@ first-least x rest zero p r g = subst (λ (q : Point). x.0 ≤ℚ q.0) (let same
 first-least x [] (suc i) p r g = absurd (cc)
 first-least x (y ∷ rest) (suc i) p r g = ≤_trans _ _ _ (≤ℚ_of_lt _ _ r.0) (first-least y rest i p r.1 g)
 
+-- of two points the one with the greater number is later
+pub rise-pairs : (points : List Point) (i j : ℕ) (p q : Point) → TimesRise points → slice_get points i ≡ Some p → slice_get points j ≡ Some q → i < j → p.0 <ℚ q.0
+rise-pairs [] i j p q r e f h = absurd (cc)
+rise-pairs (x ∷ rest) i zero p q r e f h = absurd (omega arith)
+rise-pairs (x ∷ []) i (suc j) p q r e f h = absurd (cc)
+rise-pairs (x ∷ y ∷ rest) zero (suc j) p q r e f h = subst (λ (z : Point). z.0 <ℚ q.0) (let same : x ≡ p = cc in same) (<_≤_trans _ _ _ r.0 (first-least y rest j q r.1 f))
+rise-pairs (x ∷ y ∷ rest) (suc i) (suc j) p q r e f h = rise-pairs (y ∷ rest) i j p q r.1 e f (omega arith)
+
 -- a point from the place on is after the time
 pub from-place : (time : ℚ) (points : List Point) (i : ℕ) (p : Point) → TimesRise points → slice_get points i ≡ Some p → place_of time points ≤ i → time <ℚ p.0
 from-place time [] i p r g h = absurd (cc)

@@ -4,7 +4,9 @@
 #![tactic(auto)]
 
 mod curve;
+mod differences;
 mod flow;
+mod least;
 mod lines;
 mod places;
 mod sums;
