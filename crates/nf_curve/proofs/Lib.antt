@@ -6,3 +6,4 @@ pub mod Exits
 pub mod Lesser
 pub mod Turned
 pub mod Differing
+pub mod Shortening

@@ -4,3 +4,4 @@ pub mod Sides
 pub mod Places
 pub mod Moments
 pub mod Steps
+pub mod Differences

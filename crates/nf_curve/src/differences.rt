@@ -17,9 +17,9 @@ use crate::places::place_up;
 use crate::walk::{Moment, first_moment, next_moment, sides_at};
 use nf_frac::{Part, PassedAt, Q};
 
-// Two numbers are equal.
+/// Two numbers are equal.
 #[tactic(auto, using(nf_frac::proofs::Comparisons::same_by_order))]
-fn is_same(left: Q, right: Q) -> bool
+pub(crate) fn is_same(left: Q, right: Q) -> bool
     ensures { result ≡ is_same_by left right }
 {
     left == right
@@ -82,12 +82,7 @@ fn does_turn(points: &[Point], place: usize, time: Q, part: Part) -> Result<bool
 }
 
 // A time is a corner: time 0, or one at which the left curve turns, or else the right one.
-fn is_corner(
-    left: &[Point],
-    right: &[Point],
-    now: &Moment,
-    part: Part,
-) -> Result<bool, PassedAt<Q>>
+fn is_corner(left: &[Point], right: &[Point], now: &Moment, part: Part) -> Result<bool, PassedAt<Q>>
     requires left { IsCurve left.now }
     requires right { IsCurve right.now }
     requires there { IsMoment left.now right.now now.now }

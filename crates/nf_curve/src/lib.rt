@@ -9,6 +9,7 @@ mod flow;
 mod least;
 mod lines;
 mod places;
+mod short;
 mod sums;
 #[cfg(test)]
 mod tests;

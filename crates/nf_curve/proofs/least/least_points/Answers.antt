@@ -26,7 +26,7 @@ loop-now-init c =
     let one : c.push.new.self.items ≡ least_point (sides_of c.in_ok-before.before) ∷ [] =
     c.in_ok-push.ensures.items ∙ ap (λ (l : List (ℚ × ℚ)). l ++ c.least_point.result ∷ []) c.new-points.ensures.items ∙ ap (λ (p : ℚ × ℚ). p ∷ []) c.least_point.ensures in
     let w : with_front c.push.new.self.items (least_after (beyond (bound_of 127)) c.args.left.now c.args.right.now (sides_of c.in_ok-before.before) (times_after c.first_moment-first.result.time c.args.left.now c.args.right.now))
-        ≡ least_from (beyond (bound_of 127)) c.args.left.now c.args.right.now (both_times c.args.left.now c.args.right.now) =
+    ≡ least_from (beyond (bound_of 127)) c.args.left.now c.args.right.now (both_times c.args.left.now c.args.right.now) =
     ap (λ (l : List (ℚ × ℚ)). with_front l (least_after (beyond (bound_of 127)) c.args.left.now c.args.right.now (sides_of c.in_ok-before.before) (times_after c.first_moment-first.result.time c.args.left.now c.args.right.now)))
     one
     ∙ first_goes (beyond (bound_of 127)) c.args.part c.args.left.now c.args.right.now c.first_moment-first.result.time _ _ c.first_moment-first.ensures.times (sides_of c.in_ok-before.before) (sym c.in_ok-before.ensures.list) in
@@ -55,7 +55,7 @@ returns-in_err-add_points c =
 pub loop-now-preserved : goal.loop-now-preserved
 loop-now-preserved c =
     let w : with_front c.add_points.new.points.items (least_after (beyond (bound_of 127)) c.args.left.now c.args.right.now (sides_of c.in_ok-sides.sides) (times_after c.in-Some.moment.time c.args.left.now c.args.right.now))
-        ≡ least_from (beyond (bound_of 127)) c.args.left.now c.args.right.now (both_times c.args.left.now c.args.right.now) =
+    ≡ least_from (beyond (bound_of 127)) c.args.left.now c.args.right.now (both_times c.args.left.now c.args.right.now) =
     step_goes (beyond (bound_of 127)) c.args.part c.args.left.now c.args.right.now c.loop-now.points.items (sides_of c.loop-now.before) c.in-Some.moment.time _ _
     (rw c.in-Some.is at c.loop-now.invariant.so_far) (sides_of c.in_ok-sides.sides) (sym c.in_ok-sides.ensures.list) c.add_points.new.points.items c.in_ok-add_points.ensures in
     record {
