@@ -7,7 +7,6 @@ use Rattle.nf_work.specs.declared.Passed.{Passed}
 use Rattle.nf_work.specs.declared.PassedAt.{PassedAt}
 use Rattle.nf_work.specs.Checked.{placed, at_part, each, Stops, ◌>>=◌}
 use Rattle.nf_work.specs.declared.Halt.{Halt}
-use Rattle.nf_work.specs.declared.Halt.TheVariants as Halt
 use Rattle.nf_work.proofs.Each.{with_front, each_ok, each_err}
 
 pub after_err : {A B : Type 0} (part : Part) (r : Result A (Passed ℚ)) (f : A → Result B (Passed ℚ)) (p : PassedAt ℚ) → at_part part r ≡ Err p → at_part part (r >>= f) ≡ Err p

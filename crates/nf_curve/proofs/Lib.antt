@@ -7,3 +7,5 @@ pub mod Lesser
 pub mod Turned
 pub mod Differing
 pub mod Shortening
+pub mod Between
+pub mod Composing

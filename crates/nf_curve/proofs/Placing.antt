@@ -1,5 +1,5 @@
 -- Places on curves: what lies before and behind them.
-use Rattle.std.proofs.Common.{◌≡◌, ℕ, zero, suc, ◌+◌, ◌-◌, ◌<◌, ◌≤◌, List, [], ◌∷◌, length, ⊎_elim, Bool, true, false, refl, sym, ap, subst, ◌∙◌, arith}
+use Rattle.std.proofs.Common.{◌≡◌, ℕ, zero, suc, ◌-◌, ◌<◌, ◌≤◌, List, [], ◌∷◌, length, ⊎_elim, Bool, true, false, refl, sym, ap, subst, ◌∙◌, arith}
 use Rattle.std.specs.Prelude.{Option, Some, None, slice_get, Result, Ok, if◌then◌else◌}
 use Rattle.nf_rational.specs.Rational.{ℚ}
 use Rattle.nf_rational.specs.Operations.{0ℚ}
@@ -19,6 +19,13 @@ use Rattle.nf_curve_lists.specs.Lines.{checked_line}
 use Rattle.nf_curve_lists.specs.Values.{value_from, checked_value}
 use Rattle.nf_curve_laws.proofs.Operations.{is_same_cases}
 use Rattle.nf_curve.specs.Places.{place_of, value_between}
+
+-- ---- what the test of an order says
+pub below_of : (x y : ℚ) → lt_ℚ x y ≡ true → x <ℚ y
+below_of x y t = ⊎_elim (λ (w : (lt_ℚ x y ≡ true) × (x <ℚ y)). w.1) (λ (w : (lt_ℚ x y ≡ false) × (y ≤ℚ x)). absurd (cc)) (lt_ℚ_cases x y)
+
+pub not_below_of : (x y : ℚ) → lt_ℚ x y ≡ false → y ≤ℚ x
+not_below_of x y t = ⊎_elim (λ (w : (lt_ℚ x y ≡ true) × (x <ℚ y)). absurd (cc)) (λ (w : (lt_ℚ x y ≡ false) × (y ≤ℚ x)). w.1) (lt_ℚ_cases x y)
 
 -- ---- the place, by the first point's test
 pub place-behind : (time : ℚ) (p : Point) (rest : List Point) → time <ℚ p.0 → place_of time (p ∷ rest) ≡ zero

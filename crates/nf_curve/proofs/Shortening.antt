@@ -1,6 +1,6 @@
 -- A curve in short form, point by point.
 use Rattle.std.proofs.Common.{◌≡◌, ℕ, zero, suc, ◌+◌, ◌<◌, List, [], ◌∷◌, ◌++◌, length, drop, Bool, true, false, refl, sym, ap, subst, ◌∙◌}
-use Rattle.std.specs.Prelude.{Option, Some, slice_get, Result, Ok, Err, if◌then◌else◌}
+use Rattle.std.specs.Prelude.{Some, slice_get, Ok, Err, if◌then◌else◌}
 use Rattle.nf_rational.specs.Rational.{ℚ}
 use Rattle.nf_work.specs.Passing.{Passing}
 use Rattle.nf_work.specs.declared.Part.{Part}
@@ -10,8 +10,8 @@ use Rattle.nf_work.proofs.Each.{with_front}
 use Rattle.nf_model.specs.Curve.{Point}
 use Rattle.nf_lists.specs.Signs.{is_same}
 use Rattle.nf_curve_lists.specs.Lines.{checked_slope}
-use Rattle.nf_curve_lists.specs.Short.{turning, short_points, checked_slopes, checked_short}
-use Rattle.nf_curve.proofs.Exits.{after_err, after_ok, was_ok, front_err, front_more, front_ends}
+use Rattle.nf_curve_lists.specs.Short.{turning, checked_slopes, checked_short}
+use Rattle.nf_curve.proofs.Exits.{after_err, was_ok, front_err, front_more}
 
 -- the points from one on that turn, with the slope before it
 abbrev pub short_from : Passing → ℚ → List Point → Checked (List Point)

@@ -1,6 +1,6 @@
 -- Whether a curve turns at a time, by its place; and the corners at which two curves differ, one after the other.
-use Rattle.std.proofs.Common.{◌≡◌, ℕ, zero, suc, ◌+◌, ◌-◌, ◌<◌, ◌≤◌, List, [], ◌∷◌, length, ⊎_elim, Bool, true, false, refl, sym, ap, subst, ◌∙◌, arith}
-use Rattle.std.specs.Prelude.{Option, Some, None, slice_get, Result, Ok, if◌then◌else◌}
+use Rattle.std.proofs.Common.{◌≡◌, ℕ, zero, suc, ◌-◌, ◌<◌, ◌≤◌, List, [], ◌∷◌, ⊎_elim, Bool, true, false, refl, sym, ap, subst, ◌∙◌, arith}
+use Rattle.std.specs.Prelude.{Option, Some, None, slice_get, Ok, if◌then◌else◌}
 use Rattle.nf_rational.specs.Rational.{ℚ}
 use Rattle.nf_rational.specs.Operations.{0ℚ}
 use Rattle.nf_rational.specs.Order.{◌≤ℚ◌, ◌<ℚ◌, lt_ℚ}
@@ -9,13 +9,13 @@ use Rattle.nf_rational_laws.proofs.Tests.{lt_ℚ_cases}
 use Rattle.nf_work.specs.Passing.{Passing}
 use Rattle.nf_work.specs.Checked.{Checked}
 use Rattle.nf_model.specs.Curve.{Point, TimesRise, IsCurve}
-use Rattle.nf_model_laws.proofs.Affine.{<_≤_trans, ≤_trans, ≤_refl, clash}
+use Rattle.nf_model_laws.proofs.Affine.{<_≤_trans, clash}
 use Rattle.nf_lists.specs.Signs.{is_same}
 use Rattle.nf_curve_lists.specs.Differences.{turn_at, turns_from, checked_turn}
 use Rattle.nf_curve_laws.proofs.Operations.{is_same_cases}
 use Rattle.nf_curve.specs.Places.{place_of}
 use Rattle.nf_curve.specs.Steps.{turn_between}
-use Rattle.nf_curve.proofs.Placing.{place-behind, place-past, place_within}
+use Rattle.nf_curve.proofs.Placing.{place-behind, place-past}
 
 -- equal where the time is that of the middle point
 abbrev turn_here : Passing → ℚ → Option Point → Option Point → Option Point → Checked Bool

@@ -9,6 +9,12 @@ use Rattle.nf_curve_lists.specs.Sums.{sides_at}
 use Rattle.nf_curve_lists.specs.Differences.{do_differ, turn_at, differ_at}
 use Rattle.nf_curve_lists.specs.Least.{is_crossed, least_point, crossing}
 
+-- what comes next, behind what is there
+abbrev pub behind : List Point → Checked (List Point) → Checked (List Point)
+behind front next = do
+  more ← next
+  Ok (front ++ more)
+
 -- the points of the lesser curve from one time to the next, behind those before
 abbrev pub lesser_step : Passing → List Point → Sides → Sides → Checked (List Point)
 lesser_step passes front before now = do

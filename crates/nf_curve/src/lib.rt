@@ -3,7 +3,9 @@
 //! Times and values are exact fractions. A curve is linear between neighbouring points and constant after the last one.
 #![tactic(auto)]
 
+mod composed;
 mod curve;
+mod cut;
 mod differences;
 mod flow;
 mod least;

@@ -1,19 +1,17 @@
-use Rattle.std.proofs.Common.{◌≡◌, ℕ, ◌<◌, ◌≤◌, List, [], ◌∷◌, length, Some, sym, ap, subst, ◌∙◌, arith}
-use Rattle.std.specs.Prelude.{None, Ok, Option, option_map}
+use Rattle.std.proofs.Common.{◌≡◌, ◌<◌, length, Some, sym, ap, subst, ◌∙◌, arith}
+use Rattle.std.specs.Prelude.{Ok, Option, option_map}
 use Rattle.std.proofs.lemmas.Result.{err_from_is_err_and}
-use Rattle.nf_rational.specs.Rational.{ℚ}
 use Rattle.nf_rational.specs.Order.{◌<ℚ◌}
 use Rattle.nf_rational_laws.proofs.Order.{≤ℚ_of_lt}
 use Rattle.nf_work.specs.Passing.{bound_of, beyond}
-use Rattle.nf_work.specs.Checked.{at_part}
 use Rattle.nf_curve_lists.specs.Differences.{times_before, difference_from, checked_difference}
 use Rattle.nf_curve.specs.Sides.{sides_of}
 use Rattle.nf_curve.specs.declared.lines.Sides.{Sides}
-use Rattle.nf_curve.specs.Places.{place_of, times_after}
+use Rattle.nf_curve.specs.Places.{times_after}
 use Rattle.nf_curve.specs.Moments.{times_left}
 use Rattle.nf_curve.specs.declared.walk.Moment.{Moment}
 use Rattle.nf_curve.proofs.Placing.{place-rises}
-use Rattle.nf_curve.proofs.Differing.{Kept, kept-before, step_stops, step_ends, step_goes, last_stops, last_ends}
+use Rattle.nf_curve.proofs.Differing.{Kept, kept-before, step_stops, step_ends, step_goes}
 use Rattle.nf_curve.proofs.differences.difference_until.Goals as goal
 
 pub loop-now-init : goal.loop-now-init

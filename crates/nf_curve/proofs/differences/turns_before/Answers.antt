@@ -1,10 +1,8 @@
-use Rattle.std.proofs.Common.{◌≡◌, ◌<◌, ◌≤◌, ◌-◌, length, Some, refl, sym, ap, ◌∙◌, arith}
-use Rattle.std.specs.Prelude.{Option, None, slice_get}
+use Rattle.std.proofs.Common.{◌<◌, ◌-◌, length, Some, refl, sym, ap, ◌∙◌, arith}
+use Rattle.std.specs.Prelude.{None}
 use Rattle.std.proofs.lemmas.Option.{slice_get_read, slice_get_past}
 use Rattle.nf_work.specs.Passing.{bound_of, beyond}
 use Rattle.nf_work.specs.Checked.{at_part}
-use Rattle.nf_model.specs.Curve.{Point}
-use Rattle.nf_curve.specs.Steps.{turn_between}
 use Rattle.nf_curve.proofs.Placing.{rise-pairs}
 use Rattle.nf_curve.proofs.Turned.{turn-by}
 use Rattle.nf_curve.proofs.differences.turns_before.Goals as goal

@@ -1,10 +1,10 @@
-use Rattle.std.proofs.Common.{◌≡◌, List, [], ◌∷◌, ◌++◌, Some, sym, ap, subst, ◌∙◌}
+use Rattle.std.proofs.Common.{◌≡◌, List, [], ◌∷◌, ◌++◌, sym, ap, subst, ◌∙◌}
 use Rattle.std.specs.Prelude.{IfSome}
 use Rattle.std.proofs.lemmas.Result.{err_from_is_err_and}
 use Rattle.nf_rational.specs.Rational.{ℚ}
 use Rattle.nf_rational.specs.Order.{◌<ℚ◌}
 use Rattle.nf_work.specs.Passing.{bound_of, beyond}
-use Rattle.nf_work.specs.Checked.{at_part, Stops}
+use Rattle.nf_work.specs.Checked.{at_part}
 use Rattle.nf_work.proofs.Each.{with_front}
 use Rattle.nf_curve_lists.specs.Times.{both_times}
 use Rattle.nf_curve_lists.specs.Least.{least_point, least_after, least_from, checked_least}

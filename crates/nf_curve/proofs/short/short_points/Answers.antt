@@ -1,15 +1,13 @@
-use Rattle.std.proofs.Common.{◌≡◌, ◌<◌, ◌≤◌, ◌+◌, ◌-◌, suc, List, [], ◌∷◌, ◌++◌, length, drop, Some, refl, sym, ap, subst, ◌∙◌, arith}
+use Rattle.std.proofs.Common.{◌≡◌, ◌<◌, ◌+◌, ◌-◌, List, [], ◌∷◌, ◌++◌, length, refl, sym, ap, ◌∙◌, arith}
 use Rattle.std.specs.Prelude.{slice_get, if◌then◌else◌}
 use Rattle.std.proofs.lemmas.Option.{slice_get_read}
 use Rattle.std.proofs.lemmas.Result.{err_from_is_err_and}
 use Rattle.nf_rational.specs.Rational.{ℚ}
 use Rattle.nf_work.specs.Passing.{bound_of, beyond}
-use Rattle.nf_work.proofs.Each.{with_front}
-use Rattle.nf_curve_lists.specs.Short.{checked_short}
 use Rattle.nf_lists.specs.Signs.{is_same}
 use Rattle.nf_curve.proofs.Points.{points_there}
 use Rattle.nf_curve.proofs.Placing.{rise-pairs, curve-rises}
-use Rattle.nf_curve.proofs.Shortening.{short_from, begin_stops, begin_goes, step_stops, step_goes, short_ends, short_alone}
+use Rattle.nf_curve.proofs.Shortening.{begin_stops, begin_goes, step_stops, step_goes, short_ends, short_alone}
 use Rattle.nf_curve.proofs.short.short_points.Goals as goal
 
 pub returns-then-points-eq1 : goal.returns-then-points-eq1

@@ -1,7 +1,7 @@
-use Rattle.std.proofs.Common.{◌≡◌, ◌≤◌, sym, subst, ◌∙◌, arith}
+use Rattle.std.proofs.Common.{arith}
 use Rattle.nf_rational_laws.proofs.Order.{≤ℚ_of_lt}
 use Rattle.nf_model_laws.proofs.Affine.{≤_trans}
-use Rattle.nf_curve.proofs.Placing.{place-rises, curve-rises}
+use Rattle.nf_curve.proofs.Placing.{place-rises}
 use Rattle.nf_curve.proofs.Walking.{walk-ends, walk-goes}
 use Rattle.nf_curve.proofs.walk.next_moment.Goals as goal
 

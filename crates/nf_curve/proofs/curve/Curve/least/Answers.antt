@@ -1,8 +1,7 @@
-use Rattle.std.proofs.Common.{◌≡◌, Ok, sym, subst, rules}
+use Rattle.std.proofs.Common.{rules}
 use Rattle.nf_work.specs.Passing.{bound_of, beyond}
 use Rattle.nf_model.specs.Curve.{IsCurve}
 use Rattle.nf_curve_lists.specs.Least.{checked_least}
-use Rattle.nf_curve_lists.specs.Meanings.{IsLeastOf}
 use Rattle.nf_curve_laws.proofs.Least.{checked_least-is}
 use Rattle.nf_curve.proofs.Exits.{was_ok}
 use Rattle.nf_curve.proofs.curve.Curve.least.Goals as goal

@@ -1,4 +1,4 @@
-use Rattle.std.proofs.Common.{◌≡◌, Ok, rules}
+use Rattle.std.proofs.Common.{rules}
 use Rattle.nf_work.specs.Passing.{bound_of, beyond}
 use Rattle.nf_model.specs.Curve.{IsCurve}
 use Rattle.nf_curve_lists.specs.Short.{checked_short}
