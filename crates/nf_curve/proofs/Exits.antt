@@ -1,11 +1,12 @@
 -- What a computation comes to where one before it ended: its value, or the operation that passes.
-use Rattle.std.proofs.Common.{◌≡◌, List, [], ◌∷◌, ◌++◌, refl, sym, ap, ◌∙◌, append-nil}
+use Rattle.std.proofs.Common.{◌≡◌, List, [], ◌∷◌, ◌++◌, refl, sym, ap, ◌∙◌, append-nil, append_assoc}
 use Rattle.std.specs.Prelude.{Result, Ok, Err, IfOk}
 use Rattle.nf_rational.specs.Rational.{ℚ}
 use Rattle.nf_work.specs.declared.Part.{Part}
 use Rattle.nf_work.specs.declared.Passed.{Passed}
 use Rattle.nf_work.specs.declared.PassedAt.{PassedAt}
-use Rattle.nf_work.specs.Checked.{placed, at_part, each, ◌>>=◌}
+use Rattle.nf_work.specs.Checked.{placed, at_part, each, Stops, ◌>>=◌}
+use Rattle.nf_work.specs.declared.Halt.{Halt}
 use Rattle.nf_work.proofs.Each.{with_front, each_ok, each_err}
 
 pub after_err : {A B : Type 0} (part : Part) (r : Result A (Passed ℚ)) (f : A → Result B (Passed ℚ)) (p : PassedAt ℚ) → at_part part r ≡ Err p → at_part part (r >>= f) ≡ Err p
@@ -38,3 +39,29 @@ each_ends f front all part e = ap (at_part part) (sym e) ∙ ap Ok (append-nil f
 pub if_ok : {A : Type 0} (part : Part) (r : Result A (PassedAt ℚ)) (s : Result A (Passed ℚ)) (P : A → Type 0) → r ≡ at_part part s → ((y : A) → s ≡ Ok y → P y) → IfOk r P
 if_ok part (Ok y) s P e f = f y (was_ok part s y (sym e))
 if_ok part (Err p) s P e f = tt
+
+-- ---- a last step that can't pass
+pub err_before : {A B : Type 0} (part : Part) (r : Result A (Passed ℚ)) (h : A → B) (p : PassedAt ℚ) → at_part part (r >>= λ x. Ok (h x)) ≡ Err p → at_part part r ≡ Err p
+err_before part (Ok x) h p e = absurd (cc)
+err_before part (Err q) h p e = let same : placed part q ≡ p = cc in ap Err same
+
+pub ok_before : {A B : Type 0} (part : Part) (r : Result A (Passed ℚ)) (h : A → B) (y : B) → at_part part (r >>= λ x. Ok (h x)) ≡ Ok y → (x : A) × (r ≡ Ok x) × (h x ≡ y)
+ok_before part (Ok x) h y e = (x, refl, let same : h x ≡ y = cc in same)
+ok_before part (Err q) h y e = absurd (cc)
+
+-- ---- what is there so far, before what the rest gives
+pub front_err : {B : Type 0} (part : Part) (front : List B) (r : Result (List B) (Passed ℚ)) (p : PassedAt ℚ) → at_part part r ≡ Err p → at_part part (with_front front r) ≡ Err p
+front_err part front (Ok ys) p e = absurd (cc)
+front_err part front (Err q) p e = let same : placed part q ≡ p = cc in ap Err same
+
+pub front_more : {B : Type 0} (front more : List B) (r : Result (List B) (Passed ℚ)) → with_front front (r >>= λ ys. Ok (more ++ ys)) ≡ with_front (front ++ more) r
+front_more front more (Ok ys) = ap Ok (sym (append_assoc front more ys))
+front_more front more (Err q) = refl
+
+pub front_ends : {B : Type 0} (part : Part) (front : List B) (all : Result (List B) (Passed ℚ)) → with_front front (Ok []) ≡ all → at_part part all ≡ Ok front
+front_ends part front all e = ap (at_part part) (sym e) ∙ ap Ok (append-nil front)
+
+-- ---- where a step ends, so does the whole
+pub stops_on : {A B : Type 0} (h : Halt ℚ) (said : Result A (PassedAt ℚ)) (all : Result B (PassedAt ℚ)) → ((p : PassedAt ℚ) → said ≡ Err p → all ≡ Err p) → Stops (λ (q : ℚ). q) h said → Stops (λ (q : ℚ). q) h all
+stops_on (Halt.Passed p) said all f s = f _ s
+stops_on Halt.Memory said all f s = tt

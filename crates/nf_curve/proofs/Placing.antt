@@ -1,5 +1,5 @@
 -- Places on curves: what lies before and behind them.
-use Rattle.std.proofs.Common.{◌≡◌, ℕ, zero, suc, ◌+◌, ◌-◌, ◌<◌, ◌≤◌, List, [], ◌∷◌, length, ⊎_elim, Bool, true, false, refl, sym, ap, subst, ◌∙◌, arith}
+use Rattle.std.proofs.Common.{◌≡◌, ℕ, zero, suc, ◌-◌, ◌<◌, ◌≤◌, List, [], ◌∷◌, length, ⊎_elim, Bool, true, false, refl, sym, ap, subst, ◌∙◌, arith}
 use Rattle.std.specs.Prelude.{Option, Some, None, slice_get, Result, Ok, if◌then◌else◌}
 use Rattle.nf_rational.specs.Rational.{ℚ}
 use Rattle.nf_rational.specs.Operations.{0ℚ}
@@ -19,6 +19,13 @@ use Rattle.nf_curve_lists.specs.Lines.{checked_line}
 use Rattle.nf_curve_lists.specs.Values.{value_from, checked_value}
 use Rattle.nf_curve_laws.proofs.Operations.{is_same_cases}
 use Rattle.nf_curve.specs.Places.{place_of, value_between}
+
+-- ---- what the test of an order says
+pub below_of : (x y : ℚ) → lt_ℚ x y ≡ true → x <ℚ y
+below_of x y t = ⊎_elim (λ (w : (lt_ℚ x y ≡ true) × (x <ℚ y)). w.1) (λ (w : (lt_ℚ x y ≡ false) × (y ≤ℚ x)). absurd (cc)) (lt_ℚ_cases x y)
+
+pub not_below_of : (x y : ℚ) → lt_ℚ x y ≡ false → y ≤ℚ x
+not_below_of x y t = ⊎_elim (λ (w : (lt_ℚ x y ≡ true) × (x <ℚ y)). absurd (cc)) (λ (w : (lt_ℚ x y ≡ false) × (y ≤ℚ x)). w.1) (lt_ℚ_cases x y)
 
 -- ---- the place, by the first point's test
 pub place-behind : (time : ℚ) (p : Point) (rest : List Point) → time <ℚ p.0 → place_of time (p ∷ rest) ≡ zero
@@ -62,6 +69,14 @@ first-least : (x : Point) (rest : List Point) (i : ℕ) (p : Point) → TimesRis
 first-least x rest zero p r g = subst (λ (q : Point). x.0 ≤ℚ q.0) (let same : x ≡ p = cc in same) (≤_refl x.0)
 first-least x [] (suc i) p r g = absurd (cc)
 first-least x (y ∷ rest) (suc i) p r g = ≤_trans _ _ _ (≤ℚ_of_lt _ _ r.0) (first-least y rest i p r.1 g)
+
+-- of two points the one with the greater number is later
+pub rise-pairs : (points : List Point) (i j : ℕ) (p q : Point) → TimesRise points → slice_get points i ≡ Some p → slice_get points j ≡ Some q → i < j → p.0 <ℚ q.0
+rise-pairs [] i j p q r e f h = absurd (cc)
+rise-pairs (x ∷ rest) i zero p q r e f h = absurd (omega arith)
+rise-pairs (x ∷ []) i (suc j) p q r e f h = absurd (cc)
+rise-pairs (x ∷ y ∷ rest) zero (suc j) p q r e f h = subst (λ (z : Point). z.0 <ℚ q.0) (let same : x ≡ p = cc in same) (<_≤_trans _ _ _ r.0 (first-least y rest j q r.1 f))
+rise-pairs (x ∷ y ∷ rest) (suc i) (suc j) p q r e f h = rise-pairs (y ∷ rest) i j p q r.1 e f (omega arith)
 
 -- a point from the place on is after the time
 pub from-place : (time : ℚ) (points : List Point) (i : ℕ) (p : Point) → TimesRise points → slice_get points i ≡ Some p → place_of time points ≤ i → time <ℚ p.0

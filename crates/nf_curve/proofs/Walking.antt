@@ -1,5 +1,5 @@
 -- A walk along two curves comes to their times, one after the other.
-use Rattle.std.proofs.Common.{◌≡◌, ℕ, zero, suc, List, [], ◌∷◌, length, ⊎_elim, Bool, true, false, refl, sym, ap, subst, ◌∙◌}
+use Rattle.std.proofs.Common.{◌≡◌, ℕ, zero, suc, List, [], ◌∷◌, ⊎_elim, Bool, true, false, refl, sym, ap, subst, ◌∙◌}
 use Rattle.std.specs.Prelude.{Option, Some, None, slice_get, option_map, if◌then◌else◌}
 use Rattle.nf_rational.specs.Rational.{ℚ}
 use Rattle.nf_rational.specs.Operations.{0ℚ}
@@ -7,8 +7,8 @@ use Rattle.nf_rational.specs.Order.{◌≤ℚ◌, ◌<ℚ◌, lt_ℚ, min_ℚ}
 use Rattle.nf_rational_laws.proofs.Order.{≤ℚ_of_lt, ≤ℚ_of_same}
 use Rattle.nf_rational_laws.proofs.Tests.{lt_ℚ_cases}
 use Rattle.nf_model.specs.Curve.{Point, TimesRise, IsCurve}
-use Rattle.nf_model_laws.proofs.Affine.{<_≤_trans, ≤_trans, ≤_refl, clash}
-use Rattle.nf_curve_lists.specs.Times.{merged, merged_from, times_of, both_times}
+use Rattle.nf_model_laws.proofs.Affine.{≤_trans, ≤_refl, clash}
+use Rattle.nf_curve_lists.specs.Times.{merged, times_of, both_times}
 use Rattle.nf_curve_laws.proofs.Times.{merged_from-cases}
 use Rattle.nf_curve_laws.proofs.Least.{min-left, min-right}
 use Rattle.nf_curve.specs.Places.{place_of, later, times_after, earlier_of, ComesNext}

@@ -3,3 +3,5 @@ pub mod Flows
 pub mod Sides
 pub mod Places
 pub mod Moments
+pub mod Steps
+pub mod Differences

@@ -1,8 +1,8 @@
 -- A time on a walk along two curves, with its places on them.
-use Rattle.std.specs.Prelude.{◌≡◌, List, [], ◌∷◌, Option, Some, None}
+use Rattle.std.specs.Prelude.{◌≡◌, if◌then◌else◌, List, [], ◌∷◌, Option, Some, None}
 use Rattle.nf_rational.specs.Rational.{ℚ}
 use Rattle.nf_rational.specs.Operations.{0ℚ}
-use Rattle.nf_rational.specs.Order.{◌≤ℚ◌}
+use Rattle.nf_rational.specs.Order.{◌≤ℚ◌, lt_ℚ}
 use Rattle.nf_model.specs.Curve.{Point}
 use Rattle.nf_curve.specs.Places.{place_of, times_after}
 use Rattle.nf_curve.specs.declared.walk.Moment.{Moment}
@@ -21,3 +21,8 @@ IsThere left right (Some moment) = IsMoment left right moment
 abbrev pub times_left : List Point → List Point → Option Moment → List ℚ
 times_left left right None = []
 times_left left right (Some moment) = moment.time ∷ times_after moment.time left right
+
+-- where a walk is, if that is before the last time
+abbrev pub only_before : ℚ → Option Moment → Option Moment
+only_before last None = None
+only_before last (Some moment) = if lt_ℚ moment.time last then Some moment else None

@@ -1,16 +1,29 @@
 // Curves: points whose times rise strictly from 0.
-ghost use Rattle.std.specs.Prelude.{◌≡◌, ℕ, ◌+◌, ◌<◌, ◌≤◌, [], ◌∷◌, ◌++◌, length, IfOk, OnOk, OnErr, IsOk, slice_get, Some};
+ghost use Rattle.std.specs.Prelude.{◌≡◌, ℕ, ◌+◌, ◌<◌, ◌≤◌, [], ◌∷◌, ◌++◌, length, IfOk, OnOk, OnErr, IsOk, slice_get, Some, option_map};
+ghost use Rattle.nf_rational.specs.Rational.{ℚ};
 ghost use Rattle.nf_rational.specs.Operations.{0ℚ};
 ghost use Rattle.nf_rational.specs.Order.{◌≤ℚ◌, ◌<ℚ◌};
 ghost use Rattle.nf_work.specs.Passing.{bound_of, beyond};
-ghost use Rattle.nf_work.specs.Checked.{at_part, Gives};
-ghost use Rattle.nf_model.specs.Curve.{IsCurve, value as value_of};
-ghost use Rattle.nf_curve_lists.specs.Values.{checked_value};
+ghost use Rattle.nf_work.specs.Checked.{at_part, seen_at, Gives};
+ghost use Rattle.nf_model.specs.Curve.{IsCurve, Within, value as value_of};
+ghost use Rattle.nf_curve_lists.specs.Values.{checked_value, checked_cut};
 ghost use Rattle.nf_curve_lists.specs.Sums.{checked_sum};
-ghost use Rattle.nf_curve_lists.specs.Meanings.{IsSumOf};
+ghost use Rattle.nf_curve_lists.specs.Least.{checked_least};
+ghost use Rattle.nf_curve_lists.specs.Composed.{checked_composed};
+ghost use Rattle.nf_curve_lists.specs.Short.{checked_short};
+ghost use Rattle.nf_curve_lists.specs.Differences.{checked_difference};
+ghost use Rattle.nf_curve_lists.specs.Meanings.{IsSumOf, IsLeastOf, IsComposedOf, IsCutOf, IsShortOf, IsDifference};
 ghost use Rattle.nf_curve.specs.Points.{last_time};
+ghost use Rattle.nf_curve.specs.Sides.{sides_of};
+ghost use Rattle.nf_curve.specs.Differences.{difference_of};
 
+use crate::composed::composed_until;
+use crate::cut::cut_points;
+use crate::differences::difference_until;
+use crate::least::least_points;
+use crate::lines::Sides;
 use crate::places::{place_up, value_at};
+use crate::short::short_points;
 use crate::sums::sum_points;
 use nf_frac::{Halt, Part, PassedAt, Q};
 use std::alloc::{AllocError, Global};
@@ -108,6 +121,78 @@ impl Curve {
         let points = sum_points(alloc, &left.points, &right.points, part)?;
         Ok(Curve { points })
     }
+
+    /// The lesser of two curves at every time. Passed comes exactly at the first operation of its list that passes, and has this
+    /// part.
+    pub fn least(alloc: Global, left: &Curve, right: &Curve, part: Part) -> Result<Curve, Halt<Q>>
+        ensures list { Gives (λ c. c.points) (λ q. q) result
+            (at_part part (checked_least (beyond (bound_of 127)) left.now.points right.now.points)) }
+        ensures least { IfOk result (λ c. IsLeastOf left.now.points right.now.points c.points) }
+    {
+        let points = least_points(alloc, &left.points, &right.points, part)?;
+        Ok(Curve { points })
+    }
+
+    /// The curve up to the time `last`, which is at least 0: its points before that time, and then one at that time. Passed comes
+    /// exactly at the first operation of its list that passes, and has this part.
+    pub fn cut(&self, alloc: Global, last: Q, part: Part) -> Result<Curve, Halt<Q>>
+        requires { 0ℚ ≤ℚ last }
+        ensures list { Gives (λ c. c.points) (λ q. q) result
+            (at_part part (checked_cut (beyond (bound_of 127)) self.now.points last)) }
+        ensures cut { IfOk result (λ c. IsCutOf self.now.points last c.points) }
+    {
+        let points = cut_points(alloc, &self.points, last, part)?;
+        Ok(Curve { points })
+    }
+
+    /// `outer` at the value of `inner`, for the times from 0 to `until`, which is at least 0. There no value of `inner` may be
+    /// negative. Passed comes exactly at the first operation of its list that passes, and has this part.
+    pub fn compose(
+        alloc: Global,
+        outer: &Curve,
+        inner: &Curve,
+        until: Q,
+        part: Part,
+    ) -> Result<Curve, Halt<Q>>
+        requires until { 0ℚ ≤ℚ until }
+        requires inner { (time : ℚ) → Within 0ℚ until time → 0ℚ ≤ℚ value_of inner.now.points time }
+        ensures list { Gives (λ c. c.points) (λ q. q) result
+            (at_part part (checked_composed (beyond (bound_of 127)) outer.now.points inner.now.points until)) }
+        ensures composed { IfOk result (λ c. IsComposedOf outer.now.points inner.now.points until c.points) }
+    {
+        let points = composed_until(alloc, &outer.points, &inner.points, until, part)?;
+        Ok(Curve { points })
+    }
+
+    /// The same values in short form. Passed comes exactly at the first operation of its list that passes, and has this part.
+    pub fn short(alloc: Global, curve: &Curve, part: Part) -> Result<Curve, Halt<Q>>
+        ensures list { Gives (λ c. c.points) (λ q. q) result
+            (at_part part (checked_short (beyond (bound_of 127)) curve.now.points)) }
+        ensures short { IfOk result (λ c. IsShortOf curve.now.points c.points) }
+    {
+        let points = short_points(alloc, &curve.points, part)?;
+        Ok(Curve { points })
+    }
+
+    /// The first corner on the times from 0 to `until` at which two curves differ, with both values; None exactly where they agree
+    /// at every one of these times. Corners are time 0, `until`, and the times between at which the slope of one of them changes.
+    /// Passed comes exactly at the first operation of its list that passes, and has this part. Takes no memory.
+    pub fn first_difference(
+        left: &Curve,
+        right: &Curve,
+        until: Q,
+        part: Part,
+    ) -> Result<Option<Difference>, PassedAt<Q>>
+        requires { 0ℚ ≤ℚ until }
+        ensures list { seen_at (option_map difference_of) (λ q. q) result ≡
+            at_part part (checked_difference (beyond (bound_of 127)) left.now.points right.now.points until) }
+        ensures difference { IfOk result (λ d. IsDifference left.now.points right.now.points until (option_map difference_of d)) }
+    {
+        match difference_until(&left.points, &right.points, until, part)? {
+            Some(sides) => Ok(Some(Difference::of(sides))),
+            None => Ok(None),
+        }
+    }
 }
 
 /// Two curves differ at this time: the left one has this value there, and the right one that.
@@ -116,4 +201,17 @@ pub struct Difference {
     pub time: Q,
     pub left: Q,
     pub right: Q,
+}
+
+impl Difference {
+    // The sides of two curves that differ.
+    fn of(sides: Sides) -> Difference
+        ensures { difference_of result ≡ sides_of sides }
+    {
+        Difference {
+            time: sides.time,
+            left: sides.left,
+            right: sides.right,
+        }
+    }
 }

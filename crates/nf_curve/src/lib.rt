@@ -3,10 +3,15 @@
 //! Times and values are exact fractions. A curve is linear between neighbouring points and constant after the last one.
 #![tactic(auto)]
 
+mod composed;
 mod curve;
+mod cut;
+mod differences;
 mod flow;
+mod least;
 mod lines;
 mod places;
+mod short;
 mod sums;
 #[cfg(test)]
 mod tests;

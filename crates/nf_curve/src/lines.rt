@@ -61,9 +61,9 @@ pub(crate) fn inverse(p: &Point, q: &Point, value: Q, part: Part) -> Result<Q, P
 
 /// The time at which two curves cross that are linear from one time to a later one: the one that is below is above then.
 #[tactic(auto, unfolding(nf_curve_lists::specs::Lines::checked_cross), using(crate::proofs::Pieces::change_apart))]
-pub(crate) fn crossing_time(a: Sides, b: Sides, part: Part) -> Result<Q, PassedAt<Q>>
-    requires { is_crossed (sides_of a) (sides_of b) ≡ true }
-    ensures { result ≡ at_part part (checked_cross (beyond (bound_of 127)) (sides_of a) (sides_of b)) }
+pub(crate) fn crossing_time(a: &Sides, b: &Sides, part: Part) -> Result<Q, PassedAt<Q>>
+    requires { is_crossed (sides_of a.now) (sides_of b.now) ≡ true }
+    ensures { result ≡ at_part part (checked_cross (beyond (bound_of 127)) (sides_of a.now) (sides_of b.now)) }
 {
     let before = at!(part, a.left.difference(a.right));
     let after = at!(part, b.left.difference(b.right));

@@ -1,6 +1,7 @@
 // A walk along two curves, from time to time: the times of the points of either, in rising order.
-ghost use Rattle.std.specs.Prelude.{◌≡◌, ◌∷◌, slice_get, option_map};
+ghost use Rattle.std.specs.Prelude.{◌≡◌, ◌∷◌, slice_get, option_map, IfSome, IfOk};
 ghost use Rattle.nf_rational.specs.Operations.{0ℚ};
+ghost use Rattle.nf_rational.specs.Order.{◌<ℚ◌};
 ghost use Rattle.nf_work.specs.Passing.{bound_of, beyond};
 ghost use Rattle.nf_work.specs.Checked.{at_part, seen_at};
 ghost use Rattle.nf_model.specs.Curve.{IsCurve};
@@ -67,6 +68,7 @@ pub(crate) fn next_moment(left: &[Point], right: &[Point], now: &Moment) -> Opti
     requires there { IsMoment left.now right.now now.now }
     ensures there { IsThere left.now right.now result }
     ensures times { times_after now.now.time left.now right.now ≡ times_left left.now right.now result }
+    ensures later { IfSome result (λ next. now.now.time <ℚ next.time) }
 {
     let Some(time) = earlier(time_at(left, now.left), time_at(right, now.right)) else {
         return None;
@@ -88,7 +90,8 @@ pub(crate) fn sides_at(
     requires left { IsCurve left.now }
     requires right { IsCurve right.now }
     requires there { IsMoment left.now right.now now.now }
-    ensures { seen_at sides_of (λ q. q) result ≡ at_part part (sides_by (beyond (bound_of 127)) left.now right.now now.now.time) }
+    ensures list { seen_at sides_of (λ q. q) result ≡ at_part part (sides_by (beyond (bound_of 127)) left.now right.now now.now.time) }
+    ensures time { IfOk result (λ sides. sides.time ≡ now.now.time) }
 {
     let left_value = value_at(left, now.left, now.time, part)?;
     let right_value = value_at(right, now.right, now.time, part)?;

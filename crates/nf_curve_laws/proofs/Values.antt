@@ -1,6 +1,6 @@
 -- The value that is computed, and a curve that is cut.
-use Rattle.std.proofs.Common.{◌≡◌, List, [], ◌∷◌, ◌++◌, ⊎_elim, Bool, true, false, refl, sym, ap, subst, ◌∙◌}
-use Rattle.std.specs.Prelude.{Ok, if◌then◌else◌}
+use Rattle.std.proofs.Common.{◌≡◌, ℕ, Some, List, [], ◌∷◌, ◌++◌, ⊎_elim, Bool, true, false, refl, sym, ap, subst, ◌∙◌}
+use Rattle.std.specs.Prelude.{Ok, if◌then◌else◌, slice_get}
 use Rattle.nf_rational.specs.Rational.{ℚ}
 use Rattle.nf_rational.specs.Operations.{0ℚ, ◌+ℚ◌, ◌-ℚ◌, ◌*ℚ◌}
 use Rattle.nf_rational.specs.Order.{◌≤ℚ◌, ◌<ℚ◌, lt_ℚ}
@@ -18,7 +18,7 @@ use Rattle.nf_curve_lists.specs.Lines.{checked_line}
 use Rattle.nf_curve_lists.specs.Values.{points_before, value_from, checked_value, checked_cut}
 use Rattle.nf_curve_lists.specs.Meanings.{IsCutOf}
 use Rattle.nf_curve_laws.proofs.Operations.{then_ok, is_same_cases, checked_line-is}
-use Rattle.nf_curve_laws.proofs.Following.{FollowsFrom, ends, goes, follows-rises, value-follows}
+use Rattle.nf_curve_laws.proofs.Following.{FollowsFrom, ends, goes, LiesOn, follows-each, follows-rises, value-follows}
 use Rattle.nf_rational_laws.proofs.Chains.{≤ℚ_refl, ≤ℚ_trans}
 use Rattle.nf_plain_laws.proofs.Results.{same_Ok}
 
@@ -132,3 +132,11 @@ checked_cut-values passes points last cut c h e =
       curve = follows-curve (value points) last w.first w.rest w.begins w.follows;
       values = λ time i. follows-values (value points) last w.first w.rest time w.begins w.follows i.0 i.1;
     })
+
+-- each point of a cut is on the curve, at a time up to the last one
+pub checked_cut-each : (passes : Passing) (points : List Point) (last : ℚ) (cut : List Point) (i : ℕ) (x : Point) → IsCurve points → 0ℚ ≤ℚ last → checked_cut passes points last ≡ Ok cut → slice_get cut i ≡ Some x
+    → LiesOn (value points) last 0ℚ x
+checked_cut-each passes points last cut i x c h e g =
+    let w : Cut passes points last cut = checked_cut-is passes points last cut c h e in
+    subst (λ (t : ℚ). LiesOn (value points) last t x) w.begins
+    (follows-each (value points) last w.first w.rest i x w.follows (ap (λ (l : List Point). slice_get l i) (sym w.cut_is) ∙ g))

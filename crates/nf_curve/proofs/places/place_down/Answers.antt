@@ -1,7 +1,6 @@
-use Rattle.std.proofs.Common.{◌≡◌, ◌+◌, ◌<◌, ◌≤◌, ◌-◌, length, sym, ◌∙◌, arith}
+use Rattle.std.proofs.Common.{◌<◌, ◌-◌, length, sym, ◌∙◌, arith}
 use Rattle.std.proofs.lemmas.Option.{slice_get-get_or}
-use Rattle.nf_curve.specs.Places.{place_of}
-use Rattle.nf_curve.proofs.Placing.{place_within, not-yet, too-far}
+use Rattle.nf_curve.proofs.Placing.{not-yet, too-far}
 use Rattle.nf_curve.proofs.places.place_down.Goals as goal
 
 pub loop-place-preserved : goal.loop-place-preserved

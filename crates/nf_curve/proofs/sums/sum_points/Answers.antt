@@ -1,4 +1,4 @@
-use Rattle.std.proofs.Common.{◌≡◌, List, [], ◌∷◌, ◌++◌, Some, sym, ap, subst, ◌∙◌}
+use Rattle.std.proofs.Common.{◌≡◌, List, sym, ap, ◌∙◌}
 use Rattle.std.proofs.lemmas.Result.{err_from_is_err_and}
 use Rattle.nf_rational.specs.Rational.{ℚ}
 use Rattle.nf_work.specs.Passing.{bound_of, beyond}
@@ -7,7 +7,6 @@ use Rattle.nf_work.proofs.Each.{with_front}
 use Rattle.nf_curve_lists.specs.Times.{both_times}
 use Rattle.nf_curve_lists.specs.Sums.{sum_at, checked_sum}
 use Rattle.nf_curve.specs.Places.{times_after}
-use Rattle.nf_curve.specs.Moments.{times_left}
 use Rattle.nf_curve.proofs.Exits.{each_goes, each_stops, each_ends}
 use Rattle.nf_curve.proofs.sums.sum_points.Goals as goal
 

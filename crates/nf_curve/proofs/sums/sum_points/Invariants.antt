@@ -1,4 +1,4 @@
-use Rattle.std.proofs.Common.{◌≡◌, ℕ, length}
+use Rattle.std.proofs.Common.{◌≡◌, length}
 use Rattle.nf_work.specs.Passing.{bound_of, beyond}
 use Rattle.nf_work.specs.Checked.{each}
 use Rattle.nf_work.proofs.Each.{with_front}

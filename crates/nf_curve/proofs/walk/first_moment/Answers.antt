@@ -1,5 +1,4 @@
 use Rattle.nf_curve.proofs.Walking.{walk-begins}
-use Rattle.nf_curve.proofs.Placing.{curve-rises}
 use Rattle.nf_curve.proofs.walk.first_moment.Goals as goal
 
 pub returns-clause-times : goal.returns-clause-times

@@ -1,7 +1,7 @@
-use Rattle.std.proofs.Common.{◌≡◌, ◌≤◌, sym, subst, ◌∙◌, arith}
+use Rattle.std.proofs.Common.{arith}
 use Rattle.nf_rational_laws.proofs.Order.{≤ℚ_of_lt}
 use Rattle.nf_model_laws.proofs.Affine.{≤_trans}
-use Rattle.nf_curve.proofs.Placing.{place-rises, curve-rises}
+use Rattle.nf_curve.proofs.Placing.{place-rises}
 use Rattle.nf_curve.proofs.Walking.{walk-ends, walk-goes}
 use Rattle.nf_curve.proofs.walk.next_moment.Goals as goal
 
@@ -32,3 +32,7 @@ returns-clause-there c =
 pub returns-clause-times : goal.returns-clause-times
 returns-clause-times c = (walk-goes c.args.left.now c.args.right.now c.requires.left c.requires.right c.args.now.now c.requires.there c.time_at.result c.time_at-2.result c.earlier.result
     c.time_at.ensures c.time_at-2.ensures c.earlier.ensures c.in-Some.time c.in-Some.is).1
+
+pub returns-clause-later : goal.returns-clause-later
+returns-clause-later c = (walk-goes c.args.left.now c.args.right.now c.requires.left c.requires.right c.args.now.now c.requires.there c.time_at.result c.time_at-2.result c.earlier.result
+    c.time_at.ensures c.time_at-2.ensures c.earlier.ensures c.in-Some.time c.in-Some.is).0

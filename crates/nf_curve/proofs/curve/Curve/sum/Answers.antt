@@ -1,8 +1,7 @@
-use Rattle.std.proofs.Common.{◌≡◌, Ok, sym, subst, rules}
+use Rattle.std.proofs.Common.{rules}
 use Rattle.nf_work.specs.Passing.{bound_of, beyond}
 use Rattle.nf_model.specs.Curve.{IsCurve}
 use Rattle.nf_curve_lists.specs.Sums.{checked_sum}
-use Rattle.nf_curve_lists.specs.Meanings.{IsSumOf}
 use Rattle.nf_curve_laws.proofs.Sums.{checked_sum-is}
 use Rattle.nf_curve.proofs.Exits.{was_ok}
 use Rattle.nf_curve.proofs.curve.Curve.sum.Goals as goal

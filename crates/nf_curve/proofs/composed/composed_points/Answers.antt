@@ -1,0 +1,66 @@
+use Rattle.std.proofs.Common.{◌≡◌, ℕ, ◌<◌, ◌+◌, ◌-◌, length, drop, Some, refl, sym, ap, ◌∙◌, arith}
+use Rattle.std.specs.Prelude.{slice_get}
+use Rattle.std.proofs.lemmas.Option.{slice_get_read}
+use Rattle.std.proofs.lemmas.Result.{err_from_is_err_and}
+use Rattle.nf_rational.specs.Rational.{ℚ}
+use Rattle.nf_work.specs.Passing.{bound_of, beyond}
+use Rattle.nf_curve_lists.specs.Composed.{composed_all}
+use Rattle.nf_curve.specs.Places.{place_of}
+use Rattle.nf_curve.specs.Steps.{behind}
+use Rattle.nf_curve.proofs.Points.{points_there}
+use Rattle.nf_curve.proofs.Placing.{rise-pairs, curve-rises}
+use Rattle.nf_curve.proofs.Composing.{pieces_go, last_stops}
+use Rattle.nf_curve.proofs.composed.composed_points.Goals as goal
+
+pub add_piece-requires-clause-later : goal.add_piece-requires-clause-later
+add_piece-requires-clause-later c =
+    let a : c.loop-i.i - 1 < length c.args.inner.now = omega arith in
+    rise-pairs c.args.inner.now (c.loop-i.i - 1) c.loop-i.i c.index-inner-i.result c.index-inner-i-in-loop-i.result (curve-rises c.args.inner.now c.requires.inner)
+    (slice_get_read c.args.inner.now _ (c.loop-i.i - 1) c.index-inner-i.result refl a c.index-inner-i.is)
+    (slice_get_read c.args.inner.now _ c.loop-i.i c.index-inner-i-in-loop-i.result refl c.loop-i-test.true c.index-inner-i-in-loop-i.is) (omega arith)
+
+pub add_piece-requires-clause-value : goal.add_piece-requires-clause-value
+add_piece-requires-clause-value c =
+    let a : c.loop-i.i - 1 < length c.args.inner.now = omega arith in
+    c.requires.values (c.loop-i.i - 1) c.index-inner-i.result (slice_get_read c.args.inner.now _ (c.loop-i.i - 1) c.index-inner-i.result refl a c.index-inner-i.is)
+
+pub add_piece-requires-clause-place : goal.add_piece-requires-clause-place
+add_piece-requires-clause-place c =
+    let a : c.loop-i.i - 1 < length c.args.inner.now = omega arith in
+    c.loop-i.invariant.place c.index-inner-i.result (slice_get_read c.args.inner.now _ (c.loop-i.i - 1) c.index-inner-i.result refl a c.index-inner-i.is)
+
+pub loop-i-preserved : goal.loop-i-preserved
+loop-i-preserved c =
+    let a : c.loop-i.i - 1 < length c.args.inner.now = omega arith in
+    let n : c.loop-i.i + 1 - 1 ≡ c.loop-i.i = omega arith in
+    let g = slice_get_read c.args.inner.now _ (c.loop-i.i - 1) c.index-inner-i.result refl a c.index-inner-i.is in
+    let k = slice_get_read c.args.inner.now _ c.loop-i.i c.index-inner-i-in-loop-i.result refl c.loop-i-test.true c.index-inner-i-in-loop-i.is in
+    record {
+      place = λ p e. c.in_ok-place.ensures.place ∙ ap (λ (x : ℚ × ℚ). place_of x.1 c.args.outer.now) (let h : slice_get c.args.inner.now c.loop-i.i ≡ Some p = ap (slice_get c.args.inner.now) (sym n) ∙ e in let same : c.index-inner-i-in-loop-i.result ≡ p = cc in same);
+      so_far = ap (λ (m : ℕ). behind c.add_piece.new.composed.items (composed_all (beyond (bound_of 127)) c.args.outer.now (drop m c.args.inner.now))) n
+          ∙ pieces_go (beyond (bound_of 127)) c.args.part c.args.outer.now c.args.inner.now c.loop-i.composed.items _ (c.loop-i.i - 1) c.loop-i.i c.index-inner-i.result c.index-inner-i-in-loop-i.result (omega arith) g k
+          c.loop-i.invariant.so_far c.add_piece.new.composed.items c.in_ok-place.ensures.points;
+    }
+
+pub value_at-requires-clause-time : goal.value_at-requires-clause-time
+value_at-requires-clause-time c =
+    let some = points_there c.args.inner.now c.requires.inner in
+    let a : length c.args.inner.now - 1 < length c.args.inner.now = omega arith in
+    c.requires.values (length c.args.inner.now - 1) c.index-inner-inner.result (slice_get_read c.args.inner.now _ (length c.args.inner.now - 1) c.index-inner-inner.result refl a c.index-inner-inner.is)
+
+pub value_at-requires-clause-place : goal.value_at-requires-clause-place
+value_at-requires-clause-place c =
+    let some = points_there c.args.inner.now c.requires.inner in
+    let a : length c.args.inner.now - 1 < length c.args.inner.now = omega arith in
+    let i : c.loop-i.i - 1 ≡ length c.args.inner.now - 1 = omega arith in
+    c.loop-i.invariant.place c.index-inner-inner.result (ap (slice_get c.args.inner.now) i ∙ slice_get_read c.args.inner.now _ (length c.args.inner.now - 1) c.index-inner-inner.result refl a c.index-inner-inner.is)
+
+pub returns-in_err-value : goal.returns-in_err-value
+returns-in_err-value c =
+    let p = err_from_is_err_and c.from_residual-in_err-value.result c.from_residual-in_err-value.ensures.1 in
+    let some = points_there c.args.inner.now c.requires.inner in
+    let a : length c.args.inner.now - 1 < length c.args.inner.now = omega arith in
+    let i : c.loop-i.i - 1 ≡ length c.args.inner.now - 1 = omega arith in
+    let g = slice_get_read c.args.inner.now _ (length c.args.inner.now - 1) c.index-inner-inner.result refl a c.index-inner-inner.is in
+    rw (p.1, p.2) (last_stops (beyond (bound_of 127)) c.args.part c.args.outer.now c.args.inner.now c.loop-i.composed.items _ (length c.args.inner.now - 1) c.index-inner-inner.result g (omega arith)
+    (ap (λ (m : ℕ). behind c.loop-i.composed.items (composed_all (beyond (bound_of 127)) c.args.outer.now (drop m c.args.inner.now))) (sym i) ∙ c.loop-i.invariant.so_far) c.in_err-value.field-0.0 (sym c.in_err-value.ensures))

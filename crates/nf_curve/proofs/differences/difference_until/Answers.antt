@@ -1,0 +1,68 @@
+use Rattle.std.proofs.Common.{◌≡◌, ◌<◌, length, Some, sym, ap, subst, ◌∙◌, arith}
+use Rattle.std.specs.Prelude.{Ok, Option, option_map}
+use Rattle.std.proofs.lemmas.Result.{err_from_is_err_and}
+use Rattle.nf_rational.specs.Order.{◌<ℚ◌}
+use Rattle.nf_rational_laws.proofs.Order.{≤ℚ_of_lt}
+use Rattle.nf_work.specs.Passing.{bound_of, beyond}
+use Rattle.nf_curve_lists.specs.Differences.{times_before, difference_from, checked_difference}
+use Rattle.nf_curve.specs.Sides.{sides_of}
+use Rattle.nf_curve.specs.declared.lines.Sides.{Sides}
+use Rattle.nf_curve.specs.Places.{times_after}
+use Rattle.nf_curve.specs.Moments.{times_left}
+use Rattle.nf_curve.specs.declared.walk.Moment.{Moment}
+use Rattle.nf_curve.proofs.Placing.{place-rises}
+use Rattle.nf_curve.proofs.Differing.{Kept, kept-before, step_stops, step_ends, step_goes}
+use Rattle.nf_curve.proofs.differences.difference_until.Goals as goal
+
+pub loop-now-init : goal.loop-now-init
+unfolding checked_difference
+loop-now-init c =
+    let k : Kept c.args.last c.args.left.now c.args.right.now (Some c.first_moment.result) c.only_before-now.result =
+    kept-before c.args.last c.args.left.now c.args.right.now (Some c.first_moment.result) c.only_before-now.result c.only_before-now.ensures c.first_moment.ensures.there in
+    record {
+      there = k.there;
+      before = k.before;
+      left_place = omega arith;
+      right_place = omega arith;
+      so_far = ap (difference_from (beyond (bound_of 127)) c.args.left.now c.args.right.now c.args.last) (k.times ∙ ap (times_before c.args.last) (sym c.first_moment.ensures.times));
+    }
+
+pub returns-in_err-sides : goal.returns-in_err-sides
+returns-in_err-sides c =
+    let p = err_from_is_err_and c.from_residual.result c.from_residual.ensures.1 in
+    rw (p.1, p.2) (sym (step_stops (beyond (bound_of 127)) c.args.left.now c.args.right.now c.args.last c.args.part c.in-Some.moment.time (times_after c.in-Some.moment.time c.args.left.now c.args.right.now) _
+    (rw c.in-Some.is at c.loop-now.invariant.before) (rw c.in-Some.is at c.loop-now.invariant.so_far) c.in_err-sides.field-0.0 (sym c.in_err-sides.ensures)))
+
+pub returns-in-Some-2 : goal.returns-in-Some-2
+returns-in-Some-2 c = sym (step_ends (beyond (bound_of 127)) c.args.left.now c.args.right.now c.args.last c.args.part c.in-Some.moment.time (times_after c.in-Some.moment.time c.args.left.now c.args.right.now) _
+    (rw c.in-Some.is at c.loop-now.invariant.before) (rw c.in-Some.is at c.loop-now.invariant.so_far) (sides_of c.in-Some-2.sides)
+    (sym c.in_ok-sides.ensures ∙ ap (λ (o : Option Sides). Ok (option_map sides_of o)) c.in-Some-2.is))
+
+pub loop-now-smaller : goal.loop-now-smaller
+loop-now-smaller c =
+    let k : Kept c.args.last c.args.left.now c.args.right.now c.next_moment.result c.only_before-now-in-Some.result =
+    kept-before c.args.last c.args.left.now c.args.right.now c.next_moment.result c.only_before-now-in-Some.result c.only_before-now-in-Some.ensures c.next_moment.ensures.there in
+    let f = k.fewer in
+    let e : length (times_after c.in-Some.moment.time c.args.left.now c.args.right.now) ≡ length (times_left c.args.left.now c.args.right.now c.next_moment.result) = ap length c.next_moment.ensures.times in
+    let h : length (times_left c.args.left.now c.args.right.now c.only_before-now-in-Some.result) < length (times_left c.args.left.now c.args.right.now (Some c.in-Some.moment)) = omega arith in
+    subst (λ (o : Option Moment). length (times_left c.args.left.now c.args.right.now c.only_before-now-in-Some.result) < length (times_left c.args.left.now c.args.right.now o)) (sym c.in-Some.is) h
+
+pub loop-now-preserved : goal.loop-now-preserved
+loop-now-preserved c =
+    let k : Kept c.args.last c.args.left.now c.args.right.now c.next_moment.result c.only_before-now-in-Some.result =
+    kept-before c.args.last c.args.left.now c.args.right.now c.next_moment.result c.only_before-now-in-Some.result c.only_before-now-in-Some.ensures c.next_moment.ensures.there in
+    let b : c.in-Some.moment.time <ℚ c.args.last = rw c.in-Some.is at c.loop-now.invariant.before in
+    let t = rw c.in-Some.is at c.loop-now.invariant.there in
+    let l = place-rises c.in-Some.moment.time c.args.last c.args.left.now (≤ℚ_of_lt _ _ b) in
+    let r = place-rises c.in-Some.moment.time c.args.last c.args.right.now (≤ℚ_of_lt _ _ b) in
+    let i = t.left_place in
+    let j = t.right_place in
+    record {
+      there = k.there;
+      before = k.before;
+      left_place = omega arith;
+      right_place = omega arith;
+      so_far = ap (difference_from (beyond (bound_of 127)) c.args.left.now c.args.right.now c.args.last) (k.times ∙ ap (times_before c.args.last) (sym c.next_moment.ensures.times))
+          ∙ step_goes (beyond (bound_of 127)) c.args.left.now c.args.right.now c.args.last c.args.part c.in-Some.moment.time (times_after c.in-Some.moment.time c.args.left.now c.args.right.now) _
+          b (rw c.in-Some.is at c.loop-now.invariant.so_far) (sym c.in_ok-sides.ensures ∙ ap (λ (o : Option Sides). Ok (option_map sides_of o)) c.in_default-2.is);
+    }

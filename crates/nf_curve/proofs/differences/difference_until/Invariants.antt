@@ -1,0 +1,21 @@
+use Rattle.std.proofs.Common.{◌≡◌, ◌≤◌, length}
+use Rattle.std.specs.Prelude.{IfSome}
+use Rattle.nf_rational.specs.Order.{◌<ℚ◌}
+use Rattle.nf_work.specs.Passing.{bound_of, beyond}
+use Rattle.nf_curve_lists.specs.Differences.{times_before, difference_from, checked_difference}
+use Rattle.nf_curve.specs.Places.{place_of}
+use Rattle.nf_curve.specs.Moments.{IsThere, times_left}
+use Rattle.nf_curve.proofs.differences.difference_until.Given as goal
+
+-- no difference so far: what the times to come give is what all of them give
+abbrev pub invariant-loop-now : goal.invariant-loop-now
+invariant-loop-now l = record {
+  there : IsThere l.left l.right l.now;
+  before : IfSome l.now (λ moment. moment.time <ℚ l.fn.last);
+  left_place : l.places.0 ≤ place_of l.fn.last l.left;
+  right_place : l.places.1 ≤ place_of l.fn.last l.right;
+  so_far : difference_from (beyond (bound_of 127)) l.left l.right l.fn.last (times_before l.fn.last (times_left l.left l.right l.now)) ≡ checked_difference (beyond (bound_of 127)) l.left l.right l.fn.last;
+}
+
+abbrev pub decreases-loop-now : goal.decreases-loop-now
+decreases-loop-now l = length (times_left l.left l.right l.now)

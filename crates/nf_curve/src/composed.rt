@@ -1,0 +1,181 @@
+// A curve at the values of another.
+ghost use Rattle.std.specs.Prelude.{◌≡◌, ◌≢◌, ℕ, ◌++◌, reverse, slice_get, Some, IfOk};
+ghost use Rattle.std.specs.List.{filter};
+ghost use Rattle.nf_rational.specs.Rational.{ℚ};
+ghost use Rattle.nf_rational.specs.Operations.{0ℚ};
+ghost use Rattle.nf_rational.specs.Order.{◌≤ℚ◌, ◌<ℚ◌, lt_ℚ};
+ghost use Rattle.nf_work.specs.Passing.{bound_of, beyond};
+ghost use Rattle.nf_work.specs.Checked.{at_part, each, Gives};
+ghost use Rattle.nf_model.specs.Curve.{IsCurve, Within, value};
+ghost use Rattle.nf_curve_lists.specs.Composed.{corner_at as corner_by, points_along, composed_piece, composed_all, checked_composed};
+ghost use Rattle.nf_curve.specs.Places.{place_of};
+ghost use Rattle.nf_curve.specs.Steps.{behind};
+
+use crate::cut::cut_points;
+use crate::lines::{Point, inverse};
+use crate::places::{place_down, place_up, value_at};
+use nf_frac::{Halt, Part, PassedAt, Q};
+use std::alloc::Global;
+
+// Where the piece from p to q of the inner curve comes to a point of the outer one.
+fn corner_at(p: &Point, q: &Point, corner: &Point, part: Part) -> Result<Point, PassedAt<Q>>
+    requires later { p.now.0 <ℚ q.now.0 }
+    requires apart { p.now.1 ≢ q.now.1 }
+    ensures { result ≡ at_part part (corner_by (beyond (bound_of 127)) p.now q.now corner.now) }
+{
+    let time = inverse(p, q, corner.0, part)?;
+    Ok((time, corner.1))
+}
+
+// Where a piece that goes up comes to these points of the outer curve, but not to one at the piece's end.
+fn add_corners_up(
+    composed: &mut Vec<Point>,
+    between: &[Point],
+    p: &Point,
+    q: &Point,
+    part: Part,
+) -> Result<(), Halt<Q>>
+    requires later { p.now.0 <ℚ q.now.0 }
+    requires up { p.now.1 <ℚ q.now.1 }
+    ensures { Gives (λ _. composed.new.items) (λ q. q) result
+        (at_part part (behind composed.old.items (each (corner_by (beyond (bound_of 127)) p.now q.now) (filter (λ c. lt_ℚ c.0 q.now.1) between.now)))) }
+{
+    for corner in between {
+        if corner.0.is_below(q.1) {
+            let point = corner_at(p, q, corner, part)?;
+            composed.push(point)?;
+        }
+    }
+    Ok(())
+}
+
+// Where a piece that goes down comes to these points of the outer curve, but not to one at the piece's beginning: the last of them
+// comes first.
+fn add_corners_down(
+    composed: &mut Vec<Point>,
+    between: &[Point],
+    p: &Point,
+    q: &Point,
+    part: Part,
+) -> Result<(), Halt<Q>>
+    requires later { p.now.0 <ℚ q.now.0 }
+    requires down { q.now.1 <ℚ p.now.1 }
+    ensures { Gives (λ _. composed.new.items) (λ q. q) result
+        (at_part part (behind composed.old.items (each (corner_by (beyond (bound_of 127)) p.now q.now) (filter (λ c. lt_ℚ c.0 p.now.1) (reverse between.now))))) }
+{
+    let mut left = between.len();
+    while left > 0 {
+        left -= 1;
+        let corner = &between[left];
+        if corner.0.is_below(p.1) {
+            let point = corner_at(p, q, corner, part)?;
+            composed.push(point)?;
+        }
+    }
+    Ok(())
+}
+
+// Where a piece comes to points of the outer curve, by the places of its first and its last value.
+fn add_corners(
+    composed: &mut Vec<Point>,
+    outer: &[Point],
+    places: (usize, usize),
+    p: &Point,
+    q: &Point,
+    part: Part,
+) -> Result<(), Halt<Q>>
+    requires outer { IsCurve outer.now }
+    requires later { p.now.0 <ℚ q.now.0 }
+    requires first { places.0 ≡ place_of p.now.1 outer.now }
+    requires last { places.1 ≡ place_of q.now.1 outer.now }
+    ensures { Gives (λ _. composed.new.items) (λ q. q) result
+        (at_part part (behind composed.old.items (each (corner_by (beyond (bound_of 127)) p.now q.now) (points_along (lt_ℚ p.now.1 q.now.1) p.now.1 q.now.1 outer.now)))) }
+{
+    let (first, last) = places;
+    if p.1.is_below(q.1) {
+        add_corners_up(composed, &outer[first..last], p, q, part)
+    } else if q.1.is_below(p.1) {
+        add_corners_down(composed, &outer[last..first], p, q, part)
+    } else {
+        Ok(())
+    }
+}
+
+// The place of a value, from the place of another.
+fn place_from(outer: &[Point], place: usize, from: Q, to: Q) -> usize
+    requires outer { IsCurve outer.now }
+    requires place { place ≡ place_of from outer.now }
+    ensures { result ≡ place_of to outer.now }
+{
+    if from.is_below(to) {
+        place_up(outer, place, to)
+    } else {
+        place_down(outer, place, to)
+    }
+}
+
+// The points of a piece: where it begins, and where it comes to points of the outer curve. The place of its last value.
+fn add_piece(
+    composed: &mut Vec<Point>,
+    outer: &[Point],
+    place: usize,
+    p: &Point,
+    q: &Point,
+    part: Part,
+) -> Result<usize, Halt<Q>>
+    requires outer { IsCurve outer.now }
+    requires later { p.now.0 <ℚ q.now.0 }
+    requires value { 0ℚ ≤ℚ p.now.1 }
+    requires place { place ≡ place_of p.now.1 outer.now }
+    ensures points { Gives (λ _. composed.new.items) (λ q. q) result
+        (at_part part (behind composed.old.items (composed_piece (beyond (bound_of 127)) outer.now p.now q.now))) }
+    ensures place { IfOk result (λ next. next ≡ place_of q.now.1 outer.now) }
+{
+    let value = value_at(outer, place, p.1, part)?;
+    composed.push((p.0, value))?;
+    let next = place_from(outer, place, p.1, q.1);
+    add_corners(composed, outer, (place, next), p, q, part)?;
+    Ok(next)
+}
+
+// The points of the outer curve at the values of the inner one, from its first point to its last.
+fn composed_points(
+    alloc: Global,
+    outer: &[Point],
+    inner: &[Point],
+    part: Part,
+) -> Result<Vec<Point>, Halt<Q>>
+    requires outer { IsCurve outer.now }
+    requires inner { IsCurve inner.now }
+    requires values { (i : ℕ) (p : ℚ × ℚ) → slice_get inner.now i ≡ Some p → 0ℚ ≤ℚ p.1 }
+    ensures { Gives (λ points. points.items) (λ q. q) result (at_part part (composed_all (beyond (bound_of 127)) outer.now inner.now)) }
+{
+    let mut composed = Vec::new(alloc);
+    let mut place = place_up(outer, 0, inner[0].1);
+    for i in 1..inner.len() {
+        place = add_piece(&mut composed, outer, place, &inner[i - 1], &inner[i], part)?;
+    }
+    let end = &inner[inner.len() - 1];
+    let value = value_at(outer, place, end.1, part)?;
+    composed.push((end.0, value))?;
+    Ok(composed)
+}
+
+/// The points of the outer curve at the values of the inner one, at the times from 0 to the last one.
+#[tactic(auto, unfolding(nf_curve_lists::specs::Composed::checked_composed))]
+pub(crate) fn composed_until(
+    alloc: Global,
+    outer: &[Point],
+    inner: &[Point],
+    last: Q,
+    part: Part,
+) -> Result<Vec<Point>, Halt<Q>>
+    requires outer { IsCurve outer.now }
+    requires inner { IsCurve inner.now }
+    requires last { 0ℚ ≤ℚ last }
+    requires values { (time : ℚ) → Within 0ℚ last time → 0ℚ ≤ℚ value inner.now time }
+    ensures { Gives (λ points. points.items) (λ q. q) result (at_part part (checked_composed (beyond (bound_of 127)) outer.now inner.now last)) }
+{
+    let cut = cut_points(alloc, inner, last, part)?;
+    composed_points(alloc, outer, &cut, part)
+}

@@ -1,0 +1,45 @@
+// A curve up to a last time.
+ghost use Rattle.std.specs.Prelude.{◌≡◌, ◌++◌, OnOk};
+ghost use Rattle.nf_rational.specs.Operations.{0ℚ};
+ghost use Rattle.nf_rational.specs.Order.{◌≤ℚ◌};
+ghost use Rattle.nf_work.specs.Passing.{bound_of, beyond};
+ghost use Rattle.nf_work.specs.Checked.{at_part, Gives};
+ghost use Rattle.nf_model.specs.Curve.{IsCurve};
+ghost use Rattle.nf_curve_lists.specs.Values.{points_before, checked_cut};
+
+use crate::lines::Point;
+use crate::places::{place_up, value_at};
+use nf_frac::{Halt, Part, Q};
+use std::alloc::{AllocError, Global};
+
+// The points before a time are put behind those that are there.
+fn add_before(cut: &mut Vec<Point>, points: &[Point], last: Q) -> Result<(), AllocError>
+    ensures { OnOk result (cut.new.items ≡ cut.old.items ++ points_before last points.now) }
+{
+    for point in points {
+        if !point.0.is_below(last) {
+            return Ok(());
+        }
+        cut.push(*point)?;
+    }
+    Ok(())
+}
+
+/// The points of a curve before a last time, and then one at that time.
+#[tactic(auto, unfolding(nf_curve_lists::specs::Values::checked_cut))]
+pub(crate) fn cut_points(
+    alloc: Global,
+    points: &[Point],
+    last: Q,
+    part: Part,
+) -> Result<Vec<Point>, Halt<Q>>
+    requires curve { IsCurve points.now }
+    requires last { 0ℚ ≤ℚ last }
+    ensures { Gives (λ cut. cut.items) (λ q. q) result (at_part part (checked_cut (beyond (bound_of 127)) points.now last)) }
+{
+    let value = value_at(points, place_up(points, 0, last), last, part)?;
+    let mut cut = Vec::new(alloc);
+    add_before(&mut cut, points, last)?;
+    cut.push((last, value))?;
+    Ok(cut)
+}

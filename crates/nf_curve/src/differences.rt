@@ -1,0 +1,155 @@
+// The first corner at which two curves differ.
+ghost use Rattle.std.specs.Prelude.{◌≡◌, [], ◌∷◌, ◌≤◌, ◌-◌, length, slice_get, option_map};
+ghost use Rattle.nf_rational.specs.Operations.{0ℚ};
+ghost use Rattle.nf_rational.specs.Order.{◌≤ℚ◌, ◌<ℚ◌};
+ghost use Rattle.nf_work.specs.Passing.{bound_of, beyond};
+ghost use Rattle.nf_work.specs.Checked.{at_part, seen_at};
+ghost use Rattle.nf_model.specs.Curve.{IsCurve, TimesRise};
+ghost use Rattle.nf_lists.specs.Signs.{is_same as is_same_by};
+ghost use Rattle.nf_curve_lists.specs.Differences.{do_differ as do_differ_by, turn_at, checked_turn, turns_at, checked_difference};
+ghost use Rattle.nf_curve.specs.Sides.{sides_of};
+ghost use Rattle.nf_curve.specs.Places.{place_of};
+ghost use Rattle.nf_curve.specs.Moments.{IsMoment, only_before as only_before_by};
+ghost use Rattle.nf_curve.specs.Steps.{turn_between, difference_step};
+
+use crate::lines::{Point, Sides, slope};
+use crate::places::place_up;
+use crate::walk::{Moment, first_moment, next_moment, sides_at};
+use nf_frac::{Part, PassedAt, Q};
+
+/// Two numbers are equal.
+#[tactic(auto, using(nf_frac::proofs::Comparisons::same_by_order))]
+pub(crate) fn is_same(left: Q, right: Q) -> bool
+    ensures { result ≡ is_same_by left right }
+{
+    left == right
+}
+
+// The values differ.
+fn do_differ(sides: &Sides) -> bool
+    ensures { result ≡ do_differ_by (sides_of sides.now) }
+{
+    !is_same(sides.left, sides.right)
+}
+
+// The slope before the last point isn't 0, which it is after it.
+fn turns_at_end(p: &Point, q: &Point, part: Part) -> Result<bool, PassedAt<Q>>
+    requires { p.now.0 <ℚ q.now.0 }
+    ensures { result ≡ at_part part (turn_at (beyond (bound_of 127)) p.now q.now []) }
+{
+    let before = slope(p, q, part)?;
+    Ok(!is_same(before, Q::zero()))
+}
+
+// The slopes before and after the middle one of three points differ.
+fn turns_inside(p: &Point, q: &Point, r: &Point, part: Part) -> Result<bool, PassedAt<Q>>
+    requires before { p.now.0 <ℚ q.now.0 }
+    requires after { q.now.0 <ℚ r.now.0 }
+    ensures { result ≡ at_part part (turn_at (beyond (bound_of 127)) p.now q.now (r.now ∷ [])) }
+{
+    let before = slope(p, q, part)?;
+    let after = slope(q, r, part)?;
+    Ok(!is_same(before, after))
+}
+
+// The slopes before and after the point before a place differ.
+fn turns_before(points: &[Point], place: usize, part: Part) -> Result<bool, PassedAt<Q>>
+    requires rise { TimesRise points.now }
+    requires some { 2 ≤ place }
+    requires within { place ≤ length points.now }
+    ensures { result ≡ at_part part (turn_between (beyond (bound_of 127)) (slice_get points.now (place - 2)) (slice_get points.now (place - 1)) (slice_get points.now place)) }
+{
+    let (p, q) = (&points[place - 2], &points[place - 1]);
+    if place == points.len() {
+        turns_at_end(p, q, part)
+    } else {
+        turns_inside(p, q, &points[place], part)
+    }
+}
+
+// The curve has a point at this time, after its first one, with other slopes before and after it.
+fn does_turn(points: &[Point], place: usize, time: Q, part: Part) -> Result<bool, PassedAt<Q>>
+    requires curve { IsCurve points.now }
+    requires time { 0ℚ ≤ℚ time }
+    requires place { place ≡ place_of time points.now }
+    requires within { place ≤ length points.now }
+    ensures { result ≡ at_part part (checked_turn (beyond (bound_of 127)) time points.now) }
+{
+    if place < 2 || !is_same(time, points[place - 1].0) {
+        return Ok(false);
+    }
+    turns_before(points, place, part)
+}
+
+// A time is a corner: time 0, or one at which the left curve turns, or else the right one.
+fn is_corner(left: &[Point], right: &[Point], now: &Moment, part: Part) -> Result<bool, PassedAt<Q>>
+    requires left { IsCurve left.now }
+    requires right { IsCurve right.now }
+    requires there { IsMoment left.now right.now now.now }
+    ensures { result ≡ at_part part (turns_at (beyond (bound_of 127)) (is_same_by now.now.time 0ℚ) now.now.time left.now right.now) }
+{
+    if is_same(now.time, Q::zero()) || does_turn(left, now.left, now.time, part)? {
+        return Ok(true);
+    }
+    does_turn(right, now.right, now.time, part)
+}
+
+// Both values at a time, if it is a corner and they differ.
+fn difference_at(
+    left: &[Point],
+    right: &[Point],
+    now: &Moment,
+    part: Part,
+) -> Result<Option<Sides>, PassedAt<Q>>
+    requires left { IsCurve left.now }
+    requires right { IsCurve right.now }
+    requires there { IsMoment left.now right.now now.now }
+    ensures { seen_at (option_map sides_of) (λ q. q) result ≡ at_part part (difference_step (beyond (bound_of 127)) left.now right.now now.now.time) }
+{
+    let sides = sides_at(left, right, now, part)?;
+    if do_differ(&sides) && is_corner(left, right, now, part)? {
+        Ok(Some(sides))
+    } else {
+        Ok(None)
+    }
+}
+
+// Where the walk is, if that is before the last time.
+fn only_before(last: Q, now: Option<Moment>) -> Option<Moment>
+    ensures { result ≡ only_before_by last now }
+{
+    match now {
+        Some(moment) if moment.time.is_below(last) => Some(moment),
+        _ => None,
+    }
+}
+
+/// The first corner on the times from 0 to the last one at which two curves differ, with both values.
+pub(crate) fn difference_until(
+    left: &[Point],
+    right: &[Point],
+    last: Q,
+    part: Part,
+) -> Result<Option<Sides>, PassedAt<Q>>
+    requires left { IsCurve left.now }
+    requires right { IsCurve right.now }
+    requires last { 0ℚ ≤ℚ last }
+    ensures { seen_at (option_map sides_of) (λ q. q) result ≡ at_part part (checked_difference (beyond (bound_of 127)) left.now right.now last) }
+{
+    let mut places = (0, 0);
+    let mut now = only_before(last, Some(first_moment(left, right)));
+    while let Some(moment) = now {
+        if let Some(sides) = difference_at(left, right, &moment, part)? {
+            return Ok(Some(sides));
+        }
+        now = only_before(last, next_moment(left, right, &moment));
+        places = (moment.left, moment.right);
+    }
+    let end = Moment {
+        time: last,
+        left: place_up(left, places.0, last),
+        right: place_up(right, places.1, last),
+    };
+    let sides = sides_at(left, right, &end, part)?;
+    Ok(if do_differ(&sides) { Some(sides) } else { None })
+}

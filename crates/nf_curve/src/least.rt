@@ -1,0 +1,87 @@
+// The lesser of two curves.
+ghost use Rattle.std.specs.Prelude.{◌≡◌, ◌++◌, Ok};
+ghost use Rattle.std.specs.Option.{option_to_list};
+ghost use Rattle.nf_rational.specs.Order.{◌<ℚ◌};
+ghost use Rattle.nf_work.specs.Passing.{bound_of, beyond};
+ghost use Rattle.nf_work.specs.Checked.{at_part, seen_at, Gives};
+ghost use Rattle.nf_model.specs.Curve.{IsCurve};
+ghost use Rattle.nf_curve_lists.specs.Least.{is_crossed as is_crossed_by, least_point as least_by, crossing as crossing_by, checked_least};
+ghost use Rattle.nf_curve.specs.Sides.{sides_of};
+ghost use Rattle.nf_curve.specs.Steps.{lesser_step};
+
+use crate::lines::{Point, Sides, crossing_time, line};
+use crate::walk::{first_moment, next_moment, sides_at};
+use nf_frac::{Halt, Part, PassedAt, Q};
+use std::alloc::Global;
+
+// The one that was below the other is above it now.
+fn is_crossed(before: &Sides, now: &Sides) -> bool
+    ensures { result ≡ is_crossed_by (sides_of before.now) (sides_of now.now) }
+{
+    before.left.is_below(before.right) && now.right.is_below(now.left)
+        || before.right.is_below(before.left) && now.left.is_below(now.right)
+}
+
+// The point of the lesser one at a time.
+fn least_point(sides: &Sides) -> Point
+    ensures { result ≡ least_by (sides_of sides.now) }
+{
+    (sides.time, sides.left.lesser(sides.right))
+}
+
+// The point at which the curves cross from one time to the next, if they do.
+fn crossing(before: &Sides, now: &Sides, part: Part) -> Result<Option<Point>, PassedAt<Q>>
+    requires { before.now.time <ℚ now.now.time }
+    ensures { seen_at option_to_list (λ q. q) result ≡ at_part part (crossing_by (beyond (bound_of 127)) (is_crossed_by (sides_of before.now) (sides_of now.now)) (sides_of before.now) (sides_of now.now)) }
+{
+    if !is_crossed(before, now) {
+        return Ok(None);
+    }
+    let time = crossing_time(before, now, part)?;
+    let from = (before.time, before.left);
+    let to = (now.time, now.left);
+    let value = line(&from, &to, time, part)?;
+    Ok(Some((time, value)))
+}
+
+// The points from one time to the next are put behind those before.
+fn add_points(
+    points: &mut Vec<Point>,
+    before: &Sides,
+    now: &Sides,
+    part: Part,
+) -> Result<(), Halt<Q>>
+    requires { before.now.time <ℚ now.now.time }
+    ensures { Gives (λ _. points.new.items) (λ q. q) result (at_part part (lesser_step (beyond (bound_of 127)) points.old.items (sides_of before.now) (sides_of now.now))) }
+{
+    if let Some(point) = crossing(before, now, part)? {
+        points.push(point)?;
+    }
+    points.push(least_point(now))?;
+    Ok(())
+}
+
+/// The points of the lesser of two curves: one at each time of either, and one where they cross between.
+pub(crate) fn least_points(
+    alloc: Global,
+    left: &[Point],
+    right: &[Point],
+    part: Part,
+) -> Result<Vec<Point>, Halt<Q>>
+    requires left { IsCurve left.now }
+    requires right { IsCurve right.now }
+    ensures { Gives (λ points. points.items) (λ q. q) result (at_part part (checked_least (beyond (bound_of 127)) left.now right.now)) }
+{
+    let first = first_moment(left, right);
+    let mut before = sides_at(left, right, &first, part)?;
+    let mut points = Vec::new(alloc);
+    points.push(least_point(&before))?;
+    let mut now = next_moment(left, right, &first);
+    while let Some(moment) = now {
+        let sides = sides_at(left, right, &moment, part)?;
+        add_points(&mut points, &before, &sides, part)?;
+        before = sides;
+        now = next_moment(left, right, &moment);
+    }
+    Ok(points)
+}
