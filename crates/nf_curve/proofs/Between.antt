@@ -7,13 +7,13 @@ use Rattle.std.proofs.lemmas.List.{reverse-append}
 use Rattle.std.proofs.lemmas.List.Folds.{drop_split}
 use Rattle.nf_rational.specs.Rational.{ℚ}
 use Rattle.nf_rational.specs.Order.{◌≤ℚ◌, ◌<ℚ◌, lt_ℚ}
-use Rattle.nf_rational_laws.proofs.Order.{≤ℚ_of_lt}
-use Rattle.nf_rational_laws.proofs.Tests.{lt_ℚ_cases}
+use Rattle.nf_rational_laws.proofs.Order.{≤ℚ_of_lt, not_both_ℚ}
+use Rattle.nf_rational_laws.proofs.Tests.{lt_ℚ_cases, test_of_less}
 use Rattle.nf_work.specs.declared.Part.{Part}
 use Rattle.nf_work.specs.declared.PassedAt.{PassedAt}
 use Rattle.nf_work.specs.Checked.{Checked, at_part, each}
 use Rattle.nf_model.specs.Curve.{Point, TimesRise}
-use Rattle.nf_model_laws.proofs.Affine.{<_≤_trans, clash}
+use Rattle.nf_model_laws.proofs.Affine.{<_≤_trans}
 use Rattle.nf_curve_lists.specs.Composed.{points_between, points_along}
 use Rattle.nf_curve.specs.Places.{place_of}
 use Rattle.nf_curve.specs.Steps.{behind}
@@ -28,11 +28,8 @@ AllLater time (p ∷ rest) = (time <ℚ p.0) × AllLater time rest
 abbrev lies_between : ℚ → ℚ → Point → Bool
 lies_between low high p = lt_ℚ low p.0 && lt_ℚ p.0 high
 
-below_test : (x y : ℚ) → x <ℚ y → lt_ℚ x y ≡ true
-below_test x y h = ⊎_elim (λ (w : (lt_ℚ x y ≡ true) × (x <ℚ y)). w.0) (λ (w : (lt_ℚ x y ≡ false) × (y ≤ℚ x)). absurd (clash x y h w.1)) (lt_ℚ_cases x y)
-
 not_below_test : (x y : ℚ) → y ≤ℚ x → lt_ℚ x y ≡ false
-not_below_test x y h = ⊎_elim (λ (w : (lt_ℚ x y ≡ true) × (x <ℚ y)). absurd (clash x y w.1 h)) (λ (w : (lt_ℚ x y ≡ false) × (y ≤ℚ x)). w.0) (lt_ℚ_cases x y)
+not_below_test x y h = ⊎_elim (λ (w : (lt_ℚ x y ≡ true) × (x <ℚ y)). absurd (not_both_ℚ x y w.1 h)) (λ (w : (lt_ℚ x y ≡ false) × (y ≤ℚ x)). w.0) (lt_ℚ_cases x y)
 
 second_false : (a b : Bool) → b ≡ false → (a && b) ≡ false
 second_false true b e = e
@@ -78,7 +75,7 @@ one-test : (low high : ℚ) (points : List Point) → AllLater low points → fi
 unfolding AllLater
 one-test low high [] a = refl
 one-test low high (p ∷ rest) a =
-    ap (λ (b : Bool). cond (b && lt_ℚ p.0 high) (p ∷ filter (lies_between low high) rest) (filter (lies_between low high) rest)) (below_test low p.0 a.0)
+    ap (λ (b : Bool). cond (b && lt_ℚ p.0 high) (p ∷ filter (lies_between low high) rest) (filter (lies_between low high) rest)) (test_of_less low p.0 a.0)
     ∙ ap (λ (l : List Point). cond (lt_ℚ p.0 high) (p ∷ l) l) (one-test low high rest a.1)
 
 take-drop : {A : Type 0} (k : ℕ) (xs : List A) → xs ≡ take k xs ++ drop k xs
@@ -112,7 +109,7 @@ filter-reverse t (x ∷ xs) =
 
 pub along-up : (first last : ℚ) (points : List Point) (i j : ℕ) → TimesRise points → first <ℚ last → i ≡ place_of first points → j ≡ place_of last points
     → points_along (lt_ℚ first last) first last points ≡ filter (λ (p : Point). lt_ℚ p.0 last) (slice_range points i j)
-along-up first last points i j r h e f = ap (λ (b : Bool). points_along b first last points) (below_test first last h) ∙ between-places first last points i j r (≤ℚ_of_lt _ _ h) e f
+along-up first last points i j r h e f = ap (λ (b : Bool). points_along b first last points) (test_of_less first last h) ∙ between-places first last points i j r (≤ℚ_of_lt _ _ h) e f
 
 pub along-down : (first last : ℚ) (points : List Point) (i j : ℕ) → TimesRise points → last <ℚ first → i ≡ place_of first points → j ≡ place_of last points
     → points_along (lt_ℚ first last) first last points ≡ filter (λ (p : Point). lt_ℚ p.0 first) (reverse (slice_range points j i))

@@ -4,7 +4,6 @@ use Rattle.std.specs.Prelude.{Option, Some, None, Ok, Err, IfSome, if◌then◌e
 use Rattle.nf_rational.specs.Rational.{ℚ}
 use Rattle.nf_rational.specs.Order.{◌≤ℚ◌, ◌<ℚ◌, lt_ℚ}
 use Rattle.nf_rational_laws.proofs.Tests.{lt_ℚ_cases}
-use Rattle.nf_model_laws.proofs.Affine.{clash}
 use Rattle.nf_work.specs.Passing.{Passing}
 use Rattle.nf_work.specs.declared.Part.{Part}
 use Rattle.nf_work.specs.declared.PassedAt.{PassedAt}
@@ -17,6 +16,7 @@ use Rattle.nf_curve.specs.Moments.{IsThere, times_left, only_before}
 use Rattle.nf_curve.specs.Steps.{difference_step}
 use Rattle.nf_curve.specs.declared.walk.Moment.{Moment}
 use Rattle.nf_curve.proofs.Exits.{after_err, after_ok, was_ok}
+use Rattle.nf_rational_laws.proofs.Order.{not_both_ℚ}
 
 -- ---- a step
 or_later : Option Sides → Checked (Option Sides) → Checked (Option Sides)
@@ -42,7 +42,7 @@ module _ (passes : Passing) (left right : List Point) (last : ℚ) where
   before-goes : (time : ℚ) (times : List ℚ) → time <ℚ last → times_before last (time ∷ times) ≡ time ∷ times_before last times
   before-goes time times h = ⊎_elim
       (λ (w : (lt_ℚ time last ≡ true) × (time <ℚ last)). ap (λ (b : Bool). if b then time ∷ times_before last times else []) w.0)
-      (λ (w : (lt_ℚ time last ≡ false) × (last ≤ℚ time)). absurd (clash time last h w.1))
+      (λ (w : (lt_ℚ time last ≡ false) × (last ≤ℚ time)). absurd (not_both_ℚ time last h w.1))
       (lt_ℚ_cases time last)
 
   module _ (part : Part) (time : ℚ) (times : List ℚ) (all : Checked (Option Sides)) (before : time <ℚ last) (so_far : difference_from passes left right last (times_before last (time ∷ times)) ≡ all) where

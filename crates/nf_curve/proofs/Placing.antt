@@ -4,25 +4,24 @@ use Rattle.std.specs.Prelude.{Option, Some, None, slice_get, Result, Ok, if◌th
 use Rattle.nf_rational.specs.Rational.{ℚ}
 use Rattle.nf_rational.specs.Operations.{0ℚ}
 use Rattle.nf_rational.specs.Order.{◌≤ℚ◌, ◌<ℚ◌, lt_ℚ}
-use Rattle.nf_rational_laws.proofs.Order.{≤ℚ_of_lt}
+use Rattle.nf_rational_laws.proofs.Order.{≤ℚ_of_lt, not_both_ℚ}
 use Rattle.nf_rational_laws.proofs.Polynomial.{reading_of}
 use Rattle.nf_rational_laws.proofs.Linear.{le, lt, linear_lt}
-use Rattle.nf_rational_laws.proofs.Tests.{lt_ℚ_cases}
+use Rattle.nf_rational_laws.proofs.Tests.{lt_ℚ_cases, less_of_test}
 use Rattle.nf_work.specs.Passing.{Passing}
 use Rattle.nf_work.specs.Checked.{at_part}
 use Rattle.nf_work.specs.declared.Part.{Part}
 use Rattle.nf_work.specs.declared.PassedAt.{PassedAt}
 use Rattle.nf_model.specs.Curve.{Point, TimesRise, IsCurve}
-use Rattle.nf_model_laws.proofs.Affine.{<_≤_trans, ≤_trans, ≤_refl, clash}
+use Rattle.nf_model_laws.proofs.Affine.{<_≤_trans}
 use Rattle.nf_lists.specs.Signs.{is_same}
 use Rattle.nf_curve_lists.specs.Lines.{checked_line}
 use Rattle.nf_curve_lists.specs.Values.{value_from, checked_value}
 use Rattle.nf_curve_laws.proofs.Operations.{is_same_cases}
 use Rattle.nf_curve.specs.Places.{place_of, value_between}
+use Rattle.nf_rational_laws.proofs.Chains.{≤ℚ_refl, ≤ℚ_trans}
 
 -- ---- what the test of an order says
-pub below_of : (x y : ℚ) → lt_ℚ x y ≡ true → x <ℚ y
-below_of x y t = ⊎_elim (λ (w : (lt_ℚ x y ≡ true) × (x <ℚ y)). w.1) (λ (w : (lt_ℚ x y ≡ false) × (y ≤ℚ x)). absurd (cc)) (lt_ℚ_cases x y)
 
 pub not_below_of : (x y : ℚ) → lt_ℚ x y ≡ false → y ≤ℚ x
 not_below_of x y t = ⊎_elim (λ (w : (lt_ℚ x y ≡ true) × (x <ℚ y)). absurd (cc)) (λ (w : (lt_ℚ x y ≡ false) × (y ≤ℚ x)). w.1) (lt_ℚ_cases x y)
@@ -31,12 +30,12 @@ not_below_of x y t = ⊎_elim (λ (w : (lt_ℚ x y ≡ true) × (x <ℚ y)). abs
 pub place-behind : (time : ℚ) (p : Point) (rest : List Point) → time <ℚ p.0 → place_of time (p ∷ rest) ≡ zero
 place-behind time p rest h = ⊎_elim
     (λ (w : (lt_ℚ time p.0 ≡ true) × (time <ℚ p.0)). ap (λ (b : Bool). if b then zero else suc (place_of time rest)) w.0)
-    (λ (w : (lt_ℚ time p.0 ≡ false) × (p.0 ≤ℚ time)). absurd (clash time p.0 h w.1))
+    (λ (w : (lt_ℚ time p.0 ≡ false) × (p.0 ≤ℚ time)). absurd (not_both_ℚ time p.0 h w.1))
     (lt_ℚ_cases time p.0)
 
 pub place-past : (time : ℚ) (p : Point) (rest : List Point) → p.0 ≤ℚ time → place_of time (p ∷ rest) ≡ suc (place_of time rest)
 place-past time p rest h = ⊎_elim
-    (λ (w : (lt_ℚ time p.0 ≡ true) × (time <ℚ p.0)). absurd (clash time p.0 w.1 h))
+    (λ (w : (lt_ℚ time p.0 ≡ true) × (time <ℚ p.0)). absurd (not_both_ℚ time p.0 w.1 h))
     (λ (w : (lt_ℚ time p.0 ≡ false) × (p.0 ≤ℚ time)). ap (λ (b : Bool). if b then zero else suc (place_of time rest)) w.0)
     (lt_ℚ_cases time p.0)
 
@@ -66,9 +65,9 @@ before-place time (x ∷ rest) i p g h = ⊎_elim
 
 -- all points of a curve come at or after its first
 first-least : (x : Point) (rest : List Point) (i : ℕ) (p : Point) → TimesRise (x ∷ rest) → slice_get (x ∷ rest) i ≡ Some p → x.0 ≤ℚ p.0
-first-least x rest zero p r g = subst (λ (q : Point). x.0 ≤ℚ q.0) (let same : x ≡ p = cc in same) (≤_refl x.0)
+first-least x rest zero p r g = subst (λ (q : Point). x.0 ≤ℚ q.0) (let same : x ≡ p = cc in same) (≤ℚ_refl x.0)
 first-least x [] (suc i) p r g = absurd (cc)
-first-least x (y ∷ rest) (suc i) p r g = ≤_trans _ _ _ (≤ℚ_of_lt _ _ r.0) (first-least y rest i p r.1 g)
+first-least x (y ∷ rest) (suc i) p r g = ≤ℚ_trans _ _ _ (≤ℚ_of_lt _ _ r.0) (first-least y rest i p r.1 g)
 
 -- of two points the one with the greater number is later
 pub rise-pairs : (points : List Point) (i j : ℕ) (p q : Point) → TimesRise points → slice_get points i ≡ Some p → slice_get points j ≡ Some q → i < j → p.0 <ℚ q.0
@@ -97,19 +96,19 @@ place-rises time next (p ∷ rest) h = ⊎_elim
     (λ (w : (lt_ℚ time p.0 ≡ true) × (time <ℚ p.0)). let e = place-behind time p rest w.1 in omega arith)
     (λ (w : (lt_ℚ time p.0 ≡ false) × (p.0 ≤ℚ time)).
     let e = place-past time p rest w.1 in
-    let f = place-past next p rest (≤_trans _ _ _ w.1 h) in
+    let f = place-past next p rest (≤ℚ_trans _ _ _ w.1 h) in
     let k = place-rises time next rest h in omega arith)
     (lt_ℚ_cases time p.0)
 
 -- ---- moving to a place, by the test of the point there
 pub not-yet : (time : ℚ) (points : List Point) (i : ℕ) (p : Point) → TimesRise points → slice_get points i ≡ Some p → lt_ℚ time p.0 ≡ false → i < place_of time points
-not-yet time points i p r g t = let h : place_of time points ≤ i → ⊥ = λ h. clash time p.0 (from-place time points i p r g h) later in omega arith
+not-yet time points i p r g t = let h : place_of time points ≤ i → ⊥ = λ h. not_both_ℚ time p.0 (from-place time points i p r g h) later in omega arith
   where
     later : p.0 ≤ℚ time
     later = ⊎_elim (λ (w : (lt_ℚ time p.0 ≡ true) × (time <ℚ p.0)). absurd (cc)) (λ (w : (lt_ℚ time p.0 ≡ false) × (p.0 ≤ℚ time)). w.1) (lt_ℚ_cases time p.0)
 
 pub too-far : (time : ℚ) (points : List Point) (i : ℕ) (p : Point) → slice_get points i ≡ Some p → lt_ℚ time p.0 ≡ true → place_of time points ≤ i
-too-far time points i p g t = let h : i < place_of time points → ⊥ = λ h. clash time p.0 earlier (before-place time points i p g h) in omega arith
+too-far time points i p g t = let h : i < place_of time points → ⊥ = λ h. not_both_ℚ time p.0 earlier (before-place time points i p g h) in omega arith
   where
     earlier : time <ℚ p.0
     earlier = ⊎_elim (λ (w : (lt_ℚ time p.0 ≡ true) × (time <ℚ p.0)). w.1) (λ (w : (lt_ℚ time p.0 ≡ false) × (p.0 ≤ℚ time)). absurd (cc)) (lt_ℚ_cases time p.0)
@@ -133,7 +132,7 @@ value_from-between passes time p (q ∷ rest) r h = ⊎_elim
 
     apart : q.0 ≤ℚ time → is_same time p.0 ≡ false
     apart k = ⊎_elim
-        (λ (w : (is_same time p.0 ≡ true) × (time ≡ p.0)). absurd (clash p.0 time (<_≤_trans _ _ _ r.0 k) (Rattle.nf_rational_laws.proofs.Order.≤ℚ_of_same time p.0 w.1)))
+        (λ (w : (is_same time p.0 ≡ true) × (time ≡ p.0)). absurd (not_both_ℚ p.0 time (<_≤_trans _ _ _ r.0 k) (Rattle.nf_rational_laws.proofs.Order.≤ℚ_of_same time p.0 w.1)))
         (λ (w : (is_same time p.0 ≡ false) × (¬ (time ≡ p.0))). w.0)
         (is_same_cases time p.0)
 

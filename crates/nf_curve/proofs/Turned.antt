@@ -4,12 +4,12 @@ use Rattle.std.specs.Prelude.{Option, Some, None, slice_get, Ok, if◌then◌els
 use Rattle.nf_rational.specs.Rational.{ℚ}
 use Rattle.nf_rational.specs.Operations.{0ℚ}
 use Rattle.nf_rational.specs.Order.{◌≤ℚ◌, ◌<ℚ◌, lt_ℚ}
-use Rattle.nf_rational_laws.proofs.Order.{≤ℚ_of_lt, ≤ℚ_of_same}
+use Rattle.nf_rational_laws.proofs.Order.{≤ℚ_of_lt, ≤ℚ_of_same, not_both_ℚ}
 use Rattle.nf_rational_laws.proofs.Tests.{lt_ℚ_cases}
 use Rattle.nf_work.specs.Passing.{Passing}
 use Rattle.nf_work.specs.Checked.{Checked}
 use Rattle.nf_model.specs.Curve.{Point, TimesRise, IsCurve}
-use Rattle.nf_model_laws.proofs.Affine.{<_≤_trans, clash}
+use Rattle.nf_model_laws.proofs.Affine.{<_≤_trans}
 use Rattle.nf_lists.specs.Signs.{is_same}
 use Rattle.nf_curve_lists.specs.Differences.{turn_at, turns_from, checked_turn}
 use Rattle.nf_curve_laws.proofs.Operations.{is_same_cases}
@@ -29,7 +29,7 @@ turn_place passes time points (suc (suc n)) = turn_here passes time (slice_get p
 
 apart_times : (s t : ℚ) → s <ℚ t → is_same s t ≡ false
 apart_times s t h = ⊎_elim
-    (λ (w : (is_same s t ≡ true) × (s ≡ t)). absurd (clash s t h (≤ℚ_of_same t s (sym w.1))))
+    (λ (w : (is_same s t ≡ true) × (s ≡ t)). absurd (not_both_ℚ s t h (≤ℚ_of_same t s (sym w.1))))
     (λ (w : (is_same s t ≡ false) × (¬ (s ≡ t))). w.0)
     (is_same_cases s t)
 

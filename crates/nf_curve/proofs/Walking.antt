@@ -4,10 +4,9 @@ use Rattle.std.specs.Prelude.{Option, Some, None, slice_get, option_map, if◌th
 use Rattle.nf_rational.specs.Rational.{ℚ}
 use Rattle.nf_rational.specs.Operations.{0ℚ}
 use Rattle.nf_rational.specs.Order.{◌≤ℚ◌, ◌<ℚ◌, lt_ℚ, min_ℚ}
-use Rattle.nf_rational_laws.proofs.Order.{≤ℚ_of_lt, ≤ℚ_of_same}
+use Rattle.nf_rational_laws.proofs.Order.{≤ℚ_of_lt, ≤ℚ_of_same, not_both_ℚ}
 use Rattle.nf_rational_laws.proofs.Tests.{lt_ℚ_cases}
 use Rattle.nf_model.specs.Curve.{Point, TimesRise, IsCurve}
-use Rattle.nf_model_laws.proofs.Affine.{≤_trans, ≤_refl, clash}
 use Rattle.nf_curve_lists.specs.Times.{merged, times_of, both_times}
 use Rattle.nf_curve_laws.proofs.Times.{merged_from-cases}
 use Rattle.nf_curve_laws.proofs.Least.{min-left, min-right}
@@ -15,24 +14,25 @@ use Rattle.nf_curve.specs.Places.{place_of, later, times_after, earlier_of, Come
 use Rattle.nf_curve.specs.Moments.{IsMoment}
 use Rattle.nf_curve.specs.declared.walk.Moment.{Moment}
 use Rattle.nf_curve.proofs.Placing.{rises-rest, curve-rises}
+use Rattle.nf_rational_laws.proofs.Chains.{≤ℚ_refl, ≤ℚ_trans}
 
 -- ---- the points after a time
 later-behind : (time : ℚ) (p : Point) (rest : List Point) → time <ℚ p.0 → later time (p ∷ rest) ≡ p ∷ rest
 later-behind time p rest h = ⊎_elim
     (λ (w : (lt_ℚ time p.0 ≡ true) × (time <ℚ p.0)). ap (λ (b : Bool). if b then p ∷ rest else later time rest) w.0)
-    (λ (w : (lt_ℚ time p.0 ≡ false) × (p.0 ≤ℚ time)). absurd (clash time p.0 h w.1))
+    (λ (w : (lt_ℚ time p.0 ≡ false) × (p.0 ≤ℚ time)). absurd (not_both_ℚ time p.0 h w.1))
     (lt_ℚ_cases time p.0)
 
 later-past : (time : ℚ) (p : Point) (rest : List Point) → p.0 ≤ℚ time → later time (p ∷ rest) ≡ later time rest
 later-past time p rest h = ⊎_elim
-    (λ (w : (lt_ℚ time p.0 ≡ true) × (time <ℚ p.0)). absurd (clash time p.0 w.1 h))
+    (λ (w : (lt_ℚ time p.0 ≡ true) × (time <ℚ p.0)). absurd (not_both_ℚ time p.0 w.1 h))
     (λ (w : (lt_ℚ time p.0 ≡ false) × (p.0 ≤ℚ time)). ap (λ (b : Bool). if b then p ∷ rest else later time rest) w.0)
     (lt_ℚ_cases time p.0)
 
 -- all but the first of rising points come after it
 later-first : (p : Point) (rest : List Point) → TimesRise (p ∷ rest) → later p.0 (p ∷ rest) ≡ rest
-later-first p [] r = later-past p.0 p [] (≤_refl p.0)
-later-first p (q ∷ rest) r = later-past p.0 p (q ∷ rest) (≤_refl p.0) ∙ later-behind p.0 q rest r.0
+later-first p [] r = later-past p.0 p [] (≤ℚ_refl p.0)
+later-first p (q ∷ rest) r = later-past p.0 p (q ∷ rest) (≤ℚ_refl p.0) ∙ later-behind p.0 q rest r.0
 
 abbrev head_of : List Point → Option ℚ
 head_of [] = None
@@ -71,15 +71,15 @@ later-steps time (x ∷ xs) p rest r e = ⊎_elim
     further : x.0 ≤ℚ time → Steps time xs p rest → Steps time (x ∷ xs) p rest
     further h s = record {
       after = s.after;
-      next = later-past p.0 x xs (≤_trans _ _ _ h (≤ℚ_of_lt _ _ s.after)) ∙ s.next;
-      stays = λ between i j. later-past between x xs (≤_trans _ _ _ h i) ∙ s.stays between i j;
+      next = later-past p.0 x xs (≤ℚ_trans _ _ _ h (≤ℚ_of_lt _ _ s.after)) ∙ s.next;
+      stays = λ between i j. later-past between x xs (≤ℚ_trans _ _ _ h i) ∙ s.stays between i j;
     }
 
 later-none : (time next : ℚ) (points : List Point) → later time points ≡ [] → time ≤ℚ next → later next points ≡ []
 later-none time next [] e h = refl
 later-none time next (x ∷ xs) e h = ⊎_elim
     (λ (w : (lt_ℚ time x.0 ≡ true) × (time <ℚ x.0)). let d : x ∷ xs ≡ [] = sym (later-behind time x xs w.1) ∙ e in absurd (cc))
-    (λ (w : (lt_ℚ time x.0 ≡ false) × (x.0 ≤ℚ time)). later-past next x xs (≤_trans _ _ _ w.1 h) ∙ later-none time next xs (sym (later-past time x xs w.1) ∙ e) h)
+    (λ (w : (lt_ℚ time x.0 ≡ false) × (x.0 ≤ℚ time)). later-past next x xs (≤ℚ_trans _ _ _ w.1 h) ∙ later-none time next xs (sym (later-past time x xs w.1) ∙ e) h)
     (lt_ℚ_cases time x.0)
 
 -- ---- a step of the walk
@@ -127,8 +127,8 @@ module _ (time : ℚ) (left right : List Point) (r : TimesRise left) (s : TimesR
 begins : (p q : Point) (left right : List Point) → TimesRise (p ∷ left) → TimesRise (q ∷ right) → p.0 ≡ q.0 → both_times (p ∷ left) (q ∷ right) ≡ p.0 ∷ times_after p.0 (p ∷ left) (q ∷ right)
 unfolding both_times
 begins p q left right r s e = merged_from-cases (λ (l : List ℚ). l ≡ p.0 ∷ times_after p.0 (p ∷ left) (q ∷ right)) p.0 (merged (times_of left)) q.0 (times_of right)
-    (λ h. absurd (clash p.0 q.0 h (≤ℚ_of_same _ _ (sym e))))
-    (λ h. absurd (clash q.0 p.0 h (≤ℚ_of_same _ _ e)))
+    (λ h. absurd (not_both_ℚ p.0 q.0 h (≤ℚ_of_same _ _ (sym e))))
+    (λ h. absurd (not_both_ℚ q.0 p.0 h (≤ℚ_of_same _ _ e)))
     (λ h. sym (ap (λ (l : List Point). p.0 ∷ merged (times_of l) (times_of (later p.0 (q ∷ right)))) (later-first p left r)
     ∙ ap (λ (l : List Point). p.0 ∷ merged (times_of left) (times_of l)) (ap (λ (t : ℚ). later t (q ∷ right)) e ∙ later-first q right s)))
 

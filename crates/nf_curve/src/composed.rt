@@ -4,7 +4,7 @@ ghost use Rattle.std.specs.List.{filter};
 ghost use Rattle.nf_rational.specs.Rational.{ℚ};
 ghost use Rattle.nf_rational.specs.Operations.{0ℚ};
 ghost use Rattle.nf_rational.specs.Order.{◌≤ℚ◌, ◌<ℚ◌, lt_ℚ};
-ghost use Rattle.nf_work.specs.Passing.{bound_of, beyond};
+ghost use Rattle.nf_work.specs.Passing.{passes_Q};
 ghost use Rattle.nf_work.specs.Checked.{at_part, each, Gives};
 ghost use Rattle.nf_model.specs.Curve.{IsCurve, Within, value};
 ghost use Rattle.nf_curve_lists.specs.Composed.{corner_at as corner_by, points_along, composed_piece, composed_all, checked_composed};
@@ -21,7 +21,7 @@ use std::alloc::Global;
 fn corner_at(p: &Point, q: &Point, corner: &Point, part: Part) -> Result<Point, PassedAt<Q>>
     requires later { p.now.0 <ℚ q.now.0 }
     requires apart { p.now.1 ≢ q.now.1 }
-    ensures { result ≡ at_part part (corner_by (beyond (bound_of 127)) p.now q.now corner.now) }
+    ensures { result ≡ at_part part (corner_by passes_Q p.now q.now corner.now) }
 {
     let time = inverse(p, q, corner.0, part)?;
     Ok((time, corner.1))
@@ -38,7 +38,7 @@ fn add_corners_up(
     requires later { p.now.0 <ℚ q.now.0 }
     requires up { p.now.1 <ℚ q.now.1 }
     ensures { Gives (λ _. composed.new.items) (λ q. q) result
-        (at_part part (behind composed.old.items (each (corner_by (beyond (bound_of 127)) p.now q.now) (filter (λ c. lt_ℚ c.0 q.now.1) between.now)))) }
+        (at_part part (behind composed.old.items (each (corner_by passes_Q p.now q.now) (filter (λ c. lt_ℚ c.0 q.now.1) between.now)))) }
 {
     for corner in between {
         if corner.0.is_below(q.1) {
@@ -61,7 +61,7 @@ fn add_corners_down(
     requires later { p.now.0 <ℚ q.now.0 }
     requires down { q.now.1 <ℚ p.now.1 }
     ensures { Gives (λ _. composed.new.items) (λ q. q) result
-        (at_part part (behind composed.old.items (each (corner_by (beyond (bound_of 127)) p.now q.now) (filter (λ c. lt_ℚ c.0 p.now.1) (reverse between.now))))) }
+        (at_part part (behind composed.old.items (each (corner_by passes_Q p.now q.now) (filter (λ c. lt_ℚ c.0 p.now.1) (reverse between.now))))) }
 {
     let mut left = between.len();
     while left > 0 {
@@ -89,7 +89,7 @@ fn add_corners(
     requires first { places.0 ≡ place_of p.now.1 outer.now }
     requires last { places.1 ≡ place_of q.now.1 outer.now }
     ensures { Gives (λ _. composed.new.items) (λ q. q) result
-        (at_part part (behind composed.old.items (each (corner_by (beyond (bound_of 127)) p.now q.now) (points_along (lt_ℚ p.now.1 q.now.1) p.now.1 q.now.1 outer.now)))) }
+        (at_part part (behind composed.old.items (each (corner_by passes_Q p.now q.now) (points_along (lt_ℚ p.now.1 q.now.1) p.now.1 q.now.1 outer.now)))) }
 {
     let (first, last) = places;
     if p.1.is_below(q.1) {
@@ -128,7 +128,7 @@ fn add_piece(
     requires value { 0ℚ ≤ℚ p.now.1 }
     requires place { place ≡ place_of p.now.1 outer.now }
     ensures points { Gives (λ _. composed.new.items) (λ q. q) result
-        (at_part part (behind composed.old.items (composed_piece (beyond (bound_of 127)) outer.now p.now q.now))) }
+        (at_part part (behind composed.old.items (composed_piece passes_Q outer.now p.now q.now))) }
     ensures place { IfOk result (λ next. next ≡ place_of q.now.1 outer.now) }
 {
     let value = value_at(outer, place, p.1, part)?;
@@ -148,7 +148,7 @@ fn composed_points(
     requires outer { IsCurve outer.now }
     requires inner { IsCurve inner.now }
     requires values { (i : ℕ) (p : ℚ × ℚ) → slice_get inner.now i ≡ Some p → 0ℚ ≤ℚ p.1 }
-    ensures { Gives (λ points. points.items) (λ q. q) result (at_part part (composed_all (beyond (bound_of 127)) outer.now inner.now)) }
+    ensures { Gives (λ points. points.items) (λ q. q) result (at_part part (composed_all passes_Q outer.now inner.now)) }
 {
     let mut composed = Vec::new(alloc);
     let mut place = place_up(outer, 0, inner[0].1);
@@ -174,7 +174,7 @@ pub(crate) fn composed_until(
     requires inner { IsCurve inner.now }
     requires last { 0ℚ ≤ℚ last }
     requires values { (time : ℚ) → Within 0ℚ last time → 0ℚ ≤ℚ value inner.now time }
-    ensures { Gives (λ points. points.items) (λ q. q) result (at_part part (checked_composed (beyond (bound_of 127)) outer.now inner.now last)) }
+    ensures { Gives (λ points. points.items) (λ q. q) result (at_part part (checked_composed passes_Q outer.now inner.now last)) }
 {
     let cut = cut_points(alloc, inner, last, part)?;
     composed_points(alloc, outer, &cut, part)

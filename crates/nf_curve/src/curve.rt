@@ -3,7 +3,7 @@ ghost use Rattle.std.specs.Prelude.{◌≡◌, ℕ, ◌+◌, ◌<◌, ◌≤◌,
 ghost use Rattle.nf_rational.specs.Rational.{ℚ};
 ghost use Rattle.nf_rational.specs.Operations.{0ℚ};
 ghost use Rattle.nf_rational.specs.Order.{◌≤ℚ◌, ◌<ℚ◌};
-ghost use Rattle.nf_work.specs.Passing.{bound_of, beyond};
+ghost use Rattle.nf_work.specs.Passing.{passes_Q};
 ghost use Rattle.nf_work.specs.Checked.{at_part, seen_at, Gives};
 ghost use Rattle.nf_model.specs.Curve.{IsCurve, Within, value as value_of};
 ghost use Rattle.nf_curve_lists.specs.Values.{checked_value, checked_cut};
@@ -104,7 +104,7 @@ impl Curve {
     /// Takes no memory.
     pub fn value(&self, time: Q, part: Part) -> Result<Q, PassedAt<Q>>
         requires { 0ℚ ≤ℚ time }
-        ensures list { result ≡ at_part part (checked_value (beyond (bound_of 127)) self.now.points time) }
+        ensures list { result ≡ at_part part (checked_value passes_Q self.now.points time) }
         ensures value { IfOk result (λ y. y ≡ value_of self.now.points time) }
     {
         let place = place_up(&self.points, 0, time);
@@ -115,7 +115,7 @@ impl Curve {
     /// part.
     pub fn sum(alloc: Global, left: &Curve, right: &Curve, part: Part) -> Result<Curve, Halt<Q>>
         ensures list { Gives (λ c. c.points) (λ q. q) result
-            (at_part part (checked_sum (beyond (bound_of 127)) left.now.points right.now.points)) }
+            (at_part part (checked_sum passes_Q left.now.points right.now.points)) }
         ensures sum { IfOk result (λ c. IsSumOf left.now.points right.now.points c.points) }
     {
         let points = sum_points(alloc, &left.points, &right.points, part)?;
@@ -126,7 +126,7 @@ impl Curve {
     /// part.
     pub fn least(alloc: Global, left: &Curve, right: &Curve, part: Part) -> Result<Curve, Halt<Q>>
         ensures list { Gives (λ c. c.points) (λ q. q) result
-            (at_part part (checked_least (beyond (bound_of 127)) left.now.points right.now.points)) }
+            (at_part part (checked_least passes_Q left.now.points right.now.points)) }
         ensures least { IfOk result (λ c. IsLeastOf left.now.points right.now.points c.points) }
     {
         let points = least_points(alloc, &left.points, &right.points, part)?;
@@ -138,7 +138,7 @@ impl Curve {
     pub fn cut(&self, alloc: Global, last: Q, part: Part) -> Result<Curve, Halt<Q>>
         requires { 0ℚ ≤ℚ last }
         ensures list { Gives (λ c. c.points) (λ q. q) result
-            (at_part part (checked_cut (beyond (bound_of 127)) self.now.points last)) }
+            (at_part part (checked_cut passes_Q self.now.points last)) }
         ensures cut { IfOk result (λ c. IsCutOf self.now.points last c.points) }
     {
         let points = cut_points(alloc, &self.points, last, part)?;
@@ -157,7 +157,7 @@ impl Curve {
         requires until { 0ℚ ≤ℚ until }
         requires inner { (time : ℚ) → Within 0ℚ until time → 0ℚ ≤ℚ value_of inner.now.points time }
         ensures list { Gives (λ c. c.points) (λ q. q) result
-            (at_part part (checked_composed (beyond (bound_of 127)) outer.now.points inner.now.points until)) }
+            (at_part part (checked_composed passes_Q outer.now.points inner.now.points until)) }
         ensures composed { IfOk result (λ c. IsComposedOf outer.now.points inner.now.points until c.points) }
     {
         let points = composed_until(alloc, &outer.points, &inner.points, until, part)?;
@@ -167,7 +167,7 @@ impl Curve {
     /// The same values in short form. Passed comes exactly at the first operation of its list that passes, and has this part.
     pub fn short(alloc: Global, curve: &Curve, part: Part) -> Result<Curve, Halt<Q>>
         ensures list { Gives (λ c. c.points) (λ q. q) result
-            (at_part part (checked_short (beyond (bound_of 127)) curve.now.points)) }
+            (at_part part (checked_short passes_Q curve.now.points)) }
         ensures short { IfOk result (λ c. IsShortOf curve.now.points c.points) }
     {
         let points = short_points(alloc, &curve.points, part)?;
@@ -185,7 +185,7 @@ impl Curve {
     ) -> Result<Option<Difference>, PassedAt<Q>>
         requires { 0ℚ ≤ℚ until }
         ensures list { seen_at (option_map difference_of) (λ q. q) result ≡
-            at_part part (checked_difference (beyond (bound_of 127)) left.now.points right.now.points until) }
+            at_part part (checked_difference passes_Q left.now.points right.now.points until) }
         ensures difference { IfOk result (λ d. IsDifference left.now.points right.now.points until (option_map difference_of d)) }
     {
         match difference_until(&left.points, &right.points, until, part)? {

@@ -2,7 +2,7 @@
 ghost use Rattle.std.specs.Prelude.{◌≡◌, ◌++◌, OnOk};
 ghost use Rattle.nf_rational.specs.Operations.{0ℚ};
 ghost use Rattle.nf_rational.specs.Order.{◌≤ℚ◌};
-ghost use Rattle.nf_work.specs.Passing.{bound_of, beyond};
+ghost use Rattle.nf_work.specs.Passing.{passes_Q};
 ghost use Rattle.nf_work.specs.Checked.{at_part, Gives};
 ghost use Rattle.nf_model.specs.Curve.{IsCurve};
 ghost use Rattle.nf_curve_lists.specs.Values.{points_before, checked_cut};
@@ -35,7 +35,7 @@ pub(crate) fn cut_points(
 ) -> Result<Vec<Point>, Halt<Q>>
     requires curve { IsCurve points.now }
     requires last { 0ℚ ≤ℚ last }
-    ensures { Gives (λ cut. cut.items) (λ q. q) result (at_part part (checked_cut (beyond (bound_of 127)) points.now last)) }
+    ensures { Gives (λ cut. cut.items) (λ q. q) result (at_part part (checked_cut passes_Q points.now last)) }
 {
     let value = value_at(points, place_up(points, 0, last), last, part)?;
     let mut cut = Vec::new(alloc);

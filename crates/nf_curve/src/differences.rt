@@ -2,7 +2,7 @@
 ghost use Rattle.std.specs.Prelude.{◌≡◌, [], ◌∷◌, ◌≤◌, ◌-◌, length, slice_get, option_map};
 ghost use Rattle.nf_rational.specs.Operations.{0ℚ};
 ghost use Rattle.nf_rational.specs.Order.{◌≤ℚ◌, ◌<ℚ◌};
-ghost use Rattle.nf_work.specs.Passing.{bound_of, beyond};
+ghost use Rattle.nf_work.specs.Passing.{passes_Q};
 ghost use Rattle.nf_work.specs.Checked.{at_part, seen_at};
 ghost use Rattle.nf_model.specs.Curve.{IsCurve, TimesRise};
 ghost use Rattle.nf_lists.specs.Signs.{is_same as is_same_by};
@@ -35,7 +35,7 @@ fn do_differ(sides: &Sides) -> bool
 // The slope before the last point isn't 0, which it is after it.
 fn turns_at_end(p: &Point, q: &Point, part: Part) -> Result<bool, PassedAt<Q>>
     requires { p.now.0 <ℚ q.now.0 }
-    ensures { result ≡ at_part part (turn_at (beyond (bound_of 127)) p.now q.now []) }
+    ensures { result ≡ at_part part (turn_at passes_Q p.now q.now []) }
 {
     let before = slope(p, q, part)?;
     Ok(!is_same(before, Q::zero()))
@@ -45,7 +45,7 @@ fn turns_at_end(p: &Point, q: &Point, part: Part) -> Result<bool, PassedAt<Q>>
 fn turns_inside(p: &Point, q: &Point, r: &Point, part: Part) -> Result<bool, PassedAt<Q>>
     requires before { p.now.0 <ℚ q.now.0 }
     requires after { q.now.0 <ℚ r.now.0 }
-    ensures { result ≡ at_part part (turn_at (beyond (bound_of 127)) p.now q.now (r.now ∷ [])) }
+    ensures { result ≡ at_part part (turn_at passes_Q p.now q.now (r.now ∷ [])) }
 {
     let before = slope(p, q, part)?;
     let after = slope(q, r, part)?;
@@ -57,7 +57,7 @@ fn turns_before(points: &[Point], place: usize, part: Part) -> Result<bool, Pass
     requires rise { TimesRise points.now }
     requires some { 2 ≤ place }
     requires within { place ≤ length points.now }
-    ensures { result ≡ at_part part (turn_between (beyond (bound_of 127)) (slice_get points.now (place - 2)) (slice_get points.now (place - 1)) (slice_get points.now place)) }
+    ensures { result ≡ at_part part (turn_between passes_Q (slice_get points.now (place - 2)) (slice_get points.now (place - 1)) (slice_get points.now place)) }
 {
     let (p, q) = (&points[place - 2], &points[place - 1]);
     if place == points.len() {
@@ -73,7 +73,7 @@ fn does_turn(points: &[Point], place: usize, time: Q, part: Part) -> Result<bool
     requires time { 0ℚ ≤ℚ time }
     requires place { place ≡ place_of time points.now }
     requires within { place ≤ length points.now }
-    ensures { result ≡ at_part part (checked_turn (beyond (bound_of 127)) time points.now) }
+    ensures { result ≡ at_part part (checked_turn passes_Q time points.now) }
 {
     if place < 2 || !is_same(time, points[place - 1].0) {
         return Ok(false);
@@ -86,7 +86,7 @@ fn is_corner(left: &[Point], right: &[Point], now: &Moment, part: Part) -> Resul
     requires left { IsCurve left.now }
     requires right { IsCurve right.now }
     requires there { IsMoment left.now right.now now.now }
-    ensures { result ≡ at_part part (turns_at (beyond (bound_of 127)) (is_same_by now.now.time 0ℚ) now.now.time left.now right.now) }
+    ensures { result ≡ at_part part (turns_at passes_Q (is_same_by now.now.time 0ℚ) now.now.time left.now right.now) }
 {
     if is_same(now.time, Q::zero()) || does_turn(left, now.left, now.time, part)? {
         return Ok(true);
@@ -104,7 +104,7 @@ fn difference_at(
     requires left { IsCurve left.now }
     requires right { IsCurve right.now }
     requires there { IsMoment left.now right.now now.now }
-    ensures { seen_at (option_map sides_of) (λ q. q) result ≡ at_part part (difference_step (beyond (bound_of 127)) left.now right.now now.now.time) }
+    ensures { seen_at (option_map sides_of) (λ q. q) result ≡ at_part part (difference_step passes_Q left.now right.now now.now.time) }
 {
     let sides = sides_at(left, right, now, part)?;
     if do_differ(&sides) && is_corner(left, right, now, part)? {
@@ -134,7 +134,7 @@ pub(crate) fn difference_until(
     requires left { IsCurve left.now }
     requires right { IsCurve right.now }
     requires last { 0ℚ ≤ℚ last }
-    ensures { seen_at (option_map sides_of) (λ q. q) result ≡ at_part part (checked_difference (beyond (bound_of 127)) left.now right.now last) }
+    ensures { seen_at (option_map sides_of) (λ q. q) result ≡ at_part part (checked_difference passes_Q left.now right.now last) }
 {
     let mut places = (0, 0);
     let mut now = only_before(last, Some(first_moment(left, right)));

@@ -2,7 +2,7 @@
 ghost use Rattle.std.specs.Prelude.{◌≡◌, ◌++◌, Ok};
 ghost use Rattle.std.specs.Option.{option_to_list};
 ghost use Rattle.nf_rational.specs.Order.{◌<ℚ◌};
-ghost use Rattle.nf_work.specs.Passing.{bound_of, beyond};
+ghost use Rattle.nf_work.specs.Passing.{passes_Q};
 ghost use Rattle.nf_work.specs.Checked.{at_part, seen_at, Gives};
 ghost use Rattle.nf_model.specs.Curve.{IsCurve};
 ghost use Rattle.nf_curve_lists.specs.Least.{is_crossed as is_crossed_by, least_point as least_by, crossing as crossing_by, checked_least};
@@ -32,7 +32,7 @@ fn least_point(sides: &Sides) -> Point
 // The point at which the curves cross from one time to the next, if they do.
 fn crossing(before: &Sides, now: &Sides, part: Part) -> Result<Option<Point>, PassedAt<Q>>
     requires { before.now.time <ℚ now.now.time }
-    ensures { seen_at option_to_list (λ q. q) result ≡ at_part part (crossing_by (beyond (bound_of 127)) (is_crossed_by (sides_of before.now) (sides_of now.now)) (sides_of before.now) (sides_of now.now)) }
+    ensures { seen_at option_to_list (λ q. q) result ≡ at_part part (crossing_by passes_Q (is_crossed_by (sides_of before.now) (sides_of now.now)) (sides_of before.now) (sides_of now.now)) }
 {
     if !is_crossed(before, now) {
         return Ok(None);
@@ -52,7 +52,7 @@ fn add_points(
     part: Part,
 ) -> Result<(), Halt<Q>>
     requires { before.now.time <ℚ now.now.time }
-    ensures { Gives (λ _. points.new.items) (λ q. q) result (at_part part (lesser_step (beyond (bound_of 127)) points.old.items (sides_of before.now) (sides_of now.now))) }
+    ensures { Gives (λ _. points.new.items) (λ q. q) result (at_part part (lesser_step passes_Q points.old.items (sides_of before.now) (sides_of now.now))) }
 {
     if let Some(point) = crossing(before, now, part)? {
         points.push(point)?;
@@ -70,7 +70,7 @@ pub(crate) fn least_points(
 ) -> Result<Vec<Point>, Halt<Q>>
     requires left { IsCurve left.now }
     requires right { IsCurve right.now }
-    ensures { Gives (λ points. points.items) (λ q. q) result (at_part part (checked_least (beyond (bound_of 127)) left.now right.now)) }
+    ensures { Gives (λ points. points.items) (λ q. q) result (at_part part (checked_least passes_Q left.now right.now)) }
 {
     let first = first_moment(left, right);
     let mut before = sides_at(left, right, &first, part)?;

@@ -1,7 +1,7 @@
 // Pieces of curves, from one point to a later one: the slope, the value at a time, the time of a value, and where two cross.
 ghost use Rattle.std.specs.Prelude.{◌≡◌, ◌≢◌, true};
 ghost use Rattle.nf_rational.specs.Order.{◌<ℚ◌};
-ghost use Rattle.nf_work.specs.Passing.{bound_of, beyond};
+ghost use Rattle.nf_work.specs.Passing.{passes_Q};
 ghost use Rattle.nf_work.specs.Checked.{at_part};
 ghost use Rattle.nf_curve_lists.specs.Lines.{checked_slope, checked_line, checked_inverse, checked_cross};
 ghost use Rattle.nf_curve_lists.specs.Least.{is_crossed};
@@ -24,7 +24,7 @@ pub(crate) struct Sides {
 #[tactic(auto, unfolding(nf_curve_lists::specs::Lines::checked_slope), using(crate::proofs::Pieces::run_apart))]
 pub(crate) fn slope(p: &Point, q: &Point, part: Part) -> Result<Q, PassedAt<Q>>
     requires { p.now.0 <ℚ q.now.0 }
-    ensures { result ≡ at_part part (checked_slope (beyond (bound_of 127)) p.now q.now) }
+    ensures { result ≡ at_part part (checked_slope passes_Q p.now q.now) }
 {
     let rise = at!(part, q.1.difference(p.1));
     let run = at!(part, q.0.difference(p.0));
@@ -36,7 +36,7 @@ pub(crate) fn slope(p: &Point, q: &Point, part: Part) -> Result<Q, PassedAt<Q>>
 #[tactic(auto, unfolding(nf_curve_lists::specs::Lines::checked_line))]
 pub(crate) fn line(p: &Point, q: &Point, time: Q, part: Part) -> Result<Q, PassedAt<Q>>
     requires { p.now.0 <ℚ q.now.0 }
-    ensures { result ≡ at_part part (checked_line (beyond (bound_of 127)) p.now q.now time) }
+    ensures { result ≡ at_part part (checked_line passes_Q p.now q.now time) }
 {
     let slope = slope(p, q, part)?;
     let run = at!(part, time.difference(p.0));
@@ -50,7 +50,7 @@ pub(crate) fn line(p: &Point, q: &Point, time: Q, part: Part) -> Result<Q, Passe
 pub(crate) fn inverse(p: &Point, q: &Point, value: Q, part: Part) -> Result<Q, PassedAt<Q>>
     requires later { p.now.0 <ℚ q.now.0 }
     requires apart { p.now.1 ≢ q.now.1 }
-    ensures { result ≡ at_part part (checked_inverse (beyond (bound_of 127)) p.now q.now value) }
+    ensures { result ≡ at_part part (checked_inverse passes_Q p.now q.now value) }
 {
     let slope = slope(p, q, part)?;
     let rise = at!(part, value.difference(p.1));
@@ -63,7 +63,7 @@ pub(crate) fn inverse(p: &Point, q: &Point, value: Q, part: Part) -> Result<Q, P
 #[tactic(auto, unfolding(nf_curve_lists::specs::Lines::checked_cross), using(crate::proofs::Pieces::change_apart))]
 pub(crate) fn crossing_time(a: &Sides, b: &Sides, part: Part) -> Result<Q, PassedAt<Q>>
     requires { is_crossed (sides_of a.now) (sides_of b.now) ≡ true }
-    ensures { result ≡ at_part part (checked_cross (beyond (bound_of 127)) (sides_of a.now) (sides_of b.now)) }
+    ensures { result ≡ at_part part (checked_cross passes_Q (sides_of a.now) (sides_of b.now)) }
 {
     let before = at!(part, a.left.difference(a.right));
     let after = at!(part, b.left.difference(b.right));

@@ -2,7 +2,7 @@
 ghost use Rattle.std.specs.Prelude.{◌≡◌, ◌≤◌, length};
 ghost use Rattle.nf_rational.specs.Operations.{0ℚ};
 ghost use Rattle.nf_rational.specs.Order.{◌≤ℚ◌};
-ghost use Rattle.nf_work.specs.Passing.{bound_of, beyond};
+ghost use Rattle.nf_work.specs.Passing.{beyond, passes_Q};
 ghost use Rattle.nf_work.specs.Checked.{at_part};
 ghost use Rattle.nf_model.specs.Curve.{IsCurve, TimesRise};
 ghost use Rattle.nf_curve_lists.specs.Values.{checked_value};
@@ -48,7 +48,7 @@ pub(crate) fn value_at(
     requires curve { IsCurve points.now }
     requires time { 0ℚ ≤ℚ time }
     requires place { place ≡ place_of time points.now }
-    ensures { result ≡ at_part part (checked_value (beyond (bound_of 127)) points.now time) }
+    ensures { result ≡ at_part part (checked_value passes_Q points.now time) }
 {
     let last = points[place - 1];
     if place == points.len() || time == last.0 {

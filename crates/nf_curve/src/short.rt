@@ -1,6 +1,6 @@
 // A curve in short form.
 ghost use Rattle.std.specs.Prelude.{◌≡◌, [], ◌∷◌, ◌++◌, if◌then◌else◌, OnOk};
-ghost use Rattle.nf_work.specs.Passing.{bound_of, beyond};
+ghost use Rattle.nf_work.specs.Passing.{passes_Q};
 ghost use Rattle.nf_work.specs.Checked.{at_part, Gives};
 ghost use Rattle.nf_model.specs.Curve.{IsCurve};
 ghost use Rattle.nf_lists.specs.Signs.{is_same as is_same_by};
@@ -33,7 +33,7 @@ pub(crate) fn short_points(
     part: Part,
 ) -> Result<Vec<Point>, Halt<Q>>
     requires { IsCurve points.now }
-    ensures { Gives (λ points. points.items) (λ q. q) result (at_part part (checked_short (beyond (bound_of 127)) points.now)) }
+    ensures { Gives (λ points. points.items) (λ q. q) result (at_part part (checked_short passes_Q points.now)) }
 {
     let mut short = Vec::new(alloc);
     short.push(points[0])?;

@@ -1,6 +1,6 @@
 // The sum of two curves.
 ghost use Rattle.std.specs.Prelude.{◌≡◌};
-ghost use Rattle.nf_work.specs.Passing.{bound_of, beyond};
+ghost use Rattle.nf_work.specs.Passing.{passes_Q};
 ghost use Rattle.nf_work.specs.Checked.{at_part, Gives};
 ghost use Rattle.nf_model.specs.Curve.{IsCurve};
 ghost use Rattle.nf_curve_lists.specs.Sums.{sum_at as sum_by, checked_sum};
@@ -16,7 +16,7 @@ fn sum_at(left: &[Point], right: &[Point], now: &Moment, part: Part) -> Result<P
     requires left { IsCurve left.now }
     requires right { IsCurve right.now }
     requires there { IsMoment left.now right.now now.now }
-    ensures { result ≡ at_part part (sum_by (beyond (bound_of 127)) left.now right.now now.now.time) }
+    ensures { result ≡ at_part part (sum_by passes_Q left.now right.now now.now.time) }
 {
     let sides = sides_at(left, right, now, part)?;
     let value = at!(part, sides.left.sum(sides.right));
@@ -32,7 +32,7 @@ pub(crate) fn sum_points(
 ) -> Result<Vec<Point>, Halt<Q>>
     requires left { IsCurve left.now }
     requires right { IsCurve right.now }
-    ensures { Gives (λ points. points.items) (λ q. q) result (at_part part (checked_sum (beyond (bound_of 127)) left.now right.now)) }
+    ensures { Gives (λ points. points.items) (λ q. q) result (at_part part (checked_sum passes_Q left.now right.now)) }
 {
     let mut points = Vec::new(alloc);
     let mut now = Some(first_moment(left, right));

@@ -2,7 +2,7 @@
 ghost use Rattle.std.specs.Prelude.{◌≡◌, ◌∷◌, slice_get, option_map, IfSome, IfOk};
 ghost use Rattle.nf_rational.specs.Operations.{0ℚ};
 ghost use Rattle.nf_rational.specs.Order.{◌<ℚ◌};
-ghost use Rattle.nf_work.specs.Passing.{bound_of, beyond};
+ghost use Rattle.nf_work.specs.Passing.{passes_Q};
 ghost use Rattle.nf_work.specs.Checked.{at_part, seen_at};
 ghost use Rattle.nf_model.specs.Curve.{IsCurve};
 ghost use Rattle.nf_curve_lists.specs.Times.{both_times};
@@ -90,7 +90,7 @@ pub(crate) fn sides_at(
     requires left { IsCurve left.now }
     requires right { IsCurve right.now }
     requires there { IsMoment left.now right.now now.now }
-    ensures list { seen_at sides_of (λ q. q) result ≡ at_part part (sides_by (beyond (bound_of 127)) left.now right.now now.now.time) }
+    ensures list { seen_at sides_of (λ q. q) result ≡ at_part part (sides_by passes_Q left.now right.now now.now.time) }
     ensures time { IfOk result (λ sides. sides.time ≡ now.now.time) }
 {
     let left_value = value_at(left, now.left, now.time, part)?;

@@ -1,19 +1,20 @@
 use Rattle.std.proofs.Common.{◌≤◌, length, sym, ap, ◌∙◌, rules, arith, append-nil}
 use Rattle.std.specs.Prelude.{Ok}
 use Rattle.nf_rational_laws.proofs.Order.{≤ℚ_of_lt}
-use Rattle.nf_curve.proofs.Placing.{below_of, place-rises, place_within, curve-rises}
+use Rattle.nf_curve.proofs.Placing.{place-rises, place_within, curve-rises}
 use Rattle.nf_curve.proofs.Between.{along-up, along-down, along-level}
 use Rattle.nf_curve.proofs.composed.add_corners.Goals as goal
+use Rattle.nf_rational_laws.proofs.Tests.{less_of_test}
 
 pub add_corners_up-requires-clause-up : goal.add_corners_up-requires-clause-up
-add_corners_up-requires-clause-up c = below_of c.args.p.now.1 c.args.q.now.1 (sym c.is_below.ensures ∙ c.if-is_below.true)
+add_corners_up-requires-clause-up c = less_of_test c.args.p.now.1 c.args.q.now.1 (sym c.is_below.ensures ∙ c.if-is_below.true)
 
 pub add_corners_down-requires-clause-down : goal.add_corners_down-requires-clause-down
-add_corners_down-requires-clause-down c = below_of c.args.q.now.1 c.args.p.now.1 (sym c.is_below-else-is_below.ensures ∙ c.if-is_below-2.true)
+add_corners_down-requires-clause-down c = less_of_test c.args.q.now.1 c.args.p.now.1 (sym c.is_below-else-is_below.ensures ∙ c.if-is_below-2.true)
 
 pub slice_bounds-add_corners_up-count : goal.slice_bounds-add_corners_up-count
 slice_bounds-add_corners_up-count c =
-    let h = place-rises c.args.p.now.1 c.args.q.now.1 c.args.outer.now (≤ℚ_of_lt _ _ (below_of c.args.p.now.1 c.args.q.now.1 (sym c.is_below.ensures ∙ c.if-is_below.true))) in omega arith
+    let h = place-rises c.args.p.now.1 c.args.q.now.1 c.args.outer.now (≤ℚ_of_lt _ _ (less_of_test c.args.p.now.1 c.args.q.now.1 (sym c.is_below.ensures ∙ c.if-is_below.true))) in omega arith
 
 pub offset_bounds-outer-first : goal.offset_bounds-outer-first
 offset_bounds-outer-first c =
@@ -22,7 +23,7 @@ offset_bounds-outer-first c =
 
 pub slice_bounds-add_corners_up-start : goal.slice_bounds-add_corners_up-start
 slice_bounds-add_corners_up-start c =
-    let h = place-rises c.args.p.now.1 c.args.q.now.1 c.args.outer.now (≤ℚ_of_lt _ _ (below_of c.args.p.now.1 c.args.q.now.1 (sym c.is_below.ensures ∙ c.if-is_below.true))) in
+    let h = place-rises c.args.p.now.1 c.args.q.now.1 c.args.outer.now (≤ℚ_of_lt _ _ (less_of_test c.args.p.now.1 c.args.q.now.1 (sym c.is_below.ensures ∙ c.if-is_below.true))) in
     let o : c.args.places.0 ≤ c.args.places.1 = omega arith in search rules
 
 pub slice_bounds-add_corners_up-end : goal.slice_bounds-add_corners_up-end
@@ -32,7 +33,7 @@ slice_bounds-add_corners_up-end c =
 
 pub slice_bounds-add_corners_down-count : goal.slice_bounds-add_corners_down-count
 slice_bounds-add_corners_down-count c =
-    let h = place-rises c.args.q.now.1 c.args.p.now.1 c.args.outer.now (≤ℚ_of_lt _ _ (below_of c.args.q.now.1 c.args.p.now.1 (sym c.is_below-else-is_below.ensures ∙ c.if-is_below-2.true))) in omega arith
+    let h = place-rises c.args.q.now.1 c.args.p.now.1 c.args.outer.now (≤ℚ_of_lt _ _ (less_of_test c.args.q.now.1 c.args.p.now.1 (sym c.is_below-else-is_below.ensures ∙ c.if-is_below-2.true))) in omega arith
 
 pub offset_bounds-outer-last : goal.offset_bounds-outer-last
 offset_bounds-outer-last c =
@@ -41,7 +42,7 @@ offset_bounds-outer-last c =
 
 pub slice_bounds-add_corners_down-start : goal.slice_bounds-add_corners_down-start
 slice_bounds-add_corners_down-start c =
-    let h = place-rises c.args.q.now.1 c.args.p.now.1 c.args.outer.now (≤ℚ_of_lt _ _ (below_of c.args.q.now.1 c.args.p.now.1 (sym c.is_below-else-is_below.ensures ∙ c.if-is_below-2.true))) in
+    let h = place-rises c.args.q.now.1 c.args.p.now.1 c.args.outer.now (≤ℚ_of_lt _ _ (less_of_test c.args.q.now.1 c.args.p.now.1 (sym c.is_below-else-is_below.ensures ∙ c.if-is_below-2.true))) in
     let o : c.args.places.1 ≤ c.args.places.0 = omega arith in search rules
 
 pub slice_bounds-add_corners_down-end : goal.slice_bounds-add_corners_down-end
@@ -51,13 +52,13 @@ slice_bounds-add_corners_down-end c =
 
 pub returns-then-is_below : goal.returns-then-is_below
 returns-then-is_below c =
-    let u = below_of c.args.p.now.1 c.args.q.now.1 (sym c.is_below.ensures ∙ c.if-is_below.true) in
+    let u = less_of_test c.args.p.now.1 c.args.q.now.1 (sym c.is_below.ensures ∙ c.if-is_below.true) in
     let e = along-up c.args.p.now.1 c.args.q.now.1 c.args.outer.now c.args.places.0 c.args.places.1 (curve-rises c.args.outer.now c.requires.outer) u c.requires.first c.requires.last in
     rw e c.add_corners_up.ensures
 
 pub returns-then-is_below-2 : goal.returns-then-is_below-2
 returns-then-is_below-2 c =
-    let u = below_of c.args.q.now.1 c.args.p.now.1 (sym c.is_below-else-is_below.ensures ∙ c.if-is_below-2.true) in
+    let u = less_of_test c.args.q.now.1 c.args.p.now.1 (sym c.is_below-else-is_below.ensures ∙ c.if-is_below-2.true) in
     let e = along-down c.args.p.now.1 c.args.q.now.1 c.args.outer.now c.args.places.0 c.args.places.1 (curve-rises c.args.outer.now c.requires.outer) u c.requires.first c.requires.last in
     rw e c.add_corners_down.ensures
 

@@ -5,7 +5,7 @@ use Rattle.std.proofs.lemmas.Option.{slice_get_read}
 use Rattle.std.proofs.lemmas.Result.{err_from_is_err_and}
 use Rattle.nf_rational.specs.Rational.{ℚ}
 use Rattle.nf_rational.specs.Order.{lt_ℚ}
-use Rattle.nf_work.specs.Passing.{bound_of, beyond}
+use Rattle.nf_work.specs.Passing.{passes_Q}
 use Rattle.nf_work.specs.Checked.{at_part, each}
 use Rattle.nf_curve_lists.specs.Composed.{corner_at}
 use Rattle.nf_curve.specs.Steps.{behind}
@@ -18,14 +18,14 @@ returns-in_err-point c =
     let b : c.loop-left.left - 1 < length c.args.between.now = omega (arith, c.loop-left.invariant.within) in
     let g = slice_get_read c.args.between.now _ (c.loop-left.left - 1) c.index-between-left.result refl b c.index-between-left.is in
     let d = take-last c.args.between.now (c.loop-left.left - 1) c.loop-left.left c.index-between-left.result g (omega arith) in
-    rw (p.1, p.2) (corner_stops (corner_at (beyond (bound_of 127)) c.args.p.now c.args.q.now) c.args.part c.loop-left.composed.items _ (λ (x : ℚ × ℚ). lt_ℚ x.0 c.args.p.now.1) c.index-between-left.result
+    rw (p.1, p.2) (corner_stops (corner_at passes_Q c.args.p.now c.args.q.now) c.args.part c.loop-left.composed.items _ (λ (x : ℚ × ℚ). lt_ℚ x.0 c.args.p.now.1) c.index-between-left.result
     (reverse (take (c.loop-left.left - 1) c.args.between.now))
-    (ap (λ (l : List (ℚ × ℚ)). behind c.loop-left.composed.items (each (corner_at (beyond (bound_of 127)) c.args.p.now c.args.q.now) (filter (λ (x : ℚ × ℚ). lt_ℚ x.0 c.args.p.now.1) l))) (sym d) ∙ c.loop-left.invariant.so_far)
+    (ap (λ (l : List (ℚ × ℚ)). behind c.loop-left.composed.items (each (corner_at passes_Q c.args.p.now c.args.q.now) (filter (λ (x : ℚ × ℚ). lt_ℚ x.0 c.args.p.now.1) l))) (sym d) ∙ c.loop-left.invariant.so_far)
     (sym c.is_below.ensures ∙ c.if-is_below.true) c.in_err-point.field-0.0 (sym c.in_err-point.ensures))
 
 pub returns : goal.returns
 returns c =
     let none : c.loop-left.left ≡ 0 = omega arith in
     ap (at_part c.args.part) (sym c.loop-left.invariant.so_far
-    ∙ ap (λ (k : ℕ). behind c.loop-left.composed.items (each (corner_at (beyond (bound_of 127)) c.args.p.now c.args.q.now) (filter (λ (x : ℚ × ℚ). lt_ℚ x.0 c.args.p.now.1) (reverse (take k c.args.between.now))))) none
+    ∙ ap (λ (k : ℕ). behind c.loop-left.composed.items (each (corner_at passes_Q c.args.p.now c.args.q.now) (filter (λ (x : ℚ × ℚ). lt_ℚ x.0 c.args.p.now.1) (reverse (take k c.args.between.now))))) none
     ∙ ap Ok (append-nil c.loop-left.composed.items))

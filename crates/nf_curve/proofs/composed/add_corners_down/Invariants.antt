@@ -1,7 +1,7 @@
 use Rattle.std.proofs.Common.{◌≡◌, ◌≤◌, length, take, reverse}
 use Rattle.std.specs.List.{filter}
 use Rattle.nf_rational.specs.Order.{lt_ℚ}
-use Rattle.nf_work.specs.Passing.{bound_of, beyond}
+use Rattle.nf_work.specs.Passing.{passes_Q}
 use Rattle.nf_work.specs.Checked.{each}
 use Rattle.nf_curve_lists.specs.Composed.{corner_at}
 use Rattle.nf_curve.specs.Steps.{behind}
@@ -10,8 +10,8 @@ use Rattle.nf_curve.proofs.composed.add_corners_down.Given as goal
 abbrev pub invariant-loop-left : goal.invariant-loop-left
 invariant-loop-left l = record {
   within : l.left ≤ length l.between;
-  so_far : behind l.composed.items (each (corner_at (beyond (bound_of 127)) l.p l.q) (filter (λ c. lt_ℚ c.0 l.p.1) (reverse (take l.left l.between))))
-      ≡ behind l.fn.composed.items (each (corner_at (beyond (bound_of 127)) l.p l.q) (filter (λ c. lt_ℚ c.0 l.p.1) (reverse l.between)));
+  so_far : behind l.composed.items (each (corner_at passes_Q l.p l.q) (filter (λ c. lt_ℚ c.0 l.p.1) (reverse (take l.left l.between))))
+      ≡ behind l.fn.composed.items (each (corner_at passes_Q l.p l.q) (filter (λ c. lt_ℚ c.0 l.p.1) (reverse l.between)));
 }
 
 abbrev pub decreases-loop-left : goal.decreases-loop-left

@@ -3,7 +3,7 @@ use Rattle.std.specs.Prelude.{slice_get}
 use Rattle.std.proofs.lemmas.Option.{slice_get_read}
 use Rattle.std.proofs.lemmas.Result.{err_from_is_err_and}
 use Rattle.nf_rational.specs.Rational.{ℚ}
-use Rattle.nf_work.specs.Passing.{bound_of, beyond}
+use Rattle.nf_work.specs.Passing.{passes_Q}
 use Rattle.nf_curve_lists.specs.Composed.{composed_all}
 use Rattle.nf_curve.specs.Places.{place_of}
 use Rattle.nf_curve.specs.Steps.{behind}
@@ -37,8 +37,8 @@ loop-i-preserved c =
     let k = slice_get_read c.args.inner.now _ c.loop-i.i c.index-inner-i-in-loop-i.result refl c.loop-i-test.true c.index-inner-i-in-loop-i.is in
     record {
       place = λ p e. c.in_ok-place.ensures.place ∙ ap (λ (x : ℚ × ℚ). place_of x.1 c.args.outer.now) (let h : slice_get c.args.inner.now c.loop-i.i ≡ Some p = ap (slice_get c.args.inner.now) (sym n) ∙ e in let same : c.index-inner-i-in-loop-i.result ≡ p = cc in same);
-      so_far = ap (λ (m : ℕ). behind c.add_piece.new.composed.items (composed_all (beyond (bound_of 127)) c.args.outer.now (drop m c.args.inner.now))) n
-          ∙ pieces_go (beyond (bound_of 127)) c.args.part c.args.outer.now c.args.inner.now c.loop-i.composed.items _ (c.loop-i.i - 1) c.loop-i.i c.index-inner-i.result c.index-inner-i-in-loop-i.result (omega arith) g k
+      so_far = ap (λ (m : ℕ). behind c.add_piece.new.composed.items (composed_all passes_Q c.args.outer.now (drop m c.args.inner.now))) n
+          ∙ pieces_go passes_Q c.args.part c.args.outer.now c.args.inner.now c.loop-i.composed.items _ (c.loop-i.i - 1) c.loop-i.i c.index-inner-i.result c.index-inner-i-in-loop-i.result (omega arith) g k
           c.loop-i.invariant.so_far c.add_piece.new.composed.items c.in_ok-place.ensures.points;
     }
 
@@ -62,5 +62,5 @@ returns-in_err-value c =
     let a : length c.args.inner.now - 1 < length c.args.inner.now = omega arith in
     let i : c.loop-i.i - 1 ≡ length c.args.inner.now - 1 = omega arith in
     let g = slice_get_read c.args.inner.now _ (length c.args.inner.now - 1) c.index-inner-inner.result refl a c.index-inner-inner.is in
-    rw (p.1, p.2) (last_stops (beyond (bound_of 127)) c.args.part c.args.outer.now c.args.inner.now c.loop-i.composed.items _ (length c.args.inner.now - 1) c.index-inner-inner.result g (omega arith)
-    (ap (λ (m : ℕ). behind c.loop-i.composed.items (composed_all (beyond (bound_of 127)) c.args.outer.now (drop m c.args.inner.now))) (sym i) ∙ c.loop-i.invariant.so_far) c.in_err-value.field-0.0 (sym c.in_err-value.ensures))
+    rw (p.1, p.2) (last_stops passes_Q c.args.part c.args.outer.now c.args.inner.now c.loop-i.composed.items _ (length c.args.inner.now - 1) c.index-inner-inner.result g (omega arith)
+    (ap (λ (m : ℕ). behind c.loop-i.composed.items (composed_all passes_Q c.args.outer.now (drop m c.args.inner.now))) (sym i) ∙ c.loop-i.invariant.so_far) c.in_err-value.field-0.0 (sym c.in_err-value.ensures))

@@ -1,7 +1,7 @@
 use Rattle.std.proofs.Common.{◌≡◌, ◌-◌, Some, drop}
 use Rattle.std.specs.Prelude.{slice_get}
 use Rattle.nf_rational.specs.Rational.{ℚ}
-use Rattle.nf_work.specs.Passing.{bound_of, beyond}
+use Rattle.nf_work.specs.Passing.{passes_Q}
 use Rattle.nf_curve_lists.specs.Composed.{composed_all}
 use Rattle.nf_curve.specs.Places.{place_of}
 use Rattle.nf_curve.specs.Steps.{behind}
@@ -11,5 +11,5 @@ use Rattle.nf_curve.proofs.composed.composed_points.Given as goal
 abbrev pub invariant-loop-i : goal.invariant-loop-i
 invariant-loop-i l = record {
   place : (p : ℚ × ℚ) → slice_get l.inner (l.i - 1) ≡ Some p → l.place ≡ place_of p.1 l.outer;
-  so_far : behind l.composed.items (composed_all (beyond (bound_of 127)) l.outer (drop (l.i - 1) l.inner)) ≡ composed_all (beyond (bound_of 127)) l.outer l.inner;
+  so_far : behind l.composed.items (composed_all passes_Q l.outer (drop (l.i - 1) l.inner)) ≡ composed_all passes_Q l.outer l.inner;
 }

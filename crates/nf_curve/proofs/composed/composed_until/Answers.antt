@@ -4,7 +4,7 @@ use Rattle.std.proofs.lemmas.Result.{err_from_is_err_and}
 use Rattle.nf_rational.specs.Rational.{ℚ}
 use Rattle.nf_rational.specs.Operations.{0ℚ}
 use Rattle.nf_rational.specs.Order.{◌≤ℚ◌}
-use Rattle.nf_work.specs.Passing.{bound_of, beyond}
+use Rattle.nf_work.specs.Passing.{passes_Q}
 use Rattle.nf_work.specs.Checked.{at_part}
 use Rattle.nf_model.specs.Curve.{IsCurve}
 use Rattle.nf_curve_lists.specs.Values.{checked_cut}
@@ -17,22 +17,22 @@ use Rattle.nf_curve.proofs.composed.composed_until.Goals as goal
 pub returns-in_err-cut : goal.returns-in_err-cut
 returns-in_err-cut c =
     let p = err_from_is_err_and c.from_residual.result c.from_residual.ensures.1 in
-    rw (p.1, p.2) (stops_on c.in_err-cut.field-0.0 (at_part c.args.part (checked_cut (beyond (bound_of 127)) c.args.inner.now c.args.last)) (at_part c.args.part (checked_composed (beyond (bound_of 127)) c.args.outer.now c.args.inner.now c.args.last))
-    (λ a e. cut_stops (beyond (bound_of 127)) c.args.part c.args.outer.now c.args.inner.now c.args.last a e) c.in_err-cut.ensures)
+    rw (p.1, p.2) (stops_on c.in_err-cut.field-0.0 (at_part c.args.part (checked_cut passes_Q c.args.inner.now c.args.last)) (at_part c.args.part (checked_composed passes_Q c.args.outer.now c.args.inner.now c.args.last))
+    (λ a e. cut_stops passes_Q c.args.part c.args.outer.now c.args.inner.now c.args.last a e) c.in_err-cut.ensures)
 
 pub composed_points-requires-clause-inner : goal.composed_points-requires-clause-inner
 composed_points-requires-clause-inner c = subst (λ (l : List (ℚ × ℚ)). IsCurve l) (sym c.deref.ensures.value)
-    (checked_cut-values (beyond (bound_of 127)) c.args.inner.now c.args.last c.in_ok-cut.cut.items c.requires.inner c.requires.last
-    (was_ok c.args.part (checked_cut (beyond (bound_of 127)) c.args.inner.now c.args.last) c.in_ok-cut.cut.items c.in_ok-cut.ensures)).curve
+    (checked_cut-values passes_Q c.args.inner.now c.args.last c.in_ok-cut.cut.items c.requires.inner c.requires.last
+    (was_ok c.args.part (checked_cut passes_Q c.args.inner.now c.args.last) c.in_ok-cut.cut.items c.in_ok-cut.ensures)).curve
 
 pub composed_points-requires-clause-values : goal.composed_points-requires-clause-values
 composed_points-requires-clause-values c = λ i p e.
-    let w = checked_cut-each (beyond (bound_of 127)) c.args.inner.now c.args.last c.in_ok-cut.cut.items i p c.requires.inner c.requires.last
-    (was_ok c.args.part (checked_cut (beyond (bound_of 127)) c.args.inner.now c.args.last) c.in_ok-cut.cut.items c.in_ok-cut.ensures)
+    let w = checked_cut-each passes_Q c.args.inner.now c.args.last c.in_ok-cut.cut.items i p c.requires.inner c.requires.last
+    (was_ok c.args.part (checked_cut passes_Q c.args.inner.now c.args.last) c.in_ok-cut.cut.items c.in_ok-cut.ensures)
     (ap (λ (l : List (ℚ × ℚ)). slice_get l i) (sym c.deref.ensures.value) ∙ e) in
     subst (λ (y : ℚ). 0ℚ ≤ℚ y) w.value (c.requires.values p.0 (w.from_on, w.up_to))
 
 pub returns : goal.returns
 returns c =
-    let e = cut_goes (beyond (bound_of 127)) c.args.part c.args.outer.now c.args.inner.now c.args.last c.in_ok-cut.cut.items c.deref.result.now c.in_ok-cut.ensures c.deref.ensures.value in
+    let e = cut_goes passes_Q c.args.part c.args.outer.now c.args.inner.now c.args.last c.in_ok-cut.cut.items c.deref.result.now c.in_ok-cut.ensures c.deref.ensures.value in
     rw e c.composed_points.ensures

@@ -2,7 +2,7 @@ use Rattle.std.proofs.Common.{List, [], ◌∷◌, ◌++◌, sym, ap, ◌∙◌}
 use Rattle.std.specs.Prelude.{Ok}
 use Rattle.std.proofs.lemmas.Result.{err_from_is_err_and}
 use Rattle.nf_rational.specs.Rational.{ℚ}
-use Rattle.nf_work.specs.Passing.{bound_of, beyond}
+use Rattle.nf_work.specs.Passing.{passes_Q}
 use Rattle.nf_curve_lists.specs.Values.{points_before, checked_value, checked_cut}
 use Rattle.nf_curve.proofs.Exits.{after_err, after_ok}
 use Rattle.nf_curve.proofs.cut.cut_points.Goals as goal
@@ -11,9 +11,9 @@ pub returns-in_err-value : goal.returns-in_err-value
 unfolding checked_cut
 returns-in_err-value c =
     let p = err_from_is_err_and c.from_residual.result c.from_residual.ensures.1 in
-    rw (p.1, p.2) (after_err c.args.part (checked_value (beyond (bound_of 127)) c.args.points.now c.args.last) _ c.in_err-value.field-0.0 (sym c.in_err-value.ensures))
+    rw (p.1, p.2) (after_err c.args.part (checked_value passes_Q c.args.points.now c.args.last) _ c.in_err-value.field-0.0 (sym c.in_err-value.ensures))
 
 pub returns : goal.returns
 unfolding checked_cut
-returns c = after_ok c.args.part (checked_value (beyond (bound_of 127)) c.args.points.now c.args.last) _ c.in_ok-value.value (sym c.in_ok-value.ensures)
+returns c = after_ok c.args.part (checked_value passes_Q c.args.points.now c.args.last) _ c.in_ok-value.value (sym c.in_ok-value.ensures)
     ∙ ap (λ (l : List (ℚ × ℚ)). Ok l) (sym (c.in_ok-push.ensures.items ∙ ap (λ (l : List (ℚ × ℚ)). l ++ (c.args.last, c.in_ok-value.value) ∷ []) (c.in_ok-add_before.ensures ∙ ap (λ (l : List (ℚ × ℚ)). l ++ points_before c.args.last c.args.points.now) c.new-cut.ensures.items)))

@@ -3,7 +3,7 @@ use Rattle.std.specs.Prelude.{Ok, Option, option_map}
 use Rattle.std.proofs.lemmas.Result.{err_from_is_err_and}
 use Rattle.nf_rational.specs.Order.{◌<ℚ◌}
 use Rattle.nf_rational_laws.proofs.Order.{≤ℚ_of_lt}
-use Rattle.nf_work.specs.Passing.{bound_of, beyond}
+use Rattle.nf_work.specs.Passing.{passes_Q}
 use Rattle.nf_curve_lists.specs.Differences.{times_before, difference_from, checked_difference}
 use Rattle.nf_curve.specs.Sides.{sides_of}
 use Rattle.nf_curve.specs.declared.lines.Sides.{Sides}
@@ -24,17 +24,17 @@ loop-now-init c =
       before = k.before;
       left_place = omega arith;
       right_place = omega arith;
-      so_far = ap (difference_from (beyond (bound_of 127)) c.args.left.now c.args.right.now c.args.last) (k.times ∙ ap (times_before c.args.last) (sym c.first_moment.ensures.times));
+      so_far = ap (difference_from passes_Q c.args.left.now c.args.right.now c.args.last) (k.times ∙ ap (times_before c.args.last) (sym c.first_moment.ensures.times));
     }
 
 pub returns-in_err-sides : goal.returns-in_err-sides
 returns-in_err-sides c =
     let p = err_from_is_err_and c.from_residual.result c.from_residual.ensures.1 in
-    rw (p.1, p.2) (sym (step_stops (beyond (bound_of 127)) c.args.left.now c.args.right.now c.args.last c.args.part c.in-Some.moment.time (times_after c.in-Some.moment.time c.args.left.now c.args.right.now) _
+    rw (p.1, p.2) (sym (step_stops passes_Q c.args.left.now c.args.right.now c.args.last c.args.part c.in-Some.moment.time (times_after c.in-Some.moment.time c.args.left.now c.args.right.now) _
     (rw c.in-Some.is at c.loop-now.invariant.before) (rw c.in-Some.is at c.loop-now.invariant.so_far) c.in_err-sides.field-0.0 (sym c.in_err-sides.ensures)))
 
 pub returns-in-Some-2 : goal.returns-in-Some-2
-returns-in-Some-2 c = sym (step_ends (beyond (bound_of 127)) c.args.left.now c.args.right.now c.args.last c.args.part c.in-Some.moment.time (times_after c.in-Some.moment.time c.args.left.now c.args.right.now) _
+returns-in-Some-2 c = sym (step_ends passes_Q c.args.left.now c.args.right.now c.args.last c.args.part c.in-Some.moment.time (times_after c.in-Some.moment.time c.args.left.now c.args.right.now) _
     (rw c.in-Some.is at c.loop-now.invariant.before) (rw c.in-Some.is at c.loop-now.invariant.so_far) (sides_of c.in-Some-2.sides)
     (sym c.in_ok-sides.ensures ∙ ap (λ (o : Option Sides). Ok (option_map sides_of o)) c.in-Some-2.is))
 
@@ -62,7 +62,7 @@ loop-now-preserved c =
       before = k.before;
       left_place = omega arith;
       right_place = omega arith;
-      so_far = ap (difference_from (beyond (bound_of 127)) c.args.left.now c.args.right.now c.args.last) (k.times ∙ ap (times_before c.args.last) (sym c.next_moment.ensures.times))
-          ∙ step_goes (beyond (bound_of 127)) c.args.left.now c.args.right.now c.args.last c.args.part c.in-Some.moment.time (times_after c.in-Some.moment.time c.args.left.now c.args.right.now) _
+      so_far = ap (difference_from passes_Q c.args.left.now c.args.right.now c.args.last) (k.times ∙ ap (times_before c.args.last) (sym c.next_moment.ensures.times))
+          ∙ step_goes passes_Q c.args.left.now c.args.right.now c.args.last c.args.part c.in-Some.moment.time (times_after c.in-Some.moment.time c.args.left.now c.args.right.now) _
           b (rw c.in-Some.is at c.loop-now.invariant.so_far) (sym c.in_ok-sides.ensures ∙ ap (λ (o : Option Sides). Ok (option_map sides_of o)) c.in_default-2.is);
     }

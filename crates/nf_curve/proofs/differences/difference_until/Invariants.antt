@@ -1,7 +1,7 @@
 use Rattle.std.proofs.Common.{◌≡◌, ◌≤◌, length}
 use Rattle.std.specs.Prelude.{IfSome}
 use Rattle.nf_rational.specs.Order.{◌<ℚ◌}
-use Rattle.nf_work.specs.Passing.{bound_of, beyond}
+use Rattle.nf_work.specs.Passing.{passes_Q}
 use Rattle.nf_curve_lists.specs.Differences.{times_before, difference_from, checked_difference}
 use Rattle.nf_curve.specs.Places.{place_of}
 use Rattle.nf_curve.specs.Moments.{IsThere, times_left}
@@ -14,7 +14,7 @@ invariant-loop-now l = record {
   before : IfSome l.now (λ moment. moment.time <ℚ l.fn.last);
   left_place : l.places.0 ≤ place_of l.fn.last l.left;
   right_place : l.places.1 ≤ place_of l.fn.last l.right;
-  so_far : difference_from (beyond (bound_of 127)) l.left l.right l.fn.last (times_before l.fn.last (times_left l.left l.right l.now)) ≡ checked_difference (beyond (bound_of 127)) l.left l.right l.fn.last;
+  so_far : difference_from passes_Q l.left l.right l.fn.last (times_before l.fn.last (times_left l.left l.right l.now)) ≡ checked_difference passes_Q l.left l.right l.fn.last;
 }
 
 abbrev pub decreases-loop-now : goal.decreases-loop-now

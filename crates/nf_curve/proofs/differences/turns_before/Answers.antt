@@ -1,7 +1,7 @@
 use Rattle.std.proofs.Common.{◌<◌, ◌-◌, length, Some, refl, sym, ap, ◌∙◌, arith}
 use Rattle.std.specs.Prelude.{None}
 use Rattle.std.proofs.lemmas.Option.{slice_get_read, slice_get_past}
-use Rattle.nf_work.specs.Passing.{bound_of, beyond}
+use Rattle.nf_work.specs.Passing.{passes_Q}
 use Rattle.nf_work.specs.Checked.{at_part}
 use Rattle.nf_curve.proofs.Placing.{rise-pairs}
 use Rattle.nf_curve.proofs.Turned.{turn-by}
@@ -36,7 +36,7 @@ returns-then-place-points c =
     let a : c.args.place - 2 < length c.args.points.now = omega arith in
     let b : c.args.place - 1 < length c.args.points.now = omega arith in
     c.turns_at_end.ensures
-    ∙ sym (ap (at_part c.args.part) (turn-by (beyond (bound_of 127)) c.args.points.now c.args.place c.index-points-place.result c.index-points-place-2.result None
+    ∙ sym (ap (at_part c.args.part) (turn-by passes_Q c.args.points.now c.args.place c.index-points-place.result c.index-points-place-2.result None
     (slice_get_read c.args.points.now _ (c.args.place - 2) c.index-points-place.result refl a c.index-points-place.is)
     (slice_get_read c.args.points.now _ (c.args.place - 1) c.index-points-place-2.result refl b c.index-points-place-2.is)
     (slice_get_past c.args.points.now c.args.place (omega arith))))
@@ -47,7 +47,7 @@ returns-else-place-points c =
     let b : c.args.place - 1 < length c.args.points.now = omega arith in
     let d : c.args.place < length c.args.points.now = omega (arith, c.if-place-points.false) in
     c.turns_inside.ensures
-    ∙ sym (ap (at_part c.args.part) (turn-by (beyond (bound_of 127)) c.args.points.now c.args.place c.index-points-place.result c.index-points-place-2.result (Some c.index-points-place-else-place-points.result)
+    ∙ sym (ap (at_part c.args.part) (turn-by passes_Q c.args.points.now c.args.place c.index-points-place.result c.index-points-place-2.result (Some c.index-points-place-else-place-points.result)
     (slice_get_read c.args.points.now _ (c.args.place - 2) c.index-points-place.result refl a c.index-points-place.is)
     (slice_get_read c.args.points.now _ (c.args.place - 1) c.index-points-place-2.result refl b c.index-points-place-2.is)
     (slice_get_read c.args.points.now _ c.args.place c.index-points-place-else-place-points.result refl d c.index-points-place-else-place-points.is)))

@@ -1,6 +1,6 @@
 use Rattle.std.proofs.Common.{Bool, sym, ap, ◌∙◌}
 use Rattle.std.proofs.lemmas.Result.{err_from_is_err_and}
-use Rattle.nf_work.specs.Passing.{bound_of, beyond}
+use Rattle.nf_work.specs.Passing.{passes_Q}
 use Rattle.nf_work.specs.Checked.{at_part}
 use Rattle.nf_curve_lists.specs.Lines.{checked_cross, checked_line}
 use Rattle.nf_curve_lists.specs.Least.{crossing}
@@ -11,12 +11,12 @@ use Rattle.nf_curve.proofs.least.crossing.Goals as goal
 pub returns-in_err-time : goal.returns-in_err-time
 returns-in_err-time c =
     let p = err_from_is_err_and c.from_residual.result c.from_residual.ensures.1 in
-    rw (p.1, p.2) (sym (ap (λ (t : Bool). at_part c.args.part (crossing (beyond (bound_of 127)) t (sides_of c.args.before.now) (sides_of c.args.now.now))) (sym c.is_crossed.ensures ∙ c.if-not-is_crossed.false)
-    ∙ after_err c.args.part (checked_cross (beyond (bound_of 127)) (sides_of c.args.before.now) (sides_of c.args.now.now)) _ c.in_err-time.field-0.0 (sym c.in_err-time.ensures)))
+    rw (p.1, p.2) (sym (ap (λ (t : Bool). at_part c.args.part (crossing passes_Q t (sides_of c.args.before.now) (sides_of c.args.now.now))) (sym c.is_crossed.ensures ∙ c.if-not-is_crossed.false)
+    ∙ after_err c.args.part (checked_cross passes_Q (sides_of c.args.before.now) (sides_of c.args.now.now)) _ c.in_err-time.field-0.0 (sym c.in_err-time.ensures)))
 
 pub returns-in_err-value : goal.returns-in_err-value
 returns-in_err-value c =
     let p = err_from_is_err_and c.from_residual-in_err-value.result c.from_residual-in_err-value.ensures.1 in
-    rw (p.1, p.2) (sym (ap (λ (t : Bool). at_part c.args.part (crossing (beyond (bound_of 127)) t (sides_of c.args.before.now) (sides_of c.args.now.now))) (sym c.is_crossed.ensures ∙ c.if-not-is_crossed.false)
-    ∙ after_ok c.args.part (checked_cross (beyond (bound_of 127)) (sides_of c.args.before.now) (sides_of c.args.now.now)) _ c.in_ok-time.time (sym c.in_ok-time.ensures)
-    ∙ after_err c.args.part (checked_line (beyond (bound_of 127)) (c.args.before.now.time, c.args.before.now.left) (c.args.now.now.time, c.args.now.now.left) c.in_ok-time.time) _ c.in_err-value.field-0.0 (sym c.in_err-value.ensures)))
+    rw (p.1, p.2) (sym (ap (λ (t : Bool). at_part c.args.part (crossing passes_Q t (sides_of c.args.before.now) (sides_of c.args.now.now))) (sym c.is_crossed.ensures ∙ c.if-not-is_crossed.false)
+    ∙ after_ok c.args.part (checked_cross passes_Q (sides_of c.args.before.now) (sides_of c.args.now.now)) _ c.in_ok-time.time (sym c.in_ok-time.ensures)
+    ∙ after_err c.args.part (checked_line passes_Q (c.args.before.now.time, c.args.before.now.left) (c.args.now.now.time, c.args.now.now.left) c.in_ok-time.time) _ c.in_err-value.field-0.0 (sym c.in_err-value.ensures)))

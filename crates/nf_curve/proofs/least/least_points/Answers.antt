@@ -3,7 +3,7 @@ use Rattle.std.specs.Prelude.{IfSome}
 use Rattle.std.proofs.lemmas.Result.{err_from_is_err_and}
 use Rattle.nf_rational.specs.Rational.{ℚ}
 use Rattle.nf_rational.specs.Order.{◌<ℚ◌}
-use Rattle.nf_work.specs.Passing.{bound_of, beyond}
+use Rattle.nf_work.specs.Passing.{passes_Q}
 use Rattle.nf_work.specs.Checked.{at_part}
 use Rattle.nf_work.proofs.Each.{with_front}
 use Rattle.nf_curve_lists.specs.Times.{both_times}
@@ -19,17 +19,17 @@ pub returns-in_err-before : goal.returns-in_err-before
 unfolding checked_least
 returns-in_err-before c =
     let p = err_from_is_err_and c.from_residual.result c.from_residual.ensures.1 in
-    rw (p.1, p.2) (first_stops (beyond (bound_of 127)) c.args.part c.args.left.now c.args.right.now c.first_moment-first.result.time _ _ c.first_moment-first.ensures.times c.in_err-before.field-0.0 (sym c.in_err-before.ensures.list))
+    rw (p.1, p.2) (first_stops passes_Q c.args.part c.args.left.now c.args.right.now c.first_moment-first.result.time _ _ c.first_moment-first.ensures.times c.in_err-before.field-0.0 (sym c.in_err-before.ensures.list))
 
 pub loop-now-init : goal.loop-now-init
 loop-now-init c =
     let one : c.push.new.self.items ≡ least_point (sides_of c.in_ok-before.before) ∷ [] =
     c.in_ok-push.ensures.items ∙ ap (λ (l : List (ℚ × ℚ)). l ++ c.least_point.result ∷ []) c.new-points.ensures.items ∙ ap (λ (p : ℚ × ℚ). p ∷ []) c.least_point.ensures in
-    let w : with_front c.push.new.self.items (least_after (beyond (bound_of 127)) c.args.left.now c.args.right.now (sides_of c.in_ok-before.before) (times_after c.first_moment-first.result.time c.args.left.now c.args.right.now))
-    ≡ least_from (beyond (bound_of 127)) c.args.left.now c.args.right.now (both_times c.args.left.now c.args.right.now) =
-    ap (λ (l : List (ℚ × ℚ)). with_front l (least_after (beyond (bound_of 127)) c.args.left.now c.args.right.now (sides_of c.in_ok-before.before) (times_after c.first_moment-first.result.time c.args.left.now c.args.right.now)))
+    let w : with_front c.push.new.self.items (least_after passes_Q c.args.left.now c.args.right.now (sides_of c.in_ok-before.before) (times_after c.first_moment-first.result.time c.args.left.now c.args.right.now))
+    ≡ least_from passes_Q c.args.left.now c.args.right.now (both_times c.args.left.now c.args.right.now) =
+    ap (λ (l : List (ℚ × ℚ)). with_front l (least_after passes_Q c.args.left.now c.args.right.now (sides_of c.in_ok-before.before) (times_after c.first_moment-first.result.time c.args.left.now c.args.right.now)))
     one
-    ∙ first_goes (beyond (bound_of 127)) c.args.part c.args.left.now c.args.right.now c.first_moment-first.result.time _ _ c.first_moment-first.ensures.times (sides_of c.in_ok-before.before) (sym c.in_ok-before.ensures.list) in
+    ∙ first_goes passes_Q c.args.part c.args.left.now c.args.right.now c.first_moment-first.result.time _ _ c.first_moment-first.ensures.times (sides_of c.in_ok-before.before) (sym c.in_ok-before.ensures.list) in
     record {
       there = c.next_moment-now.ensures.there;
       later = subst (λ (t : ℚ). IfSome c.next_moment-now.result (λ next. t <ℚ next.time)) (sym c.in_ok-before.ensures.time) c.next_moment-now.ensures.later;
@@ -40,23 +40,23 @@ pub returns-in_err-sides : goal.returns-in_err-sides
 unfolding checked_least
 returns-in_err-sides c =
     let p = err_from_is_err_and c.from_residual-in_err-sides.result c.from_residual-in_err-sides.ensures.1 in
-    rw (p.1, p.2) (sides_stop (beyond (bound_of 127)) c.args.part c.args.left.now c.args.right.now c.loop-now.points.items (sides_of c.loop-now.before) c.in-Some.moment.time _ _
+    rw (p.1, p.2) (sides_stop passes_Q c.args.part c.args.left.now c.args.right.now c.loop-now.points.items (sides_of c.loop-now.before) c.in-Some.moment.time _ _
     (rw c.in-Some.is at c.loop-now.invariant.so_far) c.in_err-sides.field-0.0 (sym c.in_err-sides.ensures.list))
 
 pub returns-in_err-add_points : goal.returns-in_err-add_points
 unfolding checked_least
 returns-in_err-add_points c =
     let p = err_from_is_err_and c.from_residual-in_err-add_points.result c.from_residual-in_err-add_points.ensures.1 in
-    rw (p.1, p.2) (stops_on c.in_err-add_points.field-0.0 (at_part c.args.part (lesser_step (beyond (bound_of 127)) c.loop-now.points.items (sides_of c.loop-now.before) (sides_of c.in_ok-sides.sides)))
-    (at_part c.args.part (least_from (beyond (bound_of 127)) c.args.left.now c.args.right.now (both_times c.args.left.now c.args.right.now)))
-    (λ q e. step_stops (beyond (bound_of 127)) c.args.part c.args.left.now c.args.right.now c.loop-now.points.items (sides_of c.loop-now.before) c.in-Some.moment.time _ _
+    rw (p.1, p.2) (stops_on c.in_err-add_points.field-0.0 (at_part c.args.part (lesser_step passes_Q c.loop-now.points.items (sides_of c.loop-now.before) (sides_of c.in_ok-sides.sides)))
+    (at_part c.args.part (least_from passes_Q c.args.left.now c.args.right.now (both_times c.args.left.now c.args.right.now)))
+    (λ q e. step_stops passes_Q c.args.part c.args.left.now c.args.right.now c.loop-now.points.items (sides_of c.loop-now.before) c.in-Some.moment.time _ _
     (rw c.in-Some.is at c.loop-now.invariant.so_far) (sides_of c.in_ok-sides.sides) (sym c.in_ok-sides.ensures.list) q e) c.in_err-add_points.ensures)
 
 pub loop-now-preserved : goal.loop-now-preserved
 loop-now-preserved c =
-    let w : with_front c.add_points.new.points.items (least_after (beyond (bound_of 127)) c.args.left.now c.args.right.now (sides_of c.in_ok-sides.sides) (times_after c.in-Some.moment.time c.args.left.now c.args.right.now))
-    ≡ least_from (beyond (bound_of 127)) c.args.left.now c.args.right.now (both_times c.args.left.now c.args.right.now) =
-    step_goes (beyond (bound_of 127)) c.args.part c.args.left.now c.args.right.now c.loop-now.points.items (sides_of c.loop-now.before) c.in-Some.moment.time _ _
+    let w : with_front c.add_points.new.points.items (least_after passes_Q c.args.left.now c.args.right.now (sides_of c.in_ok-sides.sides) (times_after c.in-Some.moment.time c.args.left.now c.args.right.now))
+    ≡ least_from passes_Q c.args.left.now c.args.right.now (both_times c.args.left.now c.args.right.now) =
+    step_goes passes_Q c.args.part c.args.left.now c.args.right.now c.loop-now.points.items (sides_of c.loop-now.before) c.in-Some.moment.time _ _
     (rw c.in-Some.is at c.loop-now.invariant.so_far) (sides_of c.in_ok-sides.sides) (sym c.in_ok-sides.ensures.list) c.add_points.new.points.items c.in_ok-add_points.ensures in
     record {
       there = c.next_moment-now-in-Some.ensures.there;

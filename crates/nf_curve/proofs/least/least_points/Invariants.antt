@@ -1,7 +1,7 @@
 use Rattle.std.proofs.Common.{◌≡◌, length}
 use Rattle.std.specs.Prelude.{IfSome}
 use Rattle.nf_rational.specs.Order.{◌<ℚ◌}
-use Rattle.nf_work.specs.Passing.{bound_of, beyond}
+use Rattle.nf_work.specs.Passing.{passes_Q}
 use Rattle.nf_work.proofs.Each.{with_front}
 use Rattle.nf_curve_lists.specs.Times.{both_times}
 use Rattle.nf_curve_lists.specs.Least.{least_after, least_from}
@@ -14,7 +14,7 @@ abbrev pub invariant-loop-now : goal.invariant-loop-now
 invariant-loop-now l = record {
   there : IsThere l.left l.right l.now;
   later : IfSome l.now (λ next. l.before.time <ℚ next.time);
-  so_far : with_front l.points.items (least_after (beyond (bound_of 127)) l.left l.right (sides_of l.before) (times_left l.left l.right l.now)) ≡ least_from (beyond (bound_of 127)) l.left l.right (both_times l.left l.right);
+  so_far : with_front l.points.items (least_after passes_Q l.left l.right (sides_of l.before) (times_left l.left l.right l.now)) ≡ least_from passes_Q l.left l.right (both_times l.left l.right);
 }
 
 abbrev pub decreases-loop-now : goal.decreases-loop-now

@@ -1,7 +1,7 @@
 use Rattle.std.proofs.Common.{◌<◌, ◌-◌, length, get_or, refl, sym, ◌∙◌, rules, arith}
 use Rattle.std.proofs.lemmas.Option.{slice_get_read, slice_get_past, slice_get-get_or}
 use Rattle.nf_frac.proofs.Comparisons.{same_by_order}
-use Rattle.nf_work.specs.Passing.{bound_of, beyond}
+use Rattle.nf_work.specs.Passing.{passes_Q}
 use Rattle.nf_curve.proofs.Placing.{place_within, place_some, around-place, curve-rises, value-last, value-same, value-line}
 use Rattle.nf_curve.proofs.places.value_at.Goals as goal
 use Rattle.nf_curve.proofs.places.value_at.Goals.{then-place-points-via-then-place-points, then-place-points-via-else-place-points+then-eq}
@@ -45,11 +45,11 @@ returns-then-place-points c =
     let b : c.args.place - 1 < length c.args.points.now = omega arith in
     let g = slice_get_read c.args.points.now _ (c.args.place - 1) c.index-points-place.result refl b c.index-points-place.is in
     elim c.then-place-points.branch [
-      | then-place-points-via-then-place-points w ↦ value-last (beyond (bound_of 127)) c.args.part c.args.time c.args.points.now c.args.place c.index-points-place.result c.requires.curve c.requires.time c.requires.place g
+      | then-place-points-via-then-place-points w ↦ value-last passes_Q c.args.part c.args.time c.args.points.now c.args.place c.index-points-place.result c.requires.curve c.requires.time c.requires.place g
           (slice_get_past c.args.points.now c.args.place (omega arith))
       | then-place-points-via-else-place-points+then-eq w ↦
           let d : c.args.place < length c.args.points.now = omega (arith, w.if-place-points.false) in
-          value-same (beyond (bound_of 127)) c.args.part c.args.time c.args.points.now c.args.place c.index-points-place.result c.requires.curve c.requires.time c.requires.place g
+          value-same passes_Q c.args.part c.args.time c.args.points.now c.args.place c.index-points-place.result c.requires.curve c.requires.time c.requires.place g
           (get_or c.args.points.now c.args.place c.index-points-place.result) (slice_get-get_or c.args.points.now c.args.place c.index-points-place.result d)
           (sym (same_by_order c.args.time c.index-points-place.result.0) ∙ sym w.eq.ensures ∙ w.if-eq.true)
     ]
@@ -61,6 +61,6 @@ returns c =
     let b : c.args.place - 1 < length c.args.points.now = omega arith in
     let d : c.args.place < length c.args.points.now = omega arith in
     let g = slice_get_read c.args.points.now _ (c.args.place - 1) c.index-points-place.result refl b c.index-points-place.is in
-    value-line (beyond (bound_of 127)) c.args.part c.args.time c.args.points.now c.args.place c.index-points-place.result c.requires.curve c.requires.time c.requires.place
+    value-line passes_Q c.args.part c.args.time c.args.points.now c.args.place c.index-points-place.result c.requires.curve c.requires.time c.requires.place
     g c.index-points-place-2.result c.line.result (slice_get_read c.args.points.now _ c.args.place c.index-points-place-2.result refl d c.index-points-place-2.is)
     (sym (same_by_order c.args.time c.index-points-place.result.0) ∙ sym c.eq.ensures ∙ c.if-eq.false) c.line.ensures

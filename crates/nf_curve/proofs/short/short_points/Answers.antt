@@ -3,7 +3,7 @@ use Rattle.std.specs.Prelude.{slice_get, if◌then◌else◌}
 use Rattle.std.proofs.lemmas.Option.{slice_get_read}
 use Rattle.std.proofs.lemmas.Result.{err_from_is_err_and}
 use Rattle.nf_rational.specs.Rational.{ℚ}
-use Rattle.nf_work.specs.Passing.{bound_of, beyond}
+use Rattle.nf_work.specs.Passing.{passes_Q}
 use Rattle.nf_lists.specs.Signs.{is_same}
 use Rattle.nf_curve.proofs.Points.{points_there}
 use Rattle.nf_curve.proofs.Placing.{rise-pairs, curve-rises}
@@ -15,14 +15,14 @@ returns-then-points-eq1 c =
     let b : 0 < length c.args.points.now = omega arith in
     let g = slice_get_read c.args.points.now _ 0 c.index-points-0.result refl b c.index-points-0.is in
     let one : c.push.new.self.items ≡ c.index-points-0.result ∷ [] = c.in_ok-push.ensures.items ∙ ap (λ (l : List (ℚ × ℚ)). l ++ c.index-points-0.result ∷ []) c.new-short.ensures.items in
-    rw one (short_alone (beyond (bound_of 127)) c.args.part c.args.points.now c.index-points-0.result g c.if-points-eq1.true)
+    rw one (short_alone passes_Q c.args.part c.args.points.now c.index-points-0.result g c.if-points-eq1.true)
 
 pub returns-in_err-before : goal.returns-in_err-before
 returns-in_err-before c =
     let p = err_from_is_err_and c.from_residual-in_err-before.result c.from_residual-in_err-before.ensures.1 in
     let a : 0 < length c.args.points.now = points_there c.args.points.now c.requires in
     let b : 1 < length c.args.points.now = omega arith in
-    rw (p.1, p.2) (begin_stops (beyond (bound_of 127)) c.args.part c.args.points.now c.index-points-0-2.result c.index-points-1.result
+    rw (p.1, p.2) (begin_stops passes_Q c.args.part c.args.points.now c.index-points-0-2.result c.index-points-1.result
     (slice_get_read c.args.points.now _ 0 c.index-points-0-2.result refl a c.index-points-0-2.is) (slice_get_read c.args.points.now _ 1 c.index-points-1.result refl b c.index-points-1.is)
     c.in_err-before.field-0.0 (sym c.in_err-before.ensures))
 
@@ -35,7 +35,7 @@ loop-i-init c =
     let same : c.index-points-0.result ≡ c.index-points-0-2.result = cc in
     let one : c.push.new.self.items ≡ c.index-points-0-2.result ∷ [] = c.in_ok-push.ensures.items ∙ ap (λ (l : List (ℚ × ℚ)). l ++ c.index-points-0.result ∷ []) c.new-short.ensures.items
     ∙ ap (λ (x : ℚ × ℚ). x ∷ []) same in
-    rw one (begin_goes (beyond (bound_of 127)) c.args.part c.args.points.now c.index-points-0-2.result c.index-points-1.result
+    rw one (begin_goes passes_Q c.args.part c.args.points.now c.index-points-0-2.result c.index-points-1.result
     g (slice_get_read c.args.points.now _ 1 c.index-points-1.result refl b c.index-points-1.is)
     c.in_ok-before.before (sym c.in_ok-before.ensures))
 
@@ -52,7 +52,7 @@ returns-in_err-after c =
     let p = err_from_is_err_and c.from_residual-in_err-after.result c.from_residual-in_err-after.ensures.1 in
     let a : c.loop-i.i < length c.args.points.now = omega arith in
     let b : c.loop-i.i + 1 < length c.args.points.now = omega arith in
-    rw (p.1, p.2) (step_stops (beyond (bound_of 127)) c.args.part c.args.points.now c.loop-i.short.items c.loop-i.before c.loop-i.i (c.loop-i.i + 1) c.index-points-i.result c.index-points-i-in-loop-i.result (omega arith)
+    rw (p.1, p.2) (step_stops passes_Q c.args.part c.args.points.now c.loop-i.short.items c.loop-i.before c.loop-i.i (c.loop-i.i + 1) c.index-points-i.result c.index-points-i-in-loop-i.result (omega arith)
     (slice_get_read c.args.points.now _ c.loop-i.i c.index-points-i.result refl a c.index-points-i.is)
     (slice_get_read c.args.points.now _ (c.loop-i.i + 1) c.index-points-i-in-loop-i.result refl b c.index-points-i-in-loop-i.is)
     c.loop-i.invariant c.in_err-after.field-0.0 (sym c.in_err-after.ensures))
@@ -64,7 +64,7 @@ loop-i-preserved c =
     let g = slice_get_read c.args.points.now _ c.loop-i.i c.index-points-i.result refl a c.index-points-i.is in
     let k = slice_get_read c.args.points.now _ c.loop-i.i c.index-points-i-in-loop-i-2.result refl a c.index-points-i-in-loop-i-2.is in
     let same : c.index-points-i-in-loop-i-2.result ≡ c.index-points-i.result = cc in
-    step_goes (beyond (bound_of 127)) c.args.part c.args.points.now c.loop-i.short.items c.loop-i.before c.loop-i.i (c.loop-i.i + 1) c.index-points-i.result c.index-points-i-in-loop-i.result (omega arith)
+    step_goes passes_Q c.args.part c.args.points.now c.loop-i.short.items c.loop-i.before c.loop-i.i (c.loop-i.i + 1) c.index-points-i.result c.index-points-i-in-loop-i.result (omega arith)
     g (slice_get_read c.args.points.now _ (c.loop-i.i + 1) c.index-points-i-in-loop-i.result refl b c.index-points-i-in-loop-i.is)
     c.loop-i.invariant c.in_ok-after.after c.keep_if_turning.new.short.items (sym c.in_ok-after.ensures)
     (c.in_ok-keep_if_turning.ensures ∙ ap (λ (x : ℚ × ℚ). if is_same c.loop-i.before c.in_ok-after.after then c.loop-i.short.items else c.loop-i.short.items ++ x ∷ []) same)
@@ -75,5 +75,5 @@ returns c =
     let b : length c.args.points.now - 1 < length c.args.points.now = omega arith in
     let i : c.loop-i.i ≡ length c.args.points.now - 1 = omega arith in
     let g = slice_get_read c.args.points.now _ (length c.args.points.now - 1) c.index-points-points.result refl b c.index-points-points.is in
-    rw c.in_ok-push-2.ensures.items (short_ends (beyond (bound_of 127)) c.args.part c.args.points.now c.loop-i.short.items c.loop-i.before c.loop-i.i c.index-points-points.result
+    rw c.in_ok-push-2.ensures.items (short_ends passes_Q c.args.part c.args.points.now c.loop-i.short.items c.loop-i.before c.loop-i.i c.index-points-points.result
     (ap (slice_get c.args.points.now) i ∙ g) (omega arith) c.loop-i.invariant)

@@ -1,7 +1,7 @@
 use Rattle.std.proofs.Common.{◌≡◌, List, sym, ap, ◌∙◌}
 use Rattle.std.proofs.lemmas.Result.{err_from_is_err_and}
 use Rattle.nf_rational.specs.Rational.{ℚ}
-use Rattle.nf_work.specs.Passing.{bound_of, beyond}
+use Rattle.nf_work.specs.Passing.{passes_Q}
 use Rattle.nf_work.specs.Checked.{each}
 use Rattle.nf_work.proofs.Each.{with_front}
 use Rattle.nf_curve_lists.specs.Times.{both_times}
@@ -14,18 +14,18 @@ pub returns-in_err-point : goal.returns-in_err-point
 unfolding checked_sum
 returns-in_err-point c =
     let p = err_from_is_err_and c.from_residual.result c.from_residual.ensures.1 in
-    rw (p.1, p.2) (each_stops c.args.part (sum_at (beyond (bound_of 127)) c.args.left.now c.args.right.now) c.loop-now.points.items _ c.in-Some.moment.time _
+    rw (p.1, p.2) (each_stops c.args.part (sum_at passes_Q c.args.left.now c.args.right.now) c.loop-now.points.items _ c.in-Some.moment.time _
     (rw c.in-Some.is at c.loop-now.invariant.so_far) c.in_err-point.field-0.0 (sym c.in_err-point.ensures))
 
 pub loop-now-preserved : goal.loop-now-preserved
 loop-now-preserved c =
-    let w : with_front c.push.new.self.items (each (sum_at (beyond (bound_of 127)) c.args.left.now c.args.right.now) (times_after c.in-Some.moment.time c.args.left.now c.args.right.now))
-    ≡ each (sum_at (beyond (bound_of 127)) c.args.left.now c.args.right.now) (both_times c.args.left.now c.args.right.now) =
-    ap (λ (l : List (ℚ × ℚ)). with_front l (each (sum_at (beyond (bound_of 127)) c.args.left.now c.args.right.now) (times_after c.in-Some.moment.time c.args.left.now c.args.right.now))) c.in_ok-push.ensures.items
-    ∙ each_goes c.args.part (sum_at (beyond (bound_of 127)) c.args.left.now c.args.right.now) c.loop-now.points.items _ c.in-Some.moment.time _
+    let w : with_front c.push.new.self.items (each (sum_at passes_Q c.args.left.now c.args.right.now) (times_after c.in-Some.moment.time c.args.left.now c.args.right.now))
+    ≡ each (sum_at passes_Q c.args.left.now c.args.right.now) (both_times c.args.left.now c.args.right.now) =
+    ap (λ (l : List (ℚ × ℚ)). with_front l (each (sum_at passes_Q c.args.left.now c.args.right.now) (times_after c.in-Some.moment.time c.args.left.now c.args.right.now))) c.in_ok-push.ensures.items
+    ∙ each_goes c.args.part (sum_at passes_Q c.args.left.now c.args.right.now) c.loop-now.points.items _ c.in-Some.moment.time _
     (rw c.in-Some.is at c.loop-now.invariant.so_far) c.in_ok-point.point (sym c.in_ok-point.ensures) in
     record { there = c.next_moment-now.ensures.there; so_far = rw c.next_moment-now.ensures.times at w }
 
 pub returns : goal.returns
 unfolding checked_sum
-returns c = each_ends (sum_at (beyond (bound_of 127)) c.args.left.now c.args.right.now) c.loop-now.points.items _ c.args.part (rw c.in_default.is at c.loop-now.invariant.so_far)
+returns c = each_ends (sum_at passes_Q c.args.left.now c.args.right.now) c.loop-now.points.items _ c.args.part (rw c.in_default.is at c.loop-now.invariant.so_far)

@@ -1,5 +1,5 @@
 use Rattle.std.proofs.Common.{◌≡◌, length}
-use Rattle.nf_work.specs.Passing.{bound_of, beyond}
+use Rattle.nf_work.specs.Passing.{passes_Q}
 use Rattle.nf_work.specs.Checked.{each}
 use Rattle.nf_work.proofs.Each.{with_front}
 use Rattle.nf_curve_lists.specs.Times.{both_times}
@@ -11,7 +11,7 @@ use Rattle.nf_curve.proofs.sums.sum_points.Given as goal
 abbrev pub invariant-loop-now : goal.invariant-loop-now
 invariant-loop-now l = record {
   there : IsThere l.left l.right l.now;
-  so_far : with_front l.points.items (each (sum_at (beyond (bound_of 127)) l.left l.right) (times_left l.left l.right l.now)) ≡ each (sum_at (beyond (bound_of 127)) l.left l.right) (both_times l.left l.right);
+  so_far : with_front l.points.items (each (sum_at passes_Q l.left l.right) (times_left l.left l.right l.now)) ≡ each (sum_at passes_Q l.left l.right) (both_times l.left l.right);
 }
 
 abbrev pub decreases-loop-now : goal.decreases-loop-now

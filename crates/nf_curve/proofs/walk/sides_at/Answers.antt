@@ -1,6 +1,6 @@
 use Rattle.std.proofs.Common.{sym, ◌∙◌}
 use Rattle.std.proofs.lemmas.Result.{err_from_is_err_and}
-use Rattle.nf_work.specs.Passing.{bound_of, beyond}
+use Rattle.nf_work.specs.Passing.{passes_Q}
 use Rattle.nf_curve_lists.specs.Values.{checked_value}
 use Rattle.nf_curve.proofs.Exits.{after_err, after_ok}
 use Rattle.nf_curve.proofs.walk.sides_at.Goals as goal
@@ -8,10 +8,10 @@ use Rattle.nf_curve.proofs.walk.sides_at.Goals as goal
 pub returns-in_err-left_value-clause-list : goal.returns-in_err-left_value-clause-list
 returns-in_err-left_value-clause-list c =
     let p = err_from_is_err_and c.from_residual.result c.from_residual.ensures.1 in
-    rw (p.1, p.2) (sym (after_err c.args.part (checked_value (beyond (bound_of 127)) c.args.left.now c.args.now.now.time) _ c.in_err-left_value.field-0.0 (sym c.in_err-left_value.ensures)))
+    rw (p.1, p.2) (sym (after_err c.args.part (checked_value passes_Q c.args.left.now c.args.now.now.time) _ c.in_err-left_value.field-0.0 (sym c.in_err-left_value.ensures)))
 
 pub returns-in_err-right_value-clause-list : goal.returns-in_err-right_value-clause-list
 returns-in_err-right_value-clause-list c =
     let p = err_from_is_err_and c.from_residual-in_err-right_value.result c.from_residual-in_err-right_value.ensures.1 in
-    rw (p.1, p.2) (sym (after_ok c.args.part (checked_value (beyond (bound_of 127)) c.args.left.now c.args.now.now.time) _ c.in_ok-left_value.left_value (sym c.in_ok-left_value.ensures)
-    ∙ after_err c.args.part (checked_value (beyond (bound_of 127)) c.args.right.now c.args.now.now.time) _ c.in_err-right_value.field-0.0 (sym c.in_err-right_value.ensures)))
+    rw (p.1, p.2) (sym (after_ok c.args.part (checked_value passes_Q c.args.left.now c.args.now.now.time) _ c.in_ok-left_value.left_value (sym c.in_ok-left_value.ensures)
+    ∙ after_err c.args.part (checked_value passes_Q c.args.right.now c.args.now.now.time) _ c.in_err-right_value.field-0.0 (sym c.in_err-right_value.ensures)))

@@ -1,7 +1,7 @@
 use Rattle.std.proofs.Common.{◌≡◌, Some, sym, ap, subst, ◌∙◌, rules}
 use Rattle.std.specs.Prelude.{Option, None, Result, Ok, option_map}
 use Rattle.nf_rational.specs.Rational.{ℚ}
-use Rattle.nf_work.specs.Passing.{bound_of, beyond}
+use Rattle.nf_work.specs.Passing.{passes_Q}
 use Rattle.nf_work.specs.declared.PassedAt.{PassedAt}
 use Rattle.nf_work.specs.Checked.{at_part}
 use Rattle.nf_model.specs.Curve.{IsCurve}
@@ -18,17 +18,17 @@ pub returns-in-Some-clause-difference : goal.returns-in-Some-clause-difference
 returns-in-Some-clause-difference c =
     let left : IsCurve c.args.left.now.points = search rules in
     let right : IsCurve c.args.right.now.points = search rules in
-    let e : ◌≡◌ {A = Result (Option lists.Sides) (PassedAt ℚ)} (Ok (option_map sides_of c.in_ok-sides.field-0)) (at_part c.args.part (checked_difference (beyond (bound_of 127)) c.args.left.now.points c.args.right.now.points c.args.until)) = search rules in
+    let e : ◌≡◌ {A = Result (Option lists.Sides) (PassedAt ℚ)} (Ok (option_map sides_of c.in_ok-sides.field-0)) (at_part c.args.part (checked_difference passes_Q c.args.left.now.points c.args.right.now.points c.args.until)) = search rules in
     subst (λ (s : lists.Sides). DifferFirst c.args.left.now.points c.args.right.now.points c.args.until s) (sym c.of.ensures)
-    (checked_difference-is (beyond (bound_of 127)) c.args.left.now.points c.args.right.now.points left right c.args.until c.requires (Some (sides_of c.in-Some.sides))
-    (was_ok c.args.part (checked_difference (beyond (bound_of 127)) c.args.left.now.points c.args.right.now.points c.args.until) (Some (sides_of c.in-Some.sides))
+    (checked_difference-is passes_Q c.args.left.now.points c.args.right.now.points left right c.args.until c.requires (Some (sides_of c.in-Some.sides))
+    (was_ok c.args.part (checked_difference passes_Q c.args.left.now.points c.args.right.now.points c.args.until) (Some (sides_of c.in-Some.sides))
     (sym e ∙ ap (λ (o : Option Sides). Ok (option_map sides_of o)) c.in-Some.is)))
 
 pub returns-in-None-clause-difference : goal.returns-in-None-clause-difference
 returns-in-None-clause-difference c =
     let left : IsCurve c.args.left.now.points = search rules in
     let right : IsCurve c.args.right.now.points = search rules in
-    let e : ◌≡◌ {A = Result (Option lists.Sides) (PassedAt ℚ)} (Ok (option_map sides_of c.in_ok-sides.field-0)) (at_part c.args.part (checked_difference (beyond (bound_of 127)) c.args.left.now.points c.args.right.now.points c.args.until)) = search rules in
-    checked_difference-is (beyond (bound_of 127)) c.args.left.now.points c.args.right.now.points left right c.args.until c.requires None
-    (was_ok c.args.part (checked_difference (beyond (bound_of 127)) c.args.left.now.points c.args.right.now.points c.args.until) None
+    let e : ◌≡◌ {A = Result (Option lists.Sides) (PassedAt ℚ)} (Ok (option_map sides_of c.in_ok-sides.field-0)) (at_part c.args.part (checked_difference passes_Q c.args.left.now.points c.args.right.now.points c.args.until)) = search rules in
+    checked_difference-is passes_Q c.args.left.now.points c.args.right.now.points left right c.args.until c.requires None
+    (was_ok c.args.part (checked_difference passes_Q c.args.left.now.points c.args.right.now.points c.args.until) None
     (sym e ∙ ap (λ (o : Option Sides). Ok (option_map sides_of o)) c.in-None.is))

@@ -1,5 +1,5 @@
 use Rattle.std.proofs.Common.{rules}
-use Rattle.nf_work.specs.Passing.{bound_of, beyond}
+use Rattle.nf_work.specs.Passing.{passes_Q}
 use Rattle.nf_model.specs.Curve.{IsCurve}
 use Rattle.nf_curve_lists.specs.Short.{checked_short}
 use Rattle.nf_curve_laws.proofs.Short.{checked_short-is}
@@ -9,11 +9,11 @@ use Rattle.nf_curve.proofs.curve.Curve.short.Goals as goal
 pub invariant_of-result : goal.invariant_of-result
 invariant_of-result c =
     let curve : IsCurve c.deref.result.now = search rules in
-    (checked_short-is (beyond (bound_of 127)) c.deref.result.now c.in_ok-points.points.items curve
-    (was_ok c.args.part (checked_short (beyond (bound_of 127)) c.deref.result.now) c.in_ok-points.points.items c.in_ok-points.ensures)).curve
+    (checked_short-is passes_Q c.deref.result.now c.in_ok-points.points.items curve
+    (was_ok c.args.part (checked_short passes_Q c.deref.result.now) c.in_ok-points.points.items c.in_ok-points.ensures)).curve
 
 pub returns-clause-short : goal.returns-clause-short
 returns-clause-short c =
     let curve : IsCurve c.args.curve.now.points = search rules in
-    checked_short-is (beyond (bound_of 127)) c.args.curve.now.points c.in_ok-points.points.items curve
-    (was_ok c.args.part (checked_short (beyond (bound_of 127)) c.args.curve.now.points) c.in_ok-points.points.items (search rules))
+    checked_short-is passes_Q c.args.curve.now.points c.in_ok-points.points.items curve
+    (was_ok c.args.part (checked_short passes_Q c.args.curve.now.points) c.in_ok-points.points.items (search rules))

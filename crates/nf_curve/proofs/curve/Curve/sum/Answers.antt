@@ -1,5 +1,5 @@
 use Rattle.std.proofs.Common.{rules}
-use Rattle.nf_work.specs.Passing.{bound_of, beyond}
+use Rattle.nf_work.specs.Passing.{passes_Q}
 use Rattle.nf_model.specs.Curve.{IsCurve}
 use Rattle.nf_curve_lists.specs.Sums.{checked_sum}
 use Rattle.nf_curve_laws.proofs.Sums.{checked_sum-is}
@@ -10,12 +10,12 @@ pub invariant_of-result : goal.invariant_of-result
 invariant_of-result c =
     let left : IsCurve c.deref.result.now = search rules in
     let right : IsCurve c.deref-2.result.now = search rules in
-    (checked_sum-is (beyond (bound_of 127)) c.deref.result.now c.deref-2.result.now left right c.in_ok-points.points.items
-    (was_ok c.args.part (checked_sum (beyond (bound_of 127)) c.deref.result.now c.deref-2.result.now) c.in_ok-points.points.items c.in_ok-points.ensures)).curve
+    (checked_sum-is passes_Q c.deref.result.now c.deref-2.result.now left right c.in_ok-points.points.items
+    (was_ok c.args.part (checked_sum passes_Q c.deref.result.now c.deref-2.result.now) c.in_ok-points.points.items c.in_ok-points.ensures)).curve
 
 pub returns-clause-sum : goal.returns-clause-sum
 returns-clause-sum c =
     let left : IsCurve c.args.left.now.points = search rules in
     let right : IsCurve c.args.right.now.points = search rules in
-    checked_sum-is (beyond (bound_of 127)) c.args.left.now.points c.args.right.now.points left right c.in_ok-points.points.items
-    (was_ok c.args.part (checked_sum (beyond (bound_of 127)) c.args.left.now.points c.args.right.now.points) c.in_ok-points.points.items (search rules))
+    checked_sum-is passes_Q c.args.left.now.points c.args.right.now.points left right c.in_ok-points.points.items
+    (was_ok c.args.part (checked_sum passes_Q c.args.left.now.points c.args.right.now.points) c.in_ok-points.points.items (search rules))
