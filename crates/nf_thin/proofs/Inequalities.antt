@@ -1,7 +1,7 @@
 -- The tests of a link's verdict are its inequality.
 use Rattle.std.proofs.Common.{◌≡◌, ◌≢◌, ℕ, ◌+◌, ◌<◌, List, ⊎_elim, Bool, true, false, not, ◌&&◌, eqb, sym, subst, refl, ◌∙◌, arith}
 use Rattle.std.proofs.lemmas.Bool.Decides.{eqb_tells}
-use Rattle.std.specs.Prelude.{if◌then◌else◌, Option, Some, None, Result, Ok, Err}
+use Rattle.std.specs.Prelude.{if◌then◌else◌, Option, Some, None, Ok, Err}
 use Rattle.nf_rational.specs.Rational.{ℚ}
 use Rattle.nf_rational.specs.Operations.{0ℚ, ◌*ℚ◌}
 use Rattle.nf_rational.specs.Order.{◌≤ℚ◌, ◌<ℚ◌, le_ℚ}
@@ -17,7 +17,6 @@ use Rattle.nf_model.specs.Pattern.{Inequality}
 use Rattle.nf_lists.specs.Verdict.{bound_on}
 use Rattle.nf_thin.specs.Judging.{keeps}
 use Rattle.nf_plain_laws.proofs.Results.{same_Ok}
-use Rattle.std.proofs.lemmas.Bool.{and_parts, true≢false}
 
 -- the bound on the flow, where no operation passes
 abbrev pub bound_value : Option State → Option ℚ → ℚ → Option ℚ

@@ -1,11 +1,10 @@
 -- Active links that hold no cycle, and the slopes of a pattern by which each node is led to.
-use Rattle.std.proofs.Common.{◌≡◌, ◌≢◌, ⊎_elim, ℕ, zero, suc, ◌+◌, ◌<◌, Bool, List, [], ◌∷◌, sym, ap, subst, ◌∙◌, arith}
+use Rattle.std.proofs.Common.{◌≡◌, ◌≢◌, ⊎_elim, ℕ, zero, suc, ◌+◌, ◌<◌, Bool, List, [], ◌∷◌, sym, subst, arith}
 use Rattle.std.specs.Prelude.{◌↔◌, Option, Some, IsNone, slice_get}
-use Rattle.std.specs.Option.{option_map}
-use Rattle.std.proofs.lemmas.Option.{slice_get-map, none-some, same_Some}
+use Rattle.std.proofs.lemmas.Option.{none-some, same_Some}
 use Rattle.nf_rational.specs.Rational.{ℚ}
 use Rattle.nf_model.specs.Entries.{Has}
-use Rattle.nf_model.specs.Walk.{Hop, IsHop, IsWalk}
+use Rattle.nf_model.specs.Walk.{Hop, IsWalk}
 use Rattle.nf_model.specs.Network.{Link, Network, IsLink, hop_of, hops}
 use Rattle.nf_model.specs.ThinFlow.{Sets}
 use Rattle.nf_model.specs.Pattern.{Pattern, IsSolution}
