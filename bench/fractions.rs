@@ -45,8 +45,13 @@ impl Q {
 }
 fn main() {
     let words: Vec<String> = std::env::args().collect();
-    let wide = words.get(2).map_or(false, |w| w == "wide");
-    let all: Vec<Q> = (0..16i128).map(|i| if wide { Q::make((1 << 62) - 57 * (i + 1), (1 << 60) + 33 * i + 1) } else { Q::make(i % 7 + 1, i % 5 + 1) }).collect();
+    let kind = words.get(2).map_or("small", |w| w.as_str());
+    let all: Vec<Q> = (0..16i128).map(|i| match kind {
+        "middle" => Q::make(53 * i + 101, 71 * i + 307),
+        "wide" => Q::make((1 << 62) - 57 * (i + 1), (1 << 60) + 33 * i + 1),
+        "beyond" => Q::make((1 << 63) + 60 * i + 11, i % 5 + 1),
+        _ => Q::make(i % 7 + 1, i % 5 + 1),
+    }).collect();
     let mut done = 0u64;
     for _ in 0..40000u32 {
         for l in std::hint::black_box(&all) { for r in std::hint::black_box(&all) {

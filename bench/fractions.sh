@@ -17,7 +17,7 @@ touch "$work/repo/crates/bench_fractions/specs/Lib.antt"
 (cd "$work/repo/crates/bench_fractions" && rt run -- sum small >"$work/log" 2>&1) || { tail -n 20 "$work/log"; exit 1; }
 rustc -C opt-level=3 -o "$work/plain" "$here/fractions.rs"
 for operation in sum product quotient cmp; do
-    for kind in small wide; do
+    for kind in small middle wide beyond; do
         for program in "$work/repo/crates/bench_fractions/out/bench_fractions" "$work/plain"; do
             least=$(for _ in 1 2 3; do { TIMEFORMAT=%U; time "$program" "$operation" "$kind" >/dev/null; } 2>&1; done | sort -n | head -n 1)
             awk -v s="$least" -v o="$operation" -v k="$kind" -v p="$(basename "$program")" 'BEGIN { printf "%-9s %-6s %-16s %7.1f ns\n", o, k, p, s * 1e9 / 10240000 }'

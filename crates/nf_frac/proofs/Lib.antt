@@ -1,5 +1,6 @@
 pub mod Bits
 pub mod Compare
+pub mod Halving
 pub mod Form
 pub mod SmallParts
 pub mod SmallSums

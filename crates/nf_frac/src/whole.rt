@@ -1,6 +1,8 @@
 // Arithmetic of whole numbers within a limit. Numbers of at most 64 bits, which nearly all are, take a shorter way.
-ghost use Rattle.std.specs.Prelude.{◌≡◌, ◌*◌, ◌/◌, ◌-◌, ◌^◌, ◌<◌, ◌≤◌, pos, ◌+ℤ◌, ◌*ℤ◌, nat_abs, int_div, SomeIff};
+ghost use Rattle.std.specs.Prelude.{◌≡◌, ℕ, ◌*◌, ◌/◌, ◌%◌, ◌-◌, ◌^◌, ◌<◌, ◌≤◌, pos, ◌+ℤ◌, ◌*ℤ◌, nat_abs, int_div, SomeIff};
+ghost use Rattle.std.specs.Int.{IsGcd, trailing_zeros};
 ghost use Rattle.std.specs.Ordering.{nat_cmp};
+ghost use mir.Syntax.{w64};
 ghost use Rattle.nf_rational.specs.Gcd.{gcd};
 ghost use Rattle.nf_frac.specs.Parts.{greatest, signed};
 
@@ -9,18 +11,90 @@ use std::cmp::Ordering;
 /// The greatest number of 63 bits.
 pub(crate) const SHORT: u128 = 0x7fff_ffff_ffff_ffff;
 
-/// The greatest common divisor of two short numbers.
-pub(crate) fn gcd_short(a: u64, b: u64) -> u64
+// The greatest number of 64 bits.
+const WORD: u128 = 0xffff_ffff_ffff_ffff;
+
+// The greatest number of 32 bits.
+const HALF: u64 = 0xffff_ffff;
+
+// A number is much the shorter where it has more than so many bits less.
+const NEAR: u32 = 6;
+
+// What is left of a number when it is halved as long as that leaves no rest.
+fn odd_part(n: u64) -> u64
+    requires { 0 < n }
+    ensures power { n ≡ 2 ^ trailing_zeros w64 n * result }
+    ensures odd { result % 2 ≡ 1 }
+    ensures small { result ≤ n }
+{
+    n >> n.trailing_zeros()
+}
+
+// A number that is less by a multiple of the other: what is left of a division where the other is much the shorter, and else
+// the difference.
+fn less_of(more: u64, less: u64) -> u64
+    requires some { 0 < less }
+    requires ordered { less ≤ more }
+    ensures common { (g : ℕ) → IsGcd less result g → IsGcd more less g }
+    ensures less { result < more }
+{
+    if less < more >> NEAR {
+        more % less
+    } else {
+        more - less
+    }
+}
+
+// The greatest common divisor of two odd numbers.
+fn gcd_odd(a: u64, b: u64) -> u64
+    requires left { a % 2 ≡ 1 }
+    requires right { b % 2 ≡ 1 }
     ensures { result ≡ gcd a b }
 {
     let mut x = a;
     let mut y = b;
-    while y > 1 {
-        let rest = x % y;
-        x = y;
-        y = rest;
+    while x != y {
+        let less = x.min(y);
+        if less == 1 {
+            return 1;
+        }
+        let rest = less_of(x.max(y), less);
+        if rest == 0 {
+            return less;
+        }
+        x = less;
+        y = odd_part(rest);
     }
-    if y == 0 { x } else { 1 }
+    x
+}
+
+// The greatest common divisor of two numbers, by their odd parts.
+fn gcd_halving(a: u64, b: u64) -> u64
+    ensures { result ≡ gcd a b }
+{
+    if a == 0 {
+        return b;
+    }
+    if b == 0 {
+        return a;
+    }
+    let twos = a.trailing_zeros().min(b.trailing_zeros());
+    gcd_odd(odd_part(a), odd_part(b)) << twos
+}
+
+/// The greatest common divisor of two short numbers. Two divisions come first where both are long.
+pub(crate) fn gcd_short(a: u64, b: u64) -> u64
+    ensures { result ≡ gcd a b }
+{
+    if a <= HALF || b <= HALF {
+        return gcd_halving(a, b);
+    }
+    let rest = a % b;
+    if rest == 0 {
+        b
+    } else {
+        gcd_halving(rest, b % rest)
+    }
 }
 
 // The greatest common divisor of two numbers of any length. The steps are short ones as soon as the numbers are.
@@ -29,7 +103,7 @@ fn gcd_long(a: u128, b: u128) -> u128
 {
     let mut x = a;
     let mut y = b;
-    while y > SHORT {
+    while y > WORD {
         let rest = x % y;
         x = y;
         y = rest;
@@ -41,13 +115,15 @@ fn gcd_long(a: u128, b: u128) -> u128
     }
 }
 
-/// The greatest common divisor, by Euclid's algorithm.
+/// The greatest common divisor.
 pub(crate) fn gcd_of(a: u128, b: u128) -> u128
     ensures value { result ≡ gcd a b }
     ensures positive { 0 < b → 0 < result }
     ensures small { 0 < b → result ≤ b }
 {
-    if a <= SHORT && b <= SHORT {
+    if b == 1 {
+        1
+    } else if a <= WORD && b <= WORD {
         gcd_short(a as u64, b as u64) as u128
     } else {
         gcd_long(a, b)
@@ -61,7 +137,7 @@ pub(crate) fn divided(a: u128, b: u128) -> u128
 {
     if b == 1 {
         a
-    } else if a <= SHORT && b <= SHORT {
+    } else if a <= WORD && b <= WORD {
         (a as u64 / b as u64) as u128
     } else {
         a / b

@@ -1,14 +1,9 @@
-use Rattle.std.proofs.Common.{arith}
-use Rattle.std.proofs.lemmas.Nat.Gcd.{IsGcd-from_zero, IsGcd-from_mod, same_from_IsGcd}
-use Rattle.nf_rational.specs.Gcd.{IsGcd-gcd}
-use Rattle.nf_frac.proofs.Bits.{IsGcd-one}
+use Rattle.nf_frac.proofs.Halving.{gcd_divides}
+use Rattle.nf_frac.proofs.SmallParts.{gcd_step}
 use Rattle.nf_frac.proofs.whole.gcd_short.Goals as goal
 
-pub loop-y-preserved : goal.loop-y-preserved
-loop-y-preserved c g h = c.loop-y.invariant g (IsGcd-from_mod _ _ g h)
+pub returns-then-rest-eq0 : goal.returns-then-rest-eq0
+returns-then-rest-eq0 c = gcd_divides c.args.a c.args.b c.if-rest-eq0.true
 
-pub returns-then-y-eq0 : goal.returns-then-y-eq0
-returns-then-y-eq0 c = same_from_IsGcd _ _ _ _ (c.loop-y.invariant _ (IsGcd-from_zero _ _ (omega arith))) (IsGcd-gcd _ _)
-
-pub returns-else-y-eq0 : goal.returns-else-y-eq0
-returns-else-y-eq0 c = same_from_IsGcd _ _ _ _ (c.loop-y.invariant 1 (IsGcd-one _ _ (omega arith))) (IsGcd-gcd _ _)
+pub returns-else-rest-eq0 : goal.returns-else-rest-eq0
+returns-else-rest-eq0 c = gcd_step c.args.a c.args.b _ (gcd_step c.args.b _ _ c.gcd_halving-else-rest-eq0.ensures)
