@@ -38,7 +38,7 @@ module _ {A B : Type 0} (f : ℕ × A → Result B (Passed ℚ)) (xs : List A) w
       where
         go : (r : Result B (Passed ℚ)) → f (i, x) ≡ r → ◌≡◌ {A = Result B (PassedAt ℚ)} (Err p) (at_part part r) → at_part part (each f (enumerate_from 0 xs)) ≡ Err p
         go (Ok y) e k = absurd (cc)
-        go (Err q) e k = ap (at_part part) (so_now ∙ each_err f front (i, x) (drop (suc i) (enumerate_from 0 xs)) q e) ∙ ap Err (same_Err {B = B} (placed part q) p (sym k))
+        go (Err q) e k = ap (at_part part) (so_now ∙ each_err f front (i, x) (drop (suc i) (enumerate_from 0 xs)) q e) ∙ ap Err (same_Err {A = B} (placed part q) p (sym k))
 
   -- after the last
   pub all_done : (part : Part) (front : List B) (i : ℕ) → length xs ≤ i → SoFar front i → at_part part (each f (enumerate_from 0 xs)) ≡ Ok front
