@@ -1,6 +1,7 @@
 pub mod Corners
 pub mod Places
 pub mod Signs
+pub mod Queued
 pub mod Looping
 pub mod Meaning
 pub mod Numbered

@@ -2,7 +2,7 @@
 ghost use Rattle.std.specs.Prelude.{◌≡◌, ◌≢◌, ◌<◌, length as count_of, true};
 ghost use Rattle.nf_rational.specs.Operations.{0ℚ};
 ghost use Rattle.nf_work.specs.declared.Part.TheVariants.{Curve};
-ghost use Rattle.nf_work.specs.Passing.{bound_of, beyond};
+ghost use Rattle.nf_work.specs.Passing.{passes_Q};
 ghost use Rattle.nf_work.specs.Checked.{at_part, Gives};
 ghost use Rattle.nf_model.specs.Entries.{number_at};
 ghost use Rattle.nf_model.specs.Network.{Link as SeenLink, IsLink};
@@ -70,7 +70,7 @@ fn is_positive(number: Q) -> bool
 // The flow over a slope that is above 0.
 fn rate_over(above: bool, flow: Q, slope: Q) -> Result<Option<Q>, PassedAt<Q>>
     requires { above ≡ true → slope ≢ 0ℚ }
-    ensures { result ≡ at_part Curve (rate_over_by (beyond (bound_of 127)) above flow slope) }
+    ensures { result ≡ at_part Curve (rate_over_by passes_Q above flow slope) }
 {
     if !above {
         return Ok(None);
@@ -81,7 +81,7 @@ fn rate_over(above: bool, flow: Q, slope: Q) -> Result<Option<Q>, PassedAt<Q>>
 
 // What is in the queue of a link with this slack: nothing, where the link is unbounded or the slack not above 0.
 fn size_at(above: bool, capacity: Option<Q>, slack: Q) -> Result<Q, PassedAt<Q>>
-    ensures { result ≡ at_part Curve (size_at_by (beyond (bound_of 127)) above capacity slack) }
+    ensures { result ≡ at_part Curve (size_at_by passes_Q above capacity slack) }
 {
     if !above {
         return Ok(Q::zero());
@@ -97,7 +97,7 @@ fn size_at(above: bool, capacity: Option<Q>, slack: Q) -> Result<Q, PassedAt<Q>>
 
 // The slope of a queue into which flow enters at this rate.
 fn slope_at(filled: bool, capacity: Option<Q>, rate: Q) -> Result<Q, PassedAt<Q>>
-    ensures { result ≡ at_part Curve (slope_at_by (beyond (bound_of 127)) filled capacity rate) }
+    ensures { result ≡ at_part Curve (slope_at_by passes_Q filled capacity rate) }
 {
     if !filled {
         return Ok(Q::zero());
@@ -113,7 +113,7 @@ fn slope_at(filled: bool, capacity: Option<Q>, rate: Q) -> Result<Q, PassedAt<Q>
 
 // How the queue of a link goes on, where there is an inflow rate.
 fn queue_step(link: &LinkPhase, rate: Option<Q>) -> Result<Option<QueueStep>, PassedAt<Q>>
-    ensures { result ≡ at_part Curve (queue_step_by (beyond (bound_of 127)) link.now rate) }
+    ensures { result ≡ at_part Curve (queue_step_by passes_Q link.now rate) }
 {
     match rate {
         None => Ok(None),
@@ -130,7 +130,7 @@ fn queue_step(link: &LinkPhase, rate: Option<Q>) -> Result<Option<QueueStep>, Pa
 // How a link goes on in a phase of this length, into which so much had entered at its beginning.
 #[tactic(auto, using(crate::proofs::Signs::positive_apart))]
 fn link_step(length: Q, so_far: Q, link: &LinkPhase) -> Result<LinkStep, PassedAt<Q>>
-    ensures { result ≡ at_part Curve (link_step_by (beyond (bound_of 127)) length so_far link.now) }
+    ensures { result ≡ at_part Curve (link_step_by passes_Q length so_far link.now) }
 {
     let flowed = at!(Part::Curve, length.product(link.flow));
     let amount = at!(Part::Curve, so_far.sum(flowed));
@@ -165,7 +165,7 @@ fn step_of(
     requires labels { count_of labels.now ≡ net.now.net.nodes }
     requires amounts { count_of amounts.now ≡ count_of net.now.net.links }
     ensures { (here : SeenLink) → IsLink net.now.net link here
-        → result ≡ at_part Curve (link_step_by (beyond (bound_of 127)) length (number_at amounts.now link) (link_phase_of sets.now pattern.now flows.now slopes.now labels.now (link, here))) }
+        → result ≡ at_part Curve (link_step_by passes_Q length (number_at amounts.now link) (link_phase_of sets.now pattern.now flows.now slopes.now labels.now (link, here))) }
 {
     let here = link_phase(net, sets, pattern, flows, slopes, labels, link);
     link_step(length, amounts[link.index()], &here)
@@ -193,7 +193,7 @@ pub(crate) fn link_steps(
     requires labels { count_of labels.now ≡ net.now.net.nodes }
     requires amounts { count_of amounts.now ≡ count_of net.now.net.links }
     ensures { Gives (λ steps. steps.items) (λ q. q) result
-        (at_part Curve (curve_list (beyond (bound_of 127)) net.now.net sets.now pattern.now length flows.now slopes.now labels.now amounts.now)) }
+        (at_part Curve (curve_list passes_Q net.now.net sets.now pattern.now length flows.now slopes.now labels.now amounts.now)) }
 {
     let mut steps = Vec::new(alloc);
     for e in 0..net.link_count() {
