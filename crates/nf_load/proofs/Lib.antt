@@ -1,0 +1,5 @@
+pub mod LinkNames
+pub mod LoadWords
+pub mod Emptied
+pub mod Adding
+pub mod LoadsRead
