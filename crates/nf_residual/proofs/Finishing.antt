@@ -1,0 +1,86 @@
+-- The shortest walk and least lengths, out of what rounds found.
+use Rattle.std.proofs.Common.{◌≡◌, ℕ, ◌<◌, List, length, map, option_map, Option, Some, refl, sym, ap, subst, ◌∙◌}
+use Rattle.std.specs.Prelude.{Ok, Err}
+use Rattle.std.specs.List.{AllByRecursion}
+use Rattle.nf_rational.specs.Rational.{ℚ}
+use Rattle.nf_work.specs.Passing.{Passing}
+use Rattle.nf_work.specs.declared.Halt.{Halt}
+use Rattle.nf_work.specs.declared.Part.TheVariants as Part
+use Rattle.nf_work.specs.declared.PassedAt.{PassedAt}
+use Rattle.nf_work.specs.Checked.{Checked, Stops, at_part, ◌>>=◌}
+use Rattle.nf_model.specs.Network.{Network, IsNetwork}
+use Rattle.nf_quick_lists.specs.Steps.{Step, IsLimited}
+use Rattle.nf_quick_lists.specs.Order.{Reach}
+use Rattle.nf_quick_lists.specs.Flows.{IsSound}
+use Rattle.nf_quick_lists.specs.Rounds.{Known, Walk, known_at, reaches_list, with_room, shortest_list, distances_list}
+use Rattle.nf_quick_lists.specs.Answers.{IsShortest, AreLeastLengths}
+use Rattle.nf_residual_laws.specs.ResidualLaws.{IsFoundAt}
+use Rattle.nf_residual_laws.proofs.Found.{IsFoundAt-list}
+use Rattle.nf_residual_laws.proofs.Lists.{IsShortest-list, AreLeastLengths-list}
+use Rattle.nf_residual_laws.proofs.Pushes.{links_within}
+use Rattle.nf_residual.proofs.Fits.{all_of}
+use Rattle.nf_residual.proofs.Stopping.{ok_of_part, stops, goes_on, stops_as}
+
+-- `seen` are the flows, as they were lent
+module _ (passes : Passing) (net : Network) (flows seen : List ℚ) (lent : seen ≡ flows) where
+  -- ---- the shortest walk
+  abbrev finished : Known → Checked (Option Walk)
+  finished known = with_room passes net flows (known_at known net.sink)
+
+  opened : shortest_list passes net flows ≡ (reaches_list passes net flows net.source >>= finished)
+  unfolding shortest_list
+  opened = refl
+
+  module _ (source : ℕ) (at : source ≡ net.source) where
+    same_reaches : reaches_list passes net flows net.source ≡ reaches_list passes net seen source
+    same_reaches = ap (λ (l : List ℚ). reaches_list passes net l net.source) (sym lent) ∙ ap (λ (v : ℕ). reaches_list passes net seen v) (sym at)
+
+    joined : shortest_list passes net flows ≡ (reaches_list passes net seen source >>= finished)
+    joined = opened ∙ ap (λ (r : Checked Known). r >>= finished) same_reaches
+
+    pub shortest_stops : (h : Halt ℚ) → Stops (λ (q : ℚ). q) h (at_part Part.Quick (reaches_list passes net seen source)) → Stops (λ (q : ℚ). q) h (at_part Part.Quick (shortest_list passes net flows))
+    shortest_stops h s = stops_as _ _ h joined (stops (reaches_list passes net seen source) finished h s)
+
+    module _ (known : Known) (came : at_part Part.Quick (reaches_list passes net seen source) ≡ Ok known) (way : Option Reach) (sink : ℕ) (at_sink : sink ≡ net.sink) (is : way ≡ known_at known sink) where
+      there : way ≡ known_at known net.sink
+      there = is ∙ ap (λ (v : ℕ). known_at known v) at_sink
+
+      then : shortest_list passes net flows ≡ with_room passes net seen way
+      then = joined ∙ goes_on (reaches_list passes net seen source) finished known came ∙ ap (λ (o : Option Reach). with_room passes net flows o) (sym there)
+          ∙ ap (λ (l : List ℚ). with_room passes net l way) (sym lent)
+
+      pub room_passes : (p : PassedAt ℚ) → Err p ≡ at_part Part.Quick (with_room passes net seen way) → at_part Part.Quick (shortest_list passes net flows) ≡ Err p
+      room_passes p e = ap (at_part Part.Quick) then ∙ sym e
+
+      pub walk_listed : (walk : Option Walk) → Ok walk ≡ at_part Part.Quick (with_room passes net seen way) → at_part Part.Quick (shortest_list passes net flows) ≡ Ok walk
+      walk_listed walk e = ap (at_part Part.Quick) then ∙ sym e
+
+      pub walk_first : IsNetwork net → IsSound net flows → IsLimited net → (walk : Option Walk) → Ok walk ≡ at_part Part.Quick (with_room passes net seen way) → IsShortest net flows walk
+      walk_first good sound limited walk e = IsShortest-list passes net flows good sound.closed limited walk (ok_of_part (shortest_list passes net flows) walk (walk_listed walk e))
+
+      -- its steps are along links
+      pub steps_within : IsNetwork net → IsSound net flows → (reach : Reach) → way ≡ Some reach → AllByRecursion (λ (step : Step). step.link < length net.links) reach.steps
+      steps_within good sound reach e =
+          let all : IsFoundAt net flows net.source net.sink (known_at known net.sink) =
+          IsFoundAt-list net flows net.source good good.source sound.closed passes known (same_reaches ∙ ok_of_part (reaches_list passes net seen source) known came) net.sink in
+          let here : IsFoundAt net flows net.source net.sink (Some reach) = subst (λ (o : Option Reach). IsFoundAt net flows net.source net.sink o) (sym there ∙ e) all in
+          all_of (length net.links) reach.steps (links_within net flows (length net.links) reach.steps net.source net.sink refl here.0.is_walk)
+
+  -- ---- least lengths
+  abbrev lengths : Known → List (Option ℚ)
+  lengths known = map (option_map (λ (reach : Reach). reach.distance)) known
+
+  module _ (from : ℕ) where
+    opened_lengths : distances_list passes net flows from ≡ (reaches_list passes net seen from >>= λ known. Ok (lengths known))
+    unfolding distances_list
+    opened_lengths = ap (λ (l : List ℚ). reaches_list passes net l from >>= λ known. Ok (lengths known)) (sym lent)
+
+    pub distances_stop : (h : Halt ℚ) → Stops (λ (q : ℚ). q) h (at_part Part.Quick (reaches_list passes net seen from)) → Stops (λ (q : ℚ). q) h (at_part Part.Quick (distances_list passes net flows from))
+    distances_stop h s = stops_as _ _ h opened_lengths (stops (reaches_list passes net seen from) (λ known. Ok (lengths known)) h s)
+
+    module _ (known : Known) (came : at_part Part.Quick (reaches_list passes net seen from) ≡ Ok known) (distances : List (Option ℚ)) (is : distances ≡ lengths known) where
+      pub distances_listed : at_part Part.Quick (distances_list passes net flows from) ≡ Ok distances
+      distances_listed = ap (at_part Part.Quick) (opened_lengths ∙ goes_on (reaches_list passes net seen from) (λ known. Ok (lengths known)) known came) ∙ ap Ok (sym is)
+
+      pub distances_least : IsNetwork net → IsSound net flows → from < net.nodes → AreLeastLengths net flows from distances
+      distances_least good sound inside = AreLeastLengths-list passes net flows good sound.closed from inside distances (ok_of_part (distances_list passes net flows from) distances distances_listed)

@@ -1,0 +1,46 @@
+-- The steps of a shortest walk are along links that have a flow.
+use Rattle.std.proofs.Common.{◌≡◌, ℕ, ◌<◌, List, [], ◌∷◌, length, sym, ap, subst, refl, ◌∙◌}
+use Rattle.std.specs.Prelude.{Ok, Err}
+use Rattle.std.specs.List.{AllByRecursion}
+use Rattle.nf_rational.specs.Rational.{ℚ}
+use Rattle.nf_rational.specs.Operations.{0ℚ}
+use Rattle.nf_rational.specs.Order.{◌≤ℚ◌, ◌<ℚ◌}
+use Rattle.nf_work.specs.Passing.{Passing}
+use Rattle.nf_work.specs.declared.Part.{Part}
+use Rattle.nf_work.specs.Checked.{Checked, at_part, fold_checked}
+use Rattle.nf_model.specs.Network.{Network, IsNetwork}
+use Rattle.nf_quick_lists.specs.Steps.{Step}
+use Rattle.nf_quick_lists.specs.Flows.{IsSound}
+use Rattle.nf_quick_lists.specs.Rounds.{Walk}
+use Rattle.nf_quick_lists.specs.Pushes.{push_step, push_list}
+use Rattle.nf_quick_lists.specs.Answers.{IsShortestWalk}
+use Rattle.nf_residual_laws.specs.ResidualLaws.{IsPush}
+use Rattle.nf_residual_laws.proofs.Apart.{EachStep}
+use Rattle.nf_residual_laws.proofs.Pushes.{links_within, IsPush-list}
+use Rattle.nf_residual_laws.proofs.NewSteps.{IsSound-pushed}
+
+pub all_of : (n : ℕ) (steps : List Step) → EachStep (λ step. step.link < n) steps → AllByRecursion (λ (step : Step). step.link < n) steps
+all_of n [] e = tt
+all_of n (step ∷ steps) e = (e.0, all_of n steps e.1)
+
+pub fits : (net : Network) (flows : List ℚ) (walk : Walk) (steps : List Step) (n : ℕ) → IsSound net flows → IsShortestWalk net flows walk → steps ≡ walk.steps → n ≡ length flows
+    → AllByRecursion (λ (step : Step). step.link < n) steps
+fits net flows walk steps n sound shortest same count = subst (λ (s : List Step). AllByRecursion (λ (step : Step). step.link < n) s) (sym same)
+    (all_of n walk.steps (links_within net flows n walk.steps net.source net.sink (count ∙ sound.flow.count) shortest.first.is_walk))
+
+ok_of_part : {A : Type 0} (part : Part) (r : Checked A) (x : A) → Ok x ≡ at_part part r → r ≡ Ok x
+ok_of_part part (Ok a) x e = let h = e in cc
+ok_of_part part (Err p) x e = absurd (cc)
+
+as_list : (passes : Passing) (amount : ℚ) (flows : List ℚ) (steps : List Step) → push_list passes steps amount flows ≡ fold_checked (push_step passes amount) flows steps
+unfolding push_list
+as_list passes amount flows steps = refl
+
+-- what a push leaves is sound
+pub pushed_sound : (passes : Passing) (net : Network) (flows new old : List ℚ) (walk : Walk) (steps : List Step) (amount : ℚ) → IsNetwork net → IsSound net flows → IsShortestWalk net flows walk → 0ℚ <ℚ amount
+    → amount ≤ℚ walk.room → old ≡ flows → steps ≡ walk.steps → Ok new ≡ at_part Part.Quick (fold_checked (push_step passes amount) old steps) → IsSound net new
+pushed_sound passes net flows new old walk steps amount good sound shortest some within same along e =
+    let p : IsPush net flows new walk.steps amount = IsPush-list passes net flows new walk amount good sound shortest some within
+    (as_list passes amount flows walk.steps ∙ ap (λ (l : List ℚ). fold_checked (push_step passes amount) l walk.steps) (sym same) ∙ ap (λ (s : List Step). fold_checked (push_step passes amount) old s) (sym along)
+    ∙ ok_of_part Part.Quick (fold_checked (push_step passes amount) old steps) new e) in
+    IsSound-pushed net flows new walk.steps amount good p.sound p.each p.first p.some p.room p.pushed

@@ -1,0 +1,9 @@
+pub mod Stopping
+pub mod Folding
+pub mod Moving
+pub mod Fits
+pub mod StepOrder
+pub mod Offering
+pub mod LongerWays
+pub mod Rounding
+pub mod Finishing

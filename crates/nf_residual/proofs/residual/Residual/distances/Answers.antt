@@ -1,0 +1,23 @@
+use Rattle.std.proofs.Common.{map, option_map, ap, ◌∙◌}
+use Rattle.std.proofs.lemmas.Result.{err_from_is_err_and}
+use Rattle.nf_work.specs.Passing.{passes_Q}
+use Rattle.nf_quick_lists.specs.Order.{Reach}
+use Rattle.nf_quick_lists.specs.Rounds.{Known}
+use Rattle.nf_residual.proofs.Finishing.{distances_stop, distances_listed, distances_least}
+use Rattle.nf_residual.proofs.residual.Residual.distances.Goals as goal
+
+pub returns-in_err-known-clause-list : goal.returns-in_err-known-clause-list
+returns-in_err-known-clause-list c =
+    let p = err_from_is_err_and c.from_residual.result c.from_residual.ensures.1 in
+    rw (p.1, p.2) (distances_stop passes_Q c.args.net.now.net c.args.self.now c.as_slice-flows.result.now (c.as_slice-flows.ensures.value ∙ c.self.view_is) c.args.from
+    c.in_err-known.field-0.0 c.in_err-known.ensures.list)
+
+pub returns-clause-list : goal.returns-clause-list
+returns-clause-list c = distances_listed passes_Q c.args.net.now.net c.args.self.now c.as_slice-flows.result.now (c.as_slice-flows.ensures.value ∙ c.self.view_is) c.args.from
+    c.in_ok-known.known.items c.in_ok-known.ensures.list c.in_ok-distances.distances.items
+    (c.in_ok-distances.ensures ∙ ap (λ (known : Known). map (option_map (λ (reach : Reach). reach.distance)) known) c.deref.ensures.value)
+
+pub returns-clause-least : goal.returns-clause-least
+returns-clause-least c = distances_least passes_Q c.args.net.now.net c.args.self.now c.as_slice-flows.result.now (c.as_slice-flows.ensures.value ∙ c.self.view_is) c.args.from
+    c.in_ok-known.known.items c.in_ok-known.ensures.list c.in_ok-distances.distances.items
+    (c.in_ok-distances.ensures ∙ ap (λ (known : Known). map (option_map (λ (reach : Reach). reach.distance)) known) c.deref.ensures.value) c.version-named.ensures.named.network c.requires.sound c.requires.from

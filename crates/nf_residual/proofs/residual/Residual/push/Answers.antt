@@ -1,0 +1,22 @@
+use Rattle.std.proofs.Common.{◌≡◌, List, length, Vec, Global, sym, ap, subst, ◌∙◌}
+use Rattle.std.specs.Prelude.{Ok}
+use Rattle.nf_work.specs.declared.Part.TheVariants as Part
+use Rattle.nf_work.specs.Checked.{at_part, fold_checked}
+use Rattle.nf_quick_lists.specs.Pushes.{push_step}
+use Rattle.nf_rational.specs.Rational.{ℚ}
+use Rattle.nf_work.specs.Passing.{passes_Q}
+use Rattle.nf_quick_lists.specs.Rounds.{Walk}
+use Rattle.nf_residual.proofs.Fits.{fits, pushed_sound}
+use Rattle.nf_residual.proofs.residual.Residual.push.Goals as goal
+
+pub move_along-requires : goal.move_along-requires
+move_along-requires c = fits c.args.net.now.net c.args.self.now c.args.walk.now c.deref-2.result.now (length c.copy_from_slice.new.self.items) c.requires.sound c.requires.walk
+    (c.deref-2.ensures.value ∙ ap (λ (w : Walk). w.steps) c.walk.view_is)
+    (ap (λ (l : List ℚ). length l) (c.copy_from_slice.ensures.items ∙ c.deref.ensures.value ∙ c.self.view_is))
+
+pub returns-clause-sound : goal.returns-clause-sound
+returns-clause-sound c = pushed_sound passes_Q c.args.net.now.net c.args.self.now c.swap.new.x.items c.copy_from_slice.new.self.items c.args.walk.now c.deref-2.result.now c.args.amount
+    c.version-named.ensures.named.network c.requires.sound c.requires.walk c.requires.some c.requires.room
+    (c.copy_from_slice.ensures.items ∙ c.deref.ensures.value ∙ c.self.view_is)
+    (c.deref-2.ensures.value ∙ ap (λ (w : Walk). w.steps) c.walk.view_is)
+    (subst (λ (l : List ℚ). Ok l ≡ at_part Part.Quick (fold_checked (push_step passes_Q c.args.amount) c.copy_from_slice.new.self.items c.deref-2.result.now)) (ap (λ (v : Vec ℚ Global). v.items) (sym c.swap.ensures.x_after)) c.in_ok-move_along.ensures.moved)

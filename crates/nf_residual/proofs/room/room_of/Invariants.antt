@@ -1,0 +1,8 @@
+use Rattle.std.specs.Prelude.{None}
+use Rattle.nf_work.specs.Passing.{passes_Q}
+use Rattle.nf_quick_lists.specs.Rounds.{room_after}
+use Rattle.nf_residual.proofs.Folding.{FoldsOn}
+use Rattle.nf_residual.proofs.room.room_of.Given as goal
+
+abbrev pub invariant-loop-step : goal.invariant-loop-step
+invariant-loop-step l = FoldsOn (room_after passes_Q l.net.net l.flows) l.steps None l.least l.step-index

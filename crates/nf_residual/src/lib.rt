@@ -1,0 +1,14 @@
+//! Residual walks of a static flow, and pushes along them: shortest walks and least lengths are found in rounds (after Bellman
+//! 1958 and Ford 1956).
+#![tactic(auto)]
+
+mod residual;
+mod room;
+mod rounds;
+mod step;
+#[cfg(test)]
+mod tests;
+mod ways;
+
+pub use residual::Residual;
+pub use step::{Step, Walk};

@@ -1,0 +1,195 @@
+// A static flow, and its residual walks.
+ghost use Rattle.std.specs.Prelude.{◌≡◌, ◌<◌, length, map, option_map, set, replicate, Some, IfOk, OnErr, OnOk};
+ghost use Rattle.std.specs.List.{AllByRecursion};
+ghost use Rattle.nf_rational.specs.Operations.{0ℚ};
+ghost use Rattle.nf_rational.specs.Order.{◌≤ℚ◌, ◌<ℚ◌};
+ghost use Rattle.nf_work.specs.declared.Part.TheVariants.{Quick};
+ghost use Rattle.nf_work.specs.Passing.{passes_Q};
+ghost use Rattle.nf_work.specs.Checked.{at_part, fold_checked, seen_at, Gives};
+ghost use Rattle.nf_model.specs.Entries.{number_at};
+ghost use Rattle.nf_quick_lists.specs.Order.{Reach as SeenReach};
+ghost use Rattle.nf_quick_lists.specs.Rounds.{known_at, with_room as with_room_by, shortest_list, distances_list};
+ghost use Rattle.nf_quick_lists.specs.Pushes.{push_step, push_list};
+ghost use Rattle.nf_quick_lists.specs.Flows.{IsSound};
+ghost use Rattle.nf_quick_lists.specs.Steps.{IsLimited};
+ghost use Rattle.nf_quick_lists.specs.Answers.{IsShortestWalk, IsShortest, AreLeastLengths};
+
+use crate::room::room_of;
+use crate::rounds::reaches;
+use crate::step::{Step, Walk, changed};
+use crate::ways::Reach;
+use nf_frac::{Halt, PassedAt, Q};
+use nf_graph::{LinkId, NodeId};
+use nf_net::Network;
+use std::alloc::{AllocError, Global};
+use std::marker::Model;
+
+/// A static flow from source to sink, one rate for each link. It is sound for a network where it is a static flow of it between
+/// 0 and each capacity, no closed residual walk has a negative length, and nothing flows into the source or out of the sink.
+#[derive(Drop)]
+pub struct Residual {
+    flows: Vec<Q>,
+    next: Vec<Q>,
+}
+
+impl Model for Residual {
+    ghost use Rattle.std.specs.Prelude.{◌≡◌, List, length};
+    ghost use Rattle.nf_rational.specs.Rational.{ℚ};
+
+    ghost Value = { List ℚ };
+
+    ghost view = { λ r. r.flows.items };
+
+    ghost invariant = { λ r. length r.next.items ≡ length r.flows.items };
+}
+
+fn at(flows: &Vec<Q>, link: LinkId) -> Q
+    requires { link < length flows.now.items }
+    ensures { result ≡ number_at flows.now.items link }
+{
+    flows[link.index()]
+}
+
+fn put(flows: &mut Vec<Q>, link: LinkId, value: Q)
+    requires { link < length flows.old.items }
+    ensures { flows.new.items ≡ set flows.old.items link value }
+{
+    flows[link.index()] = value;
+}
+
+// A flow is moved along each of these steps.
+fn move_along(flows: &mut Vec<Q>, steps: &[Step], amount: Q) -> Result<(), PassedAt<Q>>
+    requires { AllByRecursion (λ step. step.link < length flows.old.items) steps.now }
+    ensures moved { seen_at (λ _. flows.new.items) (λ q. q) result ≡ at_part Quick (fold_checked (push_step passes_Q amount) flows.old.items steps.now) }
+    ensures count { length flows.new.items ≡ length flows.old.items }
+{
+    for step in steps {
+        let step: Step = *step;
+        let before = at(flows, step.link);
+        let after = changed(step.forward, before, amount)?;
+        put(flows, step.link, after);
+    }
+    Ok(())
+}
+
+// What is known of a node.
+fn way_to(known: Vec<Option<Reach>>, node: NodeId) -> Option<Reach>
+    requires { node < length known.items }
+    ensures { result ≡ known_at known.items node }
+{
+    let mut known = known;
+    known.swap_remove(node.index())
+}
+
+// The walk of a way, with its room.
+fn with_room(net: &Network, flows: &[Q], way: Option<Reach>) -> Result<Option<Walk>, PassedAt<Q>>
+    requires steps { (reach : SeenReach) → way ≡ Some reach → AllByRecursion (λ step. step.link < length net.now.net.links) reach.steps }
+    requires flows { length flows.now ≡ length net.now.net.links }
+    ensures { result ≡ at_part Quick (with_room_by passes_Q net.now.net flows.now way) }
+{
+    match way {
+        None => Ok(None),
+        Some(way) => {
+            let room = room_of(net, flows, &way.steps)?;
+            Ok(Some(Walk {
+                steps: way.steps,
+                length: way.distance,
+                room: room.unwrap_or(Q::zero()),
+            }))
+        }
+    }
+}
+
+fn distance_of(way: &Option<Reach>) -> Option<Q>
+    ensures { result ≡ option_map (λ reach. reach.distance) way.now }
+{
+    match way {
+        None => None,
+        Some(way) => Some(way.distance),
+    }
+}
+
+fn distances_of(alloc: Global, known: &[Option<Reach>]) -> Result<Vec<Option<Q>>, AllocError>
+    ensures { IfOk result (λ distances. distances.items ≡ map (option_map (λ reach. reach.distance)) known.now) }
+{
+    known.iter().map(|way| distance_of(way)).collect(alloc)
+}
+
+impl Residual {
+    /// The flow 0, which is sound.
+    pub fn new(alloc: Global, net: &Network) -> Result<Residual, AllocError>
+        ensures empty { IfOk result (λ r. r ≡ replicate (length net.now.net.links) 0ℚ) }
+        ensures sound { IfOk result (λ r. IsSound net.now.net r) }
+    {
+        let _named = net.version();
+        let count = net.link_count() as usize;
+        let flows = vec![in alloc; Q::zero(); count]?;
+        let next = vec![in alloc; Q::zero(); count]?;
+        Ok(Residual { flows, next })
+    }
+
+    /// The flow on a link, a rate. It takes no memory.
+    pub fn flow(&self, link: LinkId) -> Q
+        requires { link < length self.now }
+        ensures { result ≡ number_at self.now link }
+    {
+        self.flows[link.index()]
+    }
+
+    /// A residual walk from source to sink of least length; of these one of the fewest steps; and of these the one whose steps
+    /// come first, by the numbers of their links and along a link before back along it. None exactly where there is no residual
+    /// walk to the sink. Each walk from source to sink must have a link with a capacity. Passed, of the part Quick, comes with the
+    /// first operation that passes: in rounds from the source, and then where room is left along the walk.
+    pub fn shortest(&self, alloc: Global, net: &Network) -> Result<Option<Walk>, Halt<Q>>
+        requires sound { IsSound net.now.net self.now }
+        requires limited { IsLimited net.now.net }
+        ensures list { Gives (λ found. found) (λ q. q) result (at_part Quick (shortest_list passes_Q net.now.net self.now)) }
+        ensures first { IfOk result (λ found. IsShortest net.now.net self.now found) }
+    {
+        let _named = net.version();
+        let flows = self.flows.as_slice();
+        let known = reaches(alloc, net, flows, net.source())?;
+        let way = way_to(known, net.sink());
+        let walk = with_room(net, flows, way)?;
+        Ok(walk)
+    }
+
+    /// Of each node, the least length, a time, of the residual walks to it from this node; None exactly where there is none.
+    /// Passed, of the part Quick, comes with the first operation of the rounds that passes.
+    pub fn distances(
+        &self,
+        alloc: Global,
+        net: &Network,
+        from: NodeId,
+    ) -> Result<Vec<Option<Q>>, Halt<Q>>
+        requires sound { IsSound net.now.net self.now }
+        requires from { from < net.now.net.nodes }
+        ensures list { Gives (λ v. v.items) (λ q. q) result (at_part Quick (distances_list passes_Q net.now.net self.now from)) }
+        ensures least { IfOk result (λ v. AreLeastLengths net.now.net self.now from v.items) }
+    {
+        let _named = net.version();
+        let flows = self.flows.as_slice();
+        let known = reaches(alloc, net, flows, from)?;
+        let distances = distances_of(alloc, &known)?;
+        Ok(distances)
+    }
+
+    /// The amount, a rate, goes along the shortest walk, of whose room it is at most the whole. The flow stays sound; where an
+    /// operation passes it stays as it was. It takes no memory.
+    #[tactic(auto, unfolding(nf_quick_lists::specs::Pushes::push_list))]
+    pub fn push(&mut self, net: &Network, walk: &Walk, amount: Q) -> Result<(), PassedAt<Q>>
+        requires sound { IsSound net.now.net self.old }
+        requires walk { IsShortestWalk net.now.net self.old walk.now }
+        requires some { 0ℚ <ℚ amount }
+        requires room { amount ≤ℚ walk.now.room }
+        ensures list { seen_at (λ _. self.new) (λ q. q) result ≡ at_part Quick (push_list passes_Q walk.now.steps amount self.old) }
+        ensures as_it_was { OnErr result (self.new ≡ self.old) }
+        ensures sound { OnOk result (IsSound net.now.net self.new) }
+    {
+        let _named = net.version();
+        self.next.copy_from_slice(&self.flows);
+        move_along(&mut self.next, &walk.steps, amount)?;
+        std::mem::swap(&mut self.flows, &mut self.next);
+        Ok(())
+    }
+}

@@ -1,0 +1,71 @@
+// The room along a walk.
+ghost use Rattle.std.specs.Prelude.{◌≡◌, ◌<◌, length, None};
+ghost use Rattle.std.specs.List.{AllByRecursion};
+ghost use Rattle.nf_work.specs.declared.Part.TheVariants.{Quick};
+ghost use Rattle.nf_work.specs.Passing.{passes_Q};
+ghost use Rattle.nf_work.specs.Checked.{at_part, fold_checked};
+ghost use Rattle.nf_quick_lists.specs.Rounds.{lesser as lesser_by, room_along as room_along_by, room_after as room_after_by};
+
+use crate::step::{Step, flow_at};
+use nf_frac::{Part, PassedAt, Q};
+use nf_net::Network;
+
+// The lesser of the room so far and one more; none so far where there was none.
+fn lesser(least: Option<Q>, room: Q) -> Q
+    ensures { result ≡ lesser_by least room }
+{
+    match least {
+        None => room,
+        Some(least) => least.lesser(room),
+    }
+}
+
+// The room so far and that of a step more: back along a link its flow, and along it what is left of its capacity.
+fn room_along(
+    forward: bool,
+    capacity: Option<Q>,
+    flow: Q,
+    least: Option<Q>,
+) -> Result<Option<Q>, PassedAt<Q>>
+    ensures { result ≡ at_part Quick (room_along_by passes_Q forward capacity flow least) }
+{
+    if !forward {
+        return Ok(Some(lesser(least, flow)));
+    }
+    match capacity {
+        None => Ok(least),
+        Some(capacity) => {
+            let left = nf_frac::at!(Part::Quick, capacity.difference(flow));
+            Ok(Some(lesser(least, left)))
+        }
+    }
+}
+
+fn room_after(
+    net: &Network,
+    flows: &[Q],
+    least: Option<Q>,
+    step: Step,
+) -> Result<Option<Q>, PassedAt<Q>>
+    requires step { step.link < length net.now.net.links }
+    requires flows { length flows.now ≡ length net.now.net.links }
+    ensures { result ≡ at_part Quick (room_after_by passes_Q net.now.net flows.now least step) }
+{
+    let link = net.link(step.link);
+    let flow = flow_at(flows, step.link);
+    room_along(step.forward, link.capacity, flow, least)
+}
+
+/// The least residual capacity along a walk; None where each of its steps goes along an unbounded link.
+pub(crate) fn room_of(net: &Network, flows: &[Q], steps: &[Step]) -> Result<Option<Q>, PassedAt<Q>>
+    requires steps { AllByRecursion (λ step. step.link < length net.now.net.links) steps.now }
+    requires flows { length flows.now ≡ length net.now.net.links }
+    ensures { result ≡ at_part Quick (fold_checked (room_after_by passes_Q net.now.net flows.now) None steps.now) }
+{
+    let mut least = None;
+    for step in steps {
+        let step: Step = *step;
+        least = room_after(net, flows, least, step)?;
+    }
+    Ok(least)
+}

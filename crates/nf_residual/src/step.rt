@@ -1,0 +1,99 @@
+// Steps along links, and back along them.
+ghost use Rattle.std.specs.Prelude.{◌≡◌, ◌<◌, length};
+ghost use Rattle.nf_work.specs.declared.Part.TheVariants.{Quick};
+ghost use Rattle.nf_work.specs.Passing.{passes_Q};
+ghost use Rattle.nf_work.specs.Checked.{checked_at};
+ghost use Rattle.nf_model.specs.Entries.{number_at};
+ghost use Rattle.nf_quick_lists.specs.Steps.{begin_of as begin_by, end_of as end_by, can_go as can_go_by};
+ghost use Rattle.nf_quick_lists.specs.Rounds.{op_of};
+
+use nf_frac::{Part, PassedAt, Q};
+use nf_graph::{LinkId, NodeId};
+use nf_net::Link;
+use std::marker::Model;
+
+/// A step along a link, or back along it.
+#[derive(Clone, Copy, Debug, PartialEq, Eq)]
+pub struct Step {
+    pub link: LinkId,
+    pub forward: bool,
+}
+
+impl Model for Step {
+    ghost use Rattle.nf_quick_lists.specs.Steps.{Step as SeenStep};
+    ghost use Rattle.nf_quick_lists.specs.Codes.{coded_step};
+
+    ghost Value = { SeenStep };
+
+    ghost coded = { coded_step };
+
+    ghost view = { λ a. record { link = a.link; forward = a.forward } };
+
+    ghost inverse = { λ s. record { link = s.link; forward = s.forward } };
+}
+
+/// A residual walk, its length (a time, in which a step back counts minus its transit time), and its room: the least rate that
+/// can still be added on a step of it.
+#[derive(Drop, Debug)]
+pub struct Walk {
+    pub steps: Vec<Step>,
+    pub length: Q,
+    pub room: Q,
+}
+
+impl Model for Walk {
+    ghost use Rattle.nf_quick_lists.specs.Rounds.{Walk as SeenWalk};
+    ghost use Rattle.nf_quick_lists.specs.Codes.{coded_walk};
+
+    ghost Value = { SeenWalk };
+
+    ghost coded = { coded_walk };
+
+    ghost view = { λ w. record { steps = w.steps.items; length = w.length; room = w.room } };
+}
+
+// What a change makes of a number along a link or back along it: it is added, or taken off.
+pub(crate) fn changed(forward: bool, number: Q, change: Q) -> Result<Q, PassedAt<Q>>
+    ensures { result ≡ checked_at passes_Q Quick (op_of forward) number change }
+{
+    if forward {
+        Ok(nf_frac::at!(Part::Quick, number.sum(change)))
+    } else {
+        Ok(nf_frac::at!(Part::Quick, number.difference(change)))
+    }
+}
+
+// The flow on a link.
+pub(crate) fn flow_at(flows: &[Q], link: LinkId) -> Q
+    requires { link < length flows.now }
+    ensures { result ≡ number_at flows.now link }
+{
+    flows[link.index()]
+}
+
+// Where a step along this link, or back along it, begins.
+pub(crate) fn begin_of(forward: bool, link: Link) -> NodeId
+    ensures { result ≡ begin_by forward link }
+{
+    if forward { link.tail } else { link.head }
+}
+
+// And where it ends.
+pub(crate) fn end_of(forward: bool, link: Link) -> NodeId
+    ensures { result ≡ end_by forward link }
+{
+    if forward { link.head } else { link.tail }
+}
+
+// It can be gone, with this flow on the link.
+pub(crate) fn can_go(forward: bool, capacity: Option<Q>, flow: Q) -> bool
+    ensures { result ≡ can_go_by forward capacity flow }
+{
+    if !forward {
+        return Q::zero().is_below(flow);
+    }
+    match capacity {
+        None => true,
+        Some(capacity) => flow.is_below(capacity),
+    }
+}
