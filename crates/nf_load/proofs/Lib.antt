@@ -3,3 +3,5 @@ pub mod LoadWords
 pub mod Emptied
 pub mod Adding
 pub mod LoadsRead
+pub mod Supplying
+pub mod PointByPoint

@@ -1,0 +1,107 @@
+-- Cumulative amounts, piece by piece.
+use Rattle.std.proofs.Common.{◌≡◌, ⊎_elim, ℕ, zero, suc, drop, Bool, true, false, List, [], ◌∷◌, ◌++◌, refl, sym, ap, ◌∙◌, append_assoc}
+use Rattle.std.specs.Prelude.{Ok, Err, Some, slice_get}
+use Rattle.nf_rational.specs.Rational.{ℚ}
+use Rattle.nf_rational.specs.Operations.{0ℚ}
+use Rattle.nf_rational.specs.Order.{lt_ℚ}
+use Rattle.nf_work.specs.Passing.{Passing}
+use Rattle.nf_work.specs.declared.Part.{Part}
+use Rattle.nf_work.specs.declared.PassedAt.{PassedAt}
+use Rattle.nf_work.specs.Checked.{Checked, at_part, placed, ◌>>=◌}
+use Rattle.nf_work.proofs.Each.{with_front}
+use Rattle.nf_model.specs.Curve.{Point}
+use Rattle.nf_model.specs.Network.{Piece}
+use Rattle.nf_lists.specs.Signs.{is_same}
+use Rattle.nf_load_lists.specs.Cumulative.{end_of, point_after_0, point_if_after_0, with_piece, cumulative_from, checked_cumulative}
+use Rattle.nf_curve_laws.proofs.Operations.{is_same_cases}
+use Rattle.nf_curve.proofs.Exits.{was_ok}
+
+-- ---- points after time 0
+pub at_0 : (t y : ℚ) → t ≡ 0ℚ → point_if_after_0 t y ≡ []
+at_0 t y e = ⊎_elim
+    (λ (w : (is_same t 0ℚ ≡ true) × (t ≡ 0ℚ)). ap (λ (b : Bool). point_after_0 b t y) w.0)
+    (λ (w : (is_same t 0ℚ ≡ false) × (¬ (t ≡ 0ℚ))). absurd (w.1 e))
+    (is_same_cases t 0ℚ)
+
+pub after_0 : (t y : ℚ) → (t ≡ 0ℚ → ⊥) → point_if_after_0 t y ≡ (t, y) ∷ []
+after_0 t y f = ⊎_elim
+    (λ (w : (is_same t 0ℚ ≡ true) × (t ≡ 0ℚ)). absurd (f w.1))
+    (λ (w : (is_same t 0ℚ ≡ false) × (¬ (t ≡ 0ℚ))). ap (λ (b : Bool). point_after_0 b t y) w.0)
+    (is_same_cases t 0ℚ)
+
+-- ---- the points so far, and those from a piece on
+module _ (passes : Passing) where
+  pub begins : (pieces : List Piece) (last : ℚ) → with_front ((0ℚ, 0ℚ) ∷ []) (cumulative_from passes 0ℚ pieces last) ≡ checked_cumulative passes pieces last
+  unfolding checked_cumulative
+  begins pieces last = go (cumulative_from passes 0ℚ pieces last)
+    where
+      go : (r : Checked (List Point)) → with_front ((0ℚ, 0ℚ) ∷ []) r ≡ (r >>= λ rest. Ok ((0ℚ, 0ℚ) ∷ rest))
+      go (Ok ys) = refl
+      go (Err p) = refl
+
+  pub begins_with : (pieces : List Piece) (last so_far a b : ℚ) (front : List Point) → so_far ≡ 0ℚ → a ≡ 0ℚ → b ≡ 0ℚ → front ≡ (a, b) ∷ [] → with_front front (cumulative_from passes so_far pieces last) ≡ checked_cumulative passes pieces last
+  begins_with pieces last so_far a b front s e f g =
+      ap (λ (l : List Point). with_front l (cumulative_from passes so_far pieces last)) (g ∙ ap (λ (x : ℚ). (x, b) ∷ []) e ∙ ap (λ (y : ℚ). (0ℚ, y) ∷ []) f)
+      ∙ ap (λ (x : ℚ). with_front ((0ℚ, 0ℚ) ∷ []) (cumulative_from passes x pieces last)) s
+      ∙ begins pieces last
+
+  module _ (part : Part) (front : List Point) (so_far last : ℚ) (all : Checked (List Point)) where
+    -- after the last piece
+    pub ends_there : with_front front (cumulative_from passes so_far [] last) ≡ all → at_part part all ≡ Ok (front ++ point_if_after_0 last so_far)
+    ends_there e = ap (at_part part) (sym e)
+
+    module _ (piece : Piece) (later : List Piece) (so : with_front front (cumulative_from passes so_far (piece ∷ later) last) ≡ all) where
+      abbrev by_test : Bool → Checked (List Point)
+      by_test b = elim b [
+        | true ↦ with_piece passes so_far piece (end_of later last) >>= λ sum. cumulative_from passes sum later last >>= λ rest. Ok (point_if_after_0 piece.start so_far ++ rest)
+        | false ↦ Ok (point_if_after_0 last so_far)
+      ]
+
+      abbrev by_sum : Checked ℚ → Checked (List Point)
+      by_sum r = r >>= λ sum. cumulative_from passes sum later last >>= λ rest. Ok (point_if_after_0 piece.start so_far ++ rest)
+
+      -- before a piece that starts too late
+      pub ends_before : lt_ℚ piece.start last ≡ false → at_part part all ≡ Ok (front ++ point_if_after_0 last so_far)
+      ends_before f = ap (at_part part) (sym so ∙ ap (λ (b : Bool). with_front front (by_test b)) f)
+
+      pub goes_on : (sum : ℚ) → lt_ℚ piece.start last ≡ true → at_part part (with_piece passes so_far piece (end_of later last)) ≡ Ok sum
+          → with_front (front ++ point_if_after_0 piece.start so_far) (cumulative_from passes sum later last) ≡ all
+      goes_on sum f e =
+          sym (ap (λ (b : Bool). with_front front (by_test b)) f
+          ∙ ap (λ (r : Checked ℚ). with_front front (by_sum r)) (was_ok part (with_piece passes so_far piece (end_of later last)) sum e)
+          ∙ more (cumulative_from passes sum later last)) ∙ so
+        where
+          more : (r : Checked (List Point)) → with_front front (r >>= λ rest. Ok (point_if_after_0 piece.start so_far ++ rest)) ≡ with_front (front ++ point_if_after_0 piece.start so_far) r
+          more (Ok ys) = ap (λ (l : List Point). Ok l) (sym (append_assoc front (point_if_after_0 piece.start so_far) ys))
+          more (Err p) = refl
+
+      pub stops : (p : PassedAt ℚ) → lt_ℚ piece.start last ≡ true → at_part part (with_piece passes so_far piece (end_of later last)) ≡ Err p → at_part part all ≡ Err p
+      stops p f e = ap (at_part part) (sym so ∙ ap (λ (b : Bool). with_front front (by_test b)) f) ∙ stop (with_piece passes so_far piece (end_of later last)) e
+        where
+          stop : (r : Checked ℚ) → at_part part r ≡ Err p → at_part part (with_front front (by_sum r)) ≡ Err p
+          stop (Ok y) d = absurd (cc)
+          stop (Err q) d = let same : placed part q ≡ p = cc in ap (λ (x : PassedAt ℚ). Err x) same
+
+-- ---- the same of the piece of a number
+pub piece_first : (xs : List Piece) (i next : ℕ) (p : Piece) → slice_get xs i ≡ Some p → next ≡ suc i → drop i xs ≡ p ∷ drop next xs
+piece_first xs i next p e n = from xs i e ∙ ap (λ (k : ℕ). p ∷ drop k xs) (sym n)
+  where
+    from : (xs : List Piece) (i : ℕ) → slice_get xs i ≡ Some p → drop i xs ≡ p ∷ drop (suc i) xs
+    from [] i e = absurd (cc)
+    from (x ∷ xs) zero e = let same : x ≡ p = cc in ap (λ (q : Piece). q ∷ xs) same
+    from (x ∷ xs) (suc i) e = from xs i e
+
+module _ (passes : Passing) (part : Part) (front : List Point) (so_far last : ℚ) (pieces : List Piece) (i next : ℕ) (piece : Piece)
+    (at : slice_get pieces i ≡ Some piece) (n : next ≡ suc i) (so : with_front front (cumulative_from passes so_far (drop i pieces) last) ≡ checked_cumulative passes pieces last) where
+  from_here : with_front front (cumulative_from passes so_far (piece ∷ drop next pieces) last) ≡ checked_cumulative passes pieces last
+  from_here = ap (λ (l : List Piece). with_front front (cumulative_from passes so_far l last)) (sym (piece_first pieces i next piece at n)) ∙ so
+
+  pub ends_before_at : lt_ℚ piece.start last ≡ false → at_part part (checked_cumulative passes pieces last) ≡ Ok (front ++ point_if_after_0 last so_far)
+  ends_before_at f = ends_before passes part front so_far last (checked_cumulative passes pieces last) piece (drop next pieces) from_here f
+
+  pub goes_on_at : (sum : ℚ) → lt_ℚ piece.start last ≡ true → at_part part (with_piece passes so_far piece (end_of (drop next pieces) last)) ≡ Ok sum
+      → with_front (front ++ point_if_after_0 piece.start so_far) (cumulative_from passes sum (drop next pieces) last) ≡ checked_cumulative passes pieces last
+  goes_on_at sum f e = goes_on passes part front so_far last (checked_cumulative passes pieces last) piece (drop next pieces) from_here sum f e
+
+  pub stops_at : (p : PassedAt ℚ) → lt_ℚ piece.start last ≡ true → at_part part (with_piece passes so_far piece (end_of (drop next pieces) last)) ≡ Err p → at_part part (checked_cumulative passes pieces last) ≡ Err p
+  stops_at p f e = stops passes part front so_far last (checked_cumulative passes pieces last) piece (drop next pieces) from_here p f e

@@ -1,0 +1,32 @@
+use Rattle.std.proofs.Common.{◌≡◌, ◌+◌, ◌<◌, true, List, [], ◌∷◌, ◌++◌, length, drop, refl, sym, ap, ◌∙◌, arith}
+use Rattle.std.proofs.lemmas.List.{take_rest}
+use Rattle.std.proofs.lemmas.Option.{slice_get_read}
+use Rattle.nf_rational.specs.Rational.{ℚ}
+use Rattle.nf_rational.specs.Order.{lt_ℚ}
+use Rattle.nf_work.specs.declared.Part.TheVariants.{Load}
+use Rattle.nf_work.specs.Passing.{passes_Q}
+use Rattle.nf_work.specs.Checked.{at_part}
+use Rattle.nf_work.proofs.Each.{with_front}
+use Rattle.nf_model.specs.Network.{Piece}
+use Rattle.nf_load_lists.specs.Cumulative.{end_of, point_if_after_0, with_piece, cumulative_from}
+use Rattle.nf_load.proofs.Supplying.{begins_with, goes_on_at}
+use Rattle.nf_load.proofs.amounts.cumulative_points.Goals as goal
+
+pub loop-index-init : goal.loop-index-init
+loop-index-init c =
+    begins_with passes_Q c.args.pieces.now c.args.last c.zero-so_far.result c.zero.result c.zero-2.result c.push.new.self.items c.zero-so_far.ensures c.zero.ensures c.zero-2.ensures
+    (c.in_ok-push.ensures.items ∙ ap (λ (l : List (ℚ × ℚ)). l ++ (c.zero.result, c.zero-2.result) ∷ []) c.new-points.ensures.items)
+
+pub loop-index-preserved : goal.loop-index-preserved
+loop-index-preserved c =
+    let inside : c.loop-index.index < length c.args.pieces.now = omega arith in
+    let g = slice_get_read c.args.pieces.now _ c.loop-index.index c.index-pieces-index.result refl inside c.index-pieces-index.is in
+    let below : lt_ℚ c.index-pieces-index.result.start c.args.last ≡ true =
+    sym (c.is_below.ensures ∙ ap (λ (p : Piece). lt_ℚ p.start c.args.last) c.piece.view_is) ∙ c.if-not-is_below.false in
+    let end : c.end_of.result ≡ end_of (drop (c.loop-index.index + 1) c.args.pieces.now) c.args.last =
+    c.end_of.ensures ∙ ap (λ (l : List Piece). end_of l c.args.last) (take_rest c.args.pieces.now (c.loop-index.index + 1)) in
+    ap (λ (l : List (ℚ × ℚ)). with_front l (cumulative_from passes_Q c.in_ok-sum.sum (drop (c.loop-index.index + 1) c.args.pieces.now) c.args.last))
+    (c.in_ok-push_after_0.ensures ∙ ap (λ (p : Piece). c.loop-index.points.items ++ point_if_after_0 p.start c.loop-index.so_far) c.piece.view_is)
+    ∙ goes_on_at passes_Q Load c.loop-index.points.items c.loop-index.so_far c.args.last c.args.pieces.now c.loop-index.index (c.loop-index.index + 1) c.index-pieces-index.result
+    g (omega arith) c.loop-index.invariant c.in_ok-sum.sum below
+    (ap (λ (z : ℚ). at_part Load (with_piece passes_Q c.loop-index.so_far c.index-pieces-index.result z)) (sym end) ∙ sym c.in_ok-sum.ensures)
