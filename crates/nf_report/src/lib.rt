@@ -3,6 +3,7 @@
 
 mod causes;
 mod curves;
+mod joined;
 mod line;
 mod report;
 #[cfg(test)]

@@ -3,6 +3,7 @@ ghost use Rattle.std.specs.Prelude.{[], ◌∷◌, map};
 ghost use Rattle.nf_edge.specs.Taken.{Wrote};
 ghost use Rattle.nf_report.specs.Written.{after_words, WroteLines};
 
+use crate::joined::joined;
 use nf_edge::{Sink, SinkFault, write_text};
 
 // A word that isn't the first of its line.
@@ -24,7 +25,17 @@ fn write_words<O: Sink>(out: &mut O, words: &[&[u8]]) -> Result<(), SinkFault>
     Ok(())
 }
 
-/// The line of these words.
+// The line of these words, word by word.
+fn write_parts<O: Sink>(out: &mut O, first: &[u8], words: &[&[u8]]) -> Result<(), SinkFault>
+    ensures { WroteLines (O.took out.old) (O.took out.new) (O.faults out.old) (O.faults out.new)
+        ((first.now ∷ map (λ w. w.now) words.now) ∷ []) result }
+{
+    write_text(out, first)?;
+    write_words(out, words)?;
+    write_text(out, b"\n")
+}
+
+/// The line of these words, in one piece where it isn't very long.
 pub(crate) fn write_line<O: Sink>(
     out: &mut O,
     first: &[u8],
@@ -33,7 +44,8 @@ pub(crate) fn write_line<O: Sink>(
     ensures { WroteLines (O.took out.old) (O.took out.new) (O.faults out.old) (O.faults out.new)
         ((first.now ∷ map (λ w. w.now) words.now) ∷ []) result }
 {
-    write_text(out, first)?;
-    write_words(out, words)?;
-    write_text(out, b"\n")
+    match joined(first, words) {
+        Ok(line) => write_text(out, line.as_slice()),
+        Err(_) => write_parts(out, first, words),
+    }
 }
