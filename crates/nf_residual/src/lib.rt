@@ -6,6 +6,8 @@ mod residual;
 mod room;
 mod rounds;
 mod step;
+#[cfg(test)]
+mod tests;
 mod ways;
 
 pub use residual::Residual;
