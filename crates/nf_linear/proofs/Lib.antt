@@ -1,5 +1,6 @@
 pub mod Fronts
 pub mod Taken
+pub mod Spread
 pub mod Sparse
 pub mod Columns
 pub mod Clearing

@@ -12,7 +12,8 @@ ghost use Rattle.nf_linear_laws.specs.Solution.{IsSquare};
 ghost use Rattle.nf_linear.specs.Rows.{clear_unless, clear_each};
 ghost use Rattle.nf_linear.specs.Pivots.{eliminated, HasPivots};
 
-use crate::row::{Entry, Row, is_zero};
+use crate::entries::Entry;
+use crate::row::Row;
 use nf_frac::{Halt, PassedAt, Scalar};
 use std::alloc::Global;
 
@@ -21,7 +22,7 @@ fn is_candidate<S: Scalar>(row: &Row<S>, pivots: &[usize], number: usize, column
     requires { column < length row.now }
     ensures { result ≡ (not (list_any (λ pivot. pivot == number) pivots.now) && not (Signs.is_zero (number_at row.now column))) }
 {
-    if is_zero(row.at(column)) {
+    if row.is_zero_at(column) {
         return false;
     }
     !pivots.contains(&number)
@@ -53,7 +54,7 @@ fn clear_one<S: Scalar>(
     requires later { AllByRecursion (λ other. other.0 < length row.old) later.now }
     ensures { seen_at (λ _. row.new) S.means result ≡ at_part Part.Table (clear_unless S.passes (is_pivot || Signs.is_zero (number_at row.old column)) column (S.means own) later.now row.old) }
 {
-    if is_pivot || is_zero(row.at(column)) {
+    if is_pivot || row.is_zero_at(column) {
         return Ok(());
     }
     row.clear(column, own, later)

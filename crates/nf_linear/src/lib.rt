@@ -2,6 +2,7 @@
 #![tactic(auto)]
 
 mod elimination;
+mod entries;
 mod row;
 mod solution;
 mod table;
