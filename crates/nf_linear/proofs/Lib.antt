@@ -1,6 +1,6 @@
 pub mod Fronts
 pub mod Taken
-pub mod Spread
+pub mod Filled
 pub mod Sparse
 pub mod Columns
 pub mod Clearing

@@ -12,24 +12,24 @@ ghost use Rattle.nf_linear_laws.specs.Solution.{IsSquare};
 ghost use Rattle.nf_linear.specs.Rows.{clear_unless, clear_each};
 ghost use Rattle.nf_linear.specs.Pivots.{eliminated, HasPivots};
 
-use crate::entries::Entry;
-use crate::row::Row;
+use crate::pivots::Pivots;
+use crate::row::{Entry, Row};
 use nf_frac::{Halt, PassedAt, Scalar};
 use std::alloc::Global;
 
 // The row is no pivot row yet, and has an entry in the column.
-fn is_candidate<S: Scalar>(row: &Row<S>, pivots: &[usize], number: usize, column: usize) -> bool
+fn is_candidate<S: Scalar>(row: &Row<S>, pivots: &Pivots, number: usize, column: usize) -> bool
     requires { column < length row.now }
     ensures { result ≡ (not (list_any (λ pivot. pivot == number) pivots.now) && not (Signs.is_zero (number_at row.now column))) }
 {
     if row.is_zero_at(column) {
         return false;
     }
-    !pivots.contains(&number)
+    !pivots.has(number)
 }
 
 // The pivot row of a column.
-pub fn pivot_of<S: Scalar>(rows: &[Row<S>], pivots: &[usize], column: usize) -> Option<usize>
+pub fn pivot_of<S: Scalar>(rows: &[Row<S>], pivots: &Pivots, column: usize) -> Option<usize>
     requires { (i : ℕ) → i < length rows.now → column < length (row_at rows.now i) }
     ensures { result ≡ Lists.pivot_of rows.now pivots.now column }
 {
@@ -102,13 +102,13 @@ pub fn eliminate<S: Scalar>(
 fn clear_column<S: Scalar>(
     alloc: Global,
     rows: &mut [Row<S>],
-    pivots: &mut Vec<usize>,
+    pivots: &mut Pivots,
     column: usize,
 ) -> Result<bool, Halt<S>>
     requires square { IsSquare rows.old }
     requires column { column < length rows.old }
-    ensures { Gives (λ found. if found then Some (eliminated rows.new pivots.new.items) else None) S.means result
-        (at_part Part.Table (Lists.eliminate_column S.passes (eliminated rows.old pivots.old.items) column)) }
+    ensures { Gives (λ found. if found then Some (eliminated rows.new pivots.new) else None) S.means result
+        (at_part Part.Table (Lists.eliminate_column S.passes (eliminated rows.old pivots.old) column)) }
 {
     let Some(pivot) = pivot_of(rows, pivots, column) else {
         return Ok(false);
@@ -128,11 +128,11 @@ pub fn clear_columns<S: Scalar>(
         (at_part Part.Table (Lists.eliminate_from S.passes (length rows.old) 0 (eliminated rows.old []))) }
     ensures pivots { IfOk result (λ found. IfSome found (λ pivots. HasPivots rows.new pivots.items)) }
 {
-    let mut pivots = Vec::with_capacity(alloc, rows.len())?;
+    let mut pivots = Pivots::new(alloc, rows.len())?;
     for column in 0..rows.len() {
         if !clear_column(alloc, rows, &mut pivots, column)? {
             return Ok(None);
         }
     }
-    Ok(Some(pivots))
+    Ok(Some(pivots.into_rows()))
 }

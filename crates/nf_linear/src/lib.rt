@@ -2,7 +2,7 @@
 #![tactic(auto)]
 
 mod elimination;
-mod entries;
+mod pivots;
 mod row;
 mod solution;
 mod table;

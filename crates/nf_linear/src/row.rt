@@ -1,5 +1,5 @@
 // Rows of a table, and what one loses in a step of the elimination.
-ghost use Rattle.std.specs.Prelude.{◌≡◌, ◌≢◌, ℕ, ◌+◌, ◌-◌, ◌<◌, length, set, drop, replicate, false, IfOk};
+ghost use Rattle.std.specs.Prelude.{◌≡◌, ◌≢◌, ℕ, ◌+◌, ◌-◌, ◌<◌, List, [], ◌∷◌, ◌++◌, length, set, drop, replicate, false, IfOk, if◌then◌else◌};
 ghost use Rattle.std.specs.List.{AllByRecursion};
 ghost use Rattle.nf_rational.specs.Operations.{0ℚ};
 ghost use Rattle.nf_work.specs.declared.Part.TheVariants as Part;
@@ -10,30 +10,51 @@ ghost use Rattle.nf_lists.specs.Signs as Signs;
 ghost use Rattle.nf_lists.specs.Table.{less_unless};
 ghost use Rattle.nf_linear.specs.Rows.{some_from, entry_less, clear_row};
 
-use crate::entries::{Entry, found, place_of, put, rest, value_at};
 use nf_frac::{Part, PassedAt, Scalar};
 use std::alloc::{AllocError, Global};
 use std::marker::Model;
 
-// A number for each unknown, and the right side. Only entries other than 0 are kept, with room for one in each column.
+// A number for each unknown, and the right side.
 #[derive(Drop)]
 pub struct Row<S: Scalar> {
-    len: usize,
-    entries: Vec<Entry<S>>,
-    // The place of the column that was last set: the next one mostly stands soon after it.
-    near: usize,
+    cells: Vec<S>,
+    // Of each number, whether it is other than 0: most are 0, and this is tested far more often than a number is used.
+    some: Vec<bool>,
 }
 
 impl<S: Scalar> Model for Row<S> {
-    ghost use Rattle.std.specs.Prelude.{List, ◌≤◌, vec_capacity};
+    ghost use Rattle.std.specs.Prelude.{◌≡◌, List, map};
     ghost use Rattle.nf_rational.specs.Rational.{ℚ};
-    ghost use Rattle.nf_linear.specs.Sparse.{spread, AreEntries};
+    ghost use Rattle.nf_linear.specs.Rows.{some_flags};
 
     ghost Value = { List ℚ };
 
-    ghost view = { λ r. spread 0 r.len r.entries.items };
+    ghost view = { λ r. map S.means r.cells.items };
 
-    ghost invariant = { λ r. AreEntries 0 r.len r.entries.items × (r.len ≤ vec_capacity r.entries) };
+    ghost invariant = { λ r. r.some.items ≡ some_flags (map S.means r.cells.items) };
+}
+
+// An entry of a row that isn't 0.
+#[derive(Drop)]
+pub struct Entry<S: Scalar> {
+    column: usize,
+    value: S,
+}
+
+impl<S: Scalar> Model for Entry<S> {
+    ghost use Rattle.std.specs.Prelude.{ℕ};
+    ghost use Rattle.nf_rational.specs.Rational.{ℚ};
+
+    ghost Value = { ℕ × ℚ };
+
+    ghost view = { λ e. (e.column, S.means e.value) };
+}
+
+// The value is 0.
+fn is_zero<S: Scalar>(value: S) -> bool
+    ensures { result ≡ Signs.is_zero (S.means value) }
+{
+    value == S::zero()
 }
 
 // A value less a factor times another.
@@ -50,43 +71,52 @@ impl<S: Scalar> Row<S> {
     pub fn zero(alloc: Global, len: usize) -> Result<Row<S>, AllocError>
         ensures { IfOk result (λ row. row ≡ replicate len 0ℚ) }
     {
-        let entries = Vec::with_capacity(alloc, len)?;
-        Ok(Row {
-            len,
-            entries,
-            near: 0,
-        })
+        let mut cells = Vec::new(alloc);
+        cells.resize(len, S::zero())?;
+        let mut some = Vec::new(alloc);
+        some.resize(len, false)?;
+        Ok(Row { cells, some })
     }
 
     pub fn at(&self, column: usize) -> S
         requires { column < length self.now }
         ensures { S.means result ≡ number_at self.now column }
     {
-        let place = place_of(&self.entries, self.near, column);
-        value_at(&self.entries, place, column)
+        self.cells[column]
     }
 
+    // The number of this column is 0.
     pub fn is_zero_at(&self, column: usize) -> bool
         requires { column < length self.now }
         ensures { result ≡ Signs.is_zero (number_at self.now column) }
     {
-        let place = place_of(&self.entries, self.near, column);
-        !found(&self.entries, place, column)
+        !self.some[column]
     }
 
     pub fn set(&mut self, column: usize, value: S)
         requires { column < length self.old }
         ensures { self.new ≡ set self.old column (S.means value) }
     {
-        let place = place_of(&self.entries, self.near, column);
-        self.near = place;
-        put(&mut self.entries, place, column, value);
+        self.cells[column] = value;
+        self.some[column] = !is_zero(value);
     }
 
     pub fn len(&self) -> usize
         ensures { result ≡ length self.now }
     {
-        self.len
+        self.cells.len()
+    }
+
+    // One more entry, unless it is 0.
+    fn push_some(&self, entries: &mut Vec<Entry<S>>, column: usize) -> Result<(), AllocError>
+        requires { column < length self.now }
+        ensures { IfOk result (λ _. entries.new.items ≡ entries.old.items ++ (if Signs.is_zero (number_at self.now column) then [] else (column, number_at self.now column) ∷ [])) }
+    {
+        if !self.is_zero_at(column) {
+            let value = self.at(column);
+            entries.push(Entry { column, value })?;
+        }
+        Ok(())
     }
 
     // The entries other than 0 after this column.
@@ -94,8 +124,12 @@ impl<S: Scalar> Row<S> {
         requires { column < length self.now }
         ensures { IfOk result (λ later. later.items ≡ some_from (column + 1) (drop (column + 1) self.now)) }
     {
-        let place = place_of(&self.entries, self.near, column + 1);
-        rest(alloc, &self.entries, place)
+        let len = self.len();
+        let mut later = Vec::new(alloc);
+        for i in column + 1..len {
+            self.push_some(&mut later, i)?;
+        }
+        Ok(later)
     }
 
     // Each of these entries of another row, times the factor, is taken off.

@@ -101,6 +101,9 @@ module _ (net : Network) (sets : Sets) (v : ℕ) where
     column_inside active =
         let a = before_within sets.active 0 e active in let b = unknowns-length net sets in let c = h.changes.count in let n = h.next in let s = h.size in omega arith
 
+    pub column_blank : number_at (row_at now i) column ≡ 0ℚ
+    column_blank = h.factors.rest column (let n = h.next in omega arith)
+
     pub node_more : (new : List Row) (link : Link) (x : ℚ) → IsLink net e link → Has sets.active e → x ≡ leaves_less_enters (Some link) v → new ≡ set now i (set (row_at now i) column x)
         → IsFillingNode old new i (e + 1) (column + 1)
     node_more new link x is_link active is same =

@@ -1,7 +1,8 @@
 // The table of the equations of a pattern.
-ghost use Rattle.std.specs.Prelude.{◌≡◌, ◌<◌, ◌≤◌, length, Some, IfOk, if◌then◌else◌, ◌==◌};
+ghost use Rattle.std.specs.Prelude.{◌≡◌, ◌<◌, ◌≤◌, length, set, Some, IfOk, if◌then◌else◌, ◌==◌};
 ghost use Rattle.nf_rational.specs.Rational.{ℚ};
 ghost use Rattle.nf_rational.specs.Operations.{0ℚ, ◌-ℚ◌};
+ghost use Rattle.nf_model.specs.Entries.{number_at};
 ghost use Rattle.nf_model.specs.Pattern.{Pattern as SeenPattern};
 ghost use Rattle.nf_formats.specs.WellNamed.{IsNamed};
 ghost use Rattle.nf_lists.specs.Table.{row_at};
@@ -63,6 +64,19 @@ pub(crate) fn surplus(source: NodeId, rate: Q, node: NodeId) -> Q
     if node == source { rate } else { Q::zero() }
 }
 
+// A number of a row that is 0 so far becomes this one.
+fn set_number(table: &mut Table<Q>, row: u32, column: u32, number: Q)
+    requires row { row < length table.old }
+    requires column { column < length table.old }
+    requires blank { number_at (row_at table.old row) column ≡ 0ℚ }
+    ensures { table.new ≡ set table.old row (set (row_at table.old row) column number) }
+{
+    if number.is_zero() {
+        return;
+    }
+    table.set(row, column, number);
+}
+
 // The row of a node.
 fn fill_node(table: &mut Table<Q>, net: &Network, sets: &LinkSets, rate: Q, row: u32, node: NodeId)
     requires blank { IsBlank (unknowns net.now.net sets.now) table.old row }
@@ -73,7 +87,7 @@ fn fill_node(table: &mut Table<Q>, net: &Network, sets: &LinkSets, rate: Q, row:
     for e in 0..net.link_count() {
         if sets.active(LinkId(e)) {
             let factor = leaves_less_enters(net.link(LinkId(e)), node);
-            table.set(row, column, factor);
+            set_number(table, row, column, factor);
             column += 1;
         }
     }

@@ -101,7 +101,20 @@ fn balance(links: &[FullLink], group: u32, factors: &mut [Q]) -> Result<(), Halt
     Ok(())
 }
 
-// A row of the table becomes these factors of the slopes; that of the source's group is 1.
+// A number of a row that is 0 so far becomes this one.
+fn set_number(table: &mut Table<Q>, size: u32, row: u32, column: u32, number: Q)
+    requires size { length table.old ≡ size }
+    requires row { row < size }
+    requires column { column < size }
+    ensures { length table.new ≡ size }
+{
+    if number.is_zero() {
+        return;
+    }
+    table.set(row, column, number);
+}
+
+// A row of zeros becomes these factors of the slopes; that of the source's group is 1.
 fn set_row(table: &mut Table<Q>, size: u32, row: u32, factors: &[Q], right: Q)
     requires size { length table.old ≡ size }
     requires row { row < size }
@@ -109,7 +122,7 @@ fn set_row(table: &mut Table<Q>, size: u32, row: u32, factors: &[Q], right: Q)
 {
     for column in 0..size {
         let factor = number_or_zero(factors, column as usize + 1);
-        table.set(row, column, factor);
+        set_number(table, size, row, column, factor);
     }
     table.set_right(row, right);
 }

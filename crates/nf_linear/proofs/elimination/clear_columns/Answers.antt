@@ -9,19 +9,19 @@ pub returns-in_err-clear_column-clause-list : goal.returns-in_err-clear_column-c
 returns-in_err-clear_column-clause-list g c =
     let p = err_from_is_err_and c.from_residual-in_err-clear_column.result c.from_residual-in_err-clear_column.ensures.1 in
     let here : c.loop-column.column < length c.args.rows.now = omega arith in
-    rw (p.1, p.2) (stage_stops g.S.Scalar.passes c.args.rows.now c.loop-column.rows c.loop-column.pivots.items c.loop-column.column c.loop-column.invariant here
+    rw (p.1, p.2) (stage_stops g.S.Scalar.passes c.args.rows.now c.loop-column.rows c.loop-column.pivots c.loop-column.column c.loop-column.invariant here
     g.S.Scalar.means c.in_err-clear_column.field-0.0 c.in_err-clear_column.ensures)
 
 pub returns-then-not-branch-clause-list : goal.returns-then-not-branch-clause-list
 returns-then-not-branch-clause-list g c =
     let here : c.loop-column.column < length c.args.rows.now = omega arith in
     let not_found : c.in_ok-clear_column.field-0 ≡ false = c.if-not-branch.true in
-    stage_none g.S.Scalar.passes c.args.rows.now c.loop-column.rows c.loop-column.pivots.items c.loop-column.column c.loop-column.invariant here
-    (c.in_ok-clear_column.ensures ∙ ap (λ (b : Bool). Ok (if b then Some (eliminated c.clear_column.new.rows c.clear_column.new.pivots.items) else None)) not_found)
+    stage_none g.S.Scalar.passes c.args.rows.now c.loop-column.rows c.loop-column.pivots c.loop-column.column c.loop-column.invariant here
+    (c.in_ok-clear_column.ensures ∙ ap (λ (b : Bool). Ok (if b then Some (eliminated c.clear_column.new.rows c.clear_column.new.pivots) else None)) not_found)
 
 pub loop-column-preserved : goal.loop-column-preserved
 loop-column-preserved g c =
     let here : c.loop-column.column < length c.args.rows.now = omega arith in
     let found : c.in_ok-clear_column.field-0 ≡ true = c.if-not-branch.false in
-    stage_more g.S.Scalar.passes c.args.rows.now c.loop-column.rows c.loop-column.pivots.items c.loop-column.column c.loop-column.invariant here c.clear_column.new.rows c.clear_column.new.pivots.items
-    (c.in_ok-clear_column.ensures ∙ ap (λ (b : Bool). Ok (if b then Some (eliminated c.clear_column.new.rows c.clear_column.new.pivots.items) else None)) found)
+    stage_more g.S.Scalar.passes c.args.rows.now c.loop-column.rows c.loop-column.pivots c.loop-column.column c.loop-column.invariant here c.clear_column.new.rows c.clear_column.new.pivots
+    (c.in_ok-clear_column.ensures ∙ ap (λ (b : Bool). Ok (if b then Some (eliminated c.clear_column.new.rows c.clear_column.new.pivots) else None)) found)

@@ -1,7 +1,7 @@
 use Rattle.std.proofs.Common.{ℕ, ◌≤◌, eqb, ap, ◌∙◌, arith}
 use Rattle.std.specs.Prelude.{if◌then◌else◌}
 use Rattle.nf_rational.specs.Operations.{0ℚ}
-use Rattle.nf_thin.proofs.NodeEntries.{node_first, column_inside, node_more, node_same, node_done}
+use Rattle.nf_thin.proofs.NodeEntries.{node_first, column_inside, column_blank, node_more, node_same, node_done}
 use Rattle.nf_thin.proofs.Sizes.{few_columns}
 use Rattle.nf_thin.proofs.filling.fill_node.Goals as goal
 use Rattle.nf_thin.proofs.filling.fill_node.Goals.{then-active, else-active}
@@ -9,8 +9,12 @@ use Rattle.nf_thin.proofs.filling.fill_node.Goals.{then-active, else-active}
 pub loop-e-init : goal.loop-e-init
 loop-e-init c = rw c.node_count-column.ensures (node_first c.args.net.now.net c.args.sets.now c.args.node c.args.table.now c.args.row c.requires.blank)
 
-pub set-requires-clause-column : goal.set-requires-clause-column
-set-requires-clause-column c =
+pub set_number-requires-clause-blank : goal.set_number-requires-clause-blank
+set_number-requires-clause-blank c =
+    column_blank c.args.net.now.net c.args.sets.now c.args.node c.args.table.now c.loop-e.table c.args.row c.loop-e.e c.loop-e.column c.loop-e.invariant
+
+pub set_number-requires-clause-column : goal.set_number-requires-clause-column
+set_number-requires-clause-column c =
     column_inside c.args.net.now.net c.args.sets.now c.args.node c.args.table.now c.loop-e.table c.args.row c.loop-e.e c.loop-e.column c.loop-e.invariant c.if-active.ensures.flag
 
 pub overflow_add-column : goal.overflow_add-column
@@ -20,7 +24,7 @@ overflow_add-column c =
 pub loop-e-preserved : goal.loop-e-preserved
 loop-e-preserved c = elim c.if-active.branch [
   | then-active w ↦ rw (w.table-is, w.column-is) (node_more c.args.net.now.net c.args.sets.now c.args.node c.args.table.now c.loop-e.table c.args.row c.loop-e.e c.loop-e.column c.loop-e.invariant
-      w.set.new.self w.link.result w.leaves_less_enters-factor.result w.link.ensures.link w.if-active.ensures.flag w.leaves_less_enters-factor.ensures w.set.ensures)
+      w.set_number.new.table w.link.result w.leaves_less_enters-factor.result w.link.ensures.link w.if-active.ensures.flag w.leaves_less_enters-factor.ensures w.set_number.ensures)
   | else-active w ↦ rw (w.table-is, w.column-is) (node_same c.args.net.now.net c.args.sets.now c.args.node c.args.table.now c.loop-e.table c.args.row c.loop-e.e c.loop-e.column c.loop-e.invariant w.if-active.ensures.flag)
 ]
 

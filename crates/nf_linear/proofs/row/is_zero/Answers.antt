@@ -1,6 +1,6 @@
 use Rattle.std.proofs.Common.{sym, ◌∙◌}
 use Rattle.nf_linear.proofs.Taken.{tests_zero}
-use Rattle.nf_linear.proofs.entries.is_zero.Goals as goal
+use Rattle.nf_linear.proofs.row.is_zero.Goals as goal
 
 pub returns : goal.returns
 returns g c =
