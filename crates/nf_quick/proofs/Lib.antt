@@ -1,0 +1,4 @@
+pub mod PieceByPiece
+pub mod GrowingWays
+pub mod WalkByWalk
+pub mod NodeByNode

@@ -1,0 +1,43 @@
+-- The times of nodes, one after the other.
+use Rattle.std.proofs.Common.{◌≡◌, ℕ, ◌+◌, ◌<◌, ◌≤◌, List, [], ◌∷◌, ◌++◌, length, drop, get_or, Option, None, slice_get, unwrap_or, refl, sym, ap, ◌∙◌, arith}
+use Rattle.std.specs.Prelude.{Ok, Err}
+use Rattle.std.specs.List.{enumerate_from}
+use Rattle.std.proofs.lemmas.List.{drop_more, drop_all}
+use Rattle.nf_rational.specs.Rational.{ℚ}
+use Rattle.nf_work.specs.Passing.{Passing}
+use Rattle.nf_work.specs.declared.Part.TheVariants as Part
+use Rattle.nf_work.specs.declared.PassedAt.{PassedAt}
+use Rattle.nf_work.specs.Checked.{Checked, at_part, each}
+use Rattle.nf_work.proofs.Each.{with_front}
+use Rattle.nf_curve.proofs.Exits.{each_goes, each_stops, each_ends}
+use Rattle.nf_quick_lists.specs.Cuts.{node_time, node_time_at, node_times_list}
+
+-- the times so far, and those from a node on
+pub record TimesOn (passes : Passing) (time : ℚ) (from_source from_sink : List (Option ℚ)) (cut : List ℚ) (k : ℕ) : Type 0 where
+  pub same : with_front cut (each (node_time_at passes time from_sink) (enumerate_from k (drop k from_source))) ≡ node_times_list passes time from_source from_sink
+
+module _ (passes : Passing) (time : ℚ) (from_source from_sink : List (Option ℚ)) where
+  pub times_first : (cut : List ℚ) → cut ≡ [] → TimesOn passes time from_source from_sink cut 0
+  unfolding node_times_list
+  times_first cut none = record { same = ap (λ (l : List ℚ). with_front l (each (node_time_at passes time from_sink) (enumerate_from 0 from_source))) none ∙ first (each (node_time_at passes time from_sink) (enumerate_from 0 from_source)) }
+    where
+      first : (r : Checked (List ℚ)) → with_front [] r ≡ r
+      first (Ok ys) = refl
+      first (Err p) = refl
+
+  module _ (cut : List ℚ) (k : ℕ) (on : TimesOn passes time from_source from_sink cut k) where
+    pub times_all : length from_source ≤ k → at_part Part.Quick (node_times_list passes time from_source from_sink) ≡ Ok cut
+    times_all b = each_ends (node_time_at passes time from_sink) cut (node_times_list passes time from_source from_sink) Part.Quick
+        (sym (ap (λ (l : List (Option ℚ)). with_front cut (each (node_time_at passes time from_sink) (enumerate_from k l))) (drop_all k from_source b)) ∙ on.same)
+
+    module _ (here there : Option ℚ) (b : k < length from_source) (is : here ≡ get_or from_source k here) (also : there ≡ unwrap_or (slice_get from_sink k) None) where
+      split : with_front cut (each (node_time_at passes time from_sink) ((k, here) ∷ enumerate_from (k + 1) (drop (k + 1) from_source))) ≡ node_times_list passes time from_source from_sink
+      split = ap (λ (l : List (Option ℚ)). with_front cut (each (node_time_at passes time from_sink) (enumerate_from k l))) (sym (drop_more from_source k here b ∙ ap (λ (o : Option ℚ). o ∷ drop (k + 1) from_source) (sym is))) ∙ on.same
+
+      pub time_passes : (p : PassedAt ℚ) → Err p ≡ at_part Part.Quick (node_time passes time here there) → at_part Part.Quick (node_times_list passes time from_source from_sink) ≡ Err p
+      time_passes p e = each_stops Part.Quick (node_time_at passes time from_sink) cut (node_times_list passes time from_source from_sink) (k, here) (enumerate_from (k + 1) (drop (k + 1) from_source)) split p
+          (ap (λ (o : Option ℚ). at_part Part.Quick (node_time passes time here o)) (sym also) ∙ sym e)
+
+      pub times_more : (y : ℚ) → Ok y ≡ at_part Part.Quick (node_time passes time here there) → TimesOn passes time from_source from_sink (cut ++ y ∷ []) (k + 1)
+      times_more y e = record { same = each_goes Part.Quick (node_time_at passes time from_sink) cut (node_times_list passes time from_source from_sink) (k, here) (enumerate_from (k + 1) (drop (k + 1) from_source)) split y
+          (ap (λ (o : Option ℚ). at_part Part.Quick (node_time passes time here o)) (sym also) ∙ sym e) }
