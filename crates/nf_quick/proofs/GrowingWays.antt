@@ -147,7 +147,7 @@ module _ (net : Network) (good : IsNetwork net) where
         reached walk p.0.head w n.0 n.1 p.4
 
     pub all_known : AreWays net ways → AreAllWays net ways
-    all_known are = record { ways = are; all = λ walk v p. reached walk net.source v are.source.0 are.source.1 p }
+    all_known are = record { each = are; all = λ walk v p. reached walk net.source v are.source.0 are.source.1 p }
 
   -- ---- what is known of the sink
   pub limited : (ways : Ways) → AreAllWays net ways → way_at ways net.sink ≡ None → IsLimited net

@@ -114,35 +114,35 @@ module _ (passes : Passing) (net : Network) (all : List ℚ) where
       abbrev later : List ℚ → Checked (List Fed)
       later next = walks_off passes (length net.links - (k + 1)) net next
 
-      opened : with_front walks (walk_and passes later way flows) ≡ walks_off passes (length net.links) net all
-      opened = let more : length net.links - k ≡ suc (length net.links - (k + 1)) = omega arith in
+      split : with_front walks (walk_and passes later way flows) ≡ walks_off passes (length net.links) net all
+      split = let more : length net.links - k ≡ suc (length net.links - (k + 1)) = omega arith in
           ap (λ (w : List ℕ). with_front walks (walk_and passes later w flows)) is ∙ sym (ap (λ (i : ℕ). with_front walks (walks_off passes i net flows)) more) ∙ on.same
 
       pub none_left : way ≡ [] → at_part Part.Quick (walks_off passes (length net.links) net all) ≡ Ok walks
-      none_left none = front_ends Part.Quick walks (walks_off passes (length net.links) net all) (sym (ap (λ (w : List ℕ). with_front walks (walk_and passes later w flows)) none) ∙ opened)
+      none_left none = front_ends Part.Quick walks (walks_off passes (length net.links) net all) (sym (ap (λ (w : List ℕ). with_front walks (walk_and passes later w flows)) none) ∙ split)
 
       module _ (some : way ≡ [] → ⊥) (rate : ℚ) (least : rate ≡ least_along flows None way) where
         abbrev fed : Fed
         fed = record { rate = rate; walk = way }
 
-        abbrev then : List ℚ → Checked (List Fed)
-        then next = later next >>= λ rest. Ok (fed ∷ rest)
+        abbrev onward : List ℚ → Checked (List Fed)
+        onward next = later next >>= λ rest. Ok (fed ∷ rest)
 
         by_way : (w : List ℕ) → (w ≡ [] → ⊥) → walk_and passes later w flows ≡ (take_list passes (least_along flows None w) w flows >>= λ next. later next >>= λ rest. Ok (record { rate = least_along flows None w; walk = w } ∷ rest))
         by_way [] n = absurd (n refl)
         by_way (e ∷ walk) n = refl
 
-        taken : walk_and passes later way flows ≡ (take_list passes rate way flows >>= then)
+        taken : walk_and passes later way flows ≡ (take_list passes rate way flows >>= onward)
         taken = by_way way some ∙ ap (λ (r : ℚ). take_list passes r way flows >>= λ next. later next >>= λ rest. Ok (record { rate = r; walk = way } ∷ rest)) (sym least)
 
-        whole : with_front walks (take_list passes rate way flows >>= then) ≡ walks_off passes (length net.links) net all
-        whole = ap (with_front walks) (sym taken) ∙ opened
+        whole : with_front walks (take_list passes rate way flows >>= onward) ≡ walks_off passes (length net.links) net all
+        whole = ap (with_front walks) (sym taken) ∙ split
 
         pub take_passes : (p : PassedAt ℚ) → Err p ≡ at_part Part.Quick (take_list passes rate way flows) → at_part Part.Quick (walks_off passes (length net.links) net all) ≡ Err p
-        take_passes p e = ap (at_part Part.Quick) (sym whole) ∙ front_err Part.Quick walks (take_list passes rate way flows >>= then) p (stopped (take_list passes rate way flows) then p (sym e))
+        take_passes p e = ap (at_part Part.Quick) (sym whole) ∙ front_err Part.Quick walks (take_list passes rate way flows >>= onward) p (stopped (take_list passes rate way flows) onward p (sym e))
 
         pub takes_more : (next : List ℚ) → Ok next ≡ at_part Part.Quick (take_list passes rate way flows) → length next ≡ length flows → TakesOn passes net all (walks ++ fed ∷ []) next (k + 1)
         takes_more next e n = record {
-          same = sym (front_more walks (fed ∷ []) (later next)) ∙ sym (ap (with_front walks) (goes_on (take_list passes rate way flows) then next (sym e))) ∙ whole;
+          same = sym (front_more walks (fed ∷ []) (later next)) ∙ sym (ap (with_front walks) (goes_on (take_list passes rate way flows) onward next (sym e))) ∙ whole;
           count = n ∙ on.count;
         }

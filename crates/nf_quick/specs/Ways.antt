@@ -32,5 +32,5 @@ pub record AreWays (net : Network) (ways : Ways) : Type 0 where
 
 -- and a way is known to each node to which such a walk leads
 pub record AreAllWays (net : Network) (ways : Ways) : Type 0 where
-  pub ways : AreWays net ways
+  pub each : AreWays net ways
   pub all : (walk : List ℕ) (v : ℕ) → IsUnboundedWalk net walk net.source v → (way : List ℕ) × (way_at ways v ≡ Some way)

@@ -1,5 +1,5 @@
 // The least departure by which the source is supplied with an amount.
-ghost use Rattle.std.specs.Prelude.{◌≡◌, IfOk};
+ghost use Rattle.std.specs.Prelude.{◌≡◌, IfOk, slice_get, option_map};
 ghost use Rattle.nf_rational.specs.Operations.{0ℚ};
 ghost use Rattle.nf_rational.specs.Order.{◌≤ℚ◌, ◌<ℚ◌, lt_ℚ};
 ghost use Rattle.nf_work.specs.declared.Part.TheVariants.{Quick};
@@ -32,6 +32,25 @@ fn in_last(net: &Network, amount: Q, known: Q, piece: &Piece) -> Result<Option<Q
     within(net, amount, known, piece)
 }
 
+// When the piece of this number starts, if there is one.
+fn start_at(pieces: &[Piece], index: usize) -> Option<Q>
+    ensures { result ≡ option_map (λ piece. piece.start) (slice_get pieces.now index) }
+{
+    if index < pieces.len() {
+        let piece: &Piece = &pieces[index];
+        Some(piece.start)
+    } else {
+        None
+    }
+}
+
+fn supply_by(net: &Network, time: Q) -> Result<Q, PassedAt<Q>>
+    requires { 0ℚ ≤ℚ time }
+    ensures { result ≡ at_part Quick (checked_supply passes_Q net.now.net time) }
+{
+    Ok(nf_frac::at!(Part::Quick, supply(net, time)))
+}
+
 // The departure for an amount above 0: in the first piece up to whose end it is supplied, or in the last one.
 fn departs(net: &Network, amount: Q) -> Result<Option<Q>, PassedAt<Q>>
     requires { 0ℚ <ℚ amount }
@@ -40,10 +59,10 @@ fn departs(net: &Network, amount: Q) -> Result<Option<Q>, PassedAt<Q>>
     let pieces = net.pieces();
     let mut known = Q::zero();
     for (index, piece) in pieces.iter().enumerate() {
-        let Some(next) = pieces.get(index + 1) else {
+        let Some(next) = start_at(pieces, index + 1) else {
             return in_last(net, amount, known, piece);
         };
-        let by_next = nf_frac::at!(Part::Quick, supply(net, next.start));
+        let by_next = supply_by(net, next)?;
         if amount.is_at_most(by_next) {
             return within(net, amount, known, piece);
         }

@@ -2,9 +2,10 @@
 ghost use Rattle.std.specs.Prelude.{◌≡◌, IfOk, IfSome, OnOk};
 ghost use Rattle.nf_rational.specs.Operations.{0ℚ};
 ghost use Rattle.nf_rational.specs.Order.{◌≤ℚ◌, ◌<ℚ◌};
+ghost use Rattle.nf_work.specs.declared.Op.TheVariants.{Sum};
 ghost use Rattle.nf_work.specs.declared.Part.TheVariants.{Quick};
 ghost use Rattle.nf_work.specs.Passing.{passes_Q};
-ghost use Rattle.nf_work.specs.Checked.{at_part, Gives};
+ghost use Rattle.nf_work.specs.Checked.{at_part, checked_at, Gives};
 ghost use Rattle.nf_quick_lists.specs.Steps.{IsLimited};
 ghost use Rattle.nf_quick_lists.specs.Flows.{IsSound};
 ghost use Rattle.nf_quick_lists.specs.Answers.{IsShortestWalk};
@@ -21,6 +22,7 @@ use std::alloc::{AllocError, Global};
 use std::marker::Model;
 
 // How far walks have come: the sum of their rates, the sum of rate times length, and the time that they take for the amount.
+#[derive(Drop)]
 struct Times {
     rate: Q,
     cost: Q,
@@ -38,9 +40,19 @@ impl Model for Times {
     ghost view = { λ t. record { rate = t.rate; cost = t.cost; time = t.time } };
 }
 
+// The rates with one more, which is above 0.
+fn rate_with(so_far: Q, rate: Q) -> Result<Q, PassedAt<Q>>
+    requires so_far { 0ℚ ≤ℚ so_far }
+    requires some { 0ℚ <ℚ rate }
+    ensures sum { result ≡ checked_at passes_Q Quick Sum so_far rate }
+    ensures some { IfOk result (λ all. 0ℚ <ℚ all) }
+{
+    Ok(nf_frac::at!(Part::Quick, so_far.sum(rate)))
+}
+
 // The time with a walk more, of this rate and length.
 #[tactic(auto, unfolding(nf_quick_lists::specs::Pushes::time_list))]
-fn times(amount: Q, rate_so_far: Q, cost_so_far: Q, rate: Q, length: Q) -> Result<Times, PassedAt<Q>>
+fn time_with(amount: Q, rate_so_far: Q, cost_so_far: Q, rate: Q, length: Q) -> Result<Times, PassedAt<Q>>
     requires so_far { 0ℚ ≤ℚ rate_so_far }
     requires some { 0ℚ <ℚ rate }
     ensures list { result ≡ at_part Quick (time_list passes_Q amount rate_so_far cost_so_far rate length) }
@@ -48,7 +60,7 @@ fn times(amount: Q, rate_so_far: Q, cost_so_far: Q, rate: Q, length: Q) -> Resul
 {
     let product = nf_frac::at!(Part::Quick, rate.product(length));
     let cost = nf_frac::at!(Part::Quick, cost_so_far.sum(product));
-    let all = nf_frac::at!(Part::Quick, rate_so_far.sum(rate));
+    let all = rate_with(rate_so_far, rate)?;
     let total = nf_frac::at!(Part::Quick, amount.sum(cost));
     let time = nf_frac::at!(Part::Quick, total.quotient(all));
     Ok(Times { rate: all, cost, time })
@@ -140,7 +152,7 @@ impl Standing {
     {
         let room = walk.room;
         self.flow.push(net, &walk, room)?;
-        let times = times(amount, self.rate, self.cost, room, walk.length)?;
+        let times = time_with(amount, self.rate, self.cost, room, walk.length)?;
         self.pushed.push(Augment { walk, amount: room })?;
         self.rate = times.rate;
         self.cost = times.cost;

@@ -1,0 +1,6 @@
+use Rattle.nf_work.specs.Passing.{passes_Q}
+use Rattle.nf_quick.proofs.NodeByNode.{TimesOn}
+use Rattle.nf_quick.proofs.cut.node_times.Given as goal
+
+abbrev pub invariant-loop-node : goal.invariant-loop-node
+invariant-loop-node l = TimesOn passes_Q l.time l.from_source l.from_sink l.cut.items l.node
