@@ -2,3 +2,4 @@ pub mod PieceByPiece
 pub mod GrowingWays
 pub mod WalkByWalk
 pub mod NodeByNode
+pub mod PushByPush

@@ -80,13 +80,18 @@ module _ (net : Network) (flows : List ℚ) where
       pub way_stops : first_out 0 net.links node flows ≡ None → way ≡ way_out net flows
       way_stops e = sym (append-nil way) ∙ sym (ap (λ (o : Option ℕ). way ++ go o) e) ∙ opened
 
-      pub way_more : (e : ℕ) (link : Link) → first_out 0 net.links node flows ≡ Some e → IsLink net e link → e < length net.links → LeadsOut net flows (way ++ e ∷ []) link.head (k + 1)
+      way_more : (e : ℕ) (link : Link) → first_out 0 net.links node flows ≡ Some e → IsLink net e link → e < length net.links → LeadsOut net flows (way ++ e ∷ []) link.head (k + 1)
       way_more e link f is h = record {
         same = append_assoc way (e ∷ []) (way_from (net.nodes - (k + 1)) net flows link.head)
             ∙ ap (λ (v : ℕ). way ++ e ∷ way_from (net.nodes - (k + 1)) net flows v) (sym (ap (λ (o : Option Link). unwrap_or (option_map (λ (l : Link). l.head) o) 0) is))
             ∙ sym (ap (λ (o : Option ℕ). way ++ go o) f) ∙ opened;
         within = all_with (λ (e : ℕ). e < length net.links) way e leads.within h;
       }
+
+    pub way_goes : (b : k < net.nodes) (e : ℕ) (link : Link) (next : List ℕ) (head : ℕ) → Some e ≡ first_out 0 net.links node flows → IsLink net e link → e < length net.links → next ≡ way ++ e ∷ [] → head ≡ link.head
+        → LeadsOut net flows next head (k + 1)
+    way_goes b e link next head f is h made there = subst (λ (v : ℕ). LeadsOut net flows next v (k + 1)) (sym there)
+        (subst (λ (w : List ℕ). LeadsOut net flows w link.head (k + 1)) (sym made) (way_more b e link (sym f) is h))
 
 -- ---- walk by walk: what is left to be taken gives what is taken in all
 pub record TakesOn (passes : Passing) (net : Network) (all : List ℚ) (walks : List Fed) (flows : List ℚ) (k : ℕ) : Type 0 where

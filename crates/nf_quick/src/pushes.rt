@@ -40,14 +40,10 @@ impl Model for Times {
     ghost view = { λ t. record { rate = t.rate; cost = t.cost; time = t.time } };
 }
 
-// The rates with one more, which is above 0.
-fn rate_with(so_far: Q, rate: Q) -> Result<Q, PassedAt<Q>>
-    requires so_far { 0ℚ ≤ℚ so_far }
-    requires some { 0ℚ <ℚ rate }
-    ensures sum { result ≡ checked_at passes_Q Quick Sum so_far rate }
-    ensures some { IfOk result (λ all. 0ℚ <ℚ all) }
+fn sum(left: Q, right: Q) -> Result<Q, PassedAt<Q>>
+    ensures { result ≡ checked_at passes_Q Quick Sum left right }
 {
-    Ok(nf_frac::at!(Part::Quick, so_far.sum(rate)))
+    Ok(nf_frac::at!(Part::Quick, left.sum(right)))
 }
 
 // The time with a walk more, of this rate and length.
@@ -60,7 +56,7 @@ fn time_with(amount: Q, rate_so_far: Q, cost_so_far: Q, rate: Q, length: Q) -> R
 {
     let product = nf_frac::at!(Part::Quick, rate.product(length));
     let cost = nf_frac::at!(Part::Quick, cost_so_far.sum(product));
-    let all = rate_with(rate_so_far, rate)?;
+    let all = sum(rate_so_far, rate)?;
     let total = nf_frac::at!(Part::Quick, amount.sum(cost));
     let time = nf_frac::at!(Part::Quick, total.quotient(all));
     Ok(Times { rate: all, cost, time })

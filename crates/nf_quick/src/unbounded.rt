@@ -85,6 +85,13 @@ fn first_ways(alloc: Global, net: &Network) -> Result<Vec<Option<Way>>, AllocErr
     Ok(ways)
 }
 
+fn put(ways: &mut Vec<Option<Way>>, node: NodeId, way: Way)
+    requires { node < length ways.old.items }
+    ensures { ways.new.items ≡ set ways.old.items node (Some way) }
+{
+    ways[node.index()] = Some(way);
+}
+
 // Ways to all nodes to which walks of unbounded links lead from the source.
 fn all_ways(alloc: Global, net: &Network) -> Result<Vec<Option<Way>>, AllocError>
     ensures { IfOk result (λ ways. AreAllWays net.now.net ways.items) }
@@ -94,7 +101,7 @@ fn all_ways(alloc: Global, net: &Network) -> Result<Vec<Option<Way>>, AllocError
     while let Some(link) = next_link(net, &ways) {
         let here = net.link(link);
         let way = longer(alloc, &ways, here.tail, link)?;
-        ways[here.head.index()] = Some(way);
+        put(&mut ways, here.head, way);
     }
     Ok(ways)
 }

@@ -1,7 +1,8 @@
-use Rattle.std.proofs.Common.{◌≡◌, ◌≤◌, List, [], length, ap, sym, ◌∙◌, arith}
+use Rattle.std.proofs.Common.{◌+◌, ◌≤◌, List, ◌∷◌, ◌++◌, [], length, sym, subst, arith}
 use Rattle.std.proofs.lemmas.Result.{err_from_is_err_and}
+use Rattle.nf_rational.specs.Rational.{ℚ}
 use Rattle.nf_work.specs.Passing.{passes_Q}
-use Rattle.nf_quick.proofs.NodeByNode.{times_first, times_all, time_passes, times_more}
+use Rattle.nf_quick.proofs.NodeByNode.{TimesOn, times_first, times_all, time_passes, times_more}
 use Rattle.nf_quick.proofs.cut.node_times.Goals as goal
 
 pub loop-node-init : goal.loop-node-init
@@ -9,4 +10,17 @@ loop-node-init c = times_first passes_Q c.args.time c.args.from_source.now c.arg
 
 pub returns-in_err-here : goal.returns-in_err-here
 returns-in_err-here c =
-    let p = err_from_is_err_and c.from_residual.result c.from_residual.ensures.1 in ?
+    let p = err_from_is_err_and c.from_residual-in_err-here.result c.from_residual-in_err-here.ensures.1 in
+    rw (p.1, p.2) (time_passes passes_Q c.args.time c.args.from_source.now c.args.from_sink.now c.loop-node.cut.items c.loop-node.node c.loop-node.invariant
+    c.index-from_source-node.result c.distance_at.result c.loop-node-test.true c.index-from_source-node.is c.distance_at.ensures c.in_err-here.field-0.0 c.in_err-here.ensures)
+
+pub loop-node-preserved : goal.loop-node-preserved
+loop-node-preserved c =
+    subst (λ (l : List ℚ). TimesOn passes_Q c.args.time c.args.from_source.now c.args.from_sink.now l (c.loop-node.node + 1)) (sym c.in_ok-push.ensures.items)
+    (times_more passes_Q c.args.time c.args.from_source.now c.args.from_sink.now c.loop-node.cut.items c.loop-node.node c.loop-node.invariant
+    c.index-from_source-node.result c.distance_at.result c.loop-node-test.true c.index-from_source-node.is c.distance_at.ensures c.in_ok-here.here c.in_ok-here.ensures)
+
+pub returns : goal.returns
+returns c =
+    let past : length c.args.from_source.now ≤ c.loop-node.node = omega arith in
+    times_all passes_Q c.args.time c.args.from_source.now c.args.from_sink.now c.loop-node.cut.items c.loop-node.node c.loop-node.invariant past

@@ -11,7 +11,7 @@ pub returns-in_err-value : goal.returns-in_err-value
 returns-in_err-value c =
     let p = err_from_is_err_and c.from_residual.result c.from_residual.ensures.1 in
     rw (p.1, p.2) (value_passes passes_Q c.args.net.now.net.links c.args.cut.now c.loop-number.value c.loop-number.number c.loop-number.invariant
-    c.link-here.result c.link-here.ensures.link c.in_err-value.field-0 c.in_err-value.ensures)
+    c.link-here.result c.link-here.ensures.link c.in_err-value.field-0.0 c.in_err-value.ensures)
 
 pub loop-number-preserved : goal.loop-number-preserved
 loop-number-preserved c = values_more passes_Q c.args.net.now.net.links c.args.cut.now c.loop-number.value c.loop-number.number c.loop-number.invariant
