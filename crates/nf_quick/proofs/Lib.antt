@@ -3,3 +3,4 @@ pub mod GrowingWays
 pub mod WalkByWalk
 pub mod NodeByNode
 pub mod PushByPush
+pub mod Answering

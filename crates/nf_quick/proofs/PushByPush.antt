@@ -15,6 +15,7 @@ use Rattle.nf_model.specs.Network.{Network}
 use Rattle.nf_quick_lists.specs.Flows.{IsSound}
 use Rattle.nf_quick_lists.specs.Rounds.{Walk}
 use Rattle.nf_quick_lists.specs.Quick.{Standing, Pushed, Done, OverBudget, start_of, push_on, next_list, ended, push_and, push_up_to}
+use Rattle.nf_quick.specs.Answered.{of_halt, IsPushed}
 use Rattle.nf_residual_laws.proofs.Offers.{checked-ok}
 use Rattle.nf_residual.proofs.Stopping.{ok_of_part, stops, goes_on, stops_as}
 
@@ -90,3 +91,8 @@ module _ (passes : Passing) (net : Network) (amount : ℚ) (augments : ℕ) wher
 
       pub over_budget : (walk : Walk) → at_part Part.Quick next ≡ Ok (Some walk) → at_part Part.Quick all ≡ Ok (OverBudget s.pushed)
       over_budget walk e = ap (at_part Part.Quick) (at_end ∙ goes_on next last (Some walk) e)
+
+-- what stops all pushes is what is answered
+pub halted : (passes : Passing) (net : Network) (amount : ℚ) (augments : ℕ) (h : Halt ℚ) → Stops (λ (q : ℚ). q) h (at_part Part.Quick (push_up_to passes net amount augments (start_of net))) → IsPushed passes net amount augments (Err (of_halt h))
+halted passes net amount augments (Halt.Passed p) e = e
+halted passes net amount augments Halt.Memory e = tt

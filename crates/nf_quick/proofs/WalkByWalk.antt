@@ -126,9 +126,12 @@ module _ (passes : Passing) (net : Network) (all : List ℚ) where
       pub none_left : way ≡ [] → at_part Part.Quick (walks_off passes (length net.links) net all) ≡ Ok walks
       none_left none = front_ends Part.Quick walks (walks_off passes (length net.links) net all) (sym (ap (λ (w : List ℕ). with_front walks (walk_and passes later w flows)) none) ∙ split)
 
-      module _ (some : way ≡ [] → ⊥) (rate : ℚ) (least : rate ≡ least_along flows None way) where
+      module _ (some : way ≡ [] → ⊥) where
+        abbrev rate : ℚ
+        rate = least_along flows None way
+
         abbrev fed : Fed
-        fed = record { rate = rate; walk = way }
+        fed = record { rate = least_along flows None way; walk = way }
 
         abbrev onward : List ℚ → Checked (List Fed)
         onward next = later next >>= λ rest. Ok (fed ∷ rest)
@@ -137,17 +140,28 @@ module _ (passes : Passing) (net : Network) (all : List ℚ) where
         by_way [] n = absurd (n refl)
         by_way (e ∷ walk) n = refl
 
-        taken : walk_and passes later way flows ≡ (take_list passes rate way flows >>= onward)
-        taken = by_way way some ∙ ap (λ (r : ℚ). take_list passes r way flows >>= λ next. later next >>= λ rest. Ok (record { rate = r; walk = way } ∷ rest)) (sym least)
-
         whole : with_front walks (take_list passes rate way flows >>= onward) ≡ walks_off passes (length net.links) net all
-        whole = ap (with_front walks) (sym taken) ∙ split
+        whole = ap (with_front walks) (sym (by_way way some)) ∙ split
 
         pub take_passes : (p : PassedAt ℚ) → Err p ≡ at_part Part.Quick (take_list passes rate way flows) → at_part Part.Quick (walks_off passes (length net.links) net all) ≡ Err p
         take_passes p e = ap (at_part Part.Quick) (sym whole) ∙ front_err Part.Quick walks (take_list passes rate way flows >>= onward) p (stopped (take_list passes rate way flows) onward p (sym e))
 
-        pub takes_more : (next : List ℚ) → Ok next ≡ at_part Part.Quick (take_list passes rate way flows) → length next ≡ length flows → TakesOn passes net all (walks ++ fed ∷ []) next (k + 1)
-        takes_more next e n = record {
-          same = sym (front_more walks (fed ∷ []) (later next)) ∙ sym (ap (with_front walks) (goes_on (take_list passes rate way flows) onward next (sym e))) ∙ whole;
+        pub takes_more : (next : List ℚ) (taken : Fed) (new : List Fed) → Ok next ≡ at_part Part.Quick (take_list passes rate way flows) → length next ≡ length flows → taken ≡ fed → new ≡ walks ++ taken ∷ []
+            → TakesOn passes net all new next (k + 1)
+        takes_more next taken new e n is made = record {
+          same = ap (λ (w : List Fed). with_front w (later next)) (made ∙ ap (λ (f : Fed). walks ++ f ∷ []) is)
+              ∙ sym (front_more walks (fed ∷ []) (later next)) ∙ sym (ap (with_front walks) (goes_on (take_list passes rate way flows) onward next (sym e))) ∙ whole;
           count = n ∙ on.count;
         }
+
+pub none_there : (way : List ℕ) → (length way == 0) ≡ true → way ≡ []
+none_there [] e = refl
+none_there (x ∷ way) e = absurd (cc)
+
+pub some_there : (way : List ℕ) → (length way == 0) ≡ false → way ≡ [] → ⊥
+some_there [] e f = absurd (cc)
+some_there (x ∷ way) e f = absurd (cc)
+
+-- fewer than so many, and as many
+pub within_as : (n m : ℕ) (xs ys : List ℕ) → n ≡ m → xs ≡ ys → AllByRecursion (λ (e : ℕ). e < n) xs → AllByRecursion (λ (e : ℕ). e < m) ys
+within_as n m xs ys e f a = subst (λ (l : List ℕ). AllByRecursion (λ (e : ℕ). e < m) l) f (subst (λ (k : ℕ). AllByRecursion (λ (e : ℕ). e < k) xs) e a)

@@ -1,6 +1,6 @@
 // The cut over time of a flow: of each node the least of the time, its distance from the source, and the time plus its distance
 // from the sink.
-ghost use Rattle.std.specs.Prelude.{◌≡◌, ◌<◌, length, None, slice_get, unwrap_or};
+ghost use Rattle.std.specs.Prelude.{◌≡◌, ◌<◌, length, None, slice_get, unwrap_or, IfOk};
 ghost use Rattle.nf_work.specs.declared.Part.TheVariants.{Quick};
 ghost use Rattle.nf_work.specs.Passing.{passes_Q};
 ghost use Rattle.nf_work.specs.Checked.{at_part, Gives};
@@ -56,7 +56,8 @@ pub(crate) fn node_times(
     from_sink: &[Option<Q>],
 ) -> Result<Vec<Q>, Halt<Q>>
     requires { length from_sink.now ≡ length from_source.now }
-    ensures { Gives (λ cut. cut.items) (λ q. q) result (at_part Quick (node_times_list passes_Q time from_source.now from_sink.now)) }
+    ensures list { Gives (λ cut. cut.items) (λ q. q) result (at_part Quick (node_times_list passes_Q time from_source.now from_sink.now)) }
+    ensures count { IfOk result (λ cut. length cut.items ≡ length from_source.now) }
 {
     let mut cut = Vec::with_capacity(alloc, from_source.len())?;
     for (node, distance) in from_source.iter().enumerate() {

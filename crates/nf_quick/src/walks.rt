@@ -109,6 +109,24 @@ fn take(flows: &mut Vec<Q>, way: &[LinkId], rate: Q) -> Result<(), PassedAt<Q>>
     Ok(())
 }
 
+// A walk is taken off along these links, with the least flow on them.
+fn walk_off(flows: &mut Vec<Q>, links: Vec<LinkId>) -> Result<Rated, PassedAt<Q>>
+    requires { AllByRecursion (λ e. e < length flows.old.items) links.items }
+    ensures list { seen_at (λ _. flows.new.items) (λ q. q) result ≡ at_part Quick (take_list passes_Q (least_along_by flows.old.items None links.items) links.items flows.old.items) }
+    ensures walk { IfOk result (λ rated. rated ≡ record { rate = least_along_by flows.old.items None links.items; walk = links.items }) }
+    ensures count { length flows.new.items ≡ length flows.old.items }
+{
+    let rate = least_along(flows, &links);
+    take(flows, &links, rate)?;
+    Ok(Rated { rate, links })
+}
+
+fn is_none(way: &[LinkId]) -> bool
+    ensures { result ≡ (length way.now == 0) }
+{
+    way.is_empty()
+}
+
 /// Walks are taken off these flows until none is left: each takes all that some link has left, so that there are at most as many
 /// as links.
 pub(crate) fn walks_off(alloc: Global, net: &Network, flows: Vec<Q>) -> Result<Vec<Rated>, Halt<Q>>
@@ -119,12 +137,11 @@ pub(crate) fn walks_off(alloc: Global, net: &Network, flows: Vec<Q>) -> Result<V
     let mut walks = Vec::new(alloc);
     for _ in 0..net.link_count() {
         let links = way_out(alloc, net, &flows)?;
-        if links.is_empty() {
+        if is_none(&links) {
             return Ok(walks);
         }
-        let rate = least_along(&flows, &links);
-        take(&mut flows, &links, rate)?;
-        walks.push(Rated { rate, links })?;
+        let rated = walk_off(&mut flows, links)?;
+        walks.push(rated)?;
     }
     Ok(walks)
 }
