@@ -1,5 +1,5 @@
 -- What is answered, out of the pushes and what is made of them.
-use Rattle.std.proofs.Common.{◌≡◌, ℕ, Bool, true, false, ◌⊎◌, inl, inr, Option, Some, None, unwrap_or, refl, sym, ap, ◌∙◌}
+use Rattle.std.proofs.Common.{◌≡◌, ℕ, Bool, true, false, ◌⊎◌, inl, inr, List, Option, Some, None, unwrap_or, refl, sym, ap, ◌∙◌}
 use Rattle.std.specs.Prelude.{Ok, Err}
 use Rattle.nf_rational.specs.Rational.{ℚ}
 use Rattle.nf_rational.specs.Operations.{0ℚ}
@@ -49,15 +49,17 @@ module _ (passes : Passing) (net : Network) (amount : ℚ) (augments : ℕ) wher
     pushes_stop (QuickFault.Passed at) e = (inr limited, ap (at_part Part.Quick) opened ∙ stopped pushes answer at e)
     pushes_stop QuickFault.Memory e = tt
 
-    module _ (s : Standing) (came : at_part Part.Quick pushes ≡ Ok (Done s)) where
+    -- what the pushes came to is finished
+    module _ (s : Standing) (came : at_part Part.Quick pushes ≡ Ok (Done s)) (flows : List ℚ) (time : ℚ) (flows_are : flows ≡ s.flows) (time_is : time ≡ unwrap_or s.time 0ℚ) where
       abbrev finished : Checked Quick
-      finished = finish_list passes net amount s.flows (unwrap_or s.time 0ℚ)
+      finished = finish_list passes net amount flows time
 
       abbrev found : Quick → Checked Answer
       found quick = Ok (Found quick)
 
       then_finish : whole ≡ (finished >>= found)
       then_finish = opened ∙ goes_on pushes answer (Done s) came
+          ∙ sym (ap (λ (l : List ℚ). finish_list passes net amount l time >>= found) flows_are ∙ ap (λ (t : ℚ). finish_list passes net amount s.flows t >>= found) time_is)
 
       pub finish_stops : (h : Halt ℚ) → Stops (λ (q : ℚ). q) h (at_part Part.Quick finished) → IsAnswered passes net amount augments (Err (of_halt h))
       finish_stops (Halt.Passed at) e = (inr limited, ap (at_part Part.Quick) then_finish ∙ stopped finished found at e)

@@ -1,9 +1,10 @@
 -- Walks taken off a flow, one after the other.
-use Rattle.std.proofs.Common.{◌≡◌, ℕ, zero, suc, ◌+◌, ◌-◌, ◌<◌, ◌≤◌, ◌==◌, ◌&&◌, List, [], ◌∷◌, ◌++◌, length, drop, get_or, Bool, true, false, Option, Some, None, slice_get, unwrap_or, option_map, refl, sym, ap, subst, ◌∙◌, append_assoc, append-nil, add-one, arith}
+use Rattle.std.proofs.Common.{◌≡◌, ℕ, zero, suc, ◌+◌, ◌-◌, ◌<◌, ◌≤◌, ◌==◌, ◌&&◌, List, [], ◌∷◌, ◌++◌, length, drop, get_or, Bool, true, false, ⊎_elim, eqb, ◌≢◌, Option, Some, None, slice_get, unwrap_or, option_map, refl, sym, ap, subst, ◌∙◌, append_assoc, append-nil, add-one, arith}
 use Rattle.std.specs.Prelude.{Ok, Err, if◌then◌else◌}
 use Rattle.std.specs.List.{AllByRecursion}
 use Rattle.std.proofs.lemmas.List.{drop_more, drop_all}
 use Rattle.std.proofs.lemmas.Option.{slice_get_within, get_or_from_slice_get}
+use Rattle.std.proofs.lemmas.Bool.Decides.{eqb_tells}
 use Rattle.nf_rational.specs.Rational.{ℚ}
 use Rattle.nf_rational.specs.Operations.{0ℚ}
 use Rattle.nf_rational.specs.Order.{lt_ℚ}
@@ -156,7 +157,13 @@ module _ (passes : Passing) (net : Network) (all : List ℚ) where
 
 pub none_there : (way : List ℕ) → (length way == 0) ≡ true → way ≡ []
 none_there [] e = refl
-none_there (x ∷ way) e = absurd (cc)
+none_there (x ∷ way) e = ⊎_elim
+    (λ (w : (eqb (length (x ∷ way)) 0 ≡ true) × (length (x ∷ way) ≡ 0)). let h : length (x ∷ way) ≡ 0 = w.1 in absurd (omega arith))
+    (λ (w : (eqb (length (x ∷ way)) 0 ≡ false) × (length (x ∷ way) ≢ 0)). absurd (clash (length (x ∷ way) == 0) e w.0))
+    (eqb_tells (length (x ∷ way)) 0)
+  where
+    clash : (b : Bool) → b ≡ true → b ≡ false → ⊥
+    clash b e f = cc
 
 pub some_there : (way : List ℕ) → (length way == 0) ≡ false → way ≡ [] → ⊥
 some_there [] e f = absurd (cc)
