@@ -1,9 +1,9 @@
 -- What is answered, out of the pushes and what is made of them.
-use Rattle.std.proofs.Common.{◌≡◌, ℕ, Bool, true, false, ◌⊎◌, inl, inr, List, Option, Some, None, unwrap_or, refl, sym, ap, ◌∙◌}
+use Rattle.std.proofs.Common.{◌≡◌, ℕ, Bool, true, false, inl, inr, List, unwrap_or, sym, ap, ◌∙◌}
 use Rattle.std.specs.Prelude.{Ok, Err}
 use Rattle.nf_rational.specs.Rational.{ℚ}
 use Rattle.nf_rational.specs.Operations.{0ℚ}
-use Rattle.nf_rational.specs.Order.{◌≤ℚ◌, ◌<ℚ◌, le_ℚ}
+use Rattle.nf_rational.specs.Order.{◌≤ℚ◌, le_ℚ}
 use Rattle.nf_rational_laws.proofs.Order.{≤ℚ_antisymm}
 use Rattle.nf_rational_laws.proofs.Tests.{le_of_test}
 use Rattle.nf_work.specs.Passing.{Passing}
@@ -12,12 +12,12 @@ use Rattle.nf_work.specs.declared.Part.TheVariants as Part
 use Rattle.nf_work.specs.Checked.{Checked, Stops, at_part, ◌>>=◌}
 use Rattle.nf_model.specs.Network.{Network, IsNetwork}
 use Rattle.nf_quick_lists.specs.Steps.{IsLimited}
-use Rattle.nf_quick_lists.specs.Quick.{Quick, Standing, Pushed, Done, OverBudget, Answer, Found, Budget, start_of, nothing, push_up_to, finish_list, answer_list, quickest_of, quickest_list}
+use Rattle.nf_quick_lists.specs.Quick.{Quick, Standing, Pushed, Done, OverBudget, Answer, Found, start_of, nothing, push_up_to, finish_list, answer_list, quickest_of, quickest_list}
 use Rattle.nf_quick_lists.specs.Answers.{IsQuickFlow}
 use Rattle.nf_quick_laws.proofs.Nothing.{IsQuickFlow-list}
-use Rattle.nf_residual.proofs.Stopping.{ok_of_part, stopped, stops, goes_on}
+use Rattle.nf_residual.proofs.Stopping.{ok_of_part, stopped, goes_on}
 use Rattle.nf_quick.specs.declared.fault.QuickFault.{QuickFault}
-use Rattle.nf_quick.specs.Answered.{of_halt, HasNoWay, IsPushed, IsAnswered}
+use Rattle.nf_quick.specs.Answered.{of_halt, IsPushed, IsAnswered}
 
 module _ (passes : Passing) (net : Network) (amount : ℚ) (augments : ℕ) where
   -- ---- the amount 0

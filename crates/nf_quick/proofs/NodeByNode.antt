@@ -1,5 +1,5 @@
 -- The times of nodes, one after the other, and the value of a cut, link by link.
-use Rattle.std.proofs.Common.{◌≡◌, ℕ, ◌+◌, ◌<◌, ◌≤◌, List, [], ◌∷◌, ◌++◌, length, drop, get_or, Option, Some, None, slice_get, unwrap_or, refl, sym, ap, ◌∙◌, arith}
+use Rattle.std.proofs.Common.{◌≡◌, ℕ, ◌+◌, ◌<◌, ◌≤◌, List, [], ◌∷◌, ◌++◌, length, drop, get_or, Option, Some, None, slice_get, unwrap_or, refl, sym, ap, ◌∙◌}
 use Rattle.std.specs.Prelude.{Ok, Err}
 use Rattle.std.specs.List.{enumerate_from}
 use Rattle.std.proofs.lemmas.List.{drop_more, drop_all}
@@ -43,8 +43,10 @@ module _ (passes : Passing) (time : ℚ) (from_source from_sink : List (Option �
           (ap (λ (o : Option ℚ). at_part Part.Quick (node_time passes time here o)) (sym also) ∙ sym e)
 
       pub times_more : (y : ℚ) → Ok y ≡ at_part Part.Quick (node_time passes time here there) → TimesOn passes time from_source from_sink (cut ++ y ∷ []) (k + 1)
-      times_more y e = record { same = each_goes Part.Quick (node_time_at passes time from_sink) cut (node_times_list passes time from_source from_sink) (k, here) (enumerate_from (k + 1) (drop (k + 1) from_source)) split y
-          (ap (λ (o : Option ℚ). at_part Part.Quick (node_time passes time here o)) (sym also) ∙ sym e) }
+      times_more y e = record {
+        same = each_goes Part.Quick (node_time_at passes time from_sink) cut (node_times_list passes time from_source from_sink) (k, here) (enumerate_from (k + 1) (drop (k + 1) from_source)) split y
+            (ap (λ (o : Option ℚ). at_part Part.Quick (node_time passes time here o)) (sym also) ∙ sym e);
+      }
 
 -- ---- the value of a cut: what comes of the links that are left gives what comes of all
 abbrev pub ValuesOn : Passing → List Link → List ℚ → ℚ → ℕ → Type 0

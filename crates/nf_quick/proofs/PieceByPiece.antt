@@ -1,5 +1,5 @@
 -- The least departure, looked for piece by piece.
-use Rattle.std.proofs.Common.{◌≡◌, ℕ, zero, suc, ◌+◌, ◌<◌, ◌≤◌, List, [], ◌∷◌, length, drop, get_or, Bool, true, false, Option, Some, None, slice_get, option_map, refl, sym, ap, subst, ◌∙◌, arith}
+use Rattle.std.proofs.Common.{◌≡◌, ℕ, zero, suc, ◌+◌, ◌≤◌, List, [], ◌∷◌, length, drop, Bool, true, false, Option, Some, None, slice_get, option_map, refl, sym, ap, subst, ◌∙◌}
 use Rattle.std.specs.Prelude.{Result, Ok, Err, IfOk}
 use Rattle.std.proofs.lemmas.List.{drop_more, drop_all}
 use Rattle.std.proofs.lemmas.Option.{slice_get_within, get_or_from_slice_get}
@@ -17,7 +17,7 @@ use Rattle.nf_net.proofs.Supplied.{value_supplied}
 use Rattle.nf_quick_lists.specs.Departures.{within_piece, last_piece, by_next, departs, departure_of, departure_list, IsDeparture}
 use Rattle.nf_quick_laws.proofs.Departing.{IsBefore, rate_before_next, before_next, before_first, IsDeparture-list}
 use Rattle.nf_curve.proofs.Exits.{if_ok}
-use Rattle.nf_residual.proofs.Stopping.{ok_of_part, stopped, goes_on}
+use Rattle.nf_residual.proofs.Stopping.{ok_of_part, stopped}
 
 -- what is left to be looked at gives what all pieces give, and so much was supplied before
 pub record Comes (passes : Passing) (net : Network) (amount known : ℚ) (k : ℕ) : Type 0 where

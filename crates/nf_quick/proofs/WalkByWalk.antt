@@ -1,5 +1,5 @@
 -- Walks taken off a flow, one after the other.
-use Rattle.std.proofs.Common.{◌≡◌, ℕ, zero, suc, ◌+◌, ◌-◌, ◌<◌, ◌≤◌, ◌==◌, ◌&&◌, List, [], ◌∷◌, ◌++◌, length, drop, get_or, Bool, true, false, ⊎_elim, eqb, ◌≢◌, Option, Some, None, slice_get, unwrap_or, option_map, refl, sym, ap, subst, ◌∙◌, append_assoc, append-nil, add-one, arith}
+use Rattle.std.proofs.Common.{◌≡◌, ℕ, suc, ◌+◌, ◌-◌, ◌<◌, ◌≤◌, ◌==◌, ◌&&◌, List, [], ◌∷◌, ◌++◌, length, drop, Bool, true, false, ⊎_elim, eqb, ◌≢◌, Option, Some, None, slice_get, unwrap_or, option_map, refl, sym, ap, subst, ◌∙◌, append_assoc, append-nil, add-one, arith}
 use Rattle.std.specs.Prelude.{Ok, Err, if◌then◌else◌}
 use Rattle.std.specs.List.{AllByRecursion}
 use Rattle.std.proofs.lemmas.List.{drop_more, drop_all}
@@ -18,7 +18,7 @@ use Rattle.nf_model.specs.Entries.{number_at}
 use Rattle.nf_model.specs.Network.{Link, Network, IsLink}
 use Rattle.nf_model.specs.Quickest.{Fed}
 use Rattle.nf_quick_lists.specs.Walks.{first_out, head_of, way_from, way_out, least_along, take_list, walk_and, walks_off}
-use Rattle.nf_residual.proofs.Stopping.{ok_of_part, stopped, goes_on}
+use Rattle.nf_residual.proofs.Stopping.{stopped, goes_on}
 
 -- ---- the first link out: what is left to be looked at gives what all links give
 pub record LooksOn (links : List Link) (v : ℕ) (flows : List ℚ) (k : ℕ) : Type 0 where

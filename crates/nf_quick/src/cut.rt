@@ -23,11 +23,7 @@ fn at_most(distance: Option<Q>, time: Q) -> Q
 }
 
 // The time of a node at these distances from source and sink.
-fn node_time(
-    time: Q,
-    from_source: Option<Q>,
-    from_sink: Option<Q>,
-) -> Result<Q, PassedAt<Q>>
+fn node_time(time: Q, from_source: Option<Q>, from_sink: Option<Q>) -> Result<Q, PassedAt<Q>>
     ensures { result ≡ at_part Quick (node_time_by passes_Q time from_source from_sink) }
 {
     let so_far = at_most(from_source, time);

@@ -48,7 +48,13 @@ fn sum(left: Q, right: Q) -> Result<Q, PassedAt<Q>>
 
 // The time with a walk more, of this rate and length.
 #[tactic(auto, unfolding(nf_quick_lists::specs::Pushes::time_list))]
-fn time_with(amount: Q, rate_so_far: Q, cost_so_far: Q, rate: Q, length: Q) -> Result<Times, PassedAt<Q>>
+fn time_with(
+    amount: Q,
+    rate_so_far: Q,
+    cost_so_far: Q,
+    rate: Q,
+    length: Q,
+) -> Result<Times, PassedAt<Q>>
     requires so_far { 0ℚ ≤ℚ rate_so_far }
     requires some { 0ℚ <ℚ rate }
     ensures list { result ≡ at_part Quick (time_list passes_Q amount rate_so_far cost_so_far rate length) }
@@ -59,7 +65,11 @@ fn time_with(amount: Q, rate_so_far: Q, cost_so_far: Q, rate: Q, length: Q) -> R
     let all = sum(rate_so_far, rate)?;
     let total = nf_frac::at!(Part::Quick, amount.sum(cost));
     let time = nf_frac::at!(Part::Quick, total.quotient(all));
-    Ok(Times { rate: all, cost, time })
+    Ok(Times {
+        rate: all,
+        cost,
+        time,
+    })
 }
 
 // Before the first walk there is no time yet.

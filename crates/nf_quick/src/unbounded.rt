@@ -58,7 +58,12 @@ fn next_link(net: &Network, ways: &[Option<Way>]) -> Option<LinkId>
 }
 
 // The way to a node and a link more.
-fn longer(alloc: Global, ways: &[Option<Way>], node: NodeId, link: LinkId) -> Result<Way, AllocError>
+fn longer(
+    alloc: Global,
+    ways: &[Option<Way>],
+    node: NodeId,
+    link: LinkId,
+) -> Result<Way, AllocError>
     requires { node < length ways.now }
     ensures { IfOk result (λ longer. (way : List ℕ) → way_at ways.now node ≡ Some way → longer ≡ way ++ link ∷ []) }
 {

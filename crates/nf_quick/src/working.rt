@@ -49,7 +49,13 @@ fn flows_of(alloc: Global, net: &Network, flow: &Residual) -> Result<Vec<Q>, All
 
 // The walks and the cut of a flow and a time.
 #[tactic(auto, unfolding(nf_quick_lists::specs::Quick::finish_list))]
-fn finish(alloc: Global, net: &Network, amount: Q, flow: &Residual, time: Q) -> Result<Quick, Halt<Q>>
+fn finish(
+    alloc: Global,
+    net: &Network,
+    amount: Q,
+    flow: &Residual,
+    time: Q,
+) -> Result<Quick, Halt<Q>>
     requires { IsSound net.now.net flow.now }
     ensures { Gives (λ quick. quick) (λ q. q) result (at_part Part.Quick (finish_list passes_Q net.now.net amount flow.now time)) }
 {
@@ -59,7 +65,12 @@ fn finish(alloc: Global, net: &Network, amount: Q, flow: &Residual, time: Q) -> 
     let from_sink = flow.distances(alloc, net, net.sink())?;
     let cut = node_times(alloc, time, &from_source, &from_sink)?;
     let value = value_of(net, &cut)?;
-    Ok(Quick { time, walks, cut, value })
+    Ok(Quick {
+        time,
+        walks,
+        cut,
+        value,
+    })
 }
 
 /// The quickest flow of an amount of at least 0 from source to sink: walks that are fed at their rates deliver it by the time,
@@ -69,12 +80,7 @@ fn finish(alloc: Global, net: &Network, amount: Q, flow: &Residual, time: Q) -> 
 /// and a walk of unbounded links leads from source to sink, with such a walk; Budget exactly where so many walks as allowed, at
 /// least 1, were pushed and the next is shorter than the time, with those walks; Passed, of the part Quick, with the first
 /// operation that passes: of the pushes, then of the walks, of the distances from source and sink, of the cut, and of its value.
-pub fn quickest(
-    alloc: Global,
-    net: &Network,
-    amount: Q,
-    augments: u64,
-) -> Result<Quick, QuickFault>
+pub fn quickest(alloc: Global, net: &Network, amount: Q, augments: u64) -> Result<Quick, QuickFault>
     requires amount { 0ℚ ≤ℚ amount }
     requires augments { 1 ≤ augments }
     ensures answered { IsAnswered passes_Q net.now.net amount augments result }

@@ -1,4 +1,4 @@
-use Rattle.std.proofs.Common.{◌≡◌, ◌==◌, ◌&&◌, true, false, sym, ap, ◌∙◌}
+use Rattle.std.proofs.Common.{sym, ap, ◌∙◌}
 use Rattle.nf_rational.specs.Rational.{ℚ}
 use Rattle.nf_quick.proofs.WalkByWalk.{is_out, looks_first, found_out, looks_more}
 use Rattle.nf_quick.proofs.walks.first_out.Goals as goal

@@ -1,4 +1,4 @@
-use Rattle.std.proofs.Common.{sym, ap, refl, ◌∙◌, ◌<◌, arith}
+use Rattle.std.proofs.Common.{sym, ap, refl, ◌<◌, arith}
 use Rattle.nf_model.specs.Network.{Link}
 use Rattle.nf_quick.proofs.WalkByWalk.{way_stops, way_goes}
 use Rattle.nf_quick.proofs.walks.way_out.Goals as goal
