@@ -1,0 +1,73 @@
+-- What is answered, out of the pushes and what is made of them.
+use Rattle.std.proofs.Common.{◌≡◌, ℕ, Bool, true, false, inl, inr, List, unwrap_or, sym, ap, ◌∙◌}
+use Rattle.std.specs.Prelude.{Ok, Err}
+use Rattle.nf_rational.specs.Rational.{ℚ}
+use Rattle.nf_rational.specs.Operations.{0ℚ}
+use Rattle.nf_rational.specs.Order.{◌≤ℚ◌, le_ℚ}
+use Rattle.nf_rational_laws.proofs.Order.{≤ℚ_antisymm}
+use Rattle.nf_rational_laws.proofs.Tests.{le_of_test}
+use Rattle.nf_work.specs.Passing.{Passing}
+use Rattle.nf_work.specs.declared.Halt.{Halt}
+use Rattle.nf_work.specs.declared.Part.TheVariants as Part
+use Rattle.nf_work.specs.Checked.{Checked, Stops, at_part, ◌>>=◌}
+use Rattle.nf_model.specs.Network.{Network, IsNetwork}
+use Rattle.nf_quick_lists.specs.Steps.{IsLimited}
+use Rattle.nf_quick_lists.specs.Quick.{Quick, Standing, Pushed, Done, OverBudget, Answer, Found, start_of, nothing, push_up_to, finish_list, answer_list, quickest_of, quickest_list}
+use Rattle.nf_quick_lists.specs.Answers.{IsQuickFlow}
+use Rattle.nf_quick_laws.proofs.Nothing.{IsQuickFlow-list}
+use Rattle.nf_residual.proofs.Stopping.{ok_of_part, stopped, goes_on}
+use Rattle.nf_quick.specs.declared.fault.QuickFault.{QuickFault}
+use Rattle.nf_quick.specs.Answered.{of_halt, IsPushed, IsAnswered}
+
+module _ (passes : Passing) (net : Network) (amount : ℚ) (augments : ℕ) where
+  -- ---- the amount 0
+  pub nothing_answered : (quick : Quick) → 0ℚ ≤ℚ amount → le_ℚ amount 0ℚ ≡ true → quick ≡ nothing net → IsAnswered passes net amount augments (Ok quick)
+  unfolding quickest_list
+  nothing_answered quick h t e = (
+    inl (≤ℚ_antisymm amount 0ℚ (le_of_test amount 0ℚ t) h),
+    ap (λ (b : Bool). at_part Part.Quick (quickest_of passes net amount b augments)) t ∙ ap (λ (q : Quick). Ok (Found q)) (sym e),
+  )
+
+  -- ---- another one, where each walk from source to sink has a link with a capacity
+  module _ (some : le_ℚ amount 0ℚ ≡ false) (limited : IsLimited net) where
+    abbrev pushes : Checked Pushed
+    pushes = push_up_to passes net amount augments (start_of net)
+
+    abbrev whole : Checked Answer
+    whole = quickest_list passes net amount augments
+
+    abbrev answer : Pushed → Checked Answer
+    answer pushed = answer_list passes net amount pushed
+
+    opened : whole ≡ (pushes >>= answer)
+    unfolding quickest_list
+    opened = ap (λ (b : Bool). quickest_of passes net amount b augments) some
+
+    pub pushes_stop : (fault : QuickFault) → IsPushed passes net amount augments (Err fault) → IsAnswered passes net amount augments (Err fault)
+    pushes_stop (QuickFault.Budget walks) e = (inr limited, ap (at_part Part.Quick) (opened ∙ goes_on pushes answer (OverBudget walks.items) e))
+    pushes_stop (QuickFault.Unbounded links) e = absurd e
+    pushes_stop (QuickFault.Passed at) e = (inr limited, ap (at_part Part.Quick) opened ∙ stopped pushes answer at e)
+    pushes_stop QuickFault.Memory e = tt
+
+    -- what the pushes came to is finished
+    module _ (s : Standing) (came : at_part Part.Quick pushes ≡ Ok (Done s)) (flows : List ℚ) (time : ℚ) (flows_are : flows ≡ s.flows) (time_is : time ≡ unwrap_or s.time 0ℚ) where
+      abbrev finished : Checked Quick
+      finished = finish_list passes net amount flows time
+
+      abbrev found : Quick → Checked Answer
+      found quick = Ok (Found quick)
+
+      then_finish : whole ≡ (finished >>= found)
+      then_finish = opened ∙ goes_on pushes answer (Done s) came
+          ∙ sym (ap (λ (l : List ℚ). finish_list passes net amount l time >>= found) flows_are ∙ ap (λ (t : ℚ). finish_list passes net amount s.flows t >>= found) time_is)
+
+      pub finish_stops : (h : Halt ℚ) → Stops (λ (q : ℚ). q) h (at_part Part.Quick finished) → IsAnswered passes net amount augments (Err (of_halt h))
+      finish_stops (Halt.Passed at) e = (inr limited, ap (at_part Part.Quick) then_finish ∙ stopped finished found at e)
+      finish_stops Halt.Memory e = tt
+
+      pub finish_answered : (quick : Quick) → at_part Part.Quick finished ≡ Ok quick → IsAnswered passes net amount augments (Ok quick)
+      finish_answered quick e = (inr limited, ap (at_part Part.Quick) (then_finish ∙ goes_on finished found quick e))
+
+  -- ---- what is answered is a quickest flow
+  pub answered_is_quick : IsNetwork net → 0ℚ ≤ℚ amount → (quick : Quick) → IsAnswered passes net amount augments (Ok quick) → IsQuickFlow net amount quick
+  answered_is_quick good h quick answered = IsQuickFlow-list net good passes amount augments quick h answered.0 (ok_of_part (quickest_list passes net amount augments) (Found quick) answered.1)

@@ -1,0 +1,6 @@
+pub mod PieceByPiece
+pub mod GrowingWays
+pub mod WalkByWalk
+pub mod NodeByNode
+pub mod PushByPush
+pub mod Answering

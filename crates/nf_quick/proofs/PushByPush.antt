@@ -1,0 +1,98 @@
+-- Shortest walks, pushed one after the other.
+use Rattle.std.proofs.Common.{◌≡◌, ℕ, suc, ◌+◌, ◌-◌, ◌<◌, ◌≤◌, Option, Some, None, sym, ap, subst, ◌∙◌, arith}
+use Rattle.std.specs.Prelude.{Ok, Err}
+use Rattle.nf_rational.specs.Rational.{ℚ}
+use Rattle.nf_rational.specs.Operations.{0ℚ}
+use Rattle.nf_rational.specs.Order.{◌≤ℚ◌, ◌<ℚ◌}
+use Rattle.nf_rational_laws.proofs.Chains.{≤ℚ_refl}
+use Rattle.nf_rational_laws.proofs.Signs.{nn_plus_ps}
+use Rattle.nf_work.specs.Passing.{Passing}
+use Rattle.nf_work.specs.declared.Op.TheVariants.{Sum}
+use Rattle.nf_work.specs.declared.Halt.{Halt}
+use Rattle.nf_work.specs.declared.Part.TheVariants as Part
+use Rattle.nf_work.specs.Checked.{Checked, Stops, at_part, checked, checked_at, ◌>>=◌}
+use Rattle.nf_model.specs.Network.{Network}
+use Rattle.nf_quick_lists.specs.Flows.{IsSound}
+use Rattle.nf_quick_lists.specs.Rounds.{Walk}
+use Rattle.nf_quick_lists.specs.Quick.{Standing, Pushed, Done, OverBudget, start_of, push_on, next_list, ended, push_and, push_up_to}
+use Rattle.nf_quick.specs.Answered.{of_halt, IsPushed}
+use Rattle.nf_residual_laws.proofs.Offers.{checked-ok}
+use Rattle.nf_residual.proofs.Stopping.{ok_of_part, stops, goes_on, stops_as}
+
+-- the sum of a rate of at least 0 and one above 0
+pub some_sum : (passes : Passing) (so_far rate all : ℚ) → 0ℚ ≤ℚ so_far → 0ℚ <ℚ rate → Ok all ≡ checked_at passes Part.Quick Sum so_far rate → 0ℚ <ℚ all
+some_sum passes so_far rate all h k e =
+    subst (λ (x : ℚ). 0ℚ <ℚ x) (sym (checked-ok passes Sum so_far rate all (ok_of_part (checked passes Sum so_far rate) all (sym e)))) (nn_plus_ps so_far rate h k)
+
+-- what is left to be pushed gives what all pushes give
+pub record PushesOn (passes : Passing) (net : Network) (amount : ℚ) (augments : ℕ) (s : Standing) (k : ℕ) : Type 0 where
+  pub same : push_up_to passes net amount (augments - k) s ≡ push_up_to passes net amount augments (start_of net)
+  pub sound : IsSound net s.flows
+  pub rate : 0ℚ ≤ℚ s.rate
+
+module _ (passes : Passing) (net : Network) (amount : ℚ) (augments : ℕ) where
+  abbrev all : Checked Pushed
+  all = push_up_to passes net amount augments (start_of net)
+
+  pub pushes_first : (s : Standing) → s ≡ start_of net → IsSound net s.flows → PushesOn passes net amount augments s 0
+  pushes_first s e sound = record {
+    same = let left : augments - 0 ≡ augments = omega arith in ap (λ (i : ℕ). push_up_to passes net amount i s) left ∙ ap (λ (t : Standing). push_up_to passes net amount augments t) e;
+    sound = sound;
+    rate = subst (λ (t : Standing). 0ℚ ≤ℚ t.rate) (sym e) (≤ℚ_refl 0ℚ);
+  }
+
+  module _ (s : Standing) (k : ℕ) (on : PushesOn passes net amount augments s k) where
+    abbrev next : Checked (Option Walk)
+    next = next_list passes net amount s
+
+    -- ---- where another walk may be pushed
+    module _ (b : k < augments) where
+      abbrev onward : Option Walk → Checked Pushed
+      onward found = push_and passes net amount (λ new. push_up_to passes net amount (augments - (k + 1)) new) s found
+
+      split : all ≡ (next >>= onward)
+      split = let more : augments - k ≡ suc (augments - (k + 1)) = omega arith in sym on.same ∙ ap (λ (i : ℕ). push_up_to passes net amount i s) more
+
+      pub next_stops : (h : Halt ℚ) → Stops (λ (q : ℚ). q) h (at_part Part.Quick next) → Stops (λ (q : ℚ). q) h (at_part Part.Quick all)
+      next_stops h e = stops_as all (next >>= onward) h split (stops next onward h e)
+
+      pub none_next : at_part Part.Quick next ≡ Ok None → at_part Part.Quick all ≡ Ok (Done s)
+      none_next e = ap (at_part Part.Quick) (split ∙ goes_on next onward None e)
+
+      module _ (walk : Walk) (came : at_part Part.Quick next ≡ Ok (Some walk)) where
+        abbrev pushed : Checked Standing
+        pushed = push_on passes net amount s walk
+
+        abbrev later : Standing → Checked Pushed
+        later new = push_up_to passes net amount (augments - (k + 1)) new
+
+        one : all ≡ (pushed >>= later)
+        one = split ∙ goes_on next onward (Some walk) came
+
+        pub push_stops : (h : Halt ℚ) → Stops (λ (q : ℚ). q) h (at_part Part.Quick pushed) → Stops (λ (q : ℚ). q) h (at_part Part.Quick all)
+        push_stops h e = stops_as all (pushed >>= later) h one (stops pushed later h e)
+
+        pub pushes_more : (new : Standing) → at_part Part.Quick pushed ≡ Ok new → IsSound net new.flows → 0ℚ ≤ℚ new.rate → PushesOn passes net amount augments new (k + 1)
+        pushes_more new e sound rate = record { same = sym (one ∙ goes_on pushed later new e); sound = sound; rate = rate }
+
+    -- ---- after as many as allowed
+    module _ (b : augments ≤ k) where
+      abbrev last : Option Walk → Checked Pushed
+      last found = Ok (ended passes net amount s found)
+
+      at_end : all ≡ (next >>= last)
+      at_end = let none : augments - k ≡ 0 = omega arith in sym on.same ∙ ap (λ (i : ℕ). push_up_to passes net amount i s) none
+
+      pub last_stops : (h : Halt ℚ) → Stops (λ (q : ℚ). q) h (at_part Part.Quick next) → Stops (λ (q : ℚ). q) h (at_part Part.Quick all)
+      last_stops h e = stops_as all (next >>= last) h at_end (stops next last h e)
+
+      pub last_done : at_part Part.Quick next ≡ Ok None → at_part Part.Quick all ≡ Ok (Done s)
+      last_done e = ap (at_part Part.Quick) (at_end ∙ goes_on next last None e)
+
+      pub over_budget : (walk : Walk) → at_part Part.Quick next ≡ Ok (Some walk) → at_part Part.Quick all ≡ Ok (OverBudget s.pushed)
+      over_budget walk e = ap (at_part Part.Quick) (at_end ∙ goes_on next last (Some walk) e)
+
+-- what stops all pushes is what is answered
+pub halted : (passes : Passing) (net : Network) (amount : ℚ) (augments : ℕ) (h : Halt ℚ) → Stops (λ (q : ℚ). q) h (at_part Part.Quick (push_up_to passes net amount augments (start_of net))) → IsPushed passes net amount augments (Err (of_halt h))
+halted passes net amount augments (Halt.Passed p) e = e
+halted passes net amount augments Halt.Memory e = tt

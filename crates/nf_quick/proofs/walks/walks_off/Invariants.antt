@@ -1,0 +1,6 @@
+use Rattle.nf_work.specs.Passing.{passes_Q}
+use Rattle.nf_quick.proofs.WalkByWalk.{TakesOn}
+use Rattle.nf_quick.proofs.walks.walks_off.Given as goal
+
+abbrev pub invariant-loop : goal.invariant-loop
+invariant-loop l = TakesOn passes_Q l.net.net l.fn.flows.items l.walks.items l.flows.items l.counter

@@ -1,0 +1,38 @@
+-- What `quickest` answers.
+use Rattle.std.specs.Prelude.{◌≡◌, ◌⊎◌, ℕ, Result, Ok, Err}
+use Rattle.nf_rational.specs.Rational.{ℚ}
+use Rattle.nf_rational.specs.Operations.{0ℚ}
+use Rattle.nf_rational.specs.Order.{◌<ℚ◌}
+use Rattle.nf_work.specs.declared.Part.TheVariants as Part
+use Rattle.nf_work.specs.declared.Halt.{Halt}
+use Rattle.nf_work.specs.Passing.{Passing}
+use Rattle.nf_work.specs.Checked.{at_part}
+use Rattle.nf_model.specs.Network.{Network}
+use Rattle.nf_quick_lists.specs.Steps.{IsUnboundedWalk, IsLimited}
+use Rattle.nf_quick_lists.specs.Quick.{Quick, Standing, Done, OverBudget, Found, Budget, push_up_to, start_of, quickest_list}
+use Rattle.nf_quick.specs.declared.fault.QuickFault.{QuickFault}
+
+abbrev pub of_halt : Halt ℚ → QuickFault
+of_halt (Halt.Passed at) = QuickFault.Passed at
+of_halt Halt.Memory = QuickFault.Memory
+
+-- the amount is 0, or each walk from source to sink has a link with a capacity
+abbrev pub HasNoWay : Network → ℚ → Type 0
+HasNoWay net amount = (amount ≡ 0ℚ) ⊎ IsLimited net
+
+-- where the walks that were pushed end: with no walk left to be pushed, over the budget, or with an operation that passes
+abbrev pub IsPushed : Passing → Network → ℚ → ℕ → Result Standing QuickFault → Type 0
+IsPushed passes net amount augments (Ok s) = at_part Part.Quick (push_up_to passes net amount augments (start_of net)) ≡ Ok (Done s)
+IsPushed passes net amount augments (Err (QuickFault.Budget walks)) = at_part Part.Quick (push_up_to passes net amount augments (start_of net)) ≡ Ok (OverBudget walks.items)
+IsPushed passes net amount augments (Err (QuickFault.Unbounded links)) = ⊥
+IsPushed passes net amount augments (Err (QuickFault.Passed at)) = at_part Part.Quick (push_up_to passes net amount augments (start_of net)) ≡ Err at
+IsPushed passes net amount augments (Err QuickFault.Memory) = Unit {0}
+
+-- Unbounded comes exactly where the amount is above 0 and a walk of unbounded links leads from source to sink, with such a walk; else
+-- what comes is what the list says, unless memory is wanting.
+abbrev pub IsAnswered : Passing → Network → ℚ → ℕ → Result Quick QuickFault → Type 0
+IsAnswered passes net amount augments (Ok quick) = HasNoWay net amount × (at_part Part.Quick (quickest_list passes net amount augments) ≡ Ok (Found quick))
+IsAnswered passes net amount augments (Err (QuickFault.Budget walks)) = HasNoWay net amount × (at_part Part.Quick (quickest_list passes net amount augments) ≡ Ok (Budget walks.items))
+IsAnswered passes net amount augments (Err (QuickFault.Unbounded links)) = (0ℚ <ℚ amount) × IsUnboundedWalk net links.items net.source net.sink
+IsAnswered passes net amount augments (Err (QuickFault.Passed at)) = HasNoWay net amount × (at_part Part.Quick (quickest_list passes net amount augments) ≡ Err at)
+IsAnswered passes net amount augments (Err QuickFault.Memory) = Unit {0}

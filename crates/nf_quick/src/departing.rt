@@ -1,0 +1,89 @@
+// The least departure by which the source is supplied with an amount.
+ghost use Rattle.std.specs.Prelude.{◌≡◌, IfOk, slice_get, option_map};
+ghost use Rattle.nf_rational.specs.Operations.{0ℚ};
+ghost use Rattle.nf_rational.specs.Order.{◌≤ℚ◌, ◌<ℚ◌, lt_ℚ};
+ghost use Rattle.nf_work.specs.declared.Part.TheVariants.{Quick};
+ghost use Rattle.nf_work.specs.Passing.{passes_Q};
+ghost use Rattle.nf_work.specs.Checked.{at_part};
+ghost use Rattle.nf_net.specs.Supply.{checked_supply};
+ghost use Rattle.nf_quick_lists.specs.Departures.{within_piece, last_piece, departs as departs_by, departure_list, IsDeparture};
+
+use nf_frac::{Part, PassedAt, Q};
+use nf_net::{Network, Piece, supply};
+
+// The departure in a piece whose rate is above 0, before whose start so much was supplied.
+fn within(net: &Network, amount: Q, known: Q, piece: &Piece) -> Result<Option<Q>, PassedAt<Q>>
+    requires { 0ℚ <ℚ piece.now.rate }
+    ensures { result ≡ at_part Quick (within_piece passes_Q (checked_supply passes_Q net.now.net) amount known piece.now) }
+{
+    let wanted = nf_frac::at!(Part::Quick, amount.difference(known));
+    let length = nf_frac::at!(Part::Quick, wanted.quotient(piece.rate));
+    let time = nf_frac::at!(Part::Quick, piece.start.sum(length));
+    Ok(Some(time))
+}
+
+// The departure in the last piece, if it supplies anything.
+fn in_last(net: &Network, amount: Q, known: Q, piece: &Piece) -> Result<Option<Q>, PassedAt<Q>>
+    ensures { result ≡ at_part Quick (last_piece passes_Q (checked_supply passes_Q net.now.net) amount (lt_ℚ 0ℚ piece.now.rate) known piece.now) }
+{
+    if !Q::zero().is_below(piece.rate) {
+        return Ok(None);
+    }
+    within(net, amount, known, piece)
+}
+
+// When the piece of this number starts, if there is one.
+fn start_at(pieces: &[Piece], index: usize) -> Option<Q>
+    ensures { result ≡ option_map (λ piece. piece.start) (slice_get pieces.now index) }
+{
+    if index < pieces.len() {
+        let piece: &Piece = &pieces[index];
+        Some(piece.start)
+    } else {
+        None
+    }
+}
+
+fn supply_by(net: &Network, time: Q) -> Result<Q, PassedAt<Q>>
+    requires { 0ℚ ≤ℚ time }
+    ensures { result ≡ at_part Quick (checked_supply passes_Q net.now.net time) }
+{
+    Ok(nf_frac::at!(Part::Quick, supply(net, time)))
+}
+
+// The departure for an amount above 0: in the first piece up to whose end it is supplied, or in the last one.
+fn departs(net: &Network, amount: Q) -> Result<Option<Q>, PassedAt<Q>>
+    requires { 0ℚ <ℚ amount }
+    ensures { result ≡ at_part Quick (departs_by passes_Q (checked_supply passes_Q net.now.net) amount 0ℚ net.now.net.pieces) }
+{
+    let pieces = net.pieces();
+    let mut known = Q::zero();
+    for (index, piece) in pieces.iter().enumerate() {
+        let Some(next) = start_at(pieces, index + 1) else {
+            return in_last(net, amount, known, piece);
+        };
+        let by_next = supply_by(net, next)?;
+        if amount.is_at_most(by_next) {
+            return within(net, amount, known, piece);
+        }
+        known = by_next;
+    }
+    Ok(None)
+}
+
+/// The least departure, a time of at least 0, by which the source is supplied with the amount, which is at least 0; None exactly
+/// where the supply never comes to it. Passed, of the part Quick, comes with the first operation that passes: piece by piece the
+/// supply by the next start, and in the piece in which the amount is reached the difference of the amount and what was supplied
+/// before, its quotient by the rate, and the sum of that and the piece's start.
+#[tactic(auto, unfolding(nf_quick_lists::specs::Departures::departure_list))]
+pub fn departure(net: &Network, amount: Q) -> Result<Option<Q>, PassedAt<Q>>
+    requires amount { 0ℚ ≤ℚ amount }
+    ensures list { result ≡ at_part Quick (departure_list passes_Q (checked_supply passes_Q net.now.net) amount net.now.net.pieces) }
+    ensures least { IfOk result (IsDeparture net.now.net amount) }
+{
+    let _named = net.version();
+    if amount.is_at_most(Q::zero()) {
+        return Ok(Some(Q::zero()));
+    }
+    departs(net, amount)
+}

@@ -1,0 +1,17 @@
+//! The quickest flow of an amount from source to sink, with a cut over time that shows that none is earlier; and the least
+//! departure by which the source is supplied with an amount.
+#![tactic(auto)]
+
+mod cut;
+mod departing;
+mod fault;
+mod pushes;
+mod quick;
+mod unbounded;
+mod walks;
+mod working;
+
+pub use departing::departure;
+pub use fault::QuickFault;
+pub use quick::{Augment, Quick, Rated};
+pub use working::quickest;

@@ -1,0 +1,147 @@
+// Walks taken off a static flow: each from the source along the first link that has flow left, with the least flow left as its
+// rate.
+ghost use Rattle.std.specs.Prelude.{◌≡◌, ℕ, ◌<◌, ◌==◌, ◌&&◌, length, set, Some, None, IfOk};
+ghost use Rattle.std.specs.List.{AllByRecursion};
+ghost use Rattle.nf_rational.specs.Operations.{0ℚ};
+ghost use Rattle.nf_rational.specs.Order.{lt_ℚ};
+ghost use Rattle.nf_work.specs.declared.Part.TheVariants.{Quick};
+ghost use Rattle.nf_work.specs.Passing.{passes_Q};
+ghost use Rattle.nf_work.specs.Checked.{at_part, seen_at, Gives};
+ghost use Rattle.nf_model.specs.Entries.{number_at};
+ghost use Rattle.nf_quick_lists.specs.Rounds.{lesser as lesser_by};
+ghost use Rattle.nf_quick_lists.specs.Walks.{first_out as first_out_by, way_out as way_out_by, least_along as least_along_by, take_list, walks_off as walks_off_by};
+
+use crate::quick::Rated;
+use nf_frac::{Halt, Part, PassedAt, Q};
+use nf_graph::NodeId;
+use nf_net::{Link, LinkId, Network};
+use std::alloc::{AllocError, Global};
+
+fn flow_at(flows: &[Q], link: LinkId) -> Q
+    requires { link < length flows.now }
+    ensures { result ≡ number_at flows.now link }
+{
+    flows[link.index()]
+}
+
+// A link leaves a node, and has flow left.
+fn is_out(link: Link, node: NodeId, flow: Q) -> bool
+    ensures { result ≡ ((link.tail == node) && lt_ℚ 0ℚ flow) }
+{
+    link.tail == node && Q::zero().is_below(flow)
+}
+
+// The first link out of a node that has flow left.
+fn first_out(net: &Network, node: NodeId, flows: &[Q]) -> Option<LinkId>
+    requires { length flows.now ≡ length net.now.net.links }
+    ensures first { result ≡ first_out_by 0 net.now.net.links node flows.now }
+    ensures within { (e : ℕ) → result ≡ Some e → e < length net.now.net.links }
+{
+    for number in 0..net.link_count() {
+        let link = LinkId(number);
+        let here = net.link(link);
+        if is_out(here, node, flow_at(flows, link)) {
+            return Some(link);
+        }
+    }
+    None
+}
+
+// From the source on, each time along the first link that has flow left.
+fn way_out(alloc: Global, net: &Network, flows: &[Q]) -> Result<Vec<LinkId>, AllocError>
+    requires { length flows.now ≡ length net.now.net.links }
+    ensures way { IfOk result (λ way. way.items ≡ way_out_by net.now.net flows.now) }
+    ensures within { IfOk result (λ way. AllByRecursion (λ e. e < length net.now.net.links) way.items) }
+{
+    let mut way = Vec::new(alloc);
+    let mut node = net.source();
+    for _ in 0..net.node_count() {
+        let Some(link) = first_out(net, node, flows) else {
+            return Ok(way);
+        };
+        way.push(link)?;
+        node = net.link(link).head;
+    }
+    Ok(way)
+}
+
+// The lesser of the flow so far and one more; none so far where there was none.
+fn lesser(least: Option<Q>, flow: Q) -> Q
+    ensures { result ≡ lesser_by least flow }
+{
+    match least {
+        None => flow,
+        Some(least) => least.lesser(flow),
+    }
+}
+
+// The least flow along links.
+fn least_along(flows: &[Q], way: &[LinkId]) -> Q
+    requires { AllByRecursion (λ e. e < length flows.now) way.now }
+    ensures { result ≡ least_along_by flows.now None way.now }
+{
+    let mut least = None;
+    for link in way {
+        least = Some(lesser(least, flow_at(flows, *link)));
+    }
+    least.unwrap_or(Q::zero())
+}
+
+fn put(flows: &mut Vec<Q>, link: LinkId, value: Q)
+    requires { link < length flows.old.items }
+    ensures { flows.new.items ≡ set flows.old.items link value }
+{
+    flows[link.index()] = value;
+}
+
+// A rate is taken off along these links.
+fn take(flows: &mut Vec<Q>, way: &[LinkId], rate: Q) -> Result<(), PassedAt<Q>>
+    requires { AllByRecursion (λ e. e < length flows.old.items) way.now }
+    ensures list { seen_at (λ _. flows.new.items) (λ q. q) result ≡ at_part Quick (take_list passes_Q rate way.now flows.old.items) }
+    ensures count { length flows.new.items ≡ length flows.old.items }
+{
+    for link in way {
+        let link: LinkId = *link;
+        let before = flow_at(flows, link);
+        let left = nf_frac::at!(Part::Quick, before.difference(rate));
+        put(flows, link, left);
+    }
+    Ok(())
+}
+
+// A walk is taken off along these links, with the least flow on them.
+fn walk_off(flows: &mut Vec<Q>, links: Vec<LinkId>) -> Result<Rated, PassedAt<Q>>
+    requires { AllByRecursion (λ e. e < length flows.old.items) links.items }
+    ensures list { seen_at (λ _. flows.new.items) (λ q. q) result ≡ at_part Quick (take_list passes_Q (least_along_by flows.old.items None links.items) links.items flows.old.items) }
+    ensures walk { IfOk result (λ rated. rated ≡ record { rate = least_along_by flows.old.items None links.items; walk = links.items }) }
+    ensures count { length flows.new.items ≡ length flows.old.items }
+{
+    let rate = least_along(flows, &links);
+    take(flows, &links, rate)?;
+    Ok(Rated { rate, links })
+}
+
+fn is_none(way: &[LinkId]) -> bool
+    ensures { result ≡ (length way.now == 0) }
+{
+    way.is_empty()
+}
+
+/// Walks are taken off these flows until none is left: each takes all that some link has left, so that there are at most as many
+/// as links.
+pub(crate) fn walks_off(alloc: Global, net: &Network, flows: Vec<Q>) -> Result<Vec<Rated>, Halt<Q>>
+    requires { length flows.items ≡ length net.now.net.links }
+    ensures { Gives (λ walks. walks.items) (λ q. q) result (at_part Quick (walks_off_by passes_Q (length net.now.net.links) net.now.net flows.items)) }
+{
+    let mut flows = flows;
+    let mut walks = Vec::new(alloc);
+    for _ in 0..net.link_count() {
+        let links = way_out(alloc, net, &flows)?;
+        if is_none(&links) {
+            return Ok(walks);
+        }
+        let rated = walk_off(&mut flows, links)?;
+        walks.push(rated)?;
+    }
+    Ok(walks)
+}

@@ -1,0 +1,100 @@
+// The quickest flow, worked out.
+ghost use Rattle.std.specs.Prelude.{◌≡◌, ◌≤◌, IfOk};
+ghost use Rattle.nf_rational.specs.Operations.{0ℚ};
+ghost use Rattle.nf_rational.specs.Order.{◌≤ℚ◌, ◌<ℚ◌};
+ghost use Rattle.nf_work.specs.declared.Part.TheVariants as Part;
+ghost use Rattle.nf_work.specs.Passing.{passes_Q};
+ghost use Rattle.nf_work.specs.Checked.{at_part, Gives};
+ghost use Rattle.nf_quick_lists.specs.Steps.{IsLimited};
+ghost use Rattle.nf_quick_lists.specs.Flows.{IsSound};
+ghost use Rattle.nf_quick_lists.specs.Quick.{nothing as nothing_in, finish_list};
+ghost use Rattle.nf_quick_lists.specs.Answers.{IsQuickFlow};
+ghost use Rattle.nf_quick.specs.Answered.{IsAnswered};
+
+use crate::cut::{node_times, value_of};
+use crate::fault::QuickFault;
+use crate::pushes::push_up_to;
+use crate::quick::Quick;
+use crate::unbounded::unbounded_walk;
+use crate::walks::walks_off;
+use nf_frac::{Halt, Q};
+use nf_net::{LinkId, Network};
+use nf_residual::Residual;
+use std::alloc::{AllocError, Global};
+
+// For the amount 0: no time, no walk.
+fn nothing(alloc: Global, net: &Network) -> Result<Quick, AllocError>
+    ensures { IfOk result (λ quick. quick ≡ nothing_in net.now.net) }
+{
+    let cut = vec![in alloc; Q::zero(); net.node_count() as usize]?;
+    Ok(Quick {
+        time: Q::zero(),
+        walks: Vec::new(alloc),
+        cut,
+        value: Q::zero(),
+    })
+}
+
+// The flow of each link.
+fn flows_of(alloc: Global, net: &Network, flow: &Residual) -> Result<Vec<Q>, AllocError>
+    requires { IsSound net.now.net flow.now }
+    ensures { IfOk result (λ flows. flows.items ≡ flow.now) }
+{
+    let mut flows = Vec::with_capacity(alloc, net.link_count() as usize)?;
+    for number in 0..net.link_count() {
+        flows.push(flow.flow(LinkId(number)))?;
+    }
+    Ok(flows)
+}
+
+// The walks and the cut of a flow and a time.
+#[tactic(auto, unfolding(nf_quick_lists::specs::Quick::finish_list))]
+fn finish(
+    alloc: Global,
+    net: &Network,
+    amount: Q,
+    flow: &Residual,
+    time: Q,
+) -> Result<Quick, Halt<Q>>
+    requires { IsSound net.now.net flow.now }
+    ensures { Gives (λ quick. quick) (λ q. q) result (at_part Part.Quick (finish_list passes_Q net.now.net amount flow.now time)) }
+{
+    let flows = flows_of(alloc, net, flow)?;
+    let walks = walks_off(alloc, net, flows)?;
+    let from_source = flow.distances(alloc, net, net.source())?;
+    let from_sink = flow.distances(alloc, net, net.sink())?;
+    let cut = node_times(alloc, time, &from_source, &from_sink)?;
+    let value = value_of(net, &cut)?;
+    Ok(Quick {
+        time,
+        walks,
+        cut,
+        value,
+    })
+}
+
+/// The quickest flow of an amount of at least 0 from source to sink: walks that are fed at their rates deliver it by the time,
+/// no feasible flow over time delivers it earlier, and the value of the cut over time is the amount. For the amount 0 the time is
+/// 0, there are no walks, and the cut is 0 everywhere. Else shortest residual walks are pushed with their whole room (after Ford
+/// and Fulkerson 1958), until none is left or the next is as long as the time. Unbounded comes exactly where the amount is above 0
+/// and a walk of unbounded links leads from source to sink, with such a walk; Budget exactly where so many walks as allowed, at
+/// least 1, were pushed and the next is shorter than the time, with those walks; Passed, of the part Quick, with the first
+/// operation that passes: of the pushes, then of the walks, of the distances from source and sink, of the cut, and of its value.
+pub fn quickest(alloc: Global, net: &Network, amount: Q, augments: u64) -> Result<Quick, QuickFault>
+    requires amount { 0ℚ ≤ℚ amount }
+    requires augments { 1 ≤ augments }
+    ensures answered { IsAnswered passes_Q net.now.net amount augments result }
+    ensures quickest { IfOk result (IsQuickFlow net.now.net amount) }
+{
+    let _named = net.version();
+    if amount.is_at_most(Q::zero()) {
+        return Ok(nothing(alloc, net)?);
+    }
+    if let Some(links) = unbounded_walk(alloc, net)? {
+        return Err(QuickFault::Unbounded { links });
+    }
+    let standing = push_up_to(alloc, net, amount, augments)?;
+    let time = standing.time.unwrap_or(Q::zero());
+    let quick = finish(alloc, net, amount, &standing.flow, time)?;
+    Ok(quick)
+}
