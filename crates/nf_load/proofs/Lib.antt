@@ -5,3 +5,6 @@ pub mod Adding
 pub mod LoadsRead
 pub mod Supplying
 pub mod PointByPoint
+pub mod QueueSteps
+pub mod ExitSteps
+pub mod LoadedCurves

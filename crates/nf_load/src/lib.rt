@@ -6,13 +6,18 @@ mod amounts;
 mod draft;
 mod entry;
 mod fault;
+mod leaving;
+mod loading;
 mod loads;
 mod points;
 mod reading;
+mod waiting;
+mod waits;
 mod words;
 
 pub use amounts::cumulative;
 pub use fault::LoadsFault;
+pub use loading::{Loaded, load_link};
 pub use loads::Loads;
 pub use nf_readings::LoadRule;
 pub use reading::parse_loads;
