@@ -8,3 +8,4 @@ pub mod PointByPoint
 pub mod QueueSteps
 pub mod ExitSteps
 pub mod LoadedCurves
+pub mod LoadingSteps

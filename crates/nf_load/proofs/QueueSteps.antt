@@ -1,5 +1,6 @@
 -- The queue, piece by piece of the inflow.
-use Rattle.std.proofs.Common.{◌≡◌, ◌≢◌, ⊎_elim, ℕ, zero, suc, Bool, true, false, ◌&&◌, List, [], ◌∷◌, ◌++◌, drop, refl, sym, ap, subst, ◌∙◌, append_assoc}
+use Rattle.std.proofs.Common.{◌≡◌, ◌≢◌, ⊎_elim, ℕ, zero, suc, Bool, true, false, ◌&&◌, List, [], ◌∷◌, ◌++◌, length, drop, refl, sym, ap, subst, ◌∙◌, arith}
+use Rattle.std.proofs.lemmas.List.{drop_all}
 use Rattle.std.specs.Prelude.{Some, None, Option, slice_get, Ok, Err}
 use Rattle.nf_rational.specs.Rational.{ℚ}
 use Rattle.nf_rational.specs.Operations.{0ℚ, ◌-ℚ◌}
@@ -18,7 +19,8 @@ use Rattle.nf_lists.specs.Signs.{is_zero, is_positive}
 use Rattle.nf_curve_lists.specs.Lines.{checked_slope}
 use Rattle.nf_load_lists.specs.Loading.{Waits, last_of, after_piece, waits_after, all_waits, moves, stays_or_moves, drains_at}
 use Rattle.nf_curve_laws.proofs.Operations.{checked-is}
-use Rattle.nf_curve.proofs.Exits.{was_ok}
+use Rattle.nf_curve.proofs.Exits.{was_ok, after_err, front_err, front_more, front_ends}
+use Rattle.nf_curve.proofs.Shortening.{drop-at}
 use Rattle.nf_load.specs.declared.waiting.Over.{Over}
 use Rattle.nf_load.specs.Loadings.{before_end, over_list}
 
@@ -32,12 +34,6 @@ change_apart passes rate capacity change t e zero = ⊎_elim
   where
     no : (b : Bool) → b ≡ true → b ≡ false → ⊥
     no b e f = cc
-
--- ---- the points of the inflow
-pub point_first : (xs : List Point) (i : ℕ) (p : Point) → slice_get xs i ≡ Some p → drop i xs ≡ p ∷ drop (suc i) xs
-point_first [] i p e = absurd (cc)
-point_first (x ∷ xs) zero p e = let same : x ≡ p = cc in ap (λ (q : Point). q ∷ xs) same
-point_first (x ∷ xs) (suc i) p e = point_first xs i p e
 
 -- ---- what waits so far, and over the pieces from here on
 module _ (passes : Passing) (capacity : Option ℚ) where
@@ -63,30 +59,27 @@ module _ (passes : Passing) (capacity : Option ℚ) where
   module _ (part : Part) (front : List Waits) (before : Waits) (points : List Point) (i next : ℕ) (p : Point) (all : Checked (List Waits))
       (at : slice_get points i ≡ Some p) (n : next ≡ suc i) (so : with_front front (waits_after passes capacity before (drop i points)) ≡ all) where
     abbrev by_piece : Checked (List Waits) → Checked (List Waits)
-    by_piece r = r >>= λ here. waits_after passes capacity (last_of passes before here) (drop (suc i) points) >>= λ later. Ok (here ++ later)
+    by_piece r = r >>= λ here. waits_after passes capacity (last_of passes before here) (drop next points) >>= λ later. Ok (here ++ later)
 
     from_here : with_front front (by_piece (after_piece passes capacity before p)) ≡ all
-    from_here = sym (ap (λ (l : List Point). with_front front (waits_after passes capacity before l)) (point_first points i p at)) ∙ so
+    from_here = sym (ap (λ (l : List Point). with_front front (waits_after passes capacity before l)) (drop-at points i p at ∙ ap (λ (k : ℕ). p ∷ drop k points) (sym n))) ∙ so
 
     pub goes_on : (over : Over) → at_part part (after_piece passes capacity before p) ≡ Ok (over_list over)
         → with_front (front ++ over_list over) (waits_after passes capacity over.end (drop next points)) ≡ all
     goes_on over e =
-        sym (ap (λ (r : Checked (List Waits)). with_front front (by_piece r)) (was_ok part (after_piece passes capacity before p) (over_list over) e)
-        ∙ more (waits_after passes capacity (last_of passes before (over_list over)) (drop (suc i) points))
-        ∙ ap (λ (w : Waits). with_front (front ++ over_list over) (waits_after passes capacity w (drop (suc i) points))) (over_last before over.end over.empty)
-        ∙ ap (λ (k : ℕ). with_front (front ++ over_list over) (waits_after passes capacity over.end (drop k points))) (sym n))
+        sym (front_more front (over_list over) (waits_after passes capacity over.end (drop next points)))
+        ∙ ap (λ (w : Waits). with_front front (waits_after passes capacity w (drop next points) >>= λ later. Ok (over_list over ++ later))) (sym (over_last before over.end over.empty))
+        ∙ ap (λ (r : Checked (List Waits)). with_front front (by_piece r)) (sym (was_ok part (after_piece passes capacity before p) (over_list over) e))
         ∙ from_here
-      where
-        more : (r : Checked (List Waits)) → with_front front (r >>= λ later. Ok (over_list over ++ later)) ≡ with_front (front ++ over_list over) r
-        more (Ok ys) = ap (λ (l : List Waits). Ok l) (sym (append_assoc front (over_list over) ys))
-        more (Err q) = refl
 
     pub stops : (q : PassedAt ℚ) → at_part part (after_piece passes capacity before p) ≡ Err q → at_part part all ≡ Err q
-    stops q e = ap (at_part part) (sym from_here) ∙ stop (after_piece passes capacity before p) e
-      where
-        stop : (r : Checked (List Waits)) → at_part part r ≡ Err q → at_part part (with_front front (by_piece r)) ≡ Err q
-        stop (Ok y) d = absurd (cc)
-        stop (Err s) d = let same : placed part s ≡ q = cc in ap (λ (x : PassedAt ℚ). Err x) same
+    stops q e = ap (at_part part) (sym from_here) ∙ front_err part front _ q (after_err part (after_piece passes capacity before p) _ q e)
+
+  -- after the last point
+  pub ends : (part : Part) (front : List Waits) (before : Waits) (points : List Point) (i : ℕ) (all : Checked (List Waits)) → i ≡ length points
+      → with_front front (waits_after passes capacity before (drop i points)) ≡ all → at_part part all ≡ Ok front
+  ends part front before points i all n so =
+      front_ends part front all (sym (ap (λ (l : List Point). with_front front (waits_after passes capacity before l)) (drop_all i points (omega arith))) ∙ so)
 
 -- ---- the times of what waits rise
 abbrev pub Later : Waits → List Point → Type 0
@@ -97,11 +90,11 @@ later_first [] p curve e = absurd curve
 later_first (x ∷ xs) p curve e = let same : x ≡ p = cc in subst (λ (q : Point). TimesRise ((q.0, q.1) ∷ xs)) same curve.1
 
 pub later_here : (before : Waits) (xs : List Point) (i : ℕ) (p : Point) → slice_get xs i ≡ Some p → Later before (drop i xs) → before.time <ℚ p.0
-later_here before xs i p e h = let k : Later before (p ∷ drop (suc i) xs) = subst (λ (l : List Point). Later before l) (point_first xs i p e) h in k.0
+later_here before xs i p e h = let k : Later before (p ∷ drop (suc i) xs) = subst (λ (l : List Point). Later before l) (drop-at xs i p e) h in k.0
 
 pub later_next : (before end : Waits) (xs : List Point) (i next : ℕ) (p : Point) → slice_get xs i ≡ Some p → next ≡ suc i → end.time ≡ p.0 → Later before (drop i xs) → Later end (drop next xs)
 later_next before end xs i next p e n t h =
-    let k : Later before (p ∷ drop (suc i) xs) = subst (λ (l : List Point). Later before l) (point_first xs i p e) h in
+    let k : Later before (p ∷ drop (suc i) xs) = subst (λ (l : List Point). Later before l) (drop-at xs i p e) h in
     let m : Later end (drop (suc i) xs) = moved p (drop (suc i) xs) end.time end.amount t k.1 in
     subst (λ (j : ℕ). Later end (drop j xs)) (sym n) m
   where

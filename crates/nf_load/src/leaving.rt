@@ -1,18 +1,14 @@
 // When what enters a link leaves it.
-ghost use Rattle.std.specs.Prelude.{◌≡◌, map, IfOk};
-ghost use Rattle.nf_rational.specs.Operations.{0ℚ};
+ghost use Rattle.std.specs.Prelude.{◌≡◌};
 ghost use Rattle.nf_work.specs.declared.Part.TheVariants.{Load};
 ghost use Rattle.nf_work.specs.Passing.{passes_Q};
 ghost use Rattle.nf_work.specs.Checked.{at_part, each, Gives};
 ghost use Rattle.nf_model_laws.specs.Capacity.{IsPositive};
-ghost use Rattle.nf_lists.specs.Signs.{is_same as is_same_by};
 ghost use Rattle.nf_load_lists.specs.Loading as lists;
-ghost use Rattle.nf_load_lists.specs.Loading.{queue_point, exit_point};
 
-use crate::points::Point;
 use crate::waits::{Leaves, Waits};
 use nf_frac::{Halt, Part, PassedAt, Q, at};
-use std::alloc::{AllocError, Global};
+use std::alloc::Global;
 
 // The exit of what enters a link with a capacity.
 #[tactic(auto, unfolding(nf_load_lists::specs::Loading::exit_after), using(crate::proofs::ExitSteps::capacity_apart))]
@@ -62,49 +58,4 @@ pub(crate) fn all_leaves(
         all.push(one)?;
     }
     Ok(all)
-}
-
-/// The points of the queue.
-pub(crate) fn queue_points(alloc: Global, waits: &[Waits]) -> Result<Vec<Point>, AllocError>
-    ensures { IfOk result (λ points. points.items ≡ map queue_point waits.now) }
-{
-    let mut points = Vec::new(alloc);
-    for moment in waits {
-        points.push((moment.time, moment.queue))?;
-    }
-    Ok(points)
-}
-
-/// The points of the exits.
-pub(crate) fn exit_points(alloc: Global, all: &[Leaves]) -> Result<Vec<Point>, AllocError>
-    ensures { IfOk result (λ points. points.items ≡ map exit_point all.now) }
-{
-    let mut points = Vec::new(alloc);
-    for one in all {
-        points.push((one.waits.time, one.exit))?;
-    }
-    Ok(points)
-}
-
-// Two times are equal.
-fn is_same(one: Q, other: Q) -> bool
-    ensures { result ≡ is_same_by one other }
-{
-    one.is_at_most(other) && other.is_at_most(one)
-}
-
-/// The points of the outflow: at time 0, and at each exit that isn't the one before.
-pub(crate) fn outflow_points(alloc: Global, all: &[Leaves]) -> Result<Vec<Point>, AllocError>
-    ensures { IfOk result (λ points. points.items ≡ lists.outflow_points all.now) }
-{
-    let mut points = Vec::new(alloc);
-    let mut last = Q::zero();
-    points.push((last, Q::zero()))?;
-    for one in all {
-        if !is_same(last, one.exit) {
-            points.push((one.exit, one.waits.amount))?;
-            last = one.exit;
-        }
-    }
-    Ok(points)
 }

@@ -3,6 +3,7 @@
 #![tactic(auto)]
 
 mod amounts;
+mod curves;
 mod draft;
 mod entry;
 mod fault;

@@ -4,26 +4,38 @@ ghost use Rattle.nf_rational.specs.Operations.{0ℚ};
 ghost use Rattle.nf_rational.specs.Order.{◌≤ℚ◌};
 ghost use Rattle.nf_work.specs.declared.Part.TheVariants.{Load};
 ghost use Rattle.nf_work.specs.Passing.{passes_Q};
-ghost use Rattle.nf_work.specs.Checked.{at_part, Gives};
+ghost use Rattle.nf_work.specs.declared.Op.TheVariants.{Sum};
+ghost use Rattle.nf_work.specs.Checked.{checked, at_part, Gives};
 ghost use Rattle.nf_model.specs.Curve.{NeverFalls, value};
 ghost use Rattle.nf_model_laws.specs.Capacity.{IsPositive};
 ghost use Rattle.nf_load_lists.specs.Loading.{checked_loading};
 ghost use Rattle.nf_load_lists.specs.Meanings.{IsLoaded};
 ghost use Rattle.nf_load.specs.Loadings.{loaded_of};
 
-use crate::leaving::{all_leaves, exit_points, outflow_points, queue_points};
-use crate::points::curve_of;
+use crate::curves::{exit_curve, outflow_until, queue_curve};
+use crate::leaving::all_leaves;
 use crate::waiting::all_waits;
 use nf_curve::Curve;
-use nf_frac::{Halt, Part, Q, at};
+use nf_frac::{Halt, Part, PassedAt, Q, at};
 use std::alloc::Global;
 
-/// What becomes of an inflow: by time, the amount that waits, the amount that has left, and the time at which what enters leaves.
+/// What becomes of the inflow of a link.
 #[derive(Drop, Debug)]
 pub struct Loaded {
+    /// The amount that waits, by time.
     pub queue: Curve,
+    /// The amount that has left the link, by time.
     pub outflow: Curve,
+    /// The time at which what enters leaves the link, by the time of entry.
     pub exit: Curve,
+}
+
+// One transit time after a time.
+fn after_transit(time: Q, transit: Q) -> Result<Q, PassedAt<Q>>
+    ensures { result ≡ at_part Load (checked passes_Q Sum time transit) }
+{
+    let end = at!(Part::Load, time.sum(transit));
+    Ok(end)
 }
 
 /// Queue, outflow and exits of a link with this transit time and capacity (an amount per unit of time; None: unbounded), by the law
@@ -48,20 +60,11 @@ pub fn load_link(
     let cut = inflow.cut(alloc, until, Part::Load)?;
     let waits = all_waits(alloc, &capacity, &cut)?;
     let leaves = all_leaves(alloc, &capacity, transit, &waits)?;
-    let end = at!(Part::Load, until.sum(transit));
-    let all_out = curve_of(alloc, &outflow_points(alloc, &leaves)?)?;
-    let outflow = all_out.cut(alloc, end, Part::Load)?;
-    let queue = Curve::short(
-        alloc,
-        &curve_of(alloc, &queue_points(alloc, &waits)?)?,
-        Part::Load,
-    )?;
-    let outflow = Curve::short(alloc, &outflow, Part::Load)?;
-    let exit = Curve::short(
-        alloc,
-        &curve_of(alloc, &exit_points(alloc, &leaves)?)?,
-        Part::Load,
-    )?;
+    let end = after_transit(until, transit)?;
+    let whole_outflow = outflow_until(alloc, &leaves, end)?;
+    let queue = queue_curve(alloc, &waits)?;
+    let outflow = Curve::short(alloc, &whole_outflow, Part::Load)?;
+    let exit = exit_curve(alloc, &leaves)?;
     Ok(Loaded {
         queue,
         outflow,
