@@ -26,9 +26,9 @@ use Rattle.nf_load.specs.Loadings.{before_end, over_list}
 
 -- a rate below the capacity differs from it
 pub change_apart : (passes : Passing) (rate capacity change : ℚ) → lt_ℚ rate capacity ≡ true → checked passes Difference rate capacity ≡ Ok change → change ≢ 0ℚ
-change_apart passes rate capacity change t e zero = ⊎_elim
+change_apart passes rate capacity change t e is_0 = ⊎_elim
     (λ (w : (lt_ℚ rate capacity ≡ true) × (rate <ℚ capacity)).
-    linear_false (rate ∷ capacity ∷ change ∷ []) (lt w.1 ∷ eq (checked-is passes Difference rate capacity change e) ∷ eq zero ∷ []) (search reading_of depth 12) tt)
+    linear_false (rate ∷ capacity ∷ change ∷ []) (lt w.1 ∷ eq (checked-is passes Difference rate capacity change e) ∷ eq is_0 ∷ []) (search reading_of depth 12) tt)
     (λ w. absurd (no (lt_ℚ rate capacity) t w.0))
     (lt_ℚ_cases rate capacity)
   where
@@ -37,20 +37,26 @@ change_apart passes rate capacity change t e zero = ⊎_elim
 
 -- ---- what waits so far, and over the pieces from here on
 module _ (passes : Passing) (capacity : Option ℚ) where
-  abbrev first_of : Point → Waits
-  first_of p = record { time = p.0; amount = p.1; queue = 0ℚ }
+  abbrev first_of : ℚ → Point → Waits
+  first_of queue p = record { time = p.0; amount = p.1; queue = queue }
 
-  pub begins : (xs : List Point) (p : Point) → slice_get xs 0 ≡ Some p
-      → with_front (record { time = p.0; amount = p.1; queue = 0ℚ } ∷ []) (waits_after passes capacity (record { time = p.0; amount = p.1; queue = 0ℚ }) (drop 1 xs)) ≡ all_waits passes capacity xs
-  begins [] p e = absurd (cc)
-  begins (x ∷ xs) p e =
+  at_first : (xs : List Point) (p : Point) → slice_get xs 0 ≡ Some p → with_front (first_of 0ℚ p ∷ []) (waits_after passes capacity (first_of 0ℚ p) (drop 1 xs)) ≡ all_waits passes capacity xs
+  at_first [] p e = absurd (cc)
+  at_first (x ∷ xs) p e =
       let same : p ≡ x = cc in
-      ap (λ (q : Point). with_front (first_of q ∷ []) (waits_after passes capacity (first_of q) xs)) same
-      ∙ go (waits_after passes capacity (first_of x) xs)
+      ap (λ (q : Point). with_front (first_of 0ℚ q ∷ []) (waits_after passes capacity (first_of 0ℚ q) xs)) same
+      ∙ go (waits_after passes capacity (first_of 0ℚ x) xs)
     where
-      go : (r : Checked (List Waits)) → with_front (first_of x ∷ []) r ≡ (r >>= λ later. Ok (first_of x ∷ later))
+      go : (r : Checked (List Waits)) → with_front (first_of 0ℚ x ∷ []) r ≡ (r >>= λ later. Ok (first_of 0ℚ x ∷ later))
       go (Ok ys) = refl
       go (Err q) = refl
+
+  pub begins : (xs : List Point) (p : Point) (queue : ℚ) (front : List Waits) → slice_get xs 0 ≡ Some p → queue ≡ 0ℚ → front ≡ first_of queue p ∷ []
+      → with_front front (waits_after passes capacity (first_of queue p) (drop 1 xs)) ≡ all_waits passes capacity xs
+  begins xs p queue front e none f =
+      ap (λ (l : List Waits). with_front l (waits_after passes capacity (first_of queue p) (drop 1 xs))) f
+      ∙ ap (λ (q : ℚ). with_front (first_of q p ∷ []) (waits_after passes capacity (first_of q p) (drop 1 xs))) none
+      ∙ at_first xs p e
 
   over_last : (before end : Waits) (empty : Option Waits) → last_of passes before (before_end empty end) ≡ end
   over_last before end None = refl
@@ -85,9 +91,9 @@ module _ (passes : Passing) (capacity : Option ℚ) where
 abbrev pub Later : Waits → List Point → Type 0
 Later before points = TimesRise ((before.time, before.amount) ∷ points)
 
-pub later_first : (xs : List Point) (p : Point) → IsCurve xs → slice_get xs 0 ≡ Some p → Later (record { time = p.0; amount = p.1; queue = 0ℚ }) (drop 1 xs)
-later_first [] p curve e = absurd curve
-later_first (x ∷ xs) p curve e = let same : x ≡ p = cc in subst (λ (q : Point). TimesRise ((q.0, q.1) ∷ xs)) same curve.1
+pub later_first : (xs : List Point) (p : Point) (queue : ℚ) → IsCurve xs → slice_get xs 0 ≡ Some p → Later (record { time = p.0; amount = p.1; queue = queue }) (drop 1 xs)
+later_first [] p queue curve e = absurd curve
+later_first (x ∷ xs) p queue curve e = let same : x ≡ p = cc in subst (λ (q : Point). TimesRise ((q.0, q.1) ∷ xs)) same curve.1
 
 pub later_here : (before : Waits) (xs : List Point) (i : ℕ) (p : Point) → slice_get xs i ≡ Some p → Later before (drop i xs) → before.time <ℚ p.0
 later_here before xs i p e h = let k : Later before (p ∷ drop (suc i) xs) = subst (λ (l : List Point). Later before l) (drop-at xs i p e) h in k.0
