@@ -57,6 +57,8 @@ pub fn load_link(
     ensures list { Gives loaded_of (λ q. q) result (at_part Load (checked_loading passes_Q transit capacity inflow.now.points until)) }
     ensures loaded { IfOk result (λ l. IsLoaded transit capacity inflow.now.points until (loaded_of l)) }
 {
+    // For the proof: the points of the inflow are a curve.
+    let _ = inflow.len();
     let cut = inflow.cut(alloc, until, Part::Load)?;
     let waits = all_waits(alloc, &capacity, &cut)?;
     let leaves = all_leaves(alloc, &capacity, transit, &waits)?;
