@@ -1,5 +1,5 @@
 -- The list of a link's loading, step by step: where a step stops the whole does, and what the steps come to.
-use Rattle.std.proofs.Common.{◌≡◌, List, [], ◌∷◌, Option, refl, sym, ap, ◌∙◌}
+use Rattle.std.proofs.Common.{◌≡◌, List, Option, refl, sym, ap, ◌∙◌}
 use Rattle.std.specs.Prelude.{Ok, Err, map}
 use Rattle.nf_rational.specs.Rational.{ℚ}
 use Rattle.nf_work.specs.Passing.{Passing}

@@ -1,23 +1,21 @@
 -- The queue, piece by piece of the inflow.
-use Rattle.std.proofs.Common.{◌≡◌, ◌≢◌, ⊎_elim, ℕ, zero, suc, Bool, true, false, ◌&&◌, List, [], ◌∷◌, ◌++◌, length, drop, refl, sym, ap, subst, ◌∙◌, arith}
+use Rattle.std.proofs.Common.{◌≡◌, ◌≢◌, ⊎_elim, ℕ, suc, Bool, true, false, List, [], ◌∷◌, ◌++◌, length, drop, refl, sym, ap, subst, ◌∙◌, arith}
 use Rattle.std.proofs.lemmas.List.{drop_all}
 use Rattle.std.specs.Prelude.{Some, None, Option, slice_get, Ok, Err}
 use Rattle.nf_rational.specs.Rational.{ℚ}
-use Rattle.nf_rational.specs.Operations.{0ℚ, ◌-ℚ◌}
-use Rattle.nf_rational.specs.Order.{◌<ℚ◌, lt_ℚ, le_ℚ}
+use Rattle.nf_rational.specs.Operations.{0ℚ}
+use Rattle.nf_rational.specs.Order.{◌<ℚ◌, lt_ℚ}
 use Rattle.nf_rational_laws.proofs.Polynomial.{reading_of}
 use Rattle.nf_rational_laws.proofs.Linear.{lt, eq, linear_false}
 use Rattle.nf_rational_laws.proofs.Tests.{lt_ℚ_cases}
 use Rattle.nf_work.specs.Passing.{Passing}
 use Rattle.nf_work.specs.declared.Part.{Part}
 use Rattle.nf_work.specs.declared.PassedAt.{PassedAt}
-use Rattle.nf_work.specs.Checked.{Checked, checked, at_part, placed, ◌>>=◌}
+use Rattle.nf_work.specs.Checked.{Checked, checked, at_part, ◌>>=◌}
 use Rattle.nf_work.specs.declared.Op.TheVariants.{Difference}
 use Rattle.nf_work.proofs.Each.{with_front}
 use Rattle.nf_model.specs.Curve.{Point, TimesRise, IsCurve}
-use Rattle.nf_lists.specs.Signs.{is_zero, is_positive}
-use Rattle.nf_curve_lists.specs.Lines.{checked_slope}
-use Rattle.nf_load_lists.specs.Loading.{Waits, last_of, after_piece, waits_after, all_waits, moves, stays_or_moves, drains_at}
+use Rattle.nf_load_lists.specs.Loading.{Waits, last_of, after_piece, waits_after, all_waits}
 use Rattle.nf_curve_laws.proofs.Operations.{checked-is}
 use Rattle.nf_curve.proofs.Exits.{was_ok, after_err, front_err, front_more, front_ends}
 use Rattle.nf_curve.proofs.Shortening.{drop-at}

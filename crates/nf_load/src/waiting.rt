@@ -1,11 +1,12 @@
 // The queue of a link, piece by piece of what enters it.
-ghost use Rattle.std.specs.Prelude.{◌≡◌, [], ◌∷◌, ◌++◌, Some, true, false, IfOk, OnOk};
+ghost use Rattle.std.specs.Prelude.{◌≡◌, ◌&&◌, [], ◌∷◌, ◌++◌, Some, true, IfOk, OnOk, IsTrue};
 ghost use Rattle.nf_rational.specs.Rational.{ℚ};
 ghost use Rattle.nf_rational.specs.Operations.{0ℚ};
-ghost use Rattle.nf_rational.specs.Order.{◌<ℚ◌, lt_ℚ};
+ghost use Rattle.nf_rational.specs.Order.{◌<ℚ◌, lt_ℚ, le_ℚ};
 ghost use Rattle.nf_work.specs.declared.Part.TheVariants.{Load};
 ghost use Rattle.nf_work.specs.Passing.{passes_Q};
 ghost use Rattle.nf_work.specs.Checked.{at_part, seen_at, Gives};
+ghost use Rattle.nf_lists.specs.Signs.{is_zero, is_positive};
 ghost use Rattle.nf_curve_lists.specs.Lines.{checked_slope, checked_line};
 ghost use Rattle.nf_load_lists.specs.Loading as lists;
 ghost use Rattle.nf_load.specs.Loadings.{over_list};
@@ -140,6 +141,21 @@ fn drain(capacity: Q, rate: Q, before: &Waits, end: &Point) -> Result<Over, Pass
     grow(capacity, rate, before, end)
 }
 
+// An empty queue stays empty.
+fn stays_empty(capacity: Q, rate: Q, queue: Q) -> bool
+    ensures { result ≡ (is_zero queue && le_ℚ rate capacity) }
+{
+    queue.is_zero() && rate.is_at_most(capacity)
+}
+
+// A queue that isn't empty drains.
+fn drains(capacity: Q, rate: Q, queue: Q) -> bool
+    ensures test { result ≡ (is_positive queue && lt_ℚ rate capacity) }
+    ensures below { IsTrue result → lt_ℚ rate capacity ≡ true }
+{
+    Q::zero().is_below(queue) && rate.is_below(capacity)
+}
+
 // What waits over a piece of the inflow, for a link with a capacity.
 fn over_bounded(capacity: Q, before: &Waits, end: &Point) -> Result<Over, PassedAt<Q>>
     requires { before.now.time <ℚ end.now.0 }
@@ -147,10 +163,10 @@ fn over_bounded(capacity: Q, before: &Waits, end: &Point) -> Result<Over, Passed
     ensures end { IfOk result (λ over. over.end.time ≡ end.now.0) }
 {
     let rate = inflow_rate(before, end)?;
-    if before.queue.is_zero() && rate.is_at_most(capacity) {
+    if stays_empty(capacity, rate, before.queue) {
         return Ok(empty_at(end));
     }
-    if Q::zero().is_below(before.queue) && rate.is_below(capacity) {
+    if drains(capacity, rate, before.queue) {
         return drain(capacity, rate, before, end);
     }
     grow(capacity, rate, before, end)

@@ -8,7 +8,7 @@ use Rattle.nf_work.specs.Checked.{checked, at_part, each}
 use Rattle.nf_model.specs.Curve.{IsCurve}
 use Rattle.nf_curve_lists.specs.Values.{checked_cut}
 use Rattle.nf_curve_lists.specs.Short.{checked_short}
-use Rattle.nf_load_lists.specs.Loading.{Waits, Leaves, Loaded, queue_point, exit_point, outflow_points, leaves, all_waits, checked_loading}
+use Rattle.nf_load_lists.specs.Loading.{Waits, Leaves, queue_point, exit_point, outflow_points, leaves, all_waits, checked_loading}
 use Rattle.nf_load_laws.proofs.Loading.{checked_loading-is}
 use Rattle.nf_curve.proofs.Exits.{was_ok, stops_on}
 use Rattle.nf_load.proofs.LoadedCurves.{queue_curve, outflow_curve, exit_curve, end_after_0}

@@ -1,16 +1,15 @@
-use Rattle.std.proofs.Common.{◌≡◌, ◌+◌, suc, List, [], ◌∷◌, ◌++◌, drop, refl, sym, ap, ◌∙◌, arith}
+use Rattle.std.proofs.Common.{◌+◌, suc, List, [], ◌∷◌, ◌++◌, drop, refl, sym, ap, ◌∙◌, arith}
 use Rattle.std.proofs.lemmas.Result.{err_from_is_err_and}
 use Rattle.nf_work.specs.declared.Part.TheVariants.{Load}
 use Rattle.nf_work.specs.Passing.{passes_Q}
 use Rattle.nf_work.proofs.Each.{with_front}
 use Rattle.nf_load_lists.specs.Loading.{Waits, waits_after}
-use Rattle.nf_load.proofs.QueueSteps.{begins, goes_on, stops, ends, later_first, later_here, later_next}
+use Rattle.nf_load.proofs.QueueSteps.{begins, goes_on, stops, later_first, later_here, later_next}
 use Rattle.nf_load.proofs.waiting.all_waits.Goals as goal
 
 pub loop-i-init : goal.loop-i-init
 loop-i-init c =
-    let first : Waits = record { time = c.point-time.result.0; amount = c.point-time.result.1; queue = c.zero.result } in
-    (
+    let first : Waits = record { time = c.point-time.result.0; amount = c.point-time.result.1; queue = c.zero.result } in (
       begins passes_Q c.args.capacity.now c.args.inflow.now.points c.point-time.result c.zero.result c.push.new.self.items c.point-time.ensures c.zero.ensures
           (c.in_ok-push.ensures.items ∙ ap (λ (l : List Waits). l ++ first ∷ []) c.new-all.ensures.items),
       later_first c.args.inflow.now.points c.point-time.result c.zero.result c.len-count.ensures.curve c.point-time.ensures,

@@ -1,4 +1,4 @@
-use Rattle.std.proofs.Common.{Bool, true, sym, ap, ◌∙◌}
+use Rattle.std.proofs.Common.{Bool, sym, ap, ◌∙◌}
 use Rattle.nf_rational.specs.Rational.{ℚ}
 use Rattle.nf_rational.specs.Order.{lt_ℚ}
 use Rattle.nf_work.specs.declared.Part.TheVariants.{Load}
