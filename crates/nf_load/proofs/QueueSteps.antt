@@ -1,6 +1,5 @@
 -- The queue, piece by piece of the inflow.
-use Rattle.std.proofs.Common.{◌≡◌, ◌≢◌, ⊎_elim, ℕ, suc, Bool, true, false, List, [], ◌∷◌, ◌++◌, length, drop, refl, sym, ap, subst, ◌∙◌, arith}
-use Rattle.std.proofs.lemmas.List.{drop_all}
+use Rattle.std.proofs.Common.{◌≡◌, ◌≢◌, ⊎_elim, ℕ, suc, true, List, [], ◌∷◌, ◌++◌, drop, refl, sym, ap, subst, ◌∙◌}
 use Rattle.std.specs.Prelude.{Some, None, Option, slice_get, Ok, Err}
 use Rattle.nf_rational.specs.Rational.{ℚ}
 use Rattle.nf_rational.specs.Operations.{0ℚ}
@@ -17,7 +16,7 @@ use Rattle.nf_work.proofs.Each.{with_front}
 use Rattle.nf_model.specs.Curve.{Point, TimesRise, IsCurve}
 use Rattle.nf_load_lists.specs.Loading.{Waits, last_of, after_piece, waits_after, all_waits}
 use Rattle.nf_curve_laws.proofs.Operations.{checked-is}
-use Rattle.nf_curve.proofs.Exits.{was_ok, after_err, front_err, front_more, front_ends}
+use Rattle.nf_curve.proofs.Exits.{was_ok, after_err, front_err, front_more}
 use Rattle.nf_curve.proofs.Shortening.{drop-at}
 use Rattle.nf_load.specs.declared.waiting.Over.{Over}
 use Rattle.nf_load.specs.Loadings.{before_end, over_list}
@@ -27,11 +26,8 @@ pub change_apart : (passes : Passing) (rate capacity change : ℚ) → lt_ℚ ra
 change_apart passes rate capacity change t e is_0 = ⊎_elim
     (λ (w : (lt_ℚ rate capacity ≡ true) × (rate <ℚ capacity)).
     linear_false (rate ∷ capacity ∷ change ∷ []) (lt w.1 ∷ eq (checked-is passes Difference rate capacity change e) ∷ eq is_0 ∷ []) (search reading_of depth 12) tt)
-    (λ w. absurd (no (lt_ℚ rate capacity) t w.0))
+    (λ w. absurd (cc (t, w.0)))
     (lt_ℚ_cases rate capacity)
-  where
-    no : (b : Bool) → b ≡ true → b ≡ false → ⊥
-    no b e f = cc
 
 -- ---- what waits so far, and over the pieces from here on
 module _ (passes : Passing) (capacity : Option ℚ) where
@@ -78,12 +74,6 @@ module _ (passes : Passing) (capacity : Option ℚ) where
 
     pub stops : (q : PassedAt ℚ) → at_part part (after_piece passes capacity before p) ≡ Err q → at_part part all ≡ Err q
     stops q e = ap (at_part part) (sym from_here) ∙ front_err part front _ q (after_err part (after_piece passes capacity before p) _ q e)
-
-  -- after the last point
-  pub ends : (part : Part) (front : List Waits) (before : Waits) (points : List Point) (i : ℕ) (all : Checked (List Waits)) → i ≡ length points
-      → with_front front (waits_after passes capacity before (drop i points)) ≡ all → at_part part all ≡ Ok front
-  ends part front before points i all n so =
-      front_ends part front all (sym (ap (λ (l : List Point). with_front front (waits_after passes capacity before l)) (drop_all i points (omega arith))) ∙ so)
 
 -- ---- the times of what waits rise
 abbrev pub Later : Waits → List Point → Type 0
