@@ -10,7 +10,7 @@ use crate::waits::{Leaves, Waits};
 use nf_frac::{Halt, Part, PassedAt, Q, at};
 use std::alloc::Global;
 
-// The exit of what enters a link with a capacity.
+// The exit of what enters: behind what waits before it, and then one transit time later.
 #[tactic(auto, unfolding(nf_load_lists::specs::Loading::exit_after), using(crate::proofs::ExitSteps::capacity_apart))]
 fn exit_after(capacity: &Option<Q>, transit: Q, waits: &Waits) -> Result<Q, PassedAt<Q>>
     requires { IsPositive capacity.now }

@@ -1,5 +1,6 @@
-//! Given inflow of the links of a network: loads files, and the amounts that their pieces supply. Times, amounts and rates are exact
-//! fractions. The file format is this project's own.
+//! Given inflow of the links of a network: loads files, the amounts that their pieces supply, and the queue, outflow and exits that
+//! come of it by the law of the point queue (Koch and Skutella 2011). Times, amounts and rates are exact fractions. The file format
+//! is this project's own.
 #![tactic(auto)]
 
 mod amounts;

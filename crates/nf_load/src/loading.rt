@@ -39,9 +39,9 @@ fn after_transit(time: Q, transit: Q) -> Result<Q, PassedAt<Q>>
 }
 
 /// Queue, outflow and exits of a link with this transit time and capacity (an amount per unit of time; None: unbounded), by the law
-/// of the point queue: queue and exit at each time up to `until`, the outflow up to one transit time later. All are in short form.
-/// The inflow is an amount by time, 0 at time 0, and never falls. Passed comes exactly at the first operation of its list that
-/// passes, and has part Load.
+/// of the point queue (Koch and Skutella 2011): queue and exit at each time up to `until`, the outflow up to one transit time later.
+/// All are in short form. The inflow is an amount by time, 0 at time 0, and never falls; no time is negative, and a capacity is above
+/// 0. Passed comes exactly at the first operation of its list that passes, and has part Load.
 pub fn load_link(
     alloc: Global,
     transit: Q,
