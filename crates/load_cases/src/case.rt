@@ -1,12 +1,13 @@
-// A case: its title, the file of its network, and its loads file.
+// A case: its title, the file of its network, its loads file, and perhaps a horizon.
 use std::alloc::{AllocError, Global};
 
-/// A case.
+/// A case. With a horizon the links are loaded up to it.
 #[derive(Drop)]
 pub struct Case {
     pub title: String,
     pub net: Vec<u8>,
     pub loads: Vec<u8>,
+    pub horizon: Option<String>,
     loads_come: bool,
 }
 
@@ -17,14 +18,19 @@ impl Case {
             title: title.to_owned(alloc)?,
             net: Vec::new(alloc),
             loads: Vec::new(alloc),
+            horizon: None,
             loads_come: false,
         })
     }
 
     /// Adds a line of the input that begins no case.
-    pub fn add_line(&mut self, line: &str) -> Result<(), AllocError> {
+    pub fn add_line(&mut self, alloc: Global, line: &str) -> Result<(), AllocError> {
         if line == "--" {
             self.loads_come = true;
+            return Ok(());
+        }
+        if let Some(horizon) = line.strip_prefix("++ ") {
+            self.horizon = Some(horizon.to_owned(alloc)?);
             return Ok(());
         }
         let text = if self.loads_come {

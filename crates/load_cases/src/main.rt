@@ -1,13 +1,17 @@
-//! What loads files are read as. The input is cases, one after another:
+//! What loads files are read as, and how links are loaded. The input is cases, one after another:
 //!
 //!     == TITLE       begins a case, with the file of its network
+//!     ++ HORIZON     the links are loaded up to this time
 //!     --             begins the loads file of a case
 //!     LINE           any other line is one of the file, in the form of `case_lines`
 //!
 //! Of each case the title is printed, and then the first rule that the loads file breaks, with the line; or the pieces of each link.
+//! With a horizon follow, link by link, the points of queue, outflow and exit. Where an operation passes, `passed`, the operation
+//! and its operands follow, and nothing more of the case.
 #![tactic(auto)]
 
 mod case;
+mod loading;
 mod shown;
 mod telling;
 
@@ -22,7 +26,7 @@ fn read_cases<R: Input + AllocGlobal>(rt: &R) -> io::Result<Vec<Case>> {
         if let Some(title) = line.strip_prefix("== ") {
             cases.push(Case::new(rt.alloc(), title)?)?;
         } else if let Some(case) = cases.last_mut() {
-            case.add_line(line.as_str())?;
+            case.add_line(rt.alloc(), line.as_str())?;
         }
     }
     Ok(cases)

@@ -1,8 +1,9 @@
-// What a case's loads file is read as, and what becomes of its inflow.
+// What a case's loads file is read as, and what its links are loaded with.
 ghost use Rattle.std.specs.Prelude.{◌≡◌, ◌<◌, ◌≤◌, length};
 ghost use Rattle.nf_lines.specs.Faults.{longest_text};
 
 use crate::case::Case;
+use crate::loading::tell_loading;
 use crate::shown::Shown;
 use nf_load::{Loads, LoadsFault, parse_loads};
 use nf_net::{LONGEST_FILE, LinkId, NetFault, Network, parse};
@@ -34,7 +35,13 @@ fn tell_case<R: Print + AllocGlobal>(rt: &R, net: &Network, case: &Case) -> io::
         return println!(rt; "too long");
     }
     match parse_loads(rt.alloc(), net, &case.loads) {
-        Ok(loads) => tell_loads(rt, net, &loads),
+        Ok(loads) => {
+            tell_loads(rt, net, &loads)?;
+            match &case.horizon {
+                Some(horizon) => tell_loading(rt, net, &loads, horizon.as_str()),
+                None => Ok(()),
+            }
+        }
         Err(LoadsFault::Broken { rule, line }) => println!(rt; "loads line {line}: {rule:?}"),
         Err(LoadsFault::Memory) => println!(rt; "memory is wanting"),
     }

@@ -5,3 +5,7 @@ pub mod Adding
 pub mod LoadsRead
 pub mod Supplying
 pub mod PointByPoint
+pub mod QueueSteps
+pub mod ExitSteps
+pub mod LoadedCurves
+pub mod LoadingSteps

@@ -1,5 +1,5 @@
 -- Cumulative amounts, piece by piece.
-use Rattle.std.proofs.Common.{◌≡◌, ⊎_elim, ℕ, zero, suc, drop, Bool, true, false, List, [], ◌∷◌, ◌++◌, refl, sym, ap, ◌∙◌, append_assoc}
+use Rattle.std.proofs.Common.{◌≡◌, ⊎_elim, ℕ, suc, drop, Bool, true, false, List, [], ◌∷◌, ◌++◌, refl, sym, ap, ◌∙◌, append_assoc}
 use Rattle.std.specs.Prelude.{Ok, Err, Some, slice_get}
 use Rattle.nf_rational.specs.Rational.{ℚ}
 use Rattle.nf_rational.specs.Operations.{0ℚ}
@@ -15,6 +15,7 @@ use Rattle.nf_lists.specs.Signs.{is_same}
 use Rattle.nf_load_lists.specs.Cumulative.{end_of, point_after_0, point_if_after_0, with_piece, cumulative_from, checked_cumulative}
 use Rattle.nf_curve_laws.proofs.Operations.{is_same_cases}
 use Rattle.nf_curve.proofs.Exits.{was_ok}
+use Rattle.nf_curve.proofs.Shortening.{drop-at}
 
 -- ---- points after time 0
 pub at_0 : (t y : ℚ) → t ≡ 0ℚ → point_if_after_0 t y ≡ []
@@ -84,12 +85,7 @@ module _ (passes : Passing) where
 
 -- ---- the same of the piece of a number
 pub piece_first : (xs : List Piece) (i next : ℕ) (p : Piece) → slice_get xs i ≡ Some p → next ≡ suc i → drop i xs ≡ p ∷ drop next xs
-piece_first xs i next p e n = from xs i e ∙ ap (λ (k : ℕ). p ∷ drop k xs) (sym n)
-  where
-    from : (xs : List Piece) (i : ℕ) → slice_get xs i ≡ Some p → drop i xs ≡ p ∷ drop (suc i) xs
-    from [] i e = absurd (cc)
-    from (x ∷ xs) zero e = let same : x ≡ p = cc in ap (λ (q : Piece). q ∷ xs) same
-    from (x ∷ xs) (suc i) e = from xs i e
+piece_first xs i next p e n = drop-at xs i p e ∙ ap (λ (k : ℕ). p ∷ drop k xs) (sym n)
 
 module _ (passes : Passing) (part : Part) (front : List Point) (so_far last : ℚ) (pieces : List Piece) (i next : ℕ) (piece : Piece)
     (at : slice_get pieces i ≡ Some piece) (n : next ≡ suc i) (so : with_front front (cumulative_from passes so_far (drop i pieces) last) ≡ checked_cumulative passes pieces last) where

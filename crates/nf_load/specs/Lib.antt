@@ -2,3 +2,5 @@ pub mod Entries
 pub mod Drafts
 pub mod Files
 pub mod Kept
+pub mod Codes
+pub mod Loadings

@@ -1,0 +1,11 @@
+-- The exits of what enters.
+use Rattle.std.proofs.Common.{◌≡◌, ◌≢◌, Option}
+use Rattle.std.specs.Prelude.{Some}
+use Rattle.nf_rational.specs.Rational.{ℚ}
+use Rattle.nf_rational.specs.Operations.{0ℚ}
+use Rattle.nf_rational_laws.proofs.Order.{not_both_ℚ, ≤ℚ_of_same}
+use Rattle.nf_model_laws.specs.Capacity.{IsPositive}
+
+-- a capacity isn't 0
+pub capacity_apart : (capacity : Option ℚ) (rate : ℚ) → IsPositive capacity → capacity ≡ Some rate → rate ≢ 0ℚ
+capacity_apart capacity rate h e is_0 = not_both_ℚ 0ℚ rate (h rate e) (≤ℚ_of_same rate 0ℚ is_0)

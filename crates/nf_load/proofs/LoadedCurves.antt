@@ -1,0 +1,64 @@
+-- The curves of a link's loading, before they are brought into short form.
+use Rattle.std.proofs.Common.{◌≡◌, List, [], ◌∷◌, Option, refl, sym, ap, subst, ◌∙◌}
+use Rattle.std.specs.Prelude.{Ok, map}
+use Rattle.nf_rational.specs.Rational.{ℚ}
+use Rattle.nf_rational.specs.Operations.{0ℚ, ◌+ℚ◌}
+use Rattle.nf_rational.specs.Order.{◌≤ℚ◌}
+use Rattle.nf_rational_laws.proofs.Polynomial.{reading_of}
+use Rattle.nf_rational_laws.proofs.Linear.{le, linear_le}
+use Rattle.nf_work.specs.Passing.{Passing}
+use Rattle.nf_work.specs.Checked.{checked, each}
+use Rattle.nf_work.specs.declared.Op.TheVariants.{Sum}
+use Rattle.nf_model.specs.Curve.{Point, value, IsCurve, NeverFalls}
+use Rattle.nf_model_laws.specs.Capacity.{IsPositive}
+use Rattle.nf_curve_lists.specs.Values.{checked_cut}
+use Rattle.nf_load_lists.specs.Loading.{Waits, Leaves, queue_point, exit_point, outflow_points, outflow_from, leaves, all_waits}
+use Rattle.nf_curve_laws.proofs.Operations.{checked-is}
+use Rattle.nf_curve_laws.proofs.Values.{Cut, checked_cut-is}
+use Rattle.nf_load_laws.proofs.Functions.{queue_at, exit_at, out_at}
+use Rattle.nf_load_laws.proofs.Waiting.{AllWaits, all_waits-chain}
+use Rattle.nf_load_laws.proofs.Leaving.{AllLeaves, leaves-are, queue-follows, exit-follows, all_out-follows}
+use Rattle.nf_load_laws.proofs.Loading.{Follows, by_following}
+
+module _ (passes : Passing) (transit : ℚ) (capacity : Option ℚ) (inflow : List Point) (last : ℚ) (c : IsCurve inflow) (from_0 : 0ℚ ≤ℚ last)
+    (cut : List Point) (cut_is : checked_cut passes inflow last ≡ Ok cut) (waits : List Waits) (waits_are : all_waits passes capacity cut ≡ Ok waits) where
+  all_wait : AllWaits transit capacity inflow c last waits
+  all_wait =
+      let k : Cut passes inflow last cut = checked_cut-is passes inflow last cut c from_0 cut_is in
+      all_waits-chain passes transit capacity inflow c last k.first k.rest waits k.begins k.follows
+      (ap (λ (l : List Point). all_waits passes capacity l) (sym k.cut_is) ∙ waits_are)
+
+  pub queue_curve : IsCurve (map queue_point waits)
+  queue_curve =
+      let w = all_wait in
+      (subst (λ (l : List Waits). Follows (queue_at transit capacity inflow c) last (map queue_point l)) (sym w.waits_are)
+      (by_following _ last (queue_point w.first) (map queue_point w.rest) w.begins (queue-follows transit capacity inflow c last w.first w.rest w.chain))).curve
+
+  module _ (none : value inflow 0ℚ ≡ 0ℚ) (rises : NeverFalls (value inflow)) (waits_0 : 0ℚ ≤ℚ transit) (positive : IsPositive capacity)
+      (all : List Leaves) (all_are : each (leaves passes capacity transit) waits ≡ Ok all) where
+    all_leave : AllLeaves transit capacity inflow c passes all_wait.first all_wait.rest all
+    all_leave = leaves-are transit capacity inflow c passes last all_wait.first all_wait.rest all all_wait.chain
+        (ap (λ (l : List Waits). each (leaves passes capacity transit) l) (sym all_wait.waits_are) ∙ all_are)
+
+    pub exit_curve : IsCurve (map exit_point all)
+    exit_curve =
+        let w = all_wait in
+        let a = all_leave in
+        (subst (λ (l : List Leaves). Follows (exit_at transit capacity inflow c) last (map exit_point l)) (sym a.all_are)
+        (by_following _ last (exit_point a.first) (map exit_point a.others) (ap (λ (y : Waits). y.time) a.are.0 ∙ w.begins)
+        (exit-follows transit capacity inflow c positive rises waits_0 last w.first w.rest a.first a.others w.chain a.are))).curve
+
+    pub outflow_curve : IsCurve (outflow_points all)
+    outflow_curve =
+        let w = all_wait in
+        let a = all_leave in
+        (subst (λ (l : List Leaves). Follows (out_at transit capacity inflow c) (exit_at transit capacity inflow c last) (outflow_points l)) (sym a.all_are)
+        (by_following _ _ (0ℚ, 0ℚ) (outflow_from 0ℚ (a.first ∷ a.others)) refl
+        (all_out-follows transit capacity inflow c positive rises waits_0 last w.first w.rest a.first a.others w.begins none w.chain a.are))).curve
+
+-- the end of the outflow isn't before time 0
+pub end_after_0 : (passes : Passing) (last transit end : ℚ) → 0ℚ ≤ℚ last → 0ℚ ≤ℚ transit → checked passes Sum last transit ≡ Ok end → 0ℚ ≤ℚ end
+end_after_0 passes last transit end h k e = subst (λ (z : ℚ). 0ℚ ≤ℚ z) (sym (checked-is passes Sum last transit end e)) (both last transit h k)
+  where
+    both : (x y : ℚ) → 0ℚ ≤ℚ x → 0ℚ ≤ℚ y → 0ℚ ≤ℚ x +ℚ y
+    both x y h k = linear_le (x ∷ y ∷ []) (le h ∷ le k ∷ []) (search reading_of depth 12) tt

@@ -1,0 +1,33 @@
+use Rattle.std.proofs.Common.{◌+◌, suc, List, [], ◌∷◌, ◌++◌, drop, refl, sym, ap, ◌∙◌, arith}
+use Rattle.std.proofs.lemmas.Result.{err_from_is_err_and}
+use Rattle.nf_work.specs.declared.Part.TheVariants.{Load}
+use Rattle.nf_work.specs.Passing.{passes_Q}
+use Rattle.nf_work.proofs.Each.{with_front}
+use Rattle.nf_load_lists.specs.Loading.{Waits, waits_after}
+use Rattle.nf_load.proofs.QueueSteps.{begins, goes_on, stops, later_first, later_here, later_next}
+use Rattle.nf_load.proofs.waiting.all_waits.Goals as goal
+
+pub loop-i-init : goal.loop-i-init
+loop-i-init c =
+    let first : Waits = record { time = c.point-time.result.0; amount = c.point-time.result.1; queue = c.zero.result } in (
+      begins passes_Q c.args.capacity.now c.args.inflow.now.points c.point-time.result c.zero.result c.push.new.self.items c.point-time.ensures c.zero.ensures
+          (c.in_ok-push.ensures.items ∙ ap (λ (l : List Waits). l ++ first ∷ []) c.new-all.ensures.items),
+      later_first c.args.inflow.now.points c.point-time.result c.zero.result c.len-count.ensures.curve c.point-time.ensures,
+    )
+
+pub over_piece-requires : goal.over_piece-requires
+over_piece-requires c = later_here c.loop-i.last c.args.inflow.now.points c.loop-i.i c.point-end.result c.point-end.ensures c.loop-i.invariant.1
+
+pub returns-in_err-over : goal.returns-in_err-over
+returns-in_err-over c =
+    let p = err_from_is_err_and c.from_residual-in_err-over.result c.from_residual-in_err-over.ensures.1 in
+    rw (p.1, p.2) (stops passes_Q c.args.capacity.now Load c.loop-i.all.items c.loop-i.last c.args.inflow.now.points c.loop-i.i (suc c.loop-i.i) c.point-end.result _
+    c.point-end.ensures refl c.loop-i.invariant.0 c.in_err-over.field-0.0 (sym c.in_err-over.ensures.list))
+
+pub loop-i-preserved : goal.loop-i-preserved
+loop-i-preserved c = (
+  ap (λ (l : List Waits). with_front l (waits_after passes_Q c.args.capacity.now c.in_ok-over.over.end (drop (c.loop-i.i + 1) c.args.inflow.now.points))) c.in_ok-put.ensures
+      ∙ goes_on passes_Q c.args.capacity.now Load c.loop-i.all.items c.loop-i.last c.args.inflow.now.points c.loop-i.i (c.loop-i.i + 1) c.point-end.result _
+      c.point-end.ensures (omega arith) c.loop-i.invariant.0 c.in_ok-over.over (sym c.in_ok-over.ensures.list),
+  later_next c.loop-i.last c.in_ok-over.over.end c.args.inflow.now.points c.loop-i.i (c.loop-i.i + 1) c.point-end.result c.point-end.ensures (omega arith) c.in_ok-over.ensures.end c.loop-i.invariant.1,
+)

@@ -1,0 +1,10 @@
+use Rattle.std.proofs.Common.{◌≡◌, drop}
+use Rattle.nf_work.specs.Passing.{passes_Q}
+use Rattle.nf_work.proofs.Each.{with_front}
+use Rattle.nf_load_lists.specs.Loading.{waits_after, all_waits}
+use Rattle.nf_load.proofs.QueueSteps.{Later}
+use Rattle.nf_load.proofs.waiting.all_waits.Given as goal
+
+-- what waits so far, and over the pieces from here on
+abbrev pub invariant-loop-i : goal.invariant-loop-i
+invariant-loop-i l = (with_front l.all.items (waits_after passes_Q l.capacity l.last (drop l.i l.inflow.points)) ≡ all_waits passes_Q l.capacity l.inflow.points) × Later l.last (drop l.i l.inflow.points)

@@ -1,0 +1,96 @@
+// The curves of a link: its queue, its outflow and its exits.
+ghost use Rattle.std.specs.Prelude.{◌≡◌, map, IfOk};
+ghost use Rattle.nf_rational.specs.Operations.{0ℚ};
+ghost use Rattle.nf_rational.specs.Order.{◌≤ℚ◌};
+ghost use Rattle.nf_work.specs.declared.Part.TheVariants.{Load};
+ghost use Rattle.nf_work.specs.Passing.{passes_Q};
+ghost use Rattle.nf_work.specs.Checked.{at_part, Gives};
+ghost use Rattle.nf_model.specs.Curve.{IsCurve};
+ghost use Rattle.nf_lists.specs.Signs.{is_same as is_same_by};
+ghost use Rattle.nf_curve_lists.specs.Values.{checked_cut};
+ghost use Rattle.nf_curve_lists.specs.Short.{checked_short};
+ghost use Rattle.nf_load_lists.specs.Loading as lists;
+ghost use Rattle.nf_load_lists.specs.Loading.{queue_point, exit_point};
+
+use crate::points::{Point, curve_of};
+use crate::waits::{Leaves, Waits};
+use nf_curve::Curve;
+use nf_frac::{Halt, Part, Q};
+use std::alloc::{AllocError, Global};
+
+// The points of the queue.
+fn queue_points(alloc: Global, waits: &[Waits]) -> Result<Vec<Point>, AllocError>
+    ensures { IfOk result (λ points. points.items ≡ map queue_point waits.now) }
+{
+    let mut points = Vec::new(alloc);
+    for moment in waits {
+        points.push((moment.time, moment.queue))?;
+    }
+    Ok(points)
+}
+
+// The points of the exits.
+fn exit_points(alloc: Global, all: &[Leaves]) -> Result<Vec<Point>, AllocError>
+    ensures { IfOk result (λ points. points.items ≡ map exit_point all.now) }
+{
+    let mut points = Vec::new(alloc);
+    for one in all {
+        points.push((one.waits.time, one.exit))?;
+    }
+    Ok(points)
+}
+
+// Two times are equal.
+#[tactic(auto, using(nf_frac::proofs::Comparisons::same_by_order))]
+fn is_same(one: Q, other: Q) -> bool
+    ensures { result ≡ is_same_by one other }
+{
+    one == other
+}
+
+// The points of the outflow: at time 0, and at each exit that isn't the one before.
+fn outflow_points(alloc: Global, all: &[Leaves]) -> Result<Vec<Point>, AllocError>
+    ensures { IfOk result (λ points. points.items ≡ lists.outflow_points all.now) }
+{
+    let mut points = Vec::new(alloc);
+    let mut last = Q::zero();
+    points.push((last, Q::zero()))?;
+    for one in all {
+        if !is_same(last, one.exit) {
+            points.push((one.exit, one.waits.amount))?;
+            last = one.exit;
+        }
+    }
+    Ok(points)
+}
+
+/// The queue by time, in short form.
+pub(crate) fn queue_curve(alloc: Global, waits: &[Waits]) -> Result<Curve, Halt<Q>>
+    requires { IsCurve (map queue_point waits.now) }
+    ensures { Gives (λ c. c.points) (λ q. q) result (at_part Load (checked_short passes_Q (map queue_point waits.now))) }
+{
+    let points = queue_points(alloc, waits)?;
+    let curve = curve_of(alloc, &points)?;
+    Curve::short(alloc, &curve, Part::Load)
+}
+
+/// The exit by the time of entry, in short form.
+pub(crate) fn exit_curve(alloc: Global, all: &[Leaves]) -> Result<Curve, Halt<Q>>
+    requires { IsCurve (map exit_point all.now) }
+    ensures { Gives (λ c. c.points) (λ q. q) result (at_part Load (checked_short passes_Q (map exit_point all.now))) }
+{
+    let points = exit_points(alloc, all)?;
+    let curve = curve_of(alloc, &points)?;
+    Curve::short(alloc, &curve, Part::Load)
+}
+
+/// The outflow by time, up to the time `end`.
+pub(crate) fn outflow_until(alloc: Global, all: &[Leaves], end: Q) -> Result<Curve, Halt<Q>>
+    requires curve { IsCurve (lists.outflow_points all.now) }
+    requires end { 0ℚ ≤ℚ end }
+    ensures { Gives (λ c. c.points) (λ q. q) result (at_part Load (checked_cut passes_Q (lists.outflow_points all.now) end)) }
+{
+    let points = outflow_points(alloc, all)?;
+    let curve = curve_of(alloc, &points)?;
+    curve.cut(alloc, end, Part::Load)
+}

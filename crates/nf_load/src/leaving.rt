@@ -1,0 +1,61 @@
+// When what enters a link leaves it.
+ghost use Rattle.std.specs.Prelude.{◌≡◌};
+ghost use Rattle.nf_work.specs.declared.Part.TheVariants.{Load};
+ghost use Rattle.nf_work.specs.Passing.{passes_Q};
+ghost use Rattle.nf_work.specs.Checked.{at_part, each, Gives};
+ghost use Rattle.nf_model_laws.specs.Capacity.{IsPositive};
+ghost use Rattle.nf_load_lists.specs.Loading as lists;
+
+use crate::waits::{Leaves, Waits};
+use nf_frac::{Halt, Part, PassedAt, Q, at};
+use std::alloc::Global;
+
+// The exit of what enters: behind what waits before it, and then one transit time later.
+#[tactic(auto, unfolding(nf_load_lists::specs::Loading::exit_after), using(crate::proofs::ExitSteps::capacity_apart))]
+fn exit_after(capacity: &Option<Q>, transit: Q, waits: &Waits) -> Result<Q, PassedAt<Q>>
+    requires { IsPositive capacity.now }
+    ensures { result ≡ at_part Load (lists.exit_after passes_Q capacity.now transit waits.now) }
+{
+    match capacity {
+        Some(capacity) => {
+            let wait = at!(Part::Load, waits.queue.quotient(*capacity));
+            let arrival = at!(Part::Load, waits.time.sum(transit));
+            let exit = at!(Part::Load, arrival.sum(wait));
+            Ok(exit)
+        }
+        None => {
+            let exit = at!(Part::Load, waits.time.sum(transit));
+            Ok(exit)
+        }
+    }
+}
+
+// The exit of what enters at a moment.
+fn leaves(capacity: &Option<Q>, transit: Q, waits: &Waits) -> Result<Leaves, PassedAt<Q>>
+    requires { IsPositive capacity.now }
+    ensures { result ≡ at_part Load (lists.leaves passes_Q capacity.now transit waits.now) }
+{
+    let exit = exit_after(capacity, transit, waits)?;
+    Ok(Leaves {
+        waits: *waits,
+        exit,
+    })
+}
+
+/// The exit of what enters at each of some moments.
+pub(crate) fn all_leaves(
+    alloc: Global,
+    capacity: &Option<Q>,
+    transit: Q,
+    waits: &[Waits],
+) -> Result<Vec<Leaves>, Halt<Q>>
+    requires { IsPositive capacity.now }
+    ensures { Gives (λ all. all.items) (λ q. q) result (at_part Load (each (lists.leaves passes_Q capacity.now transit) waits.now)) }
+{
+    let mut all = Vec::new(alloc);
+    for moment in waits {
+        let one = leaves(capacity, transit, moment)?;
+        all.push(one)?;
+    }
+    Ok(all)
+}

@@ -1,0 +1,222 @@
+// The queue of a link, piece by piece of what enters it.
+ghost use Rattle.std.specs.Prelude.{◌≡◌, ◌&&◌, [], ◌∷◌, ◌++◌, Some, true, IfOk, OnOk, IsTrue};
+ghost use Rattle.nf_rational.specs.Rational.{ℚ};
+ghost use Rattle.nf_rational.specs.Operations.{0ℚ};
+ghost use Rattle.nf_rational.specs.Order.{◌<ℚ◌, lt_ℚ, le_ℚ};
+ghost use Rattle.nf_work.specs.declared.Part.TheVariants.{Load};
+ghost use Rattle.nf_work.specs.Passing.{passes_Q};
+ghost use Rattle.nf_work.specs.Checked.{at_part, seen_at, Gives};
+ghost use Rattle.nf_lists.specs.Signs.{is_zero, is_positive};
+ghost use Rattle.nf_curve_lists.specs.Lines.{checked_slope, checked_line};
+ghost use Rattle.nf_load_lists.specs.Loading as lists;
+ghost use Rattle.nf_load.specs.Loadings.{over_list};
+
+use crate::points::Point;
+use crate::waits::Waits;
+use nf_curve::Curve;
+use nf_frac::{Halt, Part, PassedAt, Q, at};
+use std::alloc::{AllocError, Global};
+
+// What waits over a piece of the inflow: at the time from which on the queue is empty, if it isn't before and is so before the
+// piece's end, and at its end.
+#[derive(Clone, Copy)]
+struct Over {
+    empty: Option<Waits>,
+    end: Waits,
+}
+
+// Nothing waits at the end.
+fn empty_at(end: &Point) -> Over
+    ensures list { over_list result ≡ record { time = end.now.0; amount = end.now.1; queue = 0ℚ } ∷ [] }
+    ensures end { result.end.time ≡ end.now.0 }
+{
+    Over {
+        empty: None,
+        end: Waits {
+            time: end.0,
+            amount: end.1,
+            queue: Q::zero(),
+        },
+    }
+}
+
+// The rate at which the inflow grows over a piece.
+#[tactic(auto, unfolding(nf_curve_lists::specs::Lines::checked_slope), using(nf_curve::proofs::Pieces::run_apart))]
+fn inflow_rate(before: &Waits, end: &Point) -> Result<Q, PassedAt<Q>>
+    requires { before.now.time <ℚ end.now.0 }
+    ensures { result ≡ at_part Load (checked_slope passes_Q (before.now.time, before.now.amount) end.now) }
+{
+    let rise = at!(Part::Load, end.1.difference(before.amount));
+    let run = at!(Part::Load, end.0.difference(before.time));
+    let rate = at!(Part::Load, rise.quotient(run));
+    Ok(rate)
+}
+
+// What has entered by a time of a piece.
+#[tactic(auto, unfolding(nf_curve_lists::specs::Lines::checked_line))]
+fn amount_at(before: &Waits, end: &Point, time: Q) -> Result<Q, PassedAt<Q>>
+    requires { before.now.time <ℚ end.now.0 }
+    ensures { result ≡ at_part Load (checked_line passes_Q (before.now.time, before.now.amount) end.now time) }
+{
+    let rate = inflow_rate(before, end)?;
+    let run = at!(Part::Load, time.difference(before.time));
+    let rise = at!(Part::Load, rate.product(run));
+    let amount = at!(Part::Load, before.amount.sum(rise));
+    Ok(amount)
+}
+
+// A queue at the end of a piece over which it changes at the rate less the capacity.
+#[tactic(auto, unfolding(nf_load_lists::specs::Loading::grown))]
+fn grown(capacity: Q, rate: Q, queue: Q, start: Q, end: Q) -> Result<Q, PassedAt<Q>>
+    ensures { result ≡ at_part Load (lists.grown passes_Q capacity rate queue start end) }
+{
+    let change = at!(Part::Load, rate.difference(capacity));
+    let length = at!(Part::Load, end.difference(start));
+    let growth = at!(Part::Load, change.product(length));
+    let queue = at!(Part::Load, queue.sum(growth));
+    Ok(queue)
+}
+
+// The time at which a queue is empty, where the rate is below the capacity.
+#[tactic(auto, unfolding(nf_load_lists::specs::Loading::drained), using(crate::proofs::QueueSteps::change_apart))]
+fn drained(capacity: Q, rate: Q, queue: Q, start: Q) -> Result<Q, PassedAt<Q>>
+    requires { lt_ℚ rate capacity ≡ true }
+    ensures { result ≡ at_part Load (lists.drained passes_Q capacity rate queue start) }
+{
+    let change = at!(Part::Load, rate.difference(capacity));
+    let less = at!(Part::Load, Q::zero().difference(queue));
+    let length = at!(Part::Load, less.quotient(change));
+    let time = at!(Part::Load, start.sum(length));
+    Ok(time)
+}
+
+// The queue changes up to the end of the piece.
+fn grow(capacity: Q, rate: Q, before: &Waits, end: &Point) -> Result<Over, PassedAt<Q>>
+    ensures list { seen_at over_list (λ q. q) result ≡ at_part Load (lists.grows passes_Q capacity rate before.now end.now) }
+    ensures end { IfOk result (λ over. over.end.time ≡ end.now.0) }
+{
+    let queue = grown(capacity, rate, before.queue, before.time, end.0)?;
+    Ok(Over {
+        empty: None,
+        end: Waits {
+            time: end.0,
+            amount: end.1,
+            queue,
+        },
+    })
+}
+
+// The queue is empty at this time of the piece, and from then on.
+fn drain_at(before: &Waits, end: &Point, time: Q) -> Result<Over, PassedAt<Q>>
+    requires { before.now.time <ℚ end.now.0 }
+    ensures list { (capacity rate : ℚ) → seen_at over_list (λ q. q) result ≡ at_part Load (lists.drains_at passes_Q true capacity rate before.now end.now time) }
+    ensures end { IfOk result (λ over. over.end.time ≡ end.now.0) }
+{
+    let amount = amount_at(before, end, time)?;
+    Ok(Over {
+        empty: Some(Waits {
+            time,
+            amount,
+            queue: Q::zero(),
+        }),
+        end: Waits {
+            time: end.0,
+            amount: end.1,
+            queue: Q::zero(),
+        },
+    })
+}
+
+// A queue drains where the rate is below the capacity, up to the end of the piece or until it is empty.
+fn drain(capacity: Q, rate: Q, before: &Waits, end: &Point) -> Result<Over, PassedAt<Q>>
+    requires later { before.now.time <ℚ end.now.0 }
+    requires below { lt_ℚ rate capacity ≡ true }
+    ensures list { seen_at over_list (λ q. q) result ≡ at_part Load (lists.moves passes_Q true capacity rate before.now end.now) }
+    ensures end { IfOk result (λ over. over.end.time ≡ end.now.0) }
+{
+    let time = drained(capacity, rate, before.queue, before.time)?;
+    if time.is_below(end.0) {
+        return drain_at(before, end, time);
+    }
+    grow(capacity, rate, before, end)
+}
+
+// An empty queue stays empty.
+fn stays_empty(capacity: Q, rate: Q, queue: Q) -> bool
+    ensures { result ≡ (is_zero queue && le_ℚ rate capacity) }
+{
+    queue.is_zero() && rate.is_at_most(capacity)
+}
+
+// A queue that isn't empty drains.
+fn drains(capacity: Q, rate: Q, queue: Q) -> bool
+    ensures test { result ≡ (is_positive queue && lt_ℚ rate capacity) }
+    ensures below { IsTrue result → lt_ℚ rate capacity ≡ true }
+{
+    Q::zero().is_below(queue) && rate.is_below(capacity)
+}
+
+// What waits over a piece of the inflow, for a link with a capacity.
+fn over_bounded(capacity: Q, before: &Waits, end: &Point) -> Result<Over, PassedAt<Q>>
+    requires { before.now.time <ℚ end.now.0 }
+    ensures list { seen_at over_list (λ q. q) result ≡ at_part Load (lists.after_piece passes_Q (Some capacity) before.now end.now) }
+    ensures end { IfOk result (λ over. over.end.time ≡ end.now.0) }
+{
+    let rate = inflow_rate(before, end)?;
+    if stays_empty(capacity, rate, before.queue) {
+        return Ok(empty_at(end));
+    }
+    if drains(capacity, rate, before.queue) {
+        return drain(capacity, rate, before, end);
+    }
+    grow(capacity, rate, before, end)
+}
+
+// What waits over a piece of the inflow. On an unbounded link nothing waits.
+fn over_piece(capacity: &Option<Q>, before: &Waits, end: &Point) -> Result<Over, PassedAt<Q>>
+    requires { before.now.time <ℚ end.now.0 }
+    ensures list { seen_at over_list (λ q. q) result ≡ at_part Load (lists.after_piece passes_Q capacity.now before.now end.now) }
+    ensures end { IfOk result (λ over. over.end.time ≡ end.now.0) }
+{
+    match capacity {
+        Some(capacity) => over_bounded(*capacity, before, end),
+        None => Ok(empty_at(end)),
+    }
+}
+
+// What waits over a piece is put behind what waits before.
+fn put(all: &mut Vec<Waits>, over: &Over) -> Result<(), AllocError>
+    ensures { OnOk result (all.new.items ≡ all.old.items ++ over_list over.now) }
+{
+    if let Some(empty) = over.empty {
+        all.push(empty)?;
+    }
+    all.push(over.end)?;
+    Ok(())
+}
+
+/// What waits at time 0, at the end of each piece of the inflow, and where the queue becomes empty within a piece.
+pub(crate) fn all_waits(
+    alloc: Global,
+    capacity: &Option<Q>,
+    inflow: &Curve,
+) -> Result<Vec<Waits>, Halt<Q>>
+    ensures { Gives (λ all. all.items) (λ q. q) result (at_part Load (lists.all_waits passes_Q capacity.now inflow.now.points)) }
+{
+    let count = inflow.len();
+    let (time, amount) = inflow.point(0);
+    let mut last = Waits {
+        time,
+        amount,
+        queue: Q::zero(),
+    };
+    let mut all = Vec::new(alloc);
+    all.push(last)?;
+    for i in 1..count {
+        let end = inflow.point(i);
+        let over = over_piece(capacity, &last, &end)?;
+        put(&mut all, &over)?;
+        last = over.end;
+    }
+    Ok(all)
+}

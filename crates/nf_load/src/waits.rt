@@ -1,0 +1,44 @@
+// Moments of a link: what has entered and what waits, and when what enters then leaves.
+use nf_frac::Q;
+use std::marker::Model;
+
+/// A time, the amount that has entered by then, and the amount that waits then.
+#[derive(Clone, Copy)]
+pub(crate) struct Waits {
+    pub time: Q,
+    pub amount: Q,
+    pub queue: Q,
+}
+
+impl Model for Waits {
+    ghost use Rattle.nf_load_lists.specs.Loading.{Waits as SeenWaits};
+    ghost use Rattle.nf_load.specs.Codes.{coded_waits};
+
+    ghost Value = { SeenWaits };
+
+    ghost coded = { coded_waits };
+
+    ghost view = { λ a. record { time = a.time; amount = a.amount; queue = a.queue } };
+
+    ghost inverse = { λ w. record { time = w.time; amount = w.amount; queue = w.queue } };
+}
+
+/// A moment, and the time at which what enters then leaves the link.
+#[derive(Clone, Copy)]
+pub(crate) struct Leaves {
+    pub waits: Waits,
+    pub exit: Q,
+}
+
+impl Model for Leaves {
+    ghost use Rattle.nf_load_lists.specs.Loading.{Leaves as SeenLeaves};
+    ghost use Rattle.nf_load.specs.Codes.{coded_leaves};
+
+    ghost Value = { SeenLeaves };
+
+    ghost coded = { coded_leaves };
+
+    ghost view = { λ a. record { waits = a.waits; exit = a.exit } };
+
+    ghost inverse = { λ l. record { waits = l.waits; exit = l.exit } };
+}
