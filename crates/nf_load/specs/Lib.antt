@@ -2,3 +2,4 @@ pub mod Entries
 pub mod Drafts
 pub mod Files
 pub mod Kept
+pub mod Loadings

@@ -6,6 +6,7 @@ mod amounts;
 mod draft;
 mod entry;
 mod fault;
+mod loading;
 mod loads;
 mod points;
 mod reading;
@@ -13,6 +14,7 @@ mod words;
 
 pub use amounts::cumulative;
 pub use fault::LoadsFault;
+pub use loading::{Loaded, load_link};
 pub use loads::Loads;
 pub use nf_readings::LoadRule;
 pub use reading::parse_loads;
