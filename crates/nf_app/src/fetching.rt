@@ -1,15 +1,14 @@
 // The files of a request, and the network of the first.
-ghost use Rattle.std.specs.Prelude.{[], ◌∷◌, result_map};
-ghost use Rattle.nf_app.specs.Requests.{network_file, loads_file};
+ghost use Rattle.std.specs.Prelude.{◌≡◌, ◌≤◌, ℕ, List, [], ◌∷◌, length, IfOk};
+ghost use Rattle.std.specs.Result.{result_map_both};
+ghost use Rattle.nf_app.specs.Files.{network_limit};
+ghost use Rattle.nf_app.specs.Requests.{network_file};
 ghost use Rattle.nf_app.specs.Fetching.{AreFetched, AreRead};
 
 use crate::refusal::Refusal;
 use nf_edge::Shelf;
 use nf_net::{LONGEST_FILE, Network, parse};
 use std::alloc::Global;
-
-/// The most bytes that a loads file may have.
-const LONGEST_LOADS: u32 = 1_048_576;
 
 // The bytes of a file, of which there are at most so many.
 fn fetch_file<S: Shelf>(
@@ -18,39 +17,45 @@ fn fetch_file<S: Shelf>(
     file: &str,
     limit: u32,
 ) -> Result<Vec<u8>, Refusal>
-    ensures { AreFetched (record {
+    ensures same { (other : List ℕ) → S.told shelf.new other ≡ S.told shelf.old other }
+    ensures never_falls { S.faults shelf.old ≤ S.faults shelf.new }
+    ensures fetched { AreFetched (record {
       told = S.told shelf.old;
       asked_before = S.asked shelf.old;
       asked_now = S.asked shelf.new;
       faults_before = S.faults shelf.old;
       faults_now = S.faults shelf.new;
       taken = S.taken shelf.new;
-    }) (record { name = file.now; limit = limit } ∷ []) (result_map (λ text. text.items ∷ []) result) }
+    }) (record { name = file.now; limit = limit } ∷ []) (result_map_both (λ text. text.items ∷ []) (λ refusal. refusal) result) }
+    ensures within { IfOk result (λ text. length text.items ≤ limit) }
 {
     let text = shelf.fetch(alloc, file, limit)?;
     Ok(text)
 }
 
-// The bytes of two files.
+// The bytes of a network file, and of another of which there are at most so many.
 fn fetch_files<S: Shelf>(
     alloc: Global,
     shelf: &mut S,
-    first: (&str, u32),
-    second: (&str, u32),
+    file: &str,
+    other: &str,
+    limit: u32,
 ) -> Result<(Vec<u8>, Vec<u8>), Refusal>
-    ensures { AreFetched (record {
+    ensures fetched { AreFetched (record {
       told = S.told shelf.old;
       asked_before = S.asked shelf.old;
       asked_now = S.asked shelf.new;
       faults_before = S.faults shelf.old;
       faults_now = S.faults shelf.new;
       taken = S.taken shelf.new;
-    }) (record { name = first.0.now; limit = first.1 } ∷ record { name = second.0.now; limit = second.1 } ∷ [])
-        (result_map (λ texts. texts.0.items ∷ texts.1.items ∷ []) result) }
+    }) (network_file file.now ∷ record { name = other.now; limit = limit } ∷ [])
+        (result_map_both (λ texts. texts.0.items ∷ texts.1.items ∷ []) (λ refusal. refusal) result) }
+    ensures first { IfOk result (λ texts. length texts.0.items ≤ network_limit) }
+    ensures second { IfOk result (λ texts. length texts.1.items ≤ limit) }
 {
-    let one = fetch_file(alloc, shelf, first.0, first.1)?;
-    let other = fetch_file(alloc, shelf, second.0, second.1)?;
-    Ok((one, other))
+    let text = fetch_file(alloc, shelf, file, LONGEST_FILE)?;
+    let more = fetch_file(alloc, shelf, other, limit)?;
+    Ok((text, more))
 }
 
 /// Fetches a file, and reads it as a network.
@@ -66,35 +71,33 @@ pub(crate) fn fetch_network<S: Shelf>(
       faults_before = S.faults shelf.old;
       faults_now = S.faults shelf.new;
       taken = S.taken shelf.new;
-    }) (network_file file.now) [] (result_map (λ net. (net, [])) result) }
+    }) (network_file file.now) [] (result_map_both (λ net. (net, [])) (λ refusal. refusal) result) }
 {
     let text = fetch_file(alloc, shelf, file, LONGEST_FILE)?;
     let net = parse(alloc, &text)?;
     Ok(net)
 }
 
-/// Fetches a file and a loads file, and reads the first as a network. The second is fetched before the first is read.
-pub(crate) fn fetch_network_and_loads<S: Shelf>(
+/// Fetches a file and another of at most so many bytes, and reads the first as a network once both are there.
+pub(crate) fn fetch_network_with<S: Shelf>(
     alloc: Global,
     shelf: &mut S,
     file: &str,
-    loads: &str,
+    other: &str,
+    limit: u32,
 ) -> Result<(Network, Vec<u8>), Refusal>
-    ensures { AreRead (record {
+    ensures read { AreRead (record {
       told = S.told shelf.old;
       asked_before = S.asked shelf.old;
       asked_now = S.asked shelf.new;
       faults_before = S.faults shelf.old;
       faults_now = S.faults shelf.new;
       taken = S.taken shelf.new;
-    }) (network_file file.now) (loads_file loads.now ∷ []) (result_map (λ read. (read.0, read.1.items ∷ [])) result) }
+    }) (network_file file.now) (record { name = other.now; limit = limit } ∷ [])
+        (result_map_both (λ read. (read.0, read.1.items ∷ [])) (λ refusal. refusal) result) }
+    ensures within { IfOk result (λ read. length read.1.items ≤ limit) }
 {
-    let (text, loads) = fetch_files(
-        alloc,
-        shelf,
-        (file, LONGEST_FILE),
-        (loads, LONGEST_LOADS),
-    )?;
+    let (text, more) = fetch_files(alloc, shelf, file, other, limit)?;
     let net = parse(alloc, &text)?;
-    Ok((net, loads))
+    Ok((net, more))
 }

@@ -1,5 +1,5 @@
 // The text of the loadings of links.
-ghost use Rattle.std.specs.Prelude.{[], ◌∷◌, ◌++◌, length, map, flat_map, codes};
+ghost use Rattle.std.specs.Prelude.{◌≡◌, ◌<◌, [], ◌∷◌, length, map, flat_map, codes};
 ghost use Rattle.std.specs.List.{enumerate_from};
 ghost use Rattle.nf_numerals.specs.Printed.{printed};
 ghost use Rattle.nf_formats.specs.Names.{name_at};
@@ -49,7 +49,8 @@ fn write_links<O: Sink>(out: &mut O, net: &Network, links: &[Loaded]) -> Result<
         (flat_map (loaded_lines net.now.link_names) (enumerate_from 0 (map loaded_of links.now))) result }
 {
     for link in 0..net.link_count() {
-        write_curves(out, net, link, &links[link as usize])?;
+        let loaded = &links[link as usize];
+        write_curves(out, net, link, loaded)?;
     }
     Ok(())
 }

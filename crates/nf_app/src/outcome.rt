@@ -1,5 +1,5 @@
 // What a request gives: a text for the output.
-ghost use Rattle.std.specs.Prelude.{◌≡◌, ℕ, List};
+ghost use Rattle.std.specs.Prelude.{◌≡◌, ◌≤◌, ℕ, List, length};
 ghost use Rattle.std.specs.Option.{option_copied};
 ghost use Rattle.nf_rational.specs.Operations.{0ℚ};
 ghost use Rattle.nf_rational.specs.Order.{◌≤ℚ◌};
@@ -9,7 +9,7 @@ ghost use Rattle.nf_app.specs.Requests.{Solve, Show, Load, loads_file};
 ghost use Rattle.nf_app.specs.Fetching.{IsTold};
 ghost use Rattle.nf_app.specs.Outcomes.{stop_in, IsGiving, IsAnswered};
 
-use crate::fetching::{fetch_network, fetch_network_and_loads};
+use crate::fetching::{fetch_network, fetch_network_with};
 use crate::loading::load_links;
 use crate::refusal::Refusal;
 use crate::request::{Request, read_request};
@@ -20,6 +20,9 @@ use nf_load::{Loaded, parse_loads};
 use nf_net::{Network, text};
 use nf_phase::{Budgets, Solution, solve};
 use std::alloc::Global;
+
+/// The most bytes that a loads file may have.
+const LONGEST_LOADS: u32 = 1_048_576;
 
 /// What a request gives.
 #[derive(Drop)]
@@ -131,7 +134,7 @@ pub(crate) fn answer<S: Shelf>(
             loads,
             horizon,
         } => {
-            let (net, loads) = fetch_network_and_loads(alloc, shelf, file, loads)?;
+            let (net, loads) = fetch_network_with(alloc, shelf, file, loads, LONGEST_LOADS)?;
             load_to(alloc, net, &loads, horizon)
         }
     }

@@ -100,14 +100,14 @@ pub(crate) fn give<O: Sink, E: Sink>(outcome: &Outcome, out: &mut O, err: &mut E
 }
 
 /// Says why there is nothing on the output. The status is the same where that can't be said.
-pub(crate) fn refuse<E: Sink>(refusal: Refusal, err: &mut E) -> Status
-    ensures status { result ≡ status_of (answer_of refusal) }
+pub(crate) fn refuse<E: Sink>(refusal: &Refusal, err: &mut E) -> Status
+    ensures status { result ≡ status_of (answer_of refusal.now) }
     ensures told { TookText (record {
       before = E.took err.old;
       now = E.took err.new;
       faults_before = E.faults err.old;
       faults_now = E.faults err.new;
-    }) (err_text (answer_of refusal)) }
+    }) (err_text (answer_of refusal.now)) }
 {
     let _ = write_refusal(err, refusal);
     refusal.status()

@@ -32,8 +32,8 @@ pub(crate) enum Refusal {
 
 impl Refusal {
     /// How the run ends.
-    pub(crate) fn status(self) -> Status
-        ensures { result ≡ status_of (answer_of self) }
+    pub(crate) fn status(&self) -> Status
+        ensures { result ≡ status_of (answer_of self.now) }
     {
         match self {
             Refusal::NoMemory => Status::Memory,

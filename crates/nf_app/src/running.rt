@@ -64,6 +64,6 @@ pub fn run<S: Shelf, O: Sink, E: Sink>(
 {
     match answer(alloc, words, shelf) {
         Ok(outcome) => give(&outcome, out, err),
-        Err(refusal) => refuse(refusal, err),
+        Err(refusal) => refuse(&refusal, err),
     }
 }

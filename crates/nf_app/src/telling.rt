@@ -120,20 +120,22 @@ fn write_passed<E: Sink>(err: &mut E, at: &PassedAt<Q>) -> Result<(), SinkFault>
 }
 
 /// Why there is nothing on the output.
-pub(crate) fn write_refusal<E: Sink>(err: &mut E, refusal: Refusal) -> Result<(), SinkFault>
+pub(crate) fn write_refusal<E: Sink>(err: &mut E, refusal: &Refusal) -> Result<(), SinkFault>
     ensures { Wrote (E.took err.old) (E.took err.new) (E.faults err.old) (E.faults err.new)
-        (err_text (answer_of refusal)) result }
+        (err_text (answer_of refusal.now)) result }
 {
     match refusal {
         Refusal::NoMemory => write_text(err, b"nfot: memory\n"),
         Refusal::NoRequest => write_text(err, USAGE),
         Refusal::ShelfFailed => write_text(err, b"nfot: shelf failed\n"),
         Refusal::ShelfTooLong => write_text(err, b"nfot: shelf too long\n"),
-        Refusal::Malformed { rule, line } => write_broken(err, b"network", line, rule_text(rule)),
-        Refusal::MalformedLoads { rule, line } => {
-            write_broken(err, b"loads", line, load_rule_text(rule))
+        Refusal::Malformed { rule, line } => {
+            write_broken(err, b"network", *line, rule_text(*rule))
         }
-        Refusal::Passes(at) => write_passed(err, &at),
+        Refusal::MalformedLoads { rule, line } => {
+            write_broken(err, b"loads", *line, load_rule_text(*rule))
+        }
+        Refusal::Passes(at) => write_passed(err, at),
     }
 }
 
