@@ -1,53 +1,133 @@
 -- What a call answers, from what was fetched for its request and what the request gives.
-use Rattle.std.proofs.Common.{◌≡◌, ◌⊎◌, ℕ, ◌<◌, List, [], ◌∷◌, ◌++◌, length, sym, ◌∙◌, ap, subst, inl, inr}
-use Rattle.std.specs.Prelude.{Some, IfSome, Result, Ok, Err}
-use Rattle.nf_edge.specs.Faults.{Rose}
+use Rattle.std.proofs.Common.{◌≡◌, ◌⊎◌, ℕ, List, [], ◌∷◌, ◌++◌, refl, sym, ap, subst, ◌∙◌, inl, inr, append-nil}
+use Rattle.std.specs.Prelude.{Option, None, Some, IfSome, Result, Ok, Err}
+use Rattle.std.specs.List.{All}
+use Rattle.std.proofs.lemmas.Option.{IfSome_then}
+use Rattle.std.proofs.lemmas.List.Elements.{All-cons, All-nil, All-head, All-tail}
 use Rattle.nf_formats.specs.Named.{Named}
 use Rattle.nf_formats.specs.NetLines.{Broken}
 use Rattle.nf_formats.specs.NetFile.{Reads}
 use Rattle.nf_app.specs.declared.outcome.Outcome.{Outcome}
 use Rattle.nf_app.specs.declared.refusal.Refusal.{Refusal}
-use Rattle.nf_app.specs.Requests.{Request, Show, Solve, file_of, request_of}
-use Rattle.nf_app.specs.Answers.{Answer}
-use Rattle.nf_app.specs.Refusals.{answer_of}
-use Rattle.nf_app.specs.Runs.{Asked, Read, IsAnswer, file_limit}
-use Rattle.nf_app.specs.Fetching.{Fetch, AskedFor, ReadAs, IsFetched, call_with}
-use Rattle.nf_app.specs.Outcomes.{IsGiven, IsAnswered}
+use Rattle.nf_app.specs.Files.{Wanted, Visit, names_of, Fits, FetchedAll, FetchedTo}
+use Rattle.nf_app.specs.Requests.{Request, files_of, request_of}
+use Rattle.nf_edge.specs.Taken.{with_more}
+use Rattle.nf_app.specs.Answers.{Answer, out_text}
+use Rattle.nf_net.specs.Contents.{IfBroken}
+use Rattle.nf_net.specs.declared.fault.NetFault.{NetFault}
+use Rattle.nf_app.specs.Refusals.{answer_of, refusal_of_net}
+use Rattle.nf_app.specs.Given.{IsGiven}
+use Rattle.nf_app.specs.Runs.{Call, Asks, Reached, NetworkReads, Read, IsRefused, IsComputed, IsAnswer}
+use Rattle.nf_app.specs.Fetching.{IsTold, AreTold, AreMissing, AreFetched, AreRead}
+use Rattle.nf_app.specs.Outcomes.{IsGiving, IsAnswered}
 
-module _ (words : List (List ℕ)) (request : Request) (fetch : Fetch) (asks : request_of words ≡ Some request) (file : fetch.file ≡ file_of request) where
-  asked_of : AskedFor fetch → Asked (call_with words fetch) request
-  asked_of asked = record { request_is = asks; asked = asked ∙ ap (λ f. fetch.asked_before ++ f ∷ []) file }
+-- ---- the last of files that were all fetched was reached
+record EndsIn (x : Wanted) (xs : List Wanted) : Type 0 where
+  first : List Wanted
+  last : Wanted
+  is : x ∷ xs ≡ first ++ last ∷ []
 
-  read_of : (read : Result Named Broken) → ReadAs fetch read → Read (call_with words fetch) request read
-  read_of read h = record {
-    asked = asked_of h.asked;
-    within = h.within;
-    reads = (let P : List ℕ → Type 0 = λ f. IfSome (fetch.told f) (λ text. Reads text read) in subst P file h.reads);
+ends_in : (x : Wanted) (xs : List Wanted) → EndsIn x xs
+ends_in x [] = record { first = []; last = x; is = refl }
+ends_in x (y ∷ ys) =
+    let h = ends_in y ys in
+    record { first = x ∷ h.first; last = h.last; is = ap (λ (l : List Wanted). x ∷ l) h.is }
+
+first_fit : (P : Wanted → Type 0) (xs ys : List Wanted) → All P (xs ++ ys) → All P xs
+first_fit P [] ys h = All-nil P
+first_fit P (x ∷ xs) ys h = All-cons P x xs (All-head P x (xs ++ ys) h) (first_fit P xs ys (All-tail P x (xs ++ ys) h))
+
+pub all_reached : (shelf : Visit) (file : Wanted) (others : List Wanted) → FetchedAll shelf (file ∷ others) → (last : Wanted) × FetchedTo shelf (file ∷ others) last
+all_reached shelf file others h =
+    let e = ends_in file others in
+    (e.last, record {
+      first = e.first;
+      behind = [];
+      files_are = e.is;
+      asked = h.asked ∙ ap (λ (l : List Wanted). shelf.asked_before ++ names_of l) e.is;
+      fit = first_fit (Fits shelf) e.first (e.last ∷ []) (subst (λ (l : List Wanted). All (Fits shelf) l) e.is h.fit);
+    })
+
+-- ---- the first file is read as a network
+module _ (shelf : Visit) (file : Wanted) (others : List Wanted) (text : List ℕ) (texts : List (List ℕ)) (fetched : AreFetched shelf (file ∷ others) (Ok (text ∷ texts))) where
+  reads_as : (read : Result Named Broken) → Reads text read → NetworkReads shelf (file ∷ others) read
+  reads_as read h = IfSome_then (shelf.told file.name) fetched.1.0 (λ held same. subst (λ (t : List ℕ). Reads t read) same h)
+
+  pub network_read : (n : Named) → Reads text (Ok n) → AreRead shelf file others (Ok (n, texts))
+  network_read n h = (fetched.0, reads_as (Ok n) h, fetched.1.1)
+
+  pub network_broken : (broken : Broken) → Reads text (Err broken) → AreRead shelf file others (Err (Refusal.Malformed broken.rule broken.line))
+  network_broken broken h = (fetched.0, reads_as (Err broken) h)
+
+  pub network_wants_memory : AreRead shelf file others (Err Refusal.NoMemory)
+  network_wants_memory = inr (all_reached shelf file others fetched.0)
+
+  pub network_refused : (fault : NetFault) → IfBroken fault (λ broken. Reads text (Err broken)) → AreRead shelf file others (Err (refusal_of_net fault))
+  network_refused (NetFault.Broken rule line) h = network_broken (record { rule = rule; line = line }) h
+  network_refused NetFault.Memory h = network_wants_memory
+
+-- nothing was read, since a file is missing
+pub network_missing : (shelf : Visit) (file : Wanted) (others : List Wanted) (refusal : Refusal) → AreMissing shelf (file ∷ others) refusal → AreRead shelf file others (Err refusal)
+network_missing shelf file others Refusal.NoMemory h = h
+network_missing shelf file others Refusal.NoRequest h = h
+network_missing shelf file others Refusal.ShelfFailed h = h
+network_missing shelf file others Refusal.ShelfTooLong h = h
+network_missing shelf file others (Refusal.Malformed rule line) h = absurd h
+network_missing shelf file others (Refusal.MalformedLoads rule line) h = h
+network_missing shelf file others (Refusal.Passes at) h = h
+
+-- ---- a request with its files
+module _ (words : List (List ℕ)) (shelf : Visit) (request : Request) (asks : request_of words ≡ Some request) (file : Wanted) (others : List Wanted)
+    (files_are : files_of request ≡ file ∷ others) where
+  abbrev call : Call
+  call = record { words = words; shelf = shelf }
+
+  reached : (last : Wanted) → FetchedTo shelf (file ∷ others) last → Reached call last
+  reached last h = record { request = request; asks = asks; fetched = subst (λ (l : List Wanted). FetchedTo shelf l last) (sym files_are) h }
+
+  read_of : (read : Result Named Broken) → FetchedAll shelf (file ∷ others) → NetworkReads shelf (file ∷ others) read → Read call request read
+  read_of read h r = record {
+    asks = asks;
+    fetched = subst (λ (l : List Wanted). FetchedAll shelf l) (sym files_are) h;
+    reads = subst (λ (l : List Wanted). NetworkReads shelf l read) (sym files_are) r;
   }
 
-  -- nothing was fetched
-  pub refused : (refusal : Refusal) → IsFetched fetch (Err refusal) → IsAnswer (call_with words fetch) (answer_of refusal)
-  refused Refusal.NoMemory (inl same) = inl same
-  refused Refusal.NoMemory (inr asked) = inr (request, asked_of asked)
+  -- there is no network
+  pub refused : (refusal : Refusal) → AreRead shelf file others (Err refusal) → IsAnswer call (answer_of refusal)
+  refused Refusal.NoMemory (inl none) = inl (inl none)
+  refused Refusal.NoMemory (inr h) = inl (inr (h.0, reached h.0 h.1))
   refused Refusal.NoRequest h = absurd h
-  refused Refusal.ShelfFailed h = (request, asked_of h.0, h.1, h.2)
-  refused Refusal.ShelfTooLong h =
-      let P : List ℕ → Type 0 = λ f. IfSome (fetch.told f) (λ text. Rose fetch.faults_before fetch.faults_now ⊎ (file_limit < length text)) in
-      (request, asked_of h.0, (h.1, subst P file h.2))
-  refused (Refusal.Malformed rule line) h = (request, read_of (Err (record { rule = rule; line = line })) h)
+  refused Refusal.ShelfFailed h = inl (h.0, reached h.0 h.1, h.2)
+  refused Refusal.ShelfTooLong h = inl (h.0, reached h.0 h.1, h.2)
+  refused (Refusal.Malformed rule line) h = inl (request, read_of (Err (record { rule = rule; line = line })) h.0 h.1)
+  refused (Refusal.MalformedLoads rule line) h = absurd h
+  refused (Refusal.Passes at) h = absurd h
 
--- a network was fetched
-module _ (words : List (List ℕ)) (fetch : Fetch) (n : Named) (h : ReadAs fetch (Ok n)) where
-  wants_memory : (request : Request) → request_of words ≡ Some request → fetch.file ≡ file_of request → (refusal : Refusal) → refusal ≡ Refusal.NoMemory
-      → IsAnswer (call_with words fetch) (answer_of refusal)
-  wants_memory request asks file refusal is =
-      subst (λ (r : Refusal). IsAnswer (call_with words fetch) (answer_of r)) (sym is) (inr (request, asked_of words request fetch asks file h.asked))
+  -- there is a network
+  module _ (n : Named) (texts : List (List ℕ)) (h : AreRead shelf file others (Ok (n, texts))) where
+    computed : (answer : Answer) → IsGiven shelf n request answer → IsAnswer call answer
+    computed answer g = inr (record { request = request; net = n; read = read_of (Ok n) h.0 h.1; given = g })
 
-  pub given : (request : Request) → request_of words ≡ Some request → fetch.file ≡ file_of request → (r : Result Outcome Refusal) → IsGiven n request r
-      → IsAnswered (call_with words fetch) r
-  given (Show name) asks file (Ok outcome) g =
-      (subst (λ (a : Answer). IsAnswer (call_with words fetch) a) (sym g.0) (name, read_of words (Show name) fetch asks file (Ok n) h), g.1)
-  given (Show name) asks file (Err refusal) g = wants_memory (Show name) asks file refusal g
-  given (Solve name horizon budgets) asks file (Ok outcome) g =
-      (subst (λ (a : Answer). IsAnswer (call_with words fetch) a) (sym g.2) (name, horizon, budgets, read_of words (Solve name horizon budgets) fetch asks file (Ok n) h, g.1), g.3)
-  given (Solve name horizon budgets) asks file (Err refusal) g = wants_memory (Solve name horizon budgets) asks file refusal g
+    pub given : (r : Result Outcome Refusal) → IsGiving shelf n request r → IsAnswered call r
+    given (Ok outcome) g = (computed _ g.0, g.1)
+    given (Err refusal) (inl none) =
+        let last = all_reached shelf file others h.0 in
+        subst (λ (r : Refusal). IsAnswer call (answer_of r)) (sym none) (inl (inr (last.0, reached last.0 last.1)))
+    given (Err refusal) (inr g) = computed (answer_of refusal) g
+
+-- ---- where there is no text, a sink takes nothing
+pub no_text : (refusal : Refusal) → out_text (answer_of refusal) ≡ []
+no_text Refusal.NoMemory = refl
+no_text Refusal.NoRequest = refl
+no_text Refusal.ShelfFailed = refl
+no_text Refusal.ShelfTooLong = refl
+no_text (Refusal.Malformed rule line) = refl
+no_text (Refusal.MalformedLoads rule line) = refl
+no_text (Refusal.Passes at) = refl
+
+nothing_more : (took : Option (List ℕ)) → took ≡ with_more took []
+nothing_more None = refl
+nothing_more (Some bytes) = ap Some (sym (append-nil bytes))
+
+pub took_no_text : (took : Option (List ℕ)) (refusal : Refusal) → took ≡ with_more took (out_text (answer_of refusal))
+took_no_text took refusal = nothing_more took ∙ ap (λ (text : List ℕ). with_more took text) (sym (no_text refusal))

@@ -1,98 +1,150 @@
--- Where a network can be solved, an answer that comes is its whole report, or that memory is wanting.
-use Rattle.std.proofs.Common.{◌≡◌, ◌⊎◌, ℕ, ◌<◌, ◌≤◌, List, length, refl, sym, ◌∙◌, ap, subst, inl, inr, arith}
+-- Where what the words ask has its answer, an answer that comes is the whole one, or that memory is wanting.
+use Rattle.std.proofs.Common.{◌≡◌, ◌⊎◌, ℕ, ◌<◌, ◌≤◌, List, [], ◌∷◌, ◌++◌, length, refl, sym, ◌∙◌, ap, subst, inl, inr, arith}
 use Rattle.std.specs.Prelude.{Option, Some, None, IfSome, Result, Ok, Err}
+use Rattle.std.specs.List.{All}
+use Rattle.std.proofs.lemmas.List.Elements.{All-cons, All-nil, All-head, All-tail}
 use Rattle.nf_rational.specs.Rational.{ℚ}
 use Rattle.nf_work.specs.Passing.{passes_Q}
+use Rattle.nf_work.specs.declared.PassedAt.{PassedAt}
 use Rattle.nf_edge.specs.Faults.{Rose}
-use Rattle.nf_model.specs.Network.{Network}
+use Rattle.nf_model.specs.Network.{Piece}
 use Rattle.nf_formats.specs.Named.{Named}
 use Rattle.nf_formats.specs.NetLines.{Broken}
 use Rattle.nf_formats.specs.NetFile.{Reads}
 use Rattle.nf_formats.specs.Report.{Report}
 use Rattle.nf_formats_laws.proofs.Once.{reads_at_most_once}
-use Rattle.nf_lists.specs.PhaseRun.{IsRunReport}
 use Rattle.nf_lists_laws.proofs.OneRun.{one_report}
-use Rattle.nf_phase.specs.declared.solution.Budgets.{Budgets}
-use Rattle.nf_phase.specs.Solution.{bounds_of, IsSolution}
+use Rattle.nf_load_lists.specs.Loading.{Loaded as Loading}
+use Rattle.nf_readings.specs.LoadsFile.{LoadsBroken, loads_in}
+use Rattle.nf_phase.specs.Solution.{bounds_of}
 use Rattle.nf_app.specs.declared.status.Status.{Status}
-use Rattle.nf_app.specs.Requests.{Request, Show, Solve, file_of, request_of}
-use Rattle.nf_app.specs.Answers.{Answer, Shown, Solved, NoMemory, NoRequest, ShelfFailed, ShelfTooLong, Malformed, status_of, status_of_stop}
-use Rattle.nf_app.specs.Runs.{Call, Taken, Read, FileReads, HasTooMany, Solves, IsAnswer, IsShown, Ran, file_limit}
-use Rattle.nf_app.specs.Completeness.{CanBeSolved, IsComplete}
+use Rattle.nf_app.specs.Files.{Wanted, Visit, FetchedTo, HasTooMany}
+use Rattle.nf_app.specs.Requests.{Request, Solve, Show, Load, files_of, request_of, network_file, loads_file}
+use Rattle.nf_app.specs.Answers.{Answer, Solved, Shown, Loaded, NoMemory, NoRequest, ShelfFailed, ShelfTooLong, Malformed, MalformedLoads, Passes, status_of, status_of_stop}
+use Rattle.nf_app.specs.Given.{LoadsRead, loading_list, IsGiven}
+use Rattle.nf_app.specs.Sinks.{Taken}
+use Rattle.nf_app.specs.Runs.{Call, Asks, Reached, NetworkReads, Read, IsRefused, IsComputed, IsAnswer, IsShown}
+use Rattle.nf_app.specs.Completeness.{Tells, TellsNetwork, TellsLoads, CanBeShown, CanBeSolved, CanBeLoaded, HasAnswer, IsComplete}
 
 -- the two ways in which such a run may end
 abbrev EndsWell : Status → Type 0
 EndsWell status = (status ≡ Status.Ok) ⊎ (status ≡ Status.Memory)
 
-module _ (call : Call) (out : Taken) (can : CanBeSolved call out) where
-  abbrev asked_for : Request
-  asked_for = Solve can.asks.file can.asks.horizon can.asks.budgets
+in_the_middle : (P : Wanted → Type 0) (xs : List Wanted) (y : Wanted) (ys : List Wanted) → All P (xs ++ y ∷ ys) → P y
+in_the_middle P [] y ys h = All-head P y ys h
+in_the_middle P (x ∷ xs) y ys h = in_the_middle P xs y ys (All-tail P x (xs ++ y ∷ ys) h)
 
+-- ---- what is asked for is told, within its limits, and has its network
+module _ (call : Call) (no_fault : ¬ Rose call.shelf.faults_before call.shelf.faults_now) (asked_for : Request) (asks : Asks call asked_for)
+    (tells : All (Tells call.shelf) (files_of asked_for)) where
   -- the words ask for one thing
-  one_request : (request : Request) → request_of call.words ≡ Some request → request ≡ asked_for
-  one_request request is = let other : request_of call.words ≡ Some asked_for = can.asks.request_is in cc
+  one_request : (request : Request) → Asks call request → request ≡ asked_for
+  one_request request is = let other : request_of call.words ≡ Some asked_for = asks in cc
 
-  -- the bytes of the file have one reading
-  one_reading : (request : Request) (read : Result Named Broken) → Read call request read → read ≡ Ok can.tells.net
-  one_reading request read h =
-      let there : FileReads call asked_for read = subst (λ (r : Request). FileReads call r read) (one_request request h.asked.request_is) h.reads in
-      let here : Reads can.tells.text read = subst (λ (told : Option (List ℕ)). IfSome told (λ text. Reads text read)) can.tells.told there in
-      reads_at_most_once can.tells.text read (Ok can.tells.net) here can.tells.reads
+  -- no file is too long
+  fits : (last : Wanted) → Tells call.shelf last → HasTooMany call.shelf last → ⊥
+  fits last t h =
+      let there : Rose call.shelf.faults_before call.shelf.faults_now ⊎ (last.limit < length t.text) =
+      subst (λ (told : Option (List ℕ)). IfSome told (λ text. Rose call.shelf.faults_before call.shelf.faults_now ⊎ (last.limit < length text))) t.told h.1 in
+      let within = t.within in
+      elim there [ inl rose ↦ no_fault rose | inr more ↦ omega arith ]
 
-  -- the file isn't too long
-  not_too_long : (request : Request) → request_of call.words ≡ Some request → HasTooMany call request → ⊥
-  not_too_long request is h =
-      let there : HasTooMany call asked_for = subst (λ (r : Request). HasTooMany call r) (one_request request is) h in
-      let here : Rose call.faults_before call.faults_now ⊎ (file_limit < length can.tells.text) =
-      subst (λ (told : Option (List ℕ)). IfSome told (λ text. Rose call.faults_before call.faults_now ⊎ (file_limit < length text))) can.tells.told there.1 in
-      let within = can.tells.within in
-      elim here [ inl rose ↦ can.shelf_gives rose | inr more ↦ omega arith ]
+  not_too_long : (last : Wanted) → Reached call last → HasTooMany call.shelf last → ⊥
+  not_too_long last r h =
+      let reached : FetchedTo call.shelf (files_of asked_for) last = subst (λ (q : Request). FetchedTo call.shelf (files_of q) last) (one_request r.request r.asks) r.fetched in
+      fits last (in_the_middle (Tells call.shelf) reached.first last reached.behind (subst (λ (l : List Wanted). All (Tells call.shelf) l) reached.files_are tells)) h
 
-  -- the report is that of the phase run, which reaches the horizon
-  one_report_of_run : (net : Network) (horizon : ℚ) (budgets : Budgets) (report : Report) → net ≡ can.tells.net.net → horizon ≡ can.asks.horizon
-      → budgets ≡ can.asks.budgets → IsRunReport passes_Q net (bounds_of horizon budgets) report → report ≡ can.reaches.report
-  one_report_of_run net horizon budgets report same_net same_horizon same_budgets run =
-      let with_net = subst (λ (n : Network). IsRunReport passes_Q n (bounds_of horizon budgets) report) same_net run in
-      let with_horizon = subst (λ (q : ℚ). IsRunReport passes_Q can.tells.net.net (bounds_of q budgets) report) same_horizon with_net in
-      let here = subst (λ (b : Budgets). IsRunReport passes_Q can.tells.net.net (bounds_of can.asks.horizon b) report) same_budgets with_horizon in
-      one_report passes_Q can.tells.net.net (bounds_of can.asks.horizon can.asks.budgets) report can.reaches.report here can.reaches.is_report
+  module _ (file : List ℕ) (others : List Wanted) (files_are : files_of asked_for ≡ network_file file ∷ others) (network : TellsNetwork call.shelf file) where
+    -- the bytes of the first file have one reading
+    one_reading : (request : Request) (read : Result Named Broken) → Read call request read → read ≡ Ok network.net
+    one_reading request read r =
+        let first : NetworkReads call.shelf (network_file file ∷ others) read =
+        subst (λ (l : List Wanted). NetworkReads call.shelf l read) (ap files_of (one_request request r.asks) ∙ files_are) r.reads in
+        let here : Reads network.tells.text read = subst (λ (told : Option (List ℕ)). IfSome told (λ text. Reads text read)) network.tells.told first in
+        reads_at_most_once network.tells.text read (Ok network.net) here network.reads
 
-  solved_whole : (n : Named) (report : Report) → Solves call n report → report.stop ≡ None
-  solved_whole n report h =
-      let same_request : Solve h.0 h.1 h.2 ≡ asked_for = one_request (Solve h.0 h.1 h.2) h.3.asked.request_is in
-      let same_read : Ok n ≡ Ok can.tells.net = one_reading (Solve h.0 h.1 h.2) (Ok n) h.3 in
-      let same_named : n ≡ can.tells.net = cc in
-      let same_horizon : h.1 ≡ can.asks.horizon = cc in
-      let same_budgets : h.2 ≡ can.asks.budgets = cc in
-      ap (λ (r : Report). r.stop) (one_report_of_run n.net h.1 h.2 report (ap (λ (m : Named). m.net) same_named) same_horizon same_budgets h.4.1.run) ∙ can.reaches.no_stop
+    refused_well : (answer : Answer) → IsRefused call answer → EndsWell (status_of answer)
+    refused_well NoMemory h = inr refl
+    refused_well NoRequest h =
+        let none : request_of call.words ≡ None = h.0 in
+        let some : request_of call.words ≡ Some asked_for = asks in
+        let never : ⊥ = cc in
+        absurd never
+    refused_well ShelfFailed h = absurd (no_fault h.2.1)
+    refused_well ShelfTooLong h = absurd (not_too_long h.0 h.1 h.2)
+    refused_well (Malformed broken) h =
+        let other : Err broken ≡ Ok network.net = one_reading h.0 (Err broken) h.1 in
+        let never : ⊥ = cc in
+        absurd never
+    refused_well (Solved n report) h = absurd h
+    refused_well (Shown n) h = absurd h
+    refused_well (Loaded n horizon loaded) h = absurd h
+    refused_well (MalformedLoads broken) h = absurd h
+    refused_well (Passes at) h = absurd h
 
-  answered_well : (answer : Answer) → IsAnswer call answer → EndsWell (status_of answer)
-  answered_well (Shown n) h =
-      let other : Show h.0 ≡ asked_for = one_request (Show h.0) h.1.asked.request_is in
-      let never : ⊥ = cc in
-      absurd never
-  answered_well (Solved n report) h = inl (ap status_of_stop (solved_whole n report h))
-  answered_well NoMemory h = inr refl
-  answered_well NoRequest h =
-      let none : request_of call.words ≡ None = h.0 in
-      let some : request_of call.words ≡ Some asked_for = can.asks.request_is in
-      let never : ⊥ = cc in
-      absurd never
-  answered_well ShelfFailed h = absurd (can.shelf_gives h.3)
-  answered_well ShelfTooLong h = absurd (not_too_long h.0 h.1.request_is h.2)
-  answered_well (Malformed broken) h =
-      let other : Err broken ≡ Ok can.tells.net = one_reading h.0 (Err broken) h.1 in
-      let never : ⊥ = cc in
-      absurd never
+    -- what is computed is computed for this request and this network
+    pub answered_well : ((answer : Answer) → IsGiven call.shelf network.net asked_for answer → EndsWell (status_of answer)) → (answer : Answer) → IsAnswer call answer → EndsWell (status_of answer)
+    answered_well ends answer (inl h) = refused_well answer h
+    answered_well ends answer (inr h) =
+        let same : Ok h.net ≡ Ok network.net = one_reading h.request (Ok h.net) h.read in
+        let same_net : h.net ≡ network.net = cc in
+        ends answer (subst (λ (n : Named). IsGiven call.shelf n asked_for answer) same_net
+        (subst (λ (r : Request). IsGiven call.shelf h.net r answer) (one_request h.request h.read.asks) h.given))
 
-  shown_well : (answer : Answer) (err : Taken) (status : Status) → EndsWell (status_of answer) → IsShown answer out err status → EndsWell status
-  shown_well answer err status well (inl h) = subst (λ (s : Status). EndsWell s) (sym h.0) well
-  shown_well answer err status well (inr h) = absurd (can.out_takes h.1.cause)
+-- ---- the commands
+module _ (call : Call) (no_fault : ¬ Rose call.shelf.faults_before call.shelf.faults_now) where
+  shown_well : CanBeShown call → (answer : Answer) → IsAnswer call answer → EndsWell (status_of answer)
+  shown_well can = answered_well call no_fault (Show can.file) can.asks (All-cons (Tells call.shelf) (network_file can.file) [] can.network.tells (All-nil (Tells call.shelf)))
+      can.file [] refl can.network (λ answer is. inl (ap status_of is))
+
+  solved_well : CanBeSolved call → (answer : Answer) → IsAnswer call answer → EndsWell (status_of answer)
+  solved_well can = answered_well call no_fault (Solve can.file can.horizon can.budgets) can.asks
+      (All-cons (Tells call.shelf) (network_file can.file) [] can.network.tells (All-nil (Tells call.shelf))) can.file [] refl can.network
+      (λ answer g.
+      let same : g.0 ≡ can.reaches.report =
+      one_report passes_Q can.network.net.net (bounds_of can.horizon can.budgets) g.0 can.reaches.report g.2.1.run can.reaches.is_report in
+      inl (ap status_of g.1 ∙ ap (λ (r : Report). status_of_stop r.stop) same ∙ ap status_of_stop can.reaches.no_stop))
+
+  module _ (can : CanBeLoaded call) where
+    -- the loads file has one reading
+    one_loads : (read : Result (List (List Piece)) LoadsBroken) → LoadsRead call.shelf can.network.net can.loads_name read → Ok can.loads.pieces ≡ read
+    one_loads read h =
+        sym can.loads.reads ∙ subst (λ (told : Option (List ℕ)). IfSome told (λ text. loads_in can.network.net text ≡ read)) can.loads.tells.told h
+
+    given_well : (answer : Answer) → IsGiven call.shelf can.network.net (Load can.file can.loads_name can.horizon) answer → EndsWell (status_of answer)
+    given_well answer (inl g) = inl (ap status_of g.1)
+    given_well answer (inr (inl g)) =
+        let same : Ok can.loads.pieces ≡ Ok g.2.pieces = one_loads (Ok g.2.pieces) g.2.read in
+        let pieces : can.loads.pieces ≡ g.2.pieces = cc in
+        let passed : loading_list can.network.net can.loads.pieces can.horizon ≡ Err g.0 =
+        ap (λ (p : List (List Piece)). loading_list can.network.net p can.horizon) pieces ∙ g.2.passes in
+        let computed : loading_list can.network.net can.loads.pieces can.horizon ≡ Ok can.loaded = can.computes in
+        let never : ⊥ = cc in
+        absurd never
+    given_well answer (inr (inr g)) =
+        let other : Ok can.loads.pieces ≡ Err g.0 = one_loads (Err g.0) g.2 in
+        let never : ⊥ = cc in
+        absurd never
+
+    loaded_well : (answer : Answer) → IsAnswer call answer → EndsWell (status_of answer)
+    loaded_well = answered_well call no_fault (Load can.file can.loads_name can.horizon) can.asks
+        (All-cons (Tells call.shelf) (network_file can.file) (loads_file can.loads_name ∷ []) can.network.tells
+        (All-cons (Tells call.shelf) (loads_file can.loads_name) [] can.loads.tells (All-nil (Tells call.shelf))))
+        can.file (loads_file can.loads_name ∷ []) refl can.network given_well
+
+  ends_well : HasAnswer call → (answer : Answer) → IsAnswer call answer → EndsWell (status_of answer)
+  ends_well (inl can) = shown_well can
+  ends_well (inr (inl can)) = solved_well can
+  ends_well (inr (inr can)) = loaded_well can
+
+taken_well : (out : Taken) → ¬ Rose out.faults_before out.faults_now → (answer : Answer) (err : Taken) (status : Status) → EndsWell (status_of answer) → IsShown answer out err status → EndsWell status
+taken_well out takes answer err status well (inl h) = subst (λ (s : Status). EndsWell s) (sym h.0) well
+taken_well out takes answer err status well (inr h) = absurd (takes h.1.cause)
 
 -- an answer with a text was given
 pub complete_by_text : (call : Call) (out err : Taken) (status : Status) (answer : Answer) → IsAnswer call answer → IsShown answer out err status → IsComplete call out status
-complete_by_text call out err status answer comes shown can = shown_well call out can answer err status (answered_well call out can answer comes) shown
+complete_by_text call out err status answer comes shown can no_fault takes = taken_well out takes answer err status (ends_well call no_fault can answer comes) shown
 
 -- there is no text
 pub complete_by_refusal : (call : Call) (out : Taken) (status : Status) (answer : Answer) → IsAnswer call answer → status ≡ status_of answer → IsComplete call out status
-complete_by_refusal call out status answer comes is can = subst (λ (s : Status). EndsWell s) (sym is) (answered_well call out can answer comes)
+complete_by_refusal call out status answer comes is can no_fault takes = subst (λ (s : Status). EndsWell s) (sym is) (ends_well call no_fault can answer comes)

@@ -1,20 +1,19 @@
 -- Lines on standard error, in pieces.
 use Rattle.std.proofs.Common.{◌≡◌, ℕ, List, [], ◌∷◌, ◌++◌, sym, subst, ap, ◌∙◌, append_assoc, append-nil}
-use Rattle.std.specs.Prelude.{flat_map, codes, Option, Some, Result}
+use Rattle.std.specs.Prelude.{flat_map, codes, Option, Result}
 use Rattle.nf_edge.specs.Taken.{Wrote}
-use Rattle.nf_rational.specs.Rational.{ℚ}
 use Rattle.nf_lines.specs.Words.{line_of_words}
-use Rattle.nf_formats.specs.declared.Cause.{Cause}
-use Rattle.nf_formats.specs.Causes.{cause_words}
-use Rattle.nf_app.specs.ErrorLines.{said, stopped_line}
+use Rattle.nf_app.specs.ErrorLines.{said}
 
-pub rule_pieces : (digits rule : List ℕ) → codes "nfot: network line " ++ (digits ++ (codes ": " ++ (rule ++ (codes "\n" ++ []))))
-    ≡ said (codes "network" ∷ codes "line" ∷ (digits ++ codes ":") ∷ rule ∷ [])
-rule_pieces digits rule =
-    ap (λ l. codes "nfot: network line " ++ l) (sym (append_assoc (digits ++ 58 ∷ []) (32 ∷ rule) (10 ∷ []) ∙ append_assoc digits (58 ∷ []) ((32 ∷ rule) ++ 10 ∷ [])))
+pub rule_pieces : (file digits rule : List ℕ) → codes "nfot: " ++ (file ++ (codes " line " ++ (digits ++ (codes ": " ++ (rule ++ (codes "\n" ++ []))))))
+    ≡ said (file ∷ codes "line" ∷ (digits ++ codes ":") ∷ rule ∷ [])
+rule_pieces file digits rule =
+    ap (λ l. codes "nfot: " ++ l)
+    (ap (λ l. file ++ (codes " line " ++ l)) (sym (append_assoc (digits ++ 58 ∷ []) (32 ∷ rule) (10 ∷ []) ∙ append_assoc digits (58 ∷ []) ((32 ∷ rule) ++ 10 ∷ [])))
+    ∙ sym (append_assoc file (codes " line " ++ ((digits ++ 58 ∷ []) ++ 32 ∷ rule)) (10 ∷ [])))
 
-pub stopped_pieces : (cause : Cause ℚ) → codes "nfot: " ++ flat_map line_of_words ((codes "stopped:" ∷ cause_words (Some cause)) ∷ []) ≡ stopped_line cause
-stopped_pieces cause = ap (λ l. codes "nfot: " ++ l) (append-nil (line_of_words (codes "stopped:" ∷ cause_words (Some cause))))
+pub stopped_pieces : (words : List (List ℕ)) → codes "nfot: " ++ flat_map line_of_words ((codes "stopped:" ∷ words) ∷ []) ≡ said (codes "stopped:" ∷ words)
+stopped_pieces words = ap (λ l. codes "nfot: " ++ l) (append-nil (line_of_words (codes "stopped:" ∷ words)))
 
 -- the same text, in other words
 pub same_text : {E : Type 0} {old now : Option (List ℕ)} {f g : ℕ} {r : Result (Unit {0}) E} (first text : List ℕ) → first ≡ text → Wrote old now f g first r

@@ -1,5 +1,9 @@
 pub mod ErrorTexts
+pub mod Fetched
 pub mod Calls
 pub mod Completing
+pub mod LinkLoads
+pub mod LoadLines
+pub mod LoadGiven
 pub mod Zeros
 mod ErrorExamples

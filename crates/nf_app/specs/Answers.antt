@@ -1,23 +1,31 @@
 -- What a run of the program answers: its status, and what it writes to its two sinks.
 use Rattle.std.specs.Prelude.{ℕ, List, [], Option, Some, None}
 use Rattle.nf_rational.specs.Rational.{ℚ}
+use Rattle.nf_work.specs.declared.PassedAt.{PassedAt}
 use Rattle.nf_formats.specs.declared.Cause.{Cause}
 use Rattle.nf_formats.specs.Named.{Named}
 use Rattle.nf_formats.specs.NetLines.{Broken}
 use Rattle.nf_formats.specs.NetText.{canonical}
 use Rattle.nf_formats.specs.Report.{Report, report_text}
-use Rattle.nf_app.specs.ErrorLines.{memory_line, usage_text, shelf_failed_line, shelf_too_long_line, network_line, stopped_line}
+use Rattle.nf_load_lists.specs.Loading.{Loaded as Loading}
+use Rattle.nf_readings.specs.LoadsFile.{LoadsBroken}
+use Rattle.nf_readings.specs.Texts.{load_text}
+use Rattle.nf_app.specs.ErrorLines.{memory_line, usage_text, shelf_failed_line, shelf_too_long_line, network_line, loads_line, stopped_line, passed_line}
 use Rattle.nf_app.specs.declared.status.Status.{Status}
 
--- `Shown`: the network of the file. `Solved`: a report of the network of the file.
+-- `Solved`: a report of the network of the file. `Shown`: that network. `Loaded`: of each of its links the loading up to a horizon.
+-- `Passes`: an operation of the command's list passes the bound.
 pub data Answer : Type 0 where
-  Shown : Named → Answer
   Solved : Named → Report → Answer
+  Shown : Named → Answer
+  Loaded : Named → ℚ → List Loading → Answer
   NoMemory : Answer
   NoRequest : Answer
   ShelfFailed : Answer
   ShelfTooLong : Answer
   Malformed : Broken → Answer
+  MalformedLoads : LoadsBroken → Answer
+  Passes : PassedAt ℚ → Answer
 
 -- ---- the status
 abbrev pub number_of : Status → ℕ
@@ -43,18 +51,22 @@ status_of_stop None = Status.Ok
 status_of_stop (Some cause) = status_of_cause cause
 
 abbrev pub status_of : Answer → Status
-status_of (Shown n) = Status.Ok
 status_of (Solved n report) = status_of_stop report.stop
+status_of (Shown n) = Status.Ok
+status_of (Loaded n horizon loaded) = Status.Ok
 status_of NoMemory = Status.Memory
 status_of NoRequest = Status.Usage
 status_of ShelfFailed = Status.Shelf
 status_of ShelfTooLong = Status.Shelf
 status_of (Malformed broken) = Status.Malformed
+status_of (MalformedLoads broken) = Status.Malformed
+status_of (Passes at) = Status.Passed
 
 -- ---- what is written
 abbrev pub out_text : Answer → List ℕ
-out_text (Shown n) = canonical n
 out_text (Solved n report) = report_text n report
+out_text (Shown n) = canonical n
+out_text (Loaded n horizon loaded) = load_text n horizon loaded
 out_text answer = []
 
 abbrev pub text_of_stop : Option (Cause ℚ) → List ℕ
@@ -62,10 +74,13 @@ text_of_stop None = []
 text_of_stop (Some cause) = stopped_line cause
 
 abbrev pub err_text : Answer → List ℕ
-err_text (Shown n) = []
 err_text (Solved n report) = text_of_stop report.stop
+err_text (Shown n) = []
+err_text (Loaded n horizon loaded) = []
 err_text NoMemory = memory_line
 err_text NoRequest = usage_text
 err_text ShelfFailed = shelf_failed_line
 err_text ShelfTooLong = shelf_too_long_line
 err_text (Malformed broken) = network_line broken
+err_text (MalformedLoads broken) = loads_line broken
+err_text (Passes at) = passed_line at

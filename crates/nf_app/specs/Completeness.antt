@@ -1,32 +1,41 @@
--- When nothing but want of memory keeps a run of the program from solving a network to its horizon.
+-- When nothing but want of memory keeps a run of the program from the whole answer of its command.
 use Rattle.std.specs.Prelude.{◌≡◌, ◌⊎◌, ℕ, ◌≤◌, List, length, Some, None, Ok}
 use Rattle.nf_rational.specs.Rational.{ℚ}
 use Rattle.nf_work.specs.Passing.{passes_Q}
 use Rattle.nf_edge.specs.Faults.{Rose}
+use Rattle.nf_model.specs.Network.{Piece}
 use Rattle.nf_formats.specs.Named.{Named}
 use Rattle.nf_formats.specs.NetFile.{Reads}
 use Rattle.nf_formats.specs.Report.{Report}
 use Rattle.nf_lists.specs.PhaseRun.{IsRunReport}
+use Rattle.nf_load_lists.specs.Loading.{Loaded as Loading}
+use Rattle.nf_readings.specs.LoadsFile.{loads_in}
 use Rattle.nf_phase.specs.declared.solution.Budgets.{Budgets}
 use Rattle.nf_phase.specs.Solution.{bounds_of}
 use Rattle.nf_app.specs.declared.status.Status.{Status}
-use Rattle.nf_app.specs.Requests.{Solve, request_of}
-use Rattle.nf_app.specs.Runs.{Call, Taken, file_limit}
+use Rattle.nf_app.specs.Files.{Wanted, Visit}
+use Rattle.nf_app.specs.Requests.{Solve, Show, Load, network_file, loads_file}
+use Rattle.nf_app.specs.Given.{loading_list}
+use Rattle.nf_app.specs.Sinks.{Taken}
+use Rattle.nf_app.specs.Runs.{Call, Asks}
 
--- the words ask to solve a file to a horizon within budgets
-pub record AsksToSolve (call : Call) : Type 0 where
-  pub file : List ℕ
-  pub horizon : ℚ
-  pub budgets : Budgets
-  pub request_is : request_of call.words ≡ Some (Solve file horizon budgets)
-
--- the shelf tells the bytes of a file, which are within the limit and read as a network
-pub record TellsNetwork (call : Call) (file : List ℕ) : Type 0 where
+-- the shelf tells the bytes of a file, and they aren't too many
+pub record Tells (shelf : Visit) (file : Wanted) : Type 0 where
   pub text : List ℕ
-  pub told : call.told file ≡ Some text
-  pub within : length text ≤ file_limit
+  pub told : shelf.told file.name ≡ Some text
+  pub within : length text ≤ file.limit
+
+-- they read as a network
+pub record TellsNetwork (shelf : Visit) (file : List ℕ) : Type 0 where
+  pub tells : Tells shelf (network_file file)
   pub net : Named
-  pub reads : Reads text (Ok net)
+  pub reads : Reads tells.text (Ok net)
+
+-- they read as pieces of the links of a network
+pub record TellsLoads (shelf : Visit) (n : Named) (file : List ℕ) : Type 0 where
+  pub tells : Tells shelf (loads_file file)
+  pub pieces : List (List Piece)
+  pub reads : loads_in n tells.text ≡ Ok pieces
 
 -- the phase run of a network, within the budgets, reaches the horizon
 pub record ReachesHorizon (n : Named) (horizon : ℚ) (budgets : Budgets) : Type 0 where
@@ -34,15 +43,38 @@ pub record ReachesHorizon (n : Named) (horizon : ℚ) (budgets : Budgets) : Type
   pub is_report : IsRunReport passes_Q n.net (bounds_of horizon budgets) report
   pub no_stop : report.stop ≡ None
 
--- A network is to be solved, and can be: its file is told, its phase run reaches the horizon, and in the call neither the shelf
--- nor the output failed.
-pub record CanBeSolved (call : Call) (out : Taken) : Type 0 where
-  pub asks : AsksToSolve call
-  pub tells : TellsNetwork call asks.file
-  pub reaches : ReachesHorizon tells.net asks.horizon asks.budgets
-  pub shelf_gives : ¬ Rose call.faults_before call.faults_now
-  pub out_takes : ¬ Rose out.faults_before out.faults_now
+-- ---- what may be asked for and has its answer
+-- a network is to be shown
+pub record CanBeShown (call : Call) : Type 0 where
+  pub file : List ℕ
+  pub asks : Asks call (Show file)
+  pub network : TellsNetwork call.shelf file
 
--- then the whole report was taken, up to the horizon, or memory was wanting
+-- a network is to be solved, and its phase run reaches the horizon
+pub record CanBeSolved (call : Call) : Type 0 where
+  pub file : List ℕ
+  pub horizon : ℚ
+  pub budgets : Budgets
+  pub asks : Asks call (Solve file horizon budgets)
+  pub network : TellsNetwork call.shelf file
+  pub reaches : ReachesHorizon network.net horizon budgets
+
+-- the links of a network are to be loaded, and no operation of the list passes
+pub record CanBeLoaded (call : Call) : Type 0 where
+  pub file : List ℕ
+  pub loads_name : List ℕ
+  pub horizon : ℚ
+  pub asks : Asks call (Load file loads_name horizon)
+  pub network : TellsNetwork call.shelf file
+  pub loads : TellsLoads call.shelf network.net loads_name
+  pub loaded : List Loading
+  pub computes : loading_list network.net loads.pieces horizon ≡ Ok loaded
+
+abbrev pub HasAnswer : Call → Type 0
+HasAnswer call = CanBeShown call ⊎ CanBeSolved call ⊎ CanBeLoaded call
+
+-- Where neither the shelf nor the output failed in the call, the whole text was taken, of a report up to the horizon, or memory was
+-- wanting.
 abbrev pub IsComplete : Call → Taken → Status → Type 0
-IsComplete call out status = CanBeSolved call out → (status ≡ Status.Ok) ⊎ (status ≡ Status.Memory)
+IsComplete call out status = HasAnswer call → ¬ Rose call.shelf.faults_before call.shelf.faults_now → ¬ Rose out.faults_before out.faults_now
+    → (status ≡ Status.Ok) ⊎ (status ≡ Status.Memory)

@@ -9,6 +9,8 @@ use Rattle.nf_formats.specs.declared.NetRule.TheVariants.{N1, N2, N3, N4, N5, N6
 use Rattle.nf_lines.specs.Words.{line_of_words}
 use Rattle.nf_formats.specs.Causes.{cause_words, passed_words}
 use Rattle.nf_formats.specs.NetLines.{Broken}
+use Rattle.nf_readings.specs.LoadsFile.{LoadsBroken}
+use Rattle.nf_readings.specs.RuleWords.{load_rule_word}
 
 -- a line of the program about itself
 abbrev pub said : List (List ℕ) → List ℕ
@@ -64,6 +66,9 @@ broken_line file number rule = said (file ∷ codes "line" ∷ (digits_of number
 
 abbrev pub network_line : Broken → List ℕ
 network_line broken = broken_line (codes "network") broken.line (rule_word broken.rule)
+
+abbrev pub loads_line : LoadsBroken → List ℕ
+loads_line broken = broken_line (codes "loads") broken.line (load_rule_word broken.rule)
 
 -- a run that stopped
 abbrev pub stopped_line : Cause ℚ → List ℕ

@@ -1,6 +1,9 @@
 pub mod ErrorLines
+pub mod Files
+pub mod Sinks
 pub mod Requests
 pub mod Answers
+pub mod Given
 pub mod Runs
 pub mod Completeness
 pub mod Requested

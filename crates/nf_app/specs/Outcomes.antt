@@ -1,42 +1,48 @@
 -- What an outcome of a request stands for: the answer, and its text.
-use Rattle.std.specs.Prelude.{◌≡◌, ℕ, List, Option, None, Result, Ok, Err}
+use Rattle.std.specs.Prelude.{◌≡◌, ◌⊎◌, ℕ, List, length, map, Option, None, Result, Ok, Err}
 use Rattle.nf_rational.specs.Rational.{ℚ}
 use Rattle.nf_formats.specs.declared.Cause.{Cause}
 use Rattle.nf_formats.specs.Named.{Named}
 use Rattle.nf_formats.specs.NetText.{canonical}
-use Rattle.nf_formats.specs.Report.{Report, IsWellFormed, report_text}
-use Rattle.nf_phase.specs.Solution.{bounds_of, report_in, IsSolution}
+use Rattle.nf_formats.specs.Report.{IsWellFormed, report_text}
+use Rattle.nf_readings.specs.Texts.{load_text}
+use Rattle.nf_load.specs.Loadings.{loaded_of}
+use Rattle.nf_phase.specs.Solution.{report_in}
 use Rattle.nf_app.specs.declared.outcome.Outcome.{Outcome}
 use Rattle.nf_app.specs.declared.refusal.Refusal.{Refusal}
-use Rattle.nf_app.specs.Requests.{Request, Show, Solve}
-use Rattle.nf_app.specs.Answers.{Answer, Shown, Solved}
+use Rattle.nf_app.specs.Files.{Visit}
+use Rattle.nf_app.specs.Requests.{Request}
+use Rattle.nf_app.specs.Answers.{Answer, Solved, Shown, Loaded}
 use Rattle.nf_app.specs.Refusals.{answer_of}
+use Rattle.nf_app.specs.Given.{IsGiven}
 use Rattle.nf_app.specs.Runs.{Call, IsAnswer}
 
 abbrev pub answer_in : Outcome → Answer
-answer_in (Outcome.Shown net text) = Shown net
 answer_in (Outcome.Solved net horizon s) = Solved net (report_in horizon s)
+answer_in (Outcome.Shown net text) = Shown net
+answer_in (Outcome.Loaded net horizon links) = Loaded net horizon (map loaded_of links.items)
 
--- the text is that of the network; the report is well formed, so that it has a text
+-- A report is well formed, so that it has a text. The canonical text is that of the network. Each loading is that of a link.
 abbrev pub HasText : Outcome → Type 0
-HasText (Outcome.Shown net text) = text.items ≡ canonical net
 HasText (Outcome.Solved net horizon s) = IsWellFormed net.net (report_in horizon s)
+HasText (Outcome.Shown net text) = text.items ≡ canonical net
+HasText (Outcome.Loaded net horizon links) = length links.items ≡ length net.net.links
 
 abbrev pub text_in : Outcome → List ℕ
-text_in (Outcome.Shown net text) = text.items
 text_in (Outcome.Solved net horizon s) = report_text net (report_in horizon s)
+text_in (Outcome.Shown net text) = text.items
+text_in (Outcome.Loaded net horizon links) = load_text net horizon (map loaded_of links.items)
 
 -- why the run of a report stopped
 abbrev pub stop_in : Outcome → Option (Cause ℚ)
-stop_in (Outcome.Shown net text) = None
 stop_in (Outcome.Solved net horizon s) = s.stopped
+stop_in (Outcome.Shown net text) = None
+stop_in (Outcome.Loaded net horizon links) = None
 
--- what a request gives with a network, or why it gives nothing
-abbrev pub IsGiven : Named → Request → Result Outcome Refusal → Type 0
-IsGiven n (Show file) (Ok outcome) = (answer_in outcome ≡ Shown n) × HasText outcome
-IsGiven n (Solve file horizon budgets) (Ok outcome) = (report : Report) × ((phases : ℕ) × IsSolution n.net (bounds_of horizon budgets) phases report)
-    × (answer_in outcome ≡ Solved n report) × HasText outcome
-IsGiven n request (Err refusal) = refusal ≡ Refusal.NoMemory
+-- what a request gives with its network, or why it gives nothing
+abbrev pub IsGiving : Visit → Named → Request → Result Outcome Refusal → Type 0
+IsGiving shelf n request (Ok outcome) = IsGiven shelf n request (answer_in outcome) × HasText outcome
+IsGiving shelf n request (Err refusal) = (refusal ≡ Refusal.NoMemory) ⊎ IsGiven shelf n request (answer_of refusal)
 
 -- an outcome that has its text, or a refusal, where that comes
 abbrev pub IsAnswered : Call → Result Outcome Refusal → Type 0

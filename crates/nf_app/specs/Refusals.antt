@@ -1,9 +1,12 @@
 -- What a refusal stands for, and which refusal a fault is.
 use Rattle.nf_edge.specs.declared.FetchFault.{FetchFault}
 use Rattle.nf_edge.specs.declared.FetchFault.TheVariants.{Failed, TooLong, Memory}
+use Rattle.nf_rational.specs.Rational.{ℚ}
+use Rattle.nf_work.specs.declared.Halt.{Halt}
 use Rattle.nf_net.specs.declared.fault.NetFault.{NetFault}
+use Rattle.nf_load.specs.declared.fault.LoadsFault.{LoadsFault}
 use Rattle.nf_app.specs.declared.refusal.Refusal.{Refusal}
-use Rattle.nf_app.specs.Answers.{Answer, NoMemory, NoRequest, ShelfFailed, ShelfTooLong, Malformed}
+use Rattle.nf_app.specs.Answers.{Answer, NoMemory, NoRequest, ShelfFailed, ShelfTooLong, Malformed, MalformedLoads, Passes}
 
 abbrev pub answer_of : Refusal → Answer
 answer_of Refusal.NoMemory = NoMemory
@@ -11,6 +14,8 @@ answer_of Refusal.NoRequest = NoRequest
 answer_of Refusal.ShelfFailed = ShelfFailed
 answer_of Refusal.ShelfTooLong = ShelfTooLong
 answer_of (Refusal.Malformed rule line) = Malformed (record { rule = rule; line = line })
+answer_of (Refusal.MalformedLoads rule line) = MalformedLoads (record { rule = rule; line = line })
+answer_of (Refusal.Passes at) = Passes at
 
 abbrev pub refusal_of_fetch : FetchFault → Refusal
 refusal_of_fetch Failed = Refusal.ShelfFailed
@@ -20,3 +25,11 @@ refusal_of_fetch Memory = Refusal.NoMemory
 abbrev pub refusal_of_net : NetFault → Refusal
 refusal_of_net (NetFault.Broken rule line) = Refusal.Malformed rule line
 refusal_of_net NetFault.Memory = Refusal.NoMemory
+
+abbrev pub refusal_of_loads : LoadsFault → Refusal
+refusal_of_loads (LoadsFault.Broken rule line) = Refusal.MalformedLoads rule line
+refusal_of_loads LoadsFault.Memory = Refusal.NoMemory
+
+abbrev pub refusal_of_halt : Halt ℚ → Refusal
+refusal_of_halt (Halt.Passed at) = Refusal.Passes at
+refusal_of_halt Halt.Memory = Refusal.NoMemory

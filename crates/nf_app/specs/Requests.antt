@@ -1,5 +1,5 @@
 -- What the words of the command line ask.
-use Rattle.std.specs.Prelude.{ℕ, ◌&&◌, if◌then◌else◌, ◌==◌, nat_le, List, [], ◌∷◌, Option, Some, None, Result, Ok, Err, codes}
+use Rattle.std.specs.Prelude.{ℕ, ◌&&◌, if◌then◌else◌, ◌==◌, nat_le, List, [], ◌∷◌, Option, Some, None, option_map, Result, Ok, Err, codes}
 use Rattle.std.specs.Str.{bytes_eq}
 use Rattle.nf_rational.specs.Rational.{ℚ}
 use Rattle.nf_rational.specs.Operations.{0ℚ}
@@ -8,16 +8,25 @@ use Rattle.nf_numerals.specs.Digits.{are_digits, value_of}
 use Rattle.nf_numerals.specs.Numbers.{number_of}
 use Rattle.nf_formats.specs.Numbers.{greatest}
 use Rattle.nf_phase.specs.declared.solution.Budgets.{Budgets}
+use Rattle.nf_app.specs.Files.{Wanted, network_limit, loads_limit}
 
--- `show NET`, and `solve NET --horizon Q [--phases N] [--patterns N]`
+-- `solve NET --horizon Q [--phases N] [--patterns N]`, `show NET` and `load NET LOADS --horizon Q`
 pub data Request : Type 0 where
-  Show : List ℕ → Request
   Solve : List ℕ → ℚ → Budgets → Request
+  Show : List ℕ → Request
+  Load : List ℕ → List ℕ → ℚ → Request
 
--- the name of the file that is asked for
-abbrev pub file_of : Request → List ℕ
-file_of (Show file) = file
-file_of (Solve file horizon budgets) = file
+abbrev pub network_file : List ℕ → Wanted
+network_file name = record { name = name; limit = network_limit }
+
+abbrev pub loads_file : List ℕ → Wanted
+loads_file name = record { name = name; limit = loads_limit }
+
+-- the files that are wanted, in the order in which they are fetched; the first is the network's
+abbrev pub files_of : Request → List Wanted
+files_of (Solve file horizon budgets) = network_file file ∷ []
+files_of (Show file) = network_file file ∷ []
+files_of (Load file loads horizon) = network_file file ∷ loads_file loads ∷ []
 
 -- ---- the horizon
 -- a number of at least 0
@@ -30,8 +39,9 @@ horizon_of word = to_horizon (number_of greatest word)
 
 -- what is asked can be: a horizon is at least 0
 abbrev pub CanBeAsked : Request → Type 0
-CanBeAsked (Show file) = Unit {0}
 CanBeAsked (Solve file horizon budgets) = 0ℚ ≤ℚ horizon
+CanBeAsked (Show file) = Unit {0}
+CanBeAsked (Load file loads horizon) = 0ℚ ≤ℚ horizon
 
 -- ---- the budgets
 -- the most phases that may be asked for, and those that are meant where the words don't say
@@ -86,10 +96,6 @@ budgets_of (first ∷ phases ∷ second ∷ patterns ∷ []) = both_budgets (pha
 budgets_of words = None
 
 -- ---- the commands
--- `show NET`
-abbrev pub shown_file : List ℕ → List ℕ → Option Request
-shown_file command file = if bytes_eq command (codes "show") then Some (Show file) else None
-
 -- a file, a horizon and budgets, where each is one
 abbrev pub solve_request : List ℕ → Option ℚ → Option Budgets → Option Request
 solve_request file (Some horizon) (Some budgets) = Some (Solve file horizon budgets)
@@ -97,18 +103,30 @@ solve_request file (Some horizon) None = None
 solve_request file None budgets = None
 
 -- `solve NET --horizon Q [--phases N] [--patterns N]`
-abbrev pub solved_file : List ℕ → List ℕ → List ℕ → List ℕ → List (List ℕ) → Option Request
-solved_file command file option word more =
-    if bytes_eq command (codes "solve") && bytes_eq option (codes "--horizon") then solve_request file (horizon_of word) (budgets_of more) else None
+abbrev pub solve_words : List (List ℕ) → Option Request
+solve_words (file ∷ option ∷ word ∷ more) = if bytes_eq option (codes "--horizon") then solve_request file (horizon_of word) (budgets_of more) else None
+solve_words words = None
 
--- a command with its file, and the words behind them
-abbrev pub command_of : List ℕ → List ℕ → List (List ℕ) → Option Request
-command_of command file [] = shown_file command file
-command_of command file (option ∷ []) = None
-command_of command file (option ∷ word ∷ more) = solved_file command file option word more
+-- `show NET`
+abbrev pub show_words : List (List ℕ) → Option Request
+show_words (file ∷ []) = Some (Show file)
+show_words words = None
 
--- The words begin with the program's name. The command, its file and its options stand in this one order, and all else asks
--- nothing.
+-- `load NET LOADS --horizon Q`
+abbrev pub load_words : List (List ℕ) → Option Request
+load_words (file ∷ loads ∷ option ∷ word ∷ []) = if bytes_eq option (codes "--horizon") then option_map (λ horizon. Load file loads horizon) (horizon_of word) else None
+load_words words = None
+
+-- The table of commands: what each makes of the words behind it, its files and then its options, which stand in this one order. No
+-- other word is a command.
+abbrev pub command_of : List ℕ → List (List ℕ) → Option Request
+command_of command words =
+    if bytes_eq command (codes "solve") then solve_words words
+    else (if bytes_eq command (codes "show") then show_words words
+    else (if bytes_eq command (codes "load") then load_words words
+    else None))
+
+-- the words begin with the program's name
 abbrev pub request_of : List (List ℕ) → Option Request
-request_of (program ∷ command ∷ file ∷ more) = command_of command file more
+request_of (program ∷ command ∷ words) = command_of command words
 request_of words = None

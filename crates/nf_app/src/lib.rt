@@ -3,6 +3,8 @@
 
 mod budgets;
 mod fetching;
+mod load_text;
+mod loading;
 mod outcome;
 mod output;
 mod refusal;

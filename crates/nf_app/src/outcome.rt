@@ -1,36 +1,48 @@
 // What a request gives: a text for the output.
-ghost use Rattle.std.specs.Prelude.{◌≡◌, ℕ, List};
+ghost use Rattle.std.specs.Prelude.{◌≡◌, ◌≤◌, ℕ, List, length};
 ghost use Rattle.std.specs.Option.{option_copied};
 ghost use Rattle.nf_rational.specs.Operations.{0ℚ};
 ghost use Rattle.nf_rational.specs.Order.{◌≤ℚ◌};
 ghost use Rattle.nf_edge.specs.Names.{texts};
-ghost use Rattle.nf_app.specs.Requested.{requested};
-ghost use Rattle.nf_app.specs.Requests.{Show, Solve, CanBeAsked};
-ghost use Rattle.nf_app.specs.Outcomes.{stop_in, IsGiven, IsAnswered};
+ghost use Rattle.nf_app.specs.Files.{Visit};
+ghost use Rattle.nf_app.specs.Requests.{Solve, Show, Load, loads_file};
+ghost use Rattle.nf_app.specs.Fetching.{IsTold};
+ghost use Rattle.nf_app.specs.Outcomes.{stop_in, IsGiving, IsAnswered};
 
-use crate::fetching::fetch_network;
+use crate::fetching::{fetch_network, fetch_network_with};
+use crate::loading::load_links;
 use crate::refusal::Refusal;
 use crate::request::{Request, read_request};
 use nf_curve::Stop;
 use nf_edge::Shelf;
 use nf_frac::Q;
+use nf_load::{Loaded, parse_loads};
 use nf_net::{Network, text};
 use nf_phase::{Budgets, Solution, solve};
 use std::alloc::Global;
 
+/// The most bytes that a loads file may have.
+const LONGEST_LOADS: u32 = 1_048_576;
+
 /// What a request gives.
 #[derive(Drop)]
 pub(crate) enum Outcome {
-    /// A network with its canonical text.
-    Shown {
-        net: Network,
-        text: Vec<u8>,
-    },
     /// What solving a network to a horizon gave.
     Solved {
         net: Network,
         horizon: Q,
         solution: Solution,
+    },
+    /// A network with its canonical text.
+    Shown {
+        net: Network,
+        text: Vec<u8>,
+    },
+    /// The loadings of the links of a network, up to a horizon.
+    Loaded {
+        net: Network,
+        horizon: Q,
+        links: Vec<Loaded>,
     },
 }
 
@@ -40,24 +52,17 @@ impl Outcome {
         ensures { option_copied result ≡ stop_in self.now }
     {
         match self {
-            Outcome::Shown { .. } => None,
             Outcome::Solved { solution, .. } => solution.stopped.as_ref(),
+            Outcome::Shown { .. } => None,
+            Outcome::Loaded { .. } => None,
         }
     }
-}
-
-// The network, with its text.
-fn show(alloc: Global, net: Network) -> Result<Outcome, Refusal>
-    ensures { (file : List ℕ) → IsGiven net (Show file) result }
-{
-    let text = text(alloc, &net)?;
-    Ok(Outcome::Shown { net, text })
 }
 
 // The network, with what solving it to a horizon gives.
 fn solve_to(alloc: Global, net: Network, horizon: Q, budgets: Budgets) -> Result<Outcome, Refusal>
     requires { 0ℚ ≤ℚ horizon }
-    ensures { (file : List ℕ) → IsGiven net (Solve file horizon budgets) result }
+    ensures { (shelf : Visit) (file : List ℕ) → IsGiving shelf net (Solve file horizon budgets) result }
 {
     let solution = solve(alloc, &net, horizon, budgets)?;
     Ok(Outcome::Solved {
@@ -67,19 +72,27 @@ fn solve_to(alloc: Global, net: Network, horizon: Q, budgets: Budgets) -> Result
     })
 }
 
-// What the request gives with this network.
-fn outcome_of(alloc: Global, net: Network, request: Request) -> Result<Outcome, Refusal>
-    requires { CanBeAsked (requested request) }
-    ensures { IsGiven net (requested request.entry) result }
+// The network, with its text.
+fn show(alloc: Global, net: Network) -> Result<Outcome, Refusal>
+    ensures { (shelf : Visit) (file : List ℕ) → IsGiving shelf net (Show file) result }
 {
-    match request {
-        Request::Show { .. } => show(alloc, net),
-        Request::Solve {
-            horizon,
-            budgets,
-            ..
-        } => solve_to(alloc, net, horizon, budgets),
-    }
+    let text = text(alloc, &net)?;
+    Ok(Outcome::Shown { net, text })
+}
+
+// The network, with the loading of each link by the pieces that the text of a loads file gives it.
+fn load_to(alloc: Global, net: Network, loads: &[u8], horizon: Q) -> Result<Outcome, Refusal>
+    requires horizon { 0ℚ ≤ℚ horizon }
+    requires within { length loads.now ≤ 67108864 }
+    ensures { (shelf : Visit) (file name : List ℕ) → IsTold shelf (loads_file name) loads.now → IsGiving shelf net (Load file name horizon) result }
+{
+    let loads = parse_loads(alloc, &net, loads)?;
+    let links = load_links(alloc, &net, &loads, horizon)?;
+    Ok(Outcome::Loaded {
+        net,
+        horizon,
+        links,
+    })
 }
 
 /// What the words give with the files of the shelf.
@@ -90,17 +103,39 @@ pub(crate) fn answer<S: Shelf>(
 ) -> Result<Outcome, Refusal>
     ensures { IsAnswered (record {
       words = texts words.now;
-      told = S.told shelf.old;
-      asked_before = S.asked shelf.old;
-      asked_now = S.asked shelf.new;
-      faults_before = S.faults shelf.old;
-      faults_now = S.faults shelf.new;
-      taken = S.taken shelf.new;
+      shelf = record {
+        told = S.told shelf.old;
+        asked_before = S.asked shelf.old;
+        asked_now = S.asked shelf.new;
+        faults_before = S.faults shelf.old;
+        faults_now = S.faults shelf.new;
+        taken = S.taken shelf.new;
+      };
     }) result }
 {
     let Some(request) = read_request(words) else {
         return Err(Refusal::NoRequest);
     };
-    let net = fetch_network(alloc, shelf, request.file())?;
-    outcome_of(alloc, net, request)
+    match request {
+        Request::Solve {
+            file,
+            horizon,
+            budgets,
+        } => {
+            let net = fetch_network(alloc, shelf, file)?;
+            solve_to(alloc, net, horizon, budgets)
+        }
+        Request::Show { file } => {
+            let net = fetch_network(alloc, shelf, file)?;
+            show(alloc, net)
+        }
+        Request::Load {
+            file,
+            loads,
+            horizon,
+        } => {
+            let (net, loads) = fetch_network_with(alloc, shelf, file, loads, LONGEST_LOADS)?;
+            load_to(alloc, net, &loads, horizon)
+        }
+    }
 }

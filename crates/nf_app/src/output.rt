@@ -5,8 +5,10 @@ ghost use Rattle.nf_edge.specs.Taken.{Wrote};
 ghost use Rattle.nf_app.specs.Answers.{status_of, status_of_cause, status_of_stop, err_text, text_of_stop};
 ghost use Rattle.nf_app.specs.Refusals.{answer_of};
 ghost use Rattle.nf_app.specs.Outcomes.{answer_in, text_in, HasText};
-ghost use Rattle.nf_app.specs.Runs.{TookText, IsShown};
+ghost use Rattle.nf_app.specs.Sinks.{TookText};
+ghost use Rattle.nf_app.specs.Runs.{IsShown};
 
+use crate::load_text::write_loads;
 use crate::outcome::Outcome;
 use crate::refusal::Refusal;
 use crate::status::Status;
@@ -21,7 +23,6 @@ fn write_outcome<O: Sink>(outcome: &Outcome, out: &mut O) -> Result<(), SinkFaul
     ensures { Wrote (O.took out.old) (O.took out.new) (O.faults out.old) (O.faults out.new) (text_in outcome.now) result }
 {
     match outcome {
-        Outcome::Shown { text, .. } => write_text(out, text),
         Outcome::Solved {
             net,
             horizon,
@@ -34,6 +35,12 @@ fn write_outcome<O: Sink>(outcome: &Outcome, out: &mut O) -> Result<(), SinkFaul
             &solution.last,
             out,
         ),
+        Outcome::Shown { text, .. } => write_text(out, text),
+        Outcome::Loaded {
+            net,
+            horizon,
+            links,
+        } => write_loads(out, net, *horizon, links),
     }
 }
 
@@ -93,14 +100,14 @@ pub(crate) fn give<O: Sink, E: Sink>(outcome: &Outcome, out: &mut O, err: &mut E
 }
 
 /// Says why there is nothing on the output. The status is the same where that can't be said.
-pub(crate) fn refuse<E: Sink>(refusal: Refusal, err: &mut E) -> Status
-    ensures status { result ≡ status_of (answer_of refusal) }
+pub(crate) fn refuse<E: Sink>(refusal: &Refusal, err: &mut E) -> Status
+    ensures status { result ≡ status_of (answer_of refusal.now) }
     ensures told { TookText (record {
       before = E.took err.old;
       now = E.took err.new;
       faults_before = E.faults err.old;
       faults_now = E.faults err.new;
-    }) (err_text (answer_of refusal)) }
+    }) (err_text (answer_of refusal.now)) }
 {
     let _ = write_refusal(err, refusal);
     refusal.status()

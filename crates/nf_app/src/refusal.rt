@@ -1,11 +1,13 @@
 // Why a run has no text for its output.
 ghost use Rattle.std.specs.Prelude.{◌≡◌};
 ghost use Rattle.nf_app.specs.Answers.{status_of};
-ghost use Rattle.nf_app.specs.Refusals.{answer_of, refusal_of_fetch, refusal_of_net};
+ghost use Rattle.nf_app.specs.Refusals.{answer_of, refusal_of_fetch, refusal_of_net, refusal_of_loads, refusal_of_halt};
 ghost use Rattle.nf_app.specs.declared.refusal.Refusal.TheVariants as Refusal;
 
 use crate::status::Status;
 use nf_edge::FetchFault;
+use nf_frac::{Halt, PassedAt, Q};
+use nf_load::{LoadRule, LoadsFault};
 use nf_net::{NetFault, NetRule};
 use std::alloc::AllocError;
 
@@ -20,14 +22,18 @@ pub(crate) enum Refusal {
     ShelfFailed,
     /// The file has too many bytes.
     ShelfTooLong,
-    /// The file breaks this rule first, in this line.
+    /// The network file breaks this rule first, in this line.
     Malformed { rule: NetRule, line: u32 },
+    /// The loads file breaks this rule first, in this line.
+    MalformedLoads { rule: LoadRule, line: u32 },
+    /// This operation passes the bound.
+    Passes(PassedAt<Q>),
 }
 
 impl Refusal {
     /// How the run ends.
-    pub(crate) fn status(self) -> Status
-        ensures { result ≡ status_of (answer_of self) }
+    pub(crate) fn status(&self) -> Status
+        ensures { result ≡ status_of (answer_of self.now) }
     {
         match self {
             Refusal::NoMemory => Status::Memory,
@@ -35,6 +41,8 @@ impl Refusal {
             Refusal::ShelfFailed => Status::Shelf,
             Refusal::ShelfTooLong => Status::Shelf,
             Refusal::Malformed { .. } => Status::Malformed,
+            Refusal::MalformedLoads { .. } => Status::Malformed,
+            Refusal::Passes(_) => Status::Passed,
         }
     }
 }
@@ -66,6 +74,28 @@ impl From<NetFault> for Refusal {
         match fault {
             NetFault::Broken { rule, line } => Refusal::Malformed { rule, line },
             NetFault::Memory => Refusal::NoMemory,
+        }
+    }
+}
+
+impl From<LoadsFault> for Refusal {
+    ghost from_gives = { λ fault refusal. refusal ≡ refusal_of_loads fault };
+
+    fn from(fault: LoadsFault) -> Self {
+        match fault {
+            LoadsFault::Broken { rule, line } => Refusal::MalformedLoads { rule, line },
+            LoadsFault::Memory => Refusal::NoMemory,
+        }
+    }
+}
+
+impl From<Halt<Q>> for Refusal {
+    ghost from_gives = { λ halt refusal. refusal ≡ refusal_of_halt halt };
+
+    fn from(halt: Halt<Q>) -> Self {
+        match halt {
+            Halt::Passed(at) => Refusal::Passes(at),
+            Halt::Memory => Refusal::NoMemory,
         }
     }
 }

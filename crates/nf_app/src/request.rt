@@ -3,38 +3,32 @@ ghost use Rattle.std.specs.Prelude.{◌≡◌, option_map, IfSome};
 ghost use Rattle.nf_edge.specs.Names.{texts};
 ghost use Rattle.nf_rational.specs.Operations.{0ℚ};
 ghost use Rattle.nf_rational.specs.Order.{◌≤ℚ◌};
-ghost use Rattle.nf_app.specs.Requests.{file_of, horizon_of, solve_request, CanBeAsked, shown_file, solved_file, command_of, request_of};
+ghost use Rattle.nf_app.specs.Requests.{CanBeAsked, horizon_of, solve_request, solve_words, show_words, load_words, command_of, request_of};
 ghost use Rattle.nf_app.specs.Requested.{requested};
 
 use crate::budgets::read_budgets;
 use nf_frac::Q;
 use nf_phase::Budgets;
 
-/// What the words ask of a file.
+/// What the words ask. Files go by their names.
 #[derive(Clone, Copy, Debug)]
 pub(crate) enum Request<'w> {
-    /// The canonical text of its network.
-    Show {
-        file: &'w str,
-    },
-    /// The report of a run in its network, from time 0 to a horizon of at least 0, within budgets.
+    /// The report of a run in a network, from time 0 to a horizon of at least 0, within budgets.
     Solve {
         file: &'w str,
         horizon: Q,
         budgets: Budgets,
     },
-}
-
-impl<'w> Request<'w> {
-    /// The name of the file.
-    pub(crate) fn file(&self) -> &'w str
-        ensures { result.now ≡ file_of (requested self.now) }
-    {
-        match self {
-            Request::Show { file } => file,
-            Request::Solve { file, .. } => file,
-        }
-    }
+    /// The canonical text of a network.
+    Show {
+        file: &'w str,
+    },
+    /// What becomes of given inflow on each link of a network, up to a horizon of at least 0.
+    Load {
+        file: &'w str,
+        loads: &'w str,
+        horizon: Q,
+    },
 }
 
 // A horizon is a number of at least 0.
@@ -46,18 +40,6 @@ fn read_horizon(word: &str) -> Option<Q>
     match Q::read(word.as_bytes()) {
         Ok(horizon) if Q::zero() <= horizon => Some(horizon),
         _ => None,
-    }
-}
-
-// `show NET`
-fn read_show<'w>(command: &str, file: &'w str) -> Option<Request<'w>>
-    ensures value { shown_file command.now file.now ≡ option_map requested result }
-    ensures can_be { IfSome result (λ request. CanBeAsked (requested request)) }
-{
-    if command == "show" {
-        Some(Request::Show { file })
-    } else {
-        None
     }
 }
 
@@ -81,34 +63,73 @@ fn solve_file<'w>(
     }
 }
 
-// `solve NET --horizon Q [--phases N] [--patterns N]`, the words of the budgets in a list.
-fn read_solve<'w>(
-    command: &str,
-    file: &'w str,
-    option: &str,
-    word: &str,
-    more: &[String],
-) -> Option<Request<'w>>
-    ensures value { solved_file command.now file.now option.now word.now (texts more.now) ≡ option_map requested result }
+// `solve NET --horizon Q [--phases N] [--patterns N]`
+fn read_solve(words: &[String]) -> Option<Request>
+    ensures value { solve_words (texts words.now) ≡ option_map requested result }
     ensures can_be { IfSome result (λ request. CanBeAsked (requested request)) }
 {
-    if command != "solve" || option != "--horizon" {
-        return None;
+    match words {
+        [file, option, word, more @ ..] => {
+            if option.as_str() != "--horizon" {
+                return None;
+            }
+            solve_file(
+                file.as_str(),
+                read_horizon(word.as_str()),
+                read_budgets(more),
+            )
+        }
+        _ => None,
     }
-    solve_file(file, read_horizon(word), read_budgets(more))
 }
 
-// A command with its file, and the words behind them.
-fn read_command<'w>(command: &str, file: &'w str, more: &[String]) -> Option<Request<'w>>
-    ensures value { command_of command.now file.now (texts more.now) ≡ option_map requested result }
+// `show NET`
+fn read_show(words: &[String]) -> Option<Request>
+    ensures value { show_words (texts words.now) ≡ option_map requested result }
     ensures can_be { IfSome result (λ request. CanBeAsked (requested request)) }
 {
-    match more {
-        [] => read_show(command, file),
-        [_] => None,
-        [option, word, more @ ..] => {
-            read_solve(command, file, option.as_str(), word.as_str(), more)
+    match words {
+        [file] => Some(Request::Show {
+            file: file.as_str(),
+        }),
+        _ => None,
+    }
+}
+
+// `load NET LOADS --horizon Q`
+fn read_load(words: &[String]) -> Option<Request>
+    ensures value { load_words (texts words.now) ≡ option_map requested result }
+    ensures can_be { IfSome result (λ request. CanBeAsked (requested request)) }
+{
+    match words {
+        [file, loads, option, word] => {
+            if option.as_str() != "--horizon" {
+                return None;
+            }
+            let horizon = read_horizon(word.as_str())?;
+            Some(Request::Load {
+                file: file.as_str(),
+                loads: loads.as_str(),
+                horizon,
+            })
         }
+        _ => None,
+    }
+}
+
+// A command, with the words behind it.
+fn read_command<'w>(command: &str, words: &'w [String]) -> Option<Request<'w>>
+    ensures value { command_of command.now (texts words.now) ≡ option_map requested result }
+    ensures can_be { IfSome result (λ request. CanBeAsked (requested request)) }
+{
+    if command == "solve" {
+        read_solve(words)
+    } else if command == "show" {
+        read_show(words)
+    } else if command == "load" {
+        read_load(words)
+    } else {
+        None
     }
 }
 
@@ -118,7 +139,7 @@ pub(crate) fn read_request(words: &[String]) -> Option<Request>
     ensures can_be { IfSome result (λ request. CanBeAsked (requested request)) }
 {
     match words {
-        [_, command, file, more @ ..] => read_command(command.as_str(), file.as_str(), more),
+        [_, command, more @ ..] => read_command(command.as_str(), more),
         _ => None,
     }
 }

@@ -9,10 +9,11 @@ use crate::status::Status;
 use nf_edge::{Shelf, Sink};
 use std::alloc::Global;
 
-/// Answers what the words ask, of which the first is the program's name: fetches the file of the request, and no other, within
-/// 1,048,576 bytes, writes the text of the answer to `out`, and says on `err` why there is none, or why it ends early. Nothing is
-/// written to `out` before the text is known. It is refused where memory is wanting, the words are no request, or the file isn't
-/// given or breaks a rule. Of a network a report is written up to the horizon, or up to the departure where its run stops.
+/// Answers what the words ask, of which the first is the program's name: fetches the files of the request, each once and in order, and
+/// no other, writes the text of the answer to `out`, and says on `err` why there is none, or why it ends early. All files are fetched
+/// before a rule of one is looked at, and nothing is written to `out` before the text is known. It is refused where memory is wanting,
+/// the words are no request, a file isn't given, has too many bytes or breaks a rule, or an operation of `load` passes the bound of 127
+/// bits. Of a network a report is written up to the horizon, or up to the departure where its run stops.
 pub fn run<S: Shelf, O: Sink, E: Sink>(
     alloc: Global,
     words: &[String],
@@ -22,12 +23,14 @@ pub fn run<S: Shelf, O: Sink, E: Sink>(
 ) -> Status
     ensures ran { Ran (record {
       words = texts words.now;
-      told = S.told shelf.old;
-      asked_before = S.asked shelf.old;
-      asked_now = S.asked shelf.new;
-      faults_before = S.faults shelf.old;
-      faults_now = S.faults shelf.new;
-      taken = S.taken shelf.new;
+      shelf = record {
+        told = S.told shelf.old;
+        asked_before = S.asked shelf.old;
+        asked_now = S.asked shelf.new;
+        faults_before = S.faults shelf.old;
+        faults_now = S.faults shelf.new;
+        taken = S.taken shelf.new;
+      };
     }) (record {
       before = O.took out.old;
       now = O.took out.new;
@@ -40,15 +43,18 @@ pub fn run<S: Shelf, O: Sink, E: Sink>(
       faults_now = E.faults err.new;
     }) result }
 
-    // Nothing but want of memory keeps a network from being solved whose phase run reaches the horizon.
+    // Nothing but want of memory keeps a network from being shown, from being solved where its phase run reaches the horizon, and from
+    // being loaded where no operation passes.
     ensures complete { IsComplete (record {
       words = texts words.now;
-      told = S.told shelf.old;
-      asked_before = S.asked shelf.old;
-      asked_now = S.asked shelf.new;
-      faults_before = S.faults shelf.old;
-      faults_now = S.faults shelf.new;
-      taken = S.taken shelf.new;
+      shelf = record {
+        told = S.told shelf.old;
+        asked_before = S.asked shelf.old;
+        asked_now = S.asked shelf.new;
+        faults_before = S.faults shelf.old;
+        faults_now = S.faults shelf.new;
+        taken = S.taken shelf.new;
+      };
     }) (record {
       before = O.took out.old;
       now = O.took out.new;
@@ -58,6 +64,6 @@ pub fn run<S: Shelf, O: Sink, E: Sink>(
 {
     match answer(alloc, words, shelf) {
         Ok(outcome) => give(&outcome, out, err),
-        Err(refusal) => refuse(refusal, err),
+        Err(refusal) => refuse(&refusal, err),
     }
 }

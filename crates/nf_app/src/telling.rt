@@ -1,17 +1,19 @@
 // The lines on standard error.
 ghost use Rattle.std.specs.Prelude.{◌≡◌, flat_map};
 ghost use Rattle.nf_edge.specs.Taken.{Wrote};
-ghost use Rattle.nf_app.specs.ErrorLines.{rule_word, network_line, stopped_line};
+ghost use Rattle.nf_readings.specs.RuleWords.{load_rule_word};
+ghost use Rattle.nf_app.specs.ErrorLines.{rule_word, broken_line, stopped_line, passed_line};
 ghost use Rattle.nf_app.specs.Answers.{err_text};
 ghost use Rattle.nf_app.specs.Refusals.{answer_of};
 
 use crate::refusal::Refusal;
 use nf_curve::Stop;
 use nf_edge::{Sink, SinkFault, write_text};
-use nf_frac::TextBuf;
+use nf_frac::{PassedAt, Q, TextBuf};
+use nf_load::LoadRule;
 use nf_net::NetRule;
 use nf_numerals::write_count;
-use nf_report::write_stop;
+use nf_report::{write_passed_call, write_stop};
 
 // The usage text: all the commands there are to be.
 const USAGE: &[u8] = b"nfot: usage
@@ -52,6 +54,25 @@ fn rule_text(rule: NetRule) -> &'static [u8]
     }
 }
 
+fn load_rule_text(rule: LoadRule) -> &'static [u8]
+    ensures { result.now ≡ load_rule_word rule }
+{
+    match rule {
+        LoadRule::L1 => b"L1",
+        LoadRule::L2 => b"L2",
+        LoadRule::L3 => b"L3",
+        LoadRule::L4 => b"L4",
+        LoadRule::L5 => b"L5",
+        LoadRule::L6 => b"L6",
+        LoadRule::L7 => b"L7",
+        LoadRule::L8 => b"L8",
+        LoadRule::L9 => b"L9",
+        LoadRule::L10 => b"L10",
+        LoadRule::L11 => b"L11",
+        LoadRule::L12 => b"L12",
+    }
+}
+
 // Texts, one after the other.
 fn write_texts<E: Sink>(err: &mut E, texts: &[&[u8]]) -> Result<(), SinkFault>
     ensures { Wrote (E.took err.old) (E.took err.new) (E.faults err.old) (E.faults err.new)
@@ -63,36 +84,58 @@ fn write_texts<E: Sink>(err: &mut E, texts: &[&[u8]]) -> Result<(), SinkFault>
     Ok(())
 }
 
-// A rule that a network file breaks.
-fn write_rule<E: Sink>(err: &mut E, rule: NetRule, line: u32) -> Result<(), SinkFault>
+// The rule that a file of some kind breaks, in this line.
+fn write_broken<E: Sink>(
+    err: &mut E,
+    file: &[u8],
+    line: u32,
+    rule: &[u8],
+) -> Result<(), SinkFault>
     ensures { Wrote (E.took err.old) (E.took err.new) (E.faults err.old) (E.faults err.new)
-        (network_line (record { rule = rule; line = line })) result }
+        (broken_line file.now line rule.now) result }
 {
     let mut number = TextBuf::new();
     write_count(u64::from(line), &mut number);
     write_texts(
         err,
         &[
-            b"nfot: network line ",
+            b"nfot: ",
+            file,
+            b" line ",
             number.text(),
             b": ",
-            rule_text(rule),
+            rule,
             b"\n",
         ],
     )
 }
 
-/// Why there is nothing on the output.
-pub(crate) fn write_refusal<E: Sink>(err: &mut E, refusal: Refusal) -> Result<(), SinkFault>
+// The operation that passes in a command of one call.
+fn write_passed<E: Sink>(err: &mut E, at: &PassedAt<Q>) -> Result<(), SinkFault>
     ensures { Wrote (E.took err.old) (E.took err.new) (E.faults err.old) (E.faults err.new)
-        (err_text (answer_of refusal)) result }
+        (passed_line at.now) result }
+{
+    write_text(err, b"nfot: ")?;
+    write_passed_call(err, b"stopped:", at)
+}
+
+/// Why there is nothing on the output.
+pub(crate) fn write_refusal<E: Sink>(err: &mut E, refusal: &Refusal) -> Result<(), SinkFault>
+    ensures { Wrote (E.took err.old) (E.took err.new) (E.faults err.old) (E.faults err.new)
+        (err_text (answer_of refusal.now)) result }
 {
     match refusal {
         Refusal::NoMemory => write_text(err, b"nfot: memory\n"),
         Refusal::NoRequest => write_text(err, USAGE),
         Refusal::ShelfFailed => write_text(err, b"nfot: shelf failed\n"),
         Refusal::ShelfTooLong => write_text(err, b"nfot: shelf too long\n"),
-        Refusal::Malformed { rule, line } => write_rule(err, rule, line),
+        Refusal::Malformed { rule, line } => {
+            write_broken(err, b"network", *line, rule_text(*rule))
+        }
+        Refusal::MalformedLoads { rule, line } => {
+            write_broken(err, b"loads", *line, load_rule_text(*rule))
+        }
+        Refusal::Passes(at) => write_passed(err, at),
     }
 }
 

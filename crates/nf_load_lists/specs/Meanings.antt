@@ -1,10 +1,10 @@
 -- What cumulative amounts and the loading of a link have to give, at every time.
-use Rattle.std.specs.Prelude.{◌≡◌, List, Option}
+use Rattle.std.specs.Prelude.{◌≡◌, List, [], ◌∷◌, Option}
 use Rattle.nf_rational.specs.Rational.{ℚ}
 use Rattle.nf_rational.specs.Operations.{0ℚ, ◌+ℚ◌}
 use Rattle.nf_rational.specs.Order.{◌≤ℚ◌}
 use Rattle.nf_model.specs.Curve.{Within, value, NeverFalls, IsCurve, IsShort}
-use Rattle.nf_model.specs.Network.{Piece, supplied}
+use Rattle.nf_model.specs.Network.{Link, Piece, supplied}
 use Rattle.nf_model.specs.Queue.{IsQueue, IsExit, IsOutflow}
 use Rattle.nf_load_lists.specs.Loading.{Loaded}
 
@@ -28,3 +28,15 @@ pub record IsLoaded (transit : ℚ) (capacity : Option ℚ) (inflow : List (ℚ 
   pub queue_values : (time : ℚ) → Within 0ℚ last time → IsQueue capacity (value inflow) time (value loaded.queue time)
   pub exit_values : (time : ℚ) → Within 0ℚ last time → IsExit transit capacity (value inflow) time (value loaded.exit time)
   pub outflow_values : (time : ℚ) → Within 0ℚ (last +ℚ transit) time → IsOutflow transit capacity (value inflow) time (value loaded.outflow time)
+
+-- a link's loading by its pieces, up to the last time: that of the amount which they supply
+pub record IsLinkLoaded (last : ℚ) (link : Link) (pieces : List Piece) (loaded : Loaded) : Type 0 where
+  pub inflow : List (ℚ × ℚ)
+  pub cumulative : IsCumulative pieces last inflow
+  pub loading : IsLoaded link.transit link.capacity inflow last loaded
+
+-- the loadings of links, each by its pieces
+abbrev pub AreLoaded : ℚ → List Link → List (List Piece) → List Loaded → Type 0
+AreLoaded last [] [] [] = Unit {0}
+AreLoaded last (link ∷ links) (pieces ∷ more) (loaded ∷ rest) = IsLinkLoaded last link pieces loaded × AreLoaded last links more rest
+AreLoaded last links pieces loaded = ⊥

@@ -1,5 +1,5 @@
 // The line that says why a run stopped, and the line of a link's state.
-ghost use Rattle.std.specs.Prelude.{◌≡◌, [], ◌∷◌, Some, codes};
+ghost use Rattle.std.specs.Prelude.{◌≡◌, [], ◌∷◌, Some, None, codes};
 ghost use Rattle.std.specs.Option.{option_copied};
 ghost use Rattle.nf_numerals.specs.Digits.{digits_of};
 ghost use Rattle.nf_numerals.specs.Printed.{printed};
@@ -145,7 +145,29 @@ fn write_passed<O: Sink>(
     }
 }
 
-/// The line that says why a run stopped, behind a first word.
+/// Writes the line that says which operation passes in a command of one call, behind a first word. There is no phase and no place.
+/// Where the sink fails, it has taken the first bytes. It takes no memory.
+pub fn write_passed_call<O: Sink>(
+    out: &mut O,
+    key: &[u8],
+    at: &PassedAt<Q>,
+) -> Result<(), SinkFault>
+    ensures { WroteLines (O.took out.old) (O.took out.new) (O.faults out.old) (O.faults out.new)
+        ((key.now ∷ passed_words None None at.now) ∷ []) result }
+{
+    write_operation(
+        out,
+        key,
+        b"-",
+        part_text(at.part),
+        b"-",
+        op_text(at.op),
+        at,
+    )
+}
+
+/// Writes the line that says why a run stopped, behind a first word. Where the sink fails, it has taken the first bytes. It takes no
+/// memory.
 pub fn write_stop<O: Sink>(out: &mut O, key: &[u8], stop: &Stop) -> Result<(), SinkFault>
     ensures { WroteLines (O.took out.old) (O.took out.new) (O.faults out.old) (O.faults out.new)
         ((key.now ∷ cause_words (Some stop.now)) ∷ []) result }

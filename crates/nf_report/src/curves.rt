@@ -26,8 +26,9 @@ fn write_point<O: Sink>(
     write_line(out, key, &[name, time.text(), value.text()])
 }
 
-/// The points of a curve.
-pub(crate) fn write_curve<O: Sink>(
+/// Writes the points of a curve, each in a line with this word and this name first: its time and its value. Where the sink fails, it has
+/// taken the first bytes. It takes no memory.
+pub fn write_curve<O: Sink>(
     out: &mut O,
     key: &[u8],
     name: &[u8],

@@ -1,4 +1,4 @@
-//! The text of a report, written into a sink line by line. No call takes memory.
+//! The text of a report, written into a sink line by line, and the lines of which other texts have some too. No call takes memory.
 #![tactic(auto)]
 
 mod causes;
@@ -9,5 +9,7 @@ mod report;
 #[cfg(test)]
 mod tests;
 
-pub use causes::write_stop;
+pub use causes::{write_passed_call, write_stop};
+pub use curves::write_curve;
+pub use line::write_line;
 pub use report::write_report;

@@ -35,8 +35,9 @@ fn write_parts<O: Sink>(out: &mut O, first: &[u8], words: &[&[u8]]) -> Result<()
     write_text(out, b"\n")
 }
 
-/// The line of these words, in one piece where it isn't very long.
-pub(crate) fn write_line<O: Sink>(
+/// Writes the line of these words, in one piece where it isn't very long. Where the sink fails, it has taken the first bytes. It takes no
+/// memory.
+pub fn write_line<O: Sink>(
     out: &mut O,
     first: &[u8],
     words: &[&[u8]],

@@ -1,8 +1,12 @@
-use Rattle.std.proofs.Common.{◌≡◌, sym, ap, ◌∙◌}
+use Rattle.std.proofs.Common.{◌≡◌, List, sym, ap, ◌∙◌}
+use Rattle.std.specs.Prelude.{map}
 use Rattle.std.specs.Option.{option_copied}
 use Rattle.nf_formats.specs.Report.{Report, report_text}
 use Rattle.nf_curve.specs.Flows.{flow_of}
 use Rattle.nf_phase.specs.Solution.{report_in}
+use Rattle.nf_readings.specs.Texts.{load_text}
+use Rattle.nf_load.specs.declared.loading.Loaded as code
+use Rattle.nf_load.specs.Loadings.{loaded_of}
 use Rattle.nf_app.specs.Outcomes.{text_in}
 use Rattle.nf_app.proofs.ErrorTexts.{same_text}
 use Rattle.nf_app.proofs.output.write_outcome.Goals as goal
@@ -14,3 +18,9 @@ returns-in-Solved g c =
     let same : written ≡ report_in c.in-Solved.horizon s = cc (c.as_ref.ensures.value) in
     same_text (report_text c.in-Solved.net written) (text_in c.args.outcome.now) (ap (λ (r : Report). report_text c.in-Solved.net r) same ∙ sym (ap text_in c.in-Solved.is))
     c.write_report.ensures
+
+pub returns-in-Loaded : goal.returns-in-Loaded
+returns-in-Loaded g c =
+    same_text (load_text c.in-Loaded.net c.in-Loaded.horizon (map loaded_of c.deref-in-Loaded.result.now)) (text_in c.args.outcome.now)
+    (ap (λ (l : List code.Loaded). load_text c.in-Loaded.net c.in-Loaded.horizon (map loaded_of l)) c.deref-in-Loaded.ensures.value ∙ sym (ap text_in c.in-Loaded.is))
+    c.write_loads.ensures

@@ -1,5 +1,8 @@
+use Rattle.std.proofs.Common.{inl}
+use Rattle.nf_edge.specs.Names.{texts}
 use Rattle.nf_app.specs.Outcomes.{answer_in}
 use Rattle.nf_app.specs.Refusals.{answer_of}
+use Rattle.nf_app.proofs.Calls.{took_no_text}
 use Rattle.nf_app.proofs.Completing.{complete_by_text, complete_by_refusal}
 use Rattle.nf_app.proofs.running.run.Goals as goal
 
@@ -7,4 +10,27 @@ pub returns-in-Ok-clause-complete : goal.returns-in-Ok-clause-complete
 returns-in-Ok-clause-complete g c = complete_by_text _ _ _ _ (answer_in c.in-Ok.outcome) c.in-Ok.ensures.0 c.give.ensures
 
 pub returns-in-Err-clause-complete : goal.returns-in-Err-clause-complete
-returns-in-Err-clause-complete g c = complete_by_refusal _ _ _ (answer_of c.in-Err.refusal) c.in-Err.ensures c.refuse.ensures.status
+returns-in-Err-clause-complete g c =
+    complete_by_refusal (record {
+      words = texts c.args.words.now;
+      shelf = record {
+        told = g.S.Shelf.told c.args.shelf.now;
+        asked_before = g.S.Shelf.asked c.args.shelf.now;
+        asked_now = g.S.Shelf.asked c.answer.new.shelf;
+        faults_before = g.S.Shelf.faults c.args.shelf.now;
+        faults_now = g.S.Shelf.faults c.answer.new.shelf;
+        taken = g.S.Shelf.taken c.answer.new.shelf;
+      };
+    }) (record {
+      before = g.O.Sink.took c.args.out.now;
+      now = g.O.Sink.took c.args.out.now;
+      faults_before = g.O.Sink.faults c.args.out.now;
+      faults_now = g.O.Sink.faults c.args.out.now;
+    }) c.refuse.result (answer_of c.in-Err.refusal) c.in-Err.ensures c.refuse.ensures.status
+
+pub returns-in-Err-clause-ran : goal.returns-in-Err-clause-ran
+returns-in-Err-clause-ran g c = record {
+  answer = answer_of c.in-Err.refusal;
+  comes = c.in-Err.ensures;
+  shown = inl (c.refuse.ensures.status, took_no_text (g.O.Sink.took c.args.out.now) c.in-Err.refusal, c.refuse.ensures.told);
+}

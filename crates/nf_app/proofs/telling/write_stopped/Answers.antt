@@ -8,8 +8,8 @@ use Rattle.nf_app.proofs.telling.write_stopped.Goals as goal
 
 pub returns-in_err-write_text : goal.returns-in_err-write_text
 returns-in_err-write_text g c =
-    wrote_front (flat_map line_of_words ((codes "stopped:" ∷ cause_words (Some c.args.stop.now)) ∷ [])) _ _ (stopped_pieces c.args.stop.now)
+    wrote_front (flat_map line_of_words ((codes "stopped:" ∷ cause_words (Some c.args.stop.now)) ∷ [])) _ _ (stopped_pieces (cause_words (Some c.args.stop.now)))
     c.from_residual.ensures.0 c.in_err-write_text.ensures
 
 pub returns : goal.returns
-returns g c = wrote_both _ (stopped_pieces c.args.stop.now) c.in_ok-write_text.ensures c.write_stop.ensures
+returns g c = wrote_both _ (stopped_pieces (cause_words (Some c.args.stop.now))) c.in_ok-write_text.ensures c.write_stop.ensures

@@ -1,0 +1,49 @@
+-- What a request gives with the network of its first file.
+use Rattle.std.specs.Prelude.{◌≡◌, ◌⊎◌, ℕ, List, IfSome, Result, Ok, Err}
+use Rattle.nf_rational.specs.Rational.{ℚ}
+use Rattle.nf_work.specs.Passing.{passes_Q}
+use Rattle.nf_work.specs.Checked.{at_part}
+use Rattle.nf_work.specs.declared.Part.TheVariants.{Load as LoadPart}
+use Rattle.nf_work.specs.declared.PassedAt.{PassedAt}
+use Rattle.nf_model.specs.Network.{Piece}
+use Rattle.nf_formats.specs.Named.{Named}
+use Rattle.nf_formats.specs.Report.{Report}
+use Rattle.nf_load_lists.specs.Loading.{Loaded as Loading}
+use Rattle.nf_load_lists.specs.Loads.{load_list}
+use Rattle.nf_load_lists.specs.Meanings.{AreLoaded}
+use Rattle.nf_readings.specs.LoadsFile.{LoadsBroken, loads_in}
+use Rattle.nf_phase.specs.Solution.{bounds_of, IsSolution}
+use Rattle.nf_app.specs.Files.{Visit}
+use Rattle.nf_app.specs.Requests.{Request, Solve, Show, Load}
+use Rattle.nf_app.specs.Answers.{Answer, Solved, Shown, Loaded, MalformedLoads, Passes}
+
+-- where the shelf tells the bytes of the file, they read as these pieces of the links of the network, or break this rule first
+abbrev pub LoadsRead : Visit → Named → List ℕ → Result (List (List Piece)) LoadsBroken → Type 0
+LoadsRead shelf n file read = IfSome (shelf.told file) (λ text. loads_in n text ≡ read)
+
+-- the list of operations of `load`
+abbrev pub loading_list : Named → List (List Piece) → ℚ → Result (List Loading) (PassedAt ℚ)
+loading_list n pieces horizon = at_part LoadPart (load_list passes_Q n.net.links pieces horizon)
+
+-- the links of the network, each loaded by the pieces of the file: what the list computes, which is the law of the point queue at every time
+pub record IsLoading (shelf : Visit) (n : Named) (file : List ℕ) (horizon : ℚ) (loaded : List Loading) : Type 0 where
+  pub pieces : List (List Piece)
+  pub read : LoadsRead shelf n file (Ok pieces)
+  pub computed : loading_list n pieces horizon ≡ Ok loaded
+  pub loadings : AreLoaded horizon n.net.links pieces loaded
+
+-- this operation of the list passes
+pub record PassesLoading (shelf : Visit) (n : Named) (file : List ℕ) (horizon : ℚ) (at : PassedAt ℚ) : Type 0 where
+  pub pieces : List (List Piece)
+  pub read : LoadsRead shelf n file (Ok pieces)
+  pub passes : loading_list n pieces horizon ≡ Err at
+
+-- the answers of each request that has its network
+abbrev pub IsGiven : Visit → Named → Request → Answer → Type 0
+IsGiven shelf n (Solve file horizon budgets) answer =
+    (report : Report) × (answer ≡ Solved n report) × ((phases : ℕ) × IsSolution n.net (bounds_of horizon budgets) phases report)
+IsGiven shelf n (Show file) answer = answer ≡ Shown n
+IsGiven shelf n (Load file loads horizon) answer =
+    ((loaded : List Loading) × (answer ≡ Loaded n horizon loaded) × IsLoading shelf n loads horizon loaded)
+    ⊎ ((at : PassedAt ℚ) × (answer ≡ Passes at) × PassesLoading shelf n loads horizon at)
+    ⊎ ((broken : LoadsBroken) × (answer ≡ MalformedLoads broken) × LoadsRead shelf n loads (Err broken))

@@ -1,0 +1,23 @@
+-- What a sink took of a text in a call.
+use Rattle.std.specs.Prelude.{◌≡◌, ◌⊎◌, ℕ, List, Option}
+use Rattle.nf_edge.specs.Faults.{Rose}
+use Rattle.nf_edge.specs.Taken.{with_more, TookFront}
+
+-- what a sink had taken before and has taken now, and its faults
+pub record Taken : Type 0 where
+  pub before : Option (List ℕ)
+  pub now : Option (List ℕ)
+  pub faults_before : ℕ
+  pub faults_now : ℕ
+
+abbrev pub TookAll : Taken → List ℕ → Type 0
+TookAll sink text = sink.now ≡ with_more sink.before text
+
+-- the first bytes of the text, where the sink failed
+pub record CutShort (sink : Taken) (text : List ℕ) : Type 0 where
+  pub front : TookFront sink.before sink.now text
+  pub cause : Rose sink.faults_before sink.faults_now
+
+-- the text, or its first bytes where the sink failed
+abbrev pub TookText : Taken → List ℕ → Type 0
+TookText sink text = TookAll sink text ⊎ CutShort sink text
