@@ -40,9 +40,10 @@ module _ (passes : Passing) (last : ℚ) (from_0 : 0ℚ ≤ℚ last) where
   by_link (link ∷ links) (pieces ∷ more) loaded many waits positive are e =
       let one = then_ok (load_link_list passes last (link, pieces)) _ loaded e in
       let rest = then_ok (each (load_link_list passes last) (zip links more)) _ loaded one.next in
-      subst (λ (l : List Loaded). AreLoaded last (link ∷ links) (pieces ∷ more) l) (same_Ok _ _ rest.next)
-      (link_loaded link pieces one.between (waits 0 link refl) (λ rate is. positive 0 link rate refl is) (are 0 pieces refl) one.first,
-      by_link links more rest.between (omega arith) (λ e l is. waits (suc e) l is) (λ e l rate is. positive (suc e) l rate is) (λ e p is. are (suc e) p is) rest.first)
+      subst (λ (l : List Loaded). AreLoaded last (link ∷ links) (pieces ∷ more) l) (same_Ok _ _ rest.next) (
+        link_loaded link pieces one.between (waits 0 link refl) (λ rate is. positive 0 link rate refl is) (are 0 pieces refl) one.first,
+        by_link links more rest.between (omega arith) (λ e l is. waits (suc e) l is) (λ e l rate is. positive (suc e) l rate is) (λ e p is. are (suc e) p is) rest.first,
+      )
 
   pub links_loaded : (links : List Link) (pieces : List (List Piece)) (loaded : List Loaded) → length pieces ≡ length links
       → ((e : ℕ) (link : Link) → slice_get links e ≡ Some link → 0ℚ ≤ℚ link.transit)

@@ -155,15 +155,7 @@ pub fn write_passed_call<O: Sink>(
     ensures { WroteLines (O.took out.old) (O.took out.new) (O.faults out.old) (O.faults out.new)
         ((key.now ∷ passed_words None None at.now) ∷ []) result }
 {
-    write_operation(
-        out,
-        key,
-        b"-",
-        part_text(at.part),
-        b"-",
-        op_text(at.op),
-        at,
-    )
+    write_operation(out, key, b"-", part_text(at.part), b"-", op_text(at.op), at)
 }
 
 /// Writes the line that says why a run stopped, behind a first word. Where the sink fails, it has taken the first bytes. It takes no

@@ -37,11 +37,7 @@ fn write_parts<O: Sink>(out: &mut O, first: &[u8], words: &[&[u8]]) -> Result<()
 
 /// Writes the line of these words, in one piece where it isn't very long. Where the sink fails, it has taken the first bytes. It takes no
 /// memory.
-pub fn write_line<O: Sink>(
-    out: &mut O,
-    first: &[u8],
-    words: &[&[u8]],
-) -> Result<(), SinkFault>
+pub fn write_line<O: Sink>(out: &mut O, first: &[u8], words: &[&[u8]]) -> Result<(), SinkFault>
     ensures { WroteLines (O.took out.old) (O.took out.new) (O.faults out.old) (O.faults out.new)
         ((first.now ∷ map (λ w. w.now) words.now) ∷ []) result }
 {
