@@ -1,6 +1,6 @@
 -- Shortest walks, pushed one after the other.
-use Rattle.std.proofs.Common.{◌≡◌, ℕ, suc, ◌+◌, ◌-◌, ◌<◌, ◌≤◌, Option, Some, None, sym, ap, subst, ◌∙◌, arith}
-use Rattle.std.specs.Prelude.{Ok, Err}
+use Rattle.std.proofs.Common.{◌≡◌, ℕ, suc, ◌+◌, ◌-◌, ◌<◌, ◌≤◌, List, Bool, true, false, Option, Some, None, sym, ap, subst, ◌∙◌, arith}
+use Rattle.std.specs.Prelude.{Ok, Err, IfSome, if◌then◌else◌}
 use Rattle.nf_rational.specs.Rational.{ℚ}
 use Rattle.nf_rational.specs.Operations.{0ℚ}
 use Rattle.nf_rational.specs.Order.{◌≤ℚ◌, ◌<ℚ◌}
@@ -13,8 +13,9 @@ use Rattle.nf_work.specs.declared.Part.TheVariants as Part
 use Rattle.nf_work.specs.Checked.{Checked, Stops, at_part, checked, checked_at, ◌>>=◌}
 use Rattle.nf_model.specs.Network.{Network}
 use Rattle.nf_quick_lists.specs.Flows.{IsSound}
-use Rattle.nf_quick_lists.specs.Rounds.{Walk}
-use Rattle.nf_quick_lists.specs.Quick.{Standing, Pushed, Done, OverBudget, start_of, push_on, next_list, ended, push_and, push_up_to}
+use Rattle.nf_quick_lists.specs.Rounds.{Walk, shortest_list}
+use Rattle.nf_quick_lists.specs.Answers.{IsShortestWalk, IsShortest}
+use Rattle.nf_quick_lists.specs.Quick.{Standing, Pushed, Done, OverBudget, start_of, is_early, push_on, next_of, next_list, ended, push_and, push_up_to}
 use Rattle.nf_quick.specs.Answered.{of_halt, IsPushed}
 use Rattle.nf_residual_laws.proofs.Offers.{checked-ok}
 use Rattle.nf_residual.proofs.Stopping.{ok_of_part, stops, goes_on, stops_as}
@@ -23,6 +24,23 @@ use Rattle.nf_residual.proofs.Stopping.{ok_of_part, stops, goes_on, stops_as}
 pub some_sum : (passes : Passing) (so_far rate all : ℚ) → 0ℚ ≤ℚ so_far → 0ℚ <ℚ rate → Ok all ≡ checked_at passes Part.Quick Sum so_far rate → 0ℚ <ℚ all
 some_sum passes so_far rate all h k e =
     subst (λ (x : ℚ). 0ℚ <ℚ x) (sym (checked-ok passes Sum so_far rate all (ok_of_part (checked passes Sum so_far rate) all (sym e)))) (nn_plus_ps so_far rate h k)
+
+-- ---- the next walk, out of the shortest one
+module _ (passes : Passing) (net : Network) (amount : ℚ) (s : Standing) (flows : List ℚ) (flows_are : flows ≡ s.flows) (found next : Option Walk) (is : next ≡ next_of passes net amount s found) where
+  pub next_listed : at_part Part.Quick (shortest_list passes net flows) ≡ Ok found → at_part Part.Quick (next_list passes net amount s) ≡ Ok next
+  next_listed e = ap (at_part Part.Quick)
+      (goes_on (shortest_list passes net s.flows) (λ o. Ok (next_of passes net amount s o)) found (ap (λ (l : List ℚ). at_part Part.Quick (shortest_list passes net l)) (sym flows_are) ∙ e)) ∙ ap Ok (sym is)
+
+  if_early : (b : Bool) (walk : Walk) → IsShortestWalk net flows walk → IfSome (if b then Some walk else None) (IsShortestWalk net flows)
+  if_early true walk h = h
+  if_early false walk h = tt
+
+  of_found : (o : Option Walk) → IsShortest net flows o → IfSome (next_of passes net amount s o) (IsShortestWalk net flows)
+  of_found None h = tt
+  of_found (Some walk) h = if_early (is_early walk.length s.time) walk h
+
+  pub next_shortest : IsShortest net flows found → IfSome next (IsShortestWalk net s.flows)
+  next_shortest h = subst (λ (l : List ℚ). IfSome next (IsShortestWalk net l)) flows_are (subst (λ (o : Option Walk). IfSome o (IsShortestWalk net flows)) (sym is) (of_found found h))
 
 -- what is left to be pushed gives what all pushes give
 pub record PushesOn (passes : Passing) (net : Network) (amount : ℚ) (augments : ℕ) (s : Standing) (k : ℕ) : Type 0 where

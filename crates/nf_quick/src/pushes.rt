@@ -1,11 +1,13 @@
 // Shortest residual walks, pushed one after the other with their whole room.
 ghost use Rattle.std.specs.Prelude.{◌≡◌, IfOk, IfSome, OnOk};
+ghost use Rattle.nf_rational.specs.Rational.{ℚ};
 ghost use Rattle.nf_rational.specs.Operations.{0ℚ};
 ghost use Rattle.nf_rational.specs.Order.{◌≤ℚ◌, ◌<ℚ◌};
 ghost use Rattle.nf_work.specs.declared.Op.TheVariants.{Sum};
 ghost use Rattle.nf_work.specs.declared.Part.TheVariants.{Quick};
 ghost use Rattle.nf_work.specs.Passing.{passes_Q};
 ghost use Rattle.nf_work.specs.Checked.{at_part, checked_at, Gives};
+ghost use Rattle.nf_model.specs.Network.{Network as SeenNetwork};
 ghost use Rattle.nf_quick_lists.specs.Steps.{IsLimited};
 ghost use Rattle.nf_quick_lists.specs.Flows.{IsSound};
 ghost use Rattle.nf_quick_lists.specs.Answers.{IsShortestWalk};
@@ -121,8 +123,8 @@ impl Standing {
     }
 
     // The walk, if it is shorter than the time.
-    fn if_early(&self, net: &Network, amount: Q, found: Option<Walk>) -> Option<Walk>
-        ensures { result ≡ next_of passes_Q net.now.net amount self.now found }
+    fn if_early(&self, found: Option<Walk>) -> Option<Walk>
+        ensures { (net : SeenNetwork) (amount : ℚ) → result ≡ next_of passes_Q net amount self.now found }
     {
         match found {
             None => None,
@@ -137,14 +139,14 @@ impl Standing {
     }
 
     // The walk that is to be pushed next; None where no walk is left, or the shortest is as long as the time.
-    fn next(&self, alloc: Global, net: &Network, amount: Q) -> Result<Option<Walk>, Halt<Q>>
+    fn next(&self, alloc: Global, net: &Network) -> Result<Option<Walk>, Halt<Q>>
         requires sound { IsSound net.now.net self.now.flows }
         requires limited { IsLimited net.now.net }
-        ensures list { Gives (λ found. found) (λ q. q) result (at_part Quick (next_list passes_Q net.now.net amount self.now)) }
+        ensures list { (amount : ℚ) → Gives (λ found. found) (λ q. q) result (at_part Quick (next_list passes_Q net.now.net amount self.now)) }
         ensures shortest { IfOk result (λ found. IfSome found (IsShortestWalk net.now.net self.now.flows)) }
     {
         let found = self.flow.shortest(alloc, net)?;
-        Ok(self.if_early(net, amount, found))
+        Ok(self.if_early(found))
     }
 
     // A walk is pushed with its whole room, and the time is made anew.
@@ -180,12 +182,12 @@ pub(crate) fn push_up_to(
 {
     let mut standing = Standing::start(alloc, net)?;
     for _ in 0..augments {
-        let Some(walk) = standing.next(alloc, net, amount)? else {
+        let Some(walk) = standing.next(alloc, net)? else {
             return Ok(standing);
         };
         standing.push_on(net, amount, walk)?;
     }
-    match standing.next(alloc, net, amount)? {
+    match standing.next(alloc, net)? {
         None => Ok(standing),
         Some(_) => Err(QuickFault::Budget {
             walks: standing.pushed,

@@ -1,5 +1,6 @@
 // The quickest flow, worked out.
 ghost use Rattle.std.specs.Prelude.{◌≡◌, ◌≤◌, IfOk};
+ghost use Rattle.nf_rational.specs.Rational.{ℚ};
 ghost use Rattle.nf_rational.specs.Operations.{0ℚ};
 ghost use Rattle.nf_rational.specs.Order.{◌≤ℚ◌, ◌<ℚ◌};
 ghost use Rattle.nf_work.specs.declared.Part.TheVariants as Part;
@@ -49,15 +50,9 @@ fn flows_of(alloc: Global, net: &Network, flow: &Residual) -> Result<Vec<Q>, All
 
 // The walks and the cut of a flow and a time.
 #[tactic(auto, unfolding(nf_quick_lists::specs::Quick::finish_list))]
-fn finish(
-    alloc: Global,
-    net: &Network,
-    amount: Q,
-    flow: &Residual,
-    time: Q,
-) -> Result<Quick, Halt<Q>>
+fn finish(alloc: Global, net: &Network, flow: &Residual, time: Q) -> Result<Quick, Halt<Q>>
     requires { IsSound net.now.net flow.now }
-    ensures { Gives (λ quick. quick) (λ q. q) result (at_part Part.Quick (finish_list passes_Q net.now.net amount flow.now time)) }
+    ensures { (amount : ℚ) → Gives (λ quick. quick) (λ q. q) result (at_part Part.Quick (finish_list passes_Q net.now.net amount flow.now time)) }
 {
     let flows = flows_of(alloc, net, flow)?;
     let walks = walks_off(alloc, net, flows)?;
@@ -95,6 +90,6 @@ pub fn quickest(alloc: Global, net: &Network, amount: Q, augments: u64) -> Resul
     }
     let standing = push_up_to(alloc, net, amount, augments)?;
     let time = standing.time.unwrap_or(Q::zero());
-    let quick = finish(alloc, net, amount, &standing.flow, time)?;
+    let quick = finish(alloc, net, &standing.flow, time)?;
     Ok(quick)
 }

@@ -42,7 +42,7 @@ returns-in_err-quick-clause-answered c =
     rw (p.1, p.2) (finish_stops passes_Q c.args.net.now.net c.args.amount c.args.augments some limited c.in_ok-standing.standing c.in_ok-standing.ensures.pushed c.standing.inside.flow c.unwrap_or-time.result
     (ap (λ (s : Standing). s.flows) c.standing.view_is)
     (c.unwrap_or-time.ensures ∙ ap (λ (s : Standing). unwrap_or s.time c.zero-2.result) c.standing.view_is ∙ ap (λ (z : ℚ). unwrap_or c.in_ok-standing.standing.time z) c.zero-2.ensures)
-    c.in_err-quick.field-0.0 c.in_err-quick.ensures)
+    c.in_err-quick.field-0.0 (c.in_err-quick.ensures c.args.amount))
 
 pub returns-clause-answered : goal.returns-clause-answered
 returns-clause-answered c =
@@ -51,7 +51,7 @@ returns-clause-answered c =
     finish_answered passes_Q c.args.net.now.net c.args.amount c.args.augments some limited c.in_ok-standing.standing c.in_ok-standing.ensures.pushed c.standing.inside.flow c.unwrap_or-time.result
     (ap (λ (s : Standing). s.flows) c.standing.view_is)
     (c.unwrap_or-time.ensures ∙ ap (λ (s : Standing). unwrap_or s.time c.zero-2.result) c.standing.view_is ∙ ap (λ (z : ℚ). unwrap_or c.in_ok-standing.standing.time z) c.zero-2.ensures)
-    c.in_ok-quick.quick c.in_ok-quick.ensures
+    c.in_ok-quick.quick (c.in_ok-quick.ensures c.args.amount)
 
 pub returns-clause-quickest : goal.returns-clause-quickest
 returns-clause-quickest c =
@@ -61,4 +61,4 @@ returns-clause-quickest c =
     (finish_answered passes_Q c.args.net.now.net c.args.amount c.args.augments some limited c.in_ok-standing.standing c.in_ok-standing.ensures.pushed c.standing.inside.flow c.unwrap_or-time.result
     (ap (λ (s : Standing). s.flows) c.standing.view_is)
     (c.unwrap_or-time.ensures ∙ ap (λ (s : Standing). unwrap_or s.time c.zero-2.result) c.standing.view_is ∙ ap (λ (z : ℚ). unwrap_or c.in_ok-standing.standing.time z) c.zero-2.ensures)
-    c.in_ok-quick.quick c.in_ok-quick.ensures)
+    c.in_ok-quick.quick (c.in_ok-quick.ensures c.args.amount))
