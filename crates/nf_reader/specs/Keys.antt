@@ -1,5 +1,5 @@
 -- The keys of a report's curves, by their numbers.
-use Rattle.std.specs.Prelude.{ℕ, Bool, false, List, [], ◌∷◌, flat_map, Option, Some, None, slice_get, unwrap_or}
+use Rattle.std.specs.Prelude.{ℕ, zero, suc, Bool, false, List, [], ◌∷◌, flat_map, Option, Some, None, slice_get, unwrap_or}
 use Rattle.nf_formats.specs.Names.{Name}
 use Rattle.nf_formats.specs.Named.{Named}
 use Rattle.nf_readings.specs.ReportLines as lines
@@ -34,3 +34,9 @@ key_at n index = unwrap_or (slice_get (curve_keys n) index) (key_of lines.OfNeve
 abbrev pub is_some_key : lines.Kind → Name → Option CurveKey → Bool
 is_some_key kind name None = false
 is_some_key kind name (Some key) = is_key kind name key
+
+-- the kind of a link's curve by its number among the three
+abbrev pub kind_of_three : ℕ → lines.Kind
+kind_of_three zero = lines.OfInflow
+kind_of_three (suc zero) = lines.OfOutflow
+kind_of_three (suc (suc k)) = lines.OfQueue

@@ -1,4 +1,5 @@
 pub mod Keys
 pub mod Drafts
 pub mod Entries
+pub mod Lines
 pub mod Files

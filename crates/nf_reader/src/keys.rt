@@ -2,7 +2,7 @@
 // outflow and its queue.
 ghost use Rattle.std.specs.Prelude.{◌≡◌, ◌<◌, length, option_map, slice_get};
 ghost use Rattle.nf_readings.specs.ReportLines.{key_word, curve_keys};
-ghost use Rattle.nf_reader.specs.Keys.{seen_kind, seen_key, key_of_number, link_keys, is_some_key};
+ghost use Rattle.nf_reader.specs.Keys.{seen_kind, seen_key, key_of_number, link_keys, is_some_key, kind_of_three as kind_by_three};
 
 use nf_cursor::is_word;
 use nf_net::{LinkId, Network, NodeId};
@@ -48,6 +48,17 @@ pub fn curve_count(net: &Network) -> usize
     net.node_count() as usize + net.idle_count() as usize + 3 * net.link_count() as usize
 }
 
+// The kind of a link's curve by its number among the three.
+fn kind_of_three(place: usize) -> Kind
+    ensures { seen_kind result ≡ kind_by_three place }
+{
+    match place {
+        0 => Kind::Inflow,
+        1 => Kind::Outflow,
+        _ => Kind::Queue,
+    }
+}
+
 // The key of the curve of this number behind those of nodes.
 fn link_key(net: &Network, index: usize) -> Option<Key<'_>>
     ensures { option_map seen_key result ≡ slice_get (link_keys net.now.link_names) index }
@@ -58,11 +69,7 @@ fn link_key(net: &Network, index: usize) -> Option<Key<'_>>
     if link >= net.link_count() as usize {
         return None;
     }
-    let kind = match index % 3 {
-        0 => Kind::Inflow,
-        1 => Kind::Outflow,
-        _ => Kind::Queue,
-    };
+    let kind = kind_of_three(index % 3);
     let name = net.link_name(LinkId(link as u32)).as_bytes();
     Some(Key { kind, name })
 }

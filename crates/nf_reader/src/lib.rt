@@ -1,0 +1,16 @@
+//! The reading of reports: which report a text is, or which rule it breaks first. Times, amounts and rates are exact fractions. The
+//! file format is this project's own.
+#![tactic(auto)]
+
+mod body;
+mod causes;
+mod draft;
+mod entry;
+mod fault;
+mod head;
+mod keys;
+mod numbers;
+mod opening;
+
+pub use fault::ReportFault;
+pub use nf_readings::ReportRule;
