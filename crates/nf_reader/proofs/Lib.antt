@@ -1,2 +1,5 @@
 pub mod KeyNumbers
 pub mod WordCounts
+pub mod LinkNames
+pub mod DraftSteps
+pub mod LastPoints

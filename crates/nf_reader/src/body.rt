@@ -67,6 +67,7 @@ fn state_named(word: &[u8]) -> Option<State>
 }
 
 // The link that a word names.
+#[tactic(auto, using(crate::proofs::LinkNames::is_there, crate::proofs::LinkNames::no_text))]
 fn link_of(net: &Network, word: &[u8]) -> Option<LinkId>
     ensures { MatchOption result (has_name net.now.link_names word.now ≡ false) (λ link. IsLinkNamed net.now.link_names word.now link) }
 {

@@ -1,20 +1,19 @@
 // What is read of a report so far.
-ghost use Rattle.std.specs.Prelude.{◌≡◌, ◌+◌, ◌<◌, ◌≤◌, [], ◌∷◌, ◌++◌, length, IfOk, OnOk, IsSome, IfSome};
-ghost use Rattle.nf_rational.specs.Operations.{0ℚ};
-ghost use Rattle.nf_rational.specs.Order.{◌<ℚ◌};
+ghost use Rattle.std.specs.Prelude.{◌≡◌, true, ◌+◌, ◌<◌, ◌≤◌, [], ◌∷◌, ◌++◌, length, IfOk, OnOk, IsSome, IfSome};
+ghost use Rattle.std.specs.List.{last_or};
 ghost use Rattle.nf_formats.specs.Named.{Named};
-ghost use Rattle.nf_curve.specs.Points.{last_time};
-ghost use Rattle.nf_readings.specs.ReportLines.{empty_report, curve_keys, with_rate, has_all as has_all_by};
+ghost use Rattle.nf_readings.specs.ReportLines.{empty_report, curve_keys, with_rate, comes_after, has_all as has_all_by};
 ghost use Rattle.nf_reader.specs.Drafts.{seen_draft, IsWithin, begun_count};
 ghost use Rattle.nf_reader.specs.Entries.{drafted, closed, Fits};
-ghost use Rattle.nf_reader.specs.declared.entry.Entry.TheVariants.{OfCurve};
+ghost use Rattle.nf_reader.specs.declared.entry.Entry.TheVariants.{OfCurve, Never, OfLink};
 ghost use Rattle.nf_reader.specs.declared.entry.Opening.TheVariants.{GoesOn, Begins};
 
 use crate::entry::{Entry, Opening, RatedPoint};
 use crate::keys::curve_count;
 use nf_curve::{Curve, Stop, Trace};
 use nf_frac::Q;
-use nf_net::Network;
+use nf_model::State;
+use nf_net::{LinkId, Network};
 use nf_pattern::Pattern;
 use std::alloc::{AllocError, Global};
 
@@ -55,7 +54,7 @@ fn push_rate(rates: &mut Vec<Q>, rate: Option<Q>) -> Result<(), AllocError>
 
 // A curve that begins with a point at time 0.
 fn begun(alloc: Global, point: &RatedPoint) -> Result<Trace, AllocError>
-    requires { point.now.time ≡ 0ℚ }
+    requires { comes_after None point.now.time ≡ true }
     ensures points { IfOk result (λ trace. trace.curve.points ≡ (point.now.time, point.now.value) ∷ []) }
     ensures rates { IfOk result (λ trace. trace.rates.items ≡ with_rate [] point.now.rate) }
 {
@@ -67,10 +66,12 @@ fn begun(alloc: Global, point: &RatedPoint) -> Result<Trace, AllocError>
 
 // A curve with one more point behind the others.
 fn with_point(mut trace: Trace, point: &RatedPoint) -> Result<Trace, AllocError>
-    requires { last_time trace.curve.points <ℚ point.now.time }
+    requires { comes_after (last_or None trace.curve.points) point.now.time ≡ true }
     ensures points { IfOk result (λ next. next.curve.points ≡ trace.curve.points ++ (point.now.time, point.now.value) ∷ []) }
     ensures rates { IfOk result (λ next. next.rates.items ≡ with_rate trace.rates.items point.now.rate) }
 {
+    // For the proof: a curve has a point.
+    let _ = trace.curve.len();
     push_rate(&mut trace.rates, point.rate)?;
     trace.curve.push(point.time, point.value)?;
     Ok(trace)
@@ -130,7 +131,7 @@ impl Draft {
 
     // A curve begins with a point, behind the others.
     fn begin(&mut self, alloc: Global, point: &RatedPoint) -> Result<(), AllocError>
-        requires { point.now.time ≡ 0ℚ }
+        requires { comes_after None point.now.time ≡ true }
         ensures draft { OnOk result ((n : Named) → begun_count self.old < length (curve_keys n)
             → seen_draft n self.new ≡ drafted n (seen_draft n self.old) (OfCurve Begins point.now)) }
         ensures count { OnOk result (begun_count self.new ≡ begun_count self.old + 1) }
@@ -144,7 +145,7 @@ impl Draft {
     // The curve that is being read goes on with a point.
     fn go_on(&mut self, point: &RatedPoint) -> Result<(), AllocError>
         requires open { IsSome self.old.current }
-        requires later { IfSome self.old.current (λ trace. last_time trace.curve.points <ℚ point.now.time) }
+        requires later { IfSome self.old.current (λ trace. comes_after (last_or None trace.curve.points) point.now.time ≡ true) }
         ensures draft { OnOk result ((n : Named) → seen_draft n self.new ≡ drafted n (seen_draft n self.old) (OfCurve GoesOn point.now)) }
         ensures count { OnOk result (begun_count self.new ≡ begun_count self.old) }
         ensures states { self.new.states ≡ self.old.states }
@@ -152,6 +153,50 @@ impl Draft {
         if let Some(trace) = self.current.take() {
             self.current = Some(with_point(trace, point)?);
         }
+        Ok(())
+    }
+
+    // A point of the curve that is being read, or of the next one.
+    fn add_point(&mut self, alloc: Global, net: &Network, opening: Opening, point: &RatedPoint) -> Result<(), AllocError>
+        requires within { IsWithin net.now self.old }
+        requires fits { Fits net.now (seen_draft net.now self.old) (OfCurve opening point.now) }
+        ensures draft { OnOk result (seen_draft net.now self.new ≡ drafted net.now (seen_draft net.now self.old) (OfCurve opening point.now)) }
+        ensures within { OnOk result (IsWithin net.now self.new) }
+    {
+        // For the proof: the clauses speak of the network's curves.
+        let _ = net;
+        match opening {
+            Opening::Begins => self.begin(alloc, point),
+            Opening::GoesOn => self.go_on(point),
+        }
+    }
+
+    // An idle node is passed.
+    fn add_never(&mut self, net: &Network) -> Result<(), AllocError>
+        requires within { IsWithin net.now self.old }
+        requires fits { Fits net.now (seen_draft net.now self.old) Never }
+        ensures draft { OnOk result (seen_draft net.now self.new ≡ drafted net.now (seen_draft net.now self.old) Never) }
+        ensures within { OnOk result (IsWithin net.now self.new) }
+    {
+        // For the proof: the clauses speak of the network's curves.
+        let _ = net;
+        self.close()?;
+        self.done.push(None)?;
+        Ok(())
+    }
+
+    // A link has a state.
+    fn add_state(&mut self, net: &Network, link: LinkId, state: State) -> Result<(), AllocError>
+        requires within { IsWithin net.now self.old }
+        requires fits { Fits net.now (seen_draft net.now self.old) (OfLink link state) }
+        ensures draft { OnOk result (seen_draft net.now self.new ≡ drafted net.now (seen_draft net.now self.old) (OfLink link state)) }
+        ensures within { OnOk result (IsWithin net.now self.new) }
+    {
+        // For the proof: links are few.
+        let _ = net.version();
+        self.close()?;
+        self.next_state = link.0 + 1;
+        self.states.set(link, Some(state));
         Ok(())
     }
 
@@ -176,17 +221,9 @@ impl Draft {
                 self.stop = *stop;
                 self.stage = Stage::Body;
             }
-            Entry::OfCurve(Opening::Begins, point) => self.begin(alloc, point)?,
-            Entry::OfCurve(Opening::GoesOn, point) => self.go_on(point)?,
-            Entry::Never => {
-                self.close()?;
-                self.done.push(None)?;
-            }
-            Entry::OfLink(link, state) => {
-                self.close()?;
-                self.next_state = link.0 + 1;
-                self.states.set(*link, Some(*state));
-            }
+            Entry::OfCurve(opening, point) => self.add_point(alloc, net, *opening, point)?,
+            Entry::Never => self.add_never(net)?,
+            Entry::OfLink(link, state) => self.add_state(net, *link, *state)?,
             Entry::End => {
                 self.close()?;
                 self.stage = Stage::End;

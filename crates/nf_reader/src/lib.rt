@@ -9,6 +9,7 @@ mod entry;
 mod fault;
 mod head;
 mod keys;
+mod lines;
 mod numbers;
 mod opening;
 
