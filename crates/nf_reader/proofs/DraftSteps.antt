@@ -1,7 +1,8 @@
 -- What a draft is seen as when something is added to it.
-use Rattle.std.proofs.Common.{◌≡◌, ◌≢◌, ℕ, zero, suc, ◌+◌, ◌-◌, ◌<◌, ◌≤◌, Bool, true, false, cond, nat_eq, List, [], ◌∷◌, ◌++◌, length, drop, Option, Some, None, Result, Ok, Err, refl, sym, ap, subst, ◌∙◌, arith, length-append}
+use Rattle.std.proofs.Common.{◌≡◌, ◌≢◌, ⊎_elim, ℕ, zero, suc, ◌+◌, ◌-◌, ◌<◌, ◌≤◌, Bool, true, false, cond, nat_eq, List, [], ◌∷◌, ◌++◌, length, drop, Option, Some, None, Result, Ok, Err, refl, sym, ap, subst, ◌∙◌, arith, length-append}
 use Rattle.std.specs.Prelude.{slice_get, unwrap_or}
-use Rattle.std.specs.List.{last_or}
+use Rattle.std.proofs.lemmas.List.{drop_all}
+use Rattle.std.proofs.lemmas.Bool.Decides.{eqb_tells}
 use Rattle.nf_curve.specs.declared.flow.Trace.{Trace}
 use Rattle.nf_formats.specs.Names.{Name}
 use Rattle.nf_formats.specs.Named.{Named}
@@ -16,18 +17,23 @@ use Rattle.nf_reader.specs.declared.entry.Opening.TheVariants.{GoesOn, Begins}
 use Rattle.nf_reader.specs.declared.entry.Entry.TheVariants.{OfCurve, Never}
 use Rattle.nf_reader.specs.Drafts.{seen_stage, seen_curve, seen_done, seen_current, with_open, begun_count, seen_draft, IsWithin}
 use Rattle.nf_reader.specs.Entries.{begun_by, opened_by, closed, drafted}
+use Rattle.nf_cursor.specs.Within.{word_at}
+use Rattle.nf_work.specs.Checked.{◌>>=◌}
+use Rattle.nf_reader.proofs.WordCounts.{one_behind}
 
 -- ---- keys that are left
 keys_from : (keys : List CurveKey) (k : ℕ) (other : CurveKey) → k < length keys → drop k keys ≡ unwrap_or (slice_get keys k) other ∷ drop (k + 1) keys
 keys_from [] k other lt = absurd (omega arith)
 keys_from (key ∷ keys) zero other lt = refl
-keys_from (key ∷ keys) (suc k) other lt = keys_from keys k other (omega arith)
+keys_from (key ∷ keys) (suc k) other lt =
+    let e : suc (k + 1) ≡ suc k + 1 = omega arith in
+    keys_from keys k other (omega arith) ∙ ap (λ (j : ℕ). unwrap_or (slice_get keys k) other ∷ drop j (key ∷ keys)) e
 
 pub all_begun : (keys : List CurveKey) (k : ℕ) → k ≤ length keys → nat_eq k (length keys) ≡ has_all (drop k keys)
-all_begun [] zero le = refl
-all_begun [] (suc k) le = absurd (omega arith)
-all_begun (key ∷ keys) zero le = refl
-all_begun (key ∷ keys) (suc k) le = all_begun keys k (omega arith)
+all_begun keys k le = ⊎_elim
+    (λ (w : (nat_eq k (length keys) ≡ true) × (k ≡ length keys)). w.0 ∙ sym (ap has_all (drop_all k keys (omega (arith, w.1)))))
+    (λ (w : (nat_eq k (length keys) ≡ false) × (k ≢ length keys)). w.0 ∙ sym (ap has_all (keys_from keys k (key_of lines.OfNever []) (omega (arith, le, w.1)))))
+    (eqb_tells k (length keys))
 
 pub some_left : (keys : List CurveKey) (k : ℕ) (kind : lines.Kind) (name : Name) → is_some_key kind name (slice_get keys k) ≡ true → 0 < length (drop k keys)
 some_left [] k kind name e = absurd (cc)
@@ -55,7 +61,7 @@ seen_done-push n k (c ∷ curves) curve =
     ap (λ (l : List ReadCurve). seen_curve (key_at n k) c ∷ l) (seen_done-push n (k + 1) curves curve
     ∙ ap (λ (i : ℕ). seen_done n (k + 1) curves ++ seen_curve (key_at n i) curve ∷ []) e)
 
-pushed : (n : Named) (curves : List (Option Trace)) (curve : Option Trace) → seen_done n 0 (curves ++ curve ∷ []) ≡ seen_done n 0 curves ++ seen_curve (key_at n (length curves)) curve ∷ []
+pub pushed : (n : Named) (curves : List (Option Trace)) (curve : Option Trace) → seen_done n 0 (curves ++ curve ∷ []) ≡ seen_done n 0 curves ++ seen_curve (key_at n (length curves)) curve ∷ []
 pushed n curves curve =
     let e : 0 + length curves ≡ length curves = omega arith in
     seen_done-push n 0 curves curve ∙ ap (λ (i : ℕ). seen_done n 0 curves ++ seen_curve (key_at n i) curve ∷ []) e
@@ -78,11 +84,11 @@ module _ (n : Named) (d : Draft) where
   -- the curve that was being read is one of those that were read
   pub closed_is : (curves : List (Option Trace)) (current : Option Trace) (trace : Trace) → d.current ≡ Some trace → current ≡ None → curves ≡ d.done.items ++ Some trace ∷ []
       → seen_with n d curves current ≡ closed (seen_draft n d)
-  closed_is curves current trace open none e =
+  closed_is curves current trace some none e =
       let len : length curves ≡ length d.done.items + 1 = ap (λ (l : List (Option Trace)). length l) e ∙ length-append d.done.items (Some trace ∷ []) in
       (λ i. seen_with n d (e i) (none i))
       ∙ (λ i. record (seen_with n d (d.done.items ++ Some trace ∷ []) None) { done = pushed n d.done.items (Some trace) i; keys = drop ((sym (ap (λ (l : List (Option Trace)). length l) e) ∙ len) i) (curve_keys n) })
-      ∙ ap (λ (o : Option Trace). closed (seen_with n d d.done.items o)) (sym open)
+      ∙ ap (λ (o : Option Trace). closed (seen_with n d d.done.items o)) (sym some)
 
   module _ (next : Draft) (seen : seen_draft n next ≡ closed (seen_draft n d)) (none : next.current ≡ None) (many : length next.done.items ≡ begun_count d) (more : begun_count d < length (curve_keys n)) where
     keys_here : drop (begun_count d) (curve_keys n) ≡ key_at n (begun_count d) ∷ drop (begun_count d + 1) (curve_keys n)
@@ -170,3 +176,21 @@ module _ (n : Named) (d : Draft) (within : IsWithin n d) (kind : lines.Kind) (na
 
       pub other_curve : is_some_key kind name (key_of_number n (length d.done.items + 1)) ≡ false → opened (seen_draft n d) kind name (seen_draft n d).current ≡ Err P7
       other_curve e = subst (λ (o : Option Trace). opens n d kind name o ≡ Err P7) (sym some) (next_test false e)
+
+-- ---- an idle node
+module _ (n : Named) (d : Draft) (words : List (List ℕ)) (two : length words ≡ 2) where
+  abbrev by_begun : Result Opened ReportRule → Result ReportDraft ReportRule
+  by_begun r = r >>= λ o. Ok (record (seen_draft n d) { done = o.done ++ o.curve ∷ []; current = None; keys = o.keys })
+
+  never_test : (b : Bool) → is_some_key lines.OfNever (word_at words 1) (key_of_number n (begun_count d)) ≡ b
+      → lines.never_line (seen_draft n d) (drop 1 words) ≡ by_begun (cond b (Ok (begun_by (with_current (seen_draft n d).done (seen_draft n d).current) (seen_draft n d).keys)) (Err P7))
+  never_test b e =
+      ap (lines.never_line (seen_draft n d)) (one_behind words two)
+      ∙ ap by_begun (begun_test (with_current (seen_draft n d).done (seen_draft n d).current) lines.OfNever (word_at words 1) (curve_keys n) (begun_count d)
+      ∙ ap (λ (t : Bool). cond t (Ok (begun_by (with_current (seen_draft n d).done (seen_draft n d).current) (seen_draft n d).keys)) (Err P7)) e)
+
+  pub never_there : is_some_key lines.OfNever (word_at words 1) (key_of_number n (begun_count d)) ≡ true → lines.never_line (seen_draft n d) (drop 1 words) ≡ Ok (drafted n (seen_draft n d) Never)
+  never_there e = never_test true e
+
+  pub never_elsewhere : is_some_key lines.OfNever (word_at words 1) (key_of_number n (begun_count d)) ≡ false → lines.never_line (seen_draft n d) (drop 1 words) ≡ Err P7
+  never_elsewhere e = never_test false e

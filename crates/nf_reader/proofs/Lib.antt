@@ -3,3 +3,6 @@ pub mod WordCounts
 pub mod LinkNames
 pub mod DraftSteps
 pub mod LastPoints
+pub mod LineByLine
+pub mod Accepted
+pub mod Sorting

@@ -3,3 +3,4 @@ pub mod Drafts
 pub mod Entries
 pub mod Lines
 pub mod Files
+pub mod Sorted

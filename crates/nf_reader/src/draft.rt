@@ -97,6 +97,13 @@ impl Draft {
         })
     }
 
+    /// How many curves were read, without the one that is being read.
+    pub fn done_count(&self) -> usize
+        ensures { result ≡ length self.now.done.items }
+    {
+        self.done.len()
+    }
+
     /// How many curves have begun.
     pub fn begun_count(&self) -> usize
         requires { begun_count self.now < 18446744073709551616 }
@@ -120,7 +127,7 @@ impl Draft {
     fn close(&mut self) -> Result<(), AllocError>
         ensures draft { OnOk result ((n : Named) → seen_draft n self.new ≡ closed (seen_draft n self.old)) }
         ensures count { OnOk result (length self.new.done.items ≡ begun_count self.old) }
-        ensures open { OnOk result (self.new.current ≡ None) }
+        ensures shut { OnOk result (self.new.current ≡ None) }
         ensures states { self.new.states ≡ self.old.states }
     {
         if let Some(trace) = self.current.take() {
@@ -144,7 +151,7 @@ impl Draft {
 
     // The curve that is being read goes on with a point.
     fn go_on(&mut self, point: &RatedPoint) -> Result<(), AllocError>
-        requires open { IsSome self.old.current }
+        requires some { IsSome self.old.current }
         requires later { IfSome self.old.current (λ trace. comes_after (last_or None trace.curve.points) point.now.time ≡ true) }
         ensures draft { OnOk result ((n : Named) → seen_draft n self.new ≡ drafted n (seen_draft n self.old) (OfCurve GoesOn point.now)) }
         ensures count { OnOk result (begun_count self.new ≡ begun_count self.old) }

@@ -12,6 +12,10 @@ mod keys;
 mod lines;
 mod numbers;
 mod opening;
+mod reading;
+mod report;
 
 pub use fault::ReportFault;
 pub use nf_readings::ReportRule;
+pub use reading::parse_report;
+pub use report::Report;

@@ -40,7 +40,7 @@ impl Draft {
             opened_for draft (seen_kind kind) name.now draft.current ≡ said_by (opened_by draft) result }
         ensures can { IfOk result (λ opening. CanOpen (seen_draft net.now self.now) opening) }
     {
-        let done = self.done.len();
+        let done = self.done_count();
         match &self.current {
             Some(_) if is_key_at(net, done, kind, name) => Ok(Opening::GoesOn),
             Some(_) if is_key_at(net, done + 1, kind, name) => Ok(Opening::Begins),

@@ -1,11 +1,12 @@
 // The reading of a report.
-ghost use Rattle.std.specs.Prelude.{◌≡◌, ◌≤◌, [], ◌∷◌, map, None, Some, Ok, Err, length, option_map, IfOk, IfErr, OnOk, MatchOption, MatchResult, Result};
-ghost use Rattle.nf_lines.specs.Words.{read_line, read_lines};
-ghost use Rattle.nf_lines.specs.Faults.{first_fault, first_fault_of, longest_text};
+ghost use Rattle.std.specs.Prelude.{◌≡◌, ◌≤◌, [], ◌∷◌, map, length, option_map, IfOk, IfErr, OnOk, MatchOption, MatchResult, Result};
+ghost use Rattle.nf_lines.specs.Words.{read_line};
+ghost use Rattle.nf_lines.specs.Faults.{first_fault_of, longest_text};
 ghost use Rattle.nf_formats.specs.Report.{Report as SeenReport, IsWellFormed, report_text};
-ghost use Rattle.nf_readings.specs.ReportFile.{ReportBroken, as_report_rule, report_by_bytes, report_draft, report_in};
-ghost use Rattle.nf_reader.specs.Drafts.{seen_draft};
-ghost use Rattle.nf_reader.specs.Files.{IfBroken, report_of, Shows};
+ghost use Rattle.nf_readings.specs.ReportFile.{ReportBroken, as_report_rule, report_by_bytes, report_lines_from, if_at_end, report_in};
+ghost use Rattle.nf_readings_laws.specs.Readable.{IsReadable};
+ghost use Rattle.nf_reader.specs.Drafts.{seen_draft, seen_stage, IsWithin};
+ghost use Rattle.nf_reader.specs.Files.{IfBroken, report_of, closed_by, Shows};
 
 use crate::draft::Draft;
 use crate::fault::ReportFault;
@@ -44,9 +45,10 @@ fn check_rest(alloc: Global, cursor: &mut Cursor) -> Result<(), ReportFault>
     ensures fault { IfErr result (λ fault. IfBroken fault (λ broken. option_map as_report_rule (first_fault_of cursor.old) ≡ Some broken)) }
 {
     loop {
-        let line = next_line(alloc, cursor)?;
-        if line.is_none() {
-            return Ok(());
+        match next_line(alloc, cursor) {
+            Ok(Some(_)) => {}
+            Ok(None) => return Ok(()),
+            Err(fault) => return Err(fault),
         }
     }
 }
@@ -62,35 +64,70 @@ fn first_broken(alloc: Global, cursor: &mut Cursor, fault: ReportFault) -> Repor
     }
 }
 
-// What the lines of a text say, read one after the other with the line behind each.
-fn read_draft(alloc: Global, net: &Network, text: &[u8]) -> Result<Draft, ReportFault>
-    requires { length text.now ≤ longest_text }
-    ensures draft { IfOk result (λ draft. report_draft net.now (read_lines text.now) ≡ Ok (seen_draft net.now draft)) }
-    ensures fine { OnOk result (first_fault text.now ≡ None) }
-    ensures fault { IfErr result (λ fault. IfBroken fault (λ broken. report_in net.now text.now ≡ Err broken)) }
+// What lines say, each read with the line behind it: from a draft, this line and the lines that are still to come.
+fn read_from(
+    alloc: Global,
+    net: &Network,
+    cursor: &mut Cursor,
+    first: ReadLine,
+    mut draft: Draft,
+) -> Result<Draft, ReportFault>
+    requires { IsWithin net.now draft }
+    ensures draft { IfOk result (λ read. report_lines_from net.now (seen_draft net.now draft) (first ∷ map read_line cursor.old) ≡ Ok (seen_draft net.now read)) }
+    ensures within { IfOk result (λ read. IsWithin net.now read) }
+    ensures fine { OnOk result (first_fault_of cursor.old ≡ None) }
+    ensures fault { IfErr result (λ fault. IfBroken fault (λ broken.
+        report_by_bytes (first_fault_of cursor.old) (closed_by (report_lines_from net.now (seen_draft net.now draft) (first ∷ map read_line cursor.old))) ≡ Err broken)) }
 {
-    let mut cursor = Cursor::new(text);
-    let mut draft = Draft::new(alloc, net)?;
-    let mut line = next_line(alloc, &mut cursor)?;
-    if line.is_none() {
-        return Err(ReportFault::Broken {
-            rule: ReportRule::P4,
-            line: 1,
-        });
-    }
+    let mut line = Some(first);
     while let Some(current) = line {
-        let next = next_line(alloc, &mut cursor)?;
-        if let Err(fault) = draft.add_line(alloc, net, &current, next.as_ref()) {
-            return Err(first_broken(alloc, &mut cursor, fault));
+        let next = match next_line(alloc, cursor) {
+            Ok(next) => next,
+            Err(fault) => return Err(fault),
+        };
+        match draft.add_line(alloc, net, &current, next.as_ref()) {
+            Ok(()) => {}
+            Err(fault) => return Err(first_broken(alloc, cursor, fault)),
         }
         line = next;
     }
     Ok(draft)
 }
 
+// What the lines of a text say, read one after the other.
+fn read_draft(alloc: Global, net: &Network, text: &[u8]) -> Result<Draft, ReportFault>
+    requires { length text.now ≤ longest_text }
+    ensures draft { IfOk result (λ draft. report_in net.now text.now ≡ if_at_end (seen_stage draft.stage) (seen_draft net.now draft)) }
+    ensures within { IfOk result (λ draft. IsWithin net.now draft) }
+    ensures fault { IfErr result (λ fault. IfBroken fault (λ broken. report_in net.now text.now ≡ Err broken)) }
+{
+    let mut cursor = Cursor::new(text);
+    let draft = Draft::new(alloc, net)?;
+    match next_line(alloc, &mut cursor) {
+        Ok(Some(first)) => read_from(alloc, net, &mut cursor, first, draft),
+        Ok(None) => Err(ReportFault::Broken {
+            rule: ReportRule::P4,
+            line: 1,
+        }),
+        Err(fault) => Err(fault),
+    }
+}
+
+// The report that a text is.
+fn read_report(alloc: Global, net: &Network, text: &[u8]) -> Result<Report, ReportFault>
+    requires { length text.now ≤ longest_text }
+    ensures { MatchResult result (λ report. report_in net.now text.now ≡ Ok (report_of report)) (λ fault. IfBroken fault (λ broken. report_in net.now text.now ≡ Err broken)) }
+{
+    match read_draft(alloc, net, text) {
+        Ok(draft) => draft.report(alloc, net),
+        Err(fault) => Err(fault),
+    }
+}
+
 /// The report of a network that a text of at most 67,108,864 bytes is; or the first rule that it breaks, and the line. The rules of
 /// all bytes and lines come first, then those of the lines one by one, then that of the file as a whole, with line 0. Reads the text
 /// once, line by line.
+#[tactic(auto, using(crate::proofs::Accepted::formed, crate::proofs::Accepted::its_text, crate::proofs::Accepted::all_read))]
 pub fn parse_report(alloc: Global, net: &Network, text: &[u8]) -> Result<Report, ReportFault>
     requires { length text.now ≤ longest_text }
     ensures reads { MatchResult result (λ report. report_in net.now text.now ≡ Ok (report_of report)) (λ fault. IfBroken fault (λ broken. report_in net.now text.now ≡ Err broken)) }
@@ -100,7 +137,5 @@ pub fn parse_report(alloc: Global, net: &Network, text: &[u8]) -> Result<Report,
 {
     // For the proof: the network is one of an accepted file.
     let _ = net.version();
-    let draft = read_draft(alloc, net, text)?;
-    let report = draft.report(alloc, net)?;
-    Ok(report)
+    read_report(alloc, net, text)
 }

@@ -1,9 +1,9 @@
 // The report that was read.
-ghost use Rattle.std.specs.Prelude.{◌≡◌, [], ◌∷◌, ◌++◌, Ok, Err, IfOk, OnOk, MatchResult};
+ghost use Rattle.std.specs.Prelude.{◌≡◌, List, [], ◌∷◌, ◌++◌, IfOk, OnOk, MatchResult};
 ghost use Rattle.nf_readings.specs.ReportLines.{CurveKey, ReadCurve};
 ghost use Rattle.nf_readings.specs.ReportFile.{if_at_end};
 ghost use Rattle.nf_reader.specs.Keys.{seen_kind};
-ghost use Rattle.nf_reader.specs.Drafts.{seen_draft, seen_curve, seen_done, IsWithin};
+ghost use Rattle.nf_reader.specs.Drafts.{seen_draft, seen_curve, seen_done};
 ghost use Rattle.nf_reader.specs.Files.{IfBroken, report_of};
 ghost use Rattle.nf_reader.specs.Sorted.{AreSorted};
 
@@ -15,7 +15,7 @@ use nf_frac::Q;
 use nf_net::Network;
 use nf_pattern::Pattern;
 use nf_readings::ReportRule;
-use std::alloc::Global;
+use std::alloc::{AllocError, Global};
 
 /// A report: how far the run was to go, its flow up to the time reached, why it stopped below the horizon, if it did, and the states
 /// of the links in its last phase.
@@ -49,10 +49,9 @@ impl Sorted {
     }
 
     // A curve goes behind the others of its kind. Each node but the idle ones and each link has one, so that it isn't missing.
-    fn put(&mut self, kind: Kind, curve: Option<Trace>) -> Result<(), ReportFault>
-        ensures sorted { OnOk result ((curves : List ReadCurve) → (key : CurveKey) → key.kind ≡ seen_kind kind → AreSorted curves self.old
+    fn put(&mut self, kind: Kind, curve: Option<Trace>) -> Result<(), AllocError>
+        ensures { OnOk result ((curves : List ReadCurve) → (key : CurveKey) → key.kind ≡ seen_kind kind → AreSorted curves self.old
             → AreSorted (curves ++ seen_curve key curve ∷ []) self.new) }
-        ensures fault { IfErr result (λ fault. fault ≡ ReportFault.Memory) }
     {
         match (kind, curve) {
             (Kind::Never, _) => {}
@@ -66,24 +65,26 @@ impl Sorted {
                 let Trace { curve, rates: _ } = trace;
                 self.queues.push(curve)?;
             }
-            (_, None) => return Err(ReportFault::Memory),
+            (_, None) => return Err(AllocError),
         }
         Ok(())
     }
 }
 
-// The curves of a report by what they tell of.
-fn sorted(alloc: Global, net: &Network, curves: Vec<Option<Trace>>) -> Result<Sorted, ReportFault>
-    requires { length curves.items ≤ length (curve_keys net.now) }
-    ensures sorted { IfOk result (λ sorted. AreSorted (seen_done net.now 0 curves.items) sorted) }
-    ensures fault { IfErr result (λ fault. fault ≡ ReportFault.Memory) }
+// The curves of a report by what they tell of. There are no more than the network has.
+fn by_kind(alloc: Global, net: &Network, curves: Vec<Option<Trace>>) -> Result<Sorted, AllocError>
+    ensures { IfOk result (λ sorted. AreSorted (seen_done net.now 0 curves.items) sorted) }
 {
+    // For the proof: a network has few nodes and links.
+    let _ = net.version();
     let mut sorted = Sorted::new(alloc);
     let mut index = 0;
     for curve in curves {
-        if let Some(key) = key_at(net, index) {
-            sorted.put(key.kind, curve)?;
-        }
+        let kind = match key_at(net, index) {
+            Some(key) => key.kind,
+            None => return Err(AllocError),
+        };
+        sorted.put(kind, curve)?;
         index += 1;
     }
     Ok(sorted)
@@ -92,7 +93,6 @@ fn sorted(alloc: Global, net: &Network, curves: Vec<Option<Trace>>) -> Result<So
 impl Draft {
     /// The report, or P14 where there was no `end`.
     pub fn report(self, alloc: Global, net: &Network) -> Result<Report, ReportFault>
-        requires { IsWithin net.now self }
         ensures { let draft = seen_draft net.now self in
             MatchResult result (λ report. if_at_end draft.stage draft ≡ Ok (report_of report)) (λ fault. IfBroken fault (λ broken. if_at_end draft.stage draft ≡ Err broken)) }
     {
@@ -102,7 +102,7 @@ impl Draft {
                 line: 0,
             });
         }
-        let sorted = sorted(alloc, net, self.done)?;
+        let sorted = by_kind(alloc, net, self.done)?;
         Ok(Report {
             horizon: self.horizon,
             flow: Flow {

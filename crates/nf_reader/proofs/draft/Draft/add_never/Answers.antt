@@ -6,6 +6,6 @@ use Rattle.nf_reader.proofs.draft.Draft.add_never.Goals as goal
 
 pub returns-clause-draft : goal.returns-clause-draft
 returns-clause-draft c =
-    never_is c.args.net.now c.args.self.now c.close.new.self (c.in_ok-close.ensures.draft c.args.net.now) c.in_ok-close.ensures.open c.in_ok-close.ensures.count
+    never_is c.args.net.now c.args.self.now c.close.new.self (c.in_ok-close.ensures.draft c.args.net.now) c.in_ok-close.ensures.shut c.in_ok-close.ensures.count
     (let many = length-drop (begun_count c.args.self.now) (curve_keys c.args.net.now) in omega (arith, c.requires.fits, many))
     c.push.new.self.items c.in_ok-push.ensures.items
