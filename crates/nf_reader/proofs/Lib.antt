@@ -6,3 +6,4 @@ pub mod LastPoints
 pub mod LineByLine
 pub mod Accepted
 pub mod Sorting
+pub mod BodyLines

@@ -2,7 +2,7 @@
 ghost use Rattle.std.specs.Prelude.{◌≡◌, ◌<◌, false, length, drop, option_map, IfOk, MatchOption};
 ghost use Rattle.std.specs.Option.{option_copied};
 ghost use Rattle.nf_formats.specs.Names.{has_name};
-ghost use Rattle.nf_readings.specs.ReportLines.{key_word, begins_with, point_line, trace_line, never_line, state_in, capacity_at, state_line, end_line, line_kind, body_line};
+ghost use Rattle.nf_readings.specs.ReportLines.{key_word, begins_with, point_line, trace_line, never_line, state_in, capacity_at, state_line, end_line, line_kind, body_line, are_alike as are_alike_by};
 ghost use Rattle.nf_reader.specs.Keys.{seen_kind};
 ghost use Rattle.nf_reader.specs.Lines.{seen_line_kind, words_behind, state_read, IsLinkNamed};
 ghost use Rattle.nf_reader.specs.Drafts.{seen_draft, IsWithin};
@@ -102,6 +102,13 @@ fn goes_on(next: Option<&ReadLine>, kind: Kind, name: &[u8]) -> bool
     }
 }
 
+// Both, or neither.
+fn are_alike(left: bool, right: bool) -> bool
+    ensures { result ≡ are_alike_by left right }
+{
+    if left { right } else { !right }
+}
+
 impl Draft {
     // `label NODE TIME VALUE` and `queue LINK TIME VALUE`
     fn read_point(&self, net: &Network, kind: Kind, line: &ReadLine) -> Result<Entry, ReportRule>
@@ -117,7 +124,7 @@ impl Draft {
         let opening = self.opened(net, kind, line.at(1))?;
         let time = read_number(line.at(2))?;
         let value = read_number(line.at(3))?;
-        if !self.comes_after(opening, time) {
+        if !self.comes_after(net, opening, time) {
             return Err(ReportRule::P11);
         }
         Ok(Entry::OfCurve(
@@ -148,14 +155,18 @@ impl Draft {
         if line.len() != 5 {
             return Err(ReportRule::P6);
         }
-        let opening = self.opened(net, kind, line.at(1))?;
+        let name = line.at(1);
+        let opening = self.opened(net, kind, name)?;
         let time = read_number(line.at(2))?;
         let value = read_number(line.at(3))?;
-        let rate = read_rate(line.at(4))?;
-        if !self.comes_after(opening, time) {
+        let rate = match read_rate(line.at(4)) {
+            Ok(rate) => rate,
+            Err(rule) => return Err(rule),
+        };
+        if !self.comes_after(net, opening, time) {
             return Err(ReportRule::P11);
         }
-        if rate.is_none() == goes_on(next, kind, line.at(1)) {
+        if are_alike(rate.is_none(), goes_on(next, kind, name)) {
             return Err(ReportRule::P12);
         }
         Ok(Entry::OfCurve(opening, RatedPoint { time, value, rate }))
@@ -189,11 +200,16 @@ impl Draft {
         if line.len() != 3 {
             return Err(ReportRule::P6);
         }
+        // For the proof: each link has a name.
+        let _ = net.version();
         let link = match link_of(net, line.at(1)) {
             Some(link) if link.0 >= self.next_state => link,
             _ => return Err(ReportRule::P7),
         };
-        let state = read_state(net, link, line.at(2))?;
+        let state = match read_state(net, link, line.at(2)) {
+            Ok(state) => state,
+            Err(rule) => return Err(rule),
+        };
         if !self.has_all(net) {
             return Err(ReportRule::P13);
         }

@@ -56,18 +56,18 @@ impl Draft {
     {
         match self.stage {
             Stage::Version => read_version(net, line),
-            Stage::Horizon => {
-                let horizon = read_horizon(line)?;
-                Ok(Entry::Horizon(horizon))
-            }
-            Stage::Reached => {
-                let reached = self.read_reached(line)?;
-                Ok(Entry::Reached(reached))
-            }
-            Stage::Cause => {
-                let stop = self.read_stop(line)?;
-                Ok(Entry::Cause(stop))
-            }
+            Stage::Horizon => match read_horizon(line) {
+                Ok(horizon) => Ok(Entry::Horizon(horizon)),
+                Err(rule) => Err(rule),
+            },
+            Stage::Reached => match self.read_reached(line) {
+                Ok(reached) => Ok(Entry::Reached(reached)),
+                Err(rule) => Err(rule),
+            },
+            Stage::Cause => match self.read_stop(line) {
+                Ok(stop) => Ok(Entry::Cause(stop)),
+                Err(rule) => Err(rule),
+            },
             Stage::Body => self.read_body(net, line, next),
             Stage::End => read_nothing(self.read_body(net, line, next)),
         }

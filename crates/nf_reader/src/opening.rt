@@ -2,7 +2,6 @@
 ghost use Rattle.std.specs.Prelude.{◌≡◌, IfOk};
 ghost use Rattle.std.specs.List.{last_or};
 ghost use Rattle.nf_lists.specs.Signs.{is_same as is_same_by};
-ghost use Rattle.nf_formats.specs.Named.{Named};
 ghost use Rattle.nf_readings.specs.ReportLines as lines;
 ghost use Rattle.nf_readings.specs.ReportLines.{opened as opened_for, comes_after as comes_after_by};
 ghost use Rattle.nf_reader.specs.Keys.{seen_kind, key_of_number, is_some_key};
@@ -58,10 +57,12 @@ impl Draft {
     }
 
     /// Whether a time comes after those of the points of a curve; the first one is 0.
-    pub fn comes_after(&self, opening: Opening, time: Q) -> bool
-        ensures { (n : Named) → CanOpen (seen_draft n self.now) opening
-            → result ≡ comes_after_by (last_or None (opened_by (seen_draft n self.now) opening).curve.points) time }
+    pub fn comes_after(&self, net: &Network, opening: Opening, time: Q) -> bool
+        requires { CanOpen (seen_draft net.now self.now) opening }
+        ensures { result ≡ comes_after_by (last_or None (opened_by (seen_draft net.now self.now) opening).curve.points) time }
     {
+        // For the proof: the clauses speak of the network's curves.
+        let _ = net;
         match (opening, &self.current) {
             (Opening::GoesOn, Some(trace)) => is_later(&trace.curve, time),
             _ => is_same(time, Q::zero()),

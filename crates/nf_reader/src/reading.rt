@@ -73,11 +73,11 @@ fn read_from(
     mut draft: Draft,
 ) -> Result<Draft, ReportFault>
     requires { IsWithin net.now draft }
-    ensures draft { IfOk result (λ read. report_lines_from net.now (seen_draft net.now draft) (first ∷ map read_line cursor.old) ≡ Ok (seen_draft net.now read)) }
+    ensures draft { IfOk result (λ read. report_lines_from net.now (seen_draft net.now draft) (first.entry ∷ map read_line cursor.old) ≡ Ok (seen_draft net.now read)) }
     ensures within { IfOk result (λ read. IsWithin net.now read) }
     ensures fine { OnOk result (first_fault_of cursor.old ≡ None) }
     ensures fault { IfErr result (λ fault. IfBroken fault (λ broken.
-        report_by_bytes (first_fault_of cursor.old) (closed_by (report_lines_from net.now (seen_draft net.now draft) (first ∷ map read_line cursor.old))) ≡ Err broken)) }
+        report_by_bytes (first_fault_of cursor.old) (closed_by (report_lines_from net.now (seen_draft net.now draft) (first.entry ∷ map read_line cursor.old))) ≡ Err broken)) }
 {
     let mut line = Some(first);
     while let Some(current) = line {
