@@ -1,5 +1,5 @@
 -- Lines that are read one after the other, with the line behind each.
-use Rattle.std.proofs.Common.{◌≡◌, ℕ, suc, ◌+◌, ◌<◌, List, [], ◌∷◌, length, map, Option, Some, None, option_map, Result, Ok, Err, MatchOption, MatchResult, refl, sym, ap, subst, ◌∙◌, arith}
+use Rattle.std.proofs.Common.{◌≡◌, ℕ, suc, ◌+◌, ◌<◌, List, [], ◌∷◌, length, map, Option, Some, None, option_map, Result, Ok, Err, MatchOption, MatchResult, IfOk, IfErr, OnOk, refl, sym, ap, subst, ◌∙◌, arith}
 use Rattle.std.proofs.lemmas.List.{length-map}
 use Rattle.nf_work.specs.Checked.{◌>>=◌}
 use Rattle.nf_lines.specs.Lines.{TextLine, lines}
@@ -12,6 +12,8 @@ use Rattle.nf_readings.specs.ReportLines.{ReportDraft, report_line, empty_report
 use Rattle.nf_readings.specs.ReportFile.{ReportBroken, next_words, in_report_line, report_lines_from, report_draft, if_at_end, as_report_rule, report_by_bytes, report_in}
 use Rattle.nf_reader.specs.declared.fault.ReportFault.{ReportFault}
 use Rattle.nf_reader.specs.declared.report.Report.{Report}
+use Rattle.nf_reader.specs.declared.draft.Draft.{Draft}
+use Rattle.nf_reader.specs.Drafts.{seen_draft, seen_stage}
 use Rattle.nf_reader.specs.Lines.{words_behind}
 use Rattle.nf_reader.specs.Files.{IfBroken, closed_by, report_of}
 
@@ -113,3 +115,40 @@ pub answers : (result : Result Report ReportFault) (read other : Result formats.
     → MatchResult result (λ report. read ≡ Ok (report_of report)) (λ fault. IfBroken fault (λ broken. read ≡ Err broken))
     → MatchResult result (λ report. other ≡ Ok (report_of report)) (λ fault. IfBroken fault (λ broken. other ≡ Err broken))
 answers result read other e h = subst (λ (r : Result formats.Report ReportBroken). MatchResult result (λ report. r ≡ Ok (report_of report)) (λ fault. IfBroken fault (λ broken. r ≡ Err broken))) (sym e) h
+
+-- ---- the end of the lines
+pub loop_ends : (n : Named) (draft : ReportDraft) (line : Option ReadLine) (rest : List TextLine) → line ≡ None → EndsThere line rest
+    → (report_lines_from n draft (from_line line rest) ≡ Ok draft) × (first_fault_of rest ≡ None)
+loop_ends n draft None rest is ends = (ap (λ (l : List TextLine). report_lines_from n draft (map read_line l)) ends, ap first_fault_of ends)
+loop_ends n draft (Some line) rest is ends = absurd (cc)
+
+-- ---- from the first line on
+module _ (n : Named) (text : List ℕ) (before after : List TextLine) (all : before ≡ lines text) (line : Option ReadLine)
+    (is : MatchOption line (before ≡ []) (λ l. map read_line before ≡ l ∷ map read_line after)) where
+  pub no_line : line ≡ None → report_in n text ≡ Err (record { rule = P4; line = 1 })
+  no_line none = empty_text n text (sym all ∙ subst (λ (o : Option ReadLine). MatchOption o (before ≡ []) (λ l. map read_line before ≡ l ∷ map read_line after)) none is)
+
+  module _ (fine : MatchOption line (after ≡ before) (λ l. first_fault_of before ≡ first_fault_of after)) (first : ReadLine) (some : line ≡ Some first) (draft : ReportDraft) (empty : draft ≡ empty_report n) where
+    lines_are : read_lines text ≡ first ∷ map read_line after
+    lines_are = ap (map read_line) (sym all) ∙ subst (λ (o : Option ReadLine). MatchOption o (before ≡ []) (λ l. map read_line before ≡ l ∷ map read_line after)) some is
+
+    faults_are : first_fault text ≡ first_fault_of after
+    faults_are = ap first_fault_of (sym all) ∙ subst (λ (o : Option ReadLine). MatchOption o (after ≡ before) (λ l. first_fault_of before ≡ first_fault_of after)) some fine
+
+    pub draft_read : (result : Result Draft ReportFault) → IfOk result (λ read. report_lines_from n draft (first ∷ map read_line after) ≡ Ok (seen_draft n read)) → OnOk result (first_fault_of after ≡ None)
+        → IfOk result (λ read. report_in n text ≡ if_at_end (seen_stage read.stage) (seen_draft n read))
+    draft_read (Ok read) e f =
+        text_closes n text first (map read_line after) lines_are (seen_draft n read) (faults_are ∙ f)
+        (ap (λ (d : ReportDraft). report_lines_from n d (first ∷ map read_line after)) (sym empty) ∙ e)
+    draft_read (Err fault) e f = tt
+
+    pub fault_read : (result : Result Draft ReportFault)
+        → IfErr result (λ fault. IfBroken fault (λ broken. report_by_bytes (first_fault_of after) (closed_by (report_lines_from n draft (first ∷ map read_line after))) ≡ Err broken))
+        → IfErr result (λ fault. IfBroken fault (λ broken. report_in n text ≡ Err broken))
+    fault_read (Ok read) h = tt
+    fault_read (Err fault) h =
+        broken_more fault
+        (λ broken. report_by_bytes (first_fault_of after) (closed_by (report_lines_from n draft (first ∷ map read_line after))) ≡ Err broken)
+        (λ broken. report_in n text ≡ Err broken)
+        (λ broken e. text_breaks n text first (map read_line after) lines_are (first_fault_of after) broken faults_are
+        (ap (λ (d : ReportDraft). report_by_bytes (first_fault_of after) (closed_by (report_lines_from n d (first ∷ map read_line after)))) (sym empty) ∙ e)) h

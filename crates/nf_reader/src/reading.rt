@@ -103,13 +103,16 @@ fn read_draft(alloc: Global, net: &Network, text: &[u8]) -> Result<Draft, Report
 {
     let mut cursor = Cursor::new(text);
     let draft = Draft::new(alloc, net)?;
-    match next_line(alloc, &mut cursor) {
-        Ok(Some(first)) => read_from(alloc, net, &mut cursor, first, draft),
-        Ok(None) => Err(ReportFault::Broken {
+    let line = match next_line(alloc, &mut cursor) {
+        Ok(line) => line,
+        Err(fault) => return Err(fault),
+    };
+    match line {
+        Some(first) => read_from(alloc, net, &mut cursor, first, draft),
+        None => Err(ReportFault::Broken {
             rule: ReportRule::P4,
             line: 1,
         }),
-        Err(fault) => Err(fault),
     }
 }
 

@@ -21,7 +21,11 @@ returns-in-End-clause-says c =
     ∙ c.read_nothing.ensures.says c.args.net.now (seen_draft c.args.net.now c.args.self.now)
 
 pub returns-in-Err-read_reached-clause-says : goal.returns-in-Err-read_reached-clause-says
-returns-in-Err-read_reached-clause-says c = ?
+returns-in-Err-read_reached-clause-says c =
+    ap (λ (s : Stage). staged_line c.args.net.now (seen_draft c.args.net.now c.args.self.now) (words_behind (option_copied c.args.next)) c.args.line.now.words (seen_stage s)) c.in-Reached.is
+    ∙ c.in-Err-read_reached.ensures c.args.net.now
 
 pub returns-in-Err-read_stop-clause-says : goal.returns-in-Err-read_stop-clause-says
-returns-in-Err-read_stop-clause-says c = ?
+returns-in-Err-read_stop-clause-says c =
+    ap (λ (s : Stage). staged_line c.args.net.now (seen_draft c.args.net.now c.args.self.now) (words_behind (option_copied c.args.next)) c.args.line.now.words (seen_stage s)) c.in-Cause.is
+    ∙ c.in-Err-read_stop.ensures c.args.net.now

@@ -1,14 +1,11 @@
-use Rattle.std.proofs.Common.{rules, ◌≡◌, ◌<◌, false, length, drop, option_map, IfOk, MatchOption, ℕ, ◌+◌, ◌-◌, ◌*◌, ◌≤◌, ◌/◌, ◌%◌, Bool, true, nat_eq, nat_lt, List, [], ◌∷◌, ◌++◌, slice_index_or, slice_set, bit_and, bit_or, w8, w32, w64, Bor, MutBor}
-use Rattle.std.specs.Option.{option_copied}
-use Rattle.nf_formats.specs.Names.{has_name}
-use Rattle.nf_readings.specs.ReportLines.{key_word, begins_with, point_line, trace_line, never_line, state_in, capacity_at, state_line, end_line, line_kind, body_line}
-use Rattle.nf_readings.specs.ReportLines.{are_alike as are_alike_by}
-use Rattle.nf_reader.specs.Keys.{seen_kind}
-use Rattle.nf_reader.specs.Lines.{seen_line_kind, words_behind, state_read, IsLinkNamed}
-use Rattle.nf_reader.specs.Drafts.{seen_draft, IsWithin}
-use Rattle.nf_reader.specs.Entries.{said_by, drafted, Fits}
+use Rattle.std.proofs.Common.{◌≡◌, ◌≤◌, List, [], ◌∷◌, ℕ, drop, sym, ◌∙◌, arith}
+use Rattle.nf_reader.specs.Drafts.{seen_draft}
+use Rattle.nf_reader.proofs.WordCounts.{two_behind}
+use Rattle.nf_reader.proofs.BodyLines.{state_wrong}
 use Rattle.nf_reader.proofs.draft.Draft.read_state.Goals as goal
 
--- src/body.rt:211:26
 pub returns-in-Err-clause-says : goal.returns-in-Err-clause-says
-returns-in-Err-clause-says c = ?
+returns-in-Err-clause-says c =
+    state_wrong c.args.net.now (seen_draft c.args.net.now c.args.self.now) c.args.line.now.words c.at.result.now c.at-2.result.now
+    (two_behind c.args.line.now.words (sym c.len.ensures ∙ c.if-len-ne3.false) ∙ (λ i. sym c.at.ensures i ∷ sym c.at-2.ensures i ∷ []))
+    c.in-Some.link c.in-Some.ensures (omega (arith, c.if-link-self.true, c.link.view_is)) c.in-Err.rule (sym c.in-Err.ensures)
