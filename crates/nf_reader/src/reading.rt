@@ -130,7 +130,6 @@ fn read_report(alloc: Global, net: &Network, text: &[u8]) -> Result<Report, Repo
 /// The report of a network that a text of at most 67,108,864 bytes is; or the first rule that it breaks, and the line. The rules of
 /// all bytes and lines come first, then those of the lines one by one, then that of the file as a whole, with line 0. Reads the text
 /// once, line by line.
-#[tactic(auto, using(crate::proofs::Accepted::formed, crate::proofs::Accepted::its_text, crate::proofs::Accepted::all_read))]
 pub fn parse_report(alloc: Global, net: &Network, text: &[u8]) -> Result<Report, ReportFault>
     requires { length text.now ≤ longest_text }
     ensures reads { MatchResult result (λ report. report_in net.now text.now ≡ Ok (report_of report)) (λ fault. IfBroken fault (λ broken. report_in net.now text.now ≡ Err broken)) }

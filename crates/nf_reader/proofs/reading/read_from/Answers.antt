@@ -31,7 +31,10 @@ returns-in-Err-add_line-clause-fault c =
         subst (λ (o : Option ReadLine). report_lines_from n draft (from_line o c.loop-line.cursor) ≡ whole) c.in-Some.is c.loop-line.invariant.0 in
     let same = ap words_behind c.as_ref.ensures.value ∙ next_behind c.loop-line.cursor c.next_line.new.cursor c.in-Ok.next c.in-Ok.ensures.line in
     let faults = next_faults c.loop-line.cursor c.next_line.new.cursor c.in-Ok.next c.in-Ok.ensures.fine ∙ c.loop-line.invariant.1 in
-    broken_more _ _ _ (λ broken h. ap (λ (o : Option LineFault). report_by_bytes o (closed_by whole)) (sym faults) ∙ h)
+    broken_more c.first_broken.result
+    (λ broken. report_by_bytes (first_fault_of c.next_line.new.cursor) (closed_by whole) ≡ Err broken)
+    (λ broken. report_by_bytes (first_fault_of c.args.cursor.now) (closed_by whole) ≡ Err broken)
+    (λ broken h. ap (λ (o : Option LineFault). report_by_bytes o (closed_by whole)) (sym faults) ∙ h)
     (c.first_broken.ensures (closed_by whole)
     (broken_more _ _ _ (λ broken h. ap closed_by (sym so ∙ line_breaks n draft c.in-Some.current (map read_line c.loop-line.cursor) _ broken same h)) c.in-Err-add_line.ensures.adds))
 
