@@ -1,5 +1,5 @@
 -- What is answered of a text, by what it reads as.
-use Rattle.std.proofs.Common.{◌≡◌, ℕ, List, Result, Ok, Err, MatchResult, IfOk, refl, sym, ap, ◌∙◌}
+use Rattle.std.proofs.Common.{◌≡◌, ℕ, List, Result, Ok, Err, MatchResult, IfOk, sym, ap, ◌∙◌}
 use Rattle.nf_plain_laws.proofs.Results.{same_Ok}
 use Rattle.nf_formats.specs.Named.{Named}
 use Rattle.nf_formats.specs.WellNamed.{IsNamed}

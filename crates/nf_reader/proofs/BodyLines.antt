@@ -25,9 +25,9 @@ module _ (draft : ReportDraft) (kind : Kind) (next : Option (List (List ℕ))) (
   trace_is =
       ap (trace_line kind draft next) is
       ∙ (λ i. eo i >>= λ o. (et i >>= λ t. (ey i >>= λ y. Ok (t, y))) >>= λ p. rate_word rate >>= λ r.
-        cond (not (comes_after (last_or None o.curve.points) p.0)) (Err P11)
-        (cond (are_alike (is_none r) (begins_with (key_word kind) name next)) (Err P12)
-        (Ok (with_point draft o p (with_rate o.curve.rates r)))))
+      cond (not (comes_after (last_or None o.curve.points) p.0)) (Err P11)
+      (cond (are_alike (is_none r) (begins_with (key_word kind) name next)) (Err P12)
+      (Ok (with_point draft o p (with_rate o.curve.rates r)))))
 
   pub rate_wrong : (rule : ReportRule) → rate_word rate ≡ Err rule → trace_line kind draft next (drop 1 words) ≡ Err rule
   rate_wrong rule e = trace_is ∙ ap by_rate e

@@ -1,5 +1,5 @@
 -- What a draft is seen as when something is added to it.
-use Rattle.std.proofs.Common.{◌≡◌, ◌≢◌, ⊎_elim, ℕ, zero, suc, ◌+◌, ◌-◌, ◌<◌, ◌≤◌, Bool, true, false, cond, nat_eq, List, [], ◌∷◌, ◌++◌, length, drop, Option, Some, None, Result, Ok, Err, refl, sym, ap, subst, ◌∙◌, arith, length-append}
+use Rattle.std.proofs.Common.{◌≡◌, ◌≢◌, ⊎_elim, ℕ, zero, suc, ◌+◌, ◌<◌, ◌≤◌, Bool, true, false, cond, nat_eq, List, [], ◌∷◌, ◌++◌, length, drop, Option, Some, None, Result, Ok, Err, refl, sym, ap, subst, ◌∙◌, arith, length-append}
 use Rattle.std.specs.Prelude.{slice_get, unwrap_or}
 use Rattle.std.proofs.lemmas.List.{drop_all}
 use Rattle.std.proofs.lemmas.Bool.Decides.{eqb_tells}
@@ -107,8 +107,8 @@ module _ (n : Named) (d : Draft) where
           keys = drop (many i + 1) (curve_keys n);
         })
         ∙ sym (ap (λ (keys : List CurveKey).
-          let o = begun_by (with_current (seen_draft n d).done (seen_draft n d).current) keys in
-          lines.with_point (seen_draft n d) o (point.time, point.value) (with_rate o.curve.rates point.rate)) keys_here)
+        let o = begun_by (with_current (seen_draft n d).done (seen_draft n d).current) keys in
+        lines.with_point (seen_draft n d) o (point.time, point.value) (with_rate o.curve.rates point.rate)) keys_here)
 
     -- an idle node is passed
     pub never_is : (curves : List (Option Trace)) → curves ≡ next.done.items ++ None ∷ [] → seen_with n next curves next.current ≡ drafted n (seen_draft n d) Never
@@ -126,8 +126,8 @@ module _ (n : Named) (d : Draft) where
           keys = drop (begun_count d + 1) (curve_keys n);
         }) many
         ∙ sym (ap (λ (keys : List CurveKey).
-          let o = begun_by (with_current (seen_draft n d).done (seen_draft n d).current) keys in
-          record (seen_draft n d) { done = o.done ++ o.curve ∷ []; current = None; keys = o.keys }) keys_here)
+        let o = begun_by (with_current (seen_draft n d).done (seen_draft n d).current) keys in
+        record (seen_draft n d) { done = o.done ++ o.curve ∷ []; current = None; keys = o.keys }) keys_here)
 
 -- ---- which curve a line adds to
 abbrev opens : Named → Draft → lines.Kind → Name → Option Trace → Result Opened ReportRule

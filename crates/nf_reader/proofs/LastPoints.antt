@@ -6,7 +6,7 @@ use Rattle.nf_rational.specs.Rational.{ℚ}
 use Rattle.nf_rational.specs.Operations.{0ℚ}
 use Rattle.nf_rational.specs.Order.{◌<ℚ◌, le_ℚ, lt_ℚ}
 use Rattle.nf_rational_laws.proofs.Tests.{lt_of_test}
-use Rattle.nf_model.specs.Curve.{Point, IsCurve}
+use Rattle.nf_model.specs.Curve.{Point}
 use Rattle.nf_lists.specs.Signs.{is_same}
 use Rattle.nf_curve.specs.Points.{last_time}
 use Rattle.nf_curve_laws.proofs.Operations.{is_same_cases}

@@ -1,12 +1,12 @@
 -- Curves that are put behind the others of their kind.
-use Rattle.std.proofs.Common.{◌≡◌, ℕ, zero, suc, ◌+◌, ◌<◌, ◌≤◌, List, [], ◌∷◌, ◌++◌, length, Option, Some, None, option_map, refl, sym, ap, subst, ◌∙◌, arith, length-append}
-use Rattle.std.specs.Prelude.{slice_get, unwrap_or}
+use Rattle.std.proofs.Common.{◌≡◌, ℕ, ◌<◌, List, [], ◌∷◌, ◌++◌, length, Option, Some, option_map, sym, ap, subst, ◌∙◌, arith}
+use Rattle.std.specs.Prelude.{unwrap_or}
 use Rattle.std.proofs.lemmas.Option.{slice_get_within}
 use Rattle.nf_curve.specs.declared.flow.Trace.{Trace}
 use Rattle.nf_formats.specs.Named.{Named}
 use Rattle.nf_formats.specs.WellNamed.{IsNamed}
 use Rattle.nf_net.proofs.Limits.{few_nodes, few_idle_nodes, few_link_names}
-use Rattle.nf_readings.specs.ReportLines.{Kind, CurveKey, ReadCurve, key_of, curve_keys, OfNever}
+use Rattle.nf_readings.specs.ReportLines.{CurveKey, ReadCurve, key_of, curve_keys, OfNever}
 use Rattle.nf_reader.specs.Keys.{key_at, key_of_number, seen_key, seen_kind}
 use Rattle.nf_reader.specs.declared.keys.Key.{Key}
 use Rattle.nf_reader.specs.Drafts.{seen_curve, seen_done}

@@ -1,5 +1,5 @@
 -- What a line of a report says, and the draft behind it.
-use Rattle.std.specs.Prelude.{◌≡◌, ℕ, suc, ◌<◌, true, List, [], ◌∷◌, ◌++◌, length, set, Option, Some, None, IsSome, Result, Ok, Err}
+use Rattle.std.specs.Prelude.{◌≡◌, suc, ◌<◌, true, List, [], ◌∷◌, ◌++◌, length, set, Option, Some, None, IsSome, Result, Ok, Err}
 use Rattle.std.specs.List.{last_or}
 use Rattle.nf_formats.specs.Named.{Named}
 use Rattle.nf_readings.specs.declared.ReportRule.{ReportRule}

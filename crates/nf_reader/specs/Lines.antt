@@ -10,7 +10,6 @@ use Rattle.nf_readings.specs.declared.ReportRule.TheVariants.{P9}
 use Rattle.nf_readings.specs.ReportCauses.{or_rule}
 use Rattle.nf_readings.specs.ReportLines as lines
 use Rattle.nf_reader.specs.declared.body.LineKind.{LineKind}
-use Rattle.nf_reader.specs.declared.body.LineKind.TheVariants as LineKind
 
 abbrev pub seen_line_kind : LineKind → lines.LineKind
 seen_line_kind LineKind.Label = lines.OfCurve lines.OfLabel

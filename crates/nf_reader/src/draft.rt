@@ -164,7 +164,13 @@ impl Draft {
     }
 
     // A point of the curve that is being read, or of the next one.
-    fn add_point(&mut self, alloc: Global, net: &Network, opening: Opening, point: &RatedPoint) -> Result<(), AllocError>
+    fn add_point(
+        &mut self,
+        alloc: Global,
+        net: &Network,
+        opening: Opening,
+        point: &RatedPoint,
+    ) -> Result<(), AllocError>
         requires within { IsWithin net.now self.old }
         requires fits { Fits net.now (seen_draft net.now self.old) (OfCurve opening point.now) }
         ensures draft { OnOk result (seen_draft net.now self.new ≡ drafted net.now (seen_draft net.now self.old) (OfCurve opening point.now)) }

@@ -15,7 +15,12 @@ use std::io;
 const MOST: u32 = 65_536;
 
 // Whether a report is written as these bytes.
-fn is_written<R: AllocGlobal>(rt: &R, net: &Network, report: &Report, text: &[u8]) -> io::Result<bool>
+fn is_written<R: AllocGlobal>(
+    rt: &R,
+    net: &Network,
+    report: &Report,
+    text: &[u8],
+) -> io::Result<bool>
     requires { IsWellFormed net.now.net (report_of report.now) }
 {
     let mut sink = MemSink::new(rt.alloc(), MOST, MOST)?;

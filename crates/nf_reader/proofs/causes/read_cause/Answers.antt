@@ -1,4 +1,4 @@
-use Rattle.std.proofs.Common.{◌≡◌, ◌<◌, length, sym, ◌∙◌, arith}
+use Rattle.std.proofs.Common.{sym, ◌∙◌, arith}
 use Rattle.nf_reader.proofs.WordCounts.{is_patterns, is_passed, is_no_pattern}
 use Rattle.nf_reader.proofs.causes.read_cause.Goals as goal
 

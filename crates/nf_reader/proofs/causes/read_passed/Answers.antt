@@ -1,4 +1,4 @@
-use Rattle.std.proofs.Common.{◌≡◌, ℕ, List, [], ◌∷◌, length, drop, sym, ap, ◌∙◌}
+use Rattle.std.proofs.Common.{[], ◌∷◌, sym, ap, ◌∙◌}
 use Rattle.nf_readings.specs.ReportCauses.{passed_cause}
 use Rattle.nf_reader.proofs.WordCounts.{six_behind}
 use Rattle.nf_reader.proofs.causes.read_passed.Goals as goal

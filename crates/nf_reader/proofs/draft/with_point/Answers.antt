@@ -1,4 +1,4 @@
-use Rattle.std.proofs.Common.{◌<◌, length, arith}
+use Rattle.std.proofs.Common.{arith}
 use Rattle.nf_reader.proofs.LastPoints.{time_is_later}
 use Rattle.nf_reader.proofs.draft.with_point.Goals as goal
 

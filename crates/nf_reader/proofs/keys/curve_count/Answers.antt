@@ -1,4 +1,4 @@
-use Rattle.std.proofs.Common.{◌≡◌, length, arith}
+use Rattle.std.proofs.Common.{arith}
 use Rattle.nf_reader.proofs.KeyNumbers.{curves_counted}
 use Rattle.nf_reader.proofs.keys.curve_count.Goals as goal
 

@@ -1,4 +1,4 @@
-use Rattle.std.proofs.Common.{◌≡◌, ◌≤◌, ◌<◌, length, Some, refl, sym, ◌∙◌, arith}
+use Rattle.std.proofs.Common.{Some, refl, sym, ◌∙◌, arith}
 use Rattle.nf_net.proofs.Limits.{as_many_names}
 use Rattle.nf_readings.specs.ReportLines.{key_of}
 use Rattle.nf_reader.proofs.KeyNumbers.{link_key_there, link_key_past}

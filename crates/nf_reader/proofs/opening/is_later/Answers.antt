@@ -1,4 +1,4 @@
-use Rattle.std.proofs.Common.{◌≡◌, length, ◌-◌, ◌∙◌, arith}
+use Rattle.std.proofs.Common.{◌-◌, ◌∙◌, arith}
 use Rattle.nf_reader.proofs.LastPoints.{later_than_last}
 use Rattle.nf_reader.proofs.opening.is_later.Goals as goal
 

@@ -1,4 +1,4 @@
-use Rattle.std.proofs.Common.{◌≡◌, List, option_map, sym, ap, ◌∙◌}
+use Rattle.std.proofs.Common.{List, option_map, sym, ap, ◌∙◌}
 use Rattle.nf_lines.specs.Lines.{TextLine}
 use Rattle.nf_lines.specs.Faults.{first_fault_of}
 use Rattle.nf_readings.specs.ReportFile.{as_report_rule}

@@ -1,10 +1,7 @@
-use Rattle.std.proofs.Common.{◌≡◌, ◌<◌, suc, List, [], ◌∷◌, length, map, Option, Some, None, option_map, Result, Ok, Err, refl, sym, ap, subst, ◌∙◌, arith}
-use Rattle.std.specs.Option.{option_copied}
+use Rattle.std.proofs.Common.{◌≡◌, ◌<◌, suc, ◌∷◌, length, map, Option, option_map, Err, refl, sym, ap, subst, ◌∙◌, arith}
 use Rattle.nf_lines.specs.Words.{ReadLine, read_line}
 use Rattle.nf_lines.specs.Faults.{LineFault, first_fault_of}
-use Rattle.nf_formats.specs.Report as formats
-use Rattle.nf_readings.specs.ReportLines.{ReportDraft}
-use Rattle.nf_readings.specs.ReportFile.{ReportBroken, as_report_rule, report_by_bytes, report_lines_from}
+use Rattle.nf_readings.specs.ReportFile.{as_report_rule, report_by_bytes, report_lines_from}
 use Rattle.nf_reader.specs.Lines.{words_behind}
 use Rattle.nf_reader.specs.Drafts.{seen_draft}
 use Rattle.nf_reader.specs.Files.{closed_by}
@@ -28,7 +25,7 @@ returns-in-Err-add_line-clause-fault c =
     let whole = report_lines_from n (seen_draft n c.args.draft) (c.args.first ∷ map read_line c.args.cursor.now) in
     let draft = seen_draft n c.loop-line.draft in
     let so : report_lines_from n draft (c.in-Some.current ∷ map read_line c.loop-line.cursor) ≡ whole =
-        subst (λ (o : Option ReadLine). report_lines_from n draft (from_line o c.loop-line.cursor) ≡ whole) c.in-Some.is c.loop-line.invariant.0 in
+    subst (λ (o : Option ReadLine). report_lines_from n draft (from_line o c.loop-line.cursor) ≡ whole) c.in-Some.is c.loop-line.invariant.0 in
     let same = ap words_behind c.as_ref.ensures.value ∙ next_behind c.loop-line.cursor c.next_line.new.cursor c.in-Ok.next c.in-Ok.ensures.line in
     let faults = next_faults c.loop-line.cursor c.next_line.new.cursor c.in-Ok.next c.in-Ok.ensures.fine ∙ c.loop-line.invariant.1 in
     broken_more c.first_broken.result
@@ -52,13 +49,14 @@ loop-line-preserved c =
     let draft = seen_draft n c.loop-line.draft in
     let next = seen_draft n c.add_line.new.self in
     let so : report_lines_from n draft (c.in-Some.current ∷ map read_line c.loop-line.cursor) ≡ whole =
-        subst (λ (o : Option ReadLine). report_lines_from n draft (from_line o c.loop-line.cursor) ≡ whole) c.in-Some.is c.loop-line.invariant.0 in
-    let same = ap words_behind c.as_ref.ensures.value ∙ next_behind c.loop-line.cursor c.next_line.new.cursor c.in-Ok.next c.in-Ok.ensures.line in
-    (ap (report_lines_from n next) (next_lines c.loop-line.cursor c.next_line.new.cursor c.in-Ok.next c.in-Ok.ensures.line c.in-Ok.ensures.fine)
-    ∙ sym (line_adds n draft c.in-Some.current (map read_line c.loop-line.cursor) _ next same c.in-Ok-add_line.ensures.adds) ∙ so,
-    next_faults c.loop-line.cursor c.next_line.new.cursor c.in-Ok.next c.in-Ok.ensures.fine ∙ c.loop-line.invariant.1,
-    next_ends c.loop-line.cursor c.next_line.new.cursor c.in-Ok.next c.in-Ok.ensures.line c.in-Ok.ensures.fine,
-    c.in-Ok-add_line.ensures.within)
+    subst (λ (o : Option ReadLine). report_lines_from n draft (from_line o c.loop-line.cursor) ≡ whole) c.in-Some.is c.loop-line.invariant.0 in
+    let same = ap words_behind c.as_ref.ensures.value ∙ next_behind c.loop-line.cursor c.next_line.new.cursor c.in-Ok.next c.in-Ok.ensures.line in (
+      ap (report_lines_from n next) (next_lines c.loop-line.cursor c.next_line.new.cursor c.in-Ok.next c.in-Ok.ensures.line c.in-Ok.ensures.fine)
+          ∙ sym (line_adds n draft c.in-Some.current (map read_line c.loop-line.cursor) _ next same c.in-Ok-add_line.ensures.adds) ∙ so,
+      next_faults c.loop-line.cursor c.next_line.new.cursor c.in-Ok.next c.in-Ok.ensures.fine ∙ c.loop-line.invariant.1,
+      next_ends c.loop-line.cursor c.next_line.new.cursor c.in-Ok.next c.in-Ok.ensures.line c.in-Ok.ensures.fine,
+      c.in-Ok-add_line.ensures.within,
+    )
 
 pub returns-clause-draft : goal.returns-clause-draft
 returns-clause-draft c =

@@ -1,4 +1,4 @@
-use Rattle.std.proofs.Common.{◌≡◌, ◌<◌, length, drop, arith, length-drop}
+use Rattle.std.proofs.Common.{arith, length-drop}
 use Rattle.nf_readings.specs.ReportLines.{curve_keys}
 use Rattle.nf_reader.specs.Drafts.{begun_count}
 use Rattle.nf_reader.proofs.DraftSteps.{never_is}

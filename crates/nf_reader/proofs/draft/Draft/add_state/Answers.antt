@@ -1,4 +1,4 @@
-use Rattle.std.proofs.Common.{◌≡◌, ◌<◌, ◌≤◌, length, arith}
+use Rattle.std.proofs.Common.{arith}
 use Rattle.nf_net.proofs.Limits.{few_links}
 use Rattle.nf_reader.proofs.draft.Draft.add_state.Goals as goal
 

@@ -1,4 +1,3 @@
-use Rattle.std.proofs.Common.{◌≡◌}
 use Rattle.nf_reader.proofs.DraftSteps.{begun_is}
 use Rattle.nf_reader.proofs.draft.Draft.begin.Goals as goal
 

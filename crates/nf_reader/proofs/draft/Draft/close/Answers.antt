@@ -1,4 +1,4 @@
-use Rattle.std.proofs.Common.{◌≡◌, sym, ◌∙◌}
+use Rattle.std.proofs.Common.{sym, ◌∙◌}
 use Rattle.nf_reader.proofs.DraftSteps.{closed_is}
 use Rattle.nf_reader.proofs.draft.Draft.close.Goals as goal
 

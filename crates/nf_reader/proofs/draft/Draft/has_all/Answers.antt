@@ -1,4 +1,4 @@
-use Rattle.std.proofs.Common.{◌≡◌, nat_eq, ◌∙◌}
+use Rattle.std.proofs.Common.{nat_eq, ◌∙◌}
 use Rattle.nf_readings.specs.ReportLines.{curve_keys}
 use Rattle.nf_reader.specs.Drafts.{begun_count}
 use Rattle.nf_reader.proofs.DraftSteps.{all_begun}

@@ -1,4 +1,4 @@
-use Rattle.std.proofs.Common.{◌≡◌, ◌<◌, ℕ, ◌+◌, true, false, sym, subst, ◌∙◌, Option, length, drop, Some, None}
+use Rattle.std.proofs.Common.{◌≡◌, ◌<◌, ℕ, ◌+◌, true, false, sym, subst, ◌∙◌, Option, length, drop}
 use Rattle.nf_curve.specs.declared.flow.Trace.{Trace}
 use Rattle.nf_readings.specs.ReportLines.{curve_keys}
 use Rattle.nf_reader.specs.Keys.{seen_kind, key_of_number, is_some_key}

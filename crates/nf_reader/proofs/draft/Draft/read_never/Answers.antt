@@ -1,4 +1,4 @@
-use Rattle.std.proofs.Common.{◌≡◌, ◌<◌, ℕ, true, false, List, length, sym, subst, ap, ◌∙◌}
+use Rattle.std.proofs.Common.{◌≡◌, ℕ, true, false, List, sym, subst, ◌∙◌}
 use Rattle.nf_readings.specs.ReportLines as lines
 use Rattle.nf_readings.specs.ReportLines.{curve_keys}
 use Rattle.nf_reader.specs.Keys.{key_of_number, is_some_key}

@@ -1,4 +1,4 @@
-use Rattle.std.proofs.Common.{◌≡◌, List, [], ◌∷◌, ℕ, true, false, drop, sym, refl, ◌∙◌}
+use Rattle.std.proofs.Common.{[], ◌∷◌, true, false, sym, refl, ◌∙◌}
 use Rattle.std.specs.Option.{option_copied}
 use Rattle.nf_readings.specs.ReportLines.{are_alike}
 use Rattle.nf_reader.specs.Keys.{seen_kind}

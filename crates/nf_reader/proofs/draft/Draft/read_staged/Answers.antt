@@ -1,4 +1,4 @@
-use Rattle.std.proofs.Common.{◌≡◌, List, Option, Result, ap, ◌∙◌}
+use Rattle.std.proofs.Common.{ap, ◌∙◌}
 use Rattle.std.specs.Option.{option_copied}
 use Rattle.nf_readings.specs.ReportLines.{nothing_more, staged_line}
 use Rattle.nf_reader.specs.Lines.{words_behind}

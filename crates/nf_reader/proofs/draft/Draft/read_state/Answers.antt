@@ -1,4 +1,4 @@
-use Rattle.std.proofs.Common.{◌≡◌, ◌≤◌, List, [], ◌∷◌, ℕ, drop, sym, ◌∙◌, arith}
+use Rattle.std.proofs.Common.{[], ◌∷◌, sym, ◌∙◌, arith}
 use Rattle.nf_reader.specs.Drafts.{seen_draft}
 use Rattle.nf_reader.proofs.WordCounts.{two_behind}
 use Rattle.nf_reader.proofs.BodyLines.{state_wrong}
