@@ -1,0 +1,70 @@
+// A cursor over the lines of a text.
+ghost use Rattle.std.specs.Prelude.{◌≡◌, ◌≤◌, [], ◌∷◌, length, map, IfOk, IfErr, MatchOption};
+ghost use Rattle.nf_lines.specs.Lines.{lines as lines_of};
+ghost use Rattle.nf_lines.specs.Words.{read_line as as_read};
+ghost use Rattle.nf_lines.specs.Faults.{first_fault_of, longest_text};
+ghost use Rattle.nf_text.specs.Reading.{Tells};
+
+use crate::line::ReadLine;
+use crate::reading::{line_len, read_line};
+use nf_text::TextFault;
+use std::alloc::Global;
+use std::marker::Model;
+
+/// A place in a text, at which a line begins: the lines from there on are still to come.
+#[derive(Drop)]
+pub struct Cursor<'a> {
+    text: &'a [u8],
+    start: usize,
+    line_number: u32,
+}
+
+impl<'a> Model for Cursor<'a> {
+    ghost use Rattle.std.specs.Prelude.{List, drop};
+    ghost use Rattle.std.specs.Coded.{coded_list};
+    ghost use Rattle.nf_lines.specs.Lines.{TextLine, lines_from};
+    ghost use Rattle.nf_cursor.specs.Places.{IsPlace, coded_text_line};
+
+    ghost Value = { List TextLine };
+
+    ghost coded = { coded_list coded_text_line };
+
+    ghost view = { λ c. lines_from c.line_number (drop c.start c.text.now) };
+
+    ghost invariant = { λ c. IsPlace c.text.now c.start c.line_number };
+}
+
+impl<'a> Cursor<'a> {
+    /// All lines of a text of at most 67,108,864 bytes.
+    pub fn new(text: &'a [u8]) -> Cursor<'a>
+        requires { length text.now ≤ longest_text }
+        ensures { result ≡ lines_of text.now }
+    {
+        Cursor {
+            text,
+            start: 0,
+            line_number: 1,
+        }
+    }
+
+    /// The next line, and the cursor goes on behind it; None at the end of the text. Or the fault of the line, if it has one.
+    pub fn next_line(&mut self, alloc: Global) -> Result<Option<ReadLine<'a>>, TextFault>
+        ensures line { IfOk result (λ next. MatchOption next (self.old ≡ []) (λ line. map as_read self.old ≡ line ∷ map as_read self.new)) }
+        ensures fine { IfOk result (λ next. MatchOption next (self.new ≡ self.old) (λ line. first_fault_of self.old ≡ first_fault_of self.new)) }
+        ensures fault { IfErr result (λ fault. Tells fault (first_fault_of self.old)) }
+    {
+        let rest = &self.text[self.start..];
+        if rest.is_empty() {
+            return Ok(None);
+        }
+        let len = line_len(rest);
+        match read_line(alloc, &rest[..len], self.line_number) {
+            Ok(line) => {
+                self.start += len;
+                self.line_number += 1;
+                Ok(Some(line))
+            }
+            Err(fault) => Err(fault),
+        }
+    }
+}

@@ -1,0 +1,64 @@
+-- The lines of a report behind its head.
+use Rattle.std.proofs.Common.{◌≡◌, ℕ, suc, ◌≤◌, Bool, true, false, not, ◌||◌, cond, nat_lt, List, [], ◌∷◌, drop, Option, Some, None, Result, Ok, Err, refl, ap, ◌∙◌}
+use Rattle.std.specs.Prelude.{is_none, is_some, if◌then◌else◌, set}
+use Rattle.std.proofs.lemmas.Bool.{le-ltb}
+use Rattle.nf_model.specs.declared.State.{State}
+use Rattle.std.specs.List.{last_or}
+use Rattle.nf_rational.specs.Rational.{ℚ}
+use Rattle.nf_work.specs.Checked.{◌>>=◌}
+use Rattle.nf_formats.specs.Named.{Named}
+use Rattle.nf_readings.specs.declared.ReportRule.{ReportRule}
+use Rattle.nf_readings.specs.declared.ReportRule.TheVariants.{P7, P8, P9, P11, P12, P13}
+use Rattle.nf_readings.specs.ReportCauses.{or_rule, printed_number}
+use Rattle.nf_readings.specs.ReportLines.{Kind, ReportDraft, Opened, key_word, opened, comes_after, rate_word, with_rate, with_point, are_alike, begins_with, trace_line, has_all, with_current, state_in, state_of_link, state_line, capacity_at}
+use Rattle.nf_reader.specs.Lines.{IsLinkNamed, state_read}
+
+module _ (draft : ReportDraft) (kind : Kind) (next : Option (List (List ℕ))) (words : List (List ℕ)) (name time value rate : List ℕ) (is : drop 1 words ≡ name ∷ time ∷ value ∷ rate ∷ [])
+    (o : Opened) (eo : opened draft kind name draft.current ≡ Ok o) (t y : ℚ) (et : or_rule P8 (printed_number time) ≡ Ok t) (ey : or_rule P8 (printed_number value) ≡ Ok y) where
+  abbrev by_tests : Option ℚ → Bool → Bool → Result ReportDraft ReportRule
+  by_tests r a b = cond (not a) (Err P11) (cond b (Err P12) (Ok (with_point draft o (t, y) (with_rate o.curve.rates r))))
+
+  abbrev by_rate : Result (Option ℚ) ReportRule → Result ReportDraft ReportRule
+  by_rate read = read >>= λ r. by_tests r (comes_after (last_or None o.curve.points) t) (are_alike (is_none r) (begins_with (key_word kind) name next))
+
+  trace_is : trace_line kind draft next (drop 1 words) ≡ by_rate (rate_word rate)
+  trace_is =
+      ap (trace_line kind draft next) is
+      ∙ (λ i. eo i >>= λ o. (et i >>= λ t. (ey i >>= λ y. Ok (t, y))) >>= λ p. rate_word rate >>= λ r.
+      cond (not (comes_after (last_or None o.curve.points) p.0)) (Err P11)
+      (cond (are_alike (is_none r) (begins_with (key_word kind) name next)) (Err P12)
+      (Ok (with_point draft o p (with_rate o.curve.rates r)))))
+
+  pub rate_wrong : (rule : ReportRule) → rate_word rate ≡ Err rule → trace_line kind draft next (drop 1 words) ≡ Err rule
+  rate_wrong rule e = trace_is ∙ ap by_rate e
+
+  pub rated_out : (r : Option ℚ) (a b : Bool) → rate_word rate ≡ Ok r → comes_after (last_or None o.curve.points) t ≡ a → are_alike (is_none r) (begins_with (key_word kind) name next) ≡ b
+      → trace_line kind draft next (drop 1 words) ≡ by_tests r a b
+  rated_out r a b e ea eb = trace_is ∙ ap by_rate e ∙ (λ i. by_tests r (ea i) (eb i))
+
+pub none_is : (o : Option ℚ) (b : Bool) → is_some o ≡ not b → is_none o ≡ b
+none_is None true e = refl
+none_is None false e = absurd (cc)
+none_is (Some q) true e = absurd (cc)
+none_is (Some q) false e = refl
+
+-- ---- the state of a link
+goes_wrong : {A B C : Type 0} (read : Result A ReportRule) (f : A → Result B ReportRule) (g : B → Result C ReportRule) (rule : ReportRule) → (read >>= f) ≡ Err rule → (read >>= λ x. f x >>= g) ≡ Err rule
+goes_wrong (Ok x) f g rule e = ap (λ r. r >>= g) e
+goes_wrong (Err other) f g rule e = let same : other ≡ rule = cc in ap (λ (r : ReportRule). Err r) same
+
+module _ (n : Named) (draft : ReportDraft) (words : List (List ℕ)) (name word : List ℕ) (is : drop 1 words ≡ name ∷ word ∷ []) (link : ℕ) (named : IsLinkNamed n.link_names name link) (late : draft.next_state ≤ link) where
+  abbrev put : ℕ → State → Result ReportDraft ReportRule
+  put e state = if has_all draft.keys
+      then Ok (record draft { done = with_current draft.done draft.current; current = None; next_state = suc e; states = set draft.states e (Some state) })
+      else Err P13
+
+  abbrev by_link : Bool → ℕ → Bool → Result ReportDraft ReportRule
+  by_link there e early = cond (not there || early) (Err P7) (or_rule P9 (state_in word) >>= λ word. (state_of_link (capacity_at n.net.links e) word >>= put e))
+
+  pub state_wrong : (rule : ReportRule) → state_read (capacity_at n.net.links link) word ≡ Err rule → state_line n draft (drop 1 words) ≡ Err rule
+  state_wrong rule e =
+      ap (state_line n draft) is
+      ∙ (λ i. by_link (named.there i) (named.place i) (nat_lt (named.place i) draft.next_state))
+      ∙ ap (by_link true link) (le-ltb link draft.next_state late)
+      ∙ goes_wrong (or_rule P9 (state_in word)) (state_of_link (capacity_at n.net.links link)) (put link) rule e

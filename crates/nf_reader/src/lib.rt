@@ -1,0 +1,21 @@
+//! The reading of reports: which report a text is, or which rule it breaks first. Times, amounts and rates are exact fractions. The
+//! file format is this project's own.
+#![tactic(auto)]
+
+mod body;
+mod causes;
+mod draft;
+mod entry;
+mod fault;
+mod head;
+mod keys;
+mod lines;
+mod numbers;
+mod opening;
+mod reading;
+mod report;
+
+pub use fault::ReportFault;
+pub use nf_readings::ReportRule;
+pub use reading::parse_report;
+pub use report::Report;

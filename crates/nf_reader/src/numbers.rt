@@ -1,0 +1,74 @@
+// Numbers and counts of a report: words that are just their printed forms.
+ghost use Rattle.std.specs.Prelude.{◌≡◌};
+ghost use Rattle.std.specs.Str.{bytes_eq};
+ghost use Rattle.nf_numerals.specs.Digits.{count_of};
+ghost use Rattle.nf_numerals.specs.Printed.{printed};
+ghost use Rattle.nf_readings.specs.declared.ReportRule.TheVariants.{P8};
+ghost use Rattle.nf_readings.specs.ReportCauses.{printed_number as number_by, or_rule, place_in};
+ghost use Rattle.nf_readings.specs.ReportLines.{rate_word};
+
+use nf_cursor::is_word;
+use nf_frac::{Q, TextBuf};
+use nf_numerals::count;
+use nf_readings::ReportRule;
+
+// A word is the printed form of this number.
+fn is_printed(word: &[u8], number: Q) -> bool
+    ensures { result ≡ bytes_eq word.now (printed number) }
+{
+    let mut text = TextBuf::new();
+    number.write(&mut text);
+    is_word(word, text.text())
+}
+
+// The number that a word is the printed form of.
+fn printed_number(word: &[u8]) -> Option<Q>
+    ensures { result ≡ number_by word.now }
+{
+    match Q::read(word) {
+        Ok(number) if is_printed(word, number) => Some(number),
+        _ => None,
+    }
+}
+
+/// The number that a word is the printed form of, or else P8.
+pub fn read_number(word: &[u8]) -> Result<Q, ReportRule>
+    ensures { result ≡ or_rule P8 (number_by word.now) }
+{
+    match printed_number(word) {
+        Some(number) => Ok(number),
+        None => Err(ReportRule::P8),
+    }
+}
+
+/// The count that a word writes, or else P8.
+pub fn read_count(word: &[u8]) -> Result<u64, ReportRule>
+    ensures { result ≡ or_rule P8 (count_of word.now) }
+{
+    match count(word) {
+        Some(count) => Ok(count),
+        None => Err(ReportRule::P8),
+    }
+}
+
+/// The count that a word writes, or none where it is `-`, or else P8.
+pub fn read_place(word: &[u8]) -> Result<Option<u64>, ReportRule>
+    ensures { result ≡ or_rule P8 (place_in word.now) }
+{
+    if is_word(word, b"-") {
+        return Ok(None);
+    }
+    let place = read_count(word)?;
+    Ok(Some(place))
+}
+
+/// A rate, or none where the word is `-`, or else P8.
+pub fn read_rate(word: &[u8]) -> Result<Option<Q>, ReportRule>
+    ensures { result ≡ rate_word word.now }
+{
+    if is_word(word, b"-") {
+        return Ok(None);
+    }
+    let rate = read_number(word)?;
+    Ok(Some(rate))
+}
