@@ -5,5 +5,6 @@ pub mod Completing
 pub mod LinkLoads
 pub mod LoadLines
 pub mod LoadGiven
+pub mod QuickTold
 pub mod Zeros
 mod ErrorExamples

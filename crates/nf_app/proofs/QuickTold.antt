@@ -1,0 +1,105 @@
+-- What a request for a quickest flow gives, from what its calls answer; and the arrival in a run.
+use Rattle.std.proofs.Common.{◌≡◌, ◌⊎◌, ℕ, zero, suc, ◌-◌, ◌<◌, ◌≤◌, arith, List, [], ◌∷◌, ◌++◌, length, refl, sym, ap, subst, ◌∙◌, inl, inr}
+use Rattle.std.specs.Prelude.{Vec, Global, Option, Some, None, IfSome, Result, Ok, Err, slice_get, unwrap_or, map}
+use Rattle.std.specs.List.{last_or}
+use Rattle.std.proofs.lemmas.List.{length-map}
+use Rattle.std.specs.Option.{option_map_or}
+use Rattle.nf_rational.specs.Rational.{ℚ}
+use Rattle.nf_rational.specs.Operations.{0ℚ}
+use Rattle.nf_rational.specs.Order.{◌≤ℚ◌}
+use Rattle.nf_rational_laws.proofs.Chains.{≤ℚ_refl}
+use Rattle.nf_work.specs.Passing.{passes_Q}
+use Rattle.nf_work.specs.declared.PassedAt.{PassedAt}
+use Rattle.nf_model.specs.Curve.{Point, value, IsCurve}
+use Rattle.nf_model.specs.Network.{Network, IsNetwork}
+use Rattle.nf_model.specs.Equilibrium.{inflow, label, points_at}
+use Rattle.nf_model.specs.Earliest.{IsEarliest}
+use Rattle.nf_model_laws.proofs.Curves.{EndsAt, EndsAt-value}
+use Rattle.nf_formats.specs.declared.Cause.{Cause}
+use Rattle.nf_formats.specs.Named.{Named}
+use Rattle.nf_formats.specs.Report.{Report}
+use Rattle.nf_lists.specs.Ends.{end_of}
+use Rattle.nf_lists.specs.ReportCurves.{GrowingCurve}
+use Rattle.nf_lists.specs.PhaseRun.{Standing, flow_of, report_of}
+use Rattle.nf_lists_laws.proofs.Ending.{run_ends}
+use Rattle.nf_phase.specs.Solution.{bounds_of, IsSolution}
+use Rattle.nf_app.specs.declared.arrival.Arrival.{Arrival}
+use Rattle.nf_app.specs.Requests.{usual_budgets}
+use Rattle.nf_app.specs.QuickGiven.{arrival_of, ArrivesIn}
+
+-- ---- the last point of a curve
+last_end : {A : Type 0} (d : Option A) (front : List A) (p : A) → last_or d (front ++ p ∷ []) ≡ Some p
+last_end d [] p = refl
+last_end d (x ∷ front) p = last_end (Some x) front p
+
+last_split : {A : Type 0} (points : List A) (p : A) → slice_get points (length points - 1) ≡ Some p → (front : List A) × (points ≡ front ++ p ∷ [])
+last_split [] p e = absurd (cc)
+last_split {A} (x ∷ []) p e = let same : x ≡ p = cc in ([], ap (λ (z : A). z ∷ []) same)
+last_split {A} (x ∷ y ∷ rest) p e =
+    let h = last_split (y ∷ rest) p e in
+    (x ∷ h.0, ap (λ (l : List A). x ∷ l) h.1)
+
+-- it ends at its last point, and so has that value from then on
+pub value_at_end : (points : List Point) (p : Point) (time : ℚ) → IsCurve points → slice_get points (length points - 1) ≡ Some p → end_of points ≡ time → value points time ≡ p.1
+value_at_end points p time curve is ends =
+    let h = last_split points p is in
+    let last : last_or None points ≡ Some p = ap (λ (l : List Point). last_or None l) h.1 ∙ last_end None h.0 p in
+    let at : p.0 ≡ time = sym (ap (λ (o : Option Point). option_map_or (λ point. point.0) o 0ℚ) last) ∙ ends in
+    EndsAt-value points p time (record { front = h.0; same = h.1; curve = curve }) (subst (λ (t : ℚ). p.0 ≤ℚ t) at (≤ℚ_refl p.0))
+
+-- a curve of a run by its number
+ends_there : (curves : List GrowingCurve) (v : ℕ) (time : ℚ) → v < length curves → ((curve : GrowingCurve) → slice_get curves v ≡ Some curve → end_of curve.points ≡ time)
+    → end_of (points_at (map (λ curve. curve.points) curves) v) ≡ time
+ends_there [] v time h k = absurd (omega arith)
+ends_there (c ∷ curves) zero time h k = k c refl
+ends_there (c ∷ curves) (suc v) time h k = ends_there curves v time (omega arith) k
+
+-- ---- the arrival in a run
+module _ (net : Network) (good : IsNetwork net) (departs : ℚ) (report : Report) (phases : ℕ) (solution : IsSolution net (bounds_of departs usual_budgets) phases report) where
+  -- the run is stopped
+  pub stopped_arrives : (cause : Cause ℚ) → report.stop ≡ Some cause → ArrivesIn net departs (Arrival.Stopped cause)
+  stopped_arrives cause e = record {
+    report = report;
+    phases = phases;
+    solution = solution;
+    arrival_is = ap (λ (o : Option (Cause ℚ)). arrival_of o (label report.flow net.sink departs)) (sym e);
+    earliest = λ time is. absurd (cc);
+  }
+
+  module _ (sink : net.sink < net.nodes) (from_0 : 0ℚ ≤ℚ departs) (no_stop : report.stop ≡ None) where
+    abbrev last : Standing
+    last = solution.run.last
+
+    report_is : report ≡ report_of departs last solution.run.stop
+    report_is = solution.run.report_is
+
+    reached : report.flow.reached ≡ departs
+    reached = solution.well_formed.stop.0 no_stop ∙ ap (λ (r : Report). r.horizon) report_is
+
+    labels_are : report.flow.labels ≡ map (λ curve. curve.points) last.label_curves
+    labels_are = ap (λ (r : Report). r.flow.labels) report_is
+
+    many : net.sink < length last.label_curves
+    many = let count : length report.flow.labels ≡ net.nodes = solution.well_formed.shape.labels.count in
+        let same : length report.flow.labels ≡ length last.label_curves = ap length labels_are ∙ length-map last.label_curves (λ curve. curve.points) in
+        omega arith
+
+    ends : end_of (points_at report.flow.labels net.sink) ≡ departs
+    ends = ap (λ (l : List (List Point)). end_of (points_at l net.sink)) labels_are
+        ∙ ends_there last.label_curves net.sink last.time many
+        ((run_ends passes_Q net good (bounds_of departs usual_budgets) last solution.run.stop solution.run.run).labels net.sink)
+        ∙ sym (ap (λ (r : Report). r.flow.reached) report_is) ∙ reached
+
+    -- the run comes to the departure
+    pub reached_arrives : (p : Point) → slice_get (points_at report.flow.labels net.sink) (length (points_at report.flow.labels net.sink) - 1) ≡ Some p → ArrivesIn net departs (Arrival.At p.1)
+    reached_arrives p is =
+        let at : label report.flow net.sink departs ≡ p.1 = value_at_end (points_at report.flow.labels net.sink) p departs (solution.well_formed.shape.labels.each net.sink sink) is ends in
+        let first : IsEarliest net (inflow report.flow) net.sink departs (label report.flow net.sink departs) =
+        solution.equilibrium.nash.labels net.sink departs sink (from_0, subst (λ (t : ℚ). departs ≤ℚ t) (sym reached) (≤ℚ_refl departs)) in
+        record {
+          report = report;
+          phases = phases;
+          solution = solution;
+          arrival_is = ap Arrival.At (sym at) ∙ ap (λ (o : Option (Cause ℚ)). arrival_of o (label report.flow net.sink departs)) (sym no_stop);
+          earliest = λ time same. let it : p.1 ≡ time = cc in subst (λ (t : ℚ). IsEarliest net (inflow report.flow) net.sink departs t) (at ∙ it) first;
+        }
