@@ -6,5 +6,6 @@ pub mod LinkLoads
 pub mod LoadLines
 pub mod LoadGiven
 pub mod QuickTold
+pub mod QuickLines
 pub mod Zeros
 mod ErrorExamples

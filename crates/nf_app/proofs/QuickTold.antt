@@ -24,8 +24,17 @@ use Rattle.nf_lists.specs.PhaseRun.{Standing, flow_of, report_of}
 use Rattle.nf_lists_laws.proofs.Ending.{run_ends}
 use Rattle.nf_phase.specs.Solution.{bounds_of, IsSolution}
 use Rattle.nf_app.specs.declared.arrival.Arrival.{Arrival}
-use Rattle.nf_app.specs.Requests.{usual_budgets}
-use Rattle.nf_app.specs.QuickGiven.{arrival_of, ArrivesIn}
+use Rattle.nf_quick_lists.specs.Quick.{Quick as QuickFlow}
+use Rattle.nf_quick_lists.specs.Answers.{IsQuickFlow}
+use Rattle.nf_quick_lists.specs.Departures.{IsDeparture}
+use Rattle.nf_quick_lists.specs.Quick as lists
+use Rattle.nf_quick.specs.Answered.{IsAnswered}
+use Rattle.nf_quick.specs.declared.fault.QuickFault.{QuickFault}
+use Rattle.nf_app.specs.Files.{Visit}
+use Rattle.nf_app.specs.Requests.{Quick, usual_budgets}
+use Rattle.nf_app.specs.Answers.{Quickest, TooManyWalks, Passes, Unbounded}
+use Rattle.nf_app.specs.Given.{IsGiven}
+use Rattle.nf_app.specs.QuickGiven.{departs_list, arrival_of, ArrivesIn, IsArrival}
 
 -- ---- the last point of a curve
 last_end : {A : Type 0} (d : Option A) (front : List A) (p : A) → last_or d (front ++ p ∷ []) ≡ Some p
@@ -103,3 +112,29 @@ module _ (net : Network) (good : IsNetwork net) (departs : ℚ) (report : Report
           arrival_is = ap Arrival.At (sym at) ∙ ap (λ (o : Option (Cause ℚ)). arrival_of o (label report.flow net.sink departs)) (sym no_stop);
           earliest = λ time same. let it : p.1 ≡ time = cc in subst (λ (t : ℚ). IsEarliest net (inflow report.flow) net.sink departs t) (at ∙ it) first;
         }
+
+-- ---- what is given, from what `quickest` and `departure` answer
+module _ (shelf : Visit) (n : Named) (file : List ℕ) (amount : ℚ) (augments : ℕ) where
+  pub budget_given : (walks : Vec lists.Augment Global) → IsAnswered passes_Q n.net amount augments (Err (QuickFault.Budget walks))
+      → IsGiven shelf n (Quick file amount augments) (TooManyWalks n augments walks.items)
+  budget_given walks h = inr (inl (walks.items, refl, record { no_way = h.0; computed = h.1 }))
+
+  pub unbounded_given : (links : Vec ℕ Global) → IsAnswered passes_Q n.net amount augments (Err (QuickFault.Unbounded links)) → IsGiven shelf n (Quick file amount augments) Unbounded
+  unbounded_given links h = inr (inr (inr (refl, (h.0, (links.items, h.1)))))
+
+  pub passed_given : (at : PassedAt ℚ) → IsAnswered passes_Q n.net amount augments (Err (QuickFault.Passed at)) → IsGiven shelf n (Quick file amount augments) (Passes at)
+  passed_given at h = inr (inr (inl (at, refl, record { no_way = h.0; passes = inl h.1 })))
+
+  module _ (quick : QuickFlow) (h : IsAnswered passes_Q n.net amount augments (Ok quick)) where
+    pub departure_passes : (at : PassedAt ℚ) → Err at ≡ departs_list n.net amount → IsGiven shelf n (Quick file amount augments) (Passes at)
+    departure_passes at e = inr (inr (inl (at, refl, record { no_way = h.0; passes = inr (quick, h.1, sym e) })))
+
+    pub quickest_given : IsQuickFlow n.net amount quick → (departs : Option ℚ) → Ok departs ≡ departs_list n.net amount → IsDeparture n.net amount departs
+        → (arrival : Arrival) → IsArrival n.net departs arrival → IsGiven shelf n (Quick file amount augments) (Quickest n quick arrival)
+    quickest_given flow departs e least arrival arrives =
+        inl (quick, arrival, refl, record { no_way = h.0; computed = h.1; flow = flow; departs = departs; departs_computed = sym e; least = least; arrives = arrives })
+
+-- a departure is at least 0
+pub from_0 : (net : Network) (amount : ℚ) (departs : Option ℚ) → IsDeparture net amount departs → IfSome departs (λ time. 0ℚ ≤ℚ time)
+from_0 net amount None h = tt
+from_0 net amount (Some time) h = h.0

@@ -6,7 +6,7 @@ ghost use Rattle.nf_app.specs.QuickText.{step_word, augment_line, augments_text}
 use crate::words::{link_word, put_bytes, put_number};
 use nf_net::Network;
 use nf_quick::Augment;
-use nf_residual::Step;
+use nf_residual::{Step, Walk};
 use std::alloc::{AllocError, Global};
 
 // A step behind a space, with its direction before the name of the link.
@@ -31,13 +31,20 @@ fn put_steps(text: &mut Vec<u8>, net: &Network, steps: &[Step]) -> Result<(), Al
     Ok(())
 }
 
+// The steps of a walk, each behind a space.
+fn put_walk(text: &mut Vec<u8>, net: &Network, walk: &Walk) -> Result<(), AllocError>
+    ensures { OnOk result (text.new.items ≡ text.old.items ++ after_words (map (step_word net.now.link_names) walk.now.steps)) }
+{
+    put_steps(text, net, &walk.steps)
+}
+
 // The line of a walk.
 fn put_augment(text: &mut Vec<u8>, net: &Network, augment: &Augment) -> Result<(), AllocError>
     ensures { OnOk result (text.new.items ≡ text.old.items ++ augment_line net.now.link_names augment.now) }
 {
     put_bytes(text, b"augment")?;
     put_number(text, augment.amount)?;
-    put_steps(text, net, &augment.walk.steps)?;
+    put_walk(text, net, &augment.walk)?;
     put_bytes(text, b"\n")?;
     Ok(())
 }

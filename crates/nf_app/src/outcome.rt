@@ -1,11 +1,13 @@
 // What a request gives: a text for the output.
-ghost use Rattle.std.specs.Prelude.{◌≡◌, ◌≤◌, ℕ, List, length, Err};
+ghost use Rattle.std.specs.Prelude.{◌≡◌, ◌≤◌, ℕ, List, length, Ok, Err};
 ghost use Rattle.std.specs.Option.{option_copied};
 ghost use Rattle.nf_rational.specs.Operations.{0ℚ};
 ghost use Rattle.nf_rational.specs.Order.{◌≤ℚ◌};
 ghost use Rattle.nf_edge.specs.Names.{texts};
 ghost use Rattle.nf_work.specs.Passing.{passes_Q};
-ghost use Rattle.nf_quick.specs.Answered as quick;
+ghost use Rattle.nf_quick.specs.Answered as answered;
+ghost use Rattle.nf_quick.specs.declared.fault.QuickFault.TheVariants as QuickFault;
+ghost use Rattle.nf_quick_lists.specs.Answers.{IsQuickFlow};
 ghost use Rattle.nf_rational.specs.Rational.{ℚ};
 ghost use Rattle.nf_app.specs.Files.{Visit};
 ghost use Rattle.nf_app.specs.Requests.{Solve, Show, Load, loads_file};
@@ -119,6 +121,25 @@ fn load_to(alloc: Global, net: Network, loads: &[u8], horizon: Q) -> Result<Outc
     })
 }
 
+// The walks that were pushed, as many as allowed, with their text.
+fn end_over_budget(
+    alloc: Global,
+    net: Network,
+    augments: u64,
+    walks: Vec<Augment>,
+) -> Result<Outcome, Refusal>
+    ensures { (shelf : Visit) (file : List ℕ) (amount : ℚ) → answered.IsAnswered passes_Q net.net amount augments (Err (QuickFault.Budget walks))
+        → IsGiving shelf net (requests.Quick file amount augments) result }
+{
+    let text = augments_text(alloc, &net, &walks)?;
+    Ok(Outcome::TooManyWalks {
+        net,
+        augments,
+        walks,
+        text,
+    })
+}
+
 // Why there is no quickest flow of an amount; where too many walks are wanted, those that were pushed.
 fn refuse_quick(
     alloc: Global,
@@ -126,22 +147,37 @@ fn refuse_quick(
     augments: u64,
     fault: QuickFault,
 ) -> Result<Outcome, Refusal>
-    ensures { (shelf : Visit) (file : List ℕ) (amount : ℚ) → quick.IsAnswered passes_Q net.net amount augments (Err fault) → IsGiving shelf net (requests.Quick file amount augments) result }
+    ensures { (shelf : Visit) (file : List ℕ) (amount : ℚ) → answered.IsAnswered passes_Q net.net amount augments (Err fault) → IsGiving shelf net (requests.Quick file amount augments) result }
 {
     match fault {
-        QuickFault::Budget { walks } => {
-            let text = augments_text(alloc, &net, &walks)?;
-            Ok(Outcome::TooManyWalks {
-                net,
-                augments,
-                walks,
-                text,
-            })
-        }
+        QuickFault::Budget { walks } => end_over_budget(alloc, net, augments, walks),
         QuickFault::Unbounded { .. } => Err(Refusal::Unbounded),
         QuickFault::Passed(at) => Err(Refusal::Passes(at)),
         QuickFault::Memory => Err(Refusal::NoMemory),
     }
+}
+
+// A quickest flow of an amount, beside the arrival in an equilibrium of who departs when the amount is supplied.
+fn beside_arrival(
+    alloc: Global,
+    net: Network,
+    amount: Q,
+    quick: Quick,
+) -> Result<Outcome, Refusal>
+    requires amount { 0ℚ ≤ℚ amount }
+    requires flow { IsQuickFlow net.net amount quick }
+    ensures { (shelf : Visit) (file : List ℕ) (augments : ℕ) → answered.IsAnswered passes_Q net.net amount augments (Ok quick)
+        → IsGiving shelf net (requests.Quick file amount augments) result }
+{
+    let departs = departure(&net, amount)?;
+    let arrival = find_arrival(alloc, &net, departs)?;
+    let text = flow_text(alloc, &net, &quick)?;
+    Ok(Outcome::Quickest {
+        net,
+        quick,
+        arrival,
+        text,
+    })
 }
 
 // The quickest flow of an amount in the network, and the arrival in an equilibrium of who departs when the amount is supplied.
@@ -155,19 +191,10 @@ fn quick_to(
     requires augments { 1 ≤ augments }
     ensures { (shelf : Visit) (file : List ℕ) → IsGiving shelf net (requests.Quick file amount augments) result }
 {
-    let quick = match quickest(alloc, &net, amount, augments) {
-        Ok(quick) => quick,
-        Err(fault) => return refuse_quick(alloc, net, augments, fault),
-    };
-    let departs = departure(&net, amount)?;
-    let arrival = find_arrival(alloc, &net, departs)?;
-    let text = flow_text(alloc, &net, &quick)?;
-    Ok(Outcome::Quickest {
-        net,
-        quick,
-        arrival,
-        text,
-    })
+    match quickest(alloc, &net, amount, augments) {
+        Ok(quick) => beside_arrival(alloc, net, amount, quick),
+        Err(fault) => refuse_quick(alloc, net, augments, fault),
+    }
 }
 
 /// What the words give with the files of the shelf.
