@@ -39,14 +39,16 @@ first_fit P (x ∷ xs) ys h = All-cons P x xs (All-head P x (xs ++ ys) h) (first
 
 pub all_reached : (shelf : Visit) (file : Wanted) (others : List Wanted) → FetchedAll shelf (file ∷ others) → (last : Wanted) × FetchedTo shelf (file ∷ others) last
 all_reached shelf file others h =
-    let e = ends_in file others in
-    (e.last, record {
-      first = e.first;
-      behind = [];
-      files_are = e.is;
-      asked = h.asked ∙ ap (λ (l : List Wanted). shelf.asked_before ++ names_of l) e.is;
-      fit = first_fit (Fits shelf) e.first (e.last ∷ []) (subst (λ (l : List Wanted). All (Fits shelf) l) e.is h.fit);
-    })
+    let e = ends_in file others in (
+      e.last,
+      record {
+        first = e.first;
+        behind = [];
+        files_are = e.is;
+        asked = h.asked ∙ ap (λ (l : List Wanted). shelf.asked_before ++ names_of l) e.is;
+        fit = first_fit (Fits shelf) e.first (e.last ∷ []) (subst (λ (l : List Wanted). All (Fits shelf) l) e.is h.fit);
+      },
+    )
 
 -- ---- the first file is read as a network
 module _ (shelf : Visit) (file : Wanted) (others : List Wanted) (text : List ℕ) (texts : List (List ℕ)) (fetched : AreFetched shelf (file ∷ others) (Ok (text ∷ texts))) where

@@ -156,12 +156,14 @@ taken_well Ends out takes answer err status well (inr h) = absurd (takes h.1.cau
 
 -- an answer with a text was given
 pub complete_by_text : (call : Call) (out err : Taken) (status : Status) (answer : Answer) → IsAnswer call answer → IsShown answer out err status → IsComplete call out status
-complete_by_text call out err status answer comes shown no_fault takes =
-    ((λ can. taken_well EndsWell out takes answer err status (ends_well call no_fault can answer comes) shown),
-    (λ can. taken_well EndsQuick out takes answer err status (quick_well call no_fault can answer comes) shown))
+complete_by_text call out err status answer comes shown no_fault takes = (
+  (λ can. taken_well EndsWell out takes answer err status (ends_well call no_fault can answer comes) shown),
+  (λ can. taken_well EndsQuick out takes answer err status (quick_well call no_fault can answer comes) shown),
+)
 
 -- there is no text
 pub complete_by_refusal : (call : Call) (out : Taken) (status : Status) (answer : Answer) → IsAnswer call answer → status ≡ status_of answer → IsComplete call out status
-complete_by_refusal call out status answer comes is no_fault takes =
-    ((λ can. subst (λ (s : Status). EndsWell s) (sym is) (ends_well call no_fault can answer comes)),
-    (λ can. subst (λ (s : Status). EndsQuick s) (sym is) (quick_well call no_fault can answer comes)))
+complete_by_refusal call out status answer comes is no_fault takes = (
+  (λ can. subst (λ (s : Status). EndsWell s) (sym is) (ends_well call no_fault can answer comes)),
+  (λ can. subst (λ (s : Status). EndsQuick s) (sym is) (quick_well call no_fault can answer comes)),
+)

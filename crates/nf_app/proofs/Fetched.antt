@@ -26,7 +26,7 @@ module _ (shelf : Visit) (file : Wanted) where
       fit = All-cons (Fits shelf) file [] (IfSome_then (shelf.told file.name) told (λ held same. subst (λ (n : ℕ). n ≤ file.limit) (taken ∙ ap length same) within)) (All-nil (Fits shelf));
       taken = within;
     },
-    (told, tt)
+    (told, tt),
   )
 
   one_reached : IsAsked → FetchedTo shelf (file ∷ []) file
@@ -43,6 +43,7 @@ module _ (shelf : Visit) (file : Wanted) where
       neither : (IsErrOf {T = T} (Err ShelfFails) TooLong ⊎ IsErrOf {T = T} (Err ShelfFails) Memory) → ⊥
       neither (inl e) = cc
       neither (inr e) = cc
+
       not_more : file.limit < shelf.taken → ⊥
       not_more more = neither (too_long more)
   one_missing ShelfFails failed long too_long told (inr none) = let e = none.0 in let never : ⊥ = cc in absurd never
@@ -149,5 +150,5 @@ module _ (one other : Visit) (f g : Wanted) (follows : Follows one other) (first
       fit = All-cons (Fits both) f (g ∷ []) first_fits (All-cons (Fits both) g [] (fits g (All-head (Fits other) g [] h.0.fit)) (All-nil (Fits both)));
       taken = h.0.taken;
     },
-    (told, (subst (λ (o : Option (List ℕ)). IfSome o (λ held. more ≡ held)) (follows.told g.name) h.1.0, tt))
+    (told, (subst (λ (o : Option (List ℕ)). IfSome o (λ held. more ≡ held)) (follows.told g.name) h.1.0, tt)),
   )

@@ -45,11 +45,15 @@ module _ (shelf : Visit) (n : Named) (file name : List ℕ) (horizon : ℚ) (tex
 
     pub loading_given : (loaded : List Loading) → loading_list n pieces horizon ≡ Ok loaded → IsNetwork n.net → length pieces ≡ length n.net.links → 0ℚ ≤ℚ horizon
         → ((e : ℕ) → ArePieces (pieces_at pieces e)) → IsGiven shelf n (Load file name horizon) (Loaded n horizon loaded)
-    loading_given loaded e good many from_0 are = inl (loaded, refl, record {
-      pieces = pieces;
-      read = read_so (Ok pieces) read;
-      computed = e;
-      loadings = links_loaded passes_Q horizon from_0 n.net.links pieces loaded many good.transits good.capacities
-      (λ (i : ℕ) (p : List Piece) (is : slice_get pieces i ≡ Some p). subst (λ (l : List Piece). ArePieces l) (ap (λ o. unwrap_or o []) is) (are i))
-      (was_ok LoadPart (load_list passes_Q n.net.links pieces horizon) loaded e);
-    })
+    loading_given loaded e good many from_0 are = inl (
+      loaded,
+      refl,
+      record {
+        pieces = pieces;
+        read = read_so (Ok pieces) read;
+        computed = e;
+        loadings = links_loaded passes_Q horizon from_0 n.net.links pieces loaded many good.transits good.capacities
+            (λ (i : ℕ) (p : List Piece) (is : slice_get pieces i ≡ Some p). subst (λ (l : List Piece). ArePieces l) (ap (λ o. unwrap_or o []) is) (are i))
+            (was_ok LoadPart (load_list passes_Q n.net.links pieces horizon) loaded e);
+      },
+    )

@@ -30,6 +30,8 @@ use Rattle.nf_quick_lists.specs.Departures.{IsDeparture}
 use Rattle.nf_quick_lists.specs.Quick as lists
 use Rattle.nf_quick.specs.Answered.{IsAnswered}
 use Rattle.nf_quick.specs.declared.fault.QuickFault.{QuickFault}
+use Rattle.nf_curve.specs.Flows.{flow_of as shown_flow}
+use Rattle.nf_curve.specs.declared.flow.Flow.{Flow as CodeFlow}
 use Rattle.nf_app.specs.Files.{Visit}
 use Rattle.nf_app.specs.Requests.{Quick, usual_budgets}
 use Rattle.nf_app.specs.Answers.{Quickest, TooManyWalks, Passes, Unbounded}
@@ -62,6 +64,16 @@ ends_there : (curves : List GrowingCurve) (v : ℕ) (time : ℚ) → v < length 
 ends_there [] v time h k = absurd (omega arith)
 ends_there (c ∷ curves) zero time h k = k c refl
 ends_there (c ∷ curves) (suc v) time h k = ends_there curves v time (omega arith) k
+
+-- the sink's label curve, as the code has it
+pub sink_in : (net : Network) (flow : CodeFlow) (v : ℕ) → v < net.nodes → length (shown_flow flow).labels ≡ net.nodes → v < length flow.labels.items
+sink_in net flow v h count =
+    let same : length (shown_flow flow).labels ≡ length flow.labels.items = length-map flow.labels.items (λ c. c.points) in
+    omega arith
+
+pub at_sink : (flow : CodeFlow) (v sink : ℕ) (p : Point) → v ≡ sink → slice_get (points_at (shown_flow flow).labels v) (length (points_at (shown_flow flow).labels v) - 1) ≡ Some p
+    → slice_get (points_at (shown_flow flow).labels sink) (length (points_at (shown_flow flow).labels sink) - 1) ≡ Some p
+at_sink flow v sink p e h = subst (λ (u : ℕ). slice_get (points_at (shown_flow flow).labels u) (length (points_at (shown_flow flow).labels u) - 1) ≡ Some p) e h
 
 -- ---- the arrival in a run
 module _ (net : Network) (good : IsNetwork net) (departs : ℚ) (report : Report) (phases : ℕ) (solution : IsSolution net (bounds_of departs usual_budgets) phases report) where

@@ -158,12 +158,7 @@ fn refuse_quick(
 }
 
 // A quickest flow of an amount, beside the arrival in an equilibrium of who departs when the amount is supplied.
-fn beside_arrival(
-    alloc: Global,
-    net: Network,
-    amount: Q,
-    quick: Quick,
-) -> Result<Outcome, Refusal>
+fn beside_arrival(alloc: Global, net: Network, amount: Q, quick: Quick) -> Result<Outcome, Refusal>
     requires amount { 0ℚ ≤ℚ amount }
     requires flow { IsQuickFlow net.net amount quick }
     ensures { (shelf : Visit) (file : List ℕ) (augments : ℕ) → answered.IsAnswered passes_Q net.net amount augments (Ok quick)
@@ -181,12 +176,7 @@ fn beside_arrival(
 }
 
 // The quickest flow of an amount in the network, and the arrival in an equilibrium of who departs when the amount is supplied.
-fn quick_to(
-    alloc: Global,
-    net: Network,
-    amount: Q,
-    augments: u64,
-) -> Result<Outcome, Refusal>
+fn quick_to(alloc: Global, net: Network, amount: Q, augments: u64) -> Result<Outcome, Refusal>
     requires amount { 0ℚ ≤ℚ amount }
     requires augments { 1 ≤ augments }
     ensures { (shelf : Visit) (file : List ℕ) → IsGiving shelf net (requests.Quick file amount augments) result }

@@ -9,8 +9,8 @@ ghost use Rattle.nf_app.specs.Outcomes.{answer_in, text_in, HasText};
 ghost use Rattle.nf_app.specs.Sinks.{TookText};
 ghost use Rattle.nf_app.specs.Runs.{IsShown};
 
-use crate::load_text::write_loads;
 use crate::arrival::Arrival;
+use crate::load_text::write_loads;
 use crate::outcome::Outcome;
 use crate::quick_text::write_arrival;
 use crate::refusal::Refusal;

@@ -82,11 +82,7 @@ fn put_cut(text: &mut Vec<u8>, net: &Network, cut: &[Q]) -> Result<(), AllocErro
 }
 
 /// The text of a quickest flow: its time, its walks, its cut and the cut's value.
-pub(crate) fn flow_text(
-    alloc: Global,
-    net: &Network,
-    quick: &Quick,
-) -> Result<Vec<u8>, AllocError>
+pub(crate) fn flow_text(alloc: Global, net: &Network, quick: &Quick) -> Result<Vec<u8>, AllocError>
     requires { length quick.now.cut ≡ net.now.net.nodes }
     ensures { IfOk result (λ text. text.items ≡ flow_text net.now quick.now) }
 {

@@ -124,11 +124,7 @@ fn read_load(words: &[String]) -> Option<Request>
 }
 
 // The file, the amount and how many walks may be pushed, where both numbers are known.
-fn quick_file<'w>(
-    file: &'w str,
-    amount: Option<Q>,
-    augments: Option<u64>,
-) -> Option<Request<'w>>
+fn quick_file<'w>(file: &'w str, amount: Option<Q>, augments: Option<u64>) -> Option<Request<'w>>
     requires amount { IfSome amount (λ amount. 0ℚ ≤ℚ amount) }
     requires augments { IfSome augments (λ augments. 1 ≤ augments) }
     ensures value { quick_request file.now amount augments ≡ option_map requested result }

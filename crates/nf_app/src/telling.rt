@@ -85,12 +85,7 @@ fn write_texts<E: Sink>(err: &mut E, texts: &[&[u8]]) -> Result<(), SinkFault>
 }
 
 // The rule that a file of some kind breaks, in this line.
-fn write_broken<E: Sink>(
-    err: &mut E,
-    file: &[u8],
-    line: u32,
-    rule: &[u8],
-) -> Result<(), SinkFault>
+fn write_broken<E: Sink>(err: &mut E, file: &[u8], line: u32, rule: &[u8]) -> Result<(), SinkFault>
     ensures { Wrote (E.took err.old) (E.took err.new) (E.faults err.old) (E.faults err.new)
         (broken_line file.now line rule.now) result }
 {

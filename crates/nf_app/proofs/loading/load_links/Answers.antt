@@ -37,10 +37,11 @@ loop-link-preserved c =
     let here : at_part Load (load_link_list passes_Q c.args.horizon (c.link-here.result, pieces_at c.args.loads.now c.loop-link.link)) ≡ Ok y =
     ap (λ (ps : List Piece). at_part Load (load_link_list passes_Q c.args.horizon (c.link-here.result, ps))) (sym c.pieces-supplied.ensures.value) ∙ c.in_ok-loading.ensures in
     let items = c.in_ok-push.ensures.items in
-    let made : map loaded_of c.push.new.self.items ≡ front ++ y ∷ [] = ap (λ (l : List code.Loaded). map loaded_of l) items ∙ map-append loaded_of c.loop-link.loaded.items (c.in_ok-loading.loading ∷ []) in
-    (ap length items ∙ length-append c.loop-link.loaded.items (c.in_ok-loading.loading ∷ []) ∙ ap (λ (n : ℕ). n + 1) c.loop-link.invariant.0,
-    ap (λ (l : List lists.Loaded). with_front l (each (load_link_list passes_Q c.args.horizon) (drop (c.loop-link.link + 1) (zip c.args.net.now.net.links c.args.loads.now)))) made
-    ∙ each_goes Load (load_link_list passes_Q c.args.horizon) front (each (load_link_list passes_Q c.args.horizon) (zip c.args.net.now.net.links c.args.loads.now)) (c.link-here.result, pieces_at c.args.loads.now c.loop-link.link) (drop (c.loop-link.link + 1) (zip c.args.net.now.net.links c.args.loads.now)) so_far y here)
+    let made : map loaded_of c.push.new.self.items ≡ front ++ y ∷ [] = ap (λ (l : List code.Loaded). map loaded_of l) items ∙ map-append loaded_of c.loop-link.loaded.items (c.in_ok-loading.loading ∷ []) in (
+      ap length items ∙ length-append c.loop-link.loaded.items (c.in_ok-loading.loading ∷ []) ∙ ap (λ (n : ℕ). n + 1) c.loop-link.invariant.0,
+      ap (λ (l : List lists.Loaded). with_front l (each (load_link_list passes_Q c.args.horizon) (drop (c.loop-link.link + 1) (zip c.args.net.now.net.links c.args.loads.now)))) made
+          ∙ each_goes Load (load_link_list passes_Q c.args.horizon) front (each (load_link_list passes_Q c.args.horizon) (zip c.args.net.now.net.links c.args.loads.now)) (c.link-here.result, pieces_at c.args.loads.now c.loop-link.link) (drop (c.loop-link.link + 1) (zip c.args.net.now.net.links c.args.loads.now)) so_far y here,
+    )
 
 pub returns-clause-list : goal.returns-clause-list
 unfolding load_list

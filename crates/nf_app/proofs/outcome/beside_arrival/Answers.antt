@@ -25,6 +25,8 @@ returns-in_err-text c shelf file augments h =
     rw (p.1, p.2) (inl refl)
 
 pub returns : goal.returns
-returns c shelf file augments h =
-    (quickest_given shelf c.args.net file c.args.amount augments c.args.quick h c.requires.flow c.in_ok-departs.departs c.in_ok-departs.ensures.list c.in_ok-departs.ensures.least
-    c.in_ok-arrival.arrival c.in_ok-arrival.ensures, c.in_ok-text.ensures)
+returns c shelf file augments h = (
+  quickest_given shelf c.args.net file c.args.amount augments c.args.quick h c.requires.flow c.in_ok-departs.departs c.in_ok-departs.ensures.list c.in_ok-departs.ensures.least
+      c.in_ok-arrival.arrival c.in_ok-arrival.ensures,
+  c.in_ok-text.ensures,
+)

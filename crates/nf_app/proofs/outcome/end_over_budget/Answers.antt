@@ -12,6 +12,7 @@ returns-in_err-text c shelf file amount h =
     rw (p.1, p.2) (inl refl)
 
 pub returns : goal.returns
-returns c shelf file amount h =
-    (budget_given shelf c.args.net file amount c.args.augments c.args.walks h,
-    c.in_ok-text.ensures ∙ ap (λ (l : List lists.Augment). augments_text c.args.net l) c.deref.ensures.value)
+returns c shelf file amount h = (
+  budget_given shelf c.args.net file amount c.args.augments c.args.walks h,
+  c.in_ok-text.ensures ∙ ap (λ (l : List lists.Augment). augments_text c.args.net l) c.deref.ensures.value,
+)

@@ -19,7 +19,9 @@ returns-in_err-links c shelf file name told =
     rw (p.1, p.2) (loading_stopped shelf c.args.net file name c.args.horizon c.args.loads.now told c.in_ok-loads.loads c.in_ok-loads.ensures.reads c.in_err-links.field-0.0 c.in_err-links.ensures.list)
 
 pub returns : goal.returns
-returns c shelf file name told =
-    (loading_given shelf c.args.net file name c.args.horizon c.args.loads.now told c.in_ok-loads.loads c.in_ok-loads.ensures.reads (map loaded_of c.in_ok-links.links.items) c.in_ok-links.ensures.list
-    (subst (λ (m : Named). IsNetwork m.net) c.net.view_is c.net.invariant.named.network) c.in_ok-loads.ensures.links c.requires.horizon
-    (λ e. subst (λ (l : List (List Piece)). ArePieces (pieces_at l e)) c.loads.view_is (c.loads.invariant.each e)), c.in_ok-links.ensures.many)
+returns c shelf file name told = (
+  loading_given shelf c.args.net file name c.args.horizon c.args.loads.now told c.in_ok-loads.loads c.in_ok-loads.ensures.reads (map loaded_of c.in_ok-links.links.items) c.in_ok-links.ensures.list
+      (subst (λ (m : Named). IsNetwork m.net) c.net.view_is c.net.invariant.named.network) c.in_ok-loads.ensures.links c.requires.horizon
+      (λ e. subst (λ (l : List (List Piece)). ArePieces (pieces_at l e)) c.loads.view_is (c.loads.invariant.each e)),
+  c.in_ok-links.ensures.many,
+)
