@@ -1,6 +1,6 @@
 -- Lines of a text that is put together in memory.
 use Rattle.std.proofs.Common.{◌≡◌, ℕ, ◌+◌, ◌<◌, List, [], ◌∷◌, ◌++◌, length, take, refl, sym, ap, ◌∙◌, append_assoc, append-nil, zero-add, arith}
-use Rattle.std.specs.Prelude.{Some, slice_get, flat_map}
+use Rattle.std.specs.Prelude.{Some, slice_get, flat_map, codes}
 use Rattle.std.specs.List.{enumerate_from}
 use Rattle.std.proofs.lemmas.List.FromFn.{length-enumerate_from}
 use Rattle.nf_lines.specs.Words.{line_of_words}
@@ -18,6 +18,11 @@ line_put o o1 o2 o3 o4 key number words h1 h2 h3 h4 =
     ∙ append_assoc o ((key ++ 32 ∷ number) ++ after_words words) (10 ∷ [])
     ∙ ap (λ (l : List ℕ). o ++ (l ++ 10 ∷ [])) (append_assoc key (32 ∷ number) (after_words words))
     ∙ ap (λ (l : List ℕ). o ++ l) (line_joined key (number ∷ words) ∙ append-nil (line_of_words (key ∷ number ∷ words)))
+
+-- the line of a run that stopped, with its first two words as one
+pub stopped_put : (words : List (List ℕ)) → flat_map line_of_words ((codes "equilibrium stopped" ∷ words) ∷ []) ≡ line_of_words (codes "equilibrium" ∷ codes "stopped" ∷ words)
+stopped_put [] = refl
+stopped_put (word ∷ words) = append-nil (line_of_words (codes "equilibrium stopped" ∷ word ∷ words))
 
 -- ---- a text for each element of a list, with its number
 module _ {A : Type 0} (f : ℕ × A → List ℕ) (xs : List A) (old : List ℕ) where

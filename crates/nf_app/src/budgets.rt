@@ -1,7 +1,7 @@
 // The budgets of a run, as the words of the command line give them.
 ghost use Rattle.std.specs.Prelude.{◌≡◌, ◌≤◌, IfSome};
 ghost use Rattle.nf_edge.specs.Names.{texts};
-ghost use Rattle.nf_app.specs.Requests.{budget_of, without_zeros, both_budgets, phases_of, patterns_of, with_one_option, budgets_of, usual_budgets, augments_of};
+ghost use Rattle.nf_app.specs.Requests.{budget_of, without_zeros, both_budgets, phases_of, patterns_of, with_one_option, budgets_of, usual_budgets, most_augments, augments_of};
 
 use nf_numerals::count;
 use nf_phase::Budgets;
@@ -114,6 +114,14 @@ pub(crate) fn usual_budgets() -> Budgets
     }
 }
 
+// How many walks may be pushed, as a word writes it.
+fn read_augment_budget(word: &str) -> Option<u64>
+    ensures value { result ≡ budget_of most_augments word.now }
+    ensures some { IfSome result (λ augments. 1 ≤ augments) }
+{
+    read_budget(word, MOST_AUGMENTS)
+}
+
 /// How many walks may be pushed, as an option gives it, which may be left out.
 pub(crate) fn read_augments(words: &[String]) -> Option<u64>
     ensures value { result ≡ augments_of (texts words.now) }
@@ -123,7 +131,7 @@ pub(crate) fn read_augments(words: &[String]) -> Option<u64>
         [] => Some(USUAL_AUGMENTS),
         [option, word] => {
             if option.as_str() == "--augments" {
-                read_budget(word.as_str(), MOST_AUGMENTS)
+                read_augment_budget(word.as_str())
             } else {
                 None
             }
