@@ -28,7 +28,7 @@ use Rattle.nf_quick_lists.specs.Quick.{Quick as QuickFlow}
 use Rattle.nf_quick_lists.specs.Answers.{IsQuickFlow}
 use Rattle.nf_quick_lists.specs.Departures.{IsDeparture}
 use Rattle.nf_quick_lists.specs.Quick as lists
-use Rattle.nf_quick.specs.Answered.{IsAnswered}
+use Rattle.nf_quick.specs.Answered.{HasNoWay, IsAnswered}
 use Rattle.nf_quick.specs.declared.fault.QuickFault.{QuickFault}
 use Rattle.nf_curve.specs.Flows.{flow_of as shown_flow}
 use Rattle.nf_curve.specs.declared.flow.Flow.{Flow as CodeFlow}
@@ -36,7 +36,7 @@ use Rattle.nf_app.specs.Files.{Visit}
 use Rattle.nf_app.specs.Requests.{Quick, usual_budgets}
 use Rattle.nf_app.specs.Answers.{Quickest, TooManyWalks, Passes, Unbounded}
 use Rattle.nf_app.specs.Given.{IsGiven}
-use Rattle.nf_app.specs.QuickGiven.{departs_list, arrival_of, ArrivesIn, IsArrival}
+use Rattle.nf_app.specs.QuickGiven.{flow_list, departs_list, arrival_of, ArrivesIn, IsArrival}
 
 -- ---- the last point of a curve
 last_end : {A : Type 0} (d : Option A) (front : List A) (p : A) → last_or d (front ++ p ∷ []) ≡ Some p
@@ -127,9 +127,9 @@ module _ (net : Network) (good : IsNetwork net) (departs : ℚ) (report : Report
 
 -- ---- what is given, from what `quickest` and `departure` answer
 module _ (shelf : Visit) (n : Named) (file : List ℕ) (amount : ℚ) (augments : ℕ) where
-  pub budget_given : (walks : Vec lists.Augment Global) → IsAnswered passes_Q n.net amount augments (Err (QuickFault.Budget walks))
-      → IsGiven shelf n (Quick file amount augments) (TooManyWalks n augments walks.items)
-  budget_given walks h = inr (inl (walks.items, refl, record { no_way = h.0; computed = h.1 }))
+  pub budget_given : (walks : List lists.Augment) → HasNoWay n.net amount → flow_list n.net amount augments ≡ Ok (lists.Budget walks)
+      → IsGiven shelf n (Quick file amount augments) (TooManyWalks n augments walks)
+  budget_given walks none listed = inr (inl (walks, refl, record { no_way = none; computed = listed }))
 
   pub unbounded_given : (links : Vec ℕ Global) → IsAnswered passes_Q n.net amount augments (Err (QuickFault.Unbounded links)) → IsGiven shelf n (Quick file amount augments) Unbounded
   unbounded_given links h = inr (inr (inr (refl, (h.0, (links.items, h.1)))))
