@@ -140,7 +140,7 @@ module _ (call : Call) (no_fault : ¬ Rose call.shelf.faults_before call.shelf.f
 -- a quickest flow
 module _ (call : Call) (no_fault : ¬ Rose call.shelf.faults_before call.shelf.faults_now) (can : CanBeQuick call) where
   found_well : (answer : Answer) → IsGiven call.shelf can.network.net (Quick can.file can.amount can.augments) answer → EndsQuick (status_of answer)
-  found_well answer (inl g) = inl (ap status_of g.2.0)
+  found_well answer (inl g) = inl (ap status_of g.2)
   found_well answer (inr (inl g)) = inr (inl (ap status_of g.1))
   found_well answer (inr (inr (inl g))) = absurd (can.fits g.0 g.2)
   found_well answer (inr (inr (inr g))) = inr (inr (inl (ap status_of g.0)))

@@ -1,6 +1,6 @@
 -- What a request for a quickest flow gives, from what its calls answer; and the arrival in a run.
-use Rattle.std.proofs.Common.{◌≡◌, ◌⊎◌, ℕ, zero, suc, ◌-◌, ◌<◌, ◌≤◌, arith, List, [], ◌∷◌, ◌++◌, length, refl, sym, ap, subst, ◌∙◌, inl, inr}
-use Rattle.std.specs.Prelude.{Vec, Global, Option, Some, None, IfSome, Result, Ok, Err, slice_get, unwrap_or, map}
+use Rattle.std.proofs.Common.{Vec, Global, ◌≡◌, ◌⊎◌, ℕ, zero, suc, ◌-◌, ◌<◌, ◌≤◌, arith, List, [], ◌∷◌, ◌++◌, length, refl, sym, ap, subst, ◌∙◌, inl, inr}
+use Rattle.std.specs.Prelude.{Option, Some, None, IfSome, Result, Ok, Err, slice_get, unwrap_or, map}
 use Rattle.std.specs.List.{last_or}
 use Rattle.std.proofs.lemmas.List.{length-map}
 use Rattle.std.specs.Option.{option_map_or}
@@ -47,7 +47,11 @@ last_split : {A : Type 0} (points : List A) (p : A) → slice_get points (length
 last_split [] p e = absurd (cc)
 last_split {A} (x ∷ []) p e = let same : x ≡ p = cc in ([], ap (λ (z : A). z ∷ []) same)
 last_split {A} (x ∷ y ∷ rest) p e =
-    let h = last_split (y ∷ rest) p e in
+    let i : length (x ∷ y ∷ rest) - 1 ≡ suc (length rest) = omega arith in
+    let j : length (y ∷ rest) - 1 ≡ length rest = omega arith in
+    let there : slice_get (y ∷ rest) (length (y ∷ rest) - 1) ≡ Some p =
+    ap (λ (k : ℕ). slice_get (y ∷ rest) k) j ∙ sym (ap (λ (k : ℕ). slice_get (x ∷ y ∷ rest) k) i) ∙ e in
+    let h = last_split (y ∷ rest) p there in
     (x ∷ h.0, ap (λ (l : List A). x ∷ l) h.1)
 
 -- it ends at its last point, and so has that value from then on

@@ -23,8 +23,8 @@ returns-in-Some c =
     (subst (λ (b : Budgets). IsSolution c.args.net.now.net (bounds_of c.args.departs b) s.phases (report_in c.args.departs s)) c.usual_budgets-budgets.ensures c.in_ok-solution.ensures)
     c.in-Some.stop.now stopped
 
-pub returns-in-None : goal.returns-in-None
-returns-in-None c =
+pub returns : goal.returns
+returns c =
     let s = c.in_ok-solution.solution in
     let copied = c.as_ref.ensures.value in
     let none = ap option_copied c.in-None.is in

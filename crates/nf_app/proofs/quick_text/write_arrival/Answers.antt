@@ -20,4 +20,4 @@ returns-in-At g c =
 
 pub returns-in-Stopped : goal.returns-in-Stopped
 returns-in-Stopped g c =
-    same_text _ _ (stopped_put (cause_words (Some c.in-Stopped.stop.now)) ∙ sym (ap arrival_text c.in-Stopped.is)) c.write_stop.ensures
+    same_text _ _ (stopped_put (cause_words (Some c.in-Stopped.stop)) ∙ sym (ap arrival_text c.in-Stopped.is)) c.write_stop.ensures
