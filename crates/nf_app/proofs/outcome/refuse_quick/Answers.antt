@@ -13,7 +13,7 @@ returns-in-Budget c shelf file amount h =
 
 pub returns-in-Unbounded : goal.returns-in-Unbounded
 returns-in-Unbounded c shelf file amount h =
-    inr (unbounded_given shelf c.args.net file amount c.args.augments _ (subst (λ (f : QuickFault). IsAnswered passes_Q c.args.net.net amount c.args.augments (Err f)) c.in-Unbounded.is h))
+    inr (unbounded_given shelf c.args.net file amount c.args.augments c.in-Unbounded.links (subst (λ (f : QuickFault). IsAnswered passes_Q c.args.net.net amount c.args.augments (Err f)) c.in-Unbounded.is h))
 
 pub returns-in-Passed : goal.returns-in-Passed
 returns-in-Passed c shelf file amount h =
