@@ -77,6 +77,7 @@ network_missing shelf file others Refusal.ShelfTooLong h = h
 network_missing shelf file others (Refusal.Malformed rule line) h = absurd h
 network_missing shelf file others (Refusal.MalformedLoads rule line) h = h
 network_missing shelf file others (Refusal.Passes at) h = h
+network_missing shelf file others Refusal.Unbounded h = h
 
 -- ---- a request with its files
 module _ (words : List (List ℕ)) (shelf : Visit) (request : Request) (asks : request_of words ≡ Some request) (file : Wanted) (others : List Wanted)
@@ -104,6 +105,7 @@ module _ (words : List (List ℕ)) (shelf : Visit) (request : Request) (asks : r
   refused (Refusal.Malformed rule line) h = inl (request, read_of (Err (record { rule = rule; line = line })) h.0 h.1)
   refused (Refusal.MalformedLoads rule line) h = absurd h
   refused (Refusal.Passes at) h = absurd h
+  refused Refusal.Unbounded h = absurd h
 
   -- there is a network
   module _ (n : Named) (texts : List (List ℕ)) (h : AreRead shelf file others (Ok (n, texts))) where
@@ -126,6 +128,7 @@ no_text Refusal.ShelfTooLong = refl
 no_text (Refusal.Malformed rule line) = refl
 no_text (Refusal.MalformedLoads rule line) = refl
 no_text (Refusal.Passes at) = refl
+no_text Refusal.Unbounded = refl
 
 nothing_more : (took : Option (List ℕ)) → took ≡ with_more took []
 nothing_more None = refl

@@ -19,16 +19,12 @@ use Rattle.nf_readings.specs.LoadsFile.{LoadsBroken, loads_in}
 use Rattle.nf_phase.specs.Solution.{bounds_of}
 use Rattle.nf_app.specs.declared.status.Status.{Status}
 use Rattle.nf_app.specs.Files.{Wanted, Visit, FetchedTo, HasTooMany}
-use Rattle.nf_app.specs.Requests.{Request, Solve, Show, Load, files_of, request_of, network_file, loads_file}
-use Rattle.nf_app.specs.Answers.{Answer, Solved, Shown, Loaded, NoMemory, NoRequest, ShelfFailed, ShelfTooLong, Malformed, MalformedLoads, Passes, status_of, status_of_stop}
+use Rattle.nf_app.specs.Requests.{Request, Solve, Show, Load, Quick, files_of, request_of, network_file, loads_file}
+use Rattle.nf_app.specs.Answers.{Answer, Solved, Shown, Loaded, Quickest, TooManyWalks, NoMemory, NoRequest, ShelfFailed, ShelfTooLong, Malformed, MalformedLoads, Passes, Unbounded, status_of, status_of_stop}
 use Rattle.nf_app.specs.Given.{LoadsRead, loading_list, IsGiven}
 use Rattle.nf_app.specs.Sinks.{Taken}
 use Rattle.nf_app.specs.Runs.{Call, Asks, Reached, NetworkReads, Read, IsRefused, IsComputed, IsAnswer, IsShown}
-use Rattle.nf_app.specs.Completeness.{Tells, TellsNetwork, TellsLoads, CanBeShown, CanBeSolved, CanBeLoaded, HasAnswer, IsComplete}
-
--- the two ways in which such a run may end
-abbrev EndsWell : Status → Type 0
-EndsWell status = (status ≡ Status.Ok) ⊎ (status ≡ Status.Memory)
+use Rattle.nf_app.specs.Completeness.{Tells, TellsNetwork, TellsLoads, CanBeShown, CanBeSolved, CanBeLoaded, CanBeQuick, HasAnswer, EndsWell, EndsQuick, IsComplete}
 
 in_the_middle : (P : Wanted → Type 0) (xs : List Wanted) (y : Wanted) (ys : List Wanted) → All P (xs ++ y ∷ ys) → P y
 in_the_middle P [] y ys h = All-head P y ys h
@@ -63,43 +59,47 @@ module _ (call : Call) (no_fault : ¬ Rose call.shelf.faults_before call.shelf.f
         let here : Reads network.tells.text read = subst (λ (told : Option (List ℕ)). IfSome told (λ text. Reads text read)) network.tells.told first in
         reads_at_most_once network.tells.text read (Ok network.net) here network.reads
 
-    refused_well : (answer : Answer) → IsRefused call answer → EndsWell (status_of answer)
-    refused_well NoMemory h = inr refl
-    refused_well NoRequest h =
-        let none : request_of call.words ≡ None = h.0 in
-        let some : request_of call.words ≡ Some asked_for = asks in
-        let never : ⊥ = cc in
-        absurd never
-    refused_well ShelfFailed h = absurd (no_fault h.2.1)
-    refused_well ShelfTooLong h = absurd (not_too_long h.0 h.1 h.2)
-    refused_well (Malformed broken) h =
-        let other : Err broken ≡ Ok network.net = one_reading h.0 (Err broken) h.1 in
-        let never : ⊥ = cc in
-        absurd never
-    refused_well (Solved n report) h = absurd h
-    refused_well (Shown n) h = absurd h
-    refused_well (Loaded n horizon loaded) h = absurd h
-    refused_well (MalformedLoads broken) h = absurd h
-    refused_well (Passes at) h = absurd h
+    module _ (Ends : Status → Type 0) (memory : Ends Status.Memory) where
+      refused_well : (answer : Answer) → IsRefused call answer → Ends (status_of answer)
+      refused_well NoMemory h = memory
+      refused_well NoRequest h =
+          let none : request_of call.words ≡ None = h.0 in
+          let some : request_of call.words ≡ Some asked_for = asks in
+          let never : ⊥ = cc in
+          absurd never
+      refused_well ShelfFailed h = absurd (no_fault h.2.1)
+      refused_well ShelfTooLong h = absurd (not_too_long h.0 h.1 h.2)
+      refused_well (Malformed broken) h =
+          let other : Err broken ≡ Ok network.net = one_reading h.0 (Err broken) h.1 in
+          let never : ⊥ = cc in
+          absurd never
+      refused_well (Solved n report) h = absurd h
+      refused_well (Shown n) h = absurd h
+      refused_well (Loaded n horizon loaded) h = absurd h
+      refused_well (MalformedLoads broken) h = absurd h
+      refused_well (Passes at) h = absurd h
+      refused_well (Quickest n quick arrival) h = absurd h
+      refused_well (TooManyWalks n augments walks) h = absurd h
+      refused_well Unbounded h = absurd h
 
-    -- what is computed is computed for this request and this network
-    pub answered_well : ((answer : Answer) → IsGiven call.shelf network.net asked_for answer → EndsWell (status_of answer)) → (answer : Answer) → IsAnswer call answer → EndsWell (status_of answer)
-    answered_well ends answer (inl h) = refused_well answer h
-    answered_well ends answer (inr h) =
-        let same : Ok h.net ≡ Ok network.net = one_reading h.request (Ok h.net) h.read in
-        let same_net : h.net ≡ network.net = cc in
-        ends answer (subst (λ (n : Named). IsGiven call.shelf n asked_for answer) same_net
-        (subst (λ (r : Request). IsGiven call.shelf h.net r answer) (one_request h.request h.read.asks) h.given))
+      -- what is computed is computed for this request and this network
+      pub answered_well : ((answer : Answer) → IsGiven call.shelf network.net asked_for answer → Ends (status_of answer)) → (answer : Answer) → IsAnswer call answer → Ends (status_of answer)
+      answered_well ends answer (inl h) = refused_well answer h
+      answered_well ends answer (inr h) =
+          let same : Ok h.net ≡ Ok network.net = one_reading h.request (Ok h.net) h.read in
+          let same_net : h.net ≡ network.net = cc in
+          ends answer (subst (λ (n : Named). IsGiven call.shelf n asked_for answer) same_net
+          (subst (λ (r : Request). IsGiven call.shelf h.net r answer) (one_request h.request h.read.asks) h.given))
 
 -- ---- the commands
 module _ (call : Call) (no_fault : ¬ Rose call.shelf.faults_before call.shelf.faults_now) where
   shown_well : CanBeShown call → (answer : Answer) → IsAnswer call answer → EndsWell (status_of answer)
   shown_well can = answered_well call no_fault (Show can.file) can.asks (All-cons (Tells call.shelf) (network_file can.file) [] can.network.tells (All-nil (Tells call.shelf)))
-      can.file [] refl can.network (λ answer is. inl (ap status_of is))
+      can.file [] refl can.network EndsWell (inr refl) (λ answer is. inl (ap status_of is))
 
   solved_well : CanBeSolved call → (answer : Answer) → IsAnswer call answer → EndsWell (status_of answer)
   solved_well can = answered_well call no_fault (Solve can.file can.horizon can.budgets) can.asks
-      (All-cons (Tells call.shelf) (network_file can.file) [] can.network.tells (All-nil (Tells call.shelf))) can.file [] refl can.network
+      (All-cons (Tells call.shelf) (network_file can.file) [] can.network.tells (All-nil (Tells call.shelf))) can.file [] refl can.network EndsWell (inr refl)
       (λ answer g.
       let same : g.0 ≡ can.reaches.report =
       one_report passes_Q can.network.net.net (bounds_of can.horizon can.budgets) g.0 can.reaches.report g.2.1.run can.reaches.is_report in
@@ -130,21 +130,40 @@ module _ (call : Call) (no_fault : ¬ Rose call.shelf.faults_before call.shelf.f
     loaded_well = answered_well call no_fault (Load can.file can.loads_name can.horizon) can.asks
         (All-cons (Tells call.shelf) (network_file can.file) (loads_file can.loads_name ∷ []) can.network.tells
         (All-cons (Tells call.shelf) (loads_file can.loads_name) [] can.loads.tells (All-nil (Tells call.shelf))))
-        can.file (loads_file can.loads_name ∷ []) refl can.network given_well
+        can.file (loads_file can.loads_name ∷ []) refl can.network EndsWell (inr refl) given_well
 
   ends_well : HasAnswer call → (answer : Answer) → IsAnswer call answer → EndsWell (status_of answer)
   ends_well (inl can) = shown_well can
   ends_well (inr (inl can)) = solved_well can
   ends_well (inr (inr can)) = loaded_well can
 
-taken_well : (out : Taken) → ¬ Rose out.faults_before out.faults_now → (answer : Answer) (err : Taken) (status : Status) → EndsWell (status_of answer) → IsShown answer out err status → EndsWell status
-taken_well out takes answer err status well (inl h) = subst (λ (s : Status). EndsWell s) (sym h.0) well
-taken_well out takes answer err status well (inr h) = absurd (takes h.1.cause)
+-- a quickest flow
+module _ (call : Call) (no_fault : ¬ Rose call.shelf.faults_before call.shelf.faults_now) (can : CanBeQuick call) where
+  found_well : (answer : Answer) → IsGiven call.shelf can.network.net (Quick can.file can.amount can.augments) answer → EndsQuick (status_of answer)
+  found_well answer (inl g) = inl (ap status_of g.2)
+  found_well answer (inr (inl g)) = inr (inl (ap status_of g.1))
+  found_well answer (inr (inr (inl g))) = absurd (can.fits g.0 g.2)
+  found_well answer (inr (inr (inr g))) = inr (inr (inl (ap status_of g.0)))
+
+  quick_well : (answer : Answer) → IsAnswer call answer → EndsQuick (status_of answer)
+  quick_well = answered_well call no_fault (Quick can.file can.amount can.augments) can.asks
+      (All-cons (Tells call.shelf) (network_file can.file) [] can.network.tells (All-nil (Tells call.shelf))) can.file [] refl can.network EndsQuick (inr (inr (inr refl))) found_well
+
+taken_well : (Ends : Status → Type 0) (out : Taken) → ¬ Rose out.faults_before out.faults_now → (answer : Answer) (err : Taken) (status : Status) → Ends (status_of answer)
+    → IsShown answer out err status → Ends status
+taken_well Ends out takes answer err status well (inl h) = subst (λ (s : Status). Ends s) (sym h.0) well
+taken_well Ends out takes answer err status well (inr h) = absurd (takes h.1.cause)
 
 -- an answer with a text was given
 pub complete_by_text : (call : Call) (out err : Taken) (status : Status) (answer : Answer) → IsAnswer call answer → IsShown answer out err status → IsComplete call out status
-complete_by_text call out err status answer comes shown can no_fault takes = taken_well out takes answer err status (ends_well call no_fault can answer comes) shown
+complete_by_text call out err status answer comes shown no_fault takes = (
+  (λ can. taken_well EndsWell out takes answer err status (ends_well call no_fault can answer comes) shown),
+  (λ can. taken_well EndsQuick out takes answer err status (quick_well call no_fault can answer comes) shown),
+)
 
 -- there is no text
 pub complete_by_refusal : (call : Call) (out : Taken) (status : Status) (answer : Answer) → IsAnswer call answer → status ≡ status_of answer → IsComplete call out status
-complete_by_refusal call out status answer comes is can no_fault takes = subst (λ (s : Status). EndsWell s) (sym is) (ends_well call no_fault can answer comes)
+complete_by_refusal call out status answer comes is no_fault takes = (
+  (λ can. subst (λ (s : Status). EndsWell s) (sym is) (ends_well call no_fault can answer comes)),
+  (λ can. subst (λ (s : Status). EndsQuick s) (sym is) (quick_well call no_fault can answer comes)),
+)

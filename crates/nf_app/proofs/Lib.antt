@@ -5,5 +5,7 @@ pub mod Completing
 pub mod LinkLoads
 pub mod LoadLines
 pub mod LoadGiven
+pub mod QuickTold
+pub mod QuickLines
 pub mod Zeros
 mod ErrorExamples

@@ -1,6 +1,6 @@
 -- Budgets and counts: a budget's digits without the zeros that come first are a count's.
 use Rattle.std.proofs.Common.{◌≡◌, ℕ, ◌+◌, ◌-◌, ◌*◌, ◌^◌, ◌<◌, ◌≤◌, Bool, true, false, not, List, [], ◌∷◌, refl, sym, ap, ◌∙◌, subst, arith}
-use Rattle.std.specs.Prelude.{◌==◌, ◌&&◌, cond, nat_le, Option, Some, None}
+use Rattle.std.specs.Prelude.{◌==◌, ◌&&◌, cond, nat_le, Option, Some, None, IfSome}
 use Rattle.std.proofs.lemmas.Bool.{and_parts, and_from, leb-true, le-leb, cond-true, eqb-true, eqb-false, not-true, false≢true}
 use Rattle.nf_numerals.specs.Digits.{are_digits, value_after, value_of, digits_of, is_plain, count_of}
 use Rattle.nf_numerals.proofs.Digits.{digit_range, le-value_after, value_of-digits_of}
@@ -98,3 +98,12 @@ no_budget most word wide e =
     let other : None ≡ Some (value_of bare) = e ∙ read in
     cc in
     none_from _ (value_of bare) never ∙ same_budget most word
+
+-- ---- a budget is at least 1
+some_by_test : (b : Bool) (n : ℕ) → (b ≡ true → 1 ≤ n) → IfSome (cond b (Some n) None) (λ m. 1 ≤ m)
+some_by_test true n h = h refl
+some_by_test false n h = tt
+
+pub budget_is_some : (most : ℕ) (word : List ℕ) → IfSome (budget_of most word) (λ m. 1 ≤ m)
+budget_is_some most word = some_by_test (are_digits word && nat_le 1 (value_of word) && nat_le (value_of word) most) (value_of word)
+    (λ test. leb-true _ _ (and_parts _ _ (and_parts _ _ test).0).1)

@@ -10,15 +10,22 @@ use Rattle.nf_formats.specs.Report.{Report, report_text}
 use Rattle.nf_load_lists.specs.Loading.{Loaded as Loading}
 use Rattle.nf_readings.specs.LoadsFile.{LoadsBroken}
 use Rattle.nf_readings.specs.Texts.{load_text}
-use Rattle.nf_app.specs.ErrorLines.{memory_line, usage_text, shelf_failed_line, shelf_too_long_line, network_line, loads_line, stopped_line, passed_line}
+use Rattle.nf_quick_lists.specs.Quick.{Augment, Quick}
+use Rattle.nf_app.specs.ErrorLines.{memory_line, usage_text, shelf_failed_line, shelf_too_long_line, network_line, loads_line, stopped_line, passed_line, augments_line, unbounded_line}
+use Rattle.nf_app.specs.QuickText.{quick_text, augments_text}
+use Rattle.nf_app.specs.declared.arrival.Arrival.{Arrival}
 use Rattle.nf_app.specs.declared.status.Status.{Status}
 
 -- `Solved`: a report of the network of the file. `Shown`: that network. `Loaded`: of each of its links the loading up to a horizon.
--- `Passes`: an operation of the command's list passes the bound.
+-- `Quickest`: a quickest flow, beside the arrival in an equilibrium. `TooManyWalks`: those that were pushed for it, as many as allowed.
+-- `Unbounded`: there is no quickest flow, since a walk of unbounded links leads to the sink. `Passes`: an operation of the command's
+-- list passes the bound.
 pub data Answer : Type 0 where
   Solved : Named → Report → Answer
   Shown : Named → Answer
   Loaded : Named → ℚ → List Loading → Answer
+  Quickest : Named → Quick → Arrival → Answer
+  TooManyWalks : Named → ℕ → List Augment → Answer
   NoMemory : Answer
   NoRequest : Answer
   ShelfFailed : Answer
@@ -26,6 +33,7 @@ pub data Answer : Type 0 where
   Malformed : Broken → Answer
   MalformedLoads : LoadsBroken → Answer
   Passes : PassedAt ℚ → Answer
+  Unbounded : Answer
 
 -- ---- the status
 abbrev pub number_of : Status → ℕ
@@ -39,6 +47,8 @@ number_of Status.Patterns = 6
 number_of Status.Passed = 7
 number_of Status.NoPattern = 8
 number_of Status.Output = 9
+number_of Status.Augments = 11
+number_of Status.Unbounded = 14
 
 abbrev pub status_of_cause : Cause ℚ → Status
 status_of_cause (Cause.Phases made) = Status.Phases
@@ -54,6 +64,8 @@ abbrev pub status_of : Answer → Status
 status_of (Solved n report) = status_of_stop report.stop
 status_of (Shown n) = Status.Ok
 status_of (Loaded n horizon loaded) = Status.Ok
+status_of (Quickest n quick arrival) = Status.Ok
+status_of (TooManyWalks n augments walks) = Status.Augments
 status_of NoMemory = Status.Memory
 status_of NoRequest = Status.Usage
 status_of ShelfFailed = Status.Shelf
@@ -61,12 +73,15 @@ status_of ShelfTooLong = Status.Shelf
 status_of (Malformed broken) = Status.Malformed
 status_of (MalformedLoads broken) = Status.Malformed
 status_of (Passes at) = Status.Passed
+status_of Unbounded = Status.Unbounded
 
 -- ---- what is written
 abbrev pub out_text : Answer → List ℕ
 out_text (Solved n report) = report_text n report
 out_text (Shown n) = canonical n
 out_text (Loaded n horizon loaded) = load_text n horizon loaded
+out_text (Quickest n quick arrival) = quick_text n quick arrival
+out_text (TooManyWalks n augments walks) = augments_text n walks
 out_text answer = []
 
 abbrev pub text_of_stop : Option (Cause ℚ) → List ℕ
@@ -77,6 +92,8 @@ abbrev pub err_text : Answer → List ℕ
 err_text (Solved n report) = text_of_stop report.stop
 err_text (Shown n) = []
 err_text (Loaded n horizon loaded) = []
+err_text (Quickest n quick arrival) = []
+err_text (TooManyWalks n augments walks) = augments_line augments
 err_text NoMemory = memory_line
 err_text NoRequest = usage_text
 err_text ShelfFailed = shelf_failed_line
@@ -84,3 +101,4 @@ err_text ShelfTooLong = shelf_too_long_line
 err_text (Malformed broken) = network_line broken
 err_text (MalformedLoads broken) = loads_line broken
 err_text (Passes at) = passed_line at
+err_text Unbounded = unbounded_line

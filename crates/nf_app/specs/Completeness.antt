@@ -2,6 +2,7 @@
 use Rattle.std.specs.Prelude.{◌≡◌, ◌⊎◌, ℕ, ◌≤◌, List, length, Some, None, Ok}
 use Rattle.nf_rational.specs.Rational.{ℚ}
 use Rattle.nf_work.specs.Passing.{passes_Q}
+use Rattle.nf_work.specs.declared.PassedAt.{PassedAt}
 use Rattle.nf_edge.specs.Faults.{Rose}
 use Rattle.nf_model.specs.Network.{Piece}
 use Rattle.nf_formats.specs.Named.{Named}
@@ -14,8 +15,9 @@ use Rattle.nf_phase.specs.declared.solution.Budgets.{Budgets}
 use Rattle.nf_phase.specs.Solution.{bounds_of}
 use Rattle.nf_app.specs.declared.status.Status.{Status}
 use Rattle.nf_app.specs.Files.{Wanted, Visit}
-use Rattle.nf_app.specs.Requests.{Solve, Show, Load, network_file, loads_file}
+use Rattle.nf_app.specs.Requests.{Solve, Show, Load, Quick, network_file, loads_file}
 use Rattle.nf_app.specs.Given.{loading_list}
+use Rattle.nf_app.specs.QuickGiven.{PassesQuick}
 use Rattle.nf_app.specs.Sinks.{Taken}
 use Rattle.nf_app.specs.Runs.{Call, Asks}
 
@@ -73,8 +75,26 @@ pub record CanBeLoaded (call : Call) : Type 0 where
 abbrev pub HasAnswer : Call → Type 0
 HasAnswer call = CanBeShown call ⊎ CanBeSolved call ⊎ CanBeLoaded call
 
+-- a quickest flow is asked for, and no operation of its lists passes
+pub record CanBeQuick (call : Call) : Type 0 where
+  pub file : List ℕ
+  pub amount : ℚ
+  pub augments : ℕ
+  pub asks : Asks call (Quick file amount augments)
+  pub network : TellsNetwork call.shelf file
+  pub fits : (at : PassedAt ℚ) → ¬ PassesQuick network.net.net amount augments at
+
+-- ---- how a run then ends
+-- with the whole answer, or for want of memory
+abbrev pub EndsWell : Status → Type 0
+EndsWell status = (status ≡ Status.Ok) ⊎ (status ≡ Status.Memory)
+
+-- the same of `quick`; there may also be too many walks to push, or no bound
+abbrev pub EndsQuick : Status → Type 0
+EndsQuick status = (status ≡ Status.Ok) ⊎ (status ≡ Status.Augments) ⊎ (status ≡ Status.Unbounded) ⊎ (status ≡ Status.Memory)
+
 -- Where neither the shelf nor the output failed in the call, the whole text was taken, of a report up to the horizon, or memory was
 -- wanting.
 abbrev pub IsComplete : Call → Taken → Status → Type 0
-IsComplete call out status = HasAnswer call → ¬ Rose call.shelf.faults_before call.shelf.faults_now → ¬ Rose out.faults_before out.faults_now
-    → (status ≡ Status.Ok) ⊎ (status ≡ Status.Memory)
+IsComplete call out status = ¬ Rose call.shelf.faults_before call.shelf.faults_now → ¬ Rose out.faults_before out.faults_now
+    → (HasAnswer call → EndsWell status) × (CanBeQuick call → EndsQuick status)

@@ -12,10 +12,13 @@ use Rattle.nf_load_lists.specs.Loading.{Loaded as Loading}
 use Rattle.nf_load_lists.specs.Loads.{load_list}
 use Rattle.nf_load_lists.specs.Meanings.{AreLoaded}
 use Rattle.nf_readings.specs.LoadsFile.{LoadsBroken, loads_in}
+use Rattle.nf_quick_lists.specs.Quick.{Augment, Quick as QuickFlow}
 use Rattle.nf_phase.specs.Solution.{bounds_of, IsSolution}
 use Rattle.nf_app.specs.Files.{Visit}
-use Rattle.nf_app.specs.Requests.{Request, Solve, Show, Load}
-use Rattle.nf_app.specs.Answers.{Answer, Solved, Shown, Loaded, MalformedLoads, Passes}
+use Rattle.nf_app.specs.Requests.{Request, Solve, Show, Load, Quick}
+use Rattle.nf_app.specs.Answers.{Answer, Solved, Shown, Loaded, Quickest, TooManyWalks, MalformedLoads, Passes, Unbounded}
+use Rattle.nf_app.specs.QuickGiven.{IsQuickest, IsOverBudget, PassesQuick, IsUnbounded}
+use Rattle.nf_app.specs.declared.arrival.Arrival.{Arrival}
 
 -- where the shelf tells the bytes of the file, they read as these pieces of the links of the network, or break this rule first
 abbrev pub LoadsRead : Visit → Named → List ℕ → Result (List (List Piece)) LoadsBroken → Type 0
@@ -47,3 +50,8 @@ IsGiven shelf n (Load file loads horizon) answer =
     ((loaded : List Loading) × (answer ≡ Loaded n horizon loaded) × IsLoading shelf n loads horizon loaded)
     ⊎ ((at : PassedAt ℚ) × (answer ≡ Passes at) × PassesLoading shelf n loads horizon at)
     ⊎ ((broken : LoadsBroken) × (answer ≡ MalformedLoads broken) × LoadsRead shelf n loads (Err broken))
+IsGiven shelf n (Quick file amount augments) answer =
+    ((quick : QuickFlow) × (arrival : Arrival) × (answer ≡ Quickest n quick arrival) × IsQuickest n.net amount augments quick arrival)
+    ⊎ ((walks : List Augment) × (answer ≡ TooManyWalks n augments walks) × IsOverBudget n.net amount augments walks)
+    ⊎ ((at : PassedAt ℚ) × (answer ≡ Passes at) × PassesQuick n.net amount augments at)
+    ⊎ ((answer ≡ Unbounded) × IsUnbounded n.net amount)

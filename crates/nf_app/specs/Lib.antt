@@ -2,7 +2,9 @@ pub mod ErrorLines
 pub mod Files
 pub mod Sinks
 pub mod Requests
+pub mod QuickText
 pub mod Answers
+pub mod QuickGiven
 pub mod Given
 pub mod Runs
 pub mod Completeness

@@ -6,7 +6,7 @@ use Rattle.nf_work.specs.declared.Halt.{Halt}
 use Rattle.nf_net.specs.declared.fault.NetFault.{NetFault}
 use Rattle.nf_load.specs.declared.fault.LoadsFault.{LoadsFault}
 use Rattle.nf_app.specs.declared.refusal.Refusal.{Refusal}
-use Rattle.nf_app.specs.Answers.{Answer, NoMemory, NoRequest, ShelfFailed, ShelfTooLong, Malformed, MalformedLoads, Passes}
+use Rattle.nf_app.specs.Answers.{Answer, NoMemory, NoRequest, ShelfFailed, ShelfTooLong, Malformed, MalformedLoads, Passes, Unbounded}
 
 abbrev pub answer_of : Refusal → Answer
 answer_of Refusal.NoMemory = NoMemory
@@ -16,6 +16,7 @@ answer_of Refusal.ShelfTooLong = ShelfTooLong
 answer_of (Refusal.Malformed rule line) = Malformed (record { rule = rule; line = line })
 answer_of (Refusal.MalformedLoads rule line) = MalformedLoads (record { rule = rule; line = line })
 answer_of (Refusal.Passes at) = Passes at
+answer_of Refusal.Unbounded = Unbounded
 
 abbrev pub refusal_of_fetch : FetchFault → Refusal
 refusal_of_fetch Failed = Refusal.ShelfFailed

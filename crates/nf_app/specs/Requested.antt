@@ -1,9 +1,10 @@
 -- What a request of the code stands for.
 use Rattle.nf_app.specs.declared.request.Request as code
 use Rattle.nf_app.specs.declared.request.Request.TheVariants as variants
-use Rattle.nf_app.specs.Requests.{Request, Solve, Show, Load}
+use Rattle.nf_app.specs.Requests.{Request, Solve, Show, Load, Quick}
 
 abbrev pub requested : code.Request → Request
 requested (variants.Solve file horizon budgets) = Solve file.now horizon budgets
 requested (variants.Show file) = Show file.now
 requested (variants.Load file loads horizon) = Load file.now loads.now horizon
+requested (variants.Quick file amount augments) = Quick file.now amount augments

@@ -1,5 +1,5 @@
 -- What the words of the command line ask.
-use Rattle.std.specs.Prelude.{ℕ, ◌&&◌, if◌then◌else◌, ◌==◌, nat_le, List, [], ◌∷◌, Option, Some, None, option_map, Result, Ok, Err, codes}
+use Rattle.std.specs.Prelude.{ℕ, ◌≤◌, ◌&&◌, if◌then◌else◌, ◌==◌, nat_le, List, [], ◌∷◌, Option, Some, None, option_map, Result, Ok, Err, codes}
 use Rattle.std.specs.Str.{bytes_eq}
 use Rattle.nf_rational.specs.Rational.{ℚ}
 use Rattle.nf_rational.specs.Operations.{0ℚ}
@@ -10,11 +10,12 @@ use Rattle.nf_formats.specs.Numbers.{greatest}
 use Rattle.nf_phase.specs.declared.solution.Budgets.{Budgets}
 use Rattle.nf_app.specs.Files.{Wanted, network_limit, loads_limit}
 
--- `solve NET --horizon Q [--phases N] [--patterns N]`, `show NET` and `load NET LOADS --horizon Q`
+-- `solve NET --horizon Q [--phases N] [--patterns N]`, `show NET`, `load NET LOADS --horizon Q` and `quick NET --amount Q [--augments N]`
 pub data Request : Type 0 where
   Solve : List ℕ → ℚ → Budgets → Request
   Show : List ℕ → Request
   Load : List ℕ → List ℕ → ℚ → Request
+  Quick : List ℕ → ℚ → ℕ → Request
 
 abbrev pub network_file : List ℕ → Wanted
 network_file name = record { name = name; limit = network_limit }
@@ -27,21 +28,22 @@ abbrev pub files_of : Request → List Wanted
 files_of (Solve file horizon budgets) = network_file file ∷ []
 files_of (Show file) = network_file file ∷ []
 files_of (Load file loads horizon) = network_file file ∷ loads_file loads ∷ []
+files_of (Quick file amount augments) = network_file file ∷ []
 
--- ---- the horizon
--- a number of at least 0
-abbrev pub to_horizon : {F : Type 0} → Result ℚ F → Option ℚ
-to_horizon (Ok number) = if le_ℚ 0ℚ number then Some number else None
-to_horizon (Err fault) = None
+-- ---- the horizon and the amount: a number of at least 0
+abbrev pub to_not_negative : {F : Type 0} → Result ℚ F → Option ℚ
+to_not_negative (Ok number) = if le_ℚ 0ℚ number then Some number else None
+to_not_negative (Err fault) = None
 
-abbrev pub horizon_of : List ℕ → Option ℚ
-horizon_of word = to_horizon (number_of greatest word)
+abbrev pub not_negative_of : List ℕ → Option ℚ
+not_negative_of word = to_not_negative (number_of greatest word)
 
--- what is asked can be: a horizon is at least 0
+-- what is asked can be: a horizon and an amount are at least 0, and at least one walk may be pushed
 abbrev pub CanBeAsked : Request → Type 0
 CanBeAsked (Solve file horizon budgets) = 0ℚ ≤ℚ horizon
 CanBeAsked (Show file) = Unit {0}
 CanBeAsked (Load file loads horizon) = 0ℚ ≤ℚ horizon
+CanBeAsked (Quick file amount augments) = (0ℚ ≤ℚ amount) × (1 ≤ augments)
 
 -- ---- the budgets
 -- the most phases that may be asked for, and those that are meant where the words don't say
@@ -57,6 +59,16 @@ most_patterns = 1000000
 
 abbrev pub usual_patterns : ℕ
 usual_patterns = 100000
+
+abbrev pub usual_budgets : Budgets
+usual_budgets = record { phases = usual_phases; patterns = usual_patterns }
+
+-- the same for the walks that a quickest flow may push
+abbrev pub most_augments : ℕ
+most_augments = 100000
+
+abbrev pub usual_augments : ℕ
+usual_augments = 10000
 
 -- A budget is written by decimal digits alone, of which the first may be zeros. It is at least 1, so that there is a digit, and
 -- at most so many.
@@ -95,6 +107,12 @@ budgets_of (option ∷ word ∷ []) = with_one_option option word
 budgets_of (first ∷ phases ∷ second ∷ patterns ∷ []) = both_budgets (phases_of first phases) (patterns_of second patterns)
 budgets_of words = None
 
+-- `--augments N`, which may be left out
+abbrev pub augments_of : List (List ℕ) → Option ℕ
+augments_of [] = Some usual_augments
+augments_of (option ∷ word ∷ []) = if bytes_eq option (codes "--augments") then budget_of most_augments word else None
+augments_of words = None
+
 -- ---- the commands
 -- a file, a horizon and budgets, where each is one
 abbrev pub solve_request : List ℕ → Option ℚ → Option Budgets → Option Request
@@ -104,7 +122,7 @@ solve_request file None budgets = None
 
 -- `solve NET --horizon Q [--phases N] [--patterns N]`
 abbrev pub solve_words : List (List ℕ) → Option Request
-solve_words (file ∷ option ∷ word ∷ more) = if bytes_eq option (codes "--horizon") then solve_request file (horizon_of word) (budgets_of more) else None
+solve_words (file ∷ option ∷ word ∷ more) = if bytes_eq option (codes "--horizon") then solve_request file (not_negative_of word) (budgets_of more) else None
 solve_words words = None
 
 -- `show NET`
@@ -114,8 +132,19 @@ show_words words = None
 
 -- `load NET LOADS --horizon Q`
 abbrev pub load_words : List (List ℕ) → Option Request
-load_words (file ∷ loads ∷ option ∷ word ∷ []) = if bytes_eq option (codes "--horizon") then option_map (λ horizon. Load file loads horizon) (horizon_of word) else None
+load_words (file ∷ loads ∷ option ∷ word ∷ []) = if bytes_eq option (codes "--horizon") then option_map (λ horizon. Load file loads horizon) (not_negative_of word) else None
 load_words words = None
+
+-- an amount and how many walks may be pushed, where each is a number
+abbrev pub quick_request : List ℕ → Option ℚ → Option ℕ → Option Request
+quick_request file (Some amount) (Some augments) = Some (Quick file amount augments)
+quick_request file (Some amount) None = None
+quick_request file None augments = None
+
+-- `quick NET --amount Q [--augments N]`
+abbrev pub quick_words : List (List ℕ) → Option Request
+quick_words (file ∷ option ∷ word ∷ more) = if bytes_eq option (codes "--amount") then quick_request file (not_negative_of word) (augments_of more) else None
+quick_words words = None
 
 -- The table of commands: what each makes of the words behind it, its files and then its options, which stand in this one order. No
 -- other word is a command.
@@ -124,7 +153,8 @@ command_of command words =
     if bytes_eq command (codes "solve") then solve_words words
     else (if bytes_eq command (codes "show") then show_words words
     else (if bytes_eq command (codes "load") then load_words words
-    else None))
+    else (if bytes_eq command (codes "quick") then quick_words words
+    else None)))
 
 -- the words begin with the program's name
 abbrev pub request_of : List (List ℕ) → Option Request

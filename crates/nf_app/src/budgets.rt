@@ -1,7 +1,7 @@
 // The budgets of a run, as the words of the command line give them.
-ghost use Rattle.std.specs.Prelude.{◌≡◌};
+ghost use Rattle.std.specs.Prelude.{◌≡◌, ◌≤◌, IfSome};
 ghost use Rattle.nf_edge.specs.Names.{texts};
-ghost use Rattle.nf_app.specs.Requests.{budget_of, without_zeros, both_budgets, phases_of, patterns_of, with_one_option, budgets_of};
+ghost use Rattle.nf_app.specs.Requests.{budget_of, without_zeros, both_budgets, phases_of, patterns_of, with_one_option, budgets_of, usual_budgets, most_augments, augments_of};
 
 use nf_numerals::count;
 use nf_phase::Budgets;
@@ -17,6 +17,12 @@ const MOST_PATTERNS: u64 = 1_000_000;
 
 /// The patterns for each phase that are meant where the words don't say.
 const USUAL_PATTERNS: u64 = 100_000;
+
+/// The most walks that a quickest flow may be asked to push.
+const MOST_AUGMENTS: u64 = 100_000;
+
+/// The walks that are meant where the words don't say.
+const USUAL_AUGMENTS: u64 = 10_000;
 
 // The bytes without the zeros that come first.
 fn skip_zeros(word: &[u8]) -> &[u8]
@@ -94,6 +100,42 @@ pub(crate) fn read_budgets(words: &[String]) -> Option<Budgets>
             read_phases(first.as_str(), phases.as_str()),
             read_patterns(second.as_str(), patterns.as_str()),
         ),
+        _ => None,
+    }
+}
+
+/// The budgets that are meant where no options are given.
+pub(crate) fn usual_budgets() -> Budgets
+    ensures { result ≡ usual_budgets }
+{
+    Budgets {
+        phases: USUAL_PHASES,
+        patterns: USUAL_PATTERNS,
+    }
+}
+
+// How many walks may be pushed, as a word writes it.
+fn read_augment_budget(word: &str) -> Option<u64>
+    ensures value { result ≡ budget_of most_augments word.now }
+    ensures some { IfSome result (λ augments. 1 ≤ augments) }
+{
+    read_budget(word, MOST_AUGMENTS)
+}
+
+/// How many walks may be pushed, as an option gives it, which may be left out.
+pub(crate) fn read_augments(words: &[String]) -> Option<u64>
+    ensures value { result ≡ augments_of (texts words.now) }
+    ensures some { IfSome result (λ augments. 1 ≤ augments) }
+{
+    match words {
+        [] => Some(USUAL_AUGMENTS),
+        [option, word] => {
+            if option.as_str() == "--augments" {
+                read_augment_budget(word.as_str())
+            } else {
+                None
+            }
+        }
         _ => None,
     }
 }

@@ -1,16 +1,25 @@
 // What a request gives: a text for the output.
-ghost use Rattle.std.specs.Prelude.{◌≡◌, ◌≤◌, ℕ, List, length};
+ghost use Rattle.std.specs.Prelude.{◌≡◌, ◌≤◌, ℕ, List, length, Ok, Err};
 ghost use Rattle.std.specs.Option.{option_copied};
 ghost use Rattle.nf_rational.specs.Operations.{0ℚ};
 ghost use Rattle.nf_rational.specs.Order.{◌≤ℚ◌};
 ghost use Rattle.nf_edge.specs.Names.{texts};
+ghost use Rattle.nf_work.specs.Passing.{passes_Q};
+ghost use Rattle.nf_quick.specs.Answered as answered;
+ghost use Rattle.nf_quick.specs.declared.fault.QuickFault.TheVariants as QuickFault;
+ghost use Rattle.nf_quick_lists.specs.Answers.{IsQuickFlow};
+ghost use Rattle.nf_rational.specs.Rational.{ℚ};
 ghost use Rattle.nf_app.specs.Files.{Visit};
 ghost use Rattle.nf_app.specs.Requests.{Solve, Show, Load, loads_file};
+ghost use Rattle.nf_app.specs.Requests as requests;
 ghost use Rattle.nf_app.specs.Fetching.{IsTold};
 ghost use Rattle.nf_app.specs.Outcomes.{stop_in, IsGiving, IsAnswered};
 
+use crate::arrival::{Arrival, find_arrival};
+use crate::augments_text::augments_text;
 use crate::fetching::{fetch_network, fetch_network_with};
 use crate::loading::load_links;
+use crate::quick_text::flow_text;
 use crate::refusal::Refusal;
 use crate::request::{Request, read_request};
 use nf_curve::Stop;
@@ -19,6 +28,7 @@ use nf_frac::Q;
 use nf_load::{Loaded, parse_loads};
 use nf_net::{Network, text};
 use nf_phase::{Budgets, Solution, solve};
+use nf_quick::{Augment, Quick, QuickFault, departure, quickest};
 use std::alloc::Global;
 
 /// The most bytes that a loads file may have.
@@ -44,6 +54,20 @@ pub(crate) enum Outcome {
         horizon: Q,
         links: Vec<Loaded>,
     },
+    /// A quickest flow in a network with its text, and the arrival in an equilibrium.
+    Quickest {
+        net: Network,
+        quick: Quick,
+        arrival: Arrival,
+        text: Vec<u8>,
+    },
+    /// The walks that were pushed for a quickest flow, as many as allowed, with their text.
+    TooManyWalks {
+        net: Network,
+        augments: u64,
+        walks: Vec<Augment>,
+        text: Vec<u8>,
+    },
 }
 
 impl Outcome {
@@ -55,6 +79,8 @@ impl Outcome {
             Outcome::Solved { solution, .. } => solution.stopped.as_ref(),
             Outcome::Shown { .. } => None,
             Outcome::Loaded { .. } => None,
+            Outcome::Quickest { .. } => None,
+            Outcome::TooManyWalks { .. } => None,
         }
     }
 }
@@ -93,6 +119,72 @@ fn load_to(alloc: Global, net: Network, loads: &[u8], horizon: Q) -> Result<Outc
         horizon,
         links,
     })
+}
+
+// The walks that were pushed, as many as allowed, with their text.
+fn end_over_budget(
+    alloc: Global,
+    net: Network,
+    augments: u64,
+    walks: Vec<Augment>,
+) -> Result<Outcome, Refusal>
+    ensures { (shelf : Visit) (file : List ℕ) (amount : ℚ) → answered.IsAnswered passes_Q net.net amount augments (Err (QuickFault.Budget walks))
+        → IsGiving shelf net (requests.Quick file amount augments) result }
+{
+    let text = augments_text(alloc, &net, &walks)?;
+    Ok(Outcome::TooManyWalks {
+        net,
+        augments,
+        walks,
+        text,
+    })
+}
+
+// Why there is no quickest flow of an amount; where too many walks are wanted, those that were pushed.
+fn refuse_quick(
+    alloc: Global,
+    net: Network,
+    augments: u64,
+    fault: QuickFault,
+) -> Result<Outcome, Refusal>
+    ensures { (shelf : Visit) (file : List ℕ) (amount : ℚ) → answered.IsAnswered passes_Q net.net amount augments (Err fault) → IsGiving shelf net (requests.Quick file amount augments) result }
+{
+    match fault {
+        QuickFault::Budget { walks } => end_over_budget(alloc, net, augments, walks),
+        QuickFault::Unbounded { .. } => Err(Refusal::Unbounded),
+        QuickFault::Passed(at) => Err(Refusal::Passes(at)),
+        QuickFault::Memory => Err(Refusal::NoMemory),
+    }
+}
+
+// A quickest flow of an amount, beside the arrival in an equilibrium of who departs when the amount is supplied.
+fn beside_arrival(alloc: Global, net: Network, amount: Q, quick: Quick) -> Result<Outcome, Refusal>
+    requires amount { 0ℚ ≤ℚ amount }
+    requires flow { IsQuickFlow net.net amount quick }
+    ensures { (shelf : Visit) (file : List ℕ) (augments : ℕ) → answered.IsAnswered passes_Q net.net amount augments (Ok quick)
+        → IsGiving shelf net (requests.Quick file amount augments) result }
+{
+    let departs = departure(&net, amount)?;
+    let arrival = find_arrival(alloc, &net, departs)?;
+    let text = flow_text(alloc, &net, &quick)?;
+    Ok(Outcome::Quickest {
+        net,
+        quick,
+        arrival,
+        text,
+    })
+}
+
+// The quickest flow of an amount in the network, and the arrival in an equilibrium of who departs when the amount is supplied.
+fn quick_to(alloc: Global, net: Network, amount: Q, augments: u64) -> Result<Outcome, Refusal>
+    requires amount { 0ℚ ≤ℚ amount }
+    requires augments { 1 ≤ augments }
+    ensures { (shelf : Visit) (file : List ℕ) → IsGiving shelf net (requests.Quick file amount augments) result }
+{
+    match quickest(alloc, &net, amount, augments) {
+        Ok(quick) => beside_arrival(alloc, net, amount, quick),
+        Err(fault) => refuse_quick(alloc, net, augments, fault),
+    }
 }
 
 /// What the words give with the files of the shelf.
@@ -136,6 +228,14 @@ pub(crate) fn answer<S: Shelf>(
         } => {
             let (net, loads) = fetch_network_with(alloc, shelf, file, loads, LONGEST_LOADS)?;
             load_to(alloc, net, &loads, horizon)
+        }
+        Request::Quick {
+            file,
+            amount,
+            augments,
+        } => {
+            let net = fetch_network(alloc, shelf, file)?;
+            quick_to(alloc, net, amount, augments)
         }
     }
 }

@@ -1,21 +1,32 @@
 // What the two sinks are given.
-ghost use Rattle.std.specs.Prelude.{◌≡◌};
+ghost use Rattle.std.specs.Prelude.{◌≡◌, ◌++◌};
 ghost use Rattle.std.specs.Option.{option_copied};
 ghost use Rattle.nf_edge.specs.Taken.{Wrote};
 ghost use Rattle.nf_app.specs.Answers.{status_of, status_of_cause, status_of_stop, err_text, text_of_stop};
+ghost use Rattle.nf_app.specs.QuickText.{arrival_text};
 ghost use Rattle.nf_app.specs.Refusals.{answer_of};
 ghost use Rattle.nf_app.specs.Outcomes.{answer_in, text_in, HasText};
 ghost use Rattle.nf_app.specs.Sinks.{TookText};
 ghost use Rattle.nf_app.specs.Runs.{IsShown};
 
+use crate::arrival::Arrival;
 use crate::load_text::write_loads;
 use crate::outcome::Outcome;
+use crate::quick_text::write_arrival;
 use crate::refusal::Refusal;
 use crate::status::Status;
-use crate::telling::{write_refusal, write_stopped};
+use crate::telling::{write_over_budget, write_refusal, write_stopped};
 use nf_curve::Stop;
 use nf_edge::{Sink, SinkFault, write_text};
 use nf_report::write_report;
+
+// The text of a quickest flow, and then that of the arrival.
+fn write_quick<O: Sink>(text: &[u8], arrival: &Arrival, out: &mut O) -> Result<(), SinkFault>
+    ensures { Wrote (O.took out.old) (O.took out.new) (O.faults out.old) (O.faults out.new) (text.now ++ arrival_text arrival.now) result }
+{
+    write_text(out, text)?;
+    write_arrival(out, arrival)
+}
 
 // The text of the outcome.
 fn write_outcome<O: Sink>(outcome: &Outcome, out: &mut O) -> Result<(), SinkFault>
@@ -41,6 +52,8 @@ fn write_outcome<O: Sink>(outcome: &Outcome, out: &mut O) -> Result<(), SinkFaul
             horizon,
             links,
         } => write_loads(out, net, *horizon, links),
+        Outcome::Quickest { arrival, text, .. } => write_quick(text, arrival, out),
+        Outcome::TooManyWalks { text, .. } => write_text(out, text),
     }
 }
 
@@ -75,6 +88,25 @@ fn tell_stop<E: Sink>(stop: Option<&Stop>, err: &mut E) -> Status
     }
 }
 
+// Says why an outcome isn't the whole answer, if it isn't.
+fn tell<E: Sink>(outcome: &Outcome, err: &mut E) -> Status
+    ensures status { result ≡ status_of (answer_in outcome.now) }
+    ensures told { TookText (record {
+      before = E.took err.old;
+      now = E.took err.new;
+      faults_before = E.faults err.old;
+      faults_now = E.faults err.new;
+    }) (err_text (answer_in outcome.now)) }
+{
+    match outcome {
+        Outcome::TooManyWalks { augments, .. } => {
+            let _ = write_over_budget(err, *augments);
+            Status::Augments
+        }
+        _ => tell_stop(outcome.stop(), err),
+    }
+}
+
 /// Writes the text of an outcome, and says how the run ends.
 pub(crate) fn give<O: Sink, E: Sink>(outcome: &Outcome, out: &mut O, err: &mut E) -> Status
     requires { HasText outcome.now }
@@ -91,7 +123,7 @@ pub(crate) fn give<O: Sink, E: Sink>(outcome: &Outcome, out: &mut O, err: &mut E
     }) result }
 {
     match write_outcome(outcome, out) {
-        Ok(()) => tell_stop(outcome.stop(), err),
+        Ok(()) => tell(outcome, err),
         Err(SinkFault) => {
             let _ = write_text(err, b"nfot: output\n");
             Status::Output

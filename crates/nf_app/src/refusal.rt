@@ -28,6 +28,8 @@ pub(crate) enum Refusal {
     MalformedLoads { rule: LoadRule, line: u32 },
     /// This operation passes the bound.
     Passes(PassedAt<Q>),
+    /// A walk of unbounded links leads from source to sink.
+    Unbounded,
 }
 
 impl Refusal {
@@ -43,6 +45,7 @@ impl Refusal {
             Refusal::Malformed { .. } => Status::Malformed,
             Refusal::MalformedLoads { .. } => Status::Malformed,
             Refusal::Passes(_) => Status::Passed,
+            Refusal::Unbounded => Status::Unbounded,
         }
     }
 }
@@ -97,5 +100,13 @@ impl From<Halt<Q>> for Refusal {
             Halt::Passed(at) => Refusal::Passes(at),
             Halt::Memory => Refusal::NoMemory,
         }
+    }
+}
+
+impl From<PassedAt<Q>> for Refusal {
+    ghost from_gives = { λ at refusal. refusal ≡ Refusal.Passes at };
+
+    fn from(at: PassedAt<Q>) -> Self {
+        Refusal::Passes(at)
     }
 }

@@ -1,12 +1,12 @@
 // What the words of the command line ask.
-ghost use Rattle.std.specs.Prelude.{◌≡◌, option_map, IfSome};
+ghost use Rattle.std.specs.Prelude.{◌≡◌, ◌≤◌, option_map, IfSome};
 ghost use Rattle.nf_edge.specs.Names.{texts};
 ghost use Rattle.nf_rational.specs.Operations.{0ℚ};
 ghost use Rattle.nf_rational.specs.Order.{◌≤ℚ◌};
-ghost use Rattle.nf_app.specs.Requests.{CanBeAsked, horizon_of, solve_request, solve_words, show_words, load_words, command_of, request_of};
+ghost use Rattle.nf_app.specs.Requests.{CanBeAsked, not_negative_of, solve_request, solve_words, show_words, load_words, quick_request, quick_words, command_of, request_of};
 ghost use Rattle.nf_app.specs.Requested.{requested};
 
-use crate::budgets::read_budgets;
+use crate::budgets::{read_augments, read_budgets};
 use nf_frac::Q;
 use nf_phase::Budgets;
 
@@ -29,16 +29,22 @@ pub(crate) enum Request<'w> {
         loads: &'w str,
         horizon: Q,
     },
+    /// The quickest flow of an amount of at least 0 in a network, by at most so many walks, at least one, that are pushed.
+    Quick {
+        file: &'w str,
+        amount: Q,
+        augments: u64,
+    },
 }
 
-// A horizon is a number of at least 0.
+// A horizon, or an amount: a number of at least 0.
 #[tactic(auto, using(nf_frac::proofs::Comparisons::le_by_order))]
-fn read_horizon(word: &str) -> Option<Q>
-    ensures value { result ≡ horizon_of word.now }
-    ensures at_least_0 { IfSome result (λ horizon. 0ℚ ≤ℚ horizon) }
+fn read_not_negative(word: &str) -> Option<Q>
+    ensures value { result ≡ not_negative_of word.now }
+    ensures at_least_0 { IfSome result (λ number. 0ℚ ≤ℚ number) }
 {
     match Q::read(word.as_bytes()) {
-        Ok(horizon) if Q::zero() <= horizon => Some(horizon),
+        Ok(number) if Q::zero() <= number => Some(number),
         _ => None,
     }
 }
@@ -75,7 +81,7 @@ fn read_solve(words: &[String]) -> Option<Request>
             }
             solve_file(
                 file.as_str(),
-                read_horizon(word.as_str()),
+                read_not_negative(word.as_str()),
                 read_budgets(more),
             )
         }
@@ -106,12 +112,49 @@ fn read_load(words: &[String]) -> Option<Request>
             if option.as_str() != "--horizon" {
                 return None;
             }
-            let horizon = read_horizon(word.as_str())?;
+            let horizon = read_not_negative(word.as_str())?;
             Some(Request::Load {
                 file: file.as_str(),
                 loads: loads.as_str(),
                 horizon,
             })
+        }
+        _ => None,
+    }
+}
+
+// The file, the amount and how many walks may be pushed, where both numbers are known.
+fn quick_file<'w>(file: &'w str, amount: Option<Q>, augments: Option<u64>) -> Option<Request<'w>>
+    requires amount { IfSome amount (λ amount. 0ℚ ≤ℚ amount) }
+    requires augments { IfSome augments (λ augments. 1 ≤ augments) }
+    ensures value { quick_request file.now amount augments ≡ option_map requested result }
+    ensures can_be { IfSome result (λ request. CanBeAsked (requested request)) }
+{
+    match (amount, augments) {
+        (Some(amount), Some(augments)) => Some(Request::Quick {
+            file,
+            amount,
+            augments,
+        }),
+        _ => None,
+    }
+}
+
+// `quick NET --amount Q [--augments N]`
+fn read_quick(words: &[String]) -> Option<Request>
+    ensures value { quick_words (texts words.now) ≡ option_map requested result }
+    ensures can_be { IfSome result (λ request. CanBeAsked (requested request)) }
+{
+    match words {
+        [file, option, word, more @ ..] => {
+            if option.as_str() != "--amount" {
+                return None;
+            }
+            quick_file(
+                file.as_str(),
+                read_not_negative(word.as_str()),
+                read_augments(more),
+            )
         }
         _ => None,
     }
@@ -128,6 +171,8 @@ fn read_command<'w>(command: &str, words: &'w [String]) -> Option<Request<'w>>
         read_show(words)
     } else if command == "load" {
         read_load(words)
+    } else if command == "quick" {
+        read_quick(words)
     } else {
         None
     }

@@ -24,6 +24,10 @@ pub enum Status {
     NoPattern,
     /// The output takes no more bytes.
     Output,
+    /// As many walks as allowed were pushed for a quickest flow, and the next is shorter than its time.
+    Augments,
+    /// A walk of unbounded links leads from source to sink, so that there is no quickest flow of an amount above 0.
+    Unbounded,
 }
 
 impl Status {
@@ -44,6 +48,8 @@ impl Status {
             Status::Passed => 7,
             Status::NoPattern => 8,
             Status::Output => 9,
+            Status::Augments => 11,
+            Status::Unbounded => 14,
         }
     }
 }

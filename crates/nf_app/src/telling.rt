@@ -2,7 +2,7 @@
 ghost use Rattle.std.specs.Prelude.{◌≡◌, flat_map};
 ghost use Rattle.nf_edge.specs.Taken.{Wrote};
 ghost use Rattle.nf_readings.specs.RuleWords.{load_rule_word};
-ghost use Rattle.nf_app.specs.ErrorLines.{rule_word, broken_line, stopped_line, passed_line};
+ghost use Rattle.nf_app.specs.ErrorLines.{rule_word, broken_line, stopped_line, passed_line, augments_line};
 ghost use Rattle.nf_app.specs.Answers.{err_text};
 ghost use Rattle.nf_app.specs.Refusals.{answer_of};
 
@@ -131,6 +131,7 @@ pub(crate) fn write_refusal<E: Sink>(err: &mut E, refusal: &Refusal) -> Result<(
             write_broken(err, b"loads", *line, load_rule_text(*rule))
         }
         Refusal::Passes(at) => write_passed(err, at),
+        Refusal::Unbounded => write_text(err, b"nfot: unbounded\n"),
     }
 }
 
@@ -141,4 +142,14 @@ pub(crate) fn write_stopped<E: Sink>(err: &mut E, stop: &Stop) -> Result<(), Sin
 {
     write_text(err, b"nfot: ")?;
     write_stop(err, b"stopped:", stop)
+}
+
+/// How many walks were pushed, as many as allowed.
+pub(crate) fn write_over_budget<E: Sink>(err: &mut E, augments: u64) -> Result<(), SinkFault>
+    ensures { Wrote (E.took err.old) (E.took err.new) (E.faults err.old) (E.faults err.new)
+        (augments_line augments) result }
+{
+    let mut count = TextBuf::new();
+    write_count(augments, &mut count);
+    write_texts(err, &[b"nfot: augments ", count.text(), b"\n"])
 }

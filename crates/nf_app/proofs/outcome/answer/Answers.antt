@@ -5,7 +5,7 @@ use Rattle.nf_app.specs.declared.request.Request as code
 use Rattle.nf_app.specs.Files.{Visit}
 use Rattle.nf_app.specs.Fetching.{IsTold}
 use Rattle.nf_app.specs.Requested.{requested}
-use Rattle.nf_app.specs.Requests.{Request, CanBeAsked, network_file, loads_file, Solve, Show, Load}
+use Rattle.nf_app.specs.Requests.{Request, CanBeAsked, network_file, loads_file, Solve, Show, Load, Quick}
 use Rattle.nf_app.proofs.Calls.{refused, given}
 use Rattle.nf_app.proofs.outcome.answer.Goals as goal
 
@@ -58,3 +58,22 @@ returns-in_ok-net-in-Load g c =
     given (texts c.args.words.now) shelf (Load c.in-Load.file.now c.in-Load.loads.now c.in-Load.horizon)
     (c.in-Some.ensures.value ∙ ap (λ (o : Option code.Request). option_map requested o) (ap Some c.in-Load.is)) (network_file c.in-Load.file.now) (loads_file c.in-Load.loads.now ∷ []) refl
     c.in_ok-net-in-Load.net (c.in_ok-net-in-Load.loads.items ∷ []) c.in_ok-net-in-Load.ensures.read c.load_to.result (c.load_to.ensures shelf c.in-Load.file.now c.in-Load.loads.now told)
+
+pub quick_to-requires-clause-amount : goal.quick_to-requires-clause-amount
+quick_to-requires-clause-amount g c = (subst (λ (r : Request). CanBeAsked r) (ap requested c.in-Quick.is) c.in-Some.ensures.can_be).0
+
+pub quick_to-requires-clause-augments : goal.quick_to-requires-clause-augments
+quick_to-requires-clause-augments g c = (subst (λ (r : Request). CanBeAsked r) (ap requested c.in-Quick.is) c.in-Some.ensures.can_be).1
+
+pub returns-in_ok-net-in-Quick : goal.returns-in_ok-net-in-Quick
+returns-in_ok-net-in-Quick g c =
+    let shelf : Visit = (record {
+      told = g.S.Shelf.told c.args.shelf.now;
+      asked_before = g.S.Shelf.asked c.args.shelf.now;
+      asked_now = g.S.Shelf.asked c.fetch_network-in-Quick.new.shelf;
+      faults_before = g.S.Shelf.faults c.args.shelf.now;
+      faults_now = g.S.Shelf.faults c.fetch_network-in-Quick.new.shelf;
+      taken = g.S.Shelf.taken c.fetch_network-in-Quick.new.shelf;
+    }) in
+    given (texts c.args.words.now) shelf (Quick c.in-Quick.file.now c.in-Quick.amount c.in-Quick.augments) (c.in-Some.ensures.value ∙ ap (λ (o : Option code.Request). option_map requested o) (ap Some c.in-Quick.is)) (network_file c.in-Quick.file.now) [] refl
+    c.in_ok-net-in-Quick.net [] c.in_ok-net-in-Quick.ensures c.quick_to.result (c.quick_to.ensures shelf c.in-Quick.file.now)

@@ -1,4 +1,4 @@
-use Rattle.std.proofs.Common.{◌≡◌, List, sym, ap, ◌∙◌}
+use Rattle.std.proofs.Common.{◌≡◌, ℕ, List, ◌++◌, sym, ap, subst, ◌∙◌}
 use Rattle.std.specs.Prelude.{map}
 use Rattle.std.specs.Option.{option_copied}
 use Rattle.nf_formats.specs.Report.{Report, report_text}
@@ -7,7 +7,9 @@ use Rattle.nf_phase.specs.Solution.{report_in}
 use Rattle.nf_readings.specs.Texts.{load_text}
 use Rattle.nf_load.specs.declared.loading.Loaded as code
 use Rattle.nf_load.specs.Loadings.{loaded_of}
-use Rattle.nf_app.specs.Outcomes.{text_in}
+use Rattle.nf_app.specs.declared.outcome.Outcome.{Outcome}
+use Rattle.nf_app.specs.QuickText.{arrival_text}
+use Rattle.nf_app.specs.Outcomes.{text_in, HasText}
 use Rattle.nf_app.proofs.ErrorTexts.{same_text}
 use Rattle.nf_app.proofs.output.write_outcome.Goals as goal
 
@@ -24,3 +26,9 @@ returns-in-Loaded g c =
     same_text (load_text c.in-Loaded.net c.in-Loaded.horizon (map loaded_of c.deref-in-Loaded.result.now)) (text_in c.args.outcome.now)
     (ap (λ (l : List code.Loaded). load_text c.in-Loaded.net c.in-Loaded.horizon (map loaded_of l)) c.deref-in-Loaded.ensures.value ∙ sym (ap text_in c.in-Loaded.is))
     c.write_loads.ensures
+
+pub returns-in-Quickest : goal.returns-in-Quickest
+returns-in-Quickest g c =
+    same_text (c.deref-in-Quickest.result.now ++ arrival_text c.in-Quickest.arrival) (text_in c.args.outcome.now)
+    (ap (λ (l : List ℕ). l ++ arrival_text c.in-Quickest.arrival) (c.deref-in-Quickest.ensures.value ∙ subst (λ (o : Outcome). HasText o) c.in-Quickest.is c.requires)
+    ∙ sym (ap text_in c.in-Quickest.is)) c.write_quick.ensures

@@ -1,0 +1,156 @@
+-- What a request for a quickest flow gives, from what its calls answer; and the arrival in a run.
+use Rattle.std.proofs.Common.{Vec, Global, ◌≡◌, ◌⊎◌, ℕ, zero, suc, ◌-◌, ◌<◌, ◌≤◌, arith, List, [], ◌∷◌, ◌++◌, length, refl, sym, ap, subst, ◌∙◌, inl, inr}
+use Rattle.std.specs.Prelude.{Option, Some, None, IfSome, Result, Ok, Err, slice_get, unwrap_or, map}
+use Rattle.std.specs.List.{last_or}
+use Rattle.std.proofs.lemmas.List.{length-map}
+use Rattle.std.specs.Option.{option_map_or}
+use Rattle.nf_rational.specs.Rational.{ℚ}
+use Rattle.nf_rational.specs.Operations.{0ℚ}
+use Rattle.nf_rational.specs.Order.{◌≤ℚ◌}
+use Rattle.nf_rational_laws.proofs.Chains.{≤ℚ_refl}
+use Rattle.nf_work.specs.Passing.{passes_Q}
+use Rattle.nf_work.specs.declared.PassedAt.{PassedAt}
+use Rattle.nf_model.specs.Curve.{Point, value, IsCurve}
+use Rattle.nf_model.specs.Network.{Network, IsNetwork}
+use Rattle.nf_model.specs.Equilibrium.{inflow, label, points_at}
+use Rattle.nf_model.specs.Earliest.{IsEarliest}
+use Rattle.nf_model_laws.proofs.Curves.{EndsAt, EndsAt-value}
+use Rattle.nf_formats.specs.declared.Cause.{Cause}
+use Rattle.nf_formats.specs.Named.{Named}
+use Rattle.nf_formats.specs.Report.{Report}
+use Rattle.nf_lists.specs.Ends.{end_of}
+use Rattle.nf_lists.specs.ReportCurves.{GrowingCurve}
+use Rattle.nf_lists.specs.PhaseRun.{Standing, flow_of, report_of}
+use Rattle.nf_lists_laws.proofs.Ending.{run_ends}
+use Rattle.nf_phase.specs.Solution.{bounds_of, IsSolution}
+use Rattle.nf_app.specs.declared.arrival.Arrival.{Arrival}
+use Rattle.nf_quick_lists.specs.Quick.{Quick as QuickFlow}
+use Rattle.nf_quick_lists.specs.Answers.{IsQuickFlow}
+use Rattle.nf_quick_lists.specs.Departures.{IsDeparture}
+use Rattle.nf_quick_lists.specs.Quick as lists
+use Rattle.nf_quick.specs.Answered.{HasNoWay, IsAnswered}
+use Rattle.nf_quick.specs.declared.fault.QuickFault.{QuickFault}
+use Rattle.nf_curve.specs.Flows.{flow_of as shown_flow}
+use Rattle.nf_curve.specs.declared.flow.Flow.{Flow as CodeFlow}
+use Rattle.nf_app.specs.Files.{Visit}
+use Rattle.nf_app.specs.Requests.{Quick, usual_budgets}
+use Rattle.nf_app.specs.Answers.{Quickest, TooManyWalks, Passes, Unbounded}
+use Rattle.nf_app.specs.Given.{IsGiven}
+use Rattle.nf_app.specs.QuickGiven.{flow_list, departs_list, arrival_of, ArrivesIn, IsArrival}
+
+-- ---- the last point of a curve
+last_end : {A : Type 0} (d : Option A) (front : List A) (p : A) → last_or d (front ++ p ∷ []) ≡ Some p
+last_end d [] p = refl
+last_end d (x ∷ front) p = last_end (Some x) front p
+
+last_split : {A : Type 0} (points : List A) (p : A) → slice_get points (length points - 1) ≡ Some p → (front : List A) × (points ≡ front ++ p ∷ [])
+last_split [] p e = absurd (cc)
+last_split {A} (x ∷ []) p e = let same : x ≡ p = cc in ([], ap (λ (z : A). z ∷ []) same)
+last_split {A} (x ∷ y ∷ rest) p e =
+    let i : length (x ∷ y ∷ rest) - 1 ≡ suc (length rest) = omega arith in
+    let j : length (y ∷ rest) - 1 ≡ length rest = omega arith in
+    let there : slice_get (y ∷ rest) (length (y ∷ rest) - 1) ≡ Some p =
+    ap (λ (k : ℕ). slice_get (y ∷ rest) k) j ∙ sym (ap (λ (k : ℕ). slice_get (x ∷ y ∷ rest) k) i) ∙ e in
+    let h = last_split (y ∷ rest) p there in
+    (x ∷ h.0, ap (λ (l : List A). x ∷ l) h.1)
+
+-- it ends at its last point, and so has that value from then on
+pub value_at_end : (points : List Point) (p : Point) (time : ℚ) → IsCurve points → slice_get points (length points - 1) ≡ Some p → end_of points ≡ time → value points time ≡ p.1
+value_at_end points p time curve is ends =
+    let h = last_split points p is in
+    let last : last_or None points ≡ Some p = ap (λ (l : List Point). last_or None l) h.1 ∙ last_end None h.0 p in
+    let at : p.0 ≡ time = sym (ap (λ (o : Option Point). option_map_or (λ point. point.0) o 0ℚ) last) ∙ ends in
+    EndsAt-value points p time (record { front = h.0; same = h.1; curve = curve }) (subst (λ (t : ℚ). p.0 ≤ℚ t) at (≤ℚ_refl p.0))
+
+-- a curve of a run by its number
+ends_there : (curves : List GrowingCurve) (v : ℕ) (time : ℚ) → v < length curves → ((curve : GrowingCurve) → slice_get curves v ≡ Some curve → end_of curve.points ≡ time)
+    → end_of (points_at (map (λ curve. curve.points) curves) v) ≡ time
+ends_there [] v time h k = absurd (omega arith)
+ends_there (c ∷ curves) zero time h k = k c refl
+ends_there (c ∷ curves) (suc v) time h k = ends_there curves v time (omega arith) k
+
+-- the sink's label curve, as the code has it
+pub sink_in : (net : Network) (flow : CodeFlow) (v : ℕ) → v < net.nodes → length (shown_flow flow).labels ≡ net.nodes → v < length flow.labels.items
+sink_in net flow v h count =
+    let same : length (shown_flow flow).labels ≡ length flow.labels.items = length-map flow.labels.items (λ c. c.points) in
+    omega arith
+
+pub at_sink : (flow : CodeFlow) (v sink : ℕ) (p : Point) → v ≡ sink → slice_get (points_at (shown_flow flow).labels v) (length (points_at (shown_flow flow).labels v) - 1) ≡ Some p
+    → slice_get (points_at (shown_flow flow).labels sink) (length (points_at (shown_flow flow).labels sink) - 1) ≡ Some p
+at_sink flow v sink p e h = subst (λ (u : ℕ). slice_get (points_at (shown_flow flow).labels u) (length (points_at (shown_flow flow).labels u) - 1) ≡ Some p) e h
+
+-- ---- the arrival in a run
+module _ (net : Network) (good : IsNetwork net) (departs : ℚ) (report : Report) (phases : ℕ) (solution : IsSolution net (bounds_of departs usual_budgets) phases report) where
+  -- the run is stopped
+  pub stopped_arrives : (cause : Cause ℚ) → report.stop ≡ Some cause → ArrivesIn net departs (Arrival.Stopped cause)
+  stopped_arrives cause e = record {
+    report = report;
+    phases = phases;
+    solution = solution;
+    arrival_is = ap (λ (o : Option (Cause ℚ)). arrival_of o (label report.flow net.sink departs)) (sym e);
+    earliest = λ time is. absurd (cc);
+  }
+
+  module _ (sink : net.sink < net.nodes) (from_0 : 0ℚ ≤ℚ departs) (no_stop : report.stop ≡ None) where
+    abbrev last : Standing
+    last = solution.run.last
+
+    report_is : report ≡ report_of departs last solution.run.stop
+    report_is = solution.run.report_is
+
+    reached : report.flow.reached ≡ departs
+    reached = solution.well_formed.stop.0 no_stop ∙ ap (λ (r : Report). r.horizon) report_is
+
+    labels_are : report.flow.labels ≡ map (λ curve. curve.points) last.label_curves
+    labels_are = ap (λ (r : Report). r.flow.labels) report_is
+
+    many : net.sink < length last.label_curves
+    many = let count : length report.flow.labels ≡ net.nodes = solution.well_formed.shape.labels.count in
+        let same : length report.flow.labels ≡ length last.label_curves = ap length labels_are ∙ length-map last.label_curves (λ curve. curve.points) in
+        omega arith
+
+    ends : end_of (points_at report.flow.labels net.sink) ≡ departs
+    ends = ap (λ (l : List (List Point)). end_of (points_at l net.sink)) labels_are
+        ∙ ends_there last.label_curves net.sink last.time many
+        ((run_ends passes_Q net good (bounds_of departs usual_budgets) last solution.run.stop solution.run.run).labels net.sink)
+        ∙ sym (ap (λ (r : Report). r.flow.reached) report_is) ∙ reached
+
+    -- the run comes to the departure
+    pub reached_arrives : (p : Point) → slice_get (points_at report.flow.labels net.sink) (length (points_at report.flow.labels net.sink) - 1) ≡ Some p → ArrivesIn net departs (Arrival.At p.1)
+    reached_arrives p is =
+        let at : label report.flow net.sink departs ≡ p.1 = value_at_end (points_at report.flow.labels net.sink) p departs (solution.well_formed.shape.labels.each net.sink sink) is ends in
+        let first : IsEarliest net (inflow report.flow) net.sink departs (label report.flow net.sink departs) =
+        solution.equilibrium.nash.labels net.sink departs sink (from_0, subst (λ (t : ℚ). departs ≤ℚ t) (sym reached) (≤ℚ_refl departs)) in
+        record {
+          report = report;
+          phases = phases;
+          solution = solution;
+          arrival_is = ap Arrival.At (sym at) ∙ ap (λ (o : Option (Cause ℚ)). arrival_of o (label report.flow net.sink departs)) (sym no_stop);
+          earliest = λ time same. let it : p.1 ≡ time = cc in subst (λ (t : ℚ). IsEarliest net (inflow report.flow) net.sink departs t) (at ∙ it) first;
+        }
+
+-- ---- what is given, from what `quickest` and `departure` answer
+module _ (shelf : Visit) (n : Named) (file : List ℕ) (amount : ℚ) (augments : ℕ) where
+  pub budget_given : (walks : List lists.Augment) → HasNoWay n.net amount → flow_list n.net amount augments ≡ Ok (lists.Budget walks)
+      → IsGiven shelf n (Quick file amount augments) (TooManyWalks n augments walks)
+  budget_given walks none listed = inr (inl (walks, refl, record { no_way = none; computed = listed }))
+
+  pub unbounded_given : (links : Vec ℕ Global) → IsAnswered passes_Q n.net amount augments (Err (QuickFault.Unbounded links)) → IsGiven shelf n (Quick file amount augments) Unbounded
+  unbounded_given links h = inr (inr (inr (refl, (h.0, (links.items, h.1)))))
+
+  pub passed_given : (at : PassedAt ℚ) → IsAnswered passes_Q n.net amount augments (Err (QuickFault.Passed at)) → IsGiven shelf n (Quick file amount augments) (Passes at)
+  passed_given at h = inr (inr (inl (at, refl, record { no_way = h.0; passes = inl h.1 })))
+
+  module _ (quick : QuickFlow) (h : IsAnswered passes_Q n.net amount augments (Ok quick)) where
+    pub departure_passes : (at : PassedAt ℚ) → Err at ≡ departs_list n.net amount → IsGiven shelf n (Quick file amount augments) (Passes at)
+    departure_passes at e = inr (inr (inl (at, refl, record { no_way = h.0; passes = inr (quick, h.1, sym e) })))
+
+    pub quickest_given : IsQuickFlow n.net amount quick → (departs : Option ℚ) → Ok departs ≡ departs_list n.net amount → IsDeparture n.net amount departs
+        → (arrival : Arrival) → IsArrival n.net departs arrival → IsGiven shelf n (Quick file amount augments) (Quickest n quick arrival)
+    quickest_given flow departs e least arrival arrives =
+        inl (quick, arrival, refl, record { no_way = h.0; computed = h.1; flow = flow; departs = departs; departs_computed = sym e; least = least; arrives = arrives })
+
+-- a departure is at least 0
+pub from_0 : (net : Network) (amount : ℚ) (departs : Option ℚ) → IsDeparture net amount departs → IfSome departs (λ time. 0ℚ ≤ℚ time)
+from_0 net amount None h = tt
+from_0 net amount (Some time) h = h.0

@@ -1,0 +1,72 @@
+// The arrival of who departs in an equilibrium.
+ghost use Rattle.std.specs.Prelude.{◌≡◌, ◌<◌, ◌-◌, length, slice_get, Some, IfSome, IfOk};
+ghost use Rattle.nf_rational.specs.Operations.{0ℚ};
+ghost use Rattle.nf_rational.specs.Order.{◌≤ℚ◌};
+ghost use Rattle.nf_model.specs.Equilibrium.{points_at};
+ghost use Rattle.nf_curve.specs.Flows.{flow_of};
+ghost use Rattle.nf_app.specs.QuickGiven.{IsArrival, ArrivesIn};
+
+use crate::budgets::usual_budgets;
+use nf_curve::{Curve, Flow, Stop};
+use nf_frac::Q;
+use nf_net::{Network, NodeId};
+use nf_phase::solve;
+use std::alloc::{AllocError, Global};
+
+/// When the flow arrives of which an amount is to be supplied, in an equilibrium.
+#[derive(Clone, Copy, Debug, PartialEq, Eq)]
+pub enum Arrival {
+    /// The amount is never supplied.
+    Never,
+    /// The arrival at the sink, a time.
+    At(Q),
+    /// The run ended before the departure.
+    Stopped(Stop),
+}
+
+// The last point of a curve.
+fn last_point(curve: &Curve) -> (Q, Q)
+    ensures { slice_get curve.now.points (length curve.now.points - 1) ≡ Some result }
+{
+    curve.point(curve.len() - 1)
+}
+
+// The last point of the label curve of a node.
+fn last_label(flow: &Flow, node: NodeId) -> (Q, Q)
+    requires { node < length flow.now.labels.items }
+    ensures { slice_get (points_at (flow_of flow.now).labels node) (length (points_at (flow_of flow.now).labels node) - 1) ≡ Some result }
+{
+    let place = node.index();
+    let label = &flow.labels[place];
+    last_point(label)
+}
+
+// The arrival of who departs at this time.
+fn arrival_at(alloc: Global, net: &Network, departs: Q) -> Result<Arrival, AllocError>
+    requires { 0ℚ ≤ℚ departs }
+    ensures { IfOk result (ArrivesIn net.now.net departs) }
+{
+    let _named = net.version();
+    let budgets = usual_budgets();
+    let solution = solve(alloc, net, departs, budgets)?;
+    match solution.stopped.as_ref() {
+        Some(stop) => Ok(Arrival::Stopped(*stop)),
+        None => Ok(Arrival::At(last_label(&solution.flow, net.sink()).1)),
+    }
+}
+
+/// The arrival at the sink, in an equilibrium of the network, of who departs at this time; there is no such time where the amount is
+/// never supplied. The network is solved to the departure within the usual budgets.
+pub(crate) fn find_arrival(
+    alloc: Global,
+    net: &Network,
+    departs: Option<Q>,
+) -> Result<Arrival, AllocError>
+    requires { IfSome departs (λ time. 0ℚ ≤ℚ time) }
+    ensures { IfOk result (IsArrival net.now.net departs) }
+{
+    match departs {
+        None => Ok(Arrival::Never),
+        Some(departs) => arrival_at(alloc, net, departs),
+    }
+}
