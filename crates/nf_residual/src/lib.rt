@@ -2,12 +2,12 @@
 //! 1958 and Ford 1956).
 #![tactic(auto)]
 
+mod legs;
+mod reaches;
 mod residual;
 mod room;
 mod rounds;
 mod step;
-#[cfg(test)]
-mod tests;
 mod ways;
 
 pub use residual::Residual;

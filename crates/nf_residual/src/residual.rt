@@ -1,5 +1,5 @@
 // A static flow, and its residual walks.
-ghost use Rattle.std.specs.Prelude.{◌≡◌, ◌<◌, length, map, option_map, set, replicate, Some, IfOk, OnErr, OnOk};
+ghost use Rattle.std.specs.Prelude.{◌≡◌, ◌<◌, length, set, replicate, Some, IfOk, OnErr, OnOk};
 ghost use Rattle.std.specs.List.{AllByRecursion};
 ghost use Rattle.nf_rational.specs.Operations.{0ℚ};
 ghost use Rattle.nf_rational.specs.Order.{◌≤ℚ◌, ◌<ℚ◌};
@@ -8,16 +8,16 @@ ghost use Rattle.nf_work.specs.Passing.{passes_Q};
 ghost use Rattle.nf_work.specs.Checked.{at_part, fold_checked, seen_at, Gives};
 ghost use Rattle.nf_model.specs.Entries.{number_at};
 ghost use Rattle.nf_quick_lists.specs.Order.{Reach as SeenReach};
-ghost use Rattle.nf_quick_lists.specs.Rounds.{known_at, with_room as with_room_by, shortest_list, distances_list};
+ghost use Rattle.nf_quick_lists.specs.Rounds.{with_room as with_room_by, shortest_list, distances_list};
 ghost use Rattle.nf_quick_lists.specs.Pushes.{push_step, push_list};
 ghost use Rattle.nf_quick_lists.specs.Flows.{IsSound};
 ghost use Rattle.nf_quick_lists.specs.Steps.{IsLimited};
 ghost use Rattle.nf_quick_lists.specs.Answers.{IsShortestWalk, IsShortest, AreLeastLengths};
 
+use crate::reaches::Reach;
 use crate::room::room_of;
 use crate::rounds::reaches;
 use crate::step::{Step, Walk, changed};
-use crate::ways::Reach;
 use nf_frac::{Halt, PassedAt, Q};
 use nf_graph::{LinkId, NodeId};
 use nf_net::Network;
@@ -72,15 +72,6 @@ fn move_along(flows: &mut Vec<Q>, steps: &[Step], amount: Q) -> Result<(), Passe
     Ok(())
 }
 
-// What is known of a node.
-fn way_to(known: Vec<Option<Reach>>, node: NodeId) -> Option<Reach>
-    requires { node < length known.items }
-    ensures { result ≡ known_at known.items node }
-{
-    let mut known = known;
-    known.swap_remove(node.index())
-}
-
 // The walk of a way, with its room.
 fn with_room(net: &Network, flows: &[Q], way: Option<Reach>) -> Result<Option<Walk>, PassedAt<Q>>
     requires steps { (reach : SeenReach) → way ≡ Some reach → AllByRecursion (λ step. step.link < length net.now.net.links) reach.steps }
@@ -98,21 +89,6 @@ fn with_room(net: &Network, flows: &[Q], way: Option<Reach>) -> Result<Option<Wa
             }))
         }
     }
-}
-
-fn distance_of(way: &Option<Reach>) -> Option<Q>
-    ensures { result ≡ option_map (λ reach. reach.distance) way.now }
-{
-    match way {
-        None => None,
-        Some(way) => Some(way.distance),
-    }
-}
-
-fn distances_of(alloc: Global, known: &[Option<Reach>]) -> Result<Vec<Option<Q>>, AllocError>
-    ensures { IfOk result (λ distances. distances.items ≡ map (option_map (λ reach. reach.distance)) known.now) }
-{
-    known.iter().map(|way| distance_of(way)).collect(alloc)
 }
 
 impl Residual {
@@ -149,7 +125,7 @@ impl Residual {
         let _named = net.version();
         let flows = self.flows.as_slice();
         let known = reaches(alloc, net, flows, net.source())?;
-        let way = way_to(known, net.sink());
+        let way = known.way_to(alloc, net.sink())?;
         let walk = with_room(net, flows, way)?;
         Ok(walk)
     }
@@ -170,7 +146,7 @@ impl Residual {
         let _named = net.version();
         let flows = self.flows.as_slice();
         let known = reaches(alloc, net, flows, from)?;
-        let distances = distances_of(alloc, &known)?;
+        let distances = known.distances(alloc)?;
         Ok(distances)
     }
 
