@@ -69,15 +69,27 @@ fn worked_small(asked: &Question<127>) -> Option<Q> {
 }
 
 /// An operation that passes, with its operands.
-pub fn tell_passed<R: Print, const BITS: u32>(rt: &R, passed: &Passed<Frac<BITS>>) -> io::Result<()> {
+pub fn tell_passed<R: Print, const BITS: u32>(
+    rt: &R,
+    passed: &Passed<Frac<BITS>>,
+) -> io::Result<()> {
     let left = printed(passed.left);
     let right = printed(passed.right);
-    println!(rt; "passes {} {} {}", word(passed.op), text(&left), text(&right))
+    println!(rt;
+        "passes {} {} {}",
+        word(passed.op),
+        text(&left),
+        text(&right)
+    )
 }
 
 // The form that a value is kept in.
 fn form(value: Q) -> &'static str {
-    if value.small().is_some() { "small" } else { "wide" }
+    if value.small().is_some() {
+        "small"
+    } else {
+        "wide"
+    }
 }
 
 // Whether the small forms of the operands give the same value.
@@ -109,7 +121,12 @@ pub fn tell_wide<R: Print>(rt: &R, op: &str, left: &str, right: &str) -> io::Res
     match worked(&asked) {
         None => println!(rt; "a quotient by 0"),
         Some(Ok(value)) => {
-            println!(rt; "{}, {}, {}", text(&printed(value)), form(value), agreement(&asked, value))
+            println!(rt;
+                "{}, {}, {}",
+                text(&printed(value)),
+                form(value),
+                agreement(&asked, value)
+            )
         }
         Some(Err(passed)) => tell_passed(rt, &passed),
     }

@@ -35,10 +35,18 @@ pub fn tell<R: Print>(rt: &R, left: &str, right: &str) -> io::Result<()> {
     let (Ok(left), Ok(right)) = (Q::read(left.as_bytes()), Q::read(right.as_bytes())) else {
         return println!(rt; "no fractions");
     };
-    let agreed = if is_agreed(left, right) { "" } else { " by some calls" };
+    let agreed = if is_agreed(left, right) {
+        ""
+    } else {
+        " by some calls"
+    };
     let lesser = printed(left.lesser(right));
     let greater = printed(left.greater(right));
-    let hashes = if hash_of(left) == hash_of(right) { "equal" } else { "different" };
+    let hashes = if hash_of(left) == hash_of(right) {
+        "equal"
+    } else {
+        "different"
+    };
     println!(rt;
         "{}{agreed}, from {} to {}, hashes {hashes}",
         name(left.cmp(&right)),

@@ -76,7 +76,13 @@ fn tell_narrow<R: Print>(rt: &R, answer: &Result<Frac<15>, Passed<Frac<15>>>) ->
 fn tell_at<R: Print>(rt: &R, at: &PassedAt<Q>) -> io::Result<()> {
     let left = printed(at.left);
     let right = printed(at.right);
-    print!(rt; "; passes {:?} {} {} {}", at.part, word(at.op), text(&left), text(&right))
+    print!(rt;
+        "; passes {:?} {} {} {}",
+        at.part,
+        word(at.op),
+        text(&left),
+        text(&right)
+    )
 }
 
 fn tell_table<R: Print>(rt: &R, answer: &Result<Q, PassedAt<Q>>) -> io::Result<()> {
@@ -107,7 +113,10 @@ pub fn tell_less<R: Print>(rt: &R, a: &str, b: &str, c: &str) -> io::Result<()> 
     tell_table(rt, &product_less_at(left, right, taken))?;
     tell_halt(rt, &product_less_or_halt(left, right, taken))?;
     print!(rt; "; ")?;
-    tell_narrow(rt, &product_less(value::<15>(a), value::<15>(b), value::<15>(c)))
+    tell_narrow(
+        rt,
+        &product_less(value::<15>(a), value::<15>(b), value::<15>(c)),
+    )
 }
 
 /// The quotient, or 0 where b is 0, and the lesser of the two.
