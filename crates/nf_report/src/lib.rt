@@ -6,8 +6,6 @@ mod curves;
 mod joined;
 mod line;
 mod report;
-#[cfg(test)]
-mod tests;
 
 pub use causes::{write_passed_call, write_stop};
 pub use curves::write_curve;
