@@ -1,11 +1,11 @@
 -- The order of walks of equally many steps, from the last step back.
-use Rattle.std.proofs.Common.{◌≡◌, ℕ, zero, suc, ◌+◌, ◌-◌, ◌<◌, ◌≤◌, List, [], ◌∷◌, ◌++◌, length, Bool, true, false, nat_lt, ◌==◌, ◌&&◌, ◌||◌, not, if◌then◌else◌, ◌⊎◌, inl, inr, ⊎_elim, eqb, leb, ◌≢◌, sym, ap, refl, ◌∙◌, arith}
+use Rattle.std.proofs.Common.{◌≡◌, ℕ, suc, ◌+◌, ◌-◌, ◌<◌, ◌≤◌, List, [], ◌∷◌, ◌++◌, length, Bool, true, false, nat_lt, ◌==◌, ◌&&◌, ◌||◌, if◌then◌else◌, ◌⊎◌, inl, inr, ⊎_elim, eqb, leb, ◌≢◌, sym, ap, refl, ◌∙◌, arith}
 use Rattle.std.proofs.lemmas.Bool.Decides.{eqb_tells, leb_tells}
 use Rattle.std.proofs.lemmas.List.{length_push}
 use Rattle.nf_quick_lists.specs.Steps.{Step, place}
 use Rattle.nf_quick_lists.specs.Order.{are_before, are_fewer_or_before}
 use Rattle.nf_residual.specs.declared.ways.Twig.{Twig}
-use Rattle.nf_residual.specs.Ways.{twig_at, steps_back, way_at, one_before, IsTree}
+use Rattle.nf_residual.specs.Ways.{twig_at, steps_back, way_at, one_before}
 use Rattle.nf_residual.proofs.Twigs.{steps_are}
 
 clash : (b : Bool) → b ≡ true → b ≡ false → ⊥
@@ -96,7 +96,7 @@ module _ (tree : List Twig) (way : ℕ) (step : Step) (other : ℕ) where
     same =
         let all : count - 0 ≡ count = omega arith in
         let lengths : length (steps_back count tree way) ≡ length (steps_back count tree (twig_at tree other).before) = steps_are count tree way ∙ sym (steps_are count tree (twig_at tree other).before) in
-        before_is _ _
+        before_is ((way_at tree way).steps ++ step ∷ []) (way_at tree other).steps
         ∙ ap (λ (n : ℕ). before_then (steps_back count tree way ++ step ∷ []) (steps_back n tree other) false) counts
         ∙ before_last (steps_back count tree way) (steps_back count tree (twig_at tree other).before) step (twig_at tree other).last false lengths
         ∙ ap (λ (t : Bool). before_then (steps_back count tree way) (steps_back count tree (twig_at tree other).before) t) (sym is)

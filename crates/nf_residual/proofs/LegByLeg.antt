@@ -1,5 +1,5 @@
 -- The legs of a flow are its steps that can be gone, and a round along them is the round along all steps.
-use Rattle.std.proofs.Common.{◌≡◌, ℕ, zero, suc, ◌+◌, ◌<◌, ◌≤◌, Bool, true, false, if◌then◌else◌, List, [], ◌∷◌, ◌++◌, length, drop, Option, Some, None, slice_get, refl, sym, ap, subst, ◌∙◌, append_assoc, append-nil, add-one, arith}
+use Rattle.std.proofs.Common.{◌≡◌, ℕ, zero, suc, ◌+◌, ◌<◌, ◌≤◌, Bool, true, false, if◌then◌else◌, List, [], ◌∷◌, ◌++◌, length, drop, Some, slice_get, refl, sym, ap, subst, ◌∙◌, append_assoc, append-nil, add-one}
 use Rattle.std.specs.Prelude.{Ok, Err}
 use Rattle.std.proofs.lemmas.List.{drop_more, drop_all}
 use Rattle.std.proofs.lemmas.Option.{slice_get_within, get_or_from_slice_get}
@@ -61,16 +61,10 @@ module _ (passes : Passing) (flows : List ℚ) (before : Known) where
 none_led : (nodes : ℕ) → AreLegs nodes []
 none_led nodes k leg e = absurd (cc)
 
-led_append : (nodes : ℕ) (xs ys : List Leg) → AreLegs nodes xs → AreLegs nodes ys → AreLegs nodes (xs ++ ys)
-led_append nodes [] ys a b = b
-led_append nodes (x ∷ xs) ys a b = λ k leg e. by_place k leg e
-  where
-    by_place : (k : ℕ) (leg : Leg) → slice_get ((x ∷ xs) ++ ys) k ≡ Some leg → (leg.begin < nodes) × (leg.end < nodes)
-    by_place zero leg e = a zero leg e
-    by_place (suc k) leg e = rest k leg e
-
-    rest : AreLegs nodes (xs ++ ys)
-    rest = led_append nodes xs ys (λ k leg e. a (suc k) leg e) b
+led_append : (nodes : ℕ) (xs ys : List Leg) → AreLegs nodes xs → AreLegs nodes ys → (k : ℕ) (leg : Leg) → slice_get (xs ++ ys) k ≡ Some leg → (leg.begin < nodes) × (leg.end < nodes)
+led_append nodes [] ys a b k leg e = b k leg e
+led_append nodes (x ∷ xs) ys a b zero leg e = a zero leg e
+led_append nodes (x ∷ xs) ys a b (suc k) leg e = led_append nodes xs ys (λ k leg e. a (suc k) leg e) b k leg e
 
 one_led : (nodes : ℕ) (can forward : Bool) (e : ℕ) (link : Link) → link.tail < nodes → link.head < nodes
     → AreLegs nodes (if can then record { step = record { link = e; forward = forward }; begin = begin_of forward link; end = end_of forward link; transit = link.transit } ∷ [] else [])

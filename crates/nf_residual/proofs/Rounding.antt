@@ -1,6 +1,6 @@
 -- Rounds: leg by leg, and round by round.
-use Rattle.std.proofs.Common.{◌≡◌, ℕ, zero, suc, ◌+◌, ◌-◌, ◌<◌, ◌≤◌, List, [], ◌∷◌, ◌++◌, length, length-append, drop, set, replicate, get_or, Bool, true, false, ◌⊎◌, inl, inr, ⊎_elim, Option, Some, None, option_map, refl, sym, ap, subst, ◌∙◌, append_assoc, slice_get, arith}
-use Rattle.std.specs.Prelude.{Ok, Err}
+use Rattle.std.proofs.Common.{◌≡◌, ℕ, zero, suc, ◌+◌, ◌-◌, ◌<◌, ◌≤◌, List, [], ◌∷◌, ◌++◌, length, length-append, drop, set, replicate, get_or, true, ◌⊎◌, inl, inr, ⊎_elim, Option, Some, None, option_map, refl, sym, ap, subst, ◌∙◌, append_assoc, slice_get, arith}
+use Rattle.std.specs.Prelude.{Ok}
 use Rattle.std.proofs.lemmas.List.{drop_more, drop_all, length-set, length-replicate, length-map}
 use Rattle.std.proofs.lemmas.Option.{slice_get_within, slice_get_read}
 use Rattle.nf_rational.specs.Rational.{ℚ}
@@ -240,7 +240,7 @@ module _ (passes : Passing) (net : Network) (flows : List ℚ) (from : ℕ) wher
 -- ---- with the legs, and the ways that are known
 pub record SearchOn (passes : Passing) (net : Network) (flows : List ℚ) (from : ℕ) (legs : List Leg) (fresh : ℕ) (tree : List Twig) (places : Places) (k : ℕ) : Type 0 where
   pub rounds : RoundsOn passes net flows from (known_by tree places) k
-  pub tree : IsTree tree
+  pub good : IsTree tree
   pub within : AreWithin (length tree) places
   pub settled : AreSettled passes legs fresh tree places
 
@@ -248,7 +248,7 @@ module _ (passes : Passing) (net : Network) (flows : List ℚ) (from : ℕ) (leg
   pub search_first : (tree : List Twig) (places : Places) → tree ≡ first_twig ∷ [] → places ≡ first_places net.nodes from → SearchOn passes net flows from legs 0 tree places 1
   search_first tree places e f = record {
     rounds = rounds_first passes net flows from (known_by tree places) (ap (λ (t : List Twig). known_by t places) e ∙ ap (λ (p : Places). known_by (first_twig ∷ []) p) f ∙ none_known);
-    tree = subst (λ (t : List Twig). IsTree t) (sym e) IsTree-first;
+    good = subst (λ (t : List Twig). IsTree t) (sym e) IsTree-first;
     within = λ v way at. ap_length (only v way (sym (ap (λ (p : Places). place_at p v) f) ∙ at));
     settled = λ k leg is way at h. absurd (omega arith);
   }
@@ -291,37 +291,38 @@ module _ (passes : Passing) (net : Network) (flows : List ℚ) (from : ℕ) (leg
     pub search_count : (found : Known) → found ≡ known_by tree places → length found ≡ net.nodes
     search_count found e = ap (λ (x : Known). length x) e ∙ on.rounds.count
 
-    module _ (b : k < net.nodes) (is : legs ≡ legs_from 0 net.links flows) (before : Places) (seen : before ≡ places) where
-      whole : round_list passes net.links flows (known_by tree before) ≡ fold_checked (along_leg passes (known_by tree before)) (known_by tree before) legs
-      whole = round_along passes flows (known_by tree before) net.links legs is
+    -- the legs and places are lent to a round
+    module _ (b : k < net.nodes) (is : legs ≡ legs_from 0 net.links flows) (lent : List Leg) (borrowed : lent ≡ legs) (before : Places) (seen : before ≡ places) where
+      whole : round_list passes net.links flows (known_by tree before) ≡ fold_checked (along_leg passes (known_by tree before)) (known_by tree before) lent
+      whole = round_along passes flows (known_by tree before) net.links lent (borrowed ∙ is)
 
       known_seen : known_by tree before ≡ known_by tree places
       known_seen = ap (λ (p : Places). known_by tree p) seen
 
-      pub search_stops : (h : Halt ℚ) → Stops (λ (q : ℚ). q) h (at_part Part.Quick (fold_checked (along_leg passes (known_by tree before)) (known_by tree before) legs))
+      pub search_stops : (h : Halt ℚ) → Stops (λ (q : ℚ). q) h (at_part Part.Quick (fold_checked (along_leg passes (known_by tree before)) (known_by tree before) lent))
           → Stops (λ (q : ℚ). q) h (at_part Part.Quick (reaches_list passes net flows from))
       search_stops h s = rounds_stop passes net flows from (known_by tree places) k on.rounds b (known_by tree before) known_seen h (stops_as _ _ h whole s)
 
-      module _ (new : List Twig) (next : Places) (came : at_part Part.Quick (fold_checked (along_leg passes (known_by tree before)) (known_by tree before) legs) ≡ Ok (known_by new next)) (grows : Grows tree new before next) where
+      module _ (new : List Twig) (next : Places) (came : at_part Part.Quick (fold_checked (along_leg passes (known_by tree before)) (known_by tree before) lent) ≡ Ok (known_by new next)) (grows : Grows tree new before next) where
         came_whole : at_part Part.Quick (round_list passes net.links flows (known_by tree before)) ≡ Ok (known_by new next)
         came_whole = ap (at_part Part.Quick) whole ∙ came
 
         within_before : AreWithin (length tree) before
         within_before = subst (λ (p : Places). AreWithin (length tree) p) (sym seen) on.within
 
-        pub search_more : IsTree new → AreSettled passes legs (length tree) new next → SearchOn passes net flows from legs (length tree) new next (k + 1)
-        search_more good settled = record {
+        pub search_more : IsTree new → AreSettled passes lent (length tree) new next → (count : ℕ) → count ≡ length tree → SearchOn passes net flows from legs count new next (k + 1)
+        search_more good settled count e = record {
           rounds = rounds_more passes net flows from (known_by tree places) k on.rounds b (known_by tree before) known_seen (known_by new next) came_whole
               (length-map next (option_map (way_at new)) ∙ grows.count ∙ sym (length-map before (option_map (way_at tree))));
-          tree = good;
+          good = good;
           within = within_grown tree new before next grows within_before;
-          settled = settled;
+          settled = subst (λ (n : ℕ). AreSettled passes legs n new next) (sym e) (subst (λ (l : List Leg). AreSettled passes l (length tree) new next) borrowed settled);
         }
 
         pub search_still : length new ≡ length tree → (found : Known) → found ≡ known_by new places → at_part Part.Quick (reaches_list passes net flows from) ≡ Ok found
         search_still e found f =
             let same : next ≡ before = grows.same e in
-            let kept : known_by new before ≡ known_by tree before = known_grown tree new before next grows on.tree within_before in
+            let kept : known_by new before ≡ known_by tree before = known_grown tree new before next grows on.good within_before in
             rounds_still passes net flows from (known_by tree places) k on.rounds b (known_by tree before) known_seen (known_by new next) came_whole (ap (λ (p : Places). known_by new p) same ∙ kept)
             ∙ ap Ok (sym (f ∙ ap (λ (p : Places). known_by new p) (sym seen) ∙ kept ∙ known_seen))
 

@@ -1,13 +1,15 @@
 -- A way that was offered once is offered again in vain, whatever was offered in between.
-use Rattle.std.proofs.Common.{◌≡◌, ◌≢◌, ℕ, zero, suc, ◌+◌, ◌*◌, ◌<◌, ◌≤◌, List, [], ◌∷◌, length, set, length-set, Bool, true, false, if◌then◌else◌, ◌⊎◌, inl, inr, ⊎_elim, eqb, Option, Some, None, sym, ap, subst, refl, ◌∙◌, arith}
-use Rattle.std.specs.Prelude.{Ok, Err}
+use Rattle.std.proofs.Common.{◌≡◌, ◌≢◌, ℕ, ◌+◌, ◌*◌, ◌<◌, List, [], ◌∷◌, length, set, length-set, Bool, true, false, if◌then◌else◌, ◌⊎◌, inl, inr, ⊎_elim, eqb, Option, Some, None, sym, ap, subst, refl, ◌∙◌, arith}
+use Rattle.std.specs.Prelude.{Ok}
 use Rattle.std.proofs.lemmas.Bool.Decides.{eqb_tells}
 use Rattle.nf_rational.specs.Rational.{ℚ}
-use Rattle.nf_rational.specs.Order.{◌≤ℚ◌, ◌<ℚ◌}
+use Rattle.nf_rational.specs.Order.{◌<ℚ◌}
 use Rattle.nf_rational_laws.proofs.Polynomial.{reading_of}
 use Rattle.nf_rational_laws.proofs.Linear.{lt, eq, linear_false}
 use Rattle.nf_work.specs.Passing.{Passing}
 use Rattle.nf_work.specs.Checked.{Checked, checked, ◌>>=◌}
+use Rattle.nf_work.proofs.Binding.{bind_ok}
+use Rattle.nf_plain_laws.proofs.Results.{same_Ok}
 use Rattle.nf_quick_lists.specs.Steps.{Step, place}
 use Rattle.nf_quick_lists.specs.Order.{Reach, AreFirst, AreFewerOrFirst, IsAtMost, is_better}
 use Rattle.nf_quick_lists.specs.Rounds.{Known, op_of, known_at, better_of, offered, along}
@@ -133,11 +135,7 @@ offered_then known v w way other h e =
 
 -- ---- along legs
 bound : {A B : Type 0} (r : Checked A) (f : A → B) (y : B) → (r >>= λ x. Ok (f x)) ≡ Ok y → (x : A) × (r ≡ Ok x) × (f x ≡ y)
-bound (Ok x) f y e = (x, refl, same (f x) y e)
-  where
-    same : {B E : Type 0} (x y : B) → ◌≡◌ {A = Checked B} (Ok x) (Ok y) → x ≡ y
-    same x y e = cc
-bound (Err p) f y e = absurd (cc)
+bound r f y e = let b = bind_ok r (λ x. Ok (f x)) y e in (b.0, b.1, same_Ok (f b.0) y b.2)
 
 module _ (passes : Passing) (before : Known) (leg : Leg) where
   -- from what was known of its beginning

@@ -1,13 +1,14 @@
 -- Ways as they are kept: what more ways leave as it was.
-use Rattle.std.proofs.Common.{◌≡◌, ℕ, zero, suc, ◌+◌, ◌-◌, ◌<◌, ◌≤◌, List, [], ◌∷◌, ◌++◌, reverse, length, length-append, ◌⊎◌, inl, inr, ⊎_elim, Option, Some, None, slice_get, option_map, refl, sym, ap, subst, ◌∙◌, append_assoc, append-nil, arith}
-use Rattle.std.proofs.lemmas.List.{map-set, reverse-append, length_push}
-use Rattle.std.specs.Prelude.{set}
+use Rattle.std.proofs.Common.{◌≡◌, ℕ, zero, suc, ◌+◌, ◌-◌, ◌<◌, ◌≤◌, List, [], ◌∷◌, ◌++◌, reverse, length, ◌⊎◌, inl, inr, ⊎_elim, Option, Some, None, option_map, refl, sym, ap, subst, ◌∙◌, append_assoc, append-nil, arith}
+use Rattle.std.proofs.lemmas.List.{map-set, map-append, reverse-append, length_push, length-map, take_more}
+use Rattle.std.proofs.lemmas.Option.{unwrap_or-slice_get}
+use Rattle.std.specs.Prelude.{set, map, take, get_or}
 use Rattle.nf_rational.specs.Rational.{ℚ}
 use Rattle.nf_quick_lists.specs.Steps.{Step}
 use Rattle.nf_quick_lists.specs.Order.{Reach}
 use Rattle.nf_quick_lists.specs.Rounds.{Known, known_at}
 use Rattle.nf_residual.specs.declared.ways.Twig.{Twig}
-use Rattle.nf_residual.specs.Ways.{first_twig, twig_at, steps_back, way_at, longer, twig_after, IsTree, Places, place_at, AreWithin, known_by, Grows}
+use Rattle.nf_residual.specs.Ways.{first_twig, twig_at, steps_back, way_at, longer, twig_after, IsTree, Places, place_at, AreWithin, known_by}
 
 -- ---- one twig more
 at_end : (tree : List Twig) (twig : Twig) (i : ℕ) → (twig_at (tree ++ twig ∷ []) i ≡ twig_at tree i) ⊎ ((i ≡ length tree) × (twig_at (tree ++ twig ∷ []) i ≡ twig))
@@ -105,6 +106,12 @@ module _ (tree : List Twig) (good : IsTree tree) (way : ℕ) (step : Step) (dist
     few = λ i. few_than i (at_end tree twig i);
   }
 
+pub IsTree-pushed : (tree new : List Twig) (way n : ℕ) (step : Step) (distance : ℚ) → IsTree tree → way < length tree → n ≡ (twig_at tree way).count
+    → new ≡ tree ++ record { distance = distance; count = n + 1; last = step; before = way } ∷ [] → IsTree new
+IsTree-pushed tree new way n step distance good h e made =
+    let count : n + 1 ≡ suc (twig_at tree way).count = omega arith in
+    subst (λ (t : List Twig). IsTree t) (sym (made ∙ ap (λ (k : ℕ). tree ++ record { distance = distance; count = k; last = step; before = way } ∷ []) count)) (IsTree-added tree good way step distance h)
+
 -- so there is room for one step more
 pub count_below : (tree : List Twig) (way : ℕ) → IsTree tree → way < length tree → (twig_at tree way).count < length tree
 count_below tree way good h = let few : (twig_at tree way).count ≤ way = good.few way in omega arith
@@ -159,12 +166,23 @@ known_at-by tree [] v = refl
 known_at-by tree (p ∷ places) zero = refl
 known_at-by tree (p ∷ places) (suc v) = known_at-by tree places v
 
-pub known_kept : (tree more : List Twig) (places : Places) → IsTree tree → AreWithin (length tree) places → known_by (tree ++ more) places ≡ known_by tree places
-known_kept tree more [] good h = refl
-known_kept tree more (None ∷ places) good h = ap (λ (k : Known). None ∷ k) (known_kept tree more places good (λ v way e. h (suc v) way e))
-known_kept tree more (Some way ∷ places) good h =
-    ap (λ (r : Reach). Some r ∷ known_by (tree ++ more) places) (way_kept tree more way good (h 0 way refl))
-    ∙ ap (λ (k : Known). Some (way_at tree way) ∷ k) (known_kept tree more places good (λ v way e. h (suc v) way e))
+pub known_kept : (tree added : List Twig) (places : Places) → IsTree tree → AreWithin (length tree) places → known_by (tree ++ added) places ≡ known_by tree places
+known_kept tree added [] good h = refl
+known_kept tree added (None ∷ places) good h = ap (λ (k : Known). None ∷ k) (known_kept tree added places good (λ v way e. h (suc v) way e))
+known_kept tree added (Some way ∷ places) good h =
+    ap (λ (r : Reach). Some r ∷ known_by (tree ++ added) places) (way_kept tree added way good (h 0 way refl))
+    ∙ ap (λ (k : Known). Some (way_at tree way) ∷ k) (known_kept tree added places good (λ v way e. h (suc v) way e))
+
+pub within_known : (tree : List Twig) (places : Places) (v : ℕ) → v < length places → v < length (known_by tree places)
+within_known tree places v h = let long : length (known_by tree places) ≡ length places = length-map places (option_map (way_at tree)) in omega (arith, h, long)
 
 pub known_set : (tree : List Twig) (places : Places) (v way : ℕ) → known_by tree (set places v (Some way)) ≡ set (known_by tree places) v (Some (way_at tree way))
 known_set tree places v way = map-set (option_map (way_at tree)) places v (Some way)
+
+-- how long the ways are, one more
+pub distances_more : (known : Known) (so_far next : List (Option ℚ)) (k : ℕ) (distance : Option ℚ) → k < length known → so_far ≡ map (option_map (λ (reach : Reach). reach.distance)) (take k known)
+    → distance ≡ option_map (λ (reach : Reach). reach.distance) (known_at known k) → next ≡ so_far ++ distance ∷ [] → next ≡ map (option_map (λ (reach : Reach). reach.distance)) (take (k + 1) known)
+distances_more known so_far next k distance h e d made =
+    made ∙ ap (λ (x : Option ℚ). so_far ++ x ∷ []) (d ∙ ap (option_map (λ (reach : Reach). reach.distance)) (unwrap_or-slice_get known k None))
+    ∙ ap (λ (l : List (Option ℚ)). l ++ option_map (λ (reach : Reach). reach.distance) (get_or known k None) ∷ []) e
+    ∙ sym (ap (map (option_map (λ (reach : Reach). reach.distance))) (take_more known k None h) ∙ map-append (option_map (λ (reach : Reach). reach.distance)) (take k known) (get_or known k None ∷ []))

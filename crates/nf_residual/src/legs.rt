@@ -2,7 +2,8 @@
 ghost use Rattle.std.specs.Prelude.{◌≡◌, ◌++◌, length, IfOk, OnOk};
 ghost use Rattle.nf_residual.specs.Legs.{leg_of, legs_from, AreLegs};
 
-use crate::step::{Step, begin_of, can_go, end_of, flow_at};
+use crate::flows::flow_at;
+use crate::step::{Step, begin_of, can_go, end_of};
 use nf_frac::Q;
 use nf_graph::{LinkId, NodeId};
 use nf_net::{Link, Network};

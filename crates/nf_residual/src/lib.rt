@@ -2,6 +2,7 @@
 //! 1958 and Ford 1956).
 #![tactic(auto)]
 
+mod flows;
 mod legs;
 mod reaches;
 mod residual;
@@ -10,5 +11,6 @@ mod rounds;
 mod step;
 mod ways;
 
+pub use flows::{flow_at, lesser, put_flow};
 pub use residual::Residual;
 pub use step::{Step, Walk};

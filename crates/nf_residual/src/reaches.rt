@@ -1,7 +1,7 @@
 // What rounds found: of each node the best way to it, if there is one.
-ghost use Rattle.std.specs.Prelude.{◌≡◌, ◌<◌, length, map, option_map, IfOk, IfSome};
+ghost use Rattle.std.specs.Prelude.{◌≡◌, ◌<◌, length, map, option_map, IfOk};
 ghost use Rattle.nf_quick_lists.specs.Rounds.{known_at};
-ghost use Rattle.nf_residual.specs.Ways.{place_at, way_at, known_by, AreWithin};
+ghost use Rattle.nf_residual.specs.Ways.{place_at, known_by, AreWithin};
 
 use crate::step::Step;
 use crate::ways::Ways;
@@ -48,22 +48,11 @@ impl Model for Reaches {
 }
 
 /// The number of the best way to a node.
-pub(crate) fn place_of(places: &[Option<usize>], node: NodeId) -> Option<usize>
+pub(crate) fn place_of(places: &[Option<usize>], node: usize) -> Option<usize>
     requires { node < length places.now }
     ensures { result ≡ place_at places.now node }
 {
-    places[node.index()]
-}
-
-// How long the way of this number is.
-fn distance_at(ways: &Ways, place: Option<usize>) -> Option<Q>
-    requires { IfSome place (λ way. way < length ways.now) }
-    ensures { result ≡ option_map (λ way. (way_at ways.now way).distance) place }
-{
-    match place {
-        None => None,
-        Some(way) => Some(ways.distance(way)),
-    }
+    places[node]
 }
 
 impl Reaches {
@@ -80,7 +69,7 @@ impl Reaches {
         requires { node < length self.now }
         ensures { IfOk result (λ way. way ≡ known_at self.now node) }
     {
-        match place_of(&self.places, node) {
+        match place_of(&self.places, node.index()) {
             None => Ok(None),
             Some(way) => {
                 let steps = self.ways.steps(alloc, way)?;
@@ -92,13 +81,24 @@ impl Reaches {
         }
     }
 
+    // How long the best way to a node is.
+    fn distance_to(&self, node: usize) -> Option<Q>
+        requires { node < length self.now }
+        ensures { result ≡ option_map (λ reach. reach.distance) (known_at self.now node) }
+    {
+        match place_of(&self.places, node) {
+            None => None,
+            Some(way) => Some(self.ways.distance(way)),
+        }
+    }
+
     /// How long the best ways are.
     pub(crate) fn distances(&self, alloc: Global) -> Result<Vec<Option<Q>>, AllocError>
         ensures { IfOk result (λ distances. distances.items ≡ map (option_map (λ reach. reach.distance)) self.now) }
     {
         let mut distances = Vec::with_capacity(alloc, self.places.len())?;
-        for place in &self.places {
-            distances.push(distance_at(&self.ways, *place))?;
+        for node in 0..self.places.len() {
+            distances.push(self.distance_to(node))?;
         }
         Ok(distances)
     }

@@ -1,5 +1,5 @@
 // A static flow, and its residual walks.
-ghost use Rattle.std.specs.Prelude.{◌≡◌, ◌<◌, length, set, replicate, Some, IfOk, OnErr, OnOk};
+ghost use Rattle.std.specs.Prelude.{◌≡◌, ◌<◌, length, replicate, Some, IfOk, OnErr, OnOk};
 ghost use Rattle.std.specs.List.{AllByRecursion};
 ghost use Rattle.nf_rational.specs.Operations.{0ℚ};
 ghost use Rattle.nf_rational.specs.Order.{◌≤ℚ◌, ◌<ℚ◌};
@@ -14,6 +14,7 @@ ghost use Rattle.nf_quick_lists.specs.Flows.{IsSound};
 ghost use Rattle.nf_quick_lists.specs.Steps.{IsLimited};
 ghost use Rattle.nf_quick_lists.specs.Answers.{IsShortestWalk, IsShortest, AreLeastLengths};
 
+use crate::flows::put_flow;
 use crate::reaches::Reach;
 use crate::room::room_of;
 use crate::rounds::reaches;
@@ -50,13 +51,6 @@ fn at(flows: &Vec<Q>, link: LinkId) -> Q
     flows[link.index()]
 }
 
-fn put(flows: &mut Vec<Q>, link: LinkId, value: Q)
-    requires { link < length flows.old.items }
-    ensures { flows.new.items ≡ set flows.old.items link value }
-{
-    flows[link.index()] = value;
-}
-
 // A flow is moved along each of these steps.
 fn move_along(flows: &mut Vec<Q>, steps: &[Step], amount: Q) -> Result<(), PassedAt<Q>>
     requires { AllByRecursion (λ step. step.link < length flows.old.items) steps.now }
@@ -67,7 +61,7 @@ fn move_along(flows: &mut Vec<Q>, steps: &[Step], amount: Q) -> Result<(), Passe
         let step: Step = *step;
         let before = at(flows, step.link);
         let after = changed(step.forward, before, amount)?;
-        put(flows, step.link, after);
+        put_flow(flows, step.link, after);
     }
     Ok(())
 }

@@ -40,10 +40,11 @@ fn offer(
 {
     let number = ways.count();
     let distance = changed(leg.step.forward, ways.distance(way), leg.transit)?;
-    if ways.is_gain(way, leg.step, distance, place_of(places, leg.end)) {
-        ways.add(way, leg.step, distance)?;
-        put(places, leg.end, number);
+    if !ways.is_gain(way, leg.step, distance, place_of(places, leg.end.index())) {
+        return Ok(());
     }
+    ways.add(way, leg.step, distance)?;
+    put(places, leg.end, number);
     Ok(())
 }
 
@@ -65,7 +66,7 @@ fn along(
         (at_part Quick (along_leg passes_Q (known_by ways.old before.now) (known_by ways.old places.old.items) leg.now)) }
     ensures grows { OnOk result (Grows ways.old ways.new places.old.items places.new.items) }
 {
-    match place_of(before, leg.begin) {
+    match place_of(before, leg.begin.index()) {
         Some(way) if way >= fresh => offer(way, leg, ways, places),
         _ => Ok(()),
     }
@@ -93,6 +94,15 @@ fn round(
         along(leg, fresh, before, ways, places)?;
     }
     Ok(())
+}
+
+// The same places once more.
+fn copied(alloc: Global, places: &[Option<usize>]) -> Result<Vec<Option<usize>>, AllocError>
+    ensures { IfOk result (λ same. same.items ≡ places.now) }
+{
+    let mut same = Vec::with_capacity(alloc, places.len())?;
+    same.extend_from_slice(places)?;
+    Ok(same)
 }
 
 // No way is known but the first to this node.
@@ -128,7 +138,7 @@ pub(crate) fn reaches(
     let mut fresh = 0;
     for _ in 1..net.node_count() {
         let count = ways.count();
-        let mut next = places.as_slice().to_vec(alloc)?;
+        let mut next = copied(alloc, &places)?;
         round(&legs, fresh, &places, &mut ways, &mut next)?;
         if ways.count() == count {
             return Ok(Reaches::of(ways, places));

@@ -1,6 +1,6 @@
 // Ways from a node, each by its number, and their order: the shorter first; of equally long ones that of fewer steps; and of these
 // the one whose steps come first.
-ghost use Rattle.std.specs.Prelude.{◌≡◌, ◌<◌, ◌++◌, [], ◌∷◌, suc, length, option_map, IfOk, IfSome, OnOk};
+ghost use Rattle.std.specs.Prelude.{◌≡◌, ◌+◌, ◌^◌, ◌<◌, ◌++◌, [], ◌∷◌, suc, length, option_map, IfOk, IfSome, OnOk};
 ghost use Rattle.nf_quick_lists.specs.Steps.{place as place_of};
 ghost use Rattle.nf_quick_lists.specs.Order.{are_before as are_before_by, are_fewer_or_before as are_fewer_or_before_by, is_better as is_better_by};
 ghost use Rattle.nf_residual.specs.Ways.{first_twig, twig_at, way_at, longer, one_before, gains, twig_after, IsTree};
@@ -92,7 +92,8 @@ impl Ways {
     // Of how many steps it is.
     fn step_count(&self, way: usize) -> usize
         requires { way < length self.now }
-        ensures { result ≡ (twig_at self.now way).count }
+        ensures value { result ≡ (twig_at self.now way).count }
+        ensures small { result + 1 < 2 ^ 64 }
     {
         self.twigs[way].count
     }
