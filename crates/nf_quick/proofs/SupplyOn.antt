@@ -1,5 +1,5 @@
 -- The supply by the next start goes on from that by the start before.
-use Rattle.std.proofs.Common.{◌≡◌, ℕ, zero, suc, Bool, true, false, if◌then◌else◌, List, [], ◌∷◌, ◌⊎◌, ⊎_elim, Option, Some, None, slice_get, refl, sym, ap, subst, ◌∙◌}
+use Rattle.std.proofs.Common.{◌≡◌, ℕ, zero, suc, Bool, true, false, if◌then◌else◌, List, [], ◌∷◌, ⊎_elim, Some, slice_get, refl, sym, ap, subst, ◌∙◌}
 use Rattle.std.specs.Prelude.{Ok, Err}
 use Rattle.nf_rational.specs.Rational.{ℚ}
 use Rattle.nf_rational.specs.Operations.{0ℚ}
@@ -11,8 +11,8 @@ use Rattle.nf_rational_laws.proofs.Linear.{le, lt, linear_lt}
 use Rattle.nf_rational_laws.proofs.Chains.{≤ℚ_refl, ≤ℚ_trans}
 use Rattle.nf_work.specs.Passing.{Passing}
 use Rattle.nf_work.specs.Checked.{Checked, ◌>>=◌}
-use Rattle.nf_model.specs.Network.{Piece, ArePieces}
-use Rattle.nf_model_laws.proofs.Supply.{StartsRise, StartsRise-pieces}
+use Rattle.nf_model.specs.Network.{Piece}
+use Rattle.nf_model_laws.proofs.Supply.{StartsRise}
 use Rattle.nf_net.specs.Supply.{end_before, with_piece, supplied_after}
 use Rattle.nf_residual.proofs.LegByLeg.{bind_more, bind_same}
 
