@@ -1,9 +1,14 @@
 -- The order of walks of equally many steps, from the last step back.
-use Rattle.std.proofs.Common.{◌≡◌, ℕ, suc, ◌+◌, ◌-◌, ◌<◌, ◌≤◌, List, [], ◌∷◌, ◌++◌, length, Bool, true, false, nat_lt, ◌==◌, ◌&&◌, ◌||◌, if◌then◌else◌, ◌⊎◌, inl, inr, ⊎_elim, eqb, leb, ◌≢◌, sym, ap, refl, ◌∙◌, arith}
+use Rattle.std.proofs.Common.{◌≡◌, ℕ, suc, ◌+◌, ◌-◌, ◌<◌, ◌≤◌, List, [], ◌∷◌, ◌++◌, length, Bool, true, false, nat_lt, ◌==◌, ◌&&◌, ◌||◌, not, if◌then◌else◌, ◌⊎◌, inl, inr, ⊎_elim, eqb, leb, ◌≢◌, sym, ap, refl, ◌∙◌, arith}
+use Rattle.std.specs.Ordering.{is_lt, is_gt}
+use Rattle.std.specs.declared.cmp.Ordering.{Ordering}
+use Rattle.std.specs.declared.cmp.Ordering.TheVariants.{Less, Equal, Greater}
 use Rattle.std.proofs.lemmas.Bool.Decides.{eqb_tells, leb_tells}
 use Rattle.std.proofs.lemmas.List.{length_push}
 use Rattle.nf_quick_lists.specs.Steps.{Step, place}
-use Rattle.nf_quick_lists.specs.Order.{are_before, are_fewer_or_before}
+use Rattle.nf_rational.specs.Order.{cmp_ℚ, lt_ℚ}
+use Rattle.nf_frac.proofs.Comparisons.{lt-cmp, gt-cmp}
+use Rattle.nf_quick_lists.specs.Order.{Reach, are_before, are_fewer_or_before, is_better}
 use Rattle.nf_residual.specs.declared.ways.Twig.{Twig}
 use Rattle.nf_residual.specs.Ways.{twig_at, steps_back, way_at, one_before}
 use Rattle.nf_residual.proofs.Twigs.{steps_are}
@@ -159,3 +164,22 @@ module _ (tree : List Twig) (way : ℕ) (step : Step) (other : ℕ) where
       unequal true e r f = refl
       unequal false true r f = absurd (clash true refl f)
       unequal false false r f = refl
+
+-- ---- and of other lengths
+module _ (a b : Reach) where
+  abbrev by_tests : Bool → Bool → Bool
+  by_tests less greater = less || (not greater && are_fewer_or_before a.steps b.steps)
+
+  by_order : (o : Ordering) → cmp_ℚ a.distance b.distance ≡ o → is_better a b ≡ by_tests (is_lt o) (is_gt o)
+  by_order o e =
+      ap (λ (t : Bool). by_tests t (lt_ℚ b.distance a.distance)) (sym (lt-cmp a.distance b.distance) ∙ ap is_lt e)
+      ∙ ap (λ (t : Bool). by_tests (is_lt o) t) (sym (gt-cmp a.distance b.distance) ∙ ap is_gt e)
+
+  pub shorter : cmp_ℚ a.distance b.distance ≡ Less → true ≡ is_better a b
+  shorter e = sym (by_order Less e)
+
+  pub longer_one : cmp_ℚ a.distance b.distance ≡ Greater → false ≡ is_better a b
+  longer_one e = sym (by_order Greater e)
+
+  pub as_long : cmp_ℚ a.distance b.distance ≡ Equal → (r : Bool) → r ≡ are_fewer_or_before a.steps b.steps → r ≡ is_better a b
+  as_long e r f = f ∙ sym (by_order Equal e)

@@ -2,6 +2,7 @@ pub mod Stopping
 pub mod Folding
 pub mod Moving
 pub mod Fits
+pub mod WholeLengths
 pub mod Twigs
 pub mod FromBehind
 pub mod Offering

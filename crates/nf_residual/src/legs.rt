@@ -3,6 +3,7 @@ ghost use Rattle.std.specs.Prelude.{◌≡◌, ◌++◌, length, IfOk, OnOk};
 ghost use Rattle.nf_residual.specs.Legs.{leg_of, legs_from, AreLegs};
 
 use crate::flows::flow_at;
+use crate::length::Length;
 use crate::step::{Step, begin_of, can_go, end_of};
 use nf_frac::Q;
 use nf_graph::{LinkId, NodeId};
@@ -15,7 +16,7 @@ pub(crate) struct Leg {
     pub step: Step,
     pub begin: NodeId,
     pub end: NodeId,
-    pub transit: Q,
+    pub transit: Length,
 }
 
 // A step along this link, or back along it, is a leg if it can be gone with this flow.
@@ -36,7 +37,7 @@ fn add_leg(
             },
             begin: begin_of(forward, link),
             end: end_of(forward, link),
-            transit: link.transit,
+            transit: Length::of(link.transit),
         })?;
     }
     Ok(())

@@ -4,6 +4,7 @@
 
 mod flows;
 mod legs;
+mod length;
 mod reaches;
 mod residual;
 mod room;

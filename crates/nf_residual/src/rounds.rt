@@ -10,7 +10,6 @@ ghost use Rattle.nf_residual.specs.Ways.{place_at, way_at, known_by, first_place
 
 use crate::legs::{Leg, legs_of};
 use crate::reaches::{Reaches, place_of};
-use crate::step::changed;
 use crate::ways::Ways;
 use nf_frac::{Halt, Q};
 use nf_graph::NodeId;
@@ -39,8 +38,8 @@ fn offer(
     ensures grows { OnOk result (Grows ways.old ways.new places.old.items places.new.items) }
 {
     let number = ways.count();
-    let distance = changed(leg.step.forward, ways.distance(way), leg.transit)?;
-    if !ways.is_gain(way, leg.step, distance, place_of(places, leg.end.index())) {
+    let distance = ways.changed(way, leg)?;
+    if !ways.is_gain(way, leg.step, &distance, place_of(places, leg.end.index())) {
         return Ok(());
     }
     ways.add(way, leg.step, distance)?;

@@ -1,20 +1,28 @@
 // Ways from a node, each by its number, and their order: the shorter first; of equally long ones that of fewer steps; and of these
 // the one whose steps come first.
 ghost use Rattle.std.specs.Prelude.{◌≡◌, ◌+◌, ◌^◌, ◌<◌, ◌++◌, [], ◌∷◌, suc, length, option_map, IfOk, IfSome, OnOk};
+ghost use Rattle.nf_rational.specs.Order.{cmp_ℚ};
+ghost use Rattle.nf_work.specs.declared.Part.TheVariants.{Quick};
+ghost use Rattle.nf_work.specs.Passing.{passes_Q};
+ghost use Rattle.nf_work.specs.Checked.{checked_at};
 ghost use Rattle.nf_quick_lists.specs.Steps.{place as place_of};
+ghost use Rattle.nf_quick_lists.specs.Rounds.{op_of};
 ghost use Rattle.nf_quick_lists.specs.Order.{are_before as are_before_by, are_fewer_or_before as are_fewer_or_before_by, is_better as is_better_by};
 ghost use Rattle.nf_residual.specs.Ways.{first_twig, twig_at, way_at, longer, one_before, gains, twig_after, IsTree};
 
+use crate::legs::Leg;
+use crate::length::Length;
 use crate::step::Step;
-use nf_frac::Q;
+use nf_frac::{PassedAt, Q};
 use nf_graph::LinkId;
 use std::alloc::{AllocError, Global};
+use std::cmp::Ordering;
 use std::marker::Model;
 
 /// A way: how long it is, of how many steps, the last of them, and the number of the way before that one.
 #[derive(Drop, Debug)]
 pub(crate) struct Twig {
-    pub distance: Q,
+    pub distance: Length,
     pub count: usize,
     pub last: Step,
     pub before: usize,
@@ -62,7 +70,7 @@ impl Ways {
     {
         let mut twigs = Vec::new(alloc);
         twigs.push(Twig {
-            distance: Q::zero(),
+            distance: Length::of(Q::zero()),
             count: 0,
             last: Step {
                 link: LinkId(0),
@@ -86,7 +94,25 @@ impl Ways {
         requires { way < length self.now }
         ensures { result ≡ (twig_at self.now way).distance }
     {
-        self.twigs[way].distance
+        self.twigs[way].distance.value()
+    }
+
+    /// How long it is with the step of a leg more.
+    pub(crate) fn changed(&self, way: usize, leg: &Leg) -> Result<Length, PassedAt<Q>>
+        requires { way < length self.now }
+        ensures { result ≡ checked_at passes_Q Quick (op_of leg.now.step.forward) (twig_at self.now way).distance leg.now.transit }
+    {
+        self.twigs[way]
+            .distance
+            .changed(leg.step.forward, &leg.transit)
+    }
+
+    // How this length compares with that of a way.
+    fn compare(&self, distance: &Length, way: usize) -> Ordering
+        requires { way < length self.now }
+        ensures { result ≡ cmp_ℚ distance.now (twig_at self.now way).distance }
+    {
+        distance.compare(&self.twigs[way].distance)
     }
 
     // Of how many steps it is.
@@ -153,21 +179,29 @@ impl Ways {
     }
 
     // It comes before the other, with this length.
-    fn is_better(&self, way: usize, step: Step, distance: Q, other: usize) -> bool
+    fn is_better(&self, way: usize, step: Step, distance: &Length, other: usize) -> bool
         requires way { way < length self.now }
         requires other { other < length self.now }
-        ensures { result ≡ is_better_by (longer (way_at self.now way) step distance) (way_at self.now other) }
+        ensures { result ≡ is_better_by (longer (way_at self.now way) step distance.now) (way_at self.now other) }
     {
-        let known = self.distance(other);
-        distance.is_below(known)
-            || !known.is_below(distance) && self.are_fewer_or_before(way, step, other)
+        match self.compare(distance, other) {
+            Ordering::Less => true,
+            Ordering::Greater => false,
+            Ordering::Equal => self.are_fewer_or_before(way, step, other),
+        }
     }
 
     /// A way with this step more, of this length, comes before what is known.
-    pub(crate) fn is_gain(&self, way: usize, step: Step, distance: Q, known: Option<usize>) -> bool
+    pub(crate) fn is_gain(
+        &self,
+        way: usize,
+        step: Step,
+        distance: &Length,
+        known: Option<usize>,
+    ) -> bool
         requires way { way < length self.now }
         requires known { IfSome known (λ other. other < length self.now) }
-        ensures { result ≡ gains (longer (way_at self.now way) step distance) (option_map (way_at self.now) known) }
+        ensures { result ≡ gains (longer (way_at self.now way) step distance.now) (option_map (way_at self.now) known) }
     {
         match known {
             None => true,
@@ -176,7 +210,7 @@ impl Ways {
     }
 
     /// Adds a way with this step more, of this length.
-    pub(crate) fn add(&mut self, way: usize, step: Step, distance: Q) -> Result<(), AllocError>
+    pub(crate) fn add(&mut self, way: usize, step: Step, distance: Length) -> Result<(), AllocError>
         requires { way < length self.old }
         ensures { OnOk result (self.new ≡ self.old ++ twig_after self.old way step distance ∷ []) }
     {

@@ -1,0 +1,126 @@
+-- Whole lengths: their operations don't pass, and their order is that of the numbers.
+use Rattle.std.proofs.Common.{◌≡◌, ℕ, ◌≤◌, Bool, true, false, ℤ, pos, ◌+ℤ◌, ◌-ℤ◌, ◌*ℤ◌, neg_ℤ, nat_abs, [], ◌∷◌, Option, Some, None, refl, sym, ap, subst, ◌∙◌, arith}
+use mathlib.Core.Path.{ap₂}
+use Rattle.std.specs.Prelude.{Ok, SomeIff, unwrap_or}
+use Rattle.std.specs.Ordering.{int_cmp}
+use Rattle.nf_rational.specs.Gcd.{gcd}
+use Rattle.nf_rational.specs.Rational.{ℚ, same_parts}
+use Rattle.nf_rational.specs.Operations.{whole, ◌+ℚ◌, ◌/ℚ◌, neg_ℚ}
+use Rattle.nf_rational.specs.Order.{cmp_ℚ}
+use Rattle.nf_rational.proofs.Lowest.{num-ratio, den-ratio}
+use Rattle.nf_rational_laws.proofs.Field.{whole-plus, whole-times}
+use Rattle.nf_rational_laws.proofs.Quotient.{/ℚ-unique}
+use Rattle.nf_work.specs.Passing.{passes_Q, bound_of}
+use Rattle.nf_work.specs.Checked.{checked}
+use Rattle.nf_quick_lists.specs.Rounds.{op_of}
+use Rattle.nf_frac.specs.Parts.{IsWithin, IsMade}
+use Rattle.nf_frac.specs.Short.{short}
+use Rattle.nf_frac.proofs.SmallSums.{sum_fits}
+use Rattle.nf_frac.proofs.Turned.{neg_within, num-neg, den-neg}
+use Rattle.nf_frac.proofs.Bits.{bits_of, plain, cast_plain}
+use Rattle.nf_frac.proofs.SmallParts.{gcd_one, plain_64}
+use Rattle.nf_rational_laws.proofs.Polynomial.{ring, reading}
+use Rattle.nf_rational_laws.proofs.IntegerRing.{ints_ring}
+use mir.Syntax.{w64, w128}
+use mir.Val.{to_z, of_z, SFits}
+use mir.Facts.{to_z-of_z}
+use Rattle.nf_frac.proofs.Passing.{sum_done, difference_done}
+use Rattle.nf_frac.proofs.Made.{whole_apart}
+use Rattle.nf_residual.specs.Lengths.{most, along_by, IsExact}
+
+-- ---- the parts of a whole number
+no_common : (m : ℕ) → gcd m 1 ≡ 1
+no_common m = sym (gcd_one m 1 refl)
+
+num_whole : (n : ℤ) → (whole n).num ≡ n
+unfolding whole
+num_whole n = num-ratio n 1 (omega arith) (no_common (nat_abs n))
+
+den_whole : (n : ℤ) → (whole n).den ≡ 1
+unfolding whole
+den_whole n = den-ratio n 1 (omega arith) (no_common (nat_abs n))
+
+pub whole_of : (q : ℚ) → q.den ≡ 1 → whole q.num ≡ q
+whole_of q e = same_parts (whole q.num) q (num_whole q.num) (den_whole q.num ∙ sym e)
+
+within_short : (n : ℤ) → nat_abs n ≤ most → IsWithin short (whole n)
+within_short n h = record {
+  small = subst (λ (z : ℤ). nat_abs z ≤ short) (sym (num_whole n)) (omega arith);
+  small_den = subst (λ (k : ℕ). k ≤ short) (sym (den_whole n)) (omega arith);
+}
+
+whole_neg : (n : ℤ) → whole (neg_ℤ n) ≡ neg_ℚ (whole n)
+whole_neg n = same_parts (whole (neg_ℤ n)) (neg_ℚ (whole n)) (num_whole (neg_ℤ n) ∙ sym (num-neg (whole n) ∙ ap neg_ℤ (num_whole n))) (den_whole (neg_ℤ n) ∙ sym (den-neg (whole n) ∙ den_whole n))
+
+-- ---- their operations
+pub sum_exact : (a b n : ℤ) → nat_abs a ≤ most → nat_abs b ≤ most → n ≡ a +ℤ b → Ok (whole n) ≡ checked passes_Q (op_of true) (whole a) (whole b)
+sum_exact a b n h k e = sum_done (bound_of 127) (whole a) (whole b) (whole n) (sum_fits (whole a) (whole b) (within_short a h) (within_short b k), ap whole e ∙ whole-plus a b)
+
+pub difference_exact : (a b n : ℤ) → nat_abs a ≤ most → nat_abs b ≤ most → n ≡ a -ℤ b → Ok (whole n) ≡ checked passes_Q (op_of false) (whole a) (whole b)
+difference_exact a b n h k e =
+    difference_done (bound_of 127) (whole a) (whole b) (whole n) (
+      sum_fits (whole a) (neg_ℚ (whole b)) (within_short a h) (neg_within short (whole b) (within_short b k)),
+      ap whole e ∙ whole-plus a (neg_ℤ b) ∙ ap (λ (q : ℚ). whole a +ℚ q) (whole_neg b),
+    )
+
+-- ---- their order
+times_one : (a : ℤ) → a *ℤ pos 1 ≡ a
+times_one a = ring ints_ring (a ∷ []) (search reading depth 30) tt
+
+pub order_is : (a b : ℤ) → int_cmp a b ≡ cmp_ℚ (whole a) (whole b)
+order_is a b = ap₂ int_cmp (one a b) (one b a)
+  where
+    one : (a b : ℤ) → a ≡ (whole a).num *ℤ pos (whole b).den
+    one a b = sym (ap₂ (λ (z : ℤ) (k : ℕ). z *ℤ pos k) (num_whole a) (den_whole b) ∙ times_one a)
+
+-- ---- numbers as code has them
+-- a value that is counted
+pub counted_is : (q : ℚ) (number d : ℤ) (m : ℕ) → number ≡ q.num → nat_abs number ≤ bound_of 127 → d ≡ pos q.den → SFits w128 d → of_z w128 d ≡ 1 → m ≡ nat_abs (bits_of number) → m ≤ most
+    → (nat_abs (to_z w64 (of_z w64 (bits_of number))) ≤ most) × (whole (to_z w64 (of_z w64 (bits_of number))) ≡ q)
+counted_is q number d m is small den fits one size h =
+    let plainly : bits_of number ≡ number = plain number small in
+    let few : nat_abs (bits_of number) ≤ most = subst (λ (k : ℕ). k ≤ most) size h in
+    let same : to_z w64 (of_z w64 (bits_of number)) ≡ bits_of number = plain_64 (bits_of number) (omega (arith, few)) in
+    let den_is : q.den ≡ 1 = natural (sym den ∙ sym (to_z-of_z fits) ∙ ap (to_z w128) one ∙ cast_plain 1 (omega arith)) in
+    (subst (λ (z : ℤ). nat_abs z ≤ most) (sym same) few, ap whole (same ∙ plainly ∙ is) ∙ whole_of q den_is)
+  where
+    natural : {m n : ℕ} → pos m ≡ pos n → m ≡ n
+    natural e = cc
+
+-- a number that goes to more bits
+pub widened : (n : ℤ) → SFits w64 n → nat_abs n ≤ most → bits_of (to_z w64 (of_z w64 n)) ≡ n
+widened n fits h = ap bits_of (to_z-of_z fits) ∙ plain n (omega (arith, h))
+
+-- a fraction that is made of a whole number
+over_one : (n : ℤ) → whole n /ℚ whole (pos 1) ≡ whole n
+over_one n = sym (/ℚ-unique (whole n) (whole (pos 1)) (whole n) (whole_apart (pos 1) one_some) (sym (whole-times n (pos 1)) ∙ ap whole (times_one n)))
+  where
+    one_some : pos 1 ≡ pos 0 → ⊥
+    one_some e = cc
+
+pub made_is : (o : Option ℚ) (number n d : ℤ) (zero r : ℚ) → nat_abs number ≤ most → n ≡ number → d ≡ pos 1 → SomeIff o (IsMade (bound_of 127) n d) (whole n /ℚ whole d) → r ≡ unwrap_or o zero → r ≡ whole number
+made_is (Some x) number n d zero r h e f made is = is ∙ made.1 ∙ ap₂ (λ (a b : ℤ). whole a /ℚ whole b) e f ∙ over_one number
+made_is None number n d zero r h e f made is = absurd (made (record {
+  some = λ z. apart (sym f ∙ z);
+  fits = subst (λ (q : ℚ). IsWithin (bound_of 127) q) (sym (ap₂ (λ (a b : ℤ). whole a /ℚ whole b) e f ∙ over_one number)) (record {
+    small = subst (λ (z : ℤ). nat_abs z ≤ bound_of 127) (sym (num_whole number)) (omega arith);
+    small_den = subst (λ (k : ℕ). k ≤ bound_of 127) (sym (den_whole number)) (omega arith);
+  });
+}))
+  where
+    apart : pos 1 ≡ pos 0 → ⊥
+    apart e = cc
+
+-- ---- forms
+pub whole_exact : (forward : Bool) (x y : ℚ) (a b n : ℤ) → nat_abs a ≤ most → nat_abs b ≤ most → x ≡ whole a → y ≡ whole b → n ≡ along_by forward a b → IsExact forward x y (whole n)
+whole_exact true x y a b n h k e f g = sum_exact a b n h k g ∙ ap₂ (λ (p q : ℚ). checked passes_Q (op_of true) p q) (sym e) (sym f)
+whole_exact false x y a b n h k e f g = difference_exact a b n h k g ∙ ap₂ (λ (p q : ℚ). checked passes_Q (op_of false) p q) (sym e) (sym f)
+
+-- and stays whole where it is counted
+pub whole_kept : (forward : Bool) (x y : ℚ) (a b n : ℤ) → nat_abs a ≤ most → nat_abs b ≤ most → whole a ≡ x → whole b ≡ y
+    → nat_abs (along_by forward (to_z w64 (of_z w64 a)) (to_z w64 (of_z w64 b))) ≤ most → n ≡ along_by forward (to_z w64 (of_z w64 a)) (to_z w64 (of_z w64 b))
+    → IsExact forward x y (whole (to_z w64 (of_z w64 n)))
+whole_kept forward x y a b n h k e f l g =
+    let few : nat_abs n ≤ most = subst (λ (z : ℤ). nat_abs z ≤ most) (sym g) l in
+    whole_exact forward x y a b (to_z w64 (of_z w64 n)) h k (sym e) (sym f)
+    (plain_64 n (omega (arith, few)) ∙ g ∙ ap₂ (along_by forward) (plain_64 a (omega (arith, h))) (plain_64 b (omega (arith, k))))
