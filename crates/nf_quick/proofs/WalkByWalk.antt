@@ -1,5 +1,5 @@
 -- Walks taken off a flow, one after the other.
-use Rattle.std.proofs.Common.{◌≡◌, ℕ, suc, ◌+◌, ◌-◌, ◌<◌, ◌≤◌, ◌==◌, ◌&&◌, List, [], ◌∷◌, ◌++◌, length, drop, take, get_or, Bool, true, false, ⊎_elim, eqb, ◌≢◌, Option, Some, None, slice_get, unwrap_or, option_map, refl, sym, ap, subst, ◌∙◌, append_assoc, append-nil, add-one, arith}
+use Rattle.std.proofs.Common.{◌≡◌, ℕ, suc, ◌+◌, ◌-◌, ◌<◌, ◌≤◌, ◌==◌, List, [], ◌∷◌, ◌++◌, length, drop, take, get_or, Bool, true, false, ⊎_elim, eqb, ◌≢◌, Option, Some, None, slice_get, unwrap_or, option_map, refl, sym, ap, subst, ◌∙◌, append_assoc, append-nil, add-one, arith}
 use Rattle.std.specs.Prelude.{Ok, Err, if◌then◌else◌}
 use Rattle.std.specs.List.{AllByRecursion}
 use Rattle.std.proofs.lemmas.List.{drop_more, drop_all, take_more}
@@ -7,7 +7,6 @@ use Rattle.std.proofs.lemmas.Option.{slice_get_within, get_or_from_slice_get, un
 use Rattle.std.proofs.lemmas.Bool.Decides.{eqb_tells}
 use Rattle.nf_rational.specs.Rational.{ℚ}
 use Rattle.nf_rational.specs.Operations.{0ℚ}
-use Rattle.nf_rational.specs.Order.{lt_ℚ}
 use Rattle.nf_work.specs.Passing.{Passing}
 use Rattle.nf_work.specs.declared.Part.TheVariants as Part
 use Rattle.nf_work.specs.declared.PassedAt.{PassedAt}
@@ -19,6 +18,7 @@ use Rattle.nf_model.specs.Network.{Link, Network, IsLink}
 use Rattle.nf_model.specs.Quickest.{Fed}
 use Rattle.nf_quick_lists.specs.Walks.{first_out, head_of, way_from, way_out, least_along, take_list, walk_and, walks_off}
 use Rattle.nf_residual.proofs.Stopping.{stopped, goes_on}
+use Rattle.nf_quick.specs.Spent.{is_out}
 
 -- ---- the flows of the links, one more
 pub flow_more : (all so_far next : List ℚ) (k : ℕ) (x : ℚ) → k < length all → so_far ≡ take k all → x ≡ number_at all k → next ≡ so_far ++ x ∷ [] → next ≡ take (k + 1) all
@@ -27,9 +27,6 @@ flow_more all so_far next k x h e is made = made ∙ ap (λ (y : ℚ). so_far ++
 -- ---- the first link out: what is left to be looked at gives what all links give
 pub record LooksOn (links : List Link) (v : ℕ) (flows : List ℚ) (k : ℕ) : Type 0 where
   pub same : first_out k (drop k links) v flows ≡ first_out 0 links v flows
-
-abbrev pub is_out : Link → ℕ → ℚ → Bool
-is_out link v flow = (link.tail == v) && lt_ℚ 0ℚ flow
 
 module _ (links : List Link) (v : ℕ) (flows : List ℚ) where
   pub looks_first : LooksOn links v flows 0

@@ -1,3 +1,4 @@
 pub mod Codes
 pub mod Ways
+pub mod Spent
 pub mod Answered

@@ -1,10 +1,12 @@
 use Rattle.std.proofs.Common.{sym, ap, ◌∙◌}
 use Rattle.nf_rational.specs.Rational.{ℚ}
-use Rattle.nf_quick.proofs.WalkByWalk.{is_out, looks_first, found_out, looks_more}
+use Rattle.nf_quick.specs.Spent.{is_out}
+use Rattle.nf_quick.proofs.WalkByWalk.{found_out, looks_more}
+use Rattle.nf_quick.proofs.SpentLinks.{looks_from}
 use Rattle.nf_quick.proofs.walks.first_out.Goals as goal
 
 pub loop-number-init : goal.loop-number-init
-loop-number-init c = looks_first c.args.net.now.net.links c.args.node c.args.flows.now
+loop-number-init c = looks_from c.args.net.now.net.links c.args.node c.args.flows.now c.args.spent c.requires.spent
 
 pub returns-then-is_out-clause-first : goal.returns-then-is_out-clause-first
 returns-then-is_out-clause-first c = sym (found_out c.args.net.now.net.links c.args.node c.args.flows.now c.loop-number.number c.loop-number.invariant c.link-here.result c.link-here.ensures.link
