@@ -13,8 +13,6 @@ mod lines;
 mod places;
 mod short;
 mod sums;
-#[cfg(test)]
-mod tests;
 mod walk;
 
 pub use curve::{Curve, Difference};

@@ -12,10 +12,6 @@ mod scalar;
 mod short;
 mod small;
 mod small_arithmetic;
-#[cfg(test)]
-mod small_tests;
-#[cfg(test)]
-mod tests;
 mod whole;
 mod words;
 

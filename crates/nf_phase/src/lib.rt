@@ -16,8 +16,6 @@ mod phase;
 mod run;
 mod solution;
 mod solving;
-#[cfg(test)]
-mod tests;
 mod traces;
 
 pub use fault::StepFault;

@@ -6,8 +6,6 @@ mod residual;
 mod room;
 mod rounds;
 mod step;
-#[cfg(test)]
-mod tests;
 mod ways;
 
 pub use residual::Residual;

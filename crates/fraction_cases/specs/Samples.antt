@@ -1,4 +1,4 @@
--- A computation of two operations, as the tests do it.
+-- A computation of two operations, as the callers in this crate do it.
 use Rattle.std.specs.Prelude.{Result}
 use Rattle.nf_rational.specs.Rational.{ℚ}
 use Rattle.nf_work.specs.declared.Op.TheVariants.{Product, Difference}

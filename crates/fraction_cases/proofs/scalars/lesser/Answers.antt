@@ -1,6 +1,6 @@
 use Rattle.std.proofs.Common.{sym, ◌∙◌}
 use Rattle.nf_frac.proofs.Comparisons.{less_by_meaning, lesser_is_first, lesser_is_second}
-use Rattle.nf_frac.proofs.tests.lesser.Goals as goal
+use Rattle.fraction_cases.proofs.scalars.lesser.Goals as goal
 
 pub returns-then-lt : goal.returns-then-lt
 returns-then-lt g c =
