@@ -54,7 +54,12 @@ fn state_text(state: State) -> &'static [u8]
 }
 
 /// The line of a number.
-pub(crate) fn put_number<O: Sink>(out: &mut O, page: &mut Page, key: &[u8], number: Q) -> Result<(), SinkFault>
+pub(crate) fn put_number<O: Sink>(
+    out: &mut O,
+    page: &mut Page,
+    key: &[u8],
+    number: Q,
+) -> Result<(), SinkFault>
     ensures { GatheredLines (O.took out.old) (O.took out.new) (O.faults out.old) (O.faults out.new) page.old.items page.new.items
         ((key.now ∷ printed number ∷ []) ∷ []) result }
 {
@@ -64,7 +69,13 @@ pub(crate) fn put_number<O: Sink>(out: &mut O, page: &mut Page, key: &[u8], numb
 }
 
 // A cause with one count.
-fn put_counted<O: Sink>(out: &mut O, page: &mut Page, key: &[u8], word: &[u8], count: u64) -> Result<(), SinkFault>
+fn put_counted<O: Sink>(
+    out: &mut O,
+    page: &mut Page,
+    key: &[u8],
+    word: &[u8],
+    count: u64,
+) -> Result<(), SinkFault>
     ensures { GatheredLines (O.took out.old) (O.took out.new) (O.faults out.old) (O.faults out.new) page.old.items page.new.items
         ((key.now ∷ word.now ∷ digits_of count ∷ []) ∷ []) result }
 {
@@ -73,7 +84,13 @@ fn put_counted<O: Sink>(out: &mut O, page: &mut Page, key: &[u8], word: &[u8], c
     put_line(out, page, key, &[word, text.text()])
 }
 
-fn put_patterns<O: Sink>(out: &mut O, page: &mut Page, key: &[u8], phase: u64, tried: u64) -> Result<(), SinkFault>
+fn put_patterns<O: Sink>(
+    out: &mut O,
+    page: &mut Page,
+    key: &[u8],
+    phase: u64,
+    tried: u64,
+) -> Result<(), SinkFault>
     ensures { GatheredLines (O.took out.old) (O.took out.new) (O.faults out.old) (O.faults out.new) page.old.items page.new.items
         ((key.now ∷ codes "patterns" ∷ digits_of phase ∷ digits_of tried ∷ []) ∷ []) result }
 {
@@ -84,21 +101,21 @@ fn put_patterns<O: Sink>(out: &mut O, page: &mut Page, key: &[u8], phase: u64, t
     put_line(out, page, key, &[b"patterns", first.text(), second.text()])
 }
 
-// An operation that passes: the words for its phase and place, and then its operands.
+// An operation that passes: the words for its phase, part, place and operation, and then its operands.
 fn put_operation<'w, O: Sink>(
     out: &mut O,
     page: &mut Page,
     key: &[u8],
     phase: &'w [u8],
+    part: &'w [u8],
     place: &'w [u8],
+    op: &'w [u8],
     at: &PassedAt<Q>,
 ) -> Result<(), SinkFault>
     ensures { GatheredLines (O.took out.old) (O.took out.new) (O.faults out.old) (O.faults out.new) page.old.items page.new.items
-        ((key.now ∷ codes "passed" ∷ phase.now ∷ part_word at.now.part ∷ place.now ∷ op_word at.now.op
+        ((key.now ∷ codes "passed" ∷ phase.now ∷ part.now ∷ place.now ∷ op.now
         ∷ printed at.now.left ∷ printed at.now.right ∷ []) ∷ []) result }
 {
-    let part = part_text(at.part);
-    let op = op_text(at.op);
     let mut left = TextBuf::new();
     let mut right = TextBuf::new();
     at.left.write(&mut left);
@@ -125,11 +142,29 @@ fn put_passed<O: Sink>(
     let mut phase_word = TextBuf::new();
     write_count(phase, &mut phase_word);
     match place {
-        None => put_operation(out, page, key, phase_word.text(), b"-", at),
+        None => put_operation(
+            out,
+            page,
+            key,
+            phase_word.text(),
+            part_text(at.part),
+            b"-",
+            op_text(at.op),
+            at,
+        ),
         Some(place) => {
             let mut place_word = TextBuf::new();
             write_count(place, &mut place_word);
-            put_operation(out, page, key, phase_word.text(), place_word.text(), at)
+            put_operation(
+                out,
+                page,
+                key,
+                phase_word.text(),
+                part_text(at.part),
+                place_word.text(),
+                op_text(at.op),
+                at,
+            )
         }
     }
 }
@@ -145,7 +180,9 @@ pub fn write_passed_call<O: Sink>(
         ((key.now ∷ passed_words None None at.now) ∷ []) result }
 {
     let mut page = Page::new();
-    put_operation(out, &mut page, key, b"-", b"-", at)?;
+    let part = part_text(at.part);
+    let op = op_text(at.op);
+    put_operation(out, &mut page, key, b"-", part, b"-", op, at)?;
     write_text(out, page.as_slice())
 }
 
@@ -174,7 +211,11 @@ pub fn write_stop<O: Sink>(out: &mut O, key: &[u8], stop: &Stop) -> Result<(), S
 }
 
 /// The line of the cause: `done` where there is no stop.
-pub(crate) fn put_cause<O: Sink>(out: &mut O, page: &mut Page, stop: Option<&Stop>) -> Result<(), SinkFault>
+pub(crate) fn put_cause<O: Sink>(
+    out: &mut O,
+    page: &mut Page,
+    stop: Option<&Stop>,
+) -> Result<(), SinkFault>
     ensures { GatheredLines (O.took out.old) (O.took out.new) (O.faults out.old) (O.faults out.new) page.old.items page.new.items
         ((codes "cause" ∷ cause_words (option_copied stop.entry)) ∷ []) result }
 {
@@ -185,7 +226,12 @@ pub(crate) fn put_cause<O: Sink>(out: &mut O, page: &mut Page, stop: Option<&Sto
 }
 
 // The line of a link's state.
-fn put_named_state<O: Sink>(out: &mut O, page: &mut Page, name: &[u8], word: &[u8]) -> Result<(), SinkFault>
+fn put_named_state<O: Sink>(
+    out: &mut O,
+    page: &mut Page,
+    name: &[u8],
+    word: &[u8],
+) -> Result<(), SinkFault>
     ensures { GatheredLines (O.took out.old) (O.took out.new) (O.faults out.old) (O.faults out.new) page.old.items page.new.items
         ((codes "state" ∷ name.now ∷ word.now ∷ []) ∷ []) result }
 {

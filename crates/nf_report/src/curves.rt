@@ -83,7 +83,12 @@ fn put_rated_point<O: Sink>(
         Some(rate) => {
             let mut word = TextBuf::new();
             rate.write(&mut word);
-            put_line(out, page, key, &[name, time.text(), value.text(), word.text()])
+            put_line(
+                out,
+                page,
+                key,
+                &[name, time.text(), value.text(), word.text()],
+            )
         }
     }
 }

@@ -24,7 +24,13 @@ use nf_numerals::write_count;
 use nf_pattern::Pattern;
 
 // The label of a node.
-fn put_label<O: Sink>(out: &mut O, page: &mut Page, net: &Network, flow: &Flow, node: u32) -> Result<(), SinkFault>
+fn put_label<O: Sink>(
+    out: &mut O,
+    page: &mut Page,
+    net: &Network,
+    flow: &Flow,
+    node: u32,
+) -> Result<(), SinkFault>
     requires node { node < net.now.net.nodes }
     requires labels { length flow.now.labels.items ≡ net.now.net.nodes }
     ensures { GatheredLines (O.took out.old) (O.took out.new) (O.faults out.old) (O.faults out.new) page.old.items page.new.items
@@ -75,7 +81,12 @@ fn put_curves<O: Sink>(
 }
 
 /// The curves of all links.
-pub(crate) fn put_links<O: Sink>(out: &mut O, page: &mut Page, net: &Network, flow: &Flow) -> Result<(), SinkFault>
+pub(crate) fn put_links<O: Sink>(
+    out: &mut O,
+    page: &mut Page,
+    net: &Network,
+    flow: &Flow,
+) -> Result<(), SinkFault>
     requires inflows { length flow.now.inflows.items ≡ length net.now.net.links }
     requires outflows { length flow.now.outflows.items ≡ length net.now.net.links }
     requires queues { length flow.now.queues.items ≡ length net.now.net.links }
@@ -124,7 +135,12 @@ pub(crate) fn put_states<O: Sink>(
 }
 
 // The line of an idle node.
-fn put_never<O: Sink>(out: &mut O, page: &mut Page, net: &Network, node: u32) -> Result<(), SinkFault>
+fn put_never<O: Sink>(
+    out: &mut O,
+    page: &mut Page,
+    net: &Network,
+    node: u32,
+) -> Result<(), SinkFault>
     requires { node < length net.now.idle_nodes }
     ensures { GatheredLines (O.took out.old) (O.took out.new) (O.faults out.old) (O.faults out.new) page.old.items page.new.items
         ((codes "never" ∷ name_at net.now.idle_nodes node ∷ []) ∷ []) result }
@@ -134,7 +150,11 @@ fn put_never<O: Sink>(out: &mut O, page: &mut Page, net: &Network, node: u32) ->
 }
 
 /// The idle nodes.
-pub(crate) fn put_idle<O: Sink>(out: &mut O, page: &mut Page, net: &Network) -> Result<(), SinkFault>
+pub(crate) fn put_idle<O: Sink>(
+    out: &mut O,
+    page: &mut Page,
+    net: &Network,
+) -> Result<(), SinkFault>
     ensures { GatheredLines (O.took out.old) (O.took out.new) (O.faults out.old) (O.faults out.new) page.old.items page.new.items
         (never_lines net.now.idle_nodes) result }
 {

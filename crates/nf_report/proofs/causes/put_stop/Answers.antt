@@ -4,7 +4,7 @@ use Rattle.nf_rational.specs.Rational.{ℚ}
 use Rattle.nf_numerals.specs.Digits.{digits_of}
 use Rattle.nf_formats.specs.declared.Cause.{Cause}
 use Rattle.nf_formats.specs.Causes.{cause_words, passed_words}
-use Rattle.nf_report.proofs.Pages.{same_gathered}
+use Rattle.nf_report.proofs.Gathering.{same_gathered}
 use Rattle.nf_report.proofs.causes.put_stop.Goals as goal
 
 pub returns-in-Patterns : goal.returns-in-Patterns

@@ -2,7 +2,7 @@ use Rattle.std.proofs.Common.{[], ◌∷◌, ◌+◌, take, drop, suc}
 use Rattle.nf_formats.specs.Report.{point_lines}
 use Rattle.nf_report.specs.Written.{point_line}
 use Rattle.nf_report.proofs.Parts.{point_lines_next, point_lines_left}
-use Rattle.nf_report.proofs.Pages.{gathered_nil, gathered_next, gathered_then_failed}
+use Rattle.nf_report.proofs.Gathering.{gathered_nil, gathered_next, gathered_then_failed}
 use Rattle.nf_report.proofs.curves.put_curve.Goals as goal
 
 pub loop-index-init : goal.loop-index-init

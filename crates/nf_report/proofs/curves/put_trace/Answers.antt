@@ -3,7 +3,7 @@ use Rattle.std.specs.Prelude.{slice_get}
 use Rattle.nf_formats.specs.Report.{trace_lines}
 use Rattle.nf_report.specs.Written.{trace_line}
 use Rattle.nf_report.proofs.Parts.{trace_lines_next, trace_lines_left}
-use Rattle.nf_report.proofs.Pages.{gathered_nil, gathered_next, gathered_then_failed}
+use Rattle.nf_report.proofs.Gathering.{gathered_nil, gathered_next, gathered_then_failed}
 use Rattle.nf_report.proofs.curves.put_trace.Goals as goal
 
 pub loop-index-init : goal.loop-index-init

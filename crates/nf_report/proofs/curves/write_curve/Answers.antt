@@ -1,4 +1,4 @@
-use Rattle.nf_report.proofs.Pages.{gathered_written, gathered_refused}
+use Rattle.nf_report.proofs.Gathering.{gathered_written, gathered_refused}
 use Rattle.nf_report.proofs.curves.write_curve.Goals as goal
 
 pub returns-in_err-put_curve : goal.returns-in_err-put_curve

@@ -1,5 +1,5 @@
 use Rattle.std.proofs.Common.{refl}
-use Rattle.nf_report.proofs.Pages.{gathered_both, gathered_front}
+use Rattle.nf_report.proofs.Gathering.{gathered_both, gathered_front}
 use Rattle.nf_report.proofs.line.put_word.Goals as goal
 
 pub returns-in_err-put : goal.returns-in_err-put

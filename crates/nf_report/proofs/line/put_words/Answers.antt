@@ -1,6 +1,6 @@
 use Rattle.std.proofs.Common.{◌∷◌, map, drop, suc, refl}
 use Rattle.nf_report.proofs.Parts.{next_part, parts_left, mapped_there}
-use Rattle.nf_report.proofs.Pages.{gathered_nil, gathered_both, gathered_front}
+use Rattle.nf_report.proofs.Gathering.{gathered_nil, gathered_both, gathered_front}
 use Rattle.nf_report.specs.Written.{after_words}
 use Rattle.nf_report.proofs.line.put_words.Goals as goal
 

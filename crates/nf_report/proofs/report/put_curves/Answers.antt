@@ -7,7 +7,7 @@ use Rattle.nf_formats.specs.Names.{name_at}
 use Rattle.nf_formats.specs.Report.{point_lines, trace_lines, link_lines}
 use Rattle.nf_report.specs.Written.{Line}
 use Rattle.nf_report.proofs.Parts.{points_there, trace_there, same_link}
-use Rattle.nf_report.proofs.Pages.{same_gathered}
+use Rattle.nf_report.proofs.Gathering.{same_gathered}
 use Rattle.nf_report.proofs.report.put_curves.Goals as goal
 
 abbrev lines_of : List ℕ → model.Trace → model.Trace → List (ℚ × ℚ) → List Line

@@ -3,7 +3,7 @@ use Rattle.std.specs.Prelude.{codes}
 use Rattle.std.specs.Option.{option_copied}
 use Rattle.nf_numerals.specs.Printed.{printed}
 use Rattle.nf_formats.specs.Causes.{cause_words}
-use Rattle.nf_report.proofs.Pages.{gathered_next, gathered_failed}
+use Rattle.nf_report.proofs.Gathering.{gathered_next, gathered_failed}
 use Rattle.nf_report.proofs.report.put_end_of_run.Goals as goal
 
 pub returns-in_err-put_times : goal.returns-in_err-put_times

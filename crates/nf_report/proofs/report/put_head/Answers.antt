@@ -5,7 +5,7 @@ use Rattle.nf_numerals.specs.Digits.{digits_of}
 use Rattle.nf_numerals.specs.Printed.{printed}
 use Rattle.nf_formats.specs.Causes.{cause_words}
 use Rattle.nf_report.specs.Written.{head_lines}
-use Rattle.nf_report.proofs.Pages.{gathered_next, gathered_failed}
+use Rattle.nf_report.proofs.Gathering.{gathered_next, gathered_failed}
 use Rattle.nf_report.proofs.report.put_head.Goals as goal
 
 pub returns-in_err-put_version : goal.returns-in_err-put_version

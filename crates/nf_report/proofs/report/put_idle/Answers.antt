@@ -3,7 +3,7 @@ use Rattle.std.specs.Prelude.{codes}
 use Rattle.nf_formats.specs.Names.{name_at}
 use Rattle.nf_report.specs.Written.{never_lines}
 use Rattle.nf_report.proofs.Parts.{never_next, never_left, never_all}
-use Rattle.nf_report.proofs.Pages.{gathered_nil, gathered_next, gathered_then_failed, same_gathered}
+use Rattle.nf_report.proofs.Gathering.{gathered_nil, gathered_next, gathered_then_failed, same_gathered}
 use Rattle.nf_report.proofs.report.put_idle.Goals as goal
 
 pub loop-node-init : goal.loop-node-init

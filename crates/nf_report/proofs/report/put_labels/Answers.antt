@@ -5,7 +5,7 @@ use Rattle.nf_curve.specs.Flows.{flow_of}
 use Rattle.nf_formats.specs.Report.{label_lines}
 use Rattle.nf_formats.specs.Report.{for_each}
 use Rattle.nf_report.proofs.Parts.{each_next, each_left, each_all}
-use Rattle.nf_report.proofs.Pages.{gathered_nil, gathered_next, gathered_then_failed, same_gathered}
+use Rattle.nf_report.proofs.Gathering.{gathered_nil, gathered_next, gathered_then_failed, same_gathered}
 use Rattle.nf_report.proofs.report.put_labels.Goals as goal
 
 pub loop-node-init : goal.loop-node-init

@@ -4,7 +4,7 @@ use Rattle.std.specs.Option.{option_copied}
 use Rattle.nf_formats.specs.Report.{for_each, label_lines, link_lines, state_lines, report_lines}
 use Rattle.nf_curve.specs.Flows.{flow_of, trace_of}
 use Rattle.nf_report.specs.Written.{head_lines, never_lines}
-use Rattle.nf_report.proofs.Pages.{gathered_next, gathered_failed}
+use Rattle.nf_report.proofs.Gathering.{gathered_next, gathered_failed}
 use Rattle.std.proofs.lemmas.List.{length-map}
 use Rattle.nf_report.proofs.report.put_report.Goals as goal
 

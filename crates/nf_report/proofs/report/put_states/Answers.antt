@@ -4,7 +4,7 @@ use Rattle.std.specs.List.{range_with_len}
 use Rattle.nf_formats.specs.Report.{state_lines}
 use Rattle.nf_formats.specs.Report.{for_each}
 use Rattle.nf_report.proofs.Parts.{each_next, each_left, each_all}
-use Rattle.nf_report.proofs.Pages.{gathered_nil, gathered_next, gathered_then_failed, same_gathered}
+use Rattle.nf_report.proofs.Gathering.{gathered_nil, gathered_next, gathered_then_failed, same_gathered}
 use Rattle.nf_report.proofs.report.put_states.Goals as goal
 
 pub loop-link-init : goal.loop-link-init

@@ -1,7 +1,7 @@
 use Rattle.std.proofs.Common.{[], ◌∷◌, refl}
 use Rattle.std.specs.Prelude.{codes}
 use Rattle.nf_numerals.specs.Printed.{printed}
-use Rattle.nf_report.proofs.Pages.{gathered_next, gathered_failed}
+use Rattle.nf_report.proofs.Gathering.{gathered_next, gathered_failed}
 use Rattle.nf_report.proofs.report.put_times.Goals as goal
 
 pub returns-in_err-put_number : goal.returns-in_err-put_number

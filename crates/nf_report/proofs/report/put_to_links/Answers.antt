@@ -3,7 +3,7 @@ use Rattle.std.specs.Option.{option_copied}
 use Rattle.nf_formats.specs.Report.{for_each, label_lines, link_lines}
 use Rattle.nf_curve.specs.Flows.{flow_of}
 use Rattle.nf_report.specs.Written.{head_lines, never_lines}
-use Rattle.nf_report.proofs.Pages.{gathered_next, gathered_failed}
+use Rattle.nf_report.proofs.Gathering.{gathered_next, gathered_failed}
 use Rattle.nf_report.proofs.report.put_to_links.Goals as goal
 
 pub returns-in_err-put_to_idle : goal.returns-in_err-put_to_idle

@@ -1,4 +1,4 @@
-use Rattle.nf_report.proofs.Pages.{gathered_written, gathered_refused}
+use Rattle.nf_report.proofs.Gathering.{gathered_written, gathered_refused}
 use Rattle.nf_report.proofs.report.write_report.Goals as goal
 
 pub returns-in_err-put_report : goal.returns-in_err-put_report

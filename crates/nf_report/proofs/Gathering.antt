@@ -24,7 +24,7 @@ nothing_more (Some bytes) = ap Some (sym (append-nil bytes))
 -- there was room
 pub put_there : {E : Type 0} {took : Option (List ℕ)} {faults : ℕ} {u : Unit {0}} (before now bytes : List ℕ) → now ≡ before ++ bytes
     → Gathered {E = E} took took faults faults before now bytes (Ok u)
-put_there {E} {took} before now bytes e = record { written = []; all = e; took = nothing_more took; never_falls = omega arith }
+put_there {E} {took} before now bytes e = record { kept = record { written = []; all = e; took = nothing_more took; never_falls = omega arith }; refused = tt }
 
 -- nothing is put yet
 pub gathered_nil : {E : Type 0} {took : Option (List ℕ)} {faults : ℕ} {page : List ℕ} → Gathered {E = E} took took faults faults page page [] (Ok tt)
@@ -34,28 +34,34 @@ gathered_nil {E} {took} {faults} {page} = put_there page page [] (sym (append-ni
 pub put_on_next : {E F : Type 0} {old now : Option (List ℕ)} {f g : ℕ} {u v : Unit {0}} (page empty end bytes : List ℕ) → empty ≡ [] → end ≡ empty ++ bytes
     → Wrote {E = E} old now f g page (Ok u) → Gathered {E = F} old now f g page end bytes (Ok v)
 put_on_next page empty end bytes e s w = record {
-  written = page;
-  all = ap (λ (l : List ℕ). page ++ l) (s ∙ ap (λ (l : List ℕ). l ++ bytes) e);
-  took = w.whole;
-  never_falls = w.never_falls;
+  kept = record {
+    written = page;
+    all = ap (λ (l : List ℕ). page ++ l) (s ∙ ap (λ (l : List ℕ). l ++ bytes) e);
+    took = w.whole;
+    never_falls = w.never_falls;
+  };
+  refused = tt;
 }
 
 -- the page was written, and then the bytes
 pub put_behind : {E F : Type 0} {old before now : Option (List ℕ)} {f g h : ℕ} {u : Unit {0}} (page end bytes : List ℕ) (r : Result (Unit {0}) E) → end ≡ []
     → Wrote {E = F} old before f g page (Ok u) → Wrote before now g h bytes r → Gathered old now f h page end bytes r
 put_behind {E} {F} {old} {before} {now} {f} {g} {h} page end bytes (Ok v) e w x = let both = Wrote-append old before now f g h page bytes (Ok v) w x in record {
-  written = page ++ bytes;
-  all = ap (λ (l : List ℕ). (page ++ bytes) ++ l) e ∙ append-nil (page ++ bytes);
-  took = both.whole;
-  never_falls = both.never_falls;
+  kept = record {
+    written = page ++ bytes;
+    all = ap (λ (l : List ℕ). (page ++ bytes) ++ l) e ∙ append-nil (page ++ bytes);
+    took = both.whole;
+    never_falls = both.never_falls;
+  };
+  refused = tt;
 }
-put_behind {E} {F} {old} {before} {now} {f} {g} {h} page end bytes (Err d) e w x = Wrote-append old before now f g h page bytes (Err d) w x
+put_behind {E} {F} {old} {before} {now} {f} {g} {h} page end bytes (Err d) e w x = record { kept = tt; refused = Wrote-append old before now f g h page bytes (Err d) w x }
 
 -- the page was refused
 pub page_refused : {E F : Type 0} {old now : Option (List ℕ)} {f g : ℕ} {e : E} (page end bytes : List ℕ) (r : Result (Unit {0}) F) → IsErr r
     → Wrote old now f g page (Err e) → Gathered old now f g page end bytes r
 page_refused page end bytes (Ok u) fails w = cc
-page_refused {E} {F} {old} {now} {f} {g} {e} page end bytes (Err d) fails w = Wrote-longer old now f g page bytes e d w
+page_refused {E} {F} {old} {now} {f} {g} {e} page end bytes (Err d) fails w = record { kept = tt; refused = Wrote-longer old now f g page bytes e d w }
 
 -- the same page at the start
 pub same_start : {E : Type 0} {old now : Option (List ℕ)} {f g : ℕ} {end text : List ℕ} {r : Result (Unit {0}) E} (first page : List ℕ) → first ≡ page
@@ -66,17 +72,22 @@ same_start {E} {old} {now} {f} {g} {end} {text} {r} first page e w = subst (λ (
 module _ {E F : Type 0} {old before now : Option (List ℕ)} {f g h : ℕ} {page middle end first next : List ℕ} {u : Unit {0}} where
   both_for : (r : Result (Unit {0}) E) (text : List ℕ) → first ++ next ≡ text → Gathered {E = F} old before f g page middle first (Ok u)
       → Gathered before now g h middle end next r → Gathered old now f h page end text r
-  both_for (Ok v) text e k m = record {
-    written = k.written ++ m.written;
-    all = append_assoc k.written m.written end ∙ ap (λ (l : List ℕ). k.written ++ l) m.all ∙ sym (append_assoc k.written middle next)
-        ∙ ap (λ (l : List ℕ). l ++ next) k.all ∙ append_assoc page first next ∙ ap (λ (l : List ℕ). page ++ l) e;
-    took = (Wrote-append old before now f g h k.written m.written (Ok v) (kept_wrote {E = F} k) (kept_wrote {E = E} m)).whole;
-    never_falls = omega (arith, k.never_falls, m.never_falls);
+  both_for (Ok v) text e x y = let k = x.kept in let m = y.kept in record {
+    kept = record {
+      written = k.written ++ m.written;
+      all = append_assoc k.written m.written end ∙ ap (λ (l : List ℕ). k.written ++ l) m.all ∙ sym (append_assoc k.written middle next)
+          ∙ ap (λ (l : List ℕ). l ++ next) k.all ∙ append_assoc page first next ∙ ap (λ (l : List ℕ). page ++ l) e;
+      took = (Wrote-append old before now f g h k.written m.written (Ok v) (kept_wrote {E = F} k) (kept_wrote {E = E} m)).whole;
+      never_falls = omega (arith, k.never_falls, m.never_falls);
+    };
+    refused = tt;
   }
-  both_for (Err d) text e k w =
-      subst (λ (t : List ℕ). Wrote old now f h t (Err d))
-      (sym (append_assoc k.written middle next) ∙ ap (λ (l : List ℕ). l ++ next) k.all ∙ append_assoc page first next ∙ ap (λ (l : List ℕ). page ++ l) e)
-      (Wrote-append old before now f g h k.written (middle ++ next) (Err d) (kept_wrote {E = F} k) w)
+  both_for (Err d) text e x y = let k = x.kept in record {
+    kept = tt;
+    refused = subst (λ (t : List ℕ). Wrote old now f h t (Err d))
+        (sym (append_assoc k.written middle next) ∙ ap (λ (l : List ℕ). l ++ next) k.all ∙ append_assoc page first next ∙ ap (λ (l : List ℕ). page ++ l) e)
+        (Wrote-append old before now f g h k.written (middle ++ next) (Err d) (kept_wrote {E = F} k) y.refused);
+  }
 
   -- the next part follows the first
   pub gathered_both : {r : Result (Unit {0}) E} (text : List ℕ) → first ++ next ≡ text → Gathered {E = F} old before f g page middle first (Ok u)
@@ -87,9 +98,11 @@ module _ {E F : Type 0} {old before now : Option (List ℕ)} {f g h : ℕ} {page
 pub gathered_front : {E F : Type 0} {old now : Option (List ℕ)} {f g : ℕ} {page end first : List ℕ} {e : E} (rest text : List ℕ) (r : Result (Unit {0}) F)
     → first ++ rest ≡ text → IsErr r → Gathered old now f g page end first (Err e) → Gathered old now f g page end text r
 gathered_front rest text (Ok u) s fails w = cc
-gathered_front {E} {F} {old} {now} {f} {g} {page} {end} {first} {e} rest text (Err d) s fails w =
-    subst (λ (t : List ℕ). Wrote {E = F} old now f g t (Err d)) (append_assoc page first rest ∙ ap (λ (l : List ℕ). page ++ l) s)
-    (Wrote-longer old now f g (page ++ first) rest e d w)
+gathered_front {E} {F} {old} {now} {f} {g} {page} {end} {first} {e} rest text (Err d) s fails w = record {
+  kept = tt;
+  refused = subst (λ (t : List ℕ). Wrote {E = F} old now f g t (Err d)) (append_assoc page first rest ∙ ap (λ (l : List ℕ). page ++ l) s)
+      (Wrote-longer old now f g (page ++ first) rest e d w.refused);
+}
 
 -- ---- lines
 module _ {E F : Type 0} {old before now : Option (List ℕ)} {f g h : ℕ} {page middle end : List ℕ} where
@@ -117,11 +130,12 @@ gathered_then_failed first next rest lines r s fails v w = gathered_failed (firs
 -- it was written, or refused
 pub gathered_written : {E F : Type 0} {old now end : Option (List ℕ)} {f g h : ℕ} {u : Unit {0}} {r : Result (Unit {0}) E} (start page text bytes : List ℕ) → start ≡ [] → bytes ≡ page
     → Gathered {E = F} old now f g start page text (Ok u) → Wrote now end g h bytes r → Wrote old end f h text r
-gathered_written {E} {F} {old} {now} {end} {f} {g} {h} {u} {r} start page text bytes e s k w =
+gathered_written {E} {F} {old} {now} {end} {f} {g} {h} {u} {r} start page text bytes e s x w =
+    let k = x.kept in
     subst (λ (t : List ℕ). Wrote old end f h t r) (ap (λ (l : List ℕ). k.written ++ l) s ∙ k.all ∙ ap (λ (l : List ℕ). l ++ text) e)
     (Wrote-append old now end f g h k.written bytes r (kept_wrote {E = F} k) w)
 
 -- an earlier one was refused
 pub gathered_refused : {E F : Type 0} {old now : Option (List ℕ)} {f g : ℕ} {e : E} (start page text : List ℕ) (r : Result (Unit {0}) F) → start ≡ [] → IsErr r
     → Gathered old now f g start page text (Err e) → Wrote old now f g text r
-gathered_refused start page text r e fails w = wrote_front [] text r (append-nil (start ++ text) ∙ ap (λ (l : List ℕ). l ++ text) e) fails w
+gathered_refused start page text r e fails w = wrote_front [] text r (append-nil (start ++ text) ∙ ap (λ (l : List ℕ). l ++ text) e) fails w.refused
