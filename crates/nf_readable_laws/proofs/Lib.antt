@@ -6,3 +6,4 @@ pub mod PatternFits
 pub mod PhaseFits
 pub mod Starting
 pub mod Running
+pub mod ReadingBack
