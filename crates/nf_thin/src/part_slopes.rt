@@ -1,11 +1,11 @@
-// The slopes that solve the table of a pattern, from one equation for each group of nodes that Tight links join: all nodes of a group
-// have one slope, and what leaves the group less what enters it is known. Nothing rests on them, since only a guess asks.
+// The slopes that solve the table of a pattern, from one equation for each part of the network that Tight links join: all nodes of a
+// part have one slope, and what leaves the part less what enters it is known. Nothing rests on them, since only a guess asks.
 ghost use Rattle.std.specs.Prelude.{◌≡◌, ◌<◌, ◌≤◌, length};
 
-use crate::node_groups::{NumberedGroups, state_in, tight_groups};
+use crate::node_parts::{Parts, state_in, tight_forest};
 use crate::trying::solved;
 use nf_frac::{Halt, Part, Q, at};
-use nf_graph::{LinkId, LinkSets};
+use nf_graph::{LinkId, LinkSets, NodeId};
 use nf_linear::Table;
 use nf_model::State;
 use nf_net::Network;
@@ -44,7 +44,7 @@ pub(crate) fn take_off_at(numbers: &mut [Q], place: usize, number: Q) -> Result<
 
 // ---- the equations
 
-// A Full or resetting link from a group to another one.
+// A Full or resetting link from a part to another one.
 #[derive(Clone, Copy)]
 struct FullLink {
     tail: u32,
@@ -58,7 +58,7 @@ fn full_links(
     net: &Network,
     sets: &LinkSets,
     pattern: &Pattern,
-    groups: &NumberedGroups,
+    parts: &Parts,
 ) -> Result<Vec<FullLink>, AllocError>
     requires sets { length sets.now.active ≡ length net.now.net.links }
     requires states { length pattern.now ≡ length net.now.net.links }
@@ -67,8 +67,8 @@ fn full_links(
     for e in 0..net.link_count() {
         if let Some(State::Full) = state_in(sets, pattern, LinkId(e)) {
             let here = net.link(LinkId(e));
-            let tail = groups.number(here.tail);
-            let head = groups.number(here.head);
+            let tail = parts.number(here.tail);
+            let head = parts.number(here.head);
             let capacity = here.capacity.unwrap_or(Q::zero());
             if tail != head {
                 links.push(FullLink {
@@ -82,21 +82,21 @@ fn full_links(
     Ok(links)
 }
 
-// What a link adds to what leaves a group less what enters it.
-fn add_link(link: FullLink, group: u32, factors: &mut [Q]) -> Result<(), Halt<Q>> {
-    if link.tail == group {
+// What a link adds to what leaves a part less what enters it.
+fn add_link(link: FullLink, part: u32, factors: &mut [Q]) -> Result<(), Halt<Q>> {
+    if link.tail == part {
         return add_at(factors, link.head as usize, link.capacity);
     }
-    if link.head == group {
+    if link.head == part {
         return take_off_at(factors, link.head as usize, link.capacity);
     }
     Ok(())
 }
 
-// What leaves a group less what enters it: of each group, how often its slope is in it.
-fn balance(links: &[FullLink], group: u32, factors: &mut [Q]) -> Result<(), Halt<Q>> {
+// What leaves a part less what enters it: of each part, how often its slope is in it.
+fn balance(links: &[FullLink], part: u32, factors: &mut [Q]) -> Result<(), Halt<Q>> {
     for i in 0..links.len() {
-        add_link(links[i], group, factors)?;
+        add_link(links[i], part, factors)?;
     }
     Ok(())
 }
@@ -114,7 +114,7 @@ fn set_number(table: &mut Table<Q>, size: u32, row: u32, column: u32, number: Q)
     table.set(row, column, number);
 }
 
-// A row of zeros becomes these factors of the slopes; that of the source's group is 1.
+// A row of zeros becomes these factors of the slopes; that of the source's part is 1.
 fn set_row(table: &mut Table<Q>, size: u32, row: u32, factors: &[Q], right: Q)
     requires size { length table.old ≡ size }
     requires row { row < size }
@@ -127,21 +127,21 @@ fn set_row(table: &mut Table<Q>, size: u32, row: u32, factors: &[Q], right: Q)
     table.set_right(row, right);
 }
 
-// The group whose balance is in a row: the one whose slope is the column of the same number, but that of the source in place of the
+// The part whose balance is in a row: the one whose slope is the column of the same number, but that of the source in place of the
 // sink's.
-fn balanced(row: u32, sink_group: u32) -> u32 {
-    let group = row.saturating_add(1);
-    if group == sink_group { 0 } else { group }
+fn balanced(row: u32, sink_part: u32) -> u32 {
+    let part = row.saturating_add(1);
+    if part == sink_part { 0 } else { part }
 }
 
-// The row of the balance of a group.
+// The row of the balance of a part.
 fn fill_row(
     alloc: Global,
     table: &mut Table<Q>,
     size: u32,
     row: u32,
     links: &[FullLink],
-    group: u32,
+    part: u32,
     rate: Q,
 ) -> Result<(), Halt<Q>>
     requires size { length table.old ≡ size }
@@ -149,19 +149,19 @@ fn fill_row(
     ensures { length table.new ≡ size }
 {
     let mut factors = vec![in alloc; Q::zero(); size as usize + 1]?;
-    balance(links, group, &mut factors)?;
-    let surplus = if group == 0 { rate } else { Q::zero() };
+    balance(links, part, &mut factors)?;
+    let surplus = if part == 0 { rate } else { Q::zero() };
     let right = at!(Part::Table, surplus.difference(number_or_zero(&factors, 0)));
     set_row(table, size, row, &factors, right);
     Ok(())
 }
 
-// The table of the slopes of all groups but that of the source.
+// The table of the slopes of all parts but that of the source.
 fn slope_table(
     alloc: Global,
     size: u32,
     links: &[FullLink],
-    sink_group: u32,
+    sink_part: u32,
     rate: Q,
 ) -> Result<Table<Q>, Halt<Q>>
     requires some { 0 < size }
@@ -169,18 +169,18 @@ fn slope_table(
 {
     let mut table = Table::new(alloc, size)?;
     for row in 0..size {
-        let group = balanced(row, sink_group);
-        fill_row(alloc, &mut table, size, row, links, group, rate)?;
+        let part = balanced(row, sink_part);
+        fill_row(alloc, &mut table, size, row, links, part, rate)?;
     }
     Ok(table)
 }
 
-// The slopes of all groups but that of the source.
-fn slopes_of_groups(
+// The slopes of all parts but that of the source.
+fn slopes_of_parts(
     alloc: Global,
     count: u32,
     links: &[FullLink],
-    sink_group: u32,
+    sink_part: u32,
     rate: Q,
 ) -> Result<Option<Vec<Q>>, Halt<Q>> {
     let size = count.saturating_sub(1);
@@ -190,19 +190,20 @@ fn slopes_of_groups(
     if size > MOST_UNKNOWNS {
         return Ok(None);
     }
-    let table = slope_table(alloc, size, links, sink_group, rate)?;
+    let table = slope_table(alloc, size, links, sink_part, rate)?;
     solved(alloc, table)
 }
 
-// The slope of each node, from those of the groups.
+// The slope of each node, from those of the parts.
 fn slopes_of_nodes(
     alloc: Global,
-    groups: &NumberedGroups,
+    nodes: u32,
+    parts: &Parts,
     others: &[Q],
 ) -> Result<Vec<Q>, AllocError> {
     let mut slopes = Vec::new(alloc);
-    for v in 0..groups.of_nodes.len() {
-        let number = groups.of_nodes[v];
+    for v in 0..nodes {
+        let number = parts.number(NodeId(v));
         if number == 0 {
             slopes.push(Q::one())?;
         } else {
@@ -213,7 +214,7 @@ fn slopes_of_nodes(
 }
 
 /// The slopes of the nodes, in node order. None where the table of the pattern hasn't just one solution.
-pub(crate) fn group_slopes(
+pub(crate) fn part_slopes(
     alloc: Global,
     net: &Network,
     sets: &LinkSets,
@@ -223,15 +224,15 @@ pub(crate) fn group_slopes(
     requires sets { length sets.now.active ≡ length net.now.net.links }
     requires states { length pattern.now ≡ length net.now.net.links }
 {
-    let Some(joined) = tight_groups(alloc, net, sets, pattern)? else {
+    let Some(forest) = tight_forest(alloc, net, sets, pattern)? else {
         return Ok(None);
     };
-    let groups = NumberedGroups::new(alloc, net, &joined)?;
-    let links = full_links(alloc, net, sets, pattern, &groups)?;
-    let sink_group = groups.number(net.sink());
-    let Some(others) = slopes_of_groups(alloc, groups.count, &links, sink_group, rate)? else {
+    let parts = Parts::new(alloc, net, &forest)?;
+    let links = full_links(alloc, net, sets, pattern, &parts)?;
+    let sink_part = parts.number(net.sink());
+    let Some(others) = slopes_of_parts(alloc, parts.count, &links, sink_part, rate)? else {
         return Ok(None);
     };
-    let slopes = slopes_of_nodes(alloc, &groups, &others)?;
+    let slopes = slopes_of_nodes(alloc, net.node_count(), &parts, &others)?;
     Ok(Some(slopes))
 }

@@ -1,8 +1,8 @@
-// The values that solve the table of a pattern, without that table: the slopes from a table of one equation for each group of nodes
-// that Tight links join, and then the flows. Nothing rests on them, since only a guess asks.
+// The values that solve the table of a pattern, without that table: the slopes from a table of one equation for each part of the
+// network that Tight links join, and then the flows. Nothing rests on them, since only a guess asks.
 ghost use Rattle.std.specs.Prelude.{◌≡◌, length};
 
-use crate::group_slopes::group_slopes;
+use crate::part_slopes::part_slopes;
 use crate::tight_flows::with_flows;
 use nf_frac::{Halt, Q};
 use nf_graph::LinkSets;
@@ -21,7 +21,7 @@ fn slopes_and_flows(
     requires sets { length sets.now.active ≡ length net.now.net.links }
     requires states { length pattern.now ≡ length net.now.net.links }
 {
-    match group_slopes(alloc, net, sets, rate, pattern)? {
+    match part_slopes(alloc, net, sets, rate, pattern)? {
         Some(slopes) => with_flows(alloc, net, sets, rate, pattern, slopes),
         None => Ok(None),
     }
@@ -29,7 +29,7 @@ fn slopes_and_flows(
 
 /// The values that solve the table of a pattern: the slopes of the nodes, in node order, and the flows of the active links, in link
 /// order. None where not just one does, or an operation passes.
-pub fn group_values(
+pub fn part_values(
     alloc: Global,
     net: &Network,
     sets: &LinkSets,
