@@ -1,3 +1,4 @@
+pub mod SupplyOn
 pub mod PieceByPiece
 pub mod GrowingWays
 pub mod WalkByWalk

@@ -1,5 +1,5 @@
 -- The least departure, looked for piece by piece.
-use Rattle.std.proofs.Common.{◌≡◌, ℕ, zero, suc, ◌+◌, ◌≤◌, List, [], ◌∷◌, length, drop, Bool, true, false, Option, Some, None, slice_get, option_map, refl, sym, ap, subst, ◌∙◌}
+use Rattle.std.proofs.Common.{◌≡◌, ℕ, zero, suc, ◌+◌, ◌≤◌, List, [], ◌∷◌, length, drop, Bool, true, false, Option, Some, None, slice_get, option_map, refl, sym, ap, subst, ◌∙◌, add-one}
 use Rattle.std.specs.Prelude.{Result, Ok, Err, IfOk}
 use Rattle.std.proofs.lemmas.List.{drop_more, drop_all}
 use Rattle.std.proofs.lemmas.Option.{slice_get_within, get_or_from_slice_get}
@@ -12,17 +12,20 @@ use Rattle.nf_work.specs.declared.Part.TheVariants as Part
 use Rattle.nf_work.specs.declared.PassedAt.{PassedAt}
 use Rattle.nf_work.specs.Checked.{Checked, at_part, ◌>>=◌}
 use Rattle.nf_model.specs.Network.{Piece, Network, ArePieces, supplied}
-use Rattle.nf_net.specs.Supply.{checked_supply}
+use Rattle.nf_model_laws.proofs.Supply.{StartsRise-pieces}
+use Rattle.nf_net.specs.Supply.{with_piece, checked_supply}
 use Rattle.nf_net.proofs.Supplied.{value_supplied}
 use Rattle.nf_quick_lists.specs.Departures.{within_piece, last_piece, by_next, departs, departure_of, departure_list, IsDeparture}
 use Rattle.nf_quick_laws.proofs.Departing.{IsBefore, rate_before_next, before_next, before_first, IsDeparture-list}
 use Rattle.nf_curve.proofs.Exits.{if_ok}
 use Rattle.nf_residual.proofs.Stopping.{ok_of_part, stopped}
+use Rattle.nf_quick.proofs.SupplyOn.{supply_goes_on, first_supply}
 
 -- what is left to be looked at gives what all pieces give, and so much was supplied before
 pub record Comes (passes : Passing) (net : Network) (amount known : ℚ) (k : ℕ) : Type 0 where
   pub same : departs passes (checked_supply passes net) amount known (drop k net.pieces) ≡ departs passes (checked_supply passes net) amount 0ℚ net.pieces
   pub before : (piece : Piece) (later : List Piece) → drop k net.pieces ≡ piece ∷ later → IsBefore amount net.pieces known piece later
+  pub supply : (piece : Piece) → slice_get net.pieces k ≡ Some piece → checked_supply passes net piece.start ≡ Ok known
 
 module _ (passes : Passing) (net : Network) (amount : ℚ) (good : ArePieces net.pieces) where
   abbrev supply_at : ℚ → Checked ℚ
@@ -35,6 +38,7 @@ module _ (passes : Passing) (net : Network) (amount : ℚ) (good : ArePieces net
   comes_first known none some = record {
     same = ap (λ (x : ℚ). departs passes supply_at amount x net.pieces) none;
     before = λ piece later e. subst (λ (x : ℚ). IsBefore amount net.pieces x piece later) (sym none) (before_first amount passes supply_at net.pieces good exact piece later e some);
+    supply = λ piece e. first_supply passes net.pieces piece (StartsRise-pieces net.pieces good) e ∙ ap Ok (sym none);
   }
 
   module _ (known : ℚ) (k : ℕ) (comes : Comes passes net amount known k) where
@@ -91,8 +95,12 @@ module _ (passes : Passing) (net : Network) (amount : ℚ) (good : ArePieces net
             same = ap (λ (l : List Piece). departs passes supply_at amount u l) after
                 ∙ sym (then ∙ ap (λ (b : Bool). by_next passes supply_at amount b known piece (departs passes supply_at amount u (next ∷ drop (k + 1 + 1) net.pieces))) f);
             before = λ p more e. moved p more (sym after ∙ e);
+            supply = λ p e. ap (λ (t : ℚ). supply_at t) (ap (λ (q : Piece). q.start) (same_piece p next (sym e ∙ follows))) ∙ gives;
           }
             where
+              same_piece : (x y : Piece) → Some x ≡ Some y → x ≡ y
+              same_piece x y e = cc
+
               after : drop (k + 1) net.pieces ≡ next ∷ drop (k + 1 + 1) net.pieces
               after = drop_more net.pieces (k + 1) next (slice_get_within net.pieces (k + 1) next follows)
                   ∙ ap (λ (q : Piece). q ∷ drop (k + 1 + 1) net.pieces) (get_or_from_slice_get net.pieces (k + 1) next next follows)
@@ -109,9 +117,6 @@ module _ (passes : Passing) (net : Network) (amount : ℚ) (good : ArePieces net
   next_of (Some next) start e = let same : start ≡ next.start = cc in (next, refl, sym same)
   next_of None start e = absurd (cc)
 
-  pub start_is : (start : ℚ) (i : ℕ) → Some start ≡ option_map (λ (p : Piece). p.start) (slice_get net.pieces i) → 0ℚ ≤ℚ start
-  start_is start i e = let n = next_of (slice_get net.pieces i) start e in subst (λ (x : ℚ). 0ℚ ≤ℚ x) n.2 (good.starts i n.0 n.1)
-
   none_of : (o : Option Piece) → None ≡ option_map (λ (p : Piece). p.start) o → o ≡ None
   none_of None e = refl
   none_of (Some next) e = absurd (cc)
@@ -124,12 +129,18 @@ module _ (passes : Passing) (net : Network) (amount : ℚ) (good : ArePieces net
       abbrev n : (next : Piece) × (slice_get net.pieces (k + 1) ≡ Some next) × (next.start ≡ start)
       n = next_of (slice_get net.pieces (k + 1)) start follows
 
-      pub next_passes : (p : PassedAt ℚ) → Err p ≡ at_part Part.Quick (supply_at start) → Err p ≡ at_part Part.Quick (departs passes supply_at amount 0ℚ net.pieces)
-      next_passes p e = sym (supply_passes known k comes piece is n.0 n.1 p (ap (λ (t : ℚ). at_part Part.Quick (supply_at t)) n.2 ∙ sym e))
+      -- the supply by the next start goes on from that by this one
+      from_start : supply_at n.0.start ≡ with_piece passes known piece start
+      from_start =
+          supply_goes_on passes net.pieces k piece n.0 0ℚ (StartsRise-pieces net.pieces good) is (ap (λ (i : ℕ). slice_get net.pieces i) (sym (add-one k)) ∙ n.1)
+          ∙ ap (λ (r : Checked ℚ). r >>= λ x. with_piece passes x piece n.0.start) (comes.supply piece is) ∙ ap (λ (t : ℚ). with_piece passes known piece t) n.2
 
-      module _ (u : ℚ) (gives : Ok u ≡ at_part Part.Quick (supply_at start)) where
+      pub next_passes : (p : PassedAt ℚ) → Err p ≡ at_part Part.Quick (with_piece passes known piece start) → Err p ≡ at_part Part.Quick (departs passes supply_at amount 0ℚ net.pieces)
+      next_passes p e = sym (supply_passes known k comes piece is n.0 n.1 p (ap (at_part Part.Quick) from_start ∙ sym e))
+
+      module _ (u : ℚ) (gives : Ok u ≡ at_part Part.Quick (with_piece passes known piece start)) where
         supplied_by : supply_at n.0.start ≡ Ok u
-        supplied_by = ap supply_at n.2 ∙ ok_of_part (supply_at start) u (sym gives)
+        supplied_by = from_start ∙ ok_of_part (with_piece passes known piece start) u (sym gives)
 
         pub rate_is_some : le_ℚ amount u ≡ true → 0ℚ <ℚ piece.rate
         rate_is_some t = has_rate known k comes piece is n.0 n.1 u supplied_by t

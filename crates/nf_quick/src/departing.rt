@@ -5,11 +5,11 @@ ghost use Rattle.nf_rational.specs.Order.{◌≤ℚ◌, ◌<ℚ◌, lt_ℚ};
 ghost use Rattle.nf_work.specs.declared.Part.TheVariants.{Quick};
 ghost use Rattle.nf_work.specs.Passing.{passes_Q};
 ghost use Rattle.nf_work.specs.Checked.{at_part};
-ghost use Rattle.nf_net.specs.Supply.{checked_supply};
+ghost use Rattle.nf_net.specs.Supply.{with_piece as with_piece_by, checked_supply};
 ghost use Rattle.nf_quick_lists.specs.Departures.{within_piece, last_piece, departs as departs_by, departure_list, IsDeparture};
 
 use nf_frac::{Part, PassedAt, Q};
-use nf_net::{Network, Piece, supply};
+use nf_net::{Network, Piece};
 
 // The departure in a piece whose rate is above 0, before whose start so much was supplied.
 fn within(net: &Network, amount: Q, known: Q, piece: &Piece) -> Result<Option<Q>, PassedAt<Q>>
@@ -44,14 +44,17 @@ fn start_at(pieces: &[Piece], index: usize) -> Option<Q>
     }
 }
 
-fn supply_by(net: &Network, time: Q) -> Result<Q, PassedAt<Q>>
-    requires { 0ℚ ≤ℚ time }
-    ensures { result ≡ at_part Quick (checked_supply passes_Q net.now.net time) }
+// The amount so far, with that of a piece up to the next start.
+fn with_piece(known: Q, piece: &Piece, next: Q) -> Result<Q, PassedAt<Q>>
+    ensures { result ≡ at_part Quick (with_piece_by passes_Q known piece.now next) }
 {
-    Ok(nf_frac::at!(Part::Quick, supply(net, time)))
+    let length = nf_frac::at!(Part::Quick, next.difference(piece.start));
+    let amount = nf_frac::at!(Part::Quick, piece.rate.product(length));
+    Ok(nf_frac::at!(Part::Quick, known.sum(amount)))
 }
 
-// The departure for an amount above 0: in the first piece up to whose end it is supplied, or in the last one.
+// The departure for an amount above 0: in the first piece up to whose end it is supplied, or in the last one. The supply goes on
+// from start to start: working it out anew would do the same operations once more.
 fn departs(net: &Network, amount: Q) -> Result<Option<Q>, PassedAt<Q>>
     requires { 0ℚ <ℚ amount }
     ensures { result ≡ at_part Quick (departs_by passes_Q (checked_supply passes_Q net.now.net) amount 0ℚ net.now.net.pieces) }
@@ -62,7 +65,7 @@ fn departs(net: &Network, amount: Q) -> Result<Option<Q>, PassedAt<Q>>
         let Some(next) = start_at(pieces, index + 1) else {
             return in_last(net, amount, known, piece);
         };
-        let by_next = supply_by(net, next)?;
+        let by_next = with_piece(known, piece, next)?;
         if amount.is_at_most(by_next) {
             return within(net, amount, known, piece);
         }

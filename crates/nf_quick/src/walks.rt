@@ -1,28 +1,20 @@
 // Walks taken off a static flow: each from the source along the first link that has flow left, with the least flow left as its
 // rate.
-ghost use Rattle.std.specs.Prelude.{◌≡◌, ℕ, ◌<◌, ◌==◌, ◌&&◌, length, set, Some, None, IfOk};
+ghost use Rattle.std.specs.Prelude.{◌≡◌, ℕ, ◌<◌, ◌==◌, ◌&&◌, length, Some, None, IfOk};
 ghost use Rattle.std.specs.List.{AllByRecursion};
 ghost use Rattle.nf_rational.specs.Operations.{0ℚ};
 ghost use Rattle.nf_rational.specs.Order.{lt_ℚ};
 ghost use Rattle.nf_work.specs.declared.Part.TheVariants.{Quick};
 ghost use Rattle.nf_work.specs.Passing.{passes_Q};
 ghost use Rattle.nf_work.specs.Checked.{at_part, seen_at, Gives};
-ghost use Rattle.nf_model.specs.Entries.{number_at};
-ghost use Rattle.nf_quick_lists.specs.Rounds.{lesser as lesser_by};
 ghost use Rattle.nf_quick_lists.specs.Walks.{first_out as first_out_by, way_out as way_out_by, least_along as least_along_by, take_list, walks_off as walks_off_by};
 
 use crate::quick::Rated;
 use nf_frac::{Halt, Part, PassedAt, Q};
 use nf_graph::NodeId;
 use nf_net::{Link, LinkId, Network};
+use nf_residual::{flow_at, lesser, put_flow};
 use std::alloc::{AllocError, Global};
-
-fn flow_at(flows: &[Q], link: LinkId) -> Q
-    requires { link < length flows.now }
-    ensures { result ≡ number_at flows.now link }
-{
-    flows[link.index()]
-}
 
 // A link leaves a node, and has flow left.
 fn is_out(link: Link, node: NodeId, flow: Q) -> bool
@@ -65,16 +57,6 @@ fn way_out(alloc: Global, net: &Network, flows: &[Q]) -> Result<Vec<LinkId>, All
     Ok(way)
 }
 
-// The lesser of the flow so far and one more; none so far where there was none.
-fn lesser(least: Option<Q>, flow: Q) -> Q
-    ensures { result ≡ lesser_by least flow }
-{
-    match least {
-        None => flow,
-        Some(least) => least.lesser(flow),
-    }
-}
-
 // The least flow along links.
 fn least_along(flows: &[Q], way: &[LinkId]) -> Q
     requires { AllByRecursion (λ e. e < length flows.now) way.now }
@@ -87,13 +69,6 @@ fn least_along(flows: &[Q], way: &[LinkId]) -> Q
     least.unwrap_or(Q::zero())
 }
 
-fn put(flows: &mut Vec<Q>, link: LinkId, value: Q)
-    requires { link < length flows.old.items }
-    ensures { flows.new.items ≡ set flows.old.items link value }
-{
-    flows[link.index()] = value;
-}
-
 // A rate is taken off along these links.
 fn take(flows: &mut Vec<Q>, way: &[LinkId], rate: Q) -> Result<(), PassedAt<Q>>
     requires { AllByRecursion (λ e. e < length flows.old.items) way.now }
@@ -104,7 +79,7 @@ fn take(flows: &mut Vec<Q>, way: &[LinkId], rate: Q) -> Result<(), PassedAt<Q>>
         let link: LinkId = *link;
         let before = flow_at(flows, link);
         let left = nf_frac::at!(Part::Quick, before.difference(rate));
-        put(flows, link, left);
+        put_flow(flows, link, left);
     }
     Ok(())
 }

@@ -2,8 +2,10 @@ pub mod Stopping
 pub mod Folding
 pub mod Moving
 pub mod Fits
-pub mod StepOrder
+pub mod Twigs
+pub mod FromBehind
 pub mod Offering
-pub mod LongerWays
+pub mod Settled
+pub mod LegByLeg
 pub mod Rounding
 pub mod Finishing

@@ -1,112 +1,193 @@
--- Rounds: along a link and back along it, link by link, and round by round.
-use Rattle.std.proofs.Common.{◌≡◌, ℕ, zero, suc, ◌+◌, ◌-◌, ◌<◌, ◌≤◌, ◌||◌, List, [], ◌∷◌, ◌++◌, length, drop, replicate, Bool, true, false, refl, sym, ap, ◌∙◌, slice_get, add-one, arith}
-use Rattle.std.specs.Prelude.{Ok, Err, Some, None}
-use Rattle.std.proofs.lemmas.List.{drop_more, drop_all, length-set, length-replicate}
-use Rattle.std.proofs.lemmas.Option.{slice_get_within, get_or_from_slice_get}
+-- Rounds: leg by leg, and round by round.
+use Rattle.std.proofs.Common.{◌≡◌, ℕ, zero, suc, ◌+◌, ◌-◌, ◌<◌, ◌≤◌, List, [], ◌∷◌, ◌++◌, length, length-append, drop, set, replicate, get_or, true, ◌⊎◌, inl, inr, ⊎_elim, Option, Some, None, option_map, refl, sym, ap, subst, ◌∙◌, append_assoc, slice_get, arith}
+use Rattle.std.specs.Prelude.{Ok}
+use Rattle.std.proofs.lemmas.List.{drop_more, drop_all, length-set, length-replicate, length-map}
+use Rattle.std.proofs.lemmas.Option.{slice_get_within, slice_get_read}
 use Rattle.nf_rational.specs.Rational.{ℚ}
+use Rattle.nf_rational.specs.Operations.{0ℚ}
 use Rattle.nf_work.specs.Passing.{Passing}
 use Rattle.nf_work.specs.declared.Halt.{Halt}
 use Rattle.nf_work.specs.declared.Part.TheVariants as Part
 use Rattle.nf_work.specs.Checked.{Checked, Stops, at_part, fold_checked, ◌>>=◌}
-use Rattle.nf_model.specs.Entries.{number_at}
-use Rattle.nf_model.specs.Network.{Link, Network}
-use Rattle.nf_quick_lists.specs.Steps.{Step, can_go}
-use Rattle.nf_quick_lists.specs.Rounds.{Known, known_at, first_known, steps_from, along, along_step, round_list, rounds_list, reaches_list}
+use Rattle.nf_model.specs.Network.{Network}
+use Rattle.nf_quick_lists.specs.Order.{Reach}
+use Rattle.nf_quick_lists.specs.Rounds.{Known, known_at, first_known, along, round_list, rounds_list, reaches_list}
+use Rattle.nf_residual.specs.declared.ways.Twig.{Twig}
+use Rattle.nf_residual.specs.declared.legs.Leg.{Leg}
+use Rattle.nf_residual.specs.Ways.{first_twig, way_at, IsTree, Places, place_at, first_places, AreWithin, known_by, Grows}
+use Rattle.nf_residual.specs.Legs.{legs_from, AreLegs, along_leg, AreSettled}
 use Rattle.nf_residual.proofs.Stopping.{ok_of_part, stops, goes_on, stops_as}
+use Rattle.nf_residual.proofs.Twigs.{IsTree-first, way_kept, known_at-by, known_kept, known_set}
+use Rattle.nf_residual.proofs.Offering.{nothing_grows}
+use Rattle.nf_residual.proofs.Settled.{settled_here, settled_then}
+use Rattle.nf_residual.proofs.LegByLeg.{round_along}
 
--- ---- one computation, and then two others
-bind_more : {A B C : Type 0} (r : Checked A) (f : A → Checked B) (g : B → Checked C) (both : A → Checked C) → ((x : A) → both x ≡ (f x >>= g)) → (r >>= both) ≡ ((r >>= f) >>= g)
-bind_more (Ok x) f g both e = e x
-bind_more (Err p) f g both e = refl
+lt_or_ge : (j k : ℕ) → (j < k) ⊎ (k ≤ j)
+lt_or_ge zero zero = inr (omega arith)
+lt_or_ge zero (suc k) = inl (omega arith)
+lt_or_ge (suc j) zero = inr (omega arith)
+lt_or_ge (suc j) (suc k) = ⊎_elim (λ (h : j < k). inl (omega arith)) (λ (h : k ≤ j). inr (omega arith)) (lt_or_ge j k)
 
--- a fold over one list and then over another
-fold_append : {A B : Type 0} (f : B → A → Checked B) (before : B) (xs ys : List A) → fold_checked f before (xs ++ ys) ≡ (fold_checked f before xs >>= λ next. fold_checked f next ys)
-fold_append f before [] ys = refl
-fold_append f before (x ∷ xs) ys =
-    bind_more (f before x) (λ next. fold_checked f next xs) (λ next. fold_checked f next ys) (λ next. fold_checked f next (xs ++ ys)) (λ next. fold_append f next xs ys)
+-- ---- leg by leg: what is left to be done gives what the whole round gives, and legs that were gone offer nothing new any more
+abbrev IsOld : ℕ → Places → Leg → Type 0
+IsOld fresh places leg = (way : ℕ) × (place_at places leg.begin ≡ Some way) × (way < fresh)
 
-either_false : (a b : Bool) → (a || b) ≡ false → (a ≡ false) × (b ≡ false)
-either_false true b e = absurd (cc)
-either_false false b e = (refl, e)
+pub record RoundOn (passes : Passing) (legs : List Leg) (fresh : ℕ) (old : List Twig) (before : Places) (tree : List Twig) (places : Places) (k : ℕ) : Type 0 where
+  pub same : fold_checked (along_leg passes (known_by old before)) (known_by tree places) (drop k legs) ≡ fold_checked (along_leg passes (known_by old before)) (known_by old before) legs
+  pub grows : Grows old tree before places
+  pub settled : (j : ℕ) (leg : Leg) → slice_get legs j ≡ Some leg → (j < k) ⊎ IsOld fresh before leg → along_leg passes (known_by old before) (known_by tree places) leg ≡ Ok (known_by tree places)
 
-module _ (passes : Passing) (flows : List ℚ) (before : Known) where
-  abbrev goes : Known → Step × Link → Checked Known
-  goes = along_step passes flows before
+pub grows_on : (old mid new : List Twig) (before between after : Places) → Grows old mid before between → Grows mid new between after → Grows old new before after
+grows_on old mid new before between after f g = record {
+  added = f.added ++ g.added;
+  grown = g.grown ∙ ap (λ (t : List Twig). t ++ g.added) f.grown ∙ append_assoc old f.added g.added;
+  count = g.count ∙ f.count;
+  places = λ v. by_place v (g.places v) (f.places v);
+  same = λ e. let d : (length mid ≡ length old) × (length new ≡ length mid) = no_more e in g.same d.1 ∙ f.same d.0;
+}
+  where
+    long : length mid ≡ length old + length f.added
+    long = ap (λ (t : List Twig). length t) f.grown ∙ length-append old f.added
 
-  -- ---- along a link, and back along it
-  module _ (e : ℕ) (link : Link) (flow : ℚ) (is : flow ≡ number_at flows e) (so_far : Known) where
-    abbrev forth : Checked Known
-    forth = along passes (can_go true link.capacity flow) (known_at before link.tail) (record { link = e; forward = true }) link.transit link.head so_far
+    longer : length new ≡ length mid + length g.added
+    longer = ap (λ (t : List Twig). length t) g.grown ∙ length-append mid g.added
 
-    abbrev back : Known → Checked Known
-    back mid = along passes (can_go false link.capacity flow) (known_at before link.head) (record { link = e; forward = false }) link.transit link.tail mid
+    no_more : length new ≡ length old → (length mid ≡ length old) × (length new ≡ length mid)
+    no_more e = (omega (arith, long, longer, e), omega (arith, long, longer, e))
 
-    abbrev both_with : ℚ → Checked Known
-    both_with x = along passes (can_go true link.capacity x) (known_at before link.tail) (record { link = e; forward = true }) link.transit link.head so_far
-        >>= λ mid. along passes (can_go false link.capacity x) (known_at before link.head) (record { link = e; forward = false }) link.transit link.tail mid >>= λ next. Ok next
+    by_place : (v : ℕ) → (place_at after v ≡ place_at between v) ⊎ ((way : ℕ) × (place_at after v ≡ Some way) × (length mid ≤ way) × (way < length new))
+        → (place_at between v ≡ place_at before v) ⊎ ((way : ℕ) × (place_at between v ≡ Some way) × (length old ≤ way) × (way < length mid))
+        → (place_at after v ≡ place_at before v) ⊎ ((way : ℕ) × (place_at after v ≡ Some way) × (length old ≤ way) × (way < length new))
+    by_place v (inl a) (inl b) = inl (a ∙ b)
+    by_place v (inl a) (inr b) = inr (b.0, a ∙ b.1, b.2, omega (arith, b.3, longer))
+    by_place v (inr a) b = inr (a.0, a.1, omega (arith, a.2, long), a.3)
 
-    both_ways : fold_checked goes so_far (steps_from e (link ∷ [])) ≡ (forth >>= λ mid. back mid >>= λ next. Ok next)
-    both_ways = ap (λ (x : ℚ). both_with x) (sym is)
+-- ways within what there was, or among the new ones
+pub within_grown : (old new : List Twig) (before after : Places) → Grows old new before after → AreWithin (length old) before → AreWithin (length new) after
+within_grown old new before after g h = λ v way e. by_place v way e (g.places v)
+  where
+    long : length new ≡ length old + length g.added
+    long = ap (λ (t : List Twig). length t) g.grown ∙ length-append old g.added
 
-    pub forth_stops : (h : Halt ℚ) → Stops (λ (q : ℚ). q) h (at_part Part.Quick forth) → Stops (λ (q : ℚ). q) h (at_part Part.Quick (fold_checked goes so_far (steps_from e (link ∷ []))))
-    forth_stops h s = stops_as _ _ h both_ways (stops forth (λ mid. back mid >>= λ next. Ok next) h s)
+    same : (x y : ℕ) → Some x ≡ Some y → x ≡ y
+    same x y e = cc
 
-    module _ (mid : Known) (came : at_part Part.Quick forth ≡ Ok mid) where
-      from_mid : fold_checked goes so_far (steps_from e (link ∷ [])) ≡ (back mid >>= λ next. Ok next)
-      from_mid = both_ways ∙ goes_on forth (λ mid. back mid >>= λ next. Ok next) mid came
+    by_place : (v way : ℕ) → place_at after v ≡ Some way → (place_at after v ≡ place_at before v) ⊎ ((other : ℕ) × (place_at after v ≡ Some other) × (length old ≤ other) × (other < length new)) → way < length new
+    by_place v way e (inl a) = let b : way < length old = h v way (sym a ∙ e) in omega (arith, b, long)
+    by_place v way e (inr a) = let b : a.0 ≡ way = same a.0 way (sym a.1 ∙ e) in omega (arith, b, a.3)
 
-      pub back_stops : (h : Halt ℚ) → Stops (λ (q : ℚ). q) h (at_part Part.Quick (back mid)) → Stops (λ (q : ℚ). q) h (at_part Part.Quick (fold_checked goes so_far (steps_from e (link ∷ []))))
-      back_stops h s = stops_as _ _ h from_mid (stops (back mid) (λ next. Ok next) h s)
+pub known_grown : (old new : List Twig) (before after : Places) → Grows old new before after → IsTree old → AreWithin (length old) before → known_by new before ≡ known_by old before
+known_grown old new before after g good h = ap (λ (t : List Twig). known_by t before) g.grown ∙ known_kept old g.added before good h
 
-      pub both_done : (next : Known) → at_part Part.Quick (back mid) ≡ Ok next → at_part Part.Quick (fold_checked goes so_far (steps_from e (link ∷ []))) ≡ Ok next
-      both_done next g = ap (at_part Part.Quick) (from_mid ∙ goes_on (back mid) (λ next. Ok next) next g)
+pub within_more : (old new : List Twig) (before after : Places) → Grows old new before after → AreWithin (length old) before → AreWithin (length new) before
+within_more old new before after g h = λ v way e. let b : way < length old = h v way e in let long : length new ≡ length old + length g.added = ap (λ (t : List Twig). length t) g.grown ∙ length-append old g.added in omega arith
 
-  -- nothing changes where neither changes anything
-  pub both_same : (first second : Bool) (so_far mid next : Known) → (first ≡ false → mid ≡ so_far) → (second ≡ false → next ≡ mid) → (first || second) ≡ false → next ≡ so_far
-  both_same first second so_far mid next f g e = let h : (first ≡ false) × (second ≡ false) = either_false first second e in g h.1 ∙ f h.0
+module _ (passes : Passing) (legs : List Leg) (fresh : ℕ) (old : List Twig) (before : Places) where
+  abbrev goes : Known → Leg → Checked Known
+  goes = along_leg passes (known_by old before)
 
-  -- ---- link by link: what is left to be done gives what the whole round gives
-  pub record RoundOn (links : List Link) (so_far : Known) (changed : Bool) (e : ℕ) : Type 0 where
-    pub same : fold_checked goes so_far (steps_from e (drop e links)) ≡ fold_checked goes before (steps_from 0 links)
-    pub count : length so_far ≡ length before
-    pub kept : changed ≡ false → so_far ≡ before
+  pub round_first : (places : Places) → places ≡ before → AreSettled passes legs fresh old before → RoundOn passes legs fresh old before old places 0
+  round_first places e settled = subst (λ (p : Places). RoundOn passes legs fresh old before old p 0) (sym e) (record {
+    same = refl;
+    grows = nothing_grows old before;
+    settled = λ j leg is either. at_first j leg is either;
+  })
+    where
+      at_first : (j : ℕ) (leg : Leg) → slice_get legs j ≡ Some leg → (j < 0) ⊎ IsOld fresh before leg → along_leg passes (known_by old before) (known_by old before) leg ≡ Ok (known_by old before)
+      at_first j leg is (inl h) = absurd (omega arith)
+      at_first j leg is (inr o) = settled j leg is o.0 o.1 o.2
 
-  module _ (links : List Link) where
-    pub round_first : (so_far : Known) → so_far ≡ before → RoundOn links so_far false 0
-    round_first so_far e = record {
-      same = ap (λ (k : Known). fold_checked goes k (steps_from 0 links)) e;
-      count = ap (λ (k : Known). length k) e;
-      kept = λ _. e;
-    }
+  module _ (tree : List Twig) (places : Places) (k : ℕ) (on : RoundOn passes legs fresh old before tree places k) where
+    pub count_is : length places ≡ length before
+    count_is = on.grows.count
 
-    whole : round_list passes links flows before ≡ fold_checked goes before (steps_from 0 links)
-    unfolding round_list
-    whole = refl
+    pub round_all : length legs ≤ k → at_part Part.Quick (fold_checked (along_leg passes (known_by old before)) (known_by old before) legs) ≡ Ok (known_by tree places)
+    round_all b = ap (at_part Part.Quick) (sym on.same ∙ ap (λ (l : List Leg). fold_checked goes (known_by tree places) l) (drop_all k legs b))
 
-    module _ (so_far : Known) (changed : Bool) (e : ℕ) (on : RoundOn links so_far changed e) where
-      pub round_all : length links ≤ e → at_part Part.Quick (round_list passes links flows before) ≡ Ok so_far
-      round_all b = ap (at_part Part.Quick) (whole ∙ sym on.same ∙ ap (λ (l : List Link). fold_checked goes so_far (steps_from e l)) (drop_all e links b))
+    -- legs after ways that aren't new in this round
+    pub settled_all : length legs ≤ k → IsTree old → AreSettled passes legs (length old) tree places
+    settled_all b good j leg is way at h = by_place (on.grows.places leg.begin)
+      where
+        same : (x y : ℕ) → Some x ≡ Some y → x ≡ y
+        same x y e = cc
 
-      module _ (link : Link) (is : slice_get links e ≡ Some link) where
-        abbrev here : Checked Known
-        here = fold_checked goes so_far (steps_from e (link ∷ []))
+        done : along_leg passes (known_by old before) (known_by tree places) leg ≡ Ok (known_by tree places)
+        done = on.settled j leg is (inl (let i : j < length legs = slice_get_within legs j leg is in omega (arith, i, b)))
 
-        rest : drop e links ≡ link ∷ drop (e + 1) links
-        rest = drop_more links e link (slice_get_within links e link is) ∙ ap (λ (l : Link). l ∷ drop (e + 1) links) (get_or_from_slice_get links e link link is)
+        way_is : way_at tree way ≡ way_at old way
+        way_is = ap (λ (t : List Twig). way_at t way) on.grows.grown ∙ way_kept old on.grows.added way good h
 
-        split : (here >>= λ next. fold_checked goes next (steps_from (suc e) (drop (e + 1) links))) ≡ fold_checked goes before (steps_from 0 links)
-        split = sym (fold_append goes so_far (steps_from e (link ∷ [])) (steps_from (suc e) (drop (e + 1) links))) ∙ ap (λ (l : List Link). fold_checked goes so_far (steps_from e l)) (sym rest) ∙ on.same
+        by_place : (place_at places leg.begin ≡ place_at before leg.begin) ⊎ ((other : ℕ) × (place_at places leg.begin ≡ Some other) × (length old ≤ other) × (other < length tree))
+            → along_leg passes (known_by tree places) (known_by tree places) leg ≡ Ok (known_by tree places)
+        by_place (inl a) =
+            let here : known_at (known_by tree places) leg.begin ≡ known_at (known_by old before) leg.begin =
+            known_at-by tree places leg.begin ∙ ap (λ (o : Option ℕ). option_map (way_at tree) o) at ∙ ap (λ (r : Reach). Some r) way_is
+            ∙ sym (ap (λ (o : Option ℕ). option_map (way_at old) o) (sym a ∙ at)) ∙ sym (known_at-by old before leg.begin) in
+            ap (λ (o : Option Reach). along passes true o leg.step leg.transit leg.end (known_by tree places)) here ∙ done
+        by_place (inr a) = let e : a.0 ≡ way = same a.0 way (sym a.1 ∙ at) in absurd (omega (arith, e, a.2, h))
 
-        pub round_stops : (h : Halt ℚ) → Stops (λ (q : ℚ). q) h (at_part Part.Quick here) → Stops (λ (q : ℚ). q) h (at_part Part.Quick (round_list passes links flows before))
-        round_stops h s = stops_as _ _ h (whole ∙ sym split) (stops here (λ next. fold_checked goes next (steps_from (suc e) (drop (e + 1) links))) h s)
+    module _ (leg : Leg) (b : k < length legs) (is : leg ≡ get_or legs k leg) where
+      split : fold_checked goes (known_by tree places) (leg ∷ drop (k + 1) legs) ≡ fold_checked goes (known_by old before) legs
+      split = ap (λ (l : List Leg). fold_checked goes (known_by tree places) l) (sym (drop_more legs k leg b ∙ ap (λ (y : Leg). y ∷ drop (k + 1) legs) (sym is))) ∙ on.same
 
-        pub round_more : (next : Known) (more now : Bool) → at_part Part.Quick here ≡ Ok next → length next ≡ length so_far → (more ≡ false → next ≡ so_far) → now ≡ (changed || more) → RoundOn links next now (e + 1)
-        round_more next more now g n k either = record {
-          same = ap (λ (i : ℕ). fold_checked goes next (steps_from i (drop (e + 1) links))) (add-one e)
-              ∙ sym (goes_on here (λ next. fold_checked goes next (steps_from (suc e) (drop (e + 1) links))) next g) ∙ split;
-          count = n ∙ on.count;
-          kept = λ f. both_same changed more before so_far next on.kept k (sym either ∙ f);
+      there : slice_get legs k ≡ Some leg
+      there = slice_get_read legs (length legs) k leg refl b is
+
+      -- what is asked of one leg
+      pub leg_ends : AreLegs (length before) legs → (leg.begin < length before) × (leg.end < length before)
+      leg_ends h = h k leg there
+
+      pub leg_settled : IsTree old → AreWithin (length old) before → (way : ℕ) → place_at before leg.begin ≡ Some way → way < fresh
+          → along_leg passes (known_by tree before) (known_by tree places) leg ≡ Ok (known_by tree places)
+      leg_settled good within way at h =
+          ap (λ (x : Known). along_leg passes x (known_by tree places) leg) (known_grown old tree before places on.grows good within) ∙ on.settled k leg there (inr (way, at, h))
+
+      module _ (good : IsTree old) (within : AreWithin (length old) before) where
+        as_before : along_leg passes (known_by tree before) (known_by tree places) leg ≡ goes (known_by tree places) leg
+        as_before = ap (λ (x : Known). along_leg passes x (known_by tree places) leg) (known_grown old tree before places on.grows good within)
+
+        pub round_stops : (h : Halt ℚ) → Stops (λ (q : ℚ). q) h (at_part Part.Quick (along_leg passes (known_by tree before) (known_by tree places) leg))
+            → Stops (λ (q : ℚ). q) h (at_part Part.Quick (fold_checked (along_leg passes (known_by old before)) (known_by old before) legs))
+        round_stops h s = stops_as _ _ h (sym split) (stops (goes (known_by tree places) leg) (λ next. fold_checked goes next (drop (k + 1) legs)) h (stops_as _ _ h (sym as_before) s))
+
+        pub round_more : AreLegs (length before) legs → (new : List Twig) (next : Places) → at_part Part.Quick (along_leg passes (known_by tree before) (known_by tree places) leg) ≡ Ok (known_by new next)
+            → Grows tree new places next → RoundOn passes legs fresh old before new next (k + 1)
+        round_more ends new next came grows = record {
+          same = sym (goes_on (goes (known_by tree places) leg) (λ next. fold_checked goes next (drop (k + 1) legs)) (known_by new next) (ap (at_part Part.Quick) (sym as_before) ∙ came)) ∙ split;
+          grows = grows_on old tree new before places next on.grows grows;
+          settled = λ j other at either. by_case j other at either;
         }
+          where
+            gone : goes (known_by tree places) leg ≡ Ok (known_by new next)
+            gone = sym as_before ∙ ok_of_part _ _ came
+
+            within_known : (other : Leg) (j : ℕ) → slice_get legs j ≡ Some other → other.end < length (known_by tree places)
+            within_known other j at =
+                let e : other.end < length before = (ends j other at).1 in
+                let long : length (known_by tree places) ≡ length places = length-map places (option_map (way_at tree)) in
+                let count : length places ≡ length before = on.grows.count in
+                omega (arith, e, long, count)
+
+            same : (x y : Leg) → Some x ≡ Some y → x ≡ y
+            same x y e = cc
+
+            here : (j : ℕ) (other : Leg) → slice_get legs j ≡ Some other → j ≡ k → along_leg passes (known_by old before) (known_by new next) other ≡ Ok (known_by new next)
+            here j other at e =
+                let one : leg ≡ other = same leg other (sym there ∙ ap (λ (i : ℕ). slice_get legs i) (sym e) ∙ at) in
+                subst (λ (l : Leg). along_leg passes (known_by old before) (known_by new next) l ≡ Ok (known_by new next)) one
+                (settled_here passes (known_by old before) leg (known_by tree places) (known_by new next) (within_known leg k there) gone)
+
+            earlier : (j : ℕ) (other : Leg) → slice_get legs j ≡ Some other → (j < k) ⊎ IsOld fresh before other → along_leg passes (known_by old before) (known_by new next) other ≡ Ok (known_by new next)
+            earlier j other at either =
+                settled_then passes (known_by old before) other leg (known_by tree places) (known_by new next) (within_known other j at) (on.settled j other at either) gone
+
+            by_number : (j : ℕ) (other : Leg) → slice_get legs j ≡ Some other → (j < k) ⊎ (k ≤ j) → j < k + 1 → along_leg passes (known_by old before) (known_by new next) other ≡ Ok (known_by new next)
+            by_number j other at (inl h) l = earlier j other at (inl h)
+            by_number j other at (inr h) l = here j other at (omega arith)
+
+            by_case : (j : ℕ) (other : Leg) → slice_get legs j ≡ Some other → (j < k + 1) ⊎ IsOld fresh before other → along_leg passes (known_by old before) (known_by new next) other ≡ Ok (known_by new next)
+            by_case j other at (inl h) = by_number j other at (lt_or_ge j k) h
+            by_case j other at (inr o) = earlier j other at (inr o)
 
 -- ---- round by round: what is left to be done gives what all rounds give
 pub record RoundsOn (passes : Passing) (net : Network) (flows : List ℚ) (from : ℕ) (known : Known) (k : ℕ) : Type 0 where
@@ -114,7 +195,7 @@ pub record RoundsOn (passes : Passing) (net : Network) (flows : List ℚ) (from 
   pub count : length known ≡ net.nodes
 
 module _ (passes : Passing) (net : Network) (flows : List ℚ) (from : ℕ) where
-  pub rounds_first : (known : Known) → known ≡ first_known net.nodes from → RoundsOn passes net flows from known 1
+  rounds_first : (known : Known) → known ≡ first_known net.nodes from → RoundsOn passes net flows from known 1
   unfolding reaches_list
   rounds_first known e = record {
     same = ap (λ (k : Known). rounds_list passes (net.nodes - 1) net.links flows k) e;
@@ -155,3 +236,98 @@ module _ (passes : Passing) (net : Network) (flows : List ℚ) (from : ℕ) wher
         rounds_still e =
             let fixed : round_list passes net.links flows known ≡ Ok known = ap (λ (x : Known). round_list passes net.links flows x) (sym is) ∙ ok_of_part one_round next came ∙ ap Ok (e ∙ is) in
             ap (at_part Part.Quick) (sym on.same ∙ still known fixed (net.nodes - k))
+
+-- ---- with the legs, and the ways that are known
+pub record SearchOn (passes : Passing) (net : Network) (flows : List ℚ) (from : ℕ) (legs : List Leg) (fresh : ℕ) (tree : List Twig) (places : Places) (k : ℕ) : Type 0 where
+  pub rounds : RoundsOn passes net flows from (known_by tree places) k
+  pub good : IsTree tree
+  pub within : AreWithin (length tree) places
+  pub settled : AreSettled passes legs fresh tree places
+
+module _ (passes : Passing) (net : Network) (flows : List ℚ) (from : ℕ) (legs : List Leg) where
+  pub search_first : (tree : List Twig) (places : Places) → tree ≡ first_twig ∷ [] → places ≡ first_places net.nodes from → SearchOn passes net flows from legs 0 tree places 1
+  search_first tree places e f = record {
+    rounds = rounds_first passes net flows from (known_by tree places) (ap (λ (t : List Twig). known_by t places) e ∙ ap (λ (p : Places). known_by (first_twig ∷ []) p) f ∙ none_known);
+    good = subst (λ (t : List Twig). IsTree t) (sym e) IsTree-first;
+    within = λ v way at. ap_length (only v way (sym (ap (λ (p : Places). place_at p v) f) ∙ at));
+    settled = λ k leg is way at h. absurd (omega arith);
+  }
+    where
+      ap_length : {way : ℕ} → way ≡ 0 → way < length tree
+      ap_length {way} z = let one : length tree ≡ 1 = ap (λ (t : List Twig). length t) e in omega (arith, z, one)
+
+      none_known : known_by (first_twig ∷ []) (first_places net.nodes from) ≡ first_known net.nodes from
+      none_known = known_set (first_twig ∷ []) (replicate net.nodes None) from 0 ∙ ap (λ (k : Known). set k from (Some (record { distance = 0ℚ; steps = [] }))) (map-replicate net.nodes)
+        where
+          map-replicate : (n : ℕ) → known_by (first_twig ∷ []) (replicate n None) ≡ replicate n None
+          map-replicate zero = refl
+          map-replicate (suc n) = ap (λ (k : Known). None ∷ k) (map-replicate n)
+
+      only : (v way : ℕ) → place_at (first_places net.nodes from) v ≡ Some way → way ≡ 0
+      only v way at = by_node net.nodes from v at
+        where
+          same : (x y : ℕ) → Some x ≡ Some y → y ≡ x
+          same x y e = cc
+
+          by_node : (n u w : ℕ) → place_at (first_places n u) w ≡ Some way → way ≡ 0
+          by_node zero u w e = absurd (cc)
+          by_node (suc n) zero zero e = same 0 way e
+          by_node (suc n) zero (suc w) e = none n w e
+            where
+              none : (n w : ℕ) → place_at (replicate n None) w ≡ Some way → way ≡ 0
+              none zero w e = absurd (cc)
+              none (suc n) zero e = absurd (cc)
+              none (suc n) (suc w) e = none n w e
+          by_node (suc n) (suc u) zero e = absurd (cc)
+          by_node (suc n) (suc u) (suc w) e = by_node n u w e
+
+  module _ (fresh : ℕ) (tree : List Twig) (places : Places) (k : ℕ) (on : SearchOn passes net flows from legs fresh tree places k) where
+    pub places_are : length places ≡ net.nodes
+    places_are = sym (length-map places (option_map (way_at tree))) ∙ on.rounds.count
+
+    pub search_all : net.nodes ≤ k → (found : Known) → found ≡ known_by tree places → at_part Part.Quick (reaches_list passes net flows from) ≡ Ok found
+    search_all b found e = rounds_all passes net flows from (known_by tree places) k on.rounds b ∙ ap Ok (sym e)
+
+    pub search_count : (found : Known) → found ≡ known_by tree places → length found ≡ net.nodes
+    search_count found e = ap (λ (x : Known). length x) e ∙ on.rounds.count
+
+    -- the legs and places are lent to a round
+    module _ (b : k < net.nodes) (is : legs ≡ legs_from 0 net.links flows) (lent : List Leg) (borrowed : lent ≡ legs) (before : Places) (seen : before ≡ places) where
+      whole : round_list passes net.links flows (known_by tree before) ≡ fold_checked (along_leg passes (known_by tree before)) (known_by tree before) lent
+      whole = round_along passes flows (known_by tree before) net.links lent (borrowed ∙ is)
+
+      known_seen : known_by tree before ≡ known_by tree places
+      known_seen = ap (λ (p : Places). known_by tree p) seen
+
+      pub search_stops : (h : Halt ℚ) → Stops (λ (q : ℚ). q) h (at_part Part.Quick (fold_checked (along_leg passes (known_by tree before)) (known_by tree before) lent))
+          → Stops (λ (q : ℚ). q) h (at_part Part.Quick (reaches_list passes net flows from))
+      search_stops h s = rounds_stop passes net flows from (known_by tree places) k on.rounds b (known_by tree before) known_seen h (stops_as _ _ h whole s)
+
+      module _ (new : List Twig) (next : Places) (came : at_part Part.Quick (fold_checked (along_leg passes (known_by tree before)) (known_by tree before) lent) ≡ Ok (known_by new next)) (grows : Grows tree new before next) where
+        came_whole : at_part Part.Quick (round_list passes net.links flows (known_by tree before)) ≡ Ok (known_by new next)
+        came_whole = ap (at_part Part.Quick) whole ∙ came
+
+        within_before : AreWithin (length tree) before
+        within_before = subst (λ (p : Places). AreWithin (length tree) p) (sym seen) on.within
+
+        pub search_more : IsTree new → AreSettled passes lent (length tree) new next → (count : ℕ) → count ≡ length tree → SearchOn passes net flows from legs count new next (k + 1)
+        search_more good settled count e = record {
+          rounds = rounds_more passes net flows from (known_by tree places) k on.rounds b (known_by tree before) known_seen (known_by new next) came_whole
+              (length-map next (option_map (way_at new)) ∙ grows.count ∙ sym (length-map before (option_map (way_at tree))));
+          good = good;
+          within = within_grown tree new before next grows within_before;
+          settled = subst (λ (n : ℕ). AreSettled passes legs n new next) (sym e) (subst (λ (l : List Leg). AreSettled passes l (length tree) new next) borrowed settled);
+        }
+
+        pub search_still : length new ≡ length tree → (found : Known) → found ≡ known_by new places → at_part Part.Quick (reaches_list passes net flows from) ≡ Ok found
+        search_still e found f =
+            let same : next ≡ before = grows.same e in
+            let kept : known_by new before ≡ known_by tree before = known_grown tree new before next grows on.good within_before in
+            rounds_still passes net flows from (known_by tree places) k on.rounds b (known_by tree before) known_seen (known_by new next) came_whole (ap (λ (p : Places). known_by new p) same ∙ kept)
+            ∙ ap Ok (sym (f ∙ ap (λ (p : Places). known_by new p) (sym seen) ∙ kept ∙ known_seen))
+
+        pub within_still : AreWithin (length new) places
+        within_still = subst (λ (p : Places). AreWithin (length new) p) seen (within_more tree new before next grows within_before)
+
+        pub count_still : (found : Known) → found ≡ known_by new places → length found ≡ net.nodes
+        count_still found f = ap (λ (x : Known). length x) f ∙ length-map places (option_map (way_at new)) ∙ places_are

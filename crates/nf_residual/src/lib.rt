@@ -2,11 +2,15 @@
 //! 1958 and Ford 1956).
 #![tactic(auto)]
 
+mod flows;
+mod legs;
+mod reaches;
 mod residual;
 mod room;
 mod rounds;
 mod step;
 mod ways;
 
+pub use flows::{flow_at, lesser, put_flow};
 pub use residual::Residual;
 pub use step::{Step, Walk};

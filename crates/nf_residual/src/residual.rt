@@ -1,5 +1,5 @@
 // A static flow, and its residual walks.
-ghost use Rattle.std.specs.Prelude.{◌≡◌, ◌<◌, length, map, option_map, set, replicate, Some, IfOk, OnErr, OnOk};
+ghost use Rattle.std.specs.Prelude.{◌≡◌, ◌<◌, length, replicate, Some, IfOk, OnErr, OnOk};
 ghost use Rattle.std.specs.List.{AllByRecursion};
 ghost use Rattle.nf_rational.specs.Operations.{0ℚ};
 ghost use Rattle.nf_rational.specs.Order.{◌≤ℚ◌, ◌<ℚ◌};
@@ -8,16 +8,17 @@ ghost use Rattle.nf_work.specs.Passing.{passes_Q};
 ghost use Rattle.nf_work.specs.Checked.{at_part, fold_checked, seen_at, Gives};
 ghost use Rattle.nf_model.specs.Entries.{number_at};
 ghost use Rattle.nf_quick_lists.specs.Order.{Reach as SeenReach};
-ghost use Rattle.nf_quick_lists.specs.Rounds.{known_at, with_room as with_room_by, shortest_list, distances_list};
+ghost use Rattle.nf_quick_lists.specs.Rounds.{with_room as with_room_by, shortest_list, distances_list};
 ghost use Rattle.nf_quick_lists.specs.Pushes.{push_step, push_list};
 ghost use Rattle.nf_quick_lists.specs.Flows.{IsSound};
 ghost use Rattle.nf_quick_lists.specs.Steps.{IsLimited};
 ghost use Rattle.nf_quick_lists.specs.Answers.{IsShortestWalk, IsShortest, AreLeastLengths};
 
+use crate::flows::put_flow;
+use crate::reaches::Reach;
 use crate::room::room_of;
 use crate::rounds::reaches;
 use crate::step::{Step, Walk, changed};
-use crate::ways::Reach;
 use nf_frac::{Halt, PassedAt, Q};
 use nf_graph::{LinkId, NodeId};
 use nf_net::Network;
@@ -50,13 +51,6 @@ fn at(flows: &Vec<Q>, link: LinkId) -> Q
     flows[link.index()]
 }
 
-fn put(flows: &mut Vec<Q>, link: LinkId, value: Q)
-    requires { link < length flows.old.items }
-    ensures { flows.new.items ≡ set flows.old.items link value }
-{
-    flows[link.index()] = value;
-}
-
 // A flow is moved along each of these steps.
 fn move_along(flows: &mut Vec<Q>, steps: &[Step], amount: Q) -> Result<(), PassedAt<Q>>
     requires { AllByRecursion (λ step. step.link < length flows.old.items) steps.now }
@@ -67,18 +61,9 @@ fn move_along(flows: &mut Vec<Q>, steps: &[Step], amount: Q) -> Result<(), Passe
         let step: Step = *step;
         let before = at(flows, step.link);
         let after = changed(step.forward, before, amount)?;
-        put(flows, step.link, after);
+        put_flow(flows, step.link, after);
     }
     Ok(())
-}
-
-// What is known of a node.
-fn way_to(known: Vec<Option<Reach>>, node: NodeId) -> Option<Reach>
-    requires { node < length known.items }
-    ensures { result ≡ known_at known.items node }
-{
-    let mut known = known;
-    known.swap_remove(node.index())
 }
 
 // The walk of a way, with its room.
@@ -98,21 +83,6 @@ fn with_room(net: &Network, flows: &[Q], way: Option<Reach>) -> Result<Option<Wa
             }))
         }
     }
-}
-
-fn distance_of(way: &Option<Reach>) -> Option<Q>
-    ensures { result ≡ option_map (λ reach. reach.distance) way.now }
-{
-    match way {
-        None => None,
-        Some(way) => Some(way.distance),
-    }
-}
-
-fn distances_of(alloc: Global, known: &[Option<Reach>]) -> Result<Vec<Option<Q>>, AllocError>
-    ensures { IfOk result (λ distances. distances.items ≡ map (option_map (λ reach. reach.distance)) known.now) }
-{
-    known.iter().map(|way| distance_of(way)).collect(alloc)
 }
 
 impl Residual {
@@ -149,7 +119,7 @@ impl Residual {
         let _named = net.version();
         let flows = self.flows.as_slice();
         let known = reaches(alloc, net, flows, net.source())?;
-        let way = way_to(known, net.sink());
+        let way = known.way_to(alloc, net.sink())?;
         let walk = with_room(net, flows, way)?;
         Ok(walk)
     }
@@ -170,7 +140,7 @@ impl Residual {
         let _named = net.version();
         let flows = self.flows.as_slice();
         let known = reaches(alloc, net, flows, from)?;
-        let distances = distances_of(alloc, &known)?;
+        let distances = known.distances(alloc)?;
         Ok(distances)
     }
 

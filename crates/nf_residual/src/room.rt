@@ -4,21 +4,12 @@ ghost use Rattle.std.specs.List.{AllByRecursion};
 ghost use Rattle.nf_work.specs.declared.Part.TheVariants.{Quick};
 ghost use Rattle.nf_work.specs.Passing.{passes_Q};
 ghost use Rattle.nf_work.specs.Checked.{at_part, fold_checked};
-ghost use Rattle.nf_quick_lists.specs.Rounds.{lesser as lesser_by, room_along as room_along_by, room_after as room_after_by};
+ghost use Rattle.nf_quick_lists.specs.Rounds.{room_along as room_along_by, room_after as room_after_by};
 
-use crate::step::{Step, flow_at};
+use crate::flows::{flow_at, lesser};
+use crate::step::Step;
 use nf_frac::{Part, PassedAt, Q};
 use nf_net::Network;
-
-// The lesser of the room so far and one more; none so far where there was none.
-fn lesser(least: Option<Q>, room: Q) -> Q
-    ensures { result ≡ lesser_by least room }
-{
-    match least {
-        None => room,
-        Some(least) => least.lesser(room),
-    }
-}
 
 // The room so far and that of a step more: back along a link its flow, and along it what is left of its capacity.
 fn room_along(

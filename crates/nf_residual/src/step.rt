@@ -1,9 +1,8 @@
 // Steps along links, and back along them.
-ghost use Rattle.std.specs.Prelude.{◌≡◌, ◌<◌, length};
+ghost use Rattle.std.specs.Prelude.{◌≡◌};
 ghost use Rattle.nf_work.specs.declared.Part.TheVariants.{Quick};
 ghost use Rattle.nf_work.specs.Passing.{passes_Q};
 ghost use Rattle.nf_work.specs.Checked.{checked_at};
-ghost use Rattle.nf_model.specs.Entries.{number_at};
 ghost use Rattle.nf_quick_lists.specs.Steps.{begin_of as begin_by, end_of as end_by, can_go as can_go_by};
 ghost use Rattle.nf_quick_lists.specs.Rounds.{op_of};
 
@@ -61,14 +60,6 @@ pub(crate) fn changed(forward: bool, number: Q, change: Q) -> Result<Q, PassedAt
     } else {
         Ok(nf_frac::at!(Part::Quick, number.difference(change)))
     }
-}
-
-// The flow on a link.
-pub(crate) fn flow_at(flows: &[Q], link: LinkId) -> Q
-    requires { link < length flows.now }
-    ensures { result ≡ number_at flows.now link }
-{
-    flows[link.index()]
 }
 
 // Where a step along this link, or back along it, begins.

@@ -1,34 +1,41 @@
-// Ways to a node, and their order: the shorter first; of equally long ones that of fewer steps; and of these the one whose
-// steps come first.
-ghost use Rattle.std.specs.Prelude.{◌≡◌, IfOk};
-ghost use Rattle.nf_work.specs.declared.Part.TheVariants.{Quick};
-ghost use Rattle.nf_work.specs.Passing.{passes_Q};
-ghost use Rattle.nf_work.specs.Checked.{at_part, Gives};
+// Ways from a node, each by its number, and their order: the shorter first; of equally long ones that of fewer steps; and of these
+// the one whose steps come first.
+ghost use Rattle.std.specs.Prelude.{◌≡◌, ◌+◌, ◌^◌, ◌<◌, ◌++◌, [], ◌∷◌, suc, length, option_map, IfOk, IfSome, OnOk};
 ghost use Rattle.nf_quick_lists.specs.Steps.{place as place_of};
 ghost use Rattle.nf_quick_lists.specs.Order.{are_before as are_before_by, are_fewer_or_before as are_fewer_or_before_by, is_better as is_better_by};
-ghost use Rattle.nf_residual.specs.Ways.{longer_way};
+ghost use Rattle.nf_residual.specs.Ways.{first_twig, twig_at, way_at, longer, one_before, gains, twig_after, IsTree};
 
-use crate::step::{Step, changed};
-use nf_frac::{Halt, Q};
+use crate::step::Step;
+use nf_frac::Q;
+use nf_graph::LinkId;
 use std::alloc::{AllocError, Global};
 use std::marker::Model;
 
-/// A way to a node: how long it is, and its steps.
+/// A way: how long it is, of how many steps, the last of them, and the number of the way before that one.
 #[derive(Drop, Debug)]
-pub(crate) struct Reach {
+pub(crate) struct Twig {
     pub distance: Q,
-    pub steps: Vec<Step>,
+    pub count: usize,
+    pub last: Step,
+    pub before: usize,
 }
 
-impl Model for Reach {
-    ghost use Rattle.nf_quick_lists.specs.Order.{Reach as SeenReach};
-    ghost use Rattle.nf_quick_lists.specs.Codes.{coded_reach};
+/// Ways from a node, numbered as they were added. The first has no step; each other one is an earlier one and a step more.
+#[derive(Drop, Debug)]
+pub(crate) struct Ways {
+    twigs: Vec<Twig>,
+}
 
-    ghost Value = { SeenReach };
+impl Model for Ways {
+    ghost use Rattle.std.specs.Prelude.{List};
+    ghost use Rattle.nf_residual.specs.declared.ways.Twig.{Twig as SeenTwig};
+    ghost use Rattle.nf_residual.specs.Ways.{IsTree};
 
-    ghost coded = { coded_reach };
+    ghost Value = { List SeenTwig };
 
-    ghost view = { λ r. record { distance = r.distance; steps = r.steps.items } };
+    ghost view = { λ w. w.twigs.items };
+
+    ghost invariant = { λ w. IsTree w.twigs.items };
 }
 
 // The place of a step in the order of steps.
@@ -39,60 +46,163 @@ fn place(step: Step) -> u64
     2 * (step.link.0 as u64) + side
 }
 
-// The first place where two steps differ decides.
-fn are_before(walk: &[Step], other: &[Step]) -> bool
-    ensures { result ≡ are_before_by walk.now other.now }
+// Of two steps the one whose place is less comes first; those of one place leave it to the steps after them.
+fn decided(here: Step, there: Step, later: bool) -> bool
+    ensures { result ≡ one_before here there later }
 {
-    for i in 0..walk.len() {
-        if i >= other.len() {
-            return false;
+    let left = place(here);
+    let right = place(there);
+    if left == right { later } else { left < right }
+}
+
+impl Ways {
+    /// The way of no step alone.
+    pub(crate) fn start(alloc: Global) -> Result<Ways, AllocError>
+        ensures { IfOk result (λ ways. ways ≡ first_twig ∷ []) }
+    {
+        let mut twigs = Vec::new(alloc);
+        twigs.push(Twig {
+            distance: Q::zero(),
+            count: 0,
+            last: Step {
+                link: LinkId(0),
+                forward: true,
+            },
+            before: 0,
+        })?;
+        Ok(Ways { twigs })
+    }
+
+    /// How many there are.
+    pub(crate) fn count(&self) -> usize
+        ensures count { result ≡ length self.now }
+        ensures tree { IsTree self.now }
+    {
+        self.twigs.len()
+    }
+
+    /// How long a way is.
+    pub(crate) fn distance(&self, way: usize) -> Q
+        requires { way < length self.now }
+        ensures { result ≡ (twig_at self.now way).distance }
+    {
+        self.twigs[way].distance
+    }
+
+    // Of how many steps it is.
+    fn step_count(&self, way: usize) -> usize
+        requires { way < length self.now }
+        ensures value { result ≡ (twig_at self.now way).count }
+        ensures small { result + 1 < 2 ^ 64 }
+    {
+        self.twigs[way].count
+    }
+
+    // Its last step.
+    fn last(&self, way: usize) -> Step
+        requires { way < length self.now }
+        ensures { result ≡ (twig_at self.now way).last }
+    {
+        self.twigs[way].last
+    }
+
+    // The way before that step.
+    fn before(&self, way: usize) -> usize
+        requires { way < length self.now }
+        ensures value { result ≡ (twig_at self.now way).before }
+        ensures within { result < length self.now }
+    {
+        self.twigs[way].before
+    }
+
+    // A way with this step more comes before another one of equally many steps. They are compared from the last step back, as far
+    // as they differ.
+    fn are_before(&self, way: usize, step: Step, other: usize) -> bool
+        requires way { way < length self.now }
+        requires other { other < length self.now }
+        requires count { (twig_at self.now other).count ≡ suc (twig_at self.now way).count }
+        ensures { result ≡ are_before_by ((way_at self.now way).steps ++ step ∷ []) (way_at self.now other).steps }
+    {
+        let mut are_before = decided(step, self.last(other), false);
+        let mut here = way;
+        let mut there = self.before(other);
+        for _ in 0..self.step_count(way) {
+            if here == there {
+                return are_before;
+            }
+            are_before = decided(self.last(here), self.last(there), are_before);
+            here = self.before(here);
+            there = self.before(there);
         }
-        let here = place(walk[i]);
-        let there = place(other[i]);
-        if here < there {
-            return true;
-        }
-        if there < here {
-            return false;
+        are_before
+    }
+
+    // It has fewer steps, or comes before the other.
+    fn are_fewer_or_before(&self, way: usize, step: Step, other: usize) -> bool
+        requires way { way < length self.now }
+        requires other { other < length self.now }
+        ensures { result ≡ are_fewer_or_before_by ((way_at self.now way).steps ++ step ∷ []) (way_at self.now other).steps }
+    {
+        let fewer = self.step_count(way);
+        let count = self.step_count(other);
+        if fewer + 1 == count {
+            self.are_before(way, step, other)
+        } else {
+            fewer + 1 < count
         }
     }
-    false
-}
 
-// The first has fewer steps, or is before the other.
-fn are_fewer_or_before(walk: &[Step], other: &[Step]) -> bool
-    ensures { result ≡ are_fewer_or_before_by walk.now other.now }
-{
-    walk.len() < other.len() || walk.len() == other.len() && are_before(walk, other)
-}
+    // It comes before the other, with this length.
+    fn is_better(&self, way: usize, step: Step, distance: Q, other: usize) -> bool
+        requires way { way < length self.now }
+        requires other { other < length self.now }
+        ensures { result ≡ is_better_by (longer (way_at self.now way) step distance) (way_at self.now other) }
+    {
+        let known = self.distance(other);
+        distance.is_below(known)
+            || !known.is_below(distance) && self.are_fewer_or_before(way, step, other)
+    }
 
-// The first way comes before the other.
-pub(crate) fn is_better(way: &Reach, other: &Reach) -> bool
-    ensures { result ≡ is_better_by way.now other.now }
-{
-    way.distance.is_below(other.distance)
-        || !other.distance.is_below(way.distance) && are_fewer_or_before(&way.steps, &other.steps)
-}
+    /// A way with this step more, of this length, comes before what is known.
+    pub(crate) fn is_gain(&self, way: usize, step: Step, distance: Q, known: Option<usize>) -> bool
+        requires way { way < length self.now }
+        requires known { IfSome known (λ other. other < length self.now) }
+        ensures { result ≡ gains (longer (way_at self.now way) step distance) (option_map (way_at self.now) known) }
+    {
+        match known {
+            None => true,
+            Some(other) => self.is_better(way, step, distance, other),
+        }
+    }
 
-// The same way once more.
-pub(crate) fn copied(alloc: Global, way: &Reach) -> Result<Reach, AllocError>
-    ensures { IfOk result (λ same. same ≡ way.now) }
-{
-    let steps = way.steps.as_slice().to_vec(alloc)?;
-    Ok(Reach {
-        distance: way.distance,
-        steps,
-    })
-}
+    /// Adds a way with this step more, of this length.
+    pub(crate) fn add(&mut self, way: usize, step: Step, distance: Q) -> Result<(), AllocError>
+        requires { way < length self.old }
+        ensures { OnOk result (self.new ≡ self.old ++ twig_after self.old way step distance ∷ []) }
+    {
+        let count = self.step_count(way) + 1;
+        self.twigs.push(Twig {
+            distance,
+            count,
+            last: step,
+            before: way,
+        })?;
+        Ok(())
+    }
 
-// A way and a step more, along a link of this transit time or back along it.
-#[tactic(auto, unfolding(crate::specs::Ways::longer_way))]
-pub(crate) fn longer(alloc: Global, way: &Reach, step: Step, transit: Q) -> Result<Reach, Halt<Q>>
-    ensures { Gives (λ way. way) (λ q. q) result (at_part Quick (longer_way passes_Q way.now step transit)) }
-{
-    let distance = changed(step.forward, way.distance, transit)?;
-    let mut steps = Vec::with_capacity(alloc, way.steps.len())?;
-    steps.extend_from_slice(&way.steps)?;
-    steps.push(step)?;
-    Ok(Reach { distance, steps })
+    /// The steps of a way.
+    pub(crate) fn steps(&self, alloc: Global, way: usize) -> Result<Vec<Step>, AllocError>
+        requires { way < length self.now }
+        ensures { IfOk result (λ steps. steps.items ≡ (way_at self.now way).steps) }
+    {
+        let count = self.step_count(way);
+        let mut steps = Vec::with_capacity(alloc, count)?;
+        let mut here = way;
+        for _ in 0..count {
+            steps.push(self.last(here))?;
+            here = self.before(here);
+        }
+        steps.reverse();
+        Ok(steps)
+    }
 }

@@ -5,7 +5,7 @@ use Rattle.nf_work.specs.declared.Part.TheVariants as Part
 use Rattle.nf_work.specs.Passing.{passes_Q}
 use Rattle.nf_work.specs.Checked.{at_part}
 use Rattle.nf_model.specs.Network.{Piece}
-use Rattle.nf_quick.proofs.PieceByPiece.{comes_first, start_is, in_last_piece, next_passes, rate_is_some, in_this_piece, comes_on}
+use Rattle.nf_quick.proofs.PieceByPiece.{comes_first, in_last_piece, next_passes, rate_is_some, in_this_piece, comes_on}
 use Rattle.nf_quick.proofs.departing.departs.Goals as goal
 
 pub loop-index-init : goal.loop-index-init
@@ -17,10 +17,6 @@ returns-in_default c =
     (slice_get_read c.pieces-pieces.result.now _ c.loop-index.index c.index-pieces-index.result refl c.loop-index-test.true c.index-pieces-index.is) in
     c.in_last.ensures ∙ ap (at_part Part.Quick) (sym (in_last_piece passes_Q c.args.net.now.net c.args.amount c.pieces-pieces.ensures.named.network.pieces c.loop-index.known c.loop-index.index c.loop-index.invariant
     c.index-pieces-index.result here (subst (λ (ps : List Piece). None ≡ option_map (λ (p : Piece). p.start) (slice_get ps (c.loop-index.index + 1))) c.pieces-pieces.ensures.value c.in_default.ensures)))
-
-pub supply_by-requires : goal.supply_by-requires
-supply_by-requires c = start_is passes_Q c.args.net.now.net c.args.amount c.pieces-pieces.ensures.named.network.pieces c.in-Some.next (c.loop-index.index + 1)
-    (subst (λ (ps : List Piece). Some c.in-Some.next ≡ option_map (λ (p : Piece). p.start) (slice_get ps (c.loop-index.index + 1))) c.pieces-pieces.ensures.value c.in-Some.ensures)
 
 pub returns-in_err-by_next : goal.returns-in_err-by_next
 returns-in_err-by_next c =

@@ -1,6 +1,6 @@
 use Rattle.nf_work.specs.Passing.{passes_Q}
-use Rattle.nf_residual.proofs.Rounding.{RoundsOn}
+use Rattle.nf_residual.proofs.Rounding.{SearchOn}
 use Rattle.nf_residual.proofs.rounds.reaches.Given as goal
 
 abbrev pub invariant-loop : goal.invariant-loop
-invariant-loop l = RoundsOn passes_Q l.net.net l.flows l.fn.from l.known.items l.counter
+invariant-loop l = SearchOn passes_Q l.net.net l.flows l.fn.from l.legs.items l.fresh l.ways l.places.items l.counter

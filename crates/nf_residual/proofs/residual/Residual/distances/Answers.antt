@@ -1,8 +1,6 @@
-use Rattle.std.proofs.Common.{map, option_map, ap, ◌∙◌}
+use Rattle.std.proofs.Common.{◌∙◌}
 use Rattle.std.proofs.lemmas.Result.{err_from_is_err_and}
 use Rattle.nf_work.specs.Passing.{passes_Q}
-use Rattle.nf_quick_lists.specs.Order.{Reach}
-use Rattle.nf_quick_lists.specs.Rounds.{Known}
 use Rattle.nf_residual.proofs.Finishing.{distances_stop, distances_listed, distances_least}
 use Rattle.nf_residual.proofs.residual.Residual.distances.Goals as goal
 
@@ -14,10 +12,10 @@ returns-in_err-known-clause-list c =
 
 pub returns-clause-list : goal.returns-clause-list
 returns-clause-list c = distances_listed passes_Q c.args.net.now.net c.args.self.now c.as_slice-flows.result.now (c.as_slice-flows.ensures.value ∙ c.self.view_is) c.args.from
-    c.in_ok-known.known.items c.in_ok-known.ensures.list c.in_ok-distances.distances.items
-    (c.in_ok-distances.ensures ∙ ap (λ (known : Known). map (option_map (λ (reach : Reach). reach.distance)) known) c.deref.ensures.value)
+    c.in_ok-known.known c.in_ok-known.ensures.list c.in_ok-distances.distances.items
+    c.in_ok-distances.ensures
 
 pub returns-clause-least : goal.returns-clause-least
 returns-clause-least c = distances_least passes_Q c.args.net.now.net c.args.self.now c.as_slice-flows.result.now (c.as_slice-flows.ensures.value ∙ c.self.view_is) c.args.from
-    c.in_ok-known.known.items c.in_ok-known.ensures.list c.in_ok-distances.distances.items
-    (c.in_ok-distances.ensures ∙ ap (λ (known : Known). map (option_map (λ (reach : Reach). reach.distance)) known) c.deref.ensures.value) c.version-named.ensures.named.network c.requires.sound c.requires.from
+    c.in_ok-known.known c.in_ok-known.ensures.list c.in_ok-distances.distances.items
+    c.in_ok-distances.ensures c.version-named.ensures.named.network c.requires.sound c.requires.from

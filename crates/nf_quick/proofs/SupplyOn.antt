@@ -1,0 +1,89 @@
+-- The supply by the next start goes on from that by the start before.
+use Rattle.std.proofs.Common.{◌≡◌, ℕ, zero, suc, Bool, true, false, if◌then◌else◌, List, [], ◌∷◌, ⊎_elim, Some, slice_get, refl, sym, ap, subst, ◌∙◌}
+use Rattle.std.specs.Prelude.{Ok, Err}
+use Rattle.nf_rational.specs.Rational.{ℚ}
+use Rattle.nf_rational.specs.Operations.{0ℚ}
+use Rattle.nf_rational.specs.Order.{◌≤ℚ◌, ◌<ℚ◌, lt_ℚ, min_ℚ}
+use Rattle.nf_rational_laws.proofs.Tests.{lt_ℚ_cases, min_ℚ_cases, test_of_less}
+use Rattle.nf_rational_laws.proofs.Order.{≤ℚ_of_lt, not_both_ℚ, ≤ℚ_antisymm}
+use Rattle.nf_rational_laws.proofs.Polynomial.{reading_of}
+use Rattle.nf_rational_laws.proofs.Linear.{le, lt, linear_lt}
+use Rattle.nf_rational_laws.proofs.Chains.{≤ℚ_refl, ≤ℚ_trans}
+use Rattle.nf_work.specs.Passing.{Passing}
+use Rattle.nf_work.specs.Checked.{Checked, ◌>>=◌}
+use Rattle.nf_model.specs.Network.{Piece}
+use Rattle.nf_model_laws.proofs.Supply.{StartsRise}
+use Rattle.nf_net.specs.Supply.{end_before, with_piece, supplied_after}
+use Rattle.nf_residual.proofs.LegByLeg.{bind_more, bind_same}
+
+not_less : (x y : ℚ) → y ≤ℚ x → lt_ℚ x y ≡ false
+not_less x y h = ⊎_elim (λ (w : (lt_ℚ x y ≡ true) × (x <ℚ y)). absurd (not_both_ℚ x y w.1 h)) (λ (w : (lt_ℚ x y ≡ false) × (y ≤ℚ x)). w.0) (lt_ℚ_cases x y)
+
+least_is : (x y : ℚ) → y ≤ℚ x → min_ℚ x y ≡ y
+least_is x y h = ⊎_elim (λ (w : (min_ℚ x y ≡ x) × (x ≤ℚ y)). w.0 ∙ ≤ℚ_antisymm x y w.1 h) (λ (w : (min_ℚ x y ≡ y) × (y <ℚ x)). w.0) (min_ℚ_cases x y)
+
+bind_end : {A : Type 0} (r : Checked A) → (r >>= λ x. Ok x) ≡ r
+bind_end (Ok x) = refl
+bind_end (Err p) = refl
+
+at_or_after : (q : Piece) (later : List Piece) (k : ℕ) (piece : Piece) → StartsRise (q ∷ later) → slice_get (q ∷ later) k ≡ Some piece → q.start ≤ℚ piece.start
+at_or_after q later zero piece s e = subst (λ (p : Piece). q.start ≤ℚ p.start) (same q piece e) (≤ℚ_refl q.start)
+  where
+    same : (x y : Piece) → Some x ≡ Some y → x ≡ y
+    same x y e = cc
+at_or_after q [] (suc k) piece s e = absurd (cc)
+at_or_after q (r ∷ later) (suc k) piece s e = ≤ℚ_trans _ _ _ (≤ℚ_of_lt _ _ s.0) (at_or_after r later k piece s.1 e)
+
+module _ (passes : Passing) where
+  -- a piece that starts before the time or doesn't, and then the later ones
+  abbrev from_piece : Bool → ℚ → Piece → List Piece → ℚ → Checked ℚ
+  from_piece b so_far p later time =
+      if b then (with_piece passes so_far p (end_before later time) >>= λ sum. supplied_after passes sum later time) else supplied_after passes so_far later time
+
+  -- nothing comes of pieces that start at the time or later
+  none_yet : (p : Piece) (later : List Piece) (time so_far : ℚ) → StartsRise (p ∷ later) → time ≤ℚ p.start → supplied_after passes so_far (p ∷ later) time ≡ Ok so_far
+  none_yet p [] time so_far s h = ap (λ (b : Bool). from_piece b so_far p [] time) (not_less p.start time h)
+  none_yet p (q ∷ later) time so_far s h =
+      ap (λ (b : Bool). from_piece b so_far p (q ∷ later) time) (not_less p.start time h) ∙ none_yet q later time so_far s.1 (≤ℚ_trans _ _ _ h (≤ℚ_of_lt _ _ s.0))
+
+  -- all of a piece that ends before the time
+  whole_piece : (p q : Piece) (later : List Piece) (time so_far : ℚ) → p.start <ℚ time → q.start ≤ℚ time
+      → supplied_after passes so_far (p ∷ q ∷ later) time ≡ (with_piece passes so_far p q.start >>= λ sum. supplied_after passes sum (q ∷ later) time)
+  whole_piece p q later time so_far h k =
+      ap (λ (b : Bool). from_piece b so_far p (q ∷ later) time) (test_of_less p.start time h)
+      ∙ ap (λ (end : ℚ). with_piece passes so_far p end >>= λ sum. supplied_after passes sum (q ∷ later) time) (least_is time q.start k)
+
+  pub supply_goes_on : (pieces : List Piece) (k : ℕ) (piece next : Piece) (so_far : ℚ) → StartsRise pieces → slice_get pieces k ≡ Some piece → slice_get pieces (suc k) ≡ Some next
+      → supplied_after passes so_far pieces next.start ≡ (supplied_after passes so_far pieces piece.start >>= λ known. with_piece passes known piece next.start)
+  supply_goes_on [] k piece next so_far s e f = absurd (cc)
+  supply_goes_on (p ∷ []) k piece next so_far s e f = absurd (cc)
+  supply_goes_on (p ∷ q ∷ later) zero piece next so_far s e f =
+      subst (λ (n : Piece). supplied_after passes so_far (p ∷ q ∷ later) n.start ≡ (supplied_after passes so_far (p ∷ q ∷ later) piece.start >>= λ known. with_piece passes known piece n.start)) (same q next f)
+      (subst (λ (a : Piece). supplied_after passes so_far (p ∷ q ∷ later) q.start ≡ (supplied_after passes so_far (p ∷ q ∷ later) a.start >>= λ known. with_piece passes known a q.start)) (same p piece e) first)
+    where
+      same : (x y : Piece) → Some x ≡ Some y → x ≡ y
+      same x y e = cc
+
+      first : supplied_after passes so_far (p ∷ q ∷ later) q.start ≡ (supplied_after passes so_far (p ∷ q ∷ later) p.start >>= λ known. with_piece passes known p q.start)
+      first =
+          whole_piece p q later q.start so_far s.0 (≤ℚ_refl q.start)
+          ∙ bind_same (with_piece passes so_far p q.start) (λ sum. supplied_after passes sum (q ∷ later) q.start) (λ sum. Ok sum) (λ sum. none_yet q later q.start sum s.1 (≤ℚ_refl q.start))
+          ∙ bind_end (with_piece passes so_far p q.start)
+          ∙ ap (λ (r : Checked ℚ). r >>= λ known. with_piece passes known p q.start) (sym (none_yet p (q ∷ later) p.start so_far s (≤ℚ_refl p.start)))
+  supply_goes_on (p ∷ q ∷ later) (suc k) piece next so_far s e f =
+      let to_piece : q.start ≤ℚ piece.start = at_or_after q later k piece s.1 e in
+      let to_next : q.start ≤ℚ next.start = at_or_after q later (suc k) next s.1 f in
+      whole_piece p q later next.start so_far (before p.start q.start next.start s.0 to_next) to_next
+      ∙ bind_more (with_piece passes so_far p q.start) (λ sum. supplied_after passes sum (q ∷ later) piece.start) (λ known. with_piece passes known piece next.start)
+      (λ sum. supplied_after passes sum (q ∷ later) next.start) (λ sum. supply_goes_on (q ∷ later) k piece next sum s.1 e f)
+      ∙ ap (λ (r : Checked ℚ). r >>= λ known. with_piece passes known piece next.start) (sym (whole_piece p q later piece.start so_far (before p.start q.start piece.start s.0 to_piece) to_piece))
+    where
+      before : (x y z : ℚ) → x <ℚ y → y ≤ℚ z → x <ℚ z
+      before x y z h k = linear_lt (x ∷ y ∷ z ∷ []) (lt h ∷ le k ∷ []) (search reading_of depth 12) tt
+
+  pub first_supply : (pieces : List Piece) (piece : Piece) → StartsRise pieces → slice_get pieces 0 ≡ Some piece → supplied_after passes 0ℚ pieces piece.start ≡ Ok 0ℚ
+  first_supply [] piece s e = absurd (cc)
+  first_supply (p ∷ later) piece s e = subst (λ (q : Piece). supplied_after passes 0ℚ (p ∷ later) q.start ≡ Ok 0ℚ) (same p piece e) (none_yet p later p.start 0ℚ s (≤ℚ_refl p.start))
+    where
+      same : (x y : Piece) → Some x ≡ Some y → x ≡ y
+      same x y e = cc

@@ -1,0 +1,10 @@
+use Rattle.std.proofs.Common.{◌<◌, length, subst, arith}
+use Rattle.nf_quick_lists.specs.Rounds.{Known}
+use Rattle.nf_residual.proofs.Twigs.{distances_more, within_known}
+use Rattle.nf_residual.proofs.reaches.Reaches.distances.Goals as goal
+
+pub loop-node-preserved : goal.loop-node-preserved
+loop-node-preserved c =
+    let here : c.loop-node.node < length c.self.inside.places.items = omega (arith, c.len-node-end.ensures, c.self.inside.places.ok.0, c.loop-node-test.true) in
+    let inside = subst (λ (k : Known). c.loop-node.node < length k) c.self.view_is (within_known c.self.inside.ways c.self.inside.places.items c.loop-node.node here) in
+    distances_more c.args.self.now c.loop-node.distances.items c.push.new.self.items c.loop-node.node c.distance_to.result inside c.loop-node.invariant c.distance_to.ensures c.in_ok-push.ensures.items

@@ -1,0 +1,37 @@
+-- Legs: the residual steps of a flow with their ends, and what they offer.
+use Rattle.std.specs.Prelude.{◌≡◌, ℕ, suc, ◌<◌, Bool, true, false, if◌then◌else◌, List, [], ◌∷◌, ◌++◌, Some, slice_get, Ok}
+use Rattle.nf_rational.specs.Rational.{ℚ}
+use Rattle.nf_work.specs.Passing.{Passing}
+use Rattle.nf_work.specs.Checked.{Checked}
+use Rattle.nf_model.specs.Entries.{number_at}
+use Rattle.nf_model.specs.Network.{Link}
+use Rattle.nf_quick_lists.specs.Steps.{begin_of, end_of, can_go}
+use Rattle.nf_quick_lists.specs.Rounds.{Known, known_at, along}
+use Rattle.nf_residual.specs.declared.ways.Twig.{Twig}
+use Rattle.nf_residual.specs.declared.legs.Leg.{Leg}
+use Rattle.nf_residual.specs.Ways.{Places, place_at, known_by}
+
+-- a step along a link, or back along it, if it can be gone with this flow
+abbrev pub leg_of : Bool → ℕ → Link → ℚ → List Leg
+leg_of forward e link flow =
+    if can_go forward link.capacity flow
+    then record { step = record { link = e; forward = forward }; begin = begin_of forward link; end = end_of forward link; transit = link.transit } ∷ []
+    else []
+
+-- link by link, and along a link before back along it; the first of these links has the number e
+abbrev pub legs_from : ℕ → List Link → List ℚ → List Leg
+legs_from e [] flows = []
+legs_from e (link ∷ links) flows = leg_of true e link (number_at flows e) ++ leg_of false e link (number_at flows e) ++ legs_from (suc e) links flows
+
+-- they lead between so many nodes
+abbrev pub AreLegs : ℕ → List Leg → Type 0
+AreLegs nodes legs = (k : ℕ) (leg : Leg) → slice_get legs k ≡ Some leg → (leg.begin < nodes) × (leg.end < nodes)
+
+-- what a leg offers to its end
+abbrev pub along_leg : Passing → Known → Known → Leg → Checked Known
+along_leg passes before so_far leg = along passes true (known_at before leg.begin) leg.step leg.transit leg.end so_far
+
+-- legs after a way that isn't fresh offer nothing new, and no operation of theirs passes
+abbrev pub AreSettled : Passing → List Leg → ℕ → List Twig → Places → Type 0
+AreSettled passes legs fresh tree places = (k : ℕ) (leg : Leg) → slice_get legs k ≡ Some leg → (way : ℕ) → place_at places leg.begin ≡ Some way → way < fresh
+    → along_leg passes (known_by tree places) (known_by tree places) leg ≡ Ok (known_by tree places)
