@@ -1,0 +1,10 @@
+//! Whether a flow over time is an equilibrium: a Nash flow over time (Koch and Skutella 2011) that is told rightly by its labels,
+//! inflows, outflows and queues. Times, amounts and rates are exact fractions.
+#![tactic(auto)]
+
+mod answer;
+mod checking;
+
+pub use answer::{Answer, Subject};
+pub use checking::check;
+pub use nf_check_lists::CheckRule;
