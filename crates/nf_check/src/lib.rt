@@ -3,7 +3,25 @@
 #![tactic(auto)]
 
 mod answer;
+mod arrivals;
+mod balances;
 mod checking;
+mod compared;
+mod ended;
+mod inflows;
+mod labels;
+mod lines;
+mod loads;
+mod places;
+mod rates;
+mod routes;
+mod sent;
+mod stretches;
+mod times;
+mod told;
+mod totals;
+mod values;
+mod worked;
 
 pub use answer::{Answer, Subject};
 pub use checking::check;

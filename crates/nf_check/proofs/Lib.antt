@@ -1,0 +1,9 @@
+pub mod Trying
+pub mod Looping
+pub mod Folding
+pub mod PointByPoint
+pub mod ByNumber
+pub mod Known
+pub mod Merging
+pub mod Stretching
+pub mod Testing
