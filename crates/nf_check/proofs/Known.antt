@@ -24,10 +24,13 @@ use Rattle.nf_check_lists.specs.declared.Subject.TheVariants.{Node, Link as OfLi
 use Rattle.nf_check_lists.specs.Rules.{Inflow, Holds, all_nodes, all_links}
 use Rattle.nf_check_lists.specs.Trial.{Trial, in_part, unless}
 use Rattle.nf_check_lists.specs.PointRules.{negative_point, inflow_fault}
-use Rattle.nf_check_lists.specs.CheckList.{label_cut, inflow_rule}
+use Rattle.nf_check_lists.specs.CheckList.{label_cut, inflow_rule, loading}
 use Rattle.nf_check_laws.specs.Laws.{CanBeChecked}
 use Rattle.nf_check_laws.proofs.Points.{IsLabel, cut_of, label-cut, negative-none, decides-inflow, value_from_all}
-use Rattle.nf_check.specs.Kept.{IsFromZero}
+use Rattle.nf_curve.specs.Points.{Grown}
+use Rattle.nf_load.specs.Loadings.{loaded_of}
+use Rattle.nf_check.specs.declared.worked.Worked.{Worked}
+use Rattle.nf_check.specs.Kept.{IsFromZero, IsWorked, labels_in, loaded_in}
 use Rattle.nf_check.specs.Trials.{done}
 use Rattle.nf_check.proofs.Trying.{Came, done_came}
 
@@ -134,3 +137,12 @@ loaded_many f links ys e = links_many f links 0 ys e
 pub never_negative : (points : List Point) → IsFromZero points → (t : ℚ) → 0ℚ ≤ℚ t → 0ℚ ≤ℚ value points t
 never_negative [] k t h = absurd k.curve
 never_negative (p ∷ rest) k t h = value_from_all 0ℚ p rest t k.curve.1 k.none_negative (subst (λ (z : ℚ). z ≤ℚ t) (sym k.curve.0) h)
+
+-- ---- what was worked out
+pub worked_known : (passes : Passing) (net : Network) (flow : Flow) → CanBeChecked net flow → (w : Worked) → each (label_cut passes net flow) (all_nodes net) ≡ Ok (labels_in w)
+    → (ls : List (List Point)) → each (loading passes net flow ls) (enumerate_from 0 net.links) ≡ Ok (loaded_in w) → IsWorked net w
+worked_known passes net flow given w e ls f = record {
+  nodes = sym (length-map w.labels.items (λ (c : Grown). c.points)) ∙ labels_many passes net flow given (labels_in w) e;
+  links = sym (length-map w.loaded.items loaded_of) ∙ loaded_many (loading passes net flow ls) net.links (loaded_in w) f;
+  labels = labels_known passes net flow given (labels_in w) e;
+}

@@ -7,3 +7,4 @@ pub mod Known
 pub mod Merging
 pub mod Stretching
 pub mod Testing
+pub mod Answering

@@ -30,7 +30,8 @@ module _ {A B : Type 0} (f : A → Trial B) (front : List B) (x : A) (later : Li
   front_ends e h = ends_as e all (with_front front (each f (x ∷ later))) (sym so_far) (behind e (each f (x ∷ later)) (ends e (f x) (λ y. each f later >>= λ ys. Ok (y ∷ ys)) h))
     where
       behind : (e : Ended) (r : Trial (List B)) → EndsAs e r → EndsAs e (with_front front r)
-      behind (Ended.Broken rule subject sides) r h = ap (with_front front) h
+      behind (Ended.AtNode rule node sides) r h = ap (with_front front) h
+      behind (Ended.AtLink rule link sides) r h = ap (with_front front) h
       behind (Ended.Passed p) r h = ap (with_front front) h
       behind Ended.Memory r h = tt
 
@@ -202,3 +203,13 @@ module _ {B : Type 0} (f : ℕ → Trial B) (v n : ℕ) where
 
         pub but_goes : (y : B) → f k ≡ Ok y → LeftBut f v n (k + 1)
         but_goes y w = record { same = step_goes f k (numbers_but v (range_with_len (k + 1) (n - (k + 1)))) (done (each f (numbers_but v (range_with_len 0 n)))) but_there y w }
+
+-- ---- the link of a number
+pub record LinkThere {X : Type 0} (links : List X) (k : ℕ) : Type 0 where
+  pub link : X
+  pub is : slice_get links k ≡ Some link
+
+pub link_there : {X : Type 0} (links : List X) (k : ℕ) → k < length links → LinkThere links k
+link_there [] k h = absurd (omega arith)
+link_there (x ∷ links) zero h = record { link = x; is = refl }
+link_there (x ∷ links) (suc k) h = let w = link_there links k (omega arith) in record { link = w.link; is = w.is }

@@ -1,10 +1,12 @@
 -- Rules that go from point to point, from each point on.
-use Rattle.std.proofs.Common.{◌≡◌, ℕ, zero, suc, ◌+◌, ◌-◌, ◌<◌, ◌≤◌, List, [], ◌∷◌, length, drop, Bool, true, false, Some, None, slice_get, refl, sym, ap, subst, ◌∙◌, arith}
+use Rattle.std.proofs.Common.{◌≡◌, ℕ, zero, suc, ◌+◌, ◌-◌, ◌<◌, ◌≤◌, List, [], ◌∷◌, length, drop, Bool, true, false, Some, None, slice_get, ⊎_elim, refl, sym, ap, subst, ◌∙◌, arith}
 use Rattle.std.specs.Prelude.{Ok, Err, if◌then◌else◌}
 use Rattle.std.specs.List.{AllByRecursion}
 use Rattle.nf_rational.specs.Rational.{ℚ}
 use Rattle.nf_rational.specs.Operations.{0ℚ}
 use Rattle.nf_rational.specs.Order.{◌≤ℚ◌, ◌<ℚ◌, lt_ℚ, max_ℚ}
+use Rattle.nf_rational_laws.proofs.Order.{≤ℚ_antisymm}
+use Rattle.nf_rational_laws.proofs.Tests.{lt_ℚ_cases}
 use Rattle.nf_work.specs.Passing.{Passing}
 use Rattle.nf_work.specs.Checked.{at_part, ◌>>=◌}
 use Rattle.nf_work.specs.declared.Part.TheVariants.{Check}
@@ -18,9 +20,11 @@ use Rattle.nf_check_lists.specs.declared.Subject.{Subject}
 use Rattle.nf_check_lists.specs.Trial.{Passes, Trial, in_part, unless}
 use Rattle.nf_check_lists.specs.PointRules.{negative_point, falling_from, if_other, rates_from, rates_list}
 use Rattle.nf_check_lists.specs.Curves.{greatest_value, last_value}
-use Rattle.nf_check_lists.specs.CheckList.{first_value}
+use Rattle.nf_model.specs.Network.{Network}
+use Rattle.nf_model.specs.Equilibrium.{Flow}
+use Rattle.nf_check_lists.specs.CheckList as lists_of_check
 use Rattle.nf_check.specs.declared.ended.Ended.{Ended}
-use Rattle.nf_check.specs.Points.{first_fall}
+use Rattle.nf_check.specs.Points.{first_fall, first_value}
 use Rattle.nf_check.specs.Trials.{EndsAs}
 use Rattle.nf_check.proofs.Trying.{ends, ends_as, goes_on, part_ok, part_passes}
 
@@ -28,7 +32,8 @@ pub drop_one : {A : Type 0} (xs : List A) (i : ℕ) (x : A) → slice_get xs i �
 drop_one {A} xs i x e = drop-at xs i x e ∙ ap (λ (k : ℕ). x ∷ drop k xs) (let same : suc i ≡ i + 1 = omega arith in same)
 
 pub drop_none : {A : Type 0} (xs : List A) (i : ℕ) → length xs ≤ i → drop i xs ≡ []
-drop_none [] i h = refl
+drop_none [] zero h = refl
+drop_none [] (suc i) h = refl
 drop_none (x ∷ xs) zero h = absurd (omega arith)
 drop_none (x ∷ xs) (suc i) h = drop_none xs i (omega arith)
 
@@ -53,7 +58,8 @@ module _ (points : List Point) (i : ℕ) (some : 0 < i) (so_far : first_fall (dr
   no_fall h = sym so_far ∙ alone (drop (i - 1) points) (short points (i - 1) (omega arith))
     where
       short : (xs : List Point) (k : ℕ) → length xs ≤ k + 1 → length (drop k xs) ≤ 1
-      short [] k h = omega arith
+      short [] zero h = omega arith
+      short [] (suc k) h = omega arith
       short (x ∷ xs) zero h = omega arith
       short (x ∷ xs) (suc k) h = short xs k (omega arith)
 
@@ -132,6 +138,10 @@ pub first_is : (points : List Point) (p : Point) → slice_get points 0 ≡ Some
 first_is [] p e = absurd (cc)
 first_is (x ∷ rest) p e = let same : p ≡ x = cc in ap (λ (q : Point). q.1) same
 
+pub first_same : (passes : Passing) (net : Network) (flow : Flow) (points : List Point) → first_value points ≡ lists_of_check.first_value passes net flow points
+first_same passes net flow [] = refl
+first_same passes net flow (p ∷ rest) = refl
+
 pub last_is : (points : List Point) (k : ℕ) (p : Point) → slice_get points k ≡ Some p → k + 1 ≡ length points → p.1 ≡ last_value points
 last_is [] k p e n = absurd (cc)
 last_is (x ∷ []) zero p e n = let same : p ≡ x = cc in ap (λ (q : Point). q.1) same
@@ -143,3 +153,10 @@ pub all_from_0 : (points : List Point) (k : ℕ) (p : Point) → slice_get point
 all_from_0 [] k p e a = absurd (cc)
 all_from_0 (x ∷ rest) zero p e a = let same : x ≡ p = cc in subst (λ (q : Point). 0ℚ ≤ℚ q.1) same a.0
 all_from_0 (x ∷ rest) (suc k) p e a = all_from_0 rest k p e a.1
+
+-- what is at least 0 and isn't 0 is above it
+pub positive : (x : ℚ) → 0ℚ ≤ℚ x → ¬ (x ≡ 0ℚ) → 0ℚ <ℚ x
+positive x h n = ⊎_elim
+    (λ (w : (lt_ℚ 0ℚ x ≡ true) × (0ℚ <ℚ x)). w.1)
+    (λ (w : (lt_ℚ 0ℚ x ≡ false) × (x ≤ℚ 0ℚ)). absurd (n (≤ℚ_antisymm x 0ℚ w.1 h)))
+    (lt_ℚ_cases 0ℚ x)

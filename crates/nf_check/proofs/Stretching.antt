@@ -26,7 +26,8 @@ module _ (passes : Passing) (taken exits labels : List Point) (times : List ℚ)
   no_stretch h = sym so_far ∙ alone (drop (i - 1) times) (short times (i - 1) (omega arith))
     where
       short : (xs : List ℚ) (k : ℕ) → length xs ≤ k + 1 → length (drop k xs) ≤ 1
-      short [] k h = omega arith
+      short [] zero h = omega arith
+      short [] (suc k) h = omega arith
       short (x ∷ xs) zero h = omega arith
       short (x ∷ xs) (suc k) h = short xs k (omega arith)
 
@@ -72,6 +73,6 @@ three_first {X} {Y} {Z} {E} (Ok t) (Ok x) c d e f = go (c t) (d x) e
 
 pub detour-is : (passes : Passing) (inflow exit tail_label head_label : List Point) (last : ℚ) → detour_list passes inflow exit tail_label head_label last
     ≡ (sent_list passes inflow exit tail_label head_label last >>= λ s. all_stretches passes s.0 s.1 s.2 (three_times s.0 s.1 s.2))
-unfolding detour_list, sent_list
+unfolding detour_list sent_list
 detour-is passes inflow exit tail_label head_label last = three_first (checked_composed passes inflow tail_label last) (checked_composed passes exit tail_label last)
     (λ t. checked_short passes t) (λ x. checked_short passes x) (checked_short passes head_label) (λ a b c. all_stretches passes a b c (three_times a b c))

@@ -46,7 +46,7 @@ worked_same {A} {X} {Y} {B} {V} (Ok x) (Ok u) (Ok v) d rest f same = go (d x)
     go (Ok y) = same x y
 
 pub tested-is : (passes : Passing) (net : Network) (flow : Flow) → done (trial passes net flow) ≡ tested_list passes net flow
-unfolding trial, tested_list, worked_list, compared_list, arrivals_list, told_list, balances_list
+unfolding trial tested_list worked_list compared_list arrivals_list told_list balances_list
 tested-is passes net flow = worked_same (each (label_cut passes net flow) (all_nodes net)) (each (inflow_rule passes net flow) (all_links net)) (each (link_rates passes net flow) (all_links net))
     (λ labels. each (loading passes net flow labels) (enumerate_from 0 net.links)) _ (λ labels loaded. compared_list passes net flow labels loaded)
     (λ labels loaded. compared_same (compared passes net flow C3 (Node net.source) (points_at labels net.source) (departures flow.reached) flow.reached)

@@ -1,13 +1,14 @@
 -- The list of a check, part by part as the code does it.
-use Rattle.std.specs.Prelude.{ℕ, List, ◌≡◌, Ok}
+use Rattle.std.specs.Prelude.{ℕ, ◌==◌, if◌then◌else◌, List, Ok}
 use Rattle.std.specs.List.{enumerate_from}
 use Rattle.nf_rational.specs.Rational.{ℚ}
 use Rattle.nf_work.specs.Passing.{Passing}
-use Rattle.nf_work.specs.Checked.{each, ◌>>=◌}
+use Rattle.nf_work.specs.Checked.{Checked, each, ◌>>=◌}
 use Rattle.nf_work.specs.declared.Part.TheVariants.{Load, Check}
 use Rattle.nf_model.specs.Curve.{Point}
 use Rattle.nf_model.specs.Network.{Network}
 use Rattle.nf_model.specs.Equilibrium.{Flow, points_at}
+use Rattle.nf_curve_lists.specs.Sums.{checked_sum}
 use Rattle.nf_curve_lists.specs.Differences.{checked_difference}
 use Rattle.nf_load_lists.specs.Cumulative.{checked_cumulative}
 use Rattle.nf_load_lists.specs.Loading.{Loaded}
@@ -26,6 +27,10 @@ abbrev pub compared_by : Passing → CheckRule → Subject ℕ ℕ → List Poin
 compared_by passes rule subject left right last = do
   difference ← in_part Check (checked_difference passes left right last)
   unless rule subject difference
+
+-- what comes into a node, with the supply at the source
+abbrev pub with_supply_by : Passing → Network → List Point → ℕ → List Point → Checked (List Point)
+with_supply_by passes net supplied v total = if v == net.source then checked_sum passes total supplied else Ok total
 
 module _ (passes : Passing) (net : Network) (flow : Flow) where
   -- the labels up to the departure reached, and the loadings; first come the rules that need only the points

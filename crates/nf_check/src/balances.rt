@@ -7,11 +7,11 @@ ghost use Rattle.nf_work.specs.Passing.{passes_Q};
 ghost use Rattle.nf_work.specs.Checked.{at_part, each, Gives};
 ghost use Rattle.nf_check_lists.specs.Rules.{nodes_but};
 ghost use Rattle.nf_check_lists.specs.Curves.{last_value as last_by};
-ghost use Rattle.nf_check_lists.specs.CheckList.{with_supply as with_supply_by, balance, sink_rules};
+ghost use Rattle.nf_check_lists.specs.CheckList.{balance, sink_rules};
 ghost use Rattle.nf_model.specs.Equilibrium.{points_at};
 ghost use Rattle.nf_curve.specs.Flows.{flow_of};
 ghost use Rattle.nf_check.specs.Kept.{IsWorked, labels_in, loaded_in};
-ghost use Rattle.nf_check.specs.Steps.{balances_list};
+ghost use Rattle.nf_check.specs.Steps.{with_supply_by, balances_list};
 ghost use Rattle.nf_check.specs.Trials.{Tries, done};
 
 use crate::answer::Subject;

@@ -1,6 +1,7 @@
 // Why a check ends before all is tested.
 ghost use Rattle.std.specs.Prelude.{◌≡◌, option_map};
 ghost use Rattle.nf_work.specs.Checked.{Gives};
+ghost use Rattle.nf_check_lists.specs.declared.Answer.TheVariants.{No};
 ghost use Rattle.nf_check_lists.specs.Trial.{Trial, unless as unless_by, answer_of as answer_by};
 ghost use Rattle.nf_curve.specs.Differences.{difference_of};
 ghost use Rattle.nf_check.specs.Trials.{of_halt, Tries};
@@ -10,15 +11,22 @@ use crate::answer::{Answer, Subject};
 use nf_check_lists::CheckRule;
 use nf_curve::Difference;
 use nf_frac::{Halt, PassedAt, Q};
+use nf_graph::{LinkId, NodeId};
 use std::alloc::{AllocError, AllocFailed};
 
 /// Why a check ends before all is tested.
-#[derive(Clone, Copy, Debug)]
+#[derive(Drop, Debug)]
 pub(crate) enum Ended {
-    /// A rule is broken, where these two values differ.
-    Broken {
+    /// A node breaks a rule, where these two values differ.
+    AtNode {
         rule: CheckRule,
-        subject: Subject,
+        node: NodeId,
+        sides: Difference,
+    },
+    /// A link does.
+    AtLink {
+        rule: CheckRule,
+        link: LinkId,
         sides: Difference,
     },
     /// An operation passes.
@@ -70,13 +78,25 @@ pub(crate) fn unless(
 ) -> Result<(), Ended>
     ensures { Tries (λ _. tt) result (unless_by rule subject (option_map difference_of difference)) }
 {
-    match difference {
-        None => Ok(()),
-        Some(sides) => Err(Ended::Broken {
-            rule,
-            subject,
-            sides,
-        }),
+    let Some(sides) = difference else {
+        return Ok(());
+    };
+    Err(match subject {
+        Subject::Node(node) => Ended::AtNode { rule, node, sides },
+        Subject::Link(link) => Ended::AtLink { rule, link, sides },
+    })
+}
+
+// No, since these two values differ.
+fn no(rule: CheckRule, subject: Subject, sides: Difference) -> Answer
+    ensures { result ≡ No rule subject sides.time sides.left sides.right }
+{
+    Answer::No {
+        rule,
+        subject,
+        time: sides.time,
+        left: sides.left,
+        right: sides.right,
     }
 }
 
@@ -86,17 +106,8 @@ pub(crate) fn answer_of(tested: Result<(), Ended>) -> Result<Answer, Halt<Q>>
 {
     match tested {
         Ok(()) => Ok(Answer::Yes),
-        Err(Ended::Broken {
-            rule,
-            subject,
-            sides,
-        }) => Ok(Answer::No {
-            rule,
-            subject,
-            time: sides.time,
-            left: sides.left,
-            right: sides.right,
-        }),
+        Err(Ended::AtNode { rule, node, sides }) => Ok(no(rule, Subject::Node(node), sides)),
+        Err(Ended::AtLink { rule, link, sides }) => Ok(no(rule, Subject::Link(link), sides)),
         Err(Ended::Passed(passed)) => Err(Halt::Passed(passed)),
         Err(Ended::Memory) => Err(Halt::Memory),
     }

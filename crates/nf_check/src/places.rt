@@ -56,7 +56,10 @@ pub(crate) fn value_at(curve: &Curve, place: usize, time: Q) -> Result<Q, Passed
 {
     let count = curve.len();
     let last = curve.point(place - 1);
-    if place == count || is_same(time, last.0) {
+    if place == count {
+        return Ok(last.1);
+    }
+    if is_same(time, last.0) {
         return Ok(last.1);
     }
     let next = curve.point(place);

@@ -1,5 +1,6 @@
 // Three curves by departure: what has been sent into a link, its exits, and the labels of its head.
 ghost use Rattle.std.specs.Prelude.{◌≡◌, IfOk};
+ghost use Rattle.nf_rational.specs.Rational.{ℚ};
 ghost use Rattle.nf_rational.specs.Operations.{0ℚ};
 ghost use Rattle.nf_rational.specs.Order.{◌≤ℚ◌};
 ghost use Rattle.nf_work.specs.declared.Part.TheVariants.{Check};

@@ -1,0 +1,4 @@
+use Rattle.nf_check.proofs.stretches.two.Goals as goal
+
+pub returns : goal.returns
+returns c = ?
