@@ -30,7 +30,7 @@ use Rattle.nf_check_laws.proofs.Points.{IsLabel, cut_of, label-cut, negative-non
 use Rattle.nf_curve.specs.Points.{Grown}
 use Rattle.nf_load.specs.Loadings.{loaded_of}
 use Rattle.nf_check.specs.declared.worked.Worked.{Worked}
-use Rattle.nf_check.specs.Kept.{IsFromZero, IsWorked, labels_in, loaded_in}
+use Rattle.nf_check.specs.Kept.{IsFromZero, IsWorked, curves_of, labels_in, loaded_in}
 use Rattle.nf_check.specs.Trials.{done}
 use Rattle.nf_check.proofs.Trying.{Came, done_came}
 
@@ -146,3 +146,12 @@ worked_known passes net flow given w e ls f = record {
   links = sym (length-map w.loaded.items loaded_of) ∙ loaded_many (loading passes net flow ls) net.links (loaded_in w) f;
   labels = labels_known passes net flow given (labels_in w) e;
 }
+
+-- ---- the label of a node
+pub label_known : (w : Worked) (curves : List Grown) (k v : ℕ) (points : List Point) → IsFromZero (points_at (labels_in w) v) → curves ≡ w.labels.items → k ≡ v → points ≡ points_at (curves_of curves) k
+    → IsFromZero points
+label_known w curves k v points known e f g =
+    subst (λ (l : List Point). IsFromZero l) (sym (g ∙ ap (λ (l : List Grown). points_at (curves_of l) k) e ∙ ap (λ (j : ℕ). points_at (labels_in w) j) f)) known
+
+pub labels_in_number : (passes : Passing) (net : Network) (flow : Flow) → CanBeChecked net flow → (all labels : List Grown) → all ≡ labels → each (label_cut passes net flow) (all_nodes net) ≡ Ok (curves_of labels) → length all ≡ net.nodes
+labels_in_number passes net flow given all labels same e = ap length same ∙ sym (length-map labels (λ (c : Grown). c.points)) ∙ labels_many passes net flow given (curves_of labels) e

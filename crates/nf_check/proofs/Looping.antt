@@ -213,3 +213,18 @@ pub link_there : {X : Type 0} (links : List X) (k : ℕ) → k < length links �
 link_there [] k h = absurd (omega arith)
 link_there (x ∷ links) zero h = record { link = x; is = refl }
 link_there (x ∷ links) (suc k) h = let w = link_there links k (omega arith) in record { link = w.link; is = w.is }
+
+-- ---- a number is one, or another
+pub is_other : (k v u : ℕ) → u ≡ v → not (eqb k u) ≡ true → k ≢ v
+is_other k v u e t = λ same. go (eqb k u) refl t (same ∙ sym e)
+  where
+    go : (b : Bool) → eqb k u ≡ b → not b ≡ true → k ≡ u → ⊥
+    go true f t d = absurd (cc)
+    go false f t d = eqb-false k u f d
+
+pub is_one : (k v u : ℕ) → u ≡ v → not (eqb k u) ≡ false → k ≡ v
+is_one k v u e t = go (eqb k u) refl t ∙ e
+  where
+    go : (b : Bool) → eqb k u ≡ b → not b ≡ false → k ≡ u
+    go true f t = eqb-true k u f
+    go false f t = absurd (cc)

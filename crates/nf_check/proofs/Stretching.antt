@@ -1,11 +1,15 @@
 -- Stretches of departures, one after the other.
 use Rattle.std.proofs.Common.{◌≡◌, ℕ, zero, suc, ◌+◌, ◌-◌, ◌<◌, ◌≤◌, List, [], ◌∷◌, length, drop, Option, Some, None, slice_get, refl, sym, ap, subst, ◌∙◌, arith}
-use Rattle.std.specs.Prelude.{Result, Ok, Err, pos}
+use Rattle.std.specs.Prelude.{Result, Ok, Err, pos, SomeIff, unwrap_or}
 use Rattle.nf_rational.specs.Rational.{ℚ}
-use Rattle.nf_rational.specs.Operations.{0ℚ, whole, ◌+ℚ◌, ◌*ℚ◌}
+use Rattle.nf_rational.specs.Operations.{0ℚ, whole, ◌+ℚ◌, ◌*ℚ◌, ◌/ℚ◌}
 use Rattle.nf_rational.specs.Order.{◌≤ℚ◌}
 use Rattle.nf_rational_laws.proofs.Polynomial.{reading_of}
-use Rattle.nf_rational_laws.proofs.Linear.{le, eq, linear_le}
+use Rattle.nf_rational_laws.proofs.Linear.{le, eq, linear_le, linear_eq, linear_false}
+use Rattle.nf_rational_laws.proofs.Quotient.{/ℚ-times}
+use Rattle.nf_frac.specs.Parts.{IsWithin, IsMade}
+use Rattle.nf_work.specs.Passing.{bound_of}
+use Rattle.nf_curve_laws.proofs.Operations.{checked-is, then_ok}
 use Rattle.nf_work.specs.Passing.{Passing}
 use Rattle.nf_work.specs.Checked.{Checked, checked, at_part, ◌>>=◌}
 use Rattle.nf_work.specs.declared.Op.TheVariants.{Sum, Quotient}
@@ -59,20 +63,82 @@ module _ (passes : Passing) (taken exits labels : List Point) (times : List ℚ)
         ∙ by_stretch
 
 -- ---- the three curves of a link come first
-three_first : {X Y Z E : Type 0} (a b : Result X E) (c d : X → Result Y E) (e : Result Y E) (f : Y → Y → Y → Result Z E)
-    → (a >>= λ t. b >>= λ x. c t >>= λ st. d x >>= λ sx. e >>= λ sl. f st sx sl) ≡ ((a >>= λ t. b >>= λ x. c t >>= λ st. d x >>= λ sx. e >>= λ sl. Ok (st, sx, sl)) >>= λ s. f s.0 s.1 s.2)
-three_first (Err p) b c d e f = refl
-three_first (Ok t) (Err p) c d e f = refl
-three_first {X} {Y} {Z} {E} (Ok t) (Ok x) c d e f = go (c t) (d x) e
+abbrev together : {Y E : Type 0} → Y → Y → Result Y E → Result (Y × Y × Y) E
+together a b (Ok c) = Ok (a, b, c)
+together a b (Err p) = Err p
+
+three_first : {X Y Z E : Type 0} (a b : Result X E) (c d : X → Result Y E) (e : Result Y E) (f : Y → Y → Y → Result Z E) (all : Result (Y × Y × Y) E)
+    → all ≡ (a >>= λ t. b >>= λ x. c t >>= λ st. d x >>= λ sx. together st sx e)
+    → (a >>= λ t. b >>= λ x. c t >>= λ st. d x >>= λ sx. e >>= λ sl. f st sx sl) ≡ (all >>= λ s. f s.0 s.1 s.2)
+three_first {X} {Y} {Z} {E} a b c d e f all is = by_parts a b ∙ sym (ap (λ (r : Result (Y × Y × Y) E). r >>= λ s. f s.0 s.1 s.2) is)
   where
-    go : (r s u : Result Y E) → (r >>= λ st. s >>= λ sx. u >>= λ sl. f st sx sl) ≡ ((r >>= λ st. s >>= λ sx. u >>= λ sl. Ok (st, sx, sl)) >>= λ w. f w.0 w.1 w.2)
-    go (Err p) s u = refl
-    go (Ok st) (Err p) u = refl
-    go (Ok st) (Ok sx) (Err p) = refl
-    go (Ok st) (Ok sx) (Ok sl) = refl
+    last : (st sx : Y) (u : Result Y E) → (u >>= λ sl. f st sx sl) ≡ (together st sx u >>= λ s. f s.0 s.1 s.2)
+    last st sx (Ok sl) = refl
+    last st sx (Err p) = refl
+
+    inner : (r s : Result Y E) → (r >>= λ st. s >>= λ sx. e >>= λ sl. f st sx sl) ≡ ((r >>= λ st. s >>= λ sx. together st sx e) >>= λ s. f s.0 s.1 s.2)
+    inner (Ok st) (Ok sx) = last st sx e
+    inner (Ok st) (Err p) = refl
+    inner (Err p) s = refl
+
+    by_parts : (r s : Result X E) → (r >>= λ t. s >>= λ x. c t >>= λ st. d x >>= λ sx. e >>= λ sl. f st sx sl) ≡ ((r >>= λ t. s >>= λ x. c t >>= λ st. d x >>= λ sx. together st sx e) >>= λ s. f s.0 s.1 s.2)
+    by_parts (Ok t) (Ok x) = inner (c t) (d x)
+    by_parts (Ok t) (Err p) = refl
+    by_parts (Err p) s = refl
 
 pub detour-is : (passes : Passing) (inflow exit tail_label head_label : List Point) (last : ℚ) → detour_list passes inflow exit tail_label head_label last
     ≡ (sent_list passes inflow exit tail_label head_label last >>= λ s. all_stretches passes s.0 s.1 s.2 (three_times s.0 s.1 s.2))
 unfolding detour_list sent_list
 detour-is passes inflow exit tail_label head_label last = three_first (checked_composed passes inflow tail_label last) (checked_composed passes exit tail_label last)
-    (λ t. checked_short passes t) (λ x. checked_short passes x) (checked_short passes head_label) (λ a b c. all_stretches passes a b c (three_times a b c))
+    (λ t. checked_short passes t) (λ x. checked_short passes x) (checked_short passes head_label) (λ a b c. all_stretches passes a b c (three_times a b c)) (sent_list passes inflow exit tail_label head_label last) (all_is (checked_composed passes inflow tail_label last) (checked_composed passes exit tail_label last))
+  where
+    one : (a b : List Point) (r : Checked (List Point)) → (r >>= λ c. let all : List Point × List Point × List Point = (a, b, c) in Ok all) ≡ together a b r
+    one a b (Ok c) = refl
+    one a b (Err p) = refl
+
+    two : (r s : Checked (List Point)) → (r >>= λ a. s >>= λ b. checked_short passes head_label >>= λ c. let all : List Point × List Point × List Point = (a, b, c) in Ok all) ≡ (r >>= λ a. s >>= λ b. together a b (checked_short passes head_label))
+    two (Ok a) (Ok b) = one a b (checked_short passes head_label)
+    two (Ok a) (Err p) = refl
+    two (Err p) s = refl
+
+    all_is : (r s : Checked (List Point)) → (r >>= λ t. s >>= λ x. checked_short passes t >>= λ a. checked_short passes x >>= λ b. checked_short passes head_label >>= λ c. let all : List Point × List Point × List Point = (a, b, c) in Ok all)
+        ≡ (r >>= λ t. s >>= λ x. checked_short passes t >>= λ a. checked_short passes x >>= λ b. together a b (checked_short passes head_label))
+    all_is (Ok t) (Ok x) = two (checked_short passes t) (checked_short passes x)
+    all_is (Ok t) (Err p) = refl
+    all_is (Err p) s = refl
+
+-- ---- the middle of a stretch
+two_apart : whole (pos 2) ≡ 0ℚ → ⊥
+two_apart e = linear_false [] (eq e ∷ []) (search reading_of depth 12) tt
+
+pub apart_by_two : (two : ℚ) → two ≡ whole (pos 2) → two ≡ 0ℚ → ⊥
+apart_by_two two is e = two_apart (sym is ∙ e)
+
+one_apart : whole (pos 1) ≡ 0ℚ → ⊥
+one_apart e = linear_false [] (eq e ∷ []) (search reading_of depth 12) tt
+
+two_by_one : whole (pos 2) /ℚ whole (pos 1) ≡ whole (pos 2)
+two_by_one = times_one (whole (pos 2) /ℚ whole (pos 1)) (/ℚ-times (whole (pos 2)) (whole (pos 1)) one_apart)
+  where
+    times_one : (q : ℚ) → q *ℚ whole (pos 1) ≡ whole (pos 2) → q ≡ whole (pos 2)
+    times_one q e = linear_eq (q ∷ []) (eq e ∷ []) (search reading_of depth 12) tt tt
+
+two_within : IsWithin (bound_of 127) (whole (pos 2))
+unfolding whole
+two_within = record { small = omega arith; small_den = omega arith }
+
+pub two_made : (o : Option ℚ) (one : ℚ) → SomeIff o (IsMade (bound_of 127) (pos 2) (pos 1)) (whole (pos 2) /ℚ whole (pos 1)) → unwrap_or o one ≡ whole (pos 2)
+two_made None one w = absurd (w (record { some = λ e. absurd (cc); fits = subst (λ (q : ℚ). IsWithin (bound_of 127) q) (sym two_by_one) two_within }))
+two_made (Some q) one w = w.1 ∙ two_by_one
+
+pub middle_from : (passes : Passing) (first next time : ℚ) → 0ℚ ≤ℚ first → 0ℚ ≤ℚ next → at_part Check (checked_middle passes first next) ≡ Ok time → 0ℚ ≤ℚ time
+unfolding checked_middle
+middle_from passes first next time h k e =
+    let w = then_ok (checked passes Sum first next) (λ a. checked passes Quotient a (whole (pos 2))) time (was_ok Check _ time e) in
+    let sum : w.between ≡ first +ℚ next = checked-is passes Sum first next w.between w.first in
+    let half : time ≡ w.between /ℚ whole (pos 2) = checked-is passes Quotient w.between (whole (pos 2)) time w.next in
+    let back : time *ℚ whole (pos 2) ≡ w.between = ap (λ (q : ℚ). q *ℚ whole (pos 2)) half ∙ /ℚ-times w.between (whole (pos 2)) two_apart in
+    over first next time w.between h k sum back
+  where
+    over : (first next time sum : ℚ) → 0ℚ ≤ℚ first → 0ℚ ≤ℚ next → sum ≡ first +ℚ next → time *ℚ whole (pos 2) ≡ sum → 0ℚ ≤ℚ time
+    over first next time sum h k e f = linear_le (first ∷ next ∷ time ∷ sum ∷ []) (le h ∷ le k ∷ eq e ∷ eq f ∷ []) (search reading_of depth 12) tt

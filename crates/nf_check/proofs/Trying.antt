@@ -1,6 +1,6 @@
 -- What a trial comes to by its parts: where one ends so does the whole, and where one goes through the next comes.
 use Rattle.std.proofs.Common.{◌≡◌, refl, sym, ap, subst}
-use Rattle.std.specs.Prelude.{Ok, Err}
+use Rattle.std.specs.Prelude.{Result, Ok, Err}
 use Rattle.nf_rational.specs.Rational.{ℚ}
 use Rattle.nf_work.specs.declared.Halt.{Halt}
 use Rattle.nf_work.specs.declared.Part.{Part}
@@ -9,7 +9,7 @@ use Rattle.nf_work.specs.Checked.{Checked, Stops, placed, at_part, ◌>>=◌}
 use Rattle.nf_check_lists.specs.Trial.{Passes, Trial, in_part}
 use Rattle.nf_curve.proofs.Exits.{was_ok}
 use Rattle.nf_check.specs.declared.ended.Ended.{Ended}
-use Rattle.nf_check.specs.Trials.{of_halt, EndsAs, done}
+use Rattle.nf_check.specs.Trials.{of_halt, EndsAs, Tries, done}
 
 module _ {A B : Type 0} where
   pub goes_on : (r : Trial A) (f : A → Trial B) (x : A) → r ≡ Ok x → (r >>= f) ≡ f x
@@ -69,3 +69,7 @@ assoc (Err e) f g = refl
 pub done_assoc : {A B : Type 0} (r : Trial A) (f : A → Trial B) → done (r >>= f) ≡ (r >>= λ x. done (f x))
 done_assoc (Ok x) f = refl
 done_assoc (Err e) f = refl
+
+-- of equal trials
+pub tries_as : {X A : Type 0} (value : X → A) (result : Result X Ended) (r s : Trial A) → r ≡ s → Tries value result s → Tries value result r
+tries_as {X} {A} value result r s same h = subst (λ (w : Trial A). Tries value result w) (sym same) h

@@ -5,12 +5,17 @@ use Rattle.nf_rational.specs.Rational.{ℚ}
 use Rattle.nf_rational.specs.Order.{lt_ℚ}
 use Rattle.nf_work.specs.Passing.{Passing}
 use Rattle.nf_work.specs.Checked.{Checked, ◌>>=◌}
-use Rattle.nf_model.specs.Curve.{Point}
+use Rattle.nf_model.specs.Curve.{Point, IsCurve}
 use Rattle.nf_curve_lists.specs.Short.{checked_short}
 use Rattle.nf_curve_lists.specs.Composed.{checked_composed}
 use Rattle.nf_curve.specs.Places.{place_of}
 use Rattle.nf_check.specs.declared.sent.Sent.{Sent}
 use Rattle.nf_check.specs.declared.sent.Places.{Places}
+
+pub record AreCurves (sent : Sent) : Type 0 where
+  pub taken : IsCurve sent.taken.points
+  pub exits : IsCurve sent.exits.points
+  pub labels : IsCurve sent.labels.points
 
 -- the places of a departure on the three curves
 pub record ArePlaces (sent : Sent) (time : ℚ) (places : Places) : Type 0 where

@@ -15,7 +15,7 @@ use nf_graph::{LinkId, NodeId};
 use std::alloc::{AllocError, AllocFailed};
 
 /// Why a check ends before all is tested.
-#[derive(Drop, Debug)]
+#[derive(Clone, Copy, Debug)]
 pub(crate) enum Ended {
     /// A node breaks a rule, where these two values differ.
     AtNode {
@@ -104,11 +104,11 @@ fn no(rule: CheckRule, subject: Subject, sides: Difference) -> Answer
 pub(crate) fn answer_of(tested: Result<(), Ended>) -> Result<Answer, Halt<Q>>
     ensures { (trial : Trial (Unit {0})) → Tries (λ _. tt) tested trial → Gives (λ answer. answer) (λ q. q) result (answer_by trial) }
 {
-    match tested {
+    match &tested {
         Ok(()) => Ok(Answer::Yes),
-        Err(Ended::AtNode { rule, node, sides }) => Ok(no(rule, Subject::Node(node), sides)),
-        Err(Ended::AtLink { rule, link, sides }) => Ok(no(rule, Subject::Link(link), sides)),
-        Err(Ended::Passed(passed)) => Err(Halt::Passed(passed)),
+        Err(Ended::AtNode { rule, node, sides }) => Ok(no(*rule, Subject::Node(*node), *sides)),
+        Err(Ended::AtLink { rule, link, sides }) => Ok(no(*rule, Subject::Link(*link), *sides)),
+        Err(Ended::Passed(passed)) => Err(Halt::Passed(*passed)),
         Err(Ended::Memory) => Err(Halt::Memory),
     }
 }

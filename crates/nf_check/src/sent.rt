@@ -10,7 +10,7 @@ ghost use Rattle.nf_model.specs.Curve.{Within, value};
 ghost use Rattle.nf_curve_lists.specs.Sums.{sides_at as sides_by};
 ghost use Rattle.nf_check_lists.specs.Routes.{three_times};
 ghost use Rattle.nf_curve.specs.Differences.{difference_of};
-ghost use Rattle.nf_check.specs.Sent.{ArePlaces, AreWithin, points_in, sent_list};
+ghost use Rattle.nf_check.specs.Sent.{AreCurves, ArePlaces, AreWithin, points_in, sent_list};
 
 use crate::places::{place_near, value_at};
 use crate::times::{merged, times_of};
@@ -47,8 +47,9 @@ impl Sent {
     ) -> Result<Sent, Halt<Q>>
         requires last { 0ℚ ≤ℚ last }
         requires label { (time : ℚ) → Within 0ℚ last time → 0ℚ ≤ℚ value tail_label.now.points time }
-        ensures { Gives points_in (λ q. q) result
+        ensures list { Gives points_in (λ q. q) result
             (at_part Check (sent_list passes_Q inflow.now.points exit.now.points tail_label.now.points head_label.now.points last)) }
+        ensures curves { IfOk result AreCurves }
     {
         let all_taken = Curve::compose(alloc, inflow, tail_label, last, Part::Check)?;
         let all_exits = Curve::compose(alloc, exit, tail_label, last, Part::Check)?;

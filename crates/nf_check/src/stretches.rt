@@ -32,6 +32,7 @@ fn two() -> Q
 }
 
 // The departure in the middle of a stretch.
+#[tactic(auto, unfolding(nf_check_lists::specs::Routes::checked_middle), using(crate::proofs::Stretching::apart_by_two))]
 fn middle(first: Q, next: Q) -> Result<Q, PassedAt<Q>>
     ensures { result ≡ at_part Check (checked_middle passes_Q first next) }
 {

@@ -1,12 +1,10 @@
-use Rattle.std.proofs.Common.{◌≡◌, List, sym, subst}
-use Rattle.nf_rational.specs.Rational.{ℚ}
-use Rattle.nf_rational.specs.Operations.{0ℚ}
-use Rattle.nf_rational.specs.Order.{◌≤ℚ◌}
-use Rattle.nf_model.specs.Curve.{Point, value}
-use Rattle.nf_check.proofs.Known.{never_negative}
+use Rattle.std.proofs.Common.{ap, ◌∙◌}
+use Rattle.nf_model.specs.Network.{Link}
+use Rattle.nf_check.proofs.Known.{never_negative, label_known}
 use Rattle.nf_check.proofs.arrivals.exit_along.Goals as goal
 
 pub compose-requires-clause-inner : goal.compose-requires-clause-inner
-compose-requires-clause-inner c =
-    λ time w. subst (λ (l : List Point). 0ℚ ≤ℚ value l time) (sym c.curve_at-label.ensures)
-    (never_negative _ (c.requires.worked.labels c.link.result.tail (c.link.ensures.named.network.tails c.args.link c.link.result c.link.ensures.link)) time w.0)
+compose-requires-clause-inner c = λ time w. never_negative c.curve_at-label.result.now.points
+    (label_known c.args.worked.now _ _ c.link.result.tail c.curve_at-label.result.now.points
+    (c.requires.worked.labels c.link.result.tail (c.link.ensures.named.network.tails c.args.link c.link.result c.link.ensures.link))
+    c.deref-2.ensures.value (c.index.ensures ∙ ap (λ (l : Link). l.tail) c.tail.view_is) c.curve_at-label.ensures) time w.0

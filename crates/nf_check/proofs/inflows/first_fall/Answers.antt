@@ -15,5 +15,5 @@ loop-i-preserved c =
 pub returns : goal.returns
 returns c =
     let some : 0 < c.loop-i.i = omega arith in
-    let past : length c.args.curve.now.points ≤ c.loop-i.i = omega (arith, c.len.ensures) in
+    let past : length c.args.curve.now.points ≤ c.loop-i.i = omega (arith, c.len-i-end.ensures.count) in
     sym (no_fall c.args.curve.now.points c.loop-i.i some c.loop-i.invariant past)
