@@ -1,7 +1,8 @@
 -- Stretches of departures, one after the other.
 use Rattle.std.proofs.Common.{◌≡◌, ℕ, zero, suc, ◌+◌, ◌-◌, ◌<◌, ◌≤◌, List, [], ◌∷◌, length, drop, Option, Some, None, slice_get, refl, sym, ap, subst, ◌∙◌, arith}
-use Rattle.std.specs.Prelude.{Result, Ok, Err, pos, SomeIff, unwrap_or}
-use Rattle.nf_rational.specs.Rational.{ℚ}
+use Rattle.std.specs.Prelude.{Result, Ok, Err, pos, nat_abs, SomeIff, unwrap_or}
+use Rattle.nf_rational.specs.Gcd.{gcd}
+use Rattle.nf_rational.specs.Rational.{ℚ, ratio}
 use Rattle.nf_rational.specs.Operations.{0ℚ, whole, ◌+ℚ◌, ◌*ℚ◌, ◌/ℚ◌}
 use Rattle.nf_rational.specs.Order.{◌≤ℚ◌}
 use Rattle.nf_rational_laws.proofs.Polynomial.{reading_of}
@@ -124,8 +125,12 @@ two_by_one = times_one (whole (pos 2) /ℚ whole (pos 1)) (/ℚ-times (whole (po
     times_one q e = linear_eq (q ∷ []) (eq e ∷ []) (search reading_of depth 12) tt tt
 
 two_within : IsWithin (bound_of 127) (whole (pos 2))
-unfolding whole
-two_within = record { small = omega arith; small_den = omega arith }
+unfolding whole ratio gcd
+two_within =
+    let n : nat_abs (whole (pos 2)).num ≡ 2 = refl in
+    let d : (whole (pos 2)).den ≡ 1 = refl in
+    let b : bound_of 127 ≡ 170141183460469231731687303715884105727 = refl in
+    record { small = omega (arith, n, b); small_den = omega (arith, d, b) }
 
 pub two_made : (o : Option ℚ) (one : ℚ) → SomeIff o (IsMade (bound_of 127) (pos 2) (pos 1)) (whole (pos 2) /ℚ whole (pos 1)) → unwrap_or o one ≡ whole (pos 2)
 two_made None one w = absurd (w (record { some = λ e. absurd (cc); fits = subst (λ (q : ℚ). IsWithin (bound_of 127) q) (sym two_by_one) two_within }))

@@ -16,25 +16,25 @@ returns-in_err-sides c =
     let some : 0 < c.loop-i.i = omega arith in
     let inside : c.loop-i.i - 1 < length c.args.times.now = omega arith in
     let a : slice_get c.args.times.now (c.loop-i.i - 1) ≡ Some c.index-times-i.result = slice_get_read c.args.times.now _ (c.loop-i.i - 1) c.index-times-i.result refl inside c.index-times-i.is in
-    let b : slice_get c.args.times.now c.loop-i.i ≡ Some c.index-times-i-2.result = slice_get_read c.args.times.now _ c.loop-i.i c.index-times-i-2.result refl c.loop-i-test.true c.index-times-i-2.is in
-    rw (p.1, p.2) (sym (stretch_stops passes_Q c.args.sent.now.taken.points c.args.sent.now.exits.points c.args.sent.now.labels.points c.args.times.now c.loop-i.i some c.loop-i.invariant.left c.index-times-i.result c.index-times-i-2.result a b c.in_err-sides.field-0.0 (sym c.in_err-sides.ensures)))
+    let b : slice_get c.args.times.now c.loop-i.i ≡ Some c.index-times-i-in-loop-i.result = slice_get_read c.args.times.now _ c.loop-i.i c.index-times-i-in-loop-i.result refl c.loop-i-test.true c.index-times-i-in-loop-i.is in
+    rw (p.1, p.2) (sym (stretch_stops passes_Q c.args.sent.now.taken.points c.args.sent.now.exits.points c.args.sent.now.labels.points c.args.times.now c.loop-i.i some c.loop-i.invariant.left c.index-times-i.result c.index-times-i-in-loop-i.result a b c.in_err-sides.field-0.0 (sym c.in_err-sides.ensures)))
 
 pub returns-in-Some : goal.returns-in-Some
 returns-in-Some c =
     let some : 0 < c.loop-i.i = omega arith in
     let inside : c.loop-i.i - 1 < length c.args.times.now = omega arith in
     let a : slice_get c.args.times.now (c.loop-i.i - 1) ≡ Some c.index-times-i.result = slice_get_read c.args.times.now _ (c.loop-i.i - 1) c.index-times-i.result refl inside c.index-times-i.is in
-    let b : slice_get c.args.times.now c.loop-i.i ≡ Some c.index-times-i-2.result = slice_get_read c.args.times.now _ c.loop-i.i c.index-times-i-2.result refl c.loop-i-test.true c.index-times-i-2.is in
-    sym (stretch_found passes_Q c.args.sent.now.taken.points c.args.sent.now.exits.points c.args.sent.now.labels.points c.args.times.now c.loop-i.i some c.loop-i.invariant.left c.index-times-i.result c.index-times-i-2.result a b (difference_of c.in-Some.sides) (sym c.in_ok-sides.ensures ∙ ap (λ (o : Option Difference). Ok (option_map difference_of o)) c.in-Some.is))
+    let b : slice_get c.args.times.now c.loop-i.i ≡ Some c.index-times-i-in-loop-i.result = slice_get_read c.args.times.now _ c.loop-i.i c.index-times-i-in-loop-i.result refl c.loop-i-test.true c.index-times-i-in-loop-i.is in
+    sym (stretch_found passes_Q c.args.sent.now.taken.points c.args.sent.now.exits.points c.args.sent.now.labels.points c.args.times.now c.loop-i.i some c.loop-i.invariant.left c.index-times-i.result c.index-times-i-in-loop-i.result a b (difference_of c.in-Some.sides) (sym c.in_ok-sides.ensures ∙ ap (λ (o : Option Difference). Ok (option_map difference_of o)) c.in-Some.is))
 
 pub loop-i-preserved : goal.loop-i-preserved
 loop-i-preserved c =
     let some : 0 < c.loop-i.i = omega arith in
     let inside : c.loop-i.i - 1 < length c.args.times.now = omega arith in
     let a : slice_get c.args.times.now (c.loop-i.i - 1) ≡ Some c.index-times-i.result = slice_get_read c.args.times.now _ (c.loop-i.i - 1) c.index-times-i.result refl inside c.index-times-i.is in
-    let b : slice_get c.args.times.now c.loop-i.i ≡ Some c.index-times-i-2.result = slice_get_read c.args.times.now _ c.loop-i.i c.index-times-i-2.result refl c.loop-i-test.true c.index-times-i-2.is in
+    let b : slice_get c.args.times.now c.loop-i.i ≡ Some c.index-times-i-in-loop-i.result = slice_get_read c.args.times.now _ c.loop-i.i c.index-times-i-in-loop-i.result refl c.loop-i-test.true c.index-times-i-in-loop-i.is in
     record {
-      left = stretch_goes passes_Q c.args.sent.now.taken.points c.args.sent.now.exits.points c.args.sent.now.labels.points c.args.times.now c.loop-i.i some c.loop-i.invariant.left c.index-times-i.result c.index-times-i-2.result a b (sym c.in_ok-sides.ensures ∙ ap (λ (o : Option Difference). Ok (option_map difference_of o)) c.in_default.is);
+      left = stretch_goes passes_Q c.args.sent.now.taken.points c.args.sent.now.exits.points c.args.sent.now.labels.points c.args.times.now c.loop-i.i some c.loop-i.invariant.left c.index-times-i.result c.index-times-i-in-loop-i.result a b (sym c.in_ok-sides.ensures ∙ ap (λ (o : Option Difference). Ok (option_map difference_of o)) c.in_default.is);
       within = c.places_near-there.ensures.within;
     }
 
