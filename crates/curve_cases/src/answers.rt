@@ -65,6 +65,7 @@ pub fn answer_to(alloc: Global, line: &str) -> Result<Answer, Fault> {
         fields.push(field)?;
     }
     match (call, fields.as_slice()) {
+        ("points", [points]) => Ok(Answer::Curve(curve(alloc, points)?)),
         ("value", [points, at]) => value(alloc, points, at),
         ("sum", [left, right]) => sum(alloc, left, right),
         ("least", [left, right]) => least(alloc, left, right),

@@ -1,5 +1,6 @@
 //! Calls over curves on many cases. Each line of the input is a case, and its answer is a line of the output:
 //!
+//!     points CURVE                       the points, one after the other
 //!     value CURVE | TIME                 the value at the time
 //!     sum LEFT | RIGHT                   the points of the sum
 //!     least LEFT | RIGHT                 the points of the lesser one at every time

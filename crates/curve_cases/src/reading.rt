@@ -92,6 +92,7 @@ pub fn curve(alloc: Global, words: &str) -> Result<Curve, Fault> {
         return Err(Fault::NoCase);
     }
     let mut curve = Curve::start(alloc, numbers[1])?;
+    curve.reserve(numbers.len() / 2)?;
     for i in 1..numbers.len() / 2 {
         push_later(&mut curve, numbers[2 * i], numbers[2 * i + 1])?;
     }

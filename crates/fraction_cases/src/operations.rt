@@ -25,6 +25,7 @@ pub fn word(op: Op) -> &'static str {
 }
 
 // What is asked for: an operation and its operands.
+#[derive(Drop)]
 struct Question<const BITS: u32> {
     op: Op,
     left: Frac<BITS>,

@@ -14,7 +14,7 @@ use Rattle.nf_pattern.proofs.Trails.{trail_by}
 use Rattle.nf_pattern.proofs.Choosing.{pattern_of, same_front_at}
 
 -- a cycle among the first links is there in each pattern that is the same up to there
-closes_same : (hops : List Hop) (p r : Pattern) (n e : ℕ) → e < n → take n r ≡ take n p → Closes hops p e → Closes hops r e
+pub closes_same : (hops : List Hop) (p r : Pattern) (n e : ℕ) → e < n → take n r ≡ take n p → Closes hops p e → Closes hops r e
 closes_same hops p r n e less same closes = (
   same_front_at n e r p less same ∙ closes.0,
   record {

@@ -51,7 +51,7 @@ decide_one P Q (inl p) d = inl (inl p)
 decide_one P Q (inr n) (inl q) = inl (inr q)
 decide_one P Q (inr n) (inr m) = inr (λ w. ⊎_elim n m w)
 
-decide_same : (m n : ℕ) → Decided (m ≡ n)
+pub decide_same : (m n : ℕ) → Decided (m ≡ n)
 decide_same m n = ⊎_elim (λ (w : (eqb m n ≡ true) × (m ≡ n)). inl w.1) (λ (w : (eqb m n ≡ false) × (m ≢ n)). inr (λ e. w.1 e)) (eqb_tells m n)
 
 decide_flag : (flags : List Bool) (e : ℕ) → Decided (Has flags e)
@@ -72,24 +72,24 @@ decide_entry (Some Zero) Tight = inr (λ h. cc)
 decide_entry (Some Zero) Full = inr (λ h. cc)
 decide_entry (Some Zero) Zero = inl refl
 
-decide_state : (p : Pattern) (e : ℕ) (state : State) → Decided (HasState p e state)
+pub decide_state : (p : Pattern) (e : ℕ) (state : State) → Decided (HasState p e state)
 decide_state [] e state = inr (λ h. none-some (Some state) h)
 decide_state (s ∷ p) zero state = ⊎_elim (λ (same : s ≡ Some state). inl (ap (λ (x : Option State). Some x) same)) (λ (other : s ≡ Some state → ⊥). inr (λ h. other (same_Some s (Some state) h))) (decide_entry s state)
 decide_state (s ∷ p) (suc e) state = decide_state p e state
 
 -- the hop at a place
-hop_at : (hops : List Hop) (e : ℕ) → ((hop : Hop) × IsHop hops e hop) ⊎ ((hop : Hop) → IsHop hops e hop → ⊥)
+pub hop_at : (hops : List Hop) (e : ℕ) → ((hop : Hop) × IsHop hops e hop) ⊎ ((hop : Hop) → IsHop hops e hop → ⊥)
 hop_at [] e = inr (λ hop h. none-some hop h)
 hop_at (x ∷ hops) zero = inl (x, refl)
 hop_at (x ∷ hops) (suc e) = hop_at hops e
 
 -- ---- whether Tight links lead from one node to another: with one link more, also by this link
 module _ (hops : List Hop) (p : Pattern) where
-  abbrev Joined : ℕ → ℕ → ℕ → Type 0
+  abbrev pub Joined : ℕ → ℕ → ℕ → Type 0
   Joined n v w = AreJoined hops (TightBefore p n) v w
 
   -- over link n, forward or backward
-  abbrev Over : ℕ → Hop → ℕ → ℕ → Type 0
+  abbrev pub Over : ℕ → Hop → ℕ → ℕ → Type 0
   Over n hop v w = (Joined n v hop.tail × Joined n hop.head w) ⊎ (Joined n v hop.head × Joined n hop.tail w)
 
   wider : (n : ℕ) (s : Steps) (v w : ℕ) → IsTrail hops (TightBefore p n) s v w → IsTrail hops (TightBefore p (suc n)) s v w
@@ -112,7 +112,7 @@ module _ (hops : List Hop) (p : Pattern) where
       let first = wider n x.0.0 v hop.head x.0.1 in let last = wider n x.1.0 hop.tail w x.1.1 in
       (x.0.0 ++ (n, false) ∷ x.1.0, trail_append hops (TightBefore p (suc n)) x.0.0 ((n, false) ∷ x.1.0) v hop.head w first (hop, is, (omega arith, tight), refl, last))
 
-  joins_over : (n : ℕ) (v w : ℕ) → Joined (suc n) v w → Joined n v w ⊎ ((hop : Hop) × IsHop hops n hop × HasState p n Tight × Over n hop v w)
+  pub joins_over : (n : ℕ) (v w : ℕ) → Joined (suc n) v w → Joined n v w ⊎ ((hop : Hop) × IsHop hops n hop × HasState p n Tight × Over n hop v w)
   joins_over n v w joined =
       let short = shorten hops (TightBefore p (suc n)) joined.0 v w joined.1 in
       ⊎_elim
@@ -151,7 +151,7 @@ module _ (hops : List Hop) (p : Pattern) where
       (decide_both (Joined n v h.0.tail) (Joined n h.0.head w) (each v h.0.tail) (each h.0.head w))
       (decide_both (Joined n v h.0.head) (Joined n h.0.tail w) (each v h.0.head) (each h.0.tail w)))
 
-  decide_joined : (n v w : ℕ) → Decided (Joined n v w)
+  pub decide_joined : (n v w : ℕ) → Decided (Joined n v w)
   decide_joined zero v w = ⊎_elim (λ (e : v ≡ w). inl ([], e)) (λ (other : v ≡ w → ⊥). inr (λ j. no_steps j.0 v w j.1 other)) (decide_same v w)
   decide_joined (suc n) v w = decide_more n (λ a b. decide_joined n a b) v w (decide_joined n v w) (hop_at hops n) (decide_state p n Tight)
 
@@ -164,7 +164,7 @@ module _ (hops : List Hop) (p : Pattern) where
       (λ (none : (hop : Hop) → IsHop hops e hop → ⊥). inr (λ b. none b.hop b.is_hop))
       (hop_at hops e)
 
-  decide_closes : (e : ℕ) → Decided (Closes hops p e)
+  pub decide_closes : (e : ℕ) → Decided (Closes hops p e)
   decide_closes e = decide_both (HasState p e Tight) (LeadsBack hops p e) (decide_state p e Tight) (decide_back e)
 
   -- ---- and whether a link enters a node

@@ -6,7 +6,7 @@ use Rattle.nf_model.specs.Walk.{Hop, IsHop}
 use Rattle.nf_model.specs.Pattern.{Pattern}
 use Rattle.nf_graph.proofs.Walks.{IsHop-unique, IsHop-read}
 use Rattle.nf_pattern.specs.Entered.{MayCarry, EntersBy, EnteredBefore, LeadsTo, IsLastInto, AreLastInto, AreChained, CanCarry, IsEndBefore, AreEndsBefore, Strands, Keeps}
-use Rattle.nf_pattern.proofs.Roots.{set_same, set_other, tell}
+use Rattle.nf_pattern.proofs.Setting.{set_same, set_other, tell}
 use Rattle.nf_plain_laws.proofs.Naturals.{before_or_at}
 
 apart_or_same : (e k : ℕ) → (e < k) ⊎ ((k < e) ⊎ (e ≡ k))

@@ -9,8 +9,8 @@ pub mod Counting
 pub mod Quiet
 pub mod Trails
 pub mod Forests
-pub mod Roots
-pub mod Growing
+pub mod Setting
+pub mod Wall
 pub mod Following
 pub mod Entries
 pub mod Choosing
@@ -20,3 +20,7 @@ pub mod Seeking
 pub mod OnTrail
 pub mod Fronts
 pub mod Deciding
+pub mod Comes
+pub mod Steps
+pub mod Backing
+pub mod Holding

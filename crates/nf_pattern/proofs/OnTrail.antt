@@ -1,6 +1,6 @@
 -- What a trail says of a listing: whether its pattern is listed, or up to which link none is.
-use Rattle.std.proofs.Common.{◌≡◌, ◌≢◌, ℕ, zero, suc, ◌+◌, ◌<◌, ◌≤◌, ◌⊎◌, ⊎_elim, Bool, true, false, List, length, take, Some, refl, sym, ap, subst, ◌∙◌, arith}
-use Rattle.std.specs.Prelude.{slice_get, get_or}
+use Rattle.std.proofs.Common.{◌≡◌, ◌≢◌, ℕ, zero, suc, ◌+◌, ◌<◌, ◌≤◌, ◌⊎◌, ⊎_elim, Bool, true, false, List, length, take, Some, sym, ap, subst, ◌∙◌, arith}
+use Rattle.std.specs.Prelude.{slice_get, get_or, Result, Ok, Err, IfOk}
 use Rattle.std.proofs.lemmas.Option.{slice_get-get_or, slice_get_within}
 use Rattle.std.proofs.lemmas.List.{take-take}
 use Rattle.nf_model.specs.Walk.{Hop}
@@ -14,7 +14,7 @@ use Rattle.nf_pattern.specs.Given.{Question, IsQuestion, IsListedBy, IsBarren}
 use Rattle.nf_pattern.proofs.Choosing.{assigned_length}
 use Rattle.nf_pattern.proofs.Seeking.{valid}
 use Rattle.nf_pattern.proofs.Forests.{is_forest, closing_below}
-use Rattle.nf_pattern.proofs.Growing.{grown_clear, grown_same}
+use Rattle.nf_pattern.proofs.Holding.{holds_same, clear_same}
 use Rattle.nf_pattern.proofs.Barren.{may_carry_too, barren_cycle, barren_stranded, barren_lost, listed_by}
 
 -- ---- a pattern that is the same up to where the trail stands
@@ -25,9 +25,8 @@ module _ (hops : List Hop) (resetting : List Bool) (p r : Pattern) where
   pub follows_same : (source : ℕ) (trail : Trail) → take trail.depth r ≡ take trail.depth p → Follows source hops resetting p trail → Follows source hops resetting r trail
   follows_same source trail same follows = record {
     depth = follows.depth;
-    below = follows.below;
-    grown = grown_same (length trail.groups) hops p r trail.hung.items trail.hung.items trail.depth trail.groups follows.grown same (λ e less. refl);
-    hung = follows.hung;
+    tight = holds_same hops p r trail.depth same trail.tight.last.items trail.tight.tails.items trail.tight.heads.items follows.tight;
+    clear = clear_same hops p r trail.depth same follows.clear;
     chain = follows.chain;
     count_chain = follows.count_chain;
     count_ends = follows.count_ends;
@@ -79,8 +78,7 @@ module _ (question : Question) (is : IsQuestion question) (p : Pattern) (trail :
 
   pub listed_on : IsAssignment question.base question.unbounded p → trail.lost ≡ false → trail.depth ≡ length question.hops → IsListedBy question p
   listed_on assigned kept whole = listed_by question is p assigned
-      (is_forest question.hops p (λ e closes. grown_clear (length trail.groups) question.hops p trail.hung.items trail.depth trail.groups here.follows.grown e
-      (let l = closing_below question.hops p e closes in omega arith) closes))
+      (is_forest question.hops p (λ e closes. here.follows.clear e (let l = closing_below question.hops p e closes in omega arith) closes))
       (entered_all kept whole)
 
   fewer : (n : ℕ) → n ≤ length question.hops → n ≤ length question.base
@@ -113,6 +111,18 @@ module _ (q seen : Question) (same : q ≡ seen) (hops : List Hop) (resetting : 
   fails_seen p ends e fails = subst (λ (x : Question). (e < length x.hops) × (Strands x.source x.hops x.sets.resetting p ends e ⊎ Closes x.hops p e)) same
       (subst (λ (x : List Hop). (e < length x) × (Strands q.source x q.sets.resetting p ends e ⊎ Closes x p e)) is_hops
       (subst (λ (x : List Bool). (e < length hops) × (Strands q.source hops x p ends e ⊎ Closes hops p e)) is_resetting fails))
+
+  pub trail_seen : {E : Type 0} (base : Pattern) → base ≡ q.base → (result : Result Trail E) → IfOk result (λ trail. (p : Pattern) → Follows q.source hops resetting p trail)
+      → IfOk result (λ trail. length trail.tight.last.items ≡ q.nodes) → IfOk result (λ trail. AreEnds hops resetting base trail.ends.items)
+      → IfOk result (λ trail. IsLost q.source trail.ends.items trail.lost) → IfOk result (λ trail. IsTrailOf seen seen.base trail)
+  trail_seen base is_base (Err fault) follows nodes ends lost = tt
+  trail_seen base is_base (Ok trail) follows nodes ends lost = subst (λ (x : Question). IsTrailOf x x.base trail) same (record {
+    follows = subst (λ (x : List Hop). Follows q.source x q.sets.resetting q.base trail) is_hops (subst (λ (x : List Bool). Follows q.source hops x q.base trail) is_resetting (follows q.base));
+    nodes = nodes;
+    ends = subst (λ (x : List Hop). AreEnds x q.sets.resetting q.base trail.ends.items) is_hops
+        (subst (λ (x : List Bool). AreEnds hops x q.base trail.ends.items) is_resetting (subst (λ (x : Pattern). AreEnds hops resetting x trail.ends.items) is_base ends));
+    lost = lost;
+  })
 
   pub all_seen : length hops ≡ length seen.hops
   all_seen = ap length (is_hops ∙ ap (λ (x : Question). x.hops) same)

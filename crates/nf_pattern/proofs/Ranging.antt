@@ -1,6 +1,5 @@
 -- The order of patterns is total, and each step in it leaves fewer patterns behind.
-use Rattle.std.proofs.Common.{◌≡◌, ◌≢◌, ℕ, zero, suc, ◌+◌, ◌-◌, ◌<◌, ◌≤◌, [], ◌∷◌, length, inl, inr, ◌⊎◌, ⊎_elim, eqb, leb, true, false, Option, Some, None, refl, sym, ap, ◌∙◌, arith}
-use Rattle.std.proofs.lemmas.Bool.Decides.{eqb_tells, leb_tells}
+use Rattle.std.proofs.Common.{◌≡◌, ℕ, zero, suc, ◌+◌, ◌-◌, ◌<◌, ◌≤◌, [], ◌∷◌, length, inl, inr, ◌⊎◌, Option, Some, None, refl, sym, ap, ◌∙◌, arith}
 use Rattle.nf_model.specs.declared.State.{State}
 use Rattle.nf_model.specs.declared.State.TheVariants.{Tight, Full, Zero}
 use Rattle.nf_model.specs.Pattern.{Pattern, rank, changes, IsEarlier, IsBefore}

@@ -4,7 +4,7 @@ use Rattle.std.specs.Prelude.{MatchBool, true, false}
 use Rattle.nf_model.specs.Pattern.{Pattern, IsBefore}
 use Rattle.nf_lists_laws.proofs.Listings.{IsBefore-asymmetric, IsBefore-transitive}
 use Rattle.nf_pattern.specs.Successor.{IsAssignment, next_assignment}
-use Rattle.nf_pattern.specs.Given.{Question, IsQuestion, IsListedBy, IsBarren, IsFrom, IsFirstFrom, NoneFrom, AtStart, UpTo, IsNext, NoneLeft}
+use Rattle.nf_pattern.specs.Given.{Question, IsQuestion, IsListedBy, IsBarren, IsFrom, IsFirstFrom, NoneFrom, Last, AtStart, UpTo, IsNext, NoneLeft, Given, next_place}
 use Rattle.nf_pattern.specs.declared.question.Stand.TheVariants.{Start}
 use Rattle.nf_pattern.specs.declared.assignments.Quiet.{Quiet}
 use Rattle.nf_pattern.specs.declared.trail.Trail.{Trail}
@@ -157,3 +157,18 @@ standing_start question seen current trail quiet same is at on_trail all none =
       is_quiet = quiet_end question.base current quiet
           (all ∙ (ap (λ (x : Question). length x.hops) (sym same) ∙ sym (q.base.count ∙ q.active))) none;
     }
+
+-- ---- one pattern more is given
+abbrev given_up_to : Question → Pattern → ℕ → Given
+given_up_to question p place = record { question = question; last = UpTo p; place = place }
+
+pub gives_next : (question : Question) (last : Last) (place : ℕ) (seen : Given) → ◌≡◌ {A = Given} (record { question = question; last = last; place = place }) seen → (p now : Pattern) (after : ℕ)
+    → IsNext question last p → now ≡ p → after ≡ next_place place → (x : Pattern) × (IsNext seen.question seen.last x × (given_up_to question now after ≡ given_up_to seen.question x (next_place seen.place)))
+gives_next question last place seen same p now after next is count = (
+  p,
+  (
+    subst (λ (g : Given). IsNext g.question g.last p) same next,
+    ap (λ (x : Pattern). given_up_to question x after) is
+        ∙ (ap (λ (n : ℕ). given_up_to question p n) count ∙ ap (λ (g : Given). given_up_to g.question p (next_place g.place)) same),
+  ),
+)

@@ -130,3 +130,16 @@ module _ (hops : List Hop) where
       again A e d x.1 v w p.0 x.2 p.1 p.2 p.3 differ.0 differ.1 (subst (λ (h : Hop). IsTrail hops A x.2 (end_of x.1 h) w) (IsHop-unique hops e parts.0 p.0 parts.1 p.1) parts.4))
       (λ (none : Contains (numbers rest.0) e → ⊥). ((e, d) ∷ rest.0, (none, rest.1), (p.0, p.1, p.2, p.3, rest.2)))
       (find_step e rest.0)
+
+  -- ---- nodes that allowed hops join
+  pub joined_on : (A : ℕ → Type 0) (v w x : ℕ) → AreJoined hops A v w → AreJoined hops A w x → AreJoined hops A v x
+  joined_on A v w x p q = (p.0 ++ q.0, trail_append A p.0 q.0 v w x p.1 q.1)
+
+  pub joined_by : (A B : ℕ → Type 0) (v w : ℕ) → ((k : ℕ) → A k → B k) → AreJoined hops A v w → AreJoined hops B v w
+  joined_by A B v w by p = (p.0, trail_by A B p.0 v w (λ k c a. by k a) p.1)
+
+  pub joined_turned : (A : ℕ → Type 0) (v w : ℕ) → AreJoined hops A v w → AreJoined hops A w v
+  joined_turned A v w p = joined_back A p.0 v w p.1
+
+  pub joined_along : (A : ℕ → Type 0) (e : ℕ) (hop : Hop) → IsHop hops e hop → A e → AreJoined hops A hop.tail hop.head
+  joined_along A e hop is allowed = ((e, true) ∷ [], (hop, is, allowed, refl, refl))

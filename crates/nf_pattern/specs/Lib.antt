@@ -1,7 +1,7 @@
 pub mod Base
 pub mod Successor
 pub mod Forest
-pub mod Groups
+pub mod Walking
 pub mod Entered
 pub mod Given
 pub mod Trail

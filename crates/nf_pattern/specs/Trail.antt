@@ -2,8 +2,8 @@
 use Rattle.std.specs.Prelude.{◌≡◌, ◌≢◌, ℕ, suc, ◌<◌, ◌≤◌, Bool, List, length, Some, slice_get}
 use Rattle.nf_model.specs.Walk.{Hop}
 use Rattle.nf_model.specs.Pattern.{Pattern}
-use Rattle.nf_graph.specs.Graph.{AreBelow}
-use Rattle.nf_pattern.specs.Groups.{AreGrown}
+use Rattle.nf_pattern.specs.Forest.{NoneCloses}
+use Rattle.nf_pattern.specs.Walking.{Holds}
 use Rattle.nf_pattern.specs.Entered.{EnteredBefore, AreChained, LeadsTo, AreEnds, IsLost}
 use Rattle.nf_pattern.specs.Given.{Question}
 use Rattle.nf_pattern.specs.declared.trail.Trail.{Trail}
@@ -12,19 +12,18 @@ use Rattle.nf_pattern.specs.declared.trail.Trail.{Trail}
 -- entered that no later link can enter, unless no link can from the start on. The last one that can enter a node leads to it.
 pub record Follows (source : ℕ) (hops : List Hop) (resetting : List Bool) (pattern : Pattern) (trail : Trail) : Type 0 where
   pub depth : trail.depth ≤ length hops
-  pub below : AreBelow (length trail.groups) hops
-  pub grown : AreGrown (length trail.groups) hops pattern trail.hung.items trail.depth trail.groups
-  pub hung : length trail.hung.items ≡ length hops
+  pub tight : Holds hops pattern trail.depth trail.tight
+  pub clear : NoneCloses hops pattern trail.depth
   pub chain : AreChained hops trail.chain.items
   pub count_chain : length trail.chain.items ≡ length hops
-  pub count_ends : length trail.ends.items ≡ length trail.groups
+  pub count_ends : length trail.ends.items ≡ length trail.tight.last.items
   pub entered : (v n : ℕ) → v ≢ source → slice_get trail.ends.items v ≡ Some n → 0 < n → n ≤ trail.depth → EnteredBefore hops resetting pattern n v
   pub last : (v e : ℕ) → slice_get trail.ends.items v ≡ Some (suc e) → LeadsTo hops e v
 
 -- the trail stands at a link of the pattern, in a listing's question
 pub record IsTrailOf (question : Question) (pattern : Pattern) (trail : Trail) : Type 0 where
   pub follows : Follows question.source question.hops question.sets.resetting pattern trail
-  pub nodes : length trail.groups ≡ question.nodes
+  pub nodes : length trail.tight.last.items ≡ question.nodes
   pub ends : AreEnds question.hops question.sets.resetting question.base trail.ends.items
   pub lost : IsLost question.source trail.ends.items trail.lost
 
@@ -34,6 +33,6 @@ IsLeft hops trail = (source : ℕ) × (resetting : List Bool) × (pattern : Patt
 
 -- what a trail keeps on its way
 pub record IsOnWay (before after : Trail) : Type 0 where
-  pub nodes : length after.groups ≡ length before.groups
+  pub nodes : length after.tight.last.items ≡ length before.tight.last.items
   pub ends : after.ends ≡ before.ends
   pub lost : after.lost ≡ before.lost

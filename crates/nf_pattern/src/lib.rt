@@ -6,13 +6,12 @@ mod assignments;
 mod bases;
 mod choice;
 mod entered;
-mod groups;
-mod joining;
 mod laws;
 mod pattern;
 mod patterns;
 mod question;
 mod trail;
+mod walking;
 
 pub use bases::base;
 pub use laws::{given_are_fronts, questions_have_listings};

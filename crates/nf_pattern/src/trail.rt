@@ -1,19 +1,17 @@
 // A trail along the links: how far the states of a pattern were looked at. It goes on from what two patterns have in common.
 use crate::entered::{chain, ends, is_lost, strands};
-use crate::groups::Groups;
-use crate::joining::{join_by, part_by};
+use crate::walking::TightLinks;
 use nf_graph::{Hop, LinkId, NodeId};
 use nf_model::State;
 use std::alloc::{AllocError, Global};
 
-// The links before number `depth` were looked at: which groups of nodes their Tight ones join, and which node hangs since each of
-// them. Of each link it is known which one before it is the last to lead to the same node, of each node behind which link no
-// later one can enter it, and whether none can enter some node.
+// The links before number `depth` were looked at, and the Tight ones among them can be walked along. Of each link it is known which
+// one before it is the last to lead to the same node, of each node behind which link no later one can enter it, and whether none can
+// enter some node.
 #[derive(Drop, Debug)]
 pub(crate) struct Trail {
     depth: usize,
-    groups: Groups,
-    hung: Vec<Option<NodeId>>,
+    tight: TightLinks,
     chain: Vec<Option<LinkId>>,
     ends: Vec<usize>,
     lost: bool,
@@ -41,19 +39,17 @@ impl Trail {
         requires base { length base.now ≡ length hops.now }
         requires resetting { length resetting.now ≡ length hops.now }
         ensures follows { IfOk result (λ trail. (p : SeenPattern) → Follows source hops.now resetting.now p trail) }
-        ensures nodes { IfOk result (λ trail. length trail.groups ≡ nodes) }
+        ensures nodes { IfOk result (λ trail. length trail.tight.last.items ≡ nodes) }
         ensures ends { IfOk result (λ trail. AreEnds hops.now resetting.now base.now trail.ends.items) }
         ensures lost { IfOk result (λ trail. IsLost source trail.ends.items trail.lost) }
     {
-        let groups = Groups::alone(alloc, nodes)?;
-        let hung = vec![in alloc; None; hops.len()]?;
+        let tight = TightLinks::none(alloc, nodes, hops)?;
         let chain = chain(alloc, nodes, hops)?;
         let ends = ends(alloc, nodes, hops, base, resetting)?;
         let lost = is_lost(&ends, source);
         Ok(Trail {
             depth: 0,
-            groups,
-            hung,
+            tight,
             chain,
             ends,
             lost,
@@ -104,7 +100,7 @@ impl Trail {
         ) {
             return false;
         }
-        if !join_by(hops, states, link, &mut self.groups, &mut self.hung) {
+        if !self.tight.enter(hops, states, link) {
             return false;
         }
         self.depth += 1;
@@ -147,7 +143,7 @@ impl Trail {
     {
         self.depth -= 1;
         let link = LinkId(self.depth as u32);
-        part_by(link, &mut self.groups, &self.hung);
+        self.tight.take_back(hops, link);
     }
 
     // Back until no link from this one on is left.

@@ -1,3 +1,3 @@
 pub mod Parts
 pub mod Written
-pub mod Joining
+pub mod Gathering

@@ -6,10 +6,12 @@ ghost use Rattle.nf_numerals.specs.Printed.{printed};
 ghost use Rattle.nf_formats.specs.Causes.{part_word, op_word, cause_words, passed_words};
 ghost use Rattle.nf_formats.specs.Report.{state_word, state_line};
 ghost use Rattle.nf_report.specs.Written.{WroteLines};
+ghost use Rattle.nf_report.specs.Pages.{GatheredLines};
 
-use crate::line::write_line;
+use crate::line::put_line;
+use crate::pages::Page;
 use nf_curve::Stop;
-use nf_edge::{Sink, SinkFault};
+use nf_edge::{Sink, SinkFault, write_text};
 use nf_frac::{Op, Part, PassedAt, Q, TextBuf};
 use nf_model::State;
 use nf_numerals::write_count;
@@ -52,39 +54,57 @@ fn state_text(state: State) -> &'static [u8]
 }
 
 /// The line of a number.
-pub(crate) fn write_number<O: Sink>(out: &mut O, key: &[u8], number: Q) -> Result<(), SinkFault>
-    ensures { WroteLines (O.took out.old) (O.took out.new) (O.faults out.old) (O.faults out.new)
+pub(crate) fn put_number<O: Sink>(
+    out: &mut O,
+    page: &mut Page,
+    key: &[u8],
+    number: Q,
+) -> Result<(), SinkFault>
+    ensures { GatheredLines (O.took out.old) (O.took out.new) (O.faults out.old) (O.faults out.new) page.old.items page.new.items
         ((key.now ∷ printed number ∷ []) ∷ []) result }
 {
     let mut text = TextBuf::new();
     number.write(&mut text);
-    write_line(out, key, &[text.text()])
+    put_line(out, page, key, &[text.text()])
 }
 
 // A cause with one count.
-fn write_counted<O: Sink>(out: &mut O, key: &[u8], word: &[u8], count: u64) -> Result<(), SinkFault>
-    ensures { WroteLines (O.took out.old) (O.took out.new) (O.faults out.old) (O.faults out.new)
+fn put_counted<O: Sink>(
+    out: &mut O,
+    page: &mut Page,
+    key: &[u8],
+    word: &[u8],
+    count: u64,
+) -> Result<(), SinkFault>
+    ensures { GatheredLines (O.took out.old) (O.took out.new) (O.faults out.old) (O.faults out.new) page.old.items page.new.items
         ((key.now ∷ word.now ∷ digits_of count ∷ []) ∷ []) result }
 {
     let mut text = TextBuf::new();
     write_count(count, &mut text);
-    write_line(out, key, &[word, text.text()])
+    put_line(out, page, key, &[word, text.text()])
 }
 
-fn write_patterns<O: Sink>(out: &mut O, key: &[u8], phase: u64, tried: u64) -> Result<(), SinkFault>
-    ensures { WroteLines (O.took out.old) (O.took out.new) (O.faults out.old) (O.faults out.new)
+fn put_patterns<O: Sink>(
+    out: &mut O,
+    page: &mut Page,
+    key: &[u8],
+    phase: u64,
+    tried: u64,
+) -> Result<(), SinkFault>
+    ensures { GatheredLines (O.took out.old) (O.took out.new) (O.faults out.old) (O.faults out.new) page.old.items page.new.items
         ((key.now ∷ codes "patterns" ∷ digits_of phase ∷ digits_of tried ∷ []) ∷ []) result }
 {
     let mut first = TextBuf::new();
     let mut second = TextBuf::new();
     write_count(phase, &mut first);
     write_count(tried, &mut second);
-    write_line(out, key, &[b"patterns", first.text(), second.text()])
+    put_line(out, page, key, &[b"patterns", first.text(), second.text()])
 }
 
 // An operation that passes: the words for its phase, part, place and operation, and then its operands.
-fn write_operation<'w, O: Sink>(
+fn put_operation<'w, O: Sink>(
     out: &mut O,
+    page: &mut Page,
     key: &[u8],
     phase: &'w [u8],
     part: &'w [u8],
@@ -92,7 +112,7 @@ fn write_operation<'w, O: Sink>(
     op: &'w [u8],
     at: &PassedAt<Q>,
 ) -> Result<(), SinkFault>
-    ensures { WroteLines (O.took out.old) (O.took out.new) (O.faults out.old) (O.faults out.new)
+    ensures { GatheredLines (O.took out.old) (O.took out.new) (O.faults out.old) (O.faults out.new) page.old.items page.new.items
         ((key.now ∷ codes "passed" ∷ phase.now ∷ part.now ∷ place.now ∷ op.now
         ∷ printed at.now.left ∷ printed at.now.right ∷ []) ∷ []) result }
 {
@@ -100,28 +120,31 @@ fn write_operation<'w, O: Sink>(
     let mut right = TextBuf::new();
     at.left.write(&mut left);
     at.right.write(&mut right);
-    write_line(
+    put_line(
         out,
+        page,
         key,
         &[b"passed", phase, part, place, op, left.text(), right.text()],
     )
 }
 
-fn write_passed<O: Sink>(
+fn put_passed<O: Sink>(
     out: &mut O,
+    page: &mut Page,
     key: &[u8],
     phase: u64,
     place: Option<u64>,
     at: &PassedAt<Q>,
 ) -> Result<(), SinkFault>
-    ensures { WroteLines (O.took out.old) (O.took out.new) (O.faults out.old) (O.faults out.new)
+    ensures { GatheredLines (O.took out.old) (O.took out.new) (O.faults out.old) (O.faults out.new) page.old.items page.new.items
         ((key.now ∷ passed_words (Some phase) place at.now) ∷ []) result }
 {
     let mut phase_word = TextBuf::new();
     write_count(phase, &mut phase_word);
     match place {
-        None => write_operation(
+        None => put_operation(
             out,
+            page,
             key,
             phase_word.text(),
             part_text(at.part),
@@ -132,8 +155,9 @@ fn write_passed<O: Sink>(
         Some(place) => {
             let mut place_word = TextBuf::new();
             write_count(place, &mut place_word);
-            write_operation(
+            put_operation(
                 out,
+                page,
                 key,
                 phase_word.text(),
                 part_text(at.part),
@@ -155,7 +179,24 @@ pub fn write_passed_call<O: Sink>(
     ensures { WroteLines (O.took out.old) (O.took out.new) (O.faults out.old) (O.faults out.new)
         ((key.now ∷ passed_words None None at.now) ∷ []) result }
 {
-    write_operation(out, key, b"-", part_text(at.part), b"-", op_text(at.op), at)
+    let mut page = Page::new();
+    let part = part_text(at.part);
+    let op = op_text(at.op);
+    put_operation(out, &mut page, key, b"-", part, b"-", op, at)?;
+    write_text(out, page.as_slice())
+}
+
+// The line that says why a run stopped, behind a first word.
+fn put_stop<O: Sink>(out: &mut O, page: &mut Page, key: &[u8], stop: &Stop) -> Result<(), SinkFault>
+    ensures { GatheredLines (O.took out.old) (O.took out.new) (O.faults out.old) (O.faults out.new) page.old.items page.new.items
+        ((key.now ∷ cause_words (Some stop.now)) ∷ []) result }
+{
+    match stop {
+        Stop::Phases { made } => put_counted(out, page, key, b"phases", *made),
+        Stop::Patterns { phase, tried } => put_patterns(out, page, key, *phase, *tried),
+        Stop::Passed { phase, place, at } => put_passed(out, page, key, *phase, *place, at),
+        Stop::NoPattern { phase } => put_counted(out, page, key, b"nopattern", *phase),
+    }
 }
 
 /// Writes the line that says why a run stopped, behind a first word. Where the sink fails, it has taken the first bytes. It takes no
@@ -164,44 +205,51 @@ pub fn write_stop<O: Sink>(out: &mut O, key: &[u8], stop: &Stop) -> Result<(), S
     ensures { WroteLines (O.took out.old) (O.took out.new) (O.faults out.old) (O.faults out.new)
         ((key.now ∷ cause_words (Some stop.now)) ∷ []) result }
 {
-    match stop {
-        Stop::Phases { made } => write_counted(out, key, b"phases", *made),
-        Stop::Patterns { phase, tried } => write_patterns(out, key, *phase, *tried),
-        Stop::Passed { phase, place, at } => write_passed(out, key, *phase, *place, at),
-        Stop::NoPattern { phase } => write_counted(out, key, b"nopattern", *phase),
-    }
+    let mut page = Page::new();
+    put_stop(out, &mut page, key, stop)?;
+    write_text(out, page.as_slice())
 }
 
 /// The line of the cause: `done` where there is no stop.
-pub(crate) fn write_cause<O: Sink>(out: &mut O, stop: Option<&Stop>) -> Result<(), SinkFault>
-    ensures { WroteLines (O.took out.old) (O.took out.new) (O.faults out.old) (O.faults out.new)
+pub(crate) fn put_cause<O: Sink>(
+    out: &mut O,
+    page: &mut Page,
+    stop: Option<&Stop>,
+) -> Result<(), SinkFault>
+    ensures { GatheredLines (O.took out.old) (O.took out.new) (O.faults out.old) (O.faults out.new) page.old.items page.new.items
         ((codes "cause" ∷ cause_words (option_copied stop.entry)) ∷ []) result }
 {
     match stop {
-        None => write_line(out, b"cause", &[b"done"]),
-        Some(stop) => write_stop(out, b"cause", stop),
+        None => put_line(out, page, b"cause", &[b"done"]),
+        Some(stop) => put_stop(out, page, b"cause", stop),
     }
 }
 
 // The line of a link's state.
-fn write_named_state<O: Sink>(out: &mut O, name: &[u8], word: &[u8]) -> Result<(), SinkFault>
-    ensures { WroteLines (O.took out.old) (O.took out.new) (O.faults out.old) (O.faults out.new)
+fn put_named_state<O: Sink>(
+    out: &mut O,
+    page: &mut Page,
+    name: &[u8],
+    word: &[u8],
+) -> Result<(), SinkFault>
+    ensures { GatheredLines (O.took out.old) (O.took out.new) (O.faults out.old) (O.faults out.new) page.old.items page.new.items
         ((codes "state" ∷ name.now ∷ word.now ∷ []) ∷ []) result }
 {
-    write_line(out, b"state", &[name, word])
+    put_line(out, page, b"state", &[name, word])
 }
 
 /// The line of a link's state, where it has one.
-pub(crate) fn write_state<O: Sink>(
+pub(crate) fn put_state<O: Sink>(
     out: &mut O,
+    page: &mut Page,
     name: &[u8],
     state: Option<State>,
 ) -> Result<(), SinkFault>
-    ensures { WroteLines (O.took out.old) (O.took out.new) (O.faults out.old) (O.faults out.new)
+    ensures { GatheredLines (O.took out.old) (O.took out.new) (O.faults out.old) (O.faults out.new) page.old.items page.new.items
         (state_line name.now state) result }
 {
     match state {
         None => Ok(()),
-        Some(state) => write_named_state(out, name, state_text(state)),
+        Some(state) => put_named_state(out, page, name, state_text(state)),
     }
 }

@@ -1,38 +1,43 @@
 // A line of words.
 ghost use Rattle.std.specs.Prelude.{[], ◌∷◌, map};
-ghost use Rattle.nf_edge.specs.Taken.{Wrote};
 ghost use Rattle.nf_report.specs.Written.{after_words, WroteLines};
+ghost use Rattle.nf_report.specs.Pages.{Gathered, GatheredLines};
 
-use crate::joined::joined;
+use crate::pages::{Page, put};
 use nf_edge::{Sink, SinkFault, write_text};
 
 // A word that isn't the first of its line.
-fn write_word<O: Sink>(out: &mut O, word: &[u8]) -> Result<(), SinkFault>
-    ensures { Wrote (O.took out.old) (O.took out.new) (O.faults out.old) (O.faults out.new) (32 ∷ word.now) result }
+fn put_word<O: Sink>(out: &mut O, page: &mut Page, word: &[u8]) -> Result<(), SinkFault>
+    ensures { Gathered (O.took out.old) (O.took out.new) (O.faults out.old) (O.faults out.new) page.old.items page.new.items (32 ∷ word.now) result }
 {
-    write_text(out, b" ")?;
-    write_text(out, word)
+    put(out, page, b" ")?;
+    put(out, page, word)
 }
 
 // Words that follow the first of their line.
-fn write_words<O: Sink>(out: &mut O, words: &[&[u8]]) -> Result<(), SinkFault>
-    ensures { Wrote (O.took out.old) (O.took out.new) (O.faults out.old) (O.faults out.new)
+fn put_words<O: Sink>(out: &mut O, page: &mut Page, words: &[&[u8]]) -> Result<(), SinkFault>
+    ensures { Gathered (O.took out.old) (O.took out.new) (O.faults out.old) (O.faults out.new) page.old.items page.new.items
         (after_words (map (λ w. w.now) words.now)) result }
 {
     for word in words {
-        write_word(out, word)?;
+        put_word(out, page, word)?;
     }
     Ok(())
 }
 
-// The line of these words, word by word.
-fn write_parts<O: Sink>(out: &mut O, first: &[u8], words: &[&[u8]]) -> Result<(), SinkFault>
-    ensures { WroteLines (O.took out.old) (O.took out.new) (O.faults out.old) (O.faults out.new)
+/// Puts the line of these words on the page.
+pub(crate) fn put_line<O: Sink>(
+    out: &mut O,
+    page: &mut Page,
+    first: &[u8],
+    words: &[&[u8]],
+) -> Result<(), SinkFault>
+    ensures { GatheredLines (O.took out.old) (O.took out.new) (O.faults out.old) (O.faults out.new) page.old.items page.new.items
         ((first.now ∷ map (λ w. w.now) words.now) ∷ []) result }
 {
-    write_text(out, first)?;
-    write_words(out, words)?;
-    write_text(out, b"\n")
+    put(out, page, first)?;
+    put_words(out, page, words)?;
+    put(out, page, b"\n")
 }
 
 /// Writes the line of these words, in one piece where it isn't very long. Where the sink fails, it has taken the first bytes. It takes no
@@ -41,8 +46,7 @@ pub fn write_line<O: Sink>(out: &mut O, first: &[u8], words: &[&[u8]]) -> Result
     ensures { WroteLines (O.took out.old) (O.took out.new) (O.faults out.old) (O.faults out.new)
         ((first.now ∷ map (λ w. w.now) words.now) ∷ []) result }
 {
-    match joined(first, words) {
-        Ok(line) => write_text(out, line.as_slice()),
-        Err(_) => write_parts(out, first, words),
-    }
+    let mut page = Page::new();
+    put_line(out, &mut page, first, words)?;
+    write_text(out, page.as_slice())
 }

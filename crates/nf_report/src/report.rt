@@ -5,53 +5,63 @@ ghost use Rattle.nf_numerals.specs.Digits.{digits_of};
 ghost use Rattle.nf_numerals.specs.Printed.{printed};
 ghost use Rattle.nf_edge.specs.Taken.{Wrote};
 ghost use Rattle.nf_formats.specs.Causes.{cause_words};
-ghost use Rattle.nf_formats.specs.Report.{IsWellFormed, report_text};
+ghost use Rattle.nf_formats.specs.Report.{IsWellFormed, report_lines, report_text};
 ghost use Rattle.nf_formats.specs.Names.{name_at};
 ghost use Rattle.nf_formats.specs.Report.{for_each, label_lines, link_lines, state_lines};
 ghost use Rattle.nf_curve.specs.Flows.{flow_of};
-ghost use Rattle.nf_report.specs.Written.{WroteLines, never_lines, head_lines};
+ghost use Rattle.nf_report.specs.Written.{never_lines, head_lines};
+ghost use Rattle.nf_report.specs.Pages.{GatheredLines};
 
-use crate::causes::{write_cause, write_number, write_state};
-use crate::curves::{write_curve, write_link};
-use crate::line::write_line;
+use crate::causes::{put_cause, put_number, put_state};
+use crate::curves::{put_curve, put_link};
+use crate::line::put_line;
+use crate::pages::Page;
 use nf_curve::{Flow, Stop};
-use nf_edge::{Sink, SinkFault};
+use nf_edge::{Sink, SinkFault, write_text};
 use nf_frac::{Q, TextBuf};
 use nf_net::{LinkId, Network, NodeId};
 use nf_numerals::write_count;
 use nf_pattern::Pattern;
 
 // The label of a node.
-fn write_label<O: Sink>(out: &mut O, net: &Network, flow: &Flow, node: u32) -> Result<(), SinkFault>
+fn put_label<O: Sink>(
+    out: &mut O,
+    page: &mut Page,
+    net: &Network,
+    flow: &Flow,
+    node: u32,
+) -> Result<(), SinkFault>
     requires node { node < net.now.net.nodes }
     requires labels { length flow.now.labels.items ≡ net.now.net.nodes }
-    ensures { WroteLines (O.took out.old) (O.took out.new) (O.faults out.old) (O.faults out.new)
+    ensures { GatheredLines (O.took out.old) (O.took out.new) (O.faults out.old) (O.faults out.new) page.old.items page.new.items
         (label_lines net.now (flow_of flow.now) node) result }
 {
     let name = net.node_name(NodeId(node)).as_bytes();
     let label = &flow.labels[node as usize];
-    write_curve(out, b"label", name, label)
+    put_curve(out, page, b"label", name, label)
 }
 
 /// The labels of all nodes.
-pub(crate) fn write_labels<O: Sink>(
+pub(crate) fn put_labels<O: Sink>(
     out: &mut O,
+    page: &mut Page,
     net: &Network,
     flow: &Flow,
 ) -> Result<(), SinkFault>
     requires { length flow.now.labels.items ≡ net.now.net.nodes }
-    ensures { WroteLines (O.took out.old) (O.took out.new) (O.faults out.old) (O.faults out.new)
+    ensures { GatheredLines (O.took out.old) (O.took out.new) (O.faults out.old) (O.faults out.new) page.old.items page.new.items
         (for_each net.now.net.nodes (label_lines net.now (flow_of flow.now))) result }
 {
     for node in 0..net.node_count() {
-        write_label(out, net, flow, node)?;
+        put_label(out, page, net, flow, node)?;
     }
     Ok(())
 }
 
 // The curves of a link.
-fn write_curves<O: Sink>(
+fn put_curves<O: Sink>(
     out: &mut O,
+    page: &mut Page,
     net: &Network,
     flow: &Flow,
     link: u32,
@@ -60,169 +70,190 @@ fn write_curves<O: Sink>(
     requires inflows { length flow.now.inflows.items ≡ length net.now.net.links }
     requires outflows { length flow.now.outflows.items ≡ length net.now.net.links }
     requires queues { length flow.now.queues.items ≡ length net.now.net.links }
-    ensures { WroteLines (O.took out.old) (O.took out.new) (O.faults out.old) (O.faults out.new)
+    ensures { GatheredLines (O.took out.old) (O.took out.new) (O.faults out.old) (O.faults out.new) page.old.items page.new.items
         (link_lines net.now (flow_of flow.now) link) result }
 {
     let name = net.link_name(LinkId(link)).as_bytes();
     let inflow = &flow.inflows[link as usize];
     let outflow = &flow.outflows[link as usize];
     let queue = &flow.queues[link as usize];
-    write_link(out, name, inflow, outflow, queue)
+    put_link(out, page, name, inflow, outflow, queue)
 }
 
 /// The curves of all links.
-pub(crate) fn write_links<O: Sink>(out: &mut O, net: &Network, flow: &Flow) -> Result<(), SinkFault>
+pub(crate) fn put_links<O: Sink>(
+    out: &mut O,
+    page: &mut Page,
+    net: &Network,
+    flow: &Flow,
+) -> Result<(), SinkFault>
     requires inflows { length flow.now.inflows.items ≡ length net.now.net.links }
     requires outflows { length flow.now.outflows.items ≡ length net.now.net.links }
     requires queues { length flow.now.queues.items ≡ length net.now.net.links }
-    ensures { WroteLines (O.took out.old) (O.took out.new) (O.faults out.old) (O.faults out.new)
+    ensures { GatheredLines (O.took out.old) (O.took out.new) (O.faults out.old) (O.faults out.new) page.old.items page.new.items
         (for_each (length net.now.net.links) (link_lines net.now (flow_of flow.now))) result }
 {
     for link in 0..net.link_count() {
-        write_curves(out, net, flow, link)?;
+        put_curves(out, page, net, flow, link)?;
     }
     Ok(())
 }
 
 // The state of a link in the last phase.
-fn write_state_of<O: Sink>(
+fn put_state_of<O: Sink>(
     out: &mut O,
+    page: &mut Page,
     net: &Network,
     last: &Pattern,
     link: u32,
 ) -> Result<(), SinkFault>
     requires link { link < length net.now.net.links }
     requires states { length last.now ≡ length net.now.net.links }
-    ensures { WroteLines (O.took out.old) (O.took out.new) (O.faults out.old) (O.faults out.new)
+    ensures { GatheredLines (O.took out.old) (O.took out.new) (O.faults out.old) (O.faults out.new) page.old.items page.new.items
         (state_lines net.now last.now link) result }
 {
     let name = net.link_name(LinkId(link)).as_bytes();
     let state = last.state(LinkId(link));
-    write_state(out, name, state)
+    put_state(out, page, name, state)
 }
 
 /// The states of all links.
-pub(crate) fn write_states<O: Sink>(
+pub(crate) fn put_states<O: Sink>(
     out: &mut O,
+    page: &mut Page,
     net: &Network,
     last: &Pattern,
 ) -> Result<(), SinkFault>
     requires { length last.now ≡ length net.now.net.links }
-    ensures { WroteLines (O.took out.old) (O.took out.new) (O.faults out.old) (O.faults out.new)
+    ensures { GatheredLines (O.took out.old) (O.took out.new) (O.faults out.old) (O.faults out.new) page.old.items page.new.items
         (for_each (length net.now.net.links) (state_lines net.now last.now)) result }
 {
     for link in 0..net.link_count() {
-        write_state_of(out, net, last, link)?;
+        put_state_of(out, page, net, last, link)?;
     }
     Ok(())
 }
 
 // The line of an idle node.
-fn write_never<O: Sink>(out: &mut O, net: &Network, node: u32) -> Result<(), SinkFault>
+fn put_never<O: Sink>(
+    out: &mut O,
+    page: &mut Page,
+    net: &Network,
+    node: u32,
+) -> Result<(), SinkFault>
     requires { node < length net.now.idle_nodes }
-    ensures { WroteLines (O.took out.old) (O.took out.new) (O.faults out.old) (O.faults out.new)
+    ensures { GatheredLines (O.took out.old) (O.took out.new) (O.faults out.old) (O.faults out.new) page.old.items page.new.items
         ((codes "never" ∷ name_at net.now.idle_nodes node ∷ []) ∷ []) result }
 {
     let name = net.idle_name(node).as_bytes();
-    write_line(out, b"never", &[name])
+    put_line(out, page, b"never", &[name])
 }
 
 /// The idle nodes.
-pub(crate) fn write_idle<O: Sink>(out: &mut O, net: &Network) -> Result<(), SinkFault>
-    ensures { WroteLines (O.took out.old) (O.took out.new) (O.faults out.old) (O.faults out.new)
+pub(crate) fn put_idle<O: Sink>(
+    out: &mut O,
+    page: &mut Page,
+    net: &Network,
+) -> Result<(), SinkFault>
+    ensures { GatheredLines (O.took out.old) (O.took out.new) (O.faults out.old) (O.faults out.new) page.old.items page.new.items
         (never_lines net.now.idle_nodes) result }
 {
     for node in 0..net.idle_count() {
-        write_never(out, net, node)?;
+        put_never(out, page, net, node)?;
     }
     Ok(())
 }
 
 // The first line, which has the version.
-fn write_version<O: Sink>(out: &mut O, version: u32) -> Result<(), SinkFault>
-    ensures { WroteLines (O.took out.old) (O.took out.new) (O.faults out.old) (O.faults out.new)
+fn put_version<O: Sink>(out: &mut O, page: &mut Page, version: u32) -> Result<(), SinkFault>
+    ensures { GatheredLines (O.took out.old) (O.took out.new) (O.faults out.old) (O.faults out.new) page.old.items page.new.items
         ((codes "report" ∷ digits_of version ∷ []) ∷ []) result }
 {
     let mut text = TextBuf::new();
     write_count(u64::from(version), &mut text);
-    write_line(out, b"report", &[text.text()])
+    put_line(out, page, b"report", &[text.text()])
 }
 
 // How far the run was to go, and how far it went.
-fn write_times<O: Sink>(out: &mut O, horizon: Q, reached: Q) -> Result<(), SinkFault>
-    ensures { WroteLines (O.took out.old) (O.took out.new) (O.faults out.old) (O.faults out.new)
+fn put_times<O: Sink>(out: &mut O, page: &mut Page, horizon: Q, reached: Q) -> Result<(), SinkFault>
+    ensures { GatheredLines (O.took out.old) (O.took out.new) (O.faults out.old) (O.faults out.new) page.old.items page.new.items
         ((codes "horizon" ∷ printed horizon ∷ []) ∷ (codes "reached" ∷ printed reached ∷ []) ∷ []) result }
 {
-    write_number(out, b"horizon", horizon)?;
-    write_number(out, b"reached", reached)
+    put_number(out, page, b"horizon", horizon)?;
+    put_number(out, page, b"reached", reached)
 }
 
 // The times, and why the run stopped.
-fn write_end_of_run<O: Sink>(
+fn put_end_of_run<O: Sink>(
     out: &mut O,
+    page: &mut Page,
     horizon: Q,
     reached: Q,
     stopped: Option<&Stop>,
 ) -> Result<(), SinkFault>
-    ensures { WroteLines (O.took out.old) (O.took out.new) (O.faults out.old) (O.faults out.new)
+    ensures { GatheredLines (O.took out.old) (O.took out.new) (O.faults out.old) (O.faults out.new) page.old.items page.new.items
         ((codes "horizon" ∷ printed horizon ∷ []) ∷ (codes "reached" ∷ printed reached ∷ [])
         ∷ (codes "cause" ∷ cause_words (option_copied stopped.entry)) ∷ []) result }
 {
-    write_times(out, horizon, reached)?;
-    write_cause(out, stopped)
+    put_times(out, page, horizon, reached)?;
+    put_cause(out, page, stopped)
 }
 
 // The head of the report.
-fn write_head<O: Sink>(
+fn put_head<O: Sink>(
     out: &mut O,
+    page: &mut Page,
     net: &Network,
     horizon: Q,
     flow: &Flow,
     stopped: Option<&Stop>,
 ) -> Result<(), SinkFault>
-    ensures { WroteLines (O.took out.old) (O.took out.new) (O.faults out.old) (O.faults out.new)
+    ensures { GatheredLines (O.took out.old) (O.took out.new) (O.faults out.old) (O.faults out.new) page.old.items page.new.items
         (head_lines net.now.version horizon flow.now.reached (option_copied stopped.entry)) result }
 {
-    write_version(out, net.version())?;
-    write_end_of_run(out, horizon, flow.reached, stopped)
+    put_version(out, page, net.version())?;
+    put_end_of_run(out, page, horizon, flow.reached, stopped)
 }
 
 // The report as far as the labels.
-fn write_to_labels<O: Sink>(
+fn put_to_labels<O: Sink>(
     out: &mut O,
+    page: &mut Page,
     net: &Network,
     horizon: Q,
     flow: &Flow,
     stopped: Option<&Stop>,
 ) -> Result<(), SinkFault>
     requires { length flow.now.labels.items ≡ net.now.net.nodes }
-    ensures { WroteLines (O.took out.old) (O.took out.new) (O.faults out.old) (O.faults out.new)
+    ensures { GatheredLines (O.took out.old) (O.took out.new) (O.faults out.old) (O.faults out.new) page.old.items page.new.items
         (head_lines net.now.version horizon flow.now.reached (option_copied stopped.entry) ++ for_each net.now.net.nodes (label_lines net.now (flow_of flow.now))) result }
 {
-    write_head(out, net, horizon, flow, stopped)?;
-    write_labels(out, net, flow)
+    put_head(out, page, net, horizon, flow, stopped)?;
+    put_labels(out, page, net, flow)
 }
 
 // The report as far as the idle nodes.
-fn write_to_idle<O: Sink>(
+fn put_to_idle<O: Sink>(
     out: &mut O,
+    page: &mut Page,
     net: &Network,
     horizon: Q,
     flow: &Flow,
     stopped: Option<&Stop>,
 ) -> Result<(), SinkFault>
     requires { length flow.now.labels.items ≡ net.now.net.nodes }
-    ensures { WroteLines (O.took out.old) (O.took out.new) (O.faults out.old) (O.faults out.new)
+    ensures { GatheredLines (O.took out.old) (O.took out.new) (O.faults out.old) (O.faults out.new) page.old.items page.new.items
         (head_lines net.now.version horizon flow.now.reached (option_copied stopped.entry) ++ for_each net.now.net.nodes (label_lines net.now (flow_of flow.now))
         ++ never_lines net.now.idle_nodes) result }
 {
-    write_to_labels(out, net, horizon, flow, stopped)?;
-    write_idle(out, net)
+    put_to_labels(out, page, net, horizon, flow, stopped)?;
+    put_idle(out, page, net)
 }
 
 // The report as far as the curves of the links.
-fn write_to_links<O: Sink>(
+fn put_to_links<O: Sink>(
     out: &mut O,
+    page: &mut Page,
     net: &Network,
     horizon: Q,
     flow: &Flow,
@@ -232,18 +263,19 @@ fn write_to_links<O: Sink>(
     requires inflows { length flow.now.inflows.items ≡ length net.now.net.links }
     requires outflows { length flow.now.outflows.items ≡ length net.now.net.links }
     requires queues { length flow.now.queues.items ≡ length net.now.net.links }
-    ensures { WroteLines (O.took out.old) (O.took out.new) (O.faults out.old) (O.faults out.new)
+    ensures { GatheredLines (O.took out.old) (O.took out.new) (O.faults out.old) (O.faults out.new) page.old.items page.new.items
         (head_lines net.now.version horizon flow.now.reached (option_copied stopped.entry) ++ for_each net.now.net.nodes (label_lines net.now (flow_of flow.now))
         ++ never_lines net.now.idle_nodes
         ++ for_each (length net.now.net.links) (link_lines net.now (flow_of flow.now))) result }
 {
-    write_to_idle(out, net, horizon, flow, stopped)?;
-    write_links(out, net, flow)
+    put_to_idle(out, page, net, horizon, flow, stopped)?;
+    put_links(out, page, net, flow)
 }
 
 // The report as far as the states.
-fn write_to_states<O: Sink>(
+fn put_to_states<O: Sink>(
     out: &mut O,
+    page: &mut Page,
     net: &Network,
     horizon: Q,
     flow: &Flow,
@@ -255,15 +287,33 @@ fn write_to_states<O: Sink>(
     requires outflows { length flow.now.outflows.items ≡ length net.now.net.links }
     requires queues { length flow.now.queues.items ≡ length net.now.net.links }
     requires states { length last.now ≡ length net.now.net.links }
-    ensures { WroteLines (O.took out.old) (O.took out.new) (O.faults out.old) (O.faults out.new)
+    ensures { GatheredLines (O.took out.old) (O.took out.new) (O.faults out.old) (O.faults out.new) page.old.items page.new.items
         (head_lines net.now.version horizon flow.now.reached (option_copied stopped.entry)
         ++ for_each net.now.net.nodes (label_lines net.now (flow_of flow.now))
         ++ never_lines net.now.idle_nodes
         ++ for_each (length net.now.net.links) (link_lines net.now (flow_of flow.now))
         ++ for_each (length net.now.net.links) (state_lines net.now last.now)) result }
 {
-    write_to_links(out, net, horizon, flow, stopped)?;
-    write_states(out, net, last)
+    put_to_links(out, page, net, horizon, flow, stopped)?;
+    put_states(out, page, net, last)
+}
+
+// The whole report.
+fn put_report<O: Sink>(
+    out: &mut O,
+    page: &mut Page,
+    net: &Network,
+    horizon: Q,
+    flow: &Flow,
+    stopped: Option<&Stop>,
+    last: &Pattern,
+) -> Result<(), SinkFault>
+    requires { IsWellFormed net.now.net (record { horizon = horizon; flow = flow_of flow.now; stop = option_copied stopped; last = last.now }) }
+    ensures { GatheredLines (O.took out.old) (O.took out.new) (O.faults out.old) (O.faults out.new) page.old.items page.new.items
+        (report_lines net.now (record { horizon = horizon; flow = flow_of flow.now; stop = option_copied stopped.entry; last = last.now })) result }
+{
+    put_to_states(out, page, net, horizon, flow, stopped, last)?;
+    put_line(out, page, b"end", &[])
 }
 
 /// Writes the text of a report: of the flow of a run to a horizon, with the cause for which it stopped, if it did, and the
@@ -280,6 +330,7 @@ pub fn write_report<O: Sink>(
     ensures { Wrote (O.took out.old) (O.took out.new) (O.faults out.old) (O.faults out.new)
         (report_text net.now (record { horizon = horizon; flow = flow_of flow.now; stop = option_copied stopped.entry; last = last.now })) result }
 {
-    write_to_states(out, net, horizon, flow, stopped, last)?;
-    write_line(out, b"end", &[])
+    let mut page = Page::new();
+    put_report(out, &mut page, net, horizon, flow, stopped, last)?;
+    write_text(out, page.as_slice())
 }

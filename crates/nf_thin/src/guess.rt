@@ -6,7 +6,7 @@ ghost use Rattle.nf_equation_laws.specs.Equations.{IsPatternIn};
 ghost use Rattle.nf_thin.specs.Trying.{AreValuesOf};
 ghost use Rattle.nf_thin.specs.Guessing.{IsSolved};
 
-use crate::group_values::group_values;
+use crate::part_values::part_values;
 use crate::repairs::repair;
 use crate::settling::settled;
 use crate::trying::pattern_values;
@@ -74,7 +74,7 @@ pub(crate) fn guess(
 {
     let mut pattern = first.copy(alloc)?;
     for _ in 0..MOST_REPAIRS {
-        let Some(values) = group_values(alloc, net, sets, rate, &pattern)? else {
+        let Some(values) = part_values(alloc, net, sets, rate, &pattern)? else {
             return Ok(None);
         };
         if !repair(alloc, net, sets, &values, &mut pattern)? {

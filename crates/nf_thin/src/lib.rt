@@ -5,14 +5,14 @@
 mod allowed;
 mod filling;
 mod first;
-mod group_slopes;
-mod group_values;
-mod groups;
+mod forest;
 mod guess;
 mod known;
 mod led;
-mod node_groups;
+mod node_parts;
 mod node_test;
+mod part_slopes;
+mod part_values;
 pub mod parts;
 mod ranges;
 mod repairs;

@@ -4,11 +4,11 @@ ghost use Rattle.std.specs.Prelude.{◌≡◌, ◌<◌, length, IsTrue, IsSome};
 ghost use Rattle.nf_model.specs.declared.State.TheVariants.{Full};
 ghost use Rattle.nf_equation_laws.specs.Equations.{IsPatternIn};
 
-use crate::group_slopes::number_or_zero;
-use crate::groups::Groups;
+use crate::forest::Forest;
 use crate::led::may_carry;
-use crate::node_groups::tight_groups;
+use crate::node_parts::tight_forest;
 use crate::node_test::full_flow;
+use crate::part_slopes::number_or_zero;
 use nf_frac::Q;
 use nf_graph::{LinkId, LinkSets};
 use nf_model::State;
@@ -142,9 +142,9 @@ fn tighten_link(
     sets: &LinkSets,
     values: &[Q],
     link: LinkId,
-    groups: &mut Groups,
+    forest: &mut Forest,
     pattern: &mut Pattern,
-) -> bool
+) -> Result<bool, AllocError>
     requires pattern { IsPatternIn net.now.net sets.now pattern.old }
     requires link { link < length net.now.net.links }
     ensures { IsPatternIn net.now.net sets.now pattern.new }
@@ -157,10 +157,11 @@ fn tighten_link(
         Some(State::Zero) => tail_slope < head_slope,
         _ => false,
     };
-    if !breaks || !groups.join(here.tail, here.head) {
-        return false;
+    if !breaks || !forest.grow(here.tail, here.head)? {
+        return Ok(false);
     }
-    change(net, sets, pattern, link, State::Tight)
+    let changes = change(net, sets, pattern, link, State::Tight);
+    Ok(changes)
 }
 
 // All Full and Zero links that break their inequalities, in link order; whether one changes.
@@ -174,12 +175,12 @@ fn tighten(
     requires { IsPatternIn net.now.net sets.now pattern.old }
     ensures { IsPatternIn net.now.net sets.now pattern.new }
 {
-    let Some(mut groups) = tight_groups(alloc, net, sets, pattern)? else {
+    let Some(mut forest) = tight_forest(alloc, net, sets, pattern)? else {
         return Ok(false);
     };
     let mut changes = false;
     for e in 0..net.link_count() {
-        if tighten_link(net, sets, values, LinkId(e), &mut groups, pattern) {
+        if tighten_link(net, sets, values, LinkId(e), &mut forest, pattern)? {
             changes = true;
         }
     }

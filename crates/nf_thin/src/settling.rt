@@ -4,13 +4,13 @@
 ghost use Rattle.std.specs.Prelude.{◌≡◌, ◌<◌, length, IfOk};
 ghost use Rattle.nf_equation_laws.specs.Equations.{IsPatternIn};
 
-use crate::group_slopes::number_or_zero;
-use crate::group_values::group_values;
-use crate::groups::Groups;
+use crate::forest::Forest;
 use crate::known::is_one_pattern;
 use crate::led::each_is_led;
-use crate::node_groups::tight_groups;
+use crate::node_parts::tight_forest;
 use crate::node_test::full_flow;
+use crate::part_slopes::number_or_zero;
+use crate::part_values::part_values;
 use crate::repairs::{change, repair};
 use nf_frac::Q;
 use nf_graph::{LinkId, LinkSets};
@@ -86,9 +86,9 @@ fn settle_tight(
     values: &[Q],
     link: LinkId,
     first: &Pattern,
-    groups: &mut Groups,
+    forest: &mut Forest,
     pattern: &mut Pattern,
-)
+) -> Result<(), AllocError>
     requires first { length first.now ≡ length net.now.net.links }
     requires pattern { IsPatternIn net.now.net sets.now pattern.old }
     requires link { link < length net.now.net.links }
@@ -96,15 +96,18 @@ fn settle_tight(
 {
     match first.state(link) {
         Some(State::Tight) => {}
-        _ => return,
+        _ => return Ok(()),
     }
     let here = net.link(link);
-    if suits(here, State::Tight, Q::zero(), values) && groups.join(here.tail, here.head) {
-        let _ = change(net, sets, pattern, link, State::Tight);
+    if suits(here, State::Tight, Q::zero(), values) {
+        if forest.grow(here.tail, here.head)? {
+            let _ = change(net, sets, pattern, link, State::Tight);
+        }
     }
+    Ok(())
 }
 
-// The same of all links; those that are Tight already are joined first.
+// The same of all links; the forest begins with those that are Tight already.
 fn settle_all_tight(
     alloc: Global,
     net: &Network,
@@ -117,11 +120,11 @@ fn settle_all_tight(
     requires pattern { IsPatternIn net.now.net sets.now pattern.old }
     ensures { IsPatternIn net.now.net sets.now pattern.new }
 {
-    let Some(mut groups) = tight_groups(alloc, net, sets, pattern)? else {
+    let Some(mut forest) = tight_forest(alloc, net, sets, pattern)? else {
         return Ok(());
     };
     for e in 0..net.link_count() {
-        settle_tight(net, sets, values, LinkId(e), first, &mut groups, pattern);
+        settle_tight(net, sets, values, LinkId(e), first, &mut forest, pattern)?;
     }
     Ok(())
 }
@@ -139,7 +142,7 @@ fn is_settled(
     if !each_is_led(net, sets, pattern) {
         return Ok(false);
     }
-    let Some(values) = group_values(alloc, net, sets, rate, pattern)? else {
+    let Some(values) = part_values(alloc, net, sets, rate, pattern)? else {
         return Ok(false);
     };
     let mut repaired = pattern.copy(alloc)?;

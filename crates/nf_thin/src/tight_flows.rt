@@ -2,8 +2,8 @@
 // the Tight links are a forest, whose flows come from its leaves on. Nothing rests on them, since only a guess asks.
 ghost use Rattle.std.specs.Prelude.{◌≡◌, ◌<◌, length};
 
-use crate::group_slopes::{add_at, number_or_zero, take_off_at};
-use crate::node_groups::state_in;
+use crate::node_parts::state_in;
+use crate::part_slopes::{add_at, number_or_zero, take_off_at};
 use nf_frac::{Halt, Part, Q, at};
 use nf_graph::{LinkId, LinkSets, NodeId};
 use nf_model::State;

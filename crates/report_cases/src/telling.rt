@@ -7,8 +7,7 @@ ghost use Rattle.nf_reader.specs.Files.{report_of};
 use crate::case::Case;
 use nf_edge::MemSink;
 use nf_net::{LONGEST_FILE, NetFault, Network, parse};
-use nf_reader::{Report, ReportFault, parse_report};
-use nf_report::write_report;
+use nf_report::{Report, ReportFault, parse_report, write_report};
 use std::io;
 
 /// The most bytes of a report here.

@@ -11,7 +11,7 @@ use nf_frac::{Halt, Q};
 use nf_graph::LinkSets;
 use nf_net::Network;
 use nf_pattern::{Pattern, Patterns};
-use nf_thin::parts::{balances as balances_of, full_flows, group_values, listing};
+use nf_thin::parts::{balances as balances_of, full_flows, listing, part_values};
 use nf_thin::{Judged, verdict as verdict_of};
 use std::alloc::Global;
 
@@ -118,7 +118,7 @@ fn values_text(
     requires { length sets.now.active ≡ length net.now.net.links }
 {
     let pattern = pattern(alloc, net.link_count(), states)?;
-    let Some(values) = group_values(alloc, net, sets, rate, &pattern).ok()? else {
+    let Some(values) = part_values(alloc, net, sets, rate, &pattern).ok()? else {
         return String::from_str(alloc, "not one; ").ok();
     };
     let mut text = String::from_str(alloc, "one").ok()?;

@@ -1,23 +1,8 @@
-use Rattle.std.proofs.Common.{[], ◌∷◌, ap, sym}
-use Rattle.std.specs.Prelude.{Some, codes}
-use Rattle.nf_rational.specs.Rational.{ℚ}
-use Rattle.nf_numerals.specs.Digits.{digits_of}
-use Rattle.nf_formats.specs.declared.Cause.{Cause}
-use Rattle.nf_formats.specs.Causes.{cause_words, passed_words}
-use Rattle.nf_report.proofs.Written.{same_lines}
+use Rattle.nf_report.proofs.Gathering.{gathered_written, gathered_refused}
 use Rattle.nf_report.proofs.causes.write_stop.Goals as goal
 
-pub returns-in-Patterns : goal.returns-in-Patterns
-returns-in-Patterns g c =
-    same_lines ((c.args.key.now ∷ codes "patterns" ∷ digits_of c.in-Patterns.phase ∷ digits_of c.in-Patterns.tried ∷ []) ∷ []) ((c.args.key.now ∷ cause_words (Some c.args.stop.now)) ∷ [])
-    (sym (ap (λ (s : Cause ℚ). (c.args.key.now ∷ cause_words (Some s)) ∷ []) c.in-Patterns.is)) c.write_patterns.ensures
+pub returns-in_err-put_stop : goal.returns-in_err-put_stop
+returns-in_err-put_stop g c = gathered_refused _ _ _ _ c.new-page.ensures c.from_residual.ensures.0 c.in_err-put_stop.ensures
 
-pub returns-in-Passed : goal.returns-in-Passed
-returns-in-Passed g c =
-    same_lines ((c.args.key.now ∷ passed_words (Some c.in-Passed.phase) c.in-Passed.place c.in-Passed.at) ∷ []) ((c.args.key.now ∷ cause_words (Some c.args.stop.now)) ∷ [])
-    (sym (ap (λ (s : Cause ℚ). (c.args.key.now ∷ cause_words (Some s)) ∷ []) c.in-Passed.is)) c.write_passed.ensures
-
-pub returns-in-NoPattern : goal.returns-in-NoPattern
-returns-in-NoPattern g c =
-    same_lines ((c.args.key.now ∷ codes "nopattern" ∷ digits_of c.in-NoPattern.phase ∷ []) ∷ []) ((c.args.key.now ∷ cause_words (Some c.args.stop.now)) ∷ [])
-    (sym (ap (λ (s : Cause ℚ). (c.args.key.now ∷ cause_words (Some s)) ∷ []) c.in-NoPattern.is)) c.write_counted-in-NoPattern.ensures
+pub returns : goal.returns
+returns g c = gathered_written _ _ _ _ c.new-page.ensures c.as_slice.ensures.value c.in_ok-put_stop.ensures c.write_text.ensures

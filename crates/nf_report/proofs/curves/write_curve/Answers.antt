@@ -1,20 +1,8 @@
-use Rattle.std.proofs.Common.{[], ◌∷◌, ◌+◌, take, drop, suc}
-use Rattle.nf_formats.specs.Report.{point_lines}
-use Rattle.nf_report.specs.Written.{point_line}
-use Rattle.nf_report.proofs.Parts.{point_lines_next, point_lines_left}
-use Rattle.nf_report.proofs.Written.{wrote_next, wrote_then_failed}
+use Rattle.nf_report.proofs.Gathering.{gathered_written, gathered_refused}
 use Rattle.nf_report.proofs.curves.write_curve.Goals as goal
 
-pub loop-index-preserved : goal.loop-index-preserved
-loop-index-preserved g c =
-    wrote_next (point_lines c.args.key.now c.args.name.now (take c.loop-index.index c.args.curve.now.points)) (point_line c.args.key.now c.args.name.now c.point.result ∷ [])
-    (point_lines c.args.key.now c.args.name.now (take (c.loop-index.index + 1) c.args.curve.now.points))
-    (point_lines_next c.args.key.now c.args.name.now c.args.curve.now.points c.loop-index.index c.point.result c.point.ensures)
-    c.loop-index.invariant c.in_ok-write_point.ensures
+pub returns-in_err-put_curve : goal.returns-in_err-put_curve
+returns-in_err-put_curve g c = gathered_refused _ _ _ _ c.new-page.ensures c.from_residual.ensures.0 c.in_err-put_curve.ensures
 
-pub returns-in_err-write_point : goal.returns-in_err-write_point
-returns-in_err-write_point g c =
-    wrote_then_failed (point_lines c.args.key.now c.args.name.now (take c.loop-index.index c.args.curve.now.points)) (point_line c.args.key.now c.args.name.now c.point.result ∷ [])
-    (point_lines c.args.key.now c.args.name.now (drop (suc c.loop-index.index) c.args.curve.now.points)) (point_lines c.args.key.now c.args.name.now c.args.curve.now.points) _
-    (point_lines_left c.args.key.now c.args.name.now c.args.curve.now.points c.loop-index.index c.point.result c.point.ensures)
-    c.from_residual.ensures.0 c.loop-index.invariant c.in_err-write_point.ensures
+pub returns : goal.returns
+returns g c = gathered_written _ _ _ _ c.new-page.ensures c.as_slice.ensures.value c.in_ok-put_curve.ensures c.write_text.ensures

@@ -1,4 +1,4 @@
-use Rattle.std.proofs.Common.{ℕ, List, length, refl, sym, ap, subst, ◌∙◌, arith}
+use Rattle.std.proofs.Common.{ℕ, List, length, refl, ap, subst, ◌∙◌, arith}
 use Rattle.nf_pattern.specs.Entered.{IsLost}
 use Rattle.nf_pattern.proofs.Following.{follows_none}
 use Rattle.nf_pattern.proofs.trail.Trail.new.Goals as goal
@@ -10,11 +10,8 @@ is_lost-lost-requires c =
 
 pub returns-clause-follows : goal.returns-clause-follows
 returns-clause-follows c p =
-    follows_none c.args.source c.args.hops.now c.args.resetting.now c.args.base.now p c.args.nodes c.requires.below refl c.in_ok-groups.ensures
-    (sym c.in_ok-hung.hung.ok.0 ∙ c.in_ok-hung.ensures.len) c.in_ok-chain.ensures.chain c.in_ok-chain.ensures.count c.in_ok-ends.ensures.count c.in_ok-ends.ensures.ends
-
-pub returns-clause-nodes : goal.returns-clause-nodes
-returns-clause-nodes c = c.in_ok-groups.ensures.count
+    follows_none c.args.source c.args.hops.now c.args.resetting.now c.args.base.now p c.args.nodes refl (c.in_ok-tight.ensures.holds p) c.in_ok-tight.ensures.nodes
+    c.in_ok-chain.ensures.chain c.in_ok-chain.ensures.count c.in_ok-ends.ensures.count c.in_ok-ends.ensures.ends
 
 pub returns-clause-ends : goal.returns-clause-ends
 returns-clause-ends c = c.in_ok-ends.ensures.ends

@@ -1,0 +1,36 @@
+-- An interior link of a thin flow has equal slopes at its ends.
+use Rattle.std.proofs.Common.{◌≡◌, ℕ, List, ⊎_elim, Bool, true, false, Option, Some, None, sym, subst, refl}
+use Rattle.nf_rational.specs.Rational.{ℚ}
+use Rattle.nf_rational.specs.Operations.{0ℚ, ◌*ℚ◌}
+use Rattle.nf_rational.specs.Order.{◌≤ℚ◌, ◌<ℚ◌}
+use Rattle.nf_rational_laws.proofs.Order.{≤ℚ_antisymm, not_both_ℚ}
+use Rattle.nf_model.specs.Entries.{number_at, Has}
+use Rattle.nf_model.specs.Network.{Link, Network, IsLink, IsNetwork}
+use Rattle.nf_model.specs.ThinFlow.{Sets, IsThinFlow}
+use Rattle.nf_model.specs.Pattern.{NeedsState}
+use Rattle.nf_model_laws.proofs.Networks.{IsLink-unique}
+use Rattle.nf_thin_laws.specs.ActiveLinks.{HoldNoCycle}
+use Rattle.nf_thin_laws.proofs.Flags.{flag, flag-cases}
+use Rattle.nf_thin_laws.proofs.LinkLaws.{LinkLaw}
+use Rattle.nf_thin_laws.proofs.Slopes.{link_law}
+use Rattle.nf_complete_lists.specs.Interior.{IsInterior}
+
+pub level_by : (capacity : Option ℚ) (x s t : ℚ) → LinkLaw false capacity x s t → 0ℚ <ℚ x → ((c : ℚ) → capacity ≡ Some c → x <ℚ c *ℚ t) → t ≡ s
+level_by None x s t l h k = sym (l.used h)
+level_by (Some c) x s t l h k = ⊎_elim
+    (λ (w : t ≤ℚ s). ≤ℚ_antisymm _ _ w (l.used refl h).0)
+    (λ (w : c *ℚ t ≤ℚ x). absurd (not_both_ℚ _ _ (k c refl) w))
+    (l.upper refl)
+
+module _ (net : Network) (sets : Sets) (rate : ℚ) (flows slopes : List ℚ) (good : IsNetwork net) (acyclic : HoldNoCycle net sets) (thin : IsThinFlow net sets rate flows slopes) where
+  -- what a thin flow says of a link that needs a state
+  pub state_law : (e : ℕ) (link : Link) → IsLink net e link → NeedsState sets e → LinkLaw false link.capacity (number_at flows e) (number_at slopes link.tail) (number_at slopes link.head)
+  state_law e link p n = ⊎_elim
+      (λ (w : (flag sets.resetting e ≡ true) × Has sets.resetting e). absurd (n.1 w.1))
+      (λ (w : (flag sets.resetting e ≡ false) × (Has sets.resetting e → ⊥)).
+      subst (λ (b : Bool). LinkLaw b link.capacity (number_at flows e) (number_at slopes link.tail) (number_at slopes link.head)) w.0 (link_law net sets rate good acyclic flows slopes thin e link p n.0))
+      (flag-cases sets.resetting e)
+
+  pub interior-level : (e : ℕ) → IsInterior net sets slopes flows e → (link : Link) → IsLink net e link → number_at slopes link.head ≡ number_at slopes link.tail
+  interior-level e i link p = level_by link.capacity _ _ _ (state_law e link p i.needs) i.some
+      (subst (λ (l : Link). (c : ℚ) → l.capacity ≡ Some c → number_at flows e <ℚ c *ℚ number_at slopes l.head) (IsLink-unique net e i.link link i.is_link p) i.not_full)

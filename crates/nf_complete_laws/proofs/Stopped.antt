@@ -1,0 +1,93 @@
+-- A phase run that stopped since no pattern was left, stopped where there is no thin flow.
+use Rattle.std.proofs.Common.{◌≡◌, ℕ, suc, ◌<◌, List, length, get_or, Option, Some, unwrap_or, sym, ap, subst, ◌∙◌, arith}
+use Rattle.std.proofs.lemmas.Option.{none-some, slice_get-get_or}
+use Rattle.std.proofs.lemmas.List.FromFn.{length-map-range_with_len, get_or-map-range_with_len}
+use Rattle.nf_rational.specs.Rational.{ℚ}
+use Rattle.nf_rational.specs.Operations.{0ℚ}
+use Rattle.nf_rational_laws.proofs.Order.{not_both_ℚ}
+use Rattle.nf_work.specs.Passing.{Passing}
+use Rattle.nf_work.specs.declared.PassedAt.{PassedAt}
+use Rattle.nf_model.specs.Entries.{number_at}
+use Rattle.nf_model.specs.Network.{Network, IsNetwork, rate_at}
+use Rattle.nf_model.specs.ThinFlow.{sets_at, IsThinFlow}
+use Rattle.nf_model.specs.Equilibrium.{label}
+use Rattle.nf_formats.specs.declared.Cause.{Cause}
+use Rattle.nf_formats.specs.Report.{Report}
+use Rattle.nf_lists.specs.Search.{Answer, Found, OverBudget, PassesAt, NoPattern}
+use Rattle.nf_lists.specs.PhaseRun.{Standing, Bounds, Seeks, cause_of_search, Fails, at_slack, at_search, at_lists, Runs, at_horizon, at_phases, fails, goes, IsRunReport, flow_of}
+use Rattle.nf_model_laws.proofs.Slacks.{slack_of_resetting}
+use Rattle.nf_model_laws.proofs.Supply.{rate_from-not_negative}
+use Rattle.nf_thin_laws.proofs.ActiveLinks.{AreSets-sets_at, HoldNoCycle-sets_at}
+use Rattle.nf_plain_laws.proofs.Entries.{same_entries}
+use Rattle.nf_run_laws.proofs.WellRun.{WellRun, WellRun-start}
+use Rattle.nf_run_laws.proofs.Run.{WellRun-goes}
+use Rattle.nf_run_laws.proofs.Standing.{grown_at, label_count_at, unbounded_slack_at}
+use Rattle.nf_complete_lists.specs.Reached.{labels_reached, StopsForNoThinFlow}
+use Rattle.nf_complete_laws.specs.SettleLaws.{AreGoodSets}
+use Rattle.nf_complete_laws.proofs.Settled.{none-search}
+
+-- the sets of a phase are such sets
+pub AreGoodSets-well : (net : Network) (good : IsNetwork net) (s : Standing) → WellRun net s → AreGoodSets net (sets_at net s.labels)
+AreGoodSets-well net good s well = record {
+  network = good;
+  sets_are = AreSets-sets_at net s.labels;
+  acyclic = HoldNoCycle-sets_at net s.labels good;
+  bounded = λ e link p none reset. not_both_ℚ _ _ (slack_of_resetting net s.labels e link p reset) (unbounded_slack_at net good s well e link p none);
+}
+
+number_get : (xs : List ℚ) (v : ℕ) → v < length xs → number_at xs v ≡ get_or xs v 0ℚ
+number_get xs v h = ap (λ (o : Option ℚ). unwrap_or o 0ℚ) (slice_get-get_or xs v 0ℚ h)
+
+pub labels_are : (net : Network) (good : IsNetwork net) (s : Standing) → WellRun net s → labels_reached net (flow_of s) ≡ s.labels
+labels_are net good s well = same_entries 0ℚ (labels_reached net (flow_of s)) s.labels (many ∙ sym (label_count_at net good s well)) (λ v h. at v (subst (λ (k : ℕ). v < k) many h))
+  where
+    many : length (labels_reached net (flow_of s)) ≡ net.nodes
+    many = length-map-range_with_len (λ v. label (flow_of s) v s.time) 0 net.nodes
+
+    at : (v : ℕ) → v < net.nodes → number_at (labels_reached net (flow_of s)) v ≡ number_at s.labels v
+    at v h = number_get (labels_reached net (flow_of s)) v (let m = many in omega arith) ∙ get_or-map-range_with_len (λ v. label (flow_of s) v s.time) 0 net.nodes v v 0ℚ h (omega arith)
+        ∙ (grown_at net good s well).stands.same v h
+
+same_cause : (c d : Cause ℚ) → Some c ≡ Some d → c ≡ d
+same_cause c d h = cc
+
+module _ (passes : Passing) (net : Network) (good : IsNetwork net) (bounds : Bounds) (flows slopes : List ℚ) where
+  abbrev Wants : Cause ℚ → ℕ → Type 0
+  Wants c phase = c ≡ Cause.NoPattern phase
+
+  over_other : (p t phase : ℕ) → Wants (Cause.Patterns p t) phase → ⊥
+  over_other p t phase h = cc
+
+  passed_other : (p : ℕ) (o : Option ℕ) (at : PassedAt ℚ) (phase : ℕ) → Wants (Cause.Passed p o at) phase → ⊥
+  passed_other p o at phase h = cc
+
+  phases_other : (m phase : ℕ) → Wants (Cause.Phases m) phase → ⊥
+  phases_other m phase h = cc
+
+  no_answer : (s : Standing) (phase : ℕ) (a : Answer) → Seeks passes net bounds.horizon bounds.patterns s a → cause_of_search (suc s.made) bounds.patterns a ≡ Some (Cause.NoPattern phase) → WellRun net s
+      → IsThinFlow net (sets_at net s.labels) (rate_at net s.time) flows slopes → ⊥
+  no_answer s phase (Found place pattern f l) k h well thin = none-some _ h
+  no_answer s phase OverBudget k h well thin = over_other (suc s.made) bounds.patterns phase (same_cause _ _ h)
+  no_answer s phase (PassesAt place at) k h well thin = passed_other (suc s.made) (Some place) at phase (same_cause _ _ h)
+  no_answer s phase NoPattern k h well thin =
+      none-search passes net (sets_at net s.labels) (rate_at net s.time) k.search.base bounds.patterns flows slopes (AreGoodSets-well net good s well) (rate_from-not_negative net.pieces s.time good.pieces) k.search.is_search thin
+
+  abbrev NoneAt : Standing → Type 0
+  NoneAt s = IsThinFlow net (sets_at net s.labels) (rate_at net s.time) flows slopes → ⊥
+
+  none_fails : (s : Standing) (c : Cause ℚ) (phase : ℕ) → c ≡ Cause.NoPattern phase → WellRun net s → Fails passes net bounds.horizon bounds.patterns s c → NoneAt s
+  none_fails s _ phase e well (at_slack p below h) thin = passed_other _ _ _ phase e
+  none_fails s c phase e well (at_search a _ k h) thin = no_answer s phase a k (h ∙ ap (λ (d : Cause ℚ). Some d) e) well thin
+  none_fails s _ phase e well (at_lists place pattern f l p k h) thin = passed_other _ _ _ phase e
+
+  none_runs : (s last : Standing) (stop : Option (Cause ℚ)) (phase : ℕ) → stop ≡ Some (Cause.NoPattern phase) → WellRun net s → Runs passes net bounds s last stop → NoneAt last × WellRun net last
+  none_runs s last stop phase e well (at_horizon h) = absurd (none-some _ e)
+  none_runs s last stop phase e well (at_phases below h) = absurd (phases_other _ phase (same_cause _ _ e))
+  none_runs s last stop phase e well (fails {cause = c} may f) = (none_fails s c phase (same_cause c (Cause.NoPattern phase) e) well f, well)
+  none_runs s last stop phase e well (goes {new = t} may g rest) = none_runs t last stop phase e (WellRun-goes passes net good bounds s t g well) rest
+
+pub stops_for_none : (passes : Passing) (net : Network) (bounds : Bounds) (report : Report) → IsNetwork net → IsRunReport passes net bounds report → StopsForNoThinFlow net report.stop report.flow
+stops_for_none passes net bounds report good r phase h flows slopes =
+    let n = none_runs passes net good bounds flows slopes r.run.first r.last r.stop phase (ap (λ (w : Report). w.stop) (sym r.report_is) ∙ h) (WellRun-start net good r.run.first r.run.start) r.run.runs in
+    subst (λ (w : Report). IsThinFlow net (sets_at net (labels_reached net w.flow)) (rate_at net w.flow.reached) flows slopes → ⊥) (sym r.report_is)
+    (subst (λ (l : List ℚ). IsThinFlow net (sets_at net l) (rate_at net r.last.time) flows slopes → ⊥) (sym (labels_are net good r.last n.1)) n.0)

@@ -1,0 +1,228 @@
+// Walks along the Tight links that were looked at, each of them forward and backward: one hand on the wall.
+ghost use Rattle.std.specs.Prelude.{◌<◌, length, MatchBool};
+ghost use Rattle.nf_model.specs.declared.State.TheVariants.{Tight};
+ghost use Rattle.nf_model.specs.Pattern.{HasState};
+
+use nf_graph::{Hop, LinkId, NodeId};
+use nf_model::State;
+use std::alloc::{AllocError, Global};
+
+// The Tight links that were looked at, in such a way that the last one can be taken back: the last one at each node, and of each one
+// the one before it at its tail and at its head.
+#[derive(Drop, Debug)]
+pub(crate) struct TightLinks {
+    last: Vec<Option<LinkId>>,
+    tails: Vec<Option<LinkId>>,
+    heads: Vec<Option<LinkId>>,
+}
+
+// Where a walk is: at a node, with the link to go on by. With none, the links of the node are gone through.
+#[derive(Clone, Copy, Debug)]
+pub(crate) struct Place {
+    node: NodeId,
+    link: Option<LinkId>,
+}
+
+// The link's state is Tight.
+fn is_tight(states: &[Option<State>], link: LinkId) -> bool
+    requires { link < length states.now }
+    ensures { MatchBool result (HasState states.now link Tight) (HasState states.now link Tight → ⊥) }
+{
+    let state = states[link.index()];
+    match state {
+        Some(State::Tight) => true,
+        _ => false,
+    }
+}
+
+impl TightLinks {
+    ghost use Rattle.std.specs.Prelude.{◌≡◌, ◌<◌, ◌≤◌, ℕ, suc, length, List, Option, Some, None, slice_get, MatchBool, IfOk, IfSome};
+    ghost use Rattle.nf_model.specs.declared.State.TheVariants.{Tight};
+    ghost use Rattle.nf_model.specs.Pattern.{Pattern, HasState};
+    ghost use Rattle.nf_graph.specs.Graph.{AreBelow};
+    ghost use Rattle.nf_pattern.specs.Forest.{AreJoined, TightBefore, Closes, NoneCloses};
+    ghost use Rattle.nf_pattern.specs.Walking.{last_at, ends_at, other_end, Holds, IsPlace, Goes};
+
+    // No link was looked at.
+    pub(crate) fn none(alloc: Global, nodes: u32, hops: &[Hop]) -> Result<TightLinks, AllocError>
+        requires { AreBelow nodes hops.now }
+        ensures holds { IfOk result (λ tight. (pattern : Pattern) → Holds hops.now pattern 0 tight) }
+        ensures nodes { IfOk result (λ tight. length tight.last.items ≡ nodes) }
+    {
+        let last = vec![in alloc; None; nodes as usize]?;
+        let tails = vec![in alloc; None; hops.len()]?;
+        let heads = vec![in alloc; None; hops.len()]?;
+        Ok(TightLinks { last, tails, heads })
+    }
+
+    // From a node over a link, and on to the link before it at the node there.
+    fn cross(
+        &self,
+        hops: &[Hop],
+        states: &[Option<State>],
+        depth: usize,
+        node: NodeId,
+        link: LinkId,
+    ) -> Place
+        requires holds { Holds hops.now states.now depth self.now }
+        requires before { link < depth }
+        requires tight { HasState states.now link Tight }
+        requires link { link < length hops.now }
+        ensures node { result.node ≡ other_end hops.now link node }
+        ensures link { result.link ≡ last_at (ends_at hops.now states.now) link (other_end hops.now link node) }
+    {
+        // For the proof: of which states the links are Tight, and how many were looked at.
+        let _ = states;
+        let _ = depth;
+        let hop = &hops[link.index()];
+        if hop.tail == node {
+            Place {
+                node: hop.head,
+                link: self.heads[link.index()],
+            }
+        } else {
+            Place {
+                node: hop.tail,
+                link: self.tails[link.index()],
+            }
+        }
+    }
+
+    // One step of a walk; None at its end, where all links of the start are gone through.
+    fn step(
+        &self,
+        hops: &[Hop],
+        states: &[Option<State>],
+        depth: usize,
+        start: NodeId,
+        place: Place,
+    ) -> Option<Place>
+        requires holds { Holds hops.now states.now depth self.now }
+        requires place { IsPlace hops.now states.now depth place.node place.link }
+        requires within { place.node < length self.now.last.items }
+        ensures goes { Goes hops.now states.now depth start place result }
+        ensures place { IfSome result (λ after. IsPlace hops.now states.now depth after.node after.link × (after.node < length self.now.last.items)) }
+    {
+        match place.link {
+            Some(link) => Some(self.cross(hops, states, depth, place.node, link)),
+            None => {
+                if place.node == start {
+                    return None;
+                }
+                Some(Place {
+                    node: place.node,
+                    link: self.last[place.node.index()],
+                })
+            }
+        }
+    }
+
+    // Whether the links join two nodes: walks from both in turn, until one is at its end or comes to the other's start.
+    fn join(
+        &self,
+        hops: &[Hop],
+        states: &[Option<State>],
+        depth: usize,
+        tail: NodeId,
+        head: NodeId,
+    ) -> bool
+        requires holds { Holds hops.now states.now depth self.now }
+        requires clear { NoneCloses hops.now states.now depth }
+        requires tail { tail < length self.now.last.items }
+        requires head { head < length self.now.last.items }
+        ensures { MatchBool result (AreJoined hops.now (TightBefore states.now depth) head tail) (AreJoined hops.now (TightBefore states.now depth) head tail → ⊥) }
+    {
+        if tail == head {
+            return true;
+        }
+        let mut near = Place {
+            node: tail,
+            link: self.last[tail.index()],
+        };
+        let mut far = Place {
+            node: head,
+            link: self.last[head.index()],
+        };
+        while let Some(next) = self.step(hops, states, depth, tail, near) {
+            if next.node == head {
+                return true;
+            }
+            near = next;
+            let Some(other) = self.step(hops, states, depth, head, far) else {
+                return false;
+            };
+            if other.node == tail {
+                return true;
+            }
+            far = other;
+        }
+        false
+    }
+
+    // A Tight link more: it becomes the last one at both ends, and which one was before it is kept.
+    fn put(&mut self, hops: &[Hop], states: &[Option<State>], link: LinkId)
+        requires holds { Holds hops.now states.now link self.old }
+        requires link { link < length hops.now }
+        requires tight { HasState states.now link Tight }
+        ensures holds { Holds hops.now states.now (suc link) self.new }
+        ensures nodes { length self.new.last.items ≡ length self.old.last.items }
+    {
+        // For the proof: of which states the links are Tight.
+        let _ = states;
+        let hop = &hops[link.index()];
+        let (tail, head) = (hop.tail, hop.head);
+        self.tails[link.index()] = self.last[tail.index()];
+        self.heads[link.index()] = self.last[head.index()];
+        self.last[tail.index()] = Some(link);
+        self.last[head.index()] = Some(link);
+    }
+
+    // One link more was looked at; false where it is Tight and closes a cycle with those before it.
+    pub(crate) fn enter(&mut self, hops: &[Hop], states: &[Option<State>], link: LinkId) -> bool
+        requires link { link < length hops.now }
+        requires states { length states.now ≡ length hops.now }
+        requires holds { Holds hops.now states.now link self.old }
+        requires clear { NoneCloses hops.now states.now link }
+        ensures entered { MatchBool result (Holds hops.now states.now (suc link) self.new × NoneCloses hops.now states.now (suc link))
+            ((self.new ≡ self.old) × Closes hops.now states.now link) }
+        ensures nodes { length self.new.last.items ≡ length self.old.last.items }
+    {
+        if !is_tight(states, link) {
+            return true;
+        }
+        let hop = &hops[link.index()];
+        if self.join(hops, states, link.index(), hop.tail, hop.head) {
+            return false;
+        }
+        self.put(hops, states, link);
+        true
+    }
+
+    // The link is the last one at the node.
+    fn is_last_at(&self, node: NodeId, link: LinkId) -> bool
+        requires { node < length self.now.last.items }
+        ensures { MatchBool result (slice_get self.now.last.items node ≡ Some (Some link)) (slice_get self.now.last.items node ≡ Some (Some link) → ⊥) }
+    {
+        match self.last[node.index()] {
+            Some(last) => last == link,
+            None => false,
+        }
+    }
+
+    // The last link is taken back. It was put there where it is still the last one at its tail.
+    pub(crate) fn take_back(&mut self, hops: &[Hop], link: LinkId)
+        requires link { link < length hops.now }
+        requires tails { length self.old.tails.items ≡ length hops.now }
+        requires heads { length self.old.heads.items ≡ length hops.now }
+        requires below { AreBelow (length self.old.last.items) hops.now }
+        ensures holds { (pattern : Pattern) → Holds hops.now pattern (suc link) self.old → Holds hops.now pattern link self.new }
+        ensures nodes { length self.new.last.items ≡ length self.old.last.items }
+    {
+        let hop = &hops[link.index()];
+        let (tail, head) = (hop.tail, hop.head);
+        if self.is_last_at(tail, link) {
+            self.last[tail.index()] = self.tails[link.index()];
+            self.last[head.index()] = self.heads[link.index()];
+        }
+    }
+}

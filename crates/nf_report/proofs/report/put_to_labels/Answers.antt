@@ -1,0 +1,13 @@
+use Rattle.std.proofs.Common.{◌++◌, refl}
+use Rattle.std.specs.Option.{option_copied}
+use Rattle.nf_formats.specs.Report.{for_each, label_lines}
+use Rattle.nf_curve.specs.Flows.{flow_of}
+use Rattle.nf_report.specs.Written.{head_lines}
+use Rattle.nf_report.proofs.Gathering.{gathered_next, gathered_failed}
+use Rattle.nf_report.proofs.report.put_to_labels.Goals as goal
+
+pub returns-in_err-put_head : goal.returns-in_err-put_head
+returns-in_err-put_head g c = gathered_failed (head_lines c.args.net.now.version c.args.horizon c.args.flow.now.reached (option_copied c.args.stopped)) (for_each c.args.net.now.net.nodes (label_lines c.args.net.now (flow_of c.args.flow.now))) (head_lines c.args.net.now.version c.args.horizon c.args.flow.now.reached (option_copied c.args.stopped) ++ for_each c.args.net.now.net.nodes (label_lines c.args.net.now (flow_of c.args.flow.now))) c.from_residual.result (refl) c.from_residual.ensures.0 c.in_err-put_head.ensures
+
+pub returns : goal.returns
+returns g c = gathered_next (head_lines c.args.net.now.version c.args.horizon c.args.flow.now.reached (option_copied c.args.stopped)) (for_each c.args.net.now.net.nodes (label_lines c.args.net.now (flow_of c.args.flow.now))) (head_lines c.args.net.now.version c.args.horizon c.args.flow.now.reached (option_copied c.args.stopped) ++ for_each c.args.net.now.net.nodes (label_lines c.args.net.now (flow_of c.args.flow.now))) (refl) c.in_ok-put_head.ensures c.put_labels.ensures

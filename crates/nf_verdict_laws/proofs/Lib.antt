@@ -1,0 +1,5 @@
+pub mod Leaving
+pub mod After
+pub mod Totals
+pub mod Carried
+pub mod Verdicts
