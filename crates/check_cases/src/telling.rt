@@ -54,7 +54,11 @@ fn link_name(net: &Network, link: LinkId) -> &str {
 
 fn tell_passed<R: Print>(rt: &R, at: PassedAt<Q>) -> io::Result<()> {
     let (part, op) = (part_word(at.part), op_word(at.op));
-    println!(rt; "passed - {part} - {op} {} {}", Shown(at.left), Shown(at.right))
+    println!(rt;
+        "passed - {part} - {op} {} {}",
+        Shown(at.left),
+        Shown(at.right)
+    )
 }
 
 fn tell_answer<R: Print>(rt: &R, net: &Network, answer: &Answer) -> io::Result<()> {
@@ -71,7 +75,12 @@ fn tell_answer<R: Print>(rt: &R, net: &Network, answer: &Answer) -> io::Result<(
                 Subject::Node(node) => node_name(net, *node),
                 Subject::Link(link) => link_name(net, *link),
             };
-            println!(rt; "no {rule:?} {name} {} {} {}", Shown(*time), Shown(*left), Shown(*right))
+            println!(rt;
+                "no {rule:?} {name} {} {} {}",
+                Shown(*time),
+                Shown(*left),
+                Shown(*right)
+            )
         }
     }
 }

@@ -9,12 +9,11 @@ use Rattle.nf_work.specs.Passing.{Passing}
 use Rattle.nf_work.specs.declared.Halt.{Halt}
 use Rattle.nf_work.specs.declared.PassedAt.{PassedAt}
 use Rattle.nf_work.specs.Checked.{Gives}
-use Rattle.nf_model.specs.Curve.{Point, IsCurve}
+use Rattle.nf_model.specs.Curve.{IsCurve}
 use Rattle.nf_model.specs.Network.{Network, IsNetwork}
 use Rattle.nf_model.specs.Equilibrium.{Flow, AreCurves, points_at, points_of}
 use Rattle.nf_model.specs.Equilibrium as model
 use Rattle.nf_formats.specs.Report.{HaveRates}
-use Rattle.nf_curve_lists.specs.Lines.{Sides}
 use Rattle.nf_check_lists.specs.declared.Answer.{Answer}
 use Rattle.nf_check_lists.specs.declared.Answer.TheVariants.{Yes, No}
 use Rattle.nf_check_lists.specs.Rules.{Checks}

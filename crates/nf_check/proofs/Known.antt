@@ -1,22 +1,20 @@
 -- What is known of the labels and inflows once the first rules hold.
-use Rattle.std.proofs.Common.{◌≡◌, ℕ, zero, suc, ◌+◌, ◌<◌, List, [], ◌∷◌, length, map, Option, Some, None, slice_get, unwrap_or, refl, sym, ap, subst, ◌∙◌, arith}
+use Rattle.std.proofs.Common.{◌≡◌, ℕ, zero, suc, ◌+◌, ◌<◌, List, [], ◌∷◌, length, Option, Some, None, slice_get, unwrap_or, refl, sym, ap, subst, ◌∙◌, arith}
 use Rattle.std.proofs.lemmas.List.{length-map}
-use Rattle.std.proofs.lemmas.Option.{slice_get_within}
 use Rattle.std.specs.Prelude.{Result, Ok, Err}
-use Rattle.std.specs.List.{enumerate_from, range_with_len, AllByRecursion}
+use Rattle.std.specs.List.{enumerate_from, range_with_len}
 use Rattle.nf_rational.specs.Rational.{ℚ}
 use Rattle.nf_rational.specs.Operations.{0ℚ}
 use Rattle.nf_rational.specs.Order.{◌≤ℚ◌}
 use Rattle.nf_work.specs.Passing.{Passing}
 use Rattle.nf_work.specs.Checked.{Checked, each, ◌>>=◌}
 use Rattle.nf_work.specs.declared.Part.TheVariants.{Check}
-use Rattle.nf_model.specs.Curve.{Point, Within, value, IsCurve}
+use Rattle.nf_model.specs.Curve.{Point, value, IsCurve}
 use Rattle.nf_model.specs.Network.{Network}
 use Rattle.nf_model.specs.Equilibrium.{Flow, points_at, points_of}
 use Rattle.nf_curve_lists.specs.Lines.{Sides}
 use Rattle.nf_curve_lists.specs.Values.{checked_cut}
 use Rattle.nf_curve_laws.proofs.Values.{checked_cut-exact}
-use Rattle.nf_load_lists.specs.Loading as lists
 use Rattle.nf_check_lists.specs.declared.CheckRule.{CheckRule}
 use Rattle.nf_check_lists.specs.declared.CheckRule.TheVariants.{C1}
 use Rattle.nf_check_lists.specs.declared.Subject.{Subject}

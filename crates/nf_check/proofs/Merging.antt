@@ -1,5 +1,5 @@
 -- Times of two lists, in rising order.
-use Rattle.std.proofs.Common.{◌≡◌, ℕ, zero, suc, ◌+◌, ◌<◌, ◌≤◌, List, [], ◌∷◌, ◌++◌, length, drop, map, ◌⊎◌, inl, inr, ⊎_elim, Bool, true, false, Some, slice_get, refl, sym, ap, subst, ◌∙◌, append-nil, append_assoc, arith}
+use Rattle.std.proofs.Common.{◌≡◌, ℕ, zero, suc, ◌+◌, ◌<◌, ◌≤◌, List, [], ◌∷◌, ◌++◌, length, drop, ◌⊎◌, inl, inr, ⊎_elim, Bool, true, false, Some, slice_get, refl, sym, ap, subst, ◌∙◌, append-nil, append_assoc, arith}
 use Rattle.std.specs.Prelude.{if◌then◌else◌}
 use Rattle.std.specs.List.{AllByRecursion}
 use Rattle.nf_rational.specs.Rational.{ℚ}
@@ -7,7 +7,7 @@ use Rattle.nf_rational.specs.Operations.{0ℚ}
 use Rattle.nf_rational.specs.Order.{◌≤ℚ◌, ◌<ℚ◌, lt_ℚ, min_ℚ}
 use Rattle.nf_rational_laws.proofs.Order.{≤ℚ_of_lt, ≤ℚ_of_same, not_both_ℚ}
 use Rattle.nf_rational_laws.proofs.Tests.{lt_ℚ_cases}
-use Rattle.nf_rational_laws.proofs.Chains.{≤ℚ_refl, ≤ℚ_trans}
+use Rattle.nf_rational_laws.proofs.Chains.{≤ℚ_trans}
 use Rattle.nf_model.specs.Curve.{Point, TimesRise, IsCurve}
 use Rattle.nf_curve_lists.specs.Times.{merged, merged_from, times_of}
 use Rattle.nf_curve_laws.proofs.Times.{merged_from-cases}

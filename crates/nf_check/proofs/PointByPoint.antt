@@ -11,13 +11,13 @@ use Rattle.nf_work.specs.Passing.{Passing}
 use Rattle.nf_work.specs.Checked.{at_part, ◌>>=◌}
 use Rattle.nf_work.specs.declared.Part.TheVariants.{Check}
 use Rattle.nf_work.specs.declared.PassedAt.{PassedAt}
-use Rattle.nf_model.specs.Curve.{Point, TimesRise, IsCurve}
-use Rattle.nf_curve_lists.specs.Lines.{Sides, checked_slope}
+use Rattle.nf_model.specs.Curve.{Point, IsCurve}
+use Rattle.nf_curve_lists.specs.Lines.{checked_slope}
 use Rattle.nf_curve.proofs.Placing.{rise-pairs, curve-rises}
 use Rattle.nf_curve.proofs.Shortening.{drop-at}
 use Rattle.nf_check_lists.specs.declared.CheckRule.TheVariants.{C2}
 use Rattle.nf_check_lists.specs.declared.Subject.{Subject}
-use Rattle.nf_check_lists.specs.Trial.{Passes, Trial, in_part, unless}
+use Rattle.nf_check_lists.specs.Trial.{Passes, in_part, unless}
 use Rattle.nf_check_lists.specs.PointRules.{negative_point, falling_from, if_other, rates_from, rates_list}
 use Rattle.nf_check_lists.specs.Curves.{greatest_value, last_value}
 use Rattle.nf_model.specs.Network.{Network}

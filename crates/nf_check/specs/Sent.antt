@@ -1,6 +1,5 @@
 -- Three curves by departure: what has been sent into a link, its exits, and the labels of its head.
 use Rattle.std.specs.Prelude.{◌≡◌, ℕ, ◌≤◌, List, length, if◌then◌else◌, ◌+◌, Ok}
-use Rattle.std.specs.List.{AllByRecursion}
 use Rattle.nf_rational.specs.Rational.{ℚ}
 use Rattle.nf_rational.specs.Order.{lt_ℚ}
 use Rattle.nf_work.specs.Passing.{Passing}

@@ -48,12 +48,7 @@ fn work_out(alloc: Global, net: &Network, flow: &Flow) -> Result<Worked, Ended>
 
 // The rules that compare curves.
 #[tactic(auto, unfolding(crate::specs::Steps::compared_list))]
-fn compare_all(
-    alloc: Global,
-    net: &Network,
-    flow: &Flow,
-    worked: &Worked,
-) -> Result<(), Ended>
+fn compare_all(alloc: Global, net: &Network, flow: &Flow, worked: &Worked) -> Result<(), Ended>
     requires given { IsGiven net.now.net flow.now }
     requires worked { IsWorked net.now.net worked.now }
     ensures { Tries (λ _. tt) result (compared_list passes_Q net.now.net (flow_of flow.now) (labels_in worked.now) (loaded_in worked.now)) }

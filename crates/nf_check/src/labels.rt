@@ -47,11 +47,7 @@ fn cut_label(alloc: Global, net: &Network, flow: &Flow, node: NodeId) -> Result<
 {
     let label = curve_at(&flow.labels, node.index());
     let cut = label.cut(alloc, flow.reached, Part::Check)?;
-    unless(
-        CheckRule::C1,
-        Subject::Node(node),
-        negative_point(&cut),
-    )?;
+    unless(CheckRule::C1, Subject::Node(node), negative_point(&cut))?;
     Ok(cut)
 }
 

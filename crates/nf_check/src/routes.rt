@@ -42,14 +42,7 @@ fn detour(
     ensures { Gives (option_map difference_of) (λ q. q) result
         (at_part Check (detour_list passes_Q inflow.now.points exit.now.points tail_label.now.points head_label.now.points last)) }
 {
-    let sent = Sent::along(
-        alloc,
-        inflow,
-        exit,
-        tail_label,
-        head_label,
-        last,
-    )?;
+    let sent = Sent::along(alloc, inflow, exit, tail_label, head_label, last)?;
     let times = sent.times(alloc)?;
     let detour = first_detour(&sent, &times)?;
     Ok(detour)
@@ -75,14 +68,7 @@ fn check_route(
     let exit = &loaded_at(&worked.loaded, link).exit;
     let tail_label = curve_at(&worked.labels, here.tail.index());
     let head_label = curve_at(&worked.labels, here.head.index());
-    let detour = detour(
-        alloc,
-        inflow,
-        exit,
-        tail_label,
-        head_label,
-        flow.reached,
-    )?;
+    let detour = detour(alloc, inflow, exit, tail_label, head_label, flow.reached)?;
     unless(CheckRule::C8, Subject::Link(link), detour)
 }
 

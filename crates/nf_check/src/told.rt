@@ -32,13 +32,7 @@ fn check_outflow(net: &Network, flow: &Flow, worked: &Worked, link: LinkId) -> R
     let last = last_value(curve_at(&worked.labels, head.index()));
     let told = &trace_at(&flow.outflows, link).curve;
     let right = &loaded_at(&worked.loaded, link).outflow;
-    compare(
-        CheckRule::C4,
-        Subject::Link(link),
-        told,
-        right,
-        last,
-    )
+    compare(CheckRule::C4, Subject::Link(link), told, right, last)
 }
 
 // The queue of a link, up to the last label of its tail.
@@ -53,13 +47,7 @@ fn check_queue(net: &Network, flow: &Flow, worked: &Worked, link: LinkId) -> Res
     let last = last_value(curve_at(&worked.labels, tail.index()));
     let told = curve_at(&flow.queues, link.index());
     let right = &loaded_at(&worked.loaded, link).queue;
-    compare(
-        CheckRule::C5,
-        Subject::Link(link),
-        told,
-        right,
-        last,
-    )
+    compare(CheckRule::C5, Subject::Link(link), told, right, last)
 }
 
 // The outflows of all links.

@@ -1,6 +1,5 @@
 use Rattle.std.proofs.lemmas.Result.{err_from_is_err_and}
-use Rattle.std.proofs.Common.{List, sym, ap, ◌∙◌}
-use Rattle.nf_model.specs.Curve.{Point}
+use Rattle.std.proofs.Common.{List, ap, ◌∙◌}
 use Rattle.nf_model.specs.Equilibrium.{points_at}
 use Rattle.nf_work.specs.Passing.{passes_Q}
 use Rattle.nf_curve.specs.Flows.{flow_of}

@@ -1,10 +1,9 @@
 use Rattle.std.proofs.lemmas.Result.{err_from_is_err_and}
-use Rattle.std.proofs.Common.{List, sym, ap, ◌∙◌}
+use Rattle.std.proofs.Common.{◌∙◌}
 use Rattle.std.specs.List.{enumerate_from}
 use Rattle.nf_work.specs.Passing.{passes_Q}
 use Rattle.nf_work.specs.Checked.{each}
 use Rattle.nf_curve.specs.Flows.{flow_of}
-use Rattle.nf_curve.specs.Points.{Grown}
 use Rattle.nf_check_lists.specs.Rules.{all_nodes, all_links}
 use Rattle.nf_check_lists.specs.CheckList.{label_cut, inflow_rule, link_rates, loading}
 use Rattle.nf_check.specs.Kept.{curves_of}

@@ -2,7 +2,6 @@ use Rattle.std.proofs.Common.{◌≡◌, true, false, Some, sym, ap, ◌∙◌}
 use Rattle.nf_rational.specs.Rational.{ℚ}
 use Rattle.nf_rational.specs.Operations.{0ℚ}
 use Rattle.nf_rational.specs.Order.{lt_ℚ}
-use Rattle.nf_curve_lists.specs.Lines.{Sides}
 use Rattle.nf_check.proofs.PointByPoint.{is_negative, not_negative}
 use Rattle.nf_check.proofs.labels.negative_point.Goals as goal
 

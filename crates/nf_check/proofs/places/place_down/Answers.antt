@@ -1,4 +1,4 @@
-use Rattle.std.proofs.Common.{◌<◌, ◌-◌, sym, ◌∙◌, arith}
+use Rattle.std.proofs.Common.{◌-◌, sym, ◌∙◌, arith}
 use Rattle.nf_curve.proofs.Placing.{not-yet, curve-rises}
 use Rattle.nf_check.proofs.places.place_down.Goals as goal
 

@@ -1,15 +1,9 @@
-use Rattle.std.proofs.Common.{◌≡◌, ◌<◌, ◌≤◌, List, length, Some, slice_get, refl, sym, ap, ◌∙◌, arith}
+use Rattle.std.proofs.Common.{◌≡◌, ◌≤◌, List, length, Some, slice_get, refl, sym, ap, ◌∙◌, arith}
 use Rattle.std.proofs.lemmas.Option.{slice_get_read}
 use Rattle.std.proofs.lemmas.Result.{err_from_is_err_and}
-use Rattle.std.specs.Prelude.{Option}
 use Rattle.nf_rational.specs.Rational.{ℚ}
 use Rattle.nf_work.specs.Passing.{passes_Q}
-use Rattle.nf_curve_lists.specs.Lines.{Sides}
-use Rattle.nf_check_lists.specs.declared.CheckRule.TheVariants.{C2}
 use Rattle.nf_check_lists.specs.declared.Subject.TheVariants.{Link as OfLink}
-use Rattle.nf_check_lists.specs.Trial.{unless}
-use Rattle.nf_check.specs.Trials.{EndsAs}
-use Rattle.nf_check.proofs.Trying.{ends_as}
 use Rattle.nf_check.proofs.PointByPoint.{times_apart, slope_ends, other_ends, rate_fits, rates_end}
 use Rattle.nf_check.proofs.rates.check_trace.Goals as goal
 

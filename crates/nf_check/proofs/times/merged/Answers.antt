@@ -1,9 +1,9 @@
-use Rattle.std.proofs.Common.{◌≡◌, ◌≤◌, ◌<◌, ◌+◌, ◌-◌, ◌++◌, List, Some, length, drop, take, slice_get, ◌⊎◌, refl, inl, inr, sym, ap, ◌∙◌, arith}
+use Rattle.std.proofs.Common.{◌≡◌, ◌≤◌, ◌<◌, ◌+◌, ◌-◌, ◌++◌, List, Some, length, drop, take, slice_get, ◌⊎◌, refl, inl, inr, ap, ◌∙◌, arith}
 use Rattle.std.proofs.lemmas.Option.{slice_get_read}
 use Rattle.std.proofs.lemmas.List.{take_rest}
 use Rattle.nf_curve_lists.specs.Times.{merged}
 use Rattle.nf_rational.specs.Rational.{ℚ}
-use Rattle.nf_check.proofs.Merging.{times_go, times_end, moved_least, moved_most, one_moves}
+use Rattle.nf_check.proofs.Merging.{times_go, times_end, moved_most, one_moves}
 use Rattle.nf_check.proofs.times.merged.Goals.{then-loop-i-test+else-j-right, else-loop-i-test}
 use Rattle.nf_check.proofs.times.merged.Goals as goal
 

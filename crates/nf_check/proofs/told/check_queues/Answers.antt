@@ -1,7 +1,6 @@
-use Rattle.std.proofs.Common.{◌<◌, ◌≤◌, length, Some, slice_get, arith}
+use Rattle.std.proofs.Common.{◌<◌, ◌≤◌, length, arith}
 use Rattle.std.proofs.lemmas.Result.{err_from_is_err_and}
 use Rattle.nf_work.specs.Passing.{passes_Q}
-use Rattle.nf_model.specs.Network.{Link}
 use Rattle.nf_check_lists.specs.CheckList.{queue_rule}
 use Rattle.nf_curve.specs.Flows.{flow_of}
 use Rattle.nf_check.specs.Kept.{labels_in, loaded_in}

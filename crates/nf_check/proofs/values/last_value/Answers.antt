@@ -1,4 +1,4 @@
-use Rattle.std.proofs.Common.{◌≡◌, ◌-◌, ◌+◌, length, arith}
+use Rattle.std.proofs.Common.{◌-◌, arith}
 use Rattle.nf_check.proofs.PointByPoint.{last_is, all_from_0}
 use Rattle.nf_check.proofs.values.last_value.Goals as goal
 

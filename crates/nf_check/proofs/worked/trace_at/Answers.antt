@@ -1,4 +1,4 @@
-use Rattle.std.proofs.Common.{◌<◌, length, refl, ap, subst, ◌∙◌, arith}
+use Rattle.std.proofs.Common.{refl}
 use Rattle.std.proofs.lemmas.Option.{slice_get_read}
 use Rattle.nf_check.proofs.ByNumber.{trace_points}
 use Rattle.nf_check.proofs.worked.trace_at.Goals as goal
