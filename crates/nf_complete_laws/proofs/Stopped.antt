@@ -38,7 +38,7 @@ AreGoodSets-well net good s well = record {
 number_get : (xs : List ℚ) (v : ℕ) → v < length xs → number_at xs v ≡ get_or xs v 0ℚ
 number_get xs v h = ap (λ (o : Option ℚ). unwrap_or o 0ℚ) (slice_get-get_or xs v 0ℚ h)
 
-labels_are : (net : Network) (good : IsNetwork net) (s : Standing) → WellRun net s → labels_reached net (flow_of s) ≡ s.labels
+pub labels_are : (net : Network) (good : IsNetwork net) (s : Standing) → WellRun net s → labels_reached net (flow_of s) ≡ s.labels
 labels_are net good s well = same_entries 0ℚ (labels_reached net (flow_of s)) s.labels (many ∙ sym (label_count_at net good s well)) (λ v h. at v (subst (λ (k : ℕ). v < k) many h))
   where
     many : length (labels_reached net (flow_of s)) ≡ net.nodes

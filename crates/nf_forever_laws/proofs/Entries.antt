@@ -1,0 +1,93 @@
+-- The lists of a flow that goes on by a tail, entry by entry.
+use Rattle.std.proofs.Common.{◌≡◌, ℕ, zero, suc, List, [], ◌∷◌, ◌++◌, length, ap, refl, ◌∙◌, arith}
+use Rattle.std.specs.Prelude.{Some, slice_get}
+use Rattle.std.proofs.lemmas.Option.{none-some, same_Some}
+use Rattle.nf_rational.specs.Rational.{ℚ}
+use Rattle.nf_model.specs.Entries.{number_at}
+use Rattle.nf_model.specs.Curve.{Point}
+use Rattle.nf_model.specs.Network.{Link, hop_of}
+use Rattle.nf_model.specs.ThinFlow.{slack}
+use Rattle.nf_model.specs.Equilibrium.{Trace}
+use Rattle.nf_lists.specs.Signs.{is_positive}
+use Rattle.nf_forever_lists.specs.Extended.{value_after, labels_then, queue_then, with_end, trace_with_end, labels_with_end, inflows_with_end, outflows_with_end, queues_with_end}
+
+pub labels_then_at : (w : ℚ) (slopes : List ℚ) (curves : List (List Point)) (v : ℕ) (r : ℚ) (ps : List Point) → slice_get slopes v ≡ Some r → slice_get curves v ≡ Some ps
+    → slice_get (labels_then w slopes curves) v ≡ Some (value_after ps w r)
+labels_then_at w [] curves v r ps h k = absurd (none-some r h)
+labels_then_at w (q ∷ slopes) [] v r ps h k = absurd (none-some ps k)
+labels_then_at w (q ∷ slopes) (d ∷ curves) zero r ps h k = ap (λ (r : ℚ). Some (value_after d w r)) (same_Some q r h) ∙ ap (λ (d : List Point). Some (value_after d w r)) (same_Some d ps k)
+labels_then_at w (q ∷ slopes) (d ∷ curves) (suc v) r ps h k = labels_then_at w slopes curves v r ps h k
+
+pub labels_with_end_at : (until : ℚ) (labels : List ℚ) (curves : List (List Point)) (v : ℕ) (x : ℚ) (ps : List Point) → slice_get labels v ≡ Some x → slice_get curves v ≡ Some ps
+    → slice_get (labels_with_end until labels curves) v ≡ Some (ps ++ (until, x) ∷ [])
+labels_with_end_at until [] curves v x ps h k = absurd (none-some x h)
+labels_with_end_at until (y ∷ labels) [] v x ps h k = absurd (none-some ps k)
+labels_with_end_at until (y ∷ labels) (d ∷ curves) zero x ps h k =
+    ap (λ (x : ℚ). Some (d ++ (until, x) ∷ [])) (same_Some y x h) ∙ ap (λ (d : List Point). Some (d ++ (until, x) ∷ [])) (same_Some d ps k)
+labels_with_end_at until (y ∷ labels) (d ∷ curves) (suc v) x ps h k = labels_with_end_at until labels curves v x ps h k
+
+pub labels_with_end-length : (until : ℚ) (labels : List ℚ) (curves : List (List Point)) (n : ℕ) → length labels ≡ n → length curves ≡ n → length (labels_with_end until labels curves) ≡ n
+labels_with_end-length until [] curves n h k = h
+labels_with_end-length until (y ∷ labels) [] n h k = k
+labels_with_end-length until (y ∷ labels) (d ∷ curves) zero h k = absurd (omega arith)
+labels_with_end-length until (y ∷ labels) (d ∷ curves) (suc n) h k = ap suc (labels_with_end-length until labels curves n (omega arith) (omega arith))
+
+pub labels_then-length : (w : ℚ) (slopes : List ℚ) (curves : List (List Point)) (n : ℕ) → length slopes ≡ n → length curves ≡ n → length (labels_then w slopes curves) ≡ n
+labels_then-length w [] curves n h k = h
+labels_then-length w (y ∷ slopes) [] n h k = k
+labels_then-length w (y ∷ slopes) (d ∷ curves) zero h k = absurd (omega arith)
+labels_then-length w (y ∷ slopes) (d ∷ curves) (suc n) h k = ap suc (labels_then-length w slopes curves n (omega arith) (omega arith))
+
+module _ (w : ℚ) (slopes labels : List ℚ) where
+  abbrev pub inflow_new : Link → ℚ → Trace → Trace
+  inflow_new link flow trace = trace_with_end (is_positive (number_at slopes link.tail)) trace (number_at labels link.tail, value_after trace.points w flow)
+
+  abbrev pub outflow_new : Link → ℚ → Trace → Trace
+  outflow_new link flow trace = trace_with_end (is_positive (number_at slopes link.head)) trace (number_at labels link.head, value_after trace.points w flow)
+
+  abbrev pub queue_new : Link → List Point → List Point
+  queue_new link points = with_end (is_positive (number_at slopes link.tail)) points (number_at labels link.tail, queue_then link.capacity (slack labels (hop_of link)))
+
+  pub inflows_at : (links : List Link) (flows : List ℚ) (traces : List Trace) (e : ℕ) (link : Link) (x : ℚ) (t : Trace) → slice_get links e ≡ Some link → slice_get flows e ≡ Some x → slice_get traces e ≡ Some t
+      → slice_get (inflows_with_end w slopes labels links flows traces) e ≡ Some (inflow_new link x t)
+  inflows_at [] flows traces e link x t h k j = absurd (none-some link h)
+  inflows_at (l ∷ links) [] traces e link x t h k j = absurd (none-some x k)
+  inflows_at (l ∷ links) (y ∷ flows) [] e link x t h k j = absurd (none-some t j)
+  inflows_at (l ∷ links) (y ∷ flows) (d ∷ traces) zero link x t h k j = ap (λ (l : Link). Some (inflow_new l y d)) (same_Some l link h)
+      ∙ ap (λ (y : ℚ). Some (inflow_new link y d)) (same_Some y x k) ∙ ap (λ (d : Trace). Some (inflow_new link x d)) (same_Some d t j)
+  inflows_at (l ∷ links) (y ∷ flows) (d ∷ traces) (suc e) link x t h k j = inflows_at links flows traces e link x t h k j
+
+  pub inflows-length : (links : List Link) (flows : List ℚ) (traces : List Trace) → length flows ≡ length links → length traces ≡ length links
+      → length (inflows_with_end w slopes labels links flows traces) ≡ length links
+  inflows-length [] flows traces k j = refl
+  inflows-length (l ∷ links) [] traces k j = k
+  inflows-length (l ∷ links) (y ∷ flows) [] k j = j
+  inflows-length (l ∷ links) (y ∷ flows) (d ∷ traces) k j = ap suc (inflows-length links flows traces (omega arith) (omega arith))
+
+  pub outflows_at : (links : List Link) (flows : List ℚ) (traces : List Trace) (e : ℕ) (link : Link) (x : ℚ) (t : Trace) → slice_get links e ≡ Some link → slice_get flows e ≡ Some x → slice_get traces e ≡ Some t
+      → slice_get (outflows_with_end w slopes labels links flows traces) e ≡ Some (outflow_new link x t)
+  outflows_at [] flows traces e link x t h k j = absurd (none-some link h)
+  outflows_at (l ∷ links) [] traces e link x t h k j = absurd (none-some x k)
+  outflows_at (l ∷ links) (y ∷ flows) [] e link x t h k j = absurd (none-some t j)
+  outflows_at (l ∷ links) (y ∷ flows) (d ∷ traces) zero link x t h k j = ap (λ (l : Link). Some (outflow_new l y d)) (same_Some l link h)
+      ∙ ap (λ (y : ℚ). Some (outflow_new link y d)) (same_Some y x k) ∙ ap (λ (d : Trace). Some (outflow_new link x d)) (same_Some d t j)
+  outflows_at (l ∷ links) (y ∷ flows) (d ∷ traces) (suc e) link x t h k j = outflows_at links flows traces e link x t h k j
+
+  pub outflows-length : (links : List Link) (flows : List ℚ) (traces : List Trace) → length flows ≡ length links → length traces ≡ length links
+      → length (outflows_with_end w slopes labels links flows traces) ≡ length links
+  outflows-length [] flows traces k j = refl
+  outflows-length (l ∷ links) [] traces k j = k
+  outflows-length (l ∷ links) (y ∷ flows) [] k j = j
+  outflows-length (l ∷ links) (y ∷ flows) (d ∷ traces) k j = ap suc (outflows-length links flows traces (omega arith) (omega arith))
+
+  pub queues_at : (links : List Link) (curves : List (List Point)) (e : ℕ) (link : Link) (ps : List Point) → slice_get links e ≡ Some link → slice_get curves e ≡ Some ps
+      → slice_get (queues_with_end w slopes labels links curves) e ≡ Some (queue_new link ps)
+  queues_at [] curves e link ps h j = absurd (none-some link h)
+  queues_at (l ∷ links) [] e link ps h j = absurd (none-some ps j)
+  queues_at (l ∷ links) (d ∷ curves) zero link ps h j = ap (λ (l : Link). Some (queue_new l d)) (same_Some l link h) ∙ ap (λ (d : List Point). Some (queue_new link d)) (same_Some d ps j)
+  queues_at (l ∷ links) (d ∷ curves) (suc e) link ps h j = queues_at links curves e link ps h j
+
+  pub queues-length : (links : List Link) (curves : List (List Point)) → length curves ≡ length links → length (queues_with_end w slopes labels links curves) ≡ length links
+  queues-length [] curves j = refl
+  queues-length (l ∷ links) [] j = j
+  queues-length (l ∷ links) (d ∷ curves) j = ap suc (queues-length links curves (omega arith))
