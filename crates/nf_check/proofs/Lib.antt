@@ -1,0 +1,10 @@
+pub mod Trying
+pub mod Looping
+pub mod Folding
+pub mod PointByPoint
+pub mod ByNumber
+pub mod Known
+pub mod Merging
+pub mod Stretching
+pub mod Testing
+pub mod Answering

@@ -1,0 +1,12 @@
+-- What an answer says of a flow.
+use Rattle.std.specs.Prelude.{◌≢◌, ℕ}
+use Rattle.nf_rational.specs.Rational.{ℚ}
+use Rattle.nf_model.specs.Network.{Network}
+use Rattle.nf_model.specs.Equilibrium.{Flow, Equilibrium}
+use Rattle.nf_check_lists.specs.declared.Answer.{Answer}
+use Rattle.nf_check_lists.specs.declared.Answer.TheVariants.{Yes, No}
+
+-- yes is said of equilibria alone, and no of none: with two values that differ
+abbrev pub IsExact : Network → Flow → Answer ℕ ℕ ℚ → Type 0
+IsExact net flow Yes = Equilibrium net flow
+IsExact net flow (No rule subject time left right) = (left ≢ right) × ¬ Equilibrium net flow

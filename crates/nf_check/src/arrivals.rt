@@ -1,0 +1,187 @@
+// The third rule: the labels are the least exits.
+ghost use Rattle.std.specs.Prelude.{◌≡◌, ◌<◌, length, Some, IfOk, option_map};
+ghost use Rattle.nf_rational.specs.Operations.{0ℚ};
+ghost use Rattle.nf_rational.specs.Order.{◌≤ℚ◌};
+ghost use Rattle.nf_work.specs.declared.Part.TheVariants.{Check};
+ghost use Rattle.nf_work.specs.Passing.{passes_Q};
+ghost use Rattle.nf_work.specs.Checked.{at_part, each, Gives};
+ghost use Rattle.nf_model.specs.Network.{Link, IsLink};
+ghost use Rattle.nf_model.specs.Equilibrium.{points_at};
+ghost use Rattle.nf_curve_lists.specs.Composed.{checked_composed};
+ghost use Rattle.nf_check_lists.specs.Rules.{nodes_but};
+ghost use Rattle.nf_check_lists.specs.Curves.{departures as departures_by, loaded_at as loaded_by, least_so_far as lesser_by, with_exit as with_exit_by, least_exits as least_by};
+ghost use Rattle.nf_check_lists.specs.CheckList.{arrivals};
+ghost use Rattle.nf_curve.specs.Flows.{flow_of};
+ghost use Rattle.nf_check.specs.Kept.{IsWorked, labels_in, loaded_in};
+ghost use Rattle.nf_check.specs.Steps.{arrivals_list};
+ghost use Rattle.nf_check.specs.Trials.{Tries, done};
+
+use crate::answer::Subject;
+use crate::compared::compare;
+use crate::ended::Ended;
+use crate::worked::{Worked, curve_at, loaded_at};
+use nf_check_lists::CheckRule;
+use nf_curve::{Curve, Flow};
+use nf_frac::{Halt, Part, Q};
+use nf_graph::{LinkId, NodeId};
+use nf_net::Network;
+use std::alloc::{AllocError, Global};
+
+// The departures themselves, up to a last one.
+fn departures(alloc: Global, last: Q) -> Result<Curve, AllocError>
+    requires { 0ℚ ≤ℚ last }
+    ensures { IfOk result (λ c. c.points ≡ departures_by last) }
+{
+    let mut line = Curve::start(alloc, Q::zero())?;
+    if !last.is_zero() {
+        line.push(last, last)?;
+    }
+    Ok(line)
+}
+
+// The exit of a link, for who comes to its tail at the label there.
+fn exit_along(
+    alloc: Global,
+    net: &Network,
+    worked: &Worked,
+    reached: Q,
+    link: LinkId,
+) -> Result<Curve, Halt<Q>>
+    requires link { link < length net.now.net.links }
+    requires worked { IsWorked net.now.net worked.now }
+    requires reached { 0ℚ ≤ℚ reached }
+    ensures { (here : Link) → IsLink net.now.net link here → Gives (λ c. c.points) (λ q. q) result
+        (at_part Check (checked_composed passes_Q (loaded_by (loaded_in worked.now) link).exit (points_at (labels_in worked.now) here.tail) reached)) }
+{
+    let tail = net.link(link).tail;
+    let exit = &loaded_at(&worked.loaded, link).exit;
+    let label = curve_at(&worked.labels, tail.index());
+    Curve::compose(alloc, exit, label, reached, Part::Check)
+}
+
+// The lesser of a curve and one more, if there is one so far.
+fn lesser(alloc: Global, so_far: Option<Curve>, curve: Curve) -> Result<Curve, Halt<Q>>
+    ensures { Gives (λ c. Some c.points) (λ q. q) result (at_part Check (lesser_by passes_Q (option_map (λ c. c.points) so_far) curve.points)) }
+{
+    match so_far {
+        None => Ok(curve),
+        Some(so_far) => Curve::least(alloc, &so_far, &curve, Part::Check),
+    }
+}
+
+// The least exit so far, with that of a link if it leads to the node.
+fn with_exit(
+    alloc: Global,
+    net: &Network,
+    worked: &Worked,
+    reached: Q,
+    node: NodeId,
+    so_far: Option<Curve>,
+    link: LinkId,
+) -> Result<Option<Curve>, Halt<Q>>
+    requires link { link < length net.now.net.links }
+    requires worked { IsWorked net.now.net worked.now }
+    requires reached { 0ℚ ≤ℚ reached }
+    ensures { (here : Link) → IsLink net.now.net link here → Gives (λ o. option_map (λ c. c.points) o) (λ q. q) result
+        (at_part Check (with_exit_by passes_Q (labels_in worked.now) (loaded_in worked.now) reached node (option_map (λ c. c.points) so_far) (link, here))) }
+{
+    if net.link(link).head != node {
+        return Ok(so_far);
+    }
+    let exit = exit_along(alloc, net, worked, reached, link)?;
+    let least = lesser(alloc, so_far, exit)?;
+    Ok(Some(least))
+}
+
+// The least exit over the links into a node, where there is one.
+fn least_exits(
+    alloc: Global,
+    net: &Network,
+    worked: &Worked,
+    reached: Q,
+    node: NodeId,
+) -> Result<Option<Curve>, Halt<Q>>
+    requires worked { IsWorked net.now.net worked.now }
+    requires reached { 0ℚ ≤ℚ reached }
+    ensures { Gives (λ o. option_map (λ c. c.points) o) (λ q. q) result
+        (at_part Check (least_by passes_Q (labels_in worked.now) (loaded_in worked.now) reached net.now.net.links node)) }
+{
+    let mut least = None;
+    for number in 0..net.link_count() {
+        least = with_exit(alloc, net, worked, reached, node, least, LinkId(number))?;
+    }
+    Ok(least)
+}
+
+// The label of a node.
+fn check_arrival(
+    alloc: Global,
+    net: &Network,
+    flow: &Flow,
+    worked: &Worked,
+    node: NodeId,
+) -> Result<(), Ended>
+    requires node { node < net.now.net.nodes }
+    requires worked { IsWorked net.now.net worked.now }
+    requires reached { 0ℚ ≤ℚ flow.now.reached }
+    ensures { Tries (λ _. tt) result (arrivals passes_Q net.now.net (flow_of flow.now) (labels_in worked.now) (loaded_in worked.now) node) }
+{
+    match least_exits(alloc, net, worked, flow.reached, node)? {
+        None => Ok(()),
+        Some(exits) => {
+            let label = curve_at(&worked.labels, node.index());
+            compare(
+                CheckRule::C3,
+                Subject::Node(node),
+                label,
+                &exits,
+                flow.reached,
+            )
+        }
+    }
+}
+
+// The labels of all nodes but the source.
+fn check_arrivals_at(
+    alloc: Global,
+    net: &Network,
+    flow: &Flow,
+    worked: &Worked,
+) -> Result<(), Ended>
+    requires worked { IsWorked net.now.net worked.now }
+    requires reached { 0ℚ ≤ℚ flow.now.reached }
+    ensures { Tries (λ _. tt) result
+        (done (each (arrivals passes_Q net.now.net (flow_of flow.now) (labels_in worked.now) (loaded_in worked.now)) (nodes_but net.now.net.source net.now.net))) }
+{
+    for number in 0..net.node_count() {
+        let node = NodeId(number);
+        if node != net.source() {
+            check_arrival(alloc, net, flow, worked, node)?;
+        }
+    }
+    Ok(())
+}
+
+/// The label of the source is the departure, and each other one the least exit.
+pub(crate) fn check_arrivals(
+    alloc: Global,
+    net: &Network,
+    flow: &Flow,
+    worked: &Worked,
+) -> Result<(), Ended>
+    requires worked { IsWorked net.now.net worked.now }
+    requires reached { 0ℚ ≤ℚ flow.now.reached }
+    ensures { Tries (λ _. tt) result (arrivals_list passes_Q net.now.net (flow_of flow.now) (labels_in worked.now) (loaded_in worked.now)) }
+{
+    let source = net.source();
+    let line = departures(alloc, flow.reached)?;
+    let label = curve_at(&worked.labels, source.index());
+    compare(
+        CheckRule::C3,
+        Subject::Node(source),
+        label,
+        &line,
+        flow.reached,
+    )?;
+    check_arrivals_at(alloc, net, flow, worked)
+}

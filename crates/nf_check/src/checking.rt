@@ -1,0 +1,118 @@
+// Whether a flow is an equilibrium.
+ghost use Rattle.std.specs.Prelude.{◌≡◌, ◌<◌, ℕ, length, map, IfOk};
+ghost use Rattle.nf_rational.specs.Operations.{0ℚ};
+ghost use Rattle.nf_rational.specs.Order.{◌≤ℚ◌};
+ghost use Rattle.nf_work.specs.Passing.{passes_Q};
+ghost use Rattle.nf_work.specs.Checked.{Gives};
+ghost use Rattle.nf_model.specs.Curve.{IsCurve};
+ghost use Rattle.nf_model.specs.Equilibrium.{points_at, points_of};
+ghost use Rattle.nf_formats.specs.Report.{HaveRates};
+ghost use Rattle.nf_check_lists.specs.Rules.{Checks};
+ghost use Rattle.nf_check_lists.specs.CheckList.{trial, check_list};
+ghost use Rattle.nf_curve.specs.Flows.{trace_of, flow_of};
+ghost use Rattle.nf_check.specs.Answers.{IsExact};
+ghost use Rattle.nf_check.specs.Given.{IsGiven};
+ghost use Rattle.nf_check.specs.Kept.{IsWorked, curves_of, labels_in, loaded_in};
+ghost use Rattle.nf_check.specs.Steps.{worked_list, compared_list};
+ghost use Rattle.nf_check.specs.Trials.{Tries, done};
+
+use crate::answer::Answer;
+use crate::arrivals::check_arrivals;
+use crate::balances::check_balances;
+use crate::ended::{Ended, answer_of};
+use crate::inflows::check_inflows;
+use crate::labels::cut_labels;
+use crate::loads::load_links;
+use crate::rates::check_rates;
+use crate::routes::check_routes;
+use crate::told::check_told;
+use crate::worked::Worked;
+use nf_curve::{Curve, Flow, Trace};
+use nf_frac::{Halt, Q};
+use nf_net::Network;
+use std::alloc::Global;
+
+// The labels up to the departure reached and the loadings of the links, once the rules hold that look at points alone.
+#[tactic(auto, unfolding(crate::specs::Steps::worked_list))]
+fn work_out(alloc: Global, net: &Network, flow: &Flow) -> Result<Worked, Ended>
+    requires { IsGiven net.now.net flow.now }
+    ensures list { Tries (λ worked. (labels_in worked, loaded_in worked)) result (worked_list passes_Q net.now.net (flow_of flow.now)) }
+    ensures worked { IfOk result (IsWorked net.now.net) }
+{
+    let labels = cut_labels(alloc, net, flow)?;
+    check_inflows(net, flow)?;
+    check_rates(net, flow)?;
+    let loaded = load_links(alloc, net, flow, &labels)?;
+    Ok(Worked { labels, loaded })
+}
+
+// The rules that compare curves.
+#[tactic(auto, unfolding(crate::specs::Steps::compared_list))]
+fn compare_all(
+    alloc: Global,
+    net: &Network,
+    flow: &Flow,
+    worked: &Worked,
+) -> Result<(), Ended>
+    requires given { IsGiven net.now.net flow.now }
+    requires worked { IsWorked net.now.net worked.now }
+    ensures { Tries (λ _. tt) result (compared_list passes_Q net.now.net (flow_of flow.now) (labels_in worked.now) (loaded_in worked.now)) }
+{
+    check_arrivals(alloc, net, flow, worked)?;
+    check_told(net, flow, worked)?;
+    check_balances(alloc, net, flow, worked)?;
+    check_routes(alloc, net, flow, worked)
+}
+
+// All rules.
+fn test_all(alloc: Global, net: &Network, flow: &Flow) -> Result<(), Ended>
+    requires { IsGiven net.now.net flow.now }
+    ensures { Tries (λ _. tt) result (done (trial passes_Q net.now.net (flow_of flow.now))) }
+{
+    let worked = work_out(alloc, net, flow)?;
+    compare_all(alloc, net, flow, &worked)
+}
+
+// For the proof: points of curves are curves.
+fn know_curves(curves: &[Curve])
+    ensures { (i : ℕ) → i < length curves.now → IsCurve (points_at (curves_of curves.now) i) }
+{
+    for curve in curves {
+        let _ = curve.len();
+    }
+}
+
+// For the proof: and so are those of traces.
+fn know_traces(traces: &[Trace])
+    ensures { (i : ℕ) → i < length traces.now → IsCurve (points_at (points_of (map trace_of traces.now)) i) }
+{
+    for trace in traces {
+        let _ = trace.curve.len();
+    }
+}
+
+/// Whether a flow is an equilibrium of a network up to the departure that it reached: Yes exactly where it is one. A No has the first
+/// rule that is broken, the first node or link that breaks it, the first time at which it does, and the two values that differ there.
+/// The flow has a label for each node, and an inflow, an outflow and a queue for each link; its traces have one rate fewer than points,
+/// and the departure reached is at least 0. Passed comes exactly at the first operation of its list that passes, and has part Check or
+/// Load.
+pub fn check(alloc: Global, net: &Network, flow: &Flow) -> Result<Answer, Halt<Q>>
+    requires labels { length flow.now.labels.items ≡ net.now.net.nodes }
+    requires inflows { length flow.now.inflows.items ≡ length net.now.net.links }
+    requires outflows { length flow.now.outflows.items ≡ length net.now.net.links }
+    requires queues { length flow.now.queues.items ≡ length net.now.net.links }
+    requires inflow_rates { HaveRates (flow_of flow.now).inflows }
+    requires outflow_rates { HaveRates (flow_of flow.now).outflows }
+    requires reached { 0ℚ ≤ℚ flow.now.reached }
+    ensures list { Gives (λ answer. answer) (λ q. q) result (check_list passes_Q net.now.net (flow_of flow.now)) }
+    ensures rules { IfOk result (λ answer. Checks net.now.net (flow_of flow.now) answer) }
+    ensures exact { IfOk result (λ answer. IsExact net.now.net (flow_of flow.now) answer) }
+{
+    // For the proof: the network is a good one, and the points of the flow make curves.
+    let _ = net.version();
+    know_curves(&flow.labels);
+    know_traces(&flow.inflows);
+    know_traces(&flow.outflows);
+    know_curves(&flow.queues);
+    answer_of(test_all(alloc, net, flow))
+}

@@ -1,0 +1,70 @@
+// The first rule, of the labels: no label is negative up to the departure reached.
+ghost use Rattle.std.specs.Prelude.{◌≡◌, ◌<◌, length, option_map};
+ghost use Rattle.nf_rational.specs.Operations.{0ℚ};
+ghost use Rattle.nf_rational.specs.Order.{◌≤ℚ◌};
+ghost use Rattle.nf_work.specs.Passing.{passes_Q};
+ghost use Rattle.nf_work.specs.Checked.{each};
+ghost use Rattle.nf_check_lists.specs.PointRules.{negative_point as negative_by};
+ghost use Rattle.nf_check_lists.specs.Rules.{all_nodes};
+ghost use Rattle.nf_check_lists.specs.CheckList.{label_cut};
+ghost use Rattle.nf_curve.specs.Differences.{difference_of};
+ghost use Rattle.nf_curve.specs.Flows.{flow_of};
+ghost use Rattle.nf_check.specs.Kept.{curves_of};
+ghost use Rattle.nf_check.specs.Trials.{Tries};
+
+use crate::answer::Subject;
+use crate::ended::{Ended, unless};
+use crate::worked::curve_at;
+use nf_check_lists::CheckRule;
+use nf_curve::{Curve, Difference, Flow};
+use nf_frac::{Part, Q};
+use nf_graph::NodeId;
+use nf_net::Network;
+use std::alloc::Global;
+
+// The first point with a negative value, beside 0.
+fn negative_point(curve: &Curve) -> Option<Difference>
+    ensures { option_map difference_of result ≡ negative_by curve.now.points }
+{
+    for i in 0..curve.len() {
+        let (time, value) = curve.point(i);
+        if value.is_below(Q::zero()) {
+            return Some(Difference {
+                time,
+                left: value,
+                right: Q::zero(),
+            });
+        }
+    }
+    None
+}
+
+// The label of a node, up to the departure reached.
+fn cut_label(alloc: Global, net: &Network, flow: &Flow, node: NodeId) -> Result<Curve, Ended>
+    requires node { node < length flow.now.labels.items }
+    requires reached { 0ℚ ≤ℚ flow.now.reached }
+    ensures { Tries (λ c. c.points) result (label_cut passes_Q net.now.net (flow_of flow.now) node) }
+{
+    let label = curve_at(&flow.labels, node.index());
+    let cut = label.cut(alloc, flow.reached, Part::Check)?;
+    unless(
+        CheckRule::C1,
+        Subject::Node(node),
+        negative_point(&cut),
+    )?;
+    Ok(cut)
+}
+
+/// The labels of all nodes, up to the departure reached.
+pub(crate) fn cut_labels(alloc: Global, net: &Network, flow: &Flow) -> Result<Vec<Curve>, Ended>
+    requires labels { length flow.now.labels.items ≡ net.now.net.nodes }
+    requires reached { 0ℚ ≤ℚ flow.now.reached }
+    ensures { Tries (λ labels. curves_of labels.items) result (each (label_cut passes_Q net.now.net (flow_of flow.now)) (all_nodes net.now.net)) }
+{
+    let mut labels = Vec::with_capacity(alloc, net.node_count() as usize)?;
+    for number in 0..net.node_count() {
+        let cut = cut_label(alloc, net, flow, NodeId(number))?;
+        labels.push(cut)?;
+    }
+    Ok(labels)
+}
