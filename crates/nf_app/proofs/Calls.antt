@@ -76,6 +76,7 @@ network_missing shelf file others Refusal.ShelfFailed h = h
 network_missing shelf file others Refusal.ShelfTooLong h = h
 network_missing shelf file others (Refusal.Malformed rule line) h = absurd h
 network_missing shelf file others (Refusal.MalformedLoads rule line) h = h
+network_missing shelf file others (Refusal.MalformedReport rule line) h = h
 network_missing shelf file others (Refusal.Passes at) h = h
 network_missing shelf file others Refusal.Unbounded h = h
 
@@ -104,6 +105,7 @@ module _ (words : List (List ℕ)) (shelf : Visit) (request : Request) (asks : r
   refused Refusal.ShelfTooLong h = inl (h.0, reached h.0 h.1, h.2)
   refused (Refusal.Malformed rule line) h = inl (request, read_of (Err (record { rule = rule; line = line })) h.0 h.1)
   refused (Refusal.MalformedLoads rule line) h = absurd h
+  refused (Refusal.MalformedReport rule line) h = absurd h
   refused (Refusal.Passes at) h = absurd h
   refused Refusal.Unbounded h = absurd h
 
@@ -127,6 +129,7 @@ no_text Refusal.ShelfFailed = refl
 no_text Refusal.ShelfTooLong = refl
 no_text (Refusal.Malformed rule line) = refl
 no_text (Refusal.MalformedLoads rule line) = refl
+no_text (Refusal.MalformedReport rule line) = refl
 no_text (Refusal.Passes at) = refl
 no_text Refusal.Unbounded = refl
 

@@ -15,16 +15,21 @@ use Rattle.nf_formats.specs.Report.{Report}
 use Rattle.nf_formats_laws.proofs.Once.{reads_at_most_once}
 use Rattle.nf_lists_laws.proofs.OneRun.{one_report}
 use Rattle.nf_load_lists.specs.Loading.{Loaded as Loading}
+use Rattle.nf_check_lists.specs.declared.Answer.{Answer as Verdict}
+use Rattle.nf_check_lists.specs.declared.Answer.TheVariants.{Yes, No}
+use Rattle.nf_check_lists.specs.CheckList.{check_list}
 use Rattle.nf_readings.specs.LoadsFile.{LoadsBroken, loads_in}
+use Rattle.nf_readings.specs.ReportFile.{ReportBroken, report_in}
 use Rattle.nf_phase.specs.Solution.{bounds_of}
 use Rattle.nf_app.specs.declared.status.Status.{Status}
 use Rattle.nf_app.specs.Files.{Wanted, Visit, FetchedTo, HasTooMany}
-use Rattle.nf_app.specs.Requests.{Request, Solve, Show, Load, Quick, files_of, request_of, network_file, loads_file}
-use Rattle.nf_app.specs.Answers.{Answer, Solved, Shown, Loaded, Quickest, TooManyWalks, NoMemory, NoRequest, ShelfFailed, ShelfTooLong, Malformed, MalformedLoads, Passes, Unbounded, status_of, status_of_stop}
+use Rattle.nf_app.specs.Requests.{Request, Solve, Show, Load, Check, Quick, files_of, request_of, network_file, loads_file, report_file}
+use Rattle.nf_app.specs.Answers.{Answer, Solved, Shown, Loaded, Checked, Quickest, TooManyWalks, NoMemory, NoRequest, ShelfFailed, ShelfTooLong, Malformed, MalformedLoads, MalformedReport, Passes, Unbounded, status_of, status_of_stop, status_of_verdict}
+use Rattle.nf_app.specs.CheckGiven.{ReportReads}
 use Rattle.nf_app.specs.Given.{LoadsRead, loading_list, IsGiven}
 use Rattle.nf_app.specs.Sinks.{Taken}
 use Rattle.nf_app.specs.Runs.{Call, Asks, Reached, NetworkReads, Read, IsRefused, IsComputed, IsAnswer, IsShown}
-use Rattle.nf_app.specs.Completeness.{Tells, TellsNetwork, TellsLoads, CanBeShown, CanBeSolved, CanBeLoaded, CanBeQuick, HasAnswer, EndsWell, EndsQuick, IsComplete}
+use Rattle.nf_app.specs.Completeness.{Tells, TellsNetwork, TellsLoads, CanBeShown, CanBeSolved, CanBeLoaded, CanBeJudged, CanBeQuick, HasAnswer, EndsWell, EndsJudged, EndsQuick, IsComplete}
 
 in_the_middle : (P : Wanted → Type 0) (xs : List Wanted) (y : Wanted) (ys : List Wanted) → All P (xs ++ y ∷ ys) → P y
 in_the_middle P [] y ys h = All-head P y ys h
@@ -77,6 +82,8 @@ module _ (call : Call) (no_fault : ¬ Rose call.shelf.faults_before call.shelf.f
       refused_well (Shown n) h = absurd h
       refused_well (Loaded n horizon loaded) h = absurd h
       refused_well (MalformedLoads broken) h = absurd h
+      refused_well (Checked n verdict) h = absurd h
+      refused_well (MalformedReport broken) h = absurd h
       refused_well (Passes at) h = absurd h
       refused_well (Quickest n quick arrival) h = absurd h
       refused_well (TooManyWalks n augments walks) h = absurd h
@@ -137,6 +144,38 @@ module _ (call : Call) (no_fault : ¬ Rose call.shelf.faults_before call.shelf.f
   ends_well (inr (inl can)) = solved_well can
   ends_well (inr (inr can)) = loaded_well can
 
+-- a verdict on a report
+judged_well : (verdict : Verdict ℕ ℕ ℚ) → EndsJudged (status_of_verdict verdict)
+judged_well Yes = inl refl
+judged_well (No rule subject time left right) = inr (inl refl)
+
+module _ (call : Call) (no_fault : ¬ Rose call.shelf.faults_before call.shelf.faults_now) (can : CanBeJudged call) where
+  -- the report has one reading
+  one_reading_of : (read : Result Report ReportBroken) → ReportReads call.shelf can.network.net can.report_name read → Ok can.report.report ≡ read
+  one_reading_of read h =
+      sym can.report.reads ∙ subst (λ (told : Option (List ℕ)). IfSome told (λ text. report_in can.network.net text ≡ read)) can.report.tells.told h
+
+  verdict_well : (answer : Answer) → IsGiven call.shelf can.network.net (Check can.file can.report_name) answer → EndsJudged (status_of answer)
+  verdict_well answer (inl g) = subst (λ (s : Status). EndsJudged s) (sym (ap status_of g.1)) (judged_well g.0)
+  verdict_well answer (inr (inl g)) =
+      let same : Ok can.report.report ≡ Ok g.2.report = one_reading_of (Ok g.2.report) g.2.read in
+      let report : can.report.report ≡ g.2.report = cc in
+      let passed : check_list passes_Q can.network.net.net can.report.report.flow ≡ Err g.0 =
+      ap (λ (r : Report). check_list passes_Q can.network.net.net r.flow) report ∙ g.2.passes in
+      let computed : check_list passes_Q can.network.net.net can.report.report.flow ≡ Ok can.verdict = can.computes in
+      let never : ⊥ = cc in
+      absurd never
+  verdict_well answer (inr (inr g)) =
+      let other : Ok can.report.report ≡ Err g.0 = one_reading_of (Err g.0) g.2 in
+      let never : ⊥ = cc in
+      absurd never
+
+  checked_well : (answer : Answer) → IsAnswer call answer → EndsJudged (status_of answer)
+  checked_well = answered_well call no_fault (Check can.file can.report_name) can.asks
+      (All-cons (Tells call.shelf) (network_file can.file) (report_file can.report_name ∷ []) can.network.tells
+      (All-cons (Tells call.shelf) (report_file can.report_name) [] can.report.tells (All-nil (Tells call.shelf))))
+      can.file (report_file can.report_name ∷ []) refl can.network EndsJudged (inr (inr refl)) verdict_well
+
 -- a quickest flow
 module _ (call : Call) (no_fault : ¬ Rose call.shelf.faults_before call.shelf.faults_now) (can : CanBeQuick call) where
   found_well : (answer : Answer) → IsGiven call.shelf can.network.net (Quick can.file can.amount can.augments) answer → EndsQuick (status_of answer)
@@ -158,6 +197,7 @@ taken_well Ends out takes answer err status well (inr h) = absurd (takes h.1.cau
 pub complete_by_text : (call : Call) (out err : Taken) (status : Status) (answer : Answer) → IsAnswer call answer → IsShown answer out err status → IsComplete call out status
 complete_by_text call out err status answer comes shown no_fault takes = (
   (λ can. taken_well EndsWell out takes answer err status (ends_well call no_fault can answer comes) shown),
+  (λ can. taken_well EndsJudged out takes answer err status (checked_well call no_fault can answer comes) shown),
   (λ can. taken_well EndsQuick out takes answer err status (quick_well call no_fault can answer comes) shown),
 )
 
@@ -165,5 +205,6 @@ complete_by_text call out err status answer comes shown no_fault takes = (
 pub complete_by_refusal : (call : Call) (out : Taken) (status : Status) (answer : Answer) → IsAnswer call answer → status ≡ status_of answer → IsComplete call out status
 complete_by_refusal call out status answer comes is no_fault takes = (
   (λ can. subst (λ (s : Status). EndsWell s) (sym is) (ends_well call no_fault can answer comes)),
+  (λ can. subst (λ (s : Status). EndsJudged s) (sym is) (checked_well call no_fault can answer comes)),
   (λ can. subst (λ (s : Status). EndsQuick s) (sym is) (quick_well call no_fault can answer comes)),
 )

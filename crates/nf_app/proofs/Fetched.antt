@@ -71,6 +71,7 @@ module _ (shelf : Visit) (file next : Wanted) where
   first_missing Refusal.ShelfTooLong h = (h.0, still_reached h.0 h.1, h.2)
   first_missing (Refusal.Malformed rule line) h = absurd h
   first_missing (Refusal.MalformedLoads rule line) h = absurd h
+  first_missing (Refusal.MalformedReport rule line) h = absurd h
   first_missing (Refusal.Passes at) h = absurd h
   first_missing Refusal.Unbounded h = absurd h
 
@@ -142,6 +143,7 @@ module _ (one other : Visit) (f g : Wanted) (follows : Follows one other) (first
       either (inr p) = inr p
   second_missing (Refusal.Malformed rule line) h = absurd h
   second_missing (Refusal.MalformedLoads rule line) h = absurd h
+  second_missing (Refusal.MalformedReport rule line) h = absurd h
   second_missing (Refusal.Passes at) h = absurd h
   second_missing Refusal.Unbounded h = absurd h
 

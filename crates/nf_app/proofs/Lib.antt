@@ -5,6 +5,7 @@ pub mod Completing
 pub mod LinkLoads
 pub mod LoadLines
 pub mod LoadGiven
+pub mod CheckGiven
 pub mod QuickTold
 pub mod QuickLines
 pub mod Zeros

@@ -8,22 +8,26 @@ use Rattle.nf_formats.specs.NetLines.{Broken}
 use Rattle.nf_formats.specs.NetText.{canonical}
 use Rattle.nf_formats.specs.Report.{Report, report_text}
 use Rattle.nf_load_lists.specs.Loading.{Loaded as Loading}
+use Rattle.nf_check_lists.specs.declared.Answer.{Answer as Verdict}
+use Rattle.nf_check_lists.specs.declared.Answer.TheVariants.{Yes, No}
 use Rattle.nf_readings.specs.LoadsFile.{LoadsBroken}
-use Rattle.nf_readings.specs.Texts.{load_text}
+use Rattle.nf_readings.specs.ReportFile.{ReportBroken}
+use Rattle.nf_readings.specs.Texts.{load_text, answer_text}
 use Rattle.nf_quick_lists.specs.Quick.{Augment, Quick}
-use Rattle.nf_app.specs.ErrorLines.{memory_line, usage_text, shelf_failed_line, shelf_too_long_line, network_line, loads_line, stopped_line, passed_line, augments_line, unbounded_line}
+use Rattle.nf_app.specs.ErrorLines.{memory_line, usage_text, shelf_failed_line, shelf_too_long_line, network_line, loads_line, report_line, stopped_line, passed_line, no_equilibrium_line, augments_line, unbounded_line}
 use Rattle.nf_app.specs.QuickText.{quick_text, augments_text}
 use Rattle.nf_app.specs.declared.arrival.Arrival.{Arrival}
 use Rattle.nf_app.specs.declared.status.Status.{Status}
 
 -- `Solved`: a report of the network of the file. `Shown`: that network. `Loaded`: of each of its links the loading up to a horizon.
--- `Quickest`: a quickest flow, beside the arrival in an equilibrium. `TooManyWalks`: those that were pushed for it, as many as allowed.
+-- `Checked`: whether the flow of a report is an equilibrium. `Quickest`: a quickest flow, beside the arrival in an equilibrium. `TooManyWalks`: those that were pushed for it, as many as allowed.
 -- `Unbounded`: there is no quickest flow, since a walk of unbounded links leads to the sink. `Passes`: an operation of the command's
 -- list passes the bound.
 pub data Answer : Type 0 where
   Solved : Named → Report → Answer
   Shown : Named → Answer
   Loaded : Named → ℚ → List Loading → Answer
+  Checked : Named → Verdict ℕ ℕ ℚ → Answer
   Quickest : Named → Quick → Arrival → Answer
   TooManyWalks : Named → ℕ → List Augment → Answer
   NoMemory : Answer
@@ -32,6 +36,7 @@ pub data Answer : Type 0 where
   ShelfTooLong : Answer
   Malformed : Broken → Answer
   MalformedLoads : LoadsBroken → Answer
+  MalformedReport : ReportBroken → Answer
   Passes : PassedAt ℚ → Answer
   Unbounded : Answer
 
@@ -47,6 +52,7 @@ number_of Status.Patterns = 6
 number_of Status.Passed = 7
 number_of Status.NoPattern = 8
 number_of Status.Output = 9
+number_of Status.NotEquilibrium = 10
 number_of Status.Augments = 11
 number_of Status.Unbounded = 14
 
@@ -60,10 +66,15 @@ abbrev pub status_of_stop : Option (Cause ℚ) → Status
 status_of_stop None = Status.Ok
 status_of_stop (Some cause) = status_of_cause cause
 
+abbrev pub status_of_verdict : Verdict ℕ ℕ ℚ → Status
+status_of_verdict Yes = Status.Ok
+status_of_verdict (No rule subject time left right) = Status.NotEquilibrium
+
 abbrev pub status_of : Answer → Status
 status_of (Solved n report) = status_of_stop report.stop
 status_of (Shown n) = Status.Ok
 status_of (Loaded n horizon loaded) = Status.Ok
+status_of (Checked n verdict) = status_of_verdict verdict
 status_of (Quickest n quick arrival) = Status.Ok
 status_of (TooManyWalks n augments walks) = Status.Augments
 status_of NoMemory = Status.Memory
@@ -72,6 +83,7 @@ status_of ShelfFailed = Status.Shelf
 status_of ShelfTooLong = Status.Shelf
 status_of (Malformed broken) = Status.Malformed
 status_of (MalformedLoads broken) = Status.Malformed
+status_of (MalformedReport broken) = Status.Malformed
 status_of (Passes at) = Status.Passed
 status_of Unbounded = Status.Unbounded
 
@@ -80,6 +92,7 @@ abbrev pub out_text : Answer → List ℕ
 out_text (Solved n report) = report_text n report
 out_text (Shown n) = canonical n
 out_text (Loaded n horizon loaded) = load_text n horizon loaded
+out_text (Checked n verdict) = answer_text n verdict
 out_text (Quickest n quick arrival) = quick_text n quick arrival
 out_text (TooManyWalks n augments walks) = augments_text n walks
 out_text answer = []
@@ -88,10 +101,15 @@ abbrev pub text_of_stop : Option (Cause ℚ) → List ℕ
 text_of_stop None = []
 text_of_stop (Some cause) = stopped_line cause
 
+abbrev pub text_of_verdict : Verdict ℕ ℕ ℚ → List ℕ
+text_of_verdict Yes = []
+text_of_verdict (No rule subject time left right) = no_equilibrium_line
+
 abbrev pub err_text : Answer → List ℕ
 err_text (Solved n report) = text_of_stop report.stop
 err_text (Shown n) = []
 err_text (Loaded n horizon loaded) = []
+err_text (Checked n verdict) = text_of_verdict verdict
 err_text (Quickest n quick arrival) = []
 err_text (TooManyWalks n augments walks) = augments_line augments
 err_text NoMemory = memory_line
@@ -100,5 +118,6 @@ err_text ShelfFailed = shelf_failed_line
 err_text ShelfTooLong = shelf_too_long_line
 err_text (Malformed broken) = network_line broken
 err_text (MalformedLoads broken) = loads_line broken
+err_text (MalformedReport broken) = report_line broken
 err_text (Passes at) = passed_line at
 err_text Unbounded = unbounded_line

@@ -10,12 +10,15 @@ use Rattle.nf_formats.specs.NetFile.{Reads}
 use Rattle.nf_formats.specs.Report.{Report}
 use Rattle.nf_lists.specs.PhaseRun.{IsRunReport}
 use Rattle.nf_load_lists.specs.Loading.{Loaded as Loading}
+use Rattle.nf_check_lists.specs.declared.Answer.{Answer as Verdict}
+use Rattle.nf_check_lists.specs.CheckList.{check_list}
 use Rattle.nf_readings.specs.LoadsFile.{loads_in}
+use Rattle.nf_readings.specs.ReportFile.{report_in}
 use Rattle.nf_phase.specs.declared.solution.Budgets.{Budgets}
 use Rattle.nf_phase.specs.Solution.{bounds_of}
 use Rattle.nf_app.specs.declared.status.Status.{Status}
 use Rattle.nf_app.specs.Files.{Wanted, Visit}
-use Rattle.nf_app.specs.Requests.{Solve, Show, Load, Quick, network_file, loads_file}
+use Rattle.nf_app.specs.Requests.{Solve, Show, Load, Check, Quick, network_file, loads_file, report_file}
 use Rattle.nf_app.specs.Given.{loading_list}
 use Rattle.nf_app.specs.QuickGiven.{PassesQuick}
 use Rattle.nf_app.specs.Sinks.{Taken}
@@ -38,6 +41,12 @@ pub record TellsLoads (shelf : Visit) (n : Named) (file : List ℕ) : Type 0 whe
   pub tells : Tells shelf (loads_file file)
   pub pieces : List (List Piece)
   pub reads : loads_in n tells.text ≡ Ok pieces
+
+-- they read as a report of a network
+pub record TellsReport (shelf : Visit) (n : Named) (file : List ℕ) : Type 0 where
+  pub tells : Tells shelf (report_file file)
+  pub report : Report
+  pub reads : report_in n tells.text ≡ Ok report
 
 -- the phase run of a network, within the budgets, reaches the horizon
 pub record ReachesHorizon (n : Named) (horizon : ℚ) (budgets : Budgets) : Type 0 where
@@ -72,6 +81,16 @@ pub record CanBeLoaded (call : Call) : Type 0 where
   pub loaded : List Loading
   pub computes : loading_list network.net loads.pieces horizon ≡ Ok loaded
 
+-- a report is to be checked, and no operation of the list passes
+pub record CanBeJudged (call : Call) : Type 0 where
+  pub file : List ℕ
+  pub report_name : List ℕ
+  pub asks : Asks call (Check file report_name)
+  pub network : TellsNetwork call.shelf file
+  pub report : TellsReport call.shelf network.net report_name
+  pub verdict : Verdict ℕ ℕ ℚ
+  pub computes : check_list passes_Q network.net.net report.report.flow ≡ Ok verdict
+
 abbrev pub HasAnswer : Call → Type 0
 HasAnswer call = CanBeShown call ⊎ CanBeSolved call ⊎ CanBeLoaded call
 
@@ -89,6 +108,10 @@ pub record CanBeQuick (call : Call) : Type 0 where
 abbrev pub EndsWell : Status → Type 0
 EndsWell status = (status ≡ Status.Ok) ⊎ (status ≡ Status.Memory)
 
+-- the same of `check`; the flow may also be no equilibrium
+abbrev pub EndsJudged : Status → Type 0
+EndsJudged status = (status ≡ Status.Ok) ⊎ (status ≡ Status.NotEquilibrium) ⊎ (status ≡ Status.Memory)
+
 -- the same of `quick`; there may also be too many walks to push, or no bound
 abbrev pub EndsQuick : Status → Type 0
 EndsQuick status = (status ≡ Status.Ok) ⊎ (status ≡ Status.Augments) ⊎ (status ≡ Status.Unbounded) ⊎ (status ≡ Status.Memory)
@@ -97,4 +120,4 @@ EndsQuick status = (status ≡ Status.Ok) ⊎ (status ≡ Status.Augments) ⊎ (
 -- wanting.
 abbrev pub IsComplete : Call → Taken → Status → Type 0
 IsComplete call out status = ¬ Rose call.shelf.faults_before call.shelf.faults_now → ¬ Rose out.faults_before out.faults_now
-    → (HasAnswer call → EndsWell status) × (CanBeQuick call → EndsQuick status)
+    → (HasAnswer call → EndsWell status) × (CanBeJudged call → EndsJudged status) × (CanBeQuick call → EndsQuick status)

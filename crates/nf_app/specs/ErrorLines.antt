@@ -10,7 +10,8 @@ use Rattle.nf_lines.specs.Words.{line_of_words}
 use Rattle.nf_formats.specs.Causes.{cause_words, passed_words}
 use Rattle.nf_formats.specs.NetLines.{Broken}
 use Rattle.nf_readings.specs.LoadsFile.{LoadsBroken}
-use Rattle.nf_readings.specs.RuleWords.{load_rule_word}
+use Rattle.nf_readings.specs.ReportFile.{ReportBroken}
+use Rattle.nf_readings.specs.RuleWords.{load_rule_word, report_rule_word}
 
 -- a line of the program about itself
 abbrev pub said : List (List ℕ) → List ℕ
@@ -69,6 +70,9 @@ network_line broken = broken_line (codes "network") broken.line (rule_word broke
 
 abbrev pub loads_line : LoadsBroken → List ℕ
 loads_line broken = broken_line (codes "loads") broken.line (load_rule_word broken.rule)
+
+abbrev pub report_line : ReportBroken → List ℕ
+report_line broken = broken_line (codes "report") broken.line (report_rule_word broken.rule)
 
 -- a run that stopped
 abbrev pub stopped_line : Cause ℚ → List ℕ

@@ -3,12 +3,15 @@ use Rattle.std.specs.Prelude.{◌≡◌, ◌⊎◌, ℕ, ◌<◌, ◌≤◌, Lis
 use Rattle.std.specs.List.{All, last_or}
 use Rattle.nf_edge.specs.Faults.{Rose}
 
--- the most bytes that a network file and a loads file may have
+-- the most bytes that a network file, a loads file and a report may have
 abbrev pub network_limit : ℕ
 network_limit = 1048576
 
 abbrev pub loads_limit : ℕ
 loads_limit = 1048576
+
+abbrev pub report_limit : ℕ
+report_limit = 67108864
 
 -- the name of a file that is wanted, and the most bytes that it may have
 pub record Wanted : Type 0 where

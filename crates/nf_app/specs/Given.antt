@@ -11,12 +11,16 @@ use Rattle.nf_formats.specs.Report.{Report}
 use Rattle.nf_load_lists.specs.Loading.{Loaded as Loading}
 use Rattle.nf_load_lists.specs.Loads.{load_list}
 use Rattle.nf_load_lists.specs.Meanings.{AreLoaded}
+use Rattle.nf_check_lists.specs.declared.Answer.{Answer as Verdict}
 use Rattle.nf_readings.specs.LoadsFile.{LoadsBroken, loads_in}
+use Rattle.nf_readings.specs.ReportFile.{ReportBroken}
+use Rattle.nf_readable_laws.specs.Laws.{ReadsBack}
 use Rattle.nf_quick_lists.specs.Quick.{Augment, Quick as QuickFlow}
 use Rattle.nf_phase.specs.Solution.{bounds_of, IsSolution}
 use Rattle.nf_app.specs.Files.{Visit}
-use Rattle.nf_app.specs.Requests.{Request, Solve, Show, Load, Quick}
-use Rattle.nf_app.specs.Answers.{Answer, Solved, Shown, Loaded, Quickest, TooManyWalks, MalformedLoads, Passes, Unbounded}
+use Rattle.nf_app.specs.Requests.{Request, Solve, Show, Load, Check, Quick}
+use Rattle.nf_app.specs.Answers.{Answer, Solved, Shown, Loaded, Checked, Quickest, TooManyWalks, MalformedLoads, MalformedReport, Passes, Unbounded}
+use Rattle.nf_app.specs.CheckGiven.{ReportReads, IsChecked, PassesChecking}
 use Rattle.nf_app.specs.QuickGiven.{IsQuickest, IsOverBudget, PassesQuick, IsUnbounded}
 use Rattle.nf_app.specs.declared.arrival.Arrival.{Arrival}
 
@@ -41,15 +45,19 @@ pub record PassesLoading (shelf : Visit) (n : Named) (file : List ℕ) (horizon 
   pub read : LoadsRead shelf n file (Ok pieces)
   pub passes : loading_list n pieces horizon ≡ Err at
 
--- the answers of each request that has its network
+-- The answers of each request that has its network. The text of a report has one reading, and that is the report.
 abbrev pub IsGiven : Visit → Named → Request → Answer → Type 0
 IsGiven shelf n (Solve file horizon budgets) answer =
-    (report : Report) × (answer ≡ Solved n report) × ((phases : ℕ) × IsSolution n.net (bounds_of horizon budgets) phases report)
+    (report : Report) × (answer ≡ Solved n report) × ((phases : ℕ) × IsSolution n.net (bounds_of horizon budgets) phases report) × ReadsBack n report
 IsGiven shelf n (Show file) answer = answer ≡ Shown n
 IsGiven shelf n (Load file loads horizon) answer =
     ((loaded : List Loading) × (answer ≡ Loaded n horizon loaded) × IsLoading shelf n loads horizon loaded)
     ⊎ ((at : PassedAt ℚ) × (answer ≡ Passes at) × PassesLoading shelf n loads horizon at)
     ⊎ ((broken : LoadsBroken) × (answer ≡ MalformedLoads broken) × LoadsRead shelf n loads (Err broken))
+IsGiven shelf n (Check file report) answer =
+    ((verdict : Verdict ℕ ℕ ℚ) × (answer ≡ Checked n verdict) × IsChecked shelf n report verdict)
+    ⊎ ((at : PassedAt ℚ) × (answer ≡ Passes at) × PassesChecking shelf n report at)
+    ⊎ ((broken : ReportBroken) × (answer ≡ MalformedReport broken) × ReportReads shelf n report (Err broken))
 IsGiven shelf n (Quick file amount augments) answer =
     ((quick : QuickFlow) × (arrival : Arrival) × (answer ≡ Quickest n quick arrival) × IsQuickest n.net amount augments quick arrival)
     ⊎ ((walks : List Augment) × (answer ≡ TooManyWalks n augments walks) × IsOverBudget n.net amount augments walks)

@@ -4,6 +4,7 @@ pub mod Sinks
 pub mod Requests
 pub mod QuickText
 pub mod Answers
+pub mod CheckGiven
 pub mod QuickGiven
 pub mod Given
 pub mod Runs

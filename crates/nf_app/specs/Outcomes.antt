@@ -5,14 +5,14 @@ use Rattle.nf_formats.specs.declared.Cause.{Cause}
 use Rattle.nf_formats.specs.Named.{Named}
 use Rattle.nf_formats.specs.NetText.{canonical}
 use Rattle.nf_formats.specs.Report.{IsWellFormed, report_text}
-use Rattle.nf_readings.specs.Texts.{load_text}
+use Rattle.nf_readings.specs.Texts.{load_text, answer_text}
 use Rattle.nf_load.specs.Loadings.{loaded_of}
 use Rattle.nf_phase.specs.Solution.{report_in}
 use Rattle.nf_app.specs.declared.outcome.Outcome.{Outcome}
 use Rattle.nf_app.specs.declared.refusal.Refusal.{Refusal}
 use Rattle.nf_app.specs.Files.{Visit}
 use Rattle.nf_app.specs.Requests.{Request}
-use Rattle.nf_app.specs.Answers.{Answer, Solved, Shown, Loaded, Quickest, TooManyWalks}
+use Rattle.nf_app.specs.Answers.{Answer, Solved, Shown, Loaded, Checked, Quickest, TooManyWalks}
 use Rattle.nf_app.specs.QuickText.{flow_text, quick_text, augments_text}
 use Rattle.nf_app.specs.Refusals.{answer_of}
 use Rattle.nf_app.specs.Given.{IsGiven}
@@ -22,6 +22,7 @@ abbrev pub answer_in : Outcome → Answer
 answer_in (Outcome.Solved net horizon s) = Solved net (report_in horizon s)
 answer_in (Outcome.Shown net text) = Shown net
 answer_in (Outcome.Loaded net horizon links) = Loaded net horizon (map loaded_of links.items)
+answer_in (Outcome.Checked net verdict) = Checked net verdict
 answer_in (Outcome.Quickest net quick arrival text) = Quickest net quick arrival
 answer_in (Outcome.TooManyWalks net augments walks text) = TooManyWalks net augments walks.items
 
@@ -31,6 +32,7 @@ abbrev pub HasText : Outcome → Type 0
 HasText (Outcome.Solved net horizon s) = IsWellFormed net.net (report_in horizon s)
 HasText (Outcome.Shown net text) = text.items ≡ canonical net
 HasText (Outcome.Loaded net horizon links) = length links.items ≡ length net.net.links
+HasText (Outcome.Checked net verdict) = Unit {0}
 HasText (Outcome.Quickest net quick arrival text) = text.items ≡ flow_text net quick
 HasText (Outcome.TooManyWalks net augments walks text) = text.items ≡ augments_text net walks.items
 
@@ -38,6 +40,7 @@ abbrev pub text_in : Outcome → List ℕ
 text_in (Outcome.Solved net horizon s) = report_text net (report_in horizon s)
 text_in (Outcome.Shown net text) = text.items
 text_in (Outcome.Loaded net horizon links) = load_text net horizon (map loaded_of links.items)
+text_in (Outcome.Checked net verdict) = answer_text net verdict
 text_in (Outcome.Quickest net quick arrival text) = quick_text net quick arrival
 text_in (Outcome.TooManyWalks net augments walks text) = text.items
 
@@ -46,6 +49,7 @@ abbrev pub stop_in : Outcome → Option (Cause ℚ)
 stop_in (Outcome.Solved net horizon s) = s.stopped
 stop_in (Outcome.Shown net text) = None
 stop_in (Outcome.Loaded net horizon links) = None
+stop_in (Outcome.Checked net verdict) = None
 stop_in (Outcome.Quickest net quick arrival text) = None
 stop_in (Outcome.TooManyWalks net augments walks text) = None
 

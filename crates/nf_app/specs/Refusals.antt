@@ -5,8 +5,9 @@ use Rattle.nf_rational.specs.Rational.{ℚ}
 use Rattle.nf_work.specs.declared.Halt.{Halt}
 use Rattle.nf_net.specs.declared.fault.NetFault.{NetFault}
 use Rattle.nf_load.specs.declared.fault.LoadsFault.{LoadsFault}
+use Rattle.nf_reader.specs.declared.fault.ReportFault.{ReportFault}
 use Rattle.nf_app.specs.declared.refusal.Refusal.{Refusal}
-use Rattle.nf_app.specs.Answers.{Answer, NoMemory, NoRequest, ShelfFailed, ShelfTooLong, Malformed, MalformedLoads, Passes, Unbounded}
+use Rattle.nf_app.specs.Answers.{Answer, NoMemory, NoRequest, ShelfFailed, ShelfTooLong, Malformed, MalformedLoads, MalformedReport, Passes, Unbounded}
 
 abbrev pub answer_of : Refusal → Answer
 answer_of Refusal.NoMemory = NoMemory
@@ -15,6 +16,7 @@ answer_of Refusal.ShelfFailed = ShelfFailed
 answer_of Refusal.ShelfTooLong = ShelfTooLong
 answer_of (Refusal.Malformed rule line) = Malformed (record { rule = rule; line = line })
 answer_of (Refusal.MalformedLoads rule line) = MalformedLoads (record { rule = rule; line = line })
+answer_of (Refusal.MalformedReport rule line) = MalformedReport (record { rule = rule; line = line })
 answer_of (Refusal.Passes at) = Passes at
 answer_of Refusal.Unbounded = Unbounded
 
@@ -30,6 +32,10 @@ refusal_of_net NetFault.Memory = Refusal.NoMemory
 abbrev pub refusal_of_loads : LoadsFault → Refusal
 refusal_of_loads (LoadsFault.Broken rule line) = Refusal.MalformedLoads rule line
 refusal_of_loads LoadsFault.Memory = Refusal.NoMemory
+
+abbrev pub refusal_of_report : ReportFault → Refusal
+refusal_of_report (ReportFault.Broken rule line) = Refusal.MalformedReport rule line
+refusal_of_report ReportFault.Memory = Refusal.NoMemory
 
 abbrev pub refusal_of_halt : Halt ℚ → Refusal
 refusal_of_halt (Halt.Passed at) = Refusal.Passes at

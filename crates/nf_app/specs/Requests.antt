@@ -8,13 +8,15 @@ use Rattle.nf_numerals.specs.Digits.{are_digits, value_of}
 use Rattle.nf_numerals.specs.Numbers.{number_of}
 use Rattle.nf_formats.specs.Numbers.{greatest}
 use Rattle.nf_phase.specs.declared.solution.Budgets.{Budgets}
-use Rattle.nf_app.specs.Files.{Wanted, network_limit, loads_limit}
+use Rattle.nf_app.specs.Files.{Wanted, network_limit, loads_limit, report_limit}
 
--- `solve NET --horizon Q [--phases N] [--patterns N]`, `show NET`, `load NET LOADS --horizon Q` and `quick NET --amount Q [--augments N]`
+-- `solve NET --horizon Q [--phases N] [--patterns N]`, `show NET`, `load NET LOADS --horizon Q`, `check NET REPORT` and
+-- `quick NET --amount Q [--augments N]`
 pub data Request : Type 0 where
   Solve : List ℕ → ℚ → Budgets → Request
   Show : List ℕ → Request
   Load : List ℕ → List ℕ → ℚ → Request
+  Check : List ℕ → List ℕ → Request
   Quick : List ℕ → ℚ → ℕ → Request
 
 abbrev pub network_file : List ℕ → Wanted
@@ -23,11 +25,15 @@ network_file name = record { name = name; limit = network_limit }
 abbrev pub loads_file : List ℕ → Wanted
 loads_file name = record { name = name; limit = loads_limit }
 
+abbrev pub report_file : List ℕ → Wanted
+report_file name = record { name = name; limit = report_limit }
+
 -- the files that are wanted, in the order in which they are fetched; the first is the network's
 abbrev pub files_of : Request → List Wanted
 files_of (Solve file horizon budgets) = network_file file ∷ []
 files_of (Show file) = network_file file ∷ []
 files_of (Load file loads horizon) = network_file file ∷ loads_file loads ∷ []
+files_of (Check file report) = network_file file ∷ report_file report ∷ []
 files_of (Quick file amount augments) = network_file file ∷ []
 
 -- ---- the horizon and the amount: a number of at least 0
@@ -43,6 +49,7 @@ abbrev pub CanBeAsked : Request → Type 0
 CanBeAsked (Solve file horizon budgets) = 0ℚ ≤ℚ horizon
 CanBeAsked (Show file) = Unit {0}
 CanBeAsked (Load file loads horizon) = 0ℚ ≤ℚ horizon
+CanBeAsked (Check file report) = Unit {0}
 CanBeAsked (Quick file amount augments) = (0ℚ ≤ℚ amount) × (1 ≤ augments)
 
 -- ---- the budgets
@@ -135,6 +142,11 @@ abbrev pub load_words : List (List ℕ) → Option Request
 load_words (file ∷ loads ∷ option ∷ word ∷ []) = if bytes_eq option (codes "--horizon") then option_map (λ horizon. Load file loads horizon) (not_negative_of word) else None
 load_words words = None
 
+-- `check NET REPORT`
+abbrev pub check_words : List (List ℕ) → Option Request
+check_words (file ∷ report ∷ []) = Some (Check file report)
+check_words words = None
+
 -- an amount and how many walks may be pushed, where each is a number
 abbrev pub quick_request : List ℕ → Option ℚ → Option ℕ → Option Request
 quick_request file (Some amount) (Some augments) = Some (Quick file amount augments)
@@ -153,8 +165,9 @@ command_of command words =
     if bytes_eq command (codes "solve") then solve_words words
     else (if bytes_eq command (codes "show") then show_words words
     else (if bytes_eq command (codes "load") then load_words words
+    else (if bytes_eq command (codes "check") then check_words words
     else (if bytes_eq command (codes "quick") then quick_words words
-    else None)))
+    else None))))
 
 -- the words begin with the program's name
 abbrev pub request_of : List (List ℕ) → Option Request

@@ -46,6 +46,7 @@ fn arrival_at(alloc: Global, net: &Network, departs: Q) -> Result<Arrival, Alloc
     requires { 0ℚ ≤ℚ departs }
     ensures { IfOk result (ArrivesIn net.now.net departs) }
 {
+    // For the proof: a network has its source among its nodes.
     let _named = net.version();
     let budgets = usual_budgets();
     let solution = solve(alloc, net, departs, budgets)?;

@@ -4,6 +4,7 @@
 mod arrival;
 mod augments_text;
 mod budgets;
+mod check_text;
 mod fetching;
 mod load_text;
 mod loading;

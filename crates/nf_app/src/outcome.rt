@@ -4,13 +4,14 @@ ghost use Rattle.std.specs.Option.{option_copied};
 ghost use Rattle.nf_rational.specs.Operations.{0ℚ};
 ghost use Rattle.nf_rational.specs.Order.{◌≤ℚ◌};
 ghost use Rattle.nf_edge.specs.Names.{texts};
+ghost use Rattle.nf_lines.specs.Faults.{longest_text};
 ghost use Rattle.nf_work.specs.Passing.{passes_Q};
 ghost use Rattle.nf_quick.specs.Answered as answered;
 ghost use Rattle.nf_quick.specs.declared.fault.QuickFault.TheVariants as QuickFault;
 ghost use Rattle.nf_quick_lists.specs.Answers.{IsQuickFlow};
 ghost use Rattle.nf_rational.specs.Rational.{ℚ};
-ghost use Rattle.nf_app.specs.Files.{Visit};
-ghost use Rattle.nf_app.specs.Requests.{Solve, Show, Load, loads_file};
+ghost use Rattle.nf_app.specs.Files.{Visit, report_limit};
+ghost use Rattle.nf_app.specs.Requests.{Solve, Show, Load, Check, loads_file, report_file};
 ghost use Rattle.nf_app.specs.Requests as requests;
 ghost use Rattle.nf_app.specs.Fetching.{IsTold};
 ghost use Rattle.nf_app.specs.Outcomes.{stop_in, IsGiving, IsAnswered};
@@ -22,6 +23,7 @@ use crate::loading::load_links;
 use crate::quick_text::flow_text;
 use crate::refusal::Refusal;
 use crate::request::{Request, read_request};
+use nf_check::{Answer, check};
 use nf_curve::Stop;
 use nf_edge::Shelf;
 use nf_frac::Q;
@@ -29,10 +31,14 @@ use nf_load::{Loaded, parse_loads};
 use nf_net::{Network, text};
 use nf_phase::{Budgets, Solution, solve};
 use nf_quick::{Augment, Quick, QuickFault, departure, quickest};
+use nf_report::parse_report;
 use std::alloc::Global;
 
 /// The most bytes that a loads file may have.
 const LONGEST_LOADS: u32 = 1_048_576;
+
+/// The most bytes that a report may have.
+const LONGEST_REPORT: u32 = 67_108_864;
 
 /// What a request gives.
 #[derive(Drop)]
@@ -53,6 +59,11 @@ pub(crate) enum Outcome {
         net: Network,
         horizon: Q,
         links: Vec<Loaded>,
+    },
+    /// Whether the flow of a report is an equilibrium of a network, or which rule it breaks first.
+    Checked {
+        net: Network,
+        verdict: Answer,
     },
     /// A quickest flow in a network with its text, and the arrival in an equilibrium.
     Quickest {
@@ -79,6 +90,7 @@ impl Outcome {
             Outcome::Solved { solution, .. } => solution.stopped.as_ref(),
             Outcome::Shown { .. } => None,
             Outcome::Loaded { .. } => None,
+            Outcome::Checked { .. } => None,
             Outcome::Quickest { .. } => None,
             Outcome::TooManyWalks { .. } => None,
         }
@@ -90,6 +102,10 @@ fn solve_to(alloc: Global, net: Network, horizon: Q, budgets: Budgets) -> Result
     requires { 0ℚ ≤ℚ horizon }
     ensures { (shelf : Visit) (file : List ℕ) → IsGiving shelf net (Solve file horizon budgets) result }
 {
+    // For the proof: the network is that of an accepted file, and the parts of the horizon are within the bound.
+    let _ = net.version();
+    let _ = horizon.numer();
+    let _ = horizon.denom();
     let solution = solve(alloc, &net, horizon, budgets)?;
     Ok(Outcome::Solved {
         net,
@@ -109,7 +125,7 @@ fn show(alloc: Global, net: Network) -> Result<Outcome, Refusal>
 // The network, with the loading of each link by the pieces that the text of a loads file gives it.
 fn load_to(alloc: Global, net: Network, loads: &[u8], horizon: Q) -> Result<Outcome, Refusal>
     requires horizon { 0ℚ ≤ℚ horizon }
-    requires within { length loads.now ≤ 67108864 }
+    requires within { length loads.now ≤ longest_text }
     ensures { (shelf : Visit) (file name : List ℕ) → IsTold shelf (loads_file name) loads.now → IsGiving shelf net (Load file name horizon) result }
 {
     let loads = parse_loads(alloc, &net, loads)?;
@@ -119,6 +135,16 @@ fn load_to(alloc: Global, net: Network, loads: &[u8], horizon: Q) -> Result<Outc
         horizon,
         links,
     })
+}
+
+// The network, with the verdict on the flow of the report that the text is.
+fn check_report(alloc: Global, net: Network, text: &[u8]) -> Result<Outcome, Refusal>
+    requires { length text.now ≤ report_limit }
+    ensures { (shelf : Visit) (file name : List ℕ) → IsTold shelf (report_file name) text.now → IsGiving shelf net (Check file name) result }
+{
+    let report = parse_report(alloc, &net, text)?;
+    let verdict = check(alloc, &net, &report.flow)?;
+    Ok(Outcome::Checked { net, verdict })
 }
 
 // The walks that were pushed, as many as allowed, with their text.
@@ -228,6 +254,10 @@ pub(crate) fn answer<S: Shelf>(
         } => {
             let (net, loads) = fetch_network_with(alloc, shelf, file, loads, LONGEST_LOADS)?;
             load_to(alloc, net, &loads, horizon)
+        }
+        Request::Check { file, report } => {
+            let (net, report) = fetch_network_with(alloc, shelf, file, report, LONGEST_REPORT)?;
+            check_report(alloc, net, &report)
         }
         Request::Quick {
             file,

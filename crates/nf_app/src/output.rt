@@ -2,7 +2,7 @@
 ghost use Rattle.std.specs.Prelude.{◌≡◌, ◌++◌};
 ghost use Rattle.std.specs.Option.{option_copied};
 ghost use Rattle.nf_edge.specs.Taken.{Wrote};
-ghost use Rattle.nf_app.specs.Answers.{status_of, status_of_cause, status_of_stop, err_text, text_of_stop};
+ghost use Rattle.nf_app.specs.Answers.{status_of, status_of_cause, status_of_stop, status_of_verdict, err_text, text_of_stop, text_of_verdict};
 ghost use Rattle.nf_app.specs.QuickText.{arrival_text};
 ghost use Rattle.nf_app.specs.Refusals.{answer_of};
 ghost use Rattle.nf_app.specs.Outcomes.{answer_in, text_in, HasText};
@@ -10,12 +10,14 @@ ghost use Rattle.nf_app.specs.Sinks.{TookText};
 ghost use Rattle.nf_app.specs.Runs.{IsShown};
 
 use crate::arrival::Arrival;
+use crate::check_text::write_verdict;
 use crate::load_text::write_loads;
 use crate::outcome::Outcome;
 use crate::quick_text::write_arrival;
 use crate::refusal::Refusal;
 use crate::status::Status;
 use crate::telling::{write_over_budget, write_refusal, write_stopped};
+use nf_check::Answer;
 use nf_curve::Stop;
 use nf_edge::{Sink, SinkFault, write_text};
 use nf_report::write_report;
@@ -52,6 +54,7 @@ fn write_outcome<O: Sink>(outcome: &Outcome, out: &mut O) -> Result<(), SinkFaul
             horizon,
             links,
         } => write_loads(out, net, *horizon, links),
+        Outcome::Checked { net, verdict } => write_verdict(out, net, verdict),
         Outcome::Quickest { arrival, text, .. } => write_quick(text, arrival, out),
         Outcome::TooManyWalks { text, .. } => write_text(out, text),
     }
@@ -88,6 +91,25 @@ fn tell_stop<E: Sink>(stop: Option<&Stop>, err: &mut E) -> Status
     }
 }
 
+// Says that a flow is no equilibrium, if it is none. The status is the same where that can't be said.
+fn tell_verdict<E: Sink>(verdict: &Answer, err: &mut E) -> Status
+    ensures status { result ≡ status_of_verdict verdict.now }
+    ensures told { TookText (record {
+      before = E.took err.old;
+      now = E.took err.new;
+      faults_before = E.faults err.old;
+      faults_now = E.faults err.new;
+    }) (text_of_verdict verdict.now) }
+{
+    match verdict {
+        Answer::Yes => Status::Ok,
+        Answer::No { .. } => {
+            let _ = write_text(err, b"nfot: no equilibrium\n");
+            Status::NotEquilibrium
+        }
+    }
+}
+
 // Says why an outcome isn't the whole answer, if it isn't.
 fn tell<E: Sink>(outcome: &Outcome, err: &mut E) -> Status
     ensures status { result ≡ status_of (answer_in outcome.now) }
@@ -99,6 +121,7 @@ fn tell<E: Sink>(outcome: &Outcome, err: &mut E) -> Status
     }) (err_text (answer_in outcome.now)) }
 {
     match outcome {
+        Outcome::Checked { verdict, .. } => tell_verdict(verdict, err),
         Outcome::TooManyWalks { augments, .. } => {
             let _ = write_over_budget(err, *augments);
             Status::Augments

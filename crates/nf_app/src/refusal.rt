@@ -1,7 +1,7 @@
 // Why a run has no text for its output.
 ghost use Rattle.std.specs.Prelude.{◌≡◌};
 ghost use Rattle.nf_app.specs.Answers.{status_of};
-ghost use Rattle.nf_app.specs.Refusals.{answer_of, refusal_of_fetch, refusal_of_net, refusal_of_loads, refusal_of_halt};
+ghost use Rattle.nf_app.specs.Refusals.{answer_of, refusal_of_fetch, refusal_of_net, refusal_of_loads, refusal_of_report, refusal_of_halt};
 ghost use Rattle.nf_app.specs.declared.refusal.Refusal.TheVariants as Refusal;
 
 use crate::status::Status;
@@ -9,6 +9,7 @@ use nf_edge::FetchFault;
 use nf_frac::{Halt, PassedAt, Q};
 use nf_load::{LoadRule, LoadsFault};
 use nf_net::{NetFault, NetRule};
+use nf_report::{ReportFault, ReportRule};
 use std::alloc::AllocError;
 
 /// Why a run has no text for its output.
@@ -26,6 +27,8 @@ pub(crate) enum Refusal {
     Malformed { rule: NetRule, line: u32 },
     /// The loads file breaks this rule first, in this line.
     MalformedLoads { rule: LoadRule, line: u32 },
+    /// The report breaks this rule first, in this line.
+    MalformedReport { rule: ReportRule, line: u32 },
     /// This operation passes the bound.
     Passes(PassedAt<Q>),
     /// A walk of unbounded links leads from source to sink.
@@ -44,6 +47,7 @@ impl Refusal {
             Refusal::ShelfTooLong => Status::Shelf,
             Refusal::Malformed { .. } => Status::Malformed,
             Refusal::MalformedLoads { .. } => Status::Malformed,
+            Refusal::MalformedReport { .. } => Status::Malformed,
             Refusal::Passes(_) => Status::Passed,
             Refusal::Unbounded => Status::Unbounded,
         }
@@ -88,6 +92,17 @@ impl From<LoadsFault> for Refusal {
         match fault {
             LoadsFault::Broken { rule, line } => Refusal::MalformedLoads { rule, line },
             LoadsFault::Memory => Refusal::NoMemory,
+        }
+    }
+}
+
+impl From<ReportFault> for Refusal {
+    ghost from_gives = { λ fault refusal. refusal ≡ refusal_of_report fault };
+
+    fn from(fault: ReportFault) -> Self {
+        match fault {
+            ReportFault::Broken { rule, line } => Refusal::MalformedReport { rule, line },
+            ReportFault::Memory => Refusal::NoMemory,
         }
     }
 }

@@ -3,7 +3,7 @@ ghost use Rattle.std.specs.Prelude.{◌≡◌, ◌≤◌, option_map, IfSome};
 ghost use Rattle.nf_edge.specs.Names.{texts};
 ghost use Rattle.nf_rational.specs.Operations.{0ℚ};
 ghost use Rattle.nf_rational.specs.Order.{◌≤ℚ◌};
-ghost use Rattle.nf_app.specs.Requests.{CanBeAsked, not_negative_of, solve_request, solve_words, show_words, load_words, quick_request, quick_words, command_of, request_of};
+ghost use Rattle.nf_app.specs.Requests.{CanBeAsked, not_negative_of, solve_request, solve_words, show_words, load_words, check_words, quick_request, quick_words, command_of, request_of};
 ghost use Rattle.nf_app.specs.Requested.{requested};
 
 use crate::budgets::{read_augments, read_budgets};
@@ -28,6 +28,11 @@ pub(crate) enum Request<'w> {
         file: &'w str,
         loads: &'w str,
         horizon: Q,
+    },
+    /// Whether the flow of a report is an equilibrium of a network.
+    Check {
+        file: &'w str,
+        report: &'w str,
     },
     /// The quickest flow of an amount of at least 0 in a network, by at most so many walks, at least one, that are pushed.
     Quick {
@@ -123,6 +128,20 @@ fn read_load(words: &[String]) -> Option<Request>
     }
 }
 
+// `check NET REPORT`
+fn read_check(words: &[String]) -> Option<Request>
+    ensures value { check_words (texts words.now) ≡ option_map requested result }
+    ensures can_be { IfSome result (λ request. CanBeAsked (requested request)) }
+{
+    match words {
+        [file, report] => Some(Request::Check {
+            file: file.as_str(),
+            report: report.as_str(),
+        }),
+        _ => None,
+    }
+}
+
 // The file, the amount and how many walks may be pushed, where both numbers are known.
 fn quick_file<'w>(file: &'w str, amount: Option<Q>, augments: Option<u64>) -> Option<Request<'w>>
     requires amount { IfSome amount (λ amount. 0ℚ ≤ℚ amount) }
@@ -171,6 +190,8 @@ fn read_command<'w>(command: &str, words: &'w [String]) -> Option<Request<'w>>
         read_show(words)
     } else if command == "load" {
         read_load(words)
+    } else if command == "check" {
+        read_check(words)
     } else if command == "quick" {
         read_quick(words)
     } else {

@@ -12,8 +12,9 @@ use std::alloc::Global;
 /// Answers what the words ask, of which the first is the program's name: fetches the files of the request, each once and in order, and
 /// no other, writes the text of the answer to `out`, and says on `err` why there is none, or why it ends early. All files are fetched
 /// before a rule of one is looked at, and nothing is written to `out` before the text is known. It is refused where memory is wanting,
-/// the words are no request, a file isn't given, has too many bytes or breaks a rule, an operation of `load` or `quick` passes the bound
-/// of 127 bits, or a walk of unbounded links leaves no quickest flow. Of a network a report is written up to the horizon, or up to the departure where its run stops.
+/// the words are no request, a file isn't given, has too many bytes or breaks a rule, an operation of `load`, `check` or `quick` passes
+/// the bound of 127 bits, or a walk of unbounded links leaves no quickest flow. Of a network a report is written up to the horizon, or up
+/// to the departure where its run stops; of a report the verdict whether its flow is an equilibrium.
 pub fn run<S: Shelf, O: Sink, E: Sink>(
     alloc: Global,
     words: &[String],
@@ -44,8 +45,8 @@ pub fn run<S: Shelf, O: Sink, E: Sink>(
     }) result }
 
     // Nothing but want of memory keeps a network from being shown, from being solved where its phase run reaches the horizon, and from
-    // being loaded where no operation passes; and a quickest flow from being found where none passes, unless too many walks are wanted
-    // or it is unbounded.
+    // being loaded where no operation passes; a report from its verdict where none passes; and a quickest flow from being found where
+    // none passes, unless too many walks are wanted or it is unbounded.
     ensures complete { IsComplete (record {
       words = texts words.now;
       shelf = record {

@@ -24,6 +24,8 @@ pub enum Status {
     NoPattern,
     /// The output takes no more bytes.
     Output,
+    /// The flow of the report is no equilibrium.
+    NotEquilibrium,
     /// As many walks as allowed were pushed for a quickest flow, and the next is shorter than its time.
     Augments,
     /// A walk of unbounded links leads from source to sink, so that there is no quickest flow of an amount above 0.
@@ -48,6 +50,7 @@ impl Status {
             Status::Passed => 7,
             Status::NoPattern => 8,
             Status::Output => 9,
+            Status::NotEquilibrium => 10,
             Status::Augments => 11,
             Status::Unbounded => 14,
         }

@@ -1,7 +1,7 @@
 // The lines on standard error.
 ghost use Rattle.std.specs.Prelude.{◌≡◌, flat_map};
 ghost use Rattle.nf_edge.specs.Taken.{Wrote};
-ghost use Rattle.nf_readings.specs.RuleWords.{load_rule_word};
+ghost use Rattle.nf_readings.specs.RuleWords.{load_rule_word, report_rule_word};
 ghost use Rattle.nf_app.specs.ErrorLines.{rule_word, broken_line, stopped_line, passed_line, augments_line};
 ghost use Rattle.nf_app.specs.Answers.{err_text};
 ghost use Rattle.nf_app.specs.Refusals.{answer_of};
@@ -13,7 +13,7 @@ use nf_frac::{PassedAt, Q, TextBuf};
 use nf_load::LoadRule;
 use nf_net::NetRule;
 use nf_numerals::write_count;
-use nf_report::{write_passed_call, write_stop};
+use nf_report::{ReportRule, write_passed_call, write_stop};
 
 // The usage text: all the commands there are to be.
 const USAGE: &[u8] = b"nfot: usage
@@ -73,6 +73,27 @@ fn load_rule_text(rule: LoadRule) -> &'static [u8]
     }
 }
 
+fn report_rule_text(rule: ReportRule) -> &'static [u8]
+    ensures { result.now ≡ report_rule_word rule }
+{
+    match rule {
+        ReportRule::P1 => b"P1",
+        ReportRule::P2 => b"P2",
+        ReportRule::P3 => b"P3",
+        ReportRule::P4 => b"P4",
+        ReportRule::P5 => b"P5",
+        ReportRule::P6 => b"P6",
+        ReportRule::P7 => b"P7",
+        ReportRule::P8 => b"P8",
+        ReportRule::P9 => b"P9",
+        ReportRule::P10 => b"P10",
+        ReportRule::P11 => b"P11",
+        ReportRule::P12 => b"P12",
+        ReportRule::P13 => b"P13",
+        ReportRule::P14 => b"P14",
+    }
+}
+
 // Texts, one after the other.
 fn write_texts<E: Sink>(err: &mut E, texts: &[&[u8]]) -> Result<(), SinkFault>
     ensures { Wrote (E.took err.old) (E.took err.new) (E.faults err.old) (E.faults err.new)
@@ -129,6 +150,9 @@ pub(crate) fn write_refusal<E: Sink>(err: &mut E, refusal: &Refusal) -> Result<(
         }
         Refusal::MalformedLoads { rule, line } => {
             write_broken(err, b"loads", *line, load_rule_text(*rule))
+        }
+        Refusal::MalformedReport { rule, line } => {
+            write_broken(err, b"report", *line, report_rule_text(*rule))
         }
         Refusal::Passes(at) => write_passed(err, at),
         Refusal::Unbounded => write_text(err, b"nfot: unbounded\n"),

@@ -4,7 +4,7 @@ ghost use Rattle.nf_numerals.specs.Printed.{printed};
 ghost use Rattle.nf_formats.specs.Names.{name_at};
 
 use nf_frac::{Q, TextBuf};
-use nf_net::{LinkId, Network};
+use nf_net::{LinkId, Network, NodeId};
 use std::alloc::AllocError;
 
 /// Adds bytes.
@@ -37,9 +37,23 @@ pub(crate) fn put_number(text: &mut Vec<u8>, number: Q) -> Result<(), AllocError
 pub(crate) fn link_word(net: &Network, link: LinkId) -> &[u8]
     ensures { result.now ≡ name_at net.now.link_names link }
 {
+    // For the proof: a network's names are those of its links.
     let _named = net.version();
     if link.0 < net.link_count() {
         net.link_name(link).as_bytes()
+    } else {
+        b""
+    }
+}
+
+/// The name of a node; no bytes where no node has the number.
+pub(crate) fn node_word(net: &Network, node: NodeId) -> &[u8]
+    ensures { result.now ≡ name_at net.now.node_names node }
+{
+    // For the proof: a network's names are those of its nodes.
+    let _named = net.version();
+    if node.0 < net.node_count() {
+        net.node_name(node).as_bytes()
     } else {
         b""
     }

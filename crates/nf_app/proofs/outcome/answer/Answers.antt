@@ -5,7 +5,7 @@ use Rattle.nf_app.specs.declared.request.Request as code
 use Rattle.nf_app.specs.Files.{Visit}
 use Rattle.nf_app.specs.Fetching.{IsTold}
 use Rattle.nf_app.specs.Requested.{requested}
-use Rattle.nf_app.specs.Requests.{Request, CanBeAsked, network_file, loads_file, Solve, Show, Load, Quick}
+use Rattle.nf_app.specs.Requests.{Request, CanBeAsked, network_file, loads_file, report_file, Solve, Show, Load, Check, Quick}
 use Rattle.nf_app.proofs.Calls.{refused, given}
 use Rattle.nf_app.proofs.outcome.answer.Goals as goal
 
@@ -58,6 +58,24 @@ returns-in_ok-net-in-Load g c =
     given (texts c.args.words.now) shelf (Load c.in-Load.file.now c.in-Load.loads.now c.in-Load.horizon)
     (c.in-Some.ensures.value ∙ ap (λ (o : Option code.Request). option_map requested o) (ap Some c.in-Load.is)) (network_file c.in-Load.file.now) (loads_file c.in-Load.loads.now ∷ []) refl
     c.in_ok-net-in-Load.net (c.in_ok-net-in-Load.loads.items ∷ []) c.in_ok-net-in-Load.ensures.read c.load_to.result (c.load_to.ensures shelf c.in-Load.file.now c.in-Load.loads.now told)
+
+pub check_report-requires : goal.check_report-requires
+check_report-requires g c = omega (arith, c.in_ok-net-in-Check.ensures.within, c.deref-in-Check.ensures.len)
+
+pub returns-in_ok-net-in-Check : goal.returns-in_ok-net-in-Check
+returns-in_ok-net-in-Check g c =
+    let shelf : Visit = (record {
+      told = g.S.Shelf.told c.args.shelf.now;
+      asked_before = g.S.Shelf.asked c.args.shelf.now;
+      asked_now = g.S.Shelf.asked c.fetch_network_with-in-Check.new.shelf;
+      faults_before = g.S.Shelf.faults c.args.shelf.now;
+      faults_now = g.S.Shelf.faults c.fetch_network_with-in-Check.new.shelf;
+      taken = g.S.Shelf.taken c.fetch_network_with-in-Check.new.shelf;
+    }) in
+    let told = subst (λ (t : List ℕ). IsTold shelf (report_file c.in-Check.report.now) t) (sym c.deref-in-Check.ensures.value) c.in_ok-net-in-Check.ensures.read.2.0 in
+    given (texts c.args.words.now) shelf (Check c.in-Check.file.now c.in-Check.report.now)
+    (c.in-Some.ensures.value ∙ ap (λ (o : Option code.Request). option_map requested o) (ap Some c.in-Check.is)) (network_file c.in-Check.file.now) (report_file c.in-Check.report.now ∷ []) refl
+    c.in_ok-net-in-Check.net (c.in_ok-net-in-Check.report.items ∷ []) c.in_ok-net-in-Check.ensures.read c.check_report.result (c.check_report.ensures shelf c.in-Check.file.now c.in-Check.report.now told)
 
 pub quick_to-requires-clause-amount : goal.quick_to-requires-clause-amount
 quick_to-requires-clause-amount g c = (subst (λ (r : Request). CanBeAsked r) (ap requested c.in-Quick.is) c.in-Some.ensures.can_be).0

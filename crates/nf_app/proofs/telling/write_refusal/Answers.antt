@@ -17,5 +17,10 @@ returns-in-MalformedLoads g c = same_text _ _
     (ap (λ (rule : List ℕ). broken_line (codes "loads") c.in-MalformedLoads.line rule) c.load_rule_text.ensures
     ∙ sym (ap (λ (r : Refusal). err_text (answer_of r)) c.in-MalformedLoads.is)) c.write_broken-in-MalformedLoads.ensures
 
+pub returns-in-MalformedReport : goal.returns-in-MalformedReport
+returns-in-MalformedReport g c = same_text _ _
+    (ap (λ (rule : List ℕ). broken_line (codes "report") c.in-MalformedReport.line rule) c.report_rule_text.ensures
+    ∙ sym (ap (λ (r : Refusal). err_text (answer_of r)) c.in-MalformedReport.is)) c.write_broken-in-MalformedReport.ensures
+
 pub returns-in-Passes : goal.returns-in-Passes
 returns-in-Passes g c = same_text _ _ (sym (ap (λ (r : Refusal). err_text (answer_of r)) c.in-Passes.is)) c.write_passed.ensures
