@@ -1,0 +1,8 @@
+pub mod Wholes
+pub mod Ranges
+pub mod LadderNames
+pub mod LadderNodes
+pub mod LadderWalks
+pub mod LadderNamed
+pub mod Written
+pub mod Read

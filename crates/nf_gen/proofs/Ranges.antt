@@ -1,0 +1,41 @@
+-- Lists that go by a range of numbers: what holds of each entry, and what is among them.
+use Rattle.std.proofs.Common.{◌≡◌, ℕ, zero, suc, ◌+◌, ◌<◌, ◌≤◌, List, [], ◌∷◌, ◌++◌, length, map, flat_map, slice_get, Some, inl, inr, ap, subst, ◌∙◌, arith}
+use Rattle.std.specs.List.{AllByRecursion, range_with_len}
+use Rattle.std.proofs.lemmas.Bool.{cases_eq}
+use Rattle.std.proofs.lemmas.List.FromFn.{counting_more}
+use Rattle.nf_formats_laws.proofs.WalkFacts.{slice_get-left, slice_get-right}
+use Rattle.nf_formats_laws.proofs.MarkedFacts.{Entry}
+
+-- ---- each entry
+module _ {X : Type 0} (P : X → Type 0) where
+  pub all_append : (xs ys : List X) → AllByRecursion P xs → AllByRecursion P ys → AllByRecursion P (xs ++ ys)
+  all_append [] ys h k = k
+  all_append (x ∷ xs) ys h k = (h.0, all_append xs ys h.1 k)
+
+  pub all_flat : (f : ℕ → List X) (a n : ℕ) → ((j : ℕ) → a ≤ j → j < a + n → AllByRecursion P (f j)) → AllByRecursion P (flat_map f (range_with_len a n))
+  all_flat f a zero each = tt
+  all_flat f a (suc n) each = all_append (f a) (flat_map f (range_with_len (a + 1) n)) (each a (omega arith) (omega arith))
+      (all_flat f (a + 1) n (λ j low high. each j (omega arith) (omega arith)))
+
+  pub all_map : (f : ℕ → X) (a n : ℕ) → ((j : ℕ) → a ≤ j → j < a + n → P (f j)) → AllByRecursion P (map f (range_with_len a n))
+  all_map f a zero each = tt
+  all_map f a (suc n) each = (each a (omega arith) (omega arith), all_map f (a + 1) n (λ j low high. each j (omega arith) (omega arith)))
+
+-- ---- entries
+module _ {X : Type 0} where
+  pub entry_left : (xs ys : List X) (x : X) → Entry xs x → Entry (xs ++ ys) x
+  entry_left xs ys x h = (h.0, slice_get-left xs ys h.0 x h.1)
+
+  pub entry_right : (xs ys : List X) (x : X) → Entry ys x → Entry (xs ++ ys) x
+  entry_right xs ys x h = (length xs + h.0, slice_get-right xs ys h.0 ∙ h.1)
+
+  pub entry_flat : (f : ℕ → List X) (x : X) (a n j : ℕ) → a ≤ j → j < a + n → Entry (f j) x → Entry (flat_map f (range_with_len a n)) x
+  entry_flat f x a zero j low high h = absurd (omega arith)
+  entry_flat f x a (suc n) j low high h = elim (cases_eq j a) [
+    | inl same ↦ entry_left (f a) (flat_map f (range_with_len (a + 1) n)) x (subst (λ (k : ℕ). Entry (f k) x) same h)
+    | inr other ↦ entry_right (f a) (flat_map f (range_with_len (a + 1) n)) x (entry_flat f x (a + 1) n j (omega arith) (omega arith) h)
+  ]
+
+-- ---- counting from 1
+pub count_push : (k : ℕ) → range_with_len 1 (suc k) ≡ range_with_len 1 k ++ suc k ∷ []
+count_push k = (let on : suc k ≡ k + 1 = omega arith in ap (range_with_len 1) on) ∙ counting_more 1 k (suc k) (omega arith)

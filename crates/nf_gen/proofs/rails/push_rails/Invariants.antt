@@ -1,0 +1,8 @@
+use Rattle.std.proofs.Common.{◌-◌, flat_map}
+use Rattle.std.specs.List.{range_with_len}
+use Rattle.nf_gen.specs.Ladder.{rails_on}
+use Rattle.nf_gen.specs.Writing.{WritesLinks}
+use Rattle.nf_gen.proofs.rails.push_rails.Given as goal
+
+abbrev pub invariant-loop-index : goal.invariant-loop-index
+invariant-loop-index l = WritesLinks (flat_map rails_on (range_with_len 1 (l.index - 1))) l.initial.out.items l.out.items l.initial.draws l.draws

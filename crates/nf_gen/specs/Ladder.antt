@@ -1,0 +1,111 @@
+-- The ladder of a number: two rails between the source and the sink, and rungs from the upper one to the lower. A linear
+-- congruential generator, begun with the number, gives the transit times, the capacities and the rates.
+use Rattle.std.specs.Prelude.{ℕ, zero, suc, ◌+◌, ◌-◌, ◌*◌, ◌%◌, List, [], ◌∷◌, ◌++◌, map, flat_map, Some, pos, codes}
+use Rattle.std.specs.List.{range_with_len}
+use Rattle.nf_rational.specs.Operations.{whole}
+use Rattle.nf_model.specs.Network.{Piece}
+use Rattle.nf_numerals.specs.Digits.{digits_of}
+use Rattle.nf_formats.specs.Names.{Name}
+use Rattle.nf_formats.specs.Named.{NamedLink, Named, numbered, names_of}
+
+-- ---- the generator
+unfoldable pub next_value : ℕ → ℕ
+next_value x = (75 * x + 74) % 65537
+
+-- its value after so many draws
+unfoldable pub drawn : ℕ → ℕ → ℕ
+drawn number zero = number % 65537
+drawn number (suc draws) = next_value (drawn number draws)
+
+-- ---- names: the nodes `u1`, `u2` and so on of the upper rail and `l1`, `l2` and so on of the lower one, and the rungs `r1`, `r2` ..
+abbrev pub upper : ℕ → Name
+upper i = 117 ∷ digits_of i
+
+abbrev pub lower : ℕ → Name
+lower i = 108 ∷ digits_of i
+
+abbrev pub rung : ℕ → Name
+rung i = 114 ∷ digits_of i
+
+-- ---- the links, before anything is drawn
+pub record Ends : Type 0 where
+  pub name : Name
+  pub tail : Name
+  pub head : Name
+
+abbrev pub link_from : Name → Name → Name → Ends
+link_from name tail head = record { name = name; tail = tail; head = head }
+
+-- along both rails from rung i to the next; these links are named as their tails
+abbrev pub rails_on : ℕ → List Ends
+rails_on i = link_from (upper i) (upper i) (upper (i + 1)) ∷ link_from (lower i) (lower i) (lower (i + 1)) ∷ []
+
+abbrev pub rung_at : ℕ → Ends
+rung_at i = link_from (rung i) (upper i) (lower i)
+
+abbrev pub links_in : List Ends
+links_in = link_from (codes "su") (codes "s") (upper 1) ∷ link_from (codes "sl") (codes "s") (lower 1) ∷ []
+
+abbrev pub links_along : ℕ → List Ends
+links_along rungs = flat_map rails_on (range_with_len 1 (rungs - 1))
+
+abbrev pub links_down : ℕ → List Ends
+links_down rungs = map rung_at (range_with_len 1 rungs)
+
+abbrev pub links_out : ℕ → List Ends
+links_out rungs = link_from (codes "ut") (upper rungs) (codes "t") ∷ link_from (codes "lt") (lower rungs) (codes "t") ∷ []
+
+-- into both rails, along them from each rung to the next, down each rung, and out of both rails
+abbrev pub ladder_ends : ℕ → List Ends
+ladder_ends rungs = links_in ++ links_along rungs ++ links_down rungs ++ links_out rungs
+
+-- ---- what is drawn
+-- each link takes the next two values: the first gives its transit time, 1 to 5, and the second its capacity, 1 to 4
+abbrev pub drawn_link : ℕ → ℕ → Ends → NamedLink
+drawn_link number place l = record {
+  name = l.name;
+  tail = l.tail;
+  head = l.head;
+  transit = whole (pos (1 + drawn number (2 * place + 1) % 5));
+  capacity = Some (whole (pos (1 + drawn number (2 * place + 2) % 4)));
+}
+
+-- links in order, the first of which has this place among all
+abbrev pub drawn_links : ℕ → ℕ → List Ends → List NamedLink
+drawn_links number place [] = []
+drawn_links number place (l ∷ links) = drawn_link number place l ∷ drawn_links number (place + 1) links
+
+-- the two values after those of so many links give the rates, 1 to 6, from 0 and from 10 on; from 20 on the rate is 0
+abbrev pub drawn_pieces : ℕ → ℕ → List Piece
+drawn_pieces number links =
+    record { start = whole (pos 0); rate = whole (pos (1 + drawn number (2 * links + 1) % 6)) }
+    ∷ record { start = whole (pos 10); rate = whole (pos (1 + drawn number (2 * links + 2) % 6)) }
+    ∷ record { start = whole (pos 20); rate = whole (pos 0) } ∷ []
+
+-- ---- the network
+-- the source, the sink, and rung by rung both its nodes: the order of first appearance in the links
+abbrev pub rung_nodes : ℕ → List Name
+rung_nodes i = upper i ∷ lower i ∷ []
+
+abbrev pub ladder_nodes : ℕ → List Name
+ladder_nodes rungs = codes "s" ∷ codes "t" ∷ [] ++ flat_map rung_nodes (range_with_len 1 rungs)
+
+abbrev pub ladder_links : ℕ → ℕ → List NamedLink
+ladder_links number rungs = drawn_links number 0 (ladder_ends rungs)
+
+-- 2 K + 2 nodes and 3 K + 2 links with K rungs
+unfoldable pub ladder : ℕ → ℕ → Named
+ladder number rungs = record {
+  version = 1;
+  net = record {
+    nodes = 2 * rungs + 2;
+    source = 0;
+    sink = 1;
+    links = map (numbered (ladder_nodes rungs)) (ladder_links number rungs);
+    pieces = drawn_pieces number (3 * rungs + 2);
+  };
+  node_names = ladder_nodes rungs;
+  link_names = names_of (ladder_links number rungs);
+  idle_nodes = [];
+  idle_links = [];
+}

@@ -1,0 +1,3 @@
+pub mod Ladder
+pub mod Writing
+pub mod Laws

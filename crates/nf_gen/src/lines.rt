@@ -1,0 +1,67 @@
+// Lines of a network file, put behind a text.
+ghost use Rattle.std.specs.Prelude.{◌≡◌, [], ◌∷◌, ◌++◌, codes, OnOk};
+ghost use Rattle.nf_numerals.specs.Digits.{digits_of};
+ghost use Rattle.nf_lines.specs.Words.{line_of_words};
+
+use nf_numerals::{TextBuf, write_count};
+use std::alloc::AllocError;
+
+/// Bytes as they are.
+pub fn push_bytes(out: &mut Vec<u8>, bytes: &[u8]) -> Result<(), AllocError>
+    ensures { OnOk result (out.new.items ≡ out.old.items ++ bytes.now) }
+{
+    out.extend_from_slice(bytes)?;
+    Ok(())
+}
+
+// A word behind a space.
+fn push_word(out: &mut Vec<u8>, word: &[u8]) -> Result<(), AllocError>
+    ensures { OnOk result (out.new.items ≡ out.old.items ++ 32 ∷ word.now) }
+{
+    push_bytes(out, b" ")?;
+    push_bytes(out, word)?;
+    Ok(())
+}
+
+// A count behind a space.
+fn push_count(out: &mut Vec<u8>, count: u64) -> Result<(), AllocError>
+    ensures { OnOk result (out.new.items ≡ out.old.items ++ 32 ∷ digits_of count) }
+{
+    let mut digits = TextBuf::new();
+    write_count(count, &mut digits);
+    push_word(out, digits.text())?;
+    Ok(())
+}
+
+/// The line of a link.
+pub fn push_link_line(
+    out: &mut Vec<u8>,
+    name: &[u8],
+    tail: &[u8],
+    head: &[u8],
+    transit: u64,
+    capacity: u64,
+) -> Result<(), AllocError>
+    ensures { OnOk result (out.new.items ≡ out.old.items
+        ++ line_of_words (codes "link" ∷ name.now ∷ tail.now ∷ head.now ∷ digits_of transit ∷ digits_of capacity ∷ [])) }
+{
+    push_bytes(out, b"link")?;
+    push_word(out, name)?;
+    push_word(out, tail)?;
+    push_word(out, head)?;
+    push_count(out, transit)?;
+    push_count(out, capacity)?;
+    push_bytes(out, b"\n")?;
+    Ok(())
+}
+
+/// The line of a piece.
+pub fn push_piece_line(out: &mut Vec<u8>, start: u64, rate: u64) -> Result<(), AllocError>
+    ensures { OnOk result (out.new.items ≡ out.old.items ++ line_of_words (codes "inflow" ∷ digits_of start ∷ digits_of rate ∷ [])) }
+{
+    push_bytes(out, b"inflow")?;
+    push_count(out, start)?;
+    push_count(out, rate)?;
+    push_bytes(out, b"\n")?;
+    Ok(())
+}
