@@ -235,21 +235,23 @@ long_lines (ws ∷ lines) h =
     let more : length (lines_text lines) ≤ 1001 * length lines = long_lines lines h.1 in
     omega arith
 
+few_lines : (active idle pieces : List (List (List ℕ))) (end_line : List (List ℕ)) → length active + length idle ≤ 200 → length pieces ≤ 200 → length (active ++ idle ++ pieces ++ end_line ∷ []) ≤ 401
+few_lines active idle pieces end_line h k =
+    let all : length (active ++ idle ++ pieces ++ end_line ∷ []) ≡ length (active ++ idle ++ pieces) + 1 = length-append (active ++ idle ++ pieces) (end_line ∷ []) in
+    let with_pieces : length (active ++ idle ++ pieces) ≡ length (active ++ idle) + length pieces = length-append (active ++ idle) pieces in
+    let with_idle : length (active ++ idle) ≡ length active + length idle = length-append active idle in
+    omega arith
+
 -- the canonical text of a network can be read
 pub canonical_fits : (n : Named) → IsNamed n → length (canonical n) ≤ longest_text
 canonical_fits n h =
-    let active : List (List (List ℕ)) = map link_words (active_links n) in
-    let idle : List (List (List ℕ)) = map link_words n.idle_links in
-    let pieces : List (List (List ℕ)) = map inflow_words n.net.pieces in
     let long : length (canonical n) ≤ 1001 * length (canonical_lines n) = long_lines (canonical_lines n) (plain_canonical n h) in
-    let all : length (active ++ idle ++ pieces ++ (codes "end" ∷ []) ∷ []) ≡ length (active ++ idle ++ pieces) + 1 = length-append (active ++ idle ++ pieces) ((codes "end" ∷ []) ∷ []) in
-    let with_pieces : length (active ++ idle ++ pieces) ≡ length (active ++ idle) + length pieces = length-append (active ++ idle) pieces in
-    let with_idle : length (active ++ idle) ≡ length active + length idle = length-append active idle in
     let links : length (active_links n ++ n.idle_links) ≡ length (active_links n) + length n.idle_links = length-append (active_links n) n.idle_links in
     let few_links : length (active_links n ++ n.idle_links) ≤ 200 = h.limits.links in
     let few_pieces : length n.net.pieces ≤ 200 = h.limits.pieces in
-    let a : length active ≡ length (active_links n) = length-map (active_links n) link_words in
-    let b : length idle ≡ length n.idle_links = length-map n.idle_links link_words in
-    let c : length pieces ≡ length n.net.pieces = length-map n.net.pieces inflow_words in
-    let total : length (canonical_lines n) ≡ 3 + length (active ++ idle ++ pieces ++ (codes "end" ∷ []) ∷ []) = refl in
+    let a : length (map link_words (active_links n)) ≡ length (active_links n) = length-map (active_links n) link_words in
+    let b : length (map link_words n.idle_links) ≡ length n.idle_links = length-map n.idle_links link_words in
+    let c : length (map inflow_words n.net.pieces) ≡ length n.net.pieces = length-map n.net.pieces inflow_words in
+    let body : length (map link_words (active_links n) ++ map link_words n.idle_links ++ map inflow_words n.net.pieces ++ (codes "end" ∷ []) ∷ []) ≤ 401 =
+    few_lines (map link_words (active_links n)) (map link_words n.idle_links) (map inflow_words n.net.pieces) (codes "end" ∷ []) (omega arith) (omega arith) in
     omega arith
