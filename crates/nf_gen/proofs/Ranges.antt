@@ -2,7 +2,6 @@
 use Rattle.std.proofs.Common.{◌≡◌, ℕ, zero, suc, ◌+◌, ◌<◌, ◌≤◌, List, [], ◌∷◌, ◌++◌, length, map, flat_map, slice_get, Some, inl, inr, ap, subst, ◌∙◌, arith}
 use Rattle.std.specs.List.{AllByRecursion, range_with_len}
 use Rattle.std.proofs.lemmas.Bool.{cases_eq}
-use Rattle.std.proofs.lemmas.List.FromFn.{counting_more}
 use Rattle.nf_formats_laws.proofs.WalkFacts.{slice_get-left, slice_get-right}
 use Rattle.nf_formats_laws.proofs.MarkedFacts.{Entry}
 
@@ -36,6 +35,10 @@ module _ {X : Type 0} where
     | inr other ↦ entry_right (f a) (flat_map f (range_with_len (a + 1) n)) x (entry_flat f x (a + 1) n j (omega arith) (omega arith) h)
   ]
 
--- ---- counting from 1
+-- ---- counting with one more
+counted : (a n j : ℕ) → a + n ≡ j → range_with_len a (suc n) ≡ range_with_len a n ++ j ∷ []
+counted a zero j e = let same : a ≡ j = omega arith in ap (λ (k : ℕ). k ∷ []) same
+counted a (suc n) j e = ap (λ l. a ∷ l) (counted (a + 1) n j (omega arith))
+
 pub count_push : (k : ℕ) → range_with_len 1 (suc k) ≡ range_with_len 1 k ++ suc k ∷ []
-count_push k = (let on : suc k ≡ k + 1 = omega arith in ap (range_with_len 1) on) ∙ counting_more 1 k (suc k) (omega arith)
+count_push k = counted 1 k (suc k) (omega arith)

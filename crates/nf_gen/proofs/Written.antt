@@ -24,29 +24,29 @@ use Rattle.nf_gen.proofs.LadderNodes.{link_count}
 use Rattle.nf_gen.proofs.LadderNamed.{active_are, ladder_named}
 
 -- ---- links one after the other
-links-append : (x : ℕ) (as bs : List Ends) → links_after x (as ++ bs) ≡ links_after x as ++ links_after (after_links x as) bs
-links-append x [] bs = refl
-links-append x (l ∷ as) bs = ap (λ r. link_after x l ∷ r) (links-append (after_two x) as bs)
+links-append : (x : ℕ) (xs ys : List Ends) → links_after x (xs ++ ys) ≡ links_after x xs ++ links_after (after_links x xs) ys
+links-append x [] ys = refl
+links-append x (l ∷ xs) ys = ap (λ r. link_after x l ∷ r) (links-append (after_two x) xs ys)
 
-after-append : (x : ℕ) (as bs : List Ends) → after_links x (as ++ bs) ≡ after_links (after_links x as) bs
-after-append x [] bs = refl
-after-append x (l ∷ as) bs = after-append (after_two x) as bs
+after-append : (x : ℕ) (xs ys : List Ends) → after_links x (xs ++ ys) ≡ after_links (after_links x xs) ys
+after-append x [] ys = refl
+after-append x (l ∷ xs) ys = after-append (after_two x) xs ys
 
 abbrev text_of : List NamedLink → List ℕ
 text_of links = flat_map line_of_words (map link_words links)
 
-text-append : (as bs : List NamedLink) → text_of (as ++ bs) ≡ text_of as ++ text_of bs
-text-append as bs = ap (flat_map line_of_words) (map-append link_words as bs) ∙ flat_map-append line_of_words (map link_words as) (map link_words bs)
+text-append : (xs ys : List NamedLink) → text_of (xs ++ ys) ≡ text_of xs ++ text_of ys
+text-append xs ys = ap (flat_map line_of_words) (map-append link_words xs ys) ∙ flat_map-append line_of_words (map link_words xs) (map link_words ys)
 
 pub writes_none : (text : List ℕ) (x : ℕ) → WritesLinks [] text text x x
 writes_none text x = record { text = sym (append-nil text); value = refl }
 
-pub writes_more : (as bs : List Ends) (old middle new : List ℕ) (x y z : ℕ) → WritesLinks as old middle x y → WritesLinks bs middle new y z → WritesLinks (as ++ bs) old new x z
-writes_more as bs old middle new x y z h k = record {
-  text = k.text ∙ (λ i. h.text i ++ text_of (links_after (h.value i) bs))
-      ∙ append_assoc old (text_of (links_after x as)) (text_of (links_after (after_links x as) bs))
-      ∙ ap (λ r. old ++ r) (sym (ap (λ r. text_of r) (links-append x as bs) ∙ text-append (links_after x as) (links_after (after_links x as) bs)));
-  value = k.value ∙ ap (λ (v : ℕ). after_links v bs) h.value ∙ sym (after-append x as bs);
+pub writes_more : (xs ys : List Ends) (old middle new : List ℕ) (x y z : ℕ) → WritesLinks xs old middle x y → WritesLinks ys middle new y z → WritesLinks (xs ++ ys) old new x z
+writes_more xs ys old middle new x y z h k = record {
+  text = k.text ∙ (λ i. h.text i ++ text_of (links_after (h.value i) ys))
+      ∙ append_assoc old (text_of (links_after x xs)) (text_of (links_after (after_links x xs) ys))
+      ∙ ap (λ r. old ++ r) (sym (ap (λ r. text_of r) (links-append x xs ys) ∙ text-append (links_after x xs) (links_after (after_links x xs) ys)));
+  value = k.value ∙ ap (λ (v : ℕ). after_links v ys) h.value ∙ sym (after-append x xs ys);
 }
 
 -- one link, of which the words are known
@@ -65,6 +65,13 @@ link_written x y z transit capacity name tail head old new a b c d e = record {
 
     rate : digits_of capacity ≡ printed (whole (pos (1 + after_two x % 4)))
     rate = ap digits_of (d ∙ ap (λ (v : ℕ). 1 + next_value v % 4) a) ∙ sym (printed-whole (1 + after_two x % 4))
+
+-- the same link, by names that are equal
+pub renamed : (n m s t a b old new : List ℕ) (x y : ℕ) → n ≡ m → s ≡ t → a ≡ b → WritesLinks (link_from n s a ∷ []) old new x y → WritesLinks (link_from m t b ∷ []) old new x y
+renamed n m s t a b old new x y e f g h =
+    subst (λ (z : List ℕ). WritesLinks (link_from m t z ∷ []) old new x y) g
+    (subst (λ (z : List ℕ). WritesLinks (link_from m z a ∷ []) old new x y) f
+    (subst (λ (z : List ℕ). WritesLinks (link_from z s a ∷ []) old new x y) e h))
 
 -- the links of one rung more
 pub along_more : (i : ℕ) (old upper_text new : List ℕ) (first x y z : ℕ) (start : List ℕ) → 1 ≤ i
@@ -94,14 +101,6 @@ down_more (suc i) start old new first x y some h k =
     subst (λ (n : ℕ). WritesLinks (map rung_at (range_with_len 1 n)) start new first y) on
     (subst (λ ls. WritesLinks ls start new first y) (sym (ap (map rung_at) (count_push i) ∙ map-append rung_at (range_with_len 1 i) (suc i ∷ [])))
     (writes_more (map rung_at (range_with_len 1 i)) (rung_at (suc i) ∷ []) start old new first x y front k))
-
--- loops end with the whole of them
-pub along_whole : (i rungs : ℕ) (old new : List ℕ) (x y : ℕ) → i ≡ rungs → WritesLinks (flat_map rails_on (range_with_len 1 (i - 1))) old new x y → WritesLinks (links_along rungs) old new x y
-along_whole i rungs old new x y e h = subst (λ (n : ℕ). WritesLinks (flat_map rails_on (range_with_len 1 (n - 1))) old new x y) e h
-
-pub down_whole : (i rungs : ℕ) (old new : List ℕ) (x y : ℕ) → i ≡ rungs + 1 → WritesLinks (map rung_at (range_with_len 1 (i - 1))) old new x y → WritesLinks (links_down rungs) old new x y
-down_whole i rungs old new x y e h =
-    let same : i - 1 ≡ rungs = omega arith in subst (λ (n : ℕ). WritesLinks (map rung_at (range_with_len 1 n)) old new x y) same h
 
 -- ---- what the draws come to
 next_drawn : (number draws more : ℕ) → more ≡ suc draws → drawn number more ≡ next_value (drawn number draws)

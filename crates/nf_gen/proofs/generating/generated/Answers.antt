@@ -1,0 +1,19 @@
+use Rattle.std.proofs.Common.{ℕ, ◌∙◌, ap}
+use Rattle.nf_formats.specs.NetText.{canonical}
+use Rattle.nf_gen.specs.Ladder.{ladder}
+use Rattle.nf_gen.proofs.Read.{can_be_read, net_is, none_broken}
+use Rattle.nf_gen.proofs.generating.generated.Goals as goal
+
+pub parse-requires : goal.parse-requires
+parse-requires c =
+    can_be_read c.args.number c.args.rungs c.requires.some c.requires.few c.deref.result.now
+    (c.deref.ensures.value ∙ c.in_ok-text.ensures ∙ ap (λ (r : ℕ). canonical (ladder c.args.number r)) c.from.ensures)
+
+pub returns-in-Ok : goal.returns-in-Ok
+returns-in-Ok c =
+    net_is c.args.number c.args.rungs c.requires.some c.requires.few c.deref.result.now
+    (c.deref.ensures.value ∙ c.in_ok-text.ensures ∙ ap (λ (r : ℕ). canonical (ladder c.args.number r)) c.from.ensures)
+    c.in-Ok.net c.in-Ok.ensures
+
+pub unreachable-requires : goal.unreachable-requires
+unreachable-requires c = ?
