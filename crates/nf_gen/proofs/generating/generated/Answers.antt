@@ -16,4 +16,8 @@ returns-in-Ok c =
     c.in-Ok.net c.in-Ok.ensures
 
 pub unreachable-requires : goal.unreachable-requires
-unreachable-requires c = ?
+unreachable-requires c =
+    let broken = rw c.in-Err-Broken.field-0-is at (c.in-Err-Broken.ensures {u = tt}) in
+    none_broken c.args.number c.args.rungs c.requires.some c.requires.few c.deref.result.now
+    (c.deref.ensures.value ∙ c.in_ok-text.ensures ∙ ap (λ (r : ℕ). canonical (ladder c.args.number r)) c.from.ensures)
+    (record { rule = c.in-Err-Broken.field-0-0; line = c.in-Err-Broken.field-0-1 }) broken
