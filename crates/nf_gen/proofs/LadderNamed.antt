@@ -1,17 +1,15 @@
 -- A ladder is a network within the limits of a file, and its canonical text is read as it.
-use Rattle.std.proofs.Common.{map, ◌≡◌, ℕ, zero, suc, ◌+◌, ◌-◌, ◌*◌, ◌%◌, ◌<◌, ◌≤◌, ◌||◌, Bool, true, false, not, List, [], ◌∷◌, ◌++◌, length, Option, Some, None, Ok, pos, codes, unwrap_or, bytes_eq, inl, inr, refl, sym, ◌∙◌, ap, subst, arith}
+use Rattle.std.proofs.Common.{map, ◌≡◌, ℕ, suc, ◌+◌, ◌-◌, ◌*◌, ◌%◌, ◌<◌, ◌≤◌, true, false, not, List, [], ◌∷◌, ◌++◌, length, Option, Some, None, Ok, pos, codes, unwrap_or, bytes_eq, inl, refl, sym, ◌∙◌, ap, subst, arith}
 use Rattle.std.specs.Bool.{Decides}
 use Rattle.std.proofs.lemmas.List.{length-map}
-use Rattle.std.specs.List.{AllByRecursion, AllZip, IsDistinct, list_all, range_with_len}
+use Rattle.std.specs.List.{AllByRecursion, AllZip, IsDistinct, list_all}
 use Rattle.nf_rational.specs.Rational.{ratio}
 use Rattle.nf_rational.specs.Gcd.{gcd}
-use Rattle.nf_rational.specs.Operations.{0ℚ, whole}
-use Rattle.nf_rational.specs.Order.{◌≤ℚ◌, le_ℚ}
+use Rattle.nf_rational.specs.Operations.{whole}
+use Rattle.nf_rational.specs.Order.{le_ℚ}
 use Rattle.nf_rational_laws.proofs.Order.{nn_whole}
-use Rattle.nf_model.specs.Network.{Piece}
-use Rattle.nf_formats.specs.Names.{Name, is_name, has_name, place_of, name_at, with_names}
-use Rattle.nf_formats.specs.Named.{NamedLink, Named, numbered, links_by_name, active_links, ends, names_of}
-use Rattle.nf_formats.specs.NetLines.{Draft}
+use Rattle.nf_formats.specs.Names.{Name, is_name, has_name, place_of, with_names}
+use Rattle.nf_formats.specs.Named.{NamedLink, numbered, links_by_name, active_links, ends, names_of}
 use Rattle.nf_formats.specs.NetClosing.{IsReached, LeavesUnreached, Breaks, closing_rules, marked, network_of, AreActive}
 use Rattle.nf_formats.specs.NetFile.{Reads}
 use Rattle.nf_formats.specs.NetText.{canonical}
@@ -22,7 +20,7 @@ use Rattle.nf_formats_laws.proofs.DraftKept.{IsGoodDraft}
 use Rattle.nf_formats_laws.proofs.AcceptedNodes.{all_implied}
 use Rattle.nf_formats_laws.proofs.AcceptedNamed.{is_named}
 use Rattle.nf_formats_laws.proofs.CanonicalBack.{canonical_back}
-use Rattle.nf_gen.specs.Ladder.{drawn, upper, lower, rung, Ends, link_from, rails_on, rung_at, links_in, links_along, links_down, links_out, ladder_ends, drawn_links, drawn_pieces, ladder_nodes, ladder_links, ladder}
+use Rattle.nf_gen.specs.Ladder.{drawn, upper, lower, Ends, rails_on, rung_at, links_in, links_along, links_down, links_out, ladder_ends, drawn_links, drawn_pieces, ladder_nodes, ladder_links, ladder}
 use Rattle.nf_gen.specs.Laws.{IsLadder}
 use Rattle.nf_gen.proofs.Wholes.{small_fraction, above_zero}
 use Rattle.nf_gen.proofs.Ranges.{all_append, all_flat, all_map}
@@ -152,8 +150,8 @@ module _ (number rungs : ℕ) (some : 1 ≤ rungs) (few : rungs ≤ 30) where
     ends_there = ap (list_all (has_name (ladder_nodes rungs))) ends_are ∙ ends_listed rungs some;
     link_names = subst (IsDistinct bytes_eq) (sym (names_are ∙ link_names rungs)) (distinct_links rungs);
     few_links = (
-      let h : length (ladder_links number rungs) ≡ length (ladder_ends rungs) = length-drawn number 0 (ladder_ends rungs) in
-      let k : length (ladder_ends rungs) ≡ 3 * rungs + 2 = link_count rungs some in omega arith);
+        let h : length (ladder_links number rungs) ≡ length (ladder_ends rungs) = length-drawn number 0 (ladder_ends rungs) in
+        let k : length (ladder_ends rungs) ≡ 3 * rungs + 2 = link_count rungs some in omega arith);
     pieces = fraction_pieces number (3 * rungs + 2);
     few_pieces = omega arith;
     not_negative = not_negative number (3 * rungs + 2);

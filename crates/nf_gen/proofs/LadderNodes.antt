@@ -1,5 +1,5 @@
 -- The nodes of a ladder: those that its links lead from and to, in the order of first appearance.
-use Rattle.std.proofs.Common.{◌≡◌, ℕ, zero, suc, ◌+◌, ◌-◌, ◌*◌, ◌<◌, ◌≤◌, ◌||◌, Bool, true, false, List, [], ◌∷◌, ◌++◌, length, map, flat_map, codes, bytes_eq, refl, sym, ◌∙◌, ap, subst, arith, append_assoc, length-append}
+use Rattle.std.proofs.Common.{◌≡◌, ℕ, zero, suc, ◌+◌, ◌-◌, ◌*◌, ◌≤◌, Bool, true, List, [], ◌∷◌, ◌++◌, length, map, flat_map, codes, refl, sym, ◌∙◌, ap, arith, append_assoc, length-append}
 use Rattle.std.specs.List.{AllByRecursion, list_all, range_with_len}
 use Rattle.std.proofs.lemmas.Bool.{and_from, or_from, or_left}
 use Rattle.std.proofs.lemmas.Grind.{flat_map-append}
@@ -138,10 +138,16 @@ module _ (rungs : ℕ) (some : 1 ≤ rungs) where
       ∙ already_there (ladder_nodes rungs) (ends_of (links_out rungs)) (each_end (ladder_nodes rungs) (links_out rungs) ends_out)
 
   pub node_names : rungs ≤ 30 → list_all is_name (ladder_nodes rungs) ≡ true
-  node_names few = tested is_name (ladder_nodes rungs) (refl, (refl, all_flat (λ x. is_name x ≡ true) rung_nodes 1 rungs (λ j low high. (
-    lettered_is_name 117 j refl (omega arith),
-    (lettered_is_name 108 j refl (omega arith), tt),
-  ))))
+  node_names few = tested is_name (ladder_nodes rungs) (
+    refl,
+    (
+      refl,
+      all_flat (λ x. is_name x ≡ true) rung_nodes 1 rungs (λ j low high. (
+        lettered_is_name 117 j refl (omega arith),
+        (lettered_is_name 108 j refl (omega arith), tt),
+      )),
+    ),
+  )
 
   pub node_count : length (ladder_nodes rungs) ≡ 2 * rungs + 2
   node_count = let h : length (flat_map rung_nodes (range_with_len 1 rungs)) ≡ 2 * rungs = length_rails 1 rungs in omega arith

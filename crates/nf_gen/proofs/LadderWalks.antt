@@ -1,16 +1,16 @@
 -- Walks along a ladder: each node is reached from the source, and transit sums are whole numbers that fit.
-use Rattle.std.proofs.Common.{◌≡◌, ℕ, zero, suc, ◌+◌, ◌-◌, ◌*◌, ◌%◌, ◌<◌, ◌≤◌, ◌||◌, Bool, true, false, List, [], ◌∷◌, ◌++◌, length, map, flat_map, slice_get, Some, pos, codes, refl, sym, ◌∙◌, ap, subst, arith, length-append}
-use Rattle.std.specs.List.{AllByRecursion, range_with_len}
+use Rattle.std.proofs.Common.{◌≡◌, ℕ, zero, suc, ◌+◌, ◌-◌, ◌*◌, ◌%◌, ◌<◌, ◌≤◌, true, false, List, [], ◌∷◌, ◌++◌, length, slice_get, Some, pos, codes, refl, sym, ◌∙◌, ap, subst, arith, length-append}
+use Rattle.std.specs.List.{AllByRecursion}
 use Rattle.nf_rational.specs.Rational.{ℚ}
 use Rattle.nf_rational.specs.Operations.{0ℚ, whole, ◌+ℚ◌}
 use Rattle.nf_rational.specs.Order.{◌≤ℚ◌, ◌<ℚ◌}
 use Rattle.nf_rational_laws.proofs.Order.{<ℚ_irrefl}
 use Rattle.nf_work.specs.declared.Op.TheVariants.{Sum}
 use Rattle.nf_work.specs.Passing.{passes_Q}
-use Rattle.nf_model.specs.Walk.{Hop, IsHop, IsWalk, transit_of, transit_sum}
+use Rattle.nf_model.specs.Walk.{Hop, IsHop, IsWalk, transit_sum}
 use Rattle.nf_model.specs.Network.{hop_of}
 use Rattle.nf_model_laws.proofs.Networks.{transit_of-hop}
-use Rattle.nf_formats.specs.Names.{Name, has_name, place_of, name_at}
+use Rattle.nf_formats.specs.Names.{Name, place_of, name_at}
 use Rattle.nf_formats.specs.Named.{NamedLink, numbered}
 use Rattle.nf_formats.specs.NetLines.{Draft}
 use Rattle.nf_formats.specs.NetClosing.{draft_hops, source_place, HasZeroCycle, HasPassingSum}
@@ -53,8 +53,8 @@ further draft most tail head k is e f r = record {
       (walk_push (draft_hops draft) r.walk (source_place draft) (place_of draft.nodes tail) is.0 (hop_of (numbered draft.nodes k)) r.is_walk
       (slice_get-image (λ l. hop_of (numbered draft.nodes l)) draft.links is.0 k is.1) (ap (λ (x : Name). place_of draft.nodes x) e));
   short = (
-    let long : length (r.walk ++ is.0 ∷ []) ≡ length r.walk + 1 = length-append r.walk (is.0 ∷ []) in
-    let before : length r.walk ≤ most = r.short in omega arith);
+      let long : length (r.walk ++ is.0 ∷ []) ≡ length r.walk + 1 = length-append r.walk (is.0 ∷ []) in
+      let before : length r.walk ≤ most = r.short in omega arith);
 }
 
 -- the link that is drawn for a place
@@ -148,8 +148,7 @@ module _ (number rungs : ℕ) (some : 1 ≤ rungs) (few : rungs ≤ 30) where
   -- each node is reached by a short walk
   pub node_reached : (v : ℕ) → v < length (ladder_nodes rungs) → (walk : List ℕ) × IsWalk (draft_hops (file_of number rungs)) walk (source_place (file_of number rungs)) v × (length walk ≤ 31)
   node_reached v low =
-      let r : Reaches (file_of number rungs) 31 (name_at (ladder_nodes rungs) v) = all_at (Reaches (file_of number rungs) 31) (ladder_nodes rungs) v all_reached low in
-      (
+      let r : Reaches (file_of number rungs) 31 (name_at (ladder_nodes rungs) v) = all_at (Reaches (file_of number rungs) 31) (ladder_nodes rungs) v all_reached low in (
         r.walk,
         subst (λ (w : ℕ). IsWalk (draft_hops (file_of number rungs)) r.walk (source_place (file_of number rungs)) w) (place_at (ladder_nodes rungs) v (distinct_nodes rungs) low) r.is_walk,
         r.short,

@@ -1,5 +1,5 @@
 -- Whole numbers as rationals: their parts, how they are printed, their order, and that small ones fit.
-use Rattle.std.proofs.Common.{◌≡◌, ℕ, zero, suc, ◌+◌, ◌-◌, ◌<◌, ◌≤◌, Bool, false, ◌||◌, List, [], ◌∷◌, ℤ, pos, nat_abs, inl, inr, refl, sym, ◌∙◌, ap, subst, arith, lit<, lit≤, nat_lt}
+use Rattle.std.proofs.Common.{◌≡◌, ℕ, zero, suc, ◌+◌, ◌-◌, ◌≤◌, false, [], ◌∷◌, ℤ, pos, nat_abs, inl, inr, refl, sym, ◌∙◌, ap, subst, arith, lit<, lit≤, nat_lt}
 use Rattle.std.proofs.lemmas.Bool.{le-ltb, or_from, cases_lt}
 use Rattle.nf_rational.specs.Rational.{ℚ}
 use Rattle.nf_rational.specs.Operations.{0ℚ, whole, ◌+ℚ◌}

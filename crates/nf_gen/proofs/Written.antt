@@ -1,5 +1,5 @@
 -- The lines of a ladder, written one after the other, are its canonical text.
-use Rattle.std.proofs.Common.{◌≡◌, ℕ, zero, suc, ◌+◌, ◌-◌, ◌*◌, ◌%◌, ◌<◌, ◌≤◌, List, [], ◌∷◌, ◌++◌, length, map, flat_map, Some, Ok, pos, codes, refl, sym, ◌∙◌, ap, subst, arith, append_assoc, append-nil, length-append}
+use Rattle.std.proofs.Common.{◌≡◌, ℕ, zero, suc, ◌+◌, ◌-◌, ◌*◌, ◌%◌, ◌≤◌, List, [], ◌∷◌, ◌++◌, length, map, flat_map, Some, pos, codes, refl, sym, ◌∙◌, ap, subst, arith, append_assoc, append-nil, length-append}
 use Rattle.std.specs.List.{AllByRecursion, range_with_len, join_with_byte}
 use Rattle.std.proofs.lemmas.List.{length-map}
 use Rattle.std.proofs.lemmas.Grind.{flat_map-append}
@@ -16,12 +16,12 @@ use Rattle.nf_formats.specs.WellNamed.{IsNamed}
 use Rattle.nf_formats_laws.proofs.LinkFacts.{map-append}
 use Rattle.nf_formats_laws.proofs.TextBack.{IsPlainLine}
 use Rattle.nf_formats_laws.proofs.PlainCanonical.{plain_canonical}
-use Rattle.nf_gen.specs.Ladder.{next_value, drawn, upper, lower, Ends, link_from, rails_on, rung_at, links_in, links_along, links_down, links_out, ladder_ends, drawn_link, drawn_links, drawn_pieces, ladder_nodes, ladder_links, ladder}
+use Rattle.nf_gen.specs.Ladder.{next_value, drawn, upper, lower, Ends, link_from, rails_on, rung_at, ladder_ends, drawn_links, drawn_pieces, ladder_links, ladder}
 use Rattle.nf_gen.specs.Writing.{after_two, link_after, links_after, after_links, pieces_after, WritesLinks}
 use Rattle.nf_gen.proofs.Wholes.{printed-whole}
 use Rattle.nf_gen.proofs.Ranges.{count_push}
 use Rattle.nf_gen.proofs.LadderNodes.{link_count}
-use Rattle.nf_gen.proofs.LadderNamed.{active_are, ladder_named}
+use Rattle.nf_gen.proofs.LadderNamed.{active_are}
 
 -- ---- links one after the other
 links-append : (x : ℕ) (xs ys : List Ends) → links_after x (xs ++ ys) ≡ links_after x xs ++ links_after (after_links x xs) ys

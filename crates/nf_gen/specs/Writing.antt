@@ -4,7 +4,7 @@ use Rattle.nf_rational.specs.Operations.{whole}
 use Rattle.nf_model.specs.Network.{Piece}
 use Rattle.nf_lines.specs.Words.{line_of_words}
 use Rattle.nf_formats.specs.Named.{NamedLink}
-use Rattle.nf_formats.specs.NetText.{link_words, inflow_words}
+use Rattle.nf_formats.specs.NetText.{link_words}
 use Rattle.nf_gen.specs.Ladder.{next_value, Ends}
 
 -- the value two draws after x
