@@ -1,0 +1,73 @@
+// The words of the command line as clap reads them.
+ghost use Rattle.std.specs.Prelude.{◌≡◌, IfOk, option_map};
+ghost use Rattle.clap.specs.Simple.{with_rule};
+ghost use Rattle.nf_edge.specs.Names.{texts};
+ghost use Rattle.nf_words.specs.CommandLine.{bare, nfot, command_rule, files_rule, option_rule, matches_on};
+ghost use Rattle.nf_words.specs.Views.{app_in, rows_in};
+
+use clap::error::ErrorKind;
+use clap::{Arg, ArgMatches, Command};
+use std::alloc::{AllocError, Global};
+
+// The command with its positional COMMAND, which is required.
+fn start_command<'w>(alloc: Global) -> Result<Command<'w>, AllocError>
+    ensures { IfOk result (λ command. app_in command ≡ with_rule bare command_rule) }
+{
+    let command = Arg::new(alloc, "command").required(true);
+    Command::new(alloc, "nfot")
+        .disable_help_flag(true)
+        .arg(command)
+}
+
+// The command with one more option of one value, `--name`.
+fn with_option<'w>(
+    alloc: Global,
+    command: Command<'w>,
+    name: &'static str,
+) -> Result<Command<'w>, AllocError>
+    ensures { IfOk result (λ more. app_in more ≡ with_rule (app_in command.entry) (option_rule name.now)) }
+{
+    let option = Arg::new(alloc, name).long(name);
+    command.arg(option)
+}
+
+// The command with its last positional FILES, of any number of values.
+fn with_files<'w>(alloc: Global, command: Command<'w>) -> Result<Command<'w>, AllocError>
+    ensures { IfOk result (λ more. app_in more ≡ with_rule (app_in command.entry) files_rule) }
+{
+    let files = Arg::new(alloc, "files").num_args(0..);
+    command.arg(files)
+}
+
+// The command `nfot`, with its arguments.
+fn command_line<'w>(alloc: Global) -> Result<Command<'w>, AllocError>
+    ensures { IfOk result (λ command. app_in command ≡ nfot) }
+{
+    let command = start_command(alloc)?;
+    let command = with_option(alloc, command, "horizon")?;
+    let command = with_option(alloc, command, "phases")?;
+    let command = with_option(alloc, command, "patterns")?;
+    let command = with_option(alloc, command, "amount")?;
+    let command = with_option(alloc, command, "augments")?;
+    let command = with_option(alloc, command, "number")?;
+    let command = with_option(alloc, command, "rungs")?;
+    with_files(alloc, command)
+}
+
+/// What clap makes of the words, of which the first is the program's name; None where it doesn't take them. It is refused where
+/// memory is wanting.
+pub(crate) fn match_words<'w>(
+    alloc: Global,
+    words: &'w [String],
+) -> Result<Option<ArgMatches<'w>>, AllocError>
+    ensures { IfOk result (λ matches. matches_on (texts words.now) ≡ option_map rows_in matches) }
+{
+    let command = command_line(alloc)?;
+    match command.try_get_matches_from(words) {
+        Ok(matches) => Ok(Some(matches)),
+        Err(error) => match error.kind() {
+            ErrorKind::OutOfMemory => Err(AllocError),
+            _ => Ok(None),
+        },
+    }
+}

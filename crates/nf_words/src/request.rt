@@ -1,0 +1,134 @@
+// What the words of the command line ask.
+ghost use Rattle.std.specs.Prelude.{◌≡◌, option_map};
+ghost use Rattle.nf_words.specs.Requests.{asked, request_in};
+ghost use Rattle.nf_words.specs.Views.{requested, rows_in};
+
+use crate::commands::{Task, task_of};
+use crate::given::file_of;
+use crate::numbers::{
+    amount_of, augments_of, horizon_of, number_of, patterns_of, phases_of, rungs_of,
+};
+use clap::ArgMatches;
+use nf_frac::Q;
+
+/// What the words ask. Files go by their names.
+#[derive(Clone, Copy, Debug)]
+pub enum Request<'w> {
+    /// The report of a run in a network, from time 0 to a horizon of at least 0, of so many phases at most, each of which may try so
+    /// many patterns; both are at least 1.
+    Solve {
+        file: &'w str,
+        horizon: Q,
+        phases: u64,
+        patterns: u64,
+    },
+    /// The canonical text of a network.
+    Show {
+        file: &'w str,
+    },
+    /// What becomes of given inflow on each link of a network, up to a horizon of at least 0.
+    Load {
+        file: &'w str,
+        loads: &'w str,
+        horizon: Q,
+    },
+    /// Whether the flow of a report is an equilibrium of a network.
+    Check {
+        file: &'w str,
+        report: &'w str,
+    },
+    /// The quickest flow of an amount of at least 0 in a network, by at most so many walks, at least one, that are pushed.
+    Quick {
+        file: &'w str,
+        amount: Q,
+        augments: u64,
+    },
+    /// A summary of a run as of `Solve`, in the generated ladder of a number, of 1 to 30 rungs.
+    Gen {
+        number: u64,
+        rungs: u32,
+        horizon: Q,
+        phases: u64,
+        patterns: u64,
+    },
+}
+
+// `solve NET --horizon Q [--phases N] [--patterns N]`
+fn solve<'w>(matches: &ArgMatches<'w>) -> Option<Request<'w>>
+    ensures { asked Task.Solve (rows_in matches.now) ≡ option_map requested result }
+{
+    Some(Request::Solve {
+        file: file_of(matches, 0)?,
+        horizon: horizon_of(matches)?,
+        phases: phases_of(matches)?,
+        patterns: patterns_of(matches)?,
+    })
+}
+
+// `show NET`
+fn show<'w>(matches: &ArgMatches<'w>) -> Option<Request<'w>>
+    ensures { asked Task.Show (rows_in matches.now) ≡ option_map requested result }
+{
+    Some(Request::Show {
+        file: file_of(matches, 0)?,
+    })
+}
+
+// `load NET LOADS --horizon Q`
+fn load<'w>(matches: &ArgMatches<'w>) -> Option<Request<'w>>
+    ensures { asked Task.Load (rows_in matches.now) ≡ option_map requested result }
+{
+    Some(Request::Load {
+        file: file_of(matches, 0)?,
+        loads: file_of(matches, 1)?,
+        horizon: horizon_of(matches)?,
+    })
+}
+
+// `check NET REPORT`
+fn check<'w>(matches: &ArgMatches<'w>) -> Option<Request<'w>>
+    ensures { asked Task.Check (rows_in matches.now) ≡ option_map requested result }
+{
+    Some(Request::Check {
+        file: file_of(matches, 0)?,
+        report: file_of(matches, 1)?,
+    })
+}
+
+// `quick NET --amount Q [--augments N]`
+fn quick<'w>(matches: &ArgMatches<'w>) -> Option<Request<'w>>
+    ensures { asked Task.Quick (rows_in matches.now) ≡ option_map requested result }
+{
+    Some(Request::Quick {
+        file: file_of(matches, 0)?,
+        amount: amount_of(matches)?,
+        augments: augments_of(matches)?,
+    })
+}
+
+// `gen --number N --rungs N --horizon Q [--phases N] [--patterns N]`
+fn generate<'w>(matches: &ArgMatches<'w>) -> Option<Request<'w>>
+    ensures { asked Task.Gen (rows_in matches.now) ≡ option_map requested result }
+{
+    Some(Request::Gen {
+        number: number_of(matches)?,
+        rungs: rungs_of(matches)?,
+        horizon: horizon_of(matches)?,
+        phases: phases_of(matches)?,
+        patterns: patterns_of(matches)?,
+    })
+}
+
+/// What the matches ask; None where no command fits them, or a number isn't within its limits.
+pub(crate) fn request_of<'w>(matches: &ArgMatches<'w>) -> Option<Request<'w>>
+    ensures { request_in (rows_in matches.now) ≡ option_map requested result }
+{
+    match task_of(matches)? {
+        Task::Solve => solve(matches),
+        Task::Show => show(matches),
+        Task::Load => load(matches),
+        Task::Check => check(matches),
+        Task::Quick => quick(matches),
+        Task::Gen => generate(matches),
+    }
+}
