@@ -9,8 +9,9 @@ use Rattle.nf_formats.specs.NetLines.{Broken}
 use Rattle.nf_formats.specs.NetFile.{Reads}
 use Rattle.nf_app.specs.declared.outcome.Outcome.{Outcome}
 use Rattle.nf_app.specs.declared.refusal.Refusal.{Refusal}
-use Rattle.nf_app.specs.Files.{Wanted, Visit, names_of, Fits, FetchedAll, FetchedTo}
-use Rattle.nf_app.specs.Requests.{Request, files_of, request_of}
+use Rattle.nf_app.specs.Files.{Wanted, Visit, names_of, Fits, FetchedNone, FetchedAll, FetchedTo}
+use Rattle.nf_words.specs.Requests.{Request, request_of}
+use Rattle.nf_app.specs.Requests.{files_of, generated_by}
 use Rattle.nf_edge.specs.Taken.{with_more}
 use Rattle.nf_app.specs.Answers.{Answer, out_text}
 use Rattle.nf_net.specs.Contents.{IfBroken}
@@ -52,7 +53,7 @@ all_reached shelf file others h =
 
 -- ---- the first file is read as a network
 module _ (shelf : Visit) (file : Wanted) (others : List Wanted) (text : List ℕ) (texts : List (List ℕ)) (fetched : AreFetched shelf (file ∷ others) (Ok (text ∷ texts))) where
-  reads_as : (read : Result Named Broken) → Reads text read → NetworkReads shelf (file ∷ others) read
+  reads_as : (read : Result Named Broken) → Reads text read → NetworkReads shelf None (file ∷ others) read
   reads_as read h = IfSome_then (shelf.told file.name) fetched.1.0 (λ held same. subst (λ (t : List ℕ). Reads t read) same h)
 
   pub network_read : (n : Named) → Reads text (Ok n) → AreRead shelf file others (Ok (n, texts))
@@ -82,18 +83,19 @@ network_missing shelf file others Refusal.Unbounded h = h
 
 -- ---- a request with its files
 module _ (words : List (List ℕ)) (shelf : Visit) (request : Request) (asks : request_of words ≡ Some request) (file : Wanted) (others : List Wanted)
-    (files_are : files_of request ≡ file ∷ others) where
+    (files_are : files_of request ≡ file ∷ others) (from_file : generated_by request ≡ None) where
   abbrev call : Call
   call = record { words = words; shelf = shelf }
 
   reached : (last : Wanted) → FetchedTo shelf (file ∷ others) last → Reached call last
   reached last h = record { request = request; asks = asks; fetched = subst (λ (l : List Wanted). FetchedTo shelf l last) (sym files_are) h }
 
-  read_of : (read : Result Named Broken) → FetchedAll shelf (file ∷ others) → NetworkReads shelf (file ∷ others) read → Read call request read
+  read_of : (read : Result Named Broken) → FetchedAll shelf (file ∷ others) → NetworkReads shelf None (file ∷ others) read → Read call request read
   read_of read h r = record {
     asks = asks;
     fetched = subst (λ (l : List Wanted). FetchedAll shelf l) (sym files_are) h;
-    reads = subst (λ (l : List Wanted). NetworkReads shelf l read) (sym files_are) r;
+    reads = subst (λ (o : Option Named). NetworkReads shelf o (files_of request) read) (sym from_file)
+        (subst (λ (l : List Wanted). NetworkReads shelf None l read) (sym files_are) r);
   }
 
   -- there is no network
@@ -120,6 +122,27 @@ module _ (words : List (List ℕ)) (shelf : Visit) (request : Request) (asks : r
         let last = all_reached shelf file others h.0 in
         subst (λ (r : Refusal). IsAnswer call (answer_of r)) (sym none) (inl (inr (last.0, reached last.0 last.1)))
     given (Err refusal) (inr g) = computed (answer_of refusal) g
+
+-- ---- a request without files, whose network is generated
+module _ (words : List (List ℕ)) (shelf : Visit) (request : Request) (asks : request_of words ≡ Some request) (no_files : files_of request ≡ [])
+    (n : Named) (made : generated_by request ≡ Some n) (untouched : FetchedNone shelf) where
+  fetched_nothing : FetchedAll shelf []
+  fetched_nothing = record { asked = untouched ∙ sym (append-nil shelf.asked_before); fit = All-nil (Fits shelf); taken = tt }
+
+  generated_read : Read (record { words = words; shelf = shelf }) request (Ok n)
+  generated_read = record {
+    asks = asks;
+    fetched = subst (λ (l : List Wanted). FetchedAll shelf l) (sym no_files) fetched_nothing;
+    reads = subst (λ (o : Option Named). NetworkReads shelf o (files_of request) (Ok n)) (sym made) refl;
+  }
+
+  summed : (answer : Answer) → IsGiven shelf n request answer → IsAnswer (record { words = words; shelf = shelf }) answer
+  summed answer g = inr (record { request = request; net = n; read = generated_read; given = g })
+
+  pub generated_given : (r : Result Outcome Refusal) → IsGiving shelf n request r → IsAnswered (record { words = words; shelf = shelf }) r
+  generated_given (Ok outcome) g = (summed _ g.0, g.1)
+  generated_given (Err refusal) (inl none) = subst (λ (r : Refusal). IsAnswer (record { words = words; shelf = shelf }) (answer_of r)) (sym none) (inl (inl untouched))
+  generated_given (Err refusal) (inr g) = summed (answer_of refusal) g
 
 -- ---- where there is no text, a sink takes nothing
 pub no_text : (refusal : Refusal) → out_text (answer_of refusal) ≡ []

@@ -17,7 +17,8 @@ use Rattle.nf_reader.specs.declared.fault.ReportFault.{ReportFault}
 use Rattle.nf_reader.specs.Files.{IfBroken}
 use Rattle.nf_app.specs.declared.refusal.Refusal.{Refusal}
 use Rattle.nf_app.specs.Files.{Visit}
-use Rattle.nf_app.specs.Requests.{Check, report_file}
+use Rattle.nf_words.specs.Requests.{Check}
+use Rattle.nf_app.specs.Requests.{report_file}
 use Rattle.nf_app.specs.Answers.{Checked}
 use Rattle.nf_app.specs.Refusals.{answer_of, refusal_of_report, refusal_of_halt}
 use Rattle.nf_app.specs.CheckGiven.{ReportReads}

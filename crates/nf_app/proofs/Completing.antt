@@ -23,13 +23,15 @@ use Rattle.nf_readings.specs.ReportFile.{ReportBroken, report_in}
 use Rattle.nf_phase.specs.Solution.{bounds_of}
 use Rattle.nf_app.specs.declared.status.Status.{Status}
 use Rattle.nf_app.specs.Files.{Wanted, Visit, FetchedTo, HasTooMany}
-use Rattle.nf_app.specs.Requests.{Request, Solve, Show, Load, Check, Quick, files_of, request_of, network_file, loads_file, report_file}
-use Rattle.nf_app.specs.Answers.{Answer, Solved, Shown, Loaded, Checked, Quickest, TooManyWalks, NoMemory, NoRequest, ShelfFailed, ShelfTooLong, Malformed, MalformedLoads, MalformedReport, Passes, Unbounded, status_of, status_of_stop, status_of_verdict}
+use Rattle.nf_words.specs.Requests.{Request, Solve, Show, Load, Check, Quick, Gen, request_of}
+use Rattle.nf_gen.specs.Ladder.{ladder}
+use Rattle.nf_app.specs.Requests.{budgets_of, files_of, generated_by, network_file, loads_file, report_file}
+use Rattle.nf_app.specs.Answers.{Answer, Solved, Shown, Loaded, Checked, Quickest, TooManyWalks, Generated, NoMemory, NoRequest, ShelfFailed, ShelfTooLong, Malformed, MalformedLoads, MalformedReport, Passes, Unbounded, status_of, status_of_stop, status_of_verdict}
 use Rattle.nf_app.specs.CheckGiven.{ReportReads}
 use Rattle.nf_app.specs.Given.{LoadsRead, loading_list, IsGiven}
 use Rattle.nf_app.specs.Sinks.{Taken}
 use Rattle.nf_app.specs.Runs.{Call, Asks, Reached, NetworkReads, Read, IsRefused, IsComputed, IsAnswer, IsShown}
-use Rattle.nf_app.specs.Completeness.{Tells, TellsNetwork, TellsLoads, CanBeShown, CanBeSolved, CanBeLoaded, CanBeJudged, CanBeQuick, HasAnswer, EndsWell, EndsJudged, EndsQuick, IsComplete}
+use Rattle.nf_app.specs.Completeness.{Tells, TellsNetwork, TellsLoads, CanBeShown, CanBeSolved, CanBeLoaded, CanBeGenerated, CanBeJudged, CanBeQuick, HasAnswer, EndsWell, EndsJudged, EndsQuick, IsComplete}
 
 in_the_middle : (P : Wanted → Type 0) (xs : List Wanted) (y : Wanted) (ys : List Wanted) → All P (xs ++ y ∷ ys) → P y
 in_the_middle P [] y ys h = All-head P y ys h
@@ -55,61 +57,83 @@ module _ (call : Call) (no_fault : ¬ Rose call.shelf.faults_before call.shelf.f
       let reached : FetchedTo call.shelf (files_of asked_for) last = subst (λ (q : Request). FetchedTo call.shelf (files_of q) last) (one_request r.request r.asks) r.fetched in
       fits last (in_the_middle (Tells call.shelf) reached.first last reached.behind (subst (λ (l : List Wanted). All (Tells call.shelf) l) reached.files_are tells)) h
 
-  module _ (file : List ℕ) (others : List Wanted) (files_are : files_of asked_for ≡ network_file file ∷ others) (network : TellsNetwork call.shelf file) where
-    -- the bytes of the first file have one reading
-    one_reading : (request : Request) (read : Result Named Broken) → Read call request read → read ≡ Ok network.net
-    one_reading request read r =
-        let first : NetworkReads call.shelf (network_file file ∷ others) read =
-        subst (λ (l : List Wanted). NetworkReads call.shelf l read) (ap files_of (one_request request r.asks) ∙ files_are) r.reads in
-        let here : Reads network.tells.text read = subst (λ (told : Option (List ℕ)). IfSome told (λ text. Reads text read)) network.tells.told first in
-        reads_at_most_once network.tells.text read (Ok network.net) here network.reads
+  -- the request has one network
+  module _ (n : Named) (one_reading : (request : Request) (read : Result Named Broken) → Read call request read → read ≡ Ok n) (Ends : Status → Type 0) (memory : Ends Status.Memory) where
+    refused_well : (answer : Answer) → IsRefused call answer → Ends (status_of answer)
+    refused_well NoMemory h = memory
+    refused_well NoRequest h =
+        let none : request_of call.words ≡ None = h.0 in
+        let some : request_of call.words ≡ Some asked_for = asks in
+        let never : ⊥ = cc in
+        absurd never
+    refused_well ShelfFailed h = absurd (no_fault h.2.1)
+    refused_well ShelfTooLong h = absurd (not_too_long h.0 h.1 h.2)
+    refused_well (Malformed broken) h =
+        let other : Err broken ≡ Ok n = one_reading h.0 (Err broken) h.1 in
+        let never : ⊥ = cc in
+        absurd never
+    refused_well (Solved n report) h = absurd h
+    refused_well (Shown n) h = absurd h
+    refused_well (Loaded n horizon loaded) h = absurd h
+    refused_well (MalformedLoads broken) h = absurd h
+    refused_well (Checked n verdict) h = absurd h
+    refused_well (MalformedReport broken) h = absurd h
+    refused_well (Passes at) h = absurd h
+    refused_well (Quickest n quick arrival) h = absurd h
+    refused_well (TooManyWalks n augments walks) h = absurd h
+    refused_well Unbounded h = absurd h
+    refused_well (Generated number rungs n made report) h = absurd h
 
-    module _ (Ends : Status → Type 0) (memory : Ends Status.Memory) where
-      refused_well : (answer : Answer) → IsRefused call answer → Ends (status_of answer)
-      refused_well NoMemory h = memory
-      refused_well NoRequest h =
-          let none : request_of call.words ≡ None = h.0 in
-          let some : request_of call.words ≡ Some asked_for = asks in
-          let never : ⊥ = cc in
-          absurd never
-      refused_well ShelfFailed h = absurd (no_fault h.2.1)
-      refused_well ShelfTooLong h = absurd (not_too_long h.0 h.1 h.2)
-      refused_well (Malformed broken) h =
-          let other : Err broken ≡ Ok network.net = one_reading h.0 (Err broken) h.1 in
-          let never : ⊥ = cc in
-          absurd never
-      refused_well (Solved n report) h = absurd h
-      refused_well (Shown n) h = absurd h
-      refused_well (Loaded n horizon loaded) h = absurd h
-      refused_well (MalformedLoads broken) h = absurd h
-      refused_well (Checked n verdict) h = absurd h
-      refused_well (MalformedReport broken) h = absurd h
-      refused_well (Passes at) h = absurd h
-      refused_well (Quickest n quick arrival) h = absurd h
-      refused_well (TooManyWalks n augments walks) h = absurd h
-      refused_well Unbounded h = absurd h
+    -- what is computed is computed for this request and this network
+    pub ended_well : ((answer : Answer) → IsGiven call.shelf n asked_for answer → Ends (status_of answer)) → (answer : Answer) → IsAnswer call answer → Ends (status_of answer)
+    ended_well ends answer (inl h) = refused_well answer h
+    ended_well ends answer (inr h) =
+        let same : Ok h.net ≡ Ok n = one_reading h.request (Ok h.net) h.read in
+        let same_net : h.net ≡ n = cc in
+        ends answer (subst (λ (m : Named). IsGiven call.shelf m asked_for answer) same_net
+        (subst (λ (r : Request). IsGiven call.shelf h.net r answer) (one_request h.request h.read.asks) h.given))
 
-      -- what is computed is computed for this request and this network
-      pub answered_well : ((answer : Answer) → IsGiven call.shelf network.net asked_for answer → Ends (status_of answer)) → (answer : Answer) → IsAnswer call answer → Ends (status_of answer)
-      answered_well ends answer (inl h) = refused_well answer h
-      answered_well ends answer (inr h) =
-          let same : Ok h.net ≡ Ok network.net = one_reading h.request (Ok h.net) h.read in
-          let same_net : h.net ≡ network.net = cc in
-          ends answer (subst (λ (n : Named). IsGiven call.shelf n asked_for answer) same_net
-          (subst (λ (r : Request). IsGiven call.shelf h.net r answer) (one_request h.request h.read.asks) h.given))
+  -- it is that of the first file, whose bytes have one reading
+  module _ (file : List ℕ) (others : List Wanted) (files_are : files_of asked_for ≡ network_file file ∷ others) (from_file : generated_by asked_for ≡ None)
+      (network : TellsNetwork call.shelf file) where
+    read_once : (request : Request) (read : Result Named Broken) → Read call request read → read ≡ Ok network.net
+    read_once request read r =
+        let here : NetworkReads call.shelf (generated_by asked_for) (files_of asked_for) read =
+        subst (λ (q : Request). NetworkReads call.shelf (generated_by q) (files_of q) read) (one_request request r.asks) r.reads in
+        let first : NetworkReads call.shelf None (network_file file ∷ others) read =
+        subst (λ (l : List Wanted). NetworkReads call.shelf None l read) files_are
+        (subst (λ (o : Option Named). NetworkReads call.shelf o (files_of asked_for) read) from_file here) in
+        let told : Reads network.tells.text read = subst (λ (t : Option (List ℕ)). IfSome t (λ text. Reads text read)) network.tells.told first in
+        reads_at_most_once network.tells.text read (Ok network.net) told network.reads
+
+    pub answered_well : (Ends : Status → Type 0) → Ends Status.Memory → ((answer : Answer) → IsGiven call.shelf network.net asked_for answer → Ends (status_of answer))
+        → (answer : Answer) → IsAnswer call answer → Ends (status_of answer)
+    answered_well Ends memory ends = ended_well network.net read_once Ends memory ends
+
+  -- or the one that is generated
+  module _ (n : Named) (made : generated_by asked_for ≡ Some n) where
+    made_once : (request : Request) (read : Result Named Broken) → Read call request read → read ≡ Ok n
+    made_once request read r =
+        let here : NetworkReads call.shelf (generated_by asked_for) (files_of asked_for) read =
+        subst (λ (q : Request). NetworkReads call.shelf (generated_by q) (files_of q) read) (one_request request r.asks) r.reads in
+        subst (λ (o : Option Named). NetworkReads call.shelf o (files_of asked_for) read) made here
+
+    pub generated_well : (Ends : Status → Type 0) → Ends Status.Memory → ((answer : Answer) → IsGiven call.shelf n asked_for answer → Ends (status_of answer))
+        → (answer : Answer) → IsAnswer call answer → Ends (status_of answer)
+    generated_well Ends memory ends = ended_well n made_once Ends memory ends
 
 -- ---- the commands
 module _ (call : Call) (no_fault : ¬ Rose call.shelf.faults_before call.shelf.faults_now) where
   shown_well : CanBeShown call → (answer : Answer) → IsAnswer call answer → EndsWell (status_of answer)
   shown_well can = answered_well call no_fault (Show can.file) can.asks (All-cons (Tells call.shelf) (network_file can.file) [] can.network.tells (All-nil (Tells call.shelf)))
-      can.file [] refl can.network EndsWell (inr refl) (λ answer is. inl (ap status_of is))
+      can.file [] refl refl can.network EndsWell (inr refl) (λ answer is. inl (ap status_of is))
 
   solved_well : CanBeSolved call → (answer : Answer) → IsAnswer call answer → EndsWell (status_of answer)
-  solved_well can = answered_well call no_fault (Solve can.file can.horizon can.budgets) can.asks
-      (All-cons (Tells call.shelf) (network_file can.file) [] can.network.tells (All-nil (Tells call.shelf))) can.file [] refl can.network EndsWell (inr refl)
+  solved_well can = answered_well call no_fault (Solve can.file can.horizon can.phases can.patterns) can.asks
+      (All-cons (Tells call.shelf) (network_file can.file) [] can.network.tells (All-nil (Tells call.shelf))) can.file [] refl refl can.network EndsWell (inr refl)
       (λ answer g.
       let same : g.0 ≡ can.reaches.report =
-      one_report passes_Q can.network.net.net (bounds_of can.horizon can.budgets) g.0 can.reaches.report g.2.1.run can.reaches.is_report in
+      one_report passes_Q can.network.net.net (bounds_of can.horizon (budgets_of can.phases can.patterns)) g.0 can.reaches.report g.2.1.run can.reaches.is_report in
       inl (ap status_of g.1 ∙ ap (λ (r : Report). status_of_stop r.stop) same ∙ ap status_of_stop can.reaches.no_stop))
 
   module _ (can : CanBeLoaded call) where
@@ -137,12 +161,21 @@ module _ (call : Call) (no_fault : ¬ Rose call.shelf.faults_before call.shelf.f
     loaded_well = answered_well call no_fault (Load can.file can.loads_name can.horizon) can.asks
         (All-cons (Tells call.shelf) (network_file can.file) (loads_file can.loads_name ∷ []) can.network.tells
         (All-cons (Tells call.shelf) (loads_file can.loads_name) [] can.loads.tells (All-nil (Tells call.shelf))))
-        can.file (loads_file can.loads_name ∷ []) refl can.network EndsWell (inr refl) given_well
+        can.file (loads_file can.loads_name ∷ []) refl refl can.network EndsWell (inr refl) given_well
+
+  generated_ends_well : CanBeGenerated call → (answer : Answer) → IsAnswer call answer → EndsWell (status_of answer)
+  generated_ends_well can = generated_well call no_fault (Gen can.number can.rungs can.horizon can.phases can.patterns) can.asks (All-nil (Tells call.shelf))
+      (ladder can.number can.rungs) refl EndsWell (inr refl)
+      (λ answer g.
+      let same : g.0 ≡ can.reaches.report =
+      one_report passes_Q (ladder can.number can.rungs).net (bounds_of can.horizon (budgets_of can.phases can.patterns)) g.0 can.reaches.report g.3.run can.reaches.is_report in
+      inl (ap status_of g.2 ∙ ap (λ (r : Report). status_of_stop r.stop) same ∙ ap status_of_stop can.reaches.no_stop))
 
   ends_well : HasAnswer call → (answer : Answer) → IsAnswer call answer → EndsWell (status_of answer)
   ends_well (inl can) = shown_well can
   ends_well (inr (inl can)) = solved_well can
-  ends_well (inr (inr can)) = loaded_well can
+  ends_well (inr (inr (inl can))) = loaded_well can
+  ends_well (inr (inr (inr can))) = generated_ends_well can
 
 -- a verdict on a report
 judged_well : (verdict : Verdict ℕ ℕ ℚ) → EndsJudged (status_of_verdict verdict)
@@ -174,7 +207,7 @@ module _ (call : Call) (no_fault : ¬ Rose call.shelf.faults_before call.shelf.f
   checked_well = answered_well call no_fault (Check can.file can.report_name) can.asks
       (All-cons (Tells call.shelf) (network_file can.file) (report_file can.report_name ∷ []) can.network.tells
       (All-cons (Tells call.shelf) (report_file can.report_name) [] can.report.tells (All-nil (Tells call.shelf))))
-      can.file (report_file can.report_name ∷ []) refl can.network EndsJudged (inr (inr refl)) verdict_well
+      can.file (report_file can.report_name ∷ []) refl refl can.network EndsJudged (inr (inr refl)) verdict_well
 
 -- a quickest flow
 module _ (call : Call) (no_fault : ¬ Rose call.shelf.faults_before call.shelf.faults_now) (can : CanBeQuick call) where
@@ -186,7 +219,7 @@ module _ (call : Call) (no_fault : ¬ Rose call.shelf.faults_before call.shelf.f
 
   quick_well : (answer : Answer) → IsAnswer call answer → EndsQuick (status_of answer)
   quick_well = answered_well call no_fault (Quick can.file can.amount can.augments) can.asks
-      (All-cons (Tells call.shelf) (network_file can.file) [] can.network.tells (All-nil (Tells call.shelf))) can.file [] refl can.network EndsQuick (inr (inr (inr refl))) found_well
+      (All-cons (Tells call.shelf) (network_file can.file) [] can.network.tells (All-nil (Tells call.shelf))) can.file [] refl refl can.network EndsQuick (inr (inr (inr refl))) found_well
 
 taken_well : (Ends : Status → Type 0) (out : Taken) → ¬ Rose out.faults_before out.faults_now → (answer : Answer) (err : Taken) (status : Status) → Ends (status_of answer)
     → IsShown answer out err status → Ends status

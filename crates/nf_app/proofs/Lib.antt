@@ -8,5 +8,4 @@ pub mod LoadGiven
 pub mod CheckGiven
 pub mod QuickTold
 pub mod QuickLines
-pub mod Zeros
 mod ErrorExamples

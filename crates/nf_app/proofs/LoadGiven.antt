@@ -20,7 +20,8 @@ use Rattle.nf_load.specs.declared.fault.LoadsFault.{LoadsFault}
 use Rattle.nf_load.specs.Files.{IfBroken}
 use Rattle.nf_app.specs.declared.refusal.Refusal.{Refusal}
 use Rattle.nf_app.specs.Files.{Visit}
-use Rattle.nf_app.specs.Requests.{Load, loads_file}
+use Rattle.nf_words.specs.Requests.{Load}
+use Rattle.nf_app.specs.Requests.{loads_file}
 use Rattle.nf_app.specs.Answers.{Loaded, MalformedLoads, Passes}
 use Rattle.nf_app.specs.Refusals.{answer_of, refusal_of_loads, refusal_of_halt}
 use Rattle.nf_app.specs.Given.{LoadsRead, loading_list, IsLoading, IsGiven}

@@ -20,7 +20,7 @@ use Rattle.nf_formats.specs.Named.{Named}
 use Rattle.nf_formats.specs.Report.{Report}
 use Rattle.nf_lists.specs.Ends.{end_of}
 use Rattle.nf_lists.specs.ReportCurves.{GrowingCurve}
-use Rattle.nf_lists.specs.PhaseRun.{Standing, flow_of, report_of}
+use Rattle.nf_lists.specs.PhaseRun.{Bounds, Standing, flow_of, report_of}
 use Rattle.nf_lists_laws.proofs.Ending.{run_ends}
 use Rattle.nf_phase.specs.Solution.{bounds_of, IsSolution}
 use Rattle.nf_app.specs.declared.arrival.Arrival.{Arrival}
@@ -33,7 +33,8 @@ use Rattle.nf_quick.specs.declared.fault.QuickFault.{QuickFault}
 use Rattle.nf_curve.specs.Flows.{flow_of as shown_flow}
 use Rattle.nf_curve.specs.declared.flow.Flow.{Flow as CodeFlow}
 use Rattle.nf_app.specs.Files.{Visit}
-use Rattle.nf_app.specs.Requests.{Quick, usual_budgets}
+use Rattle.nf_words.specs.Requests.{Quick}
+use Rattle.nf_app.specs.Requests.{usual_budgets}
 use Rattle.nf_app.specs.Answers.{Quickest, TooManyWalks, Passes, Unbounded}
 use Rattle.nf_app.specs.Given.{IsGiven}
 use Rattle.nf_app.specs.QuickGiven.{flow_list, departs_list, arrival_of, ArrivesIn, IsArrival}
@@ -80,6 +81,31 @@ pub at_sink : (flow : CodeFlow) (v sink : ℕ) (p : Point) → v ≡ sink → sl
 at_sink flow v sink p e h = subst (λ (u : ℕ). slice_get (points_at (shown_flow flow).labels u) (length (points_at (shown_flow flow).labels u) - 1) ≡ Some p) e h
 
 -- ---- the arrival in a run
+-- the sink's label curve ends at the departure reached
+module _ (net : Network) (good : IsNetwork net) (bounds : Bounds) (report : Report) (phases : ℕ) (solution : IsSolution net bounds phases report) (sink : net.sink < net.nodes) where
+  abbrev last : Standing
+  last = solution.run.last
+
+  report_is : report ≡ report_of bounds.horizon last solution.run.stop
+  report_is = solution.run.report_is
+
+  labels_are : report.flow.labels ≡ map (λ curve. curve.points) last.label_curves
+  labels_are = ap (λ (r : Report). r.flow.labels) report_is
+
+  many : net.sink < length last.label_curves
+  many = let count : length report.flow.labels ≡ net.nodes = solution.well_formed.shape.labels.count in
+      let same : length report.flow.labels ≡ length last.label_curves = ap length labels_are ∙ length-map last.label_curves (λ curve. curve.points) in
+      omega arith
+
+  ends : end_of (points_at report.flow.labels net.sink) ≡ report.flow.reached
+  ends = ap (λ (l : List (List Point)). end_of (points_at l net.sink)) labels_are
+      ∙ ends_there last.label_curves net.sink last.time many ((run_ends passes_Q net good bounds last solution.run.stop solution.run.run).labels net.sink)
+      ∙ sym (ap (λ (r : Report). r.flow.reached) report_is)
+
+  -- so the value of its last point is the label there
+  pub last_is_label : (p : Point) → slice_get (points_at report.flow.labels net.sink) (length (points_at report.flow.labels net.sink) - 1) ≡ Some p → label report.flow net.sink report.flow.reached ≡ p.1
+  last_is_label p is = value_at_end (points_at report.flow.labels net.sink) p report.flow.reached (solution.well_formed.shape.labels.each net.sink sink) is ends
+
 module _ (net : Network) (good : IsNetwork net) (departs : ℚ) (report : Report) (phases : ℕ) (solution : IsSolution net (bounds_of departs usual_budgets) phases report) where
   -- the run is stopped
   pub stopped_arrives : (cause : Cause ℚ) → report.stop ≡ Some cause → ArrivesIn net departs (Arrival.Stopped cause)
@@ -92,33 +118,14 @@ module _ (net : Network) (good : IsNetwork net) (departs : ℚ) (report : Report
   }
 
   module _ (sink : net.sink < net.nodes) (from_0 : 0ℚ ≤ℚ departs) (no_stop : report.stop ≡ None) where
-    abbrev last : Standing
-    last = solution.run.last
-
-    report_is : report ≡ report_of departs last solution.run.stop
-    report_is = solution.run.report_is
-
     reached : report.flow.reached ≡ departs
-    reached = solution.well_formed.stop.0 no_stop ∙ ap (λ (r : Report). r.horizon) report_is
-
-    labels_are : report.flow.labels ≡ map (λ curve. curve.points) last.label_curves
-    labels_are = ap (λ (r : Report). r.flow.labels) report_is
-
-    many : net.sink < length last.label_curves
-    many = let count : length report.flow.labels ≡ net.nodes = solution.well_formed.shape.labels.count in
-        let same : length report.flow.labels ≡ length last.label_curves = ap length labels_are ∙ length-map last.label_curves (λ curve. curve.points) in
-        omega arith
-
-    ends : end_of (points_at report.flow.labels net.sink) ≡ departs
-    ends = ap (λ (l : List (List Point)). end_of (points_at l net.sink)) labels_are
-        ∙ ends_there last.label_curves net.sink last.time many
-        ((run_ends passes_Q net good (bounds_of departs usual_budgets) last solution.run.stop solution.run.run).labels net.sink)
-        ∙ sym (ap (λ (r : Report). r.flow.reached) report_is) ∙ reached
+    reached = solution.well_formed.stop.0 no_stop ∙ ap (λ (r : Report). r.horizon) solution.run.report_is
 
     -- the run comes to the departure
     pub reached_arrives : (p : Point) → slice_get (points_at report.flow.labels net.sink) (length (points_at report.flow.labels net.sink) - 1) ≡ Some p → ArrivesIn net departs (Arrival.At p.1)
     reached_arrives p is =
-        let at : label report.flow net.sink departs ≡ p.1 = value_at_end (points_at report.flow.labels net.sink) p departs (solution.well_formed.shape.labels.each net.sink sink) is ends in
+        let at : label report.flow net.sink departs ≡ p.1 =
+        subst (λ (time : ℚ). label report.flow net.sink time ≡ p.1) reached (last_is_label net good (bounds_of departs usual_budgets) report phases solution sink p is) in
         let first : IsEarliest net (inflow report.flow) net.sink departs (label report.flow net.sink departs) =
         solution.equilibrium.nash.labels net.sink departs sink (from_0, subst (λ (t : ℚ). departs ≤ℚ t) (sym reached) (≤ℚ_refl departs)) in
         record {

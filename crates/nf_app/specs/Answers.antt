@@ -16,11 +16,13 @@ use Rattle.nf_readings.specs.Texts.{load_text, answer_text}
 use Rattle.nf_quick_lists.specs.Quick.{Augment, Quick}
 use Rattle.nf_app.specs.ErrorLines.{memory_line, usage_text, shelf_failed_line, shelf_too_long_line, network_line, loads_line, report_line, stopped_line, passed_line, no_equilibrium_line, augments_line, unbounded_line}
 use Rattle.nf_app.specs.QuickText.{quick_text, augments_text}
+use Rattle.nf_app.specs.GenText.{gen_text}
 use Rattle.nf_app.specs.declared.arrival.Arrival.{Arrival}
 use Rattle.nf_app.specs.declared.status.Status.{Status}
 
 -- `Solved`: a report of the network of the file. `Shown`: that network. `Loaded`: of each of its links the loading up to a horizon.
 -- `Checked`: whether the flow of a report is an equilibrium. `Quickest`: a quickest flow, beside the arrival in an equilibrium. `TooManyWalks`: those that were pushed for it, as many as allowed.
+-- `Generated`: a run in the ladder of a number with so many rungs, which made so many phases.
 -- `Unbounded`: there is no quickest flow, since a walk of unbounded links leads to the sink. `Passes`: an operation of the command's
 -- list passes the bound.
 pub data Answer : Type 0 where
@@ -30,6 +32,7 @@ pub data Answer : Type 0 where
   Checked : Named → Verdict ℕ ℕ ℚ → Answer
   Quickest : Named → Quick → Arrival → Answer
   TooManyWalks : Named → ℕ → List Augment → Answer
+  Generated : ℕ → ℕ → Named → ℕ → Report → Answer
   NoMemory : Answer
   NoRequest : Answer
   ShelfFailed : Answer
@@ -77,6 +80,7 @@ status_of (Loaded n horizon loaded) = Status.Ok
 status_of (Checked n verdict) = status_of_verdict verdict
 status_of (Quickest n quick arrival) = Status.Ok
 status_of (TooManyWalks n augments walks) = Status.Augments
+status_of (Generated number rungs n made report) = status_of_stop report.stop
 status_of NoMemory = Status.Memory
 status_of NoRequest = Status.Usage
 status_of ShelfFailed = Status.Shelf
@@ -95,6 +99,7 @@ out_text (Loaded n horizon loaded) = load_text n horizon loaded
 out_text (Checked n verdict) = answer_text n verdict
 out_text (Quickest n quick arrival) = quick_text n quick arrival
 out_text (TooManyWalks n augments walks) = augments_text n walks
+out_text (Generated number rungs n made report) = gen_text number rungs n made report
 out_text answer = []
 
 abbrev pub text_of_stop : Option (Cause ℚ) → List ℕ
@@ -112,6 +117,7 @@ err_text (Loaded n horizon loaded) = []
 err_text (Checked n verdict) = text_of_verdict verdict
 err_text (Quickest n quick arrival) = []
 err_text (TooManyWalks n augments walks) = augments_line augments
+err_text (Generated number rungs n made report) = text_of_stop report.stop
 err_text NoMemory = memory_line
 err_text NoRequest = usage_text
 err_text ShelfFailed = shelf_failed_line

@@ -18,7 +18,9 @@ use Rattle.nf_phase.specs.declared.solution.Budgets.{Budgets}
 use Rattle.nf_phase.specs.Solution.{bounds_of}
 use Rattle.nf_app.specs.declared.status.Status.{Status}
 use Rattle.nf_app.specs.Files.{Wanted, Visit}
-use Rattle.nf_app.specs.Requests.{Solve, Show, Load, Check, Quick, network_file, loads_file, report_file}
+use Rattle.nf_words.specs.Requests.{Solve, Show, Load, Check, Quick, Gen}
+use Rattle.nf_gen.specs.Ladder.{ladder}
+use Rattle.nf_app.specs.Requests.{budgets_of, network_file, loads_file, report_file}
 use Rattle.nf_app.specs.Given.{loading_list}
 use Rattle.nf_app.specs.QuickGiven.{PassesQuick}
 use Rattle.nf_app.specs.Sinks.{Taken}
@@ -65,10 +67,11 @@ pub record CanBeShown (call : Call) : Type 0 where
 pub record CanBeSolved (call : Call) : Type 0 where
   pub file : List ℕ
   pub horizon : ℚ
-  pub budgets : Budgets
-  pub asks : Asks call (Solve file horizon budgets)
+  pub phases : ℕ
+  pub patterns : ℕ
+  pub asks : Asks call (Solve file horizon phases patterns)
   pub network : TellsNetwork call.shelf file
-  pub reaches : ReachesHorizon network.net horizon budgets
+  pub reaches : ReachesHorizon network.net horizon (budgets_of phases patterns)
 
 -- the links of a network are to be loaded, and no operation of the list passes
 pub record CanBeLoaded (call : Call) : Type 0 where
@@ -81,6 +84,16 @@ pub record CanBeLoaded (call : Call) : Type 0 where
   pub loaded : List Loading
   pub computes : loading_list network.net loads.pieces horizon ≡ Ok loaded
 
+-- a ladder is to be generated, and its phase run reaches the horizon
+pub record CanBeGenerated (call : Call) : Type 0 where
+  pub number : ℕ
+  pub rungs : ℕ
+  pub horizon : ℚ
+  pub phases : ℕ
+  pub patterns : ℕ
+  pub asks : Asks call (Gen number rungs horizon phases patterns)
+  pub reaches : ReachesHorizon (ladder number rungs) horizon (budgets_of phases patterns)
+
 -- a report is to be checked, and no operation of the list passes
 pub record CanBeJudged (call : Call) : Type 0 where
   pub file : List ℕ
@@ -92,7 +105,7 @@ pub record CanBeJudged (call : Call) : Type 0 where
   pub computes : check_list passes_Q network.net.net report.report.flow ≡ Ok verdict
 
 abbrev pub HasAnswer : Call → Type 0
-HasAnswer call = CanBeShown call ⊎ CanBeSolved call ⊎ CanBeLoaded call
+HasAnswer call = CanBeShown call ⊎ CanBeSolved call ⊎ CanBeLoaded call ⊎ CanBeGenerated call
 
 -- a quickest flow is asked for, and no operation of its lists passes
 pub record CanBeQuick (call : Call) : Type 0 where

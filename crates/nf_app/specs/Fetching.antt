@@ -1,5 +1,5 @@
 -- What fetching the files of a request answers.
-use Rattle.std.specs.Prelude.{◌≡◌, ◌⊎◌, ℕ, List, [], ◌∷◌, IfSome, Result, Ok, Err}
+use Rattle.std.specs.Prelude.{◌≡◌, ◌⊎◌, ℕ, List, [], ◌∷◌, IfSome, None, Result, Ok, Err}
 use Rattle.nf_formats.specs.Named.{Named}
 use Rattle.nf_app.specs.declared.refusal.Refusal.{Refusal}
 use Rattle.nf_app.specs.Files.{Wanted, Visit, FetchedNone, FetchedAll, FetchedTo, Failed, HasTooMany}
@@ -28,7 +28,7 @@ AreFetched shelf files (Err refusal) = AreMissing shelf files refusal
 
 -- the network of the first file, and the bytes of the others
 abbrev pub AreRead : Visit → Wanted → List Wanted → Result (Named × List (List ℕ)) Refusal → Type 0
-AreRead shelf file others (Ok read) = FetchedAll shelf (file ∷ others) × NetworkReads shelf (file ∷ others) (Ok read.0) × AreTold shelf others read.1
+AreRead shelf file others (Ok read) = FetchedAll shelf (file ∷ others) × NetworkReads shelf None (file ∷ others) (Ok read.0) × AreTold shelf others read.1
 AreRead shelf file others (Err (Refusal.Malformed rule line)) =
-    FetchedAll shelf (file ∷ others) × NetworkReads shelf (file ∷ others) (Err (record { rule = rule; line = line }))
+    FetchedAll shelf (file ∷ others) × NetworkReads shelf None (file ∷ others) (Err (record { rule = rule; line = line }))
 AreRead shelf file others (Err refusal) = AreMissing shelf (file ∷ others) refusal

@@ -18,8 +18,9 @@ use Rattle.nf_readable_laws.specs.Laws.{ReadsBack}
 use Rattle.nf_quick_lists.specs.Quick.{Augment, Quick as QuickFlow}
 use Rattle.nf_phase.specs.Solution.{bounds_of, IsSolution}
 use Rattle.nf_app.specs.Files.{Visit}
-use Rattle.nf_app.specs.Requests.{Request, Solve, Show, Load, Check, Quick}
-use Rattle.nf_app.specs.Answers.{Answer, Solved, Shown, Loaded, Checked, Quickest, TooManyWalks, MalformedLoads, MalformedReport, Passes, Unbounded}
+use Rattle.nf_words.specs.Requests.{Request, Solve, Show, Load, Check, Quick, Gen}
+use Rattle.nf_app.specs.Requests.{budgets_of}
+use Rattle.nf_app.specs.Answers.{Answer, Solved, Shown, Loaded, Checked, Quickest, TooManyWalks, Generated, MalformedLoads, MalformedReport, Passes, Unbounded}
 use Rattle.nf_app.specs.CheckGiven.{ReportReads, IsChecked, PassesChecking}
 use Rattle.nf_app.specs.QuickGiven.{IsQuickest, IsOverBudget, PassesQuick, IsUnbounded}
 use Rattle.nf_app.specs.declared.arrival.Arrival.{Arrival}
@@ -47,8 +48,8 @@ pub record PassesLoading (shelf : Visit) (n : Named) (file : List ℕ) (horizon 
 
 -- The answers of each request that has its network. The text of a report has one reading, and that is the report.
 abbrev pub IsGiven : Visit → Named → Request → Answer → Type 0
-IsGiven shelf n (Solve file horizon budgets) answer =
-    (report : Report) × (answer ≡ Solved n report) × ((phases : ℕ) × IsSolution n.net (bounds_of horizon budgets) phases report) × ReadsBack n report
+IsGiven shelf n (Solve file horizon phases patterns) answer =
+    (report : Report) × (answer ≡ Solved n report) × ((made : ℕ) × IsSolution n.net (bounds_of horizon (budgets_of phases patterns)) made report) × ReadsBack n report
 IsGiven shelf n (Show file) answer = answer ≡ Shown n
 IsGiven shelf n (Load file loads horizon) answer =
     ((loaded : List Loading) × (answer ≡ Loaded n horizon loaded) × IsLoading shelf n loads horizon loaded)
@@ -63,3 +64,5 @@ IsGiven shelf n (Quick file amount augments) answer =
     ⊎ ((walks : List Augment) × (answer ≡ TooManyWalks n augments walks) × IsOverBudget n.net amount augments walks)
     ⊎ ((at : PassedAt ℚ) × (answer ≡ Passes at) × PassesQuick n.net amount augments at)
     ⊎ ((answer ≡ Unbounded) × IsUnbounded n.net amount)
+IsGiven shelf n (Gen number rungs horizon phases patterns) answer =
+    (report : Report) × (made : ℕ) × (answer ≡ Generated number rungs n made report) × IsSolution n.net (bounds_of horizon (budgets_of phases patterns)) made report

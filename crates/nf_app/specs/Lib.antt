@@ -3,13 +3,13 @@ pub mod Files
 pub mod Sinks
 pub mod Requests
 pub mod QuickText
+pub mod GenText
 pub mod Answers
 pub mod CheckGiven
 pub mod QuickGiven
 pub mod Given
 pub mod Runs
 pub mod Completeness
-pub mod Requested
 pub mod Refusals
 pub mod Fetching
 pub mod Outcomes

@@ -11,9 +11,10 @@ use Rattle.nf_phase.specs.Solution.{report_in}
 use Rattle.nf_app.specs.declared.outcome.Outcome.{Outcome}
 use Rattle.nf_app.specs.declared.refusal.Refusal.{Refusal}
 use Rattle.nf_app.specs.Files.{Visit}
-use Rattle.nf_app.specs.Requests.{Request}
-use Rattle.nf_app.specs.Answers.{Answer, Solved, Shown, Loaded, Checked, Quickest, TooManyWalks}
+use Rattle.nf_words.specs.Requests.{Request}
+use Rattle.nf_app.specs.Answers.{Answer, Solved, Shown, Loaded, Checked, Quickest, TooManyWalks, Generated}
 use Rattle.nf_app.specs.QuickText.{flow_text, quick_text, augments_text}
+use Rattle.nf_app.specs.GenText.{last_arrival, gen_text}
 use Rattle.nf_app.specs.Refusals.{answer_of}
 use Rattle.nf_app.specs.Given.{IsGiven}
 use Rattle.nf_app.specs.Runs.{Call, IsAnswer}
@@ -25,9 +26,10 @@ answer_in (Outcome.Loaded net horizon links) = Loaded net horizon (map loaded_of
 answer_in (Outcome.Checked net verdict) = Checked net verdict
 answer_in (Outcome.Quickest net quick arrival text) = Quickest net quick arrival
 answer_in (Outcome.TooManyWalks net augments walks text) = TooManyWalks net augments walks.items
+answer_in (Outcome.Generated net ladder horizon s arrival) = Generated ladder.number ladder.rungs net s.phases (report_in horizon s)
 
 -- A report is well formed, so that it has a text. The canonical text is that of the network. Each loading is that of a link.
--- The text of a quickest flow is that of all but the arrival.
+-- The text of a quickest flow is that of all but the arrival. The arrival of a generated run is that of who departs last.
 abbrev pub HasText : Outcome → Type 0
 HasText (Outcome.Solved net horizon s) = IsWellFormed net.net (report_in horizon s)
 HasText (Outcome.Shown net text) = text.items ≡ canonical net
@@ -35,6 +37,7 @@ HasText (Outcome.Loaded net horizon links) = length links.items ≡ length net.n
 HasText (Outcome.Checked net verdict) = Unit {0}
 HasText (Outcome.Quickest net quick arrival text) = text.items ≡ flow_text net quick
 HasText (Outcome.TooManyWalks net augments walks text) = text.items ≡ augments_text net walks.items
+HasText (Outcome.Generated net ladder horizon s arrival) = arrival ≡ last_arrival net (report_in horizon s)
 
 abbrev pub text_in : Outcome → List ℕ
 text_in (Outcome.Solved net horizon s) = report_text net (report_in horizon s)
@@ -43,6 +46,7 @@ text_in (Outcome.Loaded net horizon links) = load_text net horizon (map loaded_o
 text_in (Outcome.Checked net verdict) = answer_text net verdict
 text_in (Outcome.Quickest net quick arrival text) = quick_text net quick arrival
 text_in (Outcome.TooManyWalks net augments walks text) = text.items
+text_in (Outcome.Generated net ladder horizon s arrival) = gen_text ladder.number ladder.rungs net s.phases (report_in horizon s)
 
 -- why the run of a report stopped
 abbrev pub stop_in : Outcome → Option (Cause ℚ)
@@ -52,6 +56,7 @@ stop_in (Outcome.Loaded net horizon links) = None
 stop_in (Outcome.Checked net verdict) = None
 stop_in (Outcome.Quickest net quick arrival text) = None
 stop_in (Outcome.TooManyWalks net augments walks text) = None
+stop_in (Outcome.Generated net ladder horizon s arrival) = s.stopped
 
 -- what a request gives with its network, or why it gives nothing
 abbrev pub IsGiving : Visit → Named → Request → Result Outcome Refusal → Type 0

@@ -6,7 +6,8 @@ use Rattle.nf_formats.specs.NetFile.{Reads}
 use Rattle.nf_app.specs.ErrorLines.{output_line}
 use Rattle.nf_app.specs.declared.status.Status.{Status}
 use Rattle.nf_app.specs.Files.{Wanted, Visit, FetchedNone, FetchedAll, FetchedTo, Failed, HasTooMany}
-use Rattle.nf_app.specs.Requests.{Request, files_of, request_of}
+use Rattle.nf_words.specs.Requests.{Request, request_of}
+use Rattle.nf_app.specs.Requests.{files_of, generated_by}
 use Rattle.nf_app.specs.Answers.{Answer, NoMemory, NoRequest, ShelfFailed, ShelfTooLong, Malformed, status_of, out_text, err_text}
 use Rattle.nf_app.specs.Given.{IsGiven}
 use Rattle.nf_app.specs.Sinks.{Taken, TookAll, CutShort, TookText}
@@ -25,16 +26,18 @@ pub record Reached (call : Call) (last : Wanted) : Type 0 where
   pub asks : Asks call request
   pub fetched : FetchedTo call.shelf (files_of request) last
 
--- The first of the files is the network's: where the shelf tells its bytes, they read as this network, or break this rule first.
-abbrev pub NetworkReads : Visit → List Wanted → Result Named Broken → Type 0
-NetworkReads shelf [] read = ⊥
-NetworkReads shelf (file ∷ others) read = IfSome (shelf.told file.name) (λ text. Reads text read)
+-- The network is the generated one, if there is one; else the first of the files is the network's: where the shelf tells its bytes, they
+-- read as this network, or break this rule first.
+abbrev pub NetworkReads : Visit → Option Named → List Wanted → Result Named Broken → Type 0
+NetworkReads shelf (Some n) files read = read ≡ Ok n
+NetworkReads shelf None [] read = ⊥
+NetworkReads shelf None (file ∷ others) read = IfSome (shelf.told file.name) (λ text. Reads text read)
 
 -- all files of the request were fetched, and its network reads so
 pub record Read (call : Call) (request : Request) (read : Result Named Broken) : Type 0 where
   pub asks : Asks call request
   pub fetched : FetchedAll call.shelf (files_of request)
-  pub reads : NetworkReads call.shelf (files_of request) read
+  pub reads : NetworkReads call.shelf (generated_by request) (files_of request) read
 
 -- when nothing is computed; memory may be wanting before any file was fetched, and after each
 abbrev pub IsRefused : Call → Answer → Type 0

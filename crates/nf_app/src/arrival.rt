@@ -4,13 +4,14 @@ ghost use Rattle.nf_rational.specs.Operations.{0ℚ};
 ghost use Rattle.nf_rational.specs.Order.{◌≤ℚ◌};
 ghost use Rattle.nf_model.specs.Equilibrium.{points_at};
 ghost use Rattle.nf_curve.specs.Flows.{flow_of};
+ghost use Rattle.nf_app.specs.Requests.{usual_budgets};
 ghost use Rattle.nf_app.specs.QuickGiven.{IsArrival, ArrivesIn};
 
-use crate::budgets::usual_budgets;
 use nf_curve::{Curve, Flow, Stop};
 use nf_frac::Q;
 use nf_net::{Network, NodeId};
-use nf_phase::solve;
+use nf_phase::{Budgets, solve};
+use nf_words::{USUAL_PATTERNS, USUAL_PHASES};
 use std::alloc::{AllocError, Global};
 
 /// When the flow arrives of which an amount is to be supplied, in an equilibrium.
@@ -31,14 +32,24 @@ fn last_point(curve: &Curve) -> (Q, Q)
     curve.point(curve.len() - 1)
 }
 
-// The last point of the label curve of a node.
-fn last_label(flow: &Flow, node: NodeId) -> (Q, Q)
+/// The last point of the label curve of a node.
+pub(crate) fn last_label(flow: &Flow, node: NodeId) -> (Q, Q)
     requires { node < length flow.now.labels.items }
     ensures { slice_get (points_at (flow_of flow.now).labels node) (length (points_at (flow_of flow.now).labels node) - 1) ≡ Some result }
 {
     let place = node.index();
     let label = &flow.labels[place];
     last_point(label)
+}
+
+// The budgets that are meant where none are given.
+fn usual_budgets() -> Budgets
+    ensures { result ≡ usual_budgets }
+{
+    Budgets {
+        phases: USUAL_PHASES,
+        patterns: USUAL_PATTERNS,
+    }
 }
 
 // The arrival of who departs at this time.

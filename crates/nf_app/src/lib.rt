@@ -3,16 +3,15 @@
 
 mod arrival;
 mod augments_text;
-mod budgets;
 mod check_text;
 mod fetching;
+mod gen_text;
 mod load_text;
 mod loading;
 mod outcome;
 mod output;
 mod quick_text;
 mod refusal;
-mod request;
 mod running;
 mod status;
 mod telling;

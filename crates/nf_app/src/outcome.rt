@@ -1,5 +1,5 @@
 // What a request gives: a text for the output.
-ghost use Rattle.std.specs.Prelude.{◌≡◌, ◌≤◌, ℕ, List, length, Ok, Err};
+ghost use Rattle.std.specs.Prelude.{◌≡◌, ◌≤◌, ℕ, List, length, Some, Ok, Err};
 ghost use Rattle.std.specs.Option.{option_copied};
 ghost use Rattle.nf_rational.specs.Operations.{0ℚ};
 ghost use Rattle.nf_rational.specs.Order.{◌≤ℚ◌};
@@ -11,28 +11,32 @@ ghost use Rattle.nf_quick.specs.declared.fault.QuickFault.TheVariants as QuickFa
 ghost use Rattle.nf_quick_lists.specs.Answers.{IsQuickFlow};
 ghost use Rattle.nf_rational.specs.Rational.{ℚ};
 ghost use Rattle.nf_app.specs.Files.{Visit, report_limit};
-ghost use Rattle.nf_app.specs.Requests.{Solve, Show, Load, Check, loads_file, report_file};
-ghost use Rattle.nf_app.specs.Requests as requests;
+ghost use Rattle.nf_words.specs.Requests.{Solve, Show, Load, Check, Gen, CanBeAsked, request_of};
+ghost use Rattle.nf_words.specs.Requests as requests;
+ghost use Rattle.nf_words.specs.Views.{requested};
+ghost use Rattle.nf_app.specs.Requests.{loads_file, report_file};
 ghost use Rattle.nf_app.specs.Fetching.{IsTold};
 ghost use Rattle.nf_app.specs.Outcomes.{stop_in, IsGiving, IsAnswered};
 
-use crate::arrival::{Arrival, find_arrival};
+use crate::arrival::{Arrival, find_arrival, last_label};
 use crate::augments_text::augments_text;
 use crate::fetching::{fetch_network, fetch_network_with};
+use crate::gen_text::Ladder;
 use crate::loading::load_links;
 use crate::quick_text::flow_text;
 use crate::refusal::Refusal;
-use crate::request::{Request, read_request};
 use nf_check::{Answer, check};
 use nf_curve::Stop;
 use nf_edge::Shelf;
 use nf_frac::Q;
+use nf_gen::generated;
 use nf_load::{Loaded, parse_loads};
 use nf_net::{Network, text};
 use nf_phase::{Budgets, Solution, solve};
 use nf_quick::{Augment, Quick, QuickFault, departure, quickest};
 use nf_report::parse_report;
-use std::alloc::Global;
+use nf_words::{Request, read_request};
+use std::alloc::{AllocError, Global};
 
 /// The most bytes that a loads file may have.
 const LONGEST_LOADS: u32 = 1_048_576;
@@ -79,6 +83,14 @@ pub(crate) enum Outcome {
         walks: Vec<Augment>,
         text: Vec<u8>,
     },
+    /// What solving a ladder to a horizon gave, and the arrival at the sink of who departs last.
+    Generated {
+        net: Network,
+        ladder: Ladder,
+        horizon: Q,
+        solution: Solution,
+        arrival: Q,
+    },
 }
 
 impl Outcome {
@@ -93,6 +105,7 @@ impl Outcome {
             Outcome::Checked { .. } => None,
             Outcome::Quickest { .. } => None,
             Outcome::TooManyWalks { .. } => None,
+            Outcome::Generated { solution, .. } => solution.stopped.as_ref(),
         }
     }
 }
@@ -100,7 +113,7 @@ impl Outcome {
 // The network, with what solving it to a horizon gives.
 fn solve_to(alloc: Global, net: Network, horizon: Q, budgets: Budgets) -> Result<Outcome, Refusal>
     requires { 0ℚ ≤ℚ horizon }
-    ensures { (shelf : Visit) (file : List ℕ) → IsGiving shelf net (Solve file horizon budgets) result }
+    ensures { (shelf : Visit) (file : List ℕ) → IsGiving shelf net (Solve file horizon budgets.phases budgets.patterns) result }
 {
     // For the proof: the network is that of an accepted file, and the parts of the horizon are within the bound.
     let _ = net.version();
@@ -111,6 +124,30 @@ fn solve_to(alloc: Global, net: Network, horizon: Q, budgets: Budgets) -> Result
         net,
         horizon,
         solution,
+    })
+}
+
+// The ladder of a number, with what solving it to a horizon gives.
+fn sum_up(
+    alloc: Global,
+    net: Network,
+    ladder: Ladder,
+    horizon: Q,
+    budgets: Budgets,
+) -> Result<Outcome, Refusal>
+    requires { 0ℚ ≤ℚ horizon }
+    ensures { (shelf : Visit) → IsGiving shelf net (Gen ladder.number ladder.rungs horizon budgets.phases budgets.patterns) result }
+{
+    // For the proof: the network is that of an accepted file.
+    let _ = net.version();
+    let solution = solve(alloc, &net, horizon, budgets)?;
+    let (_, arrival) = last_label(&solution.flow, net.sink());
+    Ok(Outcome::Generated {
+        net,
+        ladder,
+        horizon,
+        solution,
+        arrival,
     })
 }
 
@@ -213,14 +250,15 @@ fn quick_to(alloc: Global, net: Network, amount: Q, augments: u64) -> Result<Out
     }
 }
 
-/// What the words give with the files of the shelf.
-pub(crate) fn answer<S: Shelf>(
+// What a request gives with the files of the shelf.
+fn answer_request<S: Shelf>(
     alloc: Global,
-    words: &[String],
+    request: Request,
     shelf: &mut S,
 ) -> Result<Outcome, Refusal>
-    ensures { IsAnswered (record {
-      words = texts words.now;
+    requires { CanBeAsked (requested request) }
+    ensures { (words : List (List ℕ)) → request_of words ≡ Some (requested request.entry) → IsAnswered (record {
+      words = words;
       shelf = record {
         told = S.told shelf.old;
         asked_before = S.asked shelf.old;
@@ -231,17 +269,15 @@ pub(crate) fn answer<S: Shelf>(
       };
     }) result }
 {
-    let Some(request) = read_request(words) else {
-        return Err(Refusal::NoRequest);
-    };
     match request {
         Request::Solve {
             file,
             horizon,
-            budgets,
+            phases,
+            patterns,
         } => {
             let net = fetch_network(alloc, shelf, file)?;
-            solve_to(alloc, net, horizon, budgets)
+            solve_to(alloc, net, horizon, Budgets { phases, patterns })
         }
         Request::Show { file } => {
             let net = fetch_network(alloc, shelf, file)?;
@@ -267,5 +303,41 @@ pub(crate) fn answer<S: Shelf>(
             let net = fetch_network(alloc, shelf, file)?;
             quick_to(alloc, net, amount, augments)
         }
+        Request::Gen {
+            number,
+            rungs,
+            horizon,
+            phases,
+            patterns,
+        } => {
+            let net = generated(alloc, number, rungs)?;
+            let ladder = Ladder { number, rungs };
+            sum_up(alloc, net, ladder, horizon, Budgets { phases, patterns })
+        }
+    }
+}
+
+/// What the words give with the files of the shelf.
+pub(crate) fn answer<S: Shelf>(
+    alloc: Global,
+    words: &[String],
+    shelf: &mut S,
+) -> Result<Outcome, Refusal>
+    ensures { IsAnswered (record {
+      words = texts words.now;
+      shelf = record {
+        told = S.told shelf.old;
+        asked_before = S.asked shelf.old;
+        asked_now = S.asked shelf.new;
+        faults_before = S.faults shelf.old;
+        faults_now = S.faults shelf.new;
+        taken = S.taken shelf.new;
+      };
+    }) result }
+{
+    match read_request(alloc, words) {
+        Ok(Some(request)) => answer_request(alloc, request, shelf),
+        Ok(None) => Err(Refusal::NoRequest),
+        Err(AllocError) => Err(Refusal::NoMemory),
     }
 }

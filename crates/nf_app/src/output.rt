@@ -11,6 +11,7 @@ ghost use Rattle.nf_app.specs.Runs.{IsShown};
 
 use crate::arrival::Arrival;
 use crate::check_text::write_verdict;
+use crate::gen_text::write_summary;
 use crate::load_text::write_loads;
 use crate::outcome::Outcome;
 use crate::quick_text::write_arrival;
@@ -57,6 +58,13 @@ fn write_outcome<O: Sink>(outcome: &Outcome, out: &mut O) -> Result<(), SinkFaul
         Outcome::Checked { net, verdict } => write_verdict(out, net, verdict),
         Outcome::Quickest { arrival, text, .. } => write_quick(text, arrival, out),
         Outcome::TooManyWalks { text, .. } => write_text(out, text),
+        Outcome::Generated {
+            net,
+            ladder,
+            solution,
+            arrival,
+            ..
+        } => write_summary(out, net, *ladder, solution, *arrival),
     }
 }
 
