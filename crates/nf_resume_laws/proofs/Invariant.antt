@@ -1,0 +1,227 @@
+-- Of an equilibrium, whoever made it, the invariant of phases holds up to the departure that it reached.
+use Rattle.std.proofs.Common.{◌≡◌, ◌≢◌, ℕ, ◌<◌, List, [], ◌∷◌, ⊎_elim, Option, Some, None, sym, ap, subst, refl, ◌∙◌}
+use Rattle.std.proofs.lemmas.Option.{slice_get_within}
+use Rattle.nf_rational.specs.Rational.{ℚ}
+use Rattle.nf_rational.specs.Operations.{0ℚ, ◌+ℚ◌, ◌-ℚ◌, ◌*ℚ◌, ◌/ℚ◌}
+use Rattle.nf_rational.specs.Order.{◌≤ℚ◌, ◌<ℚ◌, max_ℚ}
+use Rattle.nf_rational_laws.proofs.Polynomial.{reading_of}
+use Rattle.nf_rational_laws.proofs.Order.{≤ℚ_of_lt, ≤ℚ_of_same, ≤ℚ_antisymm, lt_or_le_ℚ, not_both_ℚ}
+use Rattle.nf_rational_laws.proofs.Linear.{le, lt, eq, eq_times, linear_le, linear_lt, linear_eq}
+use Rattle.nf_model.specs.Curve.{Within, NeverFalls, value, IsCurve}
+use Rattle.nf_model.specs.Network.{Link, Network, IsNetwork, IsLink, sum_in, sum_out, supply}
+use Rattle.nf_model.specs.Queue.{IsQueue, IsExit, IsOutflow, waiting}
+use Rattle.nf_model.specs.Equilibrium.{Flow, label, inflow, outflow, queue, points_at, Balances, Equilibrium}
+use Rattle.nf_model_laws.specs.Capacity.{IsPositive}
+use Rattle.nf_model_laws.proofs.Affine.{nn-quotient, quotient-times, same_from_times}
+use Rattle.nf_model_laws.proofs.Curves.{value-takes, value-first}
+use Rattle.nf_model_laws.proofs.Queues.{IsQueue-none, IsQueue-nn, IsQueue-unique, IsQueue-from_IsOutflow, IsOutflow-unique, IsExit-after}
+use Rattle.nf_model_laws.proofs.Earliest.{IsPositive-link}
+use Rattle.nf_model_laws.proofs.Sums.{sum_in-same, sum_out-same}
+use Rattle.nf_phase_laws.specs.Invariant.{link_slack, queue_by_slack, sent, HoldsUpTo}
+use Rattle.nf_phase_laws.specs.Description.{DescribesLinks}
+use Rattle.nf_rational_laws.proofs.Tests.{max0_none, max0_of}
+use Rattle.nf_phase_laws.proofs.Holds.{sent-is, queue_early, outflow_early}
+use Rattle.nf_resume_laws.proofs.Served.{outflow-entered, outflow-waits}
+use Rattle.nf_resume_laws.proofs.Printed.{rises-link, starts-link, first, labels-at, source-at, label-nn, label-order, exit-at, not_undercut, comes_out-at, none-before}
+use Rattle.nf_rational_laws.proofs.Chains.{≤ℚ_refl, ≤ℚ_trans}
+
+-- ---- over plain numbers: a and b the labels at the tail and the head, r the transit time, x the exit, q the queue, c the capacity
+no_slack : (a b r x : ℚ) → x ≡ a +ℚ r +ℚ 0ℚ → b ≤ℚ x → b -ℚ (a +ℚ r) ≤ℚ 0ℚ
+no_slack a b r x e h = linear_le (a ∷ b ∷ r ∷ x ∷ []) (eq e ∷ le h ∷ []) (search reading_of depth 12) tt
+
+slack_nn : (a b r : ℚ) → a +ℚ r ≤ℚ b → 0ℚ ≤ℚ b -ℚ (a +ℚ r)
+slack_nn a b r h = linear_le (a ∷ b ∷ r ∷ []) (le h ∷ []) (search reading_of depth 12) tt
+
+wait_is : (a b r w : ℚ) → b ≡ a +ℚ r +ℚ w → b -ℚ (a +ℚ r) ≡ w
+wait_is a b r w e = linear_eq (a ∷ b ∷ r ∷ w ∷ []) (eq e ∷ []) (search reading_of depth 12) tt tt
+
+none_waits : (c m : ℚ) → m ≡ 0ℚ → 0ℚ ≡ c *ℚ m
+none_waits c m e = linear_eq (c ∷ m ∷ []) (eq_times c e ∷ []) (search reading_of depth 12) tt tt
+
+all_waits : (c q w m : ℚ) → w *ℚ c ≡ q → m ≡ w → q ≡ c *ℚ m
+all_waits c q w m e f = linear_eq (c ∷ q ∷ w ∷ m ∷ []) (eq e ∷ eq_times c f ∷ []) (search reading_of depth 12) tt tt
+
+no_wait : (c w q : ℚ) → w *ℚ c ≡ q → q ≡ 0ℚ → c *ℚ w ≡ c *ℚ 0ℚ
+no_wait c w q e f = linear_eq (c ∷ w ∷ q ∷ []) (eq e ∷ eq f ∷ []) (search reading_of depth 12) tt tt
+
+nn_wait : (c w q : ℚ) → w *ℚ c ≡ q → 0ℚ ≤ℚ q → c *ℚ 0ℚ ≤ℚ c *ℚ w
+nn_wait c w q e h = linear_le (c ∷ w ∷ q ∷ []) (eq e ∷ le h ∷ []) (search reading_of depth 12) tt
+
+in_time : (a b r : ℚ) → b -ℚ (a +ℚ r) ≤ℚ 0ℚ → b -ℚ r ≤ℚ a
+in_time a b r h = linear_le (a ∷ b ∷ r ∷ []) (le h ∷ []) (search reading_of depth 12) tt
+
+since : (r t : ℚ) → 0ℚ ≤ℚ t -ℚ r → r ≤ℚ t
+since r t h = linear_le (r ∷ t ∷ []) (le h ∷ []) (search reading_of depth 12) tt
+
+since' : (r t : ℚ) → r ≤ℚ t → 0ℚ ≤ℚ t -ℚ r
+since' r t h = linear_le (r ∷ t ∷ []) (le h ∷ []) (search reading_of depth 12) tt
+
+back_again : (b r : ℚ) → b ≡ (b -ℚ r) +ℚ r
+back_again b r = linear_eq (b ∷ r ∷ []) [] (search reading_of depth 12) tt tt
+
+all_but_none : (f g : ℚ) → f ≡ g → f -ℚ g ≡ 0ℚ
+all_but_none f g e = linear_eq (f ∷ g ∷ []) (eq e ∷ []) (search reading_of depth 12) tt tt
+
+less_none : (s t : ℚ) → s +ℚ 0ℚ ≡ t +ℚ 0ℚ → s ≡ t
+less_none s t e = linear_eq (s ∷ t ∷ []) (eq e ∷ []) (search reading_of depth 12) tt tt
+
+more_in : (s u t : ℚ) → s +ℚ u ≡ t +ℚ 0ℚ → s +ℚ u ≡ t
+more_in s u t e = linear_eq (s ∷ u ∷ t ∷ []) (eq e ∷ []) (search reading_of depth 12) tt tt
+
+more_out : (s u t : ℚ) → s +ℚ 0ℚ ≡ t +ℚ u → s ≡ t +ℚ u
+more_out s u t e = linear_eq (s ∷ u ∷ t ∷ []) (eq e ∷ []) (search reading_of depth 12) tt tt
+
+-- a curve takes each value between two that it has
+takes : (points : List (ℚ × ℚ)) (last y : ℚ) → IsCurve points → 0ℚ ≤ℚ last → value points 0ℚ ≤ℚ y → y ≤ℚ value points last → (u : ℚ) × Within 0ℚ last u × (value points u ≡ y)
+takes [] last y c h i j = absurd c
+takes (p ∷ rest) last y c h i j =
+    let w : (u : ℚ) × (p.0 ≤ℚ u) × (u ≤ℚ last) × (value (p ∷ rest) u ≡ y) = value-takes p rest last y c.1 (subst (λ (z : ℚ). z ≤ℚ last) (sym c.0) h)
+    (subst (λ (z : ℚ). z ≤ℚ y) (ap (value (p ∷ rest)) (sym c.0) ∙ value-first p rest c.1) i) j in
+    (w.0, (subst (λ (z : ℚ). z ≤ℚ w.0) c.0 w.1, w.2), w.3)
+
+module _ (net : Network) (flow : Flow) (good : IsNetwork net) (is : Equilibrium net flow) where
+  abbrev F : ℕ → ℚ → ℚ
+  F = inflow flow
+
+  abbrev l : ℕ → ℚ → ℚ
+  l = label flow
+
+  abbrev x : ℕ → ℚ → ℚ
+  x = sent net F l
+
+  x-is : (e : ℕ) (link : Link) (departure : ℚ) → IsLink net e link → x e departure ≡ F e (l link.tail departure)
+  x-is e link departure p = sent-is net F l e link departure p
+
+  positive : (e : ℕ) (link : Link) → IsLink net e link → IsPositive link.capacity
+  positive e link p = IsPositive-link net e link good p
+
+  out : (e : ℕ) (link : Link) (departure : ℚ) → IsLink net e link → Within 0ℚ flow.reached departure → IsOutflow link.transit link.capacity (F e) (l link.head departure) (F e (l link.tail departure))
+  out = comes_out-at net flow good is
+
+  -- ---- what is sent is conserved
+  ins : (v : ℕ) (departure extra_in extra_out : ℚ) → Within 0ℚ flow.reached departure → Balances net F v (l v departure) extra_in extra_out
+      → sum_in net.links (λ e. x e departure) v +ℚ extra_in ≡ sum_out net.links (λ e. x e departure) v +ℚ extra_out
+  ins v departure extra_in extra_out w b =
+      ap (λ (s : ℚ). s +ℚ extra_in) (sum_in-same net.links (λ e. x e departure) b.outs v (λ e link p here. x-is e link departure p
+      ∙ IsOutflow-unique link.transit link.capacity (F e) (l v departure) (F e (l link.tail departure)) (b.outs e)
+      (subst (λ (k : ℕ). IsOutflow link.transit link.capacity (F e) (l k departure) (F e (l link.tail departure))) here (out e link departure p w)) (b.outflows e link p here)))
+      ∙ b.sums
+      ∙ ap (λ (s : ℚ). s +ℚ extra_out) (sum_out-same net.links (λ e. F e (l v departure)) (λ e. x e departure) v
+      (λ e link p here. ap (λ (k : ℕ). F e (l k departure)) (sym here) ∙ sym (x-is e link departure p)))
+
+  up_to_now : (v : ℕ) (departure : ℚ) → v < net.nodes → Within 0ℚ flow.reached departure → Within 0ℚ (l v flow.reached) (l v departure)
+  up_to_now v departure h w = (label-nn net flow good is v departure h w, label-order net flow good is v departure flow.reached h w.0 w.1 (≤ℚ_refl flow.reached))
+
+  -- ---- queues: of an unbounded link, and of one with a capacity
+  slack-unbounded : (e : ℕ) (link : Link) (departure : ℚ) → IsLink net e link → link.capacity ≡ None → Within 0ℚ flow.reached departure → link_slack l link departure ≤ℚ 0ℚ
+  slack-unbounded e link departure p none w =
+      let u : (exit : ℚ) × IsExit link.transit link.capacity (F e) (l link.tail departure) exit × (l link.head departure ≤ℚ exit) = not_undercut net flow good is e link departure p w in
+      no_slack (l link.tail departure) (l link.head departure) link.transit u.0
+      (u.1.is_sum ∙ ap (λ (z : ℚ). l link.tail departure +ℚ link.transit +ℚ z) (ap (λ (c : Option ℚ). waiting c u.1.queue) none)) u.2
+
+  queue-bounded : (e : ℕ) (link : Link) (departure rate : ℚ) → IsLink net e link → link.capacity ≡ Some rate → Within 0ℚ flow.reached departure
+      → IsQueue link.capacity (F e) (l link.tail departure) (rate *ℚ max_ℚ 0ℚ (link_slack l link departure))
+  queue-bounded e link departure rate p some w =
+      let u : (exit : ℚ) × IsExit link.transit link.capacity (F e) (l link.tail departure) exit × (l link.head departure ≤ℚ exit) = not_undercut net flow good is e link departure p w in
+      let sum : u.0 ≡ l link.tail departure +ℚ link.transit +ℚ u.1.queue /ℚ rate = u.1.is_sum ∙ ap (λ (c : Option ℚ). l link.tail departure +ℚ link.transit +ℚ waiting c u.1.queue) some in
+      let served : u.1.queue /ℚ rate *ℚ rate ≡ u.1.queue = quotient-times u.1.queue rate (positive e link p rate some) in
+      subst (λ (y : ℚ). IsQueue link.capacity (F e) (l link.tail departure) y)
+      (⊎_elim
+      (λ (h : 0ℚ <ℚ u.1.queue).
+      let at : l link.head departure ≡ u.0 = ⊎_elim
+      (λ (k : l link.head departure <ℚ u.0). absurd (not_both_ℚ _ _
+      (outflow-waits link.transit link.capacity (F e) (positive e link p) (rises-link net flow good is e link p) (starts-link net flow good is e link p)
+      rate (l link.tail departure) u.1.queue u.0 (l link.head departure) (F e (l link.tail departure)) some (label-nn net flow good is link.tail departure (good.tails e link p) w)
+      u.1.is_queue h sum k (out e link departure p w)) (≤ℚ_refl _)))
+      (λ (k : u.0 ≤ℚ l link.head departure). ≤ℚ_antisymm _ _ u.2 k)
+      (lt_or_le_ℚ (l link.head departure) u.0) in
+      let s : link_slack l link departure ≡ u.1.queue /ℚ rate = wait_is (l link.tail departure) (l link.head departure) link.transit _ (at ∙ sum) in
+      all_waits rate u.1.queue (u.1.queue /ℚ rate) _ served (max0_of _ (subst (λ (z : ℚ). 0ℚ ≤ℚ z) (sym s) (wait-nn rate u.1.queue (positive e link p rate some) (≤ℚ_of_lt _ _ h))) ∙ s))
+      (λ (h : u.1.queue ≤ℚ 0ℚ).
+      let none : u.1.queue ≡ 0ℚ = ≤ℚ_antisymm _ _ h (IsQueue-nn link.capacity (F e) (l link.tail departure) u.1.queue u.1.is_queue) in
+      none ∙ none_waits rate _ (max0_none _ (no_slack (l link.tail departure) (l link.head departure) link.transit u.0
+      (sum ∙ ap (λ (z : ℚ). l link.tail departure +ℚ link.transit +ℚ z) (wait-none rate u.1.queue (positive e link p rate some) none)) u.2)))
+      (lt_or_le_ℚ 0ℚ u.1.queue))
+      u.1.is_queue
+    where
+      wait-nn : (c q : ℚ) → 0ℚ <ℚ c → 0ℚ ≤ℚ q → 0ℚ ≤ℚ q /ℚ c
+      wait-nn c q h k = nn-quotient q c k h
+
+      wait-none : (c q : ℚ) → 0ℚ <ℚ c → q ≡ 0ℚ → q /ℚ c ≡ 0ℚ
+      wait-none c q h e = same_from_times c (q /ℚ c) 0ℚ h (no_wait c (q /ℚ c) q (quotient-times q c h) e)
+
+  queue-is : (e : ℕ) (link : Link) (departure : ℚ) → IsLink net e link → Within 0ℚ flow.reached departure
+      → IsQueue link.capacity (F e) (l link.tail departure) (queue_by_slack link.capacity (link_slack l link departure))
+  queue-is e link departure p w = by link.capacity refl
+    where
+      by : (c : Option ℚ) → link.capacity ≡ c → IsQueue link.capacity (F e) (l link.tail departure) (queue_by_slack link.capacity (link_slack l link departure))
+      by None none = subst (λ (c : Option ℚ). IsQueue c (F e) (l link.tail departure) (queue_by_slack c (link_slack l link departure))) (sym none) (IsQueue-none (F e) (l link.tail departure))
+      by (Some rate) some = subst (λ (c : Option ℚ). IsQueue link.capacity (F e) (l link.tail departure) (queue_by_slack c (link_slack l link departure))) (sym some) (queue-bounded e link departure rate p some w)
+
+  -- ---- where the slack isn't above 0
+  idle-is : (e : ℕ) (link : Link) (departure time : ℚ) → IsLink net e link → Within 0ℚ flow.reached departure → link_slack l link departure ≤ℚ 0ℚ
+      → 0ℚ ≤ℚ time → l link.head departure -ℚ link.transit ≤ℚ time → time ≤ℚ l link.tail departure → F e time ≡ F e (l link.tail departure)
+  idle-is e link departure time p w low h i j = ≤ℚ_antisymm _ _ (rises-link net flow good is e link p time (l link.tail departure) h j) (⊎_elim
+      (λ (k : l link.head departure <ℚ link.transit). subst (λ (z : ℚ). z ≤ℚ F e time) (sym ((out e link departure p w).early k))
+      (subst (λ (z : ℚ). z ≤ℚ F e time) (starts-link net flow good is e link p) (rises-link net flow good is e link p 0ℚ time (≤ℚ_refl 0ℚ) h)))
+      (λ (k : link.transit ≤ℚ l link.head departure). ≤ℚ_trans _ _ _
+      (outflow-entered link.transit link.capacity (F e) (positive e link p) (rises-link net flow good is e link p) (starts-link net flow good is e link p) (l link.head departure) _ k (out e link departure p w))
+      (rises-link net flow good is e link p (l link.head departure -ℚ link.transit) time (since' link.transit (l link.head departure) k) i))
+      (lt_or_le_ℚ (l link.head departure) link.transit))
+
+  idle_queue-is : (e : ℕ) (link : Link) (departure : ℚ) → IsLink net e link → Within 0ℚ flow.reached departure → link_slack l link departure ≤ℚ 0ℚ
+      → 0ℚ ≤ℚ l link.head departure -ℚ link.transit → IsQueue link.capacity (F e) (l link.head departure -ℚ link.transit) 0ℚ
+  idle_queue-is e link departure p w low h =
+      let same : F e (l link.head departure -ℚ link.transit) ≡ F e (l link.tail departure) =
+      idle-is e link departure (l link.head departure -ℚ link.transit) p w low h (≤ℚ_refl _) (in_time (l link.tail departure) (l link.head departure) link.transit low) in
+      subst (λ (y : ℚ). IsQueue link.capacity (F e) (l link.head departure -ℚ link.transit) y) (all_but_none _ _ same)
+      (IsQueue-from_IsOutflow link.transit link.capacity (F e) (l link.head departure -ℚ link.transit) (l link.head departure) (F e (l link.tail departure))
+      (back_again (l link.head departure) link.transit) h (out e link departure p w))
+
+  -- ---- the exit at the label of the head says that the slack is at least 0
+  active : (e : ℕ) (link : Link) (departure : ℚ) → IsLink net e link → IsExit link.transit link.capacity (F e) (l link.tail departure) (l link.head departure) → 0ℚ ≤ℚ link_slack l link departure
+  active e link departure p exit = slack_nn (l link.tail departure) (l link.head departure) link.transit (IsExit-after link.transit link.capacity (F e) (l link.tail departure) (l link.head departure) (positive e link p) exit)
+
+  -- ---- the theorem
+  pub HoldsUpTo-equilibrium : HoldsUpTo net F l flow.reached
+  HoldsUpTo-equilibrium = record {
+    begun = is.reached;
+    source = source-at net flow good is;
+    label_rises = label-order net flow good is;
+    label_takes = λ v time h i j. takes (points_at flow.labels v) flow.reached time (is.shape.labels.each v h) is.reached i j;
+    label_not_negative = λ v h. label-nn net flow good is v 0ℚ h (first net flow good is);
+    amount_rises = is.nash.rises;
+    amount_starts = is.nash.starts;
+    sent_starts = λ e link p. x-is e link 0ℚ p ∙ none-before net flow good is e link p;
+    inner = λ v departure h a b w. less_none _ _ (ins v departure 0ℚ 0ℚ w (is.nash.conserves.inner v (l v departure) h a b (up_to_now v departure h w)));
+    supplied = λ departure w. more_in _ _ _ (ins net.source departure (supply net departure) 0ℚ w
+        (subst (λ (z : ℚ). Balances net F net.source z (supply net departure) 0ℚ) (sym (source-at net flow good is departure w)) (is.nash.conserves.source departure w)));
+    drained = λ departure w. more_out _ _ _ (ins net.sink departure 0ℚ (supply net departure) w (is.nash.conserves.sink departure w));
+    queue = queue-is;
+    unbounded = slack-unbounded;
+    entered = λ v departure h other w.
+        let n : (e : ℕ) × (link : Link) × IsLink net e link × (link.head ≡ v) × IsExit link.transit link.capacity (F e) (l link.tail departure) (l link.head departure) = (labels-at net flow good is departure w).entered v h other in
+        (n.0, n.1, n.2, n.3, active n.0 n.1 departure n.2 n.4);
+    idle = λ e link departure time p w low h i j. idle-is e link departure time p w low h i j ∙ sym (x-is e link departure p);
+    idle_queue = idle_queue-is;
+    used = λ e link departure p h k grows. active e link departure p (is.nash.only_shortest e link departure p h k
+        (λ later a b. along _ _ _ _ (x-is e link departure p) (x-is e link later p) (grows later a b)));
+  }
+    where
+      along : (a b c d : ℚ) → a ≡ c → b ≡ d → a <ℚ b → c <ℚ d
+      along a b c d e f h = linear_lt (a ∷ b ∷ c ∷ d ∷ []) (eq e ∷ eq f ∷ lt h ∷ []) (search reading_of depth 12) tt
+
+  -- ---- and it describes its links
+  pub DescribesLinks-equilibrium : DescribesLinks net F l (outflow flow) (queue flow) flow.reached
+  DescribesLinks-equilibrium = record {
+    outflows = λ e link departure p w. IsOutflow-unique link.transit link.capacity (F e) (l link.head departure) _ _
+        (is.outflows e link (l link.head departure) p (up_to_now link.head departure (good.heads e link p) w)) (out e link departure p w) ∙ sym (x-is e link departure p);
+    outflows_early = λ e link time p w. IsOutflow-unique link.transit link.capacity (F e) time _ _
+        (is.outflows e link time p (w.0, ≤ℚ_trans _ _ _ w.1 (up_to_now link.head 0ℚ (good.heads e link p) (first net flow good is)).1))
+        (outflow_early net F l flow.reached good HoldsUpTo-equilibrium e link time p w.0 w.1);
+    queues = λ e link departure p w. IsQueue-unique link.capacity (F e) (l link.tail departure) _ _
+        (is.queues e link (l link.tail departure) p (up_to_now link.tail departure (good.tails e link p) w)) (queue-is e link departure p w);
+    queues_early = λ e link time p w. IsQueue-unique link.capacity (F e) time _ _
+        (is.queues e link time p (w.0, ≤ℚ_trans _ _ _ w.1 (up_to_now link.tail 0ℚ (good.tails e link p) (first net flow good is)).1))
+        (queue_early net F l flow.reached good HoldsUpTo-equilibrium e link time p w.0 w.1);
+  }

@@ -1,0 +1,51 @@
+-- What is left of a phase that was cut: the base by its pattern, its solution and its length.
+use Rattle.std.proofs.Common.{◌≡◌, ℕ, List, length, map, ap, subst, sym, ◌∙◌}
+use Rattle.std.proofs.lemmas.List.{length-map}
+use Rattle.nf_rational.specs.Rational.{ℚ}
+use Rattle.nf_rational.specs.Operations.{0ℚ, ◌+ℚ◌, ◌-ℚ◌, ◌*ℚ◌}
+use Rattle.nf_rational.specs.Order.{◌<ℚ◌, le_ℚ}
+use Rattle.nf_rational_laws.proofs.Order.{≤ℚ_of_lt}
+use Rattle.nf_model.specs.Entries.{number_at}
+use Rattle.nf_model.specs.Network.{Link, Network, IsNetwork, IsLink, hops, hop_of}
+use Rattle.nf_model.specs.ThinFlow.{slack, slacks_of, sets_at}
+use Rattle.nf_model.specs.Pattern.{Pattern, IsListedIn, IsBase, IsSolution}
+use Rattle.nf_model.specs.Phases.{IsExtension}
+use Rattle.nf_lists.specs.PhaseRun.{Standing}
+use Rattle.nf_resume_lists.specs.Open.{IsOpen}
+use Rattle.nf_resume_laws.specs.ResumeLaws.{IsPartOf, IsRestOf}
+use Rattle.nf_resume_laws.proofs.CutPhase.{IsOpen-cut, IsExtension-left, stays-below, stays-above, slack-moves}
+use Rattle.nf_resume_laws.proofs.Restricted.{IsSolution-restricted, IsListed-restricted}
+
+active-count : (net : Network) (labels : List ℚ) → length (sets_at net labels).active ≡ length net.links
+active-count net labels = length-map (slacks_of (hops net) labels) (le_ℚ 0ℚ) ∙ length-map (hops net) (slack labels) ∙ length-map net.links hop_of
+
+pub rest-goes : (net : Network) (time : ℚ) (labels slopes : List ℚ) (pattern : Pattern) (done : ℚ) (s : Standing) → IsNetwork net → IsPartOf net time labels slopes pattern done s
+    → (rate whole : ℚ) (flows : List ℚ) (base : Pattern) → IsListedIn net (sets_at net labels) pattern → IsSolution net (sets_at net labels) rate pattern flows slopes
+    → IsExtension net (slacks_of (hops net) labels) slopes time whole → 0ℚ <ℚ done → done <ℚ whole → IsBase (hops net) (sets_at net s.labels) s.last base
+    → IsRestOf net rate done whole flows slopes s base
+rest-goes net time labels slopes pattern done s good part rate whole flows base listed solution extension some short is_base = record {
+  listed = IsListed-restricted net good labels s.labels slopes flows rate done pattern base some moves below above listed solution count same_count based;
+  solution = IsSolution-restricted net good labels s.labels slopes flows rate done pattern base some moves below above listed solution count same_count based;
+  length = IsExtension-left net good labels slopes time done pattern part.is_pattern part.count part.not_negative s part.labels_are part.time_is part.last_is whole opened (≤ℚ_of_lt _ _ short) extension;
+}
+  where
+    moves : (e : ℕ) (link : Link) → IsLink net e link → slack s.labels (hop_of link) ≡ slack labels (hop_of link) +ℚ done *ℚ (number_at slopes link.head -ℚ number_at slopes link.tail)
+    moves = slack-moves net good labels slopes time done pattern part.is_pattern part.count part.not_negative s part.labels_are part.time_is part.last_is
+
+    below : (e : ℕ) (link : Link) → IsLink net e link → slack labels (hop_of link) <ℚ 0ℚ → slack s.labels (hop_of link) <ℚ 0ℚ
+    below = stays-below net good labels slopes time done pattern part.is_pattern part.count part.not_negative s part.labels_are part.time_is part.last_is whole extension.lasts short
+
+    above : (e : ℕ) (link : Link) → IsLink net e link → 0ℚ <ℚ slack labels (hop_of link) → 0ℚ <ℚ slack s.labels (hop_of link)
+    above = stays-above net good labels slopes time done pattern part.is_pattern part.count part.not_negative s part.labels_are part.time_is part.last_is whole extension.lasts short
+
+    opened : IsOpen net s
+    opened = IsOpen-cut net good labels slopes time done pattern part.is_pattern part.count part.not_negative s part.labels_are part.time_is part.last_is whole extension.lasts some short
+
+    based : IsBase (hops net) (sets_at net s.labels) pattern base
+    based = subst (λ (p : Pattern). IsBase (hops net) (sets_at net s.labels) p base) part.last_is is_base
+
+    count : length base ≡ length net.links
+    count = is_base.count ∙ active-count net s.labels
+
+    same_count : length pattern ≡ length net.links
+    same_count = part.is_pattern.count ∙ active-count net labels

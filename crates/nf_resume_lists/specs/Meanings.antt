@@ -1,0 +1,54 @@
+-- What resuming a report has to give.
+use Rattle.std.specs.Prelude.{◌≡◌, ℕ, ◌<◌, ◌≤◌, length, Option, Ok, IsOk}
+use Rattle.nf_rational.specs.Rational.{ℚ}
+use Rattle.nf_rational.specs.Operations.{0ℚ}
+use Rattle.nf_rational.specs.Order.{◌≤ℚ◌}
+use Rattle.nf_work.specs.Passing.{Passing}
+use Rattle.nf_model.specs.Curve.{Within, IsShort}
+use Rattle.nf_model.specs.Network.{Link, Network, IsLink}
+use Rattle.nf_model.specs.Pattern.{Pattern}
+use Rattle.nf_model.specs.Equilibrium.{Flow, label, inflow, outflow, queue, points_at, points_of}
+use Rattle.nf_formats.specs.declared.Cause.{Cause}
+use Rattle.nf_formats.specs.Report.{Report}
+use Rattle.nf_lists.specs.Accepted.{pattern_lists}
+use Rattle.nf_lists.specs.Listing.{HasPlace}
+use Rattle.nf_lists.specs.PhaseRun.{Standing, Bounds, Goes, Runs, flow_of, report_of}
+use Rattle.nf_model.specs.Network.{rate_at}
+use Rattle.nf_model.specs.ThinFlow.{sets_at}
+use Rattle.nf_resume_lists.specs.Open.{Steps, RunsOn, continues, begins, steps, at_horizon, at_phases, fails}
+use Rattle.nf_resume_lists.specs.Resuming.{Stands, resume_list}
+
+-- a flow goes on from another one: it reaches as far at least, and up to there it has the same values
+pub record GoesOnFrom (net : Network) (old new : Flow) : Type 0 where
+  pub reached : old.reached ≤ℚ new.reached
+  pub labels : (v : ℕ) (departure : ℚ) → v < net.nodes → Within 0ℚ old.reached departure → label new v departure ≡ label old v departure
+  pub inflows : (e : ℕ) (link : Link) (time : ℚ) → IsLink net e link → Within 0ℚ (label old link.tail old.reached) time → inflow new e time ≡ inflow old e time
+  pub outflows : (e : ℕ) (link : Link) (time : ℚ) → IsLink net e link → Within 0ℚ (label old link.head old.reached) time → outflow new e time ≡ outflow old e time
+  pub queues : (e : ℕ) (link : Link) (time : ℚ) → IsLink net e link → Within 0ℚ (label old link.tail old.reached) time → queue new e time ≡ queue old e time
+
+-- each curve has one point, or its slopes change at each inner point
+pub record IsShortFlow (net : Network) (flow : Flow) : Type 0 where
+  pub labels : (v : ℕ) → v < net.nodes → IsShort (points_at flow.labels v)
+  pub inflows : (e : ℕ) → e < length net.links → IsShort (points_at (points_of flow.inflows) e)
+  pub outflows : (e : ℕ) → e < length net.links → IsShort (points_at (points_of flow.outflows) e)
+  pub queues : (e : ℕ) → e < length net.links → IsShort (points_at flow.queues e)
+
+-- a report is resumed: the run that stands at its end goes on, with its phases counted from there
+pub record IsResumed (passes : Passing) (net : Network) (bounds : Bounds) (old : Report) (last : Standing) (stop : Option (Cause ℚ)) : Type 0 where
+  pub first : Standing
+  pub stands : resume_list passes net old ≡ Ok (Stands first)
+  pub runs : RunsOn passes net bounds first last stop
+
+-- what is written of it, and how many phases it made
+pub record IsResumedReport (passes : Passing) (net : Network) (bounds : Bounds) (old : Report) (phases : ℕ) (report : Report) : Type 0 where
+  pub last : Standing
+  pub stop : Option (Cause ℚ)
+  pub run : IsResumed passes net bounds old last stop
+  pub made : last.made ≡ phases
+  pub report_is : report ≡ report_of bounds.horizon last stop
+
+-- ---- no operation of a table or verdict list passes
+-- in a phase: of the patterns that are tried
+abbrev pub NonePassesIn : (passes : Passing) (net : Network) (horizon : ℚ) (patterns : ℕ) (s t : Standing) → Goes passes net horizon patterns s t → Type 0
+NonePassesIn passes net horizon patterns s t g = (place : ℕ) (pattern : Pattern) → place ≤ g.place → HasPlace g.finds.search.is_search.listing place pattern
+    → IsOk (pattern_lists passes net (sets_at net s.labels) (rate_at net s.time) pattern)

@@ -1,0 +1,49 @@
+-- What the lists of loading by route give.
+use Rattle.std.specs.Prelude.{◌≡◌, true, List, ◌∷◌, ◌++◌, length, Ok}
+use Rattle.nf_rational.specs.Rational.{ℚ}
+use Rattle.nf_rational.specs.Operations.{0ℚ}
+use Rattle.nf_rational.specs.Order.{◌≤ℚ◌}
+use Rattle.nf_work.specs.Passing.{Passing}
+use Rattle.nf_model.specs.Curve.{Point, Within, value, IsCurve, IsShort}
+use Rattle.nf_model.specs.Network.{Network, IsNetwork}
+use Rattle.nf_routes_lists.specs.Routes.{Route, AreRoutes, HoldCircle, takes_all}
+use Rattle.nf_routes_lists.specs.RoutesList.{Routed, next_entry}
+use Rattle.nf_routes_lists.specs.Meanings.{IsRouted, RoutesArrive}
+
+-- no point of a curve is later
+abbrev pub NoneBeyond : List Point → ℚ → Type 0
+NoneBeyond points last = (front rest : List Point) (p : Point) → points ≡ front ++ p ∷ rest → p.0 ≤ℚ last
+
+-- What a route sends into a link by the times up to the last one, and the exits of that link: exits never fall, the first is not
+-- negative, and where two are equal, nothing was sent between.
+pub record CanShare (exit entry : List Point) (last : ℚ) : Type 0 where
+  pub entry_curve : IsCurve entry
+  pub exit_curve : IsCurve exit
+  pub from_0 : 0ℚ ≤ℚ last
+  pub entry_ends : NoneBeyond entry last
+  pub exit_ends : NoneBeyond exit last
+  pub begins : value entry 0ℚ ≡ 0ℚ
+  pub first_exit : 0ℚ ≤ℚ value exit 0ℚ
+  pub exits_rise : (earlier later : ℚ) → 0ℚ ≤ℚ earlier → earlier ≤ℚ later → later ≤ℚ last → value exit earlier ≤ℚ value exit later
+  pub shares : (earlier later : ℚ) → 0ℚ ≤ℚ earlier → earlier ≤ℚ later → later ≤ℚ last → value exit earlier ≡ value exit later → value entry earlier ≡ value entry later
+
+-- what it sends into its next link: by each exit what it had sent by the entry, and before the first exit and after the last one nothing
+pub record IsNext (exit entry : List Point) (last : ℚ) (next : List Point) : Type 0 where
+  pub curve : IsCurve next
+  pub form : IsShort next
+  pub at_exit : (time : ℚ) → Within 0ℚ last time → value next (value exit time) ≡ value entry time
+  pub before : (time : ℚ) → Within 0ℚ (value exit 0ℚ) time → value next time ≡ 0ℚ
+  pub after : (time : ℚ) → value exit last ≤ℚ time → value next time ≡ value entry last
+
+abbrev pub NextEntryShares : Type 0
+NextEntryShares = (passes : Passing) (exit entry next : List Point) (last : ℚ) → CanShare exit entry last → next_entry passes exit entry ≡ Ok next → IsNext exit entry last next
+
+-- what is loaded by route arrives
+abbrev pub LoadedRoutesArrive : Type 0
+LoadedRoutesArrive = (net : Network) (routes : List Route) (horizon : ℚ) (routed : Routed) → IsNetwork net → AreRoutes net routes → 0ℚ ≤ℚ horizon → IsRouted net routes horizon routed
+    → RoutesArrive net routes horizon routed
+
+-- the order of loading takes each link where no links stand in a circle, and else not
+pub record OrderTakesAll : Type 0 where
+  pub straight : (net : Network) (routes : List Route) → AreRoutes net routes → ¬ HoldCircle routes → takes_all (length net.links) routes ≡ true
+  pub circle : (net : Network) (routes : List Route) → AreRoutes net routes → takes_all (length net.links) routes ≡ true → ¬ HoldCircle routes

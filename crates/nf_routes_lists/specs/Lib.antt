@@ -1,0 +1,6 @@
+pub mod Routes
+pub mod RoutesFile
+pub mod RoutesList
+pub mod Meanings
+pub mod RoutesText
+pub mod RuleWords

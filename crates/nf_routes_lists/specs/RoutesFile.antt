@@ -1,0 +1,160 @@
+-- The routes file: which routes it gives in a network, or which rule it breaks first, and where.
+use Rattle.std.specs.Prelude.{ℕ, Bool, true, false, not, ◌&&◌, ◌||◌, ◌==◌, nat_le, if◌then◌else◌, List, [], ◌∷◌, ◌++◌, length, map, set, Option, Some, None, Result, Ok, Err, codes, slice_get}
+use Rattle.std.specs.List.{last_or, list_all}
+use Rattle.std.specs.Result.{result_ok}
+use Rattle.std.specs.Str.{bytes_eq}
+use Rattle.nf_rational.specs.Rational.{ℚ}
+use Rattle.nf_work.specs.Checked.{◌>>=◌}
+use Rattle.nf_lines.specs.Words.{ReadLine, read_lines, content_lines}
+use Rattle.nf_lines.specs.Faults.{LineFault, NotAscii, LongLine, first_fault}
+use Rattle.nf_numerals.specs.Numbers.{number_of}
+use Rattle.nf_model.specs.Network.{Piece, Link, Network}
+use Rattle.nf_formats.specs.Names.{Name, is_name, has_name, place_of}
+use Rattle.nf_formats.specs.Numbers.{greatest}
+use Rattle.nf_formats.specs.NetLines.{is_negative, is_not_after}
+use Rattle.nf_formats.specs.Named.{Named}
+use Rattle.nf_routes_lists.specs.declared.RoutesRule.{RoutesRule}
+use Rattle.nf_routes_lists.specs.declared.RoutesRule.TheVariants.{G1, G2, G3, G4, G5, G6, G7, G8, G9, G10, G11, G12, G13, G14, G15, G16, G17}
+use Rattle.nf_routes_lists.specs.Routes.{Route, takes_all}
+
+-- routes with their names, in the order of their lines
+pub record NamedRoute : Type 0 where
+  pub name : Name
+  pub route : Route
+
+-- a rule that is broken, and the line in which it is seen
+pub record RoutesBroken : Type 0 where
+  pub rule : RoutesRule
+  pub line : ℕ
+
+-- ---- what a line says by itself
+pub data RoutesEntry : Type 0 where
+  RouteLine : Name → List ℕ → RoutesEntry
+  RateLine : ℕ → Piece → RoutesEntry
+  End : RoutesEntry
+
+-- `route NAME LINK LINK ...`
+abbrev pub route_line : List Name → List (List ℕ) → Result RoutesEntry RoutesRule
+route_line links (name ∷ first ∷ rest) =
+    if not (is_name name) then Err G7
+    else (if list_all (has_name links) (first ∷ rest) then Ok (RouteLine name (map (place_of links) (first ∷ rest))) else Err G8)
+route_line links words = Err G6
+
+abbrev pub piece_entry : ℕ → Option ℚ → Option ℚ → Result RoutesEntry RoutesRule
+piece_entry r (Some start) (Some rate) = Ok (RateLine r (record { start = start; rate = rate }))
+piece_entry r start rate = Err G9
+
+-- `rate NAME START RATE`
+abbrev pub rate_line : List Name → List (List ℕ) → Result RoutesEntry RoutesRule
+rate_line routes (name ∷ start ∷ rate ∷ []) =
+    if has_name routes name then piece_entry (place_of routes name) (result_ok (number_of greatest start)) (result_ok (number_of greatest rate)) else Err G8
+rate_line routes words = Err G6
+
+abbrev pub end_line : List (List ℕ) → Result RoutesEntry RoutesRule
+end_line [] = Ok End
+end_line words = Err G6
+
+abbrev pub routes_entry : List Name → List Name → List (List ℕ) → Result RoutesEntry RoutesRule
+routes_entry links routes [] = Err G5
+routes_entry links routes (key ∷ words) =
+    if bytes_eq key (codes "route") then route_line links words
+    else (if bytes_eq key (codes "rate") then rate_line routes words
+    else (if bytes_eq key (codes "end") then end_line words else Err G5))
+
+-- ---- what the lines so far say, and whether there was an `end` line
+pub record RoutesDraft : Type 0 where
+  pub routes : List NamedRoute
+  pub ended : Bool
+
+abbrev pub route_names : List NamedRoute → List Name
+route_names routes = map (λ r. r.name) routes
+
+abbrev pub pieces_of : Option NamedRoute → List Piece
+pieces_of None = []
+pieces_of (Some r) = r.route.pieces
+
+abbrev pub pieces_at : List NamedRoute → ℕ → List Piece
+pieces_at routes r = pieces_of (slice_get routes r)
+
+-- ---- the links are a walk from one node to another
+abbrev pub tail_is : Option Link → ℕ → Bool
+tail_is None v = false
+tail_is (Some link) v = link.tail == v
+
+abbrev pub head_of : Option Link → ℕ
+head_of None = 0
+head_of (Some link) = link.head
+
+abbrev pub is_walk : List Link → List ℕ → ℕ → ℕ → Bool
+is_walk links [] v w = v == w
+is_walk links (e ∷ rest) v w = tail_is (slice_get links e) v && is_walk links rest (head_of (slice_get links e)) w
+
+abbrev pub first_rule : List (Bool × RoutesRule) → Option RoutesRule
+first_rule [] = None
+first_rule (test ∷ rest) = if test.0 then Some test.1 else first_rule rest
+
+abbrev pub routes_rule_of : Network → RoutesDraft → RoutesEntry → Option RoutesRule
+routes_rule_of net draft (RouteLine name links) = first_rule (
+    (has_name (route_names draft.routes) name, G10) ∷ (nat_le 100 (length draft.routes), G11)
+    ∷ (not (is_walk net.links links net.source net.sink), G12) ∷ [])
+routes_rule_of net draft (RateLine r piece) = first_rule (
+    (is_negative piece.start || is_negative piece.rate, G13)
+    ∷ (is_not_after piece.start (last_or None (pieces_at draft.routes r)), G14)
+    ∷ (nat_le 200 (length (pieces_at draft.routes r)), G15) ∷ [])
+routes_rule_of net draft End = None
+
+abbrev pub with_piece : Piece → Option NamedRoute → List NamedRoute → ℕ → List NamedRoute
+with_piece piece None routes r = routes
+with_piece piece (Some named) routes r =
+    set routes r (record { name = named.name; route = record { links = named.route.links; pieces = named.route.pieces ++ piece ∷ [] } })
+
+abbrev pub routes_after : RoutesDraft → RoutesEntry → RoutesDraft
+routes_after draft (RouteLine name links) = record draft { routes = draft.routes ++ record { name = name; route = record { links = links; pieces = [] } } ∷ [] }
+routes_after draft (RateLine r piece) = record draft { routes = with_piece piece (slice_get draft.routes r) draft.routes r }
+routes_after draft End = record draft { ended = true }
+
+abbrev pub unless_rule : Option RoutesRule → RoutesDraft → Result RoutesDraft RoutesRule
+unless_rule None draft = Ok draft
+unless_rule (Some rule) draft = Err rule
+
+abbrev pub add_route_line : Named → RoutesDraft → List (List ℕ) → Result RoutesDraft RoutesRule
+add_route_line n draft words = if draft.ended then Err G4
+    else (routes_entry n.link_names (route_names draft.routes) words >>= λ entry. unless_rule (routes_rule_of n.net draft entry) (routes_after draft entry))
+
+abbrev pub in_routes_line : ℕ → Result RoutesDraft RoutesRule → Result RoutesDraft RoutesBroken
+in_routes_line number (Ok draft) = Ok draft
+in_routes_line number (Err rule) = Err (record { rule = rule; line = number })
+
+abbrev pub add_route_lines : Named → RoutesDraft → List ReadLine → Result RoutesDraft RoutesBroken
+add_route_lines n draft [] = Ok draft
+add_route_lines n draft (line ∷ rest) = do
+  next ← in_routes_line line.number (add_route_line n draft line.words)
+  add_route_lines n next rest
+
+-- ---- the whole file
+abbrev pub is_routes_1 : List (List ℕ) → Bool
+is_routes_1 (key ∷ version ∷ []) = bytes_eq key (codes "routes") && bytes_eq version (codes "1")
+is_routes_1 words = false
+
+abbrev pub routes_draft : Named → List ReadLine → Result RoutesDraft RoutesBroken
+routes_draft n [] = Err (record { rule = G3; line = 1 })
+routes_draft n (line ∷ rest) = if is_routes_1 line.words then add_route_lines n (record { routes = []; ended = false }) rest else Err (record { rule = G3; line = line.number })
+
+abbrev pub is_ordered : Named → List NamedRoute → Bool
+is_ordered n routes = takes_all (length n.net.links) (map (λ r. r.route) routes)
+
+abbrev pub routes_closed : Named → RoutesDraft → Result (List NamedRoute) RoutesBroken
+routes_closed n draft = if not draft.ended then Err (record { rule = G16; line = 0 })
+    else (if is_ordered n draft.routes then Ok draft.routes else Err (record { rule = G17; line = 0 }))
+
+abbrev pub as_routes_rule : LineFault → RoutesBroken
+as_routes_rule (NotAscii line) = record { rule = G1; line = line }
+as_routes_rule (LongLine line) = record { rule = G2; line = line }
+
+abbrev pub routes_by_bytes : Option LineFault → Result (List NamedRoute) RoutesBroken → Result (List NamedRoute) RoutesBroken
+routes_by_bytes (Some fault) read = Err (as_routes_rule fault)
+routes_by_bytes None read = read
+
+-- the routes in the order of their lines; or the first rule that is broken, with its line
+unfoldable pub routes_in : Named → List ℕ → Result (List NamedRoute) RoutesBroken
+routes_in n text = routes_by_bytes (first_fault text) (routes_draft n (content_lines (read_lines text)) >>= routes_closed n)
