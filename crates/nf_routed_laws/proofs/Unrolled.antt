@@ -220,16 +220,16 @@ module _ (passes : Passing) (net : Network) (routes : List Route) (horizon : ℚ
     }
 
     -- entries are added at the end of those that are there
-    step-grows : (r : ℕ) (xs : List (List Point)) → slice_get s.entries r ≡ Some xs → (ys more : List (List Point)) × (slice_get next.entries r ≡ Some ys) × (ys ≡ xs ++ more)
+    step-grows : (r : ℕ) (xs : List (List Point)) → slice_get s.entries r ≡ Some xs → (ys : List (List Point)) × (more : List (List Point)) × (slice_get next.entries r ≡ Some ys) × (ys ≡ xs ++ more)
     step-grows r xs h =
         let below : r < length routes = (let b = slice_get_within s.entries r xs h in let c = standing.entry_count in omega arith) in
         let route : (route : Route) × (slice_get routes r ≡ Some route) = entry routes r below in
         by route.0 (route-done r route.0 route.1)
       where
-        by : (route : Route) → RouteDone front s e link next d r route → (ys more : List (List Point)) × (slice_get next.entries r ≡ Some ys) × (ys ≡ xs ++ more)
+        by : (route : Route) → RouteDone front s e link next d r route → (ys : List (List Point)) × (more : List (List Point)) × (slice_get next.entries r ≡ Some ys) × (ys ≡ xs ++ more)
         by route rd =
             let same : rd.was.entries ≡ xs = same_Some _ _ (sym rd.was.here ∙ h) in
-            subst (λ (l : List (List Point)). (ys more : List (List Point)) × (slice_get next.entries r ≡ Some ys) × (ys ≡ l ++ more)) same
+            subst (λ (l : List (List Point)). (ys : List (List Point)) × (more : List (List Point)) × (slice_get next.entries r ≡ Some ys) × (ys ≡ l ++ more)) same
             (⊎_elim
             (λ (o : Over passes e horizon route rd.was.entries rd.begun d.loaded.exit rd.was.n rd.after).
             (rd.after, o.begins.more ++ o.next ∷ [], rd.after_here, o.after_is ∙ ap (λ (l : List (List Point)). l ++ o.next ∷ []) o.begins.grown ∙ append_assoc rd.was.entries o.begins.more (o.next ∷ [])))
@@ -243,7 +243,7 @@ module _ (passes : Passing) (net : Network) (routes : List Route) (horizon : ℚ
 
     pub record Grows (front : List ℕ) (s : SoFar) : Type 0 where
       pub links : (f : ℕ) → In f front → slice_get final.links f ≡ slice_get s.links f
-      pub entries : (r : ℕ) (xs : List (List Point)) → slice_get s.entries r ≡ Some xs → (ys more : List (List Point)) × (slice_get final.entries r ≡ Some ys) × (ys ≡ xs ++ more)
+      pub entries : (r : ℕ) (xs : List (List Point)) → slice_get s.entries r ≡ Some xs → (ys : List (List Point)) × (more : List (List Point)) × (slice_get final.entries r ≡ Some ys) × (ys ≡ xs ++ more)
 
     loaded-is : (e : ℕ) (l : LoadedLink) → slice_get final.links e ≡ Some (Some l) → link_loaded routed e ≡ l.loaded
     loaded-is e l h = ap (λ (o : Option Loaded). unwrap_or o (record { queue = []; outflow = []; exit = [] })) (slice_get-image (loaded_or passes) final.links e (Some l) h)
@@ -282,9 +282,6 @@ module _ (passes : Passing) (net : Network) (routes : List Route) (horizon : ℚ
 
     module _ (front : List ℕ) (s : SoFar) (e : ℕ) (link : Link) (next : SoFar) (d : LinkDone s e link next) (standing : Standing front s) (new : In e front → ⊥) (led : (f : ℕ) → IsBefore routes f e → In f front)
         (is_link : IsLink net e link) (grows : Grows (front ++ e ∷ []) next) where
-      here : LoadedLink
-      here = record { end = end_by horizon (all_pairs routes) s.links e; loaded = d.loaded }
-
       below : e < length s.links
       below = let b = slice_get_within net.links e link is_link in let c = standing.link_count in omega arith
 
