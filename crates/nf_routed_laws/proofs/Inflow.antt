@@ -70,12 +70,12 @@ two_sums s n t a b e f = linear_eq (s ∷ n ∷ t ∷ a ∷ b ∷ []) (eq e ∷ 
 module _ (passes : Passing) (e : ℕ) where
   add-is : (b : Bool) (total entry sum : List Point) (added : ℚ → ℚ) → IsCurve total → (b ≡ true → IsCurve entry × ((t : ℚ) → 0ℚ ≤ℚ t → value entry t ≡ added t)) → (b ≡ false → (t : ℚ) → added t ≡ 0ℚ)
       → add_if passes b total entry ≡ Ok sum → IsSumWith total added sum
-  add-is true total entry sum added c yes no h =
-      let y = yes refl in
+  add-is true total entry sum added c goes past h =
+      let y = goes refl in
       let s : IsSumOf total entry sum = checked_sum-is passes total entry c y.0 sum h in
       record { curve = s.curve; values = λ t k. s.values t k ∙ ap (λ (z : ℚ). value total t +ℚ z) (y.1 t k) }
-  add-is false total entry sum added c yes no h =
-      subst (λ (l : List Point). IsSumWith total added l) (same_Ok _ _ h) (record { curve = c; values = λ t k. plus_none (value total t) (added t) (no refl t) })
+  add-is false total entry sum added c goes past h =
+      subst (λ (l : List Point). IsSumWith total added l) (same_Ok _ _ h) (record { curve = c; values = λ t k. plus_none (value total t) (added t) (past refl t) })
 
   pub sum-is : (total : List Point) (routes : List Route) (entries : List (List (List Point))) (entered : ℕ → ℕ → ℚ → ℚ) (inflow : List Point) → IsCurve total → Enters e routes entries entered
       → sum_from passes e total routes entries ≡ Ok inflow → IsSumWith total (λ t. sent_by_routes (λ r place. entered r place t) e routes) inflow

@@ -56,12 +56,12 @@ module _ (horizon : ℚ) (links : List (Option LoadedLink)) (e : ℕ) where
 
   one_over : (b : Bool) (p : ℕ × ℕ) (pairs : List (ℕ × ℕ)) (end : ℚ) → (b ≡ true → p.1 ≡ e) → (b ≡ false → p.1 ≢ e) → EndsOver pairs horizon e Exits end
       → EndsOver (p ∷ pairs) horizon e Exits (if b then max_ℚ (Exits p.0) end else end)
-  one_over false p pairs end yes no w = record {
+  one_over false p pairs end leads other w = record {
     horizon_by = w.horizon_by;
-    before = λ q k s. ⊎_elim (λ (v : q ≡ p). absurd (no refl (ap (λ (x : ℕ × ℕ). x.1) (sym v) ∙ s))) (λ (v : In q pairs). w.before q v s) k;
+    before = λ q k s. ⊎_elim (λ (v : q ≡ p). absurd (other refl (ap (λ (x : ℕ × ℕ). x.1) (sym v) ∙ s))) (λ (v : In q pairs). w.before q v s) k;
     taken = ⊎_elim (λ (v : end ≡ horizon). inl v) (λ (v : (q : ℕ × ℕ) × In q pairs × (q.1 ≡ e) × (end ≡ Exits q.0)). inr (v.0, inr v.1, v.2, v.3)) w.taken;
   }
-  one_over true p pairs end yes no w = ⊎_elim
+  one_over true p pairs end leads other w = ⊎_elim
       (λ (v : (max_ℚ (Exits p.0) end ≡ end) × (Exits p.0 ≤ℚ end)).
       subst (λ (x : ℚ). EndsOver (p ∷ pairs) horizon e Exits x) (sym v.0) (record {
         horizon_by = w.horizon_by;
@@ -72,19 +72,19 @@ module _ (horizon : ℚ) (links : List (Option LoadedLink)) (e : ℕ) where
       subst (λ (x : ℚ). EndsOver (p ∷ pairs) horizon e Exits x) (sym v.0) (record {
         horizon_by = ≤ℚ_trans _ _ _ w.horizon_by (≤ℚ_of_lt _ _ v.1);
         before = λ q k s. ⊎_elim (λ (u : q ≡ p). ≤ℚ_of_same _ _ (ap (λ (x : ℕ × ℕ). Exits x.0) u)) (λ (u : In q pairs). ≤ℚ_trans _ _ _ (w.before q u s) (≤ℚ_of_lt _ _ v.1)) k;
-        taken = inr (p, inl refl, yes refl, refl);
+        taken = inr (p, inl refl, leads refl, refl);
       }))
       (max_ℚ_cases (Exits p.0) end)
 
   over_pairs : (pairs : List (ℕ × ℕ)) → EndsOver pairs horizon e Exits (end_by horizon pairs links e)
   over_pairs [] = record { horizon_by = ≤ℚ_refl horizon; before = λ p k s. absurd k; taken = inl refl }
-  over_pairs (p ∷ pairs) = one_over (eqb p.1 e) p pairs (end_by horizon pairs links e) yes no (over_pairs pairs)
+  over_pairs (p ∷ pairs) = one_over (eqb p.1 e) p pairs (end_by horizon pairs links e) leads other (over_pairs pairs)
     where
-      yes : eqb p.1 e ≡ true → p.1 ≡ e
-      yes t = ⊎_elim (λ (w : (eqb p.1 e ≡ true) × (p.1 ≡ e)). w.1) (λ (w : (eqb p.1 e ≡ false) × (p.1 ≢ e)). absurd (not_both (eqb p.1 e) t w.0)) (eqb_tells p.1 e)
+      leads : eqb p.1 e ≡ true → p.1 ≡ e
+      leads t = ⊎_elim (λ (w : (eqb p.1 e ≡ true) × (p.1 ≡ e)). w.1) (λ (w : (eqb p.1 e ≡ false) × (p.1 ≢ e)). absurd (not_both (eqb p.1 e) t w.0)) (eqb_tells p.1 e)
 
-      no : eqb p.1 e ≡ false → p.1 ≢ e
-      no f = ⊎_elim (λ (w : (eqb p.1 e ≡ true) × (p.1 ≡ e)). absurd (not_both (eqb p.1 e) w.0 f)) (λ (w : (eqb p.1 e ≡ false) × (p.1 ≢ e)). w.1) (eqb_tells p.1 e)
+      other : eqb p.1 e ≡ false → p.1 ≢ e
+      other f = ⊎_elim (λ (w : (eqb p.1 e ≡ true) × (p.1 ≡ e)). absurd (not_both (eqb p.1 e) w.0 f)) (λ (w : (eqb p.1 e ≡ false) × (p.1 ≢ e)). w.1) (eqb_tells p.1 e)
 
   pub end_by-is : (routes : List Route) (exits : ℕ → ℚ) → ((f : ℕ) → IsBefore routes f e → exit_end (slice_get links f) ≡ exits f) → EndsBy routes horizon e exits (end_by horizon (all_pairs routes) links e)
   end_by-is routes exits same =

@@ -81,7 +81,7 @@ taken-in (f ∷ taken) e h = ⊎_elim
     (λ (w : (eqb f e ≡ false) × (f ≢ e)). inr (taken-in taken e (ap (λ (b : Bool). b || is_taken taken e) (sym w.0) ∙ h)))
     (eqb_tells f e)
 
-in-taken : (taken : List ℕ) (e : ℕ) → In e taken → is_taken taken e ≡ true
+pub in-taken : (taken : List ℕ) (e : ℕ) → In e taken → is_taken taken e ≡ true
 in-taken [] e h = absurd h
 in-taken (f ∷ taken) e h = ⊎_elim
     (λ (w : (eqb f e ≡ true) × (f ≡ e)). ap (λ (b : Bool). b || is_taken taken e) w.0)
