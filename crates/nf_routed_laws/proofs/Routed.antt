@@ -26,7 +26,7 @@ use Rattle.nf_routes_laws.proofs.Arriving.{walk-links, arrive}
 use Rattle.nf_routes_laws.proofs.Ordering.{In, all-at, in-range, taken-in, takes_all-straight}
 use Rattle.nf_routed_laws.proofs.Entries.{IsEntry, IsFirst}
 use Rattle.nf_routed_laws.proofs.Links.{LinkIs, links-are}
-use Rattle.nf_routed_laws.proofs.Stages.{length-but_last, exit_of-is}
+use Rattle.nf_routed_laws.proofs.Stages.{length-each, each-at, length-but_last, exit_of-is}
 use Rattle.nf_routed_laws.proofs.Steps.{Stands, stage}
 use Rattle.nf_routed_laws.proofs.Travels.{AreDepartures, departures-are, Passable, IsTravel, travel-is}
 use Rattle.nf_routed_laws.proofs.Unrolled.{order, routed, RouteStands, Unrolled, stages-are, unrolled}
@@ -34,26 +34,6 @@ use Rattle.nf_rational_laws.proofs.Chains.{≤ℚ_refl, ≤ℚ_trans}
 use Rattle.nf_plain_laws.proofs.Entries.{entry}
 use Rattle.nf_plain_laws.proofs.Naturals.{compared}
 use Rattle.nf_plain_laws.proofs.Results.{same_Ok}
-
--- ---- a computation for each
-pub length-each : {A B E : Type 0} (f : A → Result B E) (xs : List A) (ys : List B) → each f xs ≡ Ok ys → length ys ≡ length xs
-length-each f [] ys h = ap length (sym (same_Ok _ _ h))
-length-each f (x ∷ xs) ys h =
-    let y = then_ok (f x) _ ys h in
-    let rest = then_ok (each f xs) _ ys y.next in
-    ap length (sym (same_Ok _ _ rest.next)) ∙ ap suc (length-each f xs rest.between rest.first)
-
-pub each-at : {A B E : Type 0} (f : A → Result B E) (xs : List A) (ys : List B) (i : ℕ) (x : A) → each f xs ≡ Ok ys → slice_get xs i ≡ Some x → (y : B) × (slice_get ys i ≡ Some y) × (f x ≡ Ok y)
-each-at f [] ys i x h k = absurd (cc)
-each-at {A} {B} {E} f (z ∷ xs) ys zero x h k =
-    let y = then_ok (f z) _ ys h in
-    let rest = then_ok (each f xs) _ ys y.next in
-    (y.between, ap (λ (l : List B). slice_get l 0) (sym (same_Ok _ _ rest.next)), subst (λ (w : A). f w ≡ Ok y.between) (same_Some z x k) y.first)
-each-at {A} {B} {E} f (z ∷ xs) ys (suc i) x h k =
-    let y = then_ok (f z) _ ys h in
-    let rest = then_ok (each f xs) _ ys y.next in
-    let w = each-at f xs rest.between i x rest.first k in
-    (w.0, ap (λ (l : List B). slice_get l (suc i)) (sym (same_Ok _ _ rest.next)) ∙ w.1, w.2)
 
 -- ---- the order takes each link
 all-ordered : (passes : Passing) (net : Network) (routes : List Route) (horizon : ℚ) → AreRoutes net routes → (HoldCircle routes → ⊥) → (e : ℕ) → e < length net.links → In e (order passes net routes horizon)

@@ -12,7 +12,7 @@ use Rattle.nf_routes_lists.specs.RoutesList.{Routed, routes_list}
 use Rattle.nf_routes_lists.specs.Meanings.{link_loaded, sent_by, sent_by_routes, IsRouted, RoutesArrive}
 
 -- routes of a network that hold no circle, loaded by route up to a horizon
-pub record IsListed (net : Network) (routes : List Route) (horizon : ℚ) (routed : Routed) : Type 0 where
+pub record IsByList (net : Network) (routes : List Route) (horizon : ℚ) (routed : Routed) : Type 0 where
   pub network : IsNetwork net
   pub are_routes : AreRoutes net routes
   pub straight : ¬ HoldCircle routes
@@ -21,10 +21,10 @@ pub record IsListed (net : Network) (routes : List Route) (horizon : ℚ) (route
   pub is_list : routes_list passes net routes horizon ≡ Ok routed
 
 abbrev pub RoutesListIs : Type 0
-RoutesListIs = (net : Network) (routes : List Route) (horizon : ℚ) (routed : Routed) → IsListed net routes horizon routed → IsRouted net routes horizon routed
+RoutesListIs = (net : Network) (routes : List Route) (horizon : ℚ) (routed : Routed) → IsByList net routes horizon routed → IsRouted net routes horizon routed
 
 abbrev pub RoutesListArrives : Type 0
-RoutesListArrives = (net : Network) (routes : List Route) (horizon : ℚ) (routed : Routed) → IsListed net routes horizon routed → RoutesArrive net routes horizon routed
+RoutesListArrives = (net : Network) (routes : List Route) (horizon : ℚ) (routed : Routed) → IsByList net routes horizon routed → RoutesArrive net routes horizon routed
 
 -- what the routes over a link send on is what it lets out, up to one transit time after its end
 abbrev pub NextsAreOutflow : Type 0
