@@ -19,7 +19,7 @@ use Rattle.nf_curve_lists.specs.Times.{times_of, both_times}
 use Rattle.nf_curve_lists.specs.Values.{checked_cut}
 use Rattle.nf_curve_lists.specs.Short.{turning, short_points, checked_slopes, checked_short}
 use Rattle.nf_curve_lists.specs.Sums.{sides_at}
-use Rattle.nf_curve_laws.proofs.Operations.{then_ok, is_same_cases}
+use Rattle.nf_curve_laws.proofs.Operations.{then_ok}
 use Rattle.nf_curve_laws.proofs.Following.{end_time, EndsAtTime, follows-end}
 use Rattle.nf_curve_laws.proofs.Pieces.{AreSides, sides_at-is}
 use Rattle.nf_curve_laws.proofs.Short.{times-up_to, checked_short-end}
@@ -168,9 +168,9 @@ next_from-upto last y [] a t w = absurd w
 next_from-upto last y (s ∷ rest) a t w = by (is_same last s.right) w (λ x v. next_from-upto x y rest a.1 t v)
   where
     by : (b : Bool) → IsOne t (times_of (elim b [
-          | true ↦ next_from last rest
-          | false ↦ (s.right, s.left) ∷ next_from s.right rest
-        ])) → ((x : ℚ) → IsOne t (times_of (next_from x rest)) → t ≤ℚ y) → t ≤ℚ y
+      | true ↦ next_from last rest
+      | false ↦ (s.right, s.left) ∷ next_from s.right rest
+    ])) → ((x : ℚ) → IsOne t (times_of (next_from x rest)) → t ≤ℚ y) → t ≤ℚ y
     by true w later = later last w
     by false (inl e) later = ≤ℚ_trans _ _ _ (≤ℚ_of_same t s.right e) a.0
     by false (inr w) later = later s.right w

@@ -96,9 +96,11 @@ module _ (passes : Passing) (e : ℕ) where
       here over =
           let p = over-place x.links e over in
           let g = w.each 0 p.0 x refl p.1 in
-          let same : g.0 ≡ y = sym (same_Some y g.0 g.1) in
-          (subst (λ (l : List (List Point)). IsCurve (last_entry l)) same g.2, λ t k.
-          ap (λ (l : List (List Point)). value (last_entry l) t) (sym same) ∙ g.3 t ∙ sym (along-once (λ q. entered 0 q t) e x.links p.0 p.1 (λ q j. w.once 0 p.0 q x refl p.1 j)))
+          let same : g.0 ≡ y = sym (same_Some y g.0 g.1) in (
+            subst (λ (l : List (List Point)). IsCurve (last_entry l)) same g.2,
+            λ t k.
+                ap (λ (l : List (List Point)). value (last_entry l) t) (sym same) ∙ g.3 t ∙ sym (along-once (λ q. entered 0 q t) e x.links p.0 p.1 (λ q j. w.once 0 p.0 q x refl p.1 j)),
+          )
 
       none : goes_over x.links e ≡ false → (t : ℚ) → sent_along (λ p. entered 0 p t) e x.links ≡ 0ℚ
       none past t = along-none (λ p. entered 0 p t) e x.links (λ p k. absurd (not_both (goes_over x.links e) (over-at x.links p e k) past))

@@ -1,6 +1,5 @@
 -- Each link as it is loaded: what routes send into it and on, its queue, exit and outflow by the law of the point queue, and its end.
-use Rattle.std.proofs.Common.{◌≡◌, ℕ, zero, suc, ◌<◌, List, [], ◌∷◌, ◌++◌, length, ◌⊎◌, inl, inr, ⊎_elim, Option, Some, slice_get, refl, sym, ap, subst, ◌∙◌, append_assoc, arith}
-use Rattle.std.specs.Prelude.{Ok}
+use Rattle.std.proofs.Common.{◌≡◌, ℕ, zero, suc, List, [], ◌∷◌, ◌++◌, inl, inr, ⊎_elim, Some, slice_get, refl, sym, ap, subst, ◌∙◌, append_assoc, arith}
 use Rattle.std.proofs.lemmas.Option.{slice_get_within}
 use Rattle.nf_rational.specs.Rational.{ℚ}
 use Rattle.nf_rational.specs.Operations.{0ℚ, ◌+ℚ◌}
@@ -21,17 +20,17 @@ use Rattle.nf_load_lists.specs.Meanings.{IsLoaded}
 use Rattle.nf_load_laws.proofs.Loading.{checked_loading-is}
 use Rattle.nf_check_lists.specs.Curves.{last_value}
 use Rattle.nf_routes_lists.specs.Routes.{Route, AreRoutes, IsBefore}
-use Rattle.nf_routes_lists.specs.RoutesList.{SoFar, Routed, last_entry}
+use Rattle.nf_routes_lists.specs.RoutesList.{SoFar, Routed}
 use Rattle.nf_routes_lists.specs.Meanings.{link_loaded, exit_by, entry_at, sent_by, sent_by_routes, inflow_by, IsEnd}
 use Rattle.nf_routes_laws.specs.Laws.{CanShare, IsNext}
-use Rattle.nf_routes_laws.proofs.Arriving.{Each, routes-le, routes-none}
+use Rattle.nf_routes_laws.proofs.Arriving.{routes-le, routes-none}
 use Rattle.nf_routes_laws.proofs.Ordering.{In, in-either, placed}
 use Rattle.nf_routes_laws.proofs.Sharing.{shares-equal}
 use Rattle.nf_routed_laws.proofs.Ends.{UpTo, upto-none, ends-upto, last-at_end, loading-ends}
 use Rattle.nf_routed_laws.proofs.Entries.{IsEntry, entry-longer, rises-same, IsFirst, first-is, shared, next-is}
 use Rattle.nf_routed_laws.proofs.Inflow.{Enters, IsSumWith, sum-is}
 use Rattle.nf_routed_laws.proofs.Stages.{none_more}
-use Rattle.nf_routed_laws.proofs.Unrolled.{many, order, routed, RouteOver, LinkStep, EndsBy}
+use Rattle.nf_routed_laws.proofs.Unrolled.{many, order, routed, LinkStep}
 use Rattle.nf_rational_laws.proofs.Chains.{≤ℚ_refl, ≤ℚ_trans}
 use Rattle.nf_plain_laws.proofs.Entries.{entry}
 

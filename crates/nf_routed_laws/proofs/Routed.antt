@@ -1,14 +1,14 @@
 -- What the list of loading by route gives is the loading by route.
-use Rattle.std.proofs.Common.{◌≡◌, ◌≢◌, ℕ, zero, suc, ◌+◌, ◌<◌, ◌≤◌, List, [], ◌∷◌, length, ◌⊎◌, ⊎_elim, Option, Some, None, slice_get, unwrap_or, refl, sym, ap, subst, ◌∙◌, arith}
-use Rattle.std.specs.Prelude.{Ok, map, Result}
+use Rattle.std.proofs.Common.{◌≡◌, ℕ, zero, suc, ◌+◌, ◌<◌, List, [], ◌∷◌, length, ◌⊎◌, ⊎_elim, Option, Some, None, slice_get, unwrap_or, sym, ap, subst, ◌∙◌, arith}
+use Rattle.std.specs.Prelude.{Ok, map}
 use Rattle.std.specs.List.{range_with_len}
 use Rattle.std.proofs.lemmas.List.{length-map}
-use Rattle.std.proofs.lemmas.Option.{same_Some, slice_get_within}
+use Rattle.std.proofs.lemmas.Option.{slice_get_within}
 use Rattle.nf_rational.specs.Rational.{ℚ}
 use Rattle.nf_rational.specs.Operations.{0ℚ, ◌+ℚ◌}
 use Rattle.nf_rational.specs.Order.{◌≤ℚ◌}
 use Rattle.nf_work.specs.Passing.{Passing}
-use Rattle.nf_work.specs.Checked.{each, ◌>>=◌}
+use Rattle.nf_work.specs.Checked.{each}
 use Rattle.nf_model.specs.Curve.{Point, Within, value}
 use Rattle.nf_model.specs.Entries.{number_at}
 use Rattle.nf_model.specs.Walk.{IsWalk}
@@ -18,7 +18,7 @@ use Rattle.nf_model_laws.proofs.Earliest.{IsPositive-link}
 use Rattle.nf_model_laws.proofs.Networks.{IsLink-unique}
 use Rattle.nf_model_laws.proofs.Queues.{IsExit-after, IsOutflow-unique, IsQueue-same, IsExit-same, IsOutflow-same}
 use Rattle.nf_check_lists.specs.Curves.{departures}
-use Rattle.nf_routes_lists.specs.Routes.{Route, AreRoutes, HoldCircle, IsBefore, is_taken, all_pairs, loading_order, takes_all}
+use Rattle.nf_routes_lists.specs.Routes.{Route, AreRoutes, HoldCircle, is_taken, loading_order, takes_all}
 use Rattle.nf_routes_lists.specs.RoutesList.{SoFar, Routed, loaded_or, end_or, but_last, last_entry, load_all, exit_of, travel_on, routes_list}
 use Rattle.nf_routes_lists.specs.Meanings.{link_loaded, exit_by, stages_at, entry_at, travel_at, sent_by, sent_by_routes, inflow_by, exits_along, IsRouted}
 use Rattle.nf_curve_laws.proofs.Operations.{then_ok}
@@ -27,7 +27,7 @@ use Rattle.nf_routes_laws.proofs.Ordering.{In, all-at, in-range, taken-in, takes
 use Rattle.nf_routed_laws.proofs.Entries.{IsEntry, IsFirst}
 use Rattle.nf_routed_laws.proofs.Links.{LinkIs, links-are}
 use Rattle.nf_routed_laws.proofs.Stages.{length-each, each-at, length-but_last, exit_of-is}
-use Rattle.nf_routed_laws.proofs.Steps.{Stands, stage}
+use Rattle.nf_routed_laws.proofs.Steps.{stage}
 use Rattle.nf_routed_laws.proofs.Travels.{AreDepartures, departures-are, Passable, IsTravel, travel-is}
 use Rattle.nf_routed_laws.proofs.Unrolled.{order, routed, RouteStands, Unrolled, stages-are, unrolled}
 use Rattle.nf_rational_laws.proofs.Chains.{≤ℚ_refl, ≤ℚ_trans}

@@ -1,6 +1,6 @@
 -- Lists by their numbers: the entries of a route so far, what a step makes of them, and what is known of links so far.
-use Rattle.std.proofs.Common.{◌≡◌, ◌≢◌, ℕ, zero, suc, List, [], ◌∷◌, ◌++◌, ◌<◌, length, inl, inr, ⊎_elim, Bool, true, false, eqb, Option, Some, None, slice_get, unwrap_or, set, refl, sym, ap, subst, ◌∙◌, arith}
-use Rattle.std.specs.Prelude.{Result, Ok, map, if◌then◌else◌}
+use Rattle.std.proofs.Common.{◌≡◌, ◌≢◌, ℕ, zero, suc, List, [], ◌∷◌, ◌++◌, ◌<◌, length, inl, inr, ⊎_elim, true, false, eqb, Option, Some, None, slice_get, unwrap_or, set, refl, sym, ap, subst, ◌∙◌, arith}
+use Rattle.std.specs.Prelude.{Result, Ok, map}
 use Rattle.std.proofs.lemmas.Bool.Decides.{eqb_tells}
 use Rattle.std.proofs.lemmas.Option.{same_Some}
 use Rattle.nf_rational.specs.Rational.{ℚ}
@@ -129,8 +129,7 @@ module _ (passes : Passing) where
   begun-at horizon e (x ∷ routes) [] begun r route xs h i j = absurd (cc)
   begun-at horizon e (x ∷ routes) (y ∷ entries) begun zero route xs h i j =
       let here = then_ok (begin_if passes (begins_with x.links e) horizon x y) _ begun h in
-      let later = then_ok (begin_all passes horizon e routes entries) _ begun here.next in
-      (
+      let later = then_ok (begin_all passes horizon e routes entries) _ begun here.next in (
         here.between,
         ap (λ (l : List (List (List Point))). slice_get l 0) (sym (same_Ok _ _ later.next)),
         subst (λ (z : Route). begin_if passes (begins_with z.links e) horizon z xs ≡ Ok here.between) (same_Some x route i)
@@ -158,8 +157,7 @@ module _ (passes : Passing) where
   next-at e exit (x ∷ routes) [] after r route xs h i j = absurd (cc)
   next-at e exit (x ∷ routes) (y ∷ entries) after zero route xs h i j =
       let here = then_ok (next_if passes (goes_over x.links e) exit y) _ after h in
-      let later = then_ok (next_all passes e exit routes entries) _ after here.next in
-      (
+      let later = then_ok (next_all passes e exit routes entries) _ after here.next in (
         here.between,
         ap (λ (l : List (List (List Point))). slice_get l 0) (sym (same_Ok _ _ later.next)),
         subst (λ (z : Route). next_if passes (goes_over z.links e) exit xs ≡ Ok here.between) (same_Some x route i)

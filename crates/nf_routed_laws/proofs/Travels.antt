@@ -13,7 +13,6 @@ use Rattle.nf_model_laws.proofs.Affine.{same_from_times}
 use Rattle.nf_model_laws.proofs.Curves.{value-line, slope-times}
 use Rattle.nf_lists.specs.Signs.{is_zero}
 use Rattle.nf_curve_lists.specs.Composed.{checked_composed}
-use Rattle.nf_curve_lists.specs.Short.{checked_short}
 use Rattle.nf_curve_lists.specs.Meanings.{IsComposedOf, IsShortOf}
 use Rattle.nf_curve_laws.proofs.Composed.{checked_composed-is}
 use Rattle.nf_curve_laws.proofs.Operations.{then_ok, is_same_cases}
@@ -21,7 +20,7 @@ use Rattle.nf_curve_laws.proofs.Short.{checked_short-is}
 use Rattle.nf_check_lists.specs.Curves.{departures}
 use Rattle.nf_routes_lists.specs.RoutesList.{LoadedLink, Routed, exit_of, travel_on}
 use Rattle.nf_routes_lists.specs.Meanings.{link_loaded, exit_by, exits_along}
-use Rattle.nf_rational_laws.proofs.Chains.{≤ℚ_refl, ≤ℚ_trans}
+use Rattle.nf_rational_laws.proofs.Chains.{≤ℚ_refl}
 
 -- ---- the departures themselves
 strictly : (x : ℚ) → 0ℚ ≤ℚ x → x ≢ 0ℚ → 0ℚ <ℚ x

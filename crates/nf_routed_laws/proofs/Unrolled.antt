@@ -1,5 +1,5 @@
 -- What the list has done for each link of the order, said of its result.
-use Rattle.std.proofs.Common.{◌≡◌, ◌≢◌, ℕ, zero, suc, ◌+◌, ◌<◌, ◌≤◌, List, [], ◌∷◌, ◌++◌, length, ◌⊎◌, inl, inr, ⊎_elim, Bool, true, false, eqb, Option, Some, None, slice_get, unwrap_or, set, length-set, refl, sym, ap, subst, ◌∙◌, append_assoc, arith}
+use Rattle.std.proofs.Common.{◌≡◌, ◌≢◌, ℕ, zero, suc, ◌<◌, List, [], ◌∷◌, ◌++◌, length, ◌⊎◌, inl, inr, ⊎_elim, Bool, true, false, eqb, Option, Some, None, slice_get, unwrap_or, set, length-set, refl, sym, ap, subst, ◌∙◌, append_assoc, arith}
 use Rattle.std.specs.Prelude.{Ok, map, if◌then◌else◌}
 use Rattle.std.specs.List.{range_with_len}
 use Rattle.std.proofs.lemmas.Bool.Decides.{eqb_tells}
@@ -20,9 +20,9 @@ use Rattle.nf_routes_lists.specs.Routes.{Route, all_pairs, IsBefore, first_free,
 use Rattle.nf_routes_lists.specs.RoutesList.{LoadedLink, SoFar, Routed, exit_end, end_by, begins_with, goes_over, last_entry, but_last, begin_if, begin_all, sum_from, next_if, next_all, next_entry, load_here, load_all, end_or, loaded_or}
 use Rattle.nf_routes_lists.specs.Meanings.{link_loaded, stages_at, arrival_at, entry_at}
 use Rattle.nf_curve_laws.proofs.Operations.{then_ok}
-use Rattle.nf_routes_laws.proofs.Ordering.{In, in-front, in-back, in-either, range-below, free-some, before-pair, before-of, placed}
+use Rattle.nf_routes_laws.proofs.Ordering.{In, in-front, in-back, range-below, free-some, before-pair, before-of, placed}
 use Rattle.nf_routed_laws.proofs.Stages.{none_more, get-front, get-next, set-same, set-other, get-last, at-stage, exit_end-is, begun-count, begun-at, next-count, next-at, over-at, over-place}
-use Rattle.nf_routed_laws.proofs.Steps.{Stands, stage, stands-none, place-is, stands-over, stands-past, IsGiven, Begun, Over, over-is, past-is}
+use Rattle.nf_routed_laws.proofs.Steps.{Stands, stage, stands-none, place-is, stands-over, stands-past, IsGiven, Over, over-is, past-is}
 use Rattle.nf_rational_laws.proofs.Chains.{≤ℚ_refl, ≤ℚ_trans}
 use Rattle.nf_plain_laws.proofs.Entries.{entry, slice_get-image}
 use Rattle.nf_plain_laws.proofs.Results.{same_Ok, not_both}

@@ -1,5 +1,5 @@
 -- What the list of loading by route gives.
-use Rattle.std.specs.Prelude.{◌≡◌, ℕ, suc, List, length, Ok}
+use Rattle.std.specs.Prelude.{◌≡◌, ℕ, suc, List, Ok}
 use Rattle.nf_rational.specs.Rational.{ℚ}
 use Rattle.nf_rational.specs.Operations.{0ℚ, ◌+ℚ◌}
 use Rattle.nf_rational.specs.Order.{◌≤ℚ◌}

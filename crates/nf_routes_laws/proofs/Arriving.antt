@@ -59,7 +59,7 @@ along-none f e (l ∷ links) h = if_none (eqb l e) (f 0) _ (λ t. h 0 (ap (λ (x
 abbrev pub Each : List Route → ℕ → (ℕ → ℕ → Type 0) → Type 0
 Each routes e P = (r place : ℕ) (route : Route) → slice_get routes r ≡ Some route → slice_get route.links place ≡ Some e → P r place
 
-pub routes-same : (f g : ℕ → ℕ → ℚ) (e : ℕ) (routes : List Route) → Each routes e (λ r place. f r place ≡ g r place) → sent_by_routes f e routes ≡ sent_by_routes g e routes
+routes-same : (f g : ℕ → ℕ → ℚ) (e : ℕ) (routes : List Route) → Each routes e (λ r place. f r place ≡ g r place) → sent_by_routes f e routes ≡ sent_by_routes g e routes
 routes-same f g e [] h = refl
 routes-same f g e (route ∷ routes) h = plus_same _ _ _ _ (along-same (f 0) (g 0) e route.links (λ p k. h 0 p route refl k)) (routes-same (λ r. f (suc r)) (λ r. g (suc r)) e routes (λ r p x k l. h (suc r) p x k l))
 
@@ -82,7 +82,7 @@ takes (p ∷ rest) last y c h i j =
     (subst (λ (z : ℚ). z ≤ℚ y) (ap (value (p ∷ rest)) (sym c.0) ∙ value-first p rest c.1) i) j in
     (w.0, (subst (λ (z : ℚ). z ≤ℚ w.0) c.0 w.1, w.2), w.3)
 
-pub none-beyond : {A : Type 0} (xs : List A) (i : ℕ) → length xs ≤ i → slice_get xs i ≡ None
+none-beyond : {A : Type 0} (xs : List A) (i : ℕ) → length xs ≤ i → slice_get xs i ≡ None
 none-beyond [] zero h = refl
 none-beyond [] (suc i) h = refl
 none-beyond (x ∷ xs) zero h = absurd (omega arith)

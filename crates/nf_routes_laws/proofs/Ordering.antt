@@ -333,7 +333,7 @@ module _ (routes : List Route) (many : ℕ) where
               (λ (v : In e (f ∷ taken)). ⊎_elim (λ (w : e ≡ f). inl (w ∙ same)) (λ (w : In e taken). inr (in-back e front taken w)) v)
               (in-either e front (f ∷ taken) k)
 
-  pub split : (xs : List ℕ) (e : ℕ) → In e xs → (front : List ℕ) × (back : List ℕ) × (xs ≡ front ++ e ∷ back)
+  split : (xs : List ℕ) (e : ℕ) → In e xs → (front : List ℕ) × (back : List ℕ) × (xs ≡ front ++ e ∷ back)
   split [] e h = absurd h
   split (x ∷ xs) e (inl k) = ([], xs, ap (λ (y : ℕ). y ∷ xs) (sym k))
   split (x ∷ xs) e (inr k) = let r = split xs e k in (x ∷ r.0, r.1, ap (λ (l : List ℕ). x ∷ l) r.2)
