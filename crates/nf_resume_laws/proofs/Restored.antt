@@ -1,24 +1,22 @@
 -- What a run keeps, of a run that is restored from a cut flow.
-use Rattle.std.proofs.Common.{◌≡◌, ℕ, zero, suc, ◌<◌, List, [], ◌∷◌, ◌++◌, length, Option, Some, None, slice_get, map, sym, ap, subst, refl, ◌∙◌, arith}
-use Rattle.std.specs.Prelude.{Result, Ok, Err}
-use Rattle.std.proofs.lemmas.Option.{slice_get_within}
-use Rattle.std.proofs.lemmas.List.{length-map}
+use Rattle.std.proofs.Common.{◌≡◌, ℕ, zero, suc, List, [], ◌∷◌, length, Option, Some, None, slice_get, map, sym, ap, subst, refl, ◌∙◌, arith}
+use Rattle.std.specs.Prelude.{Result, Ok}
 use Rattle.nf_rational.specs.Rational.{ℚ}
 use Rattle.nf_work.specs.Passing.{Passing}
-use Rattle.nf_work.specs.Checked.{Checked, each}
-use Rattle.nf_model.specs.Curve.{Point, slope, AreSlopes}
+use Rattle.nf_work.specs.Checked.{each}
+use Rattle.nf_model.specs.Curve.{Point}
 use Rattle.nf_model.specs.Network.{Network, IsNetwork}
 use Rattle.nf_model.specs.Pattern.{Pattern}
-use Rattle.nf_model.specs.Equilibrium.{Trace, Flow, HasSlopes, Equilibrium}
+use Rattle.nf_model.specs.Equilibrium.{Trace, Flow, Equilibrium}
 use Rattle.nf_lists.specs.ReportCurves.{GrowingCurve, LinkCurves}
 use Rattle.nf_lists.specs.PhaseRun.{Standing, flow_of}
 use Rattle.nf_curve_lists.specs.Lines.{checked_slope}
 use Rattle.nf_curve_laws.proofs.Operations.{then_ok, checked_slope-is}
-use Rattle.nf_phase_laws.specs.CurveRun.{Curves, curves_of}
+use Rattle.nf_phase_laws.specs.CurveRun.{curves_of}
 use Rattle.nf_phase_laws.proofs.CurveRun.{Grown}
 use Rattle.nf_run_laws.proofs.Points.{EndsWithSlope, LastSlope}
 use Rattle.nf_run_laws.proofs.WellRun.{WellRun}
-use Rattle.nf_resume_lists.specs.Restoring.{value_at_end, link_curves_of, standing_of, last_slope, growing, restore_list}
+use Rattle.nf_resume_lists.specs.Restoring.{value_at_end, link_curves_of, standing_of, last_slope, growing}
 use Rattle.nf_resume_laws.proofs.CutFlow.{each_length, IsCutFlow}
 use Rattle.nf_resume_laws.proofs.Restarted.{Grown-cut}
 use Rattle.nf_plain_laws.proofs.Results.{same_Ok}
