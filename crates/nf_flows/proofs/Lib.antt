@@ -1,0 +1,2 @@
+pub mod FlowWords
+pub mod FlowsRead
