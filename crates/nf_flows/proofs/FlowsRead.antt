@@ -1,5 +1,5 @@
 -- The reading of a text from that of its lines and of the file as a whole.
-use Rattle.std.proofs.Common.{◌≡◌, ℕ, ◌+◌, ◌<◌, List, [], ◌∷◌, length, drop, get_or, Option, Some, None, Result, Ok, Err, refl, sym, ap, subst, ◌∙◌}
+use Rattle.std.proofs.Common.{◌≡◌, ℕ, ◌+◌, ◌<◌, List, [], ◌∷◌, length, drop, get_or, Option, Some, None, Result, Ok, Err, MatchResult, refl, sym, ap, subst, ◌∙◌}
 use Rattle.std.proofs.lemmas.List.{at_drop_more}
 use Rattle.nf_work.specs.Checked.{◌>>=◌}
 use Rattle.nf_lines.specs.Words.{ReadLine, read_lines, content_lines}
@@ -10,7 +10,8 @@ use Rattle.nf_formats.specs.Named.{Named}
 use Rattle.nf_complete_lists.specs.declared.FlowsRule.{FlowsRule}
 use Rattle.nf_complete_lists.specs.FlowsFile.{FlowsDraft, FlowsBroken, GivenFlows, add_flows, in_flows_line, add_flows_lines, flows_draft, if_ended, flows_by_bytes, flows_in}
 use Rattle.nf_flows.specs.declared.fault.FlowsFault.{FlowsFault}
-use Rattle.nf_flows.specs.Files.{IfBroken, fault_of_text}
+use Rattle.nf_flows.specs.declared.flows.Flows.{Flows}
+use Rattle.nf_flows.specs.Files.{given_of, IfBroken, fault_of_text}
 
 -- of a rule that is broken, what follows
 pub broken_more : (fault : FlowsFault) (P Q : FlowsBroken → Type 0) → ((broken : FlowsBroken) → P broken → Q broken) → IfBroken fault P → IfBroken fault Q
@@ -46,3 +47,9 @@ module _ (n : Named) (text : List ℕ) where
         ap (λ (o : Option LineFault). flows_by_bytes o (flows_draft n (content_lines (read_lines text)) >>= if_ended)) fine
         ∙ ap (λ (ls : List ReadLine). flows_draft n ls >>= if_ended) (sym same)
         ∙ ap (λ (r : Result FlowsDraft FlowsBroken). r >>= if_ended) e
+
+-- the same answer of an equal reading
+pub answers : (result : Result Flows FlowsFault) (read other : Result GivenFlows FlowsBroken) → other ≡ read
+    → MatchResult result (λ flows. read ≡ Ok (given_of flows)) (λ fault. IfBroken fault (λ broken. read ≡ Err broken))
+    → MatchResult result (λ flows. other ≡ Ok (given_of flows)) (λ fault. IfBroken fault (λ broken. other ≡ Err broken))
+answers result read other e h = subst (λ (r : Result GivenFlows FlowsBroken). MatchResult result (λ flows. r ≡ Ok (given_of flows)) (λ fault. IfBroken fault (λ broken. r ≡ Err broken))) (sym e) h

@@ -65,8 +65,8 @@ fn read_draft(alloc: Global, net: &Network, lines: &[ReadLine]) -> Result<Draft,
 pub fn parse_flows(alloc: Global, net: &Network, text: &[u8]) -> Result<Flows, FlowsFault>
     requires { length text.now ≤ longest_text }
     ensures reads { MatchResult result (λ flows. flows_in net.now text.now ≡ Ok (given_of flows)) (λ fault. IfBroken fault (λ broken. flows_in net.now text.now ≡ Err broken)) }
-    ensures flows { IfOk result (λ flows. length flows.flows.items ≡ length net.now.net.links) }
-    ensures slopes { IfOk result (λ flows. length flows.slopes.items ≡ net.now.net.nodes) }
+    ensures links { IfOk result (λ flows. length flows.flows.items ≡ length net.now.net.links) }
+    ensures nodes { IfOk result (λ flows. length flows.slopes.items ≡ net.now.net.nodes) }
 {
     // For the proof: each link and each node has a name.
     let _ = net.version();
