@@ -1,5 +1,5 @@
 -- Drafts in which nothing is given.
-use Rattle.std.proofs.Common.{◌≡◌, ℕ, false, List, length, map, replicate, Option, None, sym, ap, ◌∙◌}
+use Rattle.std.proofs.Common.{◌≡◌, ℕ, false, List, length, map, replicate, Option, None, ◌∙◌}
 use Rattle.std.proofs.lemmas.Simd.{splat_is_map}
 use Rattle.nf_rational.specs.Rational.{ℚ}
 use Rattle.nf_formats.specs.Names.{Name}

@@ -1,5 +1,5 @@
 -- What a line of a flows file says, as the definitions have it.
-use Rattle.std.specs.Prelude.{ℕ, ◌<◌, length, Result, Ok, Err}
+use Rattle.std.specs.Prelude.{◌<◌, length, Result, Ok, Err}
 use Rattle.nf_formats.specs.Named.{Named}
 use Rattle.nf_complete_lists.specs.declared.FlowsRule.{FlowsRule}
 use Rattle.nf_complete_lists.specs.FlowsFile as file

@@ -95,7 +95,7 @@ rules_out : (test : Bool) (rule : RoutesRule) (rest : List (Bool × RoutesRule))
 rules_out true rule rest e = absurd (cc)
 rules_out false rule rest e = (refl, e)
 
-pub not_false : (b : Bool) → not b ≡ false → b ≡ true
+not_false : (b : Bool) → not b ≡ false → b ≡ true
 not_false true e = refl
 not_false false e = absurd (cc)
 

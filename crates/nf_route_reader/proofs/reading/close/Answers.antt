@@ -3,7 +3,7 @@ use Rattle.nf_routes_lists.specs.Routes.{takes_all}
 use Rattle.nf_routes_lists.specs.RoutesFile.{NamedRoute}
 use Rattle.nf_route.specs.Kept.{routes_of}
 use Rattle.nf_route_reader.specs.Drafts.{seen_draft}
-use Rattle.nf_route_reader.proofs.Soundness.{not_false, kept_routes}
+use Rattle.nf_route_reader.proofs.Soundness.{kept_routes}
 use Rattle.nf_route_reader.proofs.reading.close.Goals as goal
 
 pub kept-requires : goal.kept-requires
@@ -11,4 +11,4 @@ kept-requires c =
     kept_routes c.args.net.now (seen_draft c.args.draft) c.requires
     (ap (λ (k : ℕ). takes_all k (routes_of c.args.draft.routes.items)) (sym c.link_count.ensures)
     ∙ ap (λ (l : List NamedRoute). takes_all c.link_count.result (routes_of l)) (sym c.deref.ensures.value)
-    ∙ sym c.in_ok-takes_all.ensures ∙ not_false c.in_ok-takes_all.field-0 c.if-not-branch.false)
+    ∙ sym c.in_ok-takes_all.ensures ∙ c.if-not-branch.false)

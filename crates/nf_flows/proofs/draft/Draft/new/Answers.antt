@@ -1,4 +1,4 @@
-use Rattle.std.proofs.Common.{rules, ℕ, List, replicate, Option, None, ap, ◌∙◌}
+use Rattle.std.proofs.Common.{rules, ℕ, replicate, Option, None, ap, ◌∙◌}
 use Rattle.nf_rational.specs.Rational.{ℚ}
 use Rattle.nf_flows.proofs.Nothing.{nothing_given}
 use Rattle.nf_flows.proofs.draft.Draft.new.Goals as goal
