@@ -51,7 +51,8 @@ impl Case {
             return Ok(());
         }
         if let Some(title) = line.strip_prefix("== routes: ") {
-            self.files.push(GivenFile::new(alloc, title, Kind::Routes)?)?;
+            self.files
+                .push(GivenFile::new(alloc, title, Kind::Routes)?)?;
             return Ok(());
         }
         match self.files.last_mut() {

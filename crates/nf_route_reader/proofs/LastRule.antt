@@ -1,5 +1,5 @@
 -- The last rule is broken by a circle, and by nothing else.
-use Rattle.std.proofs.Common.{◌≡◌, ◌≢◌, ℕ, Bool, true, false, not, ◌||◌, nat_le, List, [], ◌∷◌, length, map, Option, Some, None, Result, Ok, Err, MatchResult, IfErr, refl, sym, ap, ◌∙◌, codes, bytes_eq}
+use Rattle.std.proofs.Common.{◌≡◌, ◌≢◌, ℕ, Bool, true, false, not, ◌||◌, nat_le, List, [], ◌∷◌, length, map, Option, Some, None, Result, Ok, Err, MatchResult, IfErr, refl, ap, ◌∙◌, codes, bytes_eq}
 use Rattle.std.specs.Prelude.{if◌then◌else◌}
 use Rattle.std.specs.List.{last_or, list_all}
 use Rattle.std.specs.Result.{result_ok}
@@ -15,7 +15,7 @@ use Rattle.nf_formats.specs.NetLines.{is_negative, is_not_after}
 use Rattle.nf_formats.specs.Named.{Named}
 use Rattle.nf_plain_laws.proofs.Results.{same_Err, not_both}
 use Rattle.nf_routes_lists.specs.declared.RoutesRule.{RoutesRule}
-use Rattle.nf_routes_lists.specs.declared.RoutesRule.TheVariants.{G1, G2, G3, G4, G5, G6, G7, G8, G9, G10, G11, G12, G13, G14, G15, G16, G17}
+use Rattle.nf_routes_lists.specs.declared.RoutesRule.TheVariants.{G1, G2, G3, G4, G5, G7, G8, G10, G11, G12, G13, G14, G15, G16, G17}
 use Rattle.nf_routes_lists.specs.RoutesFile.{RoutesBroken, NamedRoute, RoutesEntry, RouteLine, RateLine, End, RoutesDraft, route_names, pieces_at, is_walk, route_line, piece_entry, rate_line, end_line, routes_entry, routes_rule_of, routes_after, unless_rule, add_route_line, in_routes_line, add_route_lines, is_routes_1, routes_draft, is_ordered, routes_closed, as_routes_rule, routes_by_bytes, routes_in}
 use Rattle.nf_route.specs.Kept.{routes_of}
 use Rattle.nf_routes_laws.proofs.Ordering.{takes_all-straight}

@@ -1,5 +1,5 @@
 -- Links that words name, one after the other, and walks along them.
-use Rattle.std.proofs.Common.{◌≡◌, ℕ, ◌+◌, ◌<◌, ◌≤◌, Bool, true, false, ◌&&◌, eqb, List, [], ◌∷◌, ◌++◌, length, drop, map, get_or, Option, Some, All, slice_get, refl, sym, ap, ◌∙◌, arith}
+use Rattle.std.proofs.Common.{◌≡◌, ℕ, ◌+◌, ◌<◌, ◌≤◌, Bool, false, ◌&&◌, eqb, List, [], ◌∷◌, ◌++◌, length, drop, map, get_or, Option, Some, All, slice_get, sym, ap, ◌∙◌}
 use Rattle.std.specs.List.{list_all}
 use Rattle.std.proofs.lemmas.List.{drop_more, at_drop_all, at_drop_more, append_assoc, append-nil}
 use Rattle.std.proofs.lemmas.List.Elements.{All-push}

@@ -1,10 +1,9 @@
 -- What lines that break no rule give: walks from source to sink, and pieces, of not too many routes.
-use Rattle.std.proofs.Common.{◌≡◌, ◌≢◌, ℕ, zero, suc, ◌+◌, ◌<◌, ◌≤◌, ◌⊎◌, ⊎_elim, Bool, true, false, not, ◌&&◌, ◌||◌, eqb, nat_le, List, [], ◌∷◌, ◌++◌, length, map, set, get_or, Option, Some, None, All, slice_get, Result, Ok, Err, refl, sym, ap, subst, ◌∙◌, arith}
-use Rattle.std.specs.Prelude.{if◌then◌else◌}
+use Rattle.std.proofs.Common.{◌≡◌, ◌≢◌, ℕ, zero, suc, ◌<◌, ◌≤◌, ⊎_elim, Bool, true, false, not, ◌||◌, eqb, nat_le, List, [], ◌∷◌, ◌++◌, length, set, get_or, Option, Some, None, All, slice_get, Result, Ok, Err, refl, sym, ap, subst, ◌∙◌, arith}
 use Rattle.std.specs.List.{last_or}
 use Rattle.std.proofs.lemmas.Bool.{or_parts, and_parts, leb-false}
 use Rattle.std.proofs.lemmas.Bool.Decides.{eqb_tells}
-use Rattle.std.proofs.lemmas.List.{length-append, length-map}
+use Rattle.std.proofs.lemmas.List.{length-append}
 use Rattle.std.proofs.lemmas.List.Elements.{All-nil, All-push, All-set, All-get_or, All-map, All-weaker}
 use Rattle.std.proofs.lemmas.Option.{slice_get-get_or, slice_get_within}
 use Rattle.nf_rational.specs.Rational.{ℚ}
@@ -23,8 +22,8 @@ use Rattle.nf_plain_laws.proofs.Results.{same_Ok, not_both}
 use Rattle.nf_readings_laws.proofs.Outcomes.{no_err, both_ok, where_true, where_false}
 use Rattle.nf_routes_lists.specs.declared.RoutesRule.{RoutesRule}
 use Rattle.nf_routes_lists.specs.declared.RoutesRule.TheVariants.{G3, G4, G10, G11, G12, G13, G14, G15}
-use Rattle.nf_routes_lists.specs.Routes.{Route, AreRoutes, takes_all}
-use Rattle.nf_routes_lists.specs.RoutesFile.{NamedRoute, RoutesBroken, RoutesEntry, RouteLine, RateLine, End, RoutesDraft, route_names, pieces_of, with_piece, is_walk, tail_is, head_of, first_rule, routes_entry, routes_rule_of, routes_after, unless_rule, add_route_line, in_routes_line, add_route_lines, is_routes_1, routes_draft}
+use Rattle.nf_routes_lists.specs.Routes.{Route, takes_all}
+use Rattle.nf_routes_lists.specs.RoutesFile.{NamedRoute, RoutesEntry, RouteLine, RateLine, End, RoutesDraft, route_names, pieces_of, with_piece, is_walk, tail_is, head_of, first_rule, routes_entry, routes_rule_of, routes_after, unless_rule, add_route_line, in_routes_line, add_route_lines, is_routes_1, routes_draft}
 use Rattle.nf_route.specs.Kept.{routes_of, AreKept}
 use Rattle.nf_route_reader.proofs.RouteSteps.{longer}
 use Rattle.nf_route_reader.specs.Drafts.{rule_behind, IsSound}

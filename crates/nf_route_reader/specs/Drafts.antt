@@ -1,5 +1,5 @@
 -- What the lines of a routes file say, as the definitions have it.
-use Rattle.std.specs.Prelude.{ℕ, ◌||◌, ◌≤◌, nat_le, List, [], ◌∷◌, length, Option, None}
+use Rattle.std.specs.Prelude.{◌||◌, ◌≤◌, nat_le, List, [], ◌∷◌, length, Option, None}
 use Rattle.std.specs.List.{last_or}
 use Rattle.nf_model.specs.Network.{Piece}
 use Rattle.nf_formats.specs.Named.{Named}

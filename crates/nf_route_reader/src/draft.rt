@@ -113,7 +113,12 @@ impl Draft {
     }
 
     /// Adds what a line says, or answers the first of G4 to G15 that it breaks.
-    pub fn add_line(&mut self, alloc: Global, net: &Network, line: &ReadLine) -> Result<(), LineFault>
+    pub fn add_line(
+        &mut self,
+        alloc: Global,
+        net: &Network,
+        line: &ReadLine,
+    ) -> Result<(), LineFault>
         ensures { MatchResult result (λ _. add_route_line net.now (seen_draft self.old) line.now.words ≡ Ok (seen_draft self.new))
             (λ fault. IfRule fault (λ rule. add_route_line net.now (seen_draft self.old) line.now.words ≡ Err rule)) }
     {

@@ -6,9 +6,11 @@ use Rattle.nf_route_reader.proofs.entry.read_links.Goals as goal
 
 pub returns-in_default : goal.returns-in_default
 returns-in_default c =
-    let lt : c.loop-place.place < length c.args.line.now.words = omega (arith, c.len-place-end.ensures) in
-    (refl, none_there c.args.net.now.link_names c.args.line.now.words c.loop-place.place c.loop-place.links.items c.loop-place.invariant lt
-    (ap (has_name c.args.net.now.link_names) (sym c.at.ensures) ∙ c.in_default.ensures))
+    let lt : c.loop-place.place < length c.args.line.now.words = omega (arith, c.len-place-end.ensures) in (
+      refl,
+      none_there c.args.net.now.link_names c.args.line.now.words c.loop-place.place c.loop-place.links.items c.loop-place.invariant lt
+          (ap (has_name c.args.net.now.link_names) (sym c.at.ensures) ∙ c.in_default.ensures),
+    )
 
 pub loop-place-preserved : goal.loop-place-preserved
 loop-place-preserved c =

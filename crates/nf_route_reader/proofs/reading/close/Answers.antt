@@ -1,4 +1,4 @@
-use Rattle.std.proofs.Common.{◌≡◌, ℕ, true, List, length, sym, ap, ◌∙◌}
+use Rattle.std.proofs.Common.{ℕ, List, sym, ap, ◌∙◌}
 use Rattle.nf_routes_lists.specs.Routes.{takes_all}
 use Rattle.nf_routes_lists.specs.RoutesFile.{NamedRoute}
 use Rattle.nf_route.specs.Kept.{routes_of}
