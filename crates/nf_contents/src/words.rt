@@ -6,7 +6,7 @@ ghost use Rattle.nf_numerals.specs.Numbers as numerals;
 ghost use Rattle.nf_formats.specs.Names as names;
 ghost use Rattle.nf_formats.specs.Names.{has_name, is_name_byte};
 ghost use Rattle.nf_formats.specs.Numbers.{greatest};
-ghost use Rattle.nf_contents.specs.Named.{IsNamed};
+ghost use Rattle.nf_contents.specs.NameAt.{IsNameAt};
 
 use nf_frac::Q;
 use nf_net::{LONGEST_NAME, LinkId, Network, NodeId};
@@ -14,7 +14,7 @@ use nf_net::{LONGEST_NAME, LinkId, Network, NodeId};
 /// The link that a word names; None exactly where no link has the name, idle links aside.
 #[tactic(auto, using(crate::proofs::NamesOf::link_is_there, crate::proofs::NamesOf::no_link_text))]
 pub fn link_of(net: &Network, word: &[u8]) -> Option<LinkId>
-    ensures { MatchOption result (has_name net.now.link_names word.now ≡ false) (λ link. IsNamed net.now.link_names word.now link) }
+    ensures { MatchOption result (has_name net.now.link_names word.now ≡ false) (λ link. IsNameAt net.now.link_names word.now link) }
 {
     // For the proof: names of links differ.
     let _ = net.version();
@@ -27,7 +27,7 @@ pub fn link_of(net: &Network, word: &[u8]) -> Option<LinkId>
 /// The node that a word names; None exactly where no node has the name, idle nodes aside.
 #[tactic(auto, using(crate::proofs::NamesOf::node_is_there, crate::proofs::NamesOf::no_node_text))]
 pub fn node_of(net: &Network, word: &[u8]) -> Option<NodeId>
-    ensures { MatchOption result (has_name net.now.node_names word.now ≡ false) (λ node. IsNamed net.now.node_names word.now node) }
+    ensures { MatchOption result (has_name net.now.node_names word.now ≡ false) (λ node. IsNameAt net.now.node_names word.now node) }
 {
     // For the proof: names of nodes differ.
     let _ = net.version();

@@ -6,7 +6,7 @@ use Rattle.nf_numerals.specs.Numbers.{number_of}
 use Rattle.nf_formats.specs.Names.{Name, has_name, place_of}
 use Rattle.nf_formats.specs.Numbers.{greatest}
 use Rattle.nf_cursor.specs.Within.{word_at}
-use Rattle.nf_contents.specs.Named.{IsNamed}
+use Rattle.nf_contents.specs.NameAt.{IsNameAt}
 use Rattle.nf_complete_lists.specs.declared.FlowsRule.{FlowsRule}
 use Rattle.nf_complete_lists.specs.declared.FlowsRule.TheVariants.{S6, S7}
 use Rattle.nf_complete_lists.specs.FlowsFile.{FlowsEntry, End, number_entry, named_line, end_line, is_flows_1}
@@ -33,7 +33,7 @@ module _ (make : ℕ → ℚ → FlowsEntry) (names : List Name) where
   pub not_named : (words : List (List ℕ)) → length words ≡ 3 → has_name names (word_at words 1) ≡ false → named_line make names (drop 1 words) ≡ Err S7
   not_named words n e = count_right words n ∙ ap (λ (b : Bool). by_name words b (place_of names (word_at words 1))) e
 
-  pub named : (words : List (List ℕ)) (place : ℕ) → length words ≡ 3 → IsNamed names (word_at words 1) place
+  pub named : (words : List (List ℕ)) (place : ℕ) → length words ≡ 3 → IsNameAt names (word_at words 1) place
       → named_line make names (drop 1 words) ≡ number_entry (make place) (result_ok (number_of greatest (word_at words 2)))
   named words place n is =
       count_right words n

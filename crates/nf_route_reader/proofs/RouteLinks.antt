@@ -7,7 +7,7 @@ use Rattle.std.proofs.lemmas.Option.{unwrap_or-slice_get}
 use Rattle.nf_model.specs.Network.{Link}
 use Rattle.nf_formats.specs.Names.{Name, has_name, place_of}
 use Rattle.nf_cursor.specs.Within.{word_at}
-use Rattle.nf_contents.specs.Named.{IsNamed}
+use Rattle.nf_contents.specs.NameAt.{IsNameAt}
 use Rattle.nf_routes_lists.specs.RoutesFile.{is_walk, tail_is, head_of}
 use Rattle.nf_route_reader.specs.Entries.{AreLinksOf}
 
@@ -32,7 +32,7 @@ module _ (names : List Name) (words : List (List ℕ)) (place : ℕ) (links : Li
     pub none_there : has_name names (word_at words place) ≡ false → list_all (has_name names) (drop 2 words) ≡ false
     none_there e = sym are.there ∙ ap (list_all (has_name names)) (drop_word words place lt) ∙ ap (λ (b : Bool). b && list_all (has_name names) (drop (place + 1) words)) e
 
-    pub one_more : (link next : ℕ) → IsNamed names (word_at words place) link → next ≡ place + 1 → AreRead names words next (links ++ link ∷ [])
+    pub one_more : (link next : ℕ) → IsNameAt names (word_at words place) link → next ≡ place + 1 → AreRead names words next (links ++ link ∷ [])
     one_more link next is e = record {
       there = ap (λ (k : ℕ). list_all (has_name names) (drop k words)) e
           ∙ sym (ap (list_all (has_name names)) (drop_word words place lt) ∙ ap (λ (b : Bool). b && list_all (has_name names) (drop (place + 1) words)) is.there)

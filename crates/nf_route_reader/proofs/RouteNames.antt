@@ -10,7 +10,7 @@ use Rattle.nf_plain_laws.proofs.Entries.{slice_get-image}
 use Rattle.nf_formats.specs.Names.{Name, is_name, has_name, place_of, name_at}
 use Rattle.nf_formats_laws.proofs.NameFacts.{same_names, has_at}
 use Rattle.nf_net.proofs.NameText.{name_is_text}
-use Rattle.nf_contents.specs.Named.{IsNamed}
+use Rattle.nf_contents.specs.NameAt.{IsNameAt}
 use Rattle.nf_routes_lists.specs.RoutesFile.{NamedRoute, route_names}
 
 -- what isn't text is no name
@@ -42,7 +42,7 @@ module _ (name : Name) where
   pub not_found : (routes : List NamedRoute) → position has_it routes ≡ None → has_name (route_names routes) name ≡ false
   not_found routes e = none_has routes (sym (unwrap_or_position has_it routes) ∙ ap (λ (o : Option ℕ). unwrap_or o (length routes)) e)
 
-  pub found : (routes : List NamedRoute) (place : ℕ) → position has_it routes ≡ Some place → IsNamed (route_names routes) name place
+  pub found : (routes : List NamedRoute) (place : ℕ) → position has_it routes ≡ Some place → IsNameAt (route_names routes) name place
   found routes place e =
       let none : NamedRoute = record { name = []; route = record { links = []; pieces = [] } } in
       let first = position-Some has_it routes place none e in

@@ -6,7 +6,7 @@ use Rattle.nf_numerals.specs.Numbers.{number_of}
 use Rattle.nf_formats.specs.Names.{Name, is_name, has_name, place_of}
 use Rattle.nf_formats.specs.Numbers.{greatest}
 use Rattle.nf_cursor.specs.Within.{word_at}
-use Rattle.nf_contents.specs.Named.{IsNamed}
+use Rattle.nf_contents.specs.NameAt.{IsNameAt}
 use Rattle.nf_routes_lists.specs.declared.RoutesRule.{RoutesRule}
 use Rattle.nf_routes_lists.specs.declared.RoutesRule.TheVariants.{G6, G7, G8}
 use Rattle.nf_routes_lists.specs.RoutesFile.{RoutesEntry, RouteLine, End, route_line, piece_entry, rate_line, end_line, is_routes_1}
@@ -74,7 +74,7 @@ module _ (names : List Name) where
   pub rate_unknown : (words : List (List ℕ)) → length words ≡ 4 → has_name names (word_at words 1) ≡ false → rate_line names (drop 1 words) ≡ Err G8
   rate_unknown words n e = rate_is words n ∙ ap (λ (b : Bool). by_name words b (place_of names (word_at words 1))) e
 
-  pub rate_known : (words : List (List ℕ)) (place : ℕ) → length words ≡ 4 → IsNamed names (word_at words 1) place
+  pub rate_known : (words : List (List ℕ)) (place : ℕ) → length words ≡ 4 → IsNameAt names (word_at words 1) place
       → rate_line names (drop 1 words) ≡ piece_entry place (result_ok (number_of greatest (word_at words 2))) (result_ok (number_of greatest (word_at words 3)))
   rate_known words place n is =
       rate_is words n

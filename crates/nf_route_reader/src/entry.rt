@@ -3,7 +3,7 @@ ghost use Rattle.std.specs.Prelude.{◌≡◌, ℕ, ◌<◌, ◌≤◌, true, fa
 ghost use Rattle.std.specs.Str.{bytes_eq};
 ghost use Rattle.nf_formats.specs.Names as names;
 ghost use Rattle.nf_formats.specs.Names.{has_name};
-ghost use Rattle.nf_contents.specs.Named.{IsNamed};
+ghost use Rattle.nf_contents.specs.NameAt.{IsNameAt};
 ghost use Rattle.nf_routes_lists.specs.declared.RoutesRule.TheVariants.{G8};
 ghost use Rattle.nf_routes_lists.specs.RoutesFile.{route_names, route_line, rate_line, end_line, routes_entry};
 ghost use Rattle.nf_route_reader.specs.Entries.{AreLinksOf, NoLinks, Says, Fits, HasLinks};
@@ -46,7 +46,7 @@ fn first_named(routes: &[Route], name: &[u8]) -> Option<usize>
 /// The place of the route of a name; None exactly where there is none.
 #[tactic(auto, using(crate::proofs::RouteNames::found, crate::proofs::RouteNames::not_found))]
 pub fn place_of(routes: &[Route], name: &[u8]) -> Option<usize>
-    ensures named { MatchOption result (has_name (route_names routes.now) name.now ≡ false) (λ place. IsNamed (route_names routes.now) name.now place) }
+    ensures named { MatchOption result (has_name (route_names routes.now) name.now ≡ false) (λ place. IsNameAt (route_names routes.now) name.now place) }
     ensures within { IfSome result (λ place. place < length routes.now) }
 {
     first_named(routes, name)
