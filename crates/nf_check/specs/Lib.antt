@@ -5,3 +5,4 @@ pub mod Kept
 pub mod Given
 pub mod Sent
 pub mod Steps
+pub mod Departures
