@@ -6,3 +6,4 @@ pub mod Given
 pub mod Sent
 pub mod Steps
 pub mod Departures
+pub mod Exits
