@@ -26,7 +26,7 @@ last_time-end [] = refl
 last_time-end (p ∷ []) = refl
 last_time-end (p ∷ q ∷ rest) = last_time-end (q ∷ rest)
 
-end-append : (points : List Point) (p : Point) → end_of (points ++ p ∷ []) ≡ p.0
+pub end-append : (points : List Point) (p : Point) → end_of (points ++ p ∷ []) ≡ p.0
 end-append points p = ap (λ (o : Option Point). option_map_or (λ q. q.0) o 0ℚ) (last-append None points p)
 
 pub value-append : (points : List Point) (p : Point) → p.1 ≡ end_value (points ++ p ∷ [])

@@ -1,6 +1,6 @@
 -- A phase that is found leads on: what making it needs, and what it comes to.
 use Rattle.std.proofs.Common.{◌≡◌, ℕ, suc, List, [], ◌∷◌, length, sym, ap, subst, refl, ◌∙◌}
-use Rattle.std.specs.Prelude.{Some, slice_get}
+use Rattle.std.specs.Prelude.{Bool, true, false, Some, slice_get, MatchBool}
 use Rattle.nf_rational.specs.Rational.{ℚ}
 use Rattle.nf_rational.specs.Operations.{0ℚ, ◌+ℚ◌}
 use Rattle.nf_rational.specs.Order.{◌<ℚ◌}
@@ -23,8 +23,10 @@ use Rattle.nf_run_laws.proofs.StepValues.{steps-length}
 use Rattle.nf_run_laws.proofs.Run.{IsPhase-goes, Equilibrium-well}
 use Rattle.nf_run_laws.proofs.Standing.{label_count_at, source_label_at, ends_at}
 use Rattle.nf_run_laws.proofs.Moving.{inflow_moves, outflow_moves, queue_steps}
+use Rattle.nf_resume_lists.specs.Open.{Continues, Steps, continues, begins}
 use Rattle.nf_phase.specs.declared.phase.Phase.{Phase}
-use Rattle.nf_phase.specs.Stepping.{Reaches, goes_on, LeadsOnlyTo}
+use Rattle.nf_phase.specs.Restarting.{after_rest}
+use Rattle.nf_phase.specs.Stepping.{Reaches, goes_on, keeps_on, LeadsOnlyTo}
 use Rattle.nf_phase.specs.Finding.{step_in, after_phase, LeadsOn}
 use Rattle.nf_phase.specs.LinkGrowth.{AllLinksEndBefore}
 use Rattle.nf_phase.proofs.Reached.{Stands, Stands-reached}
@@ -44,6 +46,20 @@ module _ (passes : Passing) (net : Network) (good : IsNetwork net) (s : Standing
   only_phase horizon patterns t g =
       let is = IsPhase-goes passes net good (record { horizon = horizon; phases = 0; patterns = patterns }) s t g stands.well in
       record { is_phase = is; only = λ other is_other. sym (IsPhase-unique net horizon good (reached_by s) (reached_by t) other is is_other) }
+
+  -- ---- one phase more
+  pub reaches_step : (horizon : ℚ) (patterns : ℕ) (t : Standing) → Steps passes net horizon patterns s t → Reaches passes net t
+  reaches_step horizon patterns _ (continues c g) = keeps_on horizon patterns reaches c g
+  reaches_step horizon patterns t (begins c g) = goes_on horizon patterns reaches g
+
+  pub only_step : (horizon : ℚ) (patterns : ℕ) (t : Standing) → Steps passes net horizon patterns s t → LeadsOnlyTo net horizon (reached_by s) (reached_by t)
+  only_step horizon patterns _ (continues {t = t} c g) = only_phase horizon patterns t g
+  only_step horizon patterns t (begins c g) = only_phase horizon patterns t g
+
+-- one that goes on with none that was cut short is a phase of the run
+pub begin_step : (passes : Passing) (net : Network) (horizon : ℚ) (patterns : ℕ) (s t : Standing) → (Continues net s → ⊥) → Steps passes net horizon patterns s t → Goes passes net horizon patterns s t
+begin_step passes net horizon patterns s _ no (continues c g) = absurd (no c)
+begin_step passes net horizon patterns s t no (begins c g) = g
 
 -- curves that are the same make the same standing
 pub same_standing : (s t : Standing) (label_curves : List GrowingCurve) (link_curves : List LinkCurves) → s ≡ t → label_curves ≡ s.label_curves → link_curves ≡ s.link_curves
@@ -71,6 +87,10 @@ module _ (passes : Passing) (net : Network) (good : IsNetwork net) (horizon : �
     is_length = leads.is_length;
     new_is = e;
   }
+
+  pub steps_made : (rests : Bool) → MatchBool rests (Continues net s) (Continues net s → ⊥) → (t : Standing) → t ≡ after_rest rests net s phase → Steps passes net horizon patterns s t
+  steps_made true c t e = subst (Steps passes net horizon patterns s) (sym e) (continues c (goes_made next refl))
+  steps_made false c t e = begins c (goes_made t e)
 
   abbrev there : Stands net next
   there = Stands-reached passes net good next (goes_on horizon patterns reaches (goes_made next refl))

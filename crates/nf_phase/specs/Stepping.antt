@@ -7,16 +7,21 @@ use Rattle.nf_model.specs.Phases.{IsPhase}
 use Rattle.nf_formats.specs.declared.Cause.{Cause}
 use Rattle.nf_formats.specs.declared.Cause.TheVariants as Cause
 use Rattle.nf_lists.specs.PhaseRun.{Standing, IsStart, Goes, Fails}
+use Rattle.nf_resume_lists.specs.Open.{Continues, with_last}
 use Rattle.nf_forever_lists.specs.Tails.{Tail}
 use Rattle.nf_forever_lists.specs.ForeverRun.{FailsOn}
 use Rattle.nf_thin.specs.declared.searches.SearchFault.TheVariants as SearchFault
 use Rattle.nf_thin.specs.declared.searches.Thin.{Thin}
 use Rattle.nf_phase.specs.declared.fault.StepFault.{StepFault}
+use Rattle.nf_phase.specs.Restarting.{IsRestored}
 
--- a run begins at departure 0, and goes on phase by phase, each to a horizon and with a budget of patterns of its own
+-- A run begins at departure 0, or it is restored from a flow. It goes on phase by phase, each to a horizon and with a budget of
+-- patterns of its own; one that goes on with a phase cut short may keep the last pattern.
 pub data Reaches (passes : Passing) (net : Network) : Standing → Type 0 where
   starts : {s : Standing} → IsStart net s → Reaches passes net s
+  restored : {s : Standing} → IsRestored passes net s → Reaches passes net s
   goes_on : (horizon : ℚ) (patterns : ℕ) {s new : Standing} → Reaches passes net s → Goes passes net horizon patterns s new → Reaches passes net new
+  keeps_on : (horizon : ℚ) (patterns : ℕ) {s new : Standing} → Reaches passes net s → Continues net s → Goes passes net horizon patterns s new → Reaches passes net (with_last s.last new)
 
 -- the cause for which a fault stands, where the phase of this number isn't made, is one of these; wanting memory says nothing, and is
 -- never a search's

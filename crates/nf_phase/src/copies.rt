@@ -5,7 +5,7 @@ ghost use Rattle.nf_model.specs.Curve.{IsCurve};
 use nf_curve::Curve;
 use std::alloc::{AllocError, Global};
 
-// The first points of a curve, so many of them.
+/// The first points of a curve, so many of them.
 pub(crate) fn first_points(alloc: Global, curve: &Curve, count: usize) -> Result<Curve, AllocError>
     requires curve { IsCurve curve.now.points }
     requires some { 0 < count }

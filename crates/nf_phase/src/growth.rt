@@ -1,13 +1,17 @@
 // The curves of all nodes and links, as they grow.
 ghost use Rattle.std.specs.Prelude.{◌≡◌, [], ◌∷◌, ◌++◌, length, map, IfOk, OnOk};
+ghost use Rattle.nf_work.specs.declared.Part.TheVariants.{Curve as CurvePart};
+ghost use Rattle.nf_work.specs.Passing.{passes_Q};
+ghost use Rattle.nf_work.specs.Checked.{at_part, each, Gives};
 ghost use Rattle.nf_curve.specs.Flows.{trace_of};
 ghost use Rattle.nf_lists.specs.ReportCurves.{first_label_curve, label_curves_after};
+ghost use Rattle.nf_resume_lists.specs.Restoring.{growing};
 ghost use Rattle.nf_phase.specs.Growing.{all_grown, AllHaveRoom, AllEndBefore};
 
 use crate::growing::GrowingCurve;
 use crate::link_curves::LinkCurves;
 use nf_curve::{Curve, Flow, Trace};
-use nf_frac::Q;
+use nf_frac::{Halt, Q};
 use std::alloc::{AllocError, Global};
 
 /// The curves of the nodes before the first phase, with these labels of departure 0.
@@ -19,6 +23,18 @@ pub(crate) fn first_labels(alloc: Global, labels: &[Q]) -> Result<Vec<GrowingCur
         curves.push(GrowingCurve::start(alloc, *label)?)?;
     }
     Ok(curves)
+}
+
+/// Curves that go on where these end. Passed comes exactly at the first operation of their list that passes, and has part Curve.
+pub(crate) fn restore_labels(alloc: Global, curves: &[Curve]) -> Result<Vec<GrowingCurve>, Halt<Q>>
+    ensures { Gives (λ grown. all_grown grown.items) (λ q. q) result (at_part CurvePart (each (growing passes_Q) (map (λ c. c.points) curves.now))) }
+{
+    let mut grown = Vec::new(alloc);
+    for curve in curves {
+        let next = GrowingCurve::of(alloc, curve)?;
+        grown.push(next)?;
+    }
+    Ok(grown)
 }
 
 /// Afterwards there is room for one more corner of each curve. The curves stay, also where memory is wanting.

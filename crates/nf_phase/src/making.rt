@@ -5,6 +5,7 @@ ghost use Rattle.nf_model.specs.Entries.{number_at};
 ghost use Rattle.nf_formats.specs.WellNamed.{IsNamed};
 ghost use Rattle.nf_phase.specs.Stepping.{Reaches};
 ghost use Rattle.nf_phase.specs.Finding.{LeadsOn, after_phase};
+ghost use Rattle.nf_phase.specs.Restarting.{after_rest};
 
 use crate::growth::{labels_go_on, reserve_labels, reserve_links};
 use crate::link_growth::links_go_on;
@@ -12,7 +13,7 @@ use crate::phase::Phase;
 use crate::run::Run;
 use nf_frac::Q;
 use nf_net::Network;
-use std::alloc::AllocError;
+use std::alloc::{AllocError, Global};
 
 // The label of the source is the departure.
 fn departure_in(net: &Network, labels: &[Q]) -> Q
@@ -52,6 +53,32 @@ impl Run {
         self.labels = phase.labels;
         self.last = phase.pattern;
         self.made += 1;
+        Ok(())
+    }
+
+    // The same, where the phase may be the rest of one that was cut short: then the last pattern stays.
+    pub(crate) fn go_on_by(
+        &mut self,
+        alloc: Global,
+        net: &Network,
+        horizon: Q,
+        patterns: u64,
+        rests: bool,
+        phase: Phase,
+    ) -> Result<(), AllocError>
+        requires reaches { Reaches passes_Q net.now.net self.old }
+        requires named { IsNamed net.now }
+        requires more { self.old.made < 2 ^ 64 - 1 }
+        requires leads { LeadsOn passes_Q net.now.net horizon patterns self.old phase }
+        ensures made { OnOk result (self.new ≡ after_rest rests net.now.net self.old phase) }
+        ensures kept { OnErr result (self.new ≡ self.old) }
+    {
+        if !rests {
+            return self.make(net, horizon, patterns, phase);
+        }
+        let last = self.last.copy(alloc)?;
+        self.make(net, horizon, patterns, phase)?;
+        self.last = last;
         Ok(())
     }
 }

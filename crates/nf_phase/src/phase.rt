@@ -1,9 +1,10 @@
 // One phase of a run, before it is made: how long it lasts, and how the labels and the links go on in it.
-ghost use Rattle.std.specs.Prelude.{◌≡◌, suc, IfOk, IfErr, map};
+ghost use Rattle.std.specs.Prelude.{◌≡◌, suc, IfOk, IfErr, MatchBool, map};
 ghost use Rattle.nf_rational.specs.Order.{◌<ℚ◌};
 ghost use Rattle.nf_work.specs.Passing.{passes_Q};
 ghost use Rattle.nf_formats.specs.WellNamed.{IsNamed};
 ghost use Rattle.nf_lists.specs.ReportCurves.{amount_so_far};
+ghost use Rattle.nf_resume_lists.specs.Open.{Continues};
 ghost use Rattle.nf_phase.specs.Stepping.{Reaches, StandsFor, IsCause};
 ghost use Rattle.nf_phase.specs.Finding.{IsFound, ListsPass, LeadsOn};
 
@@ -29,6 +30,13 @@ pub(crate) struct Phase {
     pub(crate) slopes: Vec<Q>,
     pub(crate) steps: Vec<LinkStep>,
     pub(crate) pattern: Pattern,
+}
+
+// A phase, and whether it is the rest of one that was cut short.
+#[derive(Drop)]
+pub(crate) struct NextPhase {
+    pub(crate) rests: bool,
+    pub(crate) phase: Phase,
 }
 
 impl Run {
@@ -79,21 +87,24 @@ impl Run {
         })
     }
 
-    // The phase that begins here.
+    // The phase that begins here, and whether it is the rest of one that was cut short.
     pub(crate) fn phase(
         &self,
         alloc: Global,
         net: &Network,
         horizon: Q,
         patterns: u64,
-    ) -> Result<Phase, StepFault>
+    ) -> Result<NextPhase, StepFault>
         requires reaches { Reaches passes_Q net.now.net self.now }
         requires below { self.now.time <ℚ horizon }
         ensures named { IsNamed net.now }
-        ensures leads { IfOk result (LeadsOn passes_Q net.now.net horizon patterns self.now) }
+        ensures rests { IfOk result (λ next. MatchBool next.rests (Continues net.now.net self.now) (Continues net.now.net self.now → ⊥)) }
+        ensures leads { IfOk result (λ next. LeadsOn passes_Q net.now.net horizon patterns self.now next.phase) }
         ensures cause { IfErr result (IsCause passes_Q net.now.net horizon patterns self.now) }
     {
         let found = self.find(alloc, net, patterns)?;
-        self.phase_by(alloc, net, horizon, patterns, found)
+        let rests = self.continues(net, &found.slacks);
+        let phase = self.phase_by(alloc, net, horizon, patterns, found)?;
+        Ok(NextPhase { rests, phase })
     }
 }

@@ -5,6 +5,7 @@ ghost use Rattle.nf_work.specs.Passing.{passes_Q};
 ghost use Rattle.nf_model.specs.Equilibrium.{Equilibrium};
 ghost use Rattle.nf_lists.specs.PhaseRun.{IsStart, Goes, flow_of};
 ghost use Rattle.nf_lists.specs.Ends.{EndsAtLabels};
+ghost use Rattle.nf_resume_lists.specs.Open.{Continues, Steps};
 ghost use Rattle.nf_forever_lists.specs.ForeverRun.{GoesToEnd, GoesForever};
 ghost use Rattle.nf_run_laws.specs.RunLaws.{IsShortFlow, KeepsLabels, reached_by};
 ghost use Rattle.nf_curve.specs.Flows.{flow_of as flow_in};
@@ -17,6 +18,7 @@ use crate::growth::{copy_labels, copy_links, first_labels};
 use crate::lengths::end_of;
 use crate::link_curves::LinkCurves;
 use crate::link_growth::first_links;
+use crate::phase::NextPhase;
 use nf_curve::Flow;
 use nf_frac::Q;
 use nf_net::{Network, start_labels};
@@ -83,7 +85,8 @@ impl Run {
     }
 
     /// One phase more, as long as it may last, but to the horizon at most: by the first accepted pattern, of so many at most. Its
-    /// curves, up to the departure that is reached, stay an equilibrium. It is refused exactly where the phase can't be made, by
+    /// curves, up to the departure that is reached, stay an equilibrium. Where it is the first since the run was restored, and goes on
+    /// with a phase that was cut short, the last pattern stays. It is refused exactly where the phase can't be made, by
     /// the first cause for that, or where memory is wanting; then the run is as it was.
     pub fn step(
         &mut self,
@@ -95,7 +98,8 @@ impl Run {
         requires reaches { Reaches passes_Q net.now.net self.old }
         requires below { self.old.time <ℚ horizon }
         requires more { self.old.made < 2 ^ 64 - 1 }
-        ensures goes { OnOk result (Goes passes_Q net.now.net horizon patterns self.old self.new) }
+        ensures goes { OnOk result (Steps passes_Q net.now.net horizon patterns self.old self.new) }
+        ensures begins { (Continues net.now.net self.old → ⊥) → OnOk result (Goes passes_Q net.now.net horizon patterns self.old self.new) }
         ensures only { OnOk result (LeadsOnlyTo net.now.net horizon (reached_by self.old) (reached_by self.new)) }
         ensures reaches { Reaches passes_Q net.now.net self.new }
         ensures equilibrium { Equilibrium net.now.net (flow_of self.new) }
@@ -105,8 +109,9 @@ impl Run {
         ensures kept { OnErr result (self.new ≡ self.old) }
         ensures cause { IfErr result (IsCause passes_Q net.now.net horizon patterns self.old) }
     {
-        let phase = self.phase(alloc, net, horizon, patterns)?;
-        self.make(net, horizon, patterns, phase)?;
+        let next = self.phase(alloc, net, horizon, patterns)?;
+        let NextPhase { rests, phase } = next;
+        self.go_on_by(alloc, net, horizon, patterns, rests, phase)?;
         Ok(())
     }
 

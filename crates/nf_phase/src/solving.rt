@@ -3,9 +3,11 @@ ghost use Rattle.std.specs.Prelude.{◌≡◌, IfOk, MatchBool};
 ghost use Rattle.nf_rational.specs.Operations.{0ℚ};
 ghost use Rattle.nf_rational.specs.Order.{◌≤ℚ◌, ◌<ℚ◌, lt_ℚ};
 ghost use Rattle.nf_work.specs.Passing.{passes_Q};
-ghost use Rattle.nf_lists.specs.PhaseRun.{IsStart, IsPhaseRun, flow_of};
+ghost use Rattle.nf_lists.specs.PhaseRun.{flow_of};
+ghost use Rattle.nf_resume_lists.specs.Open.{RunsOn};
 ghost use Rattle.nf_curve.specs.Flows.{flow_of as flow_in};
-ghost use Rattle.nf_phase.specs.Solution.{IsSolution, bounds_of, report_in, stop_after};
+ghost use Rattle.nf_phase.specs.Stepping.{Reaches};
+ghost use Rattle.nf_phase.specs.Solution.{IsSolution, IsFinished, bounds_of, report_in, stop_after};
 
 use crate::growth::{finish_labels, finish_links};
 use crate::run::Run;
@@ -43,9 +45,10 @@ impl Run {
         horizon: Q,
         budgets: Budgets,
     ) -> Result<Option<Stop>, AllocError>
-        requires starts { IsStart net.now.net self.old }
-        requires horizon { 0ℚ ≤ℚ horizon }
-        ensures { IfOk result (IsPhaseRun passes_Q net.now.net (bounds_of horizon budgets) self.new) }
+        requires reaches { Reaches passes_Q net.now.net self.old }
+        requires fresh { self.old.made ≡ 0 }
+        requires horizon { self.old.time ≤ℚ horizon }
+        ensures { IfOk result (RunsOn passes_Q net.now.net (bounds_of horizon budgets) self.old self.new) }
     {
         for _ in 0..budgets.phases {
             if self.is_at(horizon) {
@@ -82,6 +85,28 @@ impl Run {
             stopped,
         })
     }
+
+    /// The run goes on phase by phase from where it stands, each by the first accepted pattern, until the horizon is reached, as many
+    /// phases as allowed were made, or one can't be made. No phase was made yet, since departure 0 or since the run was restored, and
+    /// the horizon isn't before the departure reached. The flow up to there is an equilibrium.
+    pub fn finish(
+        self,
+        alloc: Global,
+        net: &Network,
+        horizon: Q,
+        budgets: Budgets,
+    ) -> Result<Solution, AllocError>
+        requires reaches { Reaches passes_Q net.now.net self }
+        requires fresh { self.made ≡ 0 }
+        requires horizon { self.time ≤ℚ horizon }
+        ensures { IfOk result (λ s. IsFinished net.now.net (bounds_of horizon budgets) self s.phases (report_in horizon s)) }
+    {
+        // For the proof: the network is that of an accepted file.
+        let _ = net.version();
+        let mut run = self;
+        let stopped = run.go(alloc, net, horizon, budgets)?;
+        run.solution(alloc, stopped)
+    }
 }
 
 /// Solves a network: goes on phase by phase from departure 0, each by the first accepted pattern, until the horizon is reached,
@@ -98,7 +123,6 @@ pub fn solve(
 {
     // For the proof: the network is that of an accepted file.
     let _ = net.version();
-    let mut run = Run::start(alloc, net)?;
-    let stopped = run.go(alloc, net, horizon, budgets)?;
-    run.solution(alloc, stopped)
+    let run = Run::start(alloc, net)?;
+    run.finish(alloc, net, horizon, budgets)
 }

@@ -2,6 +2,7 @@
 ghost use Rattle.std.specs.Prelude.{◌≡◌, ◌<◌, ◌≤◌, ◌++◌, IfOk, OnOk, IsSome, vec_len, vec_capacity};
 ghost use Rattle.std.specs.Option.{option_to_list};
 ghost use Rattle.nf_rational.specs.Order.{◌<ℚ◌};
+ghost use Rattle.nf_model.specs.Curve.{AreSlopes};
 ghost use Rattle.nf_curve.specs.Flows.{trace_of};
 ghost use Rattle.nf_lists.specs.Signs.{is_positive};
 ghost use Rattle.nf_lists.specs.Ends.{end_of};
@@ -76,6 +77,17 @@ impl GrowingTrace {
             curve: GrowingCurve::first_queue(alloc, label)?,
             rates: Vec::new(alloc),
         })
+    }
+
+    /// A trace that goes on where another one ends.
+    pub(crate) fn of(alloc: Global, trace: &Trace) -> Result<GrowingTrace, AllocError>
+        requires { AreSlopes (trace_of trace.now).points (trace_of trace.now).rates }
+        ensures { IfOk result (λ t. t.grown ≡ trace_of trace.now) }
+    {
+        let mut rates = trace.rates.as_slice().to_vec(alloc)?;
+        let last = rates.pop();
+        let curve = GrowingCurve::ended(alloc, &trace.curve, last)?;
+        Ok(GrowingTrace { curve, rates })
     }
 
     /// Afterwards there is room for one more corner. The trace stays, also where memory is wanting.
