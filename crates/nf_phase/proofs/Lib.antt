@@ -6,6 +6,10 @@ pub mod Looping
 pub mod Meaning
 pub mod Numbered
 pub mod LinkLoop
+pub mod Restarting
+pub mod OneByOne
+pub mod LastSlopes
+pub mod Opened
 pub mod Reached
 pub mod ShortReached
 pub mod Ended

@@ -1,15 +1,16 @@
 -- A run that is restored from a flow, and which of its phases goes on with one that was cut short.
-use Rattle.std.specs.Prelude.{◌≡◌, ◌≢◌, ℕ, ◌<◌, Bool, true, false, List, length, Some, None, Ok, slice_get}
+use Rattle.std.specs.Prelude.{◌≡◌, ◌≢◌, ℕ, ◌<◌, Bool, true, false, if◌then◌else◌, List, [], ◌∷◌, length, Some, None, Ok, slice_get}
 use Rattle.nf_rational.specs.Rational.{ℚ}
 use Rattle.nf_rational.specs.Operations.{0ℚ}
 use Rattle.nf_work.specs.Passing.{Passing}
 use Rattle.nf_work.specs.Checked.{Checked, each, ◌>>=◌}
 use Rattle.nf_model.specs.Entries.{number_at}
 use Rattle.nf_model.specs.Curve.{Point}
-use Rattle.nf_model.specs.Network.{Link, Piece, Network, IsLink, IsPiece}
+use Rattle.nf_model.specs.Network.{Link, Piece, Network, IsLink}
 use Rattle.nf_model.specs.declared.State.TheVariants.{Full}
 use Rattle.nf_model.specs.Pattern.{Pattern, HasState}
 use Rattle.nf_model.specs.Equilibrium.{Trace, Flow, points_at, points_of, label, Equilibrium}
+use Rattle.nf_lists.specs.Signs.{is_same}
 use Rattle.nf_lists.specs.ReportCurves.{LinkCurves}
 use Rattle.nf_lists.specs.PhaseRun.{Standing}
 use Rattle.nf_lists.specs.Ends.{end_of}
@@ -58,13 +59,17 @@ module _ (passes : Passing) where
 
 -- ---- tests of an open run
 
--- no piece of the inflow starts at this time
-abbrev pub NoStart : Network → ℚ → Type 0
-NoStart net time = (i : ℕ) (piece : Piece) → IsPiece net.pieces i piece → piece.start ≢ time
+-- no piece starts at this time
+abbrev pub none_starts : List Piece → ℚ → Bool
+none_starts [] time = true
+none_starts (piece ∷ pieces) time = if is_same piece.start time then false else none_starts pieces time
 
--- each link without a state has a slack other than 0
+-- a link has a state, or a slack other than 0
+abbrev pub ApartAt : List ℚ → Pattern → ℕ → Type 0
+ApartAt slacks last e = slice_get last e ≡ Some None → number_at slacks e ≢ 0ℚ
+
 abbrev pub AreApart : List ℚ → Pattern → Type 0
-AreApart slacks last = (e : ℕ) → slice_get last e ≡ Some None → number_at slacks e ≢ 0ℚ
+AreApart slacks last = (e : ℕ) → ApartAt slacks last e
 
 -- where a run stands after a phase, which may be the rest of one that was cut short: then the last pattern stays
 abbrev pub after_rest : Bool → Network → Standing → Phase → Standing

@@ -3,6 +3,7 @@ ghost use Rattle.std.specs.Prelude.{◌≡◌, IfOk, MatchBool};
 ghost use Rattle.nf_rational.specs.Operations.{0ℚ};
 ghost use Rattle.nf_rational.specs.Order.{◌≤ℚ◌, ◌<ℚ◌, lt_ℚ};
 ghost use Rattle.nf_work.specs.Passing.{passes_Q};
+ghost use Rattle.nf_formats.specs.WellNamed.{IsNamed};
 ghost use Rattle.nf_lists.specs.PhaseRun.{flow_of};
 ghost use Rattle.nf_resume_lists.specs.Open.{RunsOn};
 ghost use Rattle.nf_curve.specs.Flows.{flow_of as flow_in};
@@ -46,6 +47,7 @@ impl Run {
         budgets: Budgets,
     ) -> Result<Option<Stop>, AllocError>
         requires reaches { Reaches passes_Q net.now.net self.old }
+        requires named { IsNamed net.now }
         requires fresh { self.old.made ≡ 0 }
         requires horizon { self.old.time ≤ℚ horizon }
         ensures { IfOk result (RunsOn passes_Q net.now.net (bounds_of horizon budgets) self.old self.new) }

@@ -1,0 +1,5 @@
+use Rattle.nf_phase.proofs.Opened.{continues_by}
+use Rattle.nf_phase.proofs.run.Run.continues.Goals as goal
+
+pub returns : goal.returns
+returns c = ?
