@@ -2,7 +2,7 @@
 use Rattle.std.proofs.Common.{◌≡◌, ℕ, suc, ◌+◌, ◌≤◌, List, [], ◌∷◌, ◌++◌, length, take, drop, map, refl, sym, ap, subst, ◌∙◌, arith}
 use Rattle.std.specs.Prelude.{Some, slice_get, Result, Ok, Err}
 use Rattle.std.proofs.Math.ListN.{drop_of_length-le}
-use Rattle.std.proofs.lemmas.List.{append-nil, map-append}
+use Rattle.std.proofs.lemmas.List.{length-map, map-append}
 use Rattle.nf_rational.specs.Rational.{ℚ}
 use Rattle.nf_work.specs.Passing.{Passing}
 use Rattle.nf_work.specs.declared.Part.TheVariants.{Curve}
@@ -12,10 +12,14 @@ use Rattle.nf_work.specs.Checked.{each, at_part}
 use Rattle.nf_work.proofs.Each.{with_front}
 use Rattle.nf_model.specs.Curve.{Point}
 use Rattle.nf_model.specs.Pattern.{Pattern}
-use Rattle.nf_model.specs.Equilibrium.{Trace, Flow}
+use Rattle.nf_model.specs.Network.{Network}
+use Rattle.nf_model.specs.Equilibrium.{Trace, Flow, Equilibrium}
 use Rattle.nf_lists.specs.ReportCurves.{GrowingCurve, LinkCurves}
 use Rattle.nf_lists.specs.PhaseRun.{Standing}
 use Rattle.nf_resume_lists.specs.Restoring.{value_at_end, link_curves_of, growing, restore_list}
+use Rattle.nf_curve.specs.Points.{Grown}
+use Rattle.nf_curve.specs.Flows.{trace_of, flow_of as flow_in}
+use Rattle.nf_curve.specs.declared.flow.Flow as code
 use Rattle.nf_curve.proofs.Exits.{after_err, after_ok, each_goes, each_stops, each_ends, err_before, ok_before}
 use Rattle.nf_thin.proofs.Folds.{drop_at}
 use Rattle.nf_pattern.proofs.Each.{take_pushed}
@@ -132,3 +136,20 @@ module _ (passes : Passing) (flow : Flow) (last : Pattern) where
         after_ok Curve labels_list _ label_curves by_labels
         ∙ after_ok Curve (each (growing passes) flow.queues) _ w.0 (ap (at_part Curve) w.1.0)
         ∙ ap (λ (l : List LinkCurves). Ok (stands_with label_curves l)) w.1.1
+
+-- ---- what the parts of a flow come to
+pub ends_same : (curves : List Grown) → map value_at_end (map (λ (g : Grown). g.points) curves) ≡ map (λ (g : Grown). value_at_end g.points) curves
+ends_same [] = refl
+ends_same (g ∷ curves) = ap (λ (l : List ℚ). value_at_end g.points ∷ l) (ends_same curves)
+
+pub flow_counts : (net : Network) (f : code.Flow) → Equilibrium net (flow_in f) → (length f.outflows.items ≡ length f.inflows.items) × (length f.queues.items ≡ length f.inflows.items)
+flow_counts net f is =
+    let inflows : length f.inflows.items ≡ length net.links = sym (length-map (map trace_of f.inflows.items) (λ (t : Trace). t.points) ∙ length-map f.inflows.items trace_of) ∙ is.shape.inflows.count in
+    let outflows : length f.outflows.items ≡ length net.links = sym (length-map (map trace_of f.outflows.items) (λ (t : Trace). t.points) ∙ length-map f.outflows.items trace_of) ∙ is.shape.outflows.count in
+    let queues : length f.queues.items ≡ length net.links = sym (length-map f.queues.items (λ (g : Grown). g.points)) ∙ is.shape.queues.count in
+    (outflows ∙ sym inflows, queues ∙ sym inflows)
+
+pub same_parts : (time : ℚ) (labels other : List ℚ) (label_curves : List GrowingCurve) (link_curves : List LinkCurves) (last : Pattern) → labels ≡ other
+    → ◌≡◌ {A = Standing} (record { time = time; labels = labels; label_curves = label_curves; link_curves = link_curves; made = 0; last = last })
+    (record { time = time; labels = other; label_curves = label_curves; link_curves = link_curves; made = 0; last = last })
+same_parts time labels other label_curves link_curves last e = λ i. record { time = time; labels = e i; label_curves = label_curves; link_curves = link_curves; made = 0; last = last }

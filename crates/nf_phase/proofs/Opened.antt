@@ -88,8 +88,6 @@ module _ (net : Network) (s : Standing) (slacks : List ℚ) (is : slacks ≡ sla
   is_open_by count true false e a = not_apart count a
   is_open_by count false apart e a = not_started false e (cc)
 
-pub continues_by : (net : Network) (s : Standing) (first opens : Bool) → MatchBool first (s.made ≡ 0) (s.made ≡ 0 → ⊥) → MatchBool opens (IsOpen net s) (IsOpen net s → ⊥)
-    → MatchBool (first && opens) (Continues net s) (Continues net s → ⊥)
-continues_by net s true true f o = (f, o)
-continues_by net s true false f o = λ c. o c.1
-continues_by net s false opens f o = λ c. f c.0
+pub continues_by : (net : Network) (s : Standing) (opens : Bool) → s.made ≡ 0 → MatchBool opens (IsOpen net s) (IsOpen net s → ⊥) → MatchBool opens (Continues net s) (Continues net s → ⊥)
+continues_by net s true first o = (first, o)
+continues_by net s false first o = λ c. o c.1

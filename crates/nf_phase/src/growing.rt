@@ -133,12 +133,15 @@ impl GrowingCurve {
         ensures slope { IfOk result (λ c. c.grown.slope ≡ slope) }
     {
         let Some(slope) = slope else {
-            let corners = copy_of(alloc, curve)?;
-            return Ok(GrowingCurve { corners, end: None });
+            let whole = copy_of(alloc, curve)?;
+            return Ok(GrowingCurve {
+                corners: whole,
+                end: None,
+            });
         };
-        let before = curve.len() - 1;
-        let (time, value) = curve.point(before);
-        let corners = first_points(alloc, curve, before)?;
+        let count = curve.len();
+        let (time, value) = curve.point(count - 1);
+        let corners = first_points(alloc, curve, count - 1)?;
         let end = Some(End { time, value, slope });
         Ok(GrowingCurve { corners, end })
     }

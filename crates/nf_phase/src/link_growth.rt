@@ -73,8 +73,8 @@ pub(crate) fn restore_links(
 {
     let mut curves = Vec::new(alloc);
     for e in 0..queues.len() {
-        let of_link = LinkCurves::of(alloc, &inflows[e], &outflows[e], &queues[e])?;
-        curves.push(of_link)?;
+        let next = LinkCurves::of(alloc, &inflows[e], &outflows[e], &queues[e])?;
+        curves.push(next)?;
     }
     Ok(curves)
 }

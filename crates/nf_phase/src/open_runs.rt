@@ -61,7 +61,9 @@ impl Run {
         requires slacks { slacks.now ≡ slacks_of (hops_of net.now.net) self.now.labels }
         ensures { MatchBool result (IsOpen net.now.net self.now) (IsOpen net.now.net self.now → ⊥) }
     {
-        none_starts(net.pieces(), self.reached) && are_apart(net, slacks, &self.last)
+        let starts = none_starts(net.pieces(), self.reached);
+        let apart = are_apart(net, slacks, &self.last);
+        starts && apart
     }
 
     // The phase that begins here is the rest of one that was cut short: none was made since the run was restored, and it is open.
@@ -71,6 +73,9 @@ impl Run {
         requires slacks { slacks.now ≡ slacks_of (hops_of net.now.net) self.now.labels }
         ensures { MatchBool result (Continues net.now.net self.now) (Continues net.now.net self.now → ⊥) }
     {
-        self.made == 0 && self.is_open(net, slacks)
+        if self.made > 0 {
+            return false;
+        }
+        self.is_open(net, slacks)
     }
 }
