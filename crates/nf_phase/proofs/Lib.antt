@@ -20,3 +20,4 @@ pub mod Going
 pub mod Stopping
 pub mod Copying
 pub mod ToEnd
+pub mod Told

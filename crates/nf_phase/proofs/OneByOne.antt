@@ -54,9 +54,9 @@ module _ {A B : Type 0} (f : A → Result B (Passed ℚ)) (xs : List A) where
 
 -- ---- the curves of links
 pub record LinksSoFar (passes : Passing) (inflows outflows : List Trace) (queues : List (List Point)) (front : List LinkCurves) (e : ℕ) : Type 0 where
-  pub inflows : map (λ c. c.inflow) front ≡ take e inflows
-  pub outflows : map (λ c. c.outflow) front ≡ take e outflows
-  pub queues : SoFar (growing passes) queues (map (λ c. c.queue) front) e
+  pub entering : map (λ c. c.inflow) front ≡ take e inflows
+  pub leaving : map (λ c. c.outflow) front ≡ take e outflows
+  pub waiting : SoFar (growing passes) queues (map (λ c. c.queue) front) e
 
 again : (front : List LinkCurves) → link_curves_of (map (λ c. c.inflow) front) (map (λ c. c.outflow) front) (map (λ c. c.queue) front) ≡ front
 again [] = refl
@@ -71,39 +71,39 @@ all_taken {A = A} xs n e = ap (λ (k : ℕ). take k xs) e ∙ whole xs
 
 module _ (passes : Passing) (inflows outflows : List Trace) (queues : List (List Point)) where
   pub no_links : LinksSoFar passes inflows outflows queues [] 0
-  no_links = record { inflows = refl; outflows = refl; queues = none_yet (growing passes) queues }
+  no_links = record { entering = refl; leaving = refl; waiting = none_yet (growing passes) queues }
 
   module _ (front : List LinkCurves) (e : ℕ) (inflow outflow : Trace) (queue : List Point) (i : slice_get inflows e ≡ Some inflow) (o : slice_get outflows e ≡ Some outflow) (q : slice_get queues e ≡ Some queue)
       (so : LinksSoFar passes inflows outflows queues front e) where
     pub one_link : (next : LinkCurves) → at_part Curve (of_link passes inflow outflow queue) ≡ Ok next → LinksSoFar passes inflows outflows queues (front ++ next ∷ []) (e + 1)
     one_link next said =
         let w = ok_before Curve (growing passes queue) (λ (grown : GrowingCurve). record { inflow = inflow; outflow = outflow; queue = grown }) next said in
-        let is_inflow : next.inflow ≡ inflow = ap (λ (c : LinkCurves). c.inflow) (sym w.1.1) in
-        let is_outflow : next.outflow ≡ outflow = ap (λ (c : LinkCurves). c.outflow) (sym w.1.1) in
-        let is_queue : w.0 ≡ next.queue = ap (λ (c : LinkCurves). c.queue) w.1.1 in
+        let is_inflow : next.inflow ≡ inflow = ap (λ (c : LinkCurves). c.inflow) (sym w.2) in
+        let is_outflow : next.outflow ≡ outflow = ap (λ (c : LinkCurves). c.outflow) (sym w.2) in
+        let is_queue : w.0 ≡ next.queue = ap (λ (c : LinkCurves). c.queue) w.2 in
         record {
-          inflows = take_pushed inflows (map (λ c. c.inflow) front) (map (λ c. c.inflow) (front ++ next ∷ [])) e inflow i so.inflows
+          entering = take_pushed inflows (map (λ c. c.inflow) front) (map (λ c. c.inflow) (front ++ next ∷ [])) e inflow i so.entering
               (map-append (λ (c : LinkCurves). c.inflow) front (next ∷ []) ∙ ap (λ (t : Trace). map (λ (c : LinkCurves). c.inflow) front ++ t ∷ []) is_inflow);
-          outflows = take_pushed outflows (map (λ c. c.outflow) front) (map (λ c. c.outflow) (front ++ next ∷ [])) e outflow o so.outflows
+          leaving = take_pushed outflows (map (λ c. c.outflow) front) (map (λ c. c.outflow) (front ++ next ∷ [])) e outflow o so.leaving
               (map-append (λ (c : LinkCurves). c.outflow) front (next ∷ []) ∙ ap (λ (t : Trace). map (λ (c : LinkCurves). c.outflow) front ++ t ∷ []) is_outflow);
-          queues = subst (λ (l : List GrowingCurve). SoFar (growing passes) queues l (e + 1)) (sym (map-append (λ (c : LinkCurves). c.queue) front (next ∷ [])))
-              (one_more (growing passes) queues (map (λ c. c.queue) front) e queue q so.queues next.queue (ap (at_part Curve) w.1.0 ∙ ap (λ (c : GrowingCurve). Ok c) is_queue));
+          waiting = subst (λ (l : List GrowingCurve). SoFar (growing passes) queues l (e + 1)) (sym (map-append (λ (c : LinkCurves). c.queue) front (next ∷ [])))
+              (one_more (growing passes) queues (map (λ c. c.queue) front) e queue q so.waiting next.queue (ap (at_part Curve) w.1 ∙ ap (λ (c : GrowingCurve). Ok c) is_queue));
         }
 
     pub link_passes : (p : PassedAt ℚ) → at_part Curve (of_link passes inflow outflow queue) ≡ Err p → at_part Curve (of_links passes inflows outflows queues) ≡ Err p
     link_passes p said =
         after_err Curve (each (growing passes) queues) (λ (grown : List GrowingCurve). Ok (link_curves_of inflows outflows grown)) p
-        (one_passes (growing passes) queues (map (λ c. c.queue) front) e queue q so.queues p
+        (one_passes (growing passes) queues (map (λ c. c.queue) front) e queue q so.waiting p
         (err_before Curve (growing passes queue) (λ (grown : GrowingCurve). record { inflow = inflow; outflow = outflow; queue = grown }) p said))
 
   pub links_done : (front : List LinkCurves) (e : ℕ) → e ≡ length inflows → e ≡ length outflows → e ≡ length queues → LinksSoFar passes inflows outflows queues front e
       → at_part Curve (of_links passes inflows outflows queues) ≡ Ok front
   links_done front e i o q so =
       let end : length queues ≤ e = omega arith in
-      let by_inflows : map (λ c. c.inflow) front ≡ inflows = so.inflows ∙ all_taken inflows e i in
-      let by_outflows : map (λ c. c.outflow) front ≡ outflows = so.outflows ∙ all_taken outflows e o in
+      let by_inflows : map (λ c. c.inflow) front ≡ inflows = so.entering ∙ all_taken inflows e i in
+      let by_outflows : map (λ c. c.outflow) front ≡ outflows = so.leaving ∙ all_taken outflows e o in
       after_ok Curve (each (growing passes) queues) (λ (grown : List GrowingCurve). Ok (link_curves_of inflows outflows grown)) (map (λ c. c.queue) front)
-      (all_done (growing passes) queues (map (λ c. c.queue) front) e end so.queues)
+      (all_done (growing passes) queues (map (λ c. c.queue) front) e end so.waiting)
       ∙ ap (λ (l : List LinkCurves). Ok l) (ap (λ (l : List Trace). link_curves_of l outflows (map (λ c. c.queue) front)) (sym by_inflows)
       ∙ ap (λ (l : List Trace). link_curves_of (map (λ c. c.inflow) front) l (map (λ c. c.queue) front)) (sym by_outflows) ∙ again front)
 
@@ -134,8 +134,8 @@ module _ (passes : Passing) (flow : Flow) (last : Pattern) where
     list_made link_curves e =
         let w = ok_before Curve (each (growing passes) flow.queues) (λ (grown : List GrowingCurve). link_curves_of flow.inflows flow.outflows grown) link_curves e in
         after_ok Curve labels_list _ label_curves by_labels
-        ∙ after_ok Curve (each (growing passes) flow.queues) _ w.0 (ap (at_part Curve) w.1.0)
-        ∙ ap (λ (l : List LinkCurves). Ok (stands_with label_curves l)) w.1.1
+        ∙ after_ok Curve (each (growing passes) flow.queues) _ w.0 (ap (at_part Curve) w.1)
+        ∙ ap (λ (l : List LinkCurves). Ok (stands_with label_curves l)) w.2
 
 -- ---- what the parts of a flow come to
 pub ends_same : (curves : List Grown) → map value_at_end (map (λ (g : Grown). g.points) curves) ≡ map (λ (g : Grown). value_at_end g.points) curves
@@ -153,3 +153,10 @@ pub same_parts : (time : ℚ) (labels other : List ℚ) (label_curves : List Gro
     → ◌≡◌ {A = Standing} (record { time = time; labels = labels; label_curves = label_curves; link_curves = link_curves; made = 0; last = last })
     (record { time = time; labels = other; label_curves = label_curves; link_curves = link_curves; made = 0; last = last })
 same_parts time labels other label_curves link_curves last e = λ i. record { time = time; labels = e i; label_curves = label_curves; link_curves = link_curves; made = 0; last = last }
+
+-- one value more
+pub mapped_pushed : {A B : Type 0} (f : A → B) (xs : List A) (ys pushed : List B) (i : ℕ) (x : A) (y : B) → slice_get xs i ≡ Some x → ys ≡ map f (take i xs) → y ≡ f x → pushed ≡ ys ++ y ∷ []
+    → pushed ≡ map f (take (i + 1) xs)
+mapped_pushed {A = A} {B = B} f xs ys pushed i x y at is e more =
+    more ∙ ap (λ (l : List B). l ++ y ∷ []) is ∙ ap (λ (z : B). map f (take i xs) ++ z ∷ []) e ∙ sym (map-append f (take i xs) (x ∷ []))
+    ∙ ap (map f) (take_pushed xs (take i xs) (take i xs ++ x ∷ []) i x at refl refl)

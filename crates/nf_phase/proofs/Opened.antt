@@ -1,6 +1,6 @@
 -- Whether a run is open, by tests.
-use Rattle.std.proofs.Common.{◌≡◌, ◌≢◌, ◌⊎◌, inl, inr, ℕ, zero, suc, ◌+◌, ◌<◌, Bool, true, false, ◌&&◌, List, [], ◌∷◌, length, sym, ap, subst, ◌∙◌}
-use Rattle.std.specs.Prelude.{◌↔◌, if◌then◌else◌, not, IsTrue, Option, Some, None, slice_get, MatchBool}
+use Rattle.std.proofs.Common.{◌≡◌, ◌≢◌, ◌⊎◌, inl, inr, ℕ, zero, suc, ◌+◌, ◌<◌, Bool, true, false, List, [], ◌∷◌, length, refl, sym, ap, subst, ◌∙◌}
+use Rattle.std.specs.Prelude.{◌↔◌, if◌then◌else◌, not, IsTrue, Option, Some, None, slice_get, unwrap_or, MatchBool}
 use Rattle.std.proofs.lemmas.Option.{slice_get_within}
 use Rattle.nf_rational.specs.Rational.{ℚ}
 use Rattle.nf_rational.specs.Operations.{0ℚ}
@@ -12,7 +12,7 @@ use Rattle.nf_model.specs.Pattern.{Pattern}
 use Rattle.nf_model_laws.proofs.Slacks.{slack_at}
 use Rattle.nf_lists.specs.Signs.{is_same}
 use Rattle.nf_lists.specs.PhaseRun.{Standing}
-use Rattle.nf_curve_laws.proofs.Operations.{is_same_cases, same_of, same_test}
+use Rattle.nf_curve_laws.proofs.Operations.{same_of, same_test}
 use Rattle.nf_plain_laws.proofs.Naturals.{before_or_at}
 use Rattle.nf_plain_laws.proofs.Entries.{entry}
 use Rattle.nf_resume_lists.specs.Open.{IsOpen, Continues}
@@ -24,10 +24,7 @@ not_both b h k = cc
 
 starts_apart : (b : Bool) (rest : Bool) → (if b then false else rest) ≡ true → (b ≡ false) × (rest ≡ true)
 starts_apart true rest h = absurd (cc)
-starts_apart false rest h = (refl_false, h)
-  where
-    refl_false : ◌≡◌ {A = Bool} false false
-    refl_false = cc
+starts_apart false rest h = (refl, h)
 
 pub starts_none : (pieces : List Piece) (time : ℚ) → none_starts pieces time ≡ true → (i : ℕ) (piece : Piece) → IsPiece pieces i piece → piece.start ≢ time
 starts_none [] time h i piece at e = absurd (cc)
@@ -36,18 +33,26 @@ starts_none (x ∷ pieces) time h zero piece at e =
     not_both (is_same x.start time) (same_test x.start time (ap (λ (p : Piece). p.start) here ∙ e)) (starts_apart (is_same x.start time) (none_starts pieces time) h).0
 starts_none (x ∷ pieces) time h (suc i) piece at e = starts_none pieces time (starts_apart (is_same x.start time) (none_starts pieces time) h).1 i piece at e
 
+starts_by : (x : Piece) (time : ℚ) (b rest : Bool) → b ≡ is_same x.start time → (if b then false else rest) ≡ false → (x.start ≡ time → ⊥) → (rest ≡ false → ⊥) → ⊥
+starts_by x time true rest e h apart later = apart (same_of x.start time (sym e))
+starts_by x time false rest e h apart later = later h
+
 pub starts_some : (pieces : List Piece) (time : ℚ) → none_starts pieces time ≡ false → ((i : ℕ) (piece : Piece) → IsPiece pieces i piece → piece.start ≢ time) → ⊥
-starts_some [] time h none = absurd (cc)
-starts_some (x ∷ pieces) time h none = by (is_same x.start time) (cc) h
-  where
-    by : (b : Bool) → b ≡ is_same x.start time → (if b then false else none_starts pieces time) ≡ false → ⊥
-    by true e h = none 0 x (cc) (same_of x.start time (sym e))
-    by false e h = starts_some pieces time h (λ i piece at. none (suc i) piece at)
+starts_some [] time h apart = absurd (cc)
+starts_some (x ∷ pieces) time h apart =
+    starts_by x time (is_same x.start time) (none_starts pieces time) refl h (apart 0 x refl) (λ later. starts_some pieces time later (λ i piece at. apart (suc i) piece at))
 
 -- ---- links without a state
-pub apart_by : (slacks : List ℚ) (last : Pattern) (e : ℕ) (zero : Bool) → IsTrue zero ↔ (number_at slacks e ≡ 0ℚ) → slice_get last e ≡ Some None → MatchBool (not zero) (ApartAt slacks last e) (ApartAt slacks last e → ⊥)
-apart_by slacks last e true z at = λ apart. apart at (z.0 (cc))
-apart_by slacks last e false z at = λ _ same. (let t = z.1 same in absurd (cc))
+pub apart_by : (slacks : List ℚ) (last : Pattern) (e : ℕ) (x : ℚ) (zero : Bool) → slice_get slacks e ≡ Some x → IsTrue zero ↔ (x ≡ 0ℚ) → slice_get last e ≡ Some None
+    → MatchBool (not zero) (ApartAt slacks last e) (ApartAt slacks last e → ⊥)
+apart_by slacks last e x zero here z at = by zero z
+  where
+    is : number_at slacks e ≡ x
+    is = ap (λ (o : Option ℚ). unwrap_or o 0ℚ) here
+
+    by : (b : Bool) → IsTrue b ↔ (x ≡ 0ℚ) → MatchBool (not b) (ApartAt slacks last e) (ApartAt slacks last e → ⊥)
+    by true z = λ apart. apart at (is ∙ z.0 tt)
+    by false z = λ _ same. (let t = z.1 (sym is ∙ same) in absurd t)
 
 pub apart_with_state : (slacks : List ℚ) (last : Pattern) (e : ℕ) (state : State) → slice_get last e ≡ Some (Some state) → ApartAt slacks last e
 apart_with_state slacks last e state at = λ none. absurd (cc)
@@ -67,8 +72,8 @@ module _ (net : Network) (s : Standing) (slacks : List ℚ) (is : slacks ≡ sla
   same_slack : (e : ℕ) (link : Link) → IsLink net e link → number_at slacks e ≡ slack s.labels (hop_of link)
   same_slack e link p = ap (λ (l : List ℚ). number_at l e) is ∙ slack_at net s.labels e link p
 
-  pub opened : length s.last ≡ length net.links → (starts : Bool) → starts ≡ none_starts net.pieces s.time → starts ≡ true → AreApart slacks s.last → IsOpen net s
-  opened count starts e t apart = record {
+  opened : (starts : Bool) → starts ≡ none_starts net.pieces s.time → starts ≡ true → AreApart slacks s.last → IsOpen net s
+  opened starts e t apart = record {
     no_start = starts_none net.pieces s.time (sym e ∙ t);
     apart = λ k link p none zero. apart k none (same_slack k link p ∙ zero);
   }
@@ -76,17 +81,16 @@ module _ (net : Network) (s : Standing) (slacks : List ℚ) (is : slacks ≡ sla
   pub not_started : (starts : Bool) → starts ≡ none_starts net.pieces s.time → starts ≡ false → IsOpen net s → ⊥
   not_started starts e f o = starts_some net.pieces s.time (sym e ∙ f) o.no_start
 
-  pub not_apart : length s.last ≡ length net.links → (AreApart slacks s.last → ⊥) → IsOpen net s → ⊥
-  not_apart count no o = no (λ k none same. (let l = link_there k none in o.apart k l.0 l.1 none (sym (same_slack k l.0 l.1) ∙ same)))
+  not_apart : length s.last ≡ length net.links → (AreApart slacks s.last → ⊥) → IsOpen net s → ⊥
+  not_apart count other o = other (λ k none same. (let l = link_there k none in o.apart k l.0 l.1 none (sym (same_slack k l.0 l.1) ∙ same)))
     where
       link_there : (k : ℕ) → slice_get s.last k ≡ Some None → (link : Link) × IsLink net k link
       link_there k none = entry net.links k (subst (λ (m : ℕ). k < m) count (slice_get_within s.last k None none))
 
-  pub is_open_by : length s.last ≡ length net.links → (starts apart : Bool) → starts ≡ none_starts net.pieces s.time → MatchBool apart (AreApart slacks s.last) (AreApart slacks s.last → ⊥)
-      → MatchBool (starts && apart) (IsOpen net s) (IsOpen net s → ⊥)
-  is_open_by count true true e a = opened count true e (cc) a
-  is_open_by count true false e a = not_apart count a
-  is_open_by count false apart e a = not_started false e (cc)
+  pub open_if : length s.last ≡ length net.links → (starts : Bool) → starts ≡ none_starts net.pieces s.time → starts ≡ true → (apart : Bool) → MatchBool apart (AreApart slacks s.last) (AreApart slacks s.last → ⊥)
+      → MatchBool apart (IsOpen net s) (IsOpen net s → ⊥)
+  open_if count starts e t true a = opened starts e t a
+  open_if count starts e t false a = not_apart count a
 
 pub continues_by : (net : Network) (s : Standing) (opens : Bool) → s.made ≡ 0 → MatchBool opens (IsOpen net s) (IsOpen net s → ⊥) → MatchBool opens (Continues net s) (Continues net s → ⊥)
 continues_by net s true first o = (first, o)

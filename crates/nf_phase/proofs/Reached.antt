@@ -9,7 +9,7 @@ use Rattle.nf_rational_laws.proofs.Order.{not_both_ℚ}
 use Rattle.nf_work.specs.Passing.{Passing}
 use Rattle.nf_model.specs.declared.State.TheVariants.{Full}
 use Rattle.nf_model.specs.Entries.{Has}
-use Rattle.nf_model.specs.Network.{Link, Network, IsNetwork, hop_of, hops, unbounded}
+use Rattle.nf_model.specs.Network.{Link, Network, IsNetwork, IsLink, hop_of, hops, unbounded}
 use Rattle.nf_model.specs.ThinFlow.{slack, slacks_of, sets_at}
 use Rattle.nf_model.specs.Pattern.{Pattern, HasState, IsPattern, IsListedIn, IsBase}
 use Rattle.nf_model.specs.Equilibrium.{HasShape, HasSlopes}

@@ -40,22 +40,22 @@ point_is p t y e f = λ i. (e i, f i)
 
 last_of : (x : Point) (rest : List Point) → (p : Point) × (front : List Point) × (x ∷ rest ≡ front ++ p ∷ [])
 last_of x [] = (x, [], refl)
-last_of x (y ∷ rest) = let w = last_of y rest in (w.0, x ∷ w.1.0, ap (λ (l : List Point). x ∷ l) w.1.1)
+last_of x (y ∷ rest) = let w = last_of y rest in (w.0, x ∷ w.1, ap (λ (l : List Point). x ∷ l) w.2)
 
 -- a curve in short form, up to the time of its last point, is itself
 cut_at_end : (points : List Point) (last : ℚ) → IsCurve points → IsShort points → end_of points ≡ last → IsShortCut points last points
 cut_at_end [] last c short e = absurd c
 cut_at_end (x ∷ rest) last c short e =
     let w : (p : Point) × (front : List Point) × (x ∷ rest ≡ front ++ p ∷ []) = last_of x rest in
-    let time : w.0.0 ≡ last = sym (ap end_of w.1.1 ∙ end-append w.1.0 w.0) ∙ e in
+    let time : w.0.0 ≡ last = sym (ap end_of w.2 ∙ end-append w.1 w.0) ∙ e in
     let on : (t : ℚ) → last ≤ℚ t → value (x ∷ rest) t ≡ w.0.1 = λ t h.
-    EndsAt-value (x ∷ rest) w.0 t (record { front = w.1.0; same = w.1.1; curve = c }) (subst (λ (z : ℚ). z ≤ℚ t) (sym time) h) in
+    EndsAt-value (x ∷ rest) w.0 t (record { front = w.1; same = w.2; curve = c }) (subst (λ (z : ℚ). z ≤ℚ t) (sym time) h) in
     record {
       curve = c;
       form = short;
       values = λ t h. refl;
       after = λ t h. on t h ∙ sym (on last (≤ℚ_refl last));
-      ends = record { front = w.1.0; same = w.1.1 ∙ ap (λ (p : Point). w.1.0 ++ p ∷ []) (point_is w.0 last (value (x ∷ rest) last) time (sym (on last (≤ℚ_refl last)))); curve = c };
+      ends = record { front = w.1; same = w.2 ∙ ap (λ (p : Point). w.1 ++ p ∷ []) (point_is w.0 last (value (x ∷ rest) last) time (sym (on last (≤ℚ_refl last)))); curve = c };
     }
 
 -- ---- a flow that ends at its labels is what is left of it up to the departure reached

@@ -58,8 +58,8 @@ module _ (passes : Passing) (net : Network) (good : IsNetwork net) (s : Standing
 
 -- one that goes on with none that was cut short is a phase of the run
 pub begin_step : (passes : Passing) (net : Network) (horizon : ℚ) (patterns : ℕ) (s t : Standing) → (Continues net s → ⊥) → Steps passes net horizon patterns s t → Goes passes net horizon patterns s t
-begin_step passes net horizon patterns s _ no (continues c g) = absurd (no c)
-begin_step passes net horizon patterns s t no (begins c g) = g
+begin_step passes net horizon patterns s _ apart (continues c g) = absurd (apart c)
+begin_step passes net horizon patterns s t apart (begins c g) = g
 
 -- curves that are the same make the same standing
 pub same_standing : (s t : Standing) (label_curves : List GrowingCurve) (link_curves : List LinkCurves) → s ≡ t → label_curves ≡ s.label_curves → link_curves ≡ s.link_curves

@@ -37,12 +37,7 @@ impl Run {
     /// at its labels at the departure reached, and `last` has of each link its state or none, and never Full of an unbounded link. The
     /// run keeps the slopes of the last pieces of labels and queues: Passed comes exactly at the first operation of their list that
     /// passes, node by node and then link by link, and has part Curve.
-    pub fn restore(
-        alloc: Global,
-        net: &Network,
-        flow: Flow,
-        last: Pattern,
-    ) -> Result<Run, Halt<Q>>
+    pub fn restore(alloc: Global, net: &Network, flow: Flow, last: Pattern) -> Result<Run, Halt<Q>>
         requires equilibrium { Equilibrium net.now.net (flow_in flow) }
         requires ends { EndsAtItsLabels net.now.net (flow_in flow) }
         requires short { IsShortFlow net.now.net (flow_in flow) }

@@ -18,7 +18,9 @@ use Rattle.nf_phase.proofs.OneByOne.{SoFar, none_yet, one_more, one_passes, all_
 use Rattle.nf_phase.proofs.growth.restore_labels.Goals as goal
 
 pub loop-curve-init : goal.loop-curve-init
-loop-curve-init c = none_yet (growing passes_Q) (map (λ (g : Grown). g.points) c.args.curves.now)
+loop-curve-init c =
+    subst (λ (l : List GrowingCurve). SoFar (growing passes_Q) (map (λ (g : Grown). g.points) c.args.curves.now) l 0) (sym (ap all_grown c.new-grown.ensures.items))
+    (none_yet (growing passes_Q) (map (λ (g : Grown). g.points) c.args.curves.now))
 
 pub returns-in_err-next : goal.returns-in_err-next
 returns-in_err-next c =

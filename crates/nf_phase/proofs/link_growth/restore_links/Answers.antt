@@ -18,15 +18,17 @@ use Rattle.nf_phase.proofs.OneByOne.{LinksSoFar, no_links, one_link, link_passes
 use Rattle.nf_phase.proofs.link_growth.restore_links.Goals as goal
 
 pub loop-e-init : goal.loop-e-init
-loop-e-init c = no_links passes_Q (map trace_of c.args.inflows.now) (map trace_of c.args.outflows.now) (map (λ (g : Grown). g.points) c.args.queues.now)
+loop-e-init c =
+    subst (λ (l : List LinkCurves). LinksSoFar passes_Q (map trace_of c.args.inflows.now) (map trace_of c.args.outflows.now) (map (λ (g : Grown). g.points) c.args.queues.now) l 0) (sym (ap all_grown c.new-curves.ensures.items))
+    (no_links passes_Q (map trace_of c.args.inflows.now) (map trace_of c.args.outflows.now) (map (λ (g : Grown). g.points) c.args.queues.now))
 
-pub of-next-requires-clause-inflow : goal.of-next-requires-clause-inflow
-of-next-requires-clause-inflow c =
+pub of-requires-clause-inflow : goal.of-requires-clause-inflow
+of-requires-clause-inflow c =
     let in_inflows : c.loop-e.e < length c.args.inflows.now = omega arith in
     c.requires.inflow_rates c.loop-e.e (trace_of c.index-inflows-e.result) (slice_get-image trace_of c.args.inflows.now c.loop-e.e c.index-inflows-e.result (slice_get_read c.args.inflows.now _ c.loop-e.e c.index-inflows-e.result refl in_inflows c.index-inflows-e.is))
 
-pub of-next-requires-clause-outflow : goal.of-next-requires-clause-outflow
-of-next-requires-clause-outflow c =
+pub of-requires-clause-outflow : goal.of-requires-clause-outflow
+of-requires-clause-outflow c =
     let in_outflows : c.loop-e.e < length c.args.outflows.now = omega arith in
     c.requires.outflow_rates c.loop-e.e (trace_of c.index-outflows-e.result) (slice_get-image trace_of c.args.outflows.now c.loop-e.e c.index-outflows-e.result (slice_get_read c.args.outflows.now _ c.loop-e.e c.index-outflows-e.result refl in_outflows c.index-outflows-e.is))
 

@@ -19,20 +19,20 @@ use Rattle.nf_phase.proofs.Restarting.{flow_restored}
 use Rattle.nf_phase.proofs.OneByOne.{labels_pass, links_pass, list_made, ends_same, flow_counts, same_parts}
 use Rattle.nf_phase.proofs.run.Run.restore.Goals as goal
 
-pub restore_links-link_curves-requires-clause-outflows : goal.restore_links-link_curves-requires-clause-outflows
-restore_links-link_curves-requires-clause-outflows c =
+pub restore_links-requires-clause-outflows : goal.restore_links-requires-clause-outflows
+restore_links-requires-clause-outflows c =
     ap (λ (l : List code.Trace). length l) c.deref-4.ensures.value ∙ (flow_counts c.args.net.now.net c.args.flow c.requires.equilibrium).0 ∙ sym (ap (λ (l : List code.Trace). length l) c.deref-3.ensures.value)
 
-pub restore_links-link_curves-requires-clause-queues : goal.restore_links-link_curves-requires-clause-queues
-restore_links-link_curves-requires-clause-queues c =
+pub restore_links-requires-clause-queues : goal.restore_links-requires-clause-queues
+restore_links-requires-clause-queues c =
     ap (λ (l : List Grown). length l) c.deref-5.ensures.value ∙ (flow_counts c.args.net.now.net c.args.flow c.requires.equilibrium).1 ∙ sym (ap (λ (l : List code.Trace). length l) c.deref-3.ensures.value)
 
-pub restore_links-link_curves-requires-clause-inflow_rates : goal.restore_links-link_curves-requires-clause-inflow_rates
-restore_links-link_curves-requires-clause-inflow_rates c =
+pub restore_links-requires-clause-inflow_rates : goal.restore_links-requires-clause-inflow_rates
+restore_links-requires-clause-inflow_rates c =
     subst (λ (l : List code.Trace). HasSlopes (map trace_of l)) (sym c.deref-3.ensures.value) c.requires.equilibrium.inflow_rates
 
-pub restore_links-link_curves-requires-clause-outflow_rates : goal.restore_links-link_curves-requires-clause-outflow_rates
-restore_links-link_curves-requires-clause-outflow_rates c =
+pub restore_links-requires-clause-outflow_rates : goal.restore_links-requires-clause-outflow_rates
+restore_links-requires-clause-outflow_rates c =
     subst (λ (l : List code.Trace). HasSlopes (map trace_of l)) (sym c.deref-4.ensures.value) c.requires.equilibrium.outflow_rates
 
 pub returns-in_err-label_curves-clause-list : goal.returns-in_err-label_curves-clause-list

@@ -7,54 +7,54 @@ use Rattle.nf_phase.proofs.run.Run.step.Goals as goal
 
 pub returns-clause-goes : goal.returns-clause-goes
 returns-clause-goes c =
-    steps_made passes_Q c.args.net.now.net c.phase-next.ensures.named.network c.args.horizon c.args.patterns c.args.self.now c.requires.reaches c.in_ok-next.next.phase c.in_ok-next.ensures.leads c.in_ok-next.next.rests c.in_ok-next.ensures.rests
+    steps_made passes_Q c.args.net.now.net c.phase.ensures.named.network c.args.horizon c.args.patterns c.args.self.now c.requires.reaches c.in_ok-next.next.phase c.in_ok-next.ensures.leads c.in_ok-next.next.rests c.in_ok-next.ensures.rests
     c.go_on_by.new.self c.in_ok-go_on_by.ensures.made
 
 pub returns-clause-begins : goal.returns-clause-begins
 returns-clause-begins c = λ none. begin_step passes_Q c.args.net.now.net c.args.horizon c.args.patterns c.args.self.now c.go_on_by.new.self none (returns-clause-goes c)
 
 pub returns-clause-only : goal.returns-clause-only
-returns-clause-only c = only_step passes_Q c.args.net.now.net c.phase-next.ensures.named.network c.args.self.now c.requires.reaches c.args.horizon c.args.patterns _ (returns-clause-goes c)
+returns-clause-only c = only_step passes_Q c.args.net.now.net c.phase.ensures.named.network c.args.self.now c.requires.reaches c.args.horizon c.args.patterns _ (returns-clause-goes c)
 
 pub returns-clause-reaches : goal.returns-clause-reaches
-returns-clause-reaches c = reaches_step passes_Q c.args.net.now.net c.phase-next.ensures.named.network c.args.self.now c.requires.reaches c.args.horizon c.args.patterns _ (returns-clause-goes c)
+returns-clause-reaches c = reaches_step passes_Q c.args.net.now.net c.phase.ensures.named.network c.args.self.now c.requires.reaches c.args.horizon c.args.patterns _ (returns-clause-goes c)
 
 pub returns-clause-equilibrium : goal.returns-clause-equilibrium
-returns-clause-equilibrium c = equilibrium_reached passes_Q c.args.net.now.net c.phase-next.ensures.named.network _ (returns-clause-reaches c)
+returns-clause-equilibrium c = equilibrium_reached passes_Q c.args.net.now.net c.phase.ensures.named.network _ (returns-clause-reaches c)
 
 pub returns-clause-ends : goal.returns-clause-ends
-returns-clause-ends c = ends_reached passes_Q c.args.net.now.net c.phase-next.ensures.named.network _ (returns-clause-reaches c)
+returns-clause-ends c = ends_reached passes_Q c.args.net.now.net c.phase.ensures.named.network _ (returns-clause-reaches c)
 
 pub returns-clause-labels : goal.returns-clause-labels
-returns-clause-labels c = keeps_reached passes_Q c.args.net.now.net c.phase-next.ensures.named.network _ (returns-clause-reaches c)
+returns-clause-labels c = keeps_reached passes_Q c.args.net.now.net c.phase.ensures.named.network _ (returns-clause-reaches c)
 
 pub returns-clause-short : goal.returns-clause-short
-returns-clause-short c = short_reached passes_Q c.args.net.now.net c.phase-next.ensures.named.network _ (returns-clause-reaches c)
+returns-clause-short c = short_reached passes_Q c.args.net.now.net c.phase.ensures.named.network _ (returns-clause-reaches c)
 
 -- ---- where the step is refused the run stands where it stood
 pub returns-in_err-next-clause-equilibrium : goal.returns-in_err-next-clause-equilibrium
-returns-in_err-next-clause-equilibrium c = equilibrium_reached passes_Q c.args.net.now.net c.phase-next.ensures.named.network _ c.requires.reaches
+returns-in_err-next-clause-equilibrium c = equilibrium_reached passes_Q c.args.net.now.net c.phase.ensures.named.network _ c.requires.reaches
 
 pub returns-in_err-next-clause-ends : goal.returns-in_err-next-clause-ends
-returns-in_err-next-clause-ends c = ends_reached passes_Q c.args.net.now.net c.phase-next.ensures.named.network _ c.requires.reaches
+returns-in_err-next-clause-ends c = ends_reached passes_Q c.args.net.now.net c.phase.ensures.named.network _ c.requires.reaches
 
 pub returns-in_err-next-clause-labels : goal.returns-in_err-next-clause-labels
-returns-in_err-next-clause-labels c = keeps_reached passes_Q c.args.net.now.net c.phase-next.ensures.named.network _ c.requires.reaches
+returns-in_err-next-clause-labels c = keeps_reached passes_Q c.args.net.now.net c.phase.ensures.named.network _ c.requires.reaches
 
 pub returns-in_err-next-clause-short : goal.returns-in_err-next-clause-short
-returns-in_err-next-clause-short c = short_reached passes_Q c.args.net.now.net c.phase-next.ensures.named.network _ c.requires.reaches
+returns-in_err-next-clause-short c = short_reached passes_Q c.args.net.now.net c.phase.ensures.named.network _ c.requires.reaches
 
 pub returns-in_err-go_on_by-clause-reaches : goal.returns-in_err-go_on_by-clause-reaches
 returns-in_err-go_on_by-clause-reaches c = subst (Reaches passes_Q c.args.net.now.net) (sym c.in_err-go_on_by.ensures.kept) c.requires.reaches
 
 pub returns-in_err-go_on_by-clause-equilibrium : goal.returns-in_err-go_on_by-clause-equilibrium
-returns-in_err-go_on_by-clause-equilibrium c = equilibrium_reached passes_Q c.args.net.now.net c.phase-next.ensures.named.network _ (returns-in_err-go_on_by-clause-reaches c)
+returns-in_err-go_on_by-clause-equilibrium c = equilibrium_reached passes_Q c.args.net.now.net c.phase.ensures.named.network _ (returns-in_err-go_on_by-clause-reaches c)
 
 pub returns-in_err-go_on_by-clause-ends : goal.returns-in_err-go_on_by-clause-ends
-returns-in_err-go_on_by-clause-ends c = ends_reached passes_Q c.args.net.now.net c.phase-next.ensures.named.network _ (returns-in_err-go_on_by-clause-reaches c)
+returns-in_err-go_on_by-clause-ends c = ends_reached passes_Q c.args.net.now.net c.phase.ensures.named.network _ (returns-in_err-go_on_by-clause-reaches c)
 
 pub returns-in_err-go_on_by-clause-labels : goal.returns-in_err-go_on_by-clause-labels
-returns-in_err-go_on_by-clause-labels c = keeps_reached passes_Q c.args.net.now.net c.phase-next.ensures.named.network _ (returns-in_err-go_on_by-clause-reaches c)
+returns-in_err-go_on_by-clause-labels c = keeps_reached passes_Q c.args.net.now.net c.phase.ensures.named.network _ (returns-in_err-go_on_by-clause-reaches c)
 
 pub returns-in_err-go_on_by-clause-short : goal.returns-in_err-go_on_by-clause-short
-returns-in_err-go_on_by-clause-short c = short_reached passes_Q c.args.net.now.net c.phase-next.ensures.named.network _ (returns-in_err-go_on_by-clause-reaches c)
+returns-in_err-go_on_by-clause-short c = short_reached passes_Q c.args.net.now.net c.phase.ensures.named.network _ (returns-in_err-go_on_by-clause-reaches c)

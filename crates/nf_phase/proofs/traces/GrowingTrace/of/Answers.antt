@@ -9,7 +9,7 @@ use Rattle.nf_phase.proofs.traces.GrowingTrace.of.Goals as goal
 pub ended-requires : goal.ended-requires
 ended-requires c = λ some.
     two_points c.args.trace.now.curve.points c.args.trace.now.rates.items c.pop-last.new.self.items c.pop-last.result c.requires
-    (sym (c.in_ok-rates.ensures.items ∙ c.as_slice.ensures.value) ∙ c.pop-last.ensures.items) some
+    (sym (c.in_ok-rates.ensures.items_if_clones_equal (λ x y e. e) ∙ c.as_slice.ensures.value) ∙ c.pop-last.ensures.items) some
 
 pub invariant_of-result : goal.invariant_of-result
 invariant_of-result c =
@@ -19,5 +19,5 @@ invariant_of-result c =
 pub returns : goal.returns
 returns c = λ i. record {
   points = c.in_ok-curve.ensures.points i;
-  rates = (ap (λ (o : Option ℚ). c.pop-last.new.self.items ++ option_to_list o) c.in_ok-curve.ensures.slope ∙ sym c.pop-last.ensures.items ∙ c.in_ok-rates.ensures.items ∙ c.as_slice.ensures.value) i;
+  rates = (ap (λ (o : Option ℚ). c.pop-last.new.self.items ++ option_to_list o) c.in_ok-curve.ensures.slope ∙ sym c.pop-last.ensures.items ∙ c.in_ok-rates.ensures.items_if_clones_equal (λ x y e. e) ∙ c.as_slice.ensures.value) i;
 }
