@@ -43,16 +43,19 @@ starts_some (x ∷ pieces) time h apart =
     starts_by x time (is_same x.start time) (none_starts pieces time) refl h (apart 0 x refl) (λ later. starts_some pieces time later (λ i piece at. apart (suc i) piece at))
 
 -- ---- links without a state
-pub apart_by : (slacks : List ℚ) (last : Pattern) (e : ℕ) (x : ℚ) (zero : Bool) → slice_get slacks e ≡ Some x → IsTrue zero ↔ (x ≡ 0ℚ) → slice_get last e ≡ Some None
-    → MatchBool (not zero) (ApartAt slacks last e) (ApartAt slacks last e → ⊥)
-apart_by slacks last e x zero here z at = by zero z
+pub apart_by : (slacks : List ℚ) (last : Pattern) (e : ℕ) (x : ℚ) (level : Bool) → slice_get slacks e ≡ Some x → IsTrue level ↔ (x ≡ 0ℚ) → slice_get last e ≡ Some None
+    → MatchBool (not level) (ApartAt slacks last e) (ApartAt slacks last e → ⊥)
+apart_by slacks last e x level here z at = by level z
   where
     is : number_at slacks e ≡ x
     is = ap (λ (o : Option ℚ). unwrap_or o 0ℚ) here
 
+    never : IsTrue false → ⊥
+    never t = cc
+
     by : (b : Bool) → IsTrue b ↔ (x ≡ 0ℚ) → MatchBool (not b) (ApartAt slacks last e) (ApartAt slacks last e → ⊥)
-    by true z = λ apart. apart at (is ∙ z.0 tt)
-    by false z = λ _ same. (let t = z.1 (sym is ∙ same) in absurd t)
+    by true z = λ apart. apart at (is ∙ z.0 refl)
+    by false z = λ _ same. never (z.1 (sym is ∙ same))
 
 pub apart_with_state : (slacks : List ℚ) (last : Pattern) (e : ℕ) (state : State) → slice_get last e ≡ Some (Some state) → ApartAt slacks last e
 apart_with_state slacks last e state at = λ none. absurd (cc)

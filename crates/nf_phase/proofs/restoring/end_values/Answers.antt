@@ -1,4 +1,4 @@
-use Rattle.std.proofs.Common.{◌≡◌, ◌-◌, length, refl, arith}
+use Rattle.std.proofs.Common.{refl, arith}
 use Rattle.std.proofs.lemmas.Option.{slice_get_read}
 use Rattle.nf_resume_lists.specs.Restoring.{value_at_end}
 use Rattle.nf_curve.specs.Points.{Grown}

@@ -1,9 +1,10 @@
 use Rattle.std.proofs.Common.{◌≡◌, List, length, sym, ap, subst, ◌∙◌}
-use Rattle.std.specs.Prelude.{MatchBool}
+use Rattle.std.specs.Prelude.{Bool, MatchBool}
 use Rattle.nf_work.specs.Passing.{passes_Q}
 use Rattle.nf_model.specs.Network.{Piece}
 use Rattle.nf_model.specs.Pattern.{Pattern}
 use Rattle.nf_lists.specs.PhaseRun.{Standing}
+use Rattle.nf_resume_lists.specs.Open.{IsOpen}
 use Rattle.nf_phase.specs.Restarting.{none_starts, AreApart}
 use Rattle.nf_phase.proofs.Reached.{Stands-reached}
 use Rattle.nf_phase.proofs.Opened.{open_if, not_started}
@@ -23,6 +24,7 @@ returns-then-starts c =
 
 pub returns-else-starts : goal.returns-else-starts
 returns-else-starts c =
-    not_started c.args.net.now.net c.args.self.now c.args.slacks.now c.requires.slacks c.none_starts-starts.result
+    subst (λ (b : Bool). MatchBool b (IsOpen c.args.net.now.net c.args.self.now) (IsOpen c.args.net.now.net c.args.self.now → ⊥)) (sym c.if-starts.false)
+    (not_started c.args.net.now.net c.args.self.now c.args.slacks.now c.requires.slacks c.none_starts-starts.result
     (c.none_starts-starts.ensures ∙ ap (λ (p : List Piece). none_starts p c.self.inside.reached) c.pieces.ensures.value ∙ ap (λ (s : Standing). none_starts c.args.net.now.net.pieces s.time) c.self.view_is)
-    c.if-starts.false
+    c.if-starts.false)
