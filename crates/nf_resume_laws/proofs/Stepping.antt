@@ -104,7 +104,7 @@ module _ (passes : Passing) (net : Network) (good : IsNetwork net) (bounds : Bou
       )
 
   -- ---- phase by phase
-  WellRun-last : (last : Pattern) (s : Standing) → WellRun net s → WellRun net (with_last last s)
+  pub WellRun-last : (last : Pattern) (s : Standing) → WellRun net s → WellRun net (with_last last s)
   WellRun-last last s w = record {
     grow = w.grow;
     label_count = w.label_count;
