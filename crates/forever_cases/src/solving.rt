@@ -14,7 +14,9 @@ const MOST: u32 = 65_536;
 
 // The budgets of two words.
 fn budgets_of(words: &str) -> Option<Budgets> {
-    let (phases, patterns) = words.split_once(" ")?;
+    let Some((phases, patterns)) = words.split_once(" ") else {
+        return None;
+    };
     let phases = nf_numerals::count(phases.as_bytes())?;
     let patterns = nf_numerals::count(patterns.as_bytes())?;
     Some(Budgets { phases, patterns })

@@ -61,7 +61,7 @@ module _ (net : Network) (good : IsNetwork net) (last : Standing) (well : WellRu
     inflow_rates = have_rates (flow_of last).inflows (HasSlopes-well net good last well).0;
     outflow_rates = have_rates (flow_of last).outflows (HasSlopes-well net good last well).1;
     states = counts.0;
-    tail = counts.1;
+    tail = (counts.1, counts.2);
   }
 
 equilibrium_of : (net : Network) (last : Standing) (end : End) → Equilibrium net (flow_of last) → Equilibrium net (forever_of last end).flow
@@ -75,9 +75,13 @@ GoesOn net forever = IfSome forever.tail (λ tail. (until : ℚ) → 0ℚ ≤ℚ
 abbrev pub StopsOrNot : Forever → Type 0
 StopsOrNot forever = IsSome forever.tail ↔ (forever.stop ≡ None)
 
+none_there : (tail : Option Tail) → tail ≡ None → IsSome tail → ⊥
+none_there None e h = cc
+none_there (Some t) e h = none-some t (sym e)
+
 stops_or_not : (last : Standing) (end : End) → StopsOrNot (forever_of last end)
-stops_or_not last (Stops cause) = (λ h. absurd h, λ e. absurd (none-some cause (sym e)))
-stops_or_not last (NeverEnds pattern tail) = (λ _. refl, λ _. tt)
+stops_or_not last (Stops cause) = (λ h. absurd (none_there None refl h), λ e. absurd (none-some cause (sym e)))
+stops_or_not last (NeverEnds pattern tail) = (λ _. refl, λ _. refl)
 
 module _ (passes : Passing) (net : Network) (good : IsNetwork net) (phases patterns : ℕ) where
   goes_on_of : (last : Standing) (end : End) → IsForeverRun passes net phases patterns last end → GoesOn net (forever_of last end)

@@ -4,6 +4,7 @@ use Rattle.nf_formats.specs.Report.{for_each, label_lines, link_lines}
 use Rattle.nf_curve.specs.Flows.{flow_of, trace_of}
 use Rattle.nf_report.specs.Written.{Line, never_lines}
 use Rattle.nf_report.proofs.Gathering.{gathered_next, gathered_failed, gathered_then_failed}
+use Rattle.nf_forever.proofs.Joined.{right_first}
 use Rattle.nf_forever.proofs.text.put_curves.Goals as goal
 
 pub put_labels-requires : goal.put_labels-requires
@@ -21,7 +22,7 @@ returns-in_err-put_labels g c =
     let first : List Line = for_each c.args.net.now.net.nodes (label_lines c.args.net.now (flow_of c.args.flow.now)) in
     let second : List Line = never_lines c.args.net.now.idle_nodes in
     let third : List Line = for_each (length c.args.net.now.net.links) (link_lines c.args.net.now (flow_of c.args.flow.now)) in
-    gathered_failed first (second ++ third) (first ++ second ++ third) _ refl c.from_residual.ensures.0 c.in_err-put_labels.ensures
+    gathered_failed first (second ++ third) (first ++ second ++ third) _ (right_first first second third) c.from_residual.ensures.0 c.in_err-put_labels.ensures
 
 pub returns-in_err-put_idle : goal.returns-in_err-put_idle
 returns-in_err-put_idle g c =

@@ -5,6 +5,7 @@ use Rattle.nf_report.specs.Written.{Line}
 use Rattle.nf_report.proofs.Gathering.{gathered_next, gathered_failed, gathered_then_failed}
 use Rattle.nf_forever_lists.specs.ForeverText.{tail_lines}
 use Rattle.nf_forever.specs.Seen.{forever_in}
+use Rattle.nf_forever.proofs.Joined.{right_first}
 use Rattle.nf_forever.proofs.text.put_end.Goals as goal
 
 pub put_states-requires : goal.put_states-requires
@@ -18,7 +19,7 @@ returns-in_err-put_states g c =
     let first : List Line = for_each (length c.args.net.now.net.links) (state_lines c.args.net.now c.args.forever.now.last) in
     let second : List Line = tail_lines c.args.net.now (forever_in c.args.forever.now).tail in
     let third : List Line = (codes "end" ∷ []) ∷ [] in
-    gathered_failed first (second ++ third) (first ++ second ++ third) _ refl c.from_residual.ensures.0 c.in_err-put_states.ensures
+    gathered_failed first (second ++ third) (first ++ second ++ third) _ (right_first first second third) c.from_residual.ensures.0 c.in_err-put_states.ensures
 
 pub returns-in_err-put_tail_of : goal.returns-in_err-put_tail_of
 returns-in_err-put_tail_of g c =
