@@ -1,7 +1,6 @@
 -- A run that has gone on so far, and what it takes for it to end.
 use Rattle.std.proofs.Common.{◌≡◌, ℕ, suc, ◌+◌, ◌<◌, add-one, Bool, true, false, ⊎_elim, sym, ap, subst, ◌∙◌}
 use Rattle.std.specs.Prelude.{Option, Some, None, IsSome, Result, Ok, Err, IfOk, not, MatchBool}
-use Rattle.std.proofs.lemmas.Option.{same_Some}
 use Rattle.nf_rational.specs.Rational.{ℚ}
 use Rattle.nf_rational.specs.Operations.{0ℚ}
 use Rattle.nf_rational.specs.Order.{◌≤ℚ◌, ◌<ℚ◌, lt_ℚ}
@@ -11,11 +10,11 @@ use Rattle.nf_work.specs.Passing.{Passing}
 use Rattle.nf_model.specs.Network.{Network}
 use Rattle.nf_formats.specs.declared.Cause.{Cause}
 use Rattle.nf_lists.specs.PhaseRun.{Standing, Bounds, IsStart, Goes, Fails, Runs, at_horizon, at_phases, fails, goes, IsPhaseRun}
-use Rattle.nf_thin.specs.declared.searches.SearchFault.TheVariants as SearchFault
 use Rattle.nf_phase.specs.declared.fault.StepFault.{StepFault}
 use Rattle.nf_phase.specs.Stepping.{Reaches, starts, goes_on, IsCause}
 use Rattle.nf_phase.specs.Solution.{cause_of, stop_after}
 use Rattle.nf_phase.proofs.Ended.{goes_within}
+use Rattle.nf_phase.proofs.Stopping.{stands_stop}
 
 -- from the start it has gone on to here in so many phases, and what ends it here ends it from the start on
 pub record GoneTo (passes : Passing) (net : Network) (bounds : Bounds) (first : Standing) (phases : ℕ) (s : Standing) : Type 0 where
@@ -69,19 +68,10 @@ module _ (passes : Passing) (net : Network) (bounds : Bounds) (first : Standing)
         (lt_ℚ_cases s.time bounds.horizon)
 
     -- ---- where the next phase isn't made
-    fails_by : (fault : StepFault) → IsCause passes net bounds.horizon bounds.patterns s fault → (cause : Cause ℚ) → cause_of (suc s.made) fault ≡ Some cause
-        → Fails passes net bounds.horizon bounds.patterns s cause
-    fails_by (StepFault.Search (SearchFault.Budget tried)) h cause e = subst (Fails passes net bounds.horizon bounds.patterns s) (same_Some _ cause e) h
-    fails_by (StepFault.Search (SearchFault.Passed place at)) h cause e = subst (Fails passes net bounds.horizon bounds.patterns s) (same_Some _ cause e) h
-    fails_by (StepFault.Search SearchFault.NoPattern) h cause e = subst (Fails passes net bounds.horizon bounds.patterns s) (same_Some _ cause e) h
-    fails_by (StepFault.Search SearchFault.Memory) h cause e = absurd h
-    fails_by (StepFault.Passed at) h cause e = subst (Fails passes net bounds.horizon bounds.patterns s) (same_Some _ cause e) h
-    fails_by StepFault.Memory h cause e = absurd (cc)
-
     ended : phases < bounds.phases → (fault : StepFault) → IsCause passes net bounds.horizon bounds.patterns s fault → (stop : Option (Cause ℚ)) → stop ≡ cause_of (suc s.made) fault → IsSome stop
         → IsPhaseRun passes net bounds s stop
     ended may fault h None e some = absurd (cc)
-    ended may fault h (Some cause) e some = ends_by may cause (fails_by fault h cause (sym e))
+    ended may fault h (Some cause) e some = ends_by may cause (stands_stop (Fails passes net bounds.horizon bounds.patterns s) (suc s.made) fault h cause (sym e))
 
     pub ends_by_fault : phases < bounds.phases → (fault : StepFault) → IsCause passes net bounds.horizon bounds.patterns s fault → (after : Standing) → after ≡ s → (phase : ℕ) → phase ≡ suc after.made
         → {E : Type 0} (result : Result (Option (Cause ℚ)) E) → IfOk result (λ stop. stop ≡ cause_of phase fault) → IfOk result IsSome → IfOk result (IsPhaseRun passes net bounds after)

@@ -13,3 +13,6 @@ pub mod Stepped
 pub mod Found
 pub mod PhaseFound
 pub mod Going
+pub mod Stopping
+pub mod Copying
+pub mod ToEnd

@@ -13,7 +13,7 @@ use Rattle.nf_model.specs.ThinFlow.{slacks_of, sets_at}
 use Rattle.nf_model.specs.Pattern.{Pattern}
 use Rattle.nf_model.specs.Equilibrium.{Equilibrium}
 use Rattle.nf_lists.specs.ReportCurves.{GrowingCurve, LinkCurves, label_curves_after, link_curves_after}
-use Rattle.nf_lists.specs.PhaseRun.{Standing, Goes, standing_after, flow_of}
+use Rattle.nf_lists.specs.PhaseRun.{Standing, Goes, flow_of}
 use Rattle.nf_lists.specs.Ends.{end_of, EndsAtLabels}
 use Rattle.nf_lists_laws.proofs.Ending.{PhaseParts, phase_parts}
 use Rattle.nf_phase_laws.proofs.Length.{IsPhaseLength-some}
@@ -25,7 +25,7 @@ use Rattle.nf_run_laws.proofs.Standing.{label_count_at, source_label_at, ends_at
 use Rattle.nf_run_laws.proofs.Moving.{inflow_moves, outflow_moves, queue_steps}
 use Rattle.nf_phase.specs.declared.phase.Phase.{Phase}
 use Rattle.nf_phase.specs.Stepping.{Reaches, goes_on, LeadsOnlyTo}
-use Rattle.nf_phase.specs.Finding.{step_in, LeadsOn}
+use Rattle.nf_phase.specs.Finding.{step_in, after_phase, LeadsOn}
 use Rattle.nf_phase.specs.LinkGrowth.{AllLinksEndBefore}
 use Rattle.nf_phase.proofs.Reached.{Stands, Stands-reached}
 
@@ -54,13 +54,13 @@ same_standing s t label_curves link_curves e f g = (λ i. record { time = s.time
 module _ (passes : Passing) (net : Network) (good : IsNetwork net) (horizon : ℚ) (patterns : ℕ) (s : Standing) (reaches : Reaches passes net s) (phase : Phase)
     (leads : LeadsOn passes net horizon patterns s phase) where
   abbrev next : Standing
-  next = standing_after net s phase.pattern phase.slopes.items (step_in phase)
+  next = after_phase net s phase
 
   abbrev here : Stands net s
   here = Stands-reached passes net good s reaches
 
-  pub goes_next : Goes passes net horizon patterns s next
-  goes_next = record {
+  pub goes_made : (t : Standing) → t ≡ next → Goes passes net horizon patterns s t
+  goes_made t e = record {
     place = leads.place;
     pattern = phase.pattern;
     flows = leads.flows;
@@ -69,11 +69,11 @@ module _ (passes : Passing) (net : Network) (good : IsNetwork net) (horizon : �
     step = step_in phase;
     lists = leads.lists;
     is_length = leads.is_length;
-    new_is = refl;
+    new_is = e;
   }
 
   abbrev there : Stands net next
-  there = Stands-reached passes net good next (goes_on horizon patterns reaches goes_next)
+  there = Stands-reached passes net good next (goes_on horizon patterns reaches (goes_made next refl))
 
   some : 0ℚ <ℚ phase.length
   some = IsPhaseLength-some net (slacks_of (hops net) s.labels) phase.slopes.items s.time horizon phase.length leads.finds.below leads.is_length

@@ -4,8 +4,9 @@ ghost use Rattle.nf_rational.specs.Order.{◌<ℚ◌};
 ghost use Rattle.nf_lists.specs.Signs.{is_same as is_same_by, is_positive};
 ghost use Rattle.nf_lists.specs.Ends.{end_of};
 ghost use Rattle.nf_lists.specs.ReportCurves.{goes_on as goes_on_by, curve_with, queue_after, first_label_curve, first_queue as queue_at_start};
-ghost use Rattle.nf_phase.specs.Growing.{HasRoom, IsAfter, corners_by, end_value, step_of};
+ghost use Rattle.nf_phase.specs.Growing.{HasRoom, IsAfter, corners_by, points_to, end_value, step_of};
 
+use crate::copies::copy_of;
 use nf_curve::Curve;
 use nf_frac::Q;
 use std::alloc::{AllocError, Global};
@@ -72,6 +73,18 @@ fn close_unless(goes: bool, corners: &mut Curve, end: Option<End>)
             Err(_) => unreachable!(),
         }
     }
+}
+
+// The corners, and then the end, if there is one.
+fn with_end(mut corners: Curve, end: Option<End>) -> Result<Curve, AllocError>
+    requires { IsAfter corners.points end }
+    ensures { IfOk result (λ c. c.points ≡ points_to corners.points end) }
+{
+    let Some(end) = end else {
+        return Ok(corners);
+    };
+    corners.push(end.time, end.value)?;
+    Ok(corners)
 }
 
 impl GrowingCurve {
@@ -169,11 +182,15 @@ impl GrowingCurve {
     pub(crate) fn finish(self) -> Result<Curve, AllocError>
         ensures { IfOk result (λ c. c.points ≡ self.grown.points) }
     {
-        let GrowingCurve { mut corners, end } = self;
-        let Some(end) = end else {
-            return Ok(corners);
-        };
-        corners.push(end.time, end.value)?;
-        Ok(corners)
+        let GrowingCurve { corners, end } = self;
+        with_end(corners, end)
+    }
+
+    /// A copy of the curve as it is now.
+    pub(crate) fn copy(&self, alloc: Global) -> Result<Curve, AllocError>
+        ensures { IfOk result (λ c. c.points ≡ self.now.grown.points) }
+    {
+        let corners = copy_of(alloc, &self.corners)?;
+        with_end(corners, self.end)
     }
 }

@@ -3,6 +3,7 @@
 #![tactic(auto)]
 
 mod advance;
+mod copies;
 mod fault;
 mod finding;
 mod growing;
@@ -12,10 +13,12 @@ mod link_curves;
 mod link_growth;
 mod link_phase;
 mod link_steps;
+mod making;
 mod phase;
 mod run;
 mod solution;
 mod solving;
+mod stops;
 mod traces;
 
 pub use fault::StepFault;
@@ -23,3 +26,4 @@ pub use lengths::extension;
 pub use run::Run;
 pub use solution::{Budgets, Solution};
 pub use solving::solve;
+pub use stops::{ended_by, stop_by};

@@ -114,4 +114,17 @@ impl LinkCurves {
         } = self;
         Ok((inflow.finish()?, outflow.finish()?, queue.finish()?))
     }
+
+    /// A copy of the curves as they are now: inflow, outflow, and queue.
+    pub(crate) fn copy(&self, alloc: Global) -> Result<(Trace, Trace, Curve), AllocError>
+        ensures inflow { IfOk result (λ c. trace_of c.0 ≡ self.now.grown.inflow) }
+        ensures outflow { IfOk result (λ c. trace_of c.1 ≡ self.now.grown.outflow) }
+        ensures queue { IfOk result (λ c. c.2.points ≡ self.now.grown.queue.points) }
+    {
+        Ok((
+            self.inflow.copy(alloc)?,
+            self.outflow.copy(alloc)?,
+            self.queue.copy(alloc)?,
+        ))
+    }
 }

@@ -127,4 +127,14 @@ impl GrowingTrace {
         let curve = curve.finish()?;
         Ok(Trace { curve, rates })
     }
+
+    /// A copy of the trace as it is now.
+    pub(crate) fn copy(&self, alloc: Global) -> Result<Trace, AllocError>
+        ensures { IfOk result (λ t. trace_of t ≡ self.now.grown) }
+    {
+        let rates = self.rates.as_slice().to_vec(alloc)?;
+        let rates = with_last(rates, self.curve.slope())?;
+        let curve = self.curve.copy(alloc)?;
+        Ok(Trace { curve, rates })
+    }
 }
