@@ -53,11 +53,11 @@ module _ (passes : Passing) (net : Network) (good : IsNetwork net) (horizon : �
 
   pub pattern_count : length found.thin.pattern ≡ length net.links
   pattern_count =
-      let first = is.seeks.search.is_search.answers in
-      (is.seeks.search.is_search.is_listing.listed found.thin.place found.thin.pattern first.has_place).states.count ∙ active_count net s.labels
+      let first = is.seeks.is_search.answers in
+      (is.seeks.is_search.is_listing.listed found.thin.place found.thin.pattern first.has_place).states.count ∙ active_count net s.labels
 
   slope_count : length thin_slopes ≡ length s.labels
-  slope_count = is.seeks.search.is_search.answers.solution.solves.slope_count ∙ sym (label_count_at net good s stands.well)
+  slope_count = is.seeks.is_search.answers.solution.solves.slope_count ∙ sym (label_count_at net good s stands.well)
 
   pub counts_agree : (labels slopes : List ℚ) → labels ≡ s.labels → slopes ≡ thin_slopes → length slopes ≡ length labels
   counts_agree labels slopes e f = ap (λ (l : List ℚ). length l) f ∙ slope_count ∙ ap (λ (l : List ℚ). length l) (sym e)

@@ -8,7 +8,7 @@ use Rattle.nf_rational.specs.Order.{◌<ℚ◌}
 use Rattle.nf_rational_laws.proofs.Polynomial.{reading_of}
 use Rattle.nf_rational_laws.proofs.Linear.{lt, eq, linear_lt}
 use Rattle.nf_work.specs.Passing.{Passing}
-use Rattle.nf_work.specs.Checked.{Checked, checked, at_part, placed}
+use Rattle.nf_work.specs.Checked.{Checked, checked, at_part}
 use Rattle.nf_work.specs.declared.Op.TheVariants.{Sum}
 use Rattle.nf_work.specs.declared.Part.TheVariants.{Extend}
 use Rattle.nf_work.specs.declared.PassedAt.{PassedAt}

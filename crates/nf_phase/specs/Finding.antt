@@ -11,7 +11,6 @@ use Rattle.nf_model.specs.ThinFlow.{slacks_of, sets_at}
 use Rattle.nf_model.specs.Pattern.{Pattern}
 use Rattle.nf_model.specs.Phases.{IsPhaseLength}
 use Rattle.nf_formats.specs.declared.Cause.{Cause}
-use Rattle.nf_formats.specs.declared.Cause.TheVariants as Cause
 use Rattle.nf_lists.specs.Slack.{slack_list}
 use Rattle.nf_lists.specs.Search.{Answer, Found}
 use Rattle.nf_lists.specs.PhaseRun.{Standing, PhaseStep, Seeks, cause_of_search, phase_lists, standing_after}

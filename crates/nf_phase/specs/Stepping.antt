@@ -5,7 +5,6 @@ use Rattle.nf_work.specs.Passing.{Passing}
 use Rattle.nf_model.specs.Network.{Network}
 use Rattle.nf_model.specs.Phases.{IsPhase}
 use Rattle.nf_formats.specs.declared.Cause.{Cause}
-use Rattle.nf_formats.specs.declared.Cause.TheVariants as Cause
 use Rattle.nf_lists.specs.PhaseRun.{Standing, IsStart, Goes, Fails}
 use Rattle.nf_forever_lists.specs.Tails.{Tail}
 use Rattle.nf_forever_lists.specs.ForeverRun.{FailsOn}

@@ -31,12 +31,7 @@ pub(crate) struct Found {
 
 impl Run {
     // The slacks of the links.
-    fn slacks(
-        &self,
-        alloc: Global,
-        net: &Network,
-        patterns: u64,
-    ) -> Result<Vec<Q>, StepFault>
+    fn slacks(&self, alloc: Global, net: &Network, patterns: u64) -> Result<Vec<Q>, StepFault>
         requires reaches { Reaches passes_Q net.now.net self.now }
         ensures named { IsNamed net.now }
         ensures slacks { IfOk result (λ slacks. slacks.items ≡ slacks_of (hops_of net.now.net) self.now.labels) }

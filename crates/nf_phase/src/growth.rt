@@ -170,10 +170,7 @@ pub(crate) fn copy_labels(alloc: Global, growing: &[GrowingCurve]) -> Result<Vec
 }
 
 /// Copies of those of all links.
-pub(crate) fn copy_links(
-    alloc: Global,
-    growing: &[LinkCurves],
-) -> Result<FinishedLinks, AllocError>
+pub(crate) fn copy_links(alloc: Global, growing: &[LinkCurves]) -> Result<FinishedLinks, AllocError>
     ensures inflows { IfOk result (λ links. map trace_of links.inflows.items ≡ map (λ c. c.inflow) (all_grown growing.now)) }
     ensures outflows { IfOk result (λ links. map trace_of links.outflows.items ≡ map (λ c. c.outflow) (all_grown growing.now)) }
     ensures queues { IfOk result (λ links. map (λ c. c.points) links.queues.items ≡ map (λ c. c.queue.points) (all_grown growing.now)) }

@@ -1,4 +1,4 @@
-use Rattle.std.proofs.Common.{suc}
+use Rattle.std.proofs.Common.{suc, rules}
 use Rattle.nf_rational.specs.Operations.{0ℚ}
 use Rattle.nf_work.specs.Passing.{passes_Q}
 use Rattle.nf_phase.specs.Faults.{of_search}
@@ -16,4 +16,4 @@ returns-in_err-thin-clause-cause c =
 
 pub returns-clause-found : goal.returns-clause-found
 returns-clause-found c =
-    found_here passes_Q c.args.net.now.net c.args.patterns c.args.self.now c.in_ok-slacks.ensures.list 0ℚ _ c.in_ok-slacks.ensures.slacks ? (c.in_ok-thin.ensures 0ℚ)
+    found_here passes_Q c.args.net.now.net c.args.patterns c.args.self.now c.in_ok-slacks.ensures.list 0ℚ _ c.in_ok-slacks.ensures.slacks (search rules) (c.in_ok-thin.ensures 0ℚ)

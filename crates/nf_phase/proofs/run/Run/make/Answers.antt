@@ -8,7 +8,7 @@ use Rattle.nf_lists.specs.CurveList.{LinkStep}
 use Rattle.nf_lists.specs.ReportCurves.{GrowingCurve, LinkCurves}
 use Rattle.nf_lists.specs.PhaseRun.{Standing}
 use Rattle.nf_phase.specs.Growing.{Roomy, all_grown}
-use Rattle.nf_phase.proofs.Stepped.{curve_count, link_count, new_label_count, slope_count, step_count, source_next, labels_later, links_later, new_standing, same_standing}
+use Rattle.nf_phase.proofs.Stepped.{curve_count, link_count, new_label_count, slope_count, step_count, source_next, labels_later, links_later, new_standing}
 use Rattle.nf_phase.proofs.run.Run.make.Goals as goal
 
 pub departure_in-reached-requires : goal.departure_in-reached-requires
@@ -61,16 +61,3 @@ returns-clause-made c =
     (ap all_grown (with_items_is (with_items c.self.inside.label_curves c.reserve_labels.new.curves) c.labels_go_on.new.curves (c.labels_go_on.auto.curves ∙ c.deref_mut-3.ensures.len)) ∙ c.labels_go_on.ensures ∙ rw (c.deref-2.ensures.value, c.deref-3.ensures.value, (ap all_grown (c.deref_mut-3.ensures.value ∙ with_items_is c.self.inside.label_curves c.reserve_labels.new.curves (c.reserve_labels.auto.curves ∙ c.deref_mut.ensures.len)) ∙ c.in_ok-reserve_labels.ensures.same ∙ ap all_grown c.deref_mut.ensures.value ∙ ap (λ (s : Standing). s.label_curves) c.self.view_is)) refl)
     (ap all_grown (with_items_is (with_items c.self.inside.link_curves c.reserve_links.new.curves) c.links_go_on.new.curves (c.links_go_on.auto.curves ∙ c.deref_mut-4.ensures.len)) ∙ c.links_go_on.ensures ∙ rw (c.deref-4.ensures.value, c.deref-5.ensures.value, (ap all_grown (c.deref_mut-4.ensures.value ∙ with_items_is c.self.inside.link_curves c.reserve_links.new.curves (c.reserve_links.auto.curves ∙ c.deref_mut-2.ensures.len)) ∙ c.in_ok-reserve_links.ensures.same ∙ ap all_grown c.deref_mut-2.ensures.value ∙ ap (λ (s : Standing). s.link_curves) c.self.view_is)) refl)
     (add-one c.self.inside.made ∙ ap (λ (s : Standing). suc s.made) c.self.view_is) refl
-
--- ---- where memory is wanting the run stands where it stood
-pub returns-in_err-reserve_labels-clause-kept : goal.returns-in_err-reserve_labels-clause-kept
-returns-in_err-reserve_labels-clause-kept c =
-    same_standing _ c.args.self.now _ _ c.self.view_is
-    (ap all_grown (with_items_is c.self.inside.label_curves c.reserve_labels.new.curves (c.reserve_labels.auto.curves ∙ c.deref_mut.ensures.len)) ∙ c.in_err-reserve_labels.ensures.same ∙ ap all_grown c.deref_mut.ensures.value)
-    refl
-
-pub returns-in_err-reserve_links-clause-kept : goal.returns-in_err-reserve_links-clause-kept
-returns-in_err-reserve_links-clause-kept c =
-    same_standing _ c.args.self.now _ _ c.self.view_is
-    (ap all_grown (with_items_is c.self.inside.label_curves c.reserve_labels.new.curves (c.reserve_labels.auto.curves ∙ c.deref_mut.ensures.len)) ∙ c.in_ok-reserve_labels.ensures.same ∙ ap all_grown c.deref_mut.ensures.value)
-    (ap all_grown (with_items_is c.self.inside.link_curves c.reserve_links.new.curves (c.reserve_links.auto.curves ∙ c.deref_mut-2.ensures.len)) ∙ c.in_err-reserve_links.ensures.same ∙ ap all_grown c.deref_mut-2.ensures.value)
