@@ -1,17 +1,16 @@
 -- A run without a horizon that has gone on so far, and what it takes for it to end.
-use Rattle.std.proofs.Common.{◌≡◌, ℕ, suc, ◌+◌, ◌<◌, add-one, sym, ap, subst, ◌∙◌}
-use Rattle.std.specs.Prelude.{Some, Result, Ok, Err, IfOk}
+use Rattle.std.proofs.Common.{◌≡◌, ℕ, suc, ◌+◌, ◌<◌, add-one, refl, sym, ap, subst, ◌∙◌}
+use Rattle.std.specs.Prelude.{Option, Some, None, IsSome, MatchOption, Result, Ok, Err, IfOk}
 use Rattle.nf_rational.specs.Rational.{ℚ}
 use Rattle.nf_work.specs.Passing.{Passing}
 use Rattle.nf_model.specs.Network.{Network}
-use Rattle.nf_model.specs.Pattern.{Pattern}
 use Rattle.nf_formats.specs.declared.Cause.{Cause}
 use Rattle.nf_lists.specs.PhaseRun.{Standing, IsStart}
+use Rattle.nf_thin.specs.declared.searches.Thin.{Thin}
 use Rattle.nf_phase.specs.declared.fault.StepFault.{StepFault}
-use Rattle.nf_phase.specs.Stepping.{Reaches, starts, IsCauseOn}
+use Rattle.nf_phase.specs.Stepping.{Reaches, starts, IsCauseOn, tail_of}
 use Rattle.nf_phase.specs.Solution.{cause_of}
 use Rattle.nf_phase.proofs.Stopping.{stands_stop}
-use Rattle.nf_forever_lists.specs.Tails.{Tail}
 use Rattle.nf_forever_lists.specs.ForeverRun.{GoesToEnd, GoesForever, FailsOn, End, Stops, NeverEnds, RunsForever, at_phases, fails, never_ends, goes, IsForeverRun}
 use Rattle.nf_forever.specs.declared.solving.End.{End as Told}
 use Rattle.nf_forever.specs.Ends.{end_in, IsStopBy}
@@ -33,21 +32,32 @@ module _ (passes : Passing) (net : Network) (phases patterns : ℕ) (first : Sta
     may_go : count < phases → s.made < phases
     may_go h = subst (λ (n : ℕ). n < phases) (sym gone.made) h
 
-    pub gone_further : count < phases → (t : Standing) → Reaches passes net t → GoesToEnd passes net patterns s t → GoneOn passes net phases patterns first (count + 1) t
-    gone_further may t reaches g = record {
+    further : count < phases → (t : Standing) → Reaches passes net t → GoesToEnd passes net patterns s t → GoneOn passes net phases patterns first (count + 1) t
+    further may t reaches g = record {
       reaches = reaches;
       made = ap (λ (n : Standing). n.made) g.goes.new_is ∙ ap suc gone.made ∙ sym (add-one count);
       ends = λ last end runs. gone.ends last end (goes (may_go may) g runs);
     }
 
+    -- where no thin flow is answered, a phase was made
+    pub gone_further : count < phases → (answer : Option Thin) → answer ≡ None → (t : Standing) → Reaches passes net t
+        → MatchOption answer (GoesToEnd passes net patterns s t) (λ thin. GoesForever passes net patterns s thin.pattern (tail_of thin)) → GoneOn passes net phases patterns first (count + 1) t
+    gone_further may answer is t reaches g =
+        further may t reaches (subst (λ (o : Option Thin). MatchOption o (GoesToEnd passes net patterns s t) (λ thin. GoesForever passes net patterns s thin.pattern (tail_of thin))) is g)
+
     -- ---- where it ends
     pub ends_at_phases : count ≡ phases → (made : ℕ) → made ≡ s.made → IsForeverRun passes net phases patterns s (Stops (Cause.Phases made))
     ends_at_phases all made e = subst (λ (n : ℕ). IsForeverRun passes net phases patterns s (Stops (Cause.Phases n))) (sym e) (run_of (Stops (Cause.Phases s.made)) (at_phases (gone.made ∙ all)))
 
-    pub ends_never : count < phases → (pattern : Pattern) (tail : Tail) → GoesForever passes net patterns s pattern tail → (after : Standing) → after ≡ s
-        → IsForeverRun passes net phases patterns after (NeverEnds pattern tail)
-    ends_never may pattern tail g after same =
-        subst (λ (t : Standing). IsForeverRun passes net phases patterns t (NeverEnds pattern tail)) (sym same) (run_of (NeverEnds pattern tail) (never_ends (may_go may) g))
+    -- by the thin flow that is answered where no phase is made
+    pub ends_never : count < phases → (answer : Option Thin) (thin : Thin) → answer ≡ Some thin → (after : Standing)
+        → MatchOption answer (GoesToEnd passes net patterns s after) (λ thin. GoesForever passes net patterns s thin.pattern (tail_of thin)) → (IsSome answer → after ≡ s)
+        → IsForeverRun passes net phases patterns after (NeverEnds thin.pattern (tail_of thin))
+    ends_never may answer thin is after g stays =
+        let goes_forever = subst (λ (o : Option Thin). MatchOption o (GoesToEnd passes net patterns s after) (λ thin. GoesForever passes net patterns s thin.pattern (tail_of thin))) is g in
+        let same : after ≡ s = subst (λ (o : Option Thin). IsSome o → after ≡ s) is stays refl in
+        subst (λ (t : Standing). IsForeverRun passes net phases patterns t (NeverEnds thin.pattern (tail_of thin))) (sym same)
+        (run_of (NeverEnds thin.pattern (tail_of thin)) (never_ends (may_go may) goes_forever))
 
     ends_by : count < phases → (cause : Cause ℚ) → FailsOn passes net patterns s cause → IsForeverRun passes net phases patterns s (Stops cause)
     ends_by may cause f = run_of (Stops cause) (fails (may_go may) f)
