@@ -9,7 +9,6 @@ use Rattle.nf_lists.specs.PhaseRun.{Standing, IsStart}
 use Rattle.nf_thin.specs.declared.searches.Thin.{Thin}
 use Rattle.nf_phase.specs.declared.fault.StepFault.{StepFault}
 use Rattle.nf_phase.specs.Stepping.{Reaches, starts, IsCauseOn, tail_of}
-use Rattle.nf_phase.specs.Solution.{cause_of}
 use Rattle.nf_phase.proofs.Stopping.{stands_stop}
 use Rattle.nf_forever_lists.specs.ForeverRun.{GoesToEnd, GoesForever, FailsOn, End, Stops, NeverEnds, RunsForever, at_phases, fails, never_ends, goes, IsForeverRun}
 use Rattle.nf_forever.specs.declared.solving.End.{End as Told}

@@ -105,11 +105,7 @@ fn outcome(alloc: Global, run: &Run, end: End) -> Result<Forever, AllocError>
 /// equilibrium (a Nash flow over time: Koch and Skutella 2011). Where the last phase never ends, it is the tail, and the flow that goes
 /// on by it is an equilibrium up to every departure. The tail is no phase that was made: the budget of phases is looked at before it.
 /// It is refused only where memory is wanting.
-pub fn solve_forever(
-    alloc: Global,
-    net: &Network,
-    budgets: Budgets,
-) -> Result<Forever, AllocError>
+pub fn solve_forever(alloc: Global, net: &Network, budgets: Budgets) -> Result<Forever, AllocError>
     ensures run { IfOk result (λ f. IsForever passes_Q net.now.net budgets.phases budgets.patterns (forever_in f)) }
     ensures form { IfOk result (λ f. HasForm net.now.net (forever_in f)) }
     ensures equilibrium { IfOk result (λ f. Equilibrium net.now.net (flow_of f.flow)) }

@@ -150,11 +150,7 @@ fn put_never<O: Sink>(
 }
 
 /// Puts the lines of the idle nodes of a network on the page.
-pub fn put_idle<O: Sink>(
-    out: &mut O,
-    page: &mut Page,
-    net: &Network,
-) -> Result<(), SinkFault>
+pub fn put_idle<O: Sink>(out: &mut O, page: &mut Page, net: &Network) -> Result<(), SinkFault>
     ensures { GatheredLines (O.took out.old) (O.took out.new) (O.faults out.old) (O.faults out.new) page.old.items page.new.items
         (never_lines net.now.idle_nodes) result }
 {
