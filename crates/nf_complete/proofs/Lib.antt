@@ -1,0 +1,16 @@
+pub mod Contained
+pub mod Growing
+pub mod Rounding
+pub mod Cycling
+pub mod Numbered
+pub mod Deciding
+pub mod Telling
+pub mod LinkByLink
+pub mod Balancing
+pub mod ExitsTaken
+pub mod ThinFlows
+pub mod ThinAnswers
+pub mod Filling
+pub mod Interiors
+pub mod CancelsOn
+pub mod Stating

@@ -1,0 +1,71 @@
+// What is asked of a thin flow beside balances and slopes along links: nothing that needs an operation.
+ghost use Rattle.std.specs.Prelude.{◌≡◌, ◌<◌, length, MatchBool};
+ghost use Rattle.nf_rational.specs.Operations.{1ℚ};
+ghost use Rattle.nf_model.specs.Entries.{number_at};
+ghost use Rattle.nf_complete.specs.ThinParts.{NoneNegative, CarriesOnActive, IsProper};
+
+use crate::balances::is_same;
+use crate::taken::each_is_taken;
+use nf_frac::Q;
+use nf_graph::{LinkId, LinkSets};
+use nf_net::Network;
+
+// No number is below 0.
+fn none_negative(numbers: &[Q]) -> bool
+    ensures { MatchBool result (NoneNegative numbers.now) (NoneNegative numbers.now → ⊥) }
+{
+    for i in 0..numbers.len() {
+        if !Q::zero().is_at_most(numbers[i]) {
+            return false;
+        }
+    }
+    true
+}
+
+// Links that aren't active carry nothing.
+fn carries_on_active(net: &Network, sets: &LinkSets, flows: &[Q]) -> bool
+    requires sets { length sets.now.active ≡ length net.now.net.links }
+    requires flows { length flows.now ≡ length net.now.net.links }
+    ensures { MatchBool result (CarriesOnActive sets.now flows.now) (CarriesOnActive sets.now flows.now → ⊥) }
+{
+    for e in 0..net.link_count() {
+        let link = LinkId(e);
+        if !sets.active(link) {
+            if !is_same(flows[link.index()], Q::zero()) {
+                return false;
+            }
+        }
+    }
+    true
+}
+
+// The slope of the source is 1.
+fn starts(net: &Network, slopes: &[Q]) -> bool
+    requires { length slopes.now ≡ net.now.net.nodes }
+    ensures { MatchBool result (number_at slopes.now net.now.net.source ≡ 1ℚ) (number_at slopes.now net.now.net.source ≡ 1ℚ → ⊥) }
+{
+    let source = net.source();
+    is_same(slopes[source.index()], Q::one())
+}
+
+/// All of it.
+pub(crate) fn is_proper(net: &Network, sets: &LinkSets, flows: &[Q], slopes: &[Q]) -> bool
+    requires sets { length sets.now.active ≡ length net.now.net.links }
+    requires flows { length flows.now ≡ length net.now.net.links }
+    requires slopes { length slopes.now ≡ net.now.net.nodes }
+    ensures { MatchBool result (IsProper net.now.net sets.now flows.now slopes.now) (IsProper net.now.net sets.now flows.now slopes.now → ⊥) }
+{
+    if !none_negative(flows) {
+        return false;
+    }
+    if !none_negative(slopes) {
+        return false;
+    }
+    if !carries_on_active(net, sets, flows) {
+        return false;
+    }
+    if !starts(net, slopes) {
+        return false;
+    }
+    each_is_taken(net, sets, flows, slopes)
+}
