@@ -69,28 +69,30 @@ halts_of Comes flows_of list (Halt.Passed p) f said = let q = passed_of list (se
 halts_of Comes flows_of list Halt.Memory f said = tt
 
 -- ---- one after the other
-module _ (passes : Passing) (net : Network) (sets : Sets) (rate : ℚ) (slopes : List ℚ) (good : AreGoodSets net sets) (fulls : List (Option ℚ)) (fulls_ok : fulls_list passes net sets slopes ≡ Ok fulls)
-    (first : List ℚ) where
-  abbrev Comes : List ℚ → Checked (List ℚ) → Type 0
-  Comes flows result = Cancels passes net sets slopes fulls flows result
+-- these flows are a thin flow, and the first flows come to what they come to
+pub record CancelsOn (passes : Passing) (net : Network) (sets : Sets) (rate : ℚ) (slopes : List ℚ) (fulls : List (Option ℚ)) (first flows : List ℚ) : Type 0 where
+  pub thin : IsThinFlow net sets rate flows slopes
+  pub on : (result : Checked (List ℚ)) → Cancels passes net sets slopes fulls flows result → Cancels passes net sets slopes fulls first result
 
-  -- these flows are a thin flow, and the first flows come to what they come to
-  pub record CancelsOn (flows : List ℚ) : Type 0 where
-    pub thin : IsThinFlow net sets rate flows slopes
-    pub on : (result : Checked (List ℚ)) → Comes flows result → Comes first result
+module _ (passes : Passing) (net : Network) (sets : Sets) (rate : ℚ) (slopes : List ℚ) (fulls : List (Option ℚ)) (first : List ℚ) where
+  abbrev Comes : Checked (List ℚ) → Type 0
+  Comes result = Cancels passes net sets slopes fulls first result
 
-  pub cancels_first : (flows : List ℚ) → flows ≡ first → IsThinFlow net sets rate first slopes → CancelsOn flows
-  cancels_first flows e thin = subst CancelsOn (sym e) (record { thin = thin; on = λ result c. c })
+  abbrev On : List ℚ → Type 0
+  On flows = CancelsOn passes net sets rate slopes fulls first flows
 
-  pub cancels_end : (flows : List ℚ) → CancelsOn flows → IsForest (hops net) (IsInterior net sets slopes flows) → Comes first (Ok flows)
+  pub cancels_first : (flows : List ℚ) → flows ≡ first → IsThinFlow net sets rate first slopes → On flows
+  cancels_first flows e thin = subst On (sym e) (record { thin = thin; on = λ result c. c })
+
+  pub cancels_end : (flows : List ℚ) → On flows → IsForest (hops net) (IsInterior net sets slopes flows) → Comes (Ok flows)
   cancels_end flows so forest = so.on (Ok flows) (no_cycle forest)
 
-  module _ (flows : List ℚ) (so : CancelsOn flows) (steps : List (ℕ × Bool)) (next : IsNextCycle net sets slopes flows steps) where
-    pub cancels_stop : (q : Passed ℚ) → cancel_list passes steps fulls flows ≡ Err q → Comes first (Err q)
+  module _ (flows : List ℚ) (so : On flows) (steps : List (ℕ × Bool)) (next : IsNextCycle net sets slopes flows steps) where
+    pub cancels_stop : (q : Passed ℚ) → cancel_list passes steps fulls flows ≡ Err q → Comes (Err q)
     cancels_stop q e = so.on (Err q) (passes_at steps next e)
 
-    module _ (new : List ℚ) (ok : cancel_list passes steps fulls flows ≡ Ok new) where
-      pub cancels_more : CancelsOn new
+    module _ (good : AreGoodSets net sets) (fulls_ok : fulls_list passes net sets slopes ≡ Ok fulls) (new : List ℚ) (ok : cancel_list passes steps fulls flows ≡ Ok new) where
+      pub cancels_more : On new
       cancels_more = record {
         thin = IsThinFlow-cancelled passes net sets rate flows slopes good.network good.acyclic so.thin fulls fulls_ok steps next.cycle new ok;
         on = λ result c. so.on result (cancels steps next ok c);

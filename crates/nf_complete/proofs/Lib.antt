@@ -1,3 +1,4 @@
+pub mod Folds
 pub mod Contained
 pub mod Growing
 pub mod Rounding
@@ -14,3 +15,4 @@ pub mod Filling
 pub mod Interiors
 pub mod CancelsOn
 pub mod Stating
+pub mod Hops

@@ -16,7 +16,7 @@ use Rattle.nf_complete.specs.declared.settled.Settled.{Settled}
 
 -- no operation of the list passes, or this one is the first that does
 abbrev pub Passes : Passing → Network → Sets → ℚ → List ℚ → List ℚ → Result Bool (PassedAt ℚ) → Type 0
-Passes passes net sets rate flows slopes (Ok yes) = IsOk (thin_list passes net sets rate flows slopes)
+Passes passes net sets rate flows slopes (Ok answer) = IsOk (thin_list passes net sets rate flows slopes)
 Passes passes net sets rate flows slopes (Err at) = at_part Verdict (thin_list passes net sets rate flows slopes) ≡ Err at
 
 -- where a relation says what comes of some flows: these flows, or the first operation that passes; unless memory is wanting

@@ -1,0 +1,65 @@
+// The sets of labels, where they are as the test of a thin flow asks.
+ghost use Rattle.std.specs.Prelude.{◌≡◌, ◌<◌, ℕ, length, None, IsTrue, IfSome};
+ghost use Rattle.nf_model.specs.Entries.{Has};
+ghost use Rattle.nf_model.specs.Network.{Link as SeenLink, IsLink};
+ghost use Rattle.nf_model.specs.ThinFlow.{Enters};
+ghost use Rattle.nf_thin_laws.specs.ActiveLinks.{NoneEntersSource};
+ghost use Rattle.nf_complete_laws.specs.SettleLaws.{AreGoodSets};
+
+use nf_frac::Q;
+use nf_graph::{LinkId, LinkSets};
+use nf_net::Network;
+use nf_sets::{sets, slacks};
+use std::alloc::Global;
+
+// The link isn't resetting without a capacity.
+fn is_bounded(net: &Network, sets: &LinkSets, link: LinkId) -> bool
+    requires link { link < length net.now.net.links }
+    requires sets { length sets.now.active ≡ length net.now.net.links }
+    ensures { IsTrue result → (here : SeenLink) → IsLink net.now.net link here → here.capacity ≡ None → Has sets.now.resetting link → ⊥ }
+{
+    net.link(link).capacity.is_some() || !sets.resetting(link)
+}
+
+// It isn't an active one into the source.
+fn is_outward(net: &Network, sets: &LinkSets, link: LinkId) -> bool
+    requires link { link < length net.now.net.links }
+    requires sets { length sets.now.active ≡ length net.now.net.links }
+    ensures { IsTrue result → (here : SeenLink) → Enters net.now.net sets.now net.now.net.source link here → ⊥ }
+{
+    !sets.active(link) || net.link(link).head != net.source()
+}
+
+// Neither is any link.
+fn are_fit(net: &Network, sets: &LinkSets) -> bool
+    requires sets { length sets.now.active ≡ length net.now.net.links }
+    ensures bounded { IsTrue result → (e : ℕ) (here : SeenLink) → IsLink net.now.net e here → here.capacity ≡ None → Has sets.now.resetting e → ⊥ }
+    ensures source { IsTrue result → NoneEntersSource net.now.net sets.now }
+{
+    for e in 0..net.link_count() {
+        let link = LinkId(e);
+        if !is_bounded(net, sets, link) {
+            return false;
+        }
+        if !is_outward(net, sets, link) {
+            return false;
+        }
+    }
+    true
+}
+
+/// The sets of these labels.
+pub fn sets_of(alloc: Global, net: &Network, labels: &[Q]) -> Option<LinkSets>
+    ensures good { IfSome result (λ sets. AreGoodSets net.now.net sets) }
+    ensures source { IfSome result (λ sets. NoneEntersSource net.now.net sets) }
+{
+    if labels.len() != net.node_count() as usize {
+        return None;
+    }
+    let slacks = slacks(alloc, net.hops(), labels).ok()?;
+    let sets = sets(alloc, &slacks).ok()?;
+    if !are_fit(net, &sets) {
+        return None;
+    }
+    Some(sets)
+}
