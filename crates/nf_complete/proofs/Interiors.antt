@@ -1,9 +1,10 @@
 -- The flags of interior links, and how many of them are set.
-use Rattle.std.proofs.Common.{◌≡◌, ◌≢◌, ℕ, zero, suc, ◌+◌, ◌<◌, ◌≤◌, ⊎_elim, List, [], ◌∷◌, length, map, Bool, true, false, not, ◌&&◌, sym, ap, subst, refl, ◌∙◌, arith}
+use Rattle.std.proofs.Common.{◌≡◌, ◌≢◌, ℕ, zero, suc, ◌+◌, ◌<◌, ◌≤◌, ⊎_elim, List, [], ◌∷◌, length, map, take, Bool, true, false, not, ◌&&◌, sym, ap, subst, refl, ◌∙◌, arith}
 use Rattle.std.specs.Prelude.{◌↔◌, Option, Some, None, slice_get, unwrap_or, Ok}
 use Rattle.std.specs.Bool.{Decides}
 use Rattle.std.specs.List.{range_with_len}
 use Rattle.std.proofs.lemmas.Bool.Decides.{Decides-like, Decides-and, Decides-not}
+use Rattle.std.proofs.lemmas.List.{take_all}
 use Rattle.std.proofs.lemmas.List.FromFn.{length-map-range_with_len}
 use Rattle.std.proofs.lemmas.Option.{none-some, same_Some, slice_get_within}
 use Rattle.nf_rational.specs.Rational.{ℚ}
@@ -42,6 +43,15 @@ Decides-between (Some full) x = Decides-like (lt_ℚ 0ℚ x && lt_ℚ x full)
     (λ (w : (0ℚ <ℚ x) × (x <ℚ full)). (w.0, λ most e. subst (λ (z : ℚ). x <ℚ z) (same_Some full most e) w.1))
     (λ (w : IsBetween (Some full) x). (w.0, w.1 full refl))
     (Decides-and (lt_ℚ 0ℚ x) (lt_ℚ x full) (Decides-less 0ℚ x) (Decides-less x full))
+
+-- ---- the flags so far
+module _ (sets : Sets) (fulls : List (Option ℚ)) (flows : List ℚ) where
+  pub test_at : (e : ℕ) (b : Bool) → e < length flows → b ≡ interior_test sets fulls flows e → slice_get (interior_flags sets fulls flows) e ≡ Some b
+  test_at e b h same = slice_get-image (interior_test sets fulls flows) (range_with_len 0 (length flows)) e (0 + e) (range_at 0 (length flows) e h)
+      ∙ ap (λ (k : ℕ). Some (interior_test sets fulls flows k)) (let z : 0 + e ≡ e = omega arith in z) ∙ ap (λ (t : Bool). Some t) (sym same)
+
+  pub flags_whole : (e : ℕ) (items : List Bool) → length flows ≤ e → items ≡ take e (interior_flags sets fulls flows) → items ≡ interior_flags sets fulls flows
+  flags_whole e items h so = so ∙ take_all e (interior_flags sets fulls flows) (let c = length-map-range_with_len (interior_test sets fulls flows) 0 (length flows) in omega arith)
 
 -- ---- how many flags are set
 abbrev pub set_count : List Bool → ℕ
@@ -105,8 +115,7 @@ module _ (passes : Passing) (net : Network) (sets : Sets) (slopes : List ℚ) (f
   flags_count = length-map-range_with_len (interior_test sets fulls flows) 0 (length flows) ∙ flow_count
 
   flag_at : (e : ℕ) → e < length flows → slice_get flags e ≡ Some (interior_test sets fulls flows e)
-  flag_at e h = slice_get-image (interior_test sets fulls flows) (range_with_len 0 (length flows)) e (0 + e) (range_at 0 (length flows) e h)
-      ∙ ap (λ (k : ℕ). Some (interior_test sets fulls flows k)) (let z : 0 + e ≡ e = omega arith in z)
+  flag_at e h = test_at sets fulls flows e (interior_test sets fulls flows e) h refl
 
   pub flags_are : (e : ℕ) → Has flags e ↔ IsInterior net sets slopes flows e
   flags_are e = (

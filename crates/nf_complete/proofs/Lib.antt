@@ -12,6 +12,7 @@ pub mod ExitsTaken
 pub mod ThinFlows
 pub mod ThinAnswers
 pub mod Filling
+pub mod Leading
 pub mod Interiors
 pub mod CancelsOn
 pub mod Stating

@@ -1,8 +1,9 @@
 -- The pattern of settled flows, link by link.
-use Rattle.std.proofs.Common.{◌≡◌, ◌≢◌, ◌⊎◌, inl, inr, ⊎_elim, ℕ, ◌+◌, ◌<◌, ◌≤◌, List, length, Bool, true, false, sym, ap, subst, refl, ◌∙◌, arith}
+use Rattle.std.proofs.Common.{◌≡◌, ◌≢◌, ◌⊎◌, inl, inr, ⊎_elim, ℕ, ◌+◌, ◌<◌, ◌≤◌, List, length, replicate, Bool, true, false, sym, ap, subst, refl, ◌∙◌, arith}
 use Rattle.std.specs.Prelude.{◌↔◌, Option, Some, None, slice_get, slice_set, unwrap_or, MatchBool, Ok}
 use Rattle.std.specs.Bool.{Decides}
 use Rattle.std.proofs.Math.ListN.{length-set}
+use Rattle.std.proofs.lemmas.List.{length-replicate}
 use Rattle.std.proofs.lemmas.Bool.Decides.{Decides-like}
 use Rattle.std.proofs.lemmas.Option.{same_Some, none-some, slice_get_within}
 use Rattle.nf_rational.specs.Rational.{ℚ}
@@ -26,6 +27,7 @@ use Rattle.nf_complete.specs.ThinParts.{filling, LeadsInto, IsLevelAt, Brings}
 use Rattle.nf_complete.specs.States.{BringsInto, LevelInto, NoneLevelBefore, full_test, FitsState, IsStateAt}
 use Rattle.nf_complete.proofs.Deciding.{Decides-same}
 use Rattle.nf_complete.proofs.Filling.{fulls_at}
+use Rattle.nf_complete.proofs.Leading.{level_of}
 
 module _ (net : Network) (sets : Sets) (flows slopes : List ℚ) where
   -- ---- bare nodes
@@ -45,9 +47,6 @@ module _ (net : Network) (sets : Sets) (flows slopes : List ℚ) where
   not_bare v e w b = let n = b.bare e w.0.0 w.0.1 in ⊎_elim (λ (r : Has sets.resetting e). n.0 r) (λ (z : number_at flows e ≢ 0ℚ). z n.1) w.1
 
   -- ---- the link by which one is led to
-  level_of : (e : ℕ) (link : Link) → IsLink net e link → number_at slopes link.head ≡ number_at slopes link.tail → IsLevelAt net slopes e
-  level_of e link p h other q = subst (λ (k : Link). number_at slopes k.head ≡ number_at slopes k.tail) (IsLink-unique net e link other p q) h
-
   module _ (e : ℕ) (link : Link) (p : IsLink net e link) (v : ℕ) (at : v ≡ link.head) where
     pub leads_made : LevelInto net sets slopes v e → IsBare net sets flows v → NoneLevelBefore net sets slopes v e → LeadsToBare net sets flows slopes e link
     leads_made w b none = record {
@@ -55,12 +54,12 @@ module _ (net : Network) (sets : Sets) (flows slopes : List ℚ) where
       bare = subst (λ (k : ℕ). IsBare net sets flows k) at b;
       first = record {
         level = w.1 link p;
-        first = λ other before h n k. none other h ((before, subst (λ (j : ℕ). Enters net sets j other before) (sym at) n), level_of other before n.is_link k);
+        first = λ other before h n k. none other h ((before, subst (λ (j : ℕ). Enters net sets j other before) (sym at) n), level_of net slopes other before n.is_link k);
       };
     }
 
     pub leads_level : LeadsToBare net sets flows slopes e link → LevelInto net sets slopes v e
-    leads_level l = ((link, subst (λ (j : ℕ). Enters net sets j e link) (sym at) l.enters), level_of e link p l.first.level)
+    leads_level l = ((link, subst (λ (j : ℕ). Enters net sets j e link) (sym at) l.enters), level_of net slopes e link p l.first.level)
 
     pub leads_bare : LeadsToBare net sets flows slopes e link → IsBare net sets flows v
     leads_bare l = subst (λ (k : ℕ). IsBare net sets flows k) (sym at) l.bare
@@ -105,6 +104,12 @@ module _ (net : Network) (sets : Sets) (flows slopes : List ℚ) where
   pub record StatesBelow (n : ℕ) (pattern : Pattern) : Type 0 where
     pub count : length pattern ≡ length net.links
     pub states : (e : ℕ) → e < n → (o : Option State) × (slice_get pattern e ≡ Some o) × IsStateAt net sets flows slopes e o
+
+  pub states_first : (pattern : Pattern) (n : ℕ) → pattern ≡ replicate n None → n ≡ length net.links → StatesBelow 0 pattern
+  states_first pattern n e h = record { count = ap length e ∙ (length-replicate n None ∙ h); states = λ k l. absurd (omega arith) }
+
+  pub states_whole : (n m : ℕ) (pattern : Pattern) → m ≤ n → StatesBelow n pattern → StatesBelow m pattern
+  states_whole n m pattern h so = record { count = so.count; states = λ e l. so.states e (omega arith) }
 
   pub states_more : (n : ℕ) (pattern : Pattern) (o : Option State) → n < length net.links → StatesBelow n pattern → IsStateAt net sets flows slopes n o → StatesBelow (n + 1) (slice_set pattern n o)
   states_more n pattern o inside so here = record {

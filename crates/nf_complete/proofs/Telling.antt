@@ -55,12 +55,11 @@ module _ {A B : Type 0} (f : A → Checked B) where
   each_err_first : (xs : List A) (i : ℕ) (x : A) (p : Passed ℚ) → slice_get xs i ≡ Some x → f x ≡ Err p → ((k : ℕ) (y : A) → k < i → slice_get xs k ≡ Some y → IsOk (f y)) → each f xs ≡ Err p
   each_err_first [] i x p at e before = absurd (none-some x at)
   each_err_first (y ∷ xs) zero x p at e before = ap (λ (r : Checked B). r >>= λ z. each f xs >>= λ zs. Ok (z ∷ zs)) (ap f (same_Some y x at) ∙ e)
-  each_err_first (y ∷ xs) (suc i) x p at e before = go (f y) refl (before 0 y (omega arith) refl)
+  each_err_first (y ∷ xs) (suc i) x p at e before = go (f y) refl (before 0 y (omega arith) refl) (each_err_first xs i x p at e (λ k w l s. before (suc k) w (omega arith) s))
     where
-      go : (r : Checked B) → f y ≡ r → IsOk r → each f (y ∷ xs) ≡ Err p
-      go (Ok z) h ok = ap (λ (r : Checked B). r >>= λ z. each f xs >>= λ zs. Ok (z ∷ zs)) h
-          ∙ ap (λ (r : Checked (List B)). r >>= λ zs. Ok (z ∷ zs)) (each_err_first xs i x p at e (λ k w l s. before (suc k) w (omega arith) s))
-      go (Err q) h ok = absurd (cc)
+      go : (r : Checked B) → f y ≡ r → IsOk r → each f xs ≡ Err p → each f (y ∷ xs) ≡ Err p
+      go (Ok z) h ok rest = ap (λ (r : Checked B). r >>= λ z. each f xs >>= λ zs. Ok (z ∷ zs)) h ∙ ap (λ (r : Checked (List B)). r >>= λ zs. Ok (z ∷ zs)) rest
+      go (Err q) h ok rest = absurd (cc)
 
   each_ok_all : (xs : List A) → ((k : ℕ) (y : A) → slice_get xs k ≡ Some y → IsOk (f y)) → IsOk (each f xs)
   each_ok_all [] all = refl
@@ -85,22 +84,22 @@ module _ {A B : Type 0} (f : A → Checked B) where
     told_first = record { none_passes = λ k x h. absurd (omega arith); says = λ k x h. absurd (omega arith) }
 
     module _ (n : ℕ) (x : A) (at : slice_get xs n ≡ Some x) (answer : Bool) (so : ToldBelow n answer) where
-      here : {P : A → Type 0} → P x → (y : A) (k : ℕ) → k ≡ n → slice_get xs k ≡ Some y → P y
-      here {P = P} h y k e s = subst P (same_Some x y (sym at ∙ (subst (λ (j : ℕ). slice_get xs j ≡ Some y) e s))) h
+      here : (P : A → Type 0) → P x → (y : A) (k : ℕ) → k ≡ n → slice_get xs k ≡ Some y → P y
+      here P h y k e s = subst P (same_Some x y (sym at ∙ (subst (λ (j : ℕ). slice_get xs j ≡ Some y) e s))) h
 
-      more : {P : A → Type 0} → ((k : ℕ) (y : A) → k < n → slice_get xs k ≡ Some y → P y) → P x → (k : ℕ) (y : A) → k < n + 1 → slice_get xs k ≡ Some y → P y
-      more {P = P} before h k y less s = ⊎_elim (λ (l : k < n). before k y l s) (λ (e : k ≡ n). here {P = P} h y k e s) (before_or_at k n less)
+      more : (P : A → Type 0) → ((k : ℕ) (y : A) → k < n → slice_get xs k ≡ Some y → P y) → P x → (k : ℕ) (y : A) → k < n + 1 → slice_get xs k ≡ Some y → P y
+      more P before h k y less s = ⊎_elim (λ (l : k < n). before k y l s) (λ (e : k ≡ n). here P h y k e s) (before_or_at k n less)
 
       less : {k : ℕ} → k < n → k < n + 1
       less h = omega arith
 
       pub told_more : (next : Bool) → Tells (Holds x) (f x) (Ok next) → ToldBelow (n + 1) (answer && next)
       told_more next t = record {
-        none_passes = more {P = λ y. IsOk (f y)} so.none_passes t.0;
+        none_passes = more (λ y. IsOk (f y)) so.none_passes t.0;
         says = says_like (answer && next)
-            (λ (w : Below n × Holds x). more {P = Holds} w.0 w.1)
+            (λ (w : Below n × Holds x). more Holds w.0 w.1)
             (λ (w : Below (n + 1)). (λ k y h s. w k y (less h) s, w n x (omega arith) at))
-            (says_both answer next so.says t.1);
+            (says_both (Below n) (Holds x) answer next so.says t.1);
       }
 
       pub told_stops : (p : PassedAt ℚ) → at_part Verdict (f x) ≡ Err p → at_part Verdict (each f xs) ≡ Err p
@@ -140,3 +139,22 @@ pub in_numbered : {A : Type 0} (a : ℕ) (xs : List A) (k : ℕ) (p : ℕ × A) 
 in_numbered a [] k p h = absurd (none-some p h)
 in_numbered {A = A} a (y ∷ xs) zero p h = let e = same_Some (a, y) p h in (let n : a ≡ p.0 = ap (λ (q : ℕ × A). q.0) e in omega arith, ap (λ (q : ℕ × A). Some q.1) e)
 in_numbered a (y ∷ xs) (suc k) p h = let r = in_numbered (a + 1) xs k p h in (let n = r.0 in omega arith, r.1)
+
+-- from 0 on
+pub node_at : (n v : ℕ) → v < n → slice_get (range_with_len 0 n) v ≡ Some v
+node_at n v h = range_at 0 n v h ∙ ap (λ (k : ℕ). Some k) (let z : 0 + v ≡ v = omega arith in z)
+
+pub link_at : {A : Type 0} (xs : List A) (k : ℕ) (x : A) → slice_get xs k ≡ Some x → slice_get (enumerate_from 0 xs) k ≡ Some (k, x)
+link_at {A = A} xs k x h = numbered_at 0 xs k x h ∙ ap (λ (j : ℕ). Some (j, x)) (let z : 0 + k ≡ k = omega arith in z)
+
+pub each_node : {P : ℕ → Type 0} (n : ℕ) → ((k v : ℕ) → slice_get (range_with_len 0 n) k ≡ Some v → P v) → (v : ℕ) → v < n → P v
+each_node n f v h = f v v (node_at n v h)
+
+pub node_each : {P : ℕ → Type 0} (n : ℕ) → ((v : ℕ) → v < n → P v) → (k v : ℕ) → slice_get (range_with_len 0 n) k ≡ Some v → P v
+node_each n f k v s = let r = in_range 0 n k v s in f v (omega arith)
+
+pub each_link : {A : Type 0} {P : ℕ → A → Type 0} (xs : List A) → ((k : ℕ) (p : ℕ × A) → slice_get (enumerate_from 0 xs) k ≡ Some p → P p.0 p.1) → (e : ℕ) (x : A) → slice_get xs e ≡ Some x → P e x
+each_link xs f e x h = f e (e, x) (link_at xs e x h)
+
+pub link_each : {A : Type 0} {P : ℕ → A → Type 0} (xs : List A) → ((e : ℕ) (x : A) → slice_get xs e ≡ Some x → P e x) → (k : ℕ) (p : ℕ × A) → slice_get (enumerate_from 0 xs) k ≡ Some p → P p.0 p.1
+link_each {A = A} xs f k p s = let r = in_numbered 0 xs k p s in f p.0 p.1 (subst (λ (j : ℕ). slice_get xs j ≡ Some p.1) (let n = r.0 in let e : k ≡ p.0 = omega arith in e) r.1)

@@ -34,7 +34,7 @@ module _ (passes : Passing) (net : Network) (sets : Sets) (rate : ℚ) (flows sl
   unfolding thin_list
   fulls_pass p ok e = go sums ok
     where
-      go : (r : Checked (List Sums)) → IsOk r → at_part Verdict (r >>= λ s. fulls >>= λ f. Ok (s, f)) ≡ Err p
+      go : (r : Checked (List Sums)) → IsOk r → at_part {A = List Sums × List (Option ℚ)} Verdict (r >>= λ s. fulls >>= λ f. Ok (s, f)) ≡ Err p
       go (Ok s) h = first_passes fulls (λ f. Ok (s, f)) p e
       go (Err q) h = absurd (cc)
 
@@ -42,7 +42,7 @@ module _ (passes : Passing) (net : Network) (sets : Sets) (rate : ℚ) (flows sl
   unfolding thin_list
   all_work ok fine = go sums fulls ok fine
     where
-      go : (r : Checked (List Sums)) (s : Checked (List (Option ℚ))) → IsOk r → IsOk s → IsOk (r >>= λ x. s >>= λ y. Ok (x, y))
+      go : (r : Checked (List Sums)) (s : Checked (List (Option ℚ))) → IsOk r → IsOk s → IsOk {T = List Sums × List (Option ℚ)} (r >>= λ x. s >>= λ y. Ok (x, y))
       go (Ok x) (Ok y) h k = refl
       go (Ok x) (Err q) h k = absurd (cc)
       go (Err q) s h k = absurd (cc)
@@ -71,4 +71,4 @@ module _ (passes : Passing) (net : Network) (sets : Sets) (rate : ℚ) (flows sl
             (λ (w : (AllBalanced × AllKept) × IsProper net sets flows slopes). IsThinFlow-made net sets rate flows slopes good none_in flow_count slope_count w.0.0 w.0.1 w.1)
             (λ (t : IsThinFlow net sets rate flows slopes).
             ((balanced-thin net sets rate flows slopes good none_in t, kept-thin net sets rate flows slopes good none_in t), proper-thin net sets rate flows slopes good none_in t))
-            (says_both (balanced && kept) proper (says_both balanced kept b.1 k.1) s)
+            (says_both (AllBalanced × AllKept) (IsProper net sets flows slopes) (balanced && kept) proper (says_both AllBalanced AllKept balanced kept b.1 k.1) s)

@@ -68,8 +68,11 @@ Takes net sets flows slopes v e = LeadsInto net sets v e × (Brings sets flows e
 abbrev pub NoneNegative : List ℚ → Type 0
 NoneNegative numbers = (i : ℕ) → 0ℚ ≤ℚ number_at numbers i
 
+abbrev pub CarriesIfActive : Sets → List ℚ → ℕ → Type 0
+CarriesIfActive sets flows e = (Has sets.active e → ⊥) → number_at flows e ≡ 0ℚ
+
 abbrev pub CarriesOnActive : Sets → List ℚ → Type 0
-CarriesOnActive sets flows = (e : ℕ) → (Has sets.active e → ⊥) → number_at flows e ≡ 0ℚ
+CarriesOnActive sets flows = (e : ℕ) → CarriesIfActive sets flows e
 
 abbrev pub EachIsTaken : Network → Sets → List ℚ → List ℚ → Type 0
 EachIsTaken net sets flows slopes = (v : ℕ) → v < net.nodes → v ≢ net.source → (e : ℕ) × Takes net sets flows slopes v e

@@ -9,19 +9,13 @@ ghost use Rattle.nf_work.specs.Checked.{at_part, each, fold_checked};
 ghost use Rattle.nf_model.specs.Network.{Network as SeenNetwork, Link as SeenLink, IsLink};
 ghost use Rattle.nf_model.specs.ThinFlow.{Sets};
 ghost use Rattle.nf_complete_lists.specs.ThinList.{is_active, sum_more, in_more, out_more, with_rate as with_rate_by, sums_at};
-ghost use Rattle.nf_complete.specs.Testing.{Tells, same_test};
+ghost use Rattle.nf_complete.specs.Testing.{Tells};
 ghost use Rattle.nf_complete.specs.ThinParts.{IsBalanced};
 
+use crate::numbers::{both, is_same};
 use nf_frac::{Part, PassedAt, Q, at};
 use nf_graph::{LinkId, LinkSets, NodeId};
 use nf_net::Network;
-
-/// Two numbers are the same.
-pub(crate) fn is_same(left: Q, right: Q) -> bool
-    ensures { result ≡ same_test left right }
-{
-    left.is_at_most(right) && right.is_at_most(left)
-}
 
 // A sum, with the flow of a link if it is active and has an end at the node.
 fn with_flow(
@@ -160,7 +154,7 @@ pub(crate) fn balances(
     let mut all = true;
     for v in 0..net.node_count() {
         let here = balances_at(net, sets, rate, flows, NodeId(v))?;
-        all = all && here;
+        all = both(all, here);
     }
     Ok(all)
 }

@@ -2,7 +2,7 @@
 ghost use Rattle.std.specs.Prelude.{◌≡◌, ◌<◌, length, MatchBool};
 ghost use Rattle.nf_complete.specs.ThinParts.{LeadsInto, IsLevelAt, Brings};
 
-use crate::balances::is_same;
+use crate::numbers::{flow_of, is_same, slope_of};
 use nf_frac::Q;
 use nf_graph::{LinkId, LinkSets, NodeId};
 use nf_net::Network;
@@ -14,7 +14,10 @@ pub(crate) fn leads_into(net: &Network, sets: &LinkSets, link: LinkId, node: Nod
     ensures { MatchBool result (LeadsInto net.now.net sets.now node link) (LeadsInto net.now.net sets.now node link → ⊥) }
 {
     let here = net.link(link);
-    sets.active(link) && here.head == node
+    if !sets.active(link) {
+        return false;
+    }
+    here.head == node
 }
 
 /// The slopes at its ends are equal.
@@ -24,7 +27,7 @@ pub(crate) fn is_level(net: &Network, slopes: &[Q], link: LinkId) -> bool
     ensures { MatchBool result (IsLevelAt net.now.net slopes.now link) (IsLevelAt net.now.net slopes.now link → ⊥) }
 {
     let here = net.link(link);
-    is_same(slopes[here.head.index()], slopes[here.tail.index()])
+    is_same(slope_of(slopes, here.head), slope_of(slopes, here.tail))
 }
 
 /// The link is resetting, or it carries something.
@@ -33,5 +36,8 @@ pub(crate) fn brings(sets: &LinkSets, flows: &[Q], link: LinkId) -> bool
     requires flows { length flows.now ≡ length sets.now.active }
     ensures { MatchBool result (Brings sets.now flows.now link) (Brings sets.now flows.now link → ⊥) }
 {
-    sets.resetting(link) || !is_same(flows[link.index()], Q::zero())
+    if sets.resetting(link) {
+        return true;
+    }
+    !is_same(flow_of(flows, link), Q::zero())
 }

@@ -8,6 +8,7 @@ mod cycle;
 mod fulls;
 mod interior;
 mod leading;
+mod numbers;
 mod proper;
 mod settled;
 mod settling;

@@ -1,39 +1,57 @@
 // What is asked of a thin flow beside balances and slopes along links: nothing that needs an operation.
-ghost use Rattle.std.specs.Prelude.{◌≡◌, ◌<◌, length, MatchBool};
-ghost use Rattle.nf_rational.specs.Operations.{1ℚ};
+ghost use Rattle.std.specs.Prelude.{◌≡◌, ◌<◌, not, length, MatchBool};
+ghost use Rattle.nf_rational.specs.Operations.{0ℚ, 1ℚ};
+ghost use Rattle.nf_rational.specs.Order.{le_ℚ};
 ghost use Rattle.nf_model.specs.Entries.{number_at};
-ghost use Rattle.nf_complete.specs.ThinParts.{NoneNegative, CarriesOnActive, IsProper};
+ghost use Rattle.nf_complete.specs.ThinParts.{NoneNegative, CarriesIfActive, CarriesOnActive, IsProper};
 
-use crate::balances::is_same;
+use crate::numbers::{flow_of, is_same, slope_of};
 use crate::taken::each_is_taken;
 use nf_frac::Q;
 use nf_graph::{LinkId, LinkSets};
 use nf_net::Network;
+
+// The number at a place is below 0.
+fn is_negative_at(numbers: &[Q], place: usize) -> bool
+    requires { place < length numbers.now }
+    ensures { result ≡ not (le_ℚ 0ℚ (number_at numbers.now place)) }
+{
+    !Q::zero().is_at_most(numbers[place])
+}
 
 // No number is below 0.
 fn none_negative(numbers: &[Q]) -> bool
     ensures { MatchBool result (NoneNegative numbers.now) (NoneNegative numbers.now → ⊥) }
 {
     for i in 0..numbers.len() {
-        if !Q::zero().is_at_most(numbers[i]) {
+        if is_negative_at(numbers, i) {
             return false;
         }
     }
     true
 }
 
-// Links that aren't active carry nothing.
+// A link that isn't active carries nothing.
+fn carries_if_active(sets: &LinkSets, flows: &[Q], link: LinkId) -> bool
+    requires link { link < length sets.now.active }
+    requires flows { length flows.now ≡ length sets.now.active }
+    ensures { MatchBool result (CarriesIfActive sets.now flows.now link) (CarriesIfActive sets.now flows.now link → ⊥) }
+{
+    if sets.active(link) {
+        return true;
+    }
+    is_same(flow_of(flows, link), Q::zero())
+}
+
+// No such link carries anything.
 fn carries_on_active(net: &Network, sets: &LinkSets, flows: &[Q]) -> bool
     requires sets { length sets.now.active ≡ length net.now.net.links }
     requires flows { length flows.now ≡ length net.now.net.links }
     ensures { MatchBool result (CarriesOnActive sets.now flows.now) (CarriesOnActive sets.now flows.now → ⊥) }
 {
     for e in 0..net.link_count() {
-        let link = LinkId(e);
-        if !sets.active(link) {
-            if !is_same(flows[link.index()], Q::zero()) {
-                return false;
-            }
+        if !carries_if_active(sets, flows, LinkId(e)) {
+            return false;
         }
     }
     true
@@ -44,8 +62,7 @@ fn starts(net: &Network, slopes: &[Q]) -> bool
     requires { length slopes.now ≡ net.now.net.nodes }
     ensures { MatchBool result (number_at slopes.now net.now.net.source ≡ 1ℚ) (number_at slopes.now net.now.net.source ≡ 1ℚ → ⊥) }
 {
-    let source = net.source();
-    is_same(slopes[source.index()], Q::one())
+    is_same(slope_of(slopes, net.source()), Q::one())
 }
 
 /// All of it.

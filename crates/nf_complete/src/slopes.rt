@@ -6,8 +6,8 @@ ghost use Rattle.nf_complete_lists.specs.Cancelling.{full_at as full_at_by, full
 ghost use Rattle.nf_complete.specs.Testing.{Tells};
 ghost use Rattle.nf_complete.specs.ThinParts.{keeps_test, KeepsAt};
 
-use crate::balances::is_same;
 use crate::fulls::full_at;
+use crate::numbers::{both, flow_of, is_same, slope_of};
 use nf_frac::{PassedAt, Q};
 use nf_graph::{LinkId, LinkSets};
 use nf_net::Network;
@@ -85,9 +85,9 @@ fn keeps_at(
         sets.active(link),
         sets.resetting(link),
         full,
-        flows[link.index()],
-        slopes[here.tail.index()],
-        slopes[here.head.index()],
+        flow_of(flows, link),
+        slope_of(slopes, here.tail),
+        slope_of(slopes, here.head),
     );
     Ok(kept)
 }
@@ -108,7 +108,7 @@ pub(crate) fn keep_slopes(
     let mut all = true;
     for e in 0..net.link_count() {
         let here = keeps_at(net, sets, flows, slopes, LinkId(e))?;
-        all = all && here;
+        all = both(all, here);
     }
     Ok(all)
 }

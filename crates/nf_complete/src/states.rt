@@ -7,8 +7,8 @@ ghost use Rattle.nf_complete_lists.specs.Cancelling.{fulls_list};
 ghost use Rattle.nf_complete_lists.specs.SettledPattern.{IsBare, LeadsToBare, IsSettledPattern};
 ghost use Rattle.nf_complete.specs.States.{BringsInto, LevelInto, NoneLevelBefore, full_test, IsStateAt};
 
-use crate::balances::is_same;
 use crate::leading::{brings, is_level, leads_into};
+use crate::numbers::{flow_of, is_same};
 use nf_frac::Q;
 use nf_graph::{LinkId, LinkSets, NodeId};
 use nf_model::State;
@@ -23,11 +23,10 @@ fn brings_into(net: &Network, sets: &LinkSets, flows: &[Q], link: LinkId, node: 
     requires flows { length flows.now ≡ length net.now.net.links }
     ensures { MatchBool result (BringsInto net.now.net sets.now flows.now node link) (BringsInto net.now.net sets.now flows.now node link → ⊥) }
 {
-    if leads_into(net, sets, link, node) {
-        brings(sets, flows, link)
-    } else {
-        false
+    if !leads_into(net, sets, link, node) {
+        return false;
     }
+    brings(sets, flows, link)
 }
 
 // The node isn't the source, and no link brings anything into it.
@@ -54,11 +53,10 @@ fn is_level_into(net: &Network, sets: &LinkSets, slopes: &[Q], link: LinkId, nod
     requires slopes { length slopes.now ≡ net.now.net.nodes }
     ensures { MatchBool result (LevelInto net.now.net sets.now slopes.now node link) (LevelInto net.now.net sets.now slopes.now node link → ⊥) }
 {
-    if leads_into(net, sets, link, node) {
-        is_level(net, slopes, link)
-    } else {
-        false
+    if !leads_into(net, sets, link, node) {
+        return false;
     }
+    is_level(net, slopes, link)
 }
 
 // No active link into the node before this one has equal slopes at its ends.
@@ -128,13 +126,13 @@ fn state_needed(
     requires needs { NeedsState sets.now link }
     ensures { IsStateAt net.now.net sets.now flows.now slopes.now link (Some result) }
 {
-    if is_same(flows[link.index()], Q::zero()) {
+    if is_same(flow_of(flows, link), Q::zero()) {
         if leads_to_bare(net, sets, flows, slopes, link) {
             State::Tight
         } else {
             State::Zero
         }
-    } else if is_full(fulls[link.index()], flows[link.index()]) {
+    } else if is_full(fulls[link.index()], flow_of(flows, link)) {
         State::Full
     } else {
         State::Tight

@@ -7,6 +7,7 @@ ghost use Rattle.nf_complete_laws.specs.SettleLaws.{AreGoodSets};
 ghost use Rattle.nf_complete.specs.Settling.{Passes};
 
 use crate::balances::balances;
+use crate::numbers::both;
 use crate::proper::is_proper;
 use crate::slopes::keep_slopes;
 use nf_frac::{PassedAt, Q};
@@ -35,5 +36,7 @@ pub fn is_thin(
     let balanced = balances(net, sets, rate, flows)?;
     let kept = keep_slopes(net, sets, flows, slopes)?;
     let proper = is_proper(net, sets, flows, slopes);
-    Ok(balanced && kept && proper)
+    let tested = both(balanced, kept);
+    let thin = both(tested, proper);
+    Ok(thin)
 }

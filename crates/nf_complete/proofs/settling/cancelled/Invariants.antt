@@ -5,9 +5,9 @@ use Rattle.nf_complete.proofs.CancelsOn.{CancelsOn}
 use Rattle.nf_complete.proofs.settling.cancelled.Given as goal
 
 -- what the flows so far come to, the first flows come to
-abbrev pub invariant-loop-steps : goal.invariant-loop-steps
-invariant-loop-steps l = CancelsOn passes_Q l.net.net l.sets l.rate l.slopes l.fulls l.flows l.new.items
+abbrev pub invariant-loop-new : goal.invariant-loop-new
+invariant-loop-new l = CancelsOn passes_Q l.net.net l.sets l.fn.rate l.slopes l.fulls l.flows l.new.items
 
 -- each cycle leaves fewer interior links
-abbrev pub decreases-loop-steps : goal.decreases-loop-steps
-decreases-loop-steps l = set_count (interior_flags l.sets l.fulls l.new.items)
+abbrev pub decreases-loop-new : goal.decreases-loop-new
+decreases-loop-new l = set_count (interior_flags l.sets l.fulls l.new.items)
