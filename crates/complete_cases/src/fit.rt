@@ -1,7 +1,7 @@
 // The sets of labels, where they are as the test of a thin flow asks.
-ghost use Rattle.std.specs.Prelude.{◌≡◌, ◌<◌, ℕ, length, None, IsTrue, IfSome};
+ghost use Rattle.std.specs.Prelude.{◌≡◌, ◌<◌, ℕ, length, IsTrue, IfSome};
 ghost use Rattle.nf_model.specs.Entries.{Has};
-ghost use Rattle.nf_model.specs.Network.{Link as SeenLink, IsLink};
+ghost use Rattle.nf_model.specs.Network.{Link as SeenLink, unbounded};
 ghost use Rattle.nf_model.specs.ThinFlow.{Enters};
 ghost use Rattle.nf_thin_laws.specs.ActiveLinks.{NoneEntersSource};
 ghost use Rattle.nf_complete_laws.specs.SettleLaws.{AreGoodSets};
@@ -12,13 +12,16 @@ use nf_net::Network;
 use nf_sets::{sets, slacks};
 use std::alloc::Global;
 
-// The link isn't resetting without a capacity.
+// The link has a capacity, or else isn't resetting.
 fn is_bounded(net: &Network, sets: &LinkSets, link: LinkId) -> bool
     requires link { link < length net.now.net.links }
     requires sets { length sets.now.active ≡ length net.now.net.links }
-    ensures { IsTrue result → (here : SeenLink) → IsLink net.now.net link here → here.capacity ≡ None → Has sets.now.resetting link → ⊥ }
+    ensures { IsTrue result → Has (unbounded net.now.net) link → Has sets.now.resetting link → ⊥ }
 {
-    net.link(link).capacity.is_some() || !sets.resetting(link)
+    if net.link(link).capacity.is_some() {
+        return true;
+    }
+    !sets.resetting(link)
 }
 
 // It isn't an active one into the source.
@@ -27,13 +30,17 @@ fn is_outward(net: &Network, sets: &LinkSets, link: LinkId) -> bool
     requires sets { length sets.now.active ≡ length net.now.net.links }
     ensures { IsTrue result → (here : SeenLink) → Enters net.now.net sets.now net.now.net.source link here → ⊥ }
 {
-    !sets.active(link) || net.link(link).head != net.source()
+    let here = net.link(link);
+    if !sets.active(link) {
+        return true;
+    }
+    here.head != net.source()
 }
 
-// Neither is any link.
+// All links are so.
 fn are_fit(net: &Network, sets: &LinkSets) -> bool
     requires sets { length sets.now.active ≡ length net.now.net.links }
-    ensures bounded { IsTrue result → (e : ℕ) (here : SeenLink) → IsLink net.now.net e here → here.capacity ≡ None → Has sets.now.resetting e → ⊥ }
+    ensures bounded { IsTrue result → (e : ℕ) → Has (unbounded net.now.net) e → Has sets.now.resetting e → ⊥ }
     ensures source { IsTrue result → NoneEntersSource net.now.net sets.now }
 {
     for e in 0..net.link_count() {

@@ -12,7 +12,7 @@ pub mod ExitsTaken
 pub mod ThinFlows
 pub mod ThinAnswers
 pub mod Filling
-pub mod Leading
+pub mod LinkAnswers
 pub mod Interiors
 pub mod CancelsOn
 pub mod Stating

@@ -27,7 +27,7 @@ use Rattle.nf_complete.specs.ThinParts.{filling, LeadsInto, IsLevelAt, Brings}
 use Rattle.nf_complete.specs.States.{BringsInto, LevelInto, NoneLevelBefore, full_test, FitsState, IsStateAt}
 use Rattle.nf_complete.proofs.Deciding.{Decides-same}
 use Rattle.nf_complete.proofs.Filling.{fulls_at}
-use Rattle.nf_complete.proofs.Leading.{level_of}
+use Rattle.nf_complete.proofs.LinkAnswers.{level_of}
 
 module _ (net : Network) (sets : Sets) (flows slopes : List ℚ) where
   -- ---- bare nodes

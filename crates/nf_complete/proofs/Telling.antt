@@ -147,14 +147,14 @@ node_at n v h = range_at 0 n v h ∙ ap (λ (k : ℕ). Some k) (let z : 0 + v �
 pub link_at : {A : Type 0} (xs : List A) (k : ℕ) (x : A) → slice_get xs k ≡ Some x → slice_get (enumerate_from 0 xs) k ≡ Some (k, x)
 link_at {A = A} xs k x h = numbered_at 0 xs k x h ∙ ap (λ (j : ℕ). Some (j, x)) (let z : 0 + k ≡ k = omega arith in z)
 
-pub each_node : {P : ℕ → Type 0} (n : ℕ) → ((k v : ℕ) → slice_get (range_with_len 0 n) k ≡ Some v → P v) → (v : ℕ) → v < n → P v
-each_node n f v h = f v v (node_at n v h)
+pub each_node : (P : ℕ → Type 0) (n : ℕ) → ((k v : ℕ) → slice_get (range_with_len 0 n) k ≡ Some v → P v) → (v : ℕ) → v < n → P v
+each_node P n f v h = f v v (node_at n v h)
 
-pub node_each : {P : ℕ → Type 0} (n : ℕ) → ((v : ℕ) → v < n → P v) → (k v : ℕ) → slice_get (range_with_len 0 n) k ≡ Some v → P v
-node_each n f k v s = let r = in_range 0 n k v s in f v (omega arith)
+pub node_each : (P : ℕ → Type 0) (n : ℕ) → ((v : ℕ) → v < n → P v) → (k v : ℕ) → slice_get (range_with_len 0 n) k ≡ Some v → P v
+node_each P n f k v s = let r = in_range 0 n k v s in f v (omega arith)
 
-pub each_link : {A : Type 0} {P : ℕ → A → Type 0} (xs : List A) → ((k : ℕ) (p : ℕ × A) → slice_get (enumerate_from 0 xs) k ≡ Some p → P p.0 p.1) → (e : ℕ) (x : A) → slice_get xs e ≡ Some x → P e x
-each_link xs f e x h = f e (e, x) (link_at xs e x h)
+pub each_link : {A : Type 0} (P : ℕ → A → Type 0) (xs : List A) → ((k : ℕ) (p : ℕ × A) → slice_get (enumerate_from 0 xs) k ≡ Some p → P p.0 p.1) → (e : ℕ) (x : A) → slice_get xs e ≡ Some x → P e x
+each_link P xs f e x h = f e (e, x) (link_at xs e x h)
 
-pub link_each : {A : Type 0} {P : ℕ → A → Type 0} (xs : List A) → ((e : ℕ) (x : A) → slice_get xs e ≡ Some x → P e x) → (k : ℕ) (p : ℕ × A) → slice_get (enumerate_from 0 xs) k ≡ Some p → P p.0 p.1
-link_each {A = A} xs f k p s = let r = in_numbered 0 xs k p s in f p.0 p.1 (subst (λ (j : ℕ). slice_get xs j ≡ Some p.1) (let n = r.0 in let e : k ≡ p.0 = omega arith in e) r.1)
+pub link_each : {A : Type 0} (P : ℕ → A → Type 0) (xs : List A) → ((e : ℕ) (x : A) → slice_get xs e ≡ Some x → P e x) → (k : ℕ) (p : ℕ × A) → slice_get (enumerate_from 0 xs) k ≡ Some p → P p.0 p.1
+link_each {A = A} P xs f k p s = let r = in_numbered 0 xs k p s in f p.0 p.1 (subst (λ (j : ℕ). slice_get xs j ≡ Some p.1) (let n = r.0 in let e : k ≡ p.0 = omega arith in e) r.1)

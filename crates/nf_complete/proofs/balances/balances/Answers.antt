@@ -23,7 +23,7 @@ loop-v-preserved c = rw (c.both-all.ensures) (told_more (sums_at passes_Q c.args
 
 pub returns : goal.returns
 returns c = tells_like (each (sums_at passes_Q c.args.net.now.net c.args.sets.now c.args.rate c.args.flows.now) (range_with_len 0 c.args.net.now.net.nodes)) (Ok c.loop-v.all)
-    (each_node {P = IsBalanced c.args.net.now.net c.args.sets.now c.args.rate c.args.flows.now} c.args.net.now.net.nodes)
-    (node_each {P = IsBalanced c.args.net.now.net c.args.sets.now c.args.rate c.args.flows.now} c.args.net.now.net.nodes)
+    (each_node (IsBalanced c.args.net.now.net c.args.sets.now c.args.rate c.args.flows.now) c.args.net.now.net.nodes)
+    (node_each (IsBalanced c.args.net.now.net c.args.sets.now c.args.rate c.args.flows.now) c.args.net.now.net.nodes)
     (told_all (sums_at passes_Q c.args.net.now.net c.args.sets.now c.args.rate c.args.flows.now) (IsBalanced c.args.net.now.net c.args.sets.now c.args.rate c.args.flows.now)
     (range_with_len 0 c.args.net.now.net.nodes) c.loop-v.v c.loop-v.all (let n = length-range_with_len 0 c.args.net.now.net.nodes in omega arith) c.loop-v.invariant)

@@ -3,7 +3,7 @@ use Rattle.nf_rational.specs.Rational.{ℚ}
 use Rattle.nf_model.specs.Entries.{number_at}
 use Rattle.nf_complete.specs.Testing.{same_test}
 use Rattle.nf_complete.proofs.Deciding.{not_set_by}
-use Rattle.nf_complete.proofs.Leading.{brings_told}
+use Rattle.nf_complete.proofs.LinkAnswers.{brings_told}
 use Rattle.nf_complete.proofs.leading.brings.Goals as goal
 
 pub returns : goal.returns

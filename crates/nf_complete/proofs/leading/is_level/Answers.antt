@@ -3,7 +3,7 @@ use Rattle.nf_rational.specs.Rational.{ℚ}
 use Rattle.nf_model.specs.Entries.{number_at}
 use Rattle.nf_model.specs.Network.{Link}
 use Rattle.nf_complete.specs.Testing.{same_test}
-use Rattle.nf_complete.proofs.Leading.{level_told}
+use Rattle.nf_complete.proofs.LinkAnswers.{level_told}
 use Rattle.nf_complete.proofs.leading.is_level.Goals as goal
 
 pub returns : goal.returns

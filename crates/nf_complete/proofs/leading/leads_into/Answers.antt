@@ -1,6 +1,6 @@
 use Rattle.std.proofs.Common.{ℕ, Bool, Some, eqb, ap, ◌∙◌}
 use Rattle.nf_model.specs.Network.{Link}
-use Rattle.nf_complete.proofs.Leading.{leads_told}
+use Rattle.nf_complete.proofs.LinkAnswers.{leads_told}
 use Rattle.nf_complete.proofs.leading.leads_into.Goals as goal
 
 pub returns : goal.returns

@@ -31,7 +31,7 @@ loop-e-preserved c =
 pub returns : goal.returns
 unfolding fulls_list
 returns c = tells_like (each (full_at passes_Q c.args.sets.now c.args.slopes.now) (enumerate_from 0 c.args.net.now.net.links)) (Ok c.loop-e.all)
-    (each_link {P = KeepsAt c.args.sets.now c.args.flows.now c.args.slopes.now} c.args.net.now.net.links)
-    (link_each {P = KeepsAt c.args.sets.now c.args.flows.now c.args.slopes.now} c.args.net.now.net.links)
+    (each_link (KeepsAt c.args.sets.now c.args.flows.now c.args.slopes.now) c.args.net.now.net.links)
+    (link_each (KeepsAt c.args.sets.now c.args.flows.now c.args.slopes.now) c.args.net.now.net.links)
     (told_all (full_at passes_Q c.args.sets.now c.args.slopes.now) (λ (q : ℕ × Link). KeepsAt c.args.sets.now c.args.flows.now c.args.slopes.now q.0 q.1)
     (enumerate_from 0 c.args.net.now.net.links) c.loop-e.e c.loop-e.all (let n = length-enumerate_from 0 c.args.net.now.net.links in omega arith) c.loop-e.invariant)
