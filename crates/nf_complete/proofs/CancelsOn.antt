@@ -1,6 +1,7 @@
 -- Cycles of interior links are cancelled, one after the other.
 use Rattle.std.proofs.Common.{◌≡◌, ℕ, ◌<◌, List, length, Bool, sym, ap, subst, refl, ◌∙◌}
 use Rattle.std.specs.Prelude.{◌↔◌, Option, Some, None, Result, Ok, Err, IfOk, MatchOption}
+use Rattle.std.proofs.lemmas.Option.{MatchOption-at_some, MatchOption-at_none}
 use Rattle.nf_rational.specs.Rational.{ℚ}
 use Rattle.nf_work.specs.Passing.{Passing}
 use Rattle.nf_work.specs.declared.Passed.{Passed}
@@ -67,6 +68,20 @@ pub halts_of : {A X : Type 0} (Comes : Checked (List ℚ) → Type 0) (flows_of 
     → Stops (λ q. q) halt (at_part Verdict list) → ComesTo Comes flows_of (Err halt)
 halts_of Comes flows_of list (Halt.Passed p) f said = let q = passed_of list (seen_passed_at (λ (x : ℚ). x) p) said in (q.0, f q.0 q.1, q.2)
 halts_of Comes flows_of list Halt.Memory f said = tt
+
+-- ---- as a loop sees it: the flows that it reads are those so far
+pub next_at : {X : Type 0} (steps_of : X → List (ℕ × Bool)) (net : Network) (sets : Sets) (slopes seen flows : List ℚ) (found : Option X) (x : X) → seen ≡ flows → found ≡ Some x
+    → MatchOption found (IsForest (hops net) (IsInterior net sets slopes seen)) (λ y. IsNextCycle net sets slopes seen (steps_of y)) → IsNextCycle net sets slopes flows (steps_of x)
+next_at steps_of net sets slopes seen flows found x same is h = subst (λ (f : List ℚ). IsNextCycle net sets slopes f (steps_of x)) same
+    (MatchOption-at_some (IsForest (hops net) (IsInterior net sets slopes seen)) (λ y. IsNextCycle net sets slopes seen (steps_of y)) x is h)
+
+pub none_at : {X : Type 0} (steps_of : X → List (ℕ × Bool)) (net : Network) (sets : Sets) (slopes seen flows : List ℚ) (found : Option X) → seen ≡ flows → found ≡ None
+    → MatchOption found (IsForest (hops net) (IsInterior net sets slopes seen)) (λ y. IsNextCycle net sets slopes seen (steps_of y)) → IsForest (hops net) (IsInterior net sets slopes flows)
+none_at steps_of net sets slopes seen flows found same is h = subst (λ (f : List ℚ). IsForest (hops net) (IsInterior net sets slopes f)) same
+    (MatchOption-at_none (IsForest (hops net) (IsInterior net sets slopes seen)) (λ y. IsNextCycle net sets slopes seen (steps_of y)) is h)
+
+pub list_at : (passes : Passing) (fulls : List (Option ℚ)) (read steps : List (ℕ × Bool)) (seen flows : List ℚ) → read ≡ steps → seen ≡ flows → cancel_list passes read fulls seen ≡ cancel_list passes steps fulls flows
+list_at passes fulls read steps seen flows e f = ap (λ (s : List (ℕ × Bool)). cancel_list passes s fulls seen) e ∙ ap (cancel_list passes steps fulls) f
 
 -- ---- one after the other
 -- these flows are a thin flow, and the first flows come to what they come to

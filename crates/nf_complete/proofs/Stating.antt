@@ -1,11 +1,11 @@
 -- The pattern of settled flows, link by link.
-use Rattle.std.proofs.Common.{◌≡◌, ◌≢◌, ◌⊎◌, inl, inr, ⊎_elim, ℕ, ◌+◌, ◌<◌, ◌≤◌, List, length, replicate, Bool, true, false, sym, ap, subst, refl, ◌∙◌, arith}
+use Rattle.std.proofs.Common.{◌≡◌, ◌≢◌, ◌⊎◌, inl, inr, ⊎_elim, ℕ, ◌+◌, ◌<◌, ◌≤◌, List, length, get_or, replicate, Bool, true, false, sym, ap, subst, refl, ◌∙◌, arith}
 use Rattle.std.specs.Prelude.{◌↔◌, Option, Some, None, slice_get, slice_set, unwrap_or, MatchBool, Ok}
 use Rattle.std.specs.Bool.{Decides}
 use Rattle.std.proofs.Math.ListN.{length-set}
 use Rattle.std.proofs.lemmas.List.{length-replicate}
 use Rattle.std.proofs.lemmas.Bool.Decides.{Decides-like}
-use Rattle.std.proofs.lemmas.Option.{same_Some, none-some, slice_get_within}
+use Rattle.std.proofs.lemmas.Option.{same_Some, none-some, slice_get_within, slice_get_read}
 use Rattle.nf_rational.specs.Rational.{ℚ}
 use Rattle.nf_rational.specs.Operations.{0ℚ, ◌*ℚ◌}
 use Rattle.nf_work.specs.Passing.{Passing}
@@ -28,6 +28,10 @@ use Rattle.nf_complete.specs.States.{BringsInto, LevelInto, NoneLevelBefore, ful
 use Rattle.nf_complete.proofs.Deciding.{Decides-same}
 use Rattle.nf_complete.proofs.Filling.{fulls_at}
 use Rattle.nf_complete.proofs.LinkAnswers.{level_of}
+
+-- what was read of what fills the links
+pub read_full : (fulls : List (Option ℚ)) (i e : ℕ) (o : Option ℚ) → i ≡ e → e < length fulls → o ≡ get_or fulls i o → unwrap_or (slice_get fulls e) None ≡ o
+read_full fulls i e o same inside is = ap (λ (w : Option (Option ℚ)). unwrap_or w None) (slice_get_read fulls (length fulls) e o refl inside (is ∙ ap (λ (k : ℕ). get_or fulls k o) same))
 
 module _ (net : Network) (sets : Sets) (flows slopes : List ℚ) where
   -- ---- bare nodes

@@ -173,13 +173,16 @@ module _ (net : Network) (sets : Sets) (rate : ℚ) (flows slopes : List ℚ) (g
         (link_law net sets rate good.network good.acyclic flows slopes thin e link p a)
 
     taken_by : (v e : ℕ) (link : Link) → Enters net sets v e link → exit_slope_at sets flows slopes e link ≡ number_at slopes v → Takes net sets flows slopes v e
-    taken_by v e link n exit = ((link, n), ⊎_elim
-        (λ (r : (flag sets.resetting e ≡ true) × Has sets.resetting e). inl (inl r.1))
-        (λ (r : (flag sets.resetting e ≡ false) × (Has sets.resetting e → ⊥)). ⊎_elim
-        (λ (z : number_at flows e ≡ 0ℚ). inr (level r.0 z))
-        (λ (z : number_at flows e ≢ 0ℚ). inl (inr z))
-        (same_or_not (number_at flows e) 0ℚ))
-        (flag-cases sets.resetting e))
+    taken_by v e link n exit = (
+      (link, n),
+      ⊎_elim
+          (λ (r : (flag sets.resetting e ≡ true) × Has sets.resetting e). inl (inl r.1))
+          (λ (r : (flag sets.resetting e ≡ false) × (Has sets.resetting e → ⊥)). ⊎_elim
+          (λ (z : number_at flows e ≡ 0ℚ). inr (level r.0 z))
+          (λ (z : number_at flows e ≢ 0ℚ). inl (inr z))
+          (same_or_not (number_at flows e) 0ℚ))
+          (flag-cases sets.resetting e),
+    )
       where
         level : flag sets.resetting e ≡ false → number_at flows e ≡ 0ℚ → IsLevelAt net slopes e
         level r z other p = subst (λ (k : Link). number_at slopes k.head ≡ number_at slopes k.tail) (IsLink-unique net e link other n.is_link p)

@@ -23,9 +23,7 @@ fn is_interior(sets: &LinkSets, fulls: &[Option<Q>], flows: &[Q], link: LinkId) 
     requires flows { length flows.now ≡ length sets.now.active }
     ensures { result ≡ interior_test sets.now fulls.now flows.now link }
 {
-    sets.active(link)
-        && !sets.resetting(link)
-        && between(fulls[link.index()], flows[link.index()])
+    sets.active(link) && !sets.resetting(link) && between(fulls[link.index()], flows[link.index()])
 }
 
 /// Of each link, whether it is interior.

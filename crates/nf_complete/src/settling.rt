@@ -60,8 +60,9 @@ fn cancelled(
     requires fulls { fulls_list passes_Q net.now.net sets.now slopes.now ≡ Ok fulls.now }
     ensures { ComesTo (Cancels passes_Q net.now.net sets.now slopes.now fulls.now flows.now) (λ new. new.items) result }
 {
-    // For the proof: the rate of the thin flow.
+    // For the proof: the rate of the thin flow, and that there are few links.
     let _ = rate;
+    let _ = net.link_count();
     let mut new = flows.to_vec(alloc)?;
     while let Some(steps) = next_cycle(alloc, net, sets, fulls, &new, slopes)? {
         new = cancel(alloc, &steps, fulls, &new)?;

@@ -30,13 +30,7 @@ fn keeps_bounded(full: Q, flow: Q, tail_slope: Q, head_slope: Q) -> bool
 }
 
 // Of an active link.
-fn keeps_slopes(
-    resets: bool,
-    full: Option<Q>,
-    flow: Q,
-    tail_slope: Q,
-    head_slope: Q,
-) -> bool
+fn keeps_slopes(resets: bool, full: Option<Q>, flow: Q, tail_slope: Q, head_slope: Q) -> bool
     ensures { result ≡ keeps_test resets full flow tail_slope head_slope }
 {
     match full {

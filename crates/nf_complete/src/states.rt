@@ -60,7 +60,13 @@ fn is_level_into(net: &Network, sets: &LinkSets, slopes: &[Q], link: LinkId, nod
 }
 
 // No active link into the node before this one has equal slopes at its ends.
-fn none_level_before(net: &Network, sets: &LinkSets, slopes: &[Q], link: LinkId, node: NodeId) -> bool
+fn none_level_before(
+    net: &Network,
+    sets: &LinkSets,
+    slopes: &[Q],
+    link: LinkId,
+    node: NodeId,
+) -> bool
     requires link { link < length net.now.net.links }
     requires sets { length sets.now.active ≡ length net.now.net.links }
     requires slopes { length slopes.now ≡ net.now.net.nodes }
@@ -75,13 +81,7 @@ fn none_level_before(net: &Network, sets: &LinkSets, slopes: &[Q], link: LinkId,
 }
 
 // A bare node is led to by the link.
-fn leads_to_bare(
-    net: &Network,
-    sets: &LinkSets,
-    flows: &[Q],
-    slopes: &[Q],
-    link: LinkId,
-) -> bool
+fn leads_to_bare(net: &Network, sets: &LinkSets, flows: &[Q], slopes: &[Q], link: LinkId) -> bool
     requires link { link < length net.now.net.links }
     requires sets { length sets.now.active ≡ length net.now.net.links }
     requires flows { length flows.now ≡ length net.now.net.links }
