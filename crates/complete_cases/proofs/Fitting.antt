@@ -8,6 +8,7 @@ use Rattle.nf_work.specs.Passing.{passes_Q}
 use Rattle.nf_work.specs.Checked.{at_part}
 use Rattle.nf_work.specs.declared.Part.TheVariants.{Slack}
 use Rattle.nf_model.specs.Entries.{Has}
+use Rattle.nf_model.specs.Walk.{Hop}
 use Rattle.nf_model.specs.Network.{Link, Network, IsLink, IsNetwork, hops, unbounded}
 use Rattle.nf_model.specs.ThinFlow.{Sets, sets_of, sets_at, slacks_of, Enters}
 use Rattle.nf_lists.specs.Slack.{slack_list}
@@ -27,9 +28,13 @@ is_among net e u = let w = slice_get_within (unbounded net) e true u in let n = 
 pub not_into : (net : Network) (sets : Sets) (e : ℕ) (link here : Link) → IsLink net e link → Enters net sets net.source e here → link.head ≡ net.source
 not_into net sets e link here p n = ap (λ (l : Link). l.head) (IsLink-unique net e link here p n.is_link) ∙ n.head
 
-pub sets_are : (net : Network) (given labels slacks : List ℚ) (sets : Sets) → given ≡ labels → Ok slacks ≡ at_part Slack (slack_list passes_Q (hops net) given) → sets ≡ sets_of slacks → sets ≡ sets_at net labels
-sets_are net given labels slacks sets same worked is =
-    is ∙ ap sets_of (slacks_exact passes_Q (hops net) given slacks (part_ok Slack (slack_list passes_Q (hops net) given) slacks worked)) ∙ ap (sets_at net) same
+pub sets_are : (net : Network) (given : List Hop) (labels slacks read : List ℚ) (sets : Sets) → given ≡ hops net → at_part Slack (slack_list passes_Q given labels) ≡ Ok slacks → read ≡ slacks → sets ≡ sets_of read
+    → sets ≡ sets_at net labels
+sets_are net given labels slacks read sets same worked seen is =
+    is ∙ ap sets_of (seen ∙ slacks_exact passes_Q given labels slacks (part_ok Slack (slack_list passes_Q given labels) slacks (sym worked)) ∙ ap (λ (h : List Hop). slacks_of h labels) same)
+
+pub sets_count : (net : Network) (labels : List ℚ) (sets : Sets) → sets ≡ sets_at net labels → length sets.active ≡ length net.links
+sets_count net labels sets is = ap (λ (s : Sets). length s.active) is ∙ (AreSets-sets_at net labels).count
 
 pub good_sets : (net : Network) (labels : List ℚ) (sets : Sets) → IsNetwork net → sets ≡ sets_at net labels → ((e : ℕ) → Has (unbounded net) e → Has sets.resetting e → ⊥) → AreGoodSets net sets
 good_sets net labels sets good is bounded = record {

@@ -7,7 +7,7 @@ ghost use Rattle.nf_thin_laws.specs.ActiveLinks.{NoneEntersSource};
 ghost use Rattle.nf_complete_laws.specs.SettleLaws.{AreGoodSets};
 
 use crate::case::Case;
-use crate::fit::sets_of;
+use crate::fit::fit_sets;
 use crate::telling::{tell_passed, tell_settled};
 use nf_complete::{is_thin, settle};
 use nf_frac::{Halt, Q};
@@ -66,9 +66,10 @@ fn labels_of(alloc: Global, net: &Network, case: &Case) -> Result<Vec<Q>, AllocE
     }
 }
 
+#[tactic(auto, using(nf_rational_laws::proofs::Tests::le_of_test))]
 fn tell_net<R: Print + AllocGlobal>(rt: &R, net: &Network, case: &Case) -> io::Result<()> {
     let labels = labels_of(rt.alloc(), net, case)?;
-    let Some(sets) = sets_of(rt.alloc(), net, &labels) else {
+    let Some(sets) = fit_sets(rt.alloc(), net, &labels) else {
         return println!(rt; "no sets");
     };
     let rate = net.rate_at(Q::zero());

@@ -2,7 +2,7 @@
 ghost use Rattle.std.specs.Prelude.{◌≡◌, ◌<◌, ℕ, length, IsTrue, IfSome};
 ghost use Rattle.nf_model.specs.Entries.{Has};
 ghost use Rattle.nf_model.specs.Network.{Link as SeenLink, unbounded};
-ghost use Rattle.nf_model.specs.ThinFlow.{Enters};
+ghost use Rattle.nf_model.specs.ThinFlow.{Enters, sets_at};
 ghost use Rattle.nf_thin_laws.specs.ActiveLinks.{NoneEntersSource};
 ghost use Rattle.nf_complete_laws.specs.SettleLaws.{AreGoodSets};
 
@@ -55,16 +55,33 @@ fn are_fit(net: &Network, sets: &LinkSets) -> bool
     true
 }
 
-/// The sets of these labels.
-pub fn sets_of(alloc: Global, net: &Network, labels: &[Q]) -> Option<LinkSets>
+// The sets of the slacks at these labels.
+fn made_sets(alloc: Global, net: &Network, labels: &[Q]) -> Option<LinkSets>
+    requires { length labels.now ≡ net.now.net.nodes }
+    ensures { IfSome result (λ sets. sets ≡ sets_at net.now.net labels.now) }
+{
+    match slacks(alloc, net.hops(), labels) {
+        Ok(slacks) => match sets(alloc, &slacks) {
+            Ok(sets) => Some(sets),
+            Err(_) => None,
+        },
+        Err(_) => None,
+    }
+}
+
+/// The same, where they are as the test of a thin flow asks.
+pub fn fit_sets(alloc: Global, net: &Network, labels: &[Q]) -> Option<LinkSets>
     ensures good { IfSome result (λ sets. AreGoodSets net.now.net sets) }
     ensures source { IfSome result (λ sets. NoneEntersSource net.now.net sets) }
 {
+    // For the proof: what is read is a network.
+    let _ = net.hops();
     if labels.len() != net.node_count() as usize {
         return None;
     }
-    let slacks = slacks(alloc, net.hops(), labels).ok()?;
-    let sets = sets(alloc, &slacks).ok()?;
+    let Some(sets) = made_sets(alloc, net, labels) else {
+        return None;
+    };
     if !are_fit(net, &sets) {
         return None;
     }

@@ -18,12 +18,7 @@ fn state_word(state: State) -> &'static str {
     }
 }
 
-fn tell_state<R: Print>(
-    rt: &R,
-    net: &Network,
-    pattern: &Pattern,
-    link: LinkId,
-) -> io::Result<()>
+fn tell_state<R: Print>(rt: &R, net: &Network, pattern: &Pattern, link: LinkId) -> io::Result<()>
     requires link { link < length net.now.net.links }
     requires states { length pattern.now ≡ length net.now.net.links }
 {
