@@ -13,27 +13,17 @@ use std::alloc::{AllocError, Global};
 fn is_taken(taken: &[LinkId], link: LinkId) -> bool
     ensures { result ≡ is_taken_by taken.now link }
 {
-    for one in taken {
-        if *one == link {
-            return true;
-        }
-    }
-    false
+    taken.iter().any(|one| *one == link)
 }
 
 // Wherever the link stands on a route, the one right before it was taken.
 fn may_follow(links: &[LinkId], taken: &[LinkId], link: LinkId) -> bool
     ensures { result ≡ list_all (λ p. not (p.1 == link) || is_taken_by taken.now p.0) (pairs_of links.now) }
 {
-    let mut before = None;
-    for one in links {
-        if let Some(before) = before
-            && *one == link
-            && !is_taken(taken, before)
-        {
+    for i in 1..links.len() {
+        if links[i] == link && !is_taken(taken, links[i - 1]) {
             return false;
         }
-        before = Some(*one);
     }
     true
 }
