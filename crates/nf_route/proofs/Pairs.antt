@@ -1,8 +1,8 @@
 -- Which links stand right before which, from a place of a route on and from a route on.
-use Rattle.std.proofs.Common.{◌≡◌, ℕ, zero, suc, ◌≤◌, List, [], ◌∷◌, ◌++◌, length, drop, Bool, true, false, ◌&&◌, refl, sym, ap, ◌∙◌, append_assoc, arith}
+use Rattle.std.proofs.Common.{◌≡◌, ℕ, zero, suc, ◌+◌, ◌-◌, ◌<◌, ◌≤◌, not, ◌||◌, eqb, List, [], ◌∷◌, ◌++◌, length, drop, Bool, true, false, ◌&&◌, refl, sym, ap, ◌∙◌, arith}
 use Rattle.std.specs.Prelude.{Some, slice_get}
 use Rattle.std.specs.List.{list_all}
-use Rattle.nf_routes_lists.specs.Routes.{Route, pairs_of, all_pairs}
+use Rattle.nf_routes_lists.specs.Routes.{pairs_of, all_pairs, is_taken}
 use Rattle.nf_routes_lists.specs.RoutesFile.{NamedRoute}
 use Rattle.nf_route.specs.Kept.{routes_of}
 
@@ -42,3 +42,36 @@ and_joined false b c = refl
 pub all-append : {A : Type 0} (t : A → Bool) (xs ys : List A) → list_all t (xs ++ ys) ≡ (list_all t xs && list_all t ys)
 all-append t [] ys = refl
 all-append t (x ∷ xs) ys = ap (λ (b : Bool). t x && b) (all-append t xs ys) ∙ and_joined (t x) (list_all t xs) (list_all t ys)
+
+-- ---- along one route
+or_late : (a b : Bool) → b ≡ true → (a || b) ≡ true
+or_late true b h = refl
+or_late false b h = h
+
+or_early : (a b : Bool) → a ≡ false → (not a || b) ≡ true
+or_early true b h = absurd (cc)
+or_early false b h = refl
+
+abbrev test : List ℕ → ℕ → ℕ × ℕ → Bool
+test taken link p = not (eqb p.1 link) || is_taken taken p.0
+
+module _ (links taken : List ℕ) (link i : ℕ) (some : 0 < i) (so_far : list_all (test taken link) (pairs_of (drop (i - 1) links)) ≡ list_all (test taken link) (pairs_of links)) where
+  pub pairs_end : length links ≤ i → true ≡ list_all (test taken link) (pairs_of links)
+  pairs_end h = sym (ap (list_all (test taken link)) (pairs_none links (i - 1) (omega arith))) ∙ so_far
+
+  module _ (e f : ℕ) (before : slice_get links (i - 1) ≡ Some e) (here : slice_get links i ≡ Some f) where
+    first : list_all (test taken link) ((e, f) ∷ pairs_of (drop i links)) ≡ list_all (test taken link) (pairs_of links)
+    first =
+        let n : suc (i - 1) ≡ i = omega arith in
+        sym (ap (list_all (test taken link)) (pairs_at links (i - 1) e f before (ap (slice_get links) n ∙ here) ∙ ap (λ (k : ℕ). (e, f) ∷ pairs_of (drop k links)) n)) ∙ so_far
+
+    goes_on : test taken link (e, f) ≡ true → list_all (test taken link) (pairs_of (drop (i + 1 - 1) links)) ≡ list_all (test taken link) (pairs_of links)
+    goes_on t =
+        ap (λ (k : ℕ). list_all (test taken link) (pairs_of (drop k links))) (let n : i + 1 - 1 ≡ i = omega arith in n)
+        ∙ sym (ap (λ (b : Bool). b && list_all (test taken link) (pairs_of (drop i links))) t) ∙ first
+
+    pub pairs_taken : is_taken taken e ≡ true → list_all (test taken link) (pairs_of (drop (i + 1 - 1) links)) ≡ list_all (test taken link) (pairs_of links)
+    pairs_taken t = goes_on (or_late (not (eqb f link)) (is_taken taken e) t)
+
+    pub pairs_other : eqb f link ≡ false → list_all (test taken link) (pairs_of (drop (i + 1 - 1) links)) ≡ list_all (test taken link) (pairs_of links)
+    pairs_other t = goes_on (or_early (eqb f link) (is_taken taken e) t)

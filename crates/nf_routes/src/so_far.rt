@@ -53,7 +53,7 @@ fn no_entries(alloc: Global, routes: &[Route]) -> Result<Vec<Stages>, AllocError
     ensures { IfOk result (λ entries. entries.items ≡ nothing_sent (routes_of routes.now)) }
 {
     let mut entries = Vec::new(alloc);
-    for _ in routes {
+    for _route in routes {
         entries.push(Stages::new(alloc))?;
     }
     Ok(entries)
