@@ -63,8 +63,10 @@ impl Route {
 
     /// One more piece, behind those that are there.
     pub fn push(&mut self, piece: Piece) -> Result<(), AllocError>
-        ensures { OnOk result (self.new ≡ record { name = self.old.name;
-            route = record { links = self.old.route.links; pieces = self.old.route.pieces ++ piece ∷ [] } }) }
+        ensures { OnOk result (self.new ≡ record {
+          name = self.old.name;
+          route = record { links = self.old.route.links; pieces = self.old.route.pieces ++ piece ∷ [] };
+        }) }
     {
         self.pieces.push(piece)?;
         Ok(())

@@ -5,3 +5,4 @@ pub mod Stands
 pub mod Here
 pub mod All
 pub mod Travelling
+pub mod Whole

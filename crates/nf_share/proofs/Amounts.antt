@@ -72,7 +72,7 @@ sum_amount left right sum a b s = record {
 }
 
 pub summed_amount : (passes : Passing) (left right sum : List Point) → IsAmount left → IsAmount right → checked_sum passes left right ≡ Ok sum → IsAmount sum
-summed_amount passes left right sum a b e = sum_amount left right sum a b (checked_sum-is passes left right sum a.curve b.curve e)
+summed_amount passes left right sum a b e = sum_amount left right sum a b (checked_sum-is passes left right a.curve b.curve sum e)
 
 pub supplied_amount : (pieces : List Piece) (last : ℚ) (points : List Point) → IsCumulative pieces last points → IsAmount points
 supplied_amount pieces last points w = record { curve = w.curve; begins = w.begins; rises = w.rises }

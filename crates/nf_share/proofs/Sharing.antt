@@ -1,24 +1,29 @@
 -- The points of what a route sends on: their times and their values rise.
 use Rattle.std.proofs.Common.{◌≡◌, List, [], ◌∷◌, ◌⊎◌, ⊎_elim, Bool, true, false, refl, sym, ap, subst, ◌∙◌}
-use Rattle.std.specs.Prelude.{Ok}
+use Rattle.std.specs.Prelude.{Result, Ok, Err, IfOk}
 use Rattle.nf_rational.specs.Rational.{ℚ}
 use Rattle.nf_rational.specs.Operations.{0ℚ}
 use Rattle.nf_rational.specs.Order.{◌≤ℚ◌, ◌<ℚ◌}
 use Rattle.nf_rational_laws.proofs.Order.{≤ℚ_of_lt, ≤ℚ_antisymm, lt_or_le_ℚ}
 use Rattle.nf_rational_laws.proofs.Chains.{≤ℚ_refl, ≤ℚ_trans}
+use Rattle.nf_work.specs.declared.Halt.{Halt}
+use Rattle.nf_work.specs.declared.PassedAt.{PassedAt}
+use Rattle.nf_work.specs.declared.Part.TheVariants.{Load}
 use Rattle.nf_work.specs.Passing.{Passing}
-use Rattle.nf_work.specs.Checked.{each}
+use Rattle.nf_work.specs.Checked.{Checked, Gives, at_part, each}
 use Rattle.nf_model.specs.Curve.{Point, value, TimesRise, IsCurve}
 use Rattle.nf_model_laws.specs.CurveLaws.{ValuesRise}
 use Rattle.nf_model_laws.proofs.Curves.{value-first, NeverFalls-value}
 use Rattle.nf_lists.specs.Signs.{is_same}
 use Rattle.nf_curve_lists.specs.Lines.{Sides}
+use Rattle.nf_curve_lists.specs.Short.{checked_short}
 use Rattle.nf_curve_lists.specs.Times.{both_times}
 use Rattle.nf_curve_lists.specs.Sums.{sides_at}
 use Rattle.nf_curve_laws.proofs.Operations.{then_ok, is_same_cases}
 use Rattle.nf_curve_laws.proofs.Times.{NextOnes, both_times-next}
 use Rattle.nf_curve_laws.proofs.Pieces.{AreSides, sides_at-is}
 use Rattle.nf_curve_laws.proofs.Short.{checked_short-is}
+use Rattle.nf_curve.proofs.Exits.{after_err, after_ok, was_ok}
 use Rattle.nf_plain_laws.proofs.Results.{same_Ok}
 use Rattle.nf_routes_lists.specs.RoutesList.{next_from, next_entry}
 use Rattle.nf_share.specs.Amounts.{IsAmount, AreExits}
@@ -104,3 +109,18 @@ module _ (passes : Passing) (exit entry : List Point) (exits : AreExits exit) (a
       let s = then_ok (each (sides_at passes entry exit) (both_times entry exit)) _ next e in
       let a = points_amount s.between s.first in
       short_amount ((0ℚ, 0ℚ) ∷ next_from 0ℚ s.between) next a (checked_short-is passes ((0ℚ, 0ℚ) ∷ next_from 0ℚ s.between) next a.curve s.next)
+
+  -- ---- the list, step by step
+  pub sides_stop : (p : PassedAt ℚ) → at_part Load (each (sides_at passes entry exit) (both_times entry exit)) ≡ Err p → at_part Load (next_entry passes exit entry) ≡ Err p
+  unfolding next_entry
+  sides_stop p e = after_err Load (each (sides_at passes entry exit) (both_times entry exit)) (λ sides. checked_short passes ((0ℚ, 0ℚ) ∷ next_from 0ℚ sides)) p e
+
+  pub sides_go : (sides : List Sides) → at_part Load (each (sides_at passes entry exit) (both_times entry exit)) ≡ Ok sides
+      → at_part Load (next_entry passes exit entry) ≡ at_part Load (checked_short passes ((0ℚ, 0ℚ) ∷ next_from 0ℚ sides))
+  unfolding next_entry
+  sides_go sides e = after_ok Load (each (sides_at passes entry exit) (both_times entry exit)) (λ sides. checked_short passes ((0ℚ, 0ℚ) ∷ next_from 0ℚ sides)) sides e
+
+-- what holds of a list's value holds of what a call gives by it
+pub gives_ok : {X A : Type 0} (value : X → A) (result : Result X (Halt ℚ)) (said : Checked A) (P : A → Type 0) → Gives value (λ (q : ℚ). q) result (at_part Load said) → ((y : A) → said ≡ Ok y → P y) → IfOk result (λ x. P (value x))
+gives_ok value (Ok x) said P g f = f (value x) (was_ok Load said (value x) g)
+gives_ok value (Err h) said P g f = tt
