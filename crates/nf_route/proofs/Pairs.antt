@@ -52,7 +52,7 @@ or_early : (a b : Bool) → a ≡ false → (not a || b) ≡ true
 or_early true b h = absurd (cc)
 or_early false b h = refl
 
-abbrev test : List ℕ → ℕ → ℕ × ℕ → Bool
+abbrev pub test : List ℕ → ℕ → ℕ × ℕ → Bool
 test taken link p = not (eqb p.1 link) || is_taken taken p.0
 
 module _ (links taken : List ℕ) (link i : ℕ) (some : 0 < i) (so_far : list_all (test taken link) (pairs_of (drop (i - 1) links)) ≡ list_all (test taken link) (pairs_of links)) where

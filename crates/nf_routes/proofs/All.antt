@@ -17,6 +17,7 @@ use Rattle.nf_routes_laws.proofs.Ordering.{takes_all-straight}
 use Rattle.nf_route.proofs.Taking.{IsPlaced, order_placed}
 use Rattle.nf_routes.specs.Beginning.{nothing_loaded, nothing_sent, all_loaded}
 use Rattle.nf_routes.specs.Standing.{MayLoad, IsComplete}
+use Rattle.nf_routes.proofs.Folds.{drop_at}
 use Rattle.nf_routes.proofs.Stands.{Stands, stands_first, may_load, steps_of, stands_next, stands_last, all_taken}
 
 pub record Loads (passes : Passing) (net : Network) (routes : List Route) (horizon : ℚ) (order : List ℕ) (so_far : SoFar) (i : ℕ) : Type 0 where
@@ -41,26 +42,24 @@ module _ (passes : Passing) (net : Network) (routes : List Route) (horizon : ℚ
         (subst (λ (l : List ℕ). Stands net routes l so_far) (take_all i order h) loads.stands)
 
     module _ (e : ℕ) (at : slice_get order i ≡ Some e) where
-      drop_at : (xs : List ℕ) (i : ℕ) → slice_get xs i ≡ Some e → drop i xs ≡ e ∷ drop (i + 1) xs
-      drop_at [] i h = absurd (cc)
-      drop_at (y ∷ xs) zero h = let same : y ≡ e = cc in ap (λ (z : ℕ). z ∷ xs) same
-      drop_at (y ∷ xs) (suc i) h = drop_at xs i h
+      take_on : (xs : List ℕ) (i : ℕ) → slice_get xs i ≡ Some e → take i xs ++ e ∷ [] ≡ take (suc i) xs
+      take_on [] i h = absurd (cc)
+      take_on (y ∷ xs) zero h = let same : y ≡ e = cc in ap (λ (z : ℕ). z ∷ []) (sym same)
+      take_on (y ∷ xs) (suc i) h = ap (λ (l : List ℕ). y ∷ l) (take_on xs i h)
 
-      take_at : (xs : List ℕ) (i : ℕ) → slice_get xs i ≡ Some e → take i xs ++ e ∷ [] ≡ take (i + 1) xs
-      take_at [] i h = absurd (cc)
-      take_at (y ∷ xs) zero h = let same : y ≡ e = cc in ap (λ (z : ℕ). z ∷ []) (sym same)
-      take_at (y ∷ xs) (suc i) h = ap (λ (l : List ℕ). y ∷ l) (take_at xs i h)
+      take_at : take i order ++ e ∷ [] ≡ take (i + 1) order
+      take_at = take_on order i at ∙ ap (λ (k : ℕ). take k order) (let same : suc i ≡ i + 1 = omega arith in same)
 
       pub placed_at : IsPlaced (all_pairs routes) (length net.links) (take i order) e
       unfolding loading_order
       placed_at = order_placed (all_pairs routes) (length net.links) (length net.links) (take i order) e (drop (i + 1) order)
-          (sym is_order ∙ sym (take-append-drop i order) ∙ ap (λ (l : List ℕ). take i order ++ l) (drop_at order i at))
+          (sym is_order ∙ sym (take-append-drop i order) ∙ ap (λ (l : List ℕ). take i order ++ l) (drop_at order i e at))
 
       pub may_load_at : MayLoad net routes e so_far
       may_load_at = may_load net routes (take i order) e so_far loads.stands placed_at
 
       here : (load_here passes horizon routes so_far e (slice_get net.links e) >>= λ next. load_all passes net routes horizon (drop (i + 1) order) next) ≡ all_loaded passes net routes horizon
-      here = sym (ap (λ (l : List ℕ). load_all passes net routes horizon l so_far) (drop_at order i at)) ∙ loads.same
+      here = sym (ap (λ (l : List ℕ). load_all passes net routes horizon l so_far) (drop_at order i e at)) ∙ loads.same
 
       pub loads_stop : (h : Halt ℚ) → Stops (λ (q : ℚ). q) h (at_part Load (load_here passes horizon routes so_far e (slice_get net.links e))) → Stops (λ (q : ℚ). q) h (at_part Load (all_loaded passes net routes horizon))
       loads_stop h s = stops_on h (at_part Load (load_here passes horizon routes so_far e (slice_get net.links e))) (at_part Load (all_loaded passes net routes horizon))
@@ -71,7 +70,7 @@ module _ (passes : Passing) (net : Network) (routes : List Route) (horizon : ℚ
           let was = was_ok Load (load_here passes horizon routes so_far e (slice_get net.links e)) next k in
           record {
             same = ap (λ (r : Checked SoFar). r >>= λ n. load_all passes net routes horizon (drop (i + 1) order) n) (sym was) ∙ here;
-            stands = subst (λ (l : List ℕ). Stands net routes l next) (take_at order i at)
+            stands = subst (λ (l : List ℕ). Stands net routes l next) take_at
                 (stands_next passes net routes horizon (take i order) e link so_far next from_0 good is loads.stands placed_at
                 (steps_of passes horizon routes so_far e link next (ap (λ (o : Option Link). load_here passes horizon routes so_far e o) (sym is) ∙ was)));
           }

@@ -1,7 +1,7 @@
 -- A step for each route with what it has sent, one route after the other.
 use Rattle.std.proofs.Common.{◌≡◌, ℕ, zero, suc, ◌+◌, ◌<◌, ◌≤◌, List, [], ◌∷◌, ◌++◌, length, take, drop, set, Bool, refl, sym, ap, subst, ◌∙◌, append_assoc, append-nil, arith}
 use Rattle.std.specs.Prelude.{Option, Some, None, Ok, Err, map, slice_get}
-use Rattle.std.proofs.lemmas.List.{take_more_set, drop-set-lt, drop_all, take_all, length-set}
+use Rattle.std.proofs.lemmas.List.{take_more_set, drop-set-lt, drop-drop, drop_all, take_all, length-set}
 use Rattle.nf_rational.specs.Rational.{ℚ}
 use Rattle.nf_work.specs.declared.Halt.{Halt}
 use Rattle.nf_work.specs.declared.Part.TheVariants.{Load}
@@ -11,7 +11,8 @@ use Rattle.nf_work.proofs.Each.{with_front}
 use Rattle.nf_model.specs.Curve.{Point}
 use Rattle.nf_routes_lists.specs.Routes.{Route}
 use Rattle.nf_routes_lists.specs.RoutesList.{begins_with, goes_over, last_entry, begin_if, begin_all, add_if, sum_from, next_if, next_all}
-use Rattle.nf_curve.proofs.Exits.{after_err, was_ok, stops_on}
+use Rattle.nf_curve.proofs.Exits.{after_err, was_ok, front_err, stops_on}
+use Rattle.nf_curve.proofs.Shortening.{drop-at}
 use Rattle.nf_routes.specs.Standing.{Along}
 
 abbrev pub Sent : Type 0
@@ -40,15 +41,13 @@ next_all-is passes e exit (route ∷ routes) [] = refl
 next_all-is passes e exit (route ∷ routes) (sent ∷ rest) =
     ap (λ (r : Checked (List Sent)). next_if passes (goes_over route.links e) exit sent >>= λ here. r >>= λ later. Ok (here ∷ later)) (next_all-is passes e exit routes rest)
 
-drop_at : {A : Type 0} (xs : List A) (i : ℕ) (x : A) → slice_get xs i ≡ Some x → drop i xs ≡ x ∷ drop (i + 1) xs
-drop_at [] i x h = absurd (cc)
-drop_at (y ∷ xs) zero x h = let same : y ≡ x = cc in ap (λ (z : _). z ∷ xs) same
-drop_at (y ∷ xs) (suc i) x h = drop_at xs i x h
+pub drop_at : {A : Type 0} (xs : List A) (i : ℕ) (x : A) → slice_get xs i ≡ Some x → drop i xs ≡ x ∷ drop (i + 1) xs
+drop_at {A} xs i x h = drop-at xs i x h ∙ ap (λ (k : ℕ). x ∷ drop k xs) (let same : suc i ≡ i + 1 = omega arith in same)
 
 get_drop : {A : Type 0} (xs ys : List A) (i : ℕ) (x : A) → drop i xs ≡ drop i ys → slice_get xs i ≡ Some x → slice_get ys i ≡ Some x
-get_drop xs ys i x same h = sym (first ys i) ∙ ap (λ (l : List _). slice_get l 0) (sym same) ∙ first xs i ∙ h
+get_drop {A} xs ys i x same h = sym (first ys i) ∙ ap (λ (l : List A). slice_get l 0) (sym same) ∙ first xs i ∙ h
   where
-    first : (l : List _) (i : ℕ) → slice_get (drop i l) 0 ≡ slice_get l i
+    first : (l : List A) (i : ℕ) → slice_get (drop i l) 0 ≡ slice_get l i
     first [] zero = refl
     first [] (suc i) = refl
     first (y ∷ l) zero = refl
@@ -90,11 +89,8 @@ module _ (f : Route → Sent → Checked Sent) (routes : List Route) (old : List
 
       pub steps_stop : (h : Halt ℚ) → Stops (λ (q : ℚ). q) h (at_part Load (f route sent)) → Stops (λ (q : ℚ). q) h (at_part Load (step_all f routes old))
       steps_stop h s = stops_on h (at_part Load (f route sent)) (at_part Load (step_all f routes old))
-          (λ p e. ap (at_part Load) (sym here) ∙ front_err' (after_err Load (f route sent) (λ here. step_all f (drop (i + 1) routes) (drop (i + 1) old) >>= λ later. Ok (here ∷ later)) p e)) s
-        where
-          front_err' : {p : _} {r : Checked (List Sent)} → at_part Load r ≡ Err p → at_part Load (with_front (take i now) r) ≡ Err p
-          front_err' {p} {Ok ys} e = absurd (cc)
-          front_err' {p} {Err q} e = e
+          (λ p e. ap (at_part Load) (sym here) ∙ front_err Load (take i now) (f route sent >>= λ here. step_all f (drop (i + 1) routes) (drop (i + 1) old) >>= λ later. Ok (here ∷ later)) p
+          (after_err Load (f route sent) (λ here. step_all f (drop (i + 1) routes) (drop (i + 1) old) >>= λ later. Ok (here ∷ later)) p e)) s
 
       pub steps_go : (next : Sent) → at_part Load (f route sent) ≡ Ok next → Steps f routes old (set now i next) (i + 1)
       steps_go next e =
@@ -113,14 +109,8 @@ module _ (f : Route → Sent → Checked Sent) (routes : List Route) (old : List
           within (y ∷ l) zero x h = omega arith
           within (y ∷ l) (suc i) x h = let r = within l i x h in omega arith
 
-          tail_of : (l : List Sent) (i : ℕ) → drop (i + 1) l ≡ drop 1 (drop i l)
-          tail_of [] zero = refl
-          tail_of [] (suc i) = refl
-          tail_of (y ∷ l) zero = refl
-          tail_of (y ∷ l) (suc i) = tail_of l i
-
           next_rest : (a b : List Sent) (i : ℕ) → drop i a ≡ drop i b → drop (i + 1) a ≡ drop (i + 1) b
-          next_rest a b i h = tail_of a i ∙ ap (drop 1) h ∙ sym (tail_of b i)
+          next_rest a b i h = sym (drop-drop 1 i a) ∙ ap (drop 1) h ∙ drop-drop 1 i b
 
 -- ---- what holds of each route before a step, and what holds then after it
 pub steps_keep : (f : Route → Sent → Checked Sent) (P Q : Route → Sent → Type 0) → ((route : Route) (sent next : Sent) → P route sent → f route sent ≡ Ok next → Q route next)
@@ -131,15 +121,15 @@ steps_keep f P Q keeps [] [] next along e = subst (λ (l : List Sent). Along Q [
     ok_same e = cc
 steps_keep f P Q keeps [] (sent ∷ rest) next along e = absurd along
 steps_keep f P Q keeps (route ∷ routes) [] next along e = absurd along
-steps_keep f P Q keeps (route ∷ routes) (sent ∷ rest) next along e = by (f route sent) refl (step_all f routes rest) refl e
+steps_keep f P Q keeps (route ∷ routes) (sent ∷ rest) next along e = by (f route sent) refl (step_all f routes rest) (λ later k. steps_keep f P Q keeps routes rest later along.1 k) e
   where
     ok_same : {x y : List Sent} → ◌≡◌ {A = Checked (List Sent)} (Ok x) (Ok y) → x ≡ y
     ok_same e = cc
 
-    by : (r : Checked Sent) → f route sent ≡ r → (s : Checked (List Sent)) → step_all f routes rest ≡ s → (r >>= λ here. s >>= λ later. Ok (here ∷ later)) ≡ Ok next → Along Q (route ∷ routes) next
-    by (Ok here) h (Ok later) k e = subst (λ (l : List Sent). Along Q (route ∷ routes) l) (ok_same e) (keeps route sent here along.0 h, steps_keep f P Q keeps routes rest later along.1 k)
-    by (Ok here) h (Err p) k e = absurd (cc)
-    by (Err p) h s k e = absurd (cc)
+    by : (r : Checked Sent) → f route sent ≡ r → (s : Checked (List Sent)) → ((later : List Sent) → s ≡ Ok later → Along Q routes later) → (r >>= λ here. s >>= λ later. Ok (here ∷ later)) ≡ Ok next → Along Q (route ∷ routes) next
+    by (Ok here) h (Ok later) on e = subst (λ (l : List Sent). Along Q (route ∷ routes) l) (ok_same e) (keeps route sent here along.0 h, on later refl)
+    by (Ok here) h (Err p) on e = absurd (cc)
+    by (Err p) h s on e = absurd (cc)
 
 -- of the route at a place, and what it has sent
 pub along_at : (P : Route → Sent → Type 0) (routes : List Route) (entries : List Sent) (i : ℕ) (route : Route) (sent : Sent) → Along P routes entries → slice_get routes i ≡ Some route → slice_get entries i ≡ Some sent → P route sent
@@ -158,10 +148,10 @@ along-count P (x ∷ routes) [] along = absurd along
 along-count P (x ∷ routes) (y ∷ entries) along = ap suc (along-count P routes entries along.1)
 
 pub along_as : (P Q : Route → Sent → Type 0) → ((route : Route) (sent : Sent) → P route sent → Q route sent) → (routes : List Route) (entries : List Sent) → Along P routes entries → Along Q routes entries
-along_as P Q as [] [] along = tt
-along_as P Q as [] (y ∷ entries) along = absurd along
-along_as P Q as (x ∷ routes) [] along = absurd along
-along_as P Q as (x ∷ routes) (y ∷ entries) along = (as x y along.0, along_as P Q as routes entries along.1)
+along_as P Q gives [] [] along = tt
+along_as P Q gives [] (y ∷ entries) along = absurd along
+along_as P Q gives (x ∷ routes) [] along = absurd along
+along_as P Q gives (x ∷ routes) (y ∷ entries) along = (gives x y along.0, along_as P Q gives routes entries along.1)
 
 -- ---- a sum over the routes
 pub record Sums (passes : Passing) (e : ℕ) (first : List Point) (routes : List Route) (entries : List Sent) (total : List Point) (i : ℕ) : Type 0 where

@@ -1,3 +1,4 @@
+pub mod Lists
 pub mod Greatest
 pub mod Folds
 pub mod Sound

@@ -116,16 +116,13 @@ pub begun_sends : (passes : Passing) (e : ℕ) (horizon : ℚ) → 0ℚ ≤ℚ h
     → begin_if passes (begins_with route.links e) horizon route sent ≡ Ok next → Sends e route next
 begun_sends passes e horizon from_0 route sent next m h = by (begins_with route.links e) refl h
   where
-    some_one : {A : Type 0} {x : A} → 0 < length (x ∷ [])
-    some_one = omega arith
-
     by : (b : Bool) → begins_with route.links e ≡ b → begin_if passes b horizon route sent ≡ Ok next → Sends e route next
     by true t k =
         let s = then_ok (checked_cumulative passes route.pieces horizon) _ next k in
         let f = then_ok (checked_short passes s.between) _ next s.next in
         let a = supplied_amount route.pieces horizon s.between (checked_cumulative-is passes route.pieces horizon m.pieces from_0 s.between s.first) in
         subst (λ (l : Sent). Sends e route l) (same_Ok _ _ f.next)
-        (record { amounts = (short_amount s.between f.between a (checked_short-is passes s.between f.between a.curve f.first), tt); some = λ over. some_one })
+        (record { amounts = (short_amount s.between f.between a (checked_short-is passes s.between f.between a.curve f.first), tt); some = λ over. omega arith })
     by false t k = subst (λ (l : Sent). Sends e route l) (same_Ok _ _ k) (record { amounts = m.amounts; some = λ over. m.some over t })
 
 -- where something was sent there is something still

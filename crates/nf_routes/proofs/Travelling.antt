@@ -5,7 +5,8 @@ use Rattle.std.proofs.lemmas.List.{drop_all, length-map}
 use Rattle.std.proofs.lemmas.Option.{slice_get_within}
 use Rattle.nf_rational.specs.Rational.{ℚ}
 use Rattle.nf_rational.specs.Operations.{0ℚ}
-use Rattle.nf_rational.specs.Order.{◌≤ℚ◌}
+use Rattle.nf_rational.specs.Order.{◌≤ℚ◌, ◌<ℚ◌}
+use Rattle.nf_rational_laws.proofs.Order.{≤ℚ_antisymm, lt_or_le_ℚ}
 use Rattle.nf_rational_laws.proofs.Chains.{≤ℚ_refl, ≤ℚ_trans}
 use Rattle.nf_work.specs.declared.Halt.{Halt}
 use Rattle.nf_work.specs.declared.PassedAt.{PassedAt}
@@ -28,22 +29,23 @@ use Rattle.nf_routes_laws.proofs.Arriving.{walk-links}
 use Rattle.nf_share.specs.Amounts.{AreExits}
 use Rattle.nf_routes.specs.Standing.{AreLoaded, IsComplete}
 use Rattle.nf_routes.specs.Travels.{HaveExits, GoOver, GoOverAll, travel_along}
+use Rattle.nf_routes.proofs.Folds.{drop_at}
 
 -- ---- the exits by what is loaded
-exit_same : (links : List (Option LoadedLink)) (e : ℕ) → exit_of links e ≡ (loaded_at (map loaded_or links) e).exit
-exit_same [] e = refl
-exit_same (None ∷ links) zero = refl
-exit_same (Some l ∷ links) zero = refl
-exit_same (o ∷ links) (suc e) = exit_same links e
+exit_same : (passes : Passing) (links : List (Option LoadedLink)) (e : ℕ) → exit_of passes links e ≡ (loaded_at (map (loaded_or passes) links) e).exit
+exit_same passes [] e = refl
+exit_same passes (None ∷ links) zero = refl
+exit_same passes (Some l ∷ links) zero = refl
+exit_same passes (o ∷ links) (suc e) = exit_same passes links e
 
-pub travel_on-is : (passes : Passing) (horizon : ℚ) (links : List (Option LoadedLink)) (route : List ℕ) (travel : List Point) → travel_on passes horizon links route travel ≡ travel_along passes horizon (map loaded_or links) route travel
+pub travel_on-is : (passes : Passing) (horizon : ℚ) (links : List (Option LoadedLink)) (route : List ℕ) (travel : List Point) → travel_on passes horizon links route travel ≡ travel_along passes horizon (map (loaded_or passes) links) route travel
 travel_on-is passes horizon links [] travel = refl
 travel_on-is passes horizon links (e ∷ rest) travel =
-    ap (λ (x : List Point). checked_composed passes x travel horizon >>= λ next. travel_on passes horizon links rest next) (exit_same links e)
-    ∙ later (checked_composed passes (loaded_at (map loaded_or links) e).exit travel horizon) (λ next. travel_on-is passes horizon links rest next)
+    ap (λ (x : List Point). checked_composed passes x travel horizon >>= λ next. travel_on passes horizon links rest next) (exit_same passes links e)
+    ∙ later (checked_composed passes (loaded_at (map (loaded_or passes) links) e).exit travel horizon) (λ next. travel_on-is passes horizon links rest next)
   where
-    later : (r : Checked (List Point)) → ((next : List Point) → travel_on passes horizon links rest next ≡ travel_along passes horizon (map loaded_or links) rest next)
-        → (r >>= λ next. travel_on passes horizon links rest next) ≡ (r >>= λ next. travel_along passes horizon (map loaded_or links) rest next)
+    later : (r : Checked (List Point)) → ((next : List Point) → travel_on passes horizon links rest next ≡ travel_along passes horizon (map (loaded_or passes) links) rest next)
+        → (r >>= λ next. travel_on passes horizon links rest next) ≡ (r >>= λ next. travel_along passes horizon (map (loaded_or passes) links) rest next)
     later (Ok next) same = same next
     later (Err p) same = refl
 
@@ -54,26 +56,29 @@ each_same {A} {B} f g same (x ∷ xs) =
     ∙ ap (λ (r : Checked (List B)). g x >>= λ y. r >>= λ ys. Ok (y ∷ ys)) (each_same f g same xs)
 
 -- ---- what is complete has exits, and routes go over its links
-pub complete_exits : (net : Network) (routes : List Route) (so_far : SoFar) → IsComplete net routes so_far → HaveExits (map loaded_or so_far.links)
-complete_exits net routes so_far c = record { each = λ e link h. at so_far.links e link h (c.links.each e) (c.exits e) }
+pub complete_exits : (passes : Passing) (net : Network) (routes : List Route) (so_far : SoFar) → IsComplete net routes so_far → HaveExits (map (loaded_or passes) so_far.links)
+complete_exits passes net routes so_far c = record { each = λ e link h. at so_far.links e link h (c.links.each e) (c.exits e) }
   where
-    at : (links : List (Option LoadedLink)) (e : ℕ) (link : Loaded) → slice_get (map loaded_or links) e ≡ Some link → (slice_get links e ≡ Some None → ⊥)
+    at : (links : List (Option LoadedLink)) (e : ℕ) (link : Loaded) → slice_get (map (loaded_or passes) links) e ≡ Some link → (slice_get links e ≡ Some None → ⊥)
         → ((l : LoadedLink) → slice_get links e ≡ Some (Some l) → AreExits l.loaded.exit) → AreExits link.exit
     at [] e link h none some = absurd (cc)
     at (None ∷ links) zero link h none some = absurd (none refl)
     at (Some l ∷ links) zero link h none some = let same : l.loaded ≡ link = cc in subst (λ (x : Loaded). AreExits x.exit) same (some l refl)
     at (o ∷ links) (suc e) link h none some = at links e link h none some
 
-pub complete_over : (net : Network) (routes : List Route) (so_far : SoFar) → IsComplete net routes so_far → AreRoutes net routes → GoOverAll (map loaded_or so_far.links) routes
-complete_over net routes so_far c are = record {
+pub complete_over : (passes : Passing) (net : Network) (routes : List Route) (so_far : SoFar) → IsComplete net routes so_far → AreRoutes net routes → GoOverAll (map (loaded_or passes) so_far.links) routes
+complete_over passes net routes so_far c are = record {
   each = λ r route h. record {
     each = λ place e k.
         let l = walk-links net route.links net.source net.sink place e (are.walks r route h) k in
         let i = slice_get_within net.links e l.0 l.1 in
-        let n = length-map so_far.links loaded_or in
+        let n = length-map so_far.links (loaded_or passes) in
         let m = c.count in omega arith;
   };
 }
+
+pub positive : (x : ℚ) → 0ℚ ≤ℚ x → (x ≡ 0ℚ → ⊥) → 0ℚ <ℚ x
+positive x h n = ⊎_elim (λ (l : 0ℚ <ℚ x). l) (λ (l : x ≤ℚ 0ℚ). absurd (n (≤ℚ_antisymm x 0ℚ l h))) (lt_or_le_ℚ 0ℚ x)
 
 -- ---- no time of a travel is negative
 pub record NoneNegative (horizon : ℚ) (travel : List Point) : Type 0 where
@@ -128,14 +133,9 @@ module _ (passes : Passing) (horizon : ℚ) (loaded : List Loaded) (links : List
       exit_is : (loaded_at loaded e).exit ≡ link.exit
       exit_is = ap (λ (o : Option Loaded). (unwrap_or o (record { queue = []; outflow = []; exit = [] })).exit) is
 
-      drop_at : (xs : List ℕ) (i : ℕ) → slice_get xs i ≡ Some e → drop i xs ≡ e ∷ drop (i + 1) xs
-      drop_at [] i h = absurd (cc)
-      drop_at (y ∷ xs) zero h = let same : y ≡ e = cc in ap (λ (z : ℕ). z ∷ xs) same
-      drop_at (y ∷ xs) (suc i) h = drop_at xs i h
-
       here : (checked_composed passes link.exit travel horizon >>= λ next. travel_along passes horizon loaded (drop (i + 1) links) next) ≡ travel_along passes horizon loaded links (departures horizon)
       here = ap (λ (x : List Point). checked_composed passes x travel horizon >>= λ next. travel_along passes horizon loaded (drop (i + 1) links) next) (sym exit_is)
-          ∙ sym (ap (λ (l : List ℕ). travel_along passes horizon loaded l travel) (drop_at links i at)) ∙ so_far.same
+          ∙ sym (ap (λ (l : List ℕ). travel_along passes horizon loaded l travel) (drop_at links i e at)) ∙ so_far.same
 
       pub travels_stop : (h : Halt ℚ) → Stops (λ (q : ℚ). q) h (at_part Load (checked_composed passes link.exit travel horizon)) → Stops (λ (q : ℚ). q) h (at_part Load (travel_along passes horizon loaded links (departures horizon)))
       travels_stop h s = stops_on h (at_part Load (checked_composed passes link.exit travel horizon)) (at_part Load (travel_along passes horizon loaded links (departures horizon)))

@@ -19,7 +19,7 @@ use Rattle.nf_routes.proofs.Travelling.{travel_on-is, each_same}
 
 module _ (passes : Passing) (net : Network) (routes : List Route) (horizon : ℚ) where
   abbrev ended_as : SoFar → List (List Point) → Routed
-  ended_as s travels = record { ends = map end_or s.links; links = map loaded_or s.links; entries = map but_last s.entries; arrivals = map last_entry s.entries; travels = travels }
+  ended_as s travels = record { ends = map (end_or passes) s.links; links = map (loaded_or passes) s.links; entries = map (but_last passes) s.entries; arrivals = map last_entry s.entries; travels = travels }
 
   abbrev after_loads : SoFar → Checked Routed
   after_loads s = each (λ (route : Route). travel_on passes horizon s.links route.links (departures horizon)) routes >>= λ travels. Ok (ended_as s travels)
@@ -33,7 +33,7 @@ module _ (passes : Passing) (net : Network) (routes : List Route) (horizon : ℚ
     unfolding routes_list
     loads = after_ok Load (all_loaded passes net routes horizon) after_loads s l
 
-    module _ (links : List Loaded) (e : links ≡ map loaded_or s.links) where
+    module _ (links : List Loaded) (e : links ≡ map (loaded_or passes) s.links) where
       travels-are : each (λ (route : Route). travel_on passes horizon s.links route.links (departures horizon)) routes ≡ each (λ (route : Route). travel_along passes horizon links route.links (departures horizon)) routes
       travels-are = each_same (λ (route : Route). travel_on passes horizon s.links route.links (departures horizon)) (λ (route : Route). travel_along passes horizon links route.links (departures horizon))
           (λ route. travel_on-is passes horizon s.links route.links (departures horizon) ∙ ap (λ (ls : List Loaded). travel_along passes horizon ls route.links (departures horizon)) (sym e)) routes

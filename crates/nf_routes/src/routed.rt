@@ -41,8 +41,8 @@ fn ended(
     links: Vec<Option<LoadedLink>>,
 ) -> Result<(Vec<Q>, Vec<Loaded>), AllocError>
     requires { AreLoaded links.items }
-    ensures ends { IfOk result (λ parts. parts.0.items ≡ map end_or links.items) }
-    ensures loaded { IfOk result (λ parts. map loaded_of parts.1.items ≡ map loaded_or links.items) }
+    ensures ends { IfOk result (λ parts. parts.0.items ≡ map (end_or passes_Q) links.items) }
+    ensures loaded { IfOk result (λ parts. map loaded_of parts.1.items ≡ map (loaded_or passes_Q) links.items) }
 {
     let mut ends = Vec::new(alloc);
     let mut all = Vec::new(alloc);
@@ -61,7 +61,7 @@ fn parted(
     entries: Vec<Stages>,
 ) -> Result<(Vec<Vec<Curve>>, Vec<Curve>), AllocError>
     requires { HaveSent entries.items }
-    ensures entries { IfOk result (λ parts. map (λ sent. map (λ c. c.points) sent.items) parts.0.items ≡ map but_last entries.items) }
+    ensures entries { IfOk result (λ parts. map (λ sent. map (λ c. c.points) sent.items) parts.0.items ≡ map (but_last passes_Q) entries.items) }
     ensures arrivals { IfOk result (λ parts. map (λ c. c.points) parts.1.items ≡ map last_entry entries.items) }
 {
     let mut all = Vec::new(alloc);

@@ -1,5 +1,6 @@
 // What one route has sent into its links.
 ghost use Rattle.std.specs.Prelude.{◌≡◌, ◌<◌, [], ◌∷◌, ◌++◌, length, map, OnOk, IsSome, IfSome};
+ghost use Rattle.nf_work.specs.Passing.{passes_Q};
 ghost use Rattle.nf_routes_lists.specs.RoutesList.{last_entry, but_last};
 
 use nf_curve::Curve;
@@ -65,7 +66,7 @@ impl Stages {
     pub fn end(self) -> Option<(Vec<Curve>, Curve)>
         requires { 0 < length self }
         ensures some { IsSome result }
-        ensures sent { IfSome result (λ parts. map (λ c. c.points) parts.0.items ≡ but_last self) }
+        ensures sent { IfSome result (λ parts. map (λ c. c.points) parts.0.items ≡ but_last passes_Q self) }
         ensures arrival { IfSome result (λ parts. parts.1.points ≡ last_entry self) }
     {
         let mut curves = self.curves;

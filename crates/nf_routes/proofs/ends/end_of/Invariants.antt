@@ -5,4 +5,4 @@ use Rattle.nf_route.specs.Kept.{routes_of}
 use Rattle.nf_routes.proofs.ends.end_of.Given as goal
 
 abbrev pub invariant-loop-route : goal.invariant-loop-route
-invariant-loop-route l = end_by l.end (all_pairs (routes_of (drop l.route-index l.routes))) l.links l.link ≡ end_by l.horizon (all_pairs (routes_of l.routes)) l.links l.link
+invariant-loop-route l = end_by l.end (all_pairs (routes_of (drop l.route-index l.routes))) l.links l.link ≡ end_by l.fn.horizon (all_pairs (routes_of l.routes)) l.links l.link

@@ -4,4 +4,4 @@ use Rattle.nf_routes.specs.Beginning.{nothing_sent}
 use Rattle.nf_routes.proofs.so_far.no_entries.Given as goal
 
 abbrev pub invariant-loop-route : goal.invariant-loop-route
-invariant-loop-route l = l.entries.items ≡ nothing_sent (routes_of (take l.route-index l.routes))
+invariant-loop-route l = l.entries.items ≡ nothing_sent (routes_of (take l._route-index l.routes))

@@ -1,4 +1,4 @@
-use Rattle.std.proofs.Common.{List, ◌∷◌, [], ◌++◌, ap, ◌∙◌, arith}
+use Rattle.std.proofs.Common.{◌+◌, List, [], ◌∷◌, ◌++◌, ap, ◌∙◌, arith}
 use Rattle.nf_rational.specs.Rational.{ℚ}
 use Rattle.nf_load.proofs.PointByPoint.{next_taken}
 use Rattle.nf_share.proofs.points.points_of.Goals as goal
