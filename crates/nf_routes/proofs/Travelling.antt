@@ -18,6 +18,7 @@ use Rattle.nf_model.specs.Network.{Network}
 use Rattle.nf_model_laws.specs.CurveLaws.{ValuesRise}
 use Rattle.nf_model_laws.proofs.Curves.{NeverFalls-value, value-first}
 use Rattle.nf_lists.specs.Signs.{is_zero}
+use Rattle.nf_curve_laws.proofs.Operations.{is_same_cases}
 use Rattle.nf_curve_lists.specs.Composed.{checked_composed}
 use Rattle.nf_curve_lists.specs.Meanings.{IsComposedOf}
 use Rattle.nf_load_lists.specs.Loading.{Loaded}
@@ -88,28 +89,28 @@ never_below : (line : List Point) → IsCurve line → ValuesRise line → value
 never_below line curve rise begins time h = subst (λ (x : ℚ). x ≤ℚ value line time) begins (NeverFalls-value line curve rise 0ℚ time (≤ℚ_refl 0ℚ) h)
 
 -- the departures are one point, or two
-departures_are : (P : List Point → Type 0) (horizon : ℚ) → P ((0ℚ, 0ℚ) ∷ []) → P ((0ℚ, 0ℚ) ∷ (horizon, horizon) ∷ []) → P (departures horizon)
-departures_are P horizon one two = by (is_zero horizon)
-  where
-    by : (b : Bool) → P (if b then (0ℚ, 0ℚ) ∷ [] else (0ℚ, 0ℚ) ∷ (horizon, horizon) ∷ [])
-    by true = one
-    by false = two
+departures_are : (P : List Point → Type 0) (horizon : ℚ) → P ((0ℚ, 0ℚ) ∷ []) → ((horizon ≡ 0ℚ → ⊥) → P ((0ℚ, 0ℚ) ∷ (horizon, horizon) ∷ [])) → P (departures horizon)
+departures_are P horizon one two = ⊎_elim
+    (λ (w : (is_zero horizon ≡ true) × (horizon ≡ 0ℚ)). subst (λ (b : Bool). P (if b then (0ℚ, 0ℚ) ∷ [] else (0ℚ, 0ℚ) ∷ (horizon, horizon) ∷ [])) (sym w.0) one)
+    (λ (w : (is_zero horizon ≡ false) × (horizon ≡ 0ℚ → ⊥)). subst (λ (b : Bool). P (if b then (0ℚ, 0ℚ) ∷ [] else (0ℚ, 0ℚ) ∷ (horizon, horizon) ∷ [])) (sym w.0) (two w.1))
+    (is_same_cases horizon 0ℚ)
 
-pub departures_nn : (horizon : ℚ) (line : List Point) → 0ℚ ≤ℚ horizon → IsCurve line → line ≡ departures horizon → NoneNegative horizon line
-departures_nn horizon line from_0 curve e = record {
+abbrev first_value : List Point → ℚ
+first_value [] = 0ℚ
+first_value (p ∷ rest) = p.1
+
+value-begins : (l : List Point) → IsCurve l → first_value l ≡ 0ℚ → value l 0ℚ ≡ 0ℚ
+value-begins [] c h = absurd c
+value-begins (p ∷ rest) c h = ap (value (p ∷ rest)) (sym c.0) ∙ value-first p rest c.1 ∙ h
+
+departures_nn : (horizon : ℚ) → 0ℚ ≤ℚ horizon → NoneNegative horizon (departures horizon)
+departures_nn horizon from_0 = record {
   values = λ time w.
-      let rise : ValuesRise (departures horizon) = departures_are ValuesRise horizon tt (from_0, tt) in
-      subst (λ (l : List Point). 0ℚ ≤ℚ value l time) (sym e)
-      (never_below (departures horizon) (subst IsCurve e curve) rise (first (departures horizon) (subst IsCurve e curve) (departures_are (λ l. first_value l ≡ 0ℚ) horizon refl refl)) time w.0);
+      let curve : IsCurve (departures horizon) = departures_are IsCurve horizon (refl, tt) (λ n. (refl, (positive horizon from_0 n, tt))) in
+      let rise : ValuesRise (departures horizon) = departures_are ValuesRise horizon tt (λ n. (from_0, tt)) in
+      let begins : first_value (departures horizon) ≡ 0ℚ = departures_are (λ (l : List Point). first_value l ≡ 0ℚ) horizon refl (λ n. refl) in
+      never_below (departures horizon) curve rise (value-begins (departures horizon) curve begins) time w.0;
 }
-  where
-    first_value : List Point → ℚ
-    first_value [] = 0ℚ
-    first_value (p ∷ rest) = p.1
-
-    first : (l : List Point) → IsCurve l → first_value l ≡ 0ℚ → value l 0ℚ ≡ 0ℚ
-    first [] c h = absurd c
-    first (p ∷ rest) c h = ap (value (p ∷ rest)) (sym c.0) ∙ value-first p rest c.1 ∙ h
 
 pub composed_nn : (horizon : ℚ) (exit travel next : List Point) → AreExits exit → NoneNegative horizon travel → IsComposedOf exit travel horizon next → NoneNegative horizon next
 composed_nn horizon exit travel next exits n is = record {
@@ -122,8 +123,8 @@ pub record Travels (passes : Passing) (horizon : ℚ) (loaded : List Loaded) (li
   pub positive : NoneNegative horizon travel
 
 module _ (passes : Passing) (horizon : ℚ) (loaded : List Loaded) (links : List ℕ) where
-  pub travels_first : (line : List Point) → 0ℚ ≤ℚ horizon → IsCurve line → line ≡ departures horizon → Travels passes horizon loaded links line 0
-  travels_first line from_0 curve e = record { same = ap (λ (t : List Point). travel_along passes horizon loaded links t) e; positive = departures_nn horizon line from_0 curve e }
+  pub travels_first : (line : List Point) → 0ℚ ≤ℚ horizon → line ≡ departures horizon → Travels passes horizon loaded links line 0
+  travels_first line from_0 e = record { same = ap (λ (t : List Point). travel_along passes horizon loaded links t) e; positive = subst (λ (l : List Point). NoneNegative horizon l) (sym e) (departures_nn horizon from_0) }
 
   module _ (travel : List Point) (i : ℕ) (so_far : Travels passes horizon loaded links travel i) where
     pub travels_last : length links ≤ i → travel_along passes horizon loaded [] travel ≡ travel_along passes horizon loaded links (departures horizon)

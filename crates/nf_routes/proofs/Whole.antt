@@ -44,3 +44,9 @@ module _ (passes : Passing) (net : Network) (routes : List Route) (horizon : ℚ
       pub list_comes : (travels : List (List Point)) → at_part Load (each (λ (route : Route). travel_along passes horizon links route.links (departures horizon)) routes) ≡ Ok travels
           → at_part Load (routes_list passes net routes horizon) ≡ Ok (ended_as s travels)
       list_comes travels h = loads ∙ after_ok Load (each (λ (route : Route). travel_on passes horizon s.links route.links (departures horizon)) routes) (λ travels. Ok (ended_as s travels)) travels (ap (at_part Load) travels-are ∙ h)
+
+-- a value of its parts
+pub same_parts : {ends ends' : List ℚ} {links links' : List Loaded} {entries entries' : List (List (List Point))} {arrivals arrivals' travels : List (List Point)}
+    → ends ≡ ends' → links ≡ links' → entries ≡ entries' → arrivals ≡ arrivals'
+    → ◌≡◌ {A = Routed} (record { ends = ends; links = links; entries = entries; arrivals = arrivals; travels = travels }) (record { ends = ends'; links = links'; entries = entries'; arrivals = arrivals'; travels = travels })
+same_parts {travels = travels} a b c d = λ i. record { ends = a i; links = b i; entries = c i; arrivals = d i; travels = travels }

@@ -58,6 +58,8 @@ pub(crate) fn load_all(
     ensures list { Gives seen_so_far (λ q. q) result (at_part Load (all_loaded passes_Q net.now.net (routes_of routes.now) horizon)) }
     ensures complete { IfOk result (λ so_far. IsComplete net.now.net (routes_of routes.now) (seen_so_far so_far)) }
 {
+    // For the proof: transit times and capacities are those of a network.
+    let _ = net.version();
     let order = loading_order(alloc, net.link_count(), routes)?;
     let mut so_far = SoFar::new(alloc, net, routes)?;
     for link in &order {

@@ -7,6 +7,7 @@ ghost use Rattle.nf_work.specs.declared.Part.TheVariants.{Load};
 ghost use Rattle.nf_work.specs.Checked.{at_part, Gives};
 ghost use Rattle.nf_routes_lists.specs.Routes.{AreRoutes};
 ghost use Rattle.nf_routes_lists.specs.RoutesList.{end_or, loaded_or, but_last, last_entry, routes_list};
+ghost use Rattle.nf_routes_lists.specs.Meanings.{IsRouted, RoutesArrive};
 ghost use Rattle.nf_load.specs.Loadings.{loaded_of};
 ghost use Rattle.nf_route.specs.Kept.{routes_of};
 ghost use Rattle.nf_routes.specs.Standing.{AreLoaded, HaveSent};
@@ -78,8 +79,9 @@ fn parted(
 /// Loads a network by route up to a horizon, a time of at least 0, with routes of this network: what departs along each route goes
 /// over its links one after the other, by the law of the point queue for all that enters a link (Vickrey 1969; Koch and Skutella
 /// 2011), and at each link the routes share by first in, first out. Links are loaded one by one, each after those that stand right
-/// before it on a route. All curves are in short form. Passed comes exactly at the first operation of its list that passes, and has
-/// part Load. The supply of the network plays no part.
+/// before it on a route. All curves are in short form. In the end all that is sent along a route arrives, and what departs at a time
+/// arrives by its travel. Passed comes exactly at the first operation of its list that passes, and has part Load. The supply of the
+/// network plays no part.
 pub fn load_routes(
     alloc: Global,
     net: &Network,
@@ -89,7 +91,11 @@ pub fn load_routes(
     requires horizon { 0ℚ ≤ℚ horizon }
     requires routes { AreRoutes net.now.net (routes_of routes.now) }
     ensures list { Gives routed_of (λ q. q) result (at_part Load (routes_list passes_Q net.now.net (routes_of routes.now) horizon)) }
+    ensures routed { IfOk result (λ r. IsRouted net.now.net (routes_of routes.now) horizon (routed_of r)) }
+    ensures arrives { IfOk result (λ r. RoutesArrive net.now.net (routes_of routes.now) horizon (routed_of r)) }
 {
+    // For the proof: transit times and capacities are those of a network.
+    let _ = net.version();
     let list = routes.as_slice();
     let so_far = load_all(alloc, net, list, horizon)?;
     let (ends, links) = ended(alloc, so_far.links)?;
