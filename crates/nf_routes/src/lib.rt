@@ -11,5 +11,6 @@ mod stages;
 mod travels;
 
 pub use nf_route::{Route, Routes};
+pub use nf_route_reader::{RoutesFault, parse_routes};
 pub use nf_routes_lists::RoutesRule;
 pub use routed::{Routed, load_routes};
