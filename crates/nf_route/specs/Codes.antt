@@ -3,7 +3,6 @@ use Rattle.std.specs.Prelude.{ℕ, List, refl}
 use Rattle.std.specs.Coded.{Coded, code_by, coded×, coded_ℕ, coded_list}
 use Rattle.nf_model.specs.Network.{Piece}
 use Rattle.nf_model.specs.Codes.{coded_piece}
-use Rattle.nf_formats.specs.Names.{Name}
 use Rattle.nf_routes_lists.specs.Routes.{Route}
 use Rattle.nf_routes_lists.specs.RoutesFile.{NamedRoute}
 

@@ -1,4 +1,4 @@
-use Rattle.std.proofs.Common.{◌≡◌, List, ℕ, ◌+◌, [], ◌∷◌, ◌++◌, None, Some, sym, ap, subst, ◌∙◌, arith}
+use Rattle.std.proofs.Common.{List, ℕ, ◌+◌, [], sym, ap, subst, ◌∙◌, arith}
 use Rattle.std.specs.List.{range_with_len}
 use Rattle.nf_routes_lists.specs.Routes.{all_pairs, first_free, order_from, loading_order}
 use Rattle.nf_route.specs.Kept.{routes_of}
