@@ -1,0 +1,6 @@
+//! Laws of resumed runs.
+#![tactic(auto)]
+
+/// Nothing.
+pub fn nothing()
+{}
