@@ -6,6 +6,8 @@ use Rattle.std.specs.Option.{option_map_or}
 use Rattle.std.proofs.lemmas.Option.{slice_get_read}
 use Rattle.nf_rational.specs.Rational.{ℚ}
 use Rattle.nf_rational.specs.Operations.{0ℚ}
+use Rattle.nf_work.specs.Passing.{Passing}
+use Rattle.nf_work.specs.Checked.{Checked}
 use Rattle.nf_model.specs.Curve.{Point}
 use Rattle.nf_model.specs.Network.{Link}
 use Rattle.nf_model.specs.Equilibrium as model
@@ -14,9 +16,9 @@ use Rattle.nf_curve.specs.Points.{Grown}
 use Rattle.nf_curve.specs.Flows.{trace_of}
 use Rattle.nf_curve.specs.declared.flow.Trace.{Trace}
 use Rattle.nf_resume_lists.specs.Restoring.{value_at_end}
-use Rattle.nf_resume_lists.specs.Resuming.{links_with}
+use Rattle.nf_resume_lists.specs.Resuming.{OfLink, CutLink, links_with, cut_link}
 use Rattle.nf_resume_laws.proofs.CutFlow.{entry_of, points_at-is, of_link, links_with-at}
-use Rattle.nf_resume.specs.Cuts.{curves_of}
+use Rattle.nf_resume.specs.Cuts.{curves_of, cut_ends}
 
 last_is : (points : List Point) (k : ℕ) (p : Point) → slice_get points k ≡ Some p → k + 1 ≡ length points → last_or None points ≡ Some p
 last_is [] k p e n = absurd (cc)
@@ -44,3 +46,16 @@ link_there links inflows outflows queues e link inflow outflow queue at hi i ho 
     links_with-at links (map trace_of inflows) (map trace_of outflows) (curves_of queues) e link (trace_of inflow) (trace_of outflow) queue.points at
     (entry_of trace_of inflows e inflow (slice_get_read inflows _ e inflow refl hi i)) (entry_of trace_of outflows e outflow (slice_get_read outflows _ e outflow refl ho o))
     (curve_there queues e queue hq q)
+
+-- and with its curves cut up to the labels of its ends
+pub link_cut : (passes : Passing) (labels : List (List Point)) (links : List Link) (inflows outflows : List Trace) (queues : List Grown) (e : ℕ) (link : Link) (inflow outflow : Trace) (queue : Grown) (tail head : ℚ)
+    → slice_get links e ≡ Some link → tail ≡ value_at_end (points_at labels link.tail) → head ≡ value_at_end (points_at labels link.head)
+    → e < length inflows → inflow ≡ get_or inflows e inflow → e < length outflows → outflow ≡ get_or outflows e outflow → e < length queues → queue ≡ get_or queues e queue
+    → (entry : OfLink) × (slice_get (links_with links (map trace_of inflows) (map trace_of outflows) (curves_of queues)) e ≡ Some entry)
+    × (cut_ends passes tail head inflow.curve.points outflow.curve.points queue.points ≡ cut_link passes labels entry)
+link_cut passes labels links inflows outflows queues e link inflow outflow queue tail head at t h hi i ho o hq q = (
+  of_link link (trace_of inflow) (trace_of outflow) queue.points,
+  link_there links inflows outflows queues e link inflow outflow queue at hi i ho o hq q,
+  ap (λ (x : ℚ). cut_ends passes x head inflow.curve.points outflow.curve.points queue.points) t
+      ∙ ap (λ (x : ℚ). cut_ends passes (value_at_end (points_at labels link.tail)) x inflow.curve.points outflow.curve.points queue.points) h,
+)

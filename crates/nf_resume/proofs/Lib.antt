@@ -1,3 +1,4 @@
 pub mod Looping
 pub mod Rates
 pub mod Ends
+pub mod CutFlow

@@ -27,7 +27,7 @@ module _ {A B : Type 0} (f : A → Checked B) (xs : List A) where
 
   module _ (part : Part) (k : ℕ) (front : List B) (so_far : Front f xs k front) where
     pub front_last : length xs ≤ k → at_part part (each f xs) ≡ Ok front
-    front_last h = each_ends f front (each f xs) part (ap (λ (l : List A). with_front front (each f l)) (sym (drop_all xs k h)) ∙ so_far.same)
+    front_last h = each_ends f front (each f xs) part (ap (λ (l : List A). with_front front (each f l)) (sym (drop_all k xs h)) ∙ so_far.same)
 
     module _ (x : A) (at : slice_get xs k ≡ Some x) where
       here : with_front front (each f (x ∷ drop (k + 1) xs)) ≡ each f xs

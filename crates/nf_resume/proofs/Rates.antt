@@ -35,7 +35,7 @@ module _ (passes : Passing) (part : Part) (points : List Point) where
   module _ (i : ℕ) (rates : List ℚ) (so_far : RatesTo passes points i rates) where
     pub rates_end : (p : Point) → slice_get points i ≡ Some p → length points ≤ i + 1 → at_part part (checked_slopes passes points) ≡ Ok rates
     rates_end p at h = front_ends part rates (checked_slopes passes points)
-        (ap (λ (l : List Point). with_front rates (checked_slopes passes l)) (sym (drop_next points i p at ∙ ap (λ (l : List Point). p ∷ l) (drop_all points (i + 1) h))) ∙ so_far.same)
+        (ap (λ (l : List Point). with_front rates (checked_slopes passes l)) (sym (drop_next points i p at ∙ ap (λ (l : List Point). p ∷ l) (drop_all (i + 1) points h))) ∙ so_far.same)
 
     module _ (p q : Point) (at : slice_get points i ≡ Some p) (next : slice_get points (i + 1) ≡ Some q) where
       two : drop i points ≡ p ∷ q ∷ drop ((i + 1) + 1) points

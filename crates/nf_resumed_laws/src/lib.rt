@@ -1,6 +1,0 @@
-//! Laws of resumed runs.
-#![tactic(auto)]
-
-/// Nothing.
-pub fn nothing()
-{}
