@@ -2,3 +2,4 @@ pub mod Looping
 pub mod Rates
 pub mod Ends
 pub mod CutFlow
+pub mod Resumed

@@ -4,4 +4,9 @@
 
 mod curves;
 mod cutting;
+mod fault;
 mod links;
+mod resuming;
+
+pub use fault::ResumeFault;
+pub use resuming::resume;

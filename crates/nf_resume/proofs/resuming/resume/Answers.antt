@@ -1,0 +1,1 @@
+use Rattle.nf_resume.proofs.resuming.resume.Goals as goal
