@@ -51,8 +51,10 @@ fn check_first(alloc: Global, net: &Network, report: &Report) -> Result<(), Resu
     ensures equilibrium { OnOk result (Equilibrium net.now.net (report_of report.now).flow) }
     ensures cause { IfErr result (IsCause passes_Q net.now.net (report_of report.now)) }
 {
-    let answer = check(alloc, net, &report.flow)?;
-    unless_no(answer)
+    match check(alloc, net, &report.flow) {
+        Ok(answer) => unless_no(answer),
+        Err(halt) => Err(ResumeFault::from(halt)),
+    }
 }
 
 // The run that stands where the flow of a report ends.

@@ -1,9 +1,9 @@
-use Rattle.std.proofs.Common.{length, map, sym, ◌∙◌}
+use Rattle.std.proofs.Common.{map, sym, subst, ◌∙◌}
 use Rattle.std.proofs.lemmas.List.{length-map}
-use Rattle.std.proofs.lemmas.Result.{err_from_is_err_and}
 use Rattle.nf_work.specs.Passing.{passes_Q}
 use Rattle.nf_curve.specs.Flows.{trace_of}
 use Rattle.nf_reader.specs.Files.{report_of}
+use Rattle.nf_resume.specs.Faults.{IsCause}
 use Rattle.nf_resume.proofs.Resumed.{check_stops, said_yes, said_equilibrium, said_no}
 use Rattle.nf_resume.proofs.resuming.check_first.Goals as goal
 
@@ -30,16 +30,15 @@ check-requires-clause-outflow_rates c = c.requires.outflow_rates
 pub check-requires-clause-reached : goal.check-requires-clause-reached
 check-requires-clause-reached c = c.requires.reached
 
-pub returns-in_err-answer-clause-cause : goal.returns-in_err-answer-clause-cause
-returns-in_err-answer-clause-cause c =
-    let p = err_from_is_err_and c.from_residual.result c.from_residual.ensures.1 in
-    rw (p.1, p.2) (check_stops passes_Q c.args.net.now.net (report_of c.args.report.now) c.in_err-answer.field-0.0 c.in_err-answer.ensures.list)
+pub returns-in-Err-clause-cause : goal.returns-in-Err-clause-cause
+returns-in-Err-clause-cause c =
+    subst (IsCause passes_Q c.args.net.now.net (report_of c.args.report.now)) (sym c.from.ensures) (check_stops passes_Q c.args.net.now.net (report_of c.args.report.now) c.in-Err.halt c.in-Err.ensures.list)
 
-pub returns-clause-yes : goal.returns-clause-yes
-returns-clause-yes c = said_yes passes_Q c.args.net.now.net (report_of c.args.report.now) c.in_ok-answer.answer c.in_ok-answer.ensures.list c.unless_no.result c.unless_no.ensures
+pub returns-in-Ok-clause-yes : goal.returns-in-Ok-clause-yes
+returns-in-Ok-clause-yes c = said_yes passes_Q c.args.net.now.net (report_of c.args.report.now) c.in-Ok.answer c.in-Ok.ensures.list c.unless_no.result c.unless_no.ensures
 
-pub returns-clause-equilibrium : goal.returns-clause-equilibrium
-returns-clause-equilibrium c = said_equilibrium passes_Q c.args.net.now.net (report_of c.args.report.now) c.in_ok-answer.answer c.in_ok-answer.ensures.list c.unless_no.result c.unless_no.ensures c.in_ok-answer.ensures.exact
+pub returns-in-Ok-clause-equilibrium : goal.returns-in-Ok-clause-equilibrium
+returns-in-Ok-clause-equilibrium c = said_equilibrium passes_Q c.args.net.now.net (report_of c.args.report.now) c.in-Ok.answer c.in-Ok.ensures.list c.unless_no.result c.unless_no.ensures c.in-Ok.ensures.exact
 
-pub returns-clause-cause : goal.returns-clause-cause
-returns-clause-cause c = said_no passes_Q c.args.net.now.net (report_of c.args.report.now) c.in_ok-answer.answer c.in_ok-answer.ensures.list c.unless_no.result c.unless_no.ensures c.in_ok-answer.ensures.rules c.in_ok-answer.ensures.exact
+pub returns-in-Ok-clause-cause : goal.returns-in-Ok-clause-cause
+returns-in-Ok-clause-cause c = said_no passes_Q c.args.net.now.net (report_of c.args.report.now) c.in-Ok.answer c.in-Ok.ensures.list c.unless_no.result c.unless_no.ensures c.in-Ok.ensures.rules c.in-Ok.ensures.exact

@@ -22,7 +22,7 @@ use Rattle.nf_resume.proofs.resuming.restart.Goals as goal
 
 pub returns-in_err-flow-clause-list : goal.returns-in_err-flow-clause-list
 returns-in_err-flow-clause-list c =
-    let p = err_from_is_err_and c.from_residual-in_err-flow.result c.from_residual-in_err-flow.ensures.1 in
+    let p = err_from_is_err_and c.from_residual.result c.from_residual.ensures.1 in
     rw (p.1, p.2) (cut_stops passes_Q c.args.net.now.net (report_of c.args.report.now) c.in_err-flow.field-0.0 c.in_err-flow.ensures)
 
 pub restore-requires-clause-equilibrium : goal.restore-requires-clause-equilibrium
