@@ -1,5 +1,5 @@
 -- What is said of a report: by its check, then by the run that stands where its flow ends, and then by how that goes on.
-use Rattle.std.proofs.Common.{◌≡◌, ◌⊎◌, ℕ, Bool, true, false, ⊎_elim, refl, sym, ap, subst, ◌∙◌}
+use Rattle.std.proofs.Common.{◌≡◌, ℕ, Bool, true, false, ⊎_elim, refl, sym, ap, subst, ◌∙◌}
 use Rattle.std.specs.Prelude.{Result, Ok, Err, IfErr, OnOk, MatchBool, MatchResult}
 use Rattle.nf_rational.specs.Rational.{ℚ}
 use Rattle.nf_rational.specs.Order.{◌≤ℚ◌, ◌<ℚ◌, lt_ℚ}
@@ -19,14 +19,13 @@ use Rattle.nf_check_lists.specs.declared.Answer.TheVariants.{Yes, No}
 use Rattle.nf_check_lists.specs.Rules.{Checks}
 use Rattle.nf_check_lists.specs.CheckList.{check_list}
 use Rattle.nf_check.specs.Answers.{IsExact}
-use Rattle.nf_curve.proofs.Exits.{was_ok, after_ok, after_err, stops_on}
+use Rattle.nf_curve.proofs.Exits.{after_ok, after_err, stops_on}
 use Rattle.nf_resume_lists.specs.Restoring.{restore_list}
-use Rattle.nf_resume_lists.specs.Resuming.{Outcome, Stands, Refused, cut_flow, restart_list, after_check, resume_list}
+use Rattle.nf_resume_lists.specs.Resuming.{Stands, cut_flow, restart_list, after_check, resume_list}
 use Rattle.nf_resume_lists.specs.Meanings.{GoesOnFrom, IsResumedReport}
 use Rattle.nf_resume_laws.proofs.Stepping.{resumed-goes_on}
 use Rattle.nf_phase.specs.Solution.{IsFinished}
 use Rattle.nf_resume.specs.declared.fault.ResumeFault.{ResumeFault}
-use Rattle.nf_resume.specs.declared.fault.ResumeFault.TheVariants as ResumeFault
 use Rattle.nf_resume.specs.Faults.{of_halt, IsRefused, IsCause, IsResumeFault}
 
 -- before a time, or not
