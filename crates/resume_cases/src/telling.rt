@@ -121,6 +121,19 @@ fn tell_report<R: Print + AllocGlobal>(
     print!(rt; "{}", as_text(sink.bytes()))
 }
 
+fn tell_earlier<R: Print>(rt: &R, reached: Q) -> io::Result<()> {
+    println!(rt; "earlier {}", Shown(reached))
+}
+
+fn tell_fault<R: Print>(rt: &R, net: &Network, fault: ResumeFault) -> io::Result<()> {
+    match fault {
+        ResumeFault::Earlier { reached } => tell_earlier(rt, reached),
+        ResumeFault::No(answer) => tell_answer(rt, net, &answer),
+        ResumeFault::Passed(at) => tell_passed(rt, at),
+        ResumeFault::Memory => println!(rt; "memory is wanting"),
+    }
+}
+
 fn tell_resumed<R: Print + AllocGlobal>(
     rt: &R,
     net: &Network,
@@ -131,10 +144,7 @@ fn tell_resumed<R: Print + AllocGlobal>(
 {
     match resume(rt.alloc(), net, report, horizon, BUDGETS) {
         Ok(solution) => tell_report(rt, net, horizon, &solution),
-        Err(ResumeFault::Earlier { reached }) => println!(rt; "earlier {}", Shown(reached)),
-        Err(ResumeFault::No(answer)) => tell_answer(rt, net, &answer),
-        Err(ResumeFault::Passed(at)) => tell_passed(rt, at),
-        Err(ResumeFault::Memory) => println!(rt; "memory is wanting"),
+        Err(fault) => tell_fault(rt, net, fault),
     }
 }
 
