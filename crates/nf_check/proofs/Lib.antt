@@ -8,3 +8,4 @@ pub mod Merging
 pub mod Stretching
 pub mod Testing
 pub mod Answering
+pub mod Keeping

@@ -1,10 +1,10 @@
 -- Stretches of departures, one after the other.
-use Rattle.std.proofs.Common.{◌≡◌, ℕ, zero, suc, ◌+◌, ◌-◌, ◌<◌, ◌≤◌, List, [], ◌∷◌, length, drop, Option, Some, None, slice_get, refl, sym, ap, subst, ◌∙◌, arith}
+use Rattle.std.proofs.Common.{◌≡◌, Bool, ℕ, zero, suc, ◌+◌, ◌-◌, ◌<◌, ◌≤◌, List, [], ◌∷◌, length, drop, Option, Some, None, slice_get, refl, sym, ap, subst, ◌∙◌, arith}
 use Rattle.std.specs.Prelude.{Result, Ok, Err, pos, nat_abs, SomeIff, unwrap_or}
 use Rattle.nf_rational.specs.Gcd.{gcd}
 use Rattle.nf_rational.specs.Rational.{ℚ, ratio}
 use Rattle.nf_rational.specs.Operations.{0ℚ, whole, ◌+ℚ◌, ◌*ℚ◌, ◌/ℚ◌}
-use Rattle.nf_rational.specs.Order.{◌≤ℚ◌}
+use Rattle.nf_rational.specs.Order.{◌≤ℚ◌, lt_ℚ}
 use Rattle.nf_rational_laws.proofs.Polynomial.{reading_of}
 use Rattle.nf_rational_laws.proofs.Linear.{le, eq, linear_le, linear_eq, linear_false}
 use Rattle.nf_rational_laws.proofs.Quotient.{/ℚ-times}
@@ -18,10 +18,11 @@ use Rattle.nf_work.specs.declared.Part.TheVariants.{Check}
 use Rattle.nf_work.specs.declared.PassedAt.{PassedAt}
 use Rattle.nf_model.specs.Curve.{Point}
 use Rattle.nf_curve_lists.specs.Lines.{Sides}
+use Rattle.nf_curve_lists.specs.Values.{checked_value}
 use Rattle.nf_curve_lists.specs.Short.{checked_short}
 use Rattle.nf_curve_lists.specs.Composed.{checked_composed}
 use Rattle.nf_curve.proofs.Exits.{after_err, after_ok, was_ok}
-use Rattle.nf_check_lists.specs.Routes.{three_times, checked_middle, on_stretch, or_later, stretches_from, all_stretches, detour_list}
+use Rattle.nf_check_lists.specs.Routes.{three_times, checked_middle, on_rising, on_stretch, or_later, stretches_from, all_stretches, detour_list}
 use Rattle.nf_check.specs.Sent.{sent_list}
 use Rattle.nf_check.proofs.PointByPoint.{drop_one}
 
@@ -62,6 +63,36 @@ module _ (passes : Passing) (taken exits labels : List Point) (times : List ℚ)
         ap (all_stretches passes taken exits labels) (ap (λ (k : ℕ). drop k times) (let same : (i + 1) - 1 ≡ i = omega arith in same) ∙ from_next)
         ∙ sym (ap (λ (r : Checked (Option Sides)). r >>= λ here. or_later passes here (stretches_from passes taken exits labels next (drop (i + 1) times))) (was_ok Check (on_stretch passes taken exits labels first next) None e))
         ∙ by_stretch
+
+-- ---- one stretch, where what has been sent by a departure is known
+module _ (passes : Passing) (taken exits labels : List Point) (first next : ℚ) where
+  pub next_passes : (before : ℚ) → checked_value passes taken first ≡ Ok before → (p : PassedAt ℚ) → at_part Check (checked_value passes taken next) ≡ Err p → at_part Check (on_stretch passes taken exits labels first next) ≡ Err p
+  next_passes before b p e =
+      ap (λ (r : Checked ℚ). at_part Check (r >>= λ before. checked_value passes taken next >>= λ after. on_rising passes (lt_ℚ before after) exits labels first next)) b
+      ∙ after_err Check (checked_value passes taken next) _ p e
+
+  pub both_known : (before after : ℚ) → checked_value passes taken first ≡ Ok before → checked_value passes taken next ≡ Ok after → (rises : Bool) → rises ≡ lt_ℚ before after
+      → on_rising passes rises exits labels first next ≡ on_stretch passes taken exits labels first next
+  both_known before after b a rises r =
+      ap (λ (t : Bool). on_rising passes t exits labels first next) r
+      ∙ sym (ap (λ (r : Checked ℚ). r >>= λ before. checked_value passes taken next >>= λ after. on_rising passes (lt_ℚ before after) exits labels first next) b
+      ∙ ap (λ (r : Checked ℚ). r >>= λ after. on_rising passes (lt_ℚ before after) exits labels first next) a)
+
+module _ (passes : Passing) (taken exits labels : List Point) where
+  pub few_times : (times : List ℚ) → length times < 2 → all_stretches passes taken exits labels times ≡ Ok None
+  few_times [] h = refl
+  few_times (x ∷ []) h = refl
+  few_times (x ∷ y ∷ times) h = absurd (omega arith)
+
+  pub first_passes : (times : List ℚ) → 2 ≤ length times → (first : ℚ) → slice_get times 0 ≡ Some first → (p : PassedAt ℚ) → at_part Check (checked_value passes taken first) ≡ Err p
+      → at_part Check (all_stretches passes taken exits labels times) ≡ Err p
+  first_passes [] h first at p e = absurd (omega arith)
+  first_passes (x ∷ []) h first at p e = absurd (omega arith)
+  first_passes (x ∷ y ∷ times) h first at p e =
+      after_err Check (on_stretch passes taken exits labels x y) _ p (after_err Check (checked_value passes taken x) _ p (ap (λ (z : ℚ). at_part Check (checked_value passes taken z)) (same x first at) ∙ e))
+    where
+      same : (x y : ℚ) → Some x ≡ Some y → x ≡ y
+      same x y e = cc
 
 -- ---- the three curves of a link come first
 abbrev together : {Y E : Type 0} → Y → Y → Result Y E → Result (Y × Y × Y) E

@@ -5,3 +5,5 @@ pub mod Kept
 pub mod Given
 pub mod Sent
 pub mod Steps
+pub mod Departures
+pub mod Exits

@@ -44,3 +44,11 @@ sent_list passes inflow exit tail_label head_label last = do
   short_exits ← checked_short passes exits
   short_labels ← checked_short passes head_label
   Ok (short_taken, short_exits, short_labels)
+
+-- the same, where the exits by departure are known in short form
+unfoldable pub known_list : Passing → List Point → List Point → List Point → List Point → ℚ → Checked (List Point × List Point × List Point)
+known_list passes inflow exits tail_label head_label last = do
+  taken ← checked_composed passes inflow tail_label last
+  short_taken ← checked_short passes taken
+  short_labels ← checked_short passes head_label
+  Ok (short_taken, exits, short_labels)

@@ -1,5 +1,5 @@
 // The third rule: the labels are the least exits.
-ghost use Rattle.std.specs.Prelude.{◌≡◌, ◌<◌, length, Some, IfOk, option_map};
+ghost use Rattle.std.specs.Prelude.{◌≡◌, ◌<◌, length, Some, IfOk, OnOk, option_map};
 ghost use Rattle.nf_rational.specs.Operations.{0ℚ};
 ghost use Rattle.nf_rational.specs.Order.{◌≤ℚ◌};
 ghost use Rattle.nf_work.specs.declared.Part.TheVariants.{Check};
@@ -12,6 +12,7 @@ ghost use Rattle.nf_check_lists.specs.Rules.{nodes_but};
 ghost use Rattle.nf_check_lists.specs.Curves.{departures as departures_by, loaded_at as loaded_by, least_so_far as lesser_by, with_exit as with_exit_by, least_exits as least_by};
 ghost use Rattle.nf_check_lists.specs.CheckList.{arrivals};
 ghost use Rattle.nf_curve.specs.Flows.{flow_of};
+ghost use Rattle.nf_check.specs.Exits.{AreKept};
 ghost use Rattle.nf_check.specs.Kept.{IsWorked, labels_in, loaded_in};
 ghost use Rattle.nf_check.specs.Steps.{arrivals_list};
 ghost use Rattle.nf_check.specs.Trials.{Tries, done};
@@ -19,6 +20,7 @@ ghost use Rattle.nf_check.specs.Trials.{Tries, done};
 use crate::answer::Subject;
 use crate::compared::compare;
 use crate::ended::Ended;
+use crate::exits::Exits;
 use crate::worked::{Worked, curve_at, loaded_at};
 use nf_check_lists::CheckRule;
 use nf_curve::{Curve, Flow};
@@ -69,7 +71,7 @@ fn lesser(alloc: Global, so_far: Option<Curve>, curve: Curve) -> Result<Curve, H
     }
 }
 
-// The least exit so far, with that of a link if it leads to the node.
+// The least exit so far, with that of a link if it leads to the node; then the exit is kept.
 fn with_exit(
     alloc: Global,
     net: &Network,
@@ -78,17 +80,21 @@ fn with_exit(
     node: NodeId,
     so_far: Option<Curve>,
     link: LinkId,
+    exits: &mut Exits,
 ) -> Result<Option<Curve>, Halt<Q>>
     requires link { link < length net.now.net.links }
     requires worked { IsWorked net.now.net worked.now }
     requires reached { 0ℚ ≤ℚ reached }
-    ensures { (here : Link) → IsLink net.now.net link here → Gives (λ o. option_map (λ c. c.points) o) (λ q. q) result
+    requires kept { AreKept net.now.net worked.now reached exits.old }
+    ensures list { (here : Link) → IsLink net.now.net link here → Gives (λ o. option_map (λ c. c.points) o) (λ q. q) result
         (at_part Check (with_exit_by passes_Q (labels_in worked.now) (loaded_in worked.now) reached node (option_map (λ c. c.points) so_far) (link, here))) }
+    ensures kept { OnOk result (AreKept net.now.net worked.now reached exits.new) }
 {
     if net.link(link).head != node {
         return Ok(so_far);
     }
     let exit = exit_along(alloc, net, worked, reached, link)?;
+    exits.keep(alloc, link, &exit)?;
     let least = lesser(alloc, so_far, exit)?;
     Ok(Some(least))
 }
@@ -100,15 +106,19 @@ fn least_exits(
     worked: &Worked,
     reached: Q,
     node: NodeId,
+    exits: &mut Exits,
 ) -> Result<Option<Curve>, Halt<Q>>
     requires worked { IsWorked net.now.net worked.now }
     requires reached { 0ℚ ≤ℚ reached }
-    ensures { Gives (λ o. option_map (λ c. c.points) o) (λ q. q) result
+    requires kept { AreKept net.now.net worked.now reached exits.old }
+    ensures list { Gives (λ o. option_map (λ c. c.points) o) (λ q. q) result
         (at_part Check (least_by passes_Q (labels_in worked.now) (loaded_in worked.now) reached net.now.net.links node)) }
+    ensures kept { OnOk result (AreKept net.now.net worked.now reached exits.new) }
 {
     let mut least = None;
     for number in 0..net.link_count() {
-        least = with_exit(alloc, net, worked, reached, node, least, LinkId(number))?;
+        let link = LinkId(number);
+        least = with_exit(alloc, net, worked, reached, node, least, link, exits)?;
     }
     Ok(least)
 }
@@ -120,21 +130,24 @@ fn check_arrival(
     flow: &Flow,
     worked: &Worked,
     node: NodeId,
+    exits: &mut Exits,
 ) -> Result<(), Ended>
     requires node { node < net.now.net.nodes }
     requires worked { IsWorked net.now.net worked.now }
     requires reached { 0ℚ ≤ℚ flow.now.reached }
-    ensures { Tries (λ _. tt) result (arrivals passes_Q net.now.net (flow_of flow.now) (labels_in worked.now) (loaded_in worked.now) node) }
+    requires kept { AreKept net.now.net worked.now flow.now.reached exits.old }
+    ensures tries { Tries (λ _. tt) result (arrivals passes_Q net.now.net (flow_of flow.now) (labels_in worked.now) (loaded_in worked.now) node) }
+    ensures kept { OnOk result (AreKept net.now.net worked.now flow.now.reached exits.new) }
 {
-    match least_exits(alloc, net, worked, flow.reached, node)? {
+    match least_exits(alloc, net, worked, flow.reached, node, exits)? {
         None => Ok(()),
-        Some(exits) => {
+        Some(least) => {
             let label = curve_at(&worked.labels, node.index());
             compare(
                 CheckRule::C3,
                 Subject::Node(node),
                 label,
-                &exits,
+                &least,
                 flow.reached,
             )
         }
@@ -147,31 +160,37 @@ fn check_arrivals_at(
     net: &Network,
     flow: &Flow,
     worked: &Worked,
+    exits: &mut Exits,
 ) -> Result<(), Ended>
     requires worked { IsWorked net.now.net worked.now }
     requires reached { 0ℚ ≤ℚ flow.now.reached }
-    ensures { Tries (λ _. tt) result
+    requires kept { AreKept net.now.net worked.now flow.now.reached exits.old }
+    ensures tries { Tries (λ _. tt) result
         (done (each (arrivals passes_Q net.now.net (flow_of flow.now) (labels_in worked.now) (loaded_in worked.now)) (nodes_but net.now.net.source net.now.net))) }
+    ensures kept { OnOk result (AreKept net.now.net worked.now flow.now.reached exits.new) }
 {
     for number in 0..net.node_count() {
         let node = NodeId(number);
         if node != net.source() {
-            check_arrival(alloc, net, flow, worked, node)?;
+            check_arrival(alloc, net, flow, worked, node, exits)?;
         }
     }
     Ok(())
 }
 
-/// The label of the source is the departure, and each other one the least exit.
+/// The label of the source is the departure, and each other one the least exit. Exits are kept.
 pub(crate) fn check_arrivals(
     alloc: Global,
     net: &Network,
     flow: &Flow,
     worked: &Worked,
+    exits: &mut Exits,
 ) -> Result<(), Ended>
     requires worked { IsWorked net.now.net worked.now }
     requires reached { 0ℚ ≤ℚ flow.now.reached }
-    ensures { Tries (λ _. tt) result (arrivals_list passes_Q net.now.net (flow_of flow.now) (labels_in worked.now) (loaded_in worked.now)) }
+    requires kept { AreKept net.now.net worked.now flow.now.reached exits.old }
+    ensures tries { Tries (λ _. tt) result (arrivals_list passes_Q net.now.net (flow_of flow.now) (labels_in worked.now) (loaded_in worked.now)) }
+    ensures kept { OnOk result (AreKept net.now.net worked.now flow.now.reached exits.new) }
 {
     let source = net.source();
     let line = departures(alloc, flow.reached)?;
@@ -183,5 +202,5 @@ pub(crate) fn check_arrivals(
         &line,
         flow.reached,
     )?;
-    check_arrivals_at(alloc, net, flow, worked)
+    check_arrivals_at(alloc, net, flow, worked, exits)
 }

@@ -20,6 +20,7 @@ use crate::answer::Answer;
 use crate::arrivals::check_arrivals;
 use crate::balances::check_balances;
 use crate::ended::{Ended, answer_of};
+use crate::exits::Exits;
 use crate::inflows::check_inflows;
 use crate::labels::cut_labels;
 use crate::loads::load_links;
@@ -47,16 +48,17 @@ fn work_out(alloc: Global, net: &Network, flow: &Flow) -> Result<Worked, Ended>
 }
 
 // The rules that compare curves.
-#[tactic(auto, unfolding(crate::specs::Steps::compared_list))]
+#[tactic(auto, unfolding(crate::specs::Steps::compared_list), using(crate::proofs::Keeping::none_kept))]
 fn compare_all(alloc: Global, net: &Network, flow: &Flow, worked: &Worked) -> Result<(), Ended>
     requires given { IsGiven net.now.net flow.now }
     requires worked { IsWorked net.now.net worked.now }
     ensures { Tries (λ _. tt) result (compared_list passes_Q net.now.net (flow_of flow.now) (labels_in worked.now) (loaded_in worked.now)) }
 {
-    check_arrivals(alloc, net, flow, worked)?;
+    let mut exits = Exits::none(alloc, net)?;
+    check_arrivals(alloc, net, flow, worked, &mut exits)?;
     check_told(net, flow, worked)?;
     check_balances(alloc, net, flow, worked)?;
-    check_routes(alloc, net, flow, worked)
+    check_routes(alloc, net, flow, worked, &mut exits)
 }
 
 // All rules.

@@ -8,6 +8,7 @@ mod balances;
 mod checking;
 mod compared;
 mod ended;
+mod exits;
 mod inflows;
 mod labels;
 mod lines;

@@ -1,5 +1,5 @@
 // Three curves by departure: what has been sent into a link, its exits, and the labels of its head.
-ghost use Rattle.std.specs.Prelude.{◌≡◌, IfOk};
+ghost use Rattle.std.specs.Prelude.{◌≡◌, IfOk, IfSome, Ok};
 ghost use Rattle.nf_rational.specs.Rational.{ℚ};
 ghost use Rattle.nf_rational.specs.Operations.{0ℚ};
 ghost use Rattle.nf_rational.specs.Order.{◌≤ℚ◌};
@@ -10,7 +10,8 @@ ghost use Rattle.nf_model.specs.Curve.{Within, value};
 ghost use Rattle.nf_curve_lists.specs.Sums.{sides_at as sides_by};
 ghost use Rattle.nf_check_lists.specs.Routes.{three_times};
 ghost use Rattle.nf_curve.specs.Differences.{difference_of};
-ghost use Rattle.nf_check.specs.Sent.{AreCurves, ArePlaces, AreWithin, points_in, sent_list};
+ghost use Rattle.nf_check.specs.Exits.{short_exits};
+ghost use Rattle.nf_check.specs.Sent.{AreCurves, ArePlaces, AreWithin, points_in, sent_list, known_list};
 
 use crate::places::{place_near, value_at};
 use crate::times::{merged, times_of};
@@ -35,9 +36,9 @@ pub(crate) struct Places {
 }
 
 impl Sent {
-    /// The curves of a link by its inflow, its exits and the labels of its ends, up to a last departure.
+    // The curves of a link by its inflow, its exits and the labels of its ends, up to a last departure.
     #[tactic(auto, unfolding(crate::specs::Sent::sent_list))]
-    pub(crate) fn along(
+    fn by_exit(
         alloc: Global,
         inflow: &Curve,
         exit: &Curve,
@@ -61,6 +62,58 @@ impl Sent {
             exits,
             labels,
         })
+    }
+
+    // The same, where the exits by departure are known in short form.
+    #[tactic(auto, unfolding(crate::specs::Sent::known_list))]
+    fn by_exits(
+        alloc: Global,
+        inflow: &Curve,
+        exits: Curve,
+        tail_label: &Curve,
+        head_label: &Curve,
+        last: Q,
+    ) -> Result<Sent, Halt<Q>>
+        requires last { 0ℚ ≤ℚ last }
+        requires label { (time : ℚ) → Within 0ℚ last time → 0ℚ ≤ℚ value tail_label.now.points time }
+        ensures list { Gives points_in (λ q. q) result
+            (at_part Check (known_list passes_Q inflow.now.points exits.points tail_label.now.points head_label.now.points last)) }
+        ensures curves { IfOk result AreCurves }
+    {
+        // For the proof: the exits are a curve.
+        let _ = exits.len();
+        let all_taken = Curve::compose(alloc, inflow, tail_label, last, Part::Check)?;
+        let taken = Curve::short(alloc, &all_taken, Part::Check)?;
+        let labels = Curve::short(alloc, head_label, Part::Check)?;
+        Ok(Sent {
+            taken,
+            exits,
+            labels,
+        })
+    }
+
+    /// The curves of a link by its inflow, its exits and the labels of its ends, up to a last departure. The exits by departure may
+    /// have been kept in short form.
+    pub(crate) fn along(
+        alloc: Global,
+        inflow: &Curve,
+        exit: &Curve,
+        tail_label: &Curve,
+        head_label: &Curve,
+        kept: Option<Curve>,
+        last: Q,
+    ) -> Result<Sent, Halt<Q>>
+        requires last { 0ℚ ≤ℚ last }
+        requires label { (time : ℚ) → Within 0ℚ last time → 0ℚ ≤ℚ value tail_label.now.points time }
+        requires kept { IfSome kept (λ exits. short_exits passes_Q exit.now.points tail_label.now.points last ≡ Ok exits.points) }
+        ensures list { Gives points_in (λ q. q) result
+            (at_part Check (sent_list passes_Q inflow.now.points exit.now.points tail_label.now.points head_label.now.points last)) }
+        ensures curves { IfOk result AreCurves }
+    {
+        match kept {
+            Some(exits) => Sent::by_exits(alloc, inflow, exits, tail_label, head_label, last),
+            None => Sent::by_exit(alloc, inflow, exit, tail_label, head_label, last),
+        }
     }
 
     /// The times of their points, in rising order.

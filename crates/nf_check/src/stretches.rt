@@ -1,15 +1,18 @@
 // Stretches of departures between neighbouring times of three curves: on which flow is sent off the shortest routes.
-ghost use Rattle.std.specs.Prelude.{◌≡◌, true, pos, option_map};
+ghost use Rattle.std.specs.Prelude.{◌≡◌, true, pos, option_map, IfOk, OnOk};
 ghost use Rattle.std.specs.List.{AllByRecursion};
 ghost use Rattle.nf_rational.specs.Operations.{0ℚ, whole};
 ghost use Rattle.nf_rational.specs.Order.{◌≤ℚ◌};
 ghost use Rattle.nf_work.specs.declared.Part.TheVariants.{Check};
 ghost use Rattle.nf_work.specs.Passing.{passes_Q};
 ghost use Rattle.nf_work.specs.Checked.{at_part, seen_at};
+ghost use Rattle.nf_curve_lists.specs.Values.{checked_value};
+ghost use Rattle.nf_curve_lists.specs.Sums.{sides_at as sides_by};
 ghost use Rattle.nf_curve_lists.specs.Differences.{do_differ as do_differ_by};
 ghost use Rattle.nf_check_lists.specs.Routes.{checked_middle, at_middle as at_middle_by, on_rising as on_rising_by, on_stretch as on_stretch_by, all_stretches};
 ghost use Rattle.nf_curve.specs.Differences.{difference_of};
-ghost use Rattle.nf_check.specs.Sent.{ArePlaces, AreWithin};
+ghost use Rattle.nf_check.specs.Departures.{IsDeparture};
+ghost use Rattle.nf_check.specs.Sent.{AreWithin};
 
 use crate::lines::is_same;
 use crate::places::value_at;
@@ -41,6 +44,44 @@ fn middle(first: Q, next: Q) -> Result<Q, PassedAt<Q>>
     Ok(middle)
 }
 
+// A departure: its places on the three curves, what has been sent by then, and exit and label there, once they have been looked at.
+#[derive(Clone, Copy)]
+struct Departure {
+    time: Q,
+    places: Places,
+    taken: Q,
+    sides: Option<Difference>,
+}
+
+// What has been sent by a departure, by the places of another.
+fn departure_at(sent: &Sent, near: &Places, time: Q) -> Result<Departure, PassedAt<Q>>
+    requires time { 0ℚ ≤ℚ time }
+    requires within { AreWithin sent.now near.now }
+    ensures taken { seen_at (λ d. d.taken) (λ q. q) result ≡ at_part Check (checked_value passes_Q sent.now.taken.points time) }
+    ensures there { IfOk result (IsDeparture sent.now) }
+    ensures time { IfOk result (λ d. d.time ≡ time) }
+{
+    let places = sent.places_near(near, time);
+    let taken = value_at(&sent.taken, places.taken, time)?;
+    Ok(Departure {
+        time,
+        places,
+        taken,
+        sides: None,
+    })
+}
+
+// Exit and label at a departure.
+fn sides_of(sent: &Sent, here: &Departure) -> Result<Difference, PassedAt<Q>>
+    requires { IsDeparture sent.now here.now }
+    ensures { seen_at difference_of (λ q. q) result ≡ at_part Check (sides_by passes_Q sent.now.exits.points sent.now.labels.points here.now.time) }
+{
+    match here.sides {
+        Some(sides) => Ok(sides),
+        None => sent.sides_at(&here.places, here.time),
+    }
+}
+
 // Exit and label in the middle of a stretch.
 fn at_middle(
     sent: &Sent,
@@ -62,26 +103,24 @@ fn at_middle(
 // Where exit and label differ on a stretch on which flow is sent: at its beginning, or else in its middle if they differ at its end.
 fn on_rising(
     sent: &Sent,
-    here: &Places,
-    there: &Places,
-    first: Q,
-    next: Q,
+    here: &Departure,
+    there: &mut Departure,
 ) -> Result<Option<Difference>, PassedAt<Q>>
-    requires first { 0ℚ ≤ℚ first }
-    requires next { 0ℚ ≤ℚ next }
-    requires here { ArePlaces sent.now first here.now }
-    requires within { AreWithin sent.now here.now }
-    requires there { ArePlaces sent.now next there.now }
-    ensures { seen_at (option_map difference_of) (λ q. q) result ≡
-        at_part Check (on_rising_by passes_Q true sent.now.exits.points sent.now.labels.points first next) }
+    requires here { IsDeparture sent.now here.now }
+    requires there { IsDeparture sent.now there.old }
+    ensures list { seen_at (option_map difference_of) (λ q. q) result ≡
+        at_part Check (on_rising_by passes_Q true sent.now.exits.points sent.now.labels.points here.now.time there.old.time) }
+    ensures there { OnOk result (IsDeparture sent.now there.new) }
+    ensures time { OnOk result (there.new.time ≡ there.old.time) }
 {
-    let sides = sent.sides_at(here, first)?;
+    let sides = sides_of(sent, here)?;
     if do_differ(&sides) {
         return Ok(Some(sides));
     }
-    let end = sent.sides_at(there, next)?;
+    let end = sent.sides_at(&there.places, there.time)?;
+    there.sides = Some(end);
     if do_differ(&end) {
-        at_middle(sent, here, first, next)
+        at_middle(sent, &here.places, here.time, there.time)
     } else {
         Ok(None)
     }
@@ -90,47 +129,45 @@ fn on_rising(
 // Where exit and label differ on a stretch, if flow is sent on it.
 fn on_stretch(
     sent: &Sent,
-    here: &Places,
-    there: &Places,
-    first: Q,
-    next: Q,
+    here: &Departure,
+    there: &mut Departure,
 ) -> Result<Option<Difference>, PassedAt<Q>>
-    requires first { 0ℚ ≤ℚ first }
-    requires next { 0ℚ ≤ℚ next }
-    requires here { ArePlaces sent.now first here.now }
-    requires within { AreWithin sent.now here.now }
-    requires there { ArePlaces sent.now next there.now }
-    ensures { seen_at (option_map difference_of) (λ q. q) result ≡
-        at_part Check (on_stretch_by passes_Q sent.now.taken.points sent.now.exits.points sent.now.labels.points first next) }
+    requires here { IsDeparture sent.now here.now }
+    requires there { IsDeparture sent.now there.old }
+    ensures list { seen_at (option_map difference_of) (λ q. q) result ≡
+        at_part Check (on_stretch_by passes_Q sent.now.taken.points sent.now.exits.points sent.now.labels.points here.now.time there.old.time) }
+    ensures there { OnOk result (IsDeparture sent.now there.new) }
+    ensures time { OnOk result (there.new.time ≡ there.old.time) }
 {
-    let before = value_at(&sent.taken, here.taken, first)?;
-    let after = value_at(&sent.taken, there.taken, next)?;
-    if before.is_below(after) {
-        on_rising(sent, here, there, first, next)
+    if here.taken.is_below(there.taken) {
+        on_rising(sent, here, there)
     } else {
         Ok(None)
     }
 }
 
-/// The first departure, on the stretches between these times, from which on flow is sent while exit and label differ.
+/// The first departure, on the stretches between these times, from which on flow is sent while exit and label differ. What was
+/// looked at at the end of a stretch isn't looked at again at the beginning of the next.
 pub(crate) fn first_detour(sent: &Sent, times: &[Q]) -> Result<Option<Difference>, PassedAt<Q>>
     requires { AllByRecursion (λ time. 0ℚ ≤ℚ time) times.now }
     ensures { seen_at (option_map difference_of) (λ q. q) result ≡
         at_part Check (all_stretches passes_Q sent.now.taken.points sent.now.exits.points sent.now.labels.points times.now) }
 {
-    let mut places = Places {
+    if times.len() < 2 {
+        return Ok(None);
+    }
+    let start = Places {
         taken: 0,
         exits: 0,
         labels: 0,
     };
+    let mut here = departure_at(sent, &start, times[0])?;
     for i in 1..times.len() {
-        let (first, next) = (times[i - 1], times[i]);
-        let here = sent.places_near(&places, first);
-        let there = sent.places_near(&here, next);
-        if let Some(sides) = on_stretch(sent, &here, &there, first, next)? {
+        let mut there = departure_at(sent, &here.places, times[i])?;
+        if let Some(sides) = on_stretch(sent, &here, &mut there)? {
             return Ok(Some(sides));
         }
-        places = there;
+        here = there;
     }
     Ok(None)
 }

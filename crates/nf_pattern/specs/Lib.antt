@@ -7,3 +7,4 @@ pub mod Given
 pub mod Trail
 pub mod Stands
 pub mod Front
+pub mod Giving

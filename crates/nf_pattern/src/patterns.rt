@@ -35,13 +35,12 @@ impl Model for Patterns {
 }
 
 impl Patterns {
-    ghost use mathlib.Core.Option.{none};
-    ghost use Rattle.std.specs.Prelude.{◌≡◌, ◌^◌, ◌<◌, ⊤, length, IfOk, MatchBool, Some, None, option_copied};
-    ghost use Rattle.std.specs.Borrow.{sem, follows_so};
+    ghost use Rattle.std.specs.Prelude.{◌≡◌, ◌^◌, ◌<◌, length, IfOk, MatchBool, Some, None, option_copied};
+    ghost use Rattle.std.specs.Borrow.{sem};
     ghost use Rattle.nf_model.specs.Pattern.{Pattern as SeenPattern, IsPattern};
     ghost use Rattle.nf_graph.specs.Graph.{AreBelow};
     ghost use Rattle.nf_pattern.specs.Given.{AtStart, Gives};
-    ghost use Rattle.nf_pattern.specs.contracts.patterns.Patterns.{the_row};
+    ghost use Rattle.nf_pattern.specs.Giving.{GivesNext};
 
     /// Before the first listed pattern. The base has a state for exactly the active links that are not resetting, and Full for no
     /// unbounded one; there is one flag of each kind for each link.
@@ -101,7 +100,7 @@ impl Patterns {
 
     /// The least listed pattern after those given before; None exactly at the end of the list. It takes no memory.
     pub fn next(&mut self) -> Option<&Pattern>
-        ensures* { sem 𝓛 (follows_so the_row the_row self.entry.ghost_name none (λ _ _. ⊤) (λ after. Gives self.old (option_copied result) after)) }
+        ensures* { sem 𝓛 (GivesNext self.entry (option_copied result)) }
     {
         if self.step() {
             Some(&self.current)

@@ -6,8 +6,6 @@ use Rattle.std.specs.Option.{option_map_or, option_to_list}
 use Rattle.nf_rational.specs.Rational.{ℚ}
 use Rattle.nf_rational.specs.Operations.{0ℚ}
 use Rattle.nf_rational.specs.Order.{◌≤ℚ◌, ◌<ℚ◌, lt_ℚ}
-use Rattle.nf_rational_laws.proofs.Polynomial.{reading_of}
-use Rattle.nf_rational_laws.proofs.Linear.{lt, linear_lt}
 use Rattle.nf_rational_laws.proofs.Tests.{lt_ℚ_cases}
 use Rattle.nf_model.specs.Curve.{Point}
 use Rattle.nf_model.specs.Equilibrium.{Trace}
@@ -26,7 +24,7 @@ last_time-end [] = refl
 last_time-end (p ∷ []) = refl
 last_time-end (p ∷ q ∷ rest) = last_time-end (q ∷ rest)
 
-end-append : (points : List Point) (p : Point) → end_of (points ++ p ∷ []) ≡ p.0
+pub end-append : (points : List Point) (p : Point) → end_of (points ++ p ∷ []) ≡ p.0
 end-append points p = ap (λ (o : Option Point). option_map_or (λ q. q.0) o 0ℚ) (last-append None points p)
 
 pub value-append : (points : List Point) (p : Point) → p.1 ≡ end_value (points ++ p ∷ [])

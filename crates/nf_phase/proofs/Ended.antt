@@ -1,5 +1,5 @@
 -- What a run that has ended is.
-use Rattle.std.proofs.Common.{◌≡◌, ℕ, inl, inr, ⊎_elim, ◌↔◌, List, [], ◌∷◌, length, sym, ap, subst, refl, ◌∙◌}
+use Rattle.std.proofs.Common.{◌≡◌, ℕ, suc, inl, inr, ⊎_elim, ◌↔◌, List, [], ◌∷◌, length, sym, ap, subst, refl, ◌∙◌, arith}
 use Rattle.std.specs.Prelude.{Option, Some, None, is_none, Result, Ok, Err, IfOk}
 use Rattle.std.specs.Option.{option_map}
 use Rattle.std.proofs.lemmas.Option.{none-some, slice_get-map}
@@ -18,16 +18,20 @@ use Rattle.nf_model.specs.Equilibrium.{Equilibrium}
 use Rattle.nf_formats.specs.declared.Cause.{Cause}
 use Rattle.nf_formats.specs.Report.{Report, IsWellFormed}
 use Rattle.nf_formats_laws.proofs.ReportFacts.{well_formed}
-use Rattle.nf_lists.specs.PhaseRun.{Standing, Bounds, Goes, Fails, at_slack, at_search, at_lists, Runs, at_horizon, at_phases, fails, goes, IsPhaseRun, flow_of, report_of}
+use Rattle.nf_lists.specs.PhaseRun.{Standing, Bounds, IsStart, Goes, Fails, at_slack, at_search, at_lists, IsPhaseRun, flow_of, report_of}
+use Rattle.nf_lists.specs.PhaseRun.{Runs, at_horizon as at_horizon_of_run, at_phases as at_phases_of_run, fails as fails_of_run, goes as goes_of_run}
+use Rattle.nf_resume_lists.specs.Open.{Continues, Steps, continues, begins, RunsOn, at_horizon, at_phases, fails, steps}
+use Rattle.nf_resume_laws.proofs.FirstPlace.{closed-at_start}
 use Rattle.nf_run_laws.specs.RunLaws.{IsShortFlow}
-use Rattle.nf_run_laws.proofs.Run.{run_equilibrium}
 use Rattle.nf_run_laws.proofs.Sequence.{sequence_ends}
-use Rattle.nf_run_laws.proofs.ShortRun.{run_short, run_keeps}
+use Rattle.nf_run_laws.proofs.ShortRun.{run_keeps}
 use Rattle.nf_curve.specs.Flows.{flow_of as flow_in}
 use Rattle.nf_phase.specs.declared.solution.Solution.{Solution}
-use Rattle.nf_phase.specs.Solution.{IsSolution, report_in}
-use Rattle.nf_phase.specs.Stepping.{Reaches, starts, goes_on}
+use Rattle.nf_phase.specs.Solution.{IsSolution, IsFinished, report_in}
+use Rattle.nf_phase.specs.Stepping.{Reaches}
 use Rattle.nf_phase.proofs.Reached.{Stands, Stands-reached}
+use Rattle.nf_phase.proofs.ShortReached.{short_reached}
+use Rattle.nf_phase.proofs.Stepped.{equilibrium_reached, reaches_step, begin_step}
 
 -- ---- a phase goes no further than the horizon
 no_further : (time horizon left length : ℚ) → left ≡ horizon -ℚ time → length ≤ℚ left → time +ℚ length ≤ℚ horizon
@@ -58,44 +62,79 @@ pub record EndsWell (passes : Passing) (net : Network) (horizon : ℚ) (last : S
   pub within : last.time ≤ℚ horizon
   pub stops : (stop ≡ None) ↔ (last.time ≡ horizon)
 
-module _ (passes : Passing) (net : Network) (bounds : Bounds) where
+module _ (passes : Passing) (net : Network) (good : IsNetwork net) (bounds : Bounds) where
   below_stops : (s : Standing) (cause : Cause ℚ) → s.time <ℚ bounds.horizon → (Some cause ≡ None) ↔ (s.time ≡ bounds.horizon)
   below_stops s cause below = (λ e. absurd (none-some cause (sym e)), λ e. absurd (<ℚ_irrefl bounds.horizon (subst (λ (t : ℚ). t <ℚ bounds.horizon) e below)))
 
-  ends_well : (s last : Standing) (stop : Option (Cause ℚ)) → Reaches passes net s → s.time ≤ℚ bounds.horizon → Runs passes net bounds s last stop → EndsWell passes net bounds.horizon last stop
+  pub step_within : (s t : Standing) → Steps passes net bounds.horizon bounds.patterns s t → t.time ≤ℚ bounds.horizon
+  step_within s _ (continues {t = t} c g) = goes_within passes net bounds.horizon bounds.patterns s t g
+  step_within s t (begins c g) = goes_within passes net bounds.horizon bounds.patterns s t g
+
+  ends_well : (s last : Standing) (stop : Option (Cause ℚ)) → Reaches passes net s → s.time ≤ℚ bounds.horizon → RunsOn passes net bounds s last stop → EndsWell passes net bounds.horizon last stop
   ends_well s last stop reaches within (at_horizon e) = record { reaches = reaches; within = within; stops = (λ _. e, λ _. refl) }
   ends_well s last stop reaches within (at_phases below e) = record { reaches = reaches; within = within; stops = below_stops s _ below }
   ends_well s last stop reaches within (fails {cause = c} may f) = record { reaches = reaches; within = within; stops = below_stops s c (fails_below passes net bounds.horizon bounds.patterns s c f) }
-  ends_well s last stop reaches within (goes {new = t} may g rest) =
-      ends_well t last stop (goes_on bounds.horizon bounds.patterns reaches g) (goes_within passes net bounds.horizon bounds.patterns s t g) rest
+  ends_well s last stop reaches within (steps {new = t} may g rest) = ends_well t last stop (reaches_step passes net good s reaches bounds.horizon bounds.patterns t g) (step_within s t g) rest
 
-  pub EndsWell-run : 0ℚ ≤ℚ bounds.horizon → (last : Standing) (stop : Option (Cause ℚ)) → IsPhaseRun passes net bounds last stop → EndsWell passes net bounds.horizon last stop
-  EndsWell-run begins last stop run = ends_well run.first last stop (starts run.start) (subst (λ (t : ℚ). t ≤ℚ bounds.horizon) (sym run.start.time) begins) run.runs
+  module _ (first : Standing) (reaches : Reaches passes net first) (within : first.time ≤ℚ bounds.horizon) (last : Standing) (stop : Option (Cause ℚ)) (runs : RunsOn passes net bounds first last stop) where
+    ends : EndsWell passes net bounds.horizon last stop
+    ends = ends_well first last stop reaches within runs
 
-  pub well_formed_run : IsNetwork net → 0ℚ ≤ℚ bounds.horizon → (last : Standing) (stop : Option (Cause ℚ)) → IsPhaseRun passes net bounds last stop → IsWellFormed net (report_of bounds.horizon last stop)
-  well_formed_run good begins last stop run =
-      let ends = EndsWell-run begins last stop run in
-      let stands : Stands net last = Stands-reached passes net good last ends.reaches in
-      well_formed net (report_of bounds.horizon last stop) (run_equilibrium passes net good bounds last stop run) ends.within ends.stops stands.last_count
-      (λ e link p none full. stands.no_full e (slice_get-map (λ (l : Link). is_none l.capacity) net.links e ∙ ap (option_map (λ (l : Link). is_none l.capacity)) p
-      ∙ ap (λ (c : Option ℚ). Some (is_none c)) none) full)
+    well_formed_run : IsWellFormed net (report_of bounds.horizon last stop)
+    well_formed_run =
+        let stands : Stands net last = Stands-reached passes net good last ends.reaches in
+        well_formed net (report_of bounds.horizon last stop) (equilibrium_reached passes net good last ends.reaches) ends.within ends.stops stands.last_count
+        (λ e link p none full. stands.no_full e (slice_get-map (λ (l : Link). is_none l.capacity) net.links e ∙ ap (option_map (λ (l : Link). is_none l.capacity)) p
+        ∙ ap (λ (c : Option ℚ). Some (is_none c)) none) full)
 
-  -- ---- the solution
-  pub solution_of : IsNetwork net → 0ℚ ≤ℚ bounds.horizon → passes ≡ passes_Q → (last : Standing) (stop : Option (Cause ℚ)) → IsPhaseRun passes net bounds last stop
-      → (phases : ℕ) (report : Report) → phases ≡ last.made → report ≡ report_of bounds.horizon last stop → IsSolution net bounds phases report
-  solution_of good begins bound last stop run phases report count is = record {
-    well_formed = subst (IsWellFormed net) (sym is) (well_formed_run good begins last stop run);
-    equilibrium = subst (λ (r : Report). Equilibrium net r.flow) (sym is) (run_equilibrium passes net good bounds last stop run);
-    run = record { last = last; stop = stop; run = subst (λ (p : Passing). IsPhaseRun p net bounds last stop) bound run; report_is = is };
-    made = sym count;
-    ends = λ others sequence many. sequence_ends passes net good bounds last stop run others sequence many;
-    labels = run_keeps passes net good bounds last stop run;
-    short = subst (λ (r : Report). IsShortFlow net r.flow) (sym is) (run_short passes net good bounds last stop run);
-  }
+    -- ---- what it came to
+    finished_of : passes ≡ passes_Q → (phases : ℕ) (report : Report) → phases ≡ last.made → report ≡ report_of bounds.horizon last stop → IsFinished net bounds first phases report
+    finished_of bound phases report count is = record {
+      last = last;
+      stop = stop;
+      runs = subst (λ (p : Passing). RunsOn p net bounds first last stop) bound runs;
+      made = sym count;
+      report_is = is;
+      well_formed = subst (IsWellFormed net) (sym is) well_formed_run;
+      equilibrium = subst (λ (r : Report). Equilibrium net r.flow) (sym is) (equilibrium_reached passes net good last ends.reaches);
+      short = subst (λ (r : Report). IsShortFlow net r.flow) (sym is) (short_reached passes net good last ends.reaches);
+    }
 
-  pub solved : IsNetwork net → 0ℚ ≤ℚ bounds.horizon → passes ≡ passes_Q → (last : Standing) (stop : Option (Cause ℚ)) → IsPhaseRun passes net bounds last stop → {E : Type 0} (result : Result Solution E)
-      → IfOk result (λ s. flow_in s.flow ≡ flow_of last) → IfOk result (λ s. s.phases ≡ last.made) → IfOk result (λ s. s.last ≡ last.last) → IfOk result (λ s. s.stopped ≡ stop)
+    pub finished : passes ≡ passes_Q → {E : Type 0} (result : Result Solution E)
+        → IfOk result (λ s. flow_in s.flow ≡ flow_of last) → IfOk result (λ s. s.phases ≡ last.made) → IfOk result (λ s. s.last ≡ last.last) → IfOk result (λ s. s.stopped ≡ stop)
+        → IfOk result (λ s. IsFinished net bounds first s.phases (report_in bounds.horizon s))
+    finished bound (Ok s) flow phases states stops =
+        finished_of bound s.phases (report_in bounds.horizon s) phases (λ i. record { horizon = bounds.horizon; flow = flow i; stop = stops i; last = states i })
+    finished bound (Err x) flow phases states stops = tt
+
+-- ---- from departure 0 on
+module _ (net : Network) (good : IsNetwork net) (bounds : Bounds) where
+  -- one that goes on with no phase cut short is a phase run
+  runs_begun : (passes : Passing) (s last : Standing) (stop : Option (Cause ℚ)) → (Continues net s → ⊥) → RunsOn passes net bounds s last stop → Runs passes net bounds s last stop
+  runs_begun passes s last stop none (at_horizon e) = at_horizon_of_run e
+  runs_begun passes s last stop none (at_phases below e) = at_phases_of_run below e
+  runs_begun passes s last stop none (fails may f) = fails_of_run may f
+  runs_begun passes s last stop none (steps {new = t} may g rest) =
+      let goes_there : Goes passes net bounds.horizon bounds.patterns s t = begin_step passes net bounds.horizon bounds.patterns s t none g in
+      goes_of_run may goes_there (runs_begun passes t last stop (λ c. later_made t s.made (ap (λ (n : Standing). n.made) goes_there.new_is) c.0) rest)
+    where
+      later_made : (t : Standing) (made : ℕ) → t.made ≡ suc made → t.made ≡ 0 → ⊥
+      later_made t made e z = absurd (omega arith)
+
+  solution_of : (first : Standing) → IsStart net first → (phases : ℕ) (report : Report) → IsFinished net bounds first phases report → IsSolution net bounds phases report
+  solution_of first start phases report f =
+      let run : IsPhaseRun passes_Q net bounds f.last f.stop = record { first = first; start = start; runs = runs_begun passes_Q first f.last f.stop (closed-at_start net first good start) f.runs } in
+      record {
+        well_formed = f.well_formed;
+        equilibrium = f.equilibrium;
+        run = record { last = f.last; stop = f.stop; run = run; report_is = f.report_is };
+        made = f.made;
+        ends = λ others sequence many. sequence_ends passes_Q net good bounds f.last f.stop run others sequence many;
+        labels = run_keeps passes_Q net good bounds f.last f.stop run;
+        short = f.short;
+      }
+
+  pub solved : (first : Standing) → IsStart net first → {E : Type 0} (result : Result Solution E) → IfOk result (λ s. IsFinished net bounds first s.phases (report_in bounds.horizon s))
       → IfOk result (λ s. IsSolution net bounds s.phases (report_in bounds.horizon s))
-  solved good begins bound last stop run (Ok s) flow phases states stops =
-      solution_of good begins bound last stop run s.phases (report_in bounds.horizon s) phases (λ i. record { horizon = bounds.horizon; flow = flow i; stop = stops i; last = states i })
-  solved good begins bound last stop run (Err x) flow phases states stops = tt
+  solved first start (Ok s) f = solution_of first start s.phases (report_in bounds.horizon s) f
+  solved first start (Err x) f = tt

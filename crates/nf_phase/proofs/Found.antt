@@ -17,20 +17,25 @@ use Rattle.nf_model.specs.Network.{Network, hops}
 use Rattle.nf_model.specs.ThinFlow.{slacks_of, sets_at}
 use Rattle.nf_model.specs.Pattern.{Pattern}
 use Rattle.nf_model.specs.Phases.{IsExtension, IsUnending, IsPhaseLength}
-use Rattle.nf_formats.specs.declared.Cause.TheVariants as Cause
+use Rattle.nf_formats.specs.declared.Cause.{Cause}
 use Rattle.nf_lists.specs.Slack.{slack_list}
 use Rattle.nf_lists.specs.Extend.{extend_list}
 use Rattle.nf_lists.specs.Advance.{Advanced, cut_at, advance_list}
 use Rattle.nf_lists.specs.CurveList.{LinkStep, curve_list}
 use Rattle.nf_lists.specs.ReportCurves.{amount_so_far}
 use Rattle.nf_lists.specs.Search.{Answer, Found, OverBudget, PassesAt, NoPattern}
-use Rattle.nf_lists.specs.PhaseRun.{Standing, PhaseStep, Seeks, IsSearchHere, Fails, at_slack, at_search, at_lists, phase_lists}
+use Rattle.nf_lists.specs.PhaseRun.{Standing, PhaseStep, Seeks, IsSearchHere, phase_lists}
+use Rattle.nf_lists.specs.PhaseRun.{Fails, at_slack as at_slack_below, at_search as at_search_below, at_lists as at_lists_below}
+use Rattle.nf_forever_lists.specs.ForeverRun.{end_list, SeeksOn}
+use Rattle.nf_forever_lists.specs.ForeverRun.{FailsOn, at_slack as at_slack_on, at_search as at_search_on, at_extend as at_extend_on, at_lists as at_lists_on}
 use Rattle.nf_lists_laws.proofs.Exact.{slacks_exact, advanced_exact}
 use Rattle.nf_thin.specs.declared.searches.SearchFault.{SearchFault}
+use Rattle.nf_phase.specs.declared.fault.StepFault.{StepFault}
 use Rattle.nf_thin.specs.Searching.{Searches}
 use Rattle.nf_thin.proofs.Folds.{part_ok}
 use Rattle.nf_phase.specs.Faults.{of_halt, of_search}
-use Rattle.nf_phase.specs.Stepping.{IsCause}
+use Rattle.nf_phase.specs.Stepping.{StandsFor}
+use Rattle.nf_phase.specs.Finding.{FindsNone, at_slack, at_search, ListsPass, at_lists}
 
 -- ---- what passes in a part
 pub part_err : {A : Type 0} (part : Part) (r : Checked A) (at : PassedAt ℚ) → at_part part r ≡ Err at → (p : Passed ℚ) × (r ≡ Err p) × (placed part p ≡ at)
@@ -53,87 +58,129 @@ pub by_fault : {A E : Type 0} (r : Result A E) (e : E) (P : E → Type 0) → Is
 by_fault (Ok x) e P h p = tt
 by_fault (Err x) e P h p = subst P (sym h) p
 
-module _ (passes : Passing) (net : Network) (horizon : ℚ) (patterns : ℕ) (s : Standing) where
+-- causes of one kind are causes of another
+pub stands_as : (C D : Cause ℚ → Type 0) (phase : ℕ) (fault : StepFault) → ((cause : Cause ℚ) → C cause → D cause) → StandsFor C phase fault → StandsFor D phase fault
+stands_as C D phase (StepFault.Search (SearchFault.Budget tried)) f h = f _ h
+stands_as C D phase (StepFault.Search (SearchFault.Passed place at)) f h = f _ h
+stands_as C D phase (StepFault.Search SearchFault.NoPattern) f h = f _ h
+stands_as C D phase (StepFault.Search SearchFault.Memory) f h = h
+stands_as C D phase (StepFault.Passed at) f h = f _ h
+stands_as C D phase StepFault.Memory f h = tt
+
+pub fault_as : {A : Type 0} (C D : Cause ℚ → Type 0) (phase : ℕ) (r : Result A StepFault) → ((cause : Cause ℚ) → C cause → D cause) → IfErr r (StandsFor C phase) → IfErr r (StandsFor D phase)
+fault_as C D phase (Ok x) f h = tt
+fault_as C D phase (Err fault) f h = stands_as C D phase fault f h
+
+-- ---- the search
+module _ (passes : Passing) (net : Network) (patterns : ℕ) (s : Standing) where
+  abbrev Unfound : StepFault → Type 0
+  Unfound = StandsFor (FindsNone passes net patterns s) (suc s.made)
+
   -- ---- the slack list
-  pub slack_cause : (below : s.time <ℚ horizon) (halt : Halt ℚ) → Stops {A = List ℚ} (λ q. q) halt (at_part Slack (slack_list passes (hops net) s.labels)) → IsCause passes net horizon patterns s (of_halt halt)
-  slack_cause below (Halt.Passed at) h =
+  slack_cause : (halt : Halt ℚ) → Stops {A = List ℚ} (λ q. q) halt (at_part Slack (slack_list passes (hops net) s.labels)) → Unfound (of_halt halt)
+  slack_cause (Halt.Passed at) h =
       let p = part_err Slack (slack_list passes (hops net) s.labels) at h in
-      subst (λ (at : PassedAt ℚ). Fails passes net horizon patterns s (Cause.Passed (suc s.made) None at)) p.2 (at_slack p.0 below p.1)
-  slack_cause below Halt.Memory h = tt
+      subst (λ (at : PassedAt ℚ). FindsNone passes net patterns s (Cause.Passed (suc s.made) None at)) p.2 (at_slack p.0 p.1)
+  slack_cause Halt.Memory h = tt
 
   same_slacks : (hs : List Hop) (labels : List ℚ) → hs ≡ hops net → labels ≡ s.labels → slack_list passes hs labels ≡ slack_list passes (hops net) s.labels
   same_slacks hs labels e f = ap (λ (h : List Hop). slack_list passes h labels) e ∙ ap (slack_list passes (hops net)) f
 
-  pub slacks_cause : (hs : List Hop) (labels : List ℚ) → hs ≡ hops net → labels ≡ s.labels → s.time <ℚ horizon → (halt : Halt ℚ) → Stops {A = List ℚ} (λ q. q) halt (at_part Slack (slack_list passes hs labels))
-      → IsCause passes net horizon patterns s (of_halt halt)
-  slacks_cause hs labels e f below halt h = slack_cause below halt (subst (λ (r : Checked (List ℚ)). Stops {A = List ℚ} (λ q. q) halt (at_part Slack r)) (same_slacks hs labels e f) h)
+  pub slacks_cause : (hs : List Hop) (labels : List ℚ) → hs ≡ hops net → labels ≡ s.labels → (halt : Halt ℚ) → Stops {A = List ℚ} (λ q. q) halt (at_part Slack (slack_list passes hs labels)) → Unfound (of_halt halt)
+  slacks_cause hs labels e f halt h = slack_cause halt (subst (λ (r : Checked (List ℚ)). Stops {A = List ℚ} (λ q. q) halt (at_part Slack r)) (same_slacks hs labels e f) h)
 
   pub slacks_made : (hs : List Hop) (labels slacks : List ℚ) → hs ≡ hops net → labels ≡ s.labels → at_part Slack (slack_list passes hs labels) ≡ Ok slacks
       → (slacks ≡ slacks_of (hops net) s.labels) × (slack_list passes (hops net) s.labels ≡ Ok (slacks_of (hops net) s.labels))
   slacks_made hs labels slacks e f h = slacks_found passes net s.labels slacks (ap (λ (r : Checked (List ℚ)). at_part Slack r) (sym (same_slacks hs labels e f)) ∙ h)
 
-  -- ---- the search
-  module _ (below : s.time <ℚ horizon) (slacks : slack_list passes (hops net) s.labels ≡ Ok (slacks_of (hops net) s.labels)) where
-    seeks_here : (a : Answer) → IsSearchHere passes net horizon patterns s a → Seeks passes net horizon patterns s a
-    seeks_here a h = record { below = below; slacks = slacks; search = h }
+  -- ---- the patterns
+  module _ (slacks : slack_list passes (hops net) s.labels ≡ Ok (slacks_of (hops net) s.labels)) (horizon : ℚ) where
+    pub seeks_here : (a : Answer) → IsSearchHere passes net horizon patterns s a → SeeksOn passes net patterns s a
+    seeks_here a h = record { slacks = slacks; base = h.base; is_base = h.is_base; is_search = h.is_search }
 
-    pub search_cause : (fault : SearchFault) → Searches (IsSearchHere passes net horizon patterns s) patterns (Err fault) → IsCause passes net horizon patterns s (of_search fault)
+    pub search_cause : (fault : SearchFault) → Searches (IsSearchHere passes net horizon patterns s) patterns (Err fault) → Unfound (of_search fault)
     search_cause (SearchFault.Budget tried) h = at_search OverBudget _ (seeks_here OverBudget h.1) (ap (λ (n : ℕ). Some (Cause.Patterns (suc s.made) n)) (sym h.0))
     search_cause (SearchFault.Passed place at) h = at_search (PassesAt place at) _ (seeks_here (PassesAt place at) h) refl
     search_cause SearchFault.NoPattern h = at_search NoPattern _ (seeks_here NoPattern h) refl
     search_cause SearchFault.Memory h = tt
 
-  -- ---- the lists of extend, advance and curve
-  module _ (place : ℕ) (pattern : Pattern) (flows slopes : List ℚ) (seeks : Seeks passes net horizon patterns s (Found place pattern flows slopes)) where
-    abbrev extend : Result (Option ℚ) (PassedAt ℚ)
-    extend = at_part Extend (extend_list passes net (slacks_of (hops net) s.labels) slopes s.time)
+  -- ---- to a horizon, and without one
+  pub seeks_below : (horizon : ℚ) (a : Answer) → s.time <ℚ horizon → SeeksOn passes net patterns s a → Seeks passes net horizon patterns s a
+  seeks_below horizon a below h = record { below = below; slacks = h.slacks; search = record { base = h.base; is_base = h.is_base; is_search = h.is_search } }
 
-    abbrev advance : Option ℚ → Result Advanced (PassedAt ℚ)
-    advance extension = at_part Advance (advance_list passes horizon s.time extension s.labels slopes)
+  pub none_below : (horizon : ℚ) → s.time <ℚ horizon → (cause : Cause ℚ) → FindsNone passes net patterns s cause → Fails passes net horizon patterns s cause
+  none_below horizon below cause (at_slack p h) = at_slack_below p below h
+  none_below horizon below cause (at_search a _ h e) = at_search_below a cause (seeks_below horizon a below h) e
 
-    abbrev curve : Advanced → Result (List LinkStep) (PassedAt ℚ)
-    curve end = at_part Curve (curve_list passes net (sets_at net s.labels) pattern end.length flows slopes end.labels (map amount_so_far s.link_curves))
+  pub none_on : (cause : Cause ℚ) → FindsNone passes net patterns s cause → FailsOn passes net patterns s cause
+  none_on cause (at_slack p h) = at_slack_on p h
+  none_on cause (at_search a _ h e) = at_search_on a cause h e
 
-    abbrev from_curve : Advanced → List LinkStep → Result PhaseStep (PassedAt ℚ)
-    from_curve end links = Ok (record { length = end.length; labels = end.labels; links = links })
+  module _ (place : ℕ) (pattern : Pattern) (flows slopes : List ℚ) (seeks : SeeksOn passes net patterns s (Found place pattern flows slopes)) where
+    pub lists_below : (horizon : ℚ) → s.time <ℚ horizon → (cause : Cause ℚ) → ListsPass passes net horizon s pattern flows slopes cause → Fails passes net horizon patterns s cause
+    lists_below horizon below cause (at_lists p h) = at_lists_below place pattern flows slopes p (seeks_below horizon _ below seeks) h
 
-    abbrev from_advance : Advanced → Result PhaseStep (PassedAt ℚ)
-    from_advance end = curve end >>= from_curve end
+    pub extend_on : (p : Passed ℚ) → end_list passes net (slacks_of (hops net) s.labels) slopes s.time ≡ Err p → FailsOn passes net patterns s (Cause.Passed (suc s.made) None (placed Extend p))
+    extend_on p h = at_extend_on place pattern flows slopes p seeks h
 
-    abbrev from_extend : Option ℚ → Result PhaseStep (PassedAt ℚ)
-    from_extend extension = advance extension >>= from_advance
+    pub lists_on : (end : ℚ) → end_list passes net (slacks_of (hops net) s.labels) slopes s.time ≡ Ok (Some end) → (cause : Cause ℚ) → ListsPass passes net end s pattern flows slopes cause
+        → FailsOn passes net patterns s cause
+    lists_on end ends cause (at_lists p h) = at_lists_on place pattern flows slopes end p seeks ends h
 
-    whole : phase_lists passes net horizon s pattern flows slopes ≡ (extend >>= from_extend)
-    unfolding phase_lists
-    whole = refl
+-- ---- the lists of extend, advance and curve
+module _ (passes : Passing) (net : Network) (horizon : ℚ) (s : Standing) (pattern : Pattern) (flows slopes : List ℚ) where
+  abbrev Stopped : StepFault → Type 0
+  Stopped = StandsFor (ListsPass passes net horizon s pattern flows slopes) (suc s.made)
 
-    then_same : {A B E : Type 0} (r q : Result A E) (f : A → Result B E) → r ≡ q → (r >>= f) ≡ (q >>= f)
-    then_same {A = A} {E = E} r q f h = ap (λ (w : Result A E). w >>= f) h
+  abbrev extend : Result (Option ℚ) (PassedAt ℚ)
+  extend = at_part Extend (extend_list passes net (slacks_of (hops net) s.labels) slopes s.time)
 
-    fails_at : (at : PassedAt ℚ) → phase_lists passes net horizon s pattern flows slopes ≡ Err at → IsCause passes net horizon patterns s (of_halt (Halt.Passed at))
-    fails_at at h = at_lists place pattern flows slopes at seeks h
+  abbrev advance : Option ℚ → Result Advanced (PassedAt ℚ)
+  advance extension = at_part Advance (advance_list passes horizon s.time extension s.labels slopes)
 
-    pub extend_cause : (at : PassedAt ℚ) → extend ≡ Err at → Fails passes net horizon patterns s (Cause.Passed (suc s.made) None at)
-    extend_cause at h = at_lists place pattern flows slopes at seeks (whole ∙ then_same extend (Err at) from_extend h)
+  abbrev curve : Advanced → Result (List LinkStep) (PassedAt ℚ)
+  curve end = at_part Curve (curve_list passes net (sets_at net s.labels) pattern end.length flows slopes end.labels (map amount_so_far s.link_curves))
 
-    module _ (extension : Option ℚ) (extended : extend ≡ Ok extension) where
-      to_advance : phase_lists passes net horizon s pattern flows slopes ≡ from_extend extension
-      to_advance = whole ∙ then_same extend (Ok extension) from_extend extended
+  abbrev from_curve : Advanced → List LinkStep → Result PhaseStep (PassedAt ℚ)
+  from_curve end links = Ok (record { length = end.length; labels = end.labels; links = links })
 
-      pub advance_cause : (halt : Halt ℚ) → Stops {A = Advanced} (λ q. q) halt (advance extension) → IsCause passes net horizon patterns s (of_halt halt)
-      advance_cause (Halt.Passed at) h = fails_at at (to_advance ∙ then_same (advance extension) (Err at) from_advance h)
-      advance_cause Halt.Memory h = tt
+  abbrev from_advance : Advanced → Result PhaseStep (PassedAt ℚ)
+  from_advance end = curve end >>= from_curve end
 
-      module _ (end : Advanced) (advanced : advance extension ≡ Ok end) where
-        to_curve : phase_lists passes net horizon s pattern flows slopes ≡ from_advance end
-        to_curve = to_advance ∙ then_same (advance extension) (Ok end) from_advance advanced
+  abbrev from_extend : Option ℚ → Result PhaseStep (PassedAt ℚ)
+  from_extend extension = advance extension >>= from_advance
 
-        pub curve_cause : (halt : Halt ℚ) → Stops {A = List LinkStep} (λ q. q) halt (curve end) → IsCause passes net horizon patterns s (of_halt halt)
-        curve_cause (Halt.Passed at) h = fails_at at (to_curve ∙ then_same (curve end) (Err at) (from_curve end) h)
-        curve_cause Halt.Memory h = tt
+  whole : phase_lists passes net horizon s pattern flows slopes ≡ (extend >>= from_extend)
+  unfolding phase_lists
+  whole = refl
 
-        pub lists_made : (links : List LinkStep) → curve end ≡ Ok links → phase_lists passes net horizon s pattern flows slopes ≡ Ok (record { length = end.length; labels = end.labels; links = links })
-        lists_made links h = to_curve ∙ then_same (curve end) (Ok links) (from_curve end) h
+  then_same : {A B E : Type 0} (r q : Result A E) (f : A → Result B E) → r ≡ q → (r >>= f) ≡ (q >>= f)
+  then_same {A = A} {E = E} r q f h = ap (λ (w : Result A E). w >>= f) h
+
+  stopped_at : (at : PassedAt ℚ) → phase_lists passes net horizon s pattern flows slopes ≡ Err at → Stopped (of_halt (Halt.Passed at))
+  stopped_at at h = at_lists at h
+
+  pub extend_cause : (at : PassedAt ℚ) → extend ≡ Err at → Stopped (StepFault.Passed at)
+  extend_cause at h = at_lists at (whole ∙ then_same extend (Err at) from_extend h)
+
+  module _ (extension : Option ℚ) (extended : extend ≡ Ok extension) where
+    to_advance : phase_lists passes net horizon s pattern flows slopes ≡ from_extend extension
+    to_advance = whole ∙ then_same extend (Ok extension) from_extend extended
+
+    pub advance_cause : (halt : Halt ℚ) → Stops {A = Advanced} (λ q. q) halt (advance extension) → Stopped (of_halt halt)
+    advance_cause (Halt.Passed at) h = stopped_at at (to_advance ∙ then_same (advance extension) (Err at) from_advance h)
+    advance_cause Halt.Memory h = tt
+
+    module _ (end : Advanced) (advanced : advance extension ≡ Ok end) where
+      to_curve : phase_lists passes net horizon s pattern flows slopes ≡ from_advance end
+      to_curve = to_advance ∙ then_same (advance extension) (Ok end) from_advance advanced
+
+      pub curve_cause : (halt : Halt ℚ) → Stops {A = List LinkStep} (λ q. q) halt (curve end) → Stopped (of_halt halt)
+      curve_cause (Halt.Passed at) h = stopped_at at (to_curve ∙ then_same (curve end) (Err at) (from_curve end) h)
+      curve_cause Halt.Memory h = tt
+
+      pub lists_made : (links : List LinkStep) → curve end ≡ Ok links → phase_lists passes net horizon s pattern flows slopes ≡ Ok (record { length = end.length; labels = end.labels; links = links })
+      lists_made links h = to_curve ∙ then_same (curve end) (Ok links) (from_curve end) h
 
 -- ---- how long the phase is
 module _ (passes : Passing) (net : Network) (slacks labels slopes : List ℚ) (time horizon : ℚ) where

@@ -1,28 +1,29 @@
 -- A run that has gone on so far, and what it takes for it to end.
 use Rattle.std.proofs.Common.{◌≡◌, ℕ, suc, ◌+◌, ◌<◌, add-one, Bool, true, false, ⊎_elim, sym, ap, subst, ◌∙◌}
 use Rattle.std.specs.Prelude.{Option, Some, None, IsSome, Result, Ok, Err, IfOk, not, MatchBool}
-use Rattle.std.proofs.lemmas.Option.{same_Some}
 use Rattle.nf_rational.specs.Rational.{ℚ}
 use Rattle.nf_rational.specs.Operations.{0ℚ}
 use Rattle.nf_rational.specs.Order.{◌≤ℚ◌, ◌<ℚ◌, lt_ℚ}
 use Rattle.nf_rational_laws.proofs.Order.{≤ℚ_antisymm}
 use Rattle.nf_rational_laws.proofs.Tests.{lt_ℚ_cases}
 use Rattle.nf_work.specs.Passing.{Passing}
-use Rattle.nf_model.specs.Network.{Network}
+use Rattle.nf_model.specs.Network.{Network, IsNetwork}
 use Rattle.nf_formats.specs.declared.Cause.{Cause}
-use Rattle.nf_lists.specs.PhaseRun.{Standing, Bounds, IsStart, Goes, Fails, Runs, at_horizon, at_phases, fails, goes, IsPhaseRun}
-use Rattle.nf_thin.specs.declared.searches.SearchFault.TheVariants as SearchFault
+use Rattle.nf_lists.specs.PhaseRun.{Standing, Bounds, Goes, Fails}
+use Rattle.nf_resume_lists.specs.Open.{Steps, continues, begins, RunsOn, at_horizon, at_phases, fails, steps}
 use Rattle.nf_phase.specs.declared.fault.StepFault.{StepFault}
-use Rattle.nf_phase.specs.Stepping.{Reaches, starts, goes_on, IsCause}
+use Rattle.nf_phase.specs.Stepping.{Reaches, IsCause}
 use Rattle.nf_phase.specs.Solution.{cause_of, stop_after}
-use Rattle.nf_phase.proofs.Ended.{goes_within}
+use Rattle.nf_phase.proofs.Ended.{step_within}
+use Rattle.nf_phase.proofs.Stepped.{reaches_step}
+use Rattle.nf_phase.proofs.Stopping.{stands_stop}
 
--- from the start it has gone on to here in so many phases, and what ends it here ends it from the start on
+-- it has gone on to here in so many phases, and what ends it here ends it from where it began
 pub record GoneTo (passes : Passing) (net : Network) (bounds : Bounds) (first : Standing) (phases : ℕ) (s : Standing) : Type 0 where
   pub reaches : Reaches passes net s
   pub made : s.made ≡ phases
   pub within : s.time ≤ℚ bounds.horizon
-  pub ends : (last : Standing) (stop : Option (Cause ℚ)) → Runs passes net bounds s last stop → Runs passes net bounds first last stop
+  pub ends : (last : Standing) (stop : Option (Cause ℚ)) → RunsOn passes net bounds s last stop → RunsOn passes net bounds first last stop
 
 -- whether it has reached the horizon
 pub at_or_below : (below : Bool) (time horizon : ℚ) → below ≡ lt_ℚ time horizon → MatchBool (not below) (horizon ≤ℚ time) (time <ℚ horizon)
@@ -32,60 +33,53 @@ at_or_below below time horizon e = ⊎_elim
     (lt_ℚ_cases time horizon)
 
 module _ (passes : Passing) (net : Network) (bounds : Bounds) (first : Standing) where
-  pub gone_nowhere : IsStart net first → 0ℚ ≤ℚ bounds.horizon → GoneTo passes net bounds first 0 first
-  gone_nowhere start begins = record { reaches = starts start; made = start.made; within = subst (λ (t : ℚ). t ≤ℚ bounds.horizon) (sym start.time) begins; ends = λ last stop runs. runs }
+  pub gone_nowhere : Reaches passes net first → first.made ≡ 0 → first.time ≤ℚ bounds.horizon → GoneTo passes net bounds first 0 first
+  gone_nowhere reaches fresh within = record { reaches = reaches; made = fresh; within = within; ends = λ last stop runs. runs }
 
-  module _ (start : IsStart net first) (phases : ℕ) (s : Standing) (gone : GoneTo passes net bounds first phases s) where
-    run_of : (stop : Option (Cause ℚ)) → Runs passes net bounds s s stop → IsPhaseRun passes net bounds s stop
-    run_of stop runs = record { first = first; start = start; runs = gone.ends s stop runs }
+  module _ (phases : ℕ) (s : Standing) (gone : GoneTo passes net bounds first phases s) where
+    pub ends_at_horizon : bounds.horizon ≤ℚ s.time → RunsOn passes net bounds first s None
+    ends_at_horizon h = gone.ends s None (at_horizon (≤ℚ_antisymm s.time bounds.horizon gone.within h))
 
-    pub ends_at_horizon : bounds.horizon ≤ℚ s.time → IsPhaseRun passes net bounds s None
-    ends_at_horizon h = run_of None (at_horizon (≤ℚ_antisymm s.time bounds.horizon gone.within h))
-
-    pub ends_at_phases : s.time <ℚ bounds.horizon → phases ≡ bounds.phases → IsPhaseRun passes net bounds s (Some (Cause.Phases s.made))
-    ends_at_phases below all = run_of (Some (Cause.Phases s.made)) (at_phases below (gone.made ∙ all))
+    ends_at_phases : s.time <ℚ bounds.horizon → phases ≡ bounds.phases → RunsOn passes net bounds first s (Some (Cause.Phases s.made))
+    ends_at_phases below all = gone.ends s (Some (Cause.Phases s.made)) (at_phases below (gone.made ∙ all))
 
     may_go : phases < bounds.phases → s.made < bounds.phases
     may_go h = subst (λ (n : ℕ). n < bounds.phases) (sym gone.made) h
 
-    pub ends_by : phases < bounds.phases → (cause : Cause ℚ) → Fails passes net bounds.horizon bounds.patterns s cause → IsPhaseRun passes net bounds s (Some cause)
-    ends_by may cause f = run_of (Some cause) (fails (may_go may) f)
+    made_by : (t : Standing) → Goes passes net bounds.horizon bounds.patterns s t → t.made ≡ phases + 1
+    made_by t g = ap (λ (n : Standing). n.made) g.new_is ∙ ap suc gone.made ∙ sym (add-one phases)
 
-    pub gone_further : phases < bounds.phases → (t : Standing) → Goes passes net bounds.horizon bounds.patterns s t → GoneTo passes net bounds first (phases + 1) t
-    gone_further may t g = record {
-      reaches = goes_on bounds.horizon bounds.patterns gone.reaches g;
-      made = ap (λ (n : Standing). n.made) g.new_is ∙ ap suc gone.made ∙ sym (add-one phases);
-      within = goes_within passes net bounds.horizon bounds.patterns s t g;
-      ends = λ last stop runs. gone.ends last stop (goes (may_go may) g runs);
+    made_after : (t : Standing) → Steps passes net bounds.horizon bounds.patterns s t → t.made ≡ phases + 1
+    made_after _ (continues {t = t} c g) = made_by t g
+    made_after t (begins c g) = made_by t g
+
+    pub gone_further : IsNetwork net → phases < bounds.phases → (t : Standing) → Steps passes net bounds.horizon bounds.patterns s t → GoneTo passes net bounds first (phases + 1) t
+    gone_further good may t g = record {
+      reaches = reaches_step passes net good s gone.reaches bounds.horizon bounds.patterns t g;
+      made = made_after t g;
+      within = step_within passes net good bounds s t g;
+      ends = λ last stop runs. gone.ends last stop (steps (may_go may) g runs);
     }
 
     -- ---- at the end of all phases
-    pub ends_after_all : (stop : Option (Cause ℚ)) → stop ≡ stop_after (lt_ℚ s.time bounds.horizon) s.made → phases ≡ bounds.phases → IsPhaseRun passes net bounds s stop
+    pub ends_after_all : (stop : Option (Cause ℚ)) → stop ≡ stop_after (lt_ℚ s.time bounds.horizon) s.made → phases ≡ bounds.phases → RunsOn passes net bounds first s stop
     ends_after_all stop e all = ⊎_elim
         (λ (w : (lt_ℚ s.time bounds.horizon ≡ true) × (s.time <ℚ bounds.horizon)).
-        subst (IsPhaseRun passes net bounds s) (sym (e ∙ ap (λ (b : Bool). stop_after b s.made) w.0)) (ends_at_phases w.1 all))
+        subst (RunsOn passes net bounds first s) (sym (e ∙ ap (λ (b : Bool). stop_after b s.made) w.0)) (ends_at_phases w.1 all))
         (λ (w : (lt_ℚ s.time bounds.horizon ≡ false) × (bounds.horizon ≤ℚ s.time)).
-        subst (IsPhaseRun passes net bounds s) (sym (e ∙ ap (λ (b : Bool). stop_after b s.made) w.0)) (ends_at_horizon w.1))
+        subst (RunsOn passes net bounds first s) (sym (e ∙ ap (λ (b : Bool). stop_after b s.made) w.0)) (ends_at_horizon w.1))
         (lt_ℚ_cases s.time bounds.horizon)
 
     -- ---- where the next phase isn't made
-    fails_by : (fault : StepFault) → IsCause passes net bounds.horizon bounds.patterns s fault → (cause : Cause ℚ) → cause_of (suc s.made) fault ≡ Some cause
-        → Fails passes net bounds.horizon bounds.patterns s cause
-    fails_by (StepFault.Search (SearchFault.Budget tried)) h cause e = subst (Fails passes net bounds.horizon bounds.patterns s) (same_Some _ cause e) h
-    fails_by (StepFault.Search (SearchFault.Passed place at)) h cause e = subst (Fails passes net bounds.horizon bounds.patterns s) (same_Some _ cause e) h
-    fails_by (StepFault.Search SearchFault.NoPattern) h cause e = subst (Fails passes net bounds.horizon bounds.patterns s) (same_Some _ cause e) h
-    fails_by (StepFault.Search SearchFault.Memory) h cause e = absurd h
-    fails_by (StepFault.Passed at) h cause e = subst (Fails passes net bounds.horizon bounds.patterns s) (same_Some _ cause e) h
-    fails_by StepFault.Memory h cause e = absurd (cc)
-
     ended : phases < bounds.phases → (fault : StepFault) → IsCause passes net bounds.horizon bounds.patterns s fault → (stop : Option (Cause ℚ)) → stop ≡ cause_of (suc s.made) fault → IsSome stop
-        → IsPhaseRun passes net bounds s stop
+        → RunsOn passes net bounds first s stop
     ended may fault h None e some = absurd (cc)
-    ended may fault h (Some cause) e some = ends_by may cause (fails_by fault h cause (sym e))
+    ended may fault h (Some cause) e some =
+        gone.ends s (Some cause) (fails (may_go may) (stands_stop (Fails passes net bounds.horizon bounds.patterns s) (suc s.made) fault h cause (sym e)))
 
     pub ends_by_fault : phases < bounds.phases → (fault : StepFault) → IsCause passes net bounds.horizon bounds.patterns s fault → (after : Standing) → after ≡ s → (phase : ℕ) → phase ≡ suc after.made
-        → {E : Type 0} (result : Result (Option (Cause ℚ)) E) → IfOk result (λ stop. stop ≡ cause_of phase fault) → IfOk result IsSome → IfOk result (IsPhaseRun passes net bounds after)
+        → {E : Type 0} (result : Result (Option (Cause ℚ)) E) → IfOk result (λ stop. stop ≡ cause_of phase fault) → IfOk result IsSome → IfOk result (RunsOn passes net bounds first after)
     ends_by_fault may fault h after same phase next (Ok stop) e some =
-        subst (λ (t : Standing). IsPhaseRun passes net bounds t stop) (sym same)
+        subst (λ (t : Standing). RunsOn passes net bounds first t stop) (sym same)
         (ended may fault h stop (e ∙ ap (λ (n : ℕ). cause_of n fault) (next ∙ ap (λ (t : Standing). suc t.made) same)) some)
     ends_by_fault may fault h after same phase next (Err x) e some = tt

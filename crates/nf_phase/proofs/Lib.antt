@@ -6,6 +6,10 @@ pub mod Looping
 pub mod Meaning
 pub mod Numbered
 pub mod LinkLoop
+pub mod Restarting
+pub mod OneByOne
+pub mod LastSlopes
+pub mod Opened
 pub mod Reached
 pub mod ShortReached
 pub mod Ended
@@ -13,3 +17,7 @@ pub mod Stepped
 pub mod Found
 pub mod PhaseFound
 pub mod Going
+pub mod Stopping
+pub mod Copying
+pub mod ToEnd
+pub mod Told

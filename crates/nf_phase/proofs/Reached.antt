@@ -9,19 +9,24 @@ use Rattle.nf_rational_laws.proofs.Order.{not_both_ℚ}
 use Rattle.nf_work.specs.Passing.{Passing}
 use Rattle.nf_model.specs.declared.State.TheVariants.{Full}
 use Rattle.nf_model.specs.Entries.{Has}
-use Rattle.nf_model.specs.Network.{Link, Network, IsNetwork, hop_of, hops, unbounded}
+use Rattle.nf_model.specs.Network.{Link, Network, IsNetwork, IsLink, hop_of, hops, unbounded}
 use Rattle.nf_model.specs.ThinFlow.{slack, slacks_of, sets_at}
 use Rattle.nf_model.specs.Pattern.{Pattern, HasState, IsPattern, IsListedIn, IsBase}
+use Rattle.nf_model.specs.Equilibrium.{HasShape, HasSlopes}
 use Rattle.nf_model_laws.proofs.Slacks.{slack_of_resetting}
-use Rattle.nf_lists.specs.PhaseRun.{Standing, IsStart, Goes}
+use Rattle.nf_lists.specs.PhaseRun.{Standing, IsStart, Goes, flow_of}
 use Rattle.nf_lists_laws.proofs.Ending.{from_map}
 use Rattle.nf_pattern.proofs.FirstPatterns.{base_is_pattern, none_full}
 use Rattle.nf_thin.specs.Searching.{NoneResetsUnbounded, AreSetsOf}
 use Rattle.nf_thin_laws.proofs.ActiveLinks.{AreSets-sets_at}
 use Rattle.nf_run_laws.proofs.WellRun.{WellRun, WellRun-start}
-use Rattle.nf_run_laws.proofs.Run.{WellRun-goes}
+use Rattle.nf_run_laws.proofs.Run.{HasShape-well, HasSlopes-well, WellRun-goes}
 use Rattle.nf_run_laws.proofs.Standing.{unbounded_slack_at}
-use Rattle.nf_phase.specs.Stepping.{Reaches, starts, goes_on}
+use Rattle.nf_resume_lists.specs.Open.{with_last}
+use Rattle.nf_resume_laws.proofs.Stepping.{WellRun-last}
+use Rattle.nf_phase.specs.Restarting.{IsRestored}
+use Rattle.nf_phase.specs.Stepping.{Reaches, starts, restored, goes_on, keeps_on}
+use Rattle.nf_phase.proofs.Restarting.{well_restored, last_restored}
 
 -- its curves are those of a run, and its last pattern is one of the network's links
 pub record Stands (net : Network) (s : Standing) : Type 0 where
@@ -34,6 +39,21 @@ Stands-start net good s h = record {
   well = WellRun-start net good s h;
   last_count = ap length h.last ∙ length-replicate (length net.links) None;
   no_full = λ e u full. none_full (length net.links) e (subst (λ (p : Pattern). HasState p e Full) h.last full);
+}
+
+none_of : (capacity : Option ℚ) → is_none capacity ≡ true → capacity ≡ None
+none_of None h = refl
+none_of (Some x) h = absurd (cc)
+
+-- which link an unbounded one is
+unbounded_link : (net : Network) (e : ℕ) → Has (unbounded net) e → (link : Link) × IsLink net e link × (link.capacity ≡ None)
+unbounded_link net e u = let l = from_map (λ (link : Link). is_none link.capacity) net.links e true u in (l.0, l.1, none_of l.0.capacity l.2)
+
+Stands-restored : (passes : Passing) (net : Network) (good : IsNetwork net) (s : Standing) → IsRestored passes net s → Stands net s
+Stands-restored passes net good s r = record {
+  well = well_restored passes net good s r;
+  last_count = ap length (last_restored passes net good s r) ∙ r.states;
+  no_full = λ e u full. (let l = unbounded_link net e u in r.no_full e l.0 l.1 l.2 (subst (λ (p : Pattern). HasState p e Full) (last_restored passes net good s r) full));
 }
 
 pub active_count : (net : Network) (labels : List ℚ) → length (sets_at net labels).active ≡ length net.links
@@ -50,20 +70,35 @@ module _ (passes : Passing) (net : Network) (good : IsNetwork net) where
         no_full = λ e u full. listed.states.no_full e u (subst (λ (n : Standing). HasState n.last e Full) g.new_is full);
       }
 
+  -- the last pattern may be that of an earlier phase
+  Stands-last : (horizon : ℚ) (patterns : ℕ) (s t : Standing) → Stands net s → Stands net t → Stands net (with_last s.last t)
+  Stands-last horizon patterns s t before after = record {
+    well = WellRun-last passes net good (record { horizon = horizon; phases = 0; patterns = patterns }) s.last t after.well;
+    last_count = before.last_count;
+    no_full = before.no_full;
+  }
+
   pub Stands-reached : (s : Standing) → Reaches passes net s → Stands net s
   Stands-reached s (starts h) = Stands-start net good s h
+  Stands-reached s (restored r) = Stands-restored passes net good s r
   Stands-reached s (goes_on horizon patterns {s = before} earlier g) = Stands-goes horizon patterns before s g (Stands-reached before earlier)
+  Stands-reached _ (keeps_on horizon patterns {s = before} {new = t} earlier c g) =
+      let there : Stands net before = Stands-reached before earlier in
+      Stands-last horizon patterns before t there (Stands-goes horizon patterns before t g there)
+
+  -- its flow has a curve of each kind for each node or link, and its rates are the slopes
+  pub shape_reached : (s : Standing) → Reaches passes net s → HasShape net (flow_of s)
+  shape_reached s reaches = HasShape-well net good s (Stands-reached s reaches).well
+
+  pub slopes_reached : (s : Standing) → Reaches passes net s → HasSlopes (flow_of s).inflows × HasSlopes (flow_of s).outflows
+  slopes_reached s reaches = HasSlopes-well net good s (Stands-reached s reaches).well
 
 -- ---- what the search needs
 module _ (net : Network) (good : IsNetwork net) (s : Standing) (stands : Stands net s) where
-  none_of : (capacity : Option ℚ) → is_none capacity ≡ true → capacity ≡ None
-  none_of None h = refl
-  none_of (Some x) h = absurd (cc)
-
   pub none_resets : NoneResetsUnbounded net (sets_at net s.labels)
   none_resets e u r =
-      let l = from_map (λ (link : Link). is_none link.capacity) net.links e true u in
-      not_both_ℚ 0ℚ (slack s.labels (hop_of l.0)) (slack_of_resetting net s.labels e l.0 l.1 r) (unbounded_slack_at net good s stands.well e l.0 l.1 (none_of l.0.capacity l.2))
+      let l = unbounded_link net e u in
+      not_both_ℚ 0ℚ (slack s.labels (hop_of l.0)) (slack_of_resetting net s.labels e l.0 l.1 r) (unbounded_slack_at net good s stands.well e l.0 l.1 l.2)
 
   pub sets_fit : AreSetsOf net (sets_at net s.labels)
   sets_fit = record {

@@ -1,6 +1,6 @@
 -- A phase that is found leads on: what making it needs, and what it comes to.
 use Rattle.std.proofs.Common.{◌≡◌, ℕ, suc, List, [], ◌∷◌, length, sym, ap, subst, refl, ◌∙◌}
-use Rattle.std.specs.Prelude.{Some, slice_get}
+use Rattle.std.specs.Prelude.{Bool, true, false, Some, slice_get, MatchBool}
 use Rattle.nf_rational.specs.Rational.{ℚ}
 use Rattle.nf_rational.specs.Operations.{0ℚ, ◌+ℚ◌}
 use Rattle.nf_rational.specs.Order.{◌<ℚ◌}
@@ -13,7 +13,7 @@ use Rattle.nf_model.specs.ThinFlow.{slacks_of, sets_at}
 use Rattle.nf_model.specs.Pattern.{Pattern}
 use Rattle.nf_model.specs.Equilibrium.{Equilibrium}
 use Rattle.nf_lists.specs.ReportCurves.{GrowingCurve, LinkCurves, label_curves_after, link_curves_after}
-use Rattle.nf_lists.specs.PhaseRun.{Standing, Goes, standing_after, flow_of}
+use Rattle.nf_lists.specs.PhaseRun.{Standing, Goes, flow_of}
 use Rattle.nf_lists.specs.Ends.{end_of, EndsAtLabels}
 use Rattle.nf_lists_laws.proofs.Ending.{PhaseParts, phase_parts}
 use Rattle.nf_phase_laws.proofs.Length.{IsPhaseLength-some}
@@ -23,9 +23,11 @@ use Rattle.nf_run_laws.proofs.StepValues.{steps-length}
 use Rattle.nf_run_laws.proofs.Run.{IsPhase-goes, Equilibrium-well}
 use Rattle.nf_run_laws.proofs.Standing.{label_count_at, source_label_at, ends_at}
 use Rattle.nf_run_laws.proofs.Moving.{inflow_moves, outflow_moves, queue_steps}
+use Rattle.nf_resume_lists.specs.Open.{Continues, Steps, continues, begins}
 use Rattle.nf_phase.specs.declared.phase.Phase.{Phase}
-use Rattle.nf_phase.specs.Stepping.{Reaches, goes_on, LeadsOnlyTo}
-use Rattle.nf_phase.specs.Finding.{step_in, LeadsOn}
+use Rattle.nf_phase.specs.Restarting.{after_rest}
+use Rattle.nf_phase.specs.Stepping.{Reaches, goes_on, keeps_on, LeadsOnlyTo}
+use Rattle.nf_phase.specs.Finding.{step_in, after_phase, LeadsOn}
 use Rattle.nf_phase.specs.LinkGrowth.{AllLinksEndBefore}
 use Rattle.nf_phase.proofs.Reached.{Stands, Stands-reached}
 
@@ -45,6 +47,20 @@ module _ (passes : Passing) (net : Network) (good : IsNetwork net) (s : Standing
       let is = IsPhase-goes passes net good (record { horizon = horizon; phases = 0; patterns = patterns }) s t g stands.well in
       record { is_phase = is; only = λ other is_other. sym (IsPhase-unique net horizon good (reached_by s) (reached_by t) other is is_other) }
 
+  -- ---- one phase more
+  pub reaches_step : (horizon : ℚ) (patterns : ℕ) (t : Standing) → Steps passes net horizon patterns s t → Reaches passes net t
+  reaches_step horizon patterns _ (continues c g) = keeps_on horizon patterns reaches c g
+  reaches_step horizon patterns t (begins c g) = goes_on horizon patterns reaches g
+
+  pub only_step : (horizon : ℚ) (patterns : ℕ) (t : Standing) → Steps passes net horizon patterns s t → LeadsOnlyTo net horizon (reached_by s) (reached_by t)
+  only_step horizon patterns _ (continues {t = t} c g) = only_phase horizon patterns t g
+  only_step horizon patterns t (begins c g) = only_phase horizon patterns t g
+
+-- one that goes on with none that was cut short is a phase of the run
+pub begin_step : (passes : Passing) (net : Network) (horizon : ℚ) (patterns : ℕ) (s t : Standing) → (Continues net s → ⊥) → Steps passes net horizon patterns s t → Goes passes net horizon patterns s t
+begin_step passes net horizon patterns s _ apart (continues c g) = absurd (apart c)
+begin_step passes net horizon patterns s t apart (begins c g) = g
+
 -- curves that are the same make the same standing
 pub same_standing : (s t : Standing) (label_curves : List GrowingCurve) (link_curves : List LinkCurves) → s ≡ t → label_curves ≡ s.label_curves → link_curves ≡ s.link_curves
     → record { time = s.time; labels = s.labels; label_curves = label_curves; link_curves = link_curves; made = s.made; last = s.last } ≡ t
@@ -54,13 +70,13 @@ same_standing s t label_curves link_curves e f g = (λ i. record { time = s.time
 module _ (passes : Passing) (net : Network) (good : IsNetwork net) (horizon : ℚ) (patterns : ℕ) (s : Standing) (reaches : Reaches passes net s) (phase : Phase)
     (leads : LeadsOn passes net horizon patterns s phase) where
   abbrev next : Standing
-  next = standing_after net s phase.pattern phase.slopes.items (step_in phase)
+  next = after_phase net s phase
 
   abbrev here : Stands net s
   here = Stands-reached passes net good s reaches
 
-  pub goes_next : Goes passes net horizon patterns s next
-  goes_next = record {
+  pub goes_made : (t : Standing) → t ≡ next → Goes passes net horizon patterns s t
+  goes_made t e = record {
     place = leads.place;
     pattern = phase.pattern;
     flows = leads.flows;
@@ -69,11 +85,15 @@ module _ (passes : Passing) (net : Network) (good : IsNetwork net) (horizon : �
     step = step_in phase;
     lists = leads.lists;
     is_length = leads.is_length;
-    new_is = refl;
+    new_is = e;
   }
 
+  pub steps_made : (rests : Bool) → MatchBool rests (Continues net s) (Continues net s → ⊥) → (t : Standing) → t ≡ after_rest rests net s phase → Steps passes net horizon patterns s t
+  steps_made true c t e = subst (Steps passes net horizon patterns s) (sym e) (continues c (goes_made next refl))
+  steps_made false c t e = begins c (goes_made t e)
+
   abbrev there : Stands net next
-  there = Stands-reached passes net good next (goes_on horizon patterns reaches goes_next)
+  there = Stands-reached passes net good next (goes_on horizon patterns reaches (goes_made next refl))
 
   some : 0ℚ <ℚ phase.length
   some = IsPhaseLength-some net (slacks_of (hops net) s.labels) phase.slopes.items s.time horizon phase.length leads.finds.below leads.is_length

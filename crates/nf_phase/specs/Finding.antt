@@ -1,29 +1,52 @@
 -- What a phase is found to be, before it is made.
-use Rattle.std.specs.Prelude.{◌≡◌, ℕ, List, Ok}
+use Rattle.std.specs.Prelude.{◌≡◌, ℕ, suc, List, Some, None, Ok, Err}
 use Rattle.nf_rational.specs.Rational.{ℚ}
 use Rattle.nf_work.specs.Passing.{Passing}
+use Rattle.nf_work.specs.Checked.{placed}
+use Rattle.nf_work.specs.declared.Part.TheVariants.{Slack}
+use Rattle.nf_work.specs.declared.Passed.{Passed}
+use Rattle.nf_work.specs.declared.PassedAt.{PassedAt}
 use Rattle.nf_model.specs.Network.{Network, hops}
 use Rattle.nf_model.specs.ThinFlow.{slacks_of, sets_at}
+use Rattle.nf_model.specs.Pattern.{Pattern}
 use Rattle.nf_model.specs.Phases.{IsPhaseLength}
-use Rattle.nf_lists.specs.Search.{Found}
-use Rattle.nf_lists.specs.PhaseRun.{Standing, PhaseStep, Seeks, phase_lists}
+use Rattle.nf_formats.specs.declared.Cause.{Cause}
+use Rattle.nf_lists.specs.Slack.{slack_list}
+use Rattle.nf_lists.specs.Search.{Answer, Found}
+use Rattle.nf_lists.specs.PhaseRun.{Standing, PhaseStep, Seeks, cause_of_search, phase_lists, standing_after}
+use Rattle.nf_forever_lists.specs.ForeverRun.{SeeksOn}
 use Rattle.nf_phase.specs.declared.finding.Found as code
 use Rattle.nf_phase.specs.declared.phase.Phase.{Phase}
 
 abbrev pub step_in : Phase → PhaseStep
 step_in phase = record { length = phase.length; labels = phase.labels.items; links = phase.steps.items }
 
-module _ (passes : Passing) (net : Network) (horizon : ℚ) (patterns : ℕ) (s : Standing) where
+-- where a run stands after a phase
+abbrev pub after_phase : Network → Standing → Phase → Standing
+after_phase net s phase = standing_after net s phase.pattern phase.slopes.items (step_in phase)
+
+-- ---- the search, which asks for no horizon
+module _ (passes : Passing) (net : Network) (patterns : ℕ) (s : Standing) where
   -- the slacks and their sets, and the thin flow that is found
   pub record IsFound (found : code.Found) : Type 0 where
     pub slacks : found.slacks.items ≡ slacks_of (hops net) s.labels
     pub sets : found.sets ≡ sets_at net s.labels
-    pub seeks : Seeks passes net horizon patterns s (Found found.thin.place found.thin.pattern found.thin.flows.items found.thin.labels.items)
+    pub seeks : SeeksOn passes net patterns s (Found found.thin.place found.thin.pattern found.thin.flows.items found.thin.labels.items)
 
-  -- the phase leads on from here, by the first accepted pattern
-  pub record LeadsOn (phase : Phase) : Type 0 where
-    pub place : ℕ
-    pub flows : List ℚ
-    pub finds : Seeks passes net horizon patterns s (Found place phase.pattern flows phase.slopes.items)
-    pub lists : phase_lists passes net horizon s phase.pattern flows phase.slopes.items ≡ Ok (step_in phase)
-    pub is_length : IsPhaseLength net (slacks_of (hops net) s.labels) phase.slopes.items s.time horizon phase.length
+  -- why there is none: an operation of the slack list passes, or no pattern is found
+  pub data FindsNone : Cause ℚ → Type 0 where
+    at_slack : (p : Passed ℚ) → slack_list passes (hops net) s.labels ≡ Err p → FindsNone (Cause.Passed (suc s.made) None (placed Slack p))
+    at_search : (answer : Answer) (cause : Cause ℚ) → SeeksOn passes net patterns s answer → cause_of_search (suc s.made) patterns answer ≡ Some cause → FindsNone cause
+
+-- ---- the lists of a phase
+-- an operation of theirs passes, this one first
+pub data ListsPass (passes : Passing) (net : Network) (horizon : ℚ) (s : Standing) (pattern : Pattern) (flows slopes : List ℚ) : Cause ℚ → Type 0 where
+  at_lists : (p : PassedAt ℚ) → phase_lists passes net horizon s pattern flows slopes ≡ Err p → ListsPass passes net horizon s pattern flows slopes (Cause.Passed (suc s.made) None p)
+
+-- the phase leads on from here, by the first accepted pattern
+pub record LeadsOn (passes : Passing) (net : Network) (horizon : ℚ) (patterns : ℕ) (s : Standing) (phase : Phase) : Type 0 where
+  pub place : ℕ
+  pub flows : List ℚ
+  pub finds : Seeks passes net horizon patterns s (Found place phase.pattern flows phase.slopes.items)
+  pub lists : phase_lists passes net horizon s phase.pattern flows phase.slopes.items ≡ Ok (step_in phase)
+  pub is_length : IsPhaseLength net (slacks_of (hops net) s.labels) phase.slopes.items s.time horizon phase.length

@@ -5,4 +5,5 @@ pub mod LinkGrowth
 pub mod Faults
 pub mod Stepping
 pub mod Finding
+pub mod Restarting
 pub mod Solution

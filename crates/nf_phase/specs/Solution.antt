@@ -7,7 +7,8 @@ use Rattle.nf_model.specs.Phases.{IsPhaseSequence}
 use Rattle.nf_model.specs.Equilibrium.{Equilibrium}
 use Rattle.nf_formats.specs.declared.Cause.{Cause}
 use Rattle.nf_formats.specs.Report.{Report, IsWellFormed}
-use Rattle.nf_lists.specs.PhaseRun.{Standing, Bounds, IsRunReport}
+use Rattle.nf_lists.specs.PhaseRun.{Standing, Bounds, IsRunReport, report_of}
+use Rattle.nf_resume_lists.specs.Open.{RunsOn}
 use Rattle.nf_run_laws.specs.RunLaws.{IsShortFlow, KeepsLabels, reached_by}
 use Rattle.nf_curve.specs.Flows.{flow_of}
 use Rattle.nf_thin.specs.declared.searches.SearchFault.TheVariants as SearchFault
@@ -50,4 +51,16 @@ pub record IsSolution (net : Network) (bounds : Bounds) (phases : ℕ) (report :
   pub made : run.last.made ≡ phases
   pub ends : EndsAll net bounds.horizon run.last
   pub labels : KeepsLabels net run.last
+  pub short : IsShortFlow net report.flow
+
+-- From where a run stood it went on to the horizon, or to the cause that stopped it, with so many phases since it was restored. The
+-- report describes a flow that is an equilibrium up to the time reached.
+pub record IsFinished (net : Network) (bounds : Bounds) (first : Standing) (phases : ℕ) (report : Report) : Type 0 where
+  pub last : Standing
+  pub stop : Option (Cause ℚ)
+  pub runs : RunsOn passes_Q net bounds first last stop
+  pub made : last.made ≡ phases
+  pub report_is : report ≡ report_of bounds.horizon last stop
+  pub well_formed : IsWellFormed net report
+  pub equilibrium : Equilibrium net report.flow
   pub short : IsShortFlow net report.flow

@@ -4,25 +4,44 @@ use Rattle.nf_rational.specs.Rational.{ℚ}
 use Rattle.nf_work.specs.Passing.{Passing}
 use Rattle.nf_model.specs.Network.{Network}
 use Rattle.nf_model.specs.Phases.{IsPhase}
-use Rattle.nf_formats.specs.declared.Cause.TheVariants as Cause
+use Rattle.nf_formats.specs.declared.Cause.{Cause}
 use Rattle.nf_lists.specs.PhaseRun.{Standing, IsStart, Goes, Fails}
+use Rattle.nf_resume_lists.specs.Open.{Continues, with_last}
+use Rattle.nf_forever_lists.specs.Tails.{Tail}
+use Rattle.nf_forever_lists.specs.ForeverRun.{FailsOn}
 use Rattle.nf_thin.specs.declared.searches.SearchFault.TheVariants as SearchFault
+use Rattle.nf_thin.specs.declared.searches.Thin.{Thin}
 use Rattle.nf_phase.specs.declared.fault.StepFault.{StepFault}
+use Rattle.nf_phase.specs.Restarting.{IsRestored}
 
--- a run begins at departure 0, and goes on phase by phase, each to a horizon and with a budget of patterns of its own
+-- A run begins at departure 0, or it is restored from a flow. It goes on phase by phase, each to a horizon and with a budget of
+-- patterns of its own; one that goes on with a phase cut short may keep the last pattern.
 pub data Reaches (passes : Passing) (net : Network) : Standing → Type 0 where
   starts : {s : Standing} → IsStart net s → Reaches passes net s
+  restored : {s : Standing} → IsRestored passes net s → Reaches passes net s
   goes_on : (horizon : ℚ) (patterns : ℕ) {s new : Standing} → Reaches passes net s → Goes passes net horizon patterns s new → Reaches passes net new
+  keeps_on : (horizon : ℚ) (patterns : ℕ) {s new : Standing} → Reaches passes net s → Continues net s → Goes passes net horizon patterns s new → Reaches passes net (with_last s.last new)
 
--- why the phase that begins here isn't made; wanting memory says nothing of it, and is never a search's
-module _ (passes : Passing) (net : Network) (horizon : ℚ) (patterns : ℕ) (s : Standing) where
-  abbrev pub IsCause : StepFault → Type 0
-  IsCause (StepFault.Search (SearchFault.Budget tried)) = Fails passes net horizon patterns s (Cause.Patterns (suc s.made) tried)
-  IsCause (StepFault.Search (SearchFault.Passed place at)) = Fails passes net horizon patterns s (Cause.Passed (suc s.made) (Some place) at)
-  IsCause (StepFault.Search SearchFault.NoPattern) = Fails passes net horizon patterns s (Cause.NoPattern (suc s.made))
-  IsCause (StepFault.Search SearchFault.Memory) = ⊥
-  IsCause (StepFault.Passed at) = Fails passes net horizon patterns s (Cause.Passed (suc s.made) None at)
-  IsCause StepFault.Memory = Unit {0}
+-- the cause for which a fault stands, where the phase of this number isn't made, is one of these; wanting memory says nothing, and is
+-- never a search's
+abbrev pub StandsFor : (Cause ℚ → Type 0) → ℕ → StepFault → Type 0
+StandsFor Causes phase (StepFault.Search (SearchFault.Budget tried)) = Causes (Cause.Patterns phase tried)
+StandsFor Causes phase (StepFault.Search (SearchFault.Passed place at)) = Causes (Cause.Passed phase (Some place) at)
+StandsFor Causes phase (StepFault.Search SearchFault.NoPattern) = Causes (Cause.NoPattern phase)
+StandsFor Causes phase (StepFault.Search SearchFault.Memory) = ⊥
+StandsFor Causes phase (StepFault.Passed at) = Causes (Cause.Passed phase None at)
+StandsFor Causes phase StepFault.Memory = Unit {0}
+
+-- why the phase that begins here isn't made: to a horizon, or for as long as it may last
+abbrev pub IsCause : Passing → Network → ℚ → ℕ → Standing → StepFault → Type 0
+IsCause passes net horizon patterns s = StandsFor (Fails passes net horizon patterns s) (suc s.made)
+
+abbrev pub IsCauseOn : Passing → Network → ℕ → Standing → StepFault → Type 0
+IsCauseOn passes net patterns s = StandsFor (FailsOn passes net patterns s) (suc s.made)
+
+-- how labels and flows go on by a thin flow
+abbrev pub tail_of : Thin → Tail
+tail_of thin = record { slopes = thin.labels.items; flows = thin.flows.items }
 
 -- one phase leads from a departure with its labels to this one with its own, and to no other
 pub record LeadsOnlyTo (net : Network) (horizon : ℚ) (old new : ℚ × List ℚ) : Type 0 where

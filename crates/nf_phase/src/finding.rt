@@ -1,7 +1,6 @@
 // The search of a phase: the thin flow by which the run goes on.
-ghost use Rattle.std.specs.Prelude.{◌≡◌, Ok, IfOk, OnOk, IfErr};
+ghost use Rattle.std.specs.Prelude.{◌≡◌, suc, Ok, IfOk, OnOk, IfErr};
 ghost use Rattle.nf_rational.specs.Rational.{ℚ};
-ghost use Rattle.nf_rational.specs.Order.{◌<ℚ◌};
 ghost use Rattle.nf_work.specs.Passing.{passes_Q};
 ghost use Rattle.nf_model.specs.Network.{hops as hops_of};
 ghost use Rattle.nf_model.specs.ThinFlow.{slacks_of, sets_at};
@@ -9,8 +8,8 @@ ghost use Rattle.nf_formats.specs.WellNamed.{IsNamed};
 ghost use Rattle.nf_lists.specs.PhaseRun.{IsSearchHere};
 ghost use Rattle.nf_lists.specs.Slack.{slack_list};
 ghost use Rattle.nf_thin.specs.Searching.{Searches};
-ghost use Rattle.nf_phase.specs.Stepping.{Reaches, IsCause};
-ghost use Rattle.nf_phase.specs.Finding.{IsFound};
+ghost use Rattle.nf_phase.specs.Stepping.{Reaches, StandsFor};
+ghost use Rattle.nf_phase.specs.Finding.{IsFound, FindsNone};
 
 use crate::fault::StepFault;
 use crate::run::Run;
@@ -32,19 +31,12 @@ pub(crate) struct Found {
 
 impl Run {
     // The slacks of the links.
-    fn slacks(
-        &self,
-        alloc: Global,
-        net: &Network,
-        horizon: Q,
-        patterns: u64,
-    ) -> Result<Vec<Q>, StepFault>
+    fn slacks(&self, alloc: Global, net: &Network, patterns: u64) -> Result<Vec<Q>, StepFault>
         requires reaches { Reaches passes_Q net.now.net self.now }
-        requires below { self.now.time <ℚ horizon }
         ensures named { IsNamed net.now }
         ensures slacks { IfOk result (λ slacks. slacks.items ≡ slacks_of (hops_of net.now.net) self.now.labels) }
         ensures list { OnOk result (slack_list passes_Q (hops_of net.now.net) self.now.labels ≡ Ok (slacks_of (hops_of net.now.net) self.now.labels)) }
-        ensures cause { IfErr result (IsCause passes_Q net.now.net horizon patterns self.now) }
+        ensures cause { IfErr result (StandsFor (FindsNone passes_Q net.now.net patterns self.now) (suc self.now.made)) }
     {
         let slacks = slacks(alloc, net.hops(), &self.labels)?;
         Ok(slacks)
@@ -71,16 +63,14 @@ impl Run {
         &self,
         alloc: Global,
         net: &Network,
-        horizon: Q,
         patterns: u64,
     ) -> Result<Found, StepFault>
         requires reaches { Reaches passes_Q net.now.net self.now }
-        requires below { self.now.time <ℚ horizon }
         ensures named { IsNamed net.now }
-        ensures found { IfOk result (IsFound passes_Q net.now.net horizon patterns self.now) }
-        ensures cause { IfErr result (IsCause passes_Q net.now.net horizon patterns self.now) }
+        ensures found { IfOk result (IsFound passes_Q net.now.net patterns self.now) }
+        ensures cause { IfErr result (StandsFor (FindsNone passes_Q net.now.net patterns self.now) (suc self.now.made)) }
     {
-        let slacks = self.slacks(alloc, net, horizon, patterns)?;
+        let slacks = self.slacks(alloc, net, patterns)?;
         let sets = sets(alloc, &slacks)?;
         let thin = self.thin(alloc, net, &sets, patterns)?;
         Ok(Found { slacks, sets, thin })

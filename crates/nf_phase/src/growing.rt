@@ -1,13 +1,19 @@
 // A curve that grows: its corners, and the end that still moves.
-ghost use Rattle.std.specs.Prelude.{◌≡◌, ◌<◌, ◌≤◌, IfOk, OnOk, IsSome};
+ghost use Rattle.std.specs.Prelude.{◌≡◌, ◌<◌, ◌≤◌, length, IfOk, OnOk, IsSome};
 ghost use Rattle.nf_rational.specs.Order.{◌<ℚ◌};
+ghost use Rattle.nf_work.specs.declared.Part.TheVariants.{Curve as CurvePart};
+ghost use Rattle.nf_work.specs.Passing.{passes_Q};
+ghost use Rattle.nf_work.specs.Checked.{at_part, Gives};
 ghost use Rattle.nf_lists.specs.Signs.{is_same as is_same_by, is_positive};
 ghost use Rattle.nf_lists.specs.Ends.{end_of};
 ghost use Rattle.nf_lists.specs.ReportCurves.{goes_on as goes_on_by, curve_with, queue_after, first_label_curve, first_queue as queue_at_start};
-ghost use Rattle.nf_phase.specs.Growing.{HasRoom, IsAfter, corners_by, end_value, step_of};
+ghost use Rattle.nf_resume_lists.specs.Restoring.{growing as growing_by};
+ghost use Rattle.nf_phase.specs.Growing.{HasRoom, IsAfter, corners_by, points_to, end_value, step_of};
 
+use crate::copies::{copy_of, first_points};
+use crate::last_slopes::last_slope;
 use nf_curve::Curve;
-use nf_frac::Q;
+use nf_frac::{Halt, Q};
 use std::alloc::{AllocError, Global};
 use std::marker::Model;
 
@@ -41,7 +47,7 @@ impl Model for GrowingCurve {
 }
 
 // Two numbers are equal.
-fn is_same(left: Q, right: Q) -> bool
+pub(crate) fn is_same(left: Q, right: Q) -> bool
     ensures { result ≡ is_same_by left right }
 {
     left.is_at_most(right) && right.is_at_most(left)
@@ -74,6 +80,18 @@ fn close_unless(goes: bool, corners: &mut Curve, end: Option<End>)
     }
 }
 
+// The corners, and then the end, if there is one.
+fn with_end(mut corners: Curve, end: Option<End>) -> Result<Curve, AllocError>
+    requires { IsAfter corners.points end }
+    ensures { IfOk result (λ c. c.points ≡ points_to corners.points end) }
+{
+    let Some(end) = end else {
+        return Ok(corners);
+    };
+    corners.push(end.time, end.value)?;
+    Ok(corners)
+}
+
 impl GrowingCurve {
     /// The curve of this one value, at time 0.
     pub(crate) fn start(alloc: Global, value: Q) -> Result<GrowingCurve, AllocError>
@@ -102,6 +120,40 @@ impl GrowingCurve {
             corners,
             end: Some(end),
         })
+    }
+
+    // A curve that came to its last point with this slope; None where it isn't known, or there is but one point.
+    pub(crate) fn ended(
+        alloc: Global,
+        curve: &Curve,
+        slope: Option<Q>,
+    ) -> Result<GrowingCurve, AllocError>
+        requires { IsSome slope → 2 ≤ length curve.now.points }
+        ensures points { IfOk result (λ c. c.grown.points ≡ curve.now.points) }
+        ensures slope { IfOk result (λ c. c.grown.slope ≡ slope) }
+    {
+        let Some(slope) = slope else {
+            let whole = copy_of(alloc, curve)?;
+            return Ok(GrowingCurve {
+                corners: whole,
+                end: None,
+            });
+        };
+        let count = curve.len();
+        let (time, value) = curve.point(count - 1);
+        let corners = first_points(alloc, curve, count - 1)?;
+        let end = Some(End { time, value, slope });
+        Ok(GrowingCurve { corners, end })
+    }
+
+    /// A curve that goes on where another one ends. Passed comes exactly at the first operation of its list that passes, and has part
+    /// Curve.
+    pub(crate) fn of(alloc: Global, curve: &Curve) -> Result<GrowingCurve, Halt<Q>>
+        ensures { Gives (λ c. c.grown) (λ q. q) result (at_part CurvePart (growing_by passes_Q curve.now.points)) }
+    {
+        let slope = last_slope(curve)?;
+        let grown = GrowingCurve::ended(alloc, curve, slope)?;
+        Ok(grown)
     }
 
     /// Afterwards there is room for one more corner. The curve stays, also where memory is wanting.
@@ -169,11 +221,15 @@ impl GrowingCurve {
     pub(crate) fn finish(self) -> Result<Curve, AllocError>
         ensures { IfOk result (λ c. c.points ≡ self.grown.points) }
     {
-        let GrowingCurve { mut corners, end } = self;
-        let Some(end) = end else {
-            return Ok(corners);
-        };
-        corners.push(end.time, end.value)?;
-        Ok(corners)
+        let GrowingCurve { corners, end } = self;
+        with_end(corners, end)
+    }
+
+    /// A copy of the curve as it is now.
+    pub(crate) fn copy(&self, alloc: Global) -> Result<Curve, AllocError>
+        ensures { IfOk result (λ c. c.points ≡ self.now.grown.points) }
+    {
+        let corners = copy_of(alloc, &self.corners)?;
+        with_end(corners, self.end)
     }
 }

@@ -1,6 +1,7 @@
 // How long a phase may last.
-ghost use Rattle.std.specs.Prelude.{◌≡◌, ◌≢◌, ◌<◌, length, true, MatchOption, IfOk};
+ghost use Rattle.std.specs.Prelude.{◌≡◌, ◌≢◌, ◌<◌, length, true, MatchOption, IfOk, IfSome};
 ghost use Rattle.nf_rational.specs.Operations.{0ℚ};
+ghost use Rattle.nf_rational.specs.Order.{◌<ℚ◌};
 ghost use Rattle.nf_work.specs.declared.Part.TheVariants.{Extend};
 ghost use Rattle.nf_work.specs.Passing.{passes_Q};
 ghost use Rattle.nf_work.specs.Checked.{at_part};
@@ -8,6 +9,7 @@ ghost use Rattle.nf_model.specs.Network.{Link as SeenLink, IsLink, ArePieces, ne
 ghost use Rattle.nf_model.specs.Phases.{IsExtension, IsUnending};
 ghost use Rattle.nf_lists.specs.Signs.{is_zero as is_zero_by, are_opposite as are_opposite_by};
 ghost use Rattle.nf_lists.specs.Extend.{lesser as lesser_of, to_zero as to_zero_by, after_link as after_link_by, least_after, until_change as until_change_by, extend_list};
+ghost use Rattle.nf_forever_lists.specs.ForeverRun.{end_after as end_after_by, end_list};
 ghost use Rattle.nf_phase.specs.Lengths.{after_all};
 
 use nf_frac::{Part, PassedAt, Q, at};
@@ -137,4 +139,36 @@ pub fn extension(
 {
     let least = after_links(net, slacks, slopes)?;
     until_change(least, time, next_change(net, time))
+}
+
+// The departure after so long a time, where there is an end to it.
+fn end_after(time: Q, length: Option<Q>) -> Result<Option<Q>, PassedAt<Q>>
+    ensures { result ≡ at_part Extend (end_after_by passes_Q time length) }
+{
+    match length {
+        None => Ok(None),
+        Some(length) => {
+            let end = at!(Part::Extend, time.sum(length));
+            Ok(Some(end))
+        }
+    }
+}
+
+/// The departure at which a phase ends that begins at this time, with these slacks of the links and slopes of the nodes, and lasts
+/// as long as it may. None exactly where no length is too long. Passed comes exactly at the first operation that passes of the
+/// extend list of a run without a horizon, and has part Extend. Takes no memory.
+#[tactic(auto, unfolding(nf_forever_lists::specs::ForeverRun::end_list))]
+pub(crate) fn end_of(
+    net: &Network,
+    slacks: &[Q],
+    slopes: &[Q],
+    time: Q,
+) -> Result<Option<Q>, PassedAt<Q>>
+    requires slacks { length slacks.now ≡ length net.now.net.links }
+    requires slopes { length slopes.now ≡ net.now.net.nodes }
+    ensures list { result ≡ at_part Extend (end_list passes_Q net.now.net slacks.now slopes.now time) }
+    ensures later { IfOk result (λ end. IfSome end (λ departure. time <ℚ departure)) }
+{
+    let length = extension(net, slacks, slopes, time)?;
+    end_after(time, length)
 }

@@ -3,19 +3,25 @@
 #![tactic(auto)]
 
 mod advance;
+mod copies;
 mod fault;
 mod finding;
 mod growing;
 mod growth;
+mod last_slopes;
 mod lengths;
 mod link_curves;
 mod link_growth;
 mod link_phase;
 mod link_steps;
+mod making;
+mod open_runs;
 mod phase;
+mod restoring;
 mod run;
 mod solution;
 mod solving;
+mod stops;
 mod traces;
 
 pub use fault::StepFault;
@@ -23,3 +29,4 @@ pub use lengths::extension;
 pub use run::Run;
 pub use solution::{Budgets, Solution};
 pub use solving::solve;
+pub use stops::{ended_by, stop_by};

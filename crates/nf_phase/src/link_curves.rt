@@ -1,16 +1,21 @@
 // The three curves of a link, as they grow.
 ghost use Rattle.std.specs.Prelude.{◌≡◌, ◌≤◌, IfOk, OnOk, IsSome};
 ghost use Rattle.nf_rational.specs.Order.{◌<ℚ◌};
+ghost use Rattle.nf_work.specs.declared.Part.TheVariants.{Curve as CurvePart};
+ghost use Rattle.nf_work.specs.Passing.{passes_Q};
+ghost use Rattle.nf_work.specs.Checked.{at_part, Gives};
+ghost use Rattle.nf_model.specs.Curve.{AreSlopes};
 ghost use Rattle.nf_curve.specs.Flows.{trace_of};
 ghost use Rattle.nf_lists.specs.Signs.{is_positive};
 ghost use Rattle.nf_lists.specs.Ends.{end_of};
 ghost use Rattle.nf_lists.specs.ReportCurves.{trace_after, queue_after, first_trace, first_queue, amount_so_far};
 ghost use Rattle.nf_phase.specs.Growing.{HasRoom, step_of};
+ghost use Rattle.nf_phase.specs.Restarting.{of_link};
 
 use crate::growing::GrowingCurve;
 use crate::traces::GrowingTrace;
 use nf_curve::{Curve, Trace};
-use nf_frac::Q;
+use nf_frac::{Halt, Q};
 use std::alloc::{AllocError, Global};
 use std::marker::Model;
 
@@ -53,6 +58,28 @@ impl LinkCurves {
         let inflow = GrowingTrace::first(alloc, tail_label)?;
         let outflow = GrowingTrace::first(alloc, head_label)?;
         let queue = GrowingCurve::first_queue(alloc, tail_label)?;
+        Ok(LinkCurves {
+            inflow,
+            outflow,
+            queue,
+        })
+    }
+
+    /// Those that go on where others end. Passed comes exactly at the first operation of the list of the queue that passes, and has part
+    /// Curve.
+    pub(crate) fn of(
+        alloc: Global,
+        inflow: &Trace,
+        outflow: &Trace,
+        queue: &Curve,
+    ) -> Result<LinkCurves, Halt<Q>>
+        requires inflow { AreSlopes (trace_of inflow.now).points (trace_of inflow.now).rates }
+        requires outflow { AreSlopes (trace_of outflow.now).points (trace_of outflow.now).rates }
+        ensures { Gives (λ c. c.grown) (λ q. q) result (at_part CurvePart (of_link passes_Q (trace_of inflow.now) (trace_of outflow.now) queue.now.points)) }
+    {
+        let inflow = GrowingTrace::of(alloc, inflow)?;
+        let outflow = GrowingTrace::of(alloc, outflow)?;
+        let queue = GrowingCurve::of(alloc, queue)?;
         Ok(LinkCurves {
             inflow,
             outflow,
@@ -113,5 +140,18 @@ impl LinkCurves {
             queue,
         } = self;
         Ok((inflow.finish()?, outflow.finish()?, queue.finish()?))
+    }
+
+    /// A copy of the curves as they are now: inflow, outflow, and queue.
+    pub(crate) fn copy(&self, alloc: Global) -> Result<(Trace, Trace, Curve), AllocError>
+        ensures inflow { IfOk result (λ c. trace_of c.0 ≡ self.now.grown.inflow) }
+        ensures outflow { IfOk result (λ c. trace_of c.1 ≡ self.now.grown.outflow) }
+        ensures queue { IfOk result (λ c. c.2.points ≡ self.now.grown.queue.points) }
+    {
+        Ok((
+            self.inflow.copy(alloc)?,
+            self.outflow.copy(alloc)?,
+            self.queue.copy(alloc)?,
+        ))
     }
 }

@@ -1,12 +1,19 @@
 // The curves of all links, as they grow.
 ghost use Rattle.std.specs.Prelude.{◌≡◌, ◌<◌, length, map, IfOk};
+ghost use Rattle.nf_work.specs.declared.Part.TheVariants.{Curve as CurvePart};
+ghost use Rattle.nf_work.specs.Passing.{passes_Q};
+ghost use Rattle.nf_work.specs.Checked.{at_part, Gives};
+ghost use Rattle.nf_model.specs.Equilibrium.{HasSlopes};
+ghost use Rattle.nf_curve.specs.Flows.{trace_of};
 ghost use Rattle.nf_lists.specs.ReportCurves.{amount_so_far, first_curves, curves_after, link_curves_after};
 ghost use Rattle.nf_phase.specs.Growing.{HasRoom, AllHaveRoom, all_grown};
 ghost use Rattle.nf_phase.specs.LinkGrowth.{LinkEndsBefore, AllLinksEndBefore};
+ghost use Rattle.nf_phase.specs.Restarting.{of_links};
 
 use crate::link_curves::LinkCurves;
 use crate::link_steps::LinkStep;
-use nf_frac::Q;
+use nf_curve::{Curve, Trace};
+use nf_frac::{Halt, Q};
 use nf_net::{Link, LinkId, Network};
 use std::alloc::{AllocError, Global};
 
@@ -45,6 +52,29 @@ pub(crate) fn first_links(
         let link = net.link(LinkId(e));
         let of_link = first_of(alloc, &link, labels)?;
         curves.push(of_link)?;
+    }
+    Ok(curves)
+}
+
+/// Those that go on where these end, link by link. Passed comes exactly at the first operation of the list of the queues that passes, and
+/// has part Curve.
+pub(crate) fn restore_links(
+    alloc: Global,
+    inflows: &[Trace],
+    outflows: &[Trace],
+    queues: &[Curve],
+) -> Result<Vec<LinkCurves>, Halt<Q>>
+    requires outflows { length outflows.now ≡ length inflows.now }
+    requires queues { length queues.now ≡ length inflows.now }
+    requires inflow_rates { HasSlopes (map trace_of inflows.now) }
+    requires outflow_rates { HasSlopes (map trace_of outflows.now) }
+    ensures { Gives (λ curves. all_grown curves.items) (λ q. q) result
+        (at_part CurvePart (of_links passes_Q (map trace_of inflows.now) (map trace_of outflows.now) (map (λ c. c.points) queues.now))) }
+{
+    let mut curves = Vec::new(alloc);
+    for e in 0..queues.len() {
+        let next = LinkCurves::of(alloc, &inflows[e], &outflows[e], &queues[e])?;
+        curves.push(next)?;
     }
     Ok(curves)
 }

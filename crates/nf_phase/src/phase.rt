@@ -1,11 +1,12 @@
 // One phase of a run, before it is made: how long it lasts, and how the labels and the links go on in it.
-ghost use Rattle.std.specs.Prelude.{◌≡◌, IfOk, IfErr, map};
+ghost use Rattle.std.specs.Prelude.{◌≡◌, suc, IfOk, IfErr, MatchBool, map};
 ghost use Rattle.nf_rational.specs.Order.{◌<ℚ◌};
 ghost use Rattle.nf_work.specs.Passing.{passes_Q};
 ghost use Rattle.nf_formats.specs.WellNamed.{IsNamed};
 ghost use Rattle.nf_lists.specs.ReportCurves.{amount_so_far};
-ghost use Rattle.nf_phase.specs.Stepping.{Reaches, IsCause};
-ghost use Rattle.nf_phase.specs.Finding.{IsFound, LeadsOn};
+ghost use Rattle.nf_resume_lists.specs.Open.{Continues};
+ghost use Rattle.nf_phase.specs.Stepping.{Reaches, StandsFor, IsCause};
+ghost use Rattle.nf_phase.specs.Finding.{IsFound, ListsPass, LeadsOn};
 
 use crate::advance::{Advanced, advance};
 use crate::fault::StepFault;
@@ -31,9 +32,16 @@ pub(crate) struct Phase {
     pub(crate) pattern: Pattern,
 }
 
+// A phase, and whether it is the rest of one that was cut short.
+#[derive(Drop)]
+pub(crate) struct NextPhase {
+    pub(crate) rests: bool,
+    pub(crate) phase: Phase,
+}
+
 impl Run {
     // The phase by a thin flow.
-    fn phase_by(
+    pub(crate) fn phase_by(
         &self,
         alloc: Global,
         net: &Network,
@@ -43,9 +51,11 @@ impl Run {
     ) -> Result<Phase, StepFault>
         requires reaches { Reaches passes_Q net.now.net self.now }
         requires named { IsNamed net.now }
-        requires found { IsFound passes_Q net.now.net horizon patterns self.now found }
+        requires below { self.now.time <ℚ horizon }
+        requires found { IsFound passes_Q net.now.net patterns self.now found }
         ensures leads { IfOk result (LeadsOn passes_Q net.now.net horizon patterns self.now) }
-        ensures cause { IfErr result (IsCause passes_Q net.now.net horizon patterns self.now) }
+        ensures slopes { IfOk result (λ phase. phase.slopes.items ≡ found.thin.labels.items) }
+        ensures cause { IfErr result (StandsFor (ListsPass passes_Q net.now.net horizon self.now found.thin.pattern found.thin.flows.items found.thin.labels.items) (suc self.now.made)) }
     {
         let Found { slacks, sets, thin } = found;
         let Thin {
@@ -77,21 +87,24 @@ impl Run {
         })
     }
 
-    // The phase that begins here.
+    // The phase that begins here, and whether it is the rest of one that was cut short.
     pub(crate) fn phase(
         &self,
         alloc: Global,
         net: &Network,
         horizon: Q,
         patterns: u64,
-    ) -> Result<Phase, StepFault>
+    ) -> Result<NextPhase, StepFault>
         requires reaches { Reaches passes_Q net.now.net self.now }
         requires below { self.now.time <ℚ horizon }
         ensures named { IsNamed net.now }
-        ensures leads { IfOk result (LeadsOn passes_Q net.now.net horizon patterns self.now) }
+        ensures rests { IfOk result (λ next. MatchBool next.rests (Continues net.now.net self.now) (Continues net.now.net self.now → ⊥)) }
+        ensures leads { IfOk result (λ next. LeadsOn passes_Q net.now.net horizon patterns self.now next.phase) }
         ensures cause { IfErr result (IsCause passes_Q net.now.net horizon patterns self.now) }
     {
-        let found = self.find(alloc, net, horizon, patterns)?;
-        self.phase_by(alloc, net, horizon, patterns, found)
+        let found = self.find(alloc, net, patterns)?;
+        let rests = self.continues(net, &found.slacks);
+        let phase = self.phase_by(alloc, net, horizon, patterns, found)?;
+        Ok(NextPhase { rests, phase })
     }
 }

@@ -1,22 +1,29 @@
 // Runs: a flow over time that goes on phase by phase.
-ghost use Rattle.std.specs.Prelude.{◌≡◌, ◌<◌, ◌^◌, ◌-◌, length, IfOk, OnOk, OnErr, IfErr};
+ghost use Rattle.std.specs.Prelude.{◌≡◌, ◌<◌, ◌^◌, ◌-◌, MatchOption, IsSome, IfOk, OnOk, OnErr, IfErr};
 ghost use Rattle.nf_rational.specs.Order.{◌<ℚ◌};
 ghost use Rattle.nf_work.specs.Passing.{passes_Q};
-ghost use Rattle.nf_model.specs.Entries.{number_at};
 ghost use Rattle.nf_model.specs.Equilibrium.{Equilibrium};
 ghost use Rattle.nf_lists.specs.PhaseRun.{IsStart, Goes, flow_of};
 ghost use Rattle.nf_lists.specs.Ends.{EndsAtLabels};
+ghost use Rattle.nf_resume_lists.specs.Open.{Continues, Steps};
+ghost use Rattle.nf_forever_lists.specs.ForeverRun.{GoesToEnd, GoesForever};
 ghost use Rattle.nf_run_laws.specs.RunLaws.{IsShortFlow, KeepsLabels, reached_by};
-ghost use Rattle.nf_phase.specs.Stepping.{Reaches, IsCause, LeadsOnlyTo};
+ghost use Rattle.nf_curve.specs.Flows.{flow_of as flow_in};
+ghost use Rattle.nf_phase.specs.Stepping.{Reaches, IsCause, IsCauseOn, LeadsOnlyTo, tail_of};
 
 use crate::fault::StepFault;
+use crate::finding::Found;
 use crate::growing::GrowingCurve;
-use crate::growth::{first_labels, labels_go_on, reserve_labels, reserve_links};
+use crate::growth::{copy_labels, copy_links, first_labels};
+use crate::lengths::end_of;
 use crate::link_curves::LinkCurves;
-use crate::link_growth::{first_links, links_go_on};
+use crate::link_growth::first_links;
+use crate::phase::NextPhase;
+use nf_curve::Flow;
 use nf_frac::Q;
 use nf_net::{Network, start_labels};
 use nf_pattern::Pattern;
+use nf_thin::Thin;
 use std::alloc::{AllocError, Global};
 use std::marker::Model;
 
@@ -51,14 +58,6 @@ impl Model for Run {
     } };
 }
 
-// The label of the source is the departure.
-fn departure_in(net: &Network, labels: &[Q]) -> Q
-    requires { length labels.now ≡ net.now.net.nodes }
-    ensures { result ≡ number_at labels.now net.now.net.source }
-{
-    labels[net.source().index()]
-}
-
 impl Run {
     /// The run before its first phase: at departure 0, with the least transit sums from the source as labels.
     pub fn start(alloc: Global, net: &Network) -> Result<Run, AllocError>
@@ -86,7 +85,8 @@ impl Run {
     }
 
     /// One phase more, as long as it may last, but to the horizon at most: by the first accepted pattern, of so many at most. Its
-    /// curves, up to the departure that is reached, stay an equilibrium. It is refused exactly where the phase can't be made, by
+    /// curves, up to the departure that is reached, stay an equilibrium. Where it is the first since the run was restored, and goes on
+    /// with a phase that was cut short, the last pattern stays. It is refused exactly where the phase can't be made, by
     /// the first cause for that, or where memory is wanting; then the run is as it was.
     pub fn step(
         &mut self,
@@ -98,7 +98,8 @@ impl Run {
         requires reaches { Reaches passes_Q net.now.net self.old }
         requires below { self.old.time <ℚ horizon }
         requires more { self.old.made < 2 ^ 64 - 1 }
-        ensures goes { OnOk result (Goes passes_Q net.now.net horizon patterns self.old self.new) }
+        ensures goes { OnOk result (Steps passes_Q net.now.net horizon patterns self.old self.new) }
+        ensures begins { (Continues net.now.net self.old → ⊥) → OnOk result (Goes passes_Q net.now.net horizon patterns self.old self.new) }
         ensures only { OnOk result (LeadsOnlyTo net.now.net horizon (reached_by self.old) (reached_by self.new)) }
         ensures reaches { Reaches passes_Q net.now.net self.new }
         ensures equilibrium { Equilibrium net.now.net (flow_of self.new) }
@@ -108,22 +109,42 @@ impl Run {
         ensures kept { OnErr result (self.new ≡ self.old) }
         ensures cause { IfErr result (IsCause passes_Q net.now.net horizon patterns self.old) }
     {
-        let phase = self.phase(alloc, net, horizon, patterns)?;
-        reserve_labels(&mut self.label_curves)?;
-        reserve_links(&mut self.link_curves)?;
-        let reached = departure_in(net, &phase.labels);
-        labels_go_on(
-            &mut self.label_curves,
-            reached,
-            &phase.labels,
-            &phase.slopes,
-        );
-        links_go_on(&mut self.link_curves, net, &phase.labels, &phase.steps);
-        self.reached = reached;
-        self.labels = phase.labels;
-        self.last = phase.pattern;
-        self.made += 1;
+        let next = self.phase(alloc, net, horizon, patterns)?;
+        let NextPhase { rests, phase } = next;
+        self.go_on_by(alloc, net, horizon, patterns, rests, phase)?;
         Ok(())
+    }
+
+    /// One phase more, for as long as it may last: by the first accepted pattern, of so many at most. Where it may last for any
+    /// length no phase is made, and its thin flow is answered: by that the flow goes on from here. It is refused exactly where there
+    /// is no such phase, or it can't be made, by the first cause for that, or where memory is wanting. Where no phase is made the run
+    /// is as it was.
+    pub fn step_to_end(
+        &mut self,
+        alloc: Global,
+        net: &Network,
+        patterns: u64,
+    ) -> Result<Option<Thin>, StepFault>
+        requires reaches { Reaches passes_Q net.now.net self.old }
+        requires more { self.old.made < 2 ^ 64 - 1 }
+        ensures phase { IfOk result (λ tail. MatchOption tail (GoesToEnd passes_Q net.now.net patterns self.old self.new) (λ thin. GoesForever passes_Q net.now.net patterns self.old thin.pattern (tail_of thin))) }
+        ensures stays { IfOk result (λ tail. IsSome tail → self.new ≡ self.old) }
+        ensures reaches { Reaches passes_Q net.now.net self.new }
+        ensures kept { OnErr result (self.new ≡ self.old) }
+        ensures cause { IfErr result (IsCauseOn passes_Q net.now.net patterns self.old) }
+    {
+        let found = self.find(alloc, net, patterns)?;
+        let Some(end) = end_of(net, &found.slacks, &found.thin.labels, self.reached)? else {
+            let Found {
+                slacks: _,
+                sets: _,
+                thin,
+            } = found;
+            return Ok(Some(thin));
+        };
+        let phase = self.phase_by(alloc, net, end, patterns, found)?;
+        self.make(net, end, patterns, phase)?;
+        Ok(None)
     }
 
     /// The departure that the run has reached.
@@ -145,5 +166,21 @@ impl Run {
         ensures { result.now ≡ self.now.labels }
     {
         &self.labels
+    }
+
+    /// The states of the links in the last phase that was made; none where no phase was.
+    pub fn last(&self) -> &Pattern
+        ensures { result.now ≡ self.now.last }
+    {
+        &self.last
+    }
+
+    /// The flow up to the departure reached. The run stays as it is, and may go on.
+    pub fn flow(&self, alloc: Global) -> Result<Flow, AllocError>
+        ensures { IfOk result (λ flow. flow_in flow ≡ flow_of self.now) }
+    {
+        let labels = copy_labels(alloc, &self.label_curves)?;
+        let links = copy_links(alloc, &self.link_curves)?;
+        Ok(links.flow(self.reached, labels))
     }
 }

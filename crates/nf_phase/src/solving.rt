@@ -1,54 +1,23 @@
 // Solving to a horizon: a run, phase by phase, until it ends.
-ghost use Rattle.std.specs.Prelude.{◌≡◌, IfOk, IsSome, MatchBool};
+ghost use Rattle.std.specs.Prelude.{◌≡◌, IfOk, MatchBool};
 ghost use Rattle.nf_rational.specs.Operations.{0ℚ};
 ghost use Rattle.nf_rational.specs.Order.{◌≤ℚ◌, ◌<ℚ◌, lt_ℚ};
 ghost use Rattle.nf_work.specs.Passing.{passes_Q};
-ghost use Rattle.nf_lists.specs.PhaseRun.{IsStart, IsPhaseRun, flow_of};
+ghost use Rattle.nf_formats.specs.WellNamed.{IsNamed};
+ghost use Rattle.nf_lists.specs.PhaseRun.{flow_of};
+ghost use Rattle.nf_resume_lists.specs.Open.{RunsOn};
 ghost use Rattle.nf_curve.specs.Flows.{flow_of as flow_in};
-ghost use Rattle.nf_phase.specs.Solution.{IsSolution, bounds_of, report_in, cause_of, stop_after};
+ghost use Rattle.nf_phase.specs.Stepping.{Reaches};
+ghost use Rattle.nf_phase.specs.Solution.{IsSolution, IsFinished, bounds_of, report_in, stop_after};
 
-use crate::fault::StepFault;
 use crate::growth::{finish_labels, finish_links};
 use crate::run::Run;
 use crate::solution::{Budgets, Solution};
-use nf_curve::{Flow, Stop};
+use crate::stops::ended_by;
+use nf_curve::Stop;
 use nf_frac::Q;
 use nf_net::Network;
-use nf_thin::SearchFault;
 use std::alloc::{AllocError, Global};
-
-// Why a run stops where the phase of this number isn't made; None where memory is wanting.
-fn stop_by(phase: u64, fault: StepFault) -> Option<Stop>
-    ensures { result ≡ cause_of phase fault }
-{
-    match fault {
-        StepFault::Search(SearchFault::Budget { tried }) => Some(Stop::Patterns { phase, tried }),
-        StepFault::Search(SearchFault::Passed { place, at }) => Some(Stop::Passed {
-            phase,
-            place: Some(place),
-            at,
-        }),
-        StepFault::Search(SearchFault::NoPattern) => Some(Stop::NoPattern { phase }),
-        StepFault::Search(SearchFault::Memory) => None,
-        StepFault::Passed(at) => Some(Stop::Passed {
-            phase,
-            place: None,
-            at,
-        }),
-        StepFault::Memory => None,
-    }
-}
-
-// The run ends where the phase of this number isn't made.
-fn ended_by(phase: u64, fault: StepFault) -> Result<Option<Stop>, AllocError>
-    ensures cause { IfOk result (λ stop. stop ≡ cause_of phase fault) }
-    ensures some { IfOk result IsSome }
-{
-    match stop_by(phase, fault) {
-        Some(stop) => Ok(Some(stop)),
-        None => Err(AllocError),
-    }
-}
 
 impl Run {
     // The run has reached the horizon.
@@ -77,9 +46,11 @@ impl Run {
         horizon: Q,
         budgets: Budgets,
     ) -> Result<Option<Stop>, AllocError>
-        requires starts { IsStart net.now.net self.old }
-        requires horizon { 0ℚ ≤ℚ horizon }
-        ensures { IfOk result (IsPhaseRun passes_Q net.now.net (bounds_of horizon budgets) self.new) }
+        requires reaches { Reaches passes_Q net.now.net self.old }
+        requires named { IsNamed net.now }
+        requires fresh { self.old.made ≡ 0 }
+        requires horizon { self.old.time ≤ℚ horizon }
+        ensures { IfOk result (RunsOn passes_Q net.now.net (bounds_of horizon budgets) self.old self.new) }
     {
         for _ in 0..budgets.phases {
             if self.is_at(horizon) {
@@ -109,19 +80,34 @@ impl Run {
         } = self;
         let labels = finish_labels(alloc, label_curves)?;
         let links = finish_links(alloc, link_curves)?;
-        let flow = Flow {
-            reached,
-            labels,
-            inflows: links.inflows,
-            outflows: links.outflows,
-            queues: links.queues,
-        };
         Ok(Solution {
-            flow,
+            flow: links.flow(reached, labels),
             phases: made,
             last,
             stopped,
         })
+    }
+
+    /// The run goes on phase by phase from where it stands, each by the first accepted pattern, until the horizon is reached, as many
+    /// phases as allowed were made, or one can't be made. No phase was made yet, since departure 0 or since the run was restored, and
+    /// the horizon isn't before the departure reached. The flow up to there is an equilibrium.
+    pub fn finish(
+        self,
+        alloc: Global,
+        net: &Network,
+        horizon: Q,
+        budgets: Budgets,
+    ) -> Result<Solution, AllocError>
+        requires reaches { Reaches passes_Q net.now.net self }
+        requires fresh { self.made ≡ 0 }
+        requires horizon { self.time ≤ℚ horizon }
+        ensures { IfOk result (λ s. IsFinished net.now.net (bounds_of horizon budgets) self s.phases (report_in horizon s)) }
+    {
+        // For the proof: the network is that of an accepted file.
+        let _ = net.version();
+        let mut run = self;
+        let stopped = run.go(alloc, net, horizon, budgets)?;
+        run.solution(alloc, stopped)
     }
 }
 
@@ -139,7 +125,6 @@ pub fn solve(
 {
     // For the proof: the network is that of an accepted file.
     let _ = net.version();
-    let mut run = Run::start(alloc, net)?;
-    let stopped = run.go(alloc, net, horizon, budgets)?;
-    run.solution(alloc, stopped)
+    let run = Run::start(alloc, net)?;
+    run.finish(alloc, net, horizon, budgets)
 }

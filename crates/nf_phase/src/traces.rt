@@ -2,6 +2,7 @@
 ghost use Rattle.std.specs.Prelude.{◌≡◌, ◌<◌, ◌≤◌, ◌++◌, IfOk, OnOk, IsSome, vec_len, vec_capacity};
 ghost use Rattle.std.specs.Option.{option_to_list};
 ghost use Rattle.nf_rational.specs.Order.{◌<ℚ◌};
+ghost use Rattle.nf_model.specs.Curve.{AreSlopes};
 ghost use Rattle.nf_curve.specs.Flows.{trace_of};
 ghost use Rattle.nf_lists.specs.Signs.{is_positive};
 ghost use Rattle.nf_lists.specs.Ends.{end_of};
@@ -78,6 +79,17 @@ impl GrowingTrace {
         })
     }
 
+    /// A trace that goes on where another one ends.
+    pub(crate) fn of(alloc: Global, trace: &Trace) -> Result<GrowingTrace, AllocError>
+        requires { AreSlopes (trace_of trace.now).points (trace_of trace.now).rates }
+        ensures { IfOk result (λ t. t.grown ≡ trace_of trace.now) }
+    {
+        let mut rates = trace.rates.as_slice().to_vec(alloc)?;
+        let last = rates.pop();
+        let curve = GrowingCurve::ended(alloc, &trace.curve, last)?;
+        Ok(GrowingTrace { curve, rates })
+    }
+
     /// Afterwards there is room for one more corner. The trace stays, also where memory is wanting.
     pub(crate) fn reserve(&mut self) -> Result<(), AllocError>
         ensures same { self.new.grown ≡ self.old.grown }
@@ -125,6 +137,16 @@ impl GrowingTrace {
         let GrowingTrace { curve, rates } = self;
         let rates = with_last(rates, curve.slope())?;
         let curve = curve.finish()?;
+        Ok(Trace { curve, rates })
+    }
+
+    /// A copy of the trace as it is now.
+    pub(crate) fn copy(&self, alloc: Global) -> Result<Trace, AllocError>
+        ensures { IfOk result (λ t. trace_of t ≡ self.now.grown) }
+    {
+        let rates = self.rates.as_slice().to_vec(alloc)?;
+        let rates = with_last(rates, self.curve.slope())?;
+        let curve = self.curve.copy(alloc)?;
         Ok(Trace { curve, rates })
     }
 }

@@ -53,8 +53,8 @@ fn state_text(state: State) -> &'static [u8]
     }
 }
 
-/// The line of a number.
-pub(crate) fn put_number<O: Sink>(
+/// Puts the line of a number on the page, behind a first word.
+pub fn put_number<O: Sink>(
     out: &mut O,
     page: &mut Page,
     key: &[u8],
@@ -210,8 +210,8 @@ pub fn write_stop<O: Sink>(out: &mut O, key: &[u8], stop: &Stop) -> Result<(), S
     write_text(out, page.as_slice())
 }
 
-/// The line of the cause: `done` where there is no stop.
-pub(crate) fn put_cause<O: Sink>(
+/// Puts the line of the cause for which a run stopped on the page: `done` where there is no stop.
+pub fn put_cause<O: Sink>(
     out: &mut O,
     page: &mut Page,
     stop: Option<&Stop>,

@@ -25,8 +25,9 @@ fn put_words<O: Sink>(out: &mut O, page: &mut Page, words: &[&[u8]]) -> Result<(
     Ok(())
 }
 
-/// Puts the line of these words on the page.
-pub(crate) fn put_line<O: Sink>(
+/// Puts the line of these words on the page. Where the sink fails, it has taken the first bytes of the page and the line. It takes no
+/// memory, nor does any other call that puts lines.
+pub fn put_line<O: Sink>(
     out: &mut O,
     page: &mut Page,
     first: &[u8],

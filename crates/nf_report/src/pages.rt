@@ -7,7 +7,7 @@ use arrayvec::ArrayVec;
 use nf_edge::{Sink, SinkFault, write_text};
 
 /// The bytes that wait to be written, of which 4096 fit.
-pub(crate) type Page = ArrayVec<u8, 4096>;
+pub type Page = ArrayVec<u8, 4096>;
 
 // Writes the page, which is empty then.
 fn write_page<O: Sink>(out: &mut O, page: &mut Page) -> Result<(), SinkFault>

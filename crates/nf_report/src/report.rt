@@ -41,8 +41,8 @@ fn put_label<O: Sink>(
     put_curve(out, page, b"label", name, label)
 }
 
-/// The labels of all nodes.
-pub(crate) fn put_labels<O: Sink>(
+/// Puts the lines of the labels of all nodes on the page: a flow has a label curve for each.
+pub fn put_labels<O: Sink>(
     out: &mut O,
     page: &mut Page,
     net: &Network,
@@ -80,8 +80,8 @@ fn put_curves<O: Sink>(
     put_link(out, page, name, inflow, outflow, queue)
 }
 
-/// The curves of all links.
-pub(crate) fn put_links<O: Sink>(
+/// Puts the lines of the curves of all links on the page: a flow has an inflow, an outflow and a queue for each.
+pub fn put_links<O: Sink>(
     out: &mut O,
     page: &mut Page,
     net: &Network,
@@ -117,8 +117,8 @@ fn put_state_of<O: Sink>(
     put_state(out, page, name, state)
 }
 
-/// The states of all links.
-pub(crate) fn put_states<O: Sink>(
+/// Puts the lines of the states of all links in a phase on the page, of those that have one: a pattern has an entry for each.
+pub fn put_states<O: Sink>(
     out: &mut O,
     page: &mut Page,
     net: &Network,
@@ -149,12 +149,8 @@ fn put_never<O: Sink>(
     put_line(out, page, b"never", &[name])
 }
 
-/// The idle nodes.
-pub(crate) fn put_idle<O: Sink>(
-    out: &mut O,
-    page: &mut Page,
-    net: &Network,
-) -> Result<(), SinkFault>
+/// Puts the lines of the idle nodes of a network on the page.
+pub fn put_idle<O: Sink>(out: &mut O, page: &mut Page, net: &Network) -> Result<(), SinkFault>
     ensures { GatheredLines (O.took out.old) (O.took out.new) (O.faults out.old) (O.faults out.new) page.old.items page.new.items
         (never_lines net.now.idle_nodes) result }
 {

@@ -10,3 +10,4 @@ pub mod Settled
 pub mod LegByLeg
 pub mod Rounding
 pub mod Finishing
+pub mod Signs

@@ -189,6 +189,35 @@ module _ (passes : Passing) (legs : List Leg) (fresh : ℕ) (old : List Twig) (b
             by_case j other at (inl h) = by_number j other at (lt_or_ge j k) h
             by_case j other at (inr o) = earlier j other at (inr o)
 
+        -- after the way to where the leg begins
+        after_way : (o : Option ℕ) → place_at before leg.begin ≡ o
+            → along_leg passes (known_by tree before) (known_by tree places) leg ≡ along passes true (option_map (way_at tree) o) leg.step leg.transit leg.end (known_by tree places)
+        after_way o at =
+            ap (λ (r : Option Reach). along passes true r leg.step leg.transit leg.end (known_by tree places)) (known_at-by tree before leg.begin ∙ ap (λ (p : Option ℕ). option_map (way_at tree) p) at)
+
+        module _ (way : ℕ) (at : place_at before leg.begin ≡ Some way) where
+          abbrev offers : Checked Known
+          offers = along passes true (Some (way_at tree way)) leg.step leg.transit leg.end (known_by tree places)
+
+          pub way_within : way < length tree
+          way_within = within_more old tree before places on.grows within leg.begin way at
+
+          pub offer_stops : (h : Halt ℚ) → Stops (λ (q : ℚ). q) h (at_part Part.Quick offers)
+              → Stops (λ (q : ℚ). q) h (at_part Part.Quick (fold_checked (along_leg passes (known_by old before)) (known_by old before) legs))
+          offer_stops h s = round_stops h (stops_as _ _ h (after_way (Some way) at) s)
+
+          pub offer_more : AreLegs (length before) legs → (new : List Twig) (next : Places) → at_part Part.Quick offers ≡ Ok (known_by new next)
+              → Grows tree new places next → RoundOn passes legs fresh old before new next (k + 1)
+          offer_more ends new next came grows = round_more ends new next (ap (at_part Part.Quick) (after_way (Some way) at) ∙ came) grows
+
+        -- where that isn't fresh
+        pub old_more : AreLegs (length before) legs → ((way : ℕ) → place_at before leg.begin ≡ Some way → way < fresh) → RoundOn passes legs fresh old before tree places (k + 1)
+        old_more ends h = round_more ends tree places (ap (at_part Part.Quick) (nothing (place_at before leg.begin) refl)) (nothing_grows tree places)
+          where
+            nothing : (o : Option ℕ) → place_at before leg.begin ≡ o → along_leg passes (known_by tree before) (known_by tree places) leg ≡ Ok (known_by tree places)
+            nothing None at = after_way None at
+            nothing (Some way) at = leg_settled good within way at (h way at)
+
 -- ---- round by round: what is left to be done gives what all rounds give
 pub record RoundsOn (passes : Passing) (net : Network) (flows : List ℚ) (from : ℕ) (known : Known) (k : ℕ) : Type 0 where
   pub same : rounds_list passes (net.nodes - k) net.links flows known ≡ reaches_list passes net flows from

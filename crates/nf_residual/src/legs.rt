@@ -24,12 +24,12 @@ fn add_leg(
     legs: &mut Vec<Leg>,
     number: LinkId,
     forward: bool,
-    link: Link,
-    flow: Q,
+    link: &Link,
+    flow: &Q,
 ) -> Result<(), AllocError>
-    ensures { OnOk result (legs.new.items ≡ legs.old.items ++ leg_of forward number link flow) }
+    ensures { OnOk result (legs.new.items ≡ legs.old.items ++ leg_of forward number link.now flow.now) }
 {
-    if can_go(forward, link.capacity, flow) {
+    if can_go(forward, &link.capacity, flow) {
         legs.push(Leg {
             step: Step {
                 link: number,
@@ -55,8 +55,8 @@ pub(crate) fn legs_of(alloc: Global, net: &Network, flows: &[Q]) -> Result<Vec<L
         let number = LinkId(e);
         let link = net.link(number);
         let flow = flow_at(flows, number);
-        add_leg(&mut legs, number, true, link, flow)?;
-        add_leg(&mut legs, number, false, link, flow)?;
+        add_leg(&mut legs, number, true, &link, &flow)?;
+        add_leg(&mut legs, number, false, &link, &flow)?;
     }
     Ok(legs)
 }

@@ -1,6 +1,6 @@
 // Rounds: in each of them every residual step from a node that was reached before it offers a way to its end. A way that was offered
 // in the round before is offered again in vain; so a round goes out only from nodes whose way is new.
-ghost use Rattle.std.specs.Prelude.{◌≡◌, ℕ, ◌<◌, ◌≤◌, length, set, true, Ok, Some, None, IfOk, OnOk};
+ghost use Rattle.std.specs.Prelude.{◌≡◌, ℕ, ◌<◌, ◌≤◌, length, set, true, Some, None, IfOk, IfSome, OnOk};
 ghost use Rattle.nf_work.specs.declared.Part.TheVariants.{Quick};
 ghost use Rattle.nf_work.specs.Passing.{passes_Q};
 ghost use Rattle.nf_work.specs.Checked.{at_part, fold_checked, Gives};
@@ -47,27 +47,15 @@ fn offer(
     Ok(())
 }
 
-// What a leg offers, if the way to its beginning is one of the fresh ones, which have this number or a greater one.
-fn along(
-    leg: &Leg,
-    fresh: usize,
-    before: &[Option<usize>],
-    ways: &mut Ways,
-    places: &mut Vec<Option<usize>>,
-) -> Result<(), Halt<Q>>
-    requires begin { leg.now.begin < length before.now }
-    requires end { leg.now.end < length places.old.items }
-    requires before { AreWithin (length ways.old) before.now }
-    requires within { AreWithin (length ways.old) places.old.items }
-    requires settled { (way : ℕ) → place_at before.now leg.now.begin ≡ Some way → way < fresh
-        → along_leg passes_Q (known_by ways.old before.now) (known_by ways.old places.old.items) leg.now ≡ Ok (known_by ways.old places.old.items) }
-    ensures list { Gives (λ _. known_by ways.new places.new.items) (λ q. q) result
-        (at_part Quick (along_leg passes_Q (known_by ways.old before.now) (known_by ways.old places.old.items) leg.now)) }
-    ensures grows { OnOk result (Grows ways.old ways.new places.old.items places.new.items) }
+// The way to where a leg begins, if it is one of the fresh ones, which have this number or a greater one.
+fn fresh_way(leg: &Leg, fresh: usize, before: &[Option<usize>]) -> Option<usize>
+    requires { leg.now.begin < length before.now }
+    ensures way { IfSome result (λ way. place_at before.now leg.now.begin ≡ Some way) }
+    ensures old { result ≡ None → (way : ℕ) → place_at before.now leg.now.begin ≡ Some way → way < fresh }
 {
     match place_of(before, leg.begin.index()) {
-        Some(way) if way >= fresh => offer(way, leg, ways, places),
-        _ => Ok(()),
+        Some(way) if way >= fresh => Some(way),
+        _ => None,
     }
 }
 
@@ -90,7 +78,9 @@ fn round(
     ensures settled { OnOk result (AreSettled passes_Q legs.now (length ways.old) ways.new places.new.items) }
 {
     for leg in legs {
-        along(leg, fresh, before, ways, places)?;
+        if let Some(way) = fresh_way(leg, fresh, before) {
+            offer(way, leg, ways, places)?;
+        }
     }
     Ok(())
 }

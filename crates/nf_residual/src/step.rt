@@ -1,5 +1,7 @@
 // Steps along links, and back along them.
 ghost use Rattle.std.specs.Prelude.{◌≡◌};
+ghost use Rattle.nf_rational.specs.Operations.{0ℚ};
+ghost use Rattle.nf_rational.specs.Order.{lt_ℚ};
 ghost use Rattle.nf_work.specs.declared.Part.TheVariants.{Quick};
 ghost use Rattle.nf_work.specs.Passing.{passes_Q};
 ghost use Rattle.nf_work.specs.Checked.{checked_at};
@@ -63,28 +65,37 @@ pub(crate) fn changed(forward: bool, number: Q, change: Q) -> Result<Q, PassedAt
 }
 
 // Where a step along this link, or back along it, begins.
-pub(crate) fn begin_of(forward: bool, link: Link) -> NodeId
-    ensures { result ≡ begin_by forward link }
+pub(crate) fn begin_of(forward: bool, link: &Link) -> NodeId
+    ensures { result ≡ begin_by forward link.now }
 {
     if forward { link.tail } else { link.head }
 }
 
 // And where it ends.
-pub(crate) fn end_of(forward: bool, link: Link) -> NodeId
-    ensures { result ≡ end_by forward link }
+pub(crate) fn end_of(forward: bool, link: &Link) -> NodeId
+    ensures { result ≡ end_by forward link.now }
 {
     if forward { link.head } else { link.tail }
 }
 
+// The flow is above 0.
+#[tactic(auto, using(crate::proofs::Signs::above_zero))]
+fn is_some(flow: &Q) -> bool
+    ensures { result ≡ lt_ℚ 0ℚ flow.now }
+{
+    0 < flow.numer()
+}
+
 // It can be gone, with this flow on the link.
-pub(crate) fn can_go(forward: bool, capacity: Option<Q>, flow: Q) -> bool
-    ensures { result ≡ can_go_by forward capacity flow }
+#[tactic(auto, using(crate::proofs::Signs::less_by_order))]
+pub(crate) fn can_go(forward: bool, capacity: &Option<Q>, flow: &Q) -> bool
+    ensures { result ≡ can_go_by forward capacity.now flow.now }
 {
     if !forward {
-        return Q::zero().is_below(flow);
+        return is_some(flow);
     }
     match capacity {
         None => true,
-        Some(capacity) => flow.is_below(capacity),
+        Some(capacity) => flow < capacity,
     }
 }

@@ -1,6 +1,6 @@
 -- The flow of a report, cut at the departure that it reached and put into short form, curve by curve.
 use Rattle.std.proofs.Common.{◌≡◌, ℕ, zero, suc, ◌<◌, ◌≤◌, List, [], ◌∷◌, ◌++◌, length, get_or, Option, Some, None, slice_get, unwrap_or, option_map, map, ⊎_elim, sym, ap, subst, refl, ◌∙◌, arith}
-use Rattle.std.specs.Prelude.{Result, Ok, Err}
+use Rattle.std.specs.Prelude.{Result, Ok}
 use Rattle.std.specs.List.{last_or}
 use Rattle.std.specs.Option.{option_map_or}
 use Rattle.std.proofs.lemmas.Option.{slice_get_within, slice_get_cases, slice_get-map}
@@ -9,10 +9,10 @@ use Rattle.nf_rational.specs.Rational.{ℚ}
 use Rattle.nf_rational.specs.Operations.{0ℚ}
 use Rattle.nf_rational.specs.Order.{◌≤ℚ◌}
 use Rattle.nf_work.specs.Passing.{Passing}
-use Rattle.nf_work.specs.Checked.{Checked, each}
-use Rattle.nf_model.specs.Curve.{Point, Within, value, slope, IsCurve, AreSlopes}
+use Rattle.nf_work.specs.Checked.{each}
+use Rattle.nf_model.specs.Curve.{Point, value, IsCurve, AreSlopes}
 use Rattle.nf_model.specs.Network.{Link, Network, IsNetwork, IsLink}
-use Rattle.nf_model.specs.Equilibrium.{Trace, Flow, points_at, points_of, label, HasShape, HasSlopes, Equilibrium}
+use Rattle.nf_model.specs.Equilibrium.{Trace, Flow, points_at, points_of, label, HasSlopes, Equilibrium}
 use Rattle.nf_curve_lists.specs.Short.{checked_slopes}
 use Rattle.nf_curve_laws.proofs.Operations.{then_ok}
 use Rattle.nf_curve_laws.proofs.Short.{SlopesFrom, slopes-are}

@@ -3,14 +3,13 @@ use Rattle.std.proofs.Common.{◌≡◌, List, [], ◌∷◌, ◌++◌, ⊎_elim
 use Rattle.std.specs.Prelude.{Ok, if◌then◌else◌}
 use Rattle.nf_rational.specs.Rational.{ℚ}
 use Rattle.nf_rational.specs.Operations.{0ℚ}
-use Rattle.nf_rational.specs.Order.{◌≤ℚ◌, ◌<ℚ◌}
-use Rattle.nf_rational_laws.proofs.Order.{≤ℚ_of_lt, ≤ℚ_of_same}
+use Rattle.nf_rational.specs.Order.{◌≤ℚ◌}
 use Rattle.nf_work.specs.Passing.{Passing}
 use Rattle.nf_model.specs.Curve.{Point, Within, value, slope, IsCurve, IsShort}
-use Rattle.nf_model_laws.proofs.Curves.{EndsAt, EndsAt-value}
+use Rattle.nf_model_laws.proofs.Curves.{EndsAt-value}
 use Rattle.nf_lists.specs.Signs.{is_same}
 use Rattle.nf_curve_lists.specs.Values.{checked_cut}
-use Rattle.nf_curve_lists.specs.Short.{turning, short_points, checked_slopes, checked_short}
+use Rattle.nf_curve_lists.specs.Short.{turning, checked_slopes, checked_short}
 use Rattle.nf_curve_lists.specs.Meanings.{IsShortOf}
 use Rattle.nf_curve_laws.proofs.Operations.{then_ok, is_same_cases}
 use Rattle.nf_curve_laws.proofs.Following.{FollowsFrom, ends, goes, value-follows}
@@ -18,7 +17,7 @@ use Rattle.nf_curve_laws.proofs.Values.{Cut, checked_cut-is, follows-curve}
 use Rattle.nf_curve_laws.proofs.Short.{SlopesFrom, slopes-are, checked_short-is}
 use Rattle.nf_phase_laws.specs.CurveSteps.{LastPoint}
 use Rattle.nf_resume_lists.specs.Resuming.{cut_short}
-use Rattle.nf_rational_laws.proofs.Chains.{≤ℚ_refl, ≤ℚ_trans}
+use Rattle.nf_rational_laws.proofs.Chains.{≤ℚ_refl}
 use Rattle.nf_plain_laws.proofs.Results.{same_Ok}
 
 -- ---- the last point of a list

@@ -1,13 +1,12 @@
 -- Of an equilibrium, whoever made it, the invariant of phases holds up to the departure that it reached.
-use Rattle.std.proofs.Common.{◌≡◌, ◌≢◌, ℕ, ◌<◌, List, [], ◌∷◌, ⊎_elim, Option, Some, None, sym, ap, subst, refl, ◌∙◌}
-use Rattle.std.proofs.lemmas.Option.{slice_get_within}
+use Rattle.std.proofs.Common.{◌≡◌, ℕ, ◌<◌, List, [], ◌∷◌, ⊎_elim, Option, Some, None, sym, ap, subst, refl, ◌∙◌}
 use Rattle.nf_rational.specs.Rational.{ℚ}
 use Rattle.nf_rational.specs.Operations.{0ℚ, ◌+ℚ◌, ◌-ℚ◌, ◌*ℚ◌, ◌/ℚ◌}
 use Rattle.nf_rational.specs.Order.{◌≤ℚ◌, ◌<ℚ◌, max_ℚ}
 use Rattle.nf_rational_laws.proofs.Polynomial.{reading_of}
-use Rattle.nf_rational_laws.proofs.Order.{≤ℚ_of_lt, ≤ℚ_of_same, ≤ℚ_antisymm, lt_or_le_ℚ, not_both_ℚ}
+use Rattle.nf_rational_laws.proofs.Order.{≤ℚ_of_lt, ≤ℚ_antisymm, lt_or_le_ℚ, not_both_ℚ}
 use Rattle.nf_rational_laws.proofs.Linear.{le, lt, eq, eq_times, linear_le, linear_lt, linear_eq}
-use Rattle.nf_model.specs.Curve.{Within, NeverFalls, value, IsCurve}
+use Rattle.nf_model.specs.Curve.{Within, value, IsCurve}
 use Rattle.nf_model.specs.Network.{Link, Network, IsNetwork, IsLink, sum_in, sum_out, supply}
 use Rattle.nf_model.specs.Queue.{IsQueue, IsExit, IsOutflow, waiting}
 use Rattle.nf_model.specs.Equilibrium.{Flow, label, inflow, outflow, queue, points_at, Balances, Equilibrium}
@@ -22,7 +21,7 @@ use Rattle.nf_phase_laws.specs.Description.{DescribesLinks}
 use Rattle.nf_rational_laws.proofs.Tests.{max0_none, max0_of}
 use Rattle.nf_phase_laws.proofs.Holds.{sent-is, queue_early, outflow_early}
 use Rattle.nf_resume_laws.proofs.Served.{outflow-entered, outflow-waits}
-use Rattle.nf_resume_laws.proofs.Printed.{rises-link, starts-link, first, labels-at, source-at, label-nn, label-order, exit-at, not_undercut, comes_out-at, none-before}
+use Rattle.nf_resume_laws.proofs.Printed.{rises-link, starts-link, first, labels-at, source-at, label-nn, label-order, not_undercut, comes_out-at, none-before}
 use Rattle.nf_rational_laws.proofs.Chains.{≤ℚ_refl, ≤ℚ_trans}
 
 -- ---- over plain numbers: a and b the labels at the tail and the head, r the transit time, x the exit, q the queue, c the capacity

@@ -10,27 +10,24 @@ use Rattle.nf_rational.specs.Order.{◌≤ℚ◌, ◌<ℚ◌, min_ℚ}
 use Rattle.nf_rational_laws.proofs.Polynomial.{reading_of}
 use Rattle.nf_rational_laws.proofs.Order.{≤ℚ_of_lt, ≤ℚ_of_same, ≤ℚ_antisymm, lt_or_le_ℚ, not_both_ℚ}
 use Rattle.nf_rational_laws.proofs.Tests.{min_ℚ_cases}
-use Rattle.nf_rational_laws.proofs.Linear.{le, lt, eq, linear_le, linear_lt, linear_eq, linear_false}
-use Rattle.nf_model.specs.Curve.{Within, NeverFalls, value}
+use Rattle.nf_rational_laws.proofs.Linear.{le, lt, eq, linear_le, linear_lt}
+use Rattle.nf_model.specs.Curve.{Within, NeverFalls}
 use Rattle.nf_model.specs.Walk.{IsWalk, transit_sum}
-use Rattle.nf_model.specs.Network.{Link, Network, IsNetwork, IsLink, hops, sum_in, sum_out, supply}
+use Rattle.nf_model.specs.Network.{Link, Network, IsNetwork, IsLink, hops, sum_in, supply}
 use Rattle.nf_model.specs.Queue.{IsExit, IsOutflow}
-use Rattle.nf_model.specs.Earliest.{IsEarliest}
-use Rattle.nf_model.specs.Equilibrium.{Flow, label, inflow, outflow, points_at, points_of, Balances, Equilibrium}
+use Rattle.nf_model.specs.Equilibrium.{Flow, label, inflow, outflow, Balances, Equilibrium}
 use Rattle.nf_model_laws.specs.EarliestLaws.{AreLabels}
 use Rattle.nf_model_laws.proofs.Exists.{HasExit-curve}
-use Rattle.nf_model_laws.proofs.Queues.{IsExit-after, IsOutflow-unique}
+use Rattle.nf_model_laws.proofs.Queues.{IsExit-after}
 use Rattle.nf_model_laws.proofs.Earliest.{IsPositive-link, AreLabels-report, IsEarliest-forward}
 use Rattle.nf_model_laws.proofs.Networks.{IsWalk-link, transit_of-is}
 use Rattle.nf_model_laws.proofs.Potential.{only_at, only_at-here, only_at-else}
 use Rattle.nf_model_laws.proofs.Sums.{sum_out-each, sum_out-same}
 use Rattle.nf_model_laws.proofs.Supply.{supplied-begins}
 use Rattle.nf_model_laws.proofs.Ways.{way_back}
-use Rattle.nf_phase_laws.specs.Invariant.{tail_of, tail_or}
-use Rattle.nf_phase_laws.proofs.Holds.{link_within}
 use Rattle.nf_phase_laws.proofs.Still.{sum_in-some}
 use Rattle.nf_check_laws.proofs.Rising.{label-rises}
-use Rattle.nf_resume_laws.proofs.Served.{amount-nn, outflow-nn, outflow-entered, outflow-rises}
+use Rattle.nf_resume_laws.proofs.Served.{amount-nn, outflow-entered}
 use Rattle.nf_resume_laws.proofs.Sent.{BalancedAt, into, into-is, out-balances, out-is_into, comes_out}
 use Rattle.nf_resume_laws.proofs.Repeating.{Repeats, none_by_repeating}
 use Rattle.nf_rational_laws.proofs.Chains.{≤ℚ_refl, ≤ℚ_trans}

@@ -1,26 +1,21 @@
 -- The cut flow of an equilibrium is an equilibrium with the same values, and a run can go on from it.
-use Rattle.std.proofs.Common.{◌≡◌, ℕ, ◌<◌, List, [], ◌∷◌, length, Option, Some, None, slice_get, unwrap_or, map, ⊎_elim, sym, ap, subst, refl, ◌∙◌, arith}
-use Rattle.std.proofs.lemmas.Option.{slice_get_within}
+use Rattle.std.proofs.Common.{◌≡◌, ℕ, ◌<◌, List, Option, Some, slice_get, unwrap_or, map, ⊎_elim, sym, ap, subst, ◌∙◌, arith}
 use Rattle.std.proofs.lemmas.List.{length-map}
 use Rattle.nf_rational.specs.Rational.{ℚ}
 use Rattle.nf_rational.specs.Operations.{0ℚ}
 use Rattle.nf_rational.specs.Order.{◌≤ℚ◌, ◌<ℚ◌}
 use Rattle.nf_rational_laws.proofs.Order.{≤ℚ_of_lt, ≤ℚ_of_same, lt_or_le_ℚ}
 use Rattle.nf_work.specs.Passing.{Passing}
-use Rattle.nf_work.specs.Checked.{Checked}
 use Rattle.std.specs.Prelude.{Ok}
-use Rattle.nf_model.specs.Entries.{number_at}
-use Rattle.nf_model.specs.Curve.{Point, Within, value, NeverFalls, IsCurve}
+use Rattle.nf_model.specs.Curve.{Point, Within, value, NeverFalls}
 use Rattle.nf_model.specs.Network.{Link, Network, IsNetwork, IsLink}
-use Rattle.nf_model.specs.Equilibrium.{Flow, Trace, points_at, points_of, label, inflow, outflow, queue, AreCurves, HasShape, Equilibrium}
+use Rattle.nf_model.specs.Equilibrium.{Flow, Trace, points_at, label, inflow, outflow, queue, HasShape, Equilibrium}
 use Rattle.nf_model_laws.specs.EarliestLaws.{InflowsRise}
 use Rattle.nf_phase_laws.specs.Invariant.{HoldsUpTo, LabelsAre}
 use Rattle.nf_phase_laws.specs.Description.{DescribesLinks}
-use Rattle.nf_phase_laws.specs.CurveSteps.{LastPoint, at, CurvesStand}
-use Rattle.nf_phase_laws.specs.DescriptionCurves.{DescriptionStands}
-use Rattle.nf_phase_laws.specs.CurveRun.{Curves, curves_of}
+use Rattle.nf_phase_laws.specs.CurveSteps.{LastPoint}
+use Rattle.nf_phase_laws.specs.CurveRun.{curves_of}
 use Rattle.nf_phase_laws.proofs.Holds.{link_within, IsNashFlow-from_HoldsUpTo}
-use Rattle.nf_phase_laws.proofs.Phases.{Stands}
 use Rattle.nf_phase_laws.proofs.Description.{IsOutflow-described, IsQueue-described}
 use Rattle.nf_phase_laws.proofs.CurveRun.{Grown}
 use Rattle.nf_resume_lists.specs.Restoring.{value_at_end}

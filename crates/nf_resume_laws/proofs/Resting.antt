@@ -1,5 +1,5 @@
 -- What is left of a phase that was cut: the base by its pattern, its solution and its length.
-use Rattle.std.proofs.Common.{◌≡◌, ℕ, List, length, map, ap, subst, sym, ◌∙◌}
+use Rattle.std.proofs.Common.{◌≡◌, ℕ, List, length, subst, ◌∙◌}
 use Rattle.std.proofs.lemmas.List.{length-map}
 use Rattle.nf_rational.specs.Rational.{ℚ}
 use Rattle.nf_rational.specs.Operations.{0ℚ, ◌+ℚ◌, ◌-ℚ◌, ◌*ℚ◌}

@@ -1,24 +1,22 @@
 -- What a run keeps, of a run that is restored from a cut flow.
-use Rattle.std.proofs.Common.{◌≡◌, ℕ, zero, suc, ◌<◌, List, [], ◌∷◌, ◌++◌, length, Option, Some, None, slice_get, map, sym, ap, subst, refl, ◌∙◌, arith}
-use Rattle.std.specs.Prelude.{Result, Ok, Err}
-use Rattle.std.proofs.lemmas.Option.{slice_get_within}
-use Rattle.std.proofs.lemmas.List.{length-map}
+use Rattle.std.proofs.Common.{◌≡◌, ℕ, zero, suc, List, [], ◌∷◌, length, Option, Some, None, slice_get, map, sym, ap, subst, refl, ◌∙◌, arith}
+use Rattle.std.specs.Prelude.{Result, Ok}
 use Rattle.nf_rational.specs.Rational.{ℚ}
 use Rattle.nf_work.specs.Passing.{Passing}
-use Rattle.nf_work.specs.Checked.{Checked, each}
-use Rattle.nf_model.specs.Curve.{Point, slope, AreSlopes}
+use Rattle.nf_work.specs.Checked.{each}
+use Rattle.nf_model.specs.Curve.{Point}
 use Rattle.nf_model.specs.Network.{Network, IsNetwork}
 use Rattle.nf_model.specs.Pattern.{Pattern}
-use Rattle.nf_model.specs.Equilibrium.{Trace, Flow, HasSlopes, Equilibrium}
+use Rattle.nf_model.specs.Equilibrium.{Trace, Flow, Equilibrium}
 use Rattle.nf_lists.specs.ReportCurves.{GrowingCurve, LinkCurves}
 use Rattle.nf_lists.specs.PhaseRun.{Standing, flow_of}
 use Rattle.nf_curve_lists.specs.Lines.{checked_slope}
 use Rattle.nf_curve_laws.proofs.Operations.{then_ok, checked_slope-is}
-use Rattle.nf_phase_laws.specs.CurveRun.{Curves, curves_of}
+use Rattle.nf_phase_laws.specs.CurveRun.{curves_of}
 use Rattle.nf_phase_laws.proofs.CurveRun.{Grown}
 use Rattle.nf_run_laws.proofs.Points.{EndsWithSlope, LastSlope}
 use Rattle.nf_run_laws.proofs.WellRun.{WellRun}
-use Rattle.nf_resume_lists.specs.Restoring.{value_at_end, link_curves_of, standing_of, last_slope, growing, restore_list}
+use Rattle.nf_resume_lists.specs.Restoring.{value_at_end, link_curves_of, standing_of, last_slope, growing}
 use Rattle.nf_resume_laws.proofs.CutFlow.{each_length, IsCutFlow}
 use Rattle.nf_resume_laws.proofs.Restarted.{Grown-cut}
 use Rattle.nf_plain_laws.proofs.Results.{same_Ok}
@@ -27,7 +25,7 @@ use Rattle.nf_plain_laws.proofs.Results.{same_Ok}
 same_some : {A : Type 0} (x y : A) → ◌≡◌ {A = Option A} (Some x) (Some y) → x ≡ y
 same_some x y e = cc
 
-each_back : {A B E : Type 0} (f : A → Result B E) (xs : List A) (ys : List B) (i : ℕ) (y : B) → each f xs ≡ Ok ys → slice_get ys i ≡ Some y → (x : A) × (f x ≡ Ok y)
+pub each_back : {A B E : Type 0} (f : A → Result B E) (xs : List A) (ys : List B) (i : ℕ) (y : B) → each f xs ≡ Ok ys → slice_get ys i ≡ Some y → (x : A) × (f x ≡ Ok y)
 each_back f [] ys i y e h = absurd (none_there ys i y (sym (same_Ok _ _ e)) h)
   where
     none_there : {B : Type 0} (ys : List B) (i : ℕ) (y : B) → ys ≡ [] → slice_get ys i ≡ Some y → ⊥
@@ -62,7 +60,7 @@ links-outflow (x ∷ i) [] q h k = absurd (omega arith)
 links-outflow (x ∷ i) (y ∷ o) [] h k = absurd (omega arith)
 links-outflow (x ∷ i) (y ∷ o) (z ∷ q) h k = ap (λ (l : List Trace). y ∷ l) (links-outflow i o q (omega arith) (omega arith))
 
-links-queue : (i o : List Trace) (q : List GrowingCurve) → length o ≡ length i → length q ≡ length i → map (λ (c : LinkCurves). c.queue) (link_curves_of i o q) ≡ q
+pub links-queue : (i o : List Trace) (q : List GrowingCurve) → length o ≡ length i → length q ≡ length i → map (λ (c : LinkCurves). c.queue) (link_curves_of i o q) ≡ q
 links-queue [] o [] h k = refl
 links-queue [] o (z ∷ q) h k = absurd (omega arith)
 links-queue (x ∷ i) [] q h k = absurd (omega arith)
@@ -103,7 +101,7 @@ module _ (passes : Passing) where
       (record { front = []; before = p; last = q; same = refl; slope_is = sym (checked_slope-is passes p q k.between k.first) })
   last_slope-is (p ∷ q ∷ s ∷ rest) o e = pushed-slope p (q ∷ s ∷ rest) o (last_slope-is (q ∷ s ∷ rest) o e)
 
-  growing-points : (points : List Point) (c : GrowingCurve) → growing passes points ≡ Ok c → c.points ≡ points
+  pub growing-points : (points : List Point) (c : GrowingCurve) → growing passes points ≡ Ok c → c.points ≡ points
   growing-points points c e = let k = then_ok (last_slope passes points) _ c e in ap (λ (c : GrowingCurve). c.points) (sym (same_Ok _ _ k.next))
 
   growing-slope : (points : List Point) (c : GrowingCurve) → growing passes points ≡ Ok c → LastSlope c.points c.slope

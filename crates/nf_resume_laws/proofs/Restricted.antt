@@ -1,25 +1,23 @@
 -- Where a phase was cut, its pattern on the links that still need a state is a listed pattern, with the same one solution.
-use Rattle.std.proofs.Common.{◌≡◌, ◌≢◌, ◌↔◌, ℕ, zero, suc, ◌<◌, ◌≤◌, List, [], ◌∷◌, length, ◌⊎◌, inl, inr, ⊎_elim, Bool, true, false, Option, Some, None, slice_get, unwrap_or, map, sym, ap, subst, refl, ◌∙◌, arith}
-use Rattle.std.specs.Prelude.{if◌then◌else◌, ◌==◌}
+use Rattle.std.proofs.Common.{◌≡◌, ℕ, List, [], ◌∷◌, length, ◌⊎◌, inl, inr, ⊎_elim, Bool, true, false, Option, Some, None, slice_get, unwrap_or, sym, ap, subst, refl, ◌∙◌, arith}
 use Rattle.std.proofs.lemmas.Option.{slice_get_within}
 use Rattle.nf_rational.specs.Rational.{ℚ}
-use Rattle.nf_rational.specs.Operations.{0ℚ, 1ℚ, ◌+ℚ◌, ◌-ℚ◌, ◌*ℚ◌}
+use Rattle.nf_rational.specs.Operations.{0ℚ, ◌+ℚ◌, ◌-ℚ◌, ◌*ℚ◌}
 use Rattle.nf_rational.specs.Order.{◌≤ℚ◌, ◌<ℚ◌}
 use Rattle.nf_rational_laws.proofs.Polynomial.{reading_of}
 use Rattle.nf_rational_laws.proofs.Order.{≤ℚ_of_lt, ≤ℚ_of_same, ≤ℚ_antisymm, lt_or_le_ℚ, not_both_ℚ}
-use Rattle.nf_rational_laws.proofs.Linear.{le, lt, eq, eq_times, le_times, linear_le, linear_lt, linear_eq, linear_false}
+use Rattle.nf_rational_laws.proofs.Linear.{le, eq, eq_times, le_times, linear_le, linear_eq}
 use Rattle.nf_model.specs.declared.State.{State}
 use Rattle.nf_model.specs.declared.State.TheVariants.{Tight, Full, Zero}
 use Rattle.nf_model.specs.Entries.{number_at, Has}
 use Rattle.nf_model.specs.Walk.{Hop, IsHop}
-use Rattle.nf_model.specs.Network.{Link, Network, IsNetwork, IsLink, hops, hop_of, unbounded}
+use Rattle.nf_model.specs.Network.{Link, Network, IsNetwork, IsLink, hops, hop_of}
 use Rattle.nf_model.specs.ThinFlow.{Sets, slack, sets_at}
-use Rattle.nf_model.specs.Pattern.{Pattern, HasState, NeedsState, IsPattern, IsTrail, AllDiffer, IsForest, IsListed, IsListedIn, IsBase, Equation, Inequality, Solves, Meets, IsSolution, IsSolvable}
+use Rattle.nf_model.specs.Pattern.{Pattern, HasState, NeedsState, IsTrail, IsListedIn, IsBase, Equation, Inequality, Solves, IsSolution}
 use Rattle.nf_model_laws.proofs.Networks.{by_link, hop_at}
 use Rattle.nf_model_laws.proofs.Slacks.{active_of_slack, slack_of_active, resetting_of_slack, slack_of_resetting}
 use Rattle.nf_lists.specs.CurveList.{is_filled}
 use Rattle.nf_resume_laws.proofs.CutFlow.{entry_within}
-use Rattle.nf_rational_laws.proofs.Chains.{≤ℚ_refl}
 
 -- ---- how the state of a link goes on: o before and b after; r and t say whether it is resetting before and after
 pub data GoesOn (r t : Bool) : Option State → Option State → Type 0 where

@@ -1,8 +1,8 @@
 -- A run that goes on from a restored standing stays an equilibrium, and changes no value up to where it was.
-use Rattle.std.proofs.Common.{◌≡◌, ℕ, ◌<◌, List, [], ◌∷◌, Option, ⊎_elim, sym, ap, subst, refl, ◌∙◌}
+use Rattle.std.proofs.Common.{◌≡◌, ℕ, ◌<◌, List, Option, ⊎_elim, sym, ap, subst, refl, ◌∙◌}
 use Rattle.std.specs.Prelude.{Result, Ok, Err}
 use Rattle.nf_rational.specs.Rational.{ℚ}
-use Rattle.nf_rational.specs.Operations.{0ℚ, ◌+ℚ◌}
+use Rattle.nf_rational.specs.Operations.{0ℚ}
 use Rattle.nf_rational.specs.Order.{◌≤ℚ◌, ◌<ℚ◌}
 use Rattle.nf_rational_laws.proofs.Order.{≤ℚ_of_lt, ≤ℚ_antisymm, lt_or_le_ℚ}
 use Rattle.nf_work.specs.Passing.{Passing}
@@ -11,12 +11,12 @@ use Rattle.nf_work.specs.declared.Part.TheVariants.{Curve}
 use Rattle.nf_work.specs.declared.PassedAt.{PassedAt}
 use Rattle.nf_model.specs.Entries.{number_at}
 use Rattle.nf_model.specs.Curve.{Point, Within, value}
-use Rattle.nf_model.specs.Network.{Link, Network, IsNetwork, IsLink}
+use Rattle.nf_model.specs.Network.{Network, IsNetwork}
 use Rattle.nf_model.specs.Pattern.{Pattern}
-use Rattle.nf_model.specs.Equilibrium.{Flow, label, inflow, outflow, queue, Equilibrium}
+use Rattle.nf_model.specs.Equilibrium.{Flow, label, Equilibrium}
 use Rattle.nf_formats.specs.declared.Cause.{Cause}
 use Rattle.nf_formats.specs.Report.{Report}
-use Rattle.nf_lists.specs.PhaseRun.{Standing, Bounds, Goes, flow_of, report_of, standing_after}
+use Rattle.nf_lists.specs.PhaseRun.{Standing, Bounds, Goes, flow_of, standing_after}
 use Rattle.nf_check_lists.specs.declared.Answer.{Answer}
 use Rattle.nf_check_lists.specs.declared.Answer.TheVariants.{Yes, No}
 use Rattle.nf_check_lists.specs.CheckList.{check_list}
@@ -30,8 +30,8 @@ use Rattle.nf_run_laws.proofs.Goes.{curves_go, description_goes}
 use Rattle.nf_run_laws.proofs.Run.{parts_of, WellRun-goes, IsPhase-goes, Equilibrium-well}
 use Rattle.nf_resume_lists.specs.Restoring.{growing, restore_list}
 use Rattle.nf_resume_lists.specs.Open.{with_last, Steps, continues, begins, RunsOn, at_horizon, at_phases, fails, steps}
-use Rattle.nf_resume_lists.specs.Resuming.{Outcome, Stands, Refused, cut_flow, restart_list, after_check, resume_list}
-use Rattle.nf_resume_lists.specs.Meanings.{GoesOnFrom, IsResumed, IsResumedReport}
+use Rattle.nf_resume_lists.specs.Resuming.{Outcome, Stands, cut_flow, restart_list, after_check, resume_list}
+use Rattle.nf_resume_lists.specs.Meanings.{GoesOnFrom, IsResumedReport}
 use Rattle.nf_resume_laws.proofs.CutFlow.{IsCutFlow, cut_flow-is}
 use Rattle.nf_resume_laws.proofs.Restarted.{GoesOnFrom-cut}
 use Rattle.nf_resume_laws.proofs.Restored.{flow-same, WellRun-restored}
@@ -104,7 +104,7 @@ module _ (passes : Passing) (net : Network) (good : IsNetwork net) (bounds : Bou
       )
 
   -- ---- phase by phase
-  WellRun-last : (last : Pattern) (s : Standing) → WellRun net s → WellRun net (with_last last s)
+  pub WellRun-last : (last : Pattern) (s : Standing) → WellRun net s → WellRun net (with_last last s)
   WellRun-last last s w = record {
     grow = w.grow;
     label_count = w.label_count;
@@ -159,7 +159,7 @@ answer-yes : (passes : Passing) (net : Network) (report : Report) (answer : Answ
 answer-yes passes net report Yes s e = stands-ok (restart_list passes net report) s e
 answer-yes passes net report (No rule subject time left right) s e = absurd (cc)
 
-list-stands : (passes : Passing) (net : Network) (report : Report) (s : Standing) → resume_list passes net report ≡ Ok (Stands s) → restart_list passes net report ≡ Ok s
+pub list-stands : (passes : Passing) (net : Network) (report : Report) (s : Standing) → resume_list passes net report ≡ Ok (Stands s) → restart_list passes net report ≡ Ok s
 unfolding resume_list
 list-stands passes net report s e =
     let a = then_ok (check_list passes net report.flow) _ (Stands s) e in

@@ -52,7 +52,7 @@ pub along-le : (f g : ℕ → ℚ) (e : ℕ) (links : List ℕ) → ((place : �
 along-le f g e [] h = ≤ℚ_refl 0ℚ
 along-le f g e (l ∷ links) h = if_le (eqb l e) (f 0) (g 0) _ _ (λ t. h 0 (ap (λ (x : ℕ). Some x) (eqb-true l e t))) (along-le (λ p. f (suc p)) (λ p. g (suc p)) e links (λ p k. h (suc p) k))
 
-along-none : (f : ℕ → ℚ) (e : ℕ) (links : List ℕ) → ((place : ℕ) → slice_get links place ≡ Some e → f place ≡ 0ℚ) → sent_along f e links ≡ 0ℚ
+pub along-none : (f : ℕ → ℚ) (e : ℕ) (links : List ℕ) → ((place : ℕ) → slice_get links place ≡ Some e → f place ≡ 0ℚ) → sent_along f e links ≡ 0ℚ
 along-none f e [] h = refl
 along-none f e (l ∷ links) h = if_none (eqb l e) (f 0) _ (λ t. h 0 (ap (λ (x : ℕ). Some x) (eqb-true l e t))) (along-none (λ p. f (suc p)) e links (λ p k. h (suc p) k))
 
@@ -67,7 +67,7 @@ pub routes-le : (f g : ℕ → ℕ → ℚ) (e : ℕ) (routes : List Route) → 
 routes-le f g e [] h = ≤ℚ_refl 0ℚ
 routes-le f g e (route ∷ routes) h = plus_le _ _ _ _ (along-le (f 0) (g 0) e route.links (λ p k. h 0 p route refl k)) (routes-le (λ r. f (suc r)) (λ r. g (suc r)) e routes (λ r p x k l. h (suc r) p x k l))
 
-routes-none : (f : ℕ → ℕ → ℚ) (e : ℕ) (routes : List Route) → Each routes e (λ r place. f r place ≡ 0ℚ) → sent_by_routes f e routes ≡ 0ℚ
+pub routes-none : (f : ℕ → ℕ → ℚ) (e : ℕ) (routes : List Route) → Each routes e (λ r place. f r place ≡ 0ℚ) → sent_by_routes f e routes ≡ 0ℚ
 routes-none f e [] h = refl
 routes-none f e (route ∷ routes) h = none_both _ _ (along-none (f 0) e route.links (λ p k. h 0 p route refl k)) (routes-none (λ r. f (suc r)) e routes (λ r p x k l. h (suc r) p x k l))
   where
@@ -75,7 +75,7 @@ routes-none f e (route ∷ routes) h = none_both _ _ (along-none (f 0) e route.l
     none_both x y e f = linear_eq (x ∷ y ∷ []) (eq e ∷ eq f ∷ []) (search reading_of depth 12) tt tt
 
 -- a curve takes each value between two that it has
-takes : (points : List (ℚ × ℚ)) (last y : ℚ) → IsCurve points → 0ℚ ≤ℚ last → value points 0ℚ ≤ℚ y → y ≤ℚ value points last → (u : ℚ) × Within 0ℚ last u × (value points u ≡ y)
+pub takes : (points : List (ℚ × ℚ)) (last y : ℚ) → IsCurve points → 0ℚ ≤ℚ last → value points 0ℚ ≤ℚ y → y ≤ℚ value points last → (u : ℚ) × Within 0ℚ last u × (value points u ≡ y)
 takes [] last y c h i j = absurd c
 takes (p ∷ rest) last y c h i j =
     let w : (u : ℚ) × (p.0 ≤ℚ u) × (u ≤ℚ last) × (value (p ∷ rest) u ≡ y) = value-takes p rest last y c.1 (subst (λ (z : ℚ). z ≤ℚ last) (sym c.0) h)

@@ -67,7 +67,7 @@ merged-either : (xs ys : List ℚ) (u : ℚ) → IsOne u (merged xs ys) → IsOn
 merged-either [] ys u w = inr w
 merged-either (s ∷ rest) ys u w = from_either s (merged rest) rest (merged-either rest) ys u w
 
-both_times-either : (left right : List Point) (u : ℚ) → IsOne u (both_times left right) → IsOne u (times_of left) ⊎ IsOne u (times_of right)
+pub both_times-either : (left right : List Point) (u : ℚ) → IsOne u (both_times left right) → IsOne u (times_of left) ⊎ IsOne u (times_of right)
 unfolding both_times
 both_times-either left right u w = merged-either (times_of left) (times_of right) u w
 

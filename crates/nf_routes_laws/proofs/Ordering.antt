@@ -27,25 +27,25 @@ not_both : (a : Bool) → a ≡ true → a ≡ false → ⊥
 not_both a h k = cc
 
 -- ---- members of lists
-abbrev In : {A : Type 0} → A → List A → Type 0
+abbrev pub In : {A : Type 0} → A → List A → Type 0
 In x [] = ⊥
 In x (y ∷ ys) = (x ≡ y) ⊎ In x ys
 
-in-front : {A : Type 0} (x : A) (xs ys : List A) → In x xs → In x (xs ++ ys)
+pub in-front : {A : Type 0} (x : A) (xs ys : List A) → In x xs → In x (xs ++ ys)
 in-front x [] ys h = absurd h
 in-front x (z ∷ xs) ys (inl e) = inl e
 in-front x (z ∷ xs) ys (inr h) = inr (in-front x xs ys h)
 
-in-back : {A : Type 0} (x : A) (xs ys : List A) → In x ys → In x (xs ++ ys)
+pub in-back : {A : Type 0} (x : A) (xs ys : List A) → In x ys → In x (xs ++ ys)
 in-back x [] ys h = h
 in-back x (z ∷ xs) ys h = inr (in-back x xs ys h)
 
-in-either : {A : Type 0} (x : A) (xs ys : List A) → In x (xs ++ ys) → In x xs ⊎ In x ys
+pub in-either : {A : Type 0} (x : A) (xs ys : List A) → In x (xs ++ ys) → In x xs ⊎ In x ys
 in-either x [] ys h = inr h
 in-either x (z ∷ xs) ys (inl e) = inl (inl e)
 in-either x (z ∷ xs) ys (inr h) = ⊎_elim (λ (k : In x xs). inl (inr k)) (λ (k : In x ys). inr k) (in-either x xs ys h)
 
-all-at : {A : Type 0} (t : A → Bool) (xs : List A) (x : A) → list_all t xs ≡ true → In x xs → t x ≡ true
+pub all-at : {A : Type 0} (t : A → Bool) (xs : List A) (x : A) → list_all t xs ≡ true → In x xs → t x ≡ true
 all-at t [] x h k = absurd k
 all-at t (y ∷ xs) x h (inl e) = ap t e ∙ (and_true (t y) _ h).0
 all-at t (y ∷ xs) x h (inr k) = all-at t xs x (and_true (t y) _ h).1 k
@@ -61,27 +61,27 @@ not-all t (y ∷ xs) h = ⊎_elim
     (λ (k : t y ≡ false). (y, inl refl, k))
     (true_or_false (t y))
 
-in-range : (start count e : ℕ) → start ≤ e → e < start + count → In e (range_with_len start count)
+pub in-range : (start count e : ℕ) → start ≤ e → e < start + count → In e (range_with_len start count)
 in-range start zero e h k = absurd (omega arith)
 in-range start (suc count) e h k = ⊎_elim
     (λ (w : (eqb e start ≡ true) × (e ≡ start)). inl w.1)
     (λ (w : (eqb e start ≡ false) × (e ≢ start)). inr (in-range (start + 1) count e (let n = w.1 in omega arith) (omega arith)))
     (eqb_tells e start)
 
-range-below : (start count e : ℕ) → In e (range_with_len start count) → e < start + count
+pub range-below : (start count e : ℕ) → In e (range_with_len start count) → e < start + count
 range-below start zero e h = absurd h
 range-below start (suc count) e (inl w) = omega arith
 range-below start (suc count) e (inr h) = let r = range-below (start + 1) count e h in omega arith
 
 -- ---- taken links
-taken-in : (taken : List ℕ) (e : ℕ) → is_taken taken e ≡ true → In e taken
+pub taken-in : (taken : List ℕ) (e : ℕ) → is_taken taken e ≡ true → In e taken
 taken-in [] e h = absurd (cc)
 taken-in (f ∷ taken) e h = ⊎_elim
     (λ (w : (eqb f e ≡ true) × (f ≡ e)). inl (sym w.1))
     (λ (w : (eqb f e ≡ false) × (f ≢ e)). inr (taken-in taken e (ap (λ (b : Bool). b || is_taken taken e) (sym w.0) ∙ h)))
     (eqb_tells f e)
 
-in-taken : (taken : List ℕ) (e : ℕ) → In e taken → is_taken taken e ≡ true
+pub in-taken : (taken : List ℕ) (e : ℕ) → In e taken → is_taken taken e ≡ true
 in-taken [] e h = absurd h
 in-taken (f ∷ taken) e h = ⊎_elim
     (λ (w : (eqb f e ≡ true) × (f ≡ e)). ap (λ (b : Bool). b || is_taken taken e) w.0)
@@ -125,7 +125,7 @@ place-pairs (x ∷ y ∷ rest) zero e f h k = inl (let a = some x e h in let b =
     some x e h = cc
 place-pairs (x ∷ y ∷ rest) (suc place) e f h k = inr (place-pairs (y ∷ rest) place e f h k)
 
-before-pair : (routes : List Route) (e f : ℕ) → IsBefore routes e f → In (e, f) (all_pairs routes)
+pub before-pair : (routes : List Route) (e f : ℕ) → IsBefore routes e f → In (e, f) (all_pairs routes)
 before-pair routes e f b = at routes b.number b.is_route
   where
     some : (x y : Route) → Some x ≡ Some y → x ≡ y
@@ -144,7 +144,7 @@ pair-before (x ∷ routes) all shift p same h = ⊎_elim
     (λ (k : In p (all_pairs routes)). pair-before routes all (suc shift) p (λ r. same (suc r) ∙ ap (λ (n : ℕ). slice_get all n) (let n : shift + suc r ≡ suc shift + r = omega arith in n)) k)
     (in-either p (pairs_of x.links) (all_pairs routes) h)
 
-before-of : (routes : List Route) (p : ℕ × ℕ) → In p (all_pairs routes) → IsBefore routes p.0 p.1
+pub before-of : (routes : List Route) (p : ℕ × ℕ) → In p (all_pairs routes) → IsBefore routes p.0 p.1
 before-of routes p h = pair-before routes routes 0 p (λ r. ap (λ (n : ℕ). slice_get routes n) (let n : r ≡ 0 + r = omega arith in n)) h
 
 -- ---- the lowest free link
@@ -164,7 +164,7 @@ free-parts pairs taken f h =
     need true b h k = h
     need false b h k = absurd (cc)
 
-free-some : (pairs : List (ℕ × ℕ)) (taken xs : List ℕ) (e : ℕ) → first_free pairs taken xs ≡ Some e → In e xs × (is_free pairs taken e ≡ true)
+pub free-some : (pairs : List (ℕ × ℕ)) (taken xs : List ℕ) (e : ℕ) → first_free pairs taken xs ≡ Some e → In e xs × (is_free pairs taken e ≡ true)
 free-some pairs taken [] e h = absurd (cc)
 free-some pairs taken (x ∷ xs) e h = ⊎_elim
     (λ (k : is_free pairs taken x ≡ true).
@@ -298,7 +298,7 @@ module _ (routes : List Route) (many : ℕ) where
   pairs' = all_pairs routes
 
   -- a link of the order comes after those before it, and once
-  placed : (more : ℕ) (taken front : List ℕ) (e : ℕ) (back : List ℕ) → order_from more pairs' many taken ≡ front ++ e ∷ back
+  pub placed : (more : ℕ) (taken front : List ℕ) (e : ℕ) (back : List ℕ) → order_from more pairs' many taken ≡ front ++ e ∷ back
       → (In e (front ++ taken) → ⊥) × ((f : ℕ) → IsBefore routes f e → In f (front ++ taken))
   placed zero taken [] e back h = absurd (cc)
   placed zero taken (x ∷ front) e back h = absurd (cc)

@@ -14,3 +14,4 @@ pub mod Standing
 pub mod Moving
 pub mod Short
 pub mod ShortRun
+pub mod Arrivals

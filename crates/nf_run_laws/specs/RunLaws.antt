@@ -1,12 +1,14 @@
 -- What the report of a phase run says of the network.
 use Rattle.std.specs.Prelude.{◌≡◌, ℕ, suc, ◌<◌, List, length, Option, Some, None, Ok, slice_get}
 use Rattle.nf_rational.specs.Rational.{ℚ}
+use Rattle.nf_rational.specs.Operations.{0ℚ}
 use Rattle.nf_work.specs.Passing.{Passing}
 use Rattle.nf_model.specs.Entries.{number_at}
-use Rattle.nf_model.specs.Curve.{IsShort}
+use Rattle.nf_model.specs.Curve.{Within, IsShort}
 use Rattle.nf_model.specs.Network.{Network, IsNetwork, ArePieces}
+use Rattle.nf_model.specs.Earliest.{IsEarliest}
 use Rattle.nf_model.specs.Phases.{IsExtension, IsUnending, IsPhaseSequence}
-use Rattle.nf_model.specs.Equilibrium.{Flow, points_at, points_of, label, HasShape, HasSlopes, Equilibrium}
+use Rattle.nf_model.specs.Equilibrium.{Flow, points_at, points_of, label, inflow, HasShape, HasSlopes, Equilibrium}
 use Rattle.nf_formats.specs.declared.Cause.{Cause}
 use Rattle.nf_formats.specs.Report.{Report}
 use Rattle.nf_lists.specs.Extend.{extend_list}
@@ -58,6 +60,14 @@ pub record KeepsLabels (net : Network) (s : Standing) : Type 0 where
 abbrev pub RunKeepsLabels : Type 0
 RunKeepsLabels = (passes : Passing) (net : Network) (bounds : Bounds) (last : Standing) (stop : Option (Cause ℚ)) → IsNetwork net → IsPhaseRun passes net bounds last stop
     → KeepsLabels net last
+
+-- The labels at which a run stands are the earliest arrivals at the nodes, for who leaves the source when it has reached; and those
+-- of its report are the earliest arrivals for each departure up to there.
+pub record RunLabelsAreEarliest : Type 0 where
+  pub run : (passes : Passing) (net : Network) (bounds : Bounds) (last : Standing) (stop : Option (Cause ℚ)) → IsNetwork net → IsPhaseRun passes net bounds last stop
+      → (v : ℕ) → v < net.nodes → IsEarliest net (inflow (flow_of last)) v last.time (number_at last.labels v)
+  pub report : (passes : Passing) (net : Network) (bounds : Bounds) (report : Report) → IsNetwork net → IsRunReport passes net bounds report
+      → (v : ℕ) (departure : ℚ) → v < net.nodes → Within 0ℚ report.flow.reached departure → IsEarliest net (inflow report.flow) v departure (label report.flow v departure)
 
 -- ---- phases of a run
 

@@ -2,7 +2,7 @@
 //! contract of a public function with an empty body.
 #![tactic(auto)]
 
-ghost use Rattle.nf_run_laws.specs.RunLaws.{RunGrowsByPhases, RunHasShape, RunHasSlopes, RunReportIsEquilibrium, RunIsShort, RunKeepsLabels, ExtendListIsExtension, RunIsPhaseSequence};
+ghost use Rattle.nf_run_laws.specs.RunLaws.{RunGrowsByPhases, RunHasShape, RunHasSlopes, RunReportIsEquilibrium, RunIsShort, RunKeepsLabels, RunLabelsAreEarliest, ExtendListIsExtension, RunIsPhaseSequence};
 
 /// The curves of a run grow phase by phase from the start, each by one point as the phase's thin flow and length say.
 pub fn run_grows_by_phases()
@@ -34,6 +34,12 @@ pub fn run_is_short()
 /// The labels that a run has reached are the values of its label curves at the departure that it has reached.
 pub fn run_keeps_labels()
     ensures { RunKeepsLabels }
+{}
+
+/// The labels at which a run stands are the earliest arrivals at the nodes for who leaves the source when it has reached, and those of its
+/// report are the earliest arrivals for each departure up to there.
+pub fn run_labels_are_earliest()
+    ensures { RunLabelsAreEarliest }
 {}
 
 /// The value of the extend list is the greatest length for which a phase may last, and there is none only where it may last for any

@@ -1,6 +1,5 @@
 use Rattle.std.proofs.Common.{sym, ◌∙◌}
 use Rattle.std.proofs.lemmas.Result.{err_from_is_err_and}
-use Rattle.nf_work.specs.declared.Part.TheVariants.{Curve}
 use Rattle.nf_work.specs.Passing.{passes_Q}
 use Rattle.nf_phase.proofs.Queued.{slope_passes}
 use Rattle.nf_phase.proofs.link_steps.queue_step.Goals as goal

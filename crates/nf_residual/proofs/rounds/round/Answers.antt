@@ -1,22 +1,23 @@
 use Rattle.std.proofs.Common.{◌≤◌, length, arith}
 use Rattle.std.proofs.lemmas.Result.{err_from_is_err_and}
 use Rattle.nf_work.specs.Passing.{passes_Q}
-use Rattle.nf_residual.proofs.Rounding.{leg_settled, round_stops, round_more, round_all, settled_all}
+use Rattle.nf_residual.proofs.Rounding.{offer_stops, offer_more, old_more, round_all, settled_all}
+use Rattle.nf_residual.proofs.rounds.round.Goals.{in-Some+in_ok-offer, in_default}
 use Rattle.nf_residual.proofs.rounds.round.Goals as goal
 
-pub along-requires-clause-settled : goal.along-requires-clause-settled
-along-requires-clause-settled c = leg_settled passes_Q c.args.legs.now c.args.fresh c.args.ways.now c.args.before.now c.loop-leg.ways c.loop-leg.places.items c.loop-leg.leg-index c.loop-leg.invariant
-    c.leg-item.result c.loop-leg-test.true c.leg-item.is c.requires.tree c.requires.within
-
-pub returns-in_err-along-clause-list : goal.returns-in_err-along-clause-list
-returns-in_err-along-clause-list c =
+pub returns-in_err-offer-clause-list : goal.returns-in_err-offer-clause-list
+returns-in_err-offer-clause-list c =
     let p = err_from_is_err_and c.from_residual.result c.from_residual.ensures.1 in
-    rw (p.1, p.2) (round_stops passes_Q c.args.legs.now c.args.fresh c.args.ways.now c.args.before.now c.loop-leg.ways c.loop-leg.places.items c.loop-leg.leg-index c.loop-leg.invariant
-    c.leg-item.result c.loop-leg-test.true c.leg-item.is c.requires.tree c.requires.within c.in_err-along.field-0.0 c.in_err-along.ensures.list)
+    rw (p.1, p.2) (offer_stops passes_Q c.args.legs.now c.args.fresh c.args.ways.now c.args.before.now c.loop-leg.ways c.loop-leg.places.items c.loop-leg.leg-index c.loop-leg.invariant
+    c.leg-item.result c.loop-leg-test.true c.leg-item.is c.requires.tree c.requires.within c.in-Some.way c.in-Some.ensures.way c.in_err-offer.field-0.0 c.in_err-offer.ensures.list)
 
 pub loop-leg-preserved : goal.loop-leg-preserved
-loop-leg-preserved c = round_more passes_Q c.args.legs.now c.args.fresh c.args.ways.now c.args.before.now c.loop-leg.ways c.loop-leg.places.items c.loop-leg.leg-index c.loop-leg.invariant
-    c.leg-item.result c.loop-leg-test.true c.leg-item.is c.requires.tree c.requires.within c.requires.legs c.along.new.ways c.along.new.places.items c.in_ok-along.ensures.list c.in_ok-along.ensures.grows
+loop-leg-preserved c = elim c.match-fresh_way.branch [
+  | in-Some+in_ok-offer w ↦ rw (w.ways-is, w.places-is) (offer_more passes_Q c.args.legs.now c.args.fresh c.args.ways.now c.args.before.now c.loop-leg.ways c.loop-leg.places.items c.loop-leg.leg-index c.loop-leg.invariant
+      c.leg-item.result c.loop-leg-test.true c.leg-item.is c.requires.tree c.requires.within w.in-Some.way w.in-Some.ensures.way c.requires.legs w.offer.new.ways w.offer.new.places.items w.in_ok-offer.ensures.list w.in_ok-offer.ensures.grows)
+  | in_default w ↦ rw (w.ways-is, w.places-is) (old_more passes_Q c.args.legs.now c.args.fresh c.args.ways.now c.args.before.now c.loop-leg.ways c.loop-leg.places.items c.loop-leg.leg-index c.loop-leg.invariant
+      c.leg-item.result c.loop-leg-test.true c.leg-item.is c.requires.tree c.requires.within c.requires.legs (c.fresh_way.ensures.old w.in_default.is))
+]
 
 pub returns-clause-list : goal.returns-clause-list
 returns-clause-list c =

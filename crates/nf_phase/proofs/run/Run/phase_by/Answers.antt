@@ -55,4 +55,4 @@ returns-clause-leads c =
     c.deref-3.result.now c.deref-4.result.now (c.deref-3.ensures.value ∙ ap (λ (s : Standing). s.labels) c.self.view_is) c.deref-4.ensures.value
     (record { length = c.end.inside.length; labels = c.end.inside.labels.items }) (c.in_ok-end.ensures ∙ ap (λ (a : Advanced). Ok a) (sym c.end.view_is))
     c.args.found.sets c.deref-6.result.now c.deref-7.result.now c.deref-8.result.now c.deref-9.result.now (all_grown c.deref-5.result.now) refl c.deref-6.ensures.value c.deref-7.ensures.value c.deref-8.ensures.value
-    (c.deref-9.ensures.value ∙ c.in_ok-amounts.ensures) (ap all_grown c.deref-5.ensures.value ∙ ap (λ (s : Standing). s.link_curves) c.self.view_is) c.in_ok-extension.ensures.length _ refl refl refl c.in_ok-steps.ensures
+    (c.deref-9.ensures.value ∙ c.in_ok-amounts.ensures) (ap all_grown c.deref-5.ensures.value ∙ ap (λ (s : Standing). s.link_curves) c.self.view_is) c.requires.below c.in_ok-extension.ensures.length _ refl refl refl c.in_ok-steps.ensures

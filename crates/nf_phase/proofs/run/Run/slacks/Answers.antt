@@ -1,10 +1,11 @@
-use Rattle.std.proofs.Common.{◌≡◌, ap, ◌∙◌}
+use Rattle.std.proofs.Common.{◌≡◌, suc, ap, ◌∙◌}
 use Rattle.nf_work.specs.Passing.{passes_Q}
 use Rattle.nf_lists.specs.PhaseRun.{Standing}
 use Rattle.nf_run_laws.proofs.Standing.{label_count_at}
 use Rattle.nf_thin.proofs.Asking.{below_nodes}
 use Rattle.nf_phase.specs.Faults.{of_halt}
-use Rattle.nf_phase.specs.Stepping.{IsCause}
+use Rattle.nf_phase.specs.Stepping.{StandsFor}
+use Rattle.nf_phase.specs.Finding.{FindsNone}
 use Rattle.nf_phase.proofs.Reached.{Stands-reached}
 use Rattle.nf_phase.proofs.Found.{by_fault, slacks_cause, slacks_made}
 use Rattle.nf_phase.proofs.run.Run.slacks.Goals as goal
@@ -18,16 +19,16 @@ slacks-requires c =
 
 pub returns-in_err-slacks-clause-cause : goal.returns-in_err-slacks-clause-cause
 returns-in_err-slacks-clause-cause c =
-    by_fault c.from_residual.result (of_halt c.in_err-slacks.field-0.0) (IsCause passes_Q c.args.net.now.net c.args.horizon c.args.patterns c.args.self.now) c.from_residual.ensures.1
-    (slacks_cause passes_Q c.args.net.now.net c.args.horizon c.args.patterns c.args.self.now c.hops.result.now c.deref.result.now c.hops.ensures.value
-    (c.deref.ensures.value ∙ ap (λ (s : Standing). s.labels) c.self.view_is) c.requires.below c.in_err-slacks.field-0.0 c.in_err-slacks.ensures)
+    by_fault c.from_residual.result (of_halt c.in_err-slacks.field-0.0) (StandsFor (FindsNone passes_Q c.args.net.now.net c.args.patterns c.args.self.now) (suc c.args.self.now.made)) c.from_residual.ensures.1
+    (slacks_cause passes_Q c.args.net.now.net c.args.patterns c.args.self.now c.hops.result.now c.deref.result.now c.hops.ensures.value
+    (c.deref.ensures.value ∙ ap (λ (s : Standing). s.labels) c.self.view_is) c.in_err-slacks.field-0.0 c.in_err-slacks.ensures)
 
 pub returns-clause-slacks : goal.returns-clause-slacks
 returns-clause-slacks c =
-    (slacks_made passes_Q c.args.net.now.net c.args.horizon c.args.patterns c.args.self.now c.hops.result.now c.deref.result.now c.in_ok-slacks.slacks.items c.hops.ensures.value
+    (slacks_made passes_Q c.args.net.now.net c.args.patterns c.args.self.now c.hops.result.now c.deref.result.now c.in_ok-slacks.slacks.items c.hops.ensures.value
     (c.deref.ensures.value ∙ ap (λ (s : Standing). s.labels) c.self.view_is) c.in_ok-slacks.ensures).0
 
 pub returns-clause-list : goal.returns-clause-list
 returns-clause-list c =
-    (slacks_made passes_Q c.args.net.now.net c.args.horizon c.args.patterns c.args.self.now c.hops.result.now c.deref.result.now c.in_ok-slacks.slacks.items c.hops.ensures.value
+    (slacks_made passes_Q c.args.net.now.net c.args.patterns c.args.self.now c.hops.result.now c.deref.result.now c.in_ok-slacks.slacks.items c.hops.ensures.value
     (c.deref.ensures.value ∙ ap (λ (s : Standing). s.labels) c.self.view_is) c.in_ok-slacks.ensures).1

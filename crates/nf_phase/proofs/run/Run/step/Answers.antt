@@ -1,75 +1,23 @@
-use Rattle.std.proofs.Common.{◌+◌, List, length, suc, add-one, refl, sym, ap, subst, ◌∙◌}
-use Rattle.std.specs.Vec.{with_items}
-use Rattle.std.proofs.lemmas.List.{length-map, with_items_is}
-use Rattle.nf_rational.specs.Rational.{ℚ}
+use Rattle.std.proofs.Common.{sym, subst}
 use Rattle.nf_work.specs.Passing.{passes_Q}
-use Rattle.nf_model.specs.Entries.{number_at}
-use Rattle.nf_lists.specs.CurveList.{LinkStep}
-use Rattle.nf_lists.specs.ReportCurves.{GrowingCurve, LinkCurves}
-use Rattle.nf_lists.specs.PhaseRun.{Standing, Goes}
-use Rattle.nf_phase.specs.Growing.{Roomy, all_grown}
-use Rattle.nf_phase.specs.Stepping.{Reaches, goes_on}
-use Rattle.nf_phase.proofs.Stepped.{equilibrium_reached, ends_reached, only_phase, goes_next, curve_count, link_count, new_label_count, slope_count, step_count, source_next, labels_later, links_later, new_standing, same_standing}
+use Rattle.nf_phase.specs.Stepping.{Reaches}
+use Rattle.nf_phase.proofs.Stepped.{equilibrium_reached, ends_reached, reaches_step, only_step, begin_step, steps_made}
 use Rattle.nf_phase.proofs.ShortReached.{short_reached, keeps_reached}
 use Rattle.nf_phase.proofs.run.Run.step.Goals as goal
 
-pub departure_in-reached-requires : goal.departure_in-reached-requires
-departure_in-reached-requires c =
-    ap (λ (l : List ℚ). length l) c.deref.ensures.value ∙ new_label_count passes_Q c.args.net.now.net c.phase.ensures.named.network c.args.horizon c.args.patterns c.args.self.now c.requires.reaches c.in_ok-phase.phase c.in_ok-phase.ensures.leads
-
-pub labels_go_on-requires-clause-labels : goal.labels_go_on-requires-clause-labels
-labels_go_on-requires-clause-labels c =
-    ap (λ (l : List ℚ). length l) c.deref-2.ensures.value ∙ new_label_count passes_Q c.args.net.now.net c.phase.ensures.named.network c.args.horizon c.args.patterns c.args.self.now c.requires.reaches c.in_ok-phase.phase c.in_ok-phase.ensures.leads ∙ sym (curve_count passes_Q c.args.net.now.net c.phase.ensures.named.network c.args.horizon c.args.patterns c.args.self.now c.requires.reaches c.in_ok-phase.phase c.in_ok-phase.ensures.leads) ∙ ap (λ (l : List GrowingCurve). length l) (sym (ap all_grown (c.deref_mut-3.ensures.value ∙ with_items_is c.self.inside.label_curves c.reserve_labels.new.curves (c.reserve_labels.auto.curves ∙ c.deref_mut.ensures.len)) ∙ c.in_ok-reserve_labels.ensures.same ∙ ap all_grown c.deref_mut.ensures.value ∙ ap (λ (s : Standing). s.label_curves) c.self.view_is))
-    ∙ length-map c.deref_mut-3.result.now (λ (r : Roomy GrowingCurve). r.grown)
-
-pub labels_go_on-requires-clause-slopes : goal.labels_go_on-requires-clause-slopes
-labels_go_on-requires-clause-slopes c =
-    ap (λ (l : List ℚ). length l) c.deref-3.ensures.value ∙ slope_count passes_Q c.args.net.now.net c.phase.ensures.named.network c.args.horizon c.args.patterns c.args.self.now c.requires.reaches c.in_ok-phase.phase c.in_ok-phase.ensures.leads ∙ sym (curve_count passes_Q c.args.net.now.net c.phase.ensures.named.network c.args.horizon c.args.patterns c.args.self.now c.requires.reaches c.in_ok-phase.phase c.in_ok-phase.ensures.leads) ∙ ap (λ (l : List GrowingCurve). length l) (sym (ap all_grown (c.deref_mut-3.ensures.value ∙ with_items_is c.self.inside.label_curves c.reserve_labels.new.curves (c.reserve_labels.auto.curves ∙ c.deref_mut.ensures.len)) ∙ c.in_ok-reserve_labels.ensures.same ∙ ap all_grown c.deref_mut.ensures.value ∙ ap (λ (s : Standing). s.label_curves) c.self.view_is))
-    ∙ length-map c.deref_mut-3.result.now (λ (r : Roomy GrowingCurve). r.grown)
-
-pub labels_go_on-requires-clause-room : goal.labels_go_on-requires-clause-room
-labels_go_on-requires-clause-room c =
-    rw (c.deref_mut-3.ensures.value ∙ with_items_is c.self.inside.label_curves c.reserve_labels.new.curves (c.reserve_labels.auto.curves ∙ c.deref_mut.ensures.len)) c.in_ok-reserve_labels.ensures.room
-
-pub labels_go_on-requires-clause-later : goal.labels_go_on-requires-clause-later
-labels_go_on-requires-clause-later c =
-    rw ((ap all_grown (c.deref_mut-3.ensures.value ∙ with_items_is c.self.inside.label_curves c.reserve_labels.new.curves (c.reserve_labels.auto.curves ∙ c.deref_mut.ensures.len)) ∙ c.in_ok-reserve_labels.ensures.same ∙ ap all_grown c.deref_mut.ensures.value ∙ ap (λ (s : Standing). s.label_curves) c.self.view_is)) (labels_later passes_Q c.args.net.now.net c.phase.ensures.named.network c.args.horizon c.args.patterns c.args.self.now c.requires.reaches c.in_ok-phase.phase c.in_ok-phase.ensures.leads c.departure_in-reached.result
-    (c.departure_in-reached.ensures ∙ ap (λ (l : List ℚ). number_at l c.args.net.now.net.source) c.deref.ensures.value ∙ source_next passes_Q c.args.net.now.net c.phase.ensures.named.network c.args.horizon c.args.patterns c.args.self.now c.requires.reaches c.in_ok-phase.phase c.in_ok-phase.ensures.leads))
-
-pub links_go_on-requires-clause-labels : goal.links_go_on-requires-clause-labels
-links_go_on-requires-clause-labels c =
-    ap (λ (l : List ℚ). length l) c.deref-4.ensures.value ∙ new_label_count passes_Q c.args.net.now.net c.phase.ensures.named.network c.args.horizon c.args.patterns c.args.self.now c.requires.reaches c.in_ok-phase.phase c.in_ok-phase.ensures.leads
-
-pub links_go_on-requires-clause-curves : goal.links_go_on-requires-clause-curves
-links_go_on-requires-clause-curves c =
-    sym (length-map c.deref_mut-4.result.now (λ (r : Roomy LinkCurves). r.grown)) ∙ ap (λ (l : List LinkCurves). length l) (ap all_grown (c.deref_mut-4.ensures.value ∙ with_items_is c.self.inside.link_curves c.reserve_links.new.curves (c.reserve_links.auto.curves ∙ c.deref_mut-2.ensures.len)) ∙ c.in_ok-reserve_links.ensures.same ∙ ap all_grown c.deref_mut-2.ensures.value ∙ ap (λ (s : Standing). s.link_curves) c.self.view_is) ∙ link_count passes_Q c.args.net.now.net c.phase.ensures.named.network c.args.horizon c.args.patterns c.args.self.now c.requires.reaches c.in_ok-phase.phase c.in_ok-phase.ensures.leads
-
-pub links_go_on-requires-clause-steps : goal.links_go_on-requires-clause-steps
-links_go_on-requires-clause-steps c =
-    ap (λ (l : List LinkStep). length l) c.deref-5.ensures.value ∙ step_count passes_Q c.args.net.now.net c.phase.ensures.named.network c.args.horizon c.args.patterns c.args.self.now c.requires.reaches c.in_ok-phase.phase c.in_ok-phase.ensures.leads
-
-pub links_go_on-requires-clause-room : goal.links_go_on-requires-clause-room
-links_go_on-requires-clause-room c =
-    rw (c.deref_mut-4.ensures.value ∙ with_items_is c.self.inside.link_curves c.reserve_links.new.curves (c.reserve_links.auto.curves ∙ c.deref_mut-2.ensures.len)) c.in_ok-reserve_links.ensures.room
-
-pub links_go_on-requires-clause-later : goal.links_go_on-requires-clause-later
-links_go_on-requires-clause-later c =
-    rw (c.deref-4.ensures.value, c.deref-5.ensures.value, (ap all_grown (c.deref_mut-4.ensures.value ∙ with_items_is c.self.inside.link_curves c.reserve_links.new.curves (c.reserve_links.auto.curves ∙ c.deref_mut-2.ensures.len)) ∙ c.in_ok-reserve_links.ensures.same ∙ ap all_grown c.deref_mut-2.ensures.value ∙ ap (λ (s : Standing). s.link_curves) c.self.view_is)) (links_later passes_Q c.args.net.now.net c.phase.ensures.named.network c.args.horizon c.args.patterns c.args.self.now c.requires.reaches c.in_ok-phase.phase c.in_ok-phase.ensures.leads)
-
 pub returns-clause-goes : goal.returns-clause-goes
 returns-clause-goes c =
-    subst (Goes passes_Q c.args.net.now.net c.args.horizon c.args.patterns c.args.self.now) (sym (new_standing passes_Q c.args.net.now.net c.phase.ensures.named.network c.args.horizon c.args.patterns c.args.self.now c.requires.reaches c.in_ok-phase.phase c.in_ok-phase.ensures.leads c.departure_in-reached.result (all_grown (with_items (with_items c.self.inside.label_curves c.reserve_labels.new.curves) c.labels_go_on.new.curves).items) (all_grown (with_items (with_items c.self.inside.link_curves c.reserve_links.new.curves) c.links_go_on.new.curves).items) (c.self.inside.made + 1) c.in_ok-phase.phase.pattern
-    (c.departure_in-reached.ensures ∙ ap (λ (l : List ℚ). number_at l c.args.net.now.net.source) c.deref.ensures.value ∙ source_next passes_Q c.args.net.now.net c.phase.ensures.named.network c.args.horizon c.args.patterns c.args.self.now c.requires.reaches c.in_ok-phase.phase c.in_ok-phase.ensures.leads)
-    (ap all_grown (with_items_is (with_items c.self.inside.label_curves c.reserve_labels.new.curves) c.labels_go_on.new.curves (c.labels_go_on.auto.curves ∙ c.deref_mut-3.ensures.len)) ∙ c.labels_go_on.ensures ∙ rw (c.deref-2.ensures.value, c.deref-3.ensures.value, (ap all_grown (c.deref_mut-3.ensures.value ∙ with_items_is c.self.inside.label_curves c.reserve_labels.new.curves (c.reserve_labels.auto.curves ∙ c.deref_mut.ensures.len)) ∙ c.in_ok-reserve_labels.ensures.same ∙ ap all_grown c.deref_mut.ensures.value ∙ ap (λ (s : Standing). s.label_curves) c.self.view_is)) refl)
-    (ap all_grown (with_items_is (with_items c.self.inside.link_curves c.reserve_links.new.curves) c.links_go_on.new.curves (c.links_go_on.auto.curves ∙ c.deref_mut-4.ensures.len)) ∙ c.links_go_on.ensures ∙ rw (c.deref-4.ensures.value, c.deref-5.ensures.value, (ap all_grown (c.deref_mut-4.ensures.value ∙ with_items_is c.self.inside.link_curves c.reserve_links.new.curves (c.reserve_links.auto.curves ∙ c.deref_mut-2.ensures.len)) ∙ c.in_ok-reserve_links.ensures.same ∙ ap all_grown c.deref_mut-2.ensures.value ∙ ap (λ (s : Standing). s.link_curves) c.self.view_is)) refl)
-    (add-one c.self.inside.made ∙ ap (λ (s : Standing). suc s.made) c.self.view_is) refl)) (goes_next passes_Q c.args.net.now.net c.phase.ensures.named.network c.args.horizon c.args.patterns c.args.self.now c.requires.reaches c.in_ok-phase.phase c.in_ok-phase.ensures.leads)
+    steps_made passes_Q c.args.net.now.net c.phase.ensures.named.network c.args.horizon c.args.patterns c.args.self.now c.requires.reaches c.in_ok-next.next.phase c.in_ok-next.ensures.leads c.in_ok-next.next.rests c.in_ok-next.ensures.rests
+    c.go_on_by.new.self c.in_ok-go_on_by.ensures.made
+
+pub returns-clause-begins : goal.returns-clause-begins
+returns-clause-begins c = λ none. begin_step passes_Q c.args.net.now.net c.args.horizon c.args.patterns c.args.self.now c.go_on_by.new.self none (returns-clause-goes c)
 
 pub returns-clause-only : goal.returns-clause-only
-returns-clause-only c =
-    only_phase passes_Q c.args.net.now.net c.phase.ensures.named.network c.args.self.now c.requires.reaches c.args.horizon c.args.patterns _ (returns-clause-goes c)
+returns-clause-only c = only_step passes_Q c.args.net.now.net c.phase.ensures.named.network c.args.self.now c.requires.reaches c.args.horizon c.args.patterns _ (returns-clause-goes c)
 
 pub returns-clause-reaches : goal.returns-clause-reaches
-returns-clause-reaches c = goes_on c.args.horizon c.args.patterns c.requires.reaches (returns-clause-goes c)
+returns-clause-reaches c = reaches_step passes_Q c.args.net.now.net c.phase.ensures.named.network c.args.self.now c.requires.reaches c.args.horizon c.args.patterns _ (returns-clause-goes c)
 
 pub returns-clause-equilibrium : goal.returns-clause-equilibrium
 returns-clause-equilibrium c = equilibrium_reached passes_Q c.args.net.now.net c.phase.ensures.named.network _ (returns-clause-reaches c)
@@ -84,50 +32,29 @@ pub returns-clause-short : goal.returns-clause-short
 returns-clause-short c = short_reached passes_Q c.args.net.now.net c.phase.ensures.named.network _ (returns-clause-reaches c)
 
 -- ---- where the step is refused the run stands where it stood
-pub returns-in_err-phase-clause-equilibrium : goal.returns-in_err-phase-clause-equilibrium
-returns-in_err-phase-clause-equilibrium c = equilibrium_reached passes_Q c.args.net.now.net c.phase.ensures.named.network _ c.requires.reaches
+pub returns-in_err-next-clause-equilibrium : goal.returns-in_err-next-clause-equilibrium
+returns-in_err-next-clause-equilibrium c = equilibrium_reached passes_Q c.args.net.now.net c.phase.ensures.named.network _ c.requires.reaches
 
-pub returns-in_err-phase-clause-ends : goal.returns-in_err-phase-clause-ends
-returns-in_err-phase-clause-ends c = ends_reached passes_Q c.args.net.now.net c.phase.ensures.named.network _ c.requires.reaches
+pub returns-in_err-next-clause-ends : goal.returns-in_err-next-clause-ends
+returns-in_err-next-clause-ends c = ends_reached passes_Q c.args.net.now.net c.phase.ensures.named.network _ c.requires.reaches
 
-pub returns-in_err-phase-clause-labels : goal.returns-in_err-phase-clause-labels
-returns-in_err-phase-clause-labels c = keeps_reached passes_Q c.args.net.now.net c.phase.ensures.named.network _ c.requires.reaches
+pub returns-in_err-next-clause-labels : goal.returns-in_err-next-clause-labels
+returns-in_err-next-clause-labels c = keeps_reached passes_Q c.args.net.now.net c.phase.ensures.named.network _ c.requires.reaches
 
-pub returns-in_err-phase-clause-short : goal.returns-in_err-phase-clause-short
-returns-in_err-phase-clause-short c = short_reached passes_Q c.args.net.now.net c.phase.ensures.named.network _ c.requires.reaches
+pub returns-in_err-next-clause-short : goal.returns-in_err-next-clause-short
+returns-in_err-next-clause-short c = short_reached passes_Q c.args.net.now.net c.phase.ensures.named.network _ c.requires.reaches
 
-pub returns-in_err-reserve_labels-clause-reaches : goal.returns-in_err-reserve_labels-clause-reaches
-returns-in_err-reserve_labels-clause-reaches c =
-    subst (Reaches passes_Q c.args.net.now.net) (sym (same_standing _ c.args.self.now _ _ c.self.view_is
-    (ap all_grown (with_items_is c.self.inside.label_curves c.reserve_labels.new.curves (c.reserve_labels.auto.curves ∙ c.deref_mut.ensures.len)) ∙ c.in_err-reserve_labels.ensures.same ∙ ap all_grown c.deref_mut.ensures.value)
-    refl)) c.requires.reaches
+pub returns-in_err-go_on_by-clause-reaches : goal.returns-in_err-go_on_by-clause-reaches
+returns-in_err-go_on_by-clause-reaches c = subst (Reaches passes_Q c.args.net.now.net) (sym c.in_err-go_on_by.ensures.kept) c.requires.reaches
 
-pub returns-in_err-reserve_labels-clause-equilibrium : goal.returns-in_err-reserve_labels-clause-equilibrium
-returns-in_err-reserve_labels-clause-equilibrium c = equilibrium_reached passes_Q c.args.net.now.net c.phase.ensures.named.network _ (returns-in_err-reserve_labels-clause-reaches c)
+pub returns-in_err-go_on_by-clause-equilibrium : goal.returns-in_err-go_on_by-clause-equilibrium
+returns-in_err-go_on_by-clause-equilibrium c = equilibrium_reached passes_Q c.args.net.now.net c.phase.ensures.named.network _ (returns-in_err-go_on_by-clause-reaches c)
 
-pub returns-in_err-reserve_labels-clause-ends : goal.returns-in_err-reserve_labels-clause-ends
-returns-in_err-reserve_labels-clause-ends c = ends_reached passes_Q c.args.net.now.net c.phase.ensures.named.network _ (returns-in_err-reserve_labels-clause-reaches c)
+pub returns-in_err-go_on_by-clause-ends : goal.returns-in_err-go_on_by-clause-ends
+returns-in_err-go_on_by-clause-ends c = ends_reached passes_Q c.args.net.now.net c.phase.ensures.named.network _ (returns-in_err-go_on_by-clause-reaches c)
 
-pub returns-in_err-reserve_labels-clause-labels : goal.returns-in_err-reserve_labels-clause-labels
-returns-in_err-reserve_labels-clause-labels c = keeps_reached passes_Q c.args.net.now.net c.phase.ensures.named.network _ (returns-in_err-reserve_labels-clause-reaches c)
+pub returns-in_err-go_on_by-clause-labels : goal.returns-in_err-go_on_by-clause-labels
+returns-in_err-go_on_by-clause-labels c = keeps_reached passes_Q c.args.net.now.net c.phase.ensures.named.network _ (returns-in_err-go_on_by-clause-reaches c)
 
-pub returns-in_err-reserve_labels-clause-short : goal.returns-in_err-reserve_labels-clause-short
-returns-in_err-reserve_labels-clause-short c = short_reached passes_Q c.args.net.now.net c.phase.ensures.named.network _ (returns-in_err-reserve_labels-clause-reaches c)
-
-pub returns-in_err-reserve_links-clause-reaches : goal.returns-in_err-reserve_links-clause-reaches
-returns-in_err-reserve_links-clause-reaches c =
-    subst (Reaches passes_Q c.args.net.now.net) (sym (same_standing _ c.args.self.now _ _ c.self.view_is
-    (ap all_grown (with_items_is c.self.inside.label_curves c.reserve_labels.new.curves (c.reserve_labels.auto.curves ∙ c.deref_mut.ensures.len)) ∙ c.in_ok-reserve_labels.ensures.same ∙ ap all_grown c.deref_mut.ensures.value)
-    (ap all_grown (with_items_is c.self.inside.link_curves c.reserve_links.new.curves (c.reserve_links.auto.curves ∙ c.deref_mut-2.ensures.len)) ∙ c.in_err-reserve_links.ensures.same ∙ ap all_grown c.deref_mut-2.ensures.value))) c.requires.reaches
-
-pub returns-in_err-reserve_links-clause-equilibrium : goal.returns-in_err-reserve_links-clause-equilibrium
-returns-in_err-reserve_links-clause-equilibrium c = equilibrium_reached passes_Q c.args.net.now.net c.phase.ensures.named.network _ (returns-in_err-reserve_links-clause-reaches c)
-
-pub returns-in_err-reserve_links-clause-ends : goal.returns-in_err-reserve_links-clause-ends
-returns-in_err-reserve_links-clause-ends c = ends_reached passes_Q c.args.net.now.net c.phase.ensures.named.network _ (returns-in_err-reserve_links-clause-reaches c)
-
-pub returns-in_err-reserve_links-clause-labels : goal.returns-in_err-reserve_links-clause-labels
-returns-in_err-reserve_links-clause-labels c = keeps_reached passes_Q c.args.net.now.net c.phase.ensures.named.network _ (returns-in_err-reserve_links-clause-reaches c)
-
-pub returns-in_err-reserve_links-clause-short : goal.returns-in_err-reserve_links-clause-short
-returns-in_err-reserve_links-clause-short c = short_reached passes_Q c.args.net.now.net c.phase.ensures.named.network _ (returns-in_err-reserve_links-clause-reaches c)
+pub returns-in_err-go_on_by-clause-short : goal.returns-in_err-go_on_by-clause-short
+returns-in_err-go_on_by-clause-short c = short_reached passes_Q c.args.net.now.net c.phase.ensures.named.network _ (returns-in_err-go_on_by-clause-reaches c)

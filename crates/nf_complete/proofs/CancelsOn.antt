@@ -1,0 +1,138 @@
+-- Cycles of interior links are cancelled, one after the other.
+use Rattle.std.proofs.Common.{◌≡◌, ℕ, ◌<◌, List, length, Bool, sym, ap, subst, refl, ◌∙◌}
+use Rattle.std.specs.Prelude.{◌↔◌, Option, Some, None, Result, Ok, Err, IfOk, MatchOption}
+use Rattle.std.proofs.lemmas.Option.{MatchOption-at_some, MatchOption-at_none}
+use Rattle.nf_rational.specs.Rational.{ℚ}
+use Rattle.nf_work.specs.Passing.{Passing}
+use Rattle.nf_work.specs.declared.Passed.{Passed}
+use Rattle.nf_work.specs.declared.PassedAt.{PassedAt}
+use Rattle.nf_work.specs.declared.Halt.{Halt}
+use Rattle.nf_work.specs.declared.Halt.TheVariants as Halt
+use Rattle.nf_work.specs.declared.Part.TheVariants.{Verdict}
+use Rattle.nf_work.specs.Checked.{Checked, at_part, placed, seen_passed_at, Stops}
+use Rattle.nf_model.specs.Entries.{Has}
+use Rattle.nf_model.specs.Network.{Network, hops}
+use Rattle.nf_model.specs.ThinFlow.{Sets, IsThinFlow}
+use Rattle.nf_model.specs.Pattern.{IsForest}
+use Rattle.nf_plain_laws.proofs.Results.{same_Err}
+use Rattle.nf_complete_lists.specs.Interior.{IsInterior, IsCycle, IsNextCycle}
+use Rattle.nf_complete_lists.specs.Cancelling.{fulls_list, cancel_list, Cancels, no_cycle, cancels, passes_at, Settles, settles, stops}
+use Rattle.nf_complete_laws.specs.SettleLaws.{AreGoodSets}
+use Rattle.nf_complete_laws.proofs.Cancelled.{IsThinFlow-cancelled, interior-before, Ended, one-ended}
+use Rattle.nf_complete_laws.proofs.OneCycle.{weaker}
+use Rattle.nf_complete.specs.Cycles.{IsFirstCycle}
+use Rattle.nf_complete.specs.Settling.{ComesTo}
+use Rattle.nf_complete.specs.InteriorFlags.{interior_flags}
+use Rattle.nf_complete.proofs.Cycling.{forest-weaker}
+use Rattle.nf_complete.proofs.Interiors.{set_count, fewer_set, flags_are}
+
+-- ---- the first cycle of links that are chosen by flags is the next one, where the flags are those of interior links
+module _ (net : Network) (sets : Sets) (slopes flows : List ℚ) (flags : List Bool) (are : (e : ℕ) → Has flags e ↔ IsInterior net sets slopes flows e) where
+  pub next_of : (steps : List (ℕ × Bool)) → IsFirstCycle (hops net) flags steps → IsNextCycle net sets slopes flows steps
+  next_of steps f = record {
+    cycle = record {
+      first = f.closed.first;
+      rest = f.closed.rest;
+      steps_are = f.closed.steps_are;
+      start = f.closed.start;
+      trail = weaker (hops net) (Has flags) (IsInterior net sets slopes flows) steps f.closed.start f.closed.start f.closed.trail (λ e _ h. (are e).0 h);
+      differ = f.closed.differ;
+    };
+    last = f.closed.last;
+    closes = f.closed.closes;
+    highest = f.closed.highest;
+    before = forest-weaker (hops net) (λ e. (e < f.closed.last) × Has flags e) (λ e. (e < f.closed.last) × IsInterior net sets slopes flows e) (λ e w. (w.0, (are e).1 w.1)) f.closed.before;
+    lowest = f.lowest;
+    grows = f.grows;
+    least = f.least;
+  }
+
+  pub forest_of : IsForest (hops net) (Has flags) → IsForest (hops net) (IsInterior net sets slopes flows)
+  forest_of f = forest-weaker (hops net) (Has flags) (IsInterior net sets slopes flows) (λ e i. (are e).1 i) f
+
+  abbrev Found : {X : Type 0} → (X → List (ℕ × Bool)) → Option X → Type 0
+  Found steps_of found = MatchOption found (IsForest (hops net) (IsInterior net sets slopes flows)) (λ x. IsNextCycle net sets slopes flows (steps_of x))
+
+  pub found_of : {X E : Type 0} (steps_of : X → List (ℕ × Bool)) (result : Result (Option X) E) → IfOk result (λ found. MatchOption found (IsForest (hops net) (Has flags)) (λ x. IsFirstCycle (hops net) flags (steps_of x)))
+      → IfOk result (Found steps_of)
+  found_of steps_of (Ok (Some x)) h = next_of (steps_of x) h
+  found_of steps_of (Ok None) h = forest_of h
+  found_of steps_of (Err e) h = tt
+
+-- ---- what passes, as an answer
+pub passed_of : {A : Type 0} (list : Checked A) (p : PassedAt ℚ) → at_part Verdict list ≡ Err p → (q : Passed ℚ) × (list ≡ Err q) × (p ≡ placed Verdict q)
+passed_of (Ok x) p e = absurd (cc)
+passed_of {A = A} (Err q) p e = (q, refl, sym (same_Err {A = A} (placed Verdict q) p e))
+
+pub halts_of : {A X : Type 0} (Comes : Checked (List ℚ) → Type 0) (flows_of : X → List ℚ) (list : Checked A) (halt : Halt ℚ) → ((q : Passed ℚ) → list ≡ Err q → Comes (Err q))
+    → Stops (λ q. q) halt (at_part Verdict list) → ComesTo Comes flows_of (Err halt)
+halts_of Comes flows_of list (Halt.Passed p) f said = let q = passed_of list (seen_passed_at (λ (x : ℚ). x) p) said in (q.0, f q.0 q.1, q.2)
+halts_of Comes flows_of list Halt.Memory f said = tt
+
+-- ---- as a loop sees it: the flows that it reads are those so far
+pub next_at : {X : Type 0} (steps_of : X → List (ℕ × Bool)) (net : Network) (sets : Sets) (slopes seen flows : List ℚ) (found : Option X) (x : X) → seen ≡ flows → found ≡ Some x
+    → MatchOption found (IsForest (hops net) (IsInterior net sets slopes seen)) (λ y. IsNextCycle net sets slopes seen (steps_of y)) → IsNextCycle net sets slopes flows (steps_of x)
+next_at steps_of net sets slopes seen flows found x same is h = subst (λ (f : List ℚ). IsNextCycle net sets slopes f (steps_of x)) same
+    (MatchOption-at_some (IsForest (hops net) (IsInterior net sets slopes seen)) (λ y. IsNextCycle net sets slopes seen (steps_of y)) x is h)
+
+pub none_at : {X : Type 0} (steps_of : X → List (ℕ × Bool)) (net : Network) (sets : Sets) (slopes seen flows : List ℚ) (found : Option X) → seen ≡ flows → found ≡ None
+    → MatchOption found (IsForest (hops net) (IsInterior net sets slopes seen)) (λ y. IsNextCycle net sets slopes seen (steps_of y)) → IsForest (hops net) (IsInterior net sets slopes flows)
+none_at steps_of net sets slopes seen flows found same is h = subst (λ (f : List ℚ). IsForest (hops net) (IsInterior net sets slopes f)) same
+    (MatchOption-at_none (IsForest (hops net) (IsInterior net sets slopes seen)) (λ y. IsNextCycle net sets slopes seen (steps_of y)) is h)
+
+pub list_at : (passes : Passing) (fulls : List (Option ℚ)) (read steps : List (ℕ × Bool)) (seen flows : List ℚ) → read ≡ steps → seen ≡ flows → cancel_list passes read fulls seen ≡ cancel_list passes steps fulls flows
+list_at passes fulls read steps seen flows e f = ap (λ (s : List (ℕ × Bool)). cancel_list passes s fulls seen) e ∙ ap (cancel_list passes steps fulls) f
+
+-- ---- one after the other
+-- these flows are a thin flow, and the first flows come to what they come to
+pub record CancelsOn (passes : Passing) (net : Network) (sets : Sets) (rate : ℚ) (slopes : List ℚ) (fulls : List (Option ℚ)) (first flows : List ℚ) : Type 0 where
+  pub thin : IsThinFlow net sets rate flows slopes
+  pub on : (result : Checked (List ℚ)) → Cancels passes net sets slopes fulls flows result → Cancels passes net sets slopes fulls first result
+
+module _ (passes : Passing) (net : Network) (sets : Sets) (rate : ℚ) (slopes : List ℚ) (fulls : List (Option ℚ)) (first : List ℚ) where
+  abbrev Comes : Checked (List ℚ) → Type 0
+  Comes result = Cancels passes net sets slopes fulls first result
+
+  abbrev On : List ℚ → Type 0
+  On flows = CancelsOn passes net sets rate slopes fulls first flows
+
+  pub cancels_first : (flows : List ℚ) → flows ≡ first → IsThinFlow net sets rate first slopes → On flows
+  cancels_first flows e thin = subst On (sym e) (record { thin = thin; on = λ result c. c })
+
+  pub cancels_end : (flows : List ℚ) → On flows → IsForest (hops net) (IsInterior net sets slopes flows) → Comes (Ok flows)
+  cancels_end flows so forest = so.on (Ok flows) (no_cycle forest)
+
+  module _ (flows : List ℚ) (so : On flows) (steps : List (ℕ × Bool)) (next : IsNextCycle net sets slopes flows steps) where
+    pub cancels_stop : (q : Passed ℚ) → cancel_list passes steps fulls flows ≡ Err q → Comes (Err q)
+    cancels_stop q e = so.on (Err q) (passes_at steps next e)
+
+    module _ (good : AreGoodSets net sets) (fulls_ok : fulls_list passes net sets slopes ≡ Ok fulls) (new : List ℚ) (ok : cancel_list passes steps fulls flows ≡ Ok new) where
+      pub cancels_more : On new
+      cancels_more = record {
+        thin = IsThinFlow-cancelled passes net sets rate flows slopes good.network good.acyclic so.thin fulls fulls_ok steps next.cycle new ok;
+        on = λ result c. so.on result (cancels steps next ok c);
+      }
+
+      pub fewer_interior : set_count (interior_flags sets fulls new) < set_count (interior_flags sets fulls flows)
+      fewer_interior =
+          let ended : Ended passes net sets rate flows slopes good.network good.acyclic so.thin fulls fulls_ok steps next.cycle new ok =
+          one-ended passes net sets rate flows slopes good.network good.acyclic so.thin fulls fulls_ok steps next.cycle new ok in
+          fewer_set (interior_flags sets fulls new) (interior_flags sets fulls flows)
+          (λ e h. (flags_are passes net sets slopes fulls fulls_ok flows so.thin.flow_count e).1
+          (interior-before passes net sets rate flows slopes good.network good.acyclic so.thin fulls fulls_ok steps next.cycle new ok e
+          ((flags_are passes net sets slopes fulls fulls_ok new cancels_more.thin.flow_count e).0 h)))
+          ended.0 ((flags_are passes net sets slopes fulls fulls_ok flows so.thin.flow_count ended.0).1 ended.1)
+          (λ h. ended.2 ((flags_are passes net sets slopes fulls fulls_ok new cancels_more.thin.flow_count ended.0).0 h))
+
+-- ---- with what fills the links
+module _ (passes : Passing) (net : Network) (sets : Sets) (slopes flows : List ℚ) where
+  pub settles_stop : (q : Passed ℚ) → fulls_list passes net sets slopes ≡ Err q → Settles passes net sets slopes flows (Err q)
+  settles_stop q e = stops q e
+
+  pub settles_on : {X : Type 0} (flows_of : X → List ℚ) (fulls : List (Option ℚ)) → fulls_list passes net sets slopes ≡ Ok fulls → (halt : Halt ℚ)
+      → ComesTo (Cancels passes net sets slopes fulls flows) flows_of (Err halt) → {Y : Type 0} (others_of : Y → List ℚ) → ComesTo (Settles passes net sets slopes flows) others_of (Err halt)
+  settles_on flows_of fulls ok (Halt.Passed p) c others_of = (c.0, settles fulls (Err c.0) ok c.1, c.2)
+  settles_on flows_of fulls ok Halt.Memory c others_of = tt
+
+  pub settles_to : (fulls : List (Option ℚ)) → fulls_list passes net sets slopes ≡ Ok fulls → (new : List ℚ) → Cancels passes net sets slopes fulls flows (Ok new) → Settles passes net sets slopes flows (Ok new)
+  settles_to fulls ok new c = settles fulls (Ok new) ok c

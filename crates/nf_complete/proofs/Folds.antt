@@ -1,0 +1,40 @@
+-- A loop over a list, one value after the other.
+use Rattle.std.proofs.Common.{◌≡◌, ℕ, zero, suc, ◌≤◌, List, [], ◌∷◌, length, drop, ap, refl, ◌∙◌}
+use Rattle.std.specs.Prelude.{Some, slice_get, Result, Ok, Err}
+use Rattle.std.proofs.Math.ListN.{drop_of_length-le}
+use Rattle.std.proofs.lemmas.Option.{none-some, same_Some}
+use Rattle.nf_rational.specs.Rational.{ℚ}
+use Rattle.nf_work.specs.declared.Part.{Part}
+use Rattle.nf_work.specs.declared.Passed.{Passed}
+use Rattle.nf_work.specs.declared.PassedAt.{PassedAt}
+use Rattle.nf_work.specs.Checked.{fold_checked, placed, at_part}
+use Rattle.nf_work.proofs.Each.{fold_ok, fold_err}
+use Rattle.nf_plain_laws.proofs.Results.{same_Err}
+
+pub drop_at : {A : Type 0} (xs : List A) (i : ℕ) (x : A) → slice_get xs i ≡ Some x → drop i xs ≡ x ∷ drop (suc i) xs
+drop_at [] i x e = absurd (none-some x e)
+drop_at (y ∷ xs) zero x e = ap (λ (z : _). z ∷ xs) (same_Some y x e)
+drop_at (y ∷ xs) (suc i) x e = drop_at xs i x e
+
+-- the value that a part of the work gives
+pub part_ok : {A : Type 0} (part : Part) (r : Result A (Passed ℚ)) (x : A) → Ok x ≡ at_part part r → r ≡ Ok x
+part_ok part (Ok y) x e = cc
+part_ok part (Err q) x e = absurd (cc)
+
+module _ {A B : Type 0} (f : B → A → Result B (Passed ℚ)) (xs : List A) (start : B) where
+  abbrev pub FoldsOn : B → ℕ → Type 0
+  FoldsOn so_far i = fold_checked f start xs ≡ fold_checked f so_far (drop i xs)
+
+  module _ (so_far : B) (i : ℕ) (x : A) (at : slice_get xs i ≡ Some x) (so : FoldsOn so_far i) where
+    pub folds_more : (next : B) → f so_far x ≡ Ok next → FoldsOn next (suc i)
+    folds_more next e = so ∙ (ap (fold_checked f so_far) (drop_at xs i x at) ∙ fold_ok f so_far x (drop (suc i) xs) next e)
+
+    pub fold_stops : (part : Part) (p : PassedAt ℚ) → at_part part (f so_far x) ≡ Err p → at_part part (fold_checked f start xs) ≡ Err p
+    fold_stops part p e = go (f so_far x) refl e
+      where
+        go : (r : Result B (Passed ℚ)) → f so_far x ≡ r → at_part part r ≡ Err p → at_part part (fold_checked f start xs) ≡ Err p
+        go (Ok y) k e = absurd (cc)
+        go (Err q) k e = ap (at_part part) (so ∙ (ap (fold_checked f so_far) (drop_at xs i x at) ∙ fold_err f so_far x (drop (suc i) xs) q k)) ∙ ap Err (same_Err {A = B} (placed part q) p e)
+
+  pub fold_ends : (so_far : B) (i : ℕ) → length xs ≤ i → FoldsOn so_far i → fold_checked f start xs ≡ Ok so_far
+  fold_ends so_far i end so = so ∙ ap (fold_checked f so_far) (drop_of_length-le xs end)

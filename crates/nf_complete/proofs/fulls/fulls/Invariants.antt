@@ -1,0 +1,8 @@
+use Rattle.nf_work.specs.Passing.{passes_Q}
+use Rattle.nf_complete_lists.specs.Cancelling.{full_at}
+use Rattle.nf_complete.proofs.Numbered.{SoFar}
+use Rattle.nf_complete.proofs.fulls.fulls.Given as goal
+
+-- what fills the links so far stands before what fills the others
+abbrev pub invariant-loop-e : goal.invariant-loop-e
+invariant-loop-e l = SoFar (full_at passes_Q l.sets l.slopes) l.net.net.links l.fulls.items l.e

@@ -1,0 +1,13 @@
+use Rattle.nf_work.specs.Passing.{passes_Q}
+use Rattle.nf_complete.specs.InteriorFlags.{interior_flags}
+use Rattle.nf_complete.proofs.Interiors.{set_count}
+use Rattle.nf_complete.proofs.CancelsOn.{CancelsOn}
+use Rattle.nf_complete.proofs.settling.cancelled.Given as goal
+
+-- what the flows so far come to, the first flows come to
+abbrev pub invariant-loop-new : goal.invariant-loop-new
+invariant-loop-new l = CancelsOn passes_Q l.net.net l.sets l.fn.rate l.slopes l.fulls l.flows l.new.items
+
+-- each cycle leaves fewer interior links
+abbrev pub decreases-loop-new : goal.decreases-loop-new
+decreases-loop-new l = set_count (interior_flags l.sets l.fulls l.new.items)

@@ -1,0 +1,10 @@
+use Rattle.std.specs.List.{enumerate_from}
+use Rattle.nf_work.specs.Passing.{passes_Q}
+use Rattle.nf_complete_lists.specs.Cancelling.{full_at}
+use Rattle.nf_complete.specs.ThinParts.{KeepsAt}
+use Rattle.nf_complete.proofs.Telling.{ToldBelow}
+use Rattle.nf_complete.proofs.slopes.keep_slopes.Given as goal
+
+-- what is said of the links so far
+abbrev pub invariant-loop-e : goal.invariant-loop-e
+invariant-loop-e l = ToldBelow (full_at passes_Q l.sets l.slopes) (λ p. KeepsAt l.sets l.flows l.slopes p.0 p.1) (enumerate_from 0 l.net.net.links) l.e l.all

@@ -1,0 +1,22 @@
+-- Which links are interior, by what fills them.
+use Rattle.std.specs.Prelude.{ℕ, ◌&&◌, Bool, true, false, not, List, length, map, Option, Some, None, slice_get, unwrap_or}
+use Rattle.std.specs.List.{range_with_len}
+use Rattle.nf_rational.specs.Rational.{ℚ}
+use Rattle.nf_rational.specs.Operations.{0ℚ}
+use Rattle.nf_rational.specs.Order.{lt_ℚ}
+use Rattle.nf_model.specs.Entries.{number_at}
+use Rattle.nf_model.specs.ThinFlow.{Sets}
+
+-- a flow that isn't 0 and doesn't fill the link
+abbrev pub between : Option ℚ → ℚ → Bool
+between None flow = lt_ℚ 0ℚ flow
+between (Some full) flow = lt_ℚ 0ℚ flow && lt_ℚ flow full
+
+-- on an active link that isn't resetting
+abbrev pub interior_test : Sets → List (Option ℚ) → List ℚ → ℕ → Bool
+interior_test sets fulls flows e =
+    unwrap_or (slice_get sets.active e) false && (not (unwrap_or (slice_get sets.resetting e) false) && between (unwrap_or (slice_get fulls e) None) (number_at flows e))
+
+-- of each link, whether it is interior
+abbrev pub interior_flags : Sets → List (Option ℚ) → List ℚ → List Bool
+interior_flags sets fulls flows = map (interior_test sets fulls flows) (range_with_len 0 (length flows))

@@ -1,0 +1,16 @@
+-- What is answered where it is asked whether something holds, after a list of operations.
+use Rattle.std.specs.Prelude.{◌≡◌, ◌&&◌, Bool, MatchBool, Result, Ok, Err, IsOk}
+use Rattle.nf_rational.specs.Rational.{ℚ}
+use Rattle.nf_rational.specs.Order.{le_ℚ}
+use Rattle.nf_work.specs.declared.Part.TheVariants.{Verdict}
+use Rattle.nf_work.specs.declared.PassedAt.{PassedAt}
+use Rattle.nf_work.specs.Checked.{Checked, at_part}
+
+-- whether it holds, where no operation passes, and else the first that does
+abbrev pub Tells : {A : Type 0} → Type 0 → Checked A → Result Bool (PassedAt ℚ) → Type 0
+Tells Holds list (Ok answer) = IsOk list × MatchBool answer Holds (Holds → ⊥)
+Tells Holds list (Err at) = at_part Verdict list ≡ Err at
+
+-- two numbers are the same
+abbrev pub same_test : ℚ → ℚ → Bool
+same_test x y = le_ℚ x y && le_ℚ y x

@@ -1,0 +1,105 @@
+// The first cycle of chosen links, taken without direction: link by link, the ways between their ends are walked along the chosen links
+// before them.
+ghost use Rattle.std.specs.Prelude.{◌≡◌, ◌<◌, ◌^◌, not, length, IfOk, MatchOption, Option, None, []};
+ghost use Rattle.nf_model.specs.Entries.{Has};
+ghost use Rattle.nf_model.specs.Pattern.{IsForest};
+ghost use Rattle.nf_graph.specs.Graph.{AreBelow};
+ghost use Rattle.nf_complete.specs.Cycles.{IsClosed, IsFirstCycle, round_onto, lower as lower_of, lowest_from};
+
+use crate::step::Step;
+use crate::way::way;
+use nf_graph::{Hop, LinkId};
+use std::alloc::{AllocError, Global};
+
+// The same step the other way round.
+fn turned(step: Step) -> Step
+    ensures { result ≡ (step.0, not step.1) }
+{
+    Step {
+        link: step.link,
+        forward: !step.forward,
+    }
+}
+
+// Of two steps the one along the lower link.
+fn lower(best: Option<Step>, step: Step) -> Step
+    ensures { result ≡ lower_of best step }
+{
+    match best {
+        Some(best) => { if best.link <= step.link { best } else { step } }
+        None => step,
+    }
+}
+
+// The step along the lowest link.
+fn lowest(steps: &[Step]) -> Option<Step>
+    ensures { result ≡ lowest_from None steps.now }
+{
+    let mut best = None;
+    for step in steps {
+        best = Some(lower(best, *step));
+    }
+    best
+}
+
+// The same steps the other way round.
+fn rounded(alloc: Global, steps: &[Step]) -> Result<Vec<Step>, AllocError>
+    ensures { IfOk result (λ all. all.items ≡ round_onto [] steps.now) }
+{
+    let mut all = Vec::new(alloc);
+    for step in steps {
+        all.insert(0, turned(*step))?;
+    }
+    Ok(all)
+}
+
+// Closed steps, turned round if their lowest link is taken backward.
+fn with_lowest_forward(
+    alloc: Global,
+    hops: &[Hop],
+    chosen: &[bool],
+    steps: Vec<Step>,
+) -> Result<Vec<Step>, AllocError>
+    requires { IsClosed hops.now chosen.now steps.items }
+    ensures { IfOk result (λ all. IsFirstCycle hops.now chosen.now all.items) }
+{
+    let _ = hops;
+    let _ = chosen;
+    if let Some(least) = lowest(&steps) {
+        if !least.forward {
+            return rounded(alloc, &steps);
+        }
+    }
+    Ok(steps)
+}
+
+/// The first cycle of chosen links, with its lowest link taken forward; None where they hold none.
+pub(crate) fn first_cycle(
+    alloc: Global,
+    nodes: u32,
+    hops: &[Hop],
+    chosen: &[bool],
+) -> Result<Option<Vec<Step>>, AllocError>
+    requires ends { AreBelow nodes hops.now }
+    requires count { length chosen.now ≡ length hops.now }
+    requires fewer { length hops.now < 2 ^ 32 }
+    ensures { IfOk result (λ found. MatchOption found (IsForest hops.now (Has chosen.now)) (λ steps. IsFirstCycle hops.now chosen.now steps.items)) }
+{
+    let mut before = vec![in alloc; false; hops.len()]?;
+    for (e, hop) in hops.iter().enumerate() {
+        if chosen[e] {
+            match way(alloc, nodes, hops, &before, hop.tail, hop.head)? {
+                Some(mut steps) => {
+                    steps.push(Step {
+                        link: LinkId(e as u32),
+                        forward: true,
+                    })?;
+                    let steps = with_lowest_forward(alloc, hops, chosen, steps)?;
+                    return Ok(Some(steps));
+                }
+                None => before[e] = true,
+            }
+        }
+    }
+    Ok(None)
+}

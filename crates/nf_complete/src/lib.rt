@@ -1,0 +1,25 @@
+//! Thin flows (Koch and Skutella 2011; Cominetti, Correa and Larré 2015) that are given: whether flows and slopes are one, and how one is
+//! settled into a listed pattern.
+#![tactic(auto)]
+
+mod balances;
+mod cancelling;
+mod cycle;
+mod fulls;
+mod interior;
+mod leading;
+mod numbers;
+mod proper;
+mod settled;
+mod settling;
+mod slopes;
+mod states;
+mod step;
+mod taken;
+mod thin;
+mod way;
+
+pub use nf_flows::{Flows, FlowsFault, FlowsRule, parse_flows};
+pub use settled::Settled;
+pub use settling::settle;
+pub use thin::is_thin;

@@ -1,0 +1,88 @@
+// What is asked of a thin flow beside balances and slopes along links: nothing that needs an operation.
+ghost use Rattle.std.specs.Prelude.{◌≡◌, ◌<◌, not, length, MatchBool};
+ghost use Rattle.nf_rational.specs.Operations.{0ℚ, 1ℚ};
+ghost use Rattle.nf_rational.specs.Order.{le_ℚ};
+ghost use Rattle.nf_model.specs.Entries.{number_at};
+ghost use Rattle.nf_complete.specs.ThinParts.{NoneNegative, CarriesIfActive, CarriesOnActive, IsProper};
+
+use crate::numbers::{flow_of, is_same, slope_of};
+use crate::taken::each_is_taken;
+use nf_frac::Q;
+use nf_graph::{LinkId, LinkSets};
+use nf_net::Network;
+
+// The number at a place is below 0.
+fn is_negative_at(numbers: &[Q], place: usize) -> bool
+    requires { place < length numbers.now }
+    ensures { result ≡ not (le_ℚ 0ℚ (number_at numbers.now place)) }
+{
+    !Q::zero().is_at_most(numbers[place])
+}
+
+// No number is below 0.
+fn none_negative(numbers: &[Q]) -> bool
+    ensures { MatchBool result (NoneNegative numbers.now) (NoneNegative numbers.now → ⊥) }
+{
+    for i in 0..numbers.len() {
+        if is_negative_at(numbers, i) {
+            return false;
+        }
+    }
+    true
+}
+
+// A link that isn't active carries nothing.
+fn carries_if_active(sets: &LinkSets, flows: &[Q], link: LinkId) -> bool
+    requires link { link < length sets.now.active }
+    requires flows { length flows.now ≡ length sets.now.active }
+    ensures { MatchBool result (CarriesIfActive sets.now flows.now link) (CarriesIfActive sets.now flows.now link → ⊥) }
+{
+    if sets.active(link) {
+        return true;
+    }
+    is_same(flow_of(flows, link), Q::zero())
+}
+
+// No such link carries anything.
+fn carries_on_active(net: &Network, sets: &LinkSets, flows: &[Q]) -> bool
+    requires sets { length sets.now.active ≡ length net.now.net.links }
+    requires flows { length flows.now ≡ length net.now.net.links }
+    ensures { MatchBool result (CarriesOnActive sets.now flows.now) (CarriesOnActive sets.now flows.now → ⊥) }
+{
+    for e in 0..net.link_count() {
+        if !carries_if_active(sets, flows, LinkId(e)) {
+            return false;
+        }
+    }
+    true
+}
+
+// The slope of the source is 1.
+fn starts(net: &Network, slopes: &[Q]) -> bool
+    requires { length slopes.now ≡ net.now.net.nodes }
+    ensures { MatchBool result (number_at slopes.now net.now.net.source ≡ 1ℚ) (number_at slopes.now net.now.net.source ≡ 1ℚ → ⊥) }
+{
+    is_same(slope_of(slopes, net.source()), Q::one())
+}
+
+/// All of it.
+pub(crate) fn is_proper(net: &Network, sets: &LinkSets, flows: &[Q], slopes: &[Q]) -> bool
+    requires sets { length sets.now.active ≡ length net.now.net.links }
+    requires flows { length flows.now ≡ length net.now.net.links }
+    requires slopes { length slopes.now ≡ net.now.net.nodes }
+    ensures { MatchBool result (IsProper net.now.net sets.now flows.now slopes.now) (IsProper net.now.net sets.now flows.now slopes.now → ⊥) }
+{
+    if !none_negative(flows) {
+        return false;
+    }
+    if !none_negative(slopes) {
+        return false;
+    }
+    if !carries_on_active(net, sets, flows) {
+        return false;
+    }
+    if !starts(net, slopes) {
+        return false;
+    }
+    each_is_taken(net, sets, flows, slopes)
+}

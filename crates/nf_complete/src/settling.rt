@@ -1,0 +1,99 @@
+// A thin flow is settled: cycle by cycle, until its interior links hold none.
+ghost use Rattle.std.specs.Prelude.{◌≡◌, ◌<◌, length, Ok, IfOk, MatchOption};
+ghost use Rattle.nf_rational.specs.Operations.{0ℚ};
+ghost use Rattle.nf_rational.specs.Order.{◌≤ℚ◌};
+ghost use Rattle.nf_work.specs.Passing.{passes_Q};
+ghost use Rattle.nf_model.specs.Network.{hops as hops_of};
+ghost use Rattle.nf_model.specs.ThinFlow.{IsThinFlow};
+ghost use Rattle.nf_model.specs.Pattern.{IsForest, IsListedIn, IsSolution};
+ghost use Rattle.nf_complete_lists.specs.Interior.{IsInterior, IsNextCycle};
+ghost use Rattle.nf_complete_lists.specs.Cancelling.{fulls_list, Cancels};
+ghost use Rattle.nf_complete_lists.specs.SettledPattern.{IsSettledPattern};
+ghost use Rattle.nf_complete_laws.specs.SettleLaws.{AreGoodSets};
+ghost use Rattle.nf_complete.specs.Settling.{ComesTo, SettlesTo};
+
+use crate::cancelling::cancel;
+use crate::cycle::first_cycle;
+use crate::fulls::fulls;
+use crate::interior::interior;
+use crate::settled::Settled;
+use crate::states::settled_pattern;
+use crate::step::Step;
+use nf_frac::{Halt, Q};
+use nf_graph::LinkSets;
+use nf_net::Network;
+use std::alloc::{AllocError, Global};
+
+// The next cycle of interior links; None where they hold none.
+fn next_cycle(
+    alloc: Global,
+    net: &Network,
+    sets: &LinkSets,
+    fulls: &[Option<Q>],
+    flows: &[Q],
+    slopes: &[Q],
+) -> Result<Option<Vec<Step>>, AllocError>
+    requires sets { length sets.now.active ≡ length net.now.net.links }
+    requires flows { length flows.now ≡ length net.now.net.links }
+    requires fulls { fulls_list passes_Q net.now.net sets.now slopes.now ≡ Ok fulls.now }
+    ensures { IfOk result (λ found. MatchOption found (IsForest (hops_of net.now.net) (IsInterior net.now.net sets.now slopes.now flows.now))
+        (λ steps. IsNextCycle net.now.net sets.now slopes.now flows.now steps.items)) }
+{
+    // For the proof: the slopes by which links are full.
+    let _ = slopes;
+    let interior = interior(alloc, sets, fulls, flows, net.link_count())?;
+    first_cycle(alloc, net.node_count(), net.hops(), &interior)
+}
+
+// The flows after cycle by cycle is cancelled.
+fn cancelled(
+    alloc: Global,
+    net: &Network,
+    sets: &LinkSets,
+    rate: Q,
+    fulls: &[Option<Q>],
+    flows: &[Q],
+    slopes: &[Q],
+) -> Result<Vec<Q>, Halt<Q>>
+    requires sets { AreGoodSets net.now.net sets.now }
+    requires thin { IsThinFlow net.now.net sets.now rate flows.now slopes.now }
+    requires fulls { fulls_list passes_Q net.now.net sets.now slopes.now ≡ Ok fulls.now }
+    ensures { ComesTo (Cancels passes_Q net.now.net sets.now slopes.now fulls.now flows.now) (λ new. new.items) result }
+{
+    // For the proof: the rate of the thin flow, and that there are few links.
+    let _ = rate;
+    let _ = net.link_count();
+    let mut new = flows.to_vec(alloc)?;
+    while let Some(steps) = next_cycle(alloc, net, sets, fulls, &new, slopes)? {
+        new = cancel(alloc, &steps, fulls, &new)?;
+    }
+    Ok(new)
+}
+
+/// Settles a thin flow (Cominetti, Correa and Larré 2015) into a listed pattern, of which its flows become the one solution, with the same
+/// slopes. As long as interior links, those that carry something and not all they can, hold a cycle, the flows along the next one change
+/// until one of its links carries nothing or is full. What fills each link is worked out first, and then cycle by cycle the room of each link and its new flow.
+/// Passed comes exactly at the first of these operations that passes, and has part Verdict. Flows and the rate are amounts per unit of
+/// time.
+pub fn settle(
+    alloc: Global,
+    net: &Network,
+    sets: &LinkSets,
+    rate: Q,
+    flows: &[Q],
+    slopes: &[Q],
+) -> Result<Settled, Halt<Q>>
+    requires sets { AreGoodSets net.now.net sets.now }
+    requires rate { 0ℚ ≤ℚ rate }
+    requires thin { IsThinFlow net.now.net sets.now rate flows.now slopes.now }
+    ensures list { SettlesTo passes_Q net.now.net sets.now slopes.now flows.now result }
+    ensures pattern { IfOk result (λ s. IsSettledPattern net.now.net sets.now s.flows.items slopes.now s.pattern) }
+    ensures thin { IfOk result (λ s. IsThinFlow net.now.net sets.now rate s.flows.items slopes.now) }
+    ensures listed { IfOk result (λ s. IsListedIn net.now.net sets.now s.pattern) }
+    ensures solution { IfOk result (λ s. IsSolution net.now.net sets.now rate s.pattern s.flows.items slopes.now) }
+{
+    let fulls = fulls(alloc, net, sets, slopes)?;
+    let flows = cancelled(alloc, net, sets, rate, &fulls, flows, slopes)?;
+    let pattern = settled_pattern(alloc, net, sets, &fulls, &flows, slopes)?;
+    Ok(Settled { flows, pattern })
+}

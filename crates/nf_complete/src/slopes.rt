@@ -1,0 +1,108 @@
+// Whether each active link keeps what a thin flow asks of the slopes at its ends.
+ghost use Rattle.std.specs.Prelude.{◌≡◌, ◌<◌, ◌||◌, ℕ, Bool, false, not, length, Some, None};
+ghost use Rattle.nf_work.specs.Passing.{passes_Q};
+ghost use Rattle.nf_model.specs.Network.{Link as SeenLink, IsLink};
+ghost use Rattle.nf_complete_lists.specs.Cancelling.{full_at as full_at_by, fulls_list};
+ghost use Rattle.nf_complete.specs.Testing.{Tells};
+ghost use Rattle.nf_complete.specs.ThinParts.{keeps_test, KeepsAt};
+
+use crate::fulls::full_at;
+use crate::numbers::{both, flow_of, is_same, slope_of};
+use nf_frac::{PassedAt, Q};
+use nf_graph::{LinkId, LinkSets};
+use nf_net::Network;
+
+// Of a link without a capacity.
+fn keeps_unbounded(flow: Q, tail_slope: Q, head_slope: Q) -> bool
+    ensures { (resets : Bool) → result ≡ keeps_test resets None flow tail_slope head_slope }
+{
+    head_slope.is_at_most(tail_slope)
+        && (flow.is_at_most(Q::zero()) || tail_slope.is_at_most(head_slope))
+}
+
+// Of a link that this flow fills, and that isn't resetting.
+fn keeps_bounded(full: Q, flow: Q, tail_slope: Q, head_slope: Q) -> bool
+    ensures { result ≡ keeps_test false (Some full) flow tail_slope head_slope }
+{
+    let may_rise = head_slope.is_at_most(tail_slope) || full.is_at_most(flow);
+    let is_taken = tail_slope.is_at_most(head_slope) && flow.is_at_most(full);
+    may_rise && (flow.is_at_most(Q::zero()) || is_taken)
+}
+
+// Of an active link.
+fn keeps_slopes(resets: bool, full: Option<Q>, flow: Q, tail_slope: Q, head_slope: Q) -> bool
+    ensures { result ≡ keeps_test resets full flow tail_slope head_slope }
+{
+    match full {
+        None => keeps_unbounded(flow, tail_slope, head_slope),
+        Some(full) => {
+            if resets {
+                is_same(flow, full)
+            } else {
+                keeps_bounded(full, flow, tail_slope, head_slope)
+            }
+        }
+    }
+}
+
+// Of any link: one that isn't active keeps it.
+fn keeps_if_active(
+    active: bool,
+    resets: bool,
+    full: Option<Q>,
+    flow: Q,
+    tail_slope: Q,
+    head_slope: Q,
+) -> bool
+    ensures { result ≡ (not active || keeps_test resets full flow tail_slope head_slope) }
+{
+    !active || keeps_slopes(resets, full, flow, tail_slope, head_slope)
+}
+
+// Of the link of a number.
+fn keeps_at(
+    net: &Network,
+    sets: &LinkSets,
+    flows: &[Q],
+    slopes: &[Q],
+    link: LinkId,
+) -> Result<bool, PassedAt<Q>>
+    requires link { link < length net.now.net.links }
+    requires sets { length sets.now.active ≡ length net.now.net.links }
+    requires flows { length flows.now ≡ length net.now.net.links }
+    requires slopes { length slopes.now ≡ net.now.net.nodes }
+    ensures { (here : SeenLink) → IsLink net.now.net link here → Tells (KeepsAt sets.now flows.now slopes.now link here) (full_at_by passes_Q sets.now slopes.now (link, here)) result }
+{
+    let full = full_at(net, sets, slopes, link)?;
+    let here = net.link(link);
+    let kept = keeps_if_active(
+        sets.active(link),
+        sets.resetting(link),
+        full,
+        flow_of(flows, link),
+        slope_of(slopes, here.tail),
+        slope_of(slopes, here.head),
+    );
+    Ok(kept)
+}
+
+/// Whether each active link keeps it. Passed comes exactly at the first product that passes, and has part Verdict.
+pub(crate) fn keep_slopes(
+    net: &Network,
+    sets: &LinkSets,
+    flows: &[Q],
+    slopes: &[Q],
+) -> Result<bool, PassedAt<Q>>
+    requires sets { length sets.now.active ≡ length net.now.net.links }
+    requires flows { length flows.now ≡ length net.now.net.links }
+    requires slopes { length slopes.now ≡ net.now.net.nodes }
+    ensures { Tells ((e : ℕ) (link : SeenLink) → IsLink net.now.net e link → KeepsAt sets.now flows.now slopes.now e link)
+        (fulls_list passes_Q net.now.net sets.now slopes.now) result }
+{
+    let mut all = true;
+    for e in 0..net.link_count() {
+        let here = keeps_at(net, sets, flows, slopes, LinkId(e))?;
+        all = both(all, here);
+    }
+    Ok(all)
+}

@@ -1,0 +1,42 @@
+// Whether flows and slopes are a thin flow.
+ghost use Rattle.std.specs.Prelude.{◌≡◌, length, IfOk, MatchBool};
+ghost use Rattle.nf_work.specs.Passing.{passes_Q};
+ghost use Rattle.nf_model.specs.ThinFlow.{IsThinFlow};
+ghost use Rattle.nf_thin_laws.specs.ActiveLinks.{NoneEntersSource};
+ghost use Rattle.nf_complete_laws.specs.SettleLaws.{AreGoodSets};
+ghost use Rattle.nf_complete.specs.Settling.{Passes};
+
+use crate::balances::balances;
+use crate::numbers::both;
+use crate::proper::is_proper;
+use crate::slopes::keep_slopes;
+use nf_frac::{PassedAt, Q};
+use nf_graph::LinkSets;
+use nf_net::Network;
+
+/// Whether flows of the links, amounts per unit of time, and slopes of the nodes are a thin flow with resetting (Cominetti, Correa and
+/// Larré 2015) that sends this rate from source to sink. Node by node the flows of the active links into it are summed, and then those
+/// of the active links out of it, at the sink with the rate; then each active link's capacity is multiplied by the slope of its head.
+/// Passed comes exactly at the first of these operations that passes, whatever the answer would be, and has part Verdict. Takes no
+/// memory.
+pub fn is_thin(
+    net: &Network,
+    sets: &LinkSets,
+    rate: Q,
+    flows: &[Q],
+    slopes: &[Q],
+) -> Result<bool, PassedAt<Q>>
+    requires sets { AreGoodSets net.now.net sets.now }
+    requires source { NoneEntersSource net.now.net sets.now }
+    requires flows { length flows.now ≡ length net.now.net.links }
+    requires slopes { length slopes.now ≡ net.now.net.nodes }
+    ensures list { Passes passes_Q net.now.net sets.now rate flows.now slopes.now result }
+    ensures thin { IfOk result (λ yes. MatchBool yes (IsThinFlow net.now.net sets.now rate flows.now slopes.now) (IsThinFlow net.now.net sets.now rate flows.now slopes.now → ⊥)) }
+{
+    let balanced = balances(net, sets, rate, flows)?;
+    let kept = keep_slopes(net, sets, flows, slopes)?;
+    let proper = is_proper(net, sets, flows, slopes);
+    let tested = both(balanced, kept);
+    let thin = both(tested, proper);
+    Ok(thin)
+}

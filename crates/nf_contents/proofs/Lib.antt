@@ -1,0 +1,2 @@
+pub mod NamesOf
+pub mod ContentLines

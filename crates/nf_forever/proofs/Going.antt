@@ -1,0 +1,73 @@
+-- A run without a horizon that has gone on so far, and what it takes for it to end.
+use Rattle.std.proofs.Common.{◌≡◌, ℕ, suc, ◌+◌, ◌<◌, add-one, refl, sym, ap, subst, ◌∙◌}
+use Rattle.std.specs.Prelude.{Option, Some, None, IsSome, MatchOption, Result, Ok, Err, IfOk}
+use Rattle.nf_rational.specs.Rational.{ℚ}
+use Rattle.nf_work.specs.Passing.{Passing}
+use Rattle.nf_model.specs.Network.{Network}
+use Rattle.nf_formats.specs.declared.Cause.{Cause}
+use Rattle.nf_lists.specs.PhaseRun.{Standing, IsStart}
+use Rattle.nf_thin.specs.declared.searches.Thin.{Thin}
+use Rattle.nf_phase.specs.declared.fault.StepFault.{StepFault}
+use Rattle.nf_phase.specs.Stepping.{Reaches, starts, IsCauseOn, tail_of}
+use Rattle.nf_phase.proofs.Stopping.{stands_stop}
+use Rattle.nf_forever_lists.specs.ForeverRun.{GoesToEnd, GoesForever, FailsOn, End, Stops, NeverEnds, RunsForever, at_phases, fails, never_ends, goes, IsForeverRun}
+use Rattle.nf_forever.specs.declared.solving.End.{End as Told}
+use Rattle.nf_forever.specs.Ends.{end_in, IsStopBy}
+
+-- from the start it has gone on to here in so many phases, and what ends it here ends it from the start on
+pub record GoneOn (passes : Passing) (net : Network) (phases patterns : ℕ) (first : Standing) (count : ℕ) (s : Standing) : Type 0 where
+  pub reaches : Reaches passes net s
+  pub made : s.made ≡ count
+  pub ends : (last : Standing) (end : End) → RunsForever passes net phases patterns s last end → RunsForever passes net phases patterns first last end
+
+module _ (passes : Passing) (net : Network) (phases patterns : ℕ) (first : Standing) where
+  pub gone_nowhere : IsStart net first → GoneOn passes net phases patterns first 0 first
+  gone_nowhere start = record { reaches = starts start; made = start.made; ends = λ last end runs. runs }
+
+  module _ (start : IsStart net first) (count : ℕ) (s : Standing) (gone : GoneOn passes net phases patterns first count s) where
+    run_of : (end : End) → RunsForever passes net phases patterns s s end → IsForeverRun passes net phases patterns s end
+    run_of end runs = record { first = first; start = start; runs = gone.ends s end runs }
+
+    may_go : count < phases → s.made < phases
+    may_go h = subst (λ (n : ℕ). n < phases) (sym gone.made) h
+
+    further : count < phases → (t : Standing) → Reaches passes net t → GoesToEnd passes net patterns s t → GoneOn passes net phases patterns first (count + 1) t
+    further may t reaches g = record {
+      reaches = reaches;
+      made = ap (λ (n : Standing). n.made) g.goes.new_is ∙ ap suc gone.made ∙ sym (add-one count);
+      ends = λ last end runs. gone.ends last end (goes (may_go may) g runs);
+    }
+
+    -- where no thin flow is answered, a phase was made
+    pub gone_further : count < phases → (answer : Option Thin) → answer ≡ None → (t : Standing) → Reaches passes net t
+        → MatchOption answer (GoesToEnd passes net patterns s t) (λ thin. GoesForever passes net patterns s thin.pattern (tail_of thin)) → GoneOn passes net phases patterns first (count + 1) t
+    gone_further may answer is t reaches g =
+        further may t reaches (subst (λ (o : Option Thin). MatchOption o (GoesToEnd passes net patterns s t) (λ thin. GoesForever passes net patterns s thin.pattern (tail_of thin))) is g)
+
+    -- ---- where it ends
+    pub ends_at_phases : count ≡ phases → (made : ℕ) → made ≡ s.made → IsForeverRun passes net phases patterns s (Stops (Cause.Phases made))
+    ends_at_phases all made e = subst (λ (n : ℕ). IsForeverRun passes net phases patterns s (Stops (Cause.Phases n))) (sym e) (run_of (Stops (Cause.Phases s.made)) (at_phases (gone.made ∙ all)))
+
+    -- by the thin flow that is answered where no phase is made
+    pub ends_never : count < phases → (answer : Option Thin) (thin : Thin) → answer ≡ Some thin → (after : Standing)
+        → MatchOption answer (GoesToEnd passes net patterns s after) (λ thin. GoesForever passes net patterns s thin.pattern (tail_of thin)) → (IsSome answer → after ≡ s)
+        → IsForeverRun passes net phases patterns after (NeverEnds thin.pattern (tail_of thin))
+    ends_never may answer thin is after g stays =
+        let goes_forever = subst (λ (o : Option Thin). MatchOption o (GoesToEnd passes net patterns s after) (λ thin. GoesForever passes net patterns s thin.pattern (tail_of thin))) is g in
+        let same : after ≡ s = subst (λ (o : Option Thin). IsSome o → after ≡ s) is stays refl in
+        subst (λ (t : Standing). IsForeverRun passes net phases patterns t (NeverEnds thin.pattern (tail_of thin))) (sym same)
+        (run_of (NeverEnds thin.pattern (tail_of thin)) (never_ends (may_go may) goes_forever))
+
+    ends_by : count < phases → (cause : Cause ℚ) → FailsOn passes net patterns s cause → IsForeverRun passes net phases patterns s (Stops cause)
+    ends_by may cause f = run_of (Stops cause) (fails (may_go may) f)
+
+    stops_by : count < phases → (fault : StepFault) → IsCauseOn passes net patterns s fault → (end : End) → IsStopBy (suc s.made) fault end → IsForeverRun passes net phases patterns s end
+    stops_by may fault h (Stops cause) e = ends_by may cause (stands_stop (FailsOn passes net patterns s) (suc s.made) fault h cause e)
+    stops_by may fault h (NeverEnds pattern tail) e = absurd e
+
+    pub ends_by_fault : count < phases → (fault : StepFault) → IsCauseOn passes net patterns s fault → (after : Standing) → after ≡ s → (phase : ℕ) → phase ≡ suc after.made
+        → {E : Type 0} (result : Result Told E) → IfOk result (λ end. IsStopBy phase fault (end_in end)) → IfOk result (λ end. IsForeverRun passes net phases patterns after (end_in end))
+    ends_by_fault may fault h after same phase next (Ok end) e =
+        subst (λ (t : Standing). IsForeverRun passes net phases patterns t (end_in end)) (sym same)
+        (stops_by may fault h (end_in end) (subst (λ (n : ℕ). IsStopBy n fault (end_in end)) (next ∙ ap (λ (t : Standing). suc t.made) same) e))
+    ends_by_fault may fault h after same phase next (Err x) e = tt

@@ -1,0 +1,13 @@
+use Rattle.std.proofs.Common.{take, length}
+use Rattle.std.specs.Prelude.{Ok, flat_map}
+use Rattle.std.specs.List.{range_with_len}
+use Rattle.nf_edge.specs.declared.SinkFault.{SinkFault}
+use Rattle.nf_report.specs.Pages.{GatheredLines}
+use Rattle.nf_forever_lists.specs.ForeverText.{flow_line}
+use Rattle.nf_forever.specs.Seen.{tail_in}
+use Rattle.nf_forever.proofs.tail_lines.put_flows.Given as goal
+
+abbrev pub invariant-loop-link : goal.invariant-loop-link
+invariant-loop-link g l = let out = g.O.Sink in
+    GatheredLines {E = SinkFault} (out.took l.initial.out) (out.took l.out) (out.faults l.initial.out) (out.faults l.out) l.initial.page.items l.page.items
+    (flat_map (flow_line l.net (tail_in l.tail)) (take l.link (range_with_len 0 (length l.net.net.links)))) (Ok tt)

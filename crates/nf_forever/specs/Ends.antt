@@ -1,0 +1,17 @@
+-- How a run without a horizon ends, as this crate tells it.
+use Rattle.std.specs.Prelude.{◌≡◌, ℕ, Some}
+use Rattle.nf_phase.specs.declared.fault.StepFault.{StepFault}
+use Rattle.nf_phase.specs.Solution.{cause_of}
+use Rattle.nf_phase.specs.Stepping.{tail_of}
+use Rattle.nf_forever_lists.specs.ForeverRun.{End, Stops, NeverEnds}
+use Rattle.nf_forever.specs.declared.solving.End.{End as Told}
+use Rattle.nf_forever.specs.declared.solving.End.TheVariants as told
+
+abbrev pub end_in : Told → End
+end_in (told.Stops stop) = Stops stop
+end_in (told.NeverEnds thin) = NeverEnds thin.pattern (tail_of thin)
+
+-- by the stop for which the phase of this number isn't made
+abbrev pub IsStopBy : ℕ → StepFault → End → Type 0
+IsStopBy phase fault (Stops stop) = cause_of phase fault ≡ Some stop
+IsStopBy phase fault (NeverEnds pattern tail) = ⊥

@@ -1,0 +1,19 @@
+-- The run without a horizon that a value of this crate stands for.
+use Rattle.std.specs.Prelude.{option_map}
+use Rattle.nf_curve.specs.Flows.{flow_of}
+use Rattle.nf_forever_lists.specs.Tails as lists
+use Rattle.nf_forever_lists.specs.ForeverRun as runs
+use Rattle.nf_forever.specs.declared.forever.Tail.{Tail}
+use Rattle.nf_forever.specs.declared.forever.Forever.{Forever}
+
+abbrev pub tail_in : Tail → lists.Tail
+tail_in tail = record { slopes = tail.slopes.items; flows = tail.flows.items }
+
+abbrev pub forever_in : Forever → runs.Forever
+forever_in forever = record {
+  flow = flow_of forever.flow;
+  phases = forever.phases;
+  last = forever.last;
+  stop = forever.stopped;
+  tail = option_map tail_in forever.tail;
+}

@@ -1,0 +1,120 @@
+// Solving without a horizon: a run, phase by phase, until it ends.
+ghost use Rattle.std.specs.Prelude.{◌≡◌, ◌↔◌, None, IfOk, IfSome, IsSome};
+ghost use Rattle.nf_rational.specs.Rational.{ℚ};
+ghost use Rattle.nf_rational.specs.Operations.{0ℚ};
+ghost use Rattle.nf_rational.specs.Order.{◌≤ℚ◌};
+ghost use Rattle.nf_work.specs.Passing.{passes_Q};
+ghost use Rattle.nf_model.specs.Equilibrium.{Equilibrium};
+ghost use Rattle.nf_lists.specs.PhaseRun.{IsStart};
+ghost use Rattle.nf_curve.specs.Flows.{flow_of};
+ghost use Rattle.nf_phase.specs.Stepping.{tail_of};
+ghost use Rattle.nf_forever_lists.specs.ForeverRun.{Stops, NeverEnds, IsForeverRun, forever_of, IsForever};
+ghost use Rattle.nf_forever_lists.specs.Extended.{flow_until};
+ghost use Rattle.nf_forever_lists.specs.ForeverText.{HasForm};
+ghost use Rattle.nf_forever.specs.Seen.{tail_in, forever_in};
+ghost use Rattle.nf_forever.specs.Ends.{end_in, IsStopBy};
+
+use crate::forever::{Forever, Tail};
+use nf_curve::Stop;
+use nf_net::Network;
+use nf_phase::{Budgets, Run, StepFault, stop_by};
+use nf_thin::Thin;
+use std::alloc::{AllocError, Global};
+
+// How a run ends: by a stop, or in a phase that never ends, with its thin flow.
+#[derive(Drop)]
+enum End {
+    Stops(Stop),
+    NeverEnds(Thin),
+}
+
+// The run ends where the phase of this number isn't made.
+fn stopped_by(phase: u64, fault: StepFault) -> Result<End, AllocError>
+    ensures { IfOk result (λ end. IsStopBy phase fault (end_in end)) }
+{
+    match stop_by(phase, fault) {
+        Some(stop) => Ok(End::Stops(stop)),
+        None => Err(AllocError),
+    }
+}
+
+// The run goes on until it ends, each phase for as long as it may last. As many phases as allowed end it also where the next one
+// would never end.
+fn go(run: &mut Run, alloc: Global, net: &Network, budgets: Budgets) -> Result<End, AllocError>
+    requires { IsStart net.now.net run.old }
+    ensures { IfOk result (λ end. IsForeverRun passes_Q net.now.net budgets.phases budgets.patterns run.new (end_in end)) }
+{
+    for _ in 0..budgets.phases {
+        match run.step_to_end(alloc, net, budgets.patterns) {
+            Ok(None) => {}
+            Ok(Some(thin)) => return Ok(End::NeverEnds(thin)),
+            Err(fault) => return stopped_by(run.phases() + 1, fault),
+        }
+    }
+    Ok(End::Stops(Stop::Phases { made: run.phases() }))
+}
+
+// What a run that has stopped comes to.
+fn stopped(alloc: Global, run: &Run, stop: Stop) -> Result<Forever, AllocError>
+    ensures { IfOk result (λ f. forever_in f ≡ forever_of run.now (Stops stop)) }
+{
+    let flow = run.flow(alloc)?;
+    let last = run.last().copy(alloc)?;
+    Ok(Forever {
+        flow,
+        phases: run.phases(),
+        last,
+        stopped: Some(stop),
+        tail: None,
+    })
+}
+
+// What a run comes to whose next phase never ends.
+fn endless(alloc: Global, run: &Run, thin: Thin) -> Result<Forever, AllocError>
+    ensures { IfOk result (λ f. forever_in f ≡ forever_of run.now (NeverEnds thin.pattern (tail_of thin))) }
+{
+    let flow = run.flow(alloc)?;
+    let phases = run.phases();
+    let Thin {
+        flows,
+        labels: slopes,
+        pattern,
+        place: _,
+    } = thin;
+    Ok(Forever {
+        flow,
+        phases,
+        last: pattern,
+        stopped: None,
+        tail: Some(Tail { slopes, flows }),
+    })
+}
+
+// What a run comes to that has ended so.
+fn outcome(alloc: Global, run: &Run, end: End) -> Result<Forever, AllocError>
+    ensures { IfOk result (λ f. forever_in f ≡ forever_of run.now (end_in end)) }
+{
+    match end {
+        End::Stops(stop) => stopped(alloc, run, stop),
+        End::NeverEnds(thin) => endless(alloc, run, thin),
+    }
+}
+
+/// Solves a network without a horizon: goes on phase by phase from departure 0, each by the first accepted pattern and for as long as
+/// it may last, until one never ends, as many phases as allowed were made, or one can't be made. The flow up to there is an
+/// equilibrium (a Nash flow over time: Koch and Skutella 2011). Where the last phase never ends, it is the tail, and the flow that goes
+/// on by it is an equilibrium up to every departure. The tail is no phase that was made: the budget of phases is looked at before it.
+/// It is refused only where memory is wanting.
+pub fn solve_forever(alloc: Global, net: &Network, budgets: Budgets) -> Result<Forever, AllocError>
+    ensures run { IfOk result (λ f. IsForever passes_Q net.now.net budgets.phases budgets.patterns (forever_in f)) }
+    ensures form { IfOk result (λ f. HasForm net.now.net (forever_in f)) }
+    ensures equilibrium { IfOk result (λ f. Equilibrium net.now.net (flow_of f.flow)) }
+    ensures tail { IfOk result (λ f. IfSome f.tail (λ tail. (until : ℚ) → 0ℚ ≤ℚ until → Equilibrium net.now.net (flow_until net.now.net (flow_of f.flow) (tail_in tail) until))) }
+    ensures stop { IfOk result (λ f. IsSome f.tail ↔ (f.stopped ≡ None)) }
+{
+    // For the proof: the network is that of an accepted file.
+    let _ = net.version();
+    let mut run = Run::start(alloc, net)?;
+    let end = go(&mut run, alloc, net, budgets)?;
+    outcome(alloc, &run, end)
+}

@@ -1,0 +1,116 @@
+// The text of a run without a horizon.
+ghost use Rattle.std.specs.Prelude.{◌≡◌, [], ◌∷◌, ◌++◌, length, codes, IfSome};
+ghost use Rattle.std.specs.Option.{option_copied};
+ghost use Rattle.nf_edge.specs.Taken.{Wrote};
+ghost use Rattle.nf_model.specs.Equilibrium.{HasShape};
+ghost use Rattle.nf_curve.specs.Flows.{flow_of};
+ghost use Rattle.nf_report.specs.Pages.{GatheredLines};
+ghost use Rattle.nf_forever_lists.specs.ForeverText.{HasForm, tail_lines, forever_lines, forever_text};
+ghost use Rattle.nf_forever.specs.Seen.{forever_in};
+ghost use Rattle.nf_forever.specs.Parts.{head_lines, flow_lines, end_lines};
+
+use crate::forever::Forever;
+use crate::tail_lines::put_tail;
+use nf_curve::{Flow, Stop};
+use nf_edge::{Sink, SinkFault, write_text};
+use nf_frac::Q;
+use nf_net::Network;
+use nf_report::{
+    Page, put_cause, put_idle, put_labels, put_line, put_links, put_number, put_states,
+};
+
+// How far the run went, and why it stopped.
+fn put_head<O: Sink>(
+    out: &mut O,
+    page: &mut Page,
+    reached: Q,
+    stopped: Option<&Stop>,
+) -> Result<(), SinkFault>
+    ensures { GatheredLines (O.took out.old) (O.took out.new) (O.faults out.old) (O.faults out.new) page.old.items page.new.items
+        (head_lines reached (option_copied stopped.entry)) result }
+{
+    put_line(out, page, b"forever", &[b"1"])?;
+    put_number(out, page, b"reached", reached)?;
+    put_cause(out, page, stopped)
+}
+
+// The curves of the nodes and links, and the idle nodes.
+fn put_curves<O: Sink>(
+    out: &mut O,
+    page: &mut Page,
+    net: &Network,
+    flow: &Flow,
+) -> Result<(), SinkFault>
+    requires { HasShape net.now.net (flow_of flow.now) }
+    ensures { GatheredLines (O.took out.old) (O.took out.new) (O.faults out.old) (O.faults out.new) page.old.items page.new.items
+        (flow_lines net.now (flow_of flow.now)) result }
+{
+    put_labels(out, page, net, flow)?;
+    put_idle(out, page, net)?;
+    put_links(out, page, net, flow)
+}
+
+// The tail, where there is one.
+fn put_tail_of<O: Sink>(
+    out: &mut O,
+    page: &mut Page,
+    net: &Network,
+    forever: &Forever,
+) -> Result<(), SinkFault>
+    requires { IfSome (forever_in forever.now).tail (λ tail. (length tail.slopes ≡ net.now.net.nodes) × (length tail.flows ≡ length net.now.net.links)) }
+    ensures { GatheredLines (O.took out.old) (O.took out.new) (O.faults out.old) (O.faults out.new) page.old.items page.new.items
+        (tail_lines net.now (forever_in forever.now).tail) result }
+{
+    match &forever.tail {
+        None => Ok(()),
+        Some(tail) => put_tail(out, page, net, tail),
+    }
+}
+
+// The states of the links, the tail, and the end.
+fn put_end<O: Sink>(
+    out: &mut O,
+    page: &mut Page,
+    net: &Network,
+    forever: &Forever,
+) -> Result<(), SinkFault>
+    requires { HasForm net.now.net (forever_in forever.now) }
+    ensures { GatheredLines (O.took out.old) (O.took out.new) (O.faults out.old) (O.faults out.new) page.old.items page.new.items
+        (end_lines net.now (forever_in forever.now)) result }
+{
+    put_states(out, page, net, &forever.last)?;
+    put_tail_of(out, page, net, forever)?;
+    put_line(out, page, b"end", &[])
+}
+
+// The whole text.
+fn put_forever<O: Sink>(
+    out: &mut O,
+    page: &mut Page,
+    net: &Network,
+    forever: &Forever,
+) -> Result<(), SinkFault>
+    requires { HasForm net.now.net (forever_in forever.now) }
+    ensures { GatheredLines (O.took out.old) (O.took out.new) (O.faults out.old) (O.faults out.new) page.old.items page.new.items
+        (forever_lines net.now (forever_in forever.now)) result }
+{
+    put_head(out, page, forever.flow.reached, forever.stopped.as_ref())?;
+    put_curves(out, page, net, &forever.flow)?;
+    put_end(out, page, net, forever)
+}
+
+/// Writes the text of a run without a horizon: its flow up to the departure reached, with the cause for which it stopped, if it did, the
+/// states of the links, and the tail by which the flow goes on, if there is one. Where the sink fails, it has taken the text's first
+/// bytes. It takes no memory.
+pub fn write_forever<O: Sink>(
+    net: &Network,
+    forever: &Forever,
+    out: &mut O,
+) -> Result<(), SinkFault>
+    requires { HasForm net.now.net (forever_in forever.now) }
+    ensures { Wrote (O.took out.old) (O.took out.new) (O.faults out.old) (O.faults out.new) (forever_text net.now (forever_in forever.now)) result }
+{
+    let mut page = Page::new();
+    put_forever(out, &mut page, net, forever)?;
+    write_text(out, page.as_slice())
+}

@@ -1,0 +1,63 @@
+use Rattle.std.proofs.Common.{◌+◌, List, length, suc, add-one, refl, sym, ap, ◌∙◌}
+use Rattle.std.specs.Vec.{with_items}
+use Rattle.std.proofs.lemmas.List.{length-map, with_items_is}
+use Rattle.nf_rational.specs.Rational.{ℚ}
+use Rattle.nf_work.specs.Passing.{passes_Q}
+use Rattle.nf_model.specs.Entries.{number_at}
+use Rattle.nf_lists.specs.CurveList.{LinkStep}
+use Rattle.nf_lists.specs.ReportCurves.{GrowingCurve, LinkCurves}
+use Rattle.nf_lists.specs.PhaseRun.{Standing}
+use Rattle.nf_phase.specs.Growing.{Roomy, all_grown}
+use Rattle.nf_phase.proofs.Stepped.{curve_count, link_count, new_label_count, slope_count, step_count, source_next, labels_later, links_later, new_standing}
+use Rattle.nf_phase.proofs.run.Run.make.Goals as goal
+
+pub departure_in-reached-requires : goal.departure_in-reached-requires
+departure_in-reached-requires c =
+    ap (λ (l : List ℚ). length l) c.deref.ensures.value ∙ new_label_count passes_Q c.args.net.now.net c.requires.named.network c.args.horizon c.args.patterns c.args.self.now c.requires.reaches c.args.phase c.requires.leads
+
+pub labels_go_on-requires-clause-labels : goal.labels_go_on-requires-clause-labels
+labels_go_on-requires-clause-labels c =
+    ap (λ (l : List ℚ). length l) c.deref-2.ensures.value ∙ new_label_count passes_Q c.args.net.now.net c.requires.named.network c.args.horizon c.args.patterns c.args.self.now c.requires.reaches c.args.phase c.requires.leads ∙ sym (curve_count passes_Q c.args.net.now.net c.requires.named.network c.args.horizon c.args.patterns c.args.self.now c.requires.reaches c.args.phase c.requires.leads) ∙ ap (λ (l : List GrowingCurve). length l) (sym (ap all_grown (c.deref_mut-3.ensures.value ∙ with_items_is c.self.inside.label_curves c.reserve_labels.new.curves (c.reserve_labels.auto.curves ∙ c.deref_mut.ensures.len)) ∙ c.in_ok-reserve_labels.ensures.same ∙ ap all_grown c.deref_mut.ensures.value ∙ ap (λ (s : Standing). s.label_curves) c.self.view_is))
+    ∙ length-map c.deref_mut-3.result.now (λ (r : Roomy GrowingCurve). r.grown)
+
+pub labels_go_on-requires-clause-slopes : goal.labels_go_on-requires-clause-slopes
+labels_go_on-requires-clause-slopes c =
+    ap (λ (l : List ℚ). length l) c.deref-3.ensures.value ∙ slope_count passes_Q c.args.net.now.net c.requires.named.network c.args.horizon c.args.patterns c.args.self.now c.requires.reaches c.args.phase c.requires.leads ∙ sym (curve_count passes_Q c.args.net.now.net c.requires.named.network c.args.horizon c.args.patterns c.args.self.now c.requires.reaches c.args.phase c.requires.leads) ∙ ap (λ (l : List GrowingCurve). length l) (sym (ap all_grown (c.deref_mut-3.ensures.value ∙ with_items_is c.self.inside.label_curves c.reserve_labels.new.curves (c.reserve_labels.auto.curves ∙ c.deref_mut.ensures.len)) ∙ c.in_ok-reserve_labels.ensures.same ∙ ap all_grown c.deref_mut.ensures.value ∙ ap (λ (s : Standing). s.label_curves) c.self.view_is))
+    ∙ length-map c.deref_mut-3.result.now (λ (r : Roomy GrowingCurve). r.grown)
+
+pub labels_go_on-requires-clause-room : goal.labels_go_on-requires-clause-room
+labels_go_on-requires-clause-room c =
+    rw (c.deref_mut-3.ensures.value ∙ with_items_is c.self.inside.label_curves c.reserve_labels.new.curves (c.reserve_labels.auto.curves ∙ c.deref_mut.ensures.len)) c.in_ok-reserve_labels.ensures.room
+
+pub labels_go_on-requires-clause-later : goal.labels_go_on-requires-clause-later
+labels_go_on-requires-clause-later c =
+    rw ((ap all_grown (c.deref_mut-3.ensures.value ∙ with_items_is c.self.inside.label_curves c.reserve_labels.new.curves (c.reserve_labels.auto.curves ∙ c.deref_mut.ensures.len)) ∙ c.in_ok-reserve_labels.ensures.same ∙ ap all_grown c.deref_mut.ensures.value ∙ ap (λ (s : Standing). s.label_curves) c.self.view_is)) (labels_later passes_Q c.args.net.now.net c.requires.named.network c.args.horizon c.args.patterns c.args.self.now c.requires.reaches c.args.phase c.requires.leads c.departure_in-reached.result
+    (c.departure_in-reached.ensures ∙ ap (λ (l : List ℚ). number_at l c.args.net.now.net.source) c.deref.ensures.value ∙ source_next passes_Q c.args.net.now.net c.requires.named.network c.args.horizon c.args.patterns c.args.self.now c.requires.reaches c.args.phase c.requires.leads))
+
+pub links_go_on-requires-clause-labels : goal.links_go_on-requires-clause-labels
+links_go_on-requires-clause-labels c =
+    ap (λ (l : List ℚ). length l) c.deref-4.ensures.value ∙ new_label_count passes_Q c.args.net.now.net c.requires.named.network c.args.horizon c.args.patterns c.args.self.now c.requires.reaches c.args.phase c.requires.leads
+
+pub links_go_on-requires-clause-curves : goal.links_go_on-requires-clause-curves
+links_go_on-requires-clause-curves c =
+    sym (length-map c.deref_mut-4.result.now (λ (r : Roomy LinkCurves). r.grown)) ∙ ap (λ (l : List LinkCurves). length l) (ap all_grown (c.deref_mut-4.ensures.value ∙ with_items_is c.self.inside.link_curves c.reserve_links.new.curves (c.reserve_links.auto.curves ∙ c.deref_mut-2.ensures.len)) ∙ c.in_ok-reserve_links.ensures.same ∙ ap all_grown c.deref_mut-2.ensures.value ∙ ap (λ (s : Standing). s.link_curves) c.self.view_is) ∙ link_count passes_Q c.args.net.now.net c.requires.named.network c.args.horizon c.args.patterns c.args.self.now c.requires.reaches c.args.phase c.requires.leads
+
+pub links_go_on-requires-clause-steps : goal.links_go_on-requires-clause-steps
+links_go_on-requires-clause-steps c =
+    ap (λ (l : List LinkStep). length l) c.deref-5.ensures.value ∙ step_count passes_Q c.args.net.now.net c.requires.named.network c.args.horizon c.args.patterns c.args.self.now c.requires.reaches c.args.phase c.requires.leads
+
+pub links_go_on-requires-clause-room : goal.links_go_on-requires-clause-room
+links_go_on-requires-clause-room c =
+    rw (c.deref_mut-4.ensures.value ∙ with_items_is c.self.inside.link_curves c.reserve_links.new.curves (c.reserve_links.auto.curves ∙ c.deref_mut-2.ensures.len)) c.in_ok-reserve_links.ensures.room
+
+pub links_go_on-requires-clause-later : goal.links_go_on-requires-clause-later
+links_go_on-requires-clause-later c =
+    rw (c.deref-4.ensures.value, c.deref-5.ensures.value, (ap all_grown (c.deref_mut-4.ensures.value ∙ with_items_is c.self.inside.link_curves c.reserve_links.new.curves (c.reserve_links.auto.curves ∙ c.deref_mut-2.ensures.len)) ∙ c.in_ok-reserve_links.ensures.same ∙ ap all_grown c.deref_mut-2.ensures.value ∙ ap (λ (s : Standing). s.link_curves) c.self.view_is)) (links_later passes_Q c.args.net.now.net c.requires.named.network c.args.horizon c.args.patterns c.args.self.now c.requires.reaches c.args.phase c.requires.leads)
+
+pub returns-clause-made : goal.returns-clause-made
+returns-clause-made c =
+    new_standing passes_Q c.args.net.now.net c.requires.named.network c.args.horizon c.args.patterns c.args.self.now c.requires.reaches c.args.phase c.requires.leads c.departure_in-reached.result (all_grown (with_items (with_items c.self.inside.label_curves c.reserve_labels.new.curves) c.labels_go_on.new.curves).items) (all_grown (with_items (with_items c.self.inside.link_curves c.reserve_links.new.curves) c.links_go_on.new.curves).items) (c.self.inside.made + 1) c.args.phase.pattern
+    (c.departure_in-reached.ensures ∙ ap (λ (l : List ℚ). number_at l c.args.net.now.net.source) c.deref.ensures.value ∙ source_next passes_Q c.args.net.now.net c.requires.named.network c.args.horizon c.args.patterns c.args.self.now c.requires.reaches c.args.phase c.requires.leads)
+    (ap all_grown (with_items_is (with_items c.self.inside.label_curves c.reserve_labels.new.curves) c.labels_go_on.new.curves (c.labels_go_on.auto.curves ∙ c.deref_mut-3.ensures.len)) ∙ c.labels_go_on.ensures ∙ rw (c.deref-2.ensures.value, c.deref-3.ensures.value, (ap all_grown (c.deref_mut-3.ensures.value ∙ with_items_is c.self.inside.label_curves c.reserve_labels.new.curves (c.reserve_labels.auto.curves ∙ c.deref_mut.ensures.len)) ∙ c.in_ok-reserve_labels.ensures.same ∙ ap all_grown c.deref_mut.ensures.value ∙ ap (λ (s : Standing). s.label_curves) c.self.view_is)) refl)
+    (ap all_grown (with_items_is (with_items c.self.inside.link_curves c.reserve_links.new.curves) c.links_go_on.new.curves (c.links_go_on.auto.curves ∙ c.deref_mut-4.ensures.len)) ∙ c.links_go_on.ensures ∙ rw (c.deref-4.ensures.value, c.deref-5.ensures.value, (ap all_grown (c.deref_mut-4.ensures.value ∙ with_items_is c.self.inside.link_curves c.reserve_links.new.curves (c.reserve_links.auto.curves ∙ c.deref_mut-2.ensures.len)) ∙ c.in_ok-reserve_links.ensures.same ∙ ap all_grown c.deref_mut-2.ensures.value ∙ ap (λ (s : Standing). s.link_curves) c.self.view_is)) refl)
+    (add-one c.self.inside.made ∙ ap (λ (s : Standing). suc s.made) c.self.view_is) refl

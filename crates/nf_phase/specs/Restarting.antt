@@ -1,0 +1,77 @@
+-- A run that is restored from a flow, and which of its phases goes on with one that was cut short.
+use Rattle.std.specs.Prelude.{◌≡◌, ◌≢◌, ℕ, ◌<◌, Bool, true, false, if◌then◌else◌, List, [], ◌∷◌, length, Some, None, Ok, slice_get}
+use Rattle.nf_rational.specs.Rational.{ℚ}
+use Rattle.nf_rational.specs.Operations.{0ℚ}
+use Rattle.nf_work.specs.Passing.{Passing}
+use Rattle.nf_work.specs.Checked.{Checked, each, ◌>>=◌}
+use Rattle.nf_model.specs.Entries.{number_at}
+use Rattle.nf_model.specs.Curve.{Point}
+use Rattle.nf_model.specs.Network.{Link, Piece, Network, IsLink}
+use Rattle.nf_model.specs.declared.State.TheVariants.{Full}
+use Rattle.nf_model.specs.Pattern.{Pattern, HasState}
+use Rattle.nf_model.specs.Equilibrium.{Trace, Flow, points_at, points_of, label, Equilibrium}
+use Rattle.nf_lists.specs.Signs.{is_same}
+use Rattle.nf_lists.specs.ReportCurves.{LinkCurves}
+use Rattle.nf_lists.specs.PhaseRun.{Standing}
+use Rattle.nf_lists.specs.Ends.{end_of}
+use Rattle.nf_resume_lists.specs.Restoring.{growing, link_curves_of, restore_list}
+use Rattle.nf_resume_lists.specs.Meanings.{IsShortFlow}
+use Rattle.nf_resume_lists.specs.Open.{with_last}
+use Rattle.nf_phase.specs.declared.phase.Phase.{Phase}
+use Rattle.nf_phase.specs.Finding.{after_phase}
+
+-- ---- a flow by which a run may be restored
+
+-- A label ends at the departure that was reached; an inflow and a queue end at the label of the link's tail there, and an outflow at
+-- that of its head.
+pub record EndsAtItsLabels (net : Network) (flow : Flow) : Type 0 where
+  pub labels : (v : ℕ) → v < net.nodes → end_of (points_at flow.labels v) ≡ flow.reached
+  pub inflows : (e : ℕ) (link : Link) → IsLink net e link → end_of (points_at (points_of flow.inflows) e) ≡ label flow link.tail flow.reached
+  pub outflows : (e : ℕ) (link : Link) → IsLink net e link → end_of (points_at (points_of flow.outflows) e) ≡ label flow link.head flow.reached
+  pub queues : (e : ℕ) (link : Link) → IsLink net e link → end_of (points_at flow.queues e) ≡ label flow link.tail flow.reached
+
+-- no unbounded link is Full
+abbrev pub NoneFull : Network → Pattern → Type 0
+NoneFull net last = (e : ℕ) (link : Link) → IsLink net e link → link.capacity ≡ None → HasState last e Full → ⊥
+
+-- a run is restored from an equilibrium that ends at its labels and is in short form, and from a pattern of the network's links
+pub record IsRestored (passes : Passing) (net : Network) (s : Standing) : Type 0 where
+  pub flow : Flow
+  pub last : Pattern
+  pub equilibrium : Equilibrium net flow
+  pub ends : EndsAtItsLabels net flow
+  pub short : IsShortFlow net flow
+  pub states : length last ≡ length net.links
+  pub no_full : NoneFull net last
+  pub stands : restore_list passes flow last ≡ Ok s
+
+-- ---- the list of restoring, link by link
+module _ (passes : Passing) where
+  abbrev pub of_link : Trace → Trace → List Point → Checked LinkCurves
+  of_link inflow outflow queue = do
+    grown ← growing passes queue
+    Ok (record { inflow = inflow; outflow = outflow; queue = grown })
+
+  abbrev pub of_links : List Trace → List Trace → List (List Point) → Checked (List LinkCurves)
+  of_links inflows outflows queues = do
+    grown ← each (growing passes) queues
+    Ok (link_curves_of inflows outflows grown)
+
+-- ---- tests of an open run
+
+-- no piece starts at this time
+abbrev pub none_starts : List Piece → ℚ → Bool
+none_starts [] time = true
+none_starts (piece ∷ pieces) time = if is_same piece.start time then false else none_starts pieces time
+
+-- a link has a state, or a slack other than 0
+abbrev pub ApartAt : List ℚ → Pattern → ℕ → Type 0
+ApartAt slacks last e = slice_get last e ≡ Some None → number_at slacks e ≢ 0ℚ
+
+abbrev pub AreApart : List ℚ → Pattern → Type 0
+AreApart slacks last = (e : ℕ) → ApartAt slacks last e
+
+-- where a run stands after a phase, which may be the rest of one that was cut short: then the last pattern stays
+abbrev pub after_rest : Bool → Network → Standing → Phase → Standing
+after_rest true net s phase = with_last s.last (after_phase net s phase)
+after_rest false net s phase = after_phase net s phase

@@ -1,0 +1,84 @@
+// A phase is made: the run goes on by it.
+ghost use Rattle.std.specs.Prelude.{◌≡◌, ◌<◌, ◌^◌, ◌-◌, length, OnOk, OnErr};
+ghost use Rattle.nf_work.specs.Passing.{passes_Q};
+ghost use Rattle.nf_model.specs.Entries.{number_at};
+ghost use Rattle.nf_formats.specs.WellNamed.{IsNamed};
+ghost use Rattle.nf_phase.specs.Stepping.{Reaches};
+ghost use Rattle.nf_phase.specs.Finding.{LeadsOn, after_phase};
+ghost use Rattle.nf_phase.specs.Restarting.{after_rest};
+
+use crate::growth::{labels_go_on, reserve_labels, reserve_links};
+use crate::link_growth::links_go_on;
+use crate::phase::Phase;
+use crate::run::Run;
+use nf_frac::Q;
+use nf_net::Network;
+use std::alloc::{AllocError, Global};
+
+// The label of the source is the departure.
+fn departure_in(net: &Network, labels: &[Q]) -> Q
+    requires { length labels.now ≡ net.now.net.nodes }
+    ensures { result ≡ number_at labels.now net.now.net.source }
+{
+    labels[net.source().index()]
+}
+
+impl Run {
+    // The run goes on to the end of a phase, which leads on from here to a horizon. Where memory is wanting the run stays as it was.
+    pub(crate) fn make(
+        &mut self,
+        net: &Network,
+        horizon: Q,
+        patterns: u64,
+        phase: Phase,
+    ) -> Result<(), AllocError>
+        requires reaches { Reaches passes_Q net.now.net self.old }
+        requires named { IsNamed net.now }
+        requires more { self.old.made < 2 ^ 64 - 1 }
+        requires leads { LeadsOn passes_Q net.now.net horizon patterns self.old phase }
+        ensures made { OnOk result (self.new ≡ after_phase net.now.net self.old phase) }
+        ensures kept { OnErr result (self.new ≡ self.old) }
+    {
+        reserve_labels(&mut self.label_curves)?;
+        reserve_links(&mut self.link_curves)?;
+        let reached = departure_in(net, &phase.labels);
+        labels_go_on(
+            &mut self.label_curves,
+            reached,
+            &phase.labels,
+            &phase.slopes,
+        );
+        links_go_on(&mut self.link_curves, net, &phase.labels, &phase.steps);
+        self.reached = reached;
+        self.labels = phase.labels;
+        self.last = phase.pattern;
+        self.made += 1;
+        Ok(())
+    }
+
+    // The same, where the phase may be the rest of one that was cut short: then the last pattern stays.
+    pub(crate) fn go_on_by(
+        &mut self,
+        alloc: Global,
+        net: &Network,
+        horizon: Q,
+        patterns: u64,
+        rests: bool,
+        phase: Phase,
+    ) -> Result<(), AllocError>
+        requires reaches { Reaches passes_Q net.now.net self.old }
+        requires named { IsNamed net.now }
+        requires more { self.old.made < 2 ^ 64 - 1 }
+        requires leads { LeadsOn passes_Q net.now.net horizon patterns self.old phase }
+        ensures made { OnOk result (self.new ≡ after_rest rests net.now.net self.old phase) }
+        ensures kept { OnErr result (self.new ≡ self.old) }
+    {
+        if !rests {
+            return self.make(net, horizon, patterns, phase);
+        }
+        let last = self.last.copy(alloc)?;
+        self.make(net, horizon, patterns, phase)?;
+        self.last = last;
+        Ok(())
+    }
+}

@@ -1,0 +1,51 @@
+-- Numbers above 0, and the lesser of two, as code asks for them.
+use Rattle.std.proofs.Common.{◌≡◌, ℕ, Bool, true, false, not, ◌∙◌, refl, ap, [], ◌∷◌, arith}
+use mathlib.Core.Path.{ap₂}
+use lib.IntN.{ℤ, pos, ◌*ℤ◌, zero-*ℤ}
+use lib.Signed.{le_z, lt_z}
+use borrow.Author.Differences.{ints}
+use Rattle.std.specs.Prelude.{Some}
+use Rattle.std.specs.Ordering.{partial_lt}
+use Rattle.nf_rational.specs.Gcd.{gcd}
+use Rattle.nf_rational.specs.Rational.{ℚ, ratio}
+use Rattle.nf_rational.specs.Operations.{0ℚ, whole}
+use Rattle.nf_rational.specs.Order.{cmp_ℚ, le_ℚ, lt_ℚ}
+use Rattle.nf_rational_laws.proofs.Polynomial.{ring, reading}
+use Rattle.nf_rational_laws.proofs.IntegerRing.{ints_ring}
+use Rattle.nf_frac.proofs.Comparisons.{lt-cmp}
+
+zero_num : 0ℚ.num ≡ pos 0
+unfolding whole ratio gcd
+zero_num = refl
+
+zero_den : 0ℚ.den ≡ 1
+unfolding whole ratio gcd
+zero_den = refl
+
+times_one : (a : ℤ) → a *ℤ pos 1 ≡ a
+times_one a = ring ints_ring (a ∷ []) (search reading depth 30) tt
+
+flip : (n : ℤ) → not (le_z n (pos 0)) ≡ lt_z (pos 0) n
+flip n = by_test (le_z n (pos 0)) (lt_z (pos 0) n) refl refl
+  where
+    both : (n : ℤ) → le_z n (pos 0) ≡ true → lt_z (pos 0) n ≡ true → ⊥
+    both n e f = omega (arith, ints)
+
+    none : (n : ℤ) → le_z n (pos 0) ≡ false → lt_z (pos 0) n ≡ false → ⊥
+    none n e f = omega (arith, ints)
+
+    by_test : (s t : Bool) → le_z n (pos 0) ≡ s → lt_z (pos 0) n ≡ t → not s ≡ t
+    by_test true true e f = absurd (both n e f)
+    by_test true false e f = refl
+    by_test false true e f = refl
+    by_test false false e f = absurd (none n e f)
+
+-- a number is above 0 where its numerator is
+pub above_zero : (q : ℚ) → lt_ℚ 0ℚ q ≡ lt_z (pos 0) q.num
+unfolding lt_ℚ le_ℚ
+above_zero q =
+    ap not (ap₂ le_z (ap (λ (d : ℕ). q.num *ℤ pos d) zero_den ∙ times_one q.num) (ap (λ (z : ℤ). z *ℤ pos q.den) zero_num ∙ zero-*ℤ (pos q.den)))
+    ∙ flip q.num
+
+pub less_by_order : (x y : ℚ) → partial_lt (λ (x y : ℚ). Some (cmp_ℚ x y)) x y ≡ lt_ℚ x y
+less_by_order x y = lt-cmp x y

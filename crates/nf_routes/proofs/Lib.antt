@@ -1,0 +1,9 @@
+pub mod Lists
+pub mod Greatest
+pub mod Folds
+pub mod Sound
+pub mod Stands
+pub mod Here
+pub mod All
+pub mod Travelling
+pub mod Whole

@@ -1,0 +1,52 @@
+-- Loading by route as a whole, as the list has it.
+use Rattle.std.proofs.Common.{◌≡◌, List, refl, sym, ap, ◌∙◌}
+use Rattle.std.specs.Prelude.{Ok, Err, map}
+use Rattle.nf_rational.specs.Rational.{ℚ}
+use Rattle.nf_work.specs.declared.PassedAt.{PassedAt}
+use Rattle.nf_work.specs.declared.Part.TheVariants.{Load}
+use Rattle.nf_work.specs.Passing.{Passing}
+use Rattle.nf_work.specs.Checked.{Checked, at_part, each, ◌>>=◌}
+use Rattle.nf_model.specs.Curve.{Point}
+use Rattle.nf_model.specs.Network.{Network}
+use Rattle.nf_load_lists.specs.Loading.{Loaded}
+use Rattle.nf_check_lists.specs.Curves.{departures}
+use Rattle.nf_curve.proofs.Exits.{after_err, after_ok}
+use Rattle.nf_routes_lists.specs.Routes.{Route}
+use Rattle.nf_routes_lists.specs.RoutesList.{SoFar, Routed, end_or, loaded_or, but_last, last_entry, travel_on, routes_list}
+use Rattle.nf_routes.specs.Beginning.{all_loaded}
+use Rattle.nf_routes.specs.Travels.{travel_along}
+use Rattle.nf_routes.proofs.Travelling.{travel_on-is, each_same}
+
+module _ (passes : Passing) (net : Network) (routes : List Route) (horizon : ℚ) where
+  abbrev ended_as : SoFar → List (List Point) → Routed
+  ended_as s travels = record { ends = map (end_or passes) s.links; links = map (loaded_or passes) s.links; entries = map (but_last passes) s.entries; arrivals = map last_entry s.entries; travels = travels }
+
+  abbrev after_loads : SoFar → Checked Routed
+  after_loads s = each (λ (route : Route). travel_on passes horizon s.links route.links (departures horizon)) routes >>= λ travels. Ok (ended_as s travels)
+
+  pub load_stops : (p : PassedAt ℚ) → at_part Load (all_loaded passes net routes horizon) ≡ Err p → at_part Load (routes_list passes net routes horizon) ≡ Err p
+  unfolding routes_list
+  load_stops p h = after_err Load (all_loaded passes net routes horizon) after_loads p h
+
+  module _ (s : SoFar) (l : at_part Load (all_loaded passes net routes horizon) ≡ Ok s) where
+    loads : at_part Load (routes_list passes net routes horizon) ≡ at_part Load (after_loads s)
+    unfolding routes_list
+    loads = after_ok Load (all_loaded passes net routes horizon) after_loads s l
+
+    module _ (links : List Loaded) (e : links ≡ map (loaded_or passes) s.links) where
+      travels-are : each (λ (route : Route). travel_on passes horizon s.links route.links (departures horizon)) routes ≡ each (λ (route : Route). travel_along passes horizon links route.links (departures horizon)) routes
+      travels-are = each_same (λ (route : Route). travel_on passes horizon s.links route.links (departures horizon)) (λ (route : Route). travel_along passes horizon links route.links (departures horizon))
+          (λ route. travel_on-is passes horizon s.links route.links (departures horizon) ∙ ap (λ (ls : List Loaded). travel_along passes horizon ls route.links (departures horizon)) (sym e)) routes
+
+      pub travel_stops : (p : PassedAt ℚ) → at_part Load (each (λ (route : Route). travel_along passes horizon links route.links (departures horizon)) routes) ≡ Err p → at_part Load (routes_list passes net routes horizon) ≡ Err p
+      travel_stops p h = loads ∙ after_err Load (each (λ (route : Route). travel_on passes horizon s.links route.links (departures horizon)) routes) (λ travels. Ok (ended_as s travels)) p (ap (at_part Load) travels-are ∙ h)
+
+      pub list_comes : (travels : List (List Point)) → at_part Load (each (λ (route : Route). travel_along passes horizon links route.links (departures horizon)) routes) ≡ Ok travels
+          → at_part Load (routes_list passes net routes horizon) ≡ Ok (ended_as s travels)
+      list_comes travels h = loads ∙ after_ok Load (each (λ (route : Route). travel_on passes horizon s.links route.links (departures horizon)) routes) (λ travels. Ok (ended_as s travels)) travels (ap (at_part Load) travels-are ∙ h)
+
+-- a value of its parts
+pub same_parts : {ends ends' : List ℚ} {links links' : List Loaded} {entries entries' : List (List (List Point))} {arrivals arrivals' travels : List (List Point)}
+    → ends ≡ ends' → links ≡ links' → entries ≡ entries' → arrivals ≡ arrivals'
+    → ◌≡◌ {A = Routed} (record { ends = ends; links = links; entries = entries; arrivals = arrivals; travels = travels }) (record { ends = ends'; links = links'; entries = entries'; arrivals = arrivals'; travels = travels })
+same_parts {travels = travels} a b c d = λ i. record { ends = a i; links = b i; entries = c i; arrivals = d i; travels = travels }

@@ -1,0 +1,108 @@
+use Rattle.std.proofs.Common.{◌≡◌, List, [], ◌∷◌, length, sym, ap, subst, ◌∙◌}
+use Rattle.std.specs.Prelude.{Option, Ok}
+use Rattle.std.specs.List.{slice_get}
+use Rattle.std.proofs.lemmas.List.{length-map, with_items_is}
+use Rattle.std.proofs.lemmas.Result.{err_from_is_err_and}
+use Rattle.nf_rational.specs.Rational.{ℚ}
+use Rattle.nf_rational.specs.Operations.{0ℚ}
+use Rattle.nf_rational.specs.Order.{◌≤ℚ◌}
+use Rattle.nf_work.specs.declared.Part.TheVariants.{Load}
+use Rattle.nf_work.specs.Passing.{passes_Q}
+use Rattle.nf_work.specs.Checked.{Stops, at_part}
+use Rattle.nf_model.specs.Network.{Link}
+use Rattle.nf_model_laws.proofs.Earliest.{IsPositive-link}
+use Rattle.nf_curve.proofs.Exits.{stops_on}
+use Rattle.nf_load_lists.specs.Loading.{checked_loading}
+use Rattle.nf_load.specs.Loadings.{loaded_of}
+use Rattle.nf_routes_lists.specs.Routes.{all_pairs}
+use Rattle.nf_routes_lists.specs.RoutesFile.{NamedRoute}
+use Rattle.nf_routes_lists.specs.RoutesList.{LoadedLink, end_by, begin_all, sum_from, next_all, load_here}
+use Rattle.nf_route.specs.Kept.{routes_of}
+use Rattle.nf_routes.specs.Standing.{seen_so_far, Along, MayBegin, Sends}
+use Rattle.nf_routes.proofs.Folds.{Sent, along-count}
+use Rattle.nf_routes.proofs.Sound.{have_pieces}
+use Rattle.nf_routes.proofs.Here.{end_nn, all_send, inflow_is, exits_are, send_stops}
+use Rattle.nf_routes.proofs.loading.load_here.Goals as goal
+
+pub begin_all-requires-clause-many : goal.begin_all-requires-clause-many
+begin_all-requires-clause-many c =
+    ap (λ (l : List Sent). length l) c.deref_mut.ensures.value ∙ along-count (MayBegin c.args.link) (routes_of c.args.routes.now) c.args.so_far.now.entries.items c.requires.may.entries ∙ length-map c.args.routes.now (λ (r : NamedRoute). r.route)
+
+pub begin_all-requires-clause-pieces : goal.begin_all-requires-clause-pieces
+begin_all-requires-clause-pieces c =
+    have_pieces c.args.link (routes_of c.args.routes.now) c.args.so_far.now.entries.items c.requires.may.entries
+
+pub inflow_of-requires : goal.inflow_of-requires
+inflow_of-requires c =
+    let begun : at_part Load (begin_all passes_Q c.args.horizon c.args.link (routes_of c.args.routes.now) c.args.so_far.now.entries.items) ≡ Ok c.begin_all.new.entries =
+    ap (λ (l : List Sent). at_part Load (begin_all passes_Q c.args.horizon c.args.link (routes_of c.args.routes.now) l)) (sym c.deref_mut.ensures.value) ∙ c.in_ok-begin_all.ensures in
+    let items = with_items_is c.args.so_far.now.entries c.begin_all.new.entries (c.begin_all.auto.entries ∙ c.deref_mut.ensures.len) in
+    subst (λ (l : List Sent). Along (Sends c.args.link) (routes_of c.args.routes.now) l) (sym (c.deref-2.ensures.value ∙ items)) (all_send passes_Q c.args.horizon (routes_of c.args.routes.now) (seen_so_far c.args.so_far.now) c.args.link c.link-here.result c.args.net.now.net c.requires.horizon c.link-here.ensures.named.network c.link-here.ensures.link c.requires.may c.begin_all.new.entries begun)
+
+pub load_link-requires-clause-capacity : goal.load_link-requires-clause-capacity
+load_link-requires-clause-capacity c =
+    λ rate e. IsPositive-link c.args.net.now.net c.args.link c.link-here.result c.link-here.ensures.named.network c.link-here.ensures.link rate (sym (ap (λ (l : Link). l.capacity) c.here.view_is) ∙ e)
+
+pub load_link-requires-clause-begins : goal.load_link-requires-clause-begins
+load_link-requires-clause-begins c =
+    let begun : at_part Load (begin_all passes_Q c.args.horizon c.args.link (routes_of c.args.routes.now) c.args.so_far.now.entries.items) ≡ Ok c.begin_all.new.entries =
+    ap (λ (l : List Sent). at_part Load (begin_all passes_Q c.args.horizon c.args.link (routes_of c.args.routes.now) l)) (sym c.deref_mut.ensures.value) ∙ c.in_ok-begin_all.ensures in
+    let items = with_items_is c.args.so_far.now.entries c.begin_all.new.entries (c.begin_all.auto.entries ∙ c.deref_mut.ensures.len) in
+    let inflow : at_part Load (sum_from passes_Q c.args.link ((0ℚ, 0ℚ) ∷ []) (routes_of c.args.routes.now) c.begin_all.new.entries) ≡ Ok c.in_ok-inflow.inflow.points =
+    ap (λ (l : List Sent). at_part Load (sum_from passes_Q c.args.link ((0ℚ, 0ℚ) ∷ []) (routes_of c.args.routes.now) l)) (sym (c.deref-2.ensures.value ∙ items)) ∙ c.in_ok-inflow.ensures in
+    (inflow_is passes_Q c.args.horizon (routes_of c.args.routes.now) (seen_so_far c.args.so_far.now) c.args.link c.link-here.result c.args.net.now.net c.requires.horizon c.link-here.ensures.named.network c.link-here.ensures.link c.requires.may c.begin_all.new.entries c.in_ok-inflow.inflow.points begun inflow).begins
+
+pub load_link-requires-clause-rises : goal.load_link-requires-clause-rises
+load_link-requires-clause-rises c =
+    let begun : at_part Load (begin_all passes_Q c.args.horizon c.args.link (routes_of c.args.routes.now) c.args.so_far.now.entries.items) ≡ Ok c.begin_all.new.entries =
+    ap (λ (l : List Sent). at_part Load (begin_all passes_Q c.args.horizon c.args.link (routes_of c.args.routes.now) l)) (sym c.deref_mut.ensures.value) ∙ c.in_ok-begin_all.ensures in
+    let items = with_items_is c.args.so_far.now.entries c.begin_all.new.entries (c.begin_all.auto.entries ∙ c.deref_mut.ensures.len) in
+    let inflow : at_part Load (sum_from passes_Q c.args.link ((0ℚ, 0ℚ) ∷ []) (routes_of c.args.routes.now) c.begin_all.new.entries) ≡ Ok c.in_ok-inflow.inflow.points =
+    ap (λ (l : List Sent). at_part Load (sum_from passes_Q c.args.link ((0ℚ, 0ℚ) ∷ []) (routes_of c.args.routes.now) l)) (sym (c.deref-2.ensures.value ∙ items)) ∙ c.in_ok-inflow.ensures in
+    (inflow_is passes_Q c.args.horizon (routes_of c.args.routes.now) (seen_so_far c.args.so_far.now) c.args.link c.link-here.result c.args.net.now.net c.requires.horizon c.link-here.ensures.named.network c.link-here.ensures.link c.requires.may c.begin_all.new.entries c.in_ok-inflow.inflow.points begun inflow).rises
+
+pub load_link-requires-clause-until : goal.load_link-requires-clause-until
+load_link-requires-clause-until c =
+    let end : c.end_of-end.result ≡ end_by c.args.horizon (all_pairs (routes_of c.args.routes.now)) c.args.so_far.now.links.items c.args.link =
+    c.end_of-end.ensures ∙ ap (λ (l : List (Option LoadedLink)). end_by c.args.horizon (all_pairs (routes_of c.args.routes.now)) l c.args.link) c.deref.ensures.value in
+    subst (λ (z : ℚ). 0ℚ ≤ℚ z) (sym end) (end_nn passes_Q c.args.horizon (routes_of c.args.routes.now) (seen_so_far c.args.so_far.now) c.args.link c.link-here.result c.args.net.now.net c.requires.horizon c.link-here.ensures.named.network c.link-here.ensures.link c.requires.may)
+
+pub send_all_on-requires-clause-exits : goal.send_all_on-requires-clause-exits
+send_all_on-requires-clause-exits c =
+    let begun : at_part Load (begin_all passes_Q c.args.horizon c.args.link (routes_of c.args.routes.now) c.args.so_far.now.entries.items) ≡ Ok c.begin_all.new.entries =
+    ap (λ (l : List Sent). at_part Load (begin_all passes_Q c.args.horizon c.args.link (routes_of c.args.routes.now) l)) (sym c.deref_mut.ensures.value) ∙ c.in_ok-begin_all.ensures in
+    let items = with_items_is c.args.so_far.now.entries c.begin_all.new.entries (c.begin_all.auto.entries ∙ c.deref_mut.ensures.len) in
+    let end : c.end_of-end.result ≡ end_by c.args.horizon (all_pairs (routes_of c.args.routes.now)) c.args.so_far.now.links.items c.args.link =
+    c.end_of-end.ensures ∙ ap (λ (l : List (Option LoadedLink)). end_by c.args.horizon (all_pairs (routes_of c.args.routes.now)) l c.args.link) c.deref.ensures.value in
+    let inflow : at_part Load (sum_from passes_Q c.args.link ((0ℚ, 0ℚ) ∷ []) (routes_of c.args.routes.now) c.begin_all.new.entries) ≡ Ok c.in_ok-inflow.inflow.points =
+    ap (λ (l : List Sent). at_part Load (sum_from passes_Q c.args.link ((0ℚ, 0ℚ) ∷ []) (routes_of c.args.routes.now) l)) (sym (c.deref-2.ensures.value ∙ items)) ∙ c.in_ok-inflow.ensures in
+    let loaded : at_part Load (checked_loading passes_Q c.link-here.result.transit c.link-here.result.capacity c.in_ok-inflow.inflow.points (end_by c.args.horizon (all_pairs (routes_of c.args.routes.now)) c.args.so_far.now.links.items c.args.link)) ≡ Ok (loaded_of c.in_ok-loaded.loaded) =
+    ap (λ (z : ℚ). at_part Load (checked_loading passes_Q c.link-here.result.transit c.link-here.result.capacity c.in_ok-inflow.inflow.points z)) (sym end)
+    ∙ ap (λ (l : Link). at_part Load (checked_loading passes_Q l.transit l.capacity c.in_ok-inflow.inflow.points c.end_of-end.result)) (sym c.here.view_is) ∙ c.in_ok-loaded.ensures.list in
+    exits_are passes_Q c.args.horizon (routes_of c.args.routes.now) (seen_so_far c.args.so_far.now) c.args.link c.link-here.result c.args.net.now.net c.requires.horizon c.link-here.ensures.named.network c.link-here.ensures.link c.requires.may c.begin_all.new.entries c.in_ok-inflow.inflow.points (loaded_of c.in_ok-loaded.loaded) begun inflow loaded
+
+pub send_all_on-requires-clause-send : goal.send_all_on-requires-clause-send
+send_all_on-requires-clause-send c =
+    let begun : at_part Load (begin_all passes_Q c.args.horizon c.args.link (routes_of c.args.routes.now) c.args.so_far.now.entries.items) ≡ Ok c.begin_all.new.entries =
+    ap (λ (l : List Sent). at_part Load (begin_all passes_Q c.args.horizon c.args.link (routes_of c.args.routes.now) l)) (sym c.deref_mut.ensures.value) ∙ c.in_ok-begin_all.ensures in
+    let items = with_items_is c.args.so_far.now.entries c.begin_all.new.entries (c.begin_all.auto.entries ∙ c.deref_mut.ensures.len) in
+    subst (λ (l : List Sent). Along (Sends c.args.link) (routes_of c.args.routes.now) l) (sym (c.deref_mut-2.ensures.value ∙ items)) (all_send passes_Q c.args.horizon (routes_of c.args.routes.now) (seen_so_far c.args.so_far.now) c.args.link c.link-here.result c.args.net.now.net c.requires.horizon c.link-here.ensures.named.network c.link-here.ensures.link c.requires.may c.begin_all.new.entries begun)
+
+pub returns-in_err-send_all_on : goal.returns-in_err-send_all_on
+returns-in_err-send_all_on c =
+    let p = err_from_is_err_and c.from_residual-in_err-send_all_on.result c.from_residual-in_err-send_all_on.ensures.1 in
+    let begun : at_part Load (begin_all passes_Q c.args.horizon c.args.link (routes_of c.args.routes.now) c.args.so_far.now.entries.items) ≡ Ok c.begin_all.new.entries =
+    ap (λ (l : List Sent). at_part Load (begin_all passes_Q c.args.horizon c.args.link (routes_of c.args.routes.now) l)) (sym c.deref_mut.ensures.value) ∙ c.in_ok-begin_all.ensures in
+    let items = with_items_is c.args.so_far.now.entries c.begin_all.new.entries (c.begin_all.auto.entries ∙ c.deref_mut.ensures.len) in
+    let end : c.end_of-end.result ≡ end_by c.args.horizon (all_pairs (routes_of c.args.routes.now)) c.args.so_far.now.links.items c.args.link =
+    c.end_of-end.ensures ∙ ap (λ (l : List (Option LoadedLink)). end_by c.args.horizon (all_pairs (routes_of c.args.routes.now)) l c.args.link) c.deref.ensures.value in
+    let inflow : at_part Load (sum_from passes_Q c.args.link ((0ℚ, 0ℚ) ∷ []) (routes_of c.args.routes.now) c.begin_all.new.entries) ≡ Ok c.in_ok-inflow.inflow.points =
+    ap (λ (l : List Sent). at_part Load (sum_from passes_Q c.args.link ((0ℚ, 0ℚ) ∷ []) (routes_of c.args.routes.now) l)) (sym (c.deref-2.ensures.value ∙ items)) ∙ c.in_ok-inflow.ensures in
+    let loaded : at_part Load (checked_loading passes_Q c.link-here.result.transit c.link-here.result.capacity c.in_ok-inflow.inflow.points (end_by c.args.horizon (all_pairs (routes_of c.args.routes.now)) c.args.so_far.now.links.items c.args.link)) ≡ Ok (loaded_of c.in_ok-loaded.loaded) =
+    ap (λ (z : ℚ). at_part Load (checked_loading passes_Q c.link-here.result.transit c.link-here.result.capacity c.in_ok-inflow.inflow.points z)) (sym end)
+    ∙ ap (λ (l : Link). at_part Load (checked_loading passes_Q l.transit l.capacity c.in_ok-inflow.inflow.points c.end_of-end.result)) (sym c.here.view_is) ∙ c.in_ok-loaded.ensures.list in
+    rw (p.1, p.2) (stops_on c.in_err-send_all_on.field-0.0 (at_part Load (next_all passes_Q c.args.link (loaded_of c.in_ok-loaded.loaded).exit (routes_of c.args.routes.now) c.begin_all.new.entries))
+    (at_part Load (load_here passes_Q c.args.horizon (routes_of c.args.routes.now) (seen_so_far c.args.so_far.now) c.args.link (slice_get c.args.net.now.net.links c.args.link)))
+    (λ q k. ap (λ (o : Option Link). at_part Load (load_here passes_Q c.args.horizon (routes_of c.args.routes.now) (seen_so_far c.args.so_far.now) c.args.link o)) c.link-here.ensures.link
+    ∙ send_stops passes_Q c.args.horizon (routes_of c.args.routes.now) (seen_so_far c.args.so_far.now) c.args.link c.link-here.result c.begin_all.new.entries begun c.in_ok-inflow.inflow.points inflow (loaded_of c.in_ok-loaded.loaded) loaded q k)
+    (subst (λ (l : List Sent). Stops (λ (q : ℚ). q) c.in_err-send_all_on.field-0.0 (at_part Load (next_all passes_Q c.args.link (loaded_of c.in_ok-loaded.loaded).exit (routes_of c.args.routes.now) l))) (c.deref_mut-2.ensures.value ∙ items) c.in_err-send_all_on.ensures))

@@ -1,0 +1,5 @@
+pub mod Codes
+pub mod Beginning
+pub mod Standing
+pub mod Travels
+pub mod Routed

@@ -1,0 +1,31 @@
+-- Travels along routes, by the exits of loaded links.
+use Rattle.std.specs.Prelude.{◌≡◌, ℕ, ◌<◌, List, [], ◌∷◌, length, Some, slice_get}
+use Rattle.nf_rational.specs.Rational.{ℚ}
+use Rattle.nf_work.specs.Passing.{Passing}
+use Rattle.nf_work.specs.Checked.{Checked, ◌>>=◌}
+use Rattle.nf_model.specs.Curve.{Point}
+use Rattle.nf_curve_lists.specs.Composed.{checked_composed}
+use Rattle.nf_curve_lists.specs.Short.{checked_short}
+use Rattle.nf_load_lists.specs.Loading.{Loaded}
+use Rattle.nf_check_lists.specs.Curves.{loaded_at}
+use Rattle.nf_routes_lists.specs.Routes.{Route}
+use Rattle.nf_share.specs.Amounts.{AreExits}
+
+-- the exits of these links
+pub record HaveExits (loaded : List Loaded) : Type 0 where
+  pub each : (e : ℕ) (link : Loaded) → slice_get loaded e ≡ Some link → AreExits link.exit
+
+-- these are numbers of links that are there
+pub record GoOver (loaded : List Loaded) (links : List ℕ) : Type 0 where
+  pub each : (place e : ℕ) → slice_get links place ≡ Some e → e < length loaded
+
+pub record GoOverAll (loaded : List Loaded) (routes : List Route) : Type 0 where
+  pub each : (r : ℕ) (route : Route) → slice_get routes r ≡ Some route → GoOver loaded route.links
+
+module _ (passes : Passing) where
+  -- a travel so far, over more links
+  abbrev pub travel_along : ℚ → List Loaded → List ℕ → List Point → Checked (List Point)
+  travel_along horizon loaded [] travel = checked_short passes travel
+  travel_along horizon loaded (e ∷ rest) travel = do
+    next ← checked_composed passes (loaded_at loaded e).exit travel horizon
+    travel_along horizon loaded rest next

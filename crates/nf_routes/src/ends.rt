@@ -1,0 +1,65 @@
+// The end of a link, up to which it is loaded: the greatest of the horizon and the exits, at their own ends, of the links that stand
+// right before it on a route.
+ghost use Rattle.std.specs.Prelude.{◌≡◌, slice_get};
+ghost use Rattle.nf_check_lists.specs.Curves.{last_value as last_by};
+ghost use Rattle.nf_routes_lists.specs.Routes.{pairs_of, all_pairs};
+ghost use Rattle.nf_routes_lists.specs.RoutesList.{exit_end as exit_end_by, end_by};
+ghost use Rattle.nf_route.specs.Kept.{routes_of};
+
+use crate::so_far::LoadedLink;
+use nf_curve::Curve;
+use nf_frac::Q;
+use nf_net::LinkId;
+use nf_route::Route;
+
+// The value of the last point.
+fn last_value(curve: &Curve) -> Q
+    ensures { result ≡ last_by curve.now.points }
+{
+    let (_, value) = curve.point(curve.len() - 1);
+    value
+}
+
+// The exit of a link at its own end, where it is loaded.
+fn exit_end(links: &[Option<LoadedLink>], link: LinkId) -> Q
+    ensures { result ≡ exit_end_by (slice_get links.now link) }
+{
+    match links.get(link.index()) {
+        Some(Some(link)) => last_value(&link.loaded.exit),
+        _ => Q::zero(),
+    }
+}
+
+// The greatest of a time and these exits of the links right before a link, on one route.
+fn end_along(
+    along: &[LinkId],
+    links: &[Option<LoadedLink>],
+    link: LinkId,
+    least: Q,
+) -> Q
+    ensures { result ≡ end_by least (pairs_of along.now) links.now link }
+{
+    let mut end = least;
+    for i in 1..along.len() {
+        if along[i] == link {
+            end = end.greater(exit_end(links, along[i - 1]));
+        }
+    }
+    end
+}
+
+/// The end of a link.
+pub(crate) fn end_of(
+    routes: &[Route],
+    links: &[Option<LoadedLink>],
+    link: LinkId,
+    horizon: Q,
+) -> Q
+    ensures { result ≡ end_by horizon (all_pairs (routes_of routes.now)) links.now link }
+{
+    let mut end = horizon;
+    for route in routes {
+        end = end_along(route.links(), links, link, end);
+    }
+    end
+}

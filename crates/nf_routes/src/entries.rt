@@ -1,0 +1,165 @@
+// What the routes send into a link, and what they send on through it.
+ghost use Rattle.std.specs.Prelude.{◌≡◌, ◌∷◌, [], length};
+ghost use Rattle.nf_rational.specs.Operations.{0ℚ};
+ghost use Rattle.nf_rational.specs.Order.{◌≤ℚ◌};
+ghost use Rattle.nf_work.specs.Passing.{passes_Q};
+ghost use Rattle.nf_work.specs.declared.Part.TheVariants.{Load};
+ghost use Rattle.nf_work.specs.Checked.{at_part, Gives};
+ghost use Rattle.nf_model.specs.Network.{ArePieces};
+ghost use Rattle.nf_routes_lists.specs.RoutesList as lists;
+ghost use Rattle.nf_route.specs.Kept.{routes_of};
+ghost use Rattle.nf_share.specs.Amounts.{AreExits};
+ghost use Rattle.nf_routes.specs.Beginning.{first_entry as first_by, HavePieces};
+ghost use Rattle.nf_routes.specs.Standing.{Along, Sends};
+
+use crate::stages::Stages;
+use nf_curve::Curve;
+use nf_frac::{Halt, Part, Q};
+use nf_load::cumulative;
+use nf_net::{LinkId, Piece};
+use nf_route::Route;
+use nf_share::next_entry;
+use std::alloc::Global;
+
+// A route begins with this link.
+fn begins_with(links: &[LinkId], link: LinkId) -> bool
+    ensures { result ≡ lists.begins_with links.now link }
+{
+    match links {
+        [] => false,
+        [first, ..] => *first == link,
+    }
+}
+
+// A route goes over this link.
+fn goes_over(links: &[LinkId], link: LinkId) -> bool
+    ensures { result ≡ lists.goes_over links.now link }
+{
+    links.iter().any(|one| *one == link)
+}
+
+// What is sent into the first link of a route, up to the horizon.
+fn first_entry(alloc: Global, pieces: &[Piece], horizon: Q) -> Result<Curve, Halt<Q>>
+    requires pieces { ArePieces pieces.now }
+    requires horizon { 0ℚ ≤ℚ horizon }
+    ensures { Gives (λ c. c.points) (λ q. q) result (at_part Load (first_by passes_Q pieces.now horizon)) }
+{
+    let amounts = cumulative(alloc, pieces, horizon)?;
+    Curve::short(alloc, &amounts, Part::Load)
+}
+
+// The route begins, if the link is its first.
+fn begin(
+    alloc: Global,
+    route: &Route,
+    link: LinkId,
+    horizon: Q,
+    sent: &mut Stages,
+) -> Result<(), Halt<Q>>
+    requires pieces { ArePieces route.now.route.pieces }
+    requires horizon { 0ℚ ≤ℚ horizon }
+    ensures { Gives (λ _. sent.new) (λ q. q) result
+        (at_part Load (lists.begin_if passes_Q (lists.begins_with route.now.route.links link) horizon route.now.route sent.old)) }
+{
+    if begins_with(route.links(), link) {
+        let first = first_entry(alloc, route.pieces(), horizon)?;
+        sent.begin(first)?;
+    }
+    Ok(())
+}
+
+/// The routes begin of which the link is the first.
+pub(crate) fn begin_all(
+    alloc: Global,
+    routes: &[Route],
+    link: LinkId,
+    horizon: Q,
+    entries: &mut [Stages],
+) -> Result<(), Halt<Q>>
+    requires many { length entries.old ≡ length routes.now }
+    requires pieces { HavePieces (routes_of routes.now) }
+    requires horizon { 0ℚ ≤ℚ horizon }
+    ensures { Gives (λ _. entries.new) (λ q. q) result
+        (at_part Load (lists.begin_all passes_Q horizon link (routes_of routes.now) entries.old)) }
+{
+    for i in 0..routes.len() {
+        begin(alloc, &routes[i], link, horizon, &mut entries[i])?;
+    }
+    Ok(())
+}
+
+// The sum so far, with what the route sends into the link if it goes over it.
+fn with_entry(
+    alloc: Global,
+    total: Curve,
+    route: &Route,
+    link: LinkId,
+    sent: &Stages,
+) -> Result<Curve, Halt<Q>>
+    requires { Sends link route.now.route sent.now }
+    ensures { Gives (λ c. c.points) (λ q. q) result
+        (at_part Load (lists.add_if passes_Q (lists.goes_over route.now.route.links link) total.points (lists.last_entry sent.now))) }
+{
+    if goes_over(route.links(), link) {
+        Curve::sum(alloc, &total, sent.last(), Part::Load)
+    } else {
+        Ok(total)
+    }
+}
+
+/// The inflow of a link: the sum of what the routes over it send into it, by time.
+pub(crate) fn inflow_of(
+    alloc: Global,
+    routes: &[Route],
+    link: LinkId,
+    entries: &[Stages],
+) -> Result<Curve, Halt<Q>>
+    requires { Along (Sends link) (routes_of routes.now) entries.now }
+    ensures { Gives (λ c. c.points) (λ q. q) result
+        (at_part Load (lists.sum_from passes_Q link ((0ℚ, 0ℚ) ∷ []) (routes_of routes.now) entries.now)) }
+{
+    let mut total = Curve::start(alloc, Q::zero())?;
+    for i in 0..routes.len() {
+        total = with_entry(alloc, total, &routes[i], link, &entries[i])?;
+    }
+    Ok(total)
+}
+
+// The route sends on, if it goes over the link.
+fn send_on(
+    alloc: Global,
+    route: &Route,
+    link: LinkId,
+    exit: &Curve,
+    sent: &mut Stages,
+) -> Result<(), Halt<Q>>
+    requires exits { AreExits exit.now.points }
+    requires sends { Sends link route.now.route sent.old }
+    ensures { Gives (λ _. sent.new) (λ q. q) result
+        (at_part Load (lists.next_if passes_Q (lists.goes_over route.now.route.links link) exit.now.points sent.old)) }
+{
+    if goes_over(route.links(), link) {
+        let next = next_entry(alloc, exit, sent.last())?;
+        sent.push(next)?;
+    }
+    Ok(())
+}
+
+/// All routes over the link send on what they sent into it.
+pub(crate) fn send_all_on(
+    alloc: Global,
+    routes: &[Route],
+    link: LinkId,
+    exit: &Curve,
+    entries: &mut [Stages],
+) -> Result<(), Halt<Q>>
+    requires exits { AreExits exit.now.points }
+    requires send { Along (Sends link) (routes_of routes.now) entries.old }
+    ensures { Gives (λ _. entries.new) (λ q. q) result
+        (at_part Load (lists.next_all passes_Q link exit.now.points (routes_of routes.now) entries.old)) }
+{
+    for i in 0..routes.len() {
+        send_on(alloc, &routes[i], link, exit, &mut entries[i])?;
+    }
+    Ok(())
+}

@@ -1,0 +1,69 @@
+// The loading of the links, one after the other.
+ghost use Rattle.std.specs.Prelude.{◌≡◌, ◌<◌, length, slice_get, IfOk};
+ghost use Rattle.nf_rational.specs.Operations.{0ℚ};
+ghost use Rattle.nf_rational.specs.Order.{◌≤ℚ◌};
+ghost use Rattle.nf_work.specs.Passing.{passes_Q};
+ghost use Rattle.nf_work.specs.declared.Part.TheVariants.{Load};
+ghost use Rattle.nf_work.specs.Checked.{at_part, Gives};
+ghost use Rattle.nf_routes_lists.specs.Routes.{AreRoutes, HoldCircle};
+ghost use Rattle.nf_routes_lists.specs.RoutesList as lists;
+ghost use Rattle.nf_route.specs.Kept.{routes_of};
+ghost use Rattle.nf_routes.specs.Beginning.{all_loaded};
+ghost use Rattle.nf_routes.specs.Standing.{seen_so_far, MayLoad, IsComplete};
+
+use crate::ends::end_of;
+use crate::entries::{begin_all, inflow_of, send_all_on};
+use crate::so_far::{LoadedLink, SoFar};
+use nf_frac::{Halt, Q};
+use nf_load::load_link;
+use nf_net::{LinkId, Network};
+use nf_route::{Route, loading_order};
+use std::alloc::Global;
+
+// The loading of a link up to its end, by what the routes over it send into it.
+fn load_here(
+    alloc: Global,
+    net: &Network,
+    routes: &[Route],
+    horizon: Q,
+    link: LinkId,
+    so_far: &mut SoFar,
+) -> Result<(), Halt<Q>>
+    requires link { link < length net.now.net.links }
+    requires horizon { 0ℚ ≤ℚ horizon }
+    requires may { MayLoad net.now.net (routes_of routes.now) link (seen_so_far so_far.old) }
+    ensures { Gives (λ _. seen_so_far so_far.new) (λ q. q) result
+        (at_part Load (lists.load_here passes_Q horizon (routes_of routes.now) (seen_so_far so_far.old) link (slice_get net.now.net.links link))) }
+{
+    let here = net.link(link);
+    let end = end_of(routes, &so_far.links, link, horizon);
+    begin_all(alloc, routes, link, horizon, &mut so_far.entries)?;
+    let inflow = inflow_of(alloc, routes, link, &so_far.entries)?;
+    let loaded = load_link(alloc, here.transit, here.capacity, &inflow, end)?;
+    send_all_on(alloc, routes, link, &loaded.exit, &mut so_far.entries)?;
+    so_far.links[link.index()] = Some(LoadedLink { end, loaded });
+    Ok(())
+}
+
+/// The loading of all links, each after those that stand right before it on a route.
+pub(crate) fn load_all(
+    alloc: Global,
+    net: &Network,
+    routes: &[Route],
+    horizon: Q,
+) -> Result<SoFar, Halt<Q>>
+    requires horizon { 0ℚ ≤ℚ horizon }
+    requires routes { AreRoutes net.now.net (routes_of routes.now) }
+    requires straight { ¬ HoldCircle (routes_of routes.now) }
+    ensures list { Gives seen_so_far (λ q. q) result (at_part Load (all_loaded passes_Q net.now.net (routes_of routes.now) horizon)) }
+    ensures complete { IfOk result (λ so_far. IsComplete net.now.net (routes_of routes.now) (seen_so_far so_far)) }
+{
+    // For the proof: transit times and capacities are those of a network.
+    let _ = net.version();
+    let order = loading_order(alloc, net.link_count(), routes)?;
+    let mut so_far = SoFar::new(alloc, net, routes)?;
+    for link in &order {
+        load_here(alloc, net, routes, horizon, *link, &mut so_far)?;
+    }
+    Ok(so_far)
+}

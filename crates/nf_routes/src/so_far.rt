@@ -1,0 +1,73 @@
+// What is loaded so far.
+ghost use Rattle.std.specs.Prelude.{◌≡◌, IfOk};
+ghost use Rattle.nf_route.specs.Kept.{routes_of};
+ghost use Rattle.nf_routes.specs.Beginning.{nothing_loaded, nothing_sent};
+
+use crate::stages::Stages;
+use nf_frac::Q;
+use nf_load::Loaded;
+use nf_net::Network;
+use nf_route::Route;
+use std::alloc::{AllocError, Global};
+use std::marker::Model;
+
+/// A link that is loaded up to its end.
+#[derive(Drop)]
+pub struct LoadedLink {
+    pub end: Q,
+    pub loaded: Loaded,
+}
+
+impl Model for LoadedLink {
+    ghost use Rattle.nf_routes_lists.specs.RoutesList.{LoadedLink as SeenLink};
+    ghost use Rattle.nf_load.specs.Loadings.{loaded_of};
+    ghost use Rattle.nf_routes.specs.Codes.{coded_loaded_link};
+
+    ghost Value = { SeenLink };
+
+    ghost coded = { coded_loaded_link };
+
+    ghost view = { λ l. record { end = l.end; loaded = loaded_of l.loaded } };
+}
+
+/// Of each link whether it is loaded, and how; and of each route what it has sent so far.
+#[derive(Drop)]
+pub struct SoFar {
+    pub links: Vec<Option<LoadedLink>>,
+    pub entries: Vec<Stages>,
+}
+
+// No link is loaded.
+fn no_links(alloc: Global, net: &Network) -> Result<Vec<Option<LoadedLink>>, AllocError>
+    ensures { IfOk result (λ links. links.items ≡ nothing_loaded net.now.net.links) }
+{
+    let mut links = Vec::new(alloc);
+    for _ in 0..net.link_count() {
+        links.push(None)?;
+    }
+    Ok(links)
+}
+
+// No route has sent anything.
+fn no_entries(alloc: Global, routes: &[Route]) -> Result<Vec<Stages>, AllocError>
+    ensures { IfOk result (λ entries. entries.items ≡ nothing_sent (routes_of routes.now)) }
+{
+    let mut entries = Vec::new(alloc);
+    for _route in routes {
+        entries.push(Stages::new(alloc))?;
+    }
+    Ok(entries)
+}
+
+impl SoFar {
+    /// No link is loaded, and no route has sent anything.
+    pub fn new(alloc: Global, net: &Network, routes: &[Route]) -> Result<SoFar, AllocError>
+        ensures links { IfOk result (λ so_far. so_far.links.items ≡ nothing_loaded net.now.net.links) }
+        ensures entries { IfOk result (λ so_far. so_far.entries.items ≡ nothing_sent (routes_of routes.now)) }
+    {
+        Ok(SoFar {
+            links: no_links(alloc, net)?,
+            entries: no_entries(alloc, routes)?,
+        })
+    }
+}

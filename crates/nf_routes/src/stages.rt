@@ -1,0 +1,78 @@
+// What one route has sent into its links.
+ghost use Rattle.std.specs.Prelude.{◌≡◌, ◌<◌, [], ◌∷◌, ◌++◌, length, map, OnOk, IsSome, IfSome};
+ghost use Rattle.nf_work.specs.Passing.{passes_Q};
+ghost use Rattle.nf_routes_lists.specs.RoutesList.{last_entry, but_last};
+
+use nf_curve::Curve;
+use std::alloc::{AllocError, Global};
+use std::marker::Model;
+
+/// What a route has sent by each time into its links, in their order and as far as they are loaded, and at last what of it has
+/// arrived.
+#[derive(Drop)]
+pub struct Stages {
+    curves: Vec<Curve>,
+}
+
+impl Model for Stages {
+    ghost use Rattle.std.specs.Prelude.{List, map};
+    ghost use Rattle.std.specs.Coded.{coded_list};
+    ghost use Rattle.nf_model.specs.Curve.{Point};
+    ghost use Rattle.nf_model.specs.Codes.{coded_points};
+
+    ghost Value = { List (List Point) };
+
+    ghost coded = { coded_list coded_points };
+
+    ghost view = { λ s. map (λ c. c.points) s.curves.items };
+}
+
+impl Stages {
+    /// Nothing is loaded.
+    pub fn new(alloc: Global) -> Stages
+        ensures { result ≡ [] }
+    {
+        Stages {
+            curves: Vec::new(alloc),
+        }
+    }
+
+    /// The first link's amount, and no others.
+    pub fn begin(&mut self, first: Curve) -> Result<(), AllocError>
+        ensures { OnOk result (self.new ≡ first.points ∷ []) }
+    {
+        self.curves.clear();
+        self.curves.push(first)?;
+        Ok(())
+    }
+
+    /// One more, behind those that are there.
+    pub fn push(&mut self, next: Curve) -> Result<(), AllocError>
+        ensures { OnOk result (self.new ≡ self.old ++ next.points ∷ []) }
+    {
+        self.curves.push(next)?;
+        Ok(())
+    }
+
+    /// The last of them.
+    pub fn last(&self) -> &Curve
+        requires { 0 < length self.now }
+        ensures { result.now.points ≡ last_entry self.now }
+    {
+        &self.curves[self.curves.len() - 1]
+    }
+
+    /// All but the last, and the last.
+    pub fn end(self) -> Option<(Vec<Curve>, Curve)>
+        requires { 0 < length self }
+        ensures some { IsSome result }
+        ensures sent { IfSome result (λ parts. map (λ c. c.points) parts.0.items ≡ but_last passes_Q self) }
+        ensures arrival { IfSome result (λ parts. parts.1.points ≡ last_entry self) }
+    {
+        let mut curves = self.curves;
+        match curves.pop() {
+            Some(arrival) => Some((curves, arrival)),
+            None => None,
+        }
+    }
+}

@@ -1,0 +1,71 @@
+// When what departs along a route arrives.
+ghost use Rattle.std.specs.Prelude.{◌≡◌, map, IfOk};
+ghost use Rattle.nf_rational.specs.Operations.{0ℚ};
+ghost use Rattle.nf_rational.specs.Order.{◌≤ℚ◌};
+ghost use Rattle.nf_work.specs.Passing.{passes_Q};
+ghost use Rattle.nf_work.specs.declared.Part.TheVariants.{Load};
+ghost use Rattle.nf_work.specs.Checked.{at_part, each, Gives};
+ghost use Rattle.nf_check_lists.specs.Curves.{departures as departures_by};
+ghost use Rattle.nf_load.specs.Loadings.{loaded_of};
+ghost use Rattle.nf_route.specs.Kept.{routes_of};
+ghost use Rattle.nf_routes.specs.Travels.{travel_along, HaveExits, GoOver, GoOverAll};
+
+use nf_curve::Curve;
+use nf_frac::{Halt, Part, Q};
+use nf_load::Loaded;
+use nf_route::Route;
+use std::alloc::{AllocError, Global};
+
+// The departures themselves, up to the horizon.
+fn departures(alloc: Global, horizon: Q) -> Result<Curve, AllocError>
+    requires { 0ℚ ≤ℚ horizon }
+    ensures { IfOk result (λ c. c.points ≡ departures_by horizon) }
+{
+    let mut line = Curve::start(alloc, Q::zero())?;
+    if !horizon.is_zero() {
+        line.push(horizon, horizon)?;
+    }
+    Ok(line)
+}
+
+// The exits of the links of a route one after the other, by the departure.
+fn travel(
+    alloc: Global,
+    links: &[Loaded],
+    route: &Route,
+    horizon: Q,
+) -> Result<Curve, Halt<Q>>
+    requires horizon { 0ℚ ≤ℚ horizon }
+    requires exits { HaveExits (map loaded_of links.now) }
+    requires over { GoOver (map loaded_of links.now) route.now.route.links }
+    ensures { Gives (λ c. c.points) (λ q. q) result
+        (at_part Load (travel_along passes_Q horizon (map loaded_of links.now) route.now.route.links (departures_by horizon))) }
+{
+    let mut travel = departures(alloc, horizon)?;
+    for link in route.links() {
+        let exit = &links[link.index()].exit;
+        travel = Curve::compose(alloc, exit, &travel, horizon, Part::Load)?;
+    }
+    Curve::short(alloc, &travel, Part::Load)
+}
+
+/// Of each route, when what departs arrives: the exits of its links one after the other, by the departure up to the horizon.
+pub(crate) fn travels(
+    alloc: Global,
+    links: &[Loaded],
+    routes: &[Route],
+    horizon: Q,
+) -> Result<Vec<Curve>, Halt<Q>>
+    requires horizon { 0ℚ ≤ℚ horizon }
+    requires exits { HaveExits (map loaded_of links.now) }
+    requires over { GoOverAll (map loaded_of links.now) (routes_of routes.now) }
+    ensures { Gives (λ travels. map (λ c. c.points) travels.items) (λ q. q) result
+        (at_part Load (each (λ route. travel_along passes_Q horizon (map loaded_of links.now) route.links (departures_by horizon)) (routes_of routes.now))) }
+{
+    let mut travels = Vec::new(alloc);
+    for route in routes {
+        let one = travel(alloc, links, route, horizon)?;
+        travels.push(one)?;
+    }
+    Ok(travels)
+}

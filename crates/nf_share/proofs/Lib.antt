@@ -1,0 +1,3 @@
+pub mod Walking
+pub mod Amounts
+pub mod Sharing

@@ -1,0 +1,31 @@
+use Rattle.std.proofs.Common.{◌≡◌, List, sym, ap, ◌∙◌}
+use Rattle.std.proofs.lemmas.Result.{err_from_is_err_and}
+use Rattle.nf_rational.specs.Rational.{ℚ}
+use Rattle.nf_work.specs.Passing.{passes_Q}
+use Rattle.nf_work.specs.declared.Part.TheVariants.{Load}
+use Rattle.nf_work.specs.Checked.{each}
+use Rattle.nf_work.proofs.Each.{with_front}
+use Rattle.nf_curve_lists.specs.Lines.{Sides}
+use Rattle.nf_curve_lists.specs.Times.{both_times}
+use Rattle.nf_curve_lists.specs.Sums.{sides_at}
+use Rattle.nf_curve.specs.Places.{times_after}
+use Rattle.nf_curve.proofs.Exits.{each_goes, each_stops, each_ends}
+use Rattle.nf_share.proofs.next.all_sides.Goals as goal
+
+pub returns-in_err-sides : goal.returns-in_err-sides
+returns-in_err-sides c =
+    let p = err_from_is_err_and c.from_residual.result c.from_residual.ensures.1 in
+    rw (p.1, p.2) (each_stops Load (sides_at passes_Q c.args.left.now c.args.right.now) c.loop-now.all.items _ c.in-Some.moment.time _
+    (rw c.in-Some.is at c.loop-now.invariant.so_far) c.in_err-sides.field-0.0 (sym c.in_err-sides.ensures))
+
+pub loop-now-preserved : goal.loop-now-preserved
+loop-now-preserved c =
+    let w : with_front c.push.new.self.items (each (sides_at passes_Q c.args.left.now c.args.right.now) (times_after c.in-Some.moment.time c.args.left.now c.args.right.now))
+    ≡ each (sides_at passes_Q c.args.left.now c.args.right.now) (both_times c.args.left.now c.args.right.now) =
+    ap (λ (l : List Sides). with_front l (each (sides_at passes_Q c.args.left.now c.args.right.now) (times_after c.in-Some.moment.time c.args.left.now c.args.right.now))) c.in_ok-push.ensures.items
+    ∙ each_goes Load (sides_at passes_Q c.args.left.now c.args.right.now) c.loop-now.all.items _ c.in-Some.moment.time _
+    (rw c.in-Some.is at c.loop-now.invariant.so_far) c.in_ok-sides.sides (sym c.in_ok-sides.ensures) in
+    record { there = c.next_moment-now.ensures.there; so_far = rw c.next_moment-now.ensures.times at w }
+
+pub returns : goal.returns
+returns c = each_ends (sides_at passes_Q c.args.left.now c.args.right.now) c.loop-now.all.items _ Load (rw c.in_default.is at c.loop-now.invariant.so_far)

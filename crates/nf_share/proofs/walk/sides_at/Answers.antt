@@ -1,0 +1,18 @@
+use Rattle.std.proofs.Common.{sym, ◌∙◌}
+use Rattle.std.proofs.lemmas.Result.{err_from_is_err_and}
+use Rattle.nf_work.specs.Passing.{passes_Q}
+use Rattle.nf_work.specs.declared.Part.TheVariants.{Load}
+use Rattle.nf_curve_lists.specs.Values.{checked_value}
+use Rattle.nf_curve.proofs.Exits.{after_err, after_ok}
+use Rattle.nf_share.proofs.walk.sides_at.Goals as goal
+
+pub returns-in_err-left_value : goal.returns-in_err-left_value
+returns-in_err-left_value c =
+    let p = err_from_is_err_and c.from_residual.result c.from_residual.ensures.1 in
+    rw (p.1, p.2) (sym (after_err Load (checked_value passes_Q c.args.left.now c.args.now.now.time) _ c.in_err-left_value.field-0.0 (sym c.in_err-left_value.ensures)))
+
+pub returns-in_err-right_value : goal.returns-in_err-right_value
+returns-in_err-right_value c =
+    let p = err_from_is_err_and c.from_residual-in_err-right_value.result c.from_residual-in_err-right_value.ensures.1 in
+    rw (p.1, p.2) (sym (after_ok Load (checked_value passes_Q c.args.left.now c.args.now.now.time) _ c.in_ok-left_value.left_value (sym c.in_ok-left_value.ensures)
+    ∙ after_err Load (checked_value passes_Q c.args.right.now c.args.now.now.time) _ c.in_err-right_value.field-0.0 (sym c.in_err-right_value.ensures)))

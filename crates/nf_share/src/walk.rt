@@ -1,0 +1,98 @@
+// A walk along two curves, from time to time: the times of the points of either, in rising order.
+ghost use Rattle.std.specs.Prelude.{◌≡◌, ◌∷◌, slice_get, option_map};
+ghost use Rattle.nf_rational.specs.Operations.{0ℚ};
+ghost use Rattle.nf_work.specs.Passing.{passes_Q};
+ghost use Rattle.nf_work.specs.declared.Part.TheVariants.{Load};
+ghost use Rattle.nf_work.specs.Checked.{at_part};
+ghost use Rattle.nf_model.specs.Curve.{IsCurve};
+ghost use Rattle.nf_curve_lists.specs.Times.{both_times};
+ghost use Rattle.nf_curve_lists.specs.Sums.{sides_at as sides_by};
+ghost use Rattle.nf_curve.specs.Places.{earlier_of, times_after};
+ghost use Rattle.nf_share.specs.Moments.{IsMoment, IsThere, times_left};
+
+use crate::places::{place_up, value_at};
+use crate::points::{Point, Sides};
+use nf_frac::{PassedAt, Q};
+
+/// A time, with its places on two curves.
+#[derive(Clone, Copy)]
+pub(crate) struct Moment {
+    pub time: Q,
+    pub left: usize,
+    pub right: usize,
+}
+
+// The time of the point at a place, if there is one.
+fn time_at(points: &[Point], place: usize) -> Option<Q>
+    ensures { result ≡ option_map (λ p. p.0) (slice_get points.now place) }
+{
+    if place < points.len() {
+        Some(points[place].0)
+    } else {
+        None
+    }
+}
+
+// The earlier of two times, if there are any.
+fn earlier(left: Option<Q>, right: Option<Q>) -> Option<Q>
+    ensures { result ≡ earlier_of left right }
+{
+    match (left, right) {
+        (Some(left), Some(right)) => Some(left.lesser(right)),
+        (Some(time), None) | (None, Some(time)) => Some(time),
+        (None, None) => None,
+    }
+}
+
+/// The first time of two curves.
+pub(crate) fn first_moment(left: &[Point], right: &[Point]) -> Moment
+    requires left { IsCurve left.now }
+    requires right { IsCurve right.now }
+    ensures there { IsMoment left.now right.now result }
+    ensures times { both_times left.now right.now ≡ result.time ∷ times_after result.time left.now right.now }
+{
+    let time = Q::zero();
+    Moment {
+        time,
+        left: place_up(left, 0, time),
+        right: place_up(right, 0, time),
+    }
+}
+
+/// The next time of two curves, if there is one.
+pub(crate) fn next_moment(left: &[Point], right: &[Point], now: &Moment) -> Option<Moment>
+    requires left { IsCurve left.now }
+    requires right { IsCurve right.now }
+    requires there { IsMoment left.now right.now now.now }
+    ensures there { IsThere left.now right.now result }
+    ensures times { times_after now.now.time left.now right.now ≡ times_left left.now right.now result }
+{
+    let Some(time) = earlier(time_at(left, now.left), time_at(right, now.right)) else {
+        return None;
+    };
+    Some(Moment {
+        time,
+        left: place_up(left, now.left, time),
+        right: place_up(right, now.right, time),
+    })
+}
+
+/// Both values at a time.
+pub(crate) fn sides_at(
+    left: &[Point],
+    right: &[Point],
+    now: &Moment,
+) -> Result<Sides, PassedAt<Q>>
+    requires left { IsCurve left.now }
+    requires right { IsCurve right.now }
+    requires there { IsMoment left.now right.now now.now }
+    ensures { result ≡ at_part Load (sides_by passes_Q left.now right.now now.now.time) }
+{
+    let left_value = value_at(left, now.left, now.time)?;
+    let right_value = value_at(right, now.right, now.time)?;
+    Ok(Sides {
+        time: now.time,
+        left: left_value,
+        right: right_value,
+    })
+}

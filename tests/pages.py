@@ -1,0 +1,56 @@
+#!/usr/bin/env python3
+"""Runs each command that README.md and docs/GUIDE.md show, in a copy of the folder examples, and compares what it prints with the page.
+
+A block that begins with ```console has lines `$ COMMAND`, each followed by what the command prints (standard output, then standard error).
+"""
+import os
+import pathlib
+import shutil
+import subprocess
+import sys
+import tempfile
+
+ROOT = pathlib.Path(__file__).resolve().parent.parent
+PAGES = ["README.md", "docs/GUIDE.md"]
+
+
+def shown(page):
+    """The commands of a page, in order: the line of each, its words, and the lines that stand below it."""
+    runs, inside = [], False
+    for number, line in enumerate(page.read_text().splitlines(), 1):
+        if line.startswith("```"):
+            inside = line == "```console"
+        elif inside and line.startswith("$ "):
+            runs.append((number, line[2:], []))
+        elif inside:
+            runs[-1][2].append(line)
+    return runs
+
+
+def printed(command, folder, environment):
+    """What a command prints, line by line."""
+    done = subprocess.run(["bash", "-c", command], cwd=folder, env=environment, stdout=subprocess.PIPE, stderr=subprocess.STDOUT)
+    return done.stdout.decode().splitlines()
+
+
+def main():
+    program = ROOT / "crates/nfot/out/nfot"
+    if not program.exists():
+        sys.exit(f"pages: {program} isn't built")
+    environment = dict(os.environ, PATH=f"{program.parent}:{os.environ['PATH']}")
+    wrong = count = 0
+    for name in PAGES:
+        with tempfile.TemporaryDirectory() as folder:
+            examples = shutil.copytree(ROOT / "examples", f"{folder}/examples")
+            for number, command, expected in shown(ROOT / name):
+                count += 1
+                found = printed(command, examples, environment)
+                if found != expected:
+                    wrong += 1
+                    print(f"pages: {name}:{number}: {command}\n  shown   {expected}\n  printed {found}")
+    print(f"pages: {count} commands, {wrong} differ")
+    sys.exit(1 if wrong or not count else 0)
+
+
+if __name__ == "__main__":
+    main()
