@@ -1,6 +1,6 @@
 -- What the sums at a node come to.
 use Rattle.std.proofs.Common.{◌≡◌, ℕ, suc, ◌+◌, List, [], ◌∷◌, Bool, true, false, ◌&&◌, if◌then◌else◌, eqb, sym, ap, subst, refl, ◌∙◌, arith}
-use Rattle.std.specs.Prelude.{slice_get, unwrap_or, Ok, Err, IsOk, MatchBool}
+use Rattle.std.specs.Prelude.{slice_get, unwrap_or, Ok, Err, IsOk}
 use Rattle.std.specs.Bool.{Decides}
 use Rattle.std.specs.List.{enumerate_from}
 use Rattle.nf_rational.specs.Rational.{ℚ}
@@ -9,7 +9,6 @@ use Rattle.nf_rational_laws.proofs.Polynomial.{reading_of}
 use Rattle.nf_rational_laws.proofs.Linear.{eq, linear_eq}
 use Rattle.nf_work.specs.Passing.{Passing}
 use Rattle.nf_work.specs.declared.Op.TheVariants.{Sum}
-use Rattle.nf_work.specs.declared.Passed.{Passed}
 use Rattle.nf_work.specs.declared.PassedAt.{PassedAt}
 use Rattle.nf_work.specs.declared.Part.TheVariants.{Verdict}
 use Rattle.nf_work.specs.Checked.{Checked, fold_checked, at_part, ◌>>=◌}

@@ -1,5 +1,5 @@
 -- Cycles of interior links are cancelled, one after the other.
-use Rattle.std.proofs.Common.{◌≡◌, ℕ, ◌<◌, List, length, Bool, sym, ap, subst, refl, ◌∙◌}
+use Rattle.std.proofs.Common.{◌≡◌, ℕ, ◌<◌, List, Bool, sym, ap, subst, refl, ◌∙◌, arith}
 use Rattle.std.specs.Prelude.{◌↔◌, Option, Some, None, Result, Ok, Err, IfOk, MatchOption}
 use Rattle.std.proofs.lemmas.Option.{MatchOption-at_some, MatchOption-at_none}
 use Rattle.nf_rational.specs.Rational.{ℚ}
@@ -9,7 +9,6 @@ use Rattle.nf_work.specs.Passing.{Passing}
 use Rattle.nf_work.specs.declared.Passed.{Passed}
 use Rattle.nf_work.specs.declared.PassedAt.{PassedAt}
 use Rattle.nf_work.specs.declared.Halt.{Halt}
-use Rattle.nf_work.specs.declared.Halt.TheVariants as Halt
 use Rattle.nf_work.specs.declared.Part.TheVariants.{Verdict}
 use Rattle.nf_work.specs.Checked.{Checked, at_part, placed, seen_passed_at, Stops}
 use Rattle.nf_model.specs.Entries.{Has}
@@ -17,14 +16,15 @@ use Rattle.nf_model.specs.Network.{Network, hops}
 use Rattle.nf_model.specs.ThinFlow.{Sets, IsThinFlow}
 use Rattle.nf_model.specs.Pattern.{Pattern, IsForest, IsListedIn, IsSolution}
 use Rattle.nf_plain_laws.proofs.Results.{same_Err}
-use Rattle.nf_complete_lists.specs.Interior.{IsInterior, IsCycle, IsNextCycle}
+use Rattle.nf_complete_lists.specs.Interior.{IsInterior, IsNextCycle}
 use Rattle.nf_complete_lists.specs.SettledPattern.{IsSettledPattern}
 use Rattle.nf_complete_lists.specs.Cancelling.{fulls_list, cancel_list, Cancels, no_cycle, cancels, passes_at, Settles, settles, stops}
 use Rattle.nf_complete_laws.specs.SettleLaws.{AreGoodSets}
 use Rattle.nf_complete_laws.proofs.Cancelled.{IsThinFlow-cancelled, interior-before, Ended, one-ended}
 use Rattle.nf_complete_laws.proofs.OneCycle.{weaker}
 use Rattle.nf_complete_laws.proofs.Settled.{settles-end, IsListedIn-settled, IsSolution-settled}
-use Rattle.nf_complete.specs.Cycles.{IsFirstCycle}
+use Rattle.nf_complete.specs.Cycles.{IsFirstCycle, Closes}
+use Rattle.nf_complete.specs.NextCycles.{AreForestBelow, ClosesNext}
 use Rattle.nf_complete.specs.Settling.{ComesTo}
 use Rattle.nf_complete.specs.InteriorFlags.{interior_flags}
 use Rattle.nf_complete.proofs.Cycling.{forest-weaker}
@@ -55,14 +55,23 @@ module _ (net : Network) (sets : Sets) (slopes flows : List ℚ) (flags : List B
   pub forest_of : IsForest (hops net) (Has flags) → IsForest (hops net) (IsInterior net sets slopes flows)
   forest_of f = forest-weaker (hops net) (Has flags) (IsInterior net sets slopes flows) (λ e i. (are e).1 i) f
 
-  abbrev Found : {X : Type 0} → (X → List (ℕ × Bool)) → Option X → Type 0
-  Found steps_of found = MatchOption found (IsForest (hops net) (IsInterior net sets slopes flows)) (λ x. IsNextCycle net sets slopes flows (steps_of x))
+  pub closes_of : (last : ℕ) (steps : List (ℕ × Bool)) → Closes (hops net) flags last steps → ClosesNext net sets slopes flows last steps
+  closes_of last steps c = record {
+    is_next = next_of steps c.is_first;
+    before = forest-weaker (hops net) (λ e. (e < last) × Has flags e) (λ e. (e < last) × IsInterior net sets slopes flows e) (λ e w. (w.0, (are e).1 w.1)) c.before;
+  }
 
-  pub found_of : {X E : Type 0} (steps_of : X → List (ℕ × Bool)) (result : Result (Option X) E) → IfOk result (λ found. MatchOption found (IsForest (hops net) (Has flags)) (λ x. IsFirstCycle (hops net) flags (steps_of x)))
-      → IfOk result (Found steps_of)
-  found_of steps_of (Ok (Some x)) h = next_of (steps_of x) h
-  found_of steps_of (Ok None) h = forest_of h
-  found_of steps_of (Err e) h = tt
+  pub known_of : (known : ℕ) → AreForestBelow net sets slopes flows known → IsForest (hops net) (λ e. (e < known) × Has flags e)
+  known_of known f = forest-weaker (hops net) (λ e. (e < known) × IsInterior net sets slopes flows e) (λ e. (e < known) × Has flags e) (λ e w. (w.0, (are e).0 w.1)) f
+
+  abbrev Found : {X : Type 0} → (X → ℕ) → (X → List (ℕ × Bool)) → Option X → Type 0
+  Found last_of steps_of found = MatchOption found (IsForest (hops net) (IsInterior net sets slopes flows)) (λ x. ClosesNext net sets slopes flows (last_of x) (steps_of x))
+
+  pub found_of : {X E : Type 0} (last_of : X → ℕ) (steps_of : X → List (ℕ × Bool)) (result : Result (Option X) E)
+      → IfOk result (λ found. MatchOption found (IsForest (hops net) (Has flags)) (λ x. Closes (hops net) flags (last_of x) (steps_of x))) → IfOk result (Found last_of steps_of)
+  found_of last_of steps_of (Ok (Some x)) h = closes_of (last_of x) (steps_of x) h
+  found_of last_of steps_of (Ok None) h = forest_of h
+  found_of last_of steps_of (Err e) h = tt
 
 -- ---- what passes, as an answer
 pub passed_of : {A : Type 0} (list : Checked A) (p : PassedAt ℚ) → at_part Verdict list ≡ Err p → (q : Passed ℚ) × (list ≡ Err q) × (p ≡ placed Verdict q)
@@ -75,15 +84,15 @@ halts_of Comes flows_of list (Halt.Passed p) f said = let q = passed_of list (se
 halts_of Comes flows_of list Halt.Memory f said = tt
 
 -- ---- as a loop sees it: the flows that it reads are those so far
-pub next_at : {X : Type 0} (steps_of : X → List (ℕ × Bool)) (net : Network) (sets : Sets) (slopes seen flows : List ℚ) (found : Option X) (x : X) → seen ≡ flows → found ≡ Some x
-    → MatchOption found (IsForest (hops net) (IsInterior net sets slopes seen)) (λ y. IsNextCycle net sets slopes seen (steps_of y)) → IsNextCycle net sets slopes flows (steps_of x)
-next_at steps_of net sets slopes seen flows found x same is h = subst (λ (f : List ℚ). IsNextCycle net sets slopes f (steps_of x)) same
-    (MatchOption-at_some (IsForest (hops net) (IsInterior net sets slopes seen)) (λ y. IsNextCycle net sets slopes seen (steps_of y)) x is h)
+pub closes_at : {X : Type 0} (last_of : X → ℕ) (steps_of : X → List (ℕ × Bool)) (net : Network) (sets : Sets) (slopes seen flows : List ℚ) (found : Option X) (x : X) → seen ≡ flows → found ≡ Some x
+    → MatchOption found (IsForest (hops net) (IsInterior net sets slopes seen)) (λ y. ClosesNext net sets slopes seen (last_of y) (steps_of y)) → ClosesNext net sets slopes flows (last_of x) (steps_of x)
+closes_at last_of steps_of net sets slopes seen flows found x same is h = subst (λ (f : List ℚ). ClosesNext net sets slopes f (last_of x) (steps_of x)) same
+    (MatchOption-at_some (IsForest (hops net) (IsInterior net sets slopes seen)) (λ y. ClosesNext net sets slopes seen (last_of y) (steps_of y)) x is h)
 
-pub none_at : {X : Type 0} (steps_of : X → List (ℕ × Bool)) (net : Network) (sets : Sets) (slopes seen flows : List ℚ) (found : Option X) → seen ≡ flows → found ≡ None
-    → MatchOption found (IsForest (hops net) (IsInterior net sets slopes seen)) (λ y. IsNextCycle net sets slopes seen (steps_of y)) → IsForest (hops net) (IsInterior net sets slopes flows)
-none_at steps_of net sets slopes seen flows found same is h = subst (λ (f : List ℚ). IsForest (hops net) (IsInterior net sets slopes f)) same
-    (MatchOption-at_none (IsForest (hops net) (IsInterior net sets slopes seen)) (λ y. IsNextCycle net sets slopes seen (steps_of y)) is h)
+pub none_at : {X : Type 0} (last_of : X → ℕ) (steps_of : X → List (ℕ × Bool)) (net : Network) (sets : Sets) (slopes seen flows : List ℚ) (found : Option X) → seen ≡ flows → found ≡ None
+    → MatchOption found (IsForest (hops net) (IsInterior net sets slopes seen)) (λ y. ClosesNext net sets slopes seen (last_of y) (steps_of y)) → IsForest (hops net) (IsInterior net sets slopes flows)
+none_at last_of steps_of net sets slopes seen flows found same is h = subst (λ (f : List ℚ). IsForest (hops net) (IsInterior net sets slopes f)) same
+    (MatchOption-at_none (IsForest (hops net) (IsInterior net sets slopes seen)) (λ y. ClosesNext net sets slopes seen (last_of y) (steps_of y)) is h)
 
 pub list_at : (passes : Passing) (fulls : List (Option ℚ)) (read steps : List (ℕ × Bool)) (seen flows : List ℚ) → read ≡ steps → seen ≡ flows → cancel_list passes read fulls seen ≡ cancel_list passes steps fulls flows
 list_at passes fulls read steps seen flows e f = ap (λ (s : List (ℕ × Bool)). cancel_list passes s fulls seen) e ∙ ap (cancel_list passes steps fulls) f
@@ -104,6 +113,13 @@ module _ (passes : Passing) (net : Network) (sets : Sets) (rate : ℚ) (slopes :
   pub cancels_first : (flows : List ℚ) → flows ≡ first → IsThinFlow net sets rate first slopes → On flows
   cancels_first flows e thin = subst On (sym e) (record { thin = thin; on = λ result c. c })
 
+  -- before the first link there is none
+  pub known_first : (flows : List ℚ) (known : ℕ) → known ≡ 0 → AreForestBelow net sets slopes flows known
+  known_first flows known e first' rest v differ trail = none_below first'.0 trail.2.0
+    where
+      none_below : (k : ℕ) → k < known → ⊥
+      none_below k h = omega arith
+
   pub cancels_end : (flows : List ℚ) → On flows → IsForest (hops net) (IsInterior net sets slopes flows) → Comes (Ok flows)
   cancels_end flows so forest = so.on (Ok flows) (no_cycle forest)
 
@@ -117,6 +133,11 @@ module _ (passes : Passing) (net : Network) (sets : Sets) (rate : ℚ) (slopes :
         thin = IsThinFlow-cancelled passes net sets rate flows slopes good.network good.acyclic so.thin fulls fulls_ok steps next.cycle new ok;
         on = λ result c. so.on result (cancels steps next ok c);
       }
+
+      -- what is known of the interior links before one is known after the cycle is cancelled too
+      pub known_on : (known : ℕ) → AreForestBelow net sets slopes flows known → AreForestBelow net sets slopes new known
+      known_on known f = forest-weaker (hops net) (λ e. (e < known) × IsInterior net sets slopes flows e) (λ e. (e < known) × IsInterior net sets slopes new e)
+          (λ e w. (w.0, interior-before passes net sets rate flows slopes good.network good.acyclic so.thin fulls fulls_ok steps next.cycle new ok e w.1)) f
 
       pub fewer_interior : set_count (interior_flags sets fulls new) < set_count (interior_flags sets fulls flows)
       fewer_interior =

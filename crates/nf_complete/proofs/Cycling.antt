@@ -70,29 +70,50 @@ module _ (hops : List Hop) (chosen : List Bool) (e : ℕ) (before : List Bool) (
       equal : (k : ℕ) → k < e + 1 → e ≤ k → k ≡ e
       equal k h l = omega arith
 
-  pub before_more : (hop : Hop) (i : ℕ) → i ≡ e → IsHop hops e hop → Has chosen e → AreApart hops before hop.tail hop.head → AreBefore hops chosen (e + 1) (set before i true)
-  before_more hop i q p c apart = record {
-    count = length-set before i true ∙ b.count;
-    flags = λ k. (
+  -- one link more
+  module _ (hop : Hop) (i : ℕ) (q : i ≡ e) (p : IsHop hops e hop) (c : Has chosen e) where
+    flags_more : (k : ℕ) → Has (set before i true) k ↔ ((k < e + 1) × Has chosen k)
+    flags_more k = (
       (λ h. ⊎_elim (λ (s : k ≡ i). (at k (s ∙ q), subst (λ (j : ℕ). Has chosen j) (sym (s ∙ q)) c)) (λ (s : Has before k). let w = (b.flags k).0 s in (below w.0, w.1)) (Has-set_cases before i k h)),
       (λ w. ⊎_elim
           (λ (l : k < e). Has-set_other before i k ((b.flags k).1 (l, w.1)))
           (λ (l : e ≤ k). subst (λ (j : ℕ). Has (set before i true) j) (same k w.0 l) (Has-set_same before i (let n = slice_get_within hops e hop p in let m = b.count in omega arith)))
           (cases_lt k e)),
-    );
-    forest = forest-weaker hops (λ k. Has before k ⊎ (k ≡ e)) (Has (set before i true))
-        (λ k h. ⊎_elim (λ (s : k ≡ i). inr (s ∙ q)) (λ (s : Has before k). inl s) (Has-set_cases before i k h))
-        (forest-more hops (Has before) e hop p (flag apart.flags) (λ f g r h. flag_same apart.flags g.tail g.head (apart.closed f g r h)) (flag_other apart.flags hop.tail hop.head apart.from_in apart.to_out) b.forest);
-  }
-    where
-      below : {k : ℕ} → k < e → k < e + 1
-      below h = omega arith
+    )
+      where
+        below : {k : ℕ} → k < e → k < e + 1
+        below h = omega arith
 
-      at : (k : ℕ) → k ≡ e → k < e + 1
-      at k h = omega arith
+        at : (k : ℕ) → k ≡ e → k < e + 1
+        at k h = omega arith
 
-      same : (k : ℕ) → k < e + 1 → e ≤ k → i ≡ k
-      same k h l = let m = q in omega arith
+        same : (k : ℕ) → k < e + 1 → e ≤ k → i ≡ k
+        same k h l = let m = q in omega arith
+
+    -- between whose ends there is no way
+    pub before_more : AreApart hops before hop.tail hop.head → AreBefore hops chosen (e + 1) (set before i true)
+    before_more apart = record {
+      count = length-set before i true ∙ b.count;
+      flags = flags_more;
+      forest = forest-weaker hops (λ k. Has before k ⊎ (k ≡ e)) (Has (set before i true))
+          (λ k h. ⊎_elim (λ (s : k ≡ i). inr (s ∙ q)) (λ (s : Has before k). inl s) (Has-set_cases before i k h))
+          (forest-more hops (Has before) e hop p (flag apart.flags) (λ f g r h. flag_same apart.flags g.tail g.head (apart.closed f g r h)) (flag_other apart.flags hop.tail hop.head apart.from_in apart.to_out) b.forest);
+    }
+
+    -- of links that are known to be a forest
+    pub before_known : (known : ℕ) → e < known → IsForest hops (λ k. (k < known) × Has chosen k) → AreBefore hops chosen (e + 1) (set before i true)
+    before_known known l f = record {
+      count = length-set before i true ∙ b.count;
+      flags = flags_more;
+      forest = forest-weaker hops (λ k. (k < known) × Has chosen k) (Has (set before i true)) (λ k h. let w = (flags_more k).0 h in (sooner k w.0, w.1)) f;
+    }
+      where
+        sooner : (k : ℕ) → k < e + 1 → k < known
+        sooner k h = omega arith
+
+  -- the chosen links before are a forest
+  pub forest_before : IsForest hops (λ k. (k < e) × Has chosen k)
+  forest_before = forest-weaker hops (Has before) (λ k. (k < e) × Has chosen k) (λ k w. (b.flags k).1 w) b.forest
 
   -- ---- a way between the ends of the link at the place closes a cycle
   push_cases : (steps : List (ℕ × Bool)) (k : ℕ) → Contains (links_of (steps ++ (e, true) ∷ [])) k → Contains (links_of steps) k ⊎ (k ≡ e)

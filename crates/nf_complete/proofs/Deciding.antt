@@ -1,5 +1,5 @@
 -- What tests of numbers decide.
-use Rattle.std.proofs.Common.{◌≡◌, ◌⊎◌, ℕ, List, slice_get, Bool, true, false, not, ◌&&◌, ◌||◌, refl, sym, ◌∙◌}
+use Rattle.std.proofs.Common.{◌≡◌, ℕ, List, slice_get, Bool, true, false, not, ◌&&◌, ◌||◌, refl, sym, ◌∙◌}
 use Rattle.std.specs.Prelude.{Option, Some, None, MatchBool}
 use Rattle.std.specs.Bool.{Decides}
 use Rattle.std.proofs.lemmas.Bool.Decides.{Decides-and, Decides-or, Decides-like}

@@ -1,15 +1,13 @@
 -- What the list of what fills each link says.
 use Rattle.std.proofs.Common.{◌≡◌, ℕ, ◌+◌, List, length, Bool, true, false, not, ◌||◌, sym, ap, subst, refl, ◌∙◌, arith}
-use Rattle.std.specs.Prelude.{Option, Some, None, slice_get, unwrap_or, Ok, Err, IsOk, MatchBool}
-use Rattle.std.specs.Bool.{Decides}
+use Rattle.std.specs.Prelude.{Option, Some, None, slice_get, unwrap_or, Ok, MatchBool}
 use Rattle.std.specs.List.{enumerate_from}
 use Rattle.std.proofs.lemmas.Option.{same_Some}
 use Rattle.nf_rational.specs.Rational.{ℚ}
-use Rattle.nf_rational.specs.Operations.{◌*ℚ◌}
 use Rattle.nf_work.specs.Passing.{Passing}
 use Rattle.nf_work.specs.declared.Op.TheVariants.{Product}
 use Rattle.nf_work.specs.declared.Part.TheVariants.{Verdict}
-use Rattle.nf_work.specs.Checked.{Checked, checked, each, at_part, ◌>>=◌}
+use Rattle.nf_work.specs.Checked.{checked, each, at_part}
 use Rattle.nf_work.proofs.Binding.{bind_ok}
 use Rattle.nf_model.specs.Entries.{number_at, Has}
 use Rattle.nf_model.specs.Network.{Link, Network, IsLink}

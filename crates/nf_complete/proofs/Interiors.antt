@@ -1,5 +1,5 @@
 -- The flags of interior links, and how many of them are set.
-use Rattle.std.proofs.Common.{◌≡◌, ◌≢◌, ℕ, zero, suc, ◌+◌, ◌<◌, ◌≤◌, ⊎_elim, List, [], ◌∷◌, length, map, take, Bool, true, false, not, ◌&&◌, sym, ap, subst, refl, ◌∙◌, arith}
+use Rattle.std.proofs.Common.{◌≡◌, ℕ, zero, suc, ◌+◌, ◌<◌, ◌≤◌, ⊎_elim, List, [], ◌∷◌, length, take, Bool, true, false, not, ◌&&◌, sym, ap, subst, refl, ◌∙◌, arith}
 use Rattle.std.specs.Prelude.{◌↔◌, Option, Some, None, slice_get, unwrap_or, Ok}
 use Rattle.std.specs.Bool.{Decides}
 use Rattle.std.specs.List.{range_with_len}
@@ -14,7 +14,6 @@ use Rattle.nf_work.specs.Passing.{Passing}
 use Rattle.nf_model.specs.Entries.{number_at, Has}
 use Rattle.nf_model.specs.Network.{Link, Network, IsLink}
 use Rattle.nf_model.specs.ThinFlow.{Sets}
-use Rattle.nf_model.specs.Pattern.{NeedsState}
 use Rattle.nf_plain_laws.proofs.Entries.{entry, slice_get-image}
 use Rattle.nf_thin_laws.proofs.Flags.{flag, flag-cases}
 use Rattle.nf_complete_lists.specs.Interior.{IsInterior}
@@ -22,7 +21,7 @@ use Rattle.nf_complete_lists.specs.Cancelling.{fulls_list}
 use Rattle.nf_complete.specs.ThinParts.{filling}
 use Rattle.nf_complete.specs.InteriorFlags.{between, interior_test, interior_flags}
 use Rattle.nf_complete.proofs.Deciding.{Decides-less}
-use Rattle.nf_complete.proofs.Filling.{fulls_count, fulls_at}
+use Rattle.nf_complete.proofs.Filling.{fulls_at}
 use Rattle.nf_complete.proofs.Telling.{range_at}
 
 Decides-flag : (flags : List Bool) (e : ℕ) → Decides (flag flags e) (Has flags e)

@@ -1,13 +1,12 @@
 -- What is answered of a link: whether it leads into a node, is level, brings something, and carries nothing unless it is active.
-use Rattle.std.proofs.Common.{◌≡◌, ◌≢◌, ◌⊎◌, inl, inr, ⊎_elim, ℕ, Bool, true, false, not, eqb, List, sym, ap, subst, ◌∙◌}
+use Rattle.std.proofs.Common.{◌≡◌, ◌≢◌, inr, ⊎_elim, ℕ, Bool, not, eqb, List, ap, subst, ◌∙◌}
 use Rattle.std.specs.Prelude.{MatchBool}
-use Rattle.std.specs.Bool.{Decides}
 use Rattle.std.proofs.lemmas.Bool.Decides.{Decides-eqb, Decides-not}
 use Rattle.nf_rational.specs.Rational.{ℚ}
 use Rattle.nf_rational.specs.Operations.{0ℚ}
 use Rattle.nf_model.specs.Entries.{number_at, Has}
 use Rattle.nf_model.specs.Network.{Link, Network, IsLink}
-use Rattle.nf_model.specs.ThinFlow.{Sets, Enters}
+use Rattle.nf_model.specs.ThinFlow.{Sets}
 use Rattle.nf_model_laws.proofs.Networks.{IsLink-unique}
 use Rattle.nf_complete.specs.Testing.{same_test}
 use Rattle.nf_complete.specs.ThinParts.{LeadsInto, IsLevelAt, Brings, CarriesIfActive}

@@ -1,6 +1,6 @@
 -- The pattern of settled flows, link by link.
-use Rattle.std.proofs.Common.{◌≡◌, ◌≢◌, ◌⊎◌, inl, inr, ⊎_elim, ℕ, ◌+◌, ◌<◌, ◌≤◌, List, length, get_or, replicate, Bool, true, false, sym, ap, subst, refl, ◌∙◌, arith}
-use Rattle.std.specs.Prelude.{◌↔◌, Option, Some, None, slice_get, slice_set, unwrap_or, MatchBool, Ok}
+use Rattle.std.proofs.Common.{◌≡◌, ◌≢◌, inl, inr, ⊎_elim, ℕ, ◌+◌, ◌<◌, ◌≤◌, List, length, get_or, replicate, Bool, true, false, sym, ap, subst, refl, ◌∙◌, arith}
+use Rattle.std.specs.Prelude.{Option, Some, None, slice_get, slice_set, unwrap_or, MatchBool, Ok}
 use Rattle.std.specs.Bool.{Decides}
 use Rattle.std.proofs.Math.ListN.{length-set}
 use Rattle.std.proofs.lemmas.List.{length-replicate}
@@ -15,15 +15,14 @@ use Rattle.nf_model.specs.Entries.{number_at, Has}
 use Rattle.nf_model.specs.Network.{Link, Network, IsLink}
 use Rattle.nf_model.specs.ThinFlow.{Sets, Enters}
 use Rattle.nf_model.specs.Pattern.{Pattern, HasState, NeedsState, Fills}
-use Rattle.nf_model_laws.proofs.Networks.{IsLink-unique}
 use Rattle.nf_plain_laws.proofs.Entries.{entry}
 use Rattle.nf_plain_laws.proofs.Naturals.{before_or_at}
 use Rattle.nf_pattern.proofs.Setting.{set_same, set_other}
-use Rattle.nf_complete_lists.specs.SettledPattern.{IsBare, IsFirstLevel, LeadsToBare, IsSettledPattern}
+use Rattle.nf_complete_lists.specs.SettledPattern.{IsBare, LeadsToBare, IsSettledPattern}
 use Rattle.nf_complete_lists.specs.Cancelling.{fulls_list}
 use Rattle.nf_complete_laws.proofs.Deciding.{same_or_not}
 use Rattle.nf_complete.specs.Testing.{same_test}
-use Rattle.nf_complete.specs.ThinParts.{filling, LeadsInto, IsLevelAt, Brings}
+use Rattle.nf_complete.specs.ThinParts.{filling}
 use Rattle.nf_complete.specs.States.{BringsInto, LevelInto, NoneLevelBefore, full_test, FitsState, IsStateAt}
 use Rattle.nf_complete.proofs.Deciding.{Decides-same}
 use Rattle.nf_complete.proofs.Filling.{fulls_at}

@@ -1,5 +1,5 @@
 -- A loop over a list that asks of each entry whether something holds, after a computation for it.
-use Rattle.std.proofs.Common.{◌≡◌, ℕ, zero, suc, ◌+◌, ◌<◌, ◌≤◌, List, [], ◌∷◌, length, ◌⊎◌, inl, inr, ⊎_elim, Bool, true, false, ◌&&◌, if◌then◌else◌, sym, ap, subst, refl, ◌∙◌, arith}
+use Rattle.std.proofs.Common.{◌≡◌, ℕ, zero, suc, ◌+◌, ◌<◌, ◌≤◌, List, [], ◌∷◌, length, ⊎_elim, Bool, true, false, ◌&&◌, if◌then◌else◌, sym, ap, subst, refl, ◌∙◌, arith}
 use Rattle.std.specs.Prelude.{Some, slice_get, Result, Ok, Err, IsOk, MatchBool}
 use Rattle.std.specs.List.{enumerate_from, range_with_len}
 use Rattle.std.proofs.lemmas.Option.{none-some, same_Some, slice_get_within}

@@ -1,13 +1,13 @@
 -- What the test of a thin flow answers.
-use Rattle.std.proofs.Common.{◌≡◌, ℕ, ◌<◌, List, length, Bool, ◌&&◌, Option, sym, refl}
-use Rattle.std.specs.Prelude.{Result, Ok, Err, IsOk, MatchBool}
+use Rattle.std.proofs.Common.{◌≡◌, List, length, Bool, ◌&&◌, Option, refl}
+use Rattle.std.specs.Prelude.{Ok, Err, IsOk, MatchBool}
 use Rattle.std.specs.List.{range_with_len}
 use Rattle.nf_rational.specs.Rational.{ℚ}
 use Rattle.nf_work.specs.Passing.{Passing}
 use Rattle.nf_work.specs.declared.PassedAt.{PassedAt}
 use Rattle.nf_work.specs.declared.Part.TheVariants.{Verdict}
 use Rattle.nf_work.specs.Checked.{Checked, each, at_part, ◌>>=◌}
-use Rattle.nf_model.specs.Network.{Link, Network, IsLink}
+use Rattle.nf_model.specs.Network.{Network}
 use Rattle.nf_model.specs.ThinFlow.{Sets, IsThinFlow}
 use Rattle.nf_thin_laws.specs.ActiveLinks.{NoneEntersSource}
 use Rattle.nf_complete_lists.specs.Cancelling.{fulls_list}

@@ -1,9 +1,9 @@
 -- Flows and slopes are a thin flow exactly where each node balances, each active link keeps slopes, and the rest holds.
-use Rattle.std.proofs.Common.{◌≡◌, ◌≢◌, ◌⊎◌, inl, inr, ⊎_elim, ℕ, ◌<◌, Bool, true, false, if◌then◌else◌, eqb, List, [], ◌∷◌, length, Option, None, sym, ap, subst, refl, ◌∙◌}
+use Rattle.std.proofs.Common.{◌≡◌, ◌≢◌, ◌⊎◌, inl, inr, ⊎_elim, ℕ, ◌<◌, Bool, true, false, if◌then◌else◌, eqb, List, [], ◌∷◌, length, None, sym, ap, subst, refl, ◌∙◌}
 use Rattle.std.proofs.lemmas.Bool.Decides.{eqb_tells}
 use Rattle.nf_rational.specs.Rational.{ℚ}
 use Rattle.nf_rational.specs.Operations.{0ℚ, ◌+ℚ◌, ◌-ℚ◌}
-use Rattle.nf_rational.specs.Order.{◌≤ℚ◌, ◌<ℚ◌}
+use Rattle.nf_rational.specs.Order.{◌≤ℚ◌}
 use Rattle.nf_rational_laws.proofs.Polynomial.{reading_of}
 use Rattle.nf_rational_laws.proofs.Linear.{eq, linear_eq}
 use Rattle.nf_model.specs.Entries.{number_at, Has}
@@ -19,7 +19,7 @@ use Rattle.nf_thin_laws.proofs.Totals.{IsThinFlow-sink}
 use Rattle.nf_complete_laws.specs.SettleLaws.{AreGoodSets}
 use Rattle.nf_complete_laws.proofs.Bare.{flagged, same_node}
 use Rattle.nf_complete_laws.proofs.Deciding.{same_or_not}
-use Rattle.nf_complete.specs.ThinParts.{active_flow, brought, taken_away, IsBalanced, KeepsAt, LeadsInto, IsLevelAt, Brings, Takes, CarriesOnActive, EachIsTaken, IsProper}
+use Rattle.nf_complete.specs.ThinParts.{active_flow, brought, taken_away, IsBalanced, KeepsAt, IsLevelAt, Brings, Takes, CarriesOnActive, IsProper}
 use Rattle.nf_complete.proofs.ExitsTaken.{exit_empty, keeps-used, keeps-least, keeps-taken, law-keeps}
 
 pub if_same : {A : Type 0} (v w : ℕ) (a b : A) → v ≡ w → (if eqb v w then a else b) ≡ a

@@ -5,3 +5,4 @@ pub mod Cycles
 pub mod InteriorFlags
 pub mod States
 pub mod Settling
+pub mod NextCycles

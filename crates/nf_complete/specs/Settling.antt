@@ -1,12 +1,11 @@
 -- What the test of a thin flow and the settling of one come to.
-use Rattle.std.specs.Prelude.{◌≡◌, Bool, List, Option, Result, Ok, Err, IsOk}
+use Rattle.std.specs.Prelude.{◌≡◌, Bool, List, Result, Ok, Err, IsOk}
 use Rattle.nf_rational.specs.Rational.{ℚ}
 use Rattle.nf_work.specs.Passing.{Passing}
 use Rattle.nf_work.specs.Checked.{Checked, at_part, placed}
 use Rattle.nf_work.specs.declared.Passed.{Passed}
 use Rattle.nf_work.specs.declared.PassedAt.{PassedAt}
 use Rattle.nf_work.specs.declared.Halt.{Halt}
-use Rattle.nf_work.specs.declared.Halt.TheVariants as Halt
 use Rattle.nf_work.specs.declared.Part.TheVariants.{Verdict}
 use Rattle.nf_model.specs.Network.{Network}
 use Rattle.nf_model.specs.ThinFlow.{Sets}

@@ -1,9 +1,9 @@
 -- What makes flows and slopes a thin flow, said so that it is tested by sums and products alone: at each node, of each link, and the rest.
-use Rattle.std.specs.Prelude.{◌≡◌, ◌≢◌, ◌⊎◌, ◌==◌, ◌&&◌, ◌||◌, ℕ, ◌<◌, Bool, true, false, not, if◌then◌else◌, List, Option, Some, None, slice_get, unwrap_or}
+use Rattle.std.specs.Prelude.{◌≡◌, ◌≢◌, ◌⊎◌, ◌==◌, ◌&&◌, ◌||◌, ℕ, ◌<◌, Bool, true, false, if◌then◌else◌, List, Option, Some, None, slice_get, unwrap_or}
 use Rattle.std.specs.Option.{option_map}
 use Rattle.nf_rational.specs.Rational.{ℚ}
 use Rattle.nf_rational.specs.Operations.{0ℚ, 1ℚ, ◌+ℚ◌, ◌*ℚ◌}
-use Rattle.nf_rational.specs.Order.{◌≤ℚ◌, ◌<ℚ◌, le_ℚ}
+use Rattle.nf_rational.specs.Order.{◌≤ℚ◌, le_ℚ}
 use Rattle.nf_model.specs.Entries.{number_at, Has}
 use Rattle.nf_model.specs.Network.{Link, Network, IsLink, sum_in, sum_out}
 use Rattle.nf_model.specs.ThinFlow.{Sets, Enters}

@@ -4,7 +4,7 @@ ghost use Rattle.std.specs.Prelude.{◌≡◌, ◌<◌, ◌^◌, not, length, If
 ghost use Rattle.nf_model.specs.Entries.{Has};
 ghost use Rattle.nf_model.specs.Pattern.{IsForest};
 ghost use Rattle.nf_graph.specs.Graph.{AreBelow};
-ghost use Rattle.nf_complete.specs.Cycles.{IsClosed, IsFirstCycle, round_onto, lower as lower_of, lowest_from};
+ghost use Rattle.nf_complete.specs.Cycles.{IsClosed, IsFirstCycle, Closes, round_onto, lower as lower_of, lowest_from};
 
 use crate::step::Step;
 use crate::way::way;
@@ -73,21 +73,33 @@ fn with_lowest_forward(
     Ok(steps)
 }
 
-/// The first cycle of chosen links, with its lowest link taken forward; None where they hold none.
+/// A cycle, and the highest of its links, which closes it.
+#[derive(Drop)]
+pub(crate) struct Cycle {
+    pub steps: Vec<Step>,
+    pub last: usize,
+}
+
+/// The first cycle of chosen links, with its lowest link taken forward; None where they hold none. Those before the link `known` are known
+/// to be a forest, so that no way between their ends is looked for.
 pub(crate) fn first_cycle(
     alloc: Global,
     nodes: u32,
     hops: &[Hop],
     chosen: &[bool],
-) -> Result<Option<Vec<Step>>, AllocError>
+    known: usize,
+) -> Result<Option<Cycle>, AllocError>
     requires ends { AreBelow nodes hops.now }
     requires count { length chosen.now ≡ length hops.now }
     requires fewer { length hops.now < 2 ^ 32 }
-    ensures { IfOk result (λ found. MatchOption found (IsForest hops.now (Has chosen.now)) (λ steps. IsFirstCycle hops.now chosen.now steps.items)) }
+    requires known { IsForest hops.now (λ e. (e < known) × Has chosen.now e) }
+    ensures { IfOk result (λ found. MatchOption found (IsForest hops.now (Has chosen.now)) (λ cycle. Closes hops.now chosen.now cycle.last cycle.steps.items)) }
 {
     let mut before = vec![in alloc; false; hops.len()]?;
     for (e, hop) in hops.iter().enumerate() {
-        if chosen[e] {
+        if chosen[e] && e < known {
+            before[e] = true;
+        } else if chosen[e] {
             match way(alloc, nodes, hops, &before, hop.tail, hop.head)? {
                 Some(mut steps) => {
                     steps.push(Step {
@@ -95,7 +107,7 @@ pub(crate) fn first_cycle(
                         forward: true,
                     })?;
                     let steps = with_lowest_forward(alloc, hops, chosen, steps)?;
-                    return Ok(Some(steps));
+                    return Ok(Some(Cycle { steps, last: e }));
                 }
                 None => before[e] = true,
             }

@@ -6,25 +6,25 @@ ghost use Rattle.nf_work.specs.Passing.{passes_Q};
 ghost use Rattle.nf_model.specs.Network.{hops as hops_of};
 ghost use Rattle.nf_model.specs.ThinFlow.{IsThinFlow};
 ghost use Rattle.nf_model.specs.Pattern.{IsForest, IsListedIn, IsSolution};
-ghost use Rattle.nf_complete_lists.specs.Interior.{IsInterior, IsNextCycle};
+ghost use Rattle.nf_complete_lists.specs.Interior.{IsInterior};
 ghost use Rattle.nf_complete_lists.specs.Cancelling.{fulls_list, Cancels};
 ghost use Rattle.nf_complete_lists.specs.SettledPattern.{IsSettledPattern};
 ghost use Rattle.nf_complete_laws.specs.SettleLaws.{AreGoodSets};
 ghost use Rattle.nf_complete.specs.Settling.{ComesTo, SettlesTo};
+ghost use Rattle.nf_complete.specs.NextCycles.{AreForestBelow, ClosesNext};
 
 use crate::cancelling::cancel;
-use crate::cycle::first_cycle;
+use crate::cycle::{Cycle, first_cycle};
 use crate::fulls::fulls;
 use crate::interior::interior;
 use crate::settled::Settled;
 use crate::states::settled_pattern;
-use crate::step::Step;
 use nf_frac::{Halt, Q};
 use nf_graph::LinkSets;
 use nf_net::Network;
 use std::alloc::{AllocError, Global};
 
-// The next cycle of interior links; None where they hold none.
+// The next cycle of interior links; None where they hold none. Those before the link `known` are known to hold none.
 fn next_cycle(
     alloc: Global,
     net: &Network,
@@ -32,17 +32,19 @@ fn next_cycle(
     fulls: &[Option<Q>],
     flows: &[Q],
     slopes: &[Q],
-) -> Result<Option<Vec<Step>>, AllocError>
+    known: usize,
+) -> Result<Option<Cycle>, AllocError>
     requires sets { length sets.now.active ≡ length net.now.net.links }
     requires flows { length flows.now ≡ length net.now.net.links }
     requires fulls { fulls_list passes_Q net.now.net sets.now slopes.now ≡ Ok fulls.now }
+    requires known { AreForestBelow net.now.net sets.now slopes.now flows.now known }
     ensures { IfOk result (λ found. MatchOption found (IsForest (hops_of net.now.net) (IsInterior net.now.net sets.now slopes.now flows.now))
-        (λ steps. IsNextCycle net.now.net sets.now slopes.now flows.now steps.items)) }
+        (λ cycle. ClosesNext net.now.net sets.now slopes.now flows.now cycle.last cycle.steps.items)) }
 {
     // For the proof: the slopes by which links are full.
     let _ = slopes;
     let interior = interior(alloc, sets, fulls, flows, net.link_count())?;
-    first_cycle(alloc, net.node_count(), net.hops(), &interior)
+    first_cycle(alloc, net.node_count(), net.hops(), &interior, known)
 }
 
 // The flows after cycle by cycle is cancelled.
@@ -64,8 +66,10 @@ fn cancelled(
     let _ = rate;
     let _ = net.link_count();
     let mut new = flows.to_vec(alloc)?;
-    while let Some(steps) = next_cycle(alloc, net, sets, fulls, &new, slopes)? {
-        new = cancel(alloc, &steps, fulls, &new)?;
+    let mut known = 0;
+    while let Some(cycle) = next_cycle(alloc, net, sets, fulls, &new, slopes, known)? {
+        known = cycle.last;
+        new = cancel(alloc, &cycle.steps, fulls, &new)?;
     }
     Ok(new)
 }

@@ -1,4 +1,4 @@
-use Rattle.std.proofs.Common.{ℕ, Bool, eqb, if◌then◌else◌, ap, ◌∙◌}
+use Rattle.std.proofs.Common.{Bool, eqb, if◌then◌else◌, ap, ◌∙◌}
 use Rattle.std.proofs.lemmas.Result.{err_from_is_err_and}
 use Rattle.nf_rational.specs.Rational.{ℚ}
 use Rattle.nf_work.specs.Passing.{passes_Q}

@@ -1,6 +1,6 @@
-use Rattle.std.proofs.Common.{◌≡◌, ◌+◌, ◌≤◌, List, length, take, sym, ap, ◌∙◌, Bool, arith}
+use Rattle.std.proofs.Common.{arith}
 use Rattle.nf_pattern.proofs.Each.{take_pushed}
-use Rattle.nf_complete.specs.InteriorFlags.{interior_test, interior_flags}
+use Rattle.nf_complete.specs.InteriorFlags.{interior_flags}
 use Rattle.nf_complete.proofs.Interiors.{test_at, flags_whole}
 use Rattle.nf_complete.proofs.interior.interior.Goals as goal
 

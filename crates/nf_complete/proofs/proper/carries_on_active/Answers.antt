@@ -1,4 +1,4 @@
-use Rattle.std.proofs.Common.{◌≡◌, ◌<◌, ◌≤◌, ℕ, length, List, below_more, arith, ⊎_elim}
+use Rattle.std.proofs.Common.{◌<◌, ◌≤◌, ℕ, length, List, below_more, arith, ⊎_elim}
 use Rattle.std.proofs.lemmas.Bool.{cases_lt}
 use Rattle.nf_rational.specs.Rational.{ℚ}
 use Rattle.nf_thin_laws.proofs.Flags.{number_at-beyond}

@@ -1,4 +1,4 @@
-use Rattle.std.proofs.Common.{◌≡◌, ◌<◌, ℕ, List, Bool, length, sym, ap, subst, ◌∙◌, arith}
+use Rattle.std.proofs.Common.{◌≡◌, List, length, sym, ap, subst, refl, ◌∙◌, arith}
 use Rattle.std.specs.Prelude.{Ok}
 use Rattle.std.proofs.Common.{Vec, Global}
 use Rattle.std.proofs.lemmas.Result.{err_from_is_err_and}
@@ -6,23 +6,30 @@ use Rattle.nf_rational.specs.Rational.{ℚ}
 use Rattle.nf_work.specs.Passing.{passes_Q}
 use Rattle.nf_complete_lists.specs.Cancelling.{cancel_list, Cancels}
 use Rattle.nf_complete_lists.specs.Interior.{IsNextCycle}
+use Rattle.nf_complete.specs.NextCycles.{AreForestBelow, ClosesNext}
 use Rattle.nf_complete.proofs.Filling.{fulls_count}
 use Rattle.nf_complete.proofs.Telling.{value_of}
-use Rattle.nf_complete.proofs.CancelsOn.{next_at, none_at, list_at, halts_of, cancels_first, cancels_more, cancels_end, cancels_stop, fewer_interior}
+use Rattle.nf_complete.proofs.CancelsOn.{closes_at, none_at, known_first, known_on, list_at, halts_of, cancels_first, cancels_more, cancels_end, cancels_stop, fewer_interior}
 use Rattle.nf_complete.proofs.settling.cancelled.Goals as goal
 
 pub loop-new-init : goal.loop-new-init
-loop-new-init c = cancels_first passes_Q c.args.net.now.net c.args.sets.now c.args.rate c.args.slopes.now c.args.fulls.now c.args.flows.now c.in_ok-new.new.items (c.in_ok-new.ensures.items_if_clones_equal (λ x y e. e)) c.requires.thin
+loop-new-init c = (
+  cancels_first passes_Q c.args.net.now.net c.args.sets.now c.args.rate c.args.slopes.now c.args.fulls.now c.args.flows.now c.in_ok-new.new.items (c.in_ok-new.ensures.items_if_clones_equal (λ x y e. e)) c.requires.thin,
+  known_first passes_Q c.args.net.now.net c.args.sets.now c.args.rate c.args.slopes.now c.args.fulls.now c.args.flows.now c.in_ok-new.new.items 0 refl,
+)
 
 pub next_cycle-requires-clause-sets : goal.next_cycle-requires-clause-sets
 next_cycle-requires-clause-sets c = c.requires.sets.sets_are.count
 
 pub next_cycle-requires-clause-flows : goal.next_cycle-requires-clause-flows
-next_cycle-requires-clause-flows c = ap length c.deref.ensures.value ∙ c.loop-new.invariant.thin.flow_count
+next_cycle-requires-clause-flows c = ap length c.deref.ensures.value ∙ c.loop-new.invariant.0.thin.flow_count
+
+pub next_cycle-requires-clause-known : goal.next_cycle-requires-clause-known
+next_cycle-requires-clause-known c = subst (λ (f : List ℚ). AreForestBelow c.args.net.now.net c.args.sets.now c.args.slopes.now f c.loop-new.known) (sym c.deref.ensures.value) c.loop-new.invariant.1
 
 pub cancel-requires-clause-count : goal.cancel-requires-clause-count
 cancel-requires-clause-count c = fulls_count passes_Q c.args.net.now.net c.args.sets.now c.args.slopes.now c.args.fulls.now c.requires.fulls
-    ∙ sym (ap length c.deref-in-Some-2.ensures.value ∙ c.loop-new.invariant.thin.flow_count)
+    ∙ sym (ap length c.deref-in-Some-2.ensures.value ∙ c.loop-new.invariant.0.thin.flow_count)
 
 pub cancel-requires-clause-fewer : goal.cancel-requires-clause-fewer
 cancel-requires-clause-fewer c =
@@ -31,33 +38,37 @@ cancel-requires-clause-fewer c =
 
 pub returns-in_err-new-2 : goal.returns-in_err-new-2
 returns-in_err-new-2 c =
-    let next : IsNextCycle c.args.net.now.net c.args.sets.now c.args.slopes.now c.loop-new.new.items c.in-Some.steps.items =
-    next_at (λ steps. steps.items) c.args.net.now.net c.args.sets.now c.args.slopes.now c.deref.result.now c.loop-new.new.items c.in_ok-steps.field-0 c.in-Some.steps c.deref.ensures.value c.in-Some.is c.in_ok-steps.ensures in
+    let next : IsNextCycle c.args.net.now.net c.args.sets.now c.args.slopes.now c.loop-new.new.items c.in-Some.cycle.steps.items =
+    (closes_at (λ cycle. cycle.last) (λ cycle. cycle.steps.items) c.args.net.now.net c.args.sets.now c.args.slopes.now c.deref.result.now c.loop-new.new.items c.in_ok-cycle.field-0 c.in-Some.cycle c.deref.ensures.value c.in-Some.is c.in_ok-cycle.ensures).is_next in
     let p = err_from_is_err_and c.from_residual-in_err-new-2.result c.from_residual-in_err-new-2.ensures.1 in
     rw (p.1, p.2) (halts_of (Cancels passes_Q c.args.net.now.net c.args.sets.now c.args.slopes.now c.args.fulls.now c.args.flows.now) (λ (v : Vec ℚ Global). v.items)
     (cancel_list passes_Q c.deref-in-Some.result.now c.args.fulls.now c.deref-in-Some-2.result.now) c.in_err-new-2.field-0.0
-    (λ q e. cancels_stop passes_Q c.args.net.now.net c.args.sets.now c.args.rate c.args.slopes.now c.args.fulls.now c.args.flows.now c.loop-new.new.items c.loop-new.invariant c.in-Some.steps.items next q
-    (sym (list_at passes_Q c.args.fulls.now c.deref-in-Some.result.now c.in-Some.steps.items c.deref-in-Some-2.result.now c.loop-new.new.items c.deref-in-Some.ensures.value c.deref-in-Some-2.ensures.value) ∙ e))
+    (λ q e. cancels_stop passes_Q c.args.net.now.net c.args.sets.now c.args.rate c.args.slopes.now c.args.fulls.now c.args.flows.now c.loop-new.new.items c.loop-new.invariant.0 c.in-Some.cycle.steps.items next q
+    (sym (list_at passes_Q c.args.fulls.now c.deref-in-Some.result.now c.in-Some.cycle.steps.items c.deref-in-Some-2.result.now c.loop-new.new.items c.deref-in-Some.ensures.value c.deref-in-Some-2.ensures.value) ∙ e))
     c.in_err-new-2.ensures)
 
 pub loop-new-preserved : goal.loop-new-preserved
 loop-new-preserved c =
-    let next : IsNextCycle c.args.net.now.net c.args.sets.now c.args.slopes.now c.loop-new.new.items c.in-Some.steps.items =
-    next_at (λ steps. steps.items) c.args.net.now.net c.args.sets.now c.args.slopes.now c.deref.result.now c.loop-new.new.items c.in_ok-steps.field-0 c.in-Some.steps c.deref.ensures.value c.in-Some.is c.in_ok-steps.ensures in
-    let worked : cancel_list passes_Q c.in-Some.steps.items c.args.fulls.now c.loop-new.new.items ≡ Ok c.in_ok-new-2.new.items =
-    sym (list_at passes_Q c.args.fulls.now c.deref-in-Some.result.now c.in-Some.steps.items c.deref-in-Some-2.result.now c.loop-new.new.items c.deref-in-Some.ensures.value c.deref-in-Some-2.ensures.value)
+    let next : IsNextCycle c.args.net.now.net c.args.sets.now c.args.slopes.now c.loop-new.new.items c.in-Some.cycle.steps.items =
+    (closes_at (λ cycle. cycle.last) (λ cycle. cycle.steps.items) c.args.net.now.net c.args.sets.now c.args.slopes.now c.deref.result.now c.loop-new.new.items c.in_ok-cycle.field-0 c.in-Some.cycle c.deref.ensures.value c.in-Some.is c.in_ok-cycle.ensures).is_next in
+    let worked : cancel_list passes_Q c.in-Some.cycle.steps.items c.args.fulls.now c.loop-new.new.items ≡ Ok c.in_ok-new-2.new.items =
+    sym (list_at passes_Q c.args.fulls.now c.deref-in-Some.result.now c.in-Some.cycle.steps.items c.deref-in-Some-2.result.now c.loop-new.new.items c.deref-in-Some.ensures.value c.deref-in-Some-2.ensures.value)
     ∙ value_of (cancel_list passes_Q c.deref-in-Some.result.now c.args.fulls.now c.deref-in-Some-2.result.now) c.in_ok-new-2.new.items (sym c.in_ok-new-2.ensures) in
-    cancels_more passes_Q c.args.net.now.net c.args.sets.now c.args.rate c.args.slopes.now c.args.fulls.now c.args.flows.now c.loop-new.new.items c.loop-new.invariant c.in-Some.steps.items next c.requires.sets c.requires.fulls c.in_ok-new-2.new.items worked
+    let closes : ClosesNext c.args.net.now.net c.args.sets.now c.args.slopes.now c.loop-new.new.items c.in-Some.cycle.last c.in-Some.cycle.steps.items =
+    closes_at (λ cycle. cycle.last) (λ cycle. cycle.steps.items) c.args.net.now.net c.args.sets.now c.args.slopes.now c.deref.result.now c.loop-new.new.items c.in_ok-cycle.field-0 c.in-Some.cycle c.deref.ensures.value c.in-Some.is c.in_ok-cycle.ensures in (
+      cancels_more passes_Q c.args.net.now.net c.args.sets.now c.args.rate c.args.slopes.now c.args.fulls.now c.args.flows.now c.loop-new.new.items c.loop-new.invariant.0 c.in-Some.cycle.steps.items next c.requires.sets c.requires.fulls c.in_ok-new-2.new.items worked,
+      known_on passes_Q c.args.net.now.net c.args.sets.now c.args.rate c.args.slopes.now c.args.fulls.now c.args.flows.now c.loop-new.new.items c.loop-new.invariant.0 c.in-Some.cycle.steps.items next c.requires.sets c.requires.fulls c.in_ok-new-2.new.items worked c.in-Some.cycle.last closes.before,
+    )
 
 pub loop-new-smaller : goal.loop-new-smaller
 loop-new-smaller c =
-    let next : IsNextCycle c.args.net.now.net c.args.sets.now c.args.slopes.now c.loop-new.new.items c.in-Some.steps.items =
-    next_at (λ steps. steps.items) c.args.net.now.net c.args.sets.now c.args.slopes.now c.deref.result.now c.loop-new.new.items c.in_ok-steps.field-0 c.in-Some.steps c.deref.ensures.value c.in-Some.is c.in_ok-steps.ensures in
-    let worked : cancel_list passes_Q c.in-Some.steps.items c.args.fulls.now c.loop-new.new.items ≡ Ok c.in_ok-new-2.new.items =
-    sym (list_at passes_Q c.args.fulls.now c.deref-in-Some.result.now c.in-Some.steps.items c.deref-in-Some-2.result.now c.loop-new.new.items c.deref-in-Some.ensures.value c.deref-in-Some-2.ensures.value)
+    let next : IsNextCycle c.args.net.now.net c.args.sets.now c.args.slopes.now c.loop-new.new.items c.in-Some.cycle.steps.items =
+    (closes_at (λ cycle. cycle.last) (λ cycle. cycle.steps.items) c.args.net.now.net c.args.sets.now c.args.slopes.now c.deref.result.now c.loop-new.new.items c.in_ok-cycle.field-0 c.in-Some.cycle c.deref.ensures.value c.in-Some.is c.in_ok-cycle.ensures).is_next in
+    let worked : cancel_list passes_Q c.in-Some.cycle.steps.items c.args.fulls.now c.loop-new.new.items ≡ Ok c.in_ok-new-2.new.items =
+    sym (list_at passes_Q c.args.fulls.now c.deref-in-Some.result.now c.in-Some.cycle.steps.items c.deref-in-Some-2.result.now c.loop-new.new.items c.deref-in-Some.ensures.value c.deref-in-Some-2.ensures.value)
     ∙ value_of (cancel_list passes_Q c.deref-in-Some.result.now c.args.fulls.now c.deref-in-Some-2.result.now) c.in_ok-new-2.new.items (sym c.in_ok-new-2.ensures) in
-    fewer_interior passes_Q c.args.net.now.net c.args.sets.now c.args.rate c.args.slopes.now c.args.fulls.now c.args.flows.now c.loop-new.new.items c.loop-new.invariant c.in-Some.steps.items next c.requires.sets c.requires.fulls c.in_ok-new-2.new.items worked
+    fewer_interior passes_Q c.args.net.now.net c.args.sets.now c.args.rate c.args.slopes.now c.args.fulls.now c.args.flows.now c.loop-new.new.items c.loop-new.invariant.0 c.in-Some.cycle.steps.items next c.requires.sets c.requires.fulls c.in_ok-new-2.new.items worked
 
 pub returns : goal.returns
-returns c = cancels_end passes_Q c.args.net.now.net c.args.sets.now c.args.rate c.args.slopes.now c.args.fulls.now c.args.flows.now c.loop-new.new.items c.loop-new.invariant
-    (none_at (λ steps. steps.items) c.args.net.now.net c.args.sets.now c.args.slopes.now c.deref.result.now c.loop-new.new.items c.in_ok-steps.field-0 c.deref.ensures.value c.in_default.is c.in_ok-steps.ensures)
+returns c = cancels_end passes_Q c.args.net.now.net c.args.sets.now c.args.rate c.args.slopes.now c.args.fulls.now c.args.flows.now c.loop-new.new.items c.loop-new.invariant.0
+    (none_at (λ cycle. cycle.last) (λ cycle. cycle.steps.items) c.args.net.now.net c.args.sets.now c.args.slopes.now c.deref.result.now c.loop-new.new.items c.in_ok-cycle.field-0 c.deref.ensures.value c.in_default.is c.in_ok-cycle.ensures)

@@ -1,12 +1,13 @@
 use Rattle.nf_work.specs.Passing.{passes_Q}
+use Rattle.nf_complete.specs.NextCycles.{AreForestBelow}
 use Rattle.nf_complete.specs.InteriorFlags.{interior_flags}
 use Rattle.nf_complete.proofs.Interiors.{set_count}
 use Rattle.nf_complete.proofs.CancelsOn.{CancelsOn}
 use Rattle.nf_complete.proofs.settling.cancelled.Given as goal
 
--- what the flows so far come to, the first flows come to
+-- what the flows so far come to, the first flows come to; and the interior links before one are a forest
 abbrev pub invariant-loop-new : goal.invariant-loop-new
-invariant-loop-new l = CancelsOn passes_Q l.net.net l.sets l.fn.rate l.slopes l.fulls l.flows l.new.items
+invariant-loop-new l = CancelsOn passes_Q l.net.net l.sets l.fn.rate l.slopes l.fulls l.flows l.new.items × AreForestBelow l.net.net l.sets l.slopes l.new.items l.known
 
 -- each cycle leaves fewer interior links
 abbrev pub decreases-loop-new : goal.decreases-loop-new

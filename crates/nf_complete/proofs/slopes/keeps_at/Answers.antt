@@ -1,4 +1,4 @@
-use Rattle.std.proofs.Common.{◌≡◌, ◌||◌, not, ap, ◌∙◌}
+use Rattle.std.proofs.Common.{◌||◌, not, ap, ◌∙◌}
 use Rattle.nf_rational.specs.Rational.{ℚ}
 use Rattle.nf_work.specs.Passing.{passes_Q}
 use Rattle.nf_model.specs.Entries.{number_at}

@@ -1,4 +1,4 @@
-use Rattle.std.proofs.Common.{◌≢◌, ℕ, below_more, arith}
+use Rattle.std.proofs.Common.{ℕ, below_more, arith}
 use Rattle.std.proofs.lemmas.Bool.Decides.{nat_tests}
 use Rattle.nf_complete.specs.States.{BringsInto}
 use Rattle.nf_complete.proofs.Stating.{bare_made, not_bare}

@@ -1,8 +1,5 @@
-use Rattle.std.proofs.Common.{◌≡◌, ◌<◌, length, replicate, ap, subst, sym, ◌∙◌, arith}
-use Rattle.std.specs.Prelude.{None, Option}
-use Rattle.nf_model.specs.declared.State.{State}
-use Rattle.nf_model.specs.Pattern.{Pattern}
-use Rattle.nf_complete.proofs.Stating.{StatesBelow, states_first, states_more, states_whole, IsSettledPattern-made}
+use Rattle.std.proofs.Common.{length, arith}
+use Rattle.nf_complete.proofs.Stating.{states_first, states_more, states_whole, IsSettledPattern-made}
 use Rattle.nf_complete.proofs.states.settled_pattern.Goals as goal
 
 pub loop-e-init : goal.loop-e-init
