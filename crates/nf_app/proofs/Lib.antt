@@ -8,4 +8,8 @@ pub mod LoadGiven
 pub mod CheckGiven
 pub mod QuickTold
 pub mod QuickLines
+pub mod Starting
+pub mod SettleCalls
+pub mod SettleGiven
+pub mod Telling
 mod ErrorExamples

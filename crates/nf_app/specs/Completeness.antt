@@ -1,5 +1,5 @@
 -- When nothing but want of memory keeps a run of the program from the whole answer of its command.
-use Rattle.std.specs.Prelude.{◌≡◌, ◌⊎◌, ℕ, ◌≤◌, List, length, Some, None, Ok}
+use Rattle.std.specs.Prelude.{◌≡◌, ◌⊎◌, ℕ, ◌≤◌, List, length, Some, None, IsSome, Ok}
 use Rattle.nf_rational.specs.Rational.{ℚ}
 use Rattle.nf_work.specs.Passing.{passes_Q}
 use Rattle.nf_work.specs.declared.PassedAt.{PassedAt}
@@ -16,13 +16,16 @@ use Rattle.nf_readings.specs.LoadsFile.{loads_in}
 use Rattle.nf_readings.specs.ReportFile.{report_in}
 use Rattle.nf_phase.specs.declared.solution.Budgets.{Budgets}
 use Rattle.nf_phase.specs.Solution.{bounds_of}
+use Rattle.nf_complete_lists.specs.FlowsFile.{GivenFlows, flows_in}
+use Rattle.nf_forever_lists.specs.ForeverRun.{Forever, IsForever}
 use Rattle.nf_app.specs.declared.status.Status.{Status}
 use Rattle.nf_app.specs.Files.{Wanted, Visit}
-use Rattle.nf_words.specs.Requests.{Solve, Show, Load, Check, Quick, Gen}
+use Rattle.nf_words.specs.Requests.{Solve, SolveForever, Show, Load, Check, Quick, Gen, Settle}
 use Rattle.nf_gen.specs.Ladder.{ladder}
-use Rattle.nf_app.specs.Requests.{budgets_of, network_file, loads_file, report_file}
+use Rattle.nf_app.specs.Requests.{budgets_of, network_file, loads_file, flows_file, report_file}
 use Rattle.nf_app.specs.Given.{loading_list}
 use Rattle.nf_app.specs.QuickGiven.{PassesQuick}
+use Rattle.nf_app.specs.SettleGiven.{PassesSettling}
 use Rattle.nf_app.specs.Sinks.{Taken}
 use Rattle.nf_app.specs.Runs.{Call, Asks}
 
@@ -44,6 +47,12 @@ pub record TellsLoads (shelf : Visit) (n : Named) (file : List ℕ) : Type 0 whe
   pub pieces : List (List Piece)
   pub reads : loads_in n tells.text ≡ Ok pieces
 
+-- they read as flows of the links and slopes of the nodes of a network
+pub record TellsFlows (shelf : Visit) (n : Named) (file : List ℕ) : Type 0 where
+  pub tells : Tells shelf (flows_file file)
+  pub given : GivenFlows
+  pub reads : flows_in n tells.text ≡ Ok given
+
 -- they read as a report of a network
 pub record TellsReport (shelf : Visit) (n : Named) (file : List ℕ) : Type 0 where
   pub tells : Tells shelf (report_file file)
@@ -55,6 +64,12 @@ pub record ReachesHorizon (n : Named) (horizon : ℚ) (budgets : Budgets) : Type
   pub report : Report
   pub is_report : IsRunReport passes_Q n.net (bounds_of horizon budgets) report
   pub no_stop : report.stop ≡ None
+
+-- the run of a network without a horizon, within the budgets, has a tail
+pub record GoesOnForever (n : Named) (phases patterns : ℕ) : Type 0 where
+  pub forever : Forever
+  pub is_run : IsForever passes_Q n.net phases patterns forever
+  pub has_tail : IsSome forever.tail
 
 -- ---- what may be asked for and has its answer
 -- a network is to be shown
@@ -94,6 +109,15 @@ pub record CanBeGenerated (call : Call) : Type 0 where
   pub asks : Asks call (Gen number rungs horizon phases patterns)
   pub reaches : ReachesHorizon (ladder number rungs) horizon (budgets_of phases patterns)
 
+-- a network is to be solved without a horizon, and its run has a tail
+pub record CanGoOn (call : Call) : Type 0 where
+  pub file : List ℕ
+  pub phases : ℕ
+  pub patterns : ℕ
+  pub asks : Asks call (SolveForever file phases patterns)
+  pub network : TellsNetwork call.shelf file
+  pub goes_on : GoesOnForever network.net phases patterns
+
 -- a report is to be checked, and no operation of the list passes
 pub record CanBeJudged (call : Call) : Type 0 where
   pub file : List ℕ
@@ -105,7 +129,7 @@ pub record CanBeJudged (call : Call) : Type 0 where
   pub computes : check_list passes_Q network.net.net report.report.flow ≡ Ok verdict
 
 abbrev pub HasAnswer : Call → Type 0
-HasAnswer call = CanBeShown call ⊎ CanBeSolved call ⊎ CanBeLoaded call ⊎ CanBeGenerated call
+HasAnswer call = CanBeShown call ⊎ CanBeSolved call ⊎ CanBeLoaded call ⊎ CanBeGenerated call ⊎ CanGoOn call
 
 -- a quickest flow is asked for, and no operation of its lists passes
 pub record CanBeQuick (call : Call) : Type 0 where
@@ -115,6 +139,15 @@ pub record CanBeQuick (call : Call) : Type 0 where
   pub asks : Asks call (Quick file amount augments)
   pub network : TellsNetwork call.shelf file
   pub fits : (at : PassedAt ℚ) → ¬ PassesQuick network.net.net amount augments at
+
+-- a thin flow is to be settled, and no operation passes
+pub record CanBeSettled (call : Call) : Type 0 where
+  pub file : List ℕ
+  pub flows_name : List ℕ
+  pub asks : Asks call (Settle file flows_name)
+  pub network : TellsNetwork call.shelf file
+  pub flows : TellsFlows call.shelf network.net flows_name
+  pub fits : (at : PassedAt ℚ) → ¬ PassesSettling call.shelf network.net flows_name at
 
 -- ---- how a run then ends
 -- with the whole answer, or for want of memory
@@ -129,8 +162,12 @@ EndsJudged status = (status ≡ Status.Ok) ⊎ (status ≡ Status.NotEquilibrium
 abbrev pub EndsQuick : Status → Type 0
 EndsQuick status = (status ≡ Status.Ok) ⊎ (status ≡ Status.Augments) ⊎ (status ≡ Status.Unbounded) ⊎ (status ≡ Status.Memory)
 
+-- the same of `settle`; there may also be no thin flow
+abbrev pub EndsSettled : Status → Type 0
+EndsSettled status = (status ≡ Status.Ok) ⊎ (status ≡ Status.NotThin) ⊎ (status ≡ Status.Memory)
+
 -- Where neither the shelf nor the output failed in the call, the whole text was taken, of a report up to the horizon, or memory was
 -- wanting.
 abbrev pub IsComplete : Call → Taken → Status → Type 0
 IsComplete call out status = ¬ Rose call.shelf.faults_before call.shelf.faults_now → ¬ Rose out.faults_before out.faults_now
-    → (HasAnswer call → EndsWell status) × (CanBeJudged call → EndsJudged status) × (CanBeQuick call → EndsQuick status)
+    → (HasAnswer call → EndsWell status) × (CanBeJudged call → EndsJudged status) × (CanBeQuick call → EndsQuick status) × (CanBeSettled call → EndsSettled status)

@@ -1,6 +1,5 @@
-// What a request gives: a text for the output.
+// What the words give: an outcome, or why there is none.
 ghost use Rattle.std.specs.Prelude.{◌≡◌, ◌≤◌, ℕ, List, length, Some, Ok, Err};
-ghost use Rattle.std.specs.Option.{option_copied};
 ghost use Rattle.nf_rational.specs.Operations.{0ℚ};
 ghost use Rattle.nf_rational.specs.Order.{◌≤ℚ◌};
 ghost use Rattle.nf_edge.specs.Names.{texts};
@@ -11,28 +10,31 @@ ghost use Rattle.nf_quick.specs.declared.fault.QuickFault.TheVariants as QuickFa
 ghost use Rattle.nf_quick_lists.specs.Answers.{IsQuickFlow};
 ghost use Rattle.nf_rational.specs.Rational.{ℚ};
 ghost use Rattle.nf_app.specs.Files.{Visit, report_limit};
-ghost use Rattle.nf_words.specs.Requests.{Solve, Show, Load, Check, Gen, CanBeAsked, request_of};
+ghost use Rattle.nf_words.specs.Requests.{Solve, SolveForever, Show, Load, Check, Gen, Settle, CanBeAsked, request_of};
 ghost use Rattle.nf_words.specs.Requests as requests;
 ghost use Rattle.nf_words.specs.Views.{requested};
-ghost use Rattle.nf_app.specs.Requests.{loads_file, report_file};
+ghost use Rattle.nf_app.specs.Requests.{loads_file, flows_file, report_file};
 ghost use Rattle.nf_app.specs.Fetching.{IsTold};
-ghost use Rattle.nf_app.specs.Outcomes.{stop_in, IsGiving, IsAnswered};
+ghost use Rattle.nf_app.specs.Outcomes.{IsGiving, IsAnswered};
 
-use crate::arrival::{Arrival, find_arrival, last_label};
+use crate::arrival::{find_arrival, last_label};
 use crate::augments_text::augments_text;
 use crate::fetching::{fetch_network, fetch_network_with};
 use crate::gen_text::Ladder;
 use crate::loading::load_links;
+use crate::outcome::Outcome;
 use crate::quick_text::flow_text;
 use crate::refusal::Refusal;
-use nf_check::{Answer, check};
-use nf_curve::Stop;
+use crate::settling::settle_at_start;
+use nf_check::check;
 use nf_edge::Shelf;
+use nf_flows::parse_flows;
+use nf_forever::solve_forever;
 use nf_frac::Q;
 use nf_gen::generated;
-use nf_load::{Loaded, parse_loads};
+use nf_load::parse_loads;
 use nf_net::{Network, text};
-use nf_phase::{Budgets, Solution, solve};
+use nf_phase::{Budgets, solve};
 use nf_quick::{Augment, Quick, QuickFault, departure, quickest};
 use nf_report::parse_report;
 use nf_words::{Request, read_request};
@@ -41,74 +43,11 @@ use std::alloc::{AllocError, Global};
 /// The most bytes that a loads file may have.
 const LONGEST_LOADS: u32 = 1_048_576;
 
+/// The most bytes that a flows file may have.
+const LONGEST_FLOWS: u32 = 1_048_576;
+
 /// The most bytes that a report may have.
 const LONGEST_REPORT: u32 = 67_108_864;
-
-/// What a request gives.
-#[derive(Drop)]
-pub(crate) enum Outcome {
-    /// What solving a network to a horizon gave.
-    Solved {
-        net: Network,
-        horizon: Q,
-        solution: Solution,
-    },
-    /// A network with its canonical text.
-    Shown {
-        net: Network,
-        text: Vec<u8>,
-    },
-    /// The loadings of the links of a network, up to a horizon.
-    Loaded {
-        net: Network,
-        horizon: Q,
-        links: Vec<Loaded>,
-    },
-    /// Whether the flow of a report is an equilibrium of a network, or which rule it breaks first.
-    Checked {
-        net: Network,
-        verdict: Answer,
-    },
-    /// A quickest flow in a network with its text, and the arrival in an equilibrium.
-    Quickest {
-        net: Network,
-        quick: Quick,
-        arrival: Arrival,
-        text: Vec<u8>,
-    },
-    /// The walks that were pushed for a quickest flow, as many as allowed, with their text.
-    TooManyWalks {
-        net: Network,
-        augments: u64,
-        walks: Vec<Augment>,
-        text: Vec<u8>,
-    },
-    /// What solving a ladder to a horizon gave, and the arrival at the sink of who departs last.
-    Generated {
-        net: Network,
-        ladder: Ladder,
-        horizon: Q,
-        solution: Solution,
-        arrival: Q,
-    },
-}
-
-impl Outcome {
-    /// Why the run of the report stopped, if it did.
-    pub(crate) fn stop(&self) -> Option<&Stop>
-        ensures { option_copied result ≡ stop_in self.now }
-    {
-        match self {
-            Outcome::Solved { solution, .. } => solution.stopped.as_ref(),
-            Outcome::Shown { .. } => None,
-            Outcome::Loaded { .. } => None,
-            Outcome::Checked { .. } => None,
-            Outcome::Quickest { .. } => None,
-            Outcome::TooManyWalks { .. } => None,
-            Outcome::Generated { solution, .. } => solution.stopped.as_ref(),
-        }
-    }
-}
 
 // The network, with what solving it to a horizon gives.
 fn solve_to(alloc: Global, net: Network, horizon: Q, budgets: Budgets) -> Result<Outcome, Refusal>
@@ -125,6 +64,16 @@ fn solve_to(alloc: Global, net: Network, horizon: Q, budgets: Budgets) -> Result
         horizon,
         solution,
     })
+}
+
+// The network, with what solving it without a horizon gives.
+fn solve_on(alloc: Global, net: Network, budgets: Budgets) -> Result<Outcome, Refusal>
+    ensures { (shelf : Visit) (file : List ℕ) → IsGiving shelf net (SolveForever file budgets.phases budgets.patterns) result }
+{
+    // For the proof: the network is that of an accepted file.
+    let _ = net.version();
+    let forever = solve_forever(alloc, &net, budgets)?;
+    Ok(Outcome::SolvedForever { net, forever })
 }
 
 // The ladder of a number, with what solving it to a horizon gives.
@@ -182,6 +131,18 @@ fn check_report(alloc: Global, net: Network, text: &[u8]) -> Result<Outcome, Ref
     let report = parse_report(alloc, &net, text)?;
     let verdict = check(alloc, &net, &report.flow)?;
     Ok(Outcome::Checked { net, verdict })
+}
+
+// The network, with what the thin flow is settled to that the text of a flows file gives.
+fn settle_to(alloc: Global, net: Network, text: &[u8]) -> Result<Outcome, Refusal>
+    requires { length text.now ≤ longest_text }
+    ensures { (shelf : Visit) (file name : List ℕ) → IsTold shelf (flows_file name) text.now → IsGiving shelf net (Settle file name) result }
+{
+    let flows = parse_flows(alloc, &net, text)?;
+    match settle_at_start(alloc, &net, &flows)? {
+        Some(settled) => Ok(Outcome::Settled { net, settled }),
+        None => Err(Refusal::NotThin),
+    }
 }
 
 // The walks that were pushed, as many as allowed, with their text.
@@ -279,6 +240,14 @@ fn answer_request<S: Shelf>(
             let net = fetch_network(alloc, shelf, file)?;
             solve_to(alloc, net, horizon, Budgets { phases, patterns })
         }
+        Request::SolveForever {
+            file,
+            phases,
+            patterns,
+        } => {
+            let net = fetch_network(alloc, shelf, file)?;
+            solve_on(alloc, net, Budgets { phases, patterns })
+        }
         Request::Show { file } => {
             let net = fetch_network(alloc, shelf, file)?;
             show(alloc, net)
@@ -313,6 +282,10 @@ fn answer_request<S: Shelf>(
             let net = generated(alloc, number, rungs)?;
             let ladder = Ladder { number, rungs };
             sum_up(alloc, net, ladder, horizon, Budgets { phases, patterns })
+        }
+        Request::Settle { file, flows } => {
+            let (net, flows) = fetch_network_with(alloc, shelf, file, flows, LONGEST_FLOWS)?;
+            settle_to(alloc, net, &flows)
         }
     }
 }

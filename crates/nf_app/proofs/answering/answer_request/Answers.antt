@@ -6,12 +6,12 @@ use Rattle.nf_words.specs.declared.request.Request as code
 use Rattle.nf_app.specs.Files.{Visit}
 use Rattle.nf_app.specs.Fetching.{IsTold}
 use Rattle.nf_app.specs.Outcomes.{IsGiving}
-use Rattle.nf_words.specs.Requests.{Request, CanBeAsked, Solve, Show, Load, Check, Quick, Gen}
+use Rattle.nf_words.specs.Requests.{Request, CanBeAsked, Solve, SolveForever, Show, Load, Check, Quick, Gen, Settle}
 use Rattle.nf_words.specs.Views.{requested}
 use Rattle.nf_gen.specs.Ladder.{ladder}
-use Rattle.nf_app.specs.Requests.{network_file, loads_file, report_file}
+use Rattle.nf_app.specs.Requests.{network_file, loads_file, flows_file, report_file}
 use Rattle.nf_app.proofs.Calls.{refused, given, generated_given}
-use Rattle.nf_app.proofs.outcome.answer_request.Goals as goal
+use Rattle.nf_app.proofs.answering.answer_request.Goals as goal
 
 pub solve_to-requires : goal.solve_to-requires
 solve_to-requires g c = (subst (λ (r : Request). CanBeAsked r) (ap requested c.in-Solve.is) c.requires).0
@@ -34,6 +34,20 @@ returns-in_ok-net-in-Solve g c words asks =
     }) in
     given words shelf (Solve c.in-Solve.file.now c.in-Solve.horizon c.in-Solve.phases c.in-Solve.patterns) (asks ∙ ap (λ (r : code.Request). Some (requested r)) c.in-Solve.is) (network_file c.in-Solve.file.now) [] refl refl
     c.in_ok-net-in-Solve.net [] c.in_ok-net-in-Solve.ensures c.solve_to.result (c.solve_to.ensures shelf c.in-Solve.file.now)
+
+pub returns-in_ok-net-in-SolveForever : goal.returns-in_ok-net-in-SolveForever
+returns-in_ok-net-in-SolveForever g c words asks =
+    let shelf : Visit = (record {
+      told = g.S.Shelf.told c.args.shelf.now;
+      asked_before = g.S.Shelf.asked c.args.shelf.now;
+      asked_now = g.S.Shelf.asked c.fetch_network-in-SolveForever.new.shelf;
+      faults_before = g.S.Shelf.faults c.args.shelf.now;
+      faults_now = g.S.Shelf.faults c.fetch_network-in-SolveForever.new.shelf;
+      taken = g.S.Shelf.taken c.fetch_network-in-SolveForever.new.shelf;
+    }) in
+    given words shelf (SolveForever c.in-SolveForever.file.now c.in-SolveForever.phases c.in-SolveForever.patterns) (asks ∙ ap (λ (r : code.Request). Some (requested r)) c.in-SolveForever.is)
+    (network_file c.in-SolveForever.file.now) [] refl refl
+    c.in_ok-net-in-SolveForever.net [] c.in_ok-net-in-SolveForever.ensures c.solve_on.result (c.solve_on.ensures shelf c.in-SolveForever.file.now)
 
 pub returns-in_ok-net-in-Show : goal.returns-in_ok-net-in-Show
 returns-in_ok-net-in-Show g c words asks =
@@ -127,3 +141,21 @@ returns-in_ok-net-in-Gen g c words asks =
     let request = Gen c.in-Gen.number c.in-Gen.rungs c.in-Gen.horizon c.in-Gen.phases c.in-Gen.patterns in
     generated_given words shelf request (asks ∙ ap (λ (r : code.Request). Some (requested r)) c.in-Gen.is) refl (ladder c.in-Gen.number c.in-Gen.rungs) refl refl c.sum_up.result
     (subst (λ (n : Named). IsGiving shelf n request c.sum_up.result) c.in_ok-net-in-Gen.ensures (c.sum_up.ensures shelf))
+
+pub settle_to-requires : goal.settle_to-requires
+settle_to-requires g c = omega (arith, c.in_ok-net-in-Settle.ensures.within, c.deref-in-Settle.ensures.len)
+
+pub returns-in_ok-net-in-Settle : goal.returns-in_ok-net-in-Settle
+returns-in_ok-net-in-Settle g c words asks =
+    let shelf : Visit = (record {
+      told = g.S.Shelf.told c.args.shelf.now;
+      asked_before = g.S.Shelf.asked c.args.shelf.now;
+      asked_now = g.S.Shelf.asked c.fetch_network_with-in-Settle.new.shelf;
+      faults_before = g.S.Shelf.faults c.args.shelf.now;
+      faults_now = g.S.Shelf.faults c.fetch_network_with-in-Settle.new.shelf;
+      taken = g.S.Shelf.taken c.fetch_network_with-in-Settle.new.shelf;
+    }) in
+    let told = subst (λ (t : List ℕ). IsTold shelf (flows_file c.in-Settle.flows.now) t) (sym c.deref-in-Settle.ensures.value) c.in_ok-net-in-Settle.ensures.read.2.0 in
+    given words shelf (Settle c.in-Settle.file.now c.in-Settle.flows.now)
+    (asks ∙ ap (λ (r : code.Request). Some (requested r)) c.in-Settle.is) (network_file c.in-Settle.file.now) (flows_file c.in-Settle.flows.now ∷ []) refl refl
+    c.in_ok-net-in-Settle.net (c.in_ok-net-in-Settle.flows.items ∷ []) c.in_ok-net-in-Settle.ensures.read c.settle_to.result (c.settle_to.ensures shelf c.in-Settle.file.now c.in-Settle.flows.now told)

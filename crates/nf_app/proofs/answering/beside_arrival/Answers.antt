@@ -1,7 +1,7 @@
 use Rattle.std.proofs.Common.{refl, inl, inr, ap, ◌∙◌}
 use Rattle.std.proofs.lemmas.Result.{err_from_is_err_and}
 use Rattle.nf_app.proofs.QuickTold.{from_0, departure_passes, quickest_given}
-use Rattle.nf_app.proofs.outcome.beside_arrival.Goals as goal
+use Rattle.nf_app.proofs.answering.beside_arrival.Goals as goal
 
 pub find_arrival-requires : goal.find_arrival-requires
 find_arrival-requires c = from_0 c.args.net.net c.args.amount c.in_ok-departs.departs c.in_ok-departs.ensures.least

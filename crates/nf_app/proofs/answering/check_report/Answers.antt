@@ -6,7 +6,7 @@ use Rattle.nf_model.specs.Equilibrium.{points_of}
 use Rattle.nf_curve.specs.Flows.{trace_of}
 use Rattle.nf_reader.specs.Files.{report_of}
 use Rattle.nf_app.proofs.CheckGiven.{report_refused, checking_stopped, verdict_given}
-use Rattle.nf_app.proofs.outcome.check_report.Goals as goal
+use Rattle.nf_app.proofs.answering.check_report.Goals as goal
 
 pub check-requires-clause-labels : goal.check-requires-clause-labels
 check-requires-clause-labels c =

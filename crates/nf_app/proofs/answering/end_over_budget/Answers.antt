@@ -4,7 +4,7 @@ use Rattle.nf_quick_lists.specs.Quick as lists
 use Rattle.std.specs.Prelude.{List}
 use Rattle.nf_app.specs.QuickText.{augments_text}
 use Rattle.nf_app.proofs.QuickTold.{budget_given}
-use Rattle.nf_app.proofs.outcome.end_over_budget.Goals as goal
+use Rattle.nf_app.proofs.answering.end_over_budget.Goals as goal
 
 pub returns-in_err-text : goal.returns-in_err-text
 returns-in_err-text c shelf file amount h =

@@ -6,7 +6,7 @@ use Rattle.nf_formats.specs.Named.{Named}
 use Rattle.nf_readings.specs.LoadsFile.{pieces_at}
 use Rattle.nf_load.specs.Loadings.{loaded_of}
 use Rattle.nf_app.proofs.LoadGiven.{loads_refused, loading_stopped, loading_given}
-use Rattle.nf_app.proofs.outcome.load_to.Goals as goal
+use Rattle.nf_app.proofs.answering.load_to.Goals as goal
 
 pub returns-in_err-loads : goal.returns-in_err-loads
 returns-in_err-loads c shelf file name told =

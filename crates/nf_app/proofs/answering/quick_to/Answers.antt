@@ -1,4 +1,4 @@
-use Rattle.nf_app.proofs.outcome.quick_to.Goals as goal
+use Rattle.nf_app.proofs.answering.quick_to.Goals as goal
 
 pub beside_arrival-requires-clause-flow : goal.beside_arrival-requires-clause-flow
 beside_arrival-requires-clause-flow c = c.in-Ok.ensures.quickest

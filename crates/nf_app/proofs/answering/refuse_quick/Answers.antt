@@ -5,7 +5,7 @@ use Rattle.nf_work.specs.Passing.{passes_Q}
 use Rattle.nf_quick.specs.Answered.{IsAnswered}
 use Rattle.nf_quick.specs.declared.fault.QuickFault.{QuickFault}
 use Rattle.nf_app.proofs.QuickTold.{unbounded_given, passed_given}
-use Rattle.nf_app.proofs.outcome.refuse_quick.Goals as goal
+use Rattle.nf_app.proofs.answering.refuse_quick.Goals as goal
 
 pub returns-in-Budget : goal.returns-in-Budget
 returns-in-Budget c shelf file amount h =

@@ -2,7 +2,9 @@ use Rattle.std.proofs.Common.{refl, arith}
 use Rattle.nf_phase.specs.Solution.{bounds_of, report_in}
 use Rattle.nf_readable_laws.proofs.Fractions.{fraction_of_parts}
 use Rattle.nf_readable_laws.proofs.ReadingBack.{reads_back}
-use Rattle.nf_app.proofs.outcome.solve_to.Goals as goal
+use Rattle.nf_work.specs.Passing.{passes_Q}
+use Rattle.nf_complete_laws.proofs.Stopped.{stops_for_none}
+use Rattle.nf_app.proofs.answering.solve_to.Goals as goal
 
 pub returns : goal.returns
 returns c shelf file =
@@ -19,6 +21,7 @@ returns c shelf file =
               patterns = omega arith;
             })
             c.in_ok-solution.ensures.well_formed c.in_ok-solution.ensures.run,
+        stops_for_none passes_Q c.args.net.net (bounds_of c.args.horizon c.args.budgets) report c.version.ensures.named.network c.in_ok-solution.ensures.run,
       ),
       c.in_ok-solution.ensures.well_formed,
     )
