@@ -1,4 +1,4 @@
-use Rattle.std.proofs.Common.{◌≡◌, List, [], ◌∷◌, ◌++◌, length, ap, refl}
+use Rattle.std.proofs.Common.{◌≡◌, List, [], ◌∷◌, ◌++◌, length, ap, refl, sym, append_assoc}
 use Rattle.std.specs.Prelude.{codes}
 use Rattle.nf_rational.specs.Rational.{ℚ}
 use Rattle.nf_formats.specs.Report.{for_each, state_lines}
@@ -11,7 +11,8 @@ returns-in_err-put_states g c =
     let n = length c.args.net.now.net.links in
     let s = c.args.settled.now in
     gathered_failed (for_each n (state_lines c.args.net.now s.pattern)) (for_each n (flow_line c.args.net.now s.flows.items) ++ (codes "end" ∷ []) ∷ []) (settled_lines c.args.net.now s.pattern s.flows.items)
-    c.from_residual.result refl c.from_residual.ensures.0 c.in_err-put_states.ensures
+    c.from_residual.result (sym (append_assoc (for_each n (state_lines c.args.net.now s.pattern)) (for_each n (flow_line c.args.net.now s.flows.items)) ((codes "end" ∷ []) ∷ [])))
+    c.from_residual.ensures.0 c.in_err-put_states.ensures
 
 pub returns-in_err-put_flows : goal.returns-in_err-put_flows
 returns-in_err-put_flows g c =
