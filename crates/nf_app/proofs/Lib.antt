@@ -11,5 +11,5 @@ pub mod QuickLines
 pub mod Starting
 pub mod SettleCalls
 pub mod SettleGiven
-pub mod Telling
+pub mod Statuses
 mod ErrorExamples

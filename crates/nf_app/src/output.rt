@@ -160,7 +160,7 @@ fn tell<E: Sink>(outcome: &Outcome, err: &mut E) -> Status
 }
 
 /// Writes the text of an outcome, and says how the run ends.
-#[tactic(auto, using(crate::proofs::Telling::writes))]
+#[tactic(auto, using(crate::proofs::Statuses::writes))]
 pub(crate) fn give<O: Sink, E: Sink>(outcome: &Outcome, out: &mut O, err: &mut E) -> Status
     requires { HasText outcome.now }
     ensures { IsShown (answer_in outcome.now) (record {

@@ -1,6 +1,6 @@
 use Rattle.std.proofs.Common.{◌≡◌, ◌∙◌, sym}
 use Rattle.std.specs.Option.{option_copied}
-use Rattle.nf_app.proofs.Telling.{events, no_events}
+use Rattle.nf_app.proofs.Statuses.{events, no_events}
 use Rattle.nf_app.proofs.output.tell_forever.Goals as goal
 
 pub returns-in-Phases-clause-status : goal.returns-in-Phases-clause-status
