@@ -25,7 +25,7 @@ use Rattle.nf_complete_lists.specs.SettledPattern.{IsSettledPattern}
 use Rattle.nf_complete_lists.specs.ThinList.{Sums, thin_list}
 use Rattle.nf_complete_lists.specs.FlowsFile.{GivenFlows}
 use Rattle.nf_complete_laws.specs.SettleLaws.{AreGoodSets}
-use Rattle.nf_complete.specs.declared.Settled.{Settled}
+use Rattle.nf_complete.specs.declared.settled.Settled.{Settled}
 use Rattle.nf_complete.specs.Settling.{SettlesTo}
 use Rattle.nf_app.specs.SettleGiven.{SlacksFit, TestFits, AreThin, AreSettled, AreNotThin, PassesFirst, at_slack, at_test, at_settling}
 use Rattle.nf_app.specs.Settling.{AreStartSets, SettlesAtStart}

@@ -8,7 +8,7 @@ use Rattle.nf_model.specs.ThinFlow.{sets_at}
 use Rattle.nf_formats.specs.Named.{Named}
 use Rattle.nf_thin_laws.proofs.ActiveLinks.{AreSets-sets_at}
 use Rattle.nf_complete_lists.specs.FlowsFile.{FlowsBroken, GivenFlows, flows_in}
-use Rattle.nf_complete.specs.declared.Settled.{Settled as CodeSettled}
+use Rattle.nf_complete.specs.declared.settled.Settled.{Settled as CodeSettled}
 use Rattle.nf_flows.specs.declared.fault.FlowsFault.{FlowsFault}
 use Rattle.nf_flows.specs.Files.{IfBroken}
 use Rattle.nf_app.specs.declared.refusal.Refusal.{Refusal}

@@ -10,7 +10,7 @@ use Rattle.nf_model.specs.ThinFlow.{Sets, sets_at}
 use Rattle.nf_model.specs.Phases.{AreStartLabels}
 use Rattle.nf_lists.specs.Slack.{slack_list}
 use Rattle.nf_complete_lists.specs.FlowsFile.{GivenFlows}
-use Rattle.nf_complete.specs.declared.Settled.{Settled}
+use Rattle.nf_complete.specs.declared.settled.Settled.{Settled}
 use Rattle.nf_app.specs.SettleGiven.{AreSettled, AreNotThin, PassesFirst}
 
 -- this holds of the labels at departure 0

@@ -1,7 +1,7 @@
 use Rattle.std.specs.Prelude.{Result, Option, Ok, Some, None}
 use Rattle.std.proofs.Common.{◌≡◌, subst, ap, inr}
 use Rattle.std.proofs.lemmas.Result.{err_from_is_err_and}
-use Rattle.nf_complete.specs.declared.Settled.{Settled}
+use Rattle.nf_complete.specs.declared.settled.Settled.{Settled}
 use Rattle.nf_flows.specs.Files.{given_of}
 use Rattle.nf_app.specs.Settling.{SettlesAtStart}
 use Rattle.nf_app.proofs.SettleGiven.{flows_refused, settling_halted, not_thin_given, settled_given, settled_counts}

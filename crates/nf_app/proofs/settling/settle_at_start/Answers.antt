@@ -31,17 +31,6 @@ is_thin-requires-clause-source c =
     } in
     sets_source c.args.net.now.net (given_of c.args.flows.now) sets.0 sets.1 c.in_ok-sets.sets c.rate_at-rate.result c.deref.result.now c.deref-2.result.now called c.version.ensures.named.network
 
-pub is_thin-requires-clause-rate : goal.is_thin-requires-clause-rate
-is_thin-requires-clause-rate c =
-    let sets = c.in_ok-sets.ensures in
-    let called : Called c.args.net.now.net (given_of c.args.flows.now) sets.0 sets.1 c.in_ok-sets.sets c.rate_at-rate.result c.deref.result.now c.deref-2.result.now = record {
-      sets_same = sets.2.1;
-      rate_same = rate_there c.args.net.now.net c.zero.result c.rate_at-rate.result c.zero.ensures c.rate_at-rate.ensures;
-      flows_same = sym c.deref.ensures.value;
-      slopes_same = sym c.deref-2.ensures.value;
-    } in
-    sets_rate c.args.net.now.net (given_of c.args.flows.now) sets.0 sets.1 c.in_ok-sets.sets c.rate_at-rate.result c.deref.result.now c.deref-2.result.now called c.version.ensures.named.network
-
 pub is_thin-requires-clause-flows : goal.is_thin-requires-clause-flows
 is_thin-requires-clause-flows c = ap length c.deref.ensures.value ∙ c.requires.flows
 
@@ -81,17 +70,6 @@ settle-requires-clause-sets c =
       slopes_same = sym c.deref-4.ensures.value;
     } in
     sets_good c.args.net.now.net (given_of c.args.flows.now) sets.0 sets.1 c.in_ok-sets.sets c.rate_at-rate.result c.deref-3.result.now c.deref-4.result.now again c.version.ensures.named.network
-
-pub settle-requires-clause-source : goal.settle-requires-clause-source
-settle-requires-clause-source c =
-    let sets = c.in_ok-sets.ensures in
-    let again : Called c.args.net.now.net (given_of c.args.flows.now) sets.0 sets.1 c.in_ok-sets.sets c.rate_at-rate.result c.deref-3.result.now c.deref-4.result.now = record {
-      sets_same = sets.2.1;
-      rate_same = rate_there c.args.net.now.net c.zero.result c.rate_at-rate.result c.zero.ensures c.rate_at-rate.ensures;
-      flows_same = sym c.deref-3.ensures.value;
-      slopes_same = sym c.deref-4.ensures.value;
-    } in
-    sets_source c.args.net.now.net (given_of c.args.flows.now) sets.0 sets.1 c.in_ok-sets.sets c.rate_at-rate.result c.deref-3.result.now c.deref-4.result.now again c.version.ensures.named.network
 
 pub settle-requires-clause-rate : goal.settle-requires-clause-rate
 settle-requires-clause-rate c =
