@@ -11,5 +11,6 @@ pub mod QuickLines
 pub mod Starting
 pub mod SettleCalls
 pub mod SettleGiven
+pub mod ForeverGiven
 pub mod Statuses
 mod ErrorExamples
