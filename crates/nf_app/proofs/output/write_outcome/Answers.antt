@@ -7,6 +7,7 @@ use Rattle.nf_phase.specs.Solution.{report_in}
 use Rattle.nf_readings.specs.Texts.{load_text}
 use Rattle.nf_load.specs.declared.loading.Loaded as code
 use Rattle.nf_load.specs.Loadings.{loaded_of}
+use Rattle.nf_complete_lists.specs.SettleText.{settled_text}
 use Rattle.nf_app.specs.declared.outcome.Outcome.{Outcome}
 use Rattle.nf_app.specs.QuickText.{arrival_text}
 use Rattle.nf_app.specs.Outcomes.{text_in, HasText}
@@ -32,3 +33,7 @@ returns-in-Quickest g c =
     same_text (c.deref-in-Quickest.result.now ++ arrival_text c.in-Quickest.arrival) (text_in c.args.outcome.now)
     (ap (λ (l : List ℕ). l ++ arrival_text c.in-Quickest.arrival) (c.deref-in-Quickest.ensures.value ∙ subst (λ (o : Outcome). HasText o) c.in-Quickest.is c.requires)
     ∙ sym (ap text_in c.in-Quickest.is)) c.write_quick.ensures
+
+pub returns-in-Settled : goal.returns-in-Settled
+returns-in-Settled g c =
+    same_text (settled_text c.in-Settled.net c.in-Settled.settled.pattern c.in-Settled.settled.flows.items) (text_in c.args.outcome.now) (sym (ap text_in c.in-Settled.is)) c.write_settled.ensures

@@ -49,8 +49,8 @@ returns-in_err-is_thin c =
     let p = err_from_is_err_and c.from_residual-in_err-is_thin.result c.from_residual-in_err-is_thin.ensures.1 in
     rw (p.1, p.2) (test_stopped c.args.net.now.net (given_of c.args.flows.now) sets.0 sets.1 c.in_ok-sets.sets c.rate_at-rate.result c.deref.result.now c.deref-2.result.now called sets.2.0 c.in_err-is_thin.field-0.0 c.in_err-is_thin.ensures.list)
 
-pub returns-then-not-is_thin : goal.returns-then-not-is_thin
-returns-then-not-is_thin c =
+pub returns-then-not-branch : goal.returns-then-not-branch
+returns-then-not-branch c =
     let sets = c.in_ok-sets.ensures in
     let called : Called c.args.net.now.net (given_of c.args.flows.now) sets.0 sets.1 c.in_ok-sets.sets c.rate_at-rate.result c.deref.result.now c.deref-2.result.now = record {
       sets_same = sets.2.1;
@@ -58,7 +58,7 @@ returns-then-not-is_thin c =
       flows_same = sym c.deref.ensures.value;
       slopes_same = sym c.deref-2.ensures.value;
     } in
-    not_thin c.args.net.now.net (given_of c.args.flows.now) sets.0 sets.1 c.in_ok-sets.sets c.rate_at-rate.result c.deref.result.now c.deref-2.result.now called sets.2.0 c.in_ok-is_thin.ensures.list (none_of c.in_ok-is_thin.field-0.0 _ _ c.in_ok-is_thin.ensures.thin c.if-not-is_thin.true)
+    not_thin c.args.net.now.net (given_of c.args.flows.now) sets.0 sets.1 c.in_ok-sets.sets c.rate_at-rate.result c.deref.result.now c.deref-2.result.now called sets.2.0 c.in_ok-is_thin.ensures.list (none_of c.in_ok-is_thin.field-0 _ _ c.in_ok-is_thin.ensures.thin c.if-not-branch.true)
 
 pub settle-requires-clause-sets : goal.settle-requires-clause-sets
 settle-requires-clause-sets c =
@@ -97,7 +97,7 @@ settle-requires-clause-thin c =
       flows_same = sym c.deref-3.ensures.value;
       slopes_same = sym c.deref-4.ensures.value;
     } in
-    let thin = thin_there c.args.net.now.net (given_of c.args.flows.now) sets.0 sets.1 c.in_ok-sets.sets c.rate_at-rate.result c.deref.result.now c.deref-2.result.now called (some_of c.in_ok-is_thin.field-0.0 _ _ c.in_ok-is_thin.ensures.thin c.if-not-is_thin.false) in
+    let thin = thin_there c.args.net.now.net (given_of c.args.flows.now) sets.0 sets.1 c.in_ok-sets.sets c.rate_at-rate.result c.deref.result.now c.deref-2.result.now called (some_of c.in_ok-is_thin.field-0 _ _ c.in_ok-is_thin.ensures.thin c.if-not-branch.false) in
     thin_again c.args.net.now.net (given_of c.args.flows.now) sets.0 sets.1 c.in_ok-sets.sets c.rate_at-rate.result c.deref-3.result.now c.deref-4.result.now again thin
 
 pub returns-in_err-settled : goal.returns-in_err-settled
@@ -116,7 +116,7 @@ returns-in_err-settled c =
       slopes_same = sym c.deref-4.ensures.value;
     } in
     let test = tested c.args.net.now.net (given_of c.args.flows.now) sets.0 sets.1 c.in_ok-sets.sets c.rate_at-rate.result c.deref.result.now c.deref-2.result.now called c.in_ok-is_thin.ensures.list in
-    let thin = thin_there c.args.net.now.net (given_of c.args.flows.now) sets.0 sets.1 c.in_ok-sets.sets c.rate_at-rate.result c.deref.result.now c.deref-2.result.now called (some_of c.in_ok-is_thin.field-0.0 _ _ c.in_ok-is_thin.ensures.thin c.if-not-is_thin.false) in
+    let thin = thin_there c.args.net.now.net (given_of c.args.flows.now) sets.0 sets.1 c.in_ok-sets.sets c.rate_at-rate.result c.deref.result.now c.deref-2.result.now called (some_of c.in_ok-is_thin.field-0 _ _ c.in_ok-is_thin.ensures.thin c.if-not-branch.false) in
     let p = err_from_is_err_and c.from_residual-in_err-settled.result c.from_residual-in_err-settled.ensures.1 in
     rw (p.1, p.2) (settling_stopped c.args.net.now.net (given_of c.args.flows.now) sets.0 sets.1 c.in_ok-sets.sets c.rate_at-rate.result c.deref-3.result.now c.deref-4.result.now again sets.2.0 test thin c.in_err-settled.field-0.0 c.in_err-settled.ensures.list)
 
@@ -136,6 +136,6 @@ returns c =
       slopes_same = sym c.deref-4.ensures.value;
     } in
     let test = tested c.args.net.now.net (given_of c.args.flows.now) sets.0 sets.1 c.in_ok-sets.sets c.rate_at-rate.result c.deref.result.now c.deref-2.result.now called c.in_ok-is_thin.ensures.list in
-    let thin = thin_there c.args.net.now.net (given_of c.args.flows.now) sets.0 sets.1 c.in_ok-sets.sets c.rate_at-rate.result c.deref.result.now c.deref-2.result.now called (some_of c.in_ok-is_thin.field-0.0 _ _ c.in_ok-is_thin.ensures.thin c.if-not-is_thin.false) in
+    let thin = thin_there c.args.net.now.net (given_of c.args.flows.now) sets.0 sets.1 c.in_ok-sets.sets c.rate_at-rate.result c.deref.result.now c.deref-2.result.now called (some_of c.in_ok-is_thin.field-0 _ _ c.in_ok-is_thin.ensures.thin c.if-not-branch.false) in
     let e = c.in_ok-settled.ensures in
     settled_there c.args.net.now.net (given_of c.args.flows.now) sets.0 sets.1 c.in_ok-sets.sets c.rate_at-rate.result c.deref-3.result.now c.deref-4.result.now again sets.2.0 test thin c.in_ok-settled.settled e.list e.pattern e.thin e.listed e.solution
