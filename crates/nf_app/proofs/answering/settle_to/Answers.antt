@@ -1,5 +1,5 @@
-use Rattle.std.specs.Prelude.{Result, Option, Ok, Some, None}
-use Rattle.std.proofs.Common.{◌≡◌, subst, ap, inr}
+use Rattle.std.proofs.Common.{subst, inr}
+use Rattle.std.specs.Prelude.{Option, Ok}
 use Rattle.std.proofs.lemmas.Result.{err_from_is_err_and}
 use Rattle.nf_complete.specs.declared.settled.Settled.{Settled}
 use Rattle.nf_flows.specs.Files.{given_of}
@@ -19,11 +19,12 @@ returns-in_err-settled c shelf file name told =
 
 pub returns-in-Some : goal.returns-in-Some
 returns-in-Some c shelf file name told =
-    let h = c.in_ok-settled.ensures in (
+    let h = subst (λ (o : Option Settled). SettlesAtStart c.args.net.net (given_of c.in_ok-flows.flows) (Ok o)) c.in-Some.is c.in_ok-settled.ensures in (
       settled_given shelf c.args.net file name c.args.text.now told (given_of c.in_ok-flows.flows) c.in_ok-flows.ensures.reads c.in-Some.settled h,
       settled_counts shelf c.args.net file name c.args.text.now told (given_of c.in_ok-flows.flows) c.in_ok-flows.ensures.reads c.in-Some.settled h,
     )
 
 pub returns-in-None : goal.returns-in-None
 returns-in-None c shelf file name told =
-    inr (not_thin_given shelf c.args.net file name c.args.text.now told (given_of c.in_ok-flows.flows) c.in_ok-flows.ensures.reads c.in_ok-settled.ensures)
+    inr (not_thin_given shelf c.args.net file name c.args.text.now told (given_of c.in_ok-flows.flows) c.in_ok-flows.ensures.reads
+    (subst (λ (o : Option Settled). SettlesAtStart c.args.net.net (given_of c.in_ok-flows.flows) (Ok o)) c.in-None.is c.in_ok-settled.ensures))
