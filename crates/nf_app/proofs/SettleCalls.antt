@@ -1,6 +1,6 @@
 -- What settling at departure 0 answers, from what its calls answer.
 use Rattle.std.proofs.Common.{◌≡◌, ℕ, List, Bool, true, false, refl, sym, ap, subst, ◌∙◌}
-use Rattle.std.specs.Prelude.{Option, Some, None, Result, Ok, Err, IsOk, is_ok, MatchBool, not}
+use Rattle.std.specs.Prelude.{Option, Some, None, Result, Ok, Err, IsOk, is_ok, MatchBool}
 use Rattle.nf_rational.specs.Rational.{ℚ}
 use Rattle.nf_rational.specs.Operations.{0ℚ}
 use Rattle.nf_rational.specs.Order.{◌≤ℚ◌}
@@ -32,11 +32,11 @@ use Rattle.nf_app.specs.Settling.{AreStartSets, SettlesAtStart}
 use Rattle.nf_app.proofs.Starting.{start_sets_good, start_source, start_rate}
 
 -- ---- what a test says
-pub some_of : (test : Bool) (P N : Type 0) → MatchBool test P N → not test ≡ false → P
+pub some_of : (test : Bool) (P N : Type 0) → MatchBool test P N → test ≡ true → P
 some_of true P N h e = h
 some_of false P N h e = let never : ⊥ = cc in absurd never
 
-pub none_of : (test : Bool) (P N : Type 0) → MatchBool test P N → not test ≡ true → N
+pub none_of : (test : Bool) (P N : Type 0) → MatchBool test P N → test ≡ false → N
 none_of true P N h e = let never : ⊥ = cc in absurd never
 none_of false P N h e = h
 
