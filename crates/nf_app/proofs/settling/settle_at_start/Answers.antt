@@ -1,5 +1,6 @@
 use Rattle.std.proofs.Common.{◌≡◌, ◌∙◌, sym, ap, length}
 use Rattle.std.proofs.lemmas.Result.{err_from_is_err_and}
+use Rattle.nf_work.specs.declared.Halt.{Halt}
 use Rattle.nf_flows.specs.Files.{given_of}
 use Rattle.nf_app.proofs.SettleCalls.{start_stopped, rate_there, Called, sets_good, sets_source, sets_rate, tested, thin_there, thin_again, not_thin, test_stopped, settling_stopped, settled_there, none_of, some_of}
 use Rattle.nf_app.proofs.settling.settle_at_start.Goals as goal
@@ -47,7 +48,7 @@ returns-in_err-is_thin c =
       slopes_same = sym c.deref-2.ensures.value;
     } in
     let p = err_from_is_err_and c.from_residual-in_err-is_thin.result c.from_residual-in_err-is_thin.ensures.1 in
-    rw (p.1, p.2) (test_stopped c.args.net.now.net (given_of c.args.flows.now) sets.0 sets.1 c.in_ok-sets.sets c.rate_at-rate.result c.deref.result.now c.deref-2.result.now called sets.2.0 c.in_err-is_thin.field-0.0 c.in_err-is_thin.ensures.list)
+    rw (p.1, p.2) (test_stopped c.args.net.now.net (given_of c.args.flows.now) sets.0 sets.1 c.in_ok-sets.sets c.rate_at-rate.result c.deref.result.now c.deref-2.result.now called sets.2.0 (Halt.Passed c.in_err-is_thin.field-0.0) c.in_err-is_thin.ensures.list)
 
 pub returns-then-not-branch : goal.returns-then-not-branch
 returns-then-not-branch c =
