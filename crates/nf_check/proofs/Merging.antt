@@ -1,13 +1,16 @@
 -- Times of two lists, in rising order.
-use Rattle.std.proofs.Common.{◌≡◌, ℕ, zero, suc, ◌+◌, ◌<◌, ◌≤◌, List, [], ◌∷◌, ◌++◌, length, drop, ◌⊎◌, inl, inr, ⊎_elim, Bool, true, false, Some, slice_get, refl, sym, ap, subst, ◌∙◌, append-nil, append_assoc, arith}
+use Rattle.std.proofs.Common.{◌≡◌, ℕ, zero, suc, ◌+◌, ◌<◌, ◌≤◌, List, [], ◌∷◌, ◌++◌, length, drop, ◌⊎◌, inl, inr, ⊎_elim, Bool, true, false, cond, Some, slice_get, refl, sym, ap, subst, ◌∙◌, append-nil, append_assoc, arith}
 use Rattle.std.specs.Prelude.{if◌then◌else◌}
 use Rattle.std.specs.List.{AllByRecursion}
+use Rattle.std.specs.Ordering.{is_lt, is_gt}
+use Rattle.std.specs.declared.cmp.Ordering.{Ordering}
 use Rattle.nf_rational.specs.Rational.{ℚ}
 use Rattle.nf_rational.specs.Operations.{0ℚ}
-use Rattle.nf_rational.specs.Order.{◌≤ℚ◌, ◌<ℚ◌, lt_ℚ, min_ℚ}
+use Rattle.nf_rational.specs.Order.{◌≤ℚ◌, ◌<ℚ◌, cmp_ℚ, lt_ℚ, min_ℚ}
 use Rattle.nf_rational_laws.proofs.Order.{≤ℚ_of_lt, ≤ℚ_of_same, not_both_ℚ}
 use Rattle.nf_rational_laws.proofs.Tests.{lt_ℚ_cases}
 use Rattle.nf_rational_laws.proofs.Chains.{≤ℚ_trans}
+use Rattle.nf_frac.proofs.Comparisons.{lt-cmp, gt-cmp, lesser_is_first, lesser_is_second}
 use Rattle.nf_model.specs.Curve.{Point, TimesRise, IsCurve}
 use Rattle.nf_curve_lists.specs.Times.{merged, merged_from, times_of}
 use Rattle.nf_curve_laws.proofs.Times.{merged_from-cases}
@@ -124,3 +127,20 @@ pub time_from : (times : List ℚ) (k : ℕ) (t : ℚ) → slice_get times k ≡
 time_from [] k t e a = absurd (cc)
 time_from (x ∷ rest) zero t e a = let same : x ≡ t = cc in subst (λ (z : ℚ). 0ℚ ≤ℚ z) same a.0
 time_from (x ∷ rest) (suc k) t e a = time_from rest k t e a.1
+
+-- ---- by the order of two times
+pub earlier_by : (order : Ordering) (here there : ℚ) → order ≡ cmp_ℚ here there → min_ℚ here there ≡ cond (is_gt order) there here
+earlier_by order here there e = by_test (lt_ℚ there here) refl
+  where
+    gt_is : is_gt order ≡ lt_ℚ there here
+    gt_is = ap is_gt e ∙ gt-cmp here there
+
+    by_test : (t : Bool) → lt_ℚ there here ≡ t → min_ℚ here there ≡ cond (is_gt order) there here
+    by_test true f = sym (lesser_is_second here there f) ∙ sym (ap (λ (b : Bool). cond b there here) (gt_is ∙ f))
+    by_test false f = sym (lesser_is_first here there f) ∙ sym (ap (λ (b : Bool). cond b there here) (gt_is ∙ f))
+
+pub left_by : (place : ℕ) (order : Ordering) (here there : ℚ) → order ≡ cmp_ℚ here there → moved_on place here there ≡ cond (is_gt order) place (place + 1)
+left_by place order here there e = ap (λ (b : Bool). if b then place else place + 1) (sym (ap is_gt e ∙ gt-cmp here there))
+
+pub right_by : (place : ℕ) (order : Ordering) (here there : ℚ) → order ≡ cmp_ℚ here there → moved_on place there here ≡ cond (is_lt order) place (place + 1)
+right_by place order here there e = ap (λ (b : Bool). if b then place else place + 1) (sym (ap is_lt e ∙ lt-cmp here there))

@@ -3,6 +3,8 @@ use Rattle.std.proofs.Common.{◌≡◌, ℕ, ◌<◌, List, length, Bool, sym, 
 use Rattle.std.specs.Prelude.{◌↔◌, Option, Some, None, Result, Ok, Err, IfOk, MatchOption}
 use Rattle.std.proofs.lemmas.Option.{MatchOption-at_some, MatchOption-at_none}
 use Rattle.nf_rational.specs.Rational.{ℚ}
+use Rattle.nf_rational.specs.Operations.{0ℚ}
+use Rattle.nf_rational.specs.Order.{◌≤ℚ◌}
 use Rattle.nf_work.specs.Passing.{Passing}
 use Rattle.nf_work.specs.declared.Passed.{Passed}
 use Rattle.nf_work.specs.declared.PassedAt.{PassedAt}
@@ -13,18 +15,21 @@ use Rattle.nf_work.specs.Checked.{Checked, at_part, placed, seen_passed_at, Stop
 use Rattle.nf_model.specs.Entries.{Has}
 use Rattle.nf_model.specs.Network.{Network, hops}
 use Rattle.nf_model.specs.ThinFlow.{Sets, IsThinFlow}
-use Rattle.nf_model.specs.Pattern.{IsForest}
+use Rattle.nf_model.specs.Pattern.{Pattern, IsForest, IsListedIn, IsSolution}
 use Rattle.nf_plain_laws.proofs.Results.{same_Err}
 use Rattle.nf_complete_lists.specs.Interior.{IsInterior, IsCycle, IsNextCycle}
+use Rattle.nf_complete_lists.specs.SettledPattern.{IsSettledPattern}
 use Rattle.nf_complete_lists.specs.Cancelling.{fulls_list, cancel_list, Cancels, no_cycle, cancels, passes_at, Settles, settles, stops}
 use Rattle.nf_complete_laws.specs.SettleLaws.{AreGoodSets}
 use Rattle.nf_complete_laws.proofs.Cancelled.{IsThinFlow-cancelled, interior-before, Ended, one-ended}
 use Rattle.nf_complete_laws.proofs.OneCycle.{weaker}
+use Rattle.nf_complete_laws.proofs.Settled.{settles-end, IsListedIn-settled, IsSolution-settled}
 use Rattle.nf_complete.specs.Cycles.{IsFirstCycle}
 use Rattle.nf_complete.specs.Settling.{ComesTo}
 use Rattle.nf_complete.specs.InteriorFlags.{interior_flags}
 use Rattle.nf_complete.proofs.Cycling.{forest-weaker}
 use Rattle.nf_complete.proofs.Interiors.{set_count, fewer_set, flags_are}
+use Rattle.nf_complete.proofs.Telling.{value_of}
 
 -- ---- the first cycle of links that are chosen by flags is the next one, where the flags are those of interior links
 module _ (net : Network) (sets : Sets) (slopes flows : List ℚ) (flags : List Bool) (are : (e : ℕ) → Has flags e ↔ IsInterior net sets slopes flows e) where
@@ -134,5 +139,29 @@ module _ (passes : Passing) (net : Network) (sets : Sets) (slopes flows : List �
   settles_on flows_of fulls ok (Halt.Passed p) c others_of = (c.0, settles fulls (Err c.0) ok c.1, c.2)
   settles_on flows_of fulls ok Halt.Memory c others_of = tt
 
-  pub settles_to : (fulls : List (Option ℚ)) → fulls_list passes net sets slopes ≡ Ok fulls → (new : List ℚ) → Cancels passes net sets slopes fulls flows (Ok new) → Settles passes net sets slopes flows (Ok new)
-  settles_to fulls ok new c = settles fulls (Ok new) ok c
+-- ---- the whole: what fills the links is read, and cycles are cancelled to the end
+pub fulls_read : (passes : Passing) (net : Network) (sets : Sets) (slopes : List ℚ) (read seen : List (Option ℚ)) → at_part Verdict (fulls_list passes net sets slopes) ≡ Ok read → seen ≡ read → fulls_list passes net sets slopes ≡ Ok seen
+fulls_read passes net sets slopes read seen worked same = value_of (fulls_list passes net sets slopes) read (sym worked) ∙ ap (λ (f : List (Option ℚ)). Ok f) (sym same)
+
+pub record IsSettled (passes : Passing) (net : Network) (sets : Sets) (rate : ℚ) (flows slopes new : List ℚ) : Type 0 where
+  pub settles_it : Settles passes net sets slopes flows (Ok new)
+  pub thin : IsThinFlow net sets rate new slopes
+  pub forest : IsForest (hops net) (IsInterior net sets slopes new)
+
+pub settled_by : (passes : Passing) (net : Network) (sets : Sets) (rate : ℚ) (flows slopes : List ℚ) → AreGoodSets net sets → IsThinFlow net sets rate flows slopes → (read seen : List (Option ℚ))
+    → at_part Verdict (fulls_list passes net sets slopes) ≡ Ok read → seen ≡ read → (new : List ℚ) → Cancels passes net sets slopes seen flows (Ok new) → IsSettled passes net sets rate flows slopes new
+settled_by passes net sets rate flows slopes good thin read seen worked same new c =
+    let it : Settles passes net sets slopes flows (Ok new) = settles seen (Ok new) (fulls_read passes net sets slopes read seen worked same) c in
+    let end = settles-end passes net sets rate flows slopes new (Ok new) good refl thin it in
+    record { settles_it = it; thin = end.0; forest = end.1 }
+
+module _ (passes : Passing) (net : Network) (sets : Sets) (rate : ℚ) (flows slopes new : List ℚ) (good : AreGoodSets net sets) (rate_nn : 0ℚ ≤ℚ rate) (s : IsSettled passes net sets rate flows slopes new)
+    (pattern : Pattern) (seen : List ℚ) (same : seen ≡ new) (is : IsSettledPattern net sets seen slopes pattern) where
+  is_new : IsSettledPattern net sets new slopes pattern
+  is_new = subst (λ (f : List ℚ). IsSettledPattern net sets f slopes pattern) same is
+
+  pub settled_listed : IsListedIn net sets pattern
+  settled_listed = IsListedIn-settled net sets rate new slopes pattern good rate_nn s.thin is_new s.forest
+
+  pub settled_solution : IsSolution net sets rate pattern new slopes
+  settled_solution = IsSolution-settled net sets rate new slopes pattern good rate_nn s.thin is_new s.forest

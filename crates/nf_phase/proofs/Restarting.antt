@@ -1,11 +1,10 @@
 -- What holds of a run that is restored from a flow.
 use Rattle.std.proofs.Common.{◌≡◌, ℕ, ◌<◌, List, [], ◌∷◌, ◌++◌, length, sym, ap, subst, refl, ◌∙◌, arith}
-use Rattle.std.specs.Prelude.{Option, Some, None, map, slice_get, Result, Ok}
+use Rattle.std.specs.Prelude.{Option, Some, None, slice_get, Ok}
 use Rattle.std.proofs.lemmas.Option.{slice_get_within}
 use Rattle.std.proofs.lemmas.List.{length-map}
 use Rattle.nf_rational.specs.Rational.{ℚ}
 use Rattle.nf_rational.specs.Order.{◌≤ℚ◌}
-use Rattle.nf_rational_laws.proofs.Order.{≤ℚ_of_same}
 use Rattle.nf_rational_laws.proofs.Chains.{≤ℚ_refl}
 use Rattle.nf_work.specs.Passing.{Passing}
 use Rattle.nf_work.specs.Checked.{Checked, each}
@@ -19,7 +18,6 @@ use Rattle.nf_lists.specs.PhaseRun.{Standing, flow_of}
 use Rattle.nf_lists.specs.Ends.{end_of}
 use Rattle.nf_curve_lists.specs.Lines.{checked_slope}
 use Rattle.nf_curve_laws.proofs.Operations.{then_ok}
-use Rattle.nf_phase_laws.specs.CurveSteps.{LastPoint}
 use Rattle.nf_run_laws.proofs.Short.{HasOnePoint, IsShortCurve}
 use Rattle.nf_run_laws.proofs.ShortRun.{AreShort, ShortRun}
 use Rattle.nf_run_laws.proofs.WellRun.{label_points, inflow_points, outflow_points, queue_points, WellRun}

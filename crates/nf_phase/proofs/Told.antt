@@ -1,18 +1,16 @@
 -- The flow of a run may be given out, and a run restored from it.
-use Rattle.std.proofs.Common.{◌≡◌, ℕ, ◌<◌, List, length, sym, ap, subst, ◌∙◌, arith}
-use Rattle.std.specs.Prelude.{Option, Some, None, is_none, slice_get}
+use Rattle.std.proofs.Common.{◌≡◌, ℕ, ◌<◌, length, ap, ◌∙◌, arith}
+use Rattle.std.specs.Prelude.{Option, Some, is_none, slice_get}
 use Rattle.std.specs.Option.{option_map}
 use Rattle.std.proofs.lemmas.Option.{slice_get-map, slice_get_within}
 use Rattle.nf_rational.specs.Rational.{ℚ}
 use Rattle.nf_work.specs.Passing.{Passing}
 use Rattle.nf_model.specs.Entries.{number_at}
-use Rattle.nf_model.specs.Curve.{Point}
 use Rattle.nf_model.specs.Network.{Link, Network, IsNetwork, IsLink}
 use Rattle.nf_model.specs.Equilibrium.{label}
-use Rattle.nf_lists.specs.ReportCurves.{GrowingCurve, LinkCurves}
+use Rattle.nf_lists.specs.ReportCurves.{LinkCurves}
 use Rattle.nf_lists.specs.PhaseRun.{Standing, flow_of}
 use Rattle.nf_lists.specs.Ends.{end_of, EndsAtLabels}
-use Rattle.nf_run_laws.specs.RunLaws.{KeepsLabels}
 use Rattle.nf_run_laws.proofs.WellRun.{label_points, inflow_points, outflow_points, queue_points}
 use Rattle.nf_resume_lists.specs.Meanings.{IsShortFlow}
 use Rattle.nf_plain_laws.proofs.Entries.{entry}

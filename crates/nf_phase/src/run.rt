@@ -118,7 +118,7 @@ impl Run {
     /// One phase more, for as long as it may last: by the first accepted pattern, of so many at most. Where it may last for any
     /// length no phase is made, and its thin flow is answered: by that the flow goes on from here. It is refused exactly where there
     /// is no such phase, or it can't be made, by the first cause for that, or where memory is wanting. Where no phase is made the run
-    /// is as it was.
+    /// is as it was. The last pattern is that of the phase, also in a restored run.
     pub fn step_to_end(
         &mut self,
         alloc: Global,
@@ -168,7 +168,8 @@ impl Run {
         &self.labels
     }
 
-    /// The states of the links in the last phase that was made; none where no phase was.
+    /// The states of the links by which the base of the next phase is found: those in the last phase that was made, or those that the run
+    /// was restored with. A run before its first phase has none.
     pub fn last(&self) -> &Pattern
         ensures { result.now ≡ self.now.last }
     {

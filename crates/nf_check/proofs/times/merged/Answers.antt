@@ -10,9 +10,9 @@ use Rattle.nf_check.proofs.times.merged.Goals as goal
 pub loop-i-smaller : goal.loop-i-smaller
 loop-i-smaller c =
     let k = one_moves c.loop-i.i c.loop-i.j c.index-left-i.result c.index-right-j.result in
-    let e = c.moved-i.ensures in
-    let f = c.moved-j.ensures in
-    let h : (length c.args.left.now + length c.args.right.now) - (c.moved-i.result + c.moved-j.result) < (length c.args.left.now + length c.args.right.now) - (c.loop-i.i + c.loop-i.j) = omega arith in h
+    let e = (c.left_moved-i.ensures c.index-left-i.result c.index-right-j.result c.cmp-order.ensures) in
+    let f = (c.right_moved-j.ensures c.index-left-i.result c.index-right-j.result c.cmp-order.ensures) in
+    let h : (length c.args.left.now + length c.args.right.now) - (c.left_moved-i.result + c.right_moved-j.result) < (length c.args.left.now + length c.args.right.now) - (c.loop-i.i + c.loop-i.j) = omega arith in h
 
 pub loop-i-preserved : goal.loop-i-preserved
 loop-i-preserved c =
@@ -20,10 +20,10 @@ loop-i-preserved c =
     let b : slice_get c.args.right.now c.loop-i.j ≡ Some c.index-right-j.result = slice_get_read c.args.right.now _ c.loop-i.j c.index-right-j.result refl c.if-j-right.true c.index-right-j.is in
     let m = moved_most c.loop-i.i c.index-left-i.result c.index-right-j.result in
     let n = moved_most c.loop-i.j c.index-right-j.result c.index-left-i.result in
-    let e = c.moved-i.ensures in
-    let f = c.moved-j.ensures in (
-      times_go c.args.left.now c.args.right.now c.loop-i.i c.loop-i.j c.index-left-i.result c.index-right-j.result a b c.loop-i.times.items _ c.loop-i.invariant.0 c.push.new.self.items c.moved-i.result c.moved-j.result c.lesser.result
-          c.lesser.ensures c.in_ok-push.ensures.items c.moved-i.ensures c.moved-j.ensures,
+    let e = (c.left_moved-i.ensures c.index-left-i.result c.index-right-j.result c.cmp-order.ensures) in
+    let f = (c.right_moved-j.ensures c.index-left-i.result c.index-right-j.result c.cmp-order.ensures) in (
+      times_go c.args.left.now c.args.right.now c.loop-i.i c.loop-i.j c.index-left-i.result c.index-right-j.result a b c.loop-i.times.items _ c.loop-i.invariant.0 c.push.new.self.items c.left_moved-i.result c.right_moved-j.result c.earlier.result
+          (c.earlier.ensures c.cmp-order.ensures) c.in_ok-push.ensures.items (c.left_moved-i.ensures c.index-left-i.result c.index-right-j.result c.cmp-order.ensures) (c.right_moved-j.ensures c.index-left-i.result c.index-right-j.result c.cmp-order.ensures),
       omega arith,
       omega arith,
     )

@@ -1,4 +1,4 @@
-use Rattle.std.proofs.Common.{ℕ, ◌<◌, length, arith}
+use Rattle.std.proofs.Common.{length, arith}
 use Rattle.nf_phase.proofs.Opened.{apart_more, apart_all}
 use Rattle.nf_phase.proofs.open_runs.are_apart.Goals as goal
 

@@ -1,4 +1,4 @@
-use Rattle.std.proofs.Common.{◌≡◌, ◌≤◌, sym, ap, ◌∙◌, arith}
+use Rattle.std.proofs.Common.{◌≡◌, sym, ap, ◌∙◌, arith}
 use Rattle.nf_lists.specs.PhaseRun.{Standing}
 use Rattle.nf_phase.proofs.Opened.{continues_by}
 use Rattle.nf_phase.proofs.run.Run.continues.Goals as goal

@@ -1,4 +1,4 @@
-use Rattle.std.proofs.Common.{◌≡◌, List, length, sym, ap, subst, ◌∙◌}
+use Rattle.std.proofs.Common.{List, length, sym, ap, subst, ◌∙◌}
 use Rattle.std.specs.Prelude.{Bool, MatchBool}
 use Rattle.nf_work.specs.Passing.{passes_Q}
 use Rattle.nf_model.specs.Network.{Piece}
