@@ -78,6 +78,7 @@ network_missing shelf file others Refusal.ShelfTooLong h = h
 network_missing shelf file others (Refusal.Malformed rule line) h = absurd h
 network_missing shelf file others (Refusal.MalformedLoads rule line) h = h
 network_missing shelf file others (Refusal.MalformedFlows rule line) h = h
+network_missing shelf file others (Refusal.MalformedRoutes rule line) h = h
 network_missing shelf file others (Refusal.MalformedReport rule line) h = h
 network_missing shelf file others (Refusal.Passes at) h = h
 network_missing shelf file others Refusal.Unbounded h = h
@@ -110,6 +111,7 @@ module _ (words : List (List ℕ)) (shelf : Visit) (request : Request) (asks : r
   refused (Refusal.Malformed rule line) h = inl (request, read_of (Err (record { rule = rule; line = line })) h.0 h.1)
   refused (Refusal.MalformedLoads rule line) h = absurd h
   refused (Refusal.MalformedFlows rule line) h = absurd h
+  refused (Refusal.MalformedRoutes rule line) h = absurd h
   refused (Refusal.MalformedReport rule line) h = absurd h
   refused (Refusal.Passes at) h = absurd h
   refused Refusal.Unbounded h = absurd h
@@ -157,6 +159,7 @@ no_text Refusal.ShelfTooLong = refl
 no_text (Refusal.Malformed rule line) = refl
 no_text (Refusal.MalformedLoads rule line) = refl
 no_text (Refusal.MalformedFlows rule line) = refl
+no_text (Refusal.MalformedRoutes rule line) = refl
 no_text (Refusal.MalformedReport rule line) = refl
 no_text (Refusal.Passes at) = refl
 no_text Refusal.Unbounded = refl

@@ -23,19 +23,21 @@ use Rattle.nf_readings.specs.ReportFile.{ReportBroken, report_in}
 use Rattle.nf_phase.specs.Solution.{bounds_of}
 use Rattle.nf_complete_lists.specs.FlowsFile.{GivenFlows, FlowsBroken, flows_in}
 use Rattle.nf_forever_lists.specs.ForeverRun.{Forever}
+use Rattle.nf_routes_lists.specs.RoutesFile.{RoutesBroken, NamedRoute, routes_in}
 use Rattle.nf_forever_laws.proofs.OneForever.{one_forever}
 use Rattle.nf_app.specs.declared.status.Status.{Status}
 use Rattle.nf_app.specs.Files.{Wanted, Visit, FetchedTo, HasTooMany}
-use Rattle.nf_words.specs.Requests.{Request, Solve, SolveForever, Show, Load, Check, Quick, Gen, Settle, request_of}
+use Rattle.nf_words.specs.Requests.{Request, Solve, SolveForever, Show, Load, Check, Quick, Gen, Settle, Routes, request_of}
 use Rattle.nf_gen.specs.Ladder.{ladder}
-use Rattle.nf_app.specs.Requests.{budgets_of, files_of, generated_by, network_file, loads_file, flows_file, report_file}
-use Rattle.nf_app.specs.Answers.{Answer, Solved, SolvedForever, Shown, Loaded, Checked, Quickest, TooManyWalks, Generated, Settled, NoMemory, NoRequest, ShelfFailed, ShelfTooLong, Malformed, MalformedLoads, MalformedFlows, MalformedReport, Passes, Unbounded, NotThin, status_of, status_of_stop, status_of_forever, status_of_verdict}
+use Rattle.nf_app.specs.Requests.{budgets_of, files_of, generated_by, network_file, loads_file, flows_file, routes_file, report_file}
+use Rattle.nf_app.specs.Answers.{Answer, Solved, SolvedForever, Shown, Loaded, Checked, Quickest, TooManyWalks, Generated, Settled, Distributed, NoMemory, NoRequest, ShelfFailed, ShelfTooLong, Malformed, MalformedLoads, MalformedFlows, MalformedRoutes, MalformedReport, Passes, Unbounded, NotThin, status_of, status_of_stop, status_of_forever, status_of_verdict}
 use Rattle.nf_app.specs.CheckGiven.{ReportReads}
 use Rattle.nf_app.specs.SettleGiven.{FlowsRead}
+use Rattle.nf_app.specs.RoutesGiven.{RoutesRead, by_route_list}
 use Rattle.nf_app.specs.Given.{LoadsRead, loading_list, IsGiven}
 use Rattle.nf_app.specs.Sinks.{Taken}
 use Rattle.nf_app.specs.Runs.{Call, Asks, Reached, NetworkReads, Read, IsRefused, IsComputed, IsAnswer, IsShown}
-use Rattle.nf_app.specs.Completeness.{Tells, TellsNetwork, TellsLoads, TellsFlows, CanBeShown, CanBeSolved, CanBeLoaded, CanBeGenerated, CanGoOn, CanBeJudged, CanBeQuick, CanBeSettled, HasAnswer, EndsWell, EndsJudged, EndsQuick, EndsSettled, IsComplete}
+use Rattle.nf_app.specs.Completeness.{Tells, TellsNetwork, TellsLoads, TellsFlows, CanBeShown, CanBeSolved, CanBeLoaded, CanBeGenerated, CanGoOn, CanBeDistributed, CanBeJudged, CanBeQuick, CanBeSettled, HasAnswer, EndsWell, EndsJudged, EndsQuick, EndsSettled, IsComplete}
 
 in_the_middle : (P : Wanted → Type 0) (xs : List Wanted) (y : Wanted) (ys : List Wanted) → All P (xs ++ y ∷ ys) → P y
 in_the_middle P [] y ys h = All-head P y ys h
@@ -82,6 +84,7 @@ module _ (call : Call) (no_fault : ¬ Rose call.shelf.faults_before call.shelf.f
     refused_well (MalformedLoads broken) h = absurd h
     refused_well (Checked n verdict) h = absurd h
     refused_well (MalformedFlows broken) h = absurd h
+    refused_well (MalformedRoutes broken) h = absurd h
     refused_well (MalformedReport broken) h = absurd h
     refused_well (Passes at) h = absurd h
     refused_well (Quickest n quick arrival) h = absurd h
@@ -91,6 +94,7 @@ module _ (call : Call) (no_fault : ¬ Rose call.shelf.faults_before call.shelf.f
     refused_well (SolvedForever n forever) h = absurd h
     refused_well (Settled n pattern flows) h = absurd h
     refused_well NotThin h = absurd h
+    refused_well (Distributed n routes horizon routed) h = absurd h
 
     -- what is computed is computed for this request and this network
     pub ended_well : ((answer : Answer) → IsGiven call.shelf n asked_for answer → Ends (status_of answer)) → (answer : Answer) → IsAnswer call answer → Ends (status_of answer)
@@ -186,12 +190,40 @@ module _ (call : Call) (no_fault : ¬ Rose call.shelf.faults_before call.shelf.f
       let same : can.goes_on.forever ≡ g.0 = one_forever passes_Q can.network.net.net can.phases can.patterns can.goes_on.forever g.0 can.goes_on.is_run g.2.run in
       inl (ap status_of g.1 ∙ ap status_of_forever (g.2.stop.0 (subst (λ (f : Forever). IsSome f.tail) same can.goes_on.has_tail))))
 
+  module _ (can : CanBeDistributed call) where
+    -- the routes file has one reading
+    one_routes : (read : Result (List NamedRoute) RoutesBroken) → RoutesRead call.shelf can.network.net can.routes_name read → Ok can.routes.routes ≡ read
+    one_routes read h =
+        sym can.routes.reads ∙ subst (λ (told : Option (List ℕ)). IfSome told (λ text. routes_in can.network.net text ≡ read)) can.routes.tells.told h
+
+    routed_well : (answer : Answer) → IsGiven call.shelf can.network.net (Routes can.file can.routes_name can.horizon) answer → EndsWell (status_of answer)
+    routed_well answer (inl g) = inl (ap status_of g.2)
+    routed_well answer (inr (inl g)) =
+        let same : Ok can.routes.routes ≡ Ok g.2.routes = one_routes (Ok g.2.routes) g.2.read in
+        let routes : can.routes.routes ≡ g.2.routes = cc in
+        let passed : by_route_list can.network.net can.routes.routes can.horizon ≡ Err g.0 =
+        ap (λ (r : List NamedRoute). by_route_list can.network.net r can.horizon) routes ∙ g.2.passes in
+        let computed : by_route_list can.network.net can.routes.routes can.horizon ≡ Ok can.routed = can.computes in
+        let never : ⊥ = cc in
+        absurd never
+    routed_well answer (inr (inr g)) =
+        let other : Ok can.routes.routes ≡ Err g.0 = one_routes (Err g.0) g.2 in
+        let never : ⊥ = cc in
+        absurd never
+
+    distributed_well : (answer : Answer) → IsAnswer call answer → EndsWell (status_of answer)
+    distributed_well = answered_well call no_fault (Routes can.file can.routes_name can.horizon) can.asks
+        (All-cons (Tells call.shelf) (network_file can.file) (routes_file can.routes_name ∷ []) can.network.tells
+        (All-cons (Tells call.shelf) (routes_file can.routes_name) [] can.routes.tells (All-nil (Tells call.shelf))))
+        can.file (routes_file can.routes_name ∷ []) refl refl can.network EndsWell (inr refl) routed_well
+
   ends_well : HasAnswer call → (answer : Answer) → IsAnswer call answer → EndsWell (status_of answer)
   ends_well (inl can) = shown_well can
   ends_well (inr (inl can)) = solved_well can
   ends_well (inr (inr (inl can))) = loaded_well can
   ends_well (inr (inr (inr (inl can)))) = generated_ends_well can
-  ends_well (inr (inr (inr (inr can)))) = goes_on_well can
+  ends_well (inr (inr (inr (inr (inl can))))) = goes_on_well can
+  ends_well (inr (inr (inr (inr (inr can))))) = distributed_well can
 
 -- a verdict on a report
 judged_well : (verdict : Verdict ℕ ℕ ℚ) → EndsJudged (status_of_verdict verdict)

@@ -72,6 +72,7 @@ module _ (shelf : Visit) (file next : Wanted) where
   first_missing (Refusal.Malformed rule line) h = absurd h
   first_missing (Refusal.MalformedLoads rule line) h = absurd h
   first_missing (Refusal.MalformedFlows rule line) h = absurd h
+  first_missing (Refusal.MalformedRoutes rule line) h = absurd h
   first_missing (Refusal.MalformedReport rule line) h = absurd h
   first_missing (Refusal.Passes at) h = absurd h
   first_missing Refusal.Unbounded h = absurd h
@@ -146,6 +147,7 @@ module _ (one other : Visit) (f g : Wanted) (follows : Follows one other) (first
   second_missing (Refusal.Malformed rule line) h = absurd h
   second_missing (Refusal.MalformedLoads rule line) h = absurd h
   second_missing (Refusal.MalformedFlows rule line) h = absurd h
+  second_missing (Refusal.MalformedRoutes rule line) h = absurd h
   second_missing (Refusal.MalformedReport rule line) h = absurd h
   second_missing (Refusal.Passes at) h = absurd h
   second_missing Refusal.Unbounded h = absurd h

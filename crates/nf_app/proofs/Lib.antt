@@ -13,4 +13,6 @@ pub mod SettleCalls
 pub mod SettleGiven
 pub mod ForeverGiven
 pub mod Statuses
+pub mod RoutesGiven
+pub mod RouteLines
 mod ErrorExamples

@@ -35,3 +35,4 @@ writes (Outcome.Quickest net quick arrival text) = tt
 writes (Outcome.TooManyWalks net augments walks text) = tt
 writes (Outcome.Generated net ladder horizon s arrival) = tt
 writes (Outcome.Settled net settled) = tt
+writes (Outcome.Distributed net routes horizon routed) = tt

@@ -17,9 +17,12 @@ use Rattle.nf_quick_lists.specs.Quick.{Augment, Quick}
 use Rattle.nf_model.specs.Pattern.{Pattern}
 use Rattle.nf_complete_lists.specs.FlowsFile.{FlowsBroken}
 use Rattle.nf_complete_lists.specs.SettleText.{settled_text}
+use Rattle.nf_routes_lists.specs.RoutesFile.{RoutesBroken, NamedRoute}
+use Rattle.nf_routes_lists.specs.RoutesList.{Routed}
+use Rattle.nf_routes_lists.specs.RoutesText.{routed_text}
 use Rattle.nf_forever_lists.specs.ForeverRun.{Forever}
 use Rattle.nf_forever_lists.specs.ForeverText.{forever_text}
-use Rattle.nf_app.specs.ErrorLines.{memory_line, usage_text, shelf_failed_line, shelf_too_long_line, network_line, loads_line, flows_line, report_line, stopped_line, passed_line, no_equilibrium_line, augments_line, unbounded_line, no_thin_flow_line}
+use Rattle.nf_app.specs.ErrorLines.{memory_line, usage_text, shelf_failed_line, shelf_too_long_line, network_line, loads_line, flows_line, routes_line, report_line, stopped_line, passed_line, no_equilibrium_line, augments_line, unbounded_line, no_thin_flow_line}
 use Rattle.nf_app.specs.QuickText.{quick_text, augments_text}
 use Rattle.nf_app.specs.GenText.{gen_text}
 use Rattle.nf_app.specs.declared.arrival.Arrival.{Arrival}
@@ -28,7 +31,7 @@ use Rattle.nf_app.specs.declared.status.Status.{Status}
 -- `Solved`: a report of the network of the file. `SolvedForever`: a run in it without a horizon. `Shown`: that network. `Loaded`: of each of its links the loading up to a horizon.
 -- `Checked`: whether the flow of a report is an equilibrium. `Quickest`: a quickest flow, beside the arrival in an equilibrium. `TooManyWalks`: those that were pushed for it, as many as allowed.
 -- `Generated`: a run in the ladder of a number with so many rungs, which made so many phases.
--- `Settled`: the pattern and the flows to which a thin flow is settled. `NotThin`: the flows and slopes of the file are no thin flow.
+-- `Distributed`: what becomes of inflow along routes, up to a horizon. `Settled`: the pattern and the flows to which a thin flow is settled. `NotThin`: the flows and slopes of the file are no thin flow.
 -- `Unbounded`: there is no quickest flow, since a walk of unbounded links leads to the sink. `Passes`: an operation of the command's
 -- list passes the bound.
 pub data Answer : Type 0 where
@@ -41,6 +44,7 @@ pub data Answer : Type 0 where
   TooManyWalks : Named → ℕ → List Augment → Answer
   Generated : ℕ → ℕ → Named → ℕ → Report → Answer
   Settled : Named → Pattern → List ℚ → Answer
+  Distributed : Named → List NamedRoute → ℚ → Routed → Answer
   NoMemory : Answer
   NoRequest : Answer
   ShelfFailed : Answer
@@ -48,6 +52,7 @@ pub data Answer : Type 0 where
   Malformed : Broken → Answer
   MalformedLoads : LoadsBroken → Answer
   MalformedFlows : FlowsBroken → Answer
+  MalformedRoutes : RoutesBroken → Answer
   MalformedReport : ReportBroken → Answer
   Passes : PassedAt ℚ → Answer
   Unbounded : Answer
@@ -100,6 +105,7 @@ status_of (Quickest n quick arrival) = Status.Ok
 status_of (TooManyWalks n augments walks) = Status.Augments
 status_of (Generated number rungs n made report) = status_of_stop report.stop
 status_of (Settled n pattern flows) = Status.Ok
+status_of (Distributed n routes horizon routed) = Status.Ok
 status_of NoMemory = Status.Memory
 status_of NoRequest = Status.Usage
 status_of ShelfFailed = Status.Shelf
@@ -107,6 +113,7 @@ status_of ShelfTooLong = Status.Shelf
 status_of (Malformed broken) = Status.Malformed
 status_of (MalformedLoads broken) = Status.Malformed
 status_of (MalformedFlows broken) = Status.Malformed
+status_of (MalformedRoutes broken) = Status.Malformed
 status_of (MalformedReport broken) = Status.Malformed
 status_of (Passes at) = Status.Passed
 status_of Unbounded = Status.Unbounded
@@ -123,6 +130,7 @@ out_text (Quickest n quick arrival) = quick_text n quick arrival
 out_text (TooManyWalks n augments walks) = augments_text n walks
 out_text (Generated number rungs n made report) = gen_text number rungs n made report
 out_text (Settled n pattern flows) = settled_text n pattern flows
+out_text (Distributed n routes horizon routed) = routed_text n routes horizon routed
 out_text answer = []
 
 -- the answers that have a text for the output, all but the refusals
@@ -134,6 +142,7 @@ HasOutput ShelfTooLong = ⊥
 HasOutput (Malformed broken) = ⊥
 HasOutput (MalformedLoads broken) = ⊥
 HasOutput (MalformedFlows broken) = ⊥
+HasOutput (MalformedRoutes broken) = ⊥
 HasOutput (MalformedReport broken) = ⊥
 HasOutput (Passes at) = ⊥
 HasOutput Unbounded = ⊥
@@ -158,6 +167,7 @@ err_text (Quickest n quick arrival) = []
 err_text (TooManyWalks n augments walks) = augments_line augments
 err_text (Generated number rungs n made report) = text_of_stop report.stop
 err_text (Settled n pattern flows) = []
+err_text (Distributed n routes horizon routed) = []
 err_text NoMemory = memory_line
 err_text NoRequest = usage_text
 err_text ShelfFailed = shelf_failed_line
@@ -165,6 +175,7 @@ err_text ShelfTooLong = shelf_too_long_line
 err_text (Malformed broken) = network_line broken
 err_text (MalformedLoads broken) = loads_line broken
 err_text (MalformedFlows broken) = flows_line broken
+err_text (MalformedRoutes broken) = routes_line broken
 err_text (MalformedReport broken) = report_line broken
 err_text (Passes at) = passed_line at
 err_text Unbounded = unbounded_line

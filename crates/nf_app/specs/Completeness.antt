@@ -18,14 +18,17 @@ use Rattle.nf_phase.specs.declared.solution.Budgets.{Budgets}
 use Rattle.nf_phase.specs.Solution.{bounds_of}
 use Rattle.nf_complete_lists.specs.FlowsFile.{GivenFlows, flows_in}
 use Rattle.nf_forever_lists.specs.ForeverRun.{Forever, IsForever}
+use Rattle.nf_routes_lists.specs.RoutesFile.{NamedRoute, routes_in}
+use Rattle.nf_routes_lists.specs.RoutesList.{Routed}
 use Rattle.nf_app.specs.declared.status.Status.{Status}
 use Rattle.nf_app.specs.Files.{Wanted, Visit}
-use Rattle.nf_words.specs.Requests.{Solve, SolveForever, Show, Load, Check, Quick, Gen, Settle}
+use Rattle.nf_words.specs.Requests.{Solve, SolveForever, Show, Load, Check, Quick, Gen, Settle, Routes}
 use Rattle.nf_gen.specs.Ladder.{ladder}
-use Rattle.nf_app.specs.Requests.{budgets_of, network_file, loads_file, flows_file, report_file}
+use Rattle.nf_app.specs.Requests.{budgets_of, network_file, loads_file, flows_file, routes_file, report_file}
 use Rattle.nf_app.specs.Given.{loading_list}
 use Rattle.nf_app.specs.QuickGiven.{PassesQuick}
 use Rattle.nf_app.specs.SettleGiven.{PassesSettling}
+use Rattle.nf_app.specs.RoutesGiven.{by_route_list}
 use Rattle.nf_app.specs.Sinks.{Taken}
 use Rattle.nf_app.specs.Runs.{Call, Asks}
 
@@ -52,6 +55,12 @@ pub record TellsFlows (shelf : Visit) (n : Named) (file : List ℕ) : Type 0 whe
   pub tells : Tells shelf (flows_file file)
   pub given : GivenFlows
   pub reads : flows_in n tells.text ≡ Ok given
+
+-- they read as routes of a network
+pub record TellsRoutes (shelf : Visit) (n : Named) (file : List ℕ) : Type 0 where
+  pub tells : Tells shelf (routes_file file)
+  pub routes : List NamedRoute
+  pub reads : routes_in n tells.text ≡ Ok routes
 
 -- they read as a report of a network
 pub record TellsReport (shelf : Visit) (n : Named) (file : List ℕ) : Type 0 where
@@ -118,6 +127,17 @@ pub record CanGoOn (call : Call) : Type 0 where
   pub network : TellsNetwork call.shelf file
   pub goes_on : GoesOnForever network.net phases patterns
 
+-- a network is to be loaded by route, and no operation of the list passes
+pub record CanBeDistributed (call : Call) : Type 0 where
+  pub file : List ℕ
+  pub routes_name : List ℕ
+  pub horizon : ℚ
+  pub asks : Asks call (Routes file routes_name horizon)
+  pub network : TellsNetwork call.shelf file
+  pub routes : TellsRoutes call.shelf network.net routes_name
+  pub routed : Routed
+  pub computes : by_route_list network.net routes.routes horizon ≡ Ok routed
+
 -- a report is to be checked, and no operation of the list passes
 pub record CanBeJudged (call : Call) : Type 0 where
   pub file : List ℕ
@@ -129,7 +149,7 @@ pub record CanBeJudged (call : Call) : Type 0 where
   pub computes : check_list passes_Q network.net.net report.report.flow ≡ Ok verdict
 
 abbrev pub HasAnswer : Call → Type 0
-HasAnswer call = CanBeShown call ⊎ CanBeSolved call ⊎ CanBeLoaded call ⊎ CanBeGenerated call ⊎ CanGoOn call
+HasAnswer call = CanBeShown call ⊎ CanBeSolved call ⊎ CanBeLoaded call ⊎ CanBeGenerated call ⊎ CanGoOn call ⊎ CanBeDistributed call
 
 -- a quickest flow is asked for, and no operation of its lists passes
 pub record CanBeQuick (call : Call) : Type 0 where

@@ -19,16 +19,19 @@ use Rattle.nf_model.specs.Pattern.{Pattern}
 use Rattle.nf_complete_lists.specs.FlowsFile.{FlowsBroken}
 use Rattle.nf_complete_lists.specs.Reached.{StopsForNoThinFlow}
 use Rattle.nf_forever_lists.specs.ForeverRun.{Forever}
+use Rattle.nf_routes_lists.specs.RoutesFile.{RoutesBroken, NamedRoute}
+use Rattle.nf_routes_lists.specs.RoutesList.{Routed}
 use Rattle.nf_quick_lists.specs.Quick.{Augment, Quick as QuickFlow}
 use Rattle.nf_phase.specs.Solution.{bounds_of, IsSolution}
 use Rattle.nf_app.specs.Files.{Visit}
-use Rattle.nf_words.specs.Requests.{Request, Solve, SolveForever, Show, Load, Check, Quick, Gen, Settle}
+use Rattle.nf_words.specs.Requests.{Request, Solve, SolveForever, Show, Load, Check, Quick, Gen, Settle, Routes}
 use Rattle.nf_app.specs.Requests.{budgets_of}
-use Rattle.nf_app.specs.Answers.{Answer, Solved, SolvedForever, Shown, Loaded, Checked, Quickest, TooManyWalks, Generated, Settled, MalformedLoads, MalformedFlows, MalformedReport, Passes, Unbounded, NotThin}
+use Rattle.nf_app.specs.Answers.{Answer, Solved, SolvedForever, Shown, Loaded, Checked, Quickest, TooManyWalks, Generated, Settled, Distributed, MalformedLoads, MalformedFlows, MalformedRoutes, MalformedReport, Passes, Unbounded, NotThin}
 use Rattle.nf_app.specs.CheckGiven.{ReportReads, IsChecked, PassesChecking}
 use Rattle.nf_app.specs.QuickGiven.{IsQuickest, IsOverBudget, PassesQuick, IsUnbounded}
 use Rattle.nf_app.specs.SettleGiven.{FlowsRead, IsSettled, IsNotThin, PassesSettling}
 use Rattle.nf_app.specs.ForeverGiven.{IsUnending}
+use Rattle.nf_app.specs.RoutesGiven.{RoutesRead, IsDistributed, PassesRoutes}
 use Rattle.nf_app.specs.declared.arrival.Arrival.{Arrival}
 
 -- where the shelf tells the bytes of the file, they read as these pieces of the links of the network, or break this rule first
@@ -81,3 +84,7 @@ IsGiven shelf n (Settle file flows) answer =
     ⊎ ((answer ≡ NotThin) × IsNotThin shelf n flows)
     ⊎ ((at : PassedAt ℚ) × (answer ≡ Passes at) × PassesSettling shelf n flows at)
     ⊎ ((broken : FlowsBroken) × (answer ≡ MalformedFlows broken) × FlowsRead shelf n flows (Err broken))
+IsGiven shelf n (Routes file routes horizon) answer =
+    ((sent : List NamedRoute) × (routed : Routed) × (answer ≡ Distributed n sent horizon routed) × IsDistributed shelf n routes sent horizon routed)
+    ⊎ ((at : PassedAt ℚ) × (answer ≡ Passes at) × PassesRoutes shelf n routes horizon at)
+    ⊎ ((broken : RoutesBroken) × (answer ≡ MalformedRoutes broken) × RoutesRead shelf n routes (Err broken))

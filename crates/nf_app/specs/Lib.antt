@@ -9,6 +9,7 @@ pub mod CheckGiven
 pub mod QuickGiven
 pub mod SettleGiven
 pub mod ForeverGiven
+pub mod RoutesGiven
 pub mod Given
 pub mod Runs
 pub mod Completeness

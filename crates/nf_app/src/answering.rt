@@ -10,10 +10,10 @@ ghost use Rattle.nf_quick.specs.declared.fault.QuickFault.TheVariants as QuickFa
 ghost use Rattle.nf_quick_lists.specs.Answers.{IsQuickFlow};
 ghost use Rattle.nf_rational.specs.Rational.{ℚ};
 ghost use Rattle.nf_app.specs.Files.{Visit, report_limit};
-ghost use Rattle.nf_words.specs.Requests.{Solve, SolveForever, Show, Load, Check, Gen, Settle, CanBeAsked, request_of};
+ghost use Rattle.nf_words.specs.Requests.{Solve, SolveForever, Show, Load, Check, Gen, Settle, Routes, CanBeAsked, request_of};
 ghost use Rattle.nf_words.specs.Requests as requests;
 ghost use Rattle.nf_words.specs.Views.{requested};
-ghost use Rattle.nf_app.specs.Requests.{loads_file, flows_file, report_file};
+ghost use Rattle.nf_app.specs.Requests.{loads_file, flows_file, routes_file, report_file};
 ghost use Rattle.nf_app.specs.Fetching.{IsTold};
 ghost use Rattle.nf_app.specs.Outcomes.{IsGiving, IsAnswered};
 
@@ -37,6 +37,8 @@ use nf_net::{Network, text};
 use nf_phase::{Budgets, solve};
 use nf_quick::{Augment, Quick, QuickFault, departure, quickest};
 use nf_report::parse_report;
+use nf_route_reader::parse_routes;
+use nf_routes::load_routes;
 use nf_words::{Request, read_request};
 use std::alloc::{AllocError, Global};
 
@@ -45,6 +47,9 @@ const LONGEST_LOADS: u32 = 1_048_576;
 
 /// The most bytes that a flows file may have.
 const LONGEST_FLOWS: u32 = 1_048_576;
+
+/// The most bytes that a routes file may have.
+const LONGEST_ROUTES: u32 = 1_048_576;
 
 /// The most bytes that a report may have.
 const LONGEST_REPORT: u32 = 67_108_864;
@@ -143,6 +148,22 @@ fn settle_to(alloc: Global, net: Network, text: &[u8]) -> Result<Outcome, Refusa
         Some(settled) => Ok(Outcome::Settled { net, settled }),
         None => Err(Refusal::NotThin),
     }
+}
+
+// The network, with what becomes of the inflow that the text of a routes file gives along its routes, up to a horizon.
+fn distribute(alloc: Global, net: Network, text: &[u8], horizon: Q) -> Result<Outcome, Refusal>
+    requires horizon { 0ℚ ≤ℚ horizon }
+    requires within { length text.now ≤ longest_text }
+    ensures { (shelf : Visit) (file name : List ℕ) → IsTold shelf (routes_file name) text.now → IsGiving shelf net (Routes file name horizon) result }
+{
+    let routes = parse_routes(alloc, &net, text)?;
+    let routed = load_routes(alloc, &net, &routes, horizon)?;
+    Ok(Outcome::Distributed {
+        net,
+        routes,
+        horizon,
+        routed,
+    })
 }
 
 // The walks that were pushed, as many as allowed, with their text.
@@ -286,6 +307,14 @@ fn answer_request<S: Shelf>(
         Request::Settle { file, flows } => {
             let (net, flows) = fetch_network_with(alloc, shelf, file, flows, LONGEST_FLOWS)?;
             settle_to(alloc, net, &flows)
+        }
+        Request::Routes {
+            file,
+            routes,
+            horizon,
+        } => {
+            let (net, routes) = fetch_network_with(alloc, shelf, file, routes, LONGEST_ROUTES)?;
+            distribute(alloc, net, &routes, horizon)
         }
     }
 }

@@ -13,6 +13,7 @@ mod outcome;
 mod output;
 mod quick_text;
 mod refusal;
+mod routes_text;
 mod running;
 mod settle_text;
 mod settling;

@@ -14,6 +14,7 @@ use nf_load::Loaded;
 use nf_net::Network;
 use nf_phase::Solution;
 use nf_quick::{Augment, Quick};
+use nf_routes::{Routed, Routes};
 
 /// What a request gives.
 #[derive(Drop)]
@@ -72,6 +73,13 @@ pub(crate) enum Outcome {
         net: Network,
         settled: Settled,
     },
+    /// What becomes of inflow along the routes of a file, up to a horizon.
+    Distributed {
+        net: Network,
+        routes: Routes,
+        horizon: Q,
+        routed: Routed,
+    },
 }
 
 impl Outcome {
@@ -89,6 +97,7 @@ impl Outcome {
             Outcome::TooManyWalks { .. } => None,
             Outcome::Generated { solution, .. } => solution.stopped.as_ref(),
             Outcome::Settled { .. } => None,
+            Outcome::Distributed { .. } => None,
         }
     }
 }

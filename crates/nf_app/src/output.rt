@@ -16,6 +16,7 @@ use crate::load_text::write_loads;
 use crate::outcome::Outcome;
 use crate::quick_text::write_arrival;
 use crate::refusal::Refusal;
+use crate::routes_text::write_routed;
 use crate::settle_text::write_settled;
 use crate::status::Status;
 use crate::telling::{write_over_budget, write_refusal, write_stopped};
@@ -69,6 +70,12 @@ fn write_outcome<O: Sink>(outcome: &Outcome, out: &mut O) -> Result<(), SinkFaul
             ..
         } => write_summary(out, net, *ladder, solution, *arrival),
         Outcome::Settled { net, settled } => write_settled(out, net, settled),
+        Outcome::Distributed {
+            net,
+            routes,
+            horizon,
+            routed,
+        } => write_routed(out, net, routes, *horizon, routed),
     }
 }
 

@@ -1,7 +1,7 @@
 // Why a run has no text for its output.
 ghost use Rattle.std.specs.Prelude.{◌≡◌};
 ghost use Rattle.nf_app.specs.Answers.{status_of};
-ghost use Rattle.nf_app.specs.Refusals.{answer_of, refusal_of_fetch, refusal_of_net, refusal_of_loads, refusal_of_flows, refusal_of_report, refusal_of_halt};
+ghost use Rattle.nf_app.specs.Refusals.{answer_of, refusal_of_fetch, refusal_of_net, refusal_of_loads, refusal_of_flows, refusal_of_routes, refusal_of_report, refusal_of_halt};
 ghost use Rattle.nf_app.specs.declared.refusal.Refusal.TheVariants as Refusal;
 
 use crate::status::Status;
@@ -11,6 +11,7 @@ use nf_frac::{Halt, PassedAt, Q};
 use nf_load::{LoadRule, LoadsFault};
 use nf_net::{NetFault, NetRule};
 use nf_report::{ReportFault, ReportRule};
+use nf_route_reader::{RoutesFault, RoutesRule};
 use std::alloc::AllocError;
 
 /// Why a run has no text for its output.
@@ -30,6 +31,8 @@ pub(crate) enum Refusal {
     MalformedLoads { rule: LoadRule, line: u32 },
     /// The flows file breaks this rule first, in this line.
     MalformedFlows { rule: FlowsRule, line: u32 },
+    /// The routes file breaks this rule first, in this line.
+    MalformedRoutes { rule: RoutesRule, line: u32 },
     /// The report breaks this rule first, in this line.
     MalformedReport { rule: ReportRule, line: u32 },
     /// This operation passes the bound.
@@ -53,6 +56,7 @@ impl Refusal {
             Refusal::Malformed { .. } => Status::Malformed,
             Refusal::MalformedLoads { .. } => Status::Malformed,
             Refusal::MalformedFlows { .. } => Status::Malformed,
+            Refusal::MalformedRoutes { .. } => Status::Malformed,
             Refusal::MalformedReport { .. } => Status::Malformed,
             Refusal::Passes(_) => Status::Passed,
             Refusal::Unbounded => Status::Unbounded,
@@ -110,6 +114,17 @@ impl From<FlowsFault> for Refusal {
         match fault {
             FlowsFault::Broken { rule, line } => Refusal::MalformedFlows { rule, line },
             FlowsFault::Memory => Refusal::NoMemory,
+        }
+    }
+}
+
+impl From<RoutesFault> for Refusal {
+    ghost from_gives = { λ fault refusal. refusal ≡ refusal_of_routes fault };
+
+    fn from(fault: RoutesFault) -> Self {
+        match fault {
+            RoutesFault::Broken { rule, line } => Refusal::MalformedRoutes { rule, line },
+            RoutesFault::Memory => Refusal::NoMemory,
         }
     }
 }

@@ -15,7 +15,7 @@ use Rattle.nf_words.specs.declared.request.Request as code
 use Rattle.nf_words.specs.CommandLine.{word_in, matches_on}
 use Rattle.nf_words.specs.Numbers.{to_not_negative, not_negative_of, not_negative_in, count_of, usual_or_count_in, most_phases, most_patterns, most_augments, most_rungs, most_number}
 use Rattle.nf_words.specs.Commands.{commands, first_task}
-use Rattle.nf_words.specs.Requests.{Request, Show, IsWithin, CanBeAsked, solve_request, forever_request, load_request, check_request, quick_request, gen_request, settle_request, file_in, horizon_in, phases_in, patterns_in, amount_in, augments_in, number_in, rungs_in, asked, request_in, request_of}
+use Rattle.nf_words.specs.Requests.{Request, Show, IsWithin, CanBeAsked, solve_request, forever_request, load_request, check_request, quick_request, gen_request, settle_request, routes_request, file_in, horizon_in, phases_in, patterns_in, amount_in, augments_in, number_in, rungs_in, asked, request_in, request_of}
 use Rattle.nf_words.specs.Views.{requested}
 use Rattle.nf_words.proofs.Counts.{count_within}
 
@@ -121,6 +121,12 @@ settle_can None flows = tt
 settle_can (Some file) None = tt
 settle_can (Some file) (Some flows) = tt
 
+routes_can : (file routes : Option Text) (h : Option ℚ) → IfSome h (λ x. 0ℚ ≤ℚ x) → IfSome (routes_request file routes h) CanBeAsked
+routes_can None routes h a = tt
+routes_can (Some file) None h a = tt
+routes_can (Some file) (Some routes) None a = tt
+routes_can (Some file) (Some routes) (Some h) a = a
+
 each_can : (does : Task) (rows : List Row) → IfSome (asked does rows) CanBeAsked
 each_can task.Solve rows = solve_can (file_in 0 rows) (horizon_in rows) (phases_in rows) (patterns_in rows) (horizon rows) (phases rows) (patterns rows)
 each_can task.SolveForever rows = forever_can (file_in 0 rows) (phases_in rows) (patterns_in rows) (phases rows) (patterns rows)
@@ -131,6 +137,7 @@ each_can task.Quick rows = quick_can (file_in 0 rows) (amount_in rows) (augments
 each_can task.Gen rows =
     gen_can (number_in rows) (rungs_in rows) (horizon_in rows) (phases_in rows) (patterns_in rows) (number rows) (rungs rows) (horizon rows) (phases rows) (patterns rows)
 each_can task.Settle rows = settle_can (file_in 0 rows) (file_in 1 rows)
+each_can task.Routes rows = routes_can (file_in 0 rows) (file_in 1 rows) (horizon_in rows) (horizon rows)
 
 some_can : (does : Option Task) (rows : List Row) → IfSome (option_and_then (λ d. asked d rows) does) CanBeAsked
 some_can None rows = tt

@@ -25,6 +25,8 @@ pub(crate) enum Task {
     Gen,
     /// Writes what a thin flow is settled to.
     Settle,
+    /// Writes what becomes of given inflow along given routes.
+    Routes,
 }
 
 /// Whether a command must be given an option or a flag, may be, or may not.
@@ -72,7 +74,7 @@ pub(crate) struct Line {
 
 /// The table of commands: the name of each, how many files it has, the options that it must be given, and further ones. `solve` takes
 /// either a horizon or the flag `--forever`.
-static COMMANDS: [Line; 8] = [
+static COMMANDS: [Line; 9] = [
     Line {
         name: "solve",
         task: Task::Solve,
@@ -147,6 +149,15 @@ static COMMANDS: [Line; 8] = [
         task: Task::Settle,
         wants: Wants {
             files: 2,
+            ..NOTHING
+        },
+    },
+    Line {
+        name: "routes",
+        task: Task::Routes,
+        wants: Wants {
+            files: 2,
+            horizon: Need::Required,
             ..NOTHING
         },
     },

@@ -63,6 +63,12 @@ pub enum Request<'w> {
         file: &'w str,
         flows: &'w str,
     },
+    /// What becomes of inflow that is given along routes of a network, up to a horizon of at least 0.
+    Routes {
+        file: &'w str,
+        routes: &'w str,
+        horizon: Q,
+    },
 }
 
 // `solve NET --horizon Q [--phases N] [--patterns N]`
@@ -152,6 +158,17 @@ fn settle<'w>(matches: &ArgMatches<'w>) -> Option<Request<'w>>
     })
 }
 
+// `routes NET ROUTES --horizon Q`
+fn routes<'w>(matches: &ArgMatches<'w>) -> Option<Request<'w>>
+    ensures { asked Task.Routes (rows_in matches.now) ≡ option_map requested result }
+{
+    Some(Request::Routes {
+        file: file_of(matches, 0)?,
+        routes: file_of(matches, 1)?,
+        horizon: horizon_of(matches)?,
+    })
+}
+
 /// What the matches ask; None where no command fits them, or a number isn't within its limits.
 pub(crate) fn request_of<'w>(matches: &ArgMatches<'w>) -> Option<Request<'w>>
     ensures { request_in (rows_in matches.now) ≡ option_map requested result }
@@ -165,5 +182,6 @@ pub(crate) fn request_of<'w>(matches: &ArgMatches<'w>) -> Option<Request<'w>>
         Task::Quick => quick(matches),
         Task::Gen => generate(matches),
         Task::Settle => settle(matches),
+        Task::Routes => routes(matches),
     }
 }

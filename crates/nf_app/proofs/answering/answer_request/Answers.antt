@@ -6,10 +6,10 @@ use Rattle.nf_words.specs.declared.request.Request as code
 use Rattle.nf_app.specs.Files.{Visit}
 use Rattle.nf_app.specs.Fetching.{IsTold}
 use Rattle.nf_app.specs.Outcomes.{IsGiving}
-use Rattle.nf_words.specs.Requests.{Request, CanBeAsked, Solve, SolveForever, Show, Load, Check, Quick, Gen, Settle}
+use Rattle.nf_words.specs.Requests.{Request, CanBeAsked, Solve, SolveForever, Show, Load, Check, Quick, Gen, Settle, Routes}
 use Rattle.nf_words.specs.Views.{requested}
 use Rattle.nf_gen.specs.Ladder.{ladder}
-use Rattle.nf_app.specs.Requests.{network_file, loads_file, flows_file, report_file}
+use Rattle.nf_app.specs.Requests.{network_file, loads_file, flows_file, routes_file, report_file}
 use Rattle.nf_app.proofs.Calls.{refused, given, generated_given}
 use Rattle.nf_app.proofs.answering.answer_request.Goals as goal
 
@@ -159,3 +159,24 @@ returns-in_ok-net-in-Settle g c words asks =
     given words shelf (Settle c.in-Settle.file.now c.in-Settle.flows.now)
     (asks ∙ ap (λ (r : code.Request). Some (requested r)) c.in-Settle.is) (network_file c.in-Settle.file.now) (flows_file c.in-Settle.flows.now ∷ []) refl refl
     c.in_ok-net-in-Settle.net (c.in_ok-net-in-Settle.flows.items ∷ []) c.in_ok-net-in-Settle.ensures.read c.settle_to.result (c.settle_to.ensures shelf c.in-Settle.file.now c.in-Settle.flows.now told)
+
+pub distribute-requires-clause-horizon : goal.distribute-requires-clause-horizon
+distribute-requires-clause-horizon g c = subst (λ (r : Request). CanBeAsked r) (ap requested c.in-Routes.is) c.requires
+
+pub distribute-requires-clause-within : goal.distribute-requires-clause-within
+distribute-requires-clause-within g c = omega (arith, c.in_ok-net-in-Routes.ensures.within, c.deref-in-Routes.ensures.len)
+
+pub returns-in_ok-net-in-Routes : goal.returns-in_ok-net-in-Routes
+returns-in_ok-net-in-Routes g c words asks =
+    let shelf : Visit = (record {
+      told = g.S.Shelf.told c.args.shelf.now;
+      asked_before = g.S.Shelf.asked c.args.shelf.now;
+      asked_now = g.S.Shelf.asked c.fetch_network_with-in-Routes.new.shelf;
+      faults_before = g.S.Shelf.faults c.args.shelf.now;
+      faults_now = g.S.Shelf.faults c.fetch_network_with-in-Routes.new.shelf;
+      taken = g.S.Shelf.taken c.fetch_network_with-in-Routes.new.shelf;
+    }) in
+    let told = subst (λ (t : List ℕ). IsTold shelf (routes_file c.in-Routes.routes.now) t) (sym c.deref-in-Routes.ensures.value) c.in_ok-net-in-Routes.ensures.read.2.0 in
+    given words shelf (Routes c.in-Routes.file.now c.in-Routes.routes.now c.in-Routes.horizon)
+    (asks ∙ ap (λ (r : code.Request). Some (requested r)) c.in-Routes.is) (network_file c.in-Routes.file.now) (routes_file c.in-Routes.routes.now ∷ []) refl refl
+    c.in_ok-net-in-Routes.net (c.in_ok-net-in-Routes.routes.items ∷ []) c.in_ok-net-in-Routes.ensures.read c.distribute.result (c.distribute.ensures shelf c.in-Routes.file.now c.in-Routes.routes.now told)
