@@ -1,0 +1,5 @@
+pub mod Looping
+pub mod Rates
+pub mod Ends
+pub mod CutFlow
+pub mod Resumed

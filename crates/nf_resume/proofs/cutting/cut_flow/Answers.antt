@@ -1,0 +1,40 @@
+use Rattle.std.proofs.Common.{List, length, map, sym, ap, subst, ◌∙◌}
+use Rattle.std.proofs.lemmas.List.{length-map}
+use Rattle.std.proofs.lemmas.Result.{err_from_is_err_and}
+use Rattle.nf_rational.specs.Operations.{0ℚ}
+use Rattle.nf_rational.specs.Order.{◌≤ℚ◌}
+use Rattle.nf_work.specs.declared.Part.TheVariants.{Curve as OfCurve}
+use Rattle.nf_work.specs.Passing.{passes_Q}
+use Rattle.nf_model.specs.Equilibrium.{points_at}
+use Rattle.nf_curve.specs.Points.{Grown}
+use Rattle.nf_curve.specs.Flows.{trace_of, flow_of}
+use Rattle.nf_resume_lists.specs.Restoring.{value_at_end}
+use Rattle.nf_resume.specs.Cuts.{curves_of, cut_in}
+use Rattle.nf_resume.proofs.CutFlow.{labels_count, labels_end, links_stop, flow_is_cut}
+use Rattle.nf_resume.proofs.cutting.cut_flow.Goals as goal
+
+pub cut_links-requires-clause-labels : goal.cut_links-requires-clause-labels
+cut_links-requires-clause-labels c =
+    let by_labels = rw c.deref.ensures.value at c.in_ok-labels.ensures in
+    ap (λ (l : List Grown). length l) c.deref-2.ensures.value ∙ sym (length-map c.in_ok-labels.labels.items (λ g. g.points))
+    ∙ labels_count passes_Q OfCurve c.args.net.now.net (flow_of c.args.flow.now) (curves_of c.in_ok-labels.labels.items) by_labels c.requires
+
+pub cut_links-requires-clause-ends : goal.cut_links-requires-clause-ends
+cut_links-requires-clause-ends c = λ v h.
+    let by_labels = rw c.deref.ensures.value at c.in_ok-labels.ensures in
+    subst (λ (l : List Grown). 0ℚ ≤ℚ value_at_end (points_at (curves_of l) v)) (sym c.deref-2.ensures.value)
+    (labels_end passes_Q OfCurve c.args.net.now.net (flow_of c.args.flow.now) (curves_of c.in_ok-labels.labels.items) by_labels c.version.ensures.named.network c.requires v h)
+
+pub returns-in_err-cuts : goal.returns-in_err-cuts
+returns-in_err-cuts c =
+    let p = err_from_is_err_and c.from_residual-in_err-cuts.result c.from_residual-in_err-cuts.ensures.1 in
+    let by_labels = rw c.deref.ensures.value at c.in_ok-labels.ensures in
+    let stops = rw c.deref-2.ensures.value at c.in_err-cuts.ensures in
+    rw (p.1, p.2) (links_stop passes_Q OfCurve c.args.net.now.net (flow_of c.args.flow.now) (curves_of c.in_ok-labels.labels.items) by_labels c.in_err-cuts.field-0.0 stops)
+
+pub returns : goal.returns
+returns c =
+    let by_labels = rw c.deref.ensures.value at c.in_ok-labels.ensures in
+    let by_links = rw c.deref-2.ensures.value at c.in_ok-cuts.ensures in
+    flow_is_cut passes_Q OfCurve c.args.net.now.net (flow_of c.args.flow.now) (curves_of c.in_ok-labels.labels.items) by_labels (map cut_in c.in_ok-cuts.cuts.items) by_links
+    (map trace_of c.in_ok-links.links.inflows.items) (map trace_of c.in_ok-links.links.outflows.items) (curves_of c.in_ok-links.links.queues.items) c.in_ok-links.ensures

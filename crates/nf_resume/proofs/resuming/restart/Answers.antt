@@ -1,0 +1,63 @@
+use Rattle.std.proofs.Common.{length, sym, ap, subst, ◌∙◌}
+use Rattle.std.specs.Prelude.{Result}
+use Rattle.std.proofs.lemmas.Result.{err_from_is_err_and}
+use Rattle.nf_rational.specs.Rational.{ℚ}
+use Rattle.nf_work.specs.declared.PassedAt.{PassedAt}
+use Rattle.nf_work.specs.declared.Part.TheVariants.{Curve as OfCurve}
+use Rattle.nf_work.specs.Checked.{Stops}
+use Rattle.nf_work.specs.Passing.{passes_Q}
+use Rattle.nf_model.specs.Pattern.{Pattern}
+use Rattle.nf_model.specs.Equilibrium.{Flow}
+use Rattle.nf_lists.specs.PhaseRun.{Standing}
+use Rattle.nf_curve.specs.Flows.{flow_of}
+use Rattle.nf_curve.proofs.Exits.{was_ok}
+use Rattle.nf_resume_lists.specs.Resuming.{cut_flow}
+use Rattle.nf_resume_laws.proofs.CutFlow.{cut_flow-is}
+use Rattle.nf_resume_laws.proofs.Restarted.{Equilibrium-cut_flow, IsShortFlow-cut_flow}
+use Rattle.nf_reader.specs.Files.{report_of}
+use Rattle.nf_phase.specs.Restarting.{NoneFull}
+use Rattle.nf_phase.proofs.Restarting.{EndsAtItsLabels-cut}
+use Rattle.nf_resume.proofs.Resumed.{cut_stops, restored}
+use Rattle.nf_resume.proofs.resuming.restart.Goals as goal
+
+pub returns-in_err-flow-clause-list : goal.returns-in_err-flow-clause-list
+returns-in_err-flow-clause-list c =
+    let p = err_from_is_err_and c.from_residual.result c.from_residual.ensures.1 in
+    rw (p.1, p.2) (cut_stops passes_Q c.args.net.now.net (report_of c.args.report.now) c.in_err-flow.field-0.0 c.in_err-flow.ensures)
+
+pub restore-requires-clause-equilibrium : goal.restore-requires-clause-equilibrium
+restore-requires-clause-equilibrium c =
+    Equilibrium-cut_flow passes_Q c.args.net.now.net (flow_of c.args.report.now.flow) (flow_of c.in_ok-flow.flow) c.version.ensures.named.network c.requires.equilibrium
+    (was_ok OfCurve (cut_flow passes_Q c.args.net.now.net (flow_of c.args.report.now.flow)) (flow_of c.in_ok-flow.flow) c.in_ok-flow.ensures)
+
+pub restore-requires-clause-ends : goal.restore-requires-clause-ends
+restore-requires-clause-ends c =
+    EndsAtItsLabels-cut passes_Q c.args.net.now.net (flow_of c.args.report.now.flow) (flow_of c.in_ok-flow.flow) c.version.ensures.named.network c.requires.equilibrium
+    (was_ok OfCurve (cut_flow passes_Q c.args.net.now.net (flow_of c.args.report.now.flow)) (flow_of c.in_ok-flow.flow) c.in_ok-flow.ensures)
+
+pub restore-requires-clause-short : goal.restore-requires-clause-short
+restore-requires-clause-short c =
+    IsShortFlow-cut_flow passes_Q c.args.net.now.net (flow_of c.args.report.now.flow) (flow_of c.in_ok-flow.flow) c.version.ensures.named.network c.requires.equilibrium
+    (was_ok OfCurve (cut_flow passes_Q c.args.net.now.net (flow_of c.args.report.now.flow)) (flow_of c.in_ok-flow.flow) c.in_ok-flow.ensures)
+
+pub restore-requires-clause-states : goal.restore-requires-clause-states
+restore-requires-clause-states c = ap (λ (l : Pattern). length l) c.in_ok-last.ensures ∙ c.requires.formed.states
+
+pub restore-requires-clause-no_full : goal.restore-requires-clause-no_full
+restore-requires-clause-no_full c = subst (λ (l : Pattern). NoneFull c.args.net.now.net l) (sym c.in_ok-last.ensures) c.requires.formed.no_full
+
+pub returns-in_err-run-clause-list : goal.returns-in_err-run-clause-list
+returns-in_err-run-clause-list c =
+    let p = err_from_is_err_and c.from_residual-in_err-run.result c.from_residual-in_err-run.ensures.1 in
+    rw (p.1, p.2) (subst (λ (r : Result Standing (PassedAt ℚ)). Stops (λ (q : ℚ). q) c.in_err-run.field-0.0 r)
+    (restored passes_Q c.args.net.now.net (report_of c.args.report.now) (flow_of c.in_ok-flow.flow) c.in_ok-last.last c.in_ok-flow.ensures c.in_ok-last.ensures) c.in_err-run.ensures.list)
+
+pub returns-clause-list : goal.returns-clause-list
+returns-clause-list c =
+    sym (restored passes_Q c.args.net.now.net (report_of c.args.report.now) (flow_of c.in_ok-flow.flow) c.in_ok-last.last c.in_ok-flow.ensures c.in_ok-last.ensures) ∙ c.in_ok-run.ensures.list
+
+pub returns-clause-time : goal.returns-clause-time
+returns-clause-time c =
+    ap (λ (f : Flow). f.reached) c.in_ok-run.ensures.flow
+    ∙ (cut_flow-is passes_Q c.args.net.now.net (flow_of c.args.report.now.flow) (flow_of c.in_ok-flow.flow) c.version.ensures.named.network c.requires.equilibrium
+    (was_ok OfCurve (cut_flow passes_Q c.args.net.now.net (flow_of c.args.report.now.flow)) (flow_of c.in_ok-flow.flow) c.in_ok-flow.ensures)).reached

@@ -1,0 +1,31 @@
+-- Curves that are cut, as the lists have them.
+use Rattle.std.specs.Prelude.{◌≡◌, List, map, Ok}
+use Rattle.nf_rational.specs.Rational.{ℚ}
+use Rattle.nf_work.specs.Passing.{Passing}
+use Rattle.nf_work.specs.Checked.{Checked, ◌>>=◌}
+use Rattle.nf_model.specs.Curve.{Point}
+use Rattle.nf_model.specs.Equilibrium.{Trace}
+use Rattle.nf_resume_lists.specs.Resuming as lists
+use Rattle.nf_curve.specs.Points.{Grown}
+use Rattle.nf_curve.specs.Flows.{trace_of}
+use Rattle.nf_resume.specs.declared.links.CutLink.{CutLink}
+
+abbrev pub curves_of : List Grown → List (List Point)
+curves_of curves = map (λ c. c.points) curves
+
+abbrev pub cut_in : CutLink → lists.CutLink
+cut_in cut = record { inflow = trace_of cut.inflow; outflow = trace_of cut.outflow; queue = cut.queue.points }
+
+-- the curves of a link, where the labels of its ends are these
+abbrev pub cut_ends : Passing → ℚ → ℚ → List Point → List Point → List Point → Checked lists.CutLink
+cut_ends passes tail head inflow outflow queue = do
+  inflow ← lists.cut_trace passes tail inflow
+  outflow ← lists.cut_trace passes head outflow
+  queue ← lists.cut_short passes tail queue
+  Ok (record { inflow = inflow; outflow = outflow; queue = queue })
+
+-- the same, list by list
+pub record AreLists (inflows outflows : List Trace) (queues : List (List Point)) (cuts : List lists.CutLink) : Type 0 where
+  pub are_inflows : inflows ≡ map (λ (c : lists.CutLink). c.inflow) cuts
+  pub are_outflows : outflows ≡ map (λ (c : lists.CutLink). c.outflow) cuts
+  pub are_queues : queues ≡ map (λ (c : lists.CutLink). c.queue) cuts

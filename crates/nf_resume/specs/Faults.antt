@@ -1,0 +1,38 @@
+-- Why a report isn't resumed.
+use Rattle.std.specs.Prelude.{◌≡◌, ℕ, Ok, Err}
+use Rattle.nf_rational.specs.Rational.{ℚ}
+use Rattle.nf_rational.specs.Order.{◌≤ℚ◌, ◌<ℚ◌}
+use Rattle.nf_work.specs.Passing.{Passing}
+use Rattle.nf_work.specs.declared.Halt.{Halt}
+use Rattle.nf_model.specs.Network.{Network}
+use Rattle.nf_model.specs.Equilibrium.{Equilibrium}
+use Rattle.nf_formats.specs.Report.{Report}
+use Rattle.nf_check_lists.specs.declared.Answer.{Answer}
+use Rattle.nf_check_lists.specs.Rules.{Checks}
+use Rattle.nf_check_lists.specs.CheckList.{check_list}
+use Rattle.nf_resume_lists.specs.Resuming.{Refused, resume_list}
+use Rattle.nf_resume.specs.declared.fault.ResumeFault.{ResumeFault}
+
+abbrev pub of_halt : Halt ℚ → ResumeFault
+of_halt (Halt.Passed at) = ResumeFault.Passed at
+of_halt Halt.Memory = ResumeFault.Memory
+
+-- The report's flow is no equilibrium. That is what the check answers, by its rules, and the list of resuming ends there.
+pub record IsRefused (passes : Passing) (net : Network) (report : Report) (answer : Answer ℕ ℕ ℚ) : Type 0 where
+  pub answers : check_list passes net report.flow ≡ Ok answer
+  pub ends : resume_list passes net report ≡ Ok (Refused answer)
+  pub rules : Checks net report.flow answer
+  pub none : Equilibrium net report.flow → ⊥
+
+-- the causes that no horizon changes; wanting memory says nothing
+abbrev pub IsCause : Passing → Network → Report → ResumeFault → Type 0
+IsCause passes net report (ResumeFault.Earlier reached) = ⊥
+IsCause passes net report (ResumeFault.No answer) = IsRefused passes net report answer
+IsCause passes net report (ResumeFault.Passed at) = resume_list passes net report ≡ Err at
+IsCause passes net report ResumeFault.Memory = Unit {0}
+
+-- The horizon is before the departure that the report's flow has reached: that comes first, whatever else there is. Only where it isn't
+-- may there be another cause.
+abbrev pub IsResumeFault : Passing → Network → Report → ℚ → ResumeFault → Type 0
+IsResumeFault passes net report horizon (ResumeFault.Earlier reached) = (reached ≡ report.flow.reached) × (horizon <ℚ reached)
+IsResumeFault passes net report horizon fault = (report.flow.reached ≤ℚ horizon) × IsCause passes net report fault

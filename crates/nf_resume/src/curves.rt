@@ -1,0 +1,77 @@
+// One curve: cut at a last time, in short form, with its rates; and its last value.
+ghost use Rattle.std.specs.Prelude.{◌≡◌, ◌<◌, length};
+ghost use Rattle.nf_rational.specs.Operations.{0ℚ};
+ghost use Rattle.nf_rational.specs.Order.{◌≤ℚ◌, ◌<ℚ◌};
+ghost use Rattle.nf_work.specs.declared.Part.TheVariants.{Curve as OfCurve};
+ghost use Rattle.nf_work.specs.Passing.{passes_Q};
+ghost use Rattle.nf_work.specs.Checked.{at_part, Gives};
+ghost use Rattle.nf_model.specs.Equilibrium.{points_at};
+ghost use Rattle.nf_curve_lists.specs.Lines.{checked_slope};
+ghost use Rattle.nf_curve_lists.specs.Short.{checked_slopes};
+ghost use Rattle.nf_curve.specs.Flows.{trace_of};
+ghost use Rattle.nf_resume_lists.specs.Restoring.{value_at_end};
+ghost use Rattle.nf_resume_lists.specs.Resuming.{cut_short as cut_short_by, cut_trace as cut_trace_by};
+ghost use Rattle.nf_resume.specs.Cuts.{curves_of};
+
+use nf_curve::{Curve, Trace};
+use nf_frac::{Halt, Part, PassedAt, Q, at};
+use nf_graph::NodeId;
+use std::alloc::Global;
+
+// The slope from one point to a later one.
+#[tactic(auto, unfolding(nf_curve_lists::specs::Lines::checked_slope), using(nf_curve::proofs::Pieces::run_apart))]
+fn slope(p: &(Q, Q), q: &(Q, Q)) -> Result<Q, PassedAt<Q>>
+    requires { p.now.0 <ℚ q.now.0 }
+    ensures { result ≡ at_part OfCurve (checked_slope passes_Q p.now q.now) }
+{
+    let rise = at!(Part::Curve, q.1.difference(p.1));
+    let run = at!(Part::Curve, q.0.difference(p.0));
+    let slope = at!(Part::Curve, rise.quotient(run));
+    Ok(slope)
+}
+
+// The rates of a curve: from each point but the last, the slope to the next.
+fn rates(alloc: Global, curve: &Curve) -> Result<Vec<Q>, Halt<Q>>
+    ensures { Gives (λ rates. rates.items) (λ q. q) result (at_part OfCurve (checked_slopes passes_Q curve.now.points)) }
+{
+    let count = curve.len() - 1;
+    let mut rates = Vec::with_capacity(alloc, count)?;
+    for i in 0..count {
+        let point = curve.point(i);
+        let next = curve.point(i + 1);
+        let rate = slope(&point, &next)?;
+        rates.push(rate)?;
+    }
+    Ok(rates)
+}
+
+/// A curve up to a last time, in short form.
+#[tactic(auto, using(nf_curve::proofs::Exits::after_ok, nf_curve::proofs::Exits::after_err))]
+pub(crate) fn cut_short(alloc: Global, curve: &Curve, last: Q) -> Result<Curve, Halt<Q>>
+    requires { 0ℚ ≤ℚ last }
+    ensures { Gives (λ c. c.points) (λ q. q) result (at_part OfCurve (cut_short_by passes_Q last curve.now.points)) }
+{
+    let cut = curve.cut(alloc, last, Part::Curve)?;
+    Curve::short(alloc, &cut, Part::Curve)
+}
+
+/// A trace up to a last time, in short form, with its rates.
+#[tactic(auto, using(nf_curve::proofs::Exits::after_ok, nf_curve::proofs::Exits::after_err))]
+pub(crate) fn cut_trace(alloc: Global, trace: &Trace, last: Q) -> Result<Trace, Halt<Q>>
+    requires { 0ℚ ≤ℚ last }
+    ensures { Gives trace_of (λ q. q) result (at_part OfCurve (cut_trace_by passes_Q last trace.now.curve.points)) }
+{
+    let curve = cut_short(alloc, &trace.curve, last)?;
+    let rates = rates(alloc, &curve)?;
+    Ok(Trace { curve, rates })
+}
+
+/// The value of a node's label at its last point.
+pub(crate) fn last_label(labels: &[Curve], node: NodeId) -> Q
+    requires { node < length labels.now }
+    ensures { result ≡ value_at_end (points_at (curves_of labels.now) node) }
+{
+    let label = &labels[node.index()];
+    let (_, value) = label.point(label.len() - 1);
+    value
+}

@@ -1,0 +1,89 @@
+// A flow, cut at the departure that it reached.
+ghost use Rattle.std.specs.Prelude.{◌≡◌, ◌++◌, [], ◌∷◌, map, IfOk, OnOk};
+ghost use Rattle.nf_rational.specs.Operations.{0ℚ};
+ghost use Rattle.nf_rational.specs.Order.{◌≤ℚ◌};
+ghost use Rattle.nf_work.specs.declared.Part.TheVariants.{Curve as OfCurve};
+ghost use Rattle.nf_work.specs.Passing.{passes_Q};
+ghost use Rattle.nf_work.specs.Checked.{at_part, each, Gives};
+ghost use Rattle.nf_model.specs.Equilibrium.{Equilibrium};
+ghost use Rattle.nf_resume_lists.specs.Resuming.{cut_short as cut_short_by, cut_flow as cut_flow_by};
+ghost use Rattle.nf_curve.specs.Flows.{trace_of, flow_of};
+ghost use Rattle.nf_resume.specs.Cuts.{curves_of, cut_in, AreLists};
+
+use crate::curves::cut_short;
+use crate::links::{CutLink, cut_links};
+use nf_curve::{Curve, Flow, Trace};
+use nf_frac::{Halt, Q};
+use nf_net::Network;
+use std::alloc::{AllocError, Global};
+
+// The labels of all nodes, up to the departure reached.
+fn cut_labels(alloc: Global, labels: &[Curve], reached: Q) -> Result<Vec<Curve>, Halt<Q>>
+    requires { 0ℚ ≤ℚ reached }
+    ensures { Gives (λ cuts. curves_of cuts.items) (λ q. q) result (at_part OfCurve (each (cut_short_by passes_Q reached) (curves_of labels.now))) }
+{
+    let mut cuts = Vec::with_capacity(alloc, labels.len())?;
+    for label in labels {
+        let cut = cut_short(alloc, label, reached)?;
+        cuts.push(cut)?;
+    }
+    Ok(cuts)
+}
+
+// The curves of links, in three lists.
+#[derive(Drop)]
+struct OfLinks {
+    inflows: Vec<Trace>,
+    outflows: Vec<Trace>,
+    queues: Vec<Curve>,
+}
+
+impl OfLinks {
+    // One more link.
+    fn push(&mut self, cut: CutLink) -> Result<(), AllocError>
+        ensures inflows { OnOk result (map trace_of self.new.inflows.items ≡ map trace_of self.old.inflows.items ++ (cut_in cut).inflow ∷ []) }
+        ensures outflows { OnOk result (map trace_of self.new.outflows.items ≡ map trace_of self.old.outflows.items ++ (cut_in cut).outflow ∷ []) }
+        ensures queues { OnOk result (curves_of self.new.queues.items ≡ curves_of self.old.queues.items ++ (cut_in cut).queue ∷ []) }
+    {
+        self.inflows.push(cut.inflow)?;
+        self.outflows.push(cut.outflow)?;
+        self.queues.push(cut.queue)?;
+        Ok(())
+    }
+}
+
+// The cut curves of links, in three lists.
+fn in_lists(alloc: Global, cuts: Vec<CutLink>) -> Result<OfLinks, AllocError>
+    ensures { IfOk result (λ links. AreLists (map trace_of links.inflows.items) (map trace_of links.outflows.items) (curves_of links.queues.items) (map cut_in cuts.items)) }
+{
+    let mut links = OfLinks {
+        inflows: Vec::new(alloc),
+        outflows: Vec::new(alloc),
+        queues: Vec::new(alloc),
+    };
+    for cut in cuts {
+        links.push(cut)?;
+    }
+    Ok(links)
+}
+
+/// An equilibrium, cut at the departure that it reached: its labels up to there, the inflow and the queue of a link up to the label of its
+/// tail there, and the outflow up to that of its head, all in short form and with their rates.
+#[tactic(auto, unfolding(nf_resume_lists::specs::Resuming::cut_flow))]
+pub(crate) fn cut_flow(alloc: Global, net: &Network, flow: &Flow) -> Result<Flow, Halt<Q>>
+    requires { Equilibrium net.now.net (flow_of flow.now) }
+    ensures { Gives flow_of (λ q. q) result (at_part OfCurve (cut_flow_by passes_Q net.now.net (flow_of flow.now))) }
+{
+    // For the proof: the network is a good one.
+    let _ = net.version();
+    let labels = cut_labels(alloc, &flow.labels, flow.reached)?;
+    let cuts = cut_links(alloc, net, flow, &labels)?;
+    let links = in_lists(alloc, cuts)?;
+    Ok(Flow {
+        reached: flow.reached,
+        labels,
+        inflows: links.inflows,
+        outflows: links.outflows,
+        queues: links.queues,
+    })
+}

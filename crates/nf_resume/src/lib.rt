@@ -1,0 +1,12 @@
+//! Going on from a report: the flow that it describes is checked and cut at the departure that it reached, and a run that stands there
+//! goes on to a later horizon. Times, amounts and rates are exact fractions.
+#![tactic(auto)]
+
+mod curves;
+mod cutting;
+mod fault;
+mod links;
+mod resuming;
+
+pub use fault::ResumeFault;
+pub use resuming::resume;

@@ -1,0 +1,110 @@
+// A report is resumed: it is checked, and the run that stands where its flow ends goes on to a later horizon.
+ghost use Rattle.std.specs.Prelude.{◌≡◌, ◌≢◌, Ok, IfOk, OnOk, IfErr, MatchBool, MatchResult};
+ghost use Rattle.nf_rational.specs.Order.{◌≤ℚ◌, ◌<ℚ◌};
+ghost use Rattle.nf_work.specs.declared.Part.TheVariants.{Curve as OfCurve};
+ghost use Rattle.nf_work.specs.Passing.{passes_Q};
+ghost use Rattle.nf_work.specs.Checked.{at_part, Gives};
+ghost use Rattle.nf_model.specs.Equilibrium.{Equilibrium};
+ghost use Rattle.nf_formats.specs.Report.{IsWellFormed};
+ghost use Rattle.nf_check_lists.specs.declared.Answer.TheVariants.{Yes};
+ghost use Rattle.nf_check_lists.specs.CheckList.{check_list};
+ghost use Rattle.nf_resume_lists.specs.Resuming.{restart_list};
+ghost use Rattle.nf_resume_lists.specs.Meanings.{GoesOnFrom, IsResumedReport};
+ghost use Rattle.nf_run_laws.specs.RunLaws.{IsShortFlow};
+ghost use Rattle.nf_curve.specs.Flows.{flow_of};
+ghost use Rattle.nf_reader.specs.Files.{report_of};
+ghost use Rattle.nf_phase.specs.Stepping.{Reaches};
+ghost use Rattle.nf_phase.specs.Solution.{bounds_of, report_in};
+ghost use Rattle.nf_resume.specs.Faults.{IsCause, IsResumeFault};
+ghost use Rattle.nf_resume.specs.declared.fault.ResumeFault.TheVariants as ResumeFault;
+
+use crate::cutting::cut_flow;
+use crate::fault::ResumeFault;
+use nf_check::{Answer, check};
+use nf_frac::{Halt, Q};
+use nf_net::Network;
+use nf_phase::{Budgets, Run, Solution};
+use nf_reader::Report;
+use std::alloc::Global;
+
+// A horizon is before the departure that was reached.
+fn is_earlier(horizon: Q, reached: Q) -> bool
+    ensures { MatchBool result (horizon <ℚ reached) (reached ≤ℚ horizon) }
+{
+    horizon.is_below(reached)
+}
+
+// By the answer of the check a report is resumed or refused.
+fn unless_no(answer: Answer) -> Result<(), ResumeFault>
+    ensures { MatchResult result (λ _. answer ≡ Yes) (λ fault. (fault ≡ ResumeFault.No answer) × (answer ≢ Yes)) }
+{
+    match answer {
+        Answer::Yes => Ok(()),
+        Answer::No { .. } => Err(ResumeFault::No(answer)),
+    }
+}
+
+// A report whose flow is no equilibrium is refused.
+fn check_first(alloc: Global, net: &Network, report: &Report) -> Result<(), ResumeFault>
+    requires { IsWellFormed net.now.net (report_of report.now) }
+    ensures yes { OnOk result (check_list passes_Q net.now.net (report_of report.now).flow ≡ Ok Yes) }
+    ensures equilibrium { OnOk result (Equilibrium net.now.net (report_of report.now).flow) }
+    ensures cause { IfErr result (IsCause passes_Q net.now.net (report_of report.now)) }
+{
+    match check(alloc, net, &report.flow) {
+        Ok(answer) => unless_no(answer),
+        Err(halt) => Err(ResumeFault::from(halt)),
+    }
+}
+
+// The run that stands where the flow of a report ends.
+fn restart(alloc: Global, net: &Network, report: &Report) -> Result<Run, Halt<Q>>
+    requires formed { IsWellFormed net.now.net (report_of report.now) }
+    requires equilibrium { Equilibrium net.now.net (report_of report.now).flow }
+    ensures list { Gives (λ run. run) (λ q. q) result (at_part OfCurve (restart_list passes_Q net.now.net (report_of report.now))) }
+    ensures reaches { IfOk result (Reaches passes_Q net.now.net) }
+    ensures time { IfOk result (λ run. run.time ≡ (report_of report.now).flow.reached) }
+    ensures fresh { IfOk result (λ run. run.made ≡ 0) }
+{
+    // For the proof: the network is that of an accepted file.
+    let _ = net.version();
+    let flow = cut_flow(alloc, net, &report.flow)?;
+    let last = report.last.copy(alloc)?;
+    let run = Run::restore(alloc, net, flow, last)?;
+    Ok(run)
+}
+
+/// Goes on from a report to a horizon: from the departure that its flow has reached, phase by phase, until the horizon is reached, as
+/// many phases as allowed were made since then, or one can't be made. The flow up to there is an equilibrium (a Nash flow over time:
+/// Koch and Skutella 2011) with the report's values up to where the report's flow ends. Where the run that wrote the report was cut
+/// short within a phase, the first phase is the rest of that one. The report is a well-formed one of the network. It is refused, in this
+/// order, exactly where the horizon is before the departure reached, where its flow is no equilibrium, or at the first operation of its
+/// list that passes: that of the check, and then with part Curve those of cutting the flow at the departure reached and of the slopes
+/// with which its curves end there.
+pub fn resume(
+    alloc: Global,
+    net: &Network,
+    report: &Report,
+    horizon: Q,
+    budgets: Budgets,
+) -> Result<Solution, ResumeFault>
+    requires { IsWellFormed net.now.net (report_of report.now) }
+    ensures resumed { IfOk result (λ s. IsResumedReport passes_Q net.now.net (bounds_of horizon budgets) (report_of report.now) s.phases (report_in horizon s)) }
+    ensures equilibrium { IfOk result (λ s. Equilibrium net.now.net (flow_of s.flow)) }
+    ensures goes_on { IfOk result (λ s. GoesOnFrom net.now.net (report_of report.now).flow (flow_of s.flow)) }
+    ensures short { IfOk result (λ s. IsShortFlow net.now.net (flow_of s.flow)) }
+    ensures formed { IfOk result (λ s. IsWellFormed net.now.net (report_in horizon s)) }
+    ensures not_earlier { OnOk result ((report_of report.now).flow.reached ≤ℚ horizon) }
+    ensures fault { IfErr result (IsResumeFault passes_Q net.now.net (report_of report.now) horizon) }
+{
+    // For the proof: the network is that of an accepted file.
+    let _ = net.version();
+    let reached = report.flow.reached;
+    if is_earlier(horizon, reached) {
+        return Err(ResumeFault::Earlier { reached });
+    }
+    check_first(alloc, net, report)?;
+    let run = restart(alloc, net, report)?;
+    let solution = run.finish(alloc, net, horizon, budgets)?;
+    Ok(solution)
+}
