@@ -83,6 +83,7 @@ network_missing shelf file others (Refusal.MalformedReport rule line) h = h
 network_missing shelf file others (Refusal.Passes at) h = h
 network_missing shelf file others Refusal.Unbounded h = h
 network_missing shelf file others Refusal.NotThin h = h
+network_missing shelf file others Refusal.Earlier h = h
 
 -- ---- a request with its files
 module _ (words : List (List ℕ)) (shelf : Visit) (request : Request) (asks : request_of words ≡ Some request) (file : Wanted) (others : List Wanted)
@@ -116,6 +117,7 @@ module _ (words : List (List ℕ)) (shelf : Visit) (request : Request) (asks : r
   refused (Refusal.Passes at) h = absurd h
   refused Refusal.Unbounded h = absurd h
   refused Refusal.NotThin h = absurd h
+  refused Refusal.Earlier h = absurd h
 
   -- there is a network
   module _ (n : Named) (texts : List (List ℕ)) (h : AreRead shelf file others (Ok (n, texts))) where
@@ -164,6 +166,7 @@ no_text (Refusal.MalformedReport rule line) = refl
 no_text (Refusal.Passes at) = refl
 no_text Refusal.Unbounded = refl
 no_text Refusal.NotThin = refl
+no_text Refusal.Earlier = refl
 
 nothing_more : (took : Option (List ℕ)) → took ≡ with_more took []
 nothing_more None = refl

@@ -4,10 +4,14 @@ use Rattle.std.specs.Prelude.{Option, Some, None, IfSome, IsSome, Result, Ok, Er
 use Rattle.std.specs.List.{All}
 use Rattle.std.proofs.lemmas.List.Elements.{All-cons, All-nil, All-head, All-tail}
 use Rattle.nf_rational.specs.Rational.{ℚ}
+use Rattle.nf_rational.specs.Order.{◌≤ℚ◌}
+use Rattle.nf_rational_laws.proofs.Order.{not_both_ℚ}
 use Rattle.nf_work.specs.Passing.{passes_Q}
 use Rattle.nf_work.specs.declared.PassedAt.{PassedAt}
 use Rattle.nf_edge.specs.Faults.{Rose}
 use Rattle.nf_model.specs.Network.{Piece}
+use Rattle.nf_model.specs.Equilibrium.{Equilibrium}
+use Rattle.nf_formats.specs.declared.Cause.{Cause}
 use Rattle.nf_formats.specs.Named.{Named}
 use Rattle.nf_formats.specs.NetLines.{Broken}
 use Rattle.nf_formats.specs.NetFile.{Reads}
@@ -27,17 +31,17 @@ use Rattle.nf_routes_lists.specs.RoutesFile.{RoutesBroken, NamedRoute, routes_in
 use Rattle.nf_forever_laws.proofs.OneForever.{one_forever}
 use Rattle.nf_app.specs.declared.status.Status.{Status}
 use Rattle.nf_app.specs.Files.{Wanted, Visit, FetchedTo, HasTooMany}
-use Rattle.nf_words.specs.Requests.{Request, Solve, SolveForever, Show, Load, Check, Quick, Gen, Settle, Routes, request_of}
+use Rattle.nf_words.specs.Requests.{Request, Solve, SolveForever, Show, Load, Check, Quick, Gen, Settle, Resume, Routes, request_of}
 use Rattle.nf_gen.specs.Ladder.{ladder}
 use Rattle.nf_app.specs.Requests.{budgets_of, files_of, generated_by, network_file, loads_file, flows_file, routes_file, report_file}
-use Rattle.nf_app.specs.Answers.{Answer, Solved, SolvedForever, Shown, Loaded, Checked, Quickest, TooManyWalks, Generated, Settled, Distributed, NoMemory, NoRequest, ShelfFailed, ShelfTooLong, Malformed, MalformedLoads, MalformedFlows, MalformedRoutes, MalformedReport, Passes, Unbounded, NotThin, status_of, status_of_stop, status_of_forever, status_of_verdict}
+use Rattle.nf_app.specs.Answers.{Answer, Solved, SolvedForever, Shown, Loaded, Checked, Quickest, TooManyWalks, Generated, Settled, Distributed, NoMemory, NoRequest, ShelfFailed, ShelfTooLong, Malformed, MalformedLoads, MalformedFlows, MalformedRoutes, MalformedReport, Passes, Unbounded, NotThin, Earlier, status_of, status_of_stop, status_of_forever, status_of_verdict}
 use Rattle.nf_app.specs.CheckGiven.{ReportReads}
 use Rattle.nf_app.specs.SettleGiven.{FlowsRead}
 use Rattle.nf_app.specs.RoutesGiven.{RoutesRead, by_route_list}
 use Rattle.nf_app.specs.Given.{LoadsRead, loading_list, IsGiven}
 use Rattle.nf_app.specs.Sinks.{Taken}
 use Rattle.nf_app.specs.Runs.{Call, Asks, Reached, NetworkReads, Read, IsRefused, IsComputed, IsAnswer, IsShown}
-use Rattle.nf_app.specs.Completeness.{Tells, TellsNetwork, TellsLoads, TellsFlows, CanBeShown, CanBeSolved, CanBeLoaded, CanBeGenerated, CanGoOn, CanBeDistributed, CanBeJudged, CanBeQuick, CanBeSettled, HasAnswer, EndsWell, EndsJudged, EndsQuick, EndsSettled, IsComplete}
+use Rattle.nf_app.specs.Completeness.{Tells, TellsNetwork, TellsLoads, TellsFlows, CanBeShown, CanBeSolved, CanBeLoaded, CanBeGenerated, CanGoOn, CanBeDistributed, CanBeJudged, CanBeQuick, CanBeSettled, CanBeResumed, HasAnswer, EndsWell, EndsJudged, EndsQuick, EndsSettled, EndsResumed, IsComplete}
 
 in_the_middle : (P : Wanted → Type 0) (xs : List Wanted) (y : Wanted) (ys : List Wanted) → All P (xs ++ y ∷ ys) → P y
 in_the_middle P [] y ys h = All-head P y ys h
@@ -94,6 +98,7 @@ module _ (call : Call) (no_fault : ¬ Rose call.shelf.faults_before call.shelf.f
     refused_well (SolvedForever n forever) h = absurd h
     refused_well (Settled n pattern flows) h = absurd h
     refused_well NotThin h = absurd h
+    refused_well Earlier h = absurd h
     refused_well (Distributed n routes horizon routed) h = absurd h
 
     -- what is computed is computed for this request and this network
@@ -291,6 +296,42 @@ module _ (call : Call) (no_fault : ¬ Rose call.shelf.faults_before call.shelf.f
       (All-cons (Tells call.shelf) (flows_file can.flows_name) [] can.flows.tells (All-nil (Tells call.shelf))))
       can.file (flows_file can.flows_name ∷ []) refl refl can.network EndsSettled (inr (inr refl)) thin_well
 
+-- a report is gone on from
+stop_well : (stop : Option (Cause ℚ)) → ((phase : ℕ) (place : Option ℕ) (at : PassedAt ℚ) → stop ≡ Some (Cause.Passed phase place at) → ⊥) → EndsResumed (status_of_stop stop)
+stop_well None never = inl refl
+stop_well (Some (Cause.Phases made)) never = inr (inl refl)
+stop_well (Some (Cause.Patterns phase tried)) never = inr (inr (inl refl))
+stop_well (Some (Cause.Passed phase place at)) never = absurd (never phase place at refl)
+stop_well (Some (Cause.NoPattern phase)) never = inr (inr (inr (inl refl)))
+
+module _ (call : Call) (no_fault : ¬ Rose call.shelf.faults_before call.shelf.faults_now) (can : CanBeResumed call) where
+  -- the report has one reading
+  one_old : (read : Result Report ReportBroken) → ReportReads call.shelf can.network.net can.report_name read → Ok can.report.report ≡ read
+  one_old read h =
+      sym can.report.reads ∙ subst (λ (told : Option (List ℕ)). IfSome told (λ text. report_in can.network.net text ≡ read)) can.report.tells.told h
+
+  gone_well : (answer : Answer) → IsGiven call.shelf can.network.net (Resume can.file can.report_name can.horizon can.phases can.patterns) answer → EndsResumed (status_of answer)
+  gone_well answer (inl g) = subst (λ (s : Status). EndsResumed s) (sym (ap status_of g.1)) (stop_well g.0.stop (λ phase place at e. can.goes g.0 phase place at g.2 e))
+  gone_well answer (inr (inl g)) =
+      let same : Ok can.report.report ≡ Ok g.2.old = one_old (Ok g.2.old) g.2.read in
+      let old : can.report.report ≡ g.2.old = cc in
+      absurd (g.2.refused.none (subst (λ (r : Report). Equilibrium can.network.net.net r.flow) old can.equilibrium))
+  gone_well answer (inr (inr (inl g))) = absurd (can.fits g.0 g.2)
+  gone_well answer (inr (inr (inr (inl g)))) =
+      let same : Ok can.report.report ≡ Ok g.1.old = one_old (Ok g.1.old) g.1.read in
+      let old : can.report.report ≡ g.1.old = cc in
+      absurd (not_both_ℚ _ _ g.1.earlier (subst (λ (r : Report). r.flow.reached ≤ℚ can.horizon) old can.not_earlier))
+  gone_well answer (inr (inr (inr (inr g)))) =
+      let other : Ok can.report.report ≡ Err g.0 = one_old (Err g.0) g.2 in
+      let never : ⊥ = cc in
+      absurd never
+
+  resumed_well : (answer : Answer) → IsAnswer call answer → EndsResumed (status_of answer)
+  resumed_well = answered_well call no_fault (Resume can.file can.report_name can.horizon can.phases can.patterns) can.asks
+      (All-cons (Tells call.shelf) (network_file can.file) (report_file can.report_name ∷ []) can.network.tells
+      (All-cons (Tells call.shelf) (report_file can.report_name) [] can.report.tells (All-nil (Tells call.shelf))))
+      can.file (report_file can.report_name ∷ []) refl refl can.network EndsResumed (inr (inr (inr (inr refl)))) gone_well
+
 taken_well : (Ends : Status → Type 0) (out : Taken) → ¬ Rose out.faults_before out.faults_now → (answer : Answer) (err : Taken) (status : Status) → Ends (status_of answer)
     → IsShown answer out err status → Ends status
 taken_well Ends out takes answer err status well (inl h) = subst (λ (s : Status). Ends s) (sym h.0) well
@@ -303,6 +344,7 @@ complete_by_text call out err status answer comes shown no_fault takes = (
   (λ can. taken_well EndsJudged out takes answer err status (checked_well call no_fault can answer comes) shown),
   (λ can. taken_well EndsQuick out takes answer err status (quick_well call no_fault can answer comes) shown),
   (λ can. taken_well EndsSettled out takes answer err status (settled_well call no_fault can answer comes) shown),
+  (λ can. taken_well EndsResumed out takes answer err status (resumed_well call no_fault can answer comes) shown),
 )
 
 -- there is no text
@@ -312,4 +354,5 @@ complete_by_refusal call out status answer comes is no_fault takes = (
   (λ can. subst (λ (s : Status). EndsJudged s) (sym is) (checked_well call no_fault can answer comes)),
   (λ can. subst (λ (s : Status). EndsQuick s) (sym is) (quick_well call no_fault can answer comes)),
   (λ can. subst (λ (s : Status). EndsSettled s) (sym is) (settled_well call no_fault can answer comes)),
+  (λ can. subst (λ (s : Status). EndsResumed s) (sym is) (resumed_well call no_fault can answer comes)),
 )

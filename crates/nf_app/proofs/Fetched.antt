@@ -77,6 +77,7 @@ module _ (shelf : Visit) (file next : Wanted) where
   first_missing (Refusal.Passes at) h = absurd h
   first_missing Refusal.Unbounded h = absurd h
   first_missing Refusal.NotThin h = absurd h
+  first_missing Refusal.Earlier h = absurd h
 
 -- ---- a second file is fetched behind the first
 -- what a shelf did in two calls, of which the second begins where the first ends
@@ -152,6 +153,7 @@ module _ (one other : Visit) (f g : Wanted) (follows : Follows one other) (first
   second_missing (Refusal.Passes at) h = absurd h
   second_missing Refusal.Unbounded h = absurd h
   second_missing Refusal.NotThin h = absurd h
+  second_missing Refusal.Earlier h = absurd h
 
   pub both_fetched : (text more : List ℕ) → IsTold one f text → AreFetched other (g ∷ []) (Ok (more ∷ [])) → AreFetched both (f ∷ g ∷ []) (Ok (text ∷ more ∷ []))
   both_fetched text more told h = (

@@ -14,5 +14,6 @@ pub mod SettleGiven
 pub mod ForeverGiven
 pub mod Statuses
 pub mod RoutesGiven
+pub mod ResumeGiven
 pub mod RouteLines
 mod ErrorExamples

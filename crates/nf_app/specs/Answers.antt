@@ -22,7 +22,7 @@ use Rattle.nf_routes_lists.specs.RoutesList.{Routed}
 use Rattle.nf_routes_lists.specs.RoutesText.{routed_text}
 use Rattle.nf_forever_lists.specs.ForeverRun.{Forever}
 use Rattle.nf_forever_lists.specs.ForeverText.{forever_text}
-use Rattle.nf_app.specs.ErrorLines.{memory_line, usage_text, shelf_failed_line, shelf_too_long_line, network_line, loads_line, flows_line, routes_line, report_line, stopped_line, passed_line, no_equilibrium_line, augments_line, unbounded_line, no_thin_flow_line}
+use Rattle.nf_app.specs.ErrorLines.{memory_line, usage_text, shelf_failed_line, shelf_too_long_line, network_line, loads_line, flows_line, routes_line, report_line, stopped_line, passed_line, no_equilibrium_line, augments_line, unbounded_line, no_thin_flow_line, earlier_line}
 use Rattle.nf_app.specs.QuickText.{quick_text, augments_text}
 use Rattle.nf_app.specs.GenText.{gen_text}
 use Rattle.nf_app.specs.declared.arrival.Arrival.{Arrival}
@@ -32,6 +32,7 @@ use Rattle.nf_app.specs.declared.status.Status.{Status}
 -- `Checked`: whether the flow of a report is an equilibrium. `Quickest`: a quickest flow, beside the arrival in an equilibrium. `TooManyWalks`: those that were pushed for it, as many as allowed.
 -- `Generated`: a run in the ladder of a number with so many rungs, which made so many phases.
 -- `Distributed`: what becomes of inflow along routes, up to a horizon. `Settled`: the pattern and the flows to which a thin flow is settled. `NotThin`: the flows and slopes of the file are no thin flow.
+-- `Earlier`: the horizon is before the departure that the report's flow has reached.
 -- `Unbounded`: there is no quickest flow, since a walk of unbounded links leads to the sink. `Passes`: an operation of the command's
 -- list passes the bound.
 pub data Answer : Type 0 where
@@ -57,6 +58,7 @@ pub data Answer : Type 0 where
   Passes : PassedAt ℚ → Answer
   Unbounded : Answer
   NotThin : Answer
+  Earlier : Answer
 
 -- ---- the status
 abbrev pub number_of : Status → ℕ
@@ -75,6 +77,7 @@ number_of Status.Augments = 11
 number_of Status.Events = 12
 number_of Status.Unbounded = 14
 number_of Status.NotThin = 15
+number_of Status.Earlier = 16
 
 abbrev pub status_of_cause : Cause ℚ → Status
 status_of_cause (Cause.Phases made) = Status.Phases
@@ -118,6 +121,7 @@ status_of (MalformedReport broken) = Status.Malformed
 status_of (Passes at) = Status.Passed
 status_of Unbounded = Status.Unbounded
 status_of NotThin = Status.NotThin
+status_of Earlier = Status.Earlier
 
 -- ---- what is written
 abbrev pub out_text : Answer → List ℕ
@@ -147,6 +151,7 @@ HasOutput (MalformedReport broken) = ⊥
 HasOutput (Passes at) = ⊥
 HasOutput Unbounded = ⊥
 HasOutput NotThin = ⊥
+HasOutput Earlier = ⊥
 HasOutput answer = Unit {0}
 
 abbrev pub text_of_stop : Option (Cause ℚ) → List ℕ
@@ -180,3 +185,4 @@ err_text (MalformedReport broken) = report_line broken
 err_text (Passes at) = passed_line at
 err_text Unbounded = unbounded_line
 err_text NotThin = no_thin_flow_line
+err_text Earlier = earlier_line

@@ -1,10 +1,13 @@
 -- When nothing but want of memory keeps a run of the program from the whole answer of its command.
-use Rattle.std.specs.Prelude.{◌≡◌, ◌⊎◌, ℕ, ◌≤◌, List, length, Some, None, IsSome, Ok}
+use Rattle.std.specs.Prelude.{◌≡◌, ◌⊎◌, ℕ, ◌≤◌, List, length, Option, Some, None, IsSome, Ok}
 use Rattle.nf_rational.specs.Rational.{ℚ}
+use Rattle.nf_rational.specs.Order.{◌≤ℚ◌}
 use Rattle.nf_work.specs.Passing.{passes_Q}
 use Rattle.nf_work.specs.declared.PassedAt.{PassedAt}
 use Rattle.nf_edge.specs.Faults.{Rose}
 use Rattle.nf_model.specs.Network.{Piece}
+use Rattle.nf_model.specs.Equilibrium.{Equilibrium}
+use Rattle.nf_formats.specs.declared.Cause.{Cause}
 use Rattle.nf_formats.specs.Named.{Named}
 use Rattle.nf_formats.specs.NetFile.{Reads}
 use Rattle.nf_formats.specs.Report.{Report}
@@ -22,13 +25,14 @@ use Rattle.nf_routes_lists.specs.RoutesFile.{NamedRoute, routes_in}
 use Rattle.nf_routes_lists.specs.RoutesList.{Routed}
 use Rattle.nf_app.specs.declared.status.Status.{Status}
 use Rattle.nf_app.specs.Files.{Wanted, Visit}
-use Rattle.nf_words.specs.Requests.{Solve, SolveForever, Show, Load, Check, Quick, Gen, Settle, Routes}
+use Rattle.nf_words.specs.Requests.{Solve, SolveForever, Show, Load, Check, Quick, Gen, Settle, Resume, Routes}
 use Rattle.nf_gen.specs.Ladder.{ladder}
 use Rattle.nf_app.specs.Requests.{budgets_of, network_file, loads_file, flows_file, routes_file, report_file}
 use Rattle.nf_app.specs.Given.{loading_list}
 use Rattle.nf_app.specs.QuickGiven.{PassesQuick}
 use Rattle.nf_app.specs.SettleGiven.{PassesSettling}
 use Rattle.nf_app.specs.RoutesGiven.{by_route_list}
+use Rattle.nf_app.specs.ResumeGiven.{IsGoneOn, PassesResuming}
 use Rattle.nf_app.specs.Sinks.{Taken}
 use Rattle.nf_app.specs.Runs.{Call, Asks}
 
@@ -169,6 +173,23 @@ pub record CanBeSettled (call : Call) : Type 0 where
   pub flows : TellsFlows call.shelf network.net flows_name
   pub fits : (at : PassedAt ℚ) → ¬ PassesSettling call.shelf network.net flows_name at
 
+-- a report is to be gone on from whose flow is an equilibrium that doesn't reach beyond the horizon, and no operation passes, nor in the
+-- run that goes on
+pub record CanBeResumed (call : Call) : Type 0 where
+  pub file : List ℕ
+  pub report_name : List ℕ
+  pub horizon : ℚ
+  pub phases : ℕ
+  pub patterns : ℕ
+  pub asks : Asks call (Resume file report_name horizon phases patterns)
+  pub network : TellsNetwork call.shelf file
+  pub report : TellsReport call.shelf network.net report_name
+  pub not_earlier : report.report.flow.reached ≤ℚ horizon
+  pub equilibrium : Equilibrium network.net.net report.report.flow
+  pub fits : (at : PassedAt ℚ) → ¬ PassesResuming call.shelf network.net report_name horizon at
+  pub goes : (new : Report) (phase : ℕ) (place : Option ℕ) (at : PassedAt ℚ) → IsGoneOn call.shelf network.net report_name (bounds_of horizon (budgets_of phases patterns)) new
+      → new.stop ≡ Some (Cause.Passed phase place at) → ⊥
+
 -- ---- how a run then ends
 -- with the whole answer, or for want of memory
 abbrev pub EndsWell : Status → Type 0
@@ -186,8 +207,13 @@ EndsQuick status = (status ≡ Status.Ok) ⊎ (status ≡ Status.Augments) ⊎ (
 abbrev pub EndsSettled : Status → Type 0
 EndsSettled status = (status ≡ Status.Ok) ⊎ (status ≡ Status.NotThin) ⊎ (status ≡ Status.Memory)
 
+-- the same of `resume`; a budget may also be used up, or no pattern left
+abbrev pub EndsResumed : Status → Type 0
+EndsResumed status = (status ≡ Status.Ok) ⊎ (status ≡ Status.Phases) ⊎ (status ≡ Status.Patterns) ⊎ (status ≡ Status.NoPattern) ⊎ (status ≡ Status.Memory)
+
 -- Where neither the shelf nor the output failed in the call, the whole text was taken, of a report up to the horizon, or memory was
 -- wanting.
 abbrev pub IsComplete : Call → Taken → Status → Type 0
 IsComplete call out status = ¬ Rose call.shelf.faults_before call.shelf.faults_now → ¬ Rose out.faults_before out.faults_now
     → (HasAnswer call → EndsWell status) × (CanBeJudged call → EndsJudged status) × (CanBeQuick call → EndsQuick status) × (CanBeSettled call → EndsSettled status)
+    × (CanBeResumed call → EndsResumed status)

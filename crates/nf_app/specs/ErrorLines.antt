@@ -35,6 +35,7 @@ usage_text = flat_map (λ text. text ++ 10 ∷ []) (
     ∷ codes "nfot gen --number N --rungs N --horizon Q [--phases N] [--patterns N]"
     ∷ codes "nfot settle NET FLOWS"
     ∷ codes "nfot solve NET --forever [--phases N] [--patterns N]"
+    ∷ codes "nfot resume NET REPORT --horizon Q [--phases N] [--patterns N]"
     ∷ codes "nfot routes NET ROUTES --horizon Q"
     ∷ [])
 

@@ -24,14 +24,15 @@ use Rattle.nf_routes_lists.specs.RoutesList.{Routed}
 use Rattle.nf_quick_lists.specs.Quick.{Augment, Quick as QuickFlow}
 use Rattle.nf_phase.specs.Solution.{bounds_of, IsSolution}
 use Rattle.nf_app.specs.Files.{Visit}
-use Rattle.nf_words.specs.Requests.{Request, Solve, SolveForever, Show, Load, Check, Quick, Gen, Settle, Routes}
+use Rattle.nf_words.specs.Requests.{Request, Solve, SolveForever, Show, Load, Check, Quick, Gen, Settle, Resume, Routes}
 use Rattle.nf_app.specs.Requests.{budgets_of}
-use Rattle.nf_app.specs.Answers.{Answer, Solved, SolvedForever, Shown, Loaded, Checked, Quickest, TooManyWalks, Generated, Settled, Distributed, MalformedLoads, MalformedFlows, MalformedRoutes, MalformedReport, Passes, Unbounded, NotThin}
+use Rattle.nf_app.specs.Answers.{Answer, Solved, SolvedForever, Shown, Loaded, Checked, Quickest, TooManyWalks, Generated, Settled, Distributed, MalformedLoads, MalformedFlows, MalformedRoutes, MalformedReport, Passes, Unbounded, NotThin, Earlier}
 use Rattle.nf_app.specs.CheckGiven.{ReportReads, IsChecked, PassesChecking}
 use Rattle.nf_app.specs.QuickGiven.{IsQuickest, IsOverBudget, PassesQuick, IsUnbounded}
 use Rattle.nf_app.specs.SettleGiven.{FlowsRead, IsSettled, IsNotThin, PassesSettling}
 use Rattle.nf_app.specs.ForeverGiven.{IsUnending}
 use Rattle.nf_app.specs.RoutesGiven.{RoutesRead, IsDistributed, PassesRoutes}
+use Rattle.nf_app.specs.ResumeGiven.{IsGoneOn, IsNoStart, PassesResuming, IsBefore}
 use Rattle.nf_app.specs.declared.arrival.Arrival.{Arrival}
 
 -- where the shelf tells the bytes of the file, they read as these pieces of the links of the network, or break this rule first
@@ -84,6 +85,12 @@ IsGiven shelf n (Settle file flows) answer =
     ⊎ ((answer ≡ NotThin) × IsNotThin shelf n flows)
     ⊎ ((at : PassedAt ℚ) × (answer ≡ Passes at) × PassesSettling shelf n flows at)
     ⊎ ((broken : FlowsBroken) × (answer ≡ MalformedFlows broken) × FlowsRead shelf n flows (Err broken))
+IsGiven shelf n (Resume file report horizon phases patterns) answer =
+    ((new : Report) × (answer ≡ Solved n new) × IsGoneOn shelf n report (bounds_of horizon (budgets_of phases patterns)) new)
+    ⊎ ((verdict : Verdict ℕ ℕ ℚ) × (answer ≡ Checked n verdict) × IsNoStart shelf n report horizon verdict)
+    ⊎ ((at : PassedAt ℚ) × (answer ≡ Passes at) × PassesResuming shelf n report horizon at)
+    ⊎ ((answer ≡ Earlier) × IsBefore shelf n report horizon)
+    ⊎ ((broken : ReportBroken) × (answer ≡ MalformedReport broken) × ReportReads shelf n report (Err broken))
 IsGiven shelf n (Routes file routes horizon) answer =
     ((sent : List NamedRoute) × (routed : Routed) × (answer ≡ Distributed n sent horizon routed) × IsDistributed shelf n routes sent horizon routed)
     ⊎ ((at : PassedAt ℚ) × (answer ≡ Passes at) × PassesRoutes shelf n routes horizon at)

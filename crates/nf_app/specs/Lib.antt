@@ -10,6 +10,7 @@ pub mod QuickGiven
 pub mod SettleGiven
 pub mod ForeverGiven
 pub mod RoutesGiven
+pub mod ResumeGiven
 pub mod Given
 pub mod Runs
 pub mod Completeness

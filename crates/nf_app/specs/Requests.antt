@@ -4,7 +4,7 @@ use Rattle.nf_formats.specs.Named.{Named}
 use Rattle.nf_gen.specs.Ladder.{ladder}
 use Rattle.nf_phase.specs.declared.solution.Budgets.{Budgets}
 use Rattle.nf_words.specs.Numbers.{usual_phases, usual_patterns}
-use Rattle.nf_words.specs.Requests.{Request, Solve, SolveForever, Show, Load, Check, Quick, Gen, Settle, Routes}
+use Rattle.nf_words.specs.Requests.{Request, Solve, SolveForever, Show, Load, Check, Quick, Gen, Settle, Resume, Routes}
 use Rattle.nf_app.specs.Files.{Wanted, network_limit, loads_limit, flows_limit, routes_limit, report_limit}
 
 abbrev pub network_file : List ℕ → Wanted
@@ -32,6 +32,7 @@ files_of (Check file report) = network_file file ∷ report_file report ∷ []
 files_of (Quick file amount augments) = network_file file ∷ []
 files_of (Gen number rungs horizon phases patterns) = []
 files_of (Settle file flows) = network_file file ∷ flows_file flows ∷ []
+files_of (Resume file report horizon phases patterns) = network_file file ∷ report_file report ∷ []
 files_of (Routes file routes horizon) = network_file file ∷ routes_file routes ∷ []
 
 -- the network that is generated for a request, where none is read
@@ -44,6 +45,7 @@ generated_by (Check file report) = None
 generated_by (Quick file amount augments) = None
 generated_by (Gen number rungs horizon phases patterns) = Some (ladder number rungs)
 generated_by (Settle file flows) = None
+generated_by (Resume file report horizon phases patterns) = None
 generated_by (Routes file routes horizon) = None
 
 -- ---- the budgets of a run

@@ -10,7 +10,7 @@ ghost use Rattle.nf_quick.specs.declared.fault.QuickFault.TheVariants as QuickFa
 ghost use Rattle.nf_quick_lists.specs.Answers.{IsQuickFlow};
 ghost use Rattle.nf_rational.specs.Rational.{ℚ};
 ghost use Rattle.nf_app.specs.Files.{Visit, report_limit};
-ghost use Rattle.nf_words.specs.Requests.{Solve, SolveForever, Show, Load, Check, Gen, Settle, Routes, CanBeAsked, request_of};
+ghost use Rattle.nf_words.specs.Requests.{Solve, SolveForever, Show, Load, Check, Gen, Settle, Resume, Routes, CanBeAsked, request_of};
 ghost use Rattle.nf_words.specs.Requests as requests;
 ghost use Rattle.nf_words.specs.Views.{requested};
 ghost use Rattle.nf_app.specs.Requests.{loads_file, flows_file, routes_file, report_file};
@@ -37,6 +37,7 @@ use nf_net::{Network, text};
 use nf_phase::{Budgets, solve};
 use nf_quick::{Augment, Quick, QuickFault, departure, quickest};
 use nf_report::parse_report;
+use nf_resume::{ResumeFault, resume};
 use nf_route_reader::parse_routes;
 use nf_routes::load_routes;
 use nf_words::{Request, read_request};
@@ -147,6 +148,32 @@ fn settle_to(alloc: Global, net: Network, text: &[u8]) -> Result<Outcome, Refusa
     match settle_at_start(alloc, &net, &flows)? {
         Some(settled) => Ok(Outcome::Settled { net, settled }),
         None => Err(Refusal::NotThin),
+    }
+}
+
+// The network, with the report of the run that goes on to a horizon from the report that the text is.
+fn resume_to(
+    alloc: Global,
+    net: Network,
+    text: &[u8],
+    horizon: Q,
+    budgets: Budgets,
+) -> Result<Outcome, Refusal>
+    requires { length text.now ≤ report_limit }
+    ensures { (shelf : Visit) (file name : List ℕ) → IsTold shelf (report_file name) text.now
+        → IsGiving shelf net (Resume file name horizon budgets.phases budgets.patterns) result }
+{
+    let report = parse_report(alloc, &net, text)?;
+    match resume(alloc, &net, &report, horizon, budgets) {
+        Ok(solution) => Ok(Outcome::Solved {
+            net,
+            horizon,
+            solution,
+        }),
+        Err(ResumeFault::Earlier { .. }) => Err(Refusal::Earlier),
+        Err(ResumeFault::No(verdict)) => Ok(Outcome::Checked { net, verdict }),
+        Err(ResumeFault::Passed(at)) => Err(Refusal::Passes(at)),
+        Err(ResumeFault::Memory) => Err(Refusal::NoMemory),
     }
 }
 
@@ -307,6 +334,16 @@ fn answer_request<S: Shelf>(
         Request::Settle { file, flows } => {
             let (net, flows) = fetch_network_with(alloc, shelf, file, flows, LONGEST_FLOWS)?;
             settle_to(alloc, net, &flows)
+        }
+        Request::Resume {
+            file,
+            report,
+            horizon,
+            phases,
+            patterns,
+        } => {
+            let (net, report) = fetch_network_with(alloc, shelf, file, report, LONGEST_REPORT)?;
+            resume_to(alloc, net, &report, horizon, Budgets { phases, patterns })
         }
         Request::Routes {
             file,

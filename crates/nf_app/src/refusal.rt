@@ -41,6 +41,8 @@ pub(crate) enum Refusal {
     Unbounded,
     /// The flows and slopes of the flows file are no thin flow.
     NotThin,
+    /// The flow of the report reaches beyond the horizon.
+    Earlier,
 }
 
 impl Refusal {
@@ -61,6 +63,7 @@ impl Refusal {
             Refusal::Passes(_) => Status::Passed,
             Refusal::Unbounded => Status::Unbounded,
             Refusal::NotThin => Status::NotThin,
+            Refusal::Earlier => Status::Earlier,
         }
     }
 }

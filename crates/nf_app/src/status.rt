@@ -34,6 +34,8 @@ pub enum Status {
     Unbounded,
     /// The flows and slopes of a flows file are no thin flow.
     NotThin,
+    /// The flow of the report reaches beyond the horizon.
+    Earlier,
 }
 
 impl Status {
@@ -59,6 +61,7 @@ impl Status {
             Status::Events => 12,
             Status::Unbounded => 14,
             Status::NotThin => 15,
+            Status::Earlier => 16,
         }
     }
 }

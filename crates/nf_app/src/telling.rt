@@ -29,6 +29,7 @@ nfot quick NET --amount Q [--augments N]
 nfot gen --number N --rungs N --horizon Q [--phases N] [--patterns N]
 nfot settle NET FLOWS
 nfot solve NET --forever [--phases N] [--patterns N]
+nfot resume NET REPORT --horizon Q [--phases N] [--patterns N]
 nfot routes NET ROUTES --horizon Q
 ";
 
@@ -212,6 +213,7 @@ pub(crate) fn write_refusal<E: Sink>(err: &mut E, refusal: &Refusal) -> Result<(
         Refusal::Passes(at) => write_passed(err, at),
         Refusal::Unbounded => write_text(err, b"nfot: unbounded\n"),
         Refusal::NotThin => write_text(err, b"nfot: no thin flow\n"),
+        Refusal::Earlier => write_text(err, b"nfot: earlier\n"),
     }
 }
 

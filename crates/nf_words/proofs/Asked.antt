@@ -15,7 +15,7 @@ use Rattle.nf_words.specs.declared.request.Request as code
 use Rattle.nf_words.specs.CommandLine.{word_in, matches_on}
 use Rattle.nf_words.specs.Numbers.{to_not_negative, not_negative_of, not_negative_in, count_of, usual_or_count_in, most_phases, most_patterns, most_augments, most_rungs, most_number}
 use Rattle.nf_words.specs.Commands.{commands, first_task}
-use Rattle.nf_words.specs.Requests.{Request, Show, IsWithin, CanBeAsked, solve_request, forever_request, load_request, check_request, quick_request, gen_request, settle_request, routes_request, file_in, horizon_in, phases_in, patterns_in, amount_in, augments_in, number_in, rungs_in, asked, request_in, request_of}
+use Rattle.nf_words.specs.Requests.{Request, Show, IsWithin, CanBeAsked, solve_request, forever_request, load_request, check_request, quick_request, gen_request, settle_request, resume_request, routes_request, file_in, horizon_in, phases_in, patterns_in, amount_in, augments_in, number_in, rungs_in, asked, request_in, request_of}
 use Rattle.nf_words.specs.Views.{requested}
 use Rattle.nf_words.proofs.Counts.{count_within}
 
@@ -121,6 +121,15 @@ settle_can None flows = tt
 settle_can (Some file) None = tt
 settle_can (Some file) (Some flows) = tt
 
+resume_can : (file report : Option Text) (h : Option ℚ) (p q : Option ℕ) → IfSome h (λ x. 0ℚ ≤ℚ x) → IfSome p (IsWithin most_phases) → IfSome q (IsWithin most_patterns)
+    → IfSome (resume_request file report h p q) CanBeAsked
+resume_can None report h p q a b c = tt
+resume_can (Some file) None h p q a b c = tt
+resume_can (Some file) (Some report) None p q a b c = tt
+resume_can (Some file) (Some report) (Some h) None q a b c = tt
+resume_can (Some file) (Some report) (Some h) (Some p) None a b c = tt
+resume_can (Some file) (Some report) (Some h) (Some p) (Some q) a b c = (a, b, c)
+
 routes_can : (file routes : Option Text) (h : Option ℚ) → IfSome h (λ x. 0ℚ ≤ℚ x) → IfSome (routes_request file routes h) CanBeAsked
 routes_can None routes h a = tt
 routes_can (Some file) None h a = tt
@@ -137,6 +146,8 @@ each_can task.Quick rows = quick_can (file_in 0 rows) (amount_in rows) (augments
 each_can task.Gen rows =
     gen_can (number_in rows) (rungs_in rows) (horizon_in rows) (phases_in rows) (patterns_in rows) (number rows) (rungs rows) (horizon rows) (phases rows) (patterns rows)
 each_can task.Settle rows = settle_can (file_in 0 rows) (file_in 1 rows)
+each_can task.Resume rows =
+    resume_can (file_in 0 rows) (file_in 1 rows) (horizon_in rows) (phases_in rows) (patterns_in rows) (horizon rows) (phases rows) (patterns rows)
 each_can task.Routes rows = routes_can (file_in 0 rows) (file_in 1 rows) (horizon_in rows) (horizon rows)
 
 some_can : (does : Option Task) (rows : List Row) → IfSome (option_and_then (λ d. asked d rows) does) CanBeAsked

@@ -4,7 +4,7 @@ use Rattle.std.specs.Option.{option_map_or}
 use Rattle.std.specs.Str.{bytes_eq}
 use Rattle.clap.specs.Walk.{Text, Row}
 use Rattle.nf_words.specs.declared.commands.Task.{Task}
-use Rattle.nf_words.specs.declared.commands.Task.TheVariants.{Solve, SolveForever, Show, Load, Check, Quick, Gen, Settle, Routes}
+use Rattle.nf_words.specs.declared.commands.Task.TheVariants.{Solve, SolveForever, Show, Load, Check, Quick, Gen, Settle, Resume, Routes}
 use Rattle.nf_words.specs.declared.commands.Need.{Need}
 use Rattle.nf_words.specs.declared.commands.Need.TheVariants.{Required, Further, Absent}
 use Rattle.nf_words.specs.declared.commands.Wants.{Wants}
@@ -36,6 +36,7 @@ commands =
     ∷ (codes "quick", Quick, record nothing { files = 1; amount = Required; augments = Further })
     ∷ (codes "gen", Gen, record nothing { number = Required; rungs = Required; horizon = Required; phases = Further; patterns = Further })
     ∷ (codes "settle", Settle, record nothing { files = 2 })
+    ∷ (codes "resume", Resume, record nothing { files = 2; horizon = Required; phases = Further; patterns = Further })
     ∷ (codes "routes", Routes, record nothing { files = 2; horizon = Required })
     ∷ []
 

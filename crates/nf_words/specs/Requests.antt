@@ -21,6 +21,7 @@ pub data Request : Type 0 where
   Quick : Text → ℚ → ℕ → Request
   Gen : ℕ → ℕ → ℚ → ℕ → ℕ → Request
   Settle : Text → Text → Request
+  Resume : Text → Text → ℚ → ℕ → ℕ → Request
   Routes : Text → Text → ℚ → Request
 
 -- what is asked can be: a horizon and an amount are at least 0, and each budget is at least 1 and at most its most; so are rungs
@@ -37,6 +38,7 @@ CanBeAsked (Quick file amount augments) = (0ℚ ≤ℚ amount) × IsWithin most_
 CanBeAsked (Gen number rungs horizon phases patterns) =
     (number ≤ most_number) × IsWithin most_rungs rungs × (0ℚ ≤ℚ horizon) × IsWithin most_phases phases × IsWithin most_patterns patterns
 CanBeAsked (Settle file flows) = Unit {0}
+CanBeAsked (Resume file report horizon phases patterns) = (0ℚ ≤ℚ horizon) × IsWithin most_phases phases × IsWithin most_patterns patterns
 CanBeAsked (Routes file routes horizon) = 0ℚ ≤ℚ horizon
 
 -- ---- files and numbers together, where each is there
@@ -67,6 +69,10 @@ gen_request number rungs horizon phases patterns = None
 abbrev pub settle_request : Option Text → Option Text → Option Request
 settle_request (Some file) (Some flows) = Some (Settle file flows)
 settle_request file flows = None
+
+abbrev pub resume_request : Option Text → Option Text → Option ℚ → Option ℕ → Option ℕ → Option Request
+resume_request (Some file) (Some report) (Some horizon) (Some phases) (Some patterns) = Some (Resume file report horizon phases patterns)
+resume_request file report horizon phases patterns = None
 
 abbrev pub routes_request : Option Text → Option Text → Option ℚ → Option Request
 routes_request (Some file) (Some routes) (Some horizon) = Some (Routes file routes horizon)
@@ -107,6 +113,7 @@ asked task.Check rows = check_request (file_in 0 rows) (file_in 1 rows)
 asked task.Quick rows = quick_request (file_in 0 rows) (amount_in rows) (augments_in rows)
 asked task.Gen rows = gen_request (number_in rows) (rungs_in rows) (horizon_in rows) (phases_in rows) (patterns_in rows)
 asked task.Settle rows = settle_request (file_in 0 rows) (file_in 1 rows)
+asked task.Resume rows = resume_request (file_in 0 rows) (file_in 1 rows) (horizon_in rows) (phases_in rows) (patterns_in rows)
 asked task.Routes rows = routes_request (file_in 0 rows) (file_in 1 rows) (horizon_in rows)
 
 -- a command of the table fits, and its numbers are within their limits

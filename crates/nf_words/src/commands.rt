@@ -25,6 +25,8 @@ pub(crate) enum Task {
     Gen,
     /// Writes what a thin flow is settled to.
     Settle,
+    /// Writes the report that goes on from another.
+    Resume,
     /// Writes what becomes of given inflow along given routes.
     Routes,
 }
@@ -74,7 +76,7 @@ pub(crate) struct Line {
 
 /// The table of commands: the name of each, how many files it has, the options that it must be given, and further ones. `solve` takes
 /// either a horizon or the flag `--forever`.
-static COMMANDS: [Line; 9] = [
+static COMMANDS: [Line; 10] = [
     Line {
         name: "solve",
         task: Task::Solve,
@@ -149,6 +151,17 @@ static COMMANDS: [Line; 9] = [
         task: Task::Settle,
         wants: Wants {
             files: 2,
+            ..NOTHING
+        },
+    },
+    Line {
+        name: "resume",
+        task: Task::Resume,
+        wants: Wants {
+            files: 2,
+            horizon: Need::Required,
+            phases: Need::Further,
+            patterns: Need::Further,
             ..NOTHING
         },
     },

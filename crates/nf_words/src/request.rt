@@ -63,6 +63,15 @@ pub enum Request<'w> {
         file: &'w str,
         flows: &'w str,
     },
+    /// The report of the run that goes on from another report's flow, to a horizon of at least 0, with so many phases at most from there
+    /// on, each of which may try so many patterns; both are at least 1.
+    Resume {
+        file: &'w str,
+        report: &'w str,
+        horizon: Q,
+        phases: u64,
+        patterns: u64,
+    },
     /// What becomes of inflow that is given along routes of a network, up to a horizon of at least 0.
     Routes {
         file: &'w str,
@@ -158,6 +167,19 @@ fn settle<'w>(matches: &ArgMatches<'w>) -> Option<Request<'w>>
     })
 }
 
+// `resume NET REPORT --horizon Q [--phases N] [--patterns N]`
+fn resume<'w>(matches: &ArgMatches<'w>) -> Option<Request<'w>>
+    ensures { asked Task.Resume (rows_in matches.now) ≡ option_map requested result }
+{
+    Some(Request::Resume {
+        file: file_of(matches, 0)?,
+        report: file_of(matches, 1)?,
+        horizon: horizon_of(matches)?,
+        phases: phases_of(matches)?,
+        patterns: patterns_of(matches)?,
+    })
+}
+
 // `routes NET ROUTES --horizon Q`
 fn routes<'w>(matches: &ArgMatches<'w>) -> Option<Request<'w>>
     ensures { asked Task.Routes (rows_in matches.now) ≡ option_map requested result }
@@ -182,6 +204,7 @@ pub(crate) fn request_of<'w>(matches: &ArgMatches<'w>) -> Option<Request<'w>>
         Task::Quick => quick(matches),
         Task::Gen => generate(matches),
         Task::Settle => settle(matches),
+        Task::Resume => resume(matches),
         Task::Routes => routes(matches),
     }
 }

@@ -6,7 +6,7 @@ use Rattle.nf_words.specs.declared.request.Request as code
 use Rattle.nf_app.specs.Files.{Visit}
 use Rattle.nf_app.specs.Fetching.{IsTold}
 use Rattle.nf_app.specs.Outcomes.{IsGiving}
-use Rattle.nf_words.specs.Requests.{Request, CanBeAsked, Solve, SolveForever, Show, Load, Check, Quick, Gen, Settle, Routes}
+use Rattle.nf_words.specs.Requests.{Request, CanBeAsked, Solve, SolveForever, Show, Load, Check, Quick, Gen, Settle, Resume, Routes}
 use Rattle.nf_words.specs.Views.{requested}
 use Rattle.nf_gen.specs.Ladder.{ladder}
 use Rattle.nf_app.specs.Requests.{network_file, loads_file, flows_file, routes_file, report_file}
@@ -180,3 +180,21 @@ returns-in_ok-net-in-Routes g c words asks =
     given words shelf (Routes c.in-Routes.file.now c.in-Routes.routes.now c.in-Routes.horizon)
     (asks ∙ ap (λ (r : code.Request). Some (requested r)) c.in-Routes.is) (network_file c.in-Routes.file.now) (routes_file c.in-Routes.routes.now ∷ []) refl refl
     c.in_ok-net-in-Routes.net (c.in_ok-net-in-Routes.routes.items ∷ []) c.in_ok-net-in-Routes.ensures.read c.distribute.result (c.distribute.ensures shelf c.in-Routes.file.now c.in-Routes.routes.now told)
+
+pub resume_to-requires : goal.resume_to-requires
+resume_to-requires g c = omega (arith, c.in_ok-net-in-Resume.ensures.within, c.deref-in-Resume.ensures.len)
+
+pub returns-in_ok-net-in-Resume : goal.returns-in_ok-net-in-Resume
+returns-in_ok-net-in-Resume g c words asks =
+    let shelf : Visit = (record {
+      told = g.S.Shelf.told c.args.shelf.now;
+      asked_before = g.S.Shelf.asked c.args.shelf.now;
+      asked_now = g.S.Shelf.asked c.fetch_network_with-in-Resume.new.shelf;
+      faults_before = g.S.Shelf.faults c.args.shelf.now;
+      faults_now = g.S.Shelf.faults c.fetch_network_with-in-Resume.new.shelf;
+      taken = g.S.Shelf.taken c.fetch_network_with-in-Resume.new.shelf;
+    }) in
+    let told = subst (λ (t : List ℕ). IsTold shelf (report_file c.in-Resume.report.now) t) (sym c.deref-in-Resume.ensures.value) c.in_ok-net-in-Resume.ensures.read.2.0 in
+    given words shelf (Resume c.in-Resume.file.now c.in-Resume.report.now c.in-Resume.horizon c.in-Resume.phases c.in-Resume.patterns)
+    (asks ∙ ap (λ (r : code.Request). Some (requested r)) c.in-Resume.is) (network_file c.in-Resume.file.now) (report_file c.in-Resume.report.now ∷ []) refl refl
+    c.in_ok-net-in-Resume.net (c.in_ok-net-in-Resume.report.items ∷ []) c.in_ok-net-in-Resume.ensures.read c.resume_to.result (c.resume_to.ensures shelf c.in-Resume.file.now c.in-Resume.report.now told)
