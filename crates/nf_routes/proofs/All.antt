@@ -1,5 +1,5 @@
 -- The loading of all links, one after the other, as the list has it.
-use Rattle.std.proofs.Common.{◌≡◌, ℕ, zero, suc, ◌+◌, ◌<◌, ◌≤◌, List, [], ◌∷◌, ◌++◌, length, take, drop, refl, sym, ap, subst, ◌∙◌, arith}
+use Rattle.std.proofs.Common.{◌≡◌, ℕ, zero, suc, ◌+◌, ◌≤◌, List, [], ◌∷◌, ◌++◌, length, take, drop, sym, ap, subst, ◌∙◌, arith}
 use Rattle.std.specs.Prelude.{Option, Some, Ok, slice_get}
 use Rattle.std.proofs.lemmas.List.{drop_all, take_all, take-append-drop}
 use Rattle.nf_rational.specs.Rational.{ℚ}
@@ -11,7 +11,7 @@ use Rattle.nf_work.specs.Passing.{Passing}
 use Rattle.nf_work.specs.Checked.{Checked, Stops, at_part, ◌>>=◌}
 use Rattle.nf_model.specs.Network.{Link, Network, IsLink, IsNetwork}
 use Rattle.nf_curve.proofs.Exits.{after_err, was_ok, stops_on}
-use Rattle.nf_routes_lists.specs.Routes.{Route, AreRoutes, HoldCircle, all_pairs, is_taken, loading_order, takes_all}
+use Rattle.nf_routes_lists.specs.Routes.{Route, AreRoutes, HoldCircle, all_pairs, loading_order}
 use Rattle.nf_routes_lists.specs.RoutesList.{SoFar, load_here, load_all}
 use Rattle.nf_routes_laws.proofs.Ordering.{takes_all-straight}
 use Rattle.nf_route.proofs.Taking.{IsPlaced, order_placed}

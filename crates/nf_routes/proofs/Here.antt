@@ -1,6 +1,6 @@
 -- The loading of a link, step by step, as the list has it.
-use Rattle.std.proofs.Common.{◌≡◌, ℕ, List, [], ◌∷◌, set, refl, sym, ap, subst, ◌∙◌}
-use Rattle.std.specs.Prelude.{Option, Some, Ok, Err}
+use Rattle.std.proofs.Common.{◌≡◌, ℕ, List, [], ◌∷◌, set, sym, ◌∙◌}
+use Rattle.std.specs.Prelude.{Some, Ok, Err}
 use Rattle.nf_rational.specs.Rational.{ℚ}
 use Rattle.nf_rational.specs.Operations.{0ℚ}
 use Rattle.nf_rational.specs.Order.{◌≤ℚ◌}
@@ -15,7 +15,7 @@ use Rattle.nf_model_laws.proofs.Earliest.{IsPositive-link}
 use Rattle.nf_load_lists.specs.Loading.{Loaded, checked_loading}
 use Rattle.nf_curve.proofs.Exits.{after_err, after_ok, was_ok}
 use Rattle.nf_routes_lists.specs.Routes.{Route, all_pairs}
-use Rattle.nf_routes_lists.specs.RoutesList.{LoadedLink, SoFar, begins_with, begin_if, end_by, begin_all, sum_from, next_all, load_here}
+use Rattle.nf_routes_lists.specs.RoutesList.{SoFar, begins_with, begin_if, end_by, begin_all, sum_from, next_all, load_here}
 use Rattle.nf_share.specs.Amounts.{IsAmount, AreExits}
 use Rattle.nf_share.proofs.Amounts.{no_amount, loaded_exits}
 use Rattle.nf_routes.specs.Standing.{Along, MayBegin, Sends, MayLoad}

@@ -1,13 +1,12 @@
 -- What holds of a route and what it has sent, from link to link.
 use Rattle.std.proofs.Common.{◌≡◌, ◌≢◌, ℕ, zero, suc, ◌<◌, List, [], ◌∷◌, ◌++◌, length, ⊎_elim, Bool, true, false, not, ◌&&◌, ◌||◌, eqb, refl, sym, ap, subst, ◌∙◌, arith}
-use Rattle.std.specs.Prelude.{Ok, Err, Some, map, slice_get}
+use Rattle.std.specs.Prelude.{Ok, Some, slice_get}
 use Rattle.std.specs.List.{AllByRecursion, list_all}
 use Rattle.std.proofs.lemmas.Bool.Decides.{eqb_tells}
 use Rattle.nf_rational.specs.Rational.{ℚ}
 use Rattle.nf_rational.specs.Operations.{0ℚ}
 use Rattle.nf_rational.specs.Order.{◌≤ℚ◌}
 use Rattle.nf_work.specs.Passing.{Passing}
-use Rattle.nf_work.specs.Checked.{Checked, ◌>>=◌}
 use Rattle.nf_model.specs.Curve.{Point}
 use Rattle.nf_model.specs.Network.{ArePieces}
 use Rattle.nf_curve_lists.specs.Short.{checked_short}
@@ -18,7 +17,6 @@ use Rattle.nf_load_laws.proofs.Cumulative.{checked_cumulative-is}
 use Rattle.nf_plain_laws.proofs.Results.{same_Ok}
 use Rattle.nf_routes_lists.specs.Routes.{Route, pairs_of, all_pairs, is_taken}
 use Rattle.nf_routes_lists.specs.RoutesList.{begins_with, goes_over, last_entry, next_entry, begin_if, add_if, sum_from, next_if}
-use Rattle.nf_curve_lists.specs.Sums.{checked_sum}
 use Rattle.nf_route.proofs.Pairs.{all-append, test}
 use Rattle.nf_route.proofs.Taking.{taken-push}
 use Rattle.nf_share.specs.Amounts.{IsAmount, AreExits}

@@ -1,6 +1,6 @@
 -- What holds of what is loaded so far, from link to link.
-use Rattle.std.proofs.Common.{◌≡◌, ◌≢◌, ℕ, zero, suc, ◌+◌, ◌<◌, ◌≤◌, List, [], ◌∷◌, ◌++◌, length, take, drop, set, ⊎_elim, Bool, true, false, eqb, ◌&&◌, ◌||◌, refl, sym, ap, subst, ◌∙◌, arith}
-use Rattle.std.specs.Prelude.{Option, Some, None, Ok, map, slice_get}
+use Rattle.std.proofs.Common.{◌≡◌, ◌≢◌, ℕ, zero, suc, ◌+◌, ◌<◌, ◌≤◌, List, [], ◌∷◌, ◌++◌, length, set, ⊎_elim, Bool, true, false, eqb, ◌&&◌, ◌||◌, refl, sym, ap, subst, ◌∙◌, arith}
+use Rattle.std.specs.Prelude.{Option, Some, None, Ok, slice_get}
 use Rattle.std.specs.List.{list_all, range_with_len}
 use Rattle.std.proofs.lemmas.List.{length-set, length-map}
 use Rattle.std.proofs.lemmas.Option.{slice_get_within}
@@ -10,14 +10,12 @@ use Rattle.nf_rational.specs.Operations.{0ℚ}
 use Rattle.nf_rational.specs.Order.{◌≤ℚ◌}
 use Rattle.nf_rational_laws.proofs.Chains.{≤ℚ_trans}
 use Rattle.nf_work.specs.Passing.{Passing}
-use Rattle.nf_work.specs.Checked.{Checked, ◌>>=◌}
 use Rattle.nf_model.specs.Curve.{Point}
 use Rattle.nf_model.specs.Network.{Link, Network, IsLink, IsNetwork, ArePieces, hops}
 use Rattle.nf_model.specs.Walk.{IsWalk}
 use Rattle.nf_model_laws.proofs.Earliest.{IsPositive-link}
 use Rattle.nf_curve_laws.proofs.Operations.{then_ok}
 use Rattle.nf_load_lists.specs.Loading.{Loaded, checked_loading}
-use Rattle.nf_plain_laws.proofs.Entries.{entry}
 use Rattle.nf_plain_laws.proofs.Results.{same_Ok}
 use Rattle.nf_routes_lists.specs.Routes.{Route, AreRoutes, all_pairs, is_taken, loading_order, takes_all}
 use Rattle.nf_routes_lists.specs.RoutesList.{LoadedLink, SoFar, begins_with, goes_over, end_by, begin_if, begin_all, sum_from, next_if, next_all, load_here}
@@ -25,9 +23,9 @@ use Rattle.nf_route.proofs.Taking.{taken-push, IsPlaced}
 use Rattle.nf_share.specs.Amounts.{IsAmount, AreExits}
 use Rattle.nf_share.proofs.Amounts.{no_amount, loaded_exits}
 use Rattle.nf_routes.specs.Beginning.{nothing_loaded, nothing_sent}
-use Rattle.nf_routes.specs.Standing.{Along, MayBegin, Sends, MayLoad, AreLoaded, HaveSent, IsComplete}
+use Rattle.nf_routes.specs.Standing.{Along, MayBegin, Sends, MayLoad, IsComplete}
 use Rattle.nf_routes.proofs.Greatest.{end-least}
-use Rattle.nf_routes.proofs.Folds.{Sent, step_all, begin_all-is, next_all-is, steps_keep, along_as, along-count}
+use Rattle.nf_routes.proofs.Folds.{Sent, begin_all-is, next_all-is, steps_keep, along_as}
 use Rattle.nf_routes.proofs.Sound.{IsSound, IsBegun, IsReady, sends_here, sound_first, all_ready, begun_keeps, inflow_amount, next_keeps}
 
 -- with these links taken, they are loaded

@@ -1,5 +1,5 @@
 -- Travels over loaded links: by what is loaded, and that no time of them is negative.
-use Rattle.std.proofs.Common.{◌≡◌, ℕ, zero, suc, ◌+◌, ◌<◌, ◌≤◌, List, [], ◌∷◌, length, drop, ⊎_elim, Bool, true, false, refl, sym, ap, subst, ◌∙◌, arith}
+use Rattle.std.proofs.Common.{◌≡◌, ℕ, zero, suc, ◌+◌, ◌≤◌, List, [], ◌∷◌, length, drop, ⊎_elim, Bool, true, false, refl, sym, ap, subst, ◌∙◌, arith}
 use Rattle.std.specs.Prelude.{Option, Some, None, Ok, Err, map, slice_get, unwrap_or, if◌then◌else◌}
 use Rattle.std.proofs.lemmas.List.{drop_all, length-map}
 use Rattle.std.proofs.lemmas.Option.{slice_get_within}
@@ -9,7 +9,6 @@ use Rattle.nf_rational.specs.Order.{◌≤ℚ◌, ◌<ℚ◌}
 use Rattle.nf_rational_laws.proofs.Order.{≤ℚ_antisymm, lt_or_le_ℚ}
 use Rattle.nf_rational_laws.proofs.Chains.{≤ℚ_refl, ≤ℚ_trans}
 use Rattle.nf_work.specs.declared.Halt.{Halt}
-use Rattle.nf_work.specs.declared.PassedAt.{PassedAt}
 use Rattle.nf_work.specs.declared.Part.TheVariants.{Load}
 use Rattle.nf_work.specs.Passing.{Passing}
 use Rattle.nf_work.specs.Checked.{Checked, Stops, at_part, each, ◌>>=◌}
@@ -28,8 +27,8 @@ use Rattle.nf_routes_lists.specs.Routes.{Route, AreRoutes}
 use Rattle.nf_routes_lists.specs.RoutesList.{LoadedLink, SoFar, exit_of, loaded_or, travel_on}
 use Rattle.nf_routes_laws.proofs.Arriving.{walk-links}
 use Rattle.nf_share.specs.Amounts.{AreExits}
-use Rattle.nf_routes.specs.Standing.{AreLoaded, IsComplete}
-use Rattle.nf_routes.specs.Travels.{HaveExits, GoOver, GoOverAll, travel_along}
+use Rattle.nf_routes.specs.Standing.{IsComplete}
+use Rattle.nf_routes.specs.Travels.{HaveExits, GoOverAll, travel_along}
 use Rattle.nf_routes.proofs.Folds.{drop_at}
 
 -- ---- the exits by what is loaded

@@ -2,7 +2,6 @@
 use Rattle.std.specs.Prelude.{List, refl}
 use Rattle.std.specs.Coded.{Coded, code_by, coded×}
 use Rattle.nf_rational.specs.Rational.{ℚ, coded_ℚ}
-use Rattle.nf_model.specs.Curve.{Point}
 use Rattle.nf_model.specs.Codes.{coded_points}
 use Rattle.nf_load_lists.specs.Loading.{Loaded}
 use Rattle.nf_routes_lists.specs.RoutesList.{LoadedLink}

@@ -31,12 +31,7 @@ fn exit_end(links: &[Option<LoadedLink>], link: LinkId) -> Q
 }
 
 // The greatest of a time and these exits of the links right before a link, on one route.
-fn end_along(
-    along: &[LinkId],
-    links: &[Option<LoadedLink>],
-    link: LinkId,
-    least: Q,
-) -> Q
+fn end_along(along: &[LinkId], links: &[Option<LoadedLink>], link: LinkId, least: Q) -> Q
     ensures { result ≡ end_by least (pairs_of along.now) links.now link }
 {
     let mut end = least;
@@ -49,12 +44,7 @@ fn end_along(
 }
 
 /// The end of a link.
-pub(crate) fn end_of(
-    routes: &[Route],
-    links: &[Option<LoadedLink>],
-    link: LinkId,
-    horizon: Q,
-) -> Q
+pub(crate) fn end_of(routes: &[Route], links: &[Option<LoadedLink>], link: LinkId, horizon: Q) -> Q
     ensures { result ≡ end_by horizon (all_pairs (routes_of routes.now)) links.now link }
 {
     let mut end = horizon;

@@ -37,10 +37,7 @@ pub struct Routed {
 }
 
 // The ends and the loadings of links.
-fn ended(
-    alloc: Global,
-    links: Vec<Option<LoadedLink>>,
-) -> Result<(Vec<Q>, Vec<Loaded>), AllocError>
+fn ended(alloc: Global, links: Vec<Option<LoadedLink>>) -> Result<(Vec<Q>, Vec<Loaded>), AllocError>
     requires { AreLoaded links.items }
     ensures ends { IfOk result (λ parts. parts.0.items ≡ map (end_or passes_Q) links.items) }
     ensures loaded { IfOk result (λ parts. map loaded_of parts.1.items ≡ map (loaded_or passes_Q) links.items) }
@@ -57,10 +54,7 @@ fn ended(
 }
 
 // What routes sent into their links, and what of it has arrived.
-fn parted(
-    alloc: Global,
-    entries: Vec<Stages>,
-) -> Result<(Vec<Vec<Curve>>, Vec<Curve>), AllocError>
+fn parted(alloc: Global, entries: Vec<Stages>) -> Result<(Vec<Vec<Curve>>, Vec<Curve>), AllocError>
     requires { HaveSent entries.items }
     ensures entries { IfOk result (λ parts. map (λ sent. map (λ c. c.points) sent.items) parts.0.items ≡ map (but_last passes_Q) entries.items) }
     ensures arrivals { IfOk result (λ parts. map (λ c. c.points) parts.1.items ≡ map last_entry entries.items) }

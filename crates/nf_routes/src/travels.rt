@@ -29,12 +29,7 @@ fn departures(alloc: Global, horizon: Q) -> Result<Curve, AllocError>
 }
 
 // The exits of the links of a route one after the other, by the departure.
-fn travel(
-    alloc: Global,
-    links: &[Loaded],
-    route: &Route,
-    horizon: Q,
-) -> Result<Curve, Halt<Q>>
+fn travel(alloc: Global, links: &[Loaded], route: &Route, horizon: Q) -> Result<Curve, Halt<Q>>
     requires horizon { 0ℚ ≤ℚ horizon }
     requires exits { HaveExits (map loaded_of links.now) }
     requires over { GoOver (map loaded_of links.now) route.now.route.links }

@@ -11,8 +11,7 @@ use Rattle.nf_work.specs.Passing.{Passing}
 use Rattle.nf_work.specs.Checked.{checked, each}
 use Rattle.nf_work.specs.declared.Op.TheVariants.{Sum}
 use Rattle.nf_model.specs.Curve.{Point, value, IsCurve, NeverFalls}
-use Rattle.nf_model.specs.Network.{Piece, ArePieces}
-use Rattle.nf_model.specs.Queue.{IsExit}
+use Rattle.nf_model.specs.Network.{Piece}
 use Rattle.nf_model_laws.specs.Capacity.{IsPositive}
 use Rattle.nf_model_laws.proofs.Curves.{NeverFalls-value}
 use Rattle.nf_model_laws.proofs.Queues.{IsExit-after, IsExit-monotone}
@@ -25,10 +24,9 @@ use Rattle.nf_curve_laws.proofs.Following.{FollowsFrom}
 use Rattle.nf_curve_laws.proofs.Values.{Cut, checked_cut-is, follows-curve, follows-values}
 use Rattle.nf_curve_laws.proofs.Short.{checked_short-is}
 use Rattle.nf_curve_laws.proofs.Sums.{checked_sum-is}
-use Rattle.nf_load_lists.specs.Cumulative.{checked_cumulative}
 use Rattle.nf_load_lists.specs.Loading.{Waits, Leaves, Loaded, queue_point, exit_point, outflow_points, leaves, all_waits, checked_loading}
 use Rattle.nf_load_lists.specs.Meanings.{IsCumulative}
-use Rattle.nf_load_laws.proofs.Cumulative.{checked_cumulative-is, follows-values_rise}
+use Rattle.nf_load_laws.proofs.Cumulative.{follows-values_rise}
 use Rattle.nf_load_laws.proofs.Functions.{exit_at, exit_at-is}
 use Rattle.nf_load_laws.proofs.Waiting.{AllWaits, all_waits-chain}
 use Rattle.nf_load_laws.proofs.Leaving.{AllLeaves, leaves-are, exit-follows}

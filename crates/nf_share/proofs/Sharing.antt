@@ -1,5 +1,5 @@
 -- The points of what a route sends on: their times and their values rise.
-use Rattle.std.proofs.Common.{◌≡◌, List, [], ◌∷◌, ◌⊎◌, ⊎_elim, Bool, true, false, refl, sym, ap, subst, ◌∙◌}
+use Rattle.std.proofs.Common.{◌≡◌, List, [], ◌∷◌, ⊎_elim, Bool, true, false, refl, sym, ap, subst, ◌∙◌}
 use Rattle.std.specs.Prelude.{Result, Ok, Err, IfOk}
 use Rattle.nf_rational.specs.Rational.{ℚ}
 use Rattle.nf_rational.specs.Operations.{0ℚ}

@@ -78,11 +78,7 @@ pub(crate) fn next_moment(left: &[Point], right: &[Point], now: &Moment) -> Opti
 }
 
 /// Both values at a time.
-pub(crate) fn sides_at(
-    left: &[Point],
-    right: &[Point],
-    now: &Moment,
-) -> Result<Sides, PassedAt<Q>>
+pub(crate) fn sides_at(left: &[Point], right: &[Point], now: &Moment) -> Result<Sides, PassedAt<Q>>
     requires left { IsCurve left.now }
     requires right { IsCurve right.now }
     requires there { IsMoment left.now right.now now.now }

@@ -1,5 +1,4 @@
-use Rattle.std.proofs.Common.{◌≡◌, ℕ, ◌+◌, ◌-◌, ◌<◌, ◌≤◌, drop, length, refl, sym, ap, ◌∙◌, arith}
-use Rattle.std.specs.Prelude.{Option}
+use Rattle.std.proofs.Common.{◌+◌, ◌-◌, ◌<◌, ◌≤◌, drop, length, refl, sym, ap, ◌∙◌, arith}
 use Rattle.std.proofs.lemmas.Option.{slice_get_read}
 use Rattle.nf_rational.specs.Rational.{ℚ}
 use Rattle.nf_plain_laws.proofs.Entries.{entry}
@@ -17,11 +16,11 @@ loop-i-preserved c =
     let here = slice_get_read c.args.along.now _ c.loop-i.i c.index-along-i.result refl inside c.index-along-i.is in
     elim c.if-eq.branch [
       | then-eq w ↦ rw w.end-is (
-          ap (λ (z : ℚ). end_by z (pairs_of (drop (c.loop-i.i + 1 - 1) c.args.along.now)) c.args.links.now c.args.link) (w.greater-end.ensures ∙ ap (max_ℚ c.loop-i.end) w.exit_end.ensures)
-              ∙ along_here c.args.along.now c.args.links.now c.args.link c.loop-i.i c.loop-i.end _ c.loop-i.invariant.1 c.loop-i.invariant.0 w.index-along-i-then-eq.result c.index-along-i.result
-              (slice_get_read c.args.along.now _ (c.loop-i.i - 1) w.index-along-i-then-eq.result refl before w.index-along-i-then-eq.is) here (sym c.eq.ensures ∙ w.if-eq.true),
-          omega arith,
-        )
+        ap (λ (z : ℚ). end_by z (pairs_of (drop (c.loop-i.i + 1 - 1) c.args.along.now)) c.args.links.now c.args.link) (w.greater-end.ensures ∙ ap (max_ℚ c.loop-i.end) w.exit_end.ensures)
+            ∙ along_here c.args.along.now c.args.links.now c.args.link c.loop-i.i c.loop-i.end _ c.loop-i.invariant.1 c.loop-i.invariant.0 w.index-along-i-then-eq.result c.index-along-i.result
+            (slice_get_read c.args.along.now _ (c.loop-i.i - 1) w.index-along-i-then-eq.result refl before w.index-along-i-then-eq.is) here (sym c.eq.ensures ∙ w.if-eq.true),
+        omega arith,
+      )
       | else-eq w ↦
           let one = entry c.args.along.now (c.loop-i.i - 1) before in
           rw w.end-is (

@@ -1,4 +1,3 @@
-use Rattle.std.proofs.Common.{take}
 use Rattle.nf_work.specs.Passing.{passes_Q}
 use Rattle.nf_route.specs.Kept.{routes_of}
 use Rattle.nf_routes.specs.Standing.{seen_so_far}

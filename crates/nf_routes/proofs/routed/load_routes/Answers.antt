@@ -1,10 +1,9 @@
 use Rattle.std.proofs.Common.{◌≡◌, List, map, sym, ap, subst, ◌∙◌}
 use Rattle.std.specs.Prelude.{Ok}
 use Rattle.std.proofs.lemmas.Result.{err_from_is_err_and}
-use Rattle.nf_rational.specs.Rational.{ℚ}
 use Rattle.nf_work.specs.declared.Part.TheVariants.{Load}
 use Rattle.nf_work.specs.Passing.{passes_Q}
-use Rattle.nf_work.specs.Checked.{Stops, at_part, each}
+use Rattle.nf_work.specs.Checked.{at_part, each}
 use Rattle.nf_check_lists.specs.Curves.{departures}
 use Rattle.nf_curve.proofs.Exits.{stops_on, was_ok}
 use Rattle.nf_curve.specs.Points.{Grown}
@@ -17,7 +16,7 @@ use Rattle.nf_routes_laws.proofs.Arriving.{arrive}
 use Rattle.nf_routed_laws.proofs.Routed.{routes_list-is}
 use Rattle.nf_route.specs.Kept.{routes_of}
 use Rattle.nf_routes.specs.Beginning.{all_loaded}
-use Rattle.nf_routes.specs.Standing.{seen_so_far, IsComplete}
+use Rattle.nf_routes.specs.Standing.{seen_so_far}
 use Rattle.nf_routes.specs.Travels.{HaveExits, GoOverAll, travel_along}
 use Rattle.nf_routes.proofs.Travelling.{complete_exits, complete_over}
 use Rattle.nf_routes.proofs.Whole.{load_stops, travel_stops, list_comes, same_parts}

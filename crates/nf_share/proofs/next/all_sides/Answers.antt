@@ -1,6 +1,5 @@
 use Rattle.std.proofs.Common.{◌≡◌, List, sym, ap, ◌∙◌}
 use Rattle.std.proofs.lemmas.Result.{err_from_is_err_and}
-use Rattle.nf_rational.specs.Rational.{ℚ}
 use Rattle.nf_work.specs.Passing.{passes_Q}
 use Rattle.nf_work.specs.declared.Part.TheVariants.{Load}
 use Rattle.nf_work.specs.Checked.{each}

@@ -1,11 +1,11 @@
-use Rattle.std.proofs.Common.{◌≡◌, List, [], ◌∷◌, sym, ap, subst, ◌∙◌}
+use Rattle.std.proofs.Common.{◌≡◌, List, ◌∷◌, sym, ap, subst, ◌∙◌}
 use Rattle.std.specs.Prelude.{Ok}
 use Rattle.std.proofs.lemmas.Result.{err_from_is_err_and}
 use Rattle.nf_rational.specs.Rational.{ℚ}
 use Rattle.nf_rational.specs.Operations.{0ℚ}
 use Rattle.nf_work.specs.declared.Part.TheVariants.{Load}
 use Rattle.nf_work.specs.Passing.{passes_Q}
-use Rattle.nf_work.specs.Checked.{Checked, Gives, Stops, at_part, each}
+use Rattle.nf_work.specs.Checked.{Stops, at_part, each}
 use Rattle.nf_model.specs.Curve.{Point, IsCurve}
 use Rattle.nf_curve_lists.specs.Lines.{Sides}
 use Rattle.nf_curve_lists.specs.Short.{checked_short}

@@ -1,6 +1,5 @@
 use Rattle.std.proofs.Common.{List, map, sym, ap, ◌∙◌}
 use Rattle.std.proofs.lemmas.List.{map-append}
-use Rattle.nf_rational.specs.Rational.{ℚ}
 use Rattle.nf_work.specs.Passing.{passes_Q}
 use Rattle.nf_curve.specs.Points.{Grown}
 use Rattle.nf_routes_lists.specs.RoutesList.{last_entry, but_last}
