@@ -46,7 +46,7 @@ module _ (shelf : Visit) (n : Named) (file name : List ℕ) (horizon : ℚ) (tex
 
     pub distributed_given : (routed : Routed) → by_route_list n routes horizon ≡ Ok routed → IsRouted n.net (routes_of routes) horizon routed → RoutesArrive n.net (routes_of routes) horizon routed
         → IsGiven shelf n (Routes file name horizon) (Distributed n routes horizon routed)
-    distributed_given routed e is arrives = inl (routes, routed, refl, record { read = read_so (Ok routes) read; computed = e; routed = is; arrives = arrives })
+    distributed_given routed e is arrives = inl (routes, routed, refl, record { read = read_so (Ok routes) read; computed = e; is_routed = is; arrives = arrives })
 
 -- there are curves for each link and each route
 pub routed_counts : (net : Network) (routes : List NamedRoute) (horizon : ℚ) (r : CodeRouted) → IsRouted net (routes_of routes) horizon (routed_of r)

@@ -25,7 +25,7 @@ by_route_list n routes horizon = at_part LoadPart (routes_list passes_Q n.net (r
 pub record IsDistributed (shelf : Visit) (n : Named) (file : List ℕ) (routes : List NamedRoute) (horizon : ℚ) (routed : Routed) : Type 0 where
   pub read : RoutesRead shelf n file (Ok routes)
   pub computed : by_route_list n routes horizon ≡ Ok routed
-  pub routed : IsRouted n.net (routes_of routes) horizon routed
+  pub is_routed : IsRouted n.net (routes_of routes) horizon routed
   pub arrives : RoutesArrive n.net (routes_of routes) horizon routed
 
 -- this operation of the list passes

@@ -9,6 +9,9 @@ ghost use Rattle.nf_quick.specs.Answered as answered;
 ghost use Rattle.nf_quick.specs.declared.fault.QuickFault.TheVariants as QuickFault;
 ghost use Rattle.nf_quick_lists.specs.Answers.{IsQuickFlow};
 ghost use Rattle.nf_rational.specs.Rational.{ℚ};
+ghost use Rattle.nf_formats.specs.Report.{Report};
+ghost use Rattle.nf_readings.specs.ReportFile.{report_in};
+ghost use Rattle.nf_resume.specs.Faults.{IsResumeFault};
 ghost use Rattle.nf_app.specs.Files.{Visit, report_limit};
 ghost use Rattle.nf_words.specs.Requests.{Solve, SolveForever, Show, Load, Check, Gen, Settle, Resume, Routes, CanBeAsked, request_of};
 ghost use Rattle.nf_words.specs.Requests as requests;
@@ -151,6 +154,19 @@ fn settle_to(alloc: Global, net: Network, text: &[u8]) -> Result<Outcome, Refusa
     }
 }
 
+// Why a report isn't resumed; where its flow is no equilibrium, what the check answers.
+fn refuse_resume(net: Network, fault: ResumeFault) -> Result<Outcome, Refusal>
+    ensures { (shelf : Visit) (file name : List ℕ) (horizon : ℚ) (phases patterns : ℕ) (text : List ℕ) (old : Report) → IsTold shelf (report_file name) text → report_in net text ≡ Ok old
+        → IsResumeFault passes_Q net.net old horizon fault → IsGiving shelf net (Resume file name horizon phases patterns) result }
+{
+    match fault {
+        ResumeFault::Earlier { .. } => Err(Refusal::Earlier),
+        ResumeFault::No(verdict) => Ok(Outcome::Checked { net, verdict }),
+        ResumeFault::Passed(at) => Err(Refusal::Passes(at)),
+        ResumeFault::Memory => Err(Refusal::NoMemory),
+    }
+}
+
 // The network, with the report of the run that goes on to a horizon from the report that the text is.
 fn resume_to(
     alloc: Global,
@@ -170,10 +186,7 @@ fn resume_to(
             horizon,
             solution,
         }),
-        Err(ResumeFault::Earlier { .. }) => Err(Refusal::Earlier),
-        Err(ResumeFault::No(verdict)) => Ok(Outcome::Checked { net, verdict }),
-        Err(ResumeFault::Passed(at)) => Err(Refusal::Passes(at)),
-        Err(ResumeFault::Memory) => Err(Refusal::NoMemory),
+        Err(fault) => refuse_resume(net, fault),
     }
 }
 

@@ -1,12 +1,7 @@
-use Rattle.std.proofs.Common.{◌≡◌, subst, inl, inr, refl}
 use Rattle.std.proofs.lemmas.Result.{err_from_is_err_and}
-use Rattle.nf_rational.specs.Order.{◌<ℚ◌}
-use Rattle.nf_work.specs.Passing.{passes_Q}
 use Rattle.nf_reader.specs.Files.{report_of}
 use Rattle.nf_phase.specs.Solution.{report_in}
-use Rattle.nf_resume.specs.Faults.{IsResumeFault}
-use Rattle.nf_resume.specs.declared.fault.ResumeFault.{ResumeFault}
-use Rattle.nf_app.proofs.ResumeGiven.{old_refused, gone_on_given, no_start_given, passes_given, earlier_given}
+use Rattle.nf_app.proofs.ResumeGiven.{old_refused, gone_on_given}
 use Rattle.nf_app.proofs.answering.resume_to.Goals as goal
 
 pub resume-requires : goal.resume-requires
@@ -25,14 +20,6 @@ returns-in-Ok c shelf file name told =
       e.formed,
     )
 
-pub returns-in-Earlier : goal.returns-in-Earlier
-returns-in-Earlier c shelf file name told = ?
-
-pub returns-in-No : goal.returns-in-No
-returns-in-No c shelf file name told = ?
-
-pub returns-in-Passed : goal.returns-in-Passed
-returns-in-Passed c shelf file name told = ?
-
-pub returns-in-Memory : goal.returns-in-Memory
-returns-in-Memory c shelf file name told = inl refl
+pub returns-in-Err : goal.returns-in-Err
+returns-in-Err c shelf file name told =
+    c.refuse_resume.ensures shelf file name c.args.horizon c.args.budgets.phases c.args.budgets.patterns c.args.text.now (report_of c.in_ok-report.report) told c.in_ok-report.ensures.reads c.in-Err.ensures.fault
