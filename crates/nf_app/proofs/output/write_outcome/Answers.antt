@@ -8,6 +8,10 @@ use Rattle.nf_readings.specs.Texts.{load_text}
 use Rattle.nf_load.specs.declared.loading.Loaded as code
 use Rattle.nf_load.specs.Loadings.{loaded_of}
 use Rattle.nf_complete_lists.specs.SettleText.{settled_text}
+use Rattle.nf_forever_lists.specs.ForeverText.{forever_text}
+use Rattle.nf_forever.specs.Seen.{forever_in}
+use Rattle.nf_routes_lists.specs.RoutesText.{routed_text}
+use Rattle.nf_routes.specs.Routed.{routed_of}
 use Rattle.nf_app.specs.declared.outcome.Outcome.{Outcome}
 use Rattle.nf_app.specs.QuickText.{arrival_text}
 use Rattle.nf_app.specs.Outcomes.{text_in, HasText}
@@ -37,3 +41,12 @@ returns-in-Quickest g c =
 pub returns-in-Settled : goal.returns-in-Settled
 returns-in-Settled g c =
     same_text (settled_text c.in-Settled.net c.in-Settled.settled.pattern c.in-Settled.settled.flows.items) (text_in c.args.outcome.now) (sym (ap text_in c.in-Settled.is)) c.write_settled.ensures
+
+pub returns-in-SolvedForever : goal.returns-in-SolvedForever
+returns-in-SolvedForever g c =
+    same_text (forever_text c.in-SolvedForever.net (forever_in c.in-SolvedForever.forever)) (text_in c.args.outcome.now) (sym (ap text_in c.in-SolvedForever.is)) c.write_forever.ensures
+
+pub returns-in-Distributed : goal.returns-in-Distributed
+returns-in-Distributed g c =
+    same_text (routed_text c.in-Distributed.net c.in-Distributed.routes c.in-Distributed.horizon (routed_of c.in-Distributed.routed)) (text_in c.args.outcome.now)
+    (sym (ap text_in c.in-Distributed.is)) c.write_routed.ensures
