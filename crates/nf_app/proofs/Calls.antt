@@ -77,9 +77,13 @@ network_missing shelf file others Refusal.ShelfFailed h = h
 network_missing shelf file others Refusal.ShelfTooLong h = h
 network_missing shelf file others (Refusal.Malformed rule line) h = absurd h
 network_missing shelf file others (Refusal.MalformedLoads rule line) h = h
+network_missing shelf file others (Refusal.MalformedFlows rule line) h = h
+network_missing shelf file others (Refusal.MalformedRoutes rule line) h = h
 network_missing shelf file others (Refusal.MalformedReport rule line) h = h
 network_missing shelf file others (Refusal.Passes at) h = h
 network_missing shelf file others Refusal.Unbounded h = h
+network_missing shelf file others Refusal.NotThin h = h
+network_missing shelf file others Refusal.Earlier h = h
 
 -- ---- a request with its files
 module _ (words : List (List ℕ)) (shelf : Visit) (request : Request) (asks : request_of words ≡ Some request) (file : Wanted) (others : List Wanted)
@@ -107,9 +111,13 @@ module _ (words : List (List ℕ)) (shelf : Visit) (request : Request) (asks : r
   refused Refusal.ShelfTooLong h = inl (h.0, reached h.0 h.1, h.2)
   refused (Refusal.Malformed rule line) h = inl (request, read_of (Err (record { rule = rule; line = line })) h.0 h.1)
   refused (Refusal.MalformedLoads rule line) h = absurd h
+  refused (Refusal.MalformedFlows rule line) h = absurd h
+  refused (Refusal.MalformedRoutes rule line) h = absurd h
   refused (Refusal.MalformedReport rule line) h = absurd h
   refused (Refusal.Passes at) h = absurd h
   refused Refusal.Unbounded h = absurd h
+  refused Refusal.NotThin h = absurd h
+  refused Refusal.Earlier h = absurd h
 
   -- there is a network
   module _ (n : Named) (texts : List (List ℕ)) (h : AreRead shelf file others (Ok (n, texts))) where
@@ -152,9 +160,13 @@ no_text Refusal.ShelfFailed = refl
 no_text Refusal.ShelfTooLong = refl
 no_text (Refusal.Malformed rule line) = refl
 no_text (Refusal.MalformedLoads rule line) = refl
+no_text (Refusal.MalformedFlows rule line) = refl
+no_text (Refusal.MalformedRoutes rule line) = refl
 no_text (Refusal.MalformedReport rule line) = refl
 no_text (Refusal.Passes at) = refl
 no_text Refusal.Unbounded = refl
+no_text Refusal.NotThin = refl
+no_text Refusal.Earlier = refl
 
 nothing_more : (took : Option (List ℕ)) → took ≡ with_more took []
 nothing_more None = refl

@@ -1,13 +1,17 @@
 -- Where what the words ask has its answer, an answer that comes is the whole one, or that memory is wanting.
 use Rattle.std.proofs.Common.{◌≡◌, ◌⊎◌, ℕ, ◌<◌, ◌≤◌, List, [], ◌∷◌, ◌++◌, length, refl, sym, ◌∙◌, ap, subst, inl, inr, arith}
-use Rattle.std.specs.Prelude.{Option, Some, None, IfSome, Result, Ok, Err}
+use Rattle.std.specs.Prelude.{Option, Some, None, IfSome, IsSome, Result, Ok, Err}
 use Rattle.std.specs.List.{All}
 use Rattle.std.proofs.lemmas.List.Elements.{All-cons, All-nil, All-head, All-tail}
 use Rattle.nf_rational.specs.Rational.{ℚ}
+use Rattle.nf_rational.specs.Order.{◌≤ℚ◌}
+use Rattle.nf_rational_laws.proofs.Order.{not_both_ℚ}
 use Rattle.nf_work.specs.Passing.{passes_Q}
 use Rattle.nf_work.specs.declared.PassedAt.{PassedAt}
 use Rattle.nf_edge.specs.Faults.{Rose}
 use Rattle.nf_model.specs.Network.{Piece}
+use Rattle.nf_model.specs.Equilibrium.{Equilibrium}
+use Rattle.nf_formats.specs.declared.Cause.{Cause}
 use Rattle.nf_formats.specs.Named.{Named}
 use Rattle.nf_formats.specs.NetLines.{Broken}
 use Rattle.nf_formats.specs.NetFile.{Reads}
@@ -21,17 +25,23 @@ use Rattle.nf_check_lists.specs.CheckList.{check_list}
 use Rattle.nf_readings.specs.LoadsFile.{LoadsBroken, loads_in}
 use Rattle.nf_readings.specs.ReportFile.{ReportBroken, report_in}
 use Rattle.nf_phase.specs.Solution.{bounds_of}
+use Rattle.nf_complete_lists.specs.FlowsFile.{GivenFlows, FlowsBroken, flows_in}
+use Rattle.nf_forever_lists.specs.ForeverRun.{Forever}
+use Rattle.nf_routes_lists.specs.RoutesFile.{RoutesBroken, NamedRoute, routes_in}
+use Rattle.nf_forever_laws.proofs.OneForever.{one_forever}
 use Rattle.nf_app.specs.declared.status.Status.{Status}
 use Rattle.nf_app.specs.Files.{Wanted, Visit, FetchedTo, HasTooMany}
-use Rattle.nf_words.specs.Requests.{Request, Solve, Show, Load, Check, Quick, Gen, request_of}
+use Rattle.nf_words.specs.Requests.{Request, Solve, SolveForever, Show, Load, Check, Quick, Gen, Settle, Resume, Routes, request_of}
 use Rattle.nf_gen.specs.Ladder.{ladder}
-use Rattle.nf_app.specs.Requests.{budgets_of, files_of, generated_by, network_file, loads_file, report_file}
-use Rattle.nf_app.specs.Answers.{Answer, Solved, Shown, Loaded, Checked, Quickest, TooManyWalks, Generated, NoMemory, NoRequest, ShelfFailed, ShelfTooLong, Malformed, MalformedLoads, MalformedReport, Passes, Unbounded, status_of, status_of_stop, status_of_verdict}
+use Rattle.nf_app.specs.Requests.{budgets_of, files_of, generated_by, network_file, loads_file, flows_file, routes_file, report_file}
+use Rattle.nf_app.specs.Answers.{Answer, Solved, SolvedForever, Shown, Loaded, Checked, Quickest, TooManyWalks, Generated, Settled, Distributed, NoMemory, NoRequest, ShelfFailed, ShelfTooLong, Malformed, MalformedLoads, MalformedFlows, MalformedRoutes, MalformedReport, Passes, Unbounded, NotThin, Earlier, status_of, status_of_stop, status_of_forever, status_of_verdict}
 use Rattle.nf_app.specs.CheckGiven.{ReportReads}
+use Rattle.nf_app.specs.SettleGiven.{FlowsRead}
+use Rattle.nf_app.specs.RoutesGiven.{RoutesRead, by_route_list}
 use Rattle.nf_app.specs.Given.{LoadsRead, loading_list, IsGiven}
 use Rattle.nf_app.specs.Sinks.{Taken}
 use Rattle.nf_app.specs.Runs.{Call, Asks, Reached, NetworkReads, Read, IsRefused, IsComputed, IsAnswer, IsShown}
-use Rattle.nf_app.specs.Completeness.{Tells, TellsNetwork, TellsLoads, CanBeShown, CanBeSolved, CanBeLoaded, CanBeGenerated, CanBeJudged, CanBeQuick, HasAnswer, EndsWell, EndsJudged, EndsQuick, IsComplete}
+use Rattle.nf_app.specs.Completeness.{Tells, TellsNetwork, TellsLoads, TellsFlows, CanBeShown, CanBeSolved, CanBeLoaded, CanBeGenerated, CanGoOn, CanBeDistributed, CanBeJudged, CanBeQuick, CanBeSettled, CanBeResumed, HasAnswer, EndsWell, EndsJudged, EndsQuick, EndsSettled, EndsResumed, IsComplete}
 
 in_the_middle : (P : Wanted → Type 0) (xs : List Wanted) (y : Wanted) (ys : List Wanted) → All P (xs ++ y ∷ ys) → P y
 in_the_middle P [] y ys h = All-head P y ys h
@@ -77,12 +87,19 @@ module _ (call : Call) (no_fault : ¬ Rose call.shelf.faults_before call.shelf.f
     refused_well (Loaded n horizon loaded) h = absurd h
     refused_well (MalformedLoads broken) h = absurd h
     refused_well (Checked n verdict) h = absurd h
+    refused_well (MalformedFlows broken) h = absurd h
+    refused_well (MalformedRoutes broken) h = absurd h
     refused_well (MalformedReport broken) h = absurd h
     refused_well (Passes at) h = absurd h
     refused_well (Quickest n quick arrival) h = absurd h
     refused_well (TooManyWalks n augments walks) h = absurd h
     refused_well Unbounded h = absurd h
     refused_well (Generated number rungs n made report) h = absurd h
+    refused_well (SolvedForever n forever) h = absurd h
+    refused_well (Settled n pattern flows) h = absurd h
+    refused_well NotThin h = absurd h
+    refused_well Earlier h = absurd h
+    refused_well (Distributed n routes horizon routed) h = absurd h
 
     -- what is computed is computed for this request and this network
     pub ended_well : ((answer : Answer) → IsGiven call.shelf n asked_for answer → Ends (status_of answer)) → (answer : Answer) → IsAnswer call answer → Ends (status_of answer)
@@ -171,11 +188,47 @@ module _ (call : Call) (no_fault : ¬ Rose call.shelf.faults_before call.shelf.f
       one_report passes_Q (ladder can.number can.rungs).net (bounds_of can.horizon (budgets_of can.phases can.patterns)) g.0 can.reaches.report g.3.run can.reaches.is_report in
       inl (ap status_of g.2 ∙ ap (λ (r : Report). status_of_stop r.stop) same ∙ ap status_of_stop can.reaches.no_stop))
 
+  goes_on_well : CanGoOn call → (answer : Answer) → IsAnswer call answer → EndsWell (status_of answer)
+  goes_on_well can = answered_well call no_fault (SolveForever can.file can.phases can.patterns) can.asks
+      (All-cons (Tells call.shelf) (network_file can.file) [] can.network.tells (All-nil (Tells call.shelf))) can.file [] refl refl can.network EndsWell (inr refl)
+      (λ answer g.
+      let same : can.goes_on.forever ≡ g.0 = one_forever passes_Q can.network.net.net can.phases can.patterns can.goes_on.forever g.0 can.goes_on.is_run g.2.run in
+      inl (ap status_of g.1 ∙ ap status_of_forever (g.2.stop.0 (subst (λ (f : Forever). IsSome f.tail) same can.goes_on.has_tail))))
+
+  module _ (can : CanBeDistributed call) where
+    -- the routes file has one reading
+    one_routes : (read : Result (List NamedRoute) RoutesBroken) → RoutesRead call.shelf can.network.net can.routes_name read → Ok can.routes.routes ≡ read
+    one_routes read h =
+        sym can.routes.reads ∙ subst (λ (told : Option (List ℕ)). IfSome told (λ text. routes_in can.network.net text ≡ read)) can.routes.tells.told h
+
+    routed_well : (answer : Answer) → IsGiven call.shelf can.network.net (Routes can.file can.routes_name can.horizon) answer → EndsWell (status_of answer)
+    routed_well answer (inl g) = inl (ap status_of g.2)
+    routed_well answer (inr (inl g)) =
+        let same : Ok can.routes.routes ≡ Ok g.2.routes = one_routes (Ok g.2.routes) g.2.read in
+        let routes : can.routes.routes ≡ g.2.routes = cc in
+        let passed : by_route_list can.network.net can.routes.routes can.horizon ≡ Err g.0 =
+        ap (λ (r : List NamedRoute). by_route_list can.network.net r can.horizon) routes ∙ g.2.passes in
+        let computed : by_route_list can.network.net can.routes.routes can.horizon ≡ Ok can.routed = can.computes in
+        let never : ⊥ = cc in
+        absurd never
+    routed_well answer (inr (inr g)) =
+        let other : Ok can.routes.routes ≡ Err g.0 = one_routes (Err g.0) g.2 in
+        let never : ⊥ = cc in
+        absurd never
+
+    distributed_well : (answer : Answer) → IsAnswer call answer → EndsWell (status_of answer)
+    distributed_well = answered_well call no_fault (Routes can.file can.routes_name can.horizon) can.asks
+        (All-cons (Tells call.shelf) (network_file can.file) (routes_file can.routes_name ∷ []) can.network.tells
+        (All-cons (Tells call.shelf) (routes_file can.routes_name) [] can.routes.tells (All-nil (Tells call.shelf))))
+        can.file (routes_file can.routes_name ∷ []) refl refl can.network EndsWell (inr refl) routed_well
+
   ends_well : HasAnswer call → (answer : Answer) → IsAnswer call answer → EndsWell (status_of answer)
   ends_well (inl can) = shown_well can
   ends_well (inr (inl can)) = solved_well can
   ends_well (inr (inr (inl can))) = loaded_well can
-  ends_well (inr (inr (inr can))) = generated_ends_well can
+  ends_well (inr (inr (inr (inl can)))) = generated_ends_well can
+  ends_well (inr (inr (inr (inr (inl can))))) = goes_on_well can
+  ends_well (inr (inr (inr (inr (inr can))))) = distributed_well can
 
 -- a verdict on a report
 judged_well : (verdict : Verdict ℕ ℕ ℚ) → EndsJudged (status_of_verdict verdict)
@@ -221,10 +274,68 @@ module _ (call : Call) (no_fault : ¬ Rose call.shelf.faults_before call.shelf.f
   quick_well = answered_well call no_fault (Quick can.file can.amount can.augments) can.asks
       (All-cons (Tells call.shelf) (network_file can.file) [] can.network.tells (All-nil (Tells call.shelf))) can.file [] refl refl can.network EndsQuick (inr (inr (inr refl))) found_well
 
+-- a thin flow is settled
+module _ (call : Call) (no_fault : ¬ Rose call.shelf.faults_before call.shelf.faults_now) (can : CanBeSettled call) where
+  -- the flows file has one reading
+  one_flows : (read : Result GivenFlows FlowsBroken) → FlowsRead call.shelf can.network.net can.flows_name read → Ok can.flows.given ≡ read
+  one_flows read h =
+      sym can.flows.reads ∙ subst (λ (told : Option (List ℕ)). IfSome told (λ text. flows_in can.network.net text ≡ read)) can.flows.tells.told h
+
+  thin_well : (answer : Answer) → IsGiven call.shelf can.network.net (Settle can.file can.flows_name) answer → EndsSettled (status_of answer)
+  thin_well answer (inl g) = inl (ap status_of g.2)
+  thin_well answer (inr (inl g)) = inr (inl (ap status_of g.0))
+  thin_well answer (inr (inr (inl g))) = absurd (can.fits g.0 g.2)
+  thin_well answer (inr (inr (inr g))) =
+      let other : Ok can.flows.given ≡ Err g.0 = one_flows (Err g.0) g.2 in
+      let never : ⊥ = cc in
+      absurd never
+
+  settled_well : (answer : Answer) → IsAnswer call answer → EndsSettled (status_of answer)
+  settled_well = answered_well call no_fault (Settle can.file can.flows_name) can.asks
+      (All-cons (Tells call.shelf) (network_file can.file) (flows_file can.flows_name ∷ []) can.network.tells
+      (All-cons (Tells call.shelf) (flows_file can.flows_name) [] can.flows.tells (All-nil (Tells call.shelf))))
+      can.file (flows_file can.flows_name ∷ []) refl refl can.network EndsSettled (inr (inr refl)) thin_well
+
+-- a report is gone on from
+stop_well : (stop : Option (Cause ℚ)) → ((phase : ℕ) (place : Option ℕ) (at : PassedAt ℚ) → stop ≡ Some (Cause.Passed phase place at) → ⊥) → EndsResumed (status_of_stop stop)
+stop_well None never = inl refl
+stop_well (Some (Cause.Phases made)) never = inr (inl refl)
+stop_well (Some (Cause.Patterns phase tried)) never = inr (inr (inl refl))
+stop_well (Some (Cause.Passed phase place at)) never = absurd (never phase place at refl)
+stop_well (Some (Cause.NoPattern phase)) never = inr (inr (inr (inl refl)))
+
+module _ (call : Call) (no_fault : ¬ Rose call.shelf.faults_before call.shelf.faults_now) (can : CanBeResumed call) where
+  -- the report has one reading
+  one_old : (read : Result Report ReportBroken) → ReportReads call.shelf can.network.net can.report_name read → Ok can.report.report ≡ read
+  one_old read h =
+      sym can.report.reads ∙ subst (λ (told : Option (List ℕ)). IfSome told (λ text. report_in can.network.net text ≡ read)) can.report.tells.told h
+
+  gone_well : (answer : Answer) → IsGiven call.shelf can.network.net (Resume can.file can.report_name can.horizon can.phases can.patterns) answer → EndsResumed (status_of answer)
+  gone_well answer (inl g) = subst (λ (s : Status). EndsResumed s) (sym (ap status_of g.1)) (stop_well g.0.stop (λ phase place at e. can.goes g.0 phase place at g.2 e))
+  gone_well answer (inr (inl g)) =
+      let same : Ok can.report.report ≡ Ok g.2.old = one_old (Ok g.2.old) g.2.read in
+      let old : can.report.report ≡ g.2.old = cc in
+      absurd (g.2.refused.none (subst (λ (r : Report). Equilibrium can.network.net.net r.flow) old can.equilibrium))
+  gone_well answer (inr (inr (inl g))) = absurd (can.fits g.0 g.2)
+  gone_well answer (inr (inr (inr (inl g)))) =
+      let same : Ok can.report.report ≡ Ok g.1.old = one_old (Ok g.1.old) g.1.read in
+      let old : can.report.report ≡ g.1.old = cc in
+      absurd (not_both_ℚ _ _ g.1.earlier (subst (λ (r : Report). r.flow.reached ≤ℚ can.horizon) old can.not_earlier))
+  gone_well answer (inr (inr (inr (inr g)))) =
+      let other : Ok can.report.report ≡ Err g.0 = one_old (Err g.0) g.2 in
+      let never : ⊥ = cc in
+      absurd never
+
+  resumed_well : (answer : Answer) → IsAnswer call answer → EndsResumed (status_of answer)
+  resumed_well = answered_well call no_fault (Resume can.file can.report_name can.horizon can.phases can.patterns) can.asks
+      (All-cons (Tells call.shelf) (network_file can.file) (report_file can.report_name ∷ []) can.network.tells
+      (All-cons (Tells call.shelf) (report_file can.report_name) [] can.report.tells (All-nil (Tells call.shelf))))
+      can.file (report_file can.report_name ∷ []) refl refl can.network EndsResumed (inr (inr (inr (inr refl)))) gone_well
+
 taken_well : (Ends : Status → Type 0) (out : Taken) → ¬ Rose out.faults_before out.faults_now → (answer : Answer) (err : Taken) (status : Status) → Ends (status_of answer)
     → IsShown answer out err status → Ends status
 taken_well Ends out takes answer err status well (inl h) = subst (λ (s : Status). Ends s) (sym h.0) well
-taken_well Ends out takes answer err status well (inr h) = absurd (takes h.1.cause)
+taken_well Ends out takes answer err status well (inr h) = absurd (takes h.2.cause)
 
 -- an answer with a text was given
 pub complete_by_text : (call : Call) (out err : Taken) (status : Status) (answer : Answer) → IsAnswer call answer → IsShown answer out err status → IsComplete call out status
@@ -232,6 +343,8 @@ complete_by_text call out err status answer comes shown no_fault takes = (
   (λ can. taken_well EndsWell out takes answer err status (ends_well call no_fault can answer comes) shown),
   (λ can. taken_well EndsJudged out takes answer err status (checked_well call no_fault can answer comes) shown),
   (λ can. taken_well EndsQuick out takes answer err status (quick_well call no_fault can answer comes) shown),
+  (λ can. taken_well EndsSettled out takes answer err status (settled_well call no_fault can answer comes) shown),
+  (λ can. taken_well EndsResumed out takes answer err status (resumed_well call no_fault can answer comes) shown),
 )
 
 -- there is no text
@@ -240,4 +353,6 @@ complete_by_refusal call out status answer comes is no_fault takes = (
   (λ can. subst (λ (s : Status). EndsWell s) (sym is) (ends_well call no_fault can answer comes)),
   (λ can. subst (λ (s : Status). EndsJudged s) (sym is) (checked_well call no_fault can answer comes)),
   (λ can. subst (λ (s : Status). EndsQuick s) (sym is) (quick_well call no_fault can answer comes)),
+  (λ can. subst (λ (s : Status). EndsSettled s) (sym is) (settled_well call no_fault can answer comes)),
+  (λ can. subst (λ (s : Status). EndsResumed s) (sym is) (resumed_well call no_fault can answer comes)),
 )

@@ -9,8 +9,9 @@ use Rattle.nf_work.specs.declared.Op.TheVariants as Op
 use Rattle.nf_numerals.specs.Digits.{digits_of}
 use Rattle.nf_numerals.specs.Printed.{printed, printed_parts}
 use Rattle.nf_formats.specs.declared.NetRule.TheVariants.{N8}
+use Rattle.nf_complete_lists.specs.declared.FlowsRule.TheVariants.{S11}
 use Rattle.nf_formats.specs.declared.Cause.TheVariants as Cause
-use Rattle.nf_app.specs.ErrorLines.{memory_line, shelf_failed_line, shelf_too_long_line, network_line, stopped_line, passed_line, output_line, no_equilibrium_line, augments_line, unbounded_line, no_thin_flow_line, earlier_line}
+use Rattle.nf_app.specs.ErrorLines.{memory_line, shelf_failed_line, shelf_too_long_line, network_line, flows_line, stopped_line, passed_line, output_line, no_equilibrium_line, augments_line, unbounded_line, no_thin_flow_line, earlier_line}
 
 -- lines with LF
 abbrev text : List (List ℕ) → List ℕ
@@ -45,6 +46,10 @@ pub budgets_are_said : stopped_line (Cause.Phases 1) ++ stopped_line (Cause.Patt
     ≡ text (codes "nfot: stopped: phases 1" ∷ codes "nfot: stopped: patterns 1 1" ∷ codes "nfot: stopped: nopattern 2" ∷ [])
 unfolding digits_of
 budgets_are_said = refl
+
+pub flows_broken_is_said : flows_line (record { rule = S11; line = 0 }) ≡ text (codes "nfot: flows line 0: S11" ∷ [])
+unfolding digits_of
+flows_broken_is_said = refl
 
 pub other_lines : memory_line ++ shelf_failed_line ++ shelf_too_long_line ++ output_line ++ no_equilibrium_line ++ augments_line 1 ++ unbounded_line ++ no_thin_flow_line ++ earlier_line
     ≡ text (codes "nfot: memory" ∷ codes "nfot: shelf failed" ∷ codes "nfot: shelf too long" ∷ codes "nfot: output" ∷ codes "nfot: no equilibrium" ∷ codes "nfot: augments 1"

@@ -71,9 +71,13 @@ module _ (shelf : Visit) (file next : Wanted) where
   first_missing Refusal.ShelfTooLong h = (h.0, still_reached h.0 h.1, h.2)
   first_missing (Refusal.Malformed rule line) h = absurd h
   first_missing (Refusal.MalformedLoads rule line) h = absurd h
+  first_missing (Refusal.MalformedFlows rule line) h = absurd h
+  first_missing (Refusal.MalformedRoutes rule line) h = absurd h
   first_missing (Refusal.MalformedReport rule line) h = absurd h
   first_missing (Refusal.Passes at) h = absurd h
   first_missing Refusal.Unbounded h = absurd h
+  first_missing Refusal.NotThin h = absurd h
+  first_missing Refusal.Earlier h = absurd h
 
 -- ---- a second file is fetched behind the first
 -- what a shelf did in two calls, of which the second begins where the first ends
@@ -143,9 +147,13 @@ module _ (one other : Visit) (f g : Wanted) (follows : Follows one other) (first
       either (inr p) = inr p
   second_missing (Refusal.Malformed rule line) h = absurd h
   second_missing (Refusal.MalformedLoads rule line) h = absurd h
+  second_missing (Refusal.MalformedFlows rule line) h = absurd h
+  second_missing (Refusal.MalformedRoutes rule line) h = absurd h
   second_missing (Refusal.MalformedReport rule line) h = absurd h
   second_missing (Refusal.Passes at) h = absurd h
   second_missing Refusal.Unbounded h = absurd h
+  second_missing Refusal.NotThin h = absurd h
+  second_missing Refusal.Earlier h = absurd h
 
   pub both_fetched : (text more : List ℕ) → IsTold one f text → AreFetched other (g ∷ []) (Ok (more ∷ [])) → AreFetched both (f ∷ g ∷ []) (Ok (text ∷ more ∷ []))
   both_fetched text more told h = (

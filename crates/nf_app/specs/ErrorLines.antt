@@ -12,6 +12,10 @@ use Rattle.nf_formats.specs.NetLines.{Broken}
 use Rattle.nf_readings.specs.LoadsFile.{LoadsBroken}
 use Rattle.nf_readings.specs.ReportFile.{ReportBroken}
 use Rattle.nf_readings.specs.RuleWords.{load_rule_word, report_rule_word}
+use Rattle.nf_complete_lists.specs.FlowsFile.{FlowsBroken}
+use Rattle.nf_complete_lists.specs.RuleWords.{flows_rule_word}
+use Rattle.nf_routes_lists.specs.RoutesFile.{RoutesBroken}
+use Rattle.nf_routes_lists.specs.RuleWords.{routes_rule_word}
 
 -- a line of the program about itself
 abbrev pub said : List (List ℕ) → List ℕ
@@ -29,6 +33,10 @@ usage_text = flat_map (λ text. text ++ 10 ∷ []) (
     ∷ codes "nfot check NET REPORT"
     ∷ codes "nfot quick NET --amount Q [--augments N]"
     ∷ codes "nfot gen --number N --rungs N --horizon Q [--phases N] [--patterns N]"
+    ∷ codes "nfot settle NET FLOWS"
+    ∷ codes "nfot solve NET --forever [--phases N] [--patterns N]"
+    ∷ codes "nfot resume NET REPORT --horizon Q [--phases N] [--patterns N]"
+    ∷ codes "nfot routes NET ROUTES --horizon Q"
     ∷ [])
 
 abbrev pub shelf_failed_line : List ℕ
@@ -70,6 +78,12 @@ network_line broken = broken_line (codes "network") broken.line (rule_word broke
 
 abbrev pub loads_line : LoadsBroken → List ℕ
 loads_line broken = broken_line (codes "loads") broken.line (load_rule_word broken.rule)
+
+abbrev pub flows_line : FlowsBroken → List ℕ
+flows_line broken = broken_line (codes "flows") broken.line (flows_rule_word broken.rule)
+
+abbrev pub routes_line : RoutesBroken → List ℕ
+routes_line broken = broken_line (codes "routes") broken.line (routes_rule_word broken.rule)
 
 abbrev pub report_line : ReportBroken → List ℕ
 report_line broken = broken_line (codes "report") broken.line (report_rule_word broken.rule)

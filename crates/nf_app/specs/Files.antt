@@ -3,12 +3,18 @@ use Rattle.std.specs.Prelude.{◌≡◌, ◌⊎◌, ℕ, ◌<◌, ◌≤◌, Lis
 use Rattle.std.specs.List.{All, last_or}
 use Rattle.nf_edge.specs.Faults.{Rose}
 
--- the most bytes that a network file, a loads file and a report may have
+-- the most bytes that a network file, a loads file, a flows file, a routes file and a report may have
 abbrev pub network_limit : ℕ
 network_limit = 1048576
 
 abbrev pub loads_limit : ℕ
 loads_limit = 1048576
+
+abbrev pub flows_limit : ℕ
+flows_limit = 1048576
+
+abbrev pub routes_limit : ℕ
+routes_limit = 1048576
 
 abbrev pub report_limit : ℕ
 report_limit = 67108864

@@ -15,14 +15,24 @@ use Rattle.nf_check_lists.specs.declared.Answer.{Answer as Verdict}
 use Rattle.nf_readings.specs.LoadsFile.{LoadsBroken, loads_in}
 use Rattle.nf_readings.specs.ReportFile.{ReportBroken}
 use Rattle.nf_readable_laws.specs.Laws.{ReadsBack}
+use Rattle.nf_model.specs.Pattern.{Pattern}
+use Rattle.nf_complete_lists.specs.FlowsFile.{FlowsBroken}
+use Rattle.nf_complete_lists.specs.Reached.{StopsForNoThinFlow}
+use Rattle.nf_forever_lists.specs.ForeverRun.{Forever}
+use Rattle.nf_routes_lists.specs.RoutesFile.{RoutesBroken, NamedRoute}
+use Rattle.nf_routes_lists.specs.RoutesList.{Routed}
 use Rattle.nf_quick_lists.specs.Quick.{Augment, Quick as QuickFlow}
 use Rattle.nf_phase.specs.Solution.{bounds_of, IsSolution}
 use Rattle.nf_app.specs.Files.{Visit}
-use Rattle.nf_words.specs.Requests.{Request, Solve, Show, Load, Check, Quick, Gen}
+use Rattle.nf_words.specs.Requests.{Request, Solve, SolveForever, Show, Load, Check, Quick, Gen, Settle, Resume, Routes}
 use Rattle.nf_app.specs.Requests.{budgets_of}
-use Rattle.nf_app.specs.Answers.{Answer, Solved, Shown, Loaded, Checked, Quickest, TooManyWalks, Generated, MalformedLoads, MalformedReport, Passes, Unbounded}
+use Rattle.nf_app.specs.Answers.{Answer, Solved, SolvedForever, Shown, Loaded, Checked, Quickest, TooManyWalks, Generated, Settled, Distributed, MalformedLoads, MalformedFlows, MalformedRoutes, MalformedReport, Passes, Unbounded, NotThin, Earlier}
 use Rattle.nf_app.specs.CheckGiven.{ReportReads, IsChecked, PassesChecking}
 use Rattle.nf_app.specs.QuickGiven.{IsQuickest, IsOverBudget, PassesQuick, IsUnbounded}
+use Rattle.nf_app.specs.SettleGiven.{FlowsRead, IsSettled, IsNotThin, PassesSettling}
+use Rattle.nf_app.specs.ForeverGiven.{IsUnending}
+use Rattle.nf_app.specs.RoutesGiven.{RoutesRead, IsDistributed, PassesRoutes}
+use Rattle.nf_app.specs.ResumeGiven.{IsGoneOn, IsNoStart, PassesResuming, IsBefore}
 use Rattle.nf_app.specs.declared.arrival.Arrival.{Arrival}
 
 -- where the shelf tells the bytes of the file, they read as these pieces of the links of the network, or break this rule first
@@ -46,10 +56,13 @@ pub record PassesLoading (shelf : Visit) (n : Named) (file : List ℕ) (horizon 
   pub read : LoadsRead shelf n file (Ok pieces)
   pub passes : loading_list n pieces horizon ≡ Err at
 
--- The answers of each request that has its network. The text of a report has one reading, and that is the report.
+-- The answers of each request that has its network. The text of a report has one reading, and that is the report. A run that stops since
+-- no pattern was left stops where there is no thin flow.
 abbrev pub IsGiven : Visit → Named → Request → Answer → Type 0
 IsGiven shelf n (Solve file horizon phases patterns) answer =
     (report : Report) × (answer ≡ Solved n report) × ((made : ℕ) × IsSolution n.net (bounds_of horizon (budgets_of phases patterns)) made report) × ReadsBack n report
+    × StopsForNoThinFlow n.net report.stop report.flow
+IsGiven shelf n (SolveForever file phases patterns) answer = (forever : Forever) × (answer ≡ SolvedForever n forever) × IsUnending n.net phases patterns forever
 IsGiven shelf n (Show file) answer = answer ≡ Shown n
 IsGiven shelf n (Load file loads horizon) answer =
     ((loaded : List Loading) × (answer ≡ Loaded n horizon loaded) × IsLoading shelf n loads horizon loaded)
@@ -66,3 +79,19 @@ IsGiven shelf n (Quick file amount augments) answer =
     ⊎ ((answer ≡ Unbounded) × IsUnbounded n.net amount)
 IsGiven shelf n (Gen number rungs horizon phases patterns) answer =
     (report : Report) × (made : ℕ) × (answer ≡ Generated number rungs n made report) × IsSolution n.net (bounds_of horizon (budgets_of phases patterns)) made report
+    × StopsForNoThinFlow n.net report.stop report.flow
+IsGiven shelf n (Settle file flows) answer =
+    ((pattern : Pattern) × (settled : List ℚ) × (answer ≡ Settled n pattern settled) × IsSettled shelf n flows pattern settled)
+    ⊎ ((answer ≡ NotThin) × IsNotThin shelf n flows)
+    ⊎ ((at : PassedAt ℚ) × (answer ≡ Passes at) × PassesSettling shelf n flows at)
+    ⊎ ((broken : FlowsBroken) × (answer ≡ MalformedFlows broken) × FlowsRead shelf n flows (Err broken))
+IsGiven shelf n (Resume file report horizon phases patterns) answer =
+    ((new : Report) × (answer ≡ Solved n new) × IsGoneOn shelf n report (bounds_of horizon (budgets_of phases patterns)) new)
+    ⊎ ((verdict : Verdict ℕ ℕ ℚ) × (answer ≡ Checked n verdict) × IsNoStart shelf n report horizon verdict)
+    ⊎ ((at : PassedAt ℚ) × (answer ≡ Passes at) × PassesResuming shelf n report horizon at)
+    ⊎ ((answer ≡ Earlier) × IsBefore shelf n report horizon)
+    ⊎ ((broken : ReportBroken) × (answer ≡ MalformedReport broken) × ReportReads shelf n report (Err broken))
+IsGiven shelf n (Routes file routes horizon) answer =
+    ((sent : List NamedRoute) × (routed : Routed) × (answer ≡ Distributed n sent horizon routed) × IsDistributed shelf n routes sent horizon routed)
+    ⊎ ((at : PassedAt ℚ) × (answer ≡ Passes at) × PassesRoutes shelf n routes horizon at)
+    ⊎ ((broken : RoutesBroken) × (answer ≡ MalformedRoutes broken) × RoutesRead shelf n routes (Err broken))

@@ -7,9 +7,14 @@ pub mod GenText
 pub mod Answers
 pub mod CheckGiven
 pub mod QuickGiven
+pub mod SettleGiven
+pub mod ForeverGiven
+pub mod RoutesGiven
+pub mod ResumeGiven
 pub mod Given
 pub mod Runs
 pub mod Completeness
 pub mod Refusals
 pub mod Fetching
 pub mod Outcomes
+pub mod Settling

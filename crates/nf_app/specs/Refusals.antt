@@ -5,9 +5,11 @@ use Rattle.nf_rational.specs.Rational.{ℚ}
 use Rattle.nf_work.specs.declared.Halt.{Halt}
 use Rattle.nf_net.specs.declared.fault.NetFault.{NetFault}
 use Rattle.nf_load.specs.declared.fault.LoadsFault.{LoadsFault}
+use Rattle.nf_flows.specs.declared.fault.FlowsFault.{FlowsFault}
+use Rattle.nf_route_reader.specs.declared.fault.RoutesFault.{RoutesFault}
 use Rattle.nf_reader.specs.declared.fault.ReportFault.{ReportFault}
 use Rattle.nf_app.specs.declared.refusal.Refusal.{Refusal}
-use Rattle.nf_app.specs.Answers.{Answer, NoMemory, NoRequest, ShelfFailed, ShelfTooLong, Malformed, MalformedLoads, MalformedReport, Passes, Unbounded}
+use Rattle.nf_app.specs.Answers.{Answer, NoMemory, NoRequest, ShelfFailed, ShelfTooLong, Malformed, MalformedLoads, MalformedFlows, MalformedRoutes, MalformedReport, Passes, Unbounded, NotThin, Earlier}
 
 abbrev pub answer_of : Refusal → Answer
 answer_of Refusal.NoMemory = NoMemory
@@ -16,9 +18,13 @@ answer_of Refusal.ShelfFailed = ShelfFailed
 answer_of Refusal.ShelfTooLong = ShelfTooLong
 answer_of (Refusal.Malformed rule line) = Malformed (record { rule = rule; line = line })
 answer_of (Refusal.MalformedLoads rule line) = MalformedLoads (record { rule = rule; line = line })
+answer_of (Refusal.MalformedFlows rule line) = MalformedFlows (record { rule = rule; line = line })
+answer_of (Refusal.MalformedRoutes rule line) = MalformedRoutes (record { rule = rule; line = line })
 answer_of (Refusal.MalformedReport rule line) = MalformedReport (record { rule = rule; line = line })
 answer_of (Refusal.Passes at) = Passes at
 answer_of Refusal.Unbounded = Unbounded
+answer_of Refusal.NotThin = NotThin
+answer_of Refusal.Earlier = Earlier
 
 abbrev pub refusal_of_fetch : FetchFault → Refusal
 refusal_of_fetch Failed = Refusal.ShelfFailed
@@ -32,6 +38,14 @@ refusal_of_net NetFault.Memory = Refusal.NoMemory
 abbrev pub refusal_of_loads : LoadsFault → Refusal
 refusal_of_loads (LoadsFault.Broken rule line) = Refusal.MalformedLoads rule line
 refusal_of_loads LoadsFault.Memory = Refusal.NoMemory
+
+abbrev pub refusal_of_flows : FlowsFault → Refusal
+refusal_of_flows (FlowsFault.Broken rule line) = Refusal.MalformedFlows rule line
+refusal_of_flows FlowsFault.Memory = Refusal.NoMemory
+
+abbrev pub refusal_of_routes : RoutesFault → Refusal
+refusal_of_routes (RoutesFault.Broken rule line) = Refusal.MalformedRoutes rule line
+refusal_of_routes RoutesFault.Memory = Refusal.NoMemory
 
 abbrev pub refusal_of_report : ReportFault → Refusal
 refusal_of_report (ReportFault.Broken rule line) = Refusal.MalformedReport rule line

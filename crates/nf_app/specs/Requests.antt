@@ -4,8 +4,8 @@ use Rattle.nf_formats.specs.Named.{Named}
 use Rattle.nf_gen.specs.Ladder.{ladder}
 use Rattle.nf_phase.specs.declared.solution.Budgets.{Budgets}
 use Rattle.nf_words.specs.Numbers.{usual_phases, usual_patterns}
-use Rattle.nf_words.specs.Requests.{Request, Solve, Show, Load, Check, Quick, Gen}
-use Rattle.nf_app.specs.Files.{Wanted, network_limit, loads_limit, report_limit}
+use Rattle.nf_words.specs.Requests.{Request, Solve, SolveForever, Show, Load, Check, Quick, Gen, Settle, Resume, Routes}
+use Rattle.nf_app.specs.Files.{Wanted, network_limit, loads_limit, flows_limit, routes_limit, report_limit}
 
 abbrev pub network_file : List ℕ → Wanted
 network_file name = record { name = name; limit = network_limit }
@@ -13,26 +13,40 @@ network_file name = record { name = name; limit = network_limit }
 abbrev pub loads_file : List ℕ → Wanted
 loads_file name = record { name = name; limit = loads_limit }
 
+abbrev pub flows_file : List ℕ → Wanted
+flows_file name = record { name = name; limit = flows_limit }
+
+abbrev pub routes_file : List ℕ → Wanted
+routes_file name = record { name = name; limit = routes_limit }
+
 abbrev pub report_file : List ℕ → Wanted
 report_file name = record { name = name; limit = report_limit }
 
 -- the files that are wanted, in the order in which they are fetched; the first is the network's
 abbrev pub files_of : Request → List Wanted
 files_of (Solve file horizon phases patterns) = network_file file ∷ []
+files_of (SolveForever file phases patterns) = network_file file ∷ []
 files_of (Show file) = network_file file ∷ []
 files_of (Load file loads horizon) = network_file file ∷ loads_file loads ∷ []
 files_of (Check file report) = network_file file ∷ report_file report ∷ []
 files_of (Quick file amount augments) = network_file file ∷ []
 files_of (Gen number rungs horizon phases patterns) = []
+files_of (Settle file flows) = network_file file ∷ flows_file flows ∷ []
+files_of (Resume file report horizon phases patterns) = network_file file ∷ report_file report ∷ []
+files_of (Routes file routes horizon) = network_file file ∷ routes_file routes ∷ []
 
 -- the network that is generated for a request, where none is read
 abbrev pub generated_by : Request → Option Named
 generated_by (Solve file horizon phases patterns) = None
+generated_by (SolveForever file phases patterns) = None
 generated_by (Show file) = None
 generated_by (Load file loads horizon) = None
 generated_by (Check file report) = None
 generated_by (Quick file amount augments) = None
 generated_by (Gen number rungs horizon phases patterns) = Some (ladder number rungs)
+generated_by (Settle file flows) = None
+generated_by (Resume file report horizon phases patterns) = None
+generated_by (Routes file routes horizon) = None
 
 -- ---- the budgets of a run
 abbrev pub budgets_of : ℕ → ℕ → Budgets

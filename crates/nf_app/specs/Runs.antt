@@ -8,7 +8,7 @@ use Rattle.nf_app.specs.declared.status.Status.{Status}
 use Rattle.nf_app.specs.Files.{Wanted, Visit, FetchedNone, FetchedAll, FetchedTo, Failed, HasTooMany}
 use Rattle.nf_words.specs.Requests.{Request, request_of}
 use Rattle.nf_app.specs.Requests.{files_of, generated_by}
-use Rattle.nf_app.specs.Answers.{Answer, NoMemory, NoRequest, ShelfFailed, ShelfTooLong, Malformed, status_of, out_text, err_text}
+use Rattle.nf_app.specs.Answers.{Answer, NoMemory, NoRequest, ShelfFailed, ShelfTooLong, Malformed, HasOutput, status_of, out_text, err_text}
 use Rattle.nf_app.specs.Given.{IsGiven}
 use Rattle.nf_app.specs.Sinks.{Taken, TookAll, CutShort, TookText}
 
@@ -59,11 +59,11 @@ pub record IsComputed (call : Call) (answer : Answer) : Type 0 where
 abbrev pub IsAnswer : Call → Answer → Type 0
 IsAnswer call answer = IsRefused call answer ⊎ IsComputed call answer
 
--- The status is that of the answer, and `out` took its whole text; or `out` failed. A fault of `err` changes no status.
+-- The status is that of the answer, and `out` took its whole text; or the answer has a text and `out` failed. A fault of `err` changes no status.
 abbrev pub IsShown : Answer → Taken → Taken → Status → Type 0
 IsShown answer out err status =
     ((status ≡ status_of answer) × TookAll out (out_text answer) × TookText err (err_text answer))
-    ⊎ ((status ≡ Status.Output) × CutShort out (out_text answer) × TookText err output_line)
+    ⊎ ((status ≡ Status.Output) × HasOutput answer × CutShort out (out_text answer) × TookText err output_line)
 
 -- ---- a whole run: it gave an answer where that comes, and its status and its sinks show it
 pub record Ran (call : Call) (out err : Taken) (status : Status) : Type 0 where

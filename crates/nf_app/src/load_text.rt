@@ -14,14 +14,14 @@ use nf_load::Loaded;
 use nf_net::{LinkId, Network};
 use nf_report::{write_curve, write_line};
 
-// The first two lines.
-fn write_head<O: Sink>(out: &mut O, horizon: Q) -> Result<(), SinkFault>
+/// Writes the first two lines, of which the first says what the text is.
+pub(crate) fn write_head<O: Sink>(out: &mut O, key: &[u8], horizon: Q) -> Result<(), SinkFault>
     ensures { WroteLines (O.took out.old) (O.took out.new) (O.faults out.old) (O.faults out.new)
-        ((codes "loaded" ∷ codes "1" ∷ []) ∷ (codes "horizon" ∷ printed horizon ∷ []) ∷ []) result }
+        ((key.now ∷ codes "1" ∷ []) ∷ (codes "horizon" ∷ printed horizon ∷ []) ∷ []) result }
 {
     let mut word = TextBuf::new();
     horizon.write(&mut word);
-    write_line(out, b"loaded", &[b"1"])?;
+    write_line(out, key, &[b"1"])?;
     write_line(out, b"horizon", &[word.text()])
 }
 
@@ -42,8 +42,12 @@ fn write_curves<O: Sink>(
     write_curve(out, b"exit", name, &loaded.exit)
 }
 
-// The curves of the links.
-fn write_links<O: Sink>(out: &mut O, net: &Network, links: &[Loaded]) -> Result<(), SinkFault>
+/// Writes the curves of the links: of each its queue, its outflow and its exits.
+pub(crate) fn write_links<O: Sink>(
+    out: &mut O,
+    net: &Network,
+    links: &[Loaded],
+) -> Result<(), SinkFault>
     requires { length links.now ≡ length net.now.net.links }
     ensures { WroteLines (O.took out.old) (O.took out.new) (O.faults out.old) (O.faults out.new)
         (flat_map (loaded_lines net.now.link_names) (enumerate_from 0 (map loaded_of links.now))) result }
@@ -66,7 +70,7 @@ pub(crate) fn write_loads<O: Sink>(
     ensures { Wrote (O.took out.old) (O.took out.new) (O.faults out.old) (O.faults out.new)
         (load_text net.now horizon (map loaded_of links.now)) result }
 {
-    write_head(out, horizon)?;
+    write_head(out, b"loaded", horizon)?;
     write_links(out, net, links)?;
     write_line(out, b"end", &[])
 }

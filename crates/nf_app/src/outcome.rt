@@ -1,48 +1,20 @@
 // What a request gives: a text for the output.
-ghost use Rattle.std.specs.Prelude.{◌≡◌, ◌≤◌, ℕ, List, length, Some, Ok, Err};
+ghost use Rattle.std.specs.Prelude.{◌≡◌};
 ghost use Rattle.std.specs.Option.{option_copied};
-ghost use Rattle.nf_rational.specs.Operations.{0ℚ};
-ghost use Rattle.nf_rational.specs.Order.{◌≤ℚ◌};
-ghost use Rattle.nf_edge.specs.Names.{texts};
-ghost use Rattle.nf_lines.specs.Faults.{longest_text};
-ghost use Rattle.nf_work.specs.Passing.{passes_Q};
-ghost use Rattle.nf_quick.specs.Answered as answered;
-ghost use Rattle.nf_quick.specs.declared.fault.QuickFault.TheVariants as QuickFault;
-ghost use Rattle.nf_quick_lists.specs.Answers.{IsQuickFlow};
-ghost use Rattle.nf_rational.specs.Rational.{ℚ};
-ghost use Rattle.nf_app.specs.Files.{Visit, report_limit};
-ghost use Rattle.nf_words.specs.Requests.{Solve, Show, Load, Check, Gen, CanBeAsked, request_of};
-ghost use Rattle.nf_words.specs.Requests as requests;
-ghost use Rattle.nf_words.specs.Views.{requested};
-ghost use Rattle.nf_app.specs.Requests.{loads_file, report_file};
-ghost use Rattle.nf_app.specs.Fetching.{IsTold};
-ghost use Rattle.nf_app.specs.Outcomes.{stop_in, IsGiving, IsAnswered};
+ghost use Rattle.nf_app.specs.Outcomes.{stop_in};
 
-use crate::arrival::{Arrival, find_arrival, last_label};
-use crate::augments_text::augments_text;
-use crate::fetching::{fetch_network, fetch_network_with};
+use crate::arrival::Arrival;
 use crate::gen_text::Ladder;
-use crate::loading::load_links;
-use crate::quick_text::flow_text;
-use crate::refusal::Refusal;
-use nf_check::{Answer, check};
+use nf_check::Answer;
+use nf_complete::Settled;
 use nf_curve::Stop;
-use nf_edge::Shelf;
+use nf_forever::Forever;
 use nf_frac::Q;
-use nf_gen::generated;
-use nf_load::{Loaded, parse_loads};
-use nf_net::{Network, text};
-use nf_phase::{Budgets, Solution, solve};
-use nf_quick::{Augment, Quick, QuickFault, departure, quickest};
-use nf_report::parse_report;
-use nf_words::{Request, read_request};
-use std::alloc::{AllocError, Global};
-
-/// The most bytes that a loads file may have.
-const LONGEST_LOADS: u32 = 1_048_576;
-
-/// The most bytes that a report may have.
-const LONGEST_REPORT: u32 = 67_108_864;
+use nf_load::Loaded;
+use nf_net::Network;
+use nf_phase::Solution;
+use nf_quick::{Augment, Quick};
+use nf_routes::{Routed, Routes};
 
 /// What a request gives.
 #[derive(Drop)]
@@ -52,6 +24,11 @@ pub(crate) enum Outcome {
         net: Network,
         horizon: Q,
         solution: Solution,
+    },
+    /// What solving a network without a horizon gave.
+    SolvedForever {
+        net: Network,
+        forever: Forever,
     },
     /// A network with its canonical text.
     Shown {
@@ -91,253 +68,36 @@ pub(crate) enum Outcome {
         solution: Solution,
         arrival: Q,
     },
+    /// What the thin flow of a flows file is settled to.
+    Settled {
+        net: Network,
+        settled: Settled,
+    },
+    /// What becomes of inflow along the routes of a file, up to a horizon.
+    Distributed {
+        net: Network,
+        routes: Routes,
+        horizon: Q,
+        routed: Routed,
+    },
 }
 
 impl Outcome {
-    /// Why the run of the report stopped, if it did.
+    /// Why the run stopped that it tells of, if it did.
     pub(crate) fn stop(&self) -> Option<&Stop>
         ensures { option_copied result ≡ stop_in self.now }
     {
         match self {
             Outcome::Solved { solution, .. } => solution.stopped.as_ref(),
+            Outcome::SolvedForever { forever, .. } => forever.stopped.as_ref(),
             Outcome::Shown { .. } => None,
             Outcome::Loaded { .. } => None,
             Outcome::Checked { .. } => None,
             Outcome::Quickest { .. } => None,
             Outcome::TooManyWalks { .. } => None,
             Outcome::Generated { solution, .. } => solution.stopped.as_ref(),
+            Outcome::Settled { .. } => None,
+            Outcome::Distributed { .. } => None,
         }
-    }
-}
-
-// The network, with what solving it to a horizon gives.
-fn solve_to(alloc: Global, net: Network, horizon: Q, budgets: Budgets) -> Result<Outcome, Refusal>
-    requires { 0ℚ ≤ℚ horizon }
-    ensures { (shelf : Visit) (file : List ℕ) → IsGiving shelf net (Solve file horizon budgets.phases budgets.patterns) result }
-{
-    // For the proof: the network is that of an accepted file, and the parts of the horizon are within the bound.
-    let _ = net.version();
-    let _ = horizon.numer();
-    let _ = horizon.denom();
-    let solution = solve(alloc, &net, horizon, budgets)?;
-    Ok(Outcome::Solved {
-        net,
-        horizon,
-        solution,
-    })
-}
-
-// The ladder of a number, with what solving it to a horizon gives.
-fn sum_up(
-    alloc: Global,
-    net: Network,
-    ladder: Ladder,
-    horizon: Q,
-    budgets: Budgets,
-) -> Result<Outcome, Refusal>
-    requires { 0ℚ ≤ℚ horizon }
-    ensures { (shelf : Visit) → IsGiving shelf net (Gen ladder.number ladder.rungs horizon budgets.phases budgets.patterns) result }
-{
-    // For the proof: the network is that of an accepted file.
-    let _ = net.version();
-    let solution = solve(alloc, &net, horizon, budgets)?;
-    let (_, arrival) = last_label(&solution.flow, net.sink());
-    Ok(Outcome::Generated {
-        net,
-        ladder,
-        horizon,
-        solution,
-        arrival,
-    })
-}
-
-// The network, with its text.
-fn show(alloc: Global, net: Network) -> Result<Outcome, Refusal>
-    ensures { (shelf : Visit) (file : List ℕ) → IsGiving shelf net (Show file) result }
-{
-    let text = text(alloc, &net)?;
-    Ok(Outcome::Shown { net, text })
-}
-
-// The network, with the loading of each link by the pieces that the text of a loads file gives it.
-fn load_to(alloc: Global, net: Network, loads: &[u8], horizon: Q) -> Result<Outcome, Refusal>
-    requires horizon { 0ℚ ≤ℚ horizon }
-    requires within { length loads.now ≤ longest_text }
-    ensures { (shelf : Visit) (file name : List ℕ) → IsTold shelf (loads_file name) loads.now → IsGiving shelf net (Load file name horizon) result }
-{
-    let loads = parse_loads(alloc, &net, loads)?;
-    let links = load_links(alloc, &net, &loads, horizon)?;
-    Ok(Outcome::Loaded {
-        net,
-        horizon,
-        links,
-    })
-}
-
-// The network, with the verdict on the flow of the report that the text is.
-fn check_report(alloc: Global, net: Network, text: &[u8]) -> Result<Outcome, Refusal>
-    requires { length text.now ≤ report_limit }
-    ensures { (shelf : Visit) (file name : List ℕ) → IsTold shelf (report_file name) text.now → IsGiving shelf net (Check file name) result }
-{
-    let report = parse_report(alloc, &net, text)?;
-    let verdict = check(alloc, &net, &report.flow)?;
-    Ok(Outcome::Checked { net, verdict })
-}
-
-// The walks that were pushed, as many as allowed, with their text.
-fn end_over_budget(
-    alloc: Global,
-    net: Network,
-    augments: u64,
-    walks: Vec<Augment>,
-) -> Result<Outcome, Refusal>
-    ensures { (shelf : Visit) (file : List ℕ) (amount : ℚ) → answered.IsAnswered passes_Q net.net amount augments (Err (QuickFault.Budget walks))
-        → IsGiving shelf net (requests.Quick file amount augments) result }
-{
-    let text = augments_text(alloc, &net, &walks)?;
-    Ok(Outcome::TooManyWalks {
-        net,
-        augments,
-        walks,
-        text,
-    })
-}
-
-// Why there is no quickest flow of an amount; where too many walks are wanted, those that were pushed.
-fn refuse_quick(
-    alloc: Global,
-    net: Network,
-    augments: u64,
-    fault: QuickFault,
-) -> Result<Outcome, Refusal>
-    ensures { (shelf : Visit) (file : List ℕ) (amount : ℚ) → answered.IsAnswered passes_Q net.net amount augments (Err fault) → IsGiving shelf net (requests.Quick file amount augments) result }
-{
-    match fault {
-        QuickFault::Budget { walks } => end_over_budget(alloc, net, augments, walks),
-        QuickFault::Unbounded { .. } => Err(Refusal::Unbounded),
-        QuickFault::Passed(at) => Err(Refusal::Passes(at)),
-        QuickFault::Memory => Err(Refusal::NoMemory),
-    }
-}
-
-// A quickest flow of an amount, beside the arrival in an equilibrium of who departs when the amount is supplied.
-fn beside_arrival(alloc: Global, net: Network, amount: Q, quick: Quick) -> Result<Outcome, Refusal>
-    requires amount { 0ℚ ≤ℚ amount }
-    requires flow { IsQuickFlow net.net amount quick }
-    ensures { (shelf : Visit) (file : List ℕ) (augments : ℕ) → answered.IsAnswered passes_Q net.net amount augments (Ok quick)
-        → IsGiving shelf net (requests.Quick file amount augments) result }
-{
-    let departs = departure(&net, amount)?;
-    let arrival = find_arrival(alloc, &net, departs)?;
-    let text = flow_text(alloc, &net, &quick)?;
-    Ok(Outcome::Quickest {
-        net,
-        quick,
-        arrival,
-        text,
-    })
-}
-
-// The quickest flow of an amount in the network, and the arrival in an equilibrium of who departs when the amount is supplied.
-fn quick_to(alloc: Global, net: Network, amount: Q, augments: u64) -> Result<Outcome, Refusal>
-    requires amount { 0ℚ ≤ℚ amount }
-    requires augments { 1 ≤ augments }
-    ensures { (shelf : Visit) (file : List ℕ) → IsGiving shelf net (requests.Quick file amount augments) result }
-{
-    match quickest(alloc, &net, amount, augments) {
-        Ok(quick) => beside_arrival(alloc, net, amount, quick),
-        Err(fault) => refuse_quick(alloc, net, augments, fault),
-    }
-}
-
-// What a request gives with the files of the shelf.
-fn answer_request<S: Shelf>(
-    alloc: Global,
-    request: Request,
-    shelf: &mut S,
-) -> Result<Outcome, Refusal>
-    requires { CanBeAsked (requested request) }
-    ensures { (words : List (List ℕ)) → request_of words ≡ Some (requested request.entry) → IsAnswered (record {
-      words = words;
-      shelf = record {
-        told = S.told shelf.old;
-        asked_before = S.asked shelf.old;
-        asked_now = S.asked shelf.new;
-        faults_before = S.faults shelf.old;
-        faults_now = S.faults shelf.new;
-        taken = S.taken shelf.new;
-      };
-    }) result }
-{
-    match request {
-        Request::Solve {
-            file,
-            horizon,
-            phases,
-            patterns,
-        } => {
-            let net = fetch_network(alloc, shelf, file)?;
-            solve_to(alloc, net, horizon, Budgets { phases, patterns })
-        }
-        Request::Show { file } => {
-            let net = fetch_network(alloc, shelf, file)?;
-            show(alloc, net)
-        }
-        Request::Load {
-            file,
-            loads,
-            horizon,
-        } => {
-            let (net, loads) = fetch_network_with(alloc, shelf, file, loads, LONGEST_LOADS)?;
-            load_to(alloc, net, &loads, horizon)
-        }
-        Request::Check { file, report } => {
-            let (net, report) = fetch_network_with(alloc, shelf, file, report, LONGEST_REPORT)?;
-            check_report(alloc, net, &report)
-        }
-        Request::Quick {
-            file,
-            amount,
-            augments,
-        } => {
-            let net = fetch_network(alloc, shelf, file)?;
-            quick_to(alloc, net, amount, augments)
-        }
-        Request::Gen {
-            number,
-            rungs,
-            horizon,
-            phases,
-            patterns,
-        } => {
-            let net = generated(alloc, number, rungs)?;
-            let ladder = Ladder { number, rungs };
-            sum_up(alloc, net, ladder, horizon, Budgets { phases, patterns })
-        }
-    }
-}
-
-/// What the words give with the files of the shelf.
-pub(crate) fn answer<S: Shelf>(
-    alloc: Global,
-    words: &[String],
-    shelf: &mut S,
-) -> Result<Outcome, Refusal>
-    ensures { IsAnswered (record {
-      words = texts words.now;
-      shelf = record {
-        told = S.told shelf.old;
-        asked_before = S.asked shelf.old;
-        asked_now = S.asked shelf.new;
-        faults_before = S.faults shelf.old;
-        faults_now = S.faults shelf.new;
-        taken = S.taken shelf.new;
-      };
-    }) result }
-{
-    match read_request(alloc, words) {
-        Ok(Some(request)) => answer_request(alloc, request, shelf),
-        Ok(None) => Err(Refusal::NoRequest),
-        Err(AllocError) => Err(Refusal::NoMemory),
     }
 }

@@ -2,7 +2,7 @@
 ghost use Rattle.std.specs.Prelude.{◌≡◌, ◌++◌};
 ghost use Rattle.std.specs.Option.{option_copied};
 ghost use Rattle.nf_edge.specs.Taken.{Wrote};
-ghost use Rattle.nf_app.specs.Answers.{status_of, status_of_cause, status_of_stop, status_of_verdict, err_text, text_of_stop, text_of_verdict};
+ghost use Rattle.nf_app.specs.Answers.{status_of, status_of_cause, status_of_stop, status_of_forever, status_of_verdict, err_text, text_of_stop, text_of_verdict};
 ghost use Rattle.nf_app.specs.QuickText.{arrival_text};
 ghost use Rattle.nf_app.specs.Refusals.{answer_of};
 ghost use Rattle.nf_app.specs.Outcomes.{answer_in, text_in, HasText};
@@ -16,11 +16,14 @@ use crate::load_text::write_loads;
 use crate::outcome::Outcome;
 use crate::quick_text::write_arrival;
 use crate::refusal::Refusal;
+use crate::routes_text::write_routed;
+use crate::settle_text::write_settled;
 use crate::status::Status;
 use crate::telling::{write_over_budget, write_refusal, write_stopped};
 use nf_check::Answer;
 use nf_curve::Stop;
 use nf_edge::{Sink, SinkFault, write_text};
+use nf_forever::write_forever;
 use nf_report::write_report;
 
 // The text of a quickest flow, and then that of the arrival.
@@ -49,6 +52,7 @@ fn write_outcome<O: Sink>(outcome: &Outcome, out: &mut O) -> Result<(), SinkFaul
             &solution.last,
             out,
         ),
+        Outcome::SolvedForever { net, forever } => write_forever(net, forever, out),
         Outcome::Shown { text, .. } => write_text(out, text),
         Outcome::Loaded {
             net,
@@ -65,6 +69,13 @@ fn write_outcome<O: Sink>(outcome: &Outcome, out: &mut O) -> Result<(), SinkFaul
             arrival,
             ..
         } => write_summary(out, net, *ladder, solution, *arrival),
+        Outcome::Settled { net, settled } => write_settled(out, net, settled),
+        Outcome::Distributed {
+            net,
+            routes,
+            horizon,
+            routed,
+        } => write_routed(out, net, routes, *horizon, routed),
     }
 }
 
@@ -99,6 +110,22 @@ fn tell_stop<E: Sink>(stop: Option<&Stop>, err: &mut E) -> Status
     }
 }
 
+// Says why a run without a horizon stopped, if it did; the budget of phases then has a status of its own.
+fn tell_forever<E: Sink>(stop: Option<&Stop>, err: &mut E) -> Status
+    ensures status { result ≡ status_of_forever (option_copied stop.entry) }
+    ensures told { TookText (record {
+      before = E.took err.old;
+      now = E.took err.new;
+      faults_before = E.faults err.old;
+      faults_now = E.faults err.new;
+    }) (text_of_stop (option_copied stop.entry)) }
+{
+    match tell_stop(stop, err) {
+        Status::Phases => Status::Events,
+        status => status,
+    }
+}
+
 // Says that a flow is no equilibrium, if it is none. The status is the same where that can't be said.
 fn tell_verdict<E: Sink>(verdict: &Answer, err: &mut E) -> Status
     ensures status { result ≡ status_of_verdict verdict.now }
@@ -129,6 +156,7 @@ fn tell<E: Sink>(outcome: &Outcome, err: &mut E) -> Status
     }) (err_text (answer_in outcome.now)) }
 {
     match outcome {
+        Outcome::SolvedForever { forever, .. } => tell_forever(forever.stopped.as_ref(), err),
         Outcome::Checked { verdict, .. } => tell_verdict(verdict, err),
         Outcome::TooManyWalks { augments, .. } => {
             let _ = write_over_budget(err, *augments);
@@ -139,6 +167,7 @@ fn tell<E: Sink>(outcome: &Outcome, err: &mut E) -> Status
 }
 
 /// Writes the text of an outcome, and says how the run ends.
+#[tactic(auto, using(crate::proofs::Statuses::writes))]
 pub(crate) fn give<O: Sink, E: Sink>(outcome: &Outcome, out: &mut O, err: &mut E) -> Status
     requires { HasText outcome.now }
     ensures { IsShown (answer_in outcome.now) (record {

@@ -1,15 +1,17 @@
 // Why a run has no text for its output.
 ghost use Rattle.std.specs.Prelude.{◌≡◌};
 ghost use Rattle.nf_app.specs.Answers.{status_of};
-ghost use Rattle.nf_app.specs.Refusals.{answer_of, refusal_of_fetch, refusal_of_net, refusal_of_loads, refusal_of_report, refusal_of_halt};
+ghost use Rattle.nf_app.specs.Refusals.{answer_of, refusal_of_fetch, refusal_of_net, refusal_of_loads, refusal_of_flows, refusal_of_routes, refusal_of_report, refusal_of_halt};
 ghost use Rattle.nf_app.specs.declared.refusal.Refusal.TheVariants as Refusal;
 
 use crate::status::Status;
 use nf_edge::FetchFault;
+use nf_flows::{FlowsFault, FlowsRule};
 use nf_frac::{Halt, PassedAt, Q};
 use nf_load::{LoadRule, LoadsFault};
 use nf_net::{NetFault, NetRule};
 use nf_report::{ReportFault, ReportRule};
+use nf_route_reader::{RoutesFault, RoutesRule};
 use std::alloc::AllocError;
 
 /// Why a run has no text for its output.
@@ -27,12 +29,20 @@ pub(crate) enum Refusal {
     Malformed { rule: NetRule, line: u32 },
     /// The loads file breaks this rule first, in this line.
     MalformedLoads { rule: LoadRule, line: u32 },
+    /// The flows file breaks this rule first, in this line.
+    MalformedFlows { rule: FlowsRule, line: u32 },
+    /// The routes file breaks this rule first, in this line.
+    MalformedRoutes { rule: RoutesRule, line: u32 },
     /// The report breaks this rule first, in this line.
     MalformedReport { rule: ReportRule, line: u32 },
     /// This operation passes the bound.
     Passes(PassedAt<Q>),
     /// A walk of unbounded links leads from source to sink.
     Unbounded,
+    /// The flows and slopes of the flows file are no thin flow.
+    NotThin,
+    /// The flow of the report reaches beyond the horizon.
+    Earlier,
 }
 
 impl Refusal {
@@ -47,9 +57,13 @@ impl Refusal {
             Refusal::ShelfTooLong => Status::Shelf,
             Refusal::Malformed { .. } => Status::Malformed,
             Refusal::MalformedLoads { .. } => Status::Malformed,
+            Refusal::MalformedFlows { .. } => Status::Malformed,
+            Refusal::MalformedRoutes { .. } => Status::Malformed,
             Refusal::MalformedReport { .. } => Status::Malformed,
             Refusal::Passes(_) => Status::Passed,
             Refusal::Unbounded => Status::Unbounded,
+            Refusal::NotThin => Status::NotThin,
+            Refusal::Earlier => Status::Earlier,
         }
     }
 }
@@ -92,6 +106,28 @@ impl From<LoadsFault> for Refusal {
         match fault {
             LoadsFault::Broken { rule, line } => Refusal::MalformedLoads { rule, line },
             LoadsFault::Memory => Refusal::NoMemory,
+        }
+    }
+}
+
+impl From<FlowsFault> for Refusal {
+    ghost from_gives = { λ fault refusal. refusal ≡ refusal_of_flows fault };
+
+    fn from(fault: FlowsFault) -> Self {
+        match fault {
+            FlowsFault::Broken { rule, line } => Refusal::MalformedFlows { rule, line },
+            FlowsFault::Memory => Refusal::NoMemory,
+        }
+    }
+}
+
+impl From<RoutesFault> for Refusal {
+    ghost from_gives = { λ fault refusal. refusal ≡ refusal_of_routes fault };
+
+    fn from(fault: RoutesFault) -> Self {
+        match fault {
+            RoutesFault::Broken { rule, line } => Refusal::MalformedRoutes { rule, line },
+            RoutesFault::Memory => Refusal::NoMemory,
         }
     }
 }

@@ -3,18 +3,25 @@ ghost use Rattle.nf_edge.specs.Names.{texts};
 ghost use Rattle.nf_app.specs.Runs.{Ran};
 ghost use Rattle.nf_app.specs.Completeness.{IsComplete};
 
-use crate::outcome::answer;
+use crate::answering::answer;
+use crate::outcome::Outcome;
 use crate::output::{give, refuse};
 use crate::status::Status;
 use nf_edge::{Shelf, Sink};
 use std::alloc::Global;
 
+// Frees what the words gave, apart from `run`, whose check needn't follow the parts of each kind of outcome then.
+fn let_go(_outcome: Outcome) {}
+
 /// Answers what the words ask, of which the first is the program's name: fetches the files of the request, each once and in order, and
 /// no other, writes the text of the answer to `out`, and says on `err` why there is none, or why it ends early. All files are fetched
 /// before a rule of one is looked at, and nothing is written to `out` before the text is known. It is refused where memory is wanting,
-/// the words are no request, a file isn't given, has too many bytes or breaks a rule, an operation of `load`, `check` or `quick` passes
-/// the bound of 127 bits, or a walk of unbounded links leaves no quickest flow. Of a network a report is written up to the horizon, or up
-/// to the departure where its run stops; of a report the verdict whether its flow is an equilibrium.
+/// the words are no request, a file isn't given, has too many bytes or breaks a rule, an operation of `load`, `check`, `quick`,
+/// `settle`, `routes` or `resume` passes the bound of 127 bits, a walk of unbounded links leaves no quickest flow, what is to be settled
+/// is no thin flow, or a report goes on beyond the horizon of `resume`. Of a network, of a ladder that `gen` makes, and of a report that
+/// is resumed, a report or a summary is written up to the horizon, or up to the departure where its run stops; without a horizon the run
+/// with its last phase, which never ends; of a report the verdict whether its flow is an equilibrium; of a thin flow what it is settled
+/// to; of routes what their links and they themselves carry, and when.
 pub fn run<S: Shelf, O: Sink, E: Sink>(
     alloc: Global,
     words: &[String],
@@ -44,9 +51,10 @@ pub fn run<S: Shelf, O: Sink, E: Sink>(
       faults_now = E.faults err.new;
     }) result }
 
-    // Nothing but want of memory keeps a network from being shown, from being solved where its phase run reaches the horizon, and from
-    // being loaded where no operation passes; a report from its verdict where none passes; and a quickest flow from being found where
-    // none passes, unless too many walks are wanted or it is unbounded.
+    // Nothing but want of memory keeps a network from being shown, from being solved where its phase run reaches the horizon or goes on for
+    // ever, and from being loaded, by loads or by routes, where no operation passes; a report from its verdict, and from being resumed, where none
+    // passes; a quickest flow from being found where none passes, unless too many walks are wanted or it is unbounded; and a thin flow from
+    // being settled where none passes.
     ensures complete { IsComplete (record {
       words = texts words.now;
       shelf = record {
@@ -65,7 +73,11 @@ pub fn run<S: Shelf, O: Sink, E: Sink>(
     }) result }
 {
     match answer(alloc, words, shelf) {
-        Ok(outcome) => give(&outcome, out, err),
+        Ok(outcome) => {
+            let status = give(&outcome, out, err);
+            let_go(outcome);
+            status
+        }
         Err(refusal) => refuse(&refusal, err),
     }
 }

@@ -4,7 +4,7 @@ ghost use Rattle.std.specs.Prelude.{◌≡◌};
 /// How a run of the program ends.
 #[derive(Clone, Copy, Debug, PartialEq, Eq)]
 pub enum Status {
-    /// The whole text was taken; of `solve` moreover the horizon was reached.
+    /// The whole text was taken; of `solve` and `gen` moreover the horizon was reached, or without one the run goes on for ever.
     Ok,
     /// Memory is wanting.
     Memory,
@@ -28,8 +28,14 @@ pub enum Status {
     NotEquilibrium,
     /// As many walks as allowed were pushed for a quickest flow, and the next is shorter than its time.
     Augments,
+    /// Without a horizon, as many phases as allowed were made.
+    Events,
     /// A walk of unbounded links leads from source to sink, so that there is no quickest flow of an amount above 0.
     Unbounded,
+    /// The flows and slopes of a flows file are no thin flow.
+    NotThin,
+    /// The flow of the report reaches beyond the horizon.
+    Earlier,
 }
 
 impl Status {
@@ -52,7 +58,10 @@ impl Status {
             Status::Output => 9,
             Status::NotEquilibrium => 10,
             Status::Augments => 11,
+            Status::Events => 12,
             Status::Unbounded => 14,
+            Status::NotThin => 15,
+            Status::Earlier => 16,
         }
     }
 }

@@ -2,6 +2,8 @@
 ghost use Rattle.std.specs.Prelude.{◌≡◌, flat_map};
 ghost use Rattle.nf_edge.specs.Taken.{Wrote};
 ghost use Rattle.nf_readings.specs.RuleWords.{load_rule_word, report_rule_word};
+ghost use Rattle.nf_complete_lists.specs.RuleWords.{flows_rule_word};
+ghost use Rattle.nf_routes_lists.specs.RuleWords.{routes_rule_word};
 ghost use Rattle.nf_app.specs.ErrorLines.{rule_word, broken_line, stopped_line, passed_line, augments_line};
 ghost use Rattle.nf_app.specs.Answers.{err_text};
 ghost use Rattle.nf_app.specs.Refusals.{answer_of};
@@ -9,13 +11,15 @@ ghost use Rattle.nf_app.specs.Refusals.{answer_of};
 use crate::refusal::Refusal;
 use nf_curve::Stop;
 use nf_edge::{Sink, SinkFault, write_text};
+use nf_flows::FlowsRule;
 use nf_frac::{PassedAt, Q, TextBuf};
 use nf_load::LoadRule;
 use nf_net::NetRule;
 use nf_numerals::write_count;
 use nf_report::{ReportRule, write_passed_call, write_stop};
+use nf_route_reader::RoutesRule;
 
-// The usage text: all the commands there are to be.
+// The usage text: the commands that there are.
 const USAGE: &[u8] = b"nfot: usage
 nfot solve NET --horizon Q [--phases N] [--patterns N]
 nfot show NET
@@ -23,6 +27,10 @@ nfot load NET LOADS --horizon Q
 nfot check NET REPORT
 nfot quick NET --amount Q [--augments N]
 nfot gen --number N --rungs N --horizon Q [--phases N] [--patterns N]
+nfot settle NET FLOWS
+nfot solve NET --forever [--phases N] [--patterns N]
+nfot resume NET REPORT --horizon Q [--phases N] [--patterns N]
+nfot routes NET ROUTES --horizon Q
 ";
 
 fn rule_text(rule: NetRule) -> &'static [u8]
@@ -70,6 +78,48 @@ fn load_rule_text(rule: LoadRule) -> &'static [u8]
         LoadRule::L10 => b"L10",
         LoadRule::L11 => b"L11",
         LoadRule::L12 => b"L12",
+    }
+}
+
+fn flows_rule_text(rule: FlowsRule) -> &'static [u8]
+    ensures { result.now ≡ flows_rule_word rule }
+{
+    match rule {
+        FlowsRule::S1 => b"S1",
+        FlowsRule::S2 => b"S2",
+        FlowsRule::S3 => b"S3",
+        FlowsRule::S4 => b"S4",
+        FlowsRule::S5 => b"S5",
+        FlowsRule::S6 => b"S6",
+        FlowsRule::S7 => b"S7",
+        FlowsRule::S8 => b"S8",
+        FlowsRule::S9 => b"S9",
+        FlowsRule::S10 => b"S10",
+        FlowsRule::S11 => b"S11",
+    }
+}
+
+fn routes_rule_text(rule: RoutesRule) -> &'static [u8]
+    ensures { result.now ≡ routes_rule_word rule }
+{
+    match rule {
+        RoutesRule::G1 => b"G1",
+        RoutesRule::G2 => b"G2",
+        RoutesRule::G3 => b"G3",
+        RoutesRule::G4 => b"G4",
+        RoutesRule::G5 => b"G5",
+        RoutesRule::G6 => b"G6",
+        RoutesRule::G7 => b"G7",
+        RoutesRule::G8 => b"G8",
+        RoutesRule::G9 => b"G9",
+        RoutesRule::G10 => b"G10",
+        RoutesRule::G11 => b"G11",
+        RoutesRule::G12 => b"G12",
+        RoutesRule::G13 => b"G13",
+        RoutesRule::G14 => b"G14",
+        RoutesRule::G15 => b"G15",
+        RoutesRule::G16 => b"G16",
+        RoutesRule::G17 => b"G17",
     }
 }
 
@@ -151,11 +201,19 @@ pub(crate) fn write_refusal<E: Sink>(err: &mut E, refusal: &Refusal) -> Result<(
         Refusal::MalformedLoads { rule, line } => {
             write_broken(err, b"loads", *line, load_rule_text(*rule))
         }
+        Refusal::MalformedFlows { rule, line } => {
+            write_broken(err, b"flows", *line, flows_rule_text(*rule))
+        }
+        Refusal::MalformedRoutes { rule, line } => {
+            write_broken(err, b"routes", *line, routes_rule_text(*rule))
+        }
         Refusal::MalformedReport { rule, line } => {
             write_broken(err, b"report", *line, report_rule_text(*rule))
         }
         Refusal::Passes(at) => write_passed(err, at),
         Refusal::Unbounded => write_text(err, b"nfot: unbounded\n"),
+        Refusal::NotThin => write_text(err, b"nfot: no thin flow\n"),
+        Refusal::Earlier => write_text(err, b"nfot: earlier\n"),
     }
 }
 

@@ -15,7 +15,7 @@ use Rattle.nf_words.specs.declared.request.Request as code
 use Rattle.nf_words.specs.CommandLine.{word_in, matches_on}
 use Rattle.nf_words.specs.Numbers.{to_not_negative, not_negative_of, not_negative_in, count_of, usual_or_count_in, most_phases, most_patterns, most_augments, most_rungs, most_number}
 use Rattle.nf_words.specs.Commands.{commands, first_task}
-use Rattle.nf_words.specs.Requests.{Request, Show, IsWithin, CanBeAsked, solve_request, load_request, check_request, quick_request, gen_request, file_in, horizon_in, phases_in, patterns_in, amount_in, augments_in, number_in, rungs_in, asked, request_in, request_of}
+use Rattle.nf_words.specs.Requests.{Request, Show, IsWithin, CanBeAsked, solve_request, forever_request, load_request, check_request, quick_request, gen_request, settle_request, resume_request, routes_request, file_in, horizon_in, phases_in, patterns_in, amount_in, augments_in, number_in, rungs_in, asked, request_in, request_of}
 use Rattle.nf_words.specs.Views.{requested}
 use Rattle.nf_words.proofs.Counts.{count_within}
 
@@ -80,6 +80,12 @@ solve_can (Some file) (Some h) None q a b c = tt
 solve_can (Some file) (Some h) (Some p) None a b c = tt
 solve_can (Some file) (Some h) (Some p) (Some q) a b c = (a, b, c)
 
+forever_can : (file : Option Text) (p q : Option ℕ) → IfSome p (IsWithin most_phases) → IfSome q (IsWithin most_patterns) → IfSome (forever_request file p q) CanBeAsked
+forever_can None p q a b = tt
+forever_can (Some file) None q a b = tt
+forever_can (Some file) (Some p) None a b = tt
+forever_can (Some file) (Some p) (Some q) a b = (a, b)
+
 show_can : (file : Option Text) → IfSome (option_map (λ f. Show f) file) CanBeAsked
 show_can None = tt
 show_can (Some file) = tt
@@ -110,14 +116,39 @@ gen_can (Some n) (Some r) (Some h) None q a b c d e = tt
 gen_can (Some n) (Some r) (Some h) (Some p) None a b c d e = tt
 gen_can (Some n) (Some r) (Some h) (Some p) (Some q) a b c d e = (a.1, b, c, d, e)
 
+settle_can : (file flows : Option Text) → IfSome (settle_request file flows) CanBeAsked
+settle_can None flows = tt
+settle_can (Some file) None = tt
+settle_can (Some file) (Some flows) = tt
+
+resume_can : (file report : Option Text) (h : Option ℚ) (p q : Option ℕ) → IfSome h (λ x. 0ℚ ≤ℚ x) → IfSome p (IsWithin most_phases) → IfSome q (IsWithin most_patterns)
+    → IfSome (resume_request file report h p q) CanBeAsked
+resume_can None report h p q a b c = tt
+resume_can (Some file) None h p q a b c = tt
+resume_can (Some file) (Some report) None p q a b c = tt
+resume_can (Some file) (Some report) (Some h) None q a b c = tt
+resume_can (Some file) (Some report) (Some h) (Some p) None a b c = tt
+resume_can (Some file) (Some report) (Some h) (Some p) (Some q) a b c = (a, b, c)
+
+routes_can : (file routes : Option Text) (h : Option ℚ) → IfSome h (λ x. 0ℚ ≤ℚ x) → IfSome (routes_request file routes h) CanBeAsked
+routes_can None routes h a = tt
+routes_can (Some file) None h a = tt
+routes_can (Some file) (Some routes) None a = tt
+routes_can (Some file) (Some routes) (Some h) a = a
+
 each_can : (does : Task) (rows : List Row) → IfSome (asked does rows) CanBeAsked
 each_can task.Solve rows = solve_can (file_in 0 rows) (horizon_in rows) (phases_in rows) (patterns_in rows) (horizon rows) (phases rows) (patterns rows)
+each_can task.SolveForever rows = forever_can (file_in 0 rows) (phases_in rows) (patterns_in rows) (phases rows) (patterns rows)
 each_can task.Show rows = show_can (file_in 0 rows)
 each_can task.Load rows = load_can (file_in 0 rows) (file_in 1 rows) (horizon_in rows) (horizon rows)
 each_can task.Check rows = check_can (file_in 0 rows) (file_in 1 rows)
 each_can task.Quick rows = quick_can (file_in 0 rows) (amount_in rows) (augments_in rows) (amount rows) (augments rows)
 each_can task.Gen rows =
     gen_can (number_in rows) (rungs_in rows) (horizon_in rows) (phases_in rows) (patterns_in rows) (number rows) (rungs rows) (horizon rows) (phases rows) (patterns rows)
+each_can task.Settle rows = settle_can (file_in 0 rows) (file_in 1 rows)
+each_can task.Resume rows =
+    resume_can (file_in 0 rows) (file_in 1 rows) (horizon_in rows) (phases_in rows) (patterns_in rows) (horizon rows) (phases rows) (patterns rows)
+each_can task.Routes rows = routes_can (file_in 0 rows) (file_in 1 rows) (horizon_in rows) (horizon rows)
 
 some_can : (does : Option Task) (rows : List Row) → IfSome (option_and_then (λ d. asked d rows) does) CanBeAsked
 some_can None rows = tt

@@ -1,6 +1,7 @@
 -- The words of the command line as clap reads them: one simple command with its arguments, and its matches.
 use Rattle.std.specs.Prelude.{true, List, [], ◌∷◌, Option, Some, None, unwrap_or, if◌then◌else◌, codes}
 use Rattle.clap.specs.Lexer.{usize_max}
+use Rattle.clap.specs.declared.builder.action.ArgAction.TheVariants.{SetTrue}
 use Rattle.clap.specs.Walk.{Row, Rule, Text, first_of, all_of}
 use Rattle.clap.specs.Simple.{App, new_rule, new_shape, matches_of}
 use Rattle.clap.specs.Takes.{takes}
@@ -18,6 +19,10 @@ files_rule = record (new_rule (codes "files")) { range = Some (record { start_in
 abbrev pub option_rule : Text → Rule
 option_rule name = record (new_rule name) { long = Some name }
 
+-- a flag `--name` without a value; it may be given once
+abbrev pub flag_rule : Text → Rule
+flag_rule name = record (new_rule name) { long = Some name; action = Some SetTrue }
+
 -- the command `nfot`, without a flag for help or for a version, and without subcommands; it has no argument yet
 unfoldable pub bare : App
 bare = record { top = record (new_shape (codes "nfot")) { disable_help_flag = true }; subs = [] }
@@ -33,6 +38,7 @@ arguments =
     ∷ option_rule (codes "augments")
     ∷ option_rule (codes "number")
     ∷ option_rule (codes "rungs")
+    ∷ flag_rule (codes "forever")
     ∷ files_rule
     ∷ []
 

@@ -4,7 +4,7 @@ use Rattle.std.specs.Option.{option_map_or}
 use Rattle.std.specs.Str.{bytes_eq}
 use Rattle.clap.specs.Walk.{Text, Row}
 use Rattle.nf_words.specs.declared.commands.Task.{Task}
-use Rattle.nf_words.specs.declared.commands.Task.TheVariants.{Solve, Show, Load, Check, Quick, Gen}
+use Rattle.nf_words.specs.declared.commands.Task.TheVariants.{Solve, SolveForever, Show, Load, Check, Quick, Gen, Settle, Resume, Routes}
 use Rattle.nf_words.specs.declared.commands.Need.{Need}
 use Rattle.nf_words.specs.declared.commands.Need.TheVariants.{Required, Further, Absent}
 use Rattle.nf_words.specs.declared.commands.Wants.{Wants}
@@ -21,22 +21,32 @@ nothing = record {
   augments = Absent;
   number = Absent;
   rungs = Absent;
+  forever = Absent;
 }
 
--- The table of commands: the name of each, how many files it has, the options that it must be given, and further ones.
+-- The table of commands: the name of each, how many files it has, the options that it must be given, and further ones. A flag is among
+-- them. `solve` takes either a horizon or the flag `--forever`.
 unfoldable pub commands : List (Text × Task × Wants)
 commands =
     (codes "solve", Solve, record nothing { files = 1; horizon = Required; phases = Further; patterns = Further })
+    ∷ (codes "solve", SolveForever, record nothing { files = 1; forever = Required; phases = Further; patterns = Further })
     ∷ (codes "show", Show, record nothing { files = 1 })
     ∷ (codes "load", Load, record nothing { files = 2; horizon = Required })
     ∷ (codes "check", Check, record nothing { files = 2 })
     ∷ (codes "quick", Quick, record nothing { files = 1; amount = Required; augments = Further })
     ∷ (codes "gen", Gen, record nothing { number = Required; rungs = Required; horizon = Required; phases = Further; patterns = Further })
+    ∷ (codes "settle", Settle, record nothing { files = 2 })
+    ∷ (codes "resume", Resume, record nothing { files = 2; horizon = Required; phases = Further; patterns = Further })
+    ∷ (codes "routes", Routes, record nothing { files = 2; horizon = Required })
     ∷ []
 
 -- the words give this option
 unfoldable pub is_there : Text → List Row → Bool
 is_there name rows = is_some (word_in name rows)
+
+-- the words give this flag: clap then has the word `true` for it, and `false` where they don't
+unfoldable pub is_flagged : Text → List Row → Bool
+is_flagged name rows = option_map_or (λ word. bytes_eq word (codes "true")) (word_in name rows) false
 
 -- an option that is there, or isn't, is as the command wants it
 abbrev pub is_met : Need → Bool → Bool
@@ -55,6 +65,7 @@ fits wants rows =
     && is_met wants.augments (is_there (codes "augments") rows)
     && is_met wants.number (is_there (codes "number") rows)
     && is_met wants.rungs (is_there (codes "rungs") rows)
+    && is_met wants.forever (is_flagged (codes "forever") rows)
 
 -- the word COMMAND is this name
 unfoldable pub is_named : Text → List Row → Bool

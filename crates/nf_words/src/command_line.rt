@@ -2,11 +2,11 @@
 ghost use Rattle.std.specs.Prelude.{◌≡◌, IfOk, option_map};
 ghost use Rattle.clap.specs.Simple.{with_rule};
 ghost use Rattle.nf_edge.specs.Names.{texts};
-ghost use Rattle.nf_words.specs.CommandLine.{bare, nfot, command_rule, files_rule, option_rule, matches_on};
+ghost use Rattle.nf_words.specs.CommandLine.{bare, nfot, command_rule, files_rule, flag_rule, option_rule, matches_on};
 ghost use Rattle.nf_words.specs.Views.{app_in, rows_in};
 
 use clap::error::ErrorKind;
-use clap::{Arg, ArgMatches, Command};
+use clap::{Arg, ArgAction, ArgMatches, Command};
 use std::alloc::{AllocError, Global};
 
 // The command with its positional COMMAND, which is required.
@@ -31,6 +31,18 @@ fn with_option<'w>(
     command.arg(option)
 }
 
+// The command with one more flag without a value, `--name`.
+fn with_flag<'w>(
+    alloc: Global,
+    command: Command<'w>,
+    name: &'static str,
+) -> Result<Command<'w>, AllocError>
+    ensures { IfOk result (λ more. app_in more ≡ with_rule (app_in command.entry) (flag_rule name.now)) }
+{
+    let flag = Arg::new(alloc, name).long(name).action(ArgAction::SetTrue);
+    command.arg(flag)
+}
+
 // The command with its last positional FILES, of any number of values.
 fn with_files<'w>(alloc: Global, command: Command<'w>) -> Result<Command<'w>, AllocError>
     ensures { IfOk result (λ more. app_in more ≡ with_rule (app_in command.entry) files_rule) }
@@ -51,6 +63,7 @@ fn command_line<'w>(alloc: Global) -> Result<Command<'w>, AllocError>
     let command = with_option(alloc, command, "augments")?;
     let command = with_option(alloc, command, "number")?;
     let command = with_option(alloc, command, "rungs")?;
+    let command = with_flag(alloc, command, "forever")?;
     with_files(alloc, command)
 }
 

@@ -1,9 +1,9 @@
 // The commands of the command line, with their files and options.
 ghost use Rattle.std.specs.Prelude.{◌≡◌, ◌&&◌, map};
-ghost use Rattle.nf_words.specs.Commands.{commands, first_task, fits, is_met, is_named, is_there};
+ghost use Rattle.nf_words.specs.Commands.{commands, first_task, fits, is_met, is_named};
 ghost use Rattle.nf_words.specs.Views.{line_of, rows_in};
 
-use crate::given::{count_files, is_named, is_there};
+use crate::given::{count_files, is_flagged, is_named, is_there};
 use clap::ArgMatches;
 
 /// What a command does.
@@ -11,6 +11,8 @@ use clap::ArgMatches;
 pub(crate) enum Task {
     /// Writes the report of a run.
     Solve,
+    /// Writes a run without a horizon.
+    SolveForever,
     /// Writes the canonical text of a network.
     Show,
     /// Writes what becomes of given inflow on each link.
@@ -21,9 +23,15 @@ pub(crate) enum Task {
     Quick,
     /// Solves a generated ladder.
     Gen,
+    /// Writes what a thin flow is settled to.
+    Settle,
+    /// Writes the report that goes on from another.
+    Resume,
+    /// Writes what becomes of given inflow along given routes.
+    Routes,
 }
 
-/// Whether a command must be given an option, may be, or may not.
+/// Whether a command must be given an option or a flag, may be, or may not.
 #[derive(Clone, Copy)]
 pub(crate) enum Need {
     Required,
@@ -42,6 +50,7 @@ pub(crate) struct Wants {
     augments: Need,
     number: Need,
     rungs: Need,
+    forever: Need,
 }
 
 /// No file and no option.
@@ -54,6 +63,7 @@ const NOTHING: Wants = Wants {
     augments: Need::Absent,
     number: Need::Absent,
     rungs: Need::Absent,
+    forever: Need::Absent,
 };
 
 /// A line of the table of commands.
@@ -64,14 +74,26 @@ pub(crate) struct Line {
     wants: Wants,
 }
 
-/// The table of commands: the name of each, how many files it has, the options that it must be given, and further ones.
-static COMMANDS: [Line; 6] = [
+/// The table of commands: the name of each, how many files it has, the options that it must be given, and further ones. `solve` takes
+/// either a horizon or the flag `--forever`.
+static COMMANDS: [Line; 10] = [
     Line {
         name: "solve",
         task: Task::Solve,
         wants: Wants {
             files: 1,
             horizon: Need::Required,
+            phases: Need::Further,
+            patterns: Need::Further,
+            ..NOTHING
+        },
+    },
+    Line {
+        name: "solve",
+        task: Task::SolveForever,
+        wants: Wants {
+            files: 1,
+            forever: Need::Required,
             phases: Need::Further,
             patterns: Need::Further,
             ..NOTHING
@@ -124,16 +146,44 @@ static COMMANDS: [Line; 6] = [
             ..NOTHING
         },
     },
+    Line {
+        name: "settle",
+        task: Task::Settle,
+        wants: Wants {
+            files: 2,
+            ..NOTHING
+        },
+    },
+    Line {
+        name: "resume",
+        task: Task::Resume,
+        wants: Wants {
+            files: 2,
+            horizon: Need::Required,
+            phases: Need::Further,
+            patterns: Need::Further,
+            ..NOTHING
+        },
+    },
+    Line {
+        name: "routes",
+        task: Task::Routes,
+        wants: Wants {
+            files: 2,
+            horizon: Need::Required,
+            ..NOTHING
+        },
+    },
 ];
 
-// Whether the words give an option, or don't, as the command wants it.
-fn is_met(need: Need, matches: &ArgMatches, name: &str) -> bool
-    ensures { result ≡ is_met need (is_there name.now (rows_in matches.now)) }
+// Whether an option that is there, or isn't, is as the command wants it.
+fn is_met(need: Need, there: bool) -> bool
+    ensures { result ≡ is_met need there }
 {
     match need {
-        Need::Required => is_there(matches, name),
+        Need::Required => there,
         Need::Further => true,
-        Need::Absent => !is_there(matches, name),
+        Need::Absent => !there,
     }
 }
 
@@ -143,13 +193,14 @@ fn fits(matches: &ArgMatches, wants: Wants) -> bool
     ensures { result ≡ fits wants (rows_in matches.now) }
 {
     count_files(matches) == wants.files
-        && is_met(wants.horizon, matches, "horizon")
-        && is_met(wants.phases, matches, "phases")
-        && is_met(wants.patterns, matches, "patterns")
-        && is_met(wants.amount, matches, "amount")
-        && is_met(wants.augments, matches, "augments")
-        && is_met(wants.number, matches, "number")
-        && is_met(wants.rungs, matches, "rungs")
+        && is_met(wants.horizon, is_there(matches, "horizon"))
+        && is_met(wants.phases, is_there(matches, "phases"))
+        && is_met(wants.patterns, is_there(matches, "patterns"))
+        && is_met(wants.amount, is_there(matches, "amount"))
+        && is_met(wants.augments, is_there(matches, "augments"))
+        && is_met(wants.number, is_there(matches, "number"))
+        && is_met(wants.rungs, is_there(matches, "rungs"))
+        && is_met(wants.forever, is_flagged(matches, "forever"))
 }
 
 // Whether the words name the command, and fit it.

@@ -1,7 +1,7 @@
 // What the matches of clap give: words and files, by the names of arguments.
 ghost use Rattle.std.specs.Prelude.{◌≡◌, length, slice_get};
 ghost use Rattle.nf_words.specs.CommandLine.{word_in, files_in};
-ghost use Rattle.nf_words.specs.Commands.{is_there, is_named};
+ghost use Rattle.nf_words.specs.Commands.{is_there, is_flagged, is_named};
 ghost use Rattle.nf_words.specs.Requests.{file_in};
 ghost use Rattle.nf_words.specs.Views.{rows_in, text_in};
 
@@ -19,6 +19,16 @@ pub(crate) fn is_there(matches: &ArgMatches, name: &str) -> bool
     ensures { result ≡ is_there name.now (rows_in matches.now) }
 {
     word_of(matches, name).is_some()
+}
+
+/// Whether the words give a flag.
+pub(crate) fn is_flagged(matches: &ArgMatches, name: &str) -> bool
+    ensures { result ≡ is_flagged name.now (rows_in matches.now) }
+{
+    match word_of(matches, name) {
+        Some(word) => word == "true",
+        None => false,
+    }
 }
 
 /// Whether the word COMMAND is this name.

@@ -22,6 +22,13 @@ pub enum Request<'w> {
         phases: u64,
         patterns: u64,
     },
+    /// A run in a network from time 0 on without a horizon, of so many phases at most, each of which may try so many patterns; both
+    /// are at least 1.
+    SolveForever {
+        file: &'w str,
+        phases: u64,
+        patterns: u64,
+    },
     /// The canonical text of a network.
     Show {
         file: &'w str,
@@ -51,6 +58,26 @@ pub enum Request<'w> {
         phases: u64,
         patterns: u64,
     },
+    /// What a thin flow of a flows file is settled to, by the sets of the labels at departure 0 of a network.
+    Settle {
+        file: &'w str,
+        flows: &'w str,
+    },
+    /// The report of the run that goes on from another report's flow, to a horizon of at least 0, with so many phases at most from there
+    /// on, each of which may try so many patterns; both are at least 1.
+    Resume {
+        file: &'w str,
+        report: &'w str,
+        horizon: Q,
+        phases: u64,
+        patterns: u64,
+    },
+    /// What becomes of inflow that is given along routes of a network, up to a horizon of at least 0.
+    Routes {
+        file: &'w str,
+        routes: &'w str,
+        horizon: Q,
+    },
 }
 
 // `solve NET --horizon Q [--phases N] [--patterns N]`
@@ -60,6 +87,17 @@ fn solve<'w>(matches: &ArgMatches<'w>) -> Option<Request<'w>>
     Some(Request::Solve {
         file: file_of(matches, 0)?,
         horizon: horizon_of(matches)?,
+        phases: phases_of(matches)?,
+        patterns: patterns_of(matches)?,
+    })
+}
+
+// `solve NET --forever [--phases N] [--patterns N]`
+fn solve_forever<'w>(matches: &ArgMatches<'w>) -> Option<Request<'w>>
+    ensures { asked Task.SolveForever (rows_in matches.now) ≡ option_map requested result }
+{
+    Some(Request::SolveForever {
+        file: file_of(matches, 0)?,
         phases: phases_of(matches)?,
         patterns: patterns_of(matches)?,
     })
@@ -119,16 +157,54 @@ fn generate<'w>(matches: &ArgMatches<'w>) -> Option<Request<'w>>
     })
 }
 
+// `settle NET FLOWS`
+fn settle<'w>(matches: &ArgMatches<'w>) -> Option<Request<'w>>
+    ensures { asked Task.Settle (rows_in matches.now) ≡ option_map requested result }
+{
+    Some(Request::Settle {
+        file: file_of(matches, 0)?,
+        flows: file_of(matches, 1)?,
+    })
+}
+
+// `resume NET REPORT --horizon Q [--phases N] [--patterns N]`
+fn resume<'w>(matches: &ArgMatches<'w>) -> Option<Request<'w>>
+    ensures { asked Task.Resume (rows_in matches.now) ≡ option_map requested result }
+{
+    Some(Request::Resume {
+        file: file_of(matches, 0)?,
+        report: file_of(matches, 1)?,
+        horizon: horizon_of(matches)?,
+        phases: phases_of(matches)?,
+        patterns: patterns_of(matches)?,
+    })
+}
+
+// `routes NET ROUTES --horizon Q`
+fn routes<'w>(matches: &ArgMatches<'w>) -> Option<Request<'w>>
+    ensures { asked Task.Routes (rows_in matches.now) ≡ option_map requested result }
+{
+    Some(Request::Routes {
+        file: file_of(matches, 0)?,
+        routes: file_of(matches, 1)?,
+        horizon: horizon_of(matches)?,
+    })
+}
+
 /// What the matches ask; None where no command fits them, or a number isn't within its limits.
 pub(crate) fn request_of<'w>(matches: &ArgMatches<'w>) -> Option<Request<'w>>
     ensures { request_in (rows_in matches.now) ≡ option_map requested result }
 {
     match task_of(matches)? {
         Task::Solve => solve(matches),
+        Task::SolveForever => solve_forever(matches),
         Task::Show => show(matches),
         Task::Load => load(matches),
         Task::Check => check(matches),
         Task::Quick => quick(matches),
         Task::Gen => generate(matches),
+        Task::Settle => settle(matches),
+        Task::Resume => resume(matches),
+        Task::Routes => routes(matches),
     }
 }

@@ -7,20 +7,25 @@ use Rattle.nf_rational.specs.Gcd.{gcd}
 use Rattle.nf_numerals.specs.Numbers.{number_of, parts_of}
 use Rattle.nf_words.specs.CommandLine.{nfot, matches_on, word_in, files_in}
 use Rattle.nf_words.specs.Numbers.{count_of}
-use Rattle.nf_words.specs.Commands.{commands, fits, is_named, is_there}
+use Rattle.nf_words.specs.Commands.{commands, fits, is_flagged, is_named, is_there}
 use Rattle.nf_words.specs.Requests.{file_in, horizon_in, phases_in, patterns_in, amount_in, augments_in, number_in, rungs_in, request_of}
 use Rattle.nf_words.proofs.words_are_read.Goals as goal
 
 pub returns : goal.returns
-unfolding clap_on_literals ratio whole le_ℚ gcd number_of parts_of nfot matches_on word_in files_in count_of commands fits is_named is_there file_in horizon_in phases_in patterns_in amount_in augments_in number_in rungs_in request_of
+unfolding clap_on_literals ratio whole le_ℚ gcd number_of parts_of nfot matches_on word_in files_in count_of commands fits is_named is_there is_flagged file_in horizon_in phases_in patterns_in amount_in augments_in number_in rungs_in request_of
 returns c = record {
   any_order = refl;
   between = refl;
   no_files = refl;
+  flag = refl;
+  both = refl;
+  valued = refl;
   behind = refl;
   missing = refl;
   negative = refl;
   twice = refl;
+  flag_twice = refl;
+  foreign_flag = refl;
   foreign = refl;
   unknown = refl;
   help = refl;

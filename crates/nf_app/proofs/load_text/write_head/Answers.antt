@@ -6,12 +6,12 @@ use Rattle.nf_app.proofs.load_text.write_head.Goals as goal
 
 pub returns-in_err-write_line : goal.returns-in_err-write_line
 returns-in_err-write_line g c =
-    wrote_failed ((codes "loaded" ∷ codes "1" ∷ []) ∷ []) ((codes "horizon" ∷ printed c.args.horizon ∷ []) ∷ [])
-    ((codes "loaded" ∷ codes "1" ∷ []) ∷ (codes "horizon" ∷ printed c.args.horizon ∷ []) ∷ []) c.from_residual.result refl c.from_residual.ensures.0 c.in_err-write_line.ensures
+    wrote_failed ((c.args.key.now ∷ codes "1" ∷ []) ∷ []) ((codes "horizon" ∷ printed c.args.horizon ∷ []) ∷ [])
+    ((c.args.key.now ∷ codes "1" ∷ []) ∷ (codes "horizon" ∷ printed c.args.horizon ∷ []) ∷ []) c.from_residual.result refl c.from_residual.ensures.0 c.in_err-write_line.ensures
 
 pub returns : goal.returns
 returns g c =
-    wrote_next ((codes "loaded" ∷ codes "1" ∷ []) ∷ []) ((codes "horizon" ∷ printed c.args.horizon ∷ []) ∷ [])
-    ((codes "loaded" ∷ codes "1" ∷ []) ∷ (codes "horizon" ∷ printed c.args.horizon ∷ []) ∷ []) refl c.in_ok-write_line.ensures
+    wrote_next ((c.args.key.now ∷ codes "1" ∷ []) ∷ []) ((codes "horizon" ∷ printed c.args.horizon ∷ []) ∷ [])
+    ((c.args.key.now ∷ codes "1" ∷ []) ∷ (codes "horizon" ∷ printed c.args.horizon ∷ []) ∷ []) refl c.in_ok-write_line.ensures
     (same_lines ((codes "horizon" ∷ c.text.result.now ∷ []) ∷ []) ((codes "horizon" ∷ printed c.args.horizon ∷ []) ∷ [])
     (ap (λ (word : List ℕ). (codes "horizon" ∷ word ∷ []) ∷ []) (c.text.ensures ∙ c.write.ensures.text)) c.write_line-2.ensures)

@@ -7,6 +7,11 @@ use Rattle.nf_phase.specs.Solution.{report_in}
 use Rattle.nf_readings.specs.Texts.{load_text}
 use Rattle.nf_load.specs.declared.loading.Loaded as code
 use Rattle.nf_load.specs.Loadings.{loaded_of}
+use Rattle.nf_complete_lists.specs.SettleText.{settled_text}
+use Rattle.nf_forever_lists.specs.ForeverText.{forever_text}
+use Rattle.nf_forever.specs.Seen.{forever_in}
+use Rattle.nf_routes_lists.specs.RoutesText.{routed_text}
+use Rattle.nf_routes.specs.Routed.{routed_of}
 use Rattle.nf_app.specs.declared.outcome.Outcome.{Outcome}
 use Rattle.nf_app.specs.QuickText.{arrival_text}
 use Rattle.nf_app.specs.Outcomes.{text_in, HasText}
@@ -32,3 +37,16 @@ returns-in-Quickest g c =
     same_text (c.deref-in-Quickest.result.now ++ arrival_text c.in-Quickest.arrival) (text_in c.args.outcome.now)
     (ap (λ (l : List ℕ). l ++ arrival_text c.in-Quickest.arrival) (c.deref-in-Quickest.ensures.value ∙ subst (λ (o : Outcome). HasText o) c.in-Quickest.is c.requires)
     ∙ sym (ap text_in c.in-Quickest.is)) c.write_quick.ensures
+
+pub returns-in-Settled : goal.returns-in-Settled
+returns-in-Settled g c =
+    same_text (settled_text c.in-Settled.net c.in-Settled.settled.pattern c.in-Settled.settled.flows.items) (text_in c.args.outcome.now) (sym (ap text_in c.in-Settled.is)) c.write_settled.ensures
+
+pub returns-in-SolvedForever : goal.returns-in-SolvedForever
+returns-in-SolvedForever g c =
+    same_text (forever_text c.in-SolvedForever.net (forever_in c.in-SolvedForever.forever)) (text_in c.args.outcome.now) (sym (ap text_in c.in-SolvedForever.is)) c.write_forever.ensures
+
+pub returns-in-Distributed : goal.returns-in-Distributed
+returns-in-Distributed g c =
+    same_text (routed_text c.in-Distributed.net c.in-Distributed.routes c.in-Distributed.horizon (routed_of c.in-Distributed.routed)) (text_in c.args.outcome.now)
+    (sym (ap text_in c.in-Distributed.is)) c.write_routed.ensures

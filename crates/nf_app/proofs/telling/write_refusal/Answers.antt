@@ -17,6 +17,16 @@ returns-in-MalformedLoads g c = same_text _ _
     (ap (λ (rule : List ℕ). broken_line (codes "loads") c.in-MalformedLoads.line rule) c.load_rule_text.ensures
     ∙ sym (ap (λ (r : Refusal). err_text (answer_of r)) c.in-MalformedLoads.is)) c.write_broken-in-MalformedLoads.ensures
 
+pub returns-in-MalformedFlows : goal.returns-in-MalformedFlows
+returns-in-MalformedFlows g c = same_text _ _
+    (ap (λ (rule : List ℕ). broken_line (codes "flows") c.in-MalformedFlows.line rule) c.flows_rule_text.ensures
+    ∙ sym (ap (λ (r : Refusal). err_text (answer_of r)) c.in-MalformedFlows.is)) c.write_broken-in-MalformedFlows.ensures
+
+pub returns-in-MalformedRoutes : goal.returns-in-MalformedRoutes
+returns-in-MalformedRoutes g c = same_text _ _
+    (ap (λ (rule : List ℕ). broken_line (codes "routes") c.in-MalformedRoutes.line rule) c.routes_rule_text.ensures
+    ∙ sym (ap (λ (r : Refusal). err_text (answer_of r)) c.in-MalformedRoutes.is)) c.write_broken-in-MalformedRoutes.ensures
+
 pub returns-in-MalformedReport : goal.returns-in-MalformedReport
 returns-in-MalformedReport g c = same_text _ _
     (ap (λ (rule : List ℕ). broken_line (codes "report") c.in-MalformedReport.line rule) c.report_rule_text.ensures

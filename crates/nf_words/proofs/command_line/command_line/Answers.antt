@@ -2,15 +2,15 @@ use Rattle.std.proofs.Common.{◌≡◌, ◌∙◌, ap, refl, codes}
 use Rattle.std.proofs.lemmas.Result.{IfOk-weaker}
 use Rattle.clap.specs.Walk.{Text}
 use Rattle.clap.specs.Simple.{App, with_rule}
-use Rattle.nf_words.specs.CommandLine.{bare, nfot, command_rule, files_rule, option_rule}
+use Rattle.nf_words.specs.CommandLine.{bare, nfot, command_rule, files_rule, flag_rule, option_rule}
 use Rattle.nf_words.proofs.command_line.command_line.Goals as goal
 
 abbrev with_named : Text → App → App
 with_named name app = with_rule app (option_rule name)
 
 abbrev with_all : App → App
-with_all app = with_rule (with_named (codes "rungs") (with_named (codes "number") (with_named (codes "augments") (with_named (codes "amount")
-    (with_named (codes "patterns") (with_named (codes "phases") (with_named (codes "horizon") app))))))) files_rule
+with_all app = with_rule (with_rule (with_named (codes "rungs") (with_named (codes "number") (with_named (codes "augments") (with_named (codes "amount")
+    (with_named (codes "patterns") (with_named (codes "phases") (with_named (codes "horizon") app))))))) (flag_rule (codes "forever"))) files_rule
 
 all_is : with_all (with_rule bare command_rule) ≡ nfot
 unfolding bare nfot
@@ -25,4 +25,5 @@ returns c =
     let augments = c.in_ok-command-6.ensures ∙ ap (with_named (codes "augments")) amount in
     let number = c.in_ok-command-7.ensures ∙ ap (with_named (codes "number")) augments in
     let rungs = c.in_ok-command-8.ensures ∙ ap (with_named (codes "rungs")) number in
-    IfOk-weaker c.with_files.result _ _ (λ command h. h ∙ ap (λ (app : App). with_rule app files_rule) rungs ∙ all_is) c.with_files.ensures
+    let forever = c.in_ok-command-9.ensures ∙ ap (λ (app : App). with_rule app (flag_rule (codes "forever"))) rungs in
+    IfOk-weaker c.with_files.result _ _ (λ command h. h ∙ ap (λ (app : App). with_rule app files_rule) forever ∙ all_is) c.with_files.ensures

@@ -1,0 +1,53 @@
+use Rattle.std.proofs.Common.{ℕ, List, sym, ◌∙◌}
+use Rattle.std.specs.Prelude.{Ok, Err, map, length}
+use Rattle.std.proofs.lemmas.List.{length-map}
+use Rattle.std.proofs.lemmas.Result.{err_from_is_err_and}
+use Rattle.nf_model.specs.Equilibrium.{points_of}
+use Rattle.nf_curve.specs.Flows.{trace_of}
+use Rattle.nf_reader.specs.Files.{report_of}
+use Rattle.nf_app.proofs.CheckGiven.{report_refused, checking_stopped, verdict_given}
+use Rattle.nf_app.proofs.answering.check_report.Goals as goal
+
+pub check-requires-clause-labels : goal.check-requires-clause-labels
+check-requires-clause-labels c =
+    sym (length-map c.in_ok-report.report.flow.labels.items (λ curve. curve.points)) ∙ c.in_ok-report.ensures.formed.shape.labels.count
+
+pub check-requires-clause-inflows : goal.check-requires-clause-inflows
+check-requires-clause-inflows c =
+    sym (length-map c.in_ok-report.report.flow.inflows.items trace_of) ∙ sym (length-map (map trace_of c.in_ok-report.report.flow.inflows.items) (λ trace. trace.points))
+    ∙ c.in_ok-report.ensures.formed.shape.inflows.count
+
+pub check-requires-clause-outflows : goal.check-requires-clause-outflows
+check-requires-clause-outflows c =
+    sym (length-map c.in_ok-report.report.flow.outflows.items trace_of) ∙ sym (length-map (map trace_of c.in_ok-report.report.flow.outflows.items) (λ trace. trace.points))
+    ∙ c.in_ok-report.ensures.formed.shape.outflows.count
+
+pub check-requires-clause-queues : goal.check-requires-clause-queues
+check-requires-clause-queues c =
+    sym (length-map c.in_ok-report.report.flow.queues.items (λ curve. curve.points)) ∙ c.in_ok-report.ensures.formed.shape.queues.count
+
+pub check-requires-clause-inflow_rates : goal.check-requires-clause-inflow_rates
+check-requires-clause-inflow_rates c = c.in_ok-report.ensures.formed.inflow_rates
+
+pub check-requires-clause-outflow_rates : goal.check-requires-clause-outflow_rates
+check-requires-clause-outflow_rates c = c.in_ok-report.ensures.formed.outflow_rates
+
+pub check-requires-clause-reached : goal.check-requires-clause-reached
+check-requires-clause-reached c = c.in_ok-report.ensures.formed.reached
+
+pub returns-in_err-report : goal.returns-in_err-report
+returns-in_err-report c shelf file name told =
+    let p = err_from_is_err_and c.from_residual.result c.from_residual.ensures.1 in
+    rw (p.1, p.2) (report_refused shelf c.args.net file name c.args.text.now told c.in_err-report.field-0.0 c.in_err-report.ensures.reads)
+
+pub returns-in_err-verdict : goal.returns-in_err-verdict
+returns-in_err-verdict c shelf file name told =
+    let p = err_from_is_err_and c.from_residual-in_err-verdict.result c.from_residual-in_err-verdict.ensures.1 in
+    rw (p.1, p.2) (checking_stopped shelf c.args.net file name c.args.text.now told (report_of c.in_ok-report.report) c.in_ok-report.ensures.reads c.in_err-verdict.field-0.0 c.in_err-verdict.ensures.list)
+
+pub returns : goal.returns
+returns c shelf file name told = (
+  verdict_given shelf c.args.net file name c.args.text.now told (report_of c.in_ok-report.report) c.in_ok-report.ensures.reads
+      c.in_ok-verdict.verdict c.in_ok-verdict.ensures.list c.in_ok-verdict.ensures.rules c.in_ok-verdict.ensures.exact,
+  tt,
+)

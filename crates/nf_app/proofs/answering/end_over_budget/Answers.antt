@@ -1,0 +1,18 @@
+use Rattle.std.proofs.Common.{refl, inl, inr, ap, ◌∙◌}
+use Rattle.std.proofs.lemmas.Result.{err_from_is_err_and}
+use Rattle.nf_quick_lists.specs.Quick as lists
+use Rattle.std.specs.Prelude.{List}
+use Rattle.nf_app.specs.QuickText.{augments_text}
+use Rattle.nf_app.proofs.QuickTold.{budget_given}
+use Rattle.nf_app.proofs.answering.end_over_budget.Goals as goal
+
+pub returns-in_err-text : goal.returns-in_err-text
+returns-in_err-text c shelf file amount h =
+    let p = err_from_is_err_and c.from_residual.result c.from_residual.ensures.1 in
+    rw (p.1, p.2) (inl refl)
+
+pub returns : goal.returns
+returns c shelf file amount h = (
+  budget_given shelf c.args.net file amount c.args.augments c.args.walks.items h.0 h.1,
+  c.in_ok-text.ensures ∙ ap (λ (l : List lists.Augment). augments_text c.args.net l) c.deref.ensures.value,
+)

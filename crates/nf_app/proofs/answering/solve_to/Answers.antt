@@ -1,0 +1,27 @@
+use Rattle.std.proofs.Common.{refl, arith}
+use Rattle.nf_phase.specs.Solution.{bounds_of, report_in}
+use Rattle.nf_readable_laws.proofs.Fractions.{fraction_of_parts}
+use Rattle.nf_readable_laws.proofs.ReadingBack.{reads_back}
+use Rattle.nf_work.specs.Passing.{passes_Q}
+use Rattle.nf_complete_laws.proofs.Stopped.{stops_for_none}
+use Rattle.nf_app.proofs.answering.solve_to.Goals as goal
+
+pub returns : goal.returns
+returns c shelf file =
+    let s = c.in_ok-solution.solution in
+    let report = report_in c.args.horizon s in (
+      (
+        report,
+        refl,
+        (s.phases, c.in_ok-solution.ensures),
+        reads_back c.args.net (bounds_of c.args.horizon c.args.budgets) report c.version.ensures.named
+            (record {
+              horizon = fraction_of_parts c.args.horizon c.numer.result c.denom.result c.numer.ensures.value c.numer.ensures.small c.denom.ensures.value c.denom.ensures.small;
+              phases = omega arith;
+              patterns = omega arith;
+            })
+            c.in_ok-solution.ensures.well_formed c.in_ok-solution.ensures.run,
+        stops_for_none passes_Q c.args.net.net (bounds_of c.args.horizon c.args.budgets) report c.version.ensures.named.network c.in_ok-solution.ensures.run,
+      ),
+      c.in_ok-solution.ensures.well_formed,
+    )

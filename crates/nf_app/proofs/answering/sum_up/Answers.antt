@@ -1,0 +1,24 @@
+use Rattle.std.proofs.Common.{ℕ, ◌<◌, refl, sym, subst}
+use Rattle.nf_phase.specs.Solution.{bounds_of, report_in}
+use Rattle.nf_work.specs.Passing.{passes_Q}
+use Rattle.nf_complete_laws.proofs.Stopped.{stops_for_none}
+use Rattle.nf_app.proofs.QuickTold.{at_sink, last_is_label}
+use Rattle.nf_app.proofs.answering.sum_up.Goals as goal
+
+pub returns : goal.returns
+returns c shelf =
+    let s = c.in_ok-solution.solution in
+    let report = report_in c.args.horizon s in
+    let net = c.args.net.net in
+    let is = last_is_label net c.version.ensures.named.network (bounds_of c.args.horizon c.args.budgets) report s.phases c.in_ok-solution.ensures
+    (subst (λ (v : ℕ). v < net.nodes) c.sink.ensures.value c.sink.ensures.node) c.last_label-arrival.result
+    (at_sink s.flow c.sink.result net.sink c.last_label-arrival.result c.sink.ensures.value c.last_label-arrival.ensures) in (
+      (
+        report,
+        s.phases,
+        refl,
+        c.in_ok-solution.ensures,
+        stops_for_none passes_Q net (bounds_of c.args.horizon c.args.budgets) report c.version.ensures.named.network c.in_ok-solution.ensures.run,
+      ),
+      sym is,
+    )

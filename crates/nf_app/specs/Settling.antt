@@ -1,0 +1,31 @@
+-- What settling flows and slopes at departure 0 answers.
+use Rattle.std.specs.Prelude.{◌≡◌, List, Option, Some, None, Result, Ok, Err, IsOk}
+use Rattle.nf_rational.specs.Rational.{ℚ}
+use Rattle.nf_work.specs.Passing.{passes_Q}
+use Rattle.nf_work.specs.Checked.{at_part}
+use Rattle.nf_work.specs.declared.Part.TheVariants.{Slack}
+use Rattle.nf_work.specs.declared.Halt.{Halt}
+use Rattle.nf_model.specs.Network.{Network, hops}
+use Rattle.nf_model.specs.ThinFlow.{Sets, sets_at}
+use Rattle.nf_model.specs.Phases.{AreStartLabels}
+use Rattle.nf_lists.specs.Slack.{slack_list}
+use Rattle.nf_complete_lists.specs.FlowsFile.{GivenFlows}
+use Rattle.nf_complete.specs.declared.settled.Settled.{Settled}
+use Rattle.nf_app.specs.SettleGiven.{AreSettled, AreNotThin, PassesFirst}
+
+-- this holds of the labels at departure 0
+abbrev pub AtStartLabels : Network → (List ℚ → Type 0) → Type 0
+AtStartLabels net Holds = (labels : List ℚ) × AreStartLabels net labels × Holds labels
+
+-- the sets of their slacks, of whose list no operation passes; or else this one
+abbrev pub AreStartSets : Network → Result Sets (Halt ℚ) → Type 0
+AreStartSets net (Ok sets) = AtStartLabels net (λ labels. IsOk (slack_list passes_Q (hops net) labels) × (sets_at net labels ≡ sets))
+AreStartSets net (Err (Halt.Passed at)) = AtStartLabels net (λ labels. at_part Slack (slack_list passes_Q (hops net) labels) ≡ Err at)
+AreStartSets net (Err Halt.Memory) = Unit {0}
+
+-- the flows and slopes are settled, or are no thin flow, or this operation passes
+abbrev pub SettlesAtStart : Network → GivenFlows → Result (Option Settled) (Halt ℚ) → Type 0
+SettlesAtStart net given (Ok (Some s)) = AtStartLabels net (λ labels. AreSettled net labels given s.pattern s.flows.items)
+SettlesAtStart net given (Ok None) = AtStartLabels net (λ labels. AreNotThin net labels given)
+SettlesAtStart net given (Err (Halt.Passed at)) = AtStartLabels net (λ labels. PassesFirst net labels given at)
+SettlesAtStart net given (Err Halt.Memory) = Unit {0}
