@@ -4,7 +4,7 @@ ghost use Rattle.std.specs.Prelude.{◌≡◌};
 /// How a run of the program ends.
 #[derive(Clone, Copy, Debug, PartialEq, Eq)]
 pub enum Status {
-    /// The whole text was taken; of `solve` and `gen` moreover the horizon was reached, or without one the run goes on for ever.
+    /// The whole text was taken; of `solve`, `resume` and `gen` moreover the horizon was reached, or without one the run goes on for ever.
     Ok,
     /// Memory is wanting.
     Memory,
@@ -18,7 +18,7 @@ pub enum Status {
     Phases,
     /// As many patterns as allowed were tried in a phase, and there are more.
     Patterns,
-    /// A named operation passes 128 bits.
+    /// The result of a named operation has a part beyond 2^127 - 1.
     Passed,
     /// No pattern of a phase is accepted, and none passes.
     NoPattern,
