@@ -3,13 +3,13 @@
 ghost use Rattle.std.specs.Prelude.{IfOk, IfSome};
 ghost use Rattle.nf_work.specs.Passing.{passes_Q};
 ghost use Rattle.nf_equation_laws.specs.Equations.{IsPatternIn};
-ghost use Rattle.nf_thin.specs.Trying.{AreValuesOf};
+ghost use Rattle.nf_trial.specs.Trying.{AreValuesOf};
 ghost use Rattle.nf_thin.specs.Guessing.{IsSolved};
 
 use crate::part_values::part_values;
 use crate::repairs::repair;
 use crate::settling::settled;
-use crate::trying::pattern_values;
+use nf_trial::pattern_values;
 use nf_frac::{Halt, Q};
 use nf_graph::LinkSets;
 use nf_net::Network;

@@ -10,7 +10,7 @@ ghost use Rattle.nf_thin.specs.Slopes.{MayCarry, IsLed, AreThinSlopes};
 
 use crate::guess::SolvedPattern;
 use crate::known::Known;
-use crate::trying::{Tried, judge_values};
+use nf_trial::{Tried, judge_values};
 use nf_frac::{Halt, Q};
 use nf_graph::{LinkId, LinkSets, NodeId, topological};
 use nf_model::State;

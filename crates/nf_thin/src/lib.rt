@@ -3,7 +3,6 @@
 #![tactic(auto)]
 
 mod allowed;
-mod filling;
 mod first;
 mod forest;
 mod guess;
@@ -20,8 +19,6 @@ mod searches;
 mod settling;
 mod sifting;
 mod tight_flows;
-mod trying;
-mod verdicts;
 
 pub use searches::{SearchFault, Thin, search};
-pub use verdicts::{Judged, verdict};
+pub use nf_trial::{Judged, verdict};

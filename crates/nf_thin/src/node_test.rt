@@ -9,7 +9,7 @@ ghost use Rattle.nf_model.specs.ThinFlow.{surplus as surplus_of};
 ghost use Rattle.nf_thin.specs.Ranges.{IsWithin};
 ghost use Rattle.nf_thin.specs.Balancing.{full_of, full_by, CanFlow, BoundsFirst, needed_at};
 
-use crate::filling::surplus;
+use nf_trial::surplus;
 use crate::ranges::{Range, flow_range};
 use nf_frac::Q;
 use nf_graph::{LinkId, LinkSets, NodeId};

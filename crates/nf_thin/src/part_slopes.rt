@@ -3,7 +3,7 @@
 ghost use Rattle.std.specs.Prelude.{◌≡◌, ◌<◌, ◌≤◌, length};
 
 use crate::node_parts::{Parts, state_in, tight_forest};
-use crate::trying::solved;
+use nf_trial::solved;
 use nf_frac::{Halt, Part, Q, at};
 use nf_graph::{LinkId, LinkSets, NodeId};
 use nf_linear::Table;

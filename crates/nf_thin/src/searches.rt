@@ -9,7 +9,7 @@ ghost use Rattle.nf_equation_laws.specs.Equations.{IsPatternIn};
 ghost use Rattle.nf_thin.specs.Searching.{TriesNext, Searches, SlopesAreOnly, AreSetsOf, AsksOf};
 
 use crate::sifting::sifted_search;
-use crate::trying::{Tried, try_pattern};
+use nf_trial::{Tried, try_pattern};
 use nf_frac::{Halt, PassedAt, Q};
 use nf_graph::{LinkId, LinkSets};
 use nf_net::Network;

@@ -2,7 +2,7 @@ use Rattle.std.proofs.Common.{length, ap, sym, ◌∙◌, arith}
 use Rattle.std.specs.Prelude.{Option, Some}
 use Rattle.nf_model.specs.declared.State.{State}
 use Rattle.nf_lists_laws.proofs.Bases.{same_entries}
-use Rattle.nf_thin.proofs.Comparing.{alike_more}
+use Rattle.nf_trial.proofs.Comparing.{alike_more}
 use Rattle.nf_thin.proofs.known.is_one_pattern.Goals as goal
 
 pub loop-e-preserved : goal.loop-e-preserved

@@ -1,4 +1,4 @@
-use Rattle.nf_thin.proofs.Comparing.{AreAlikeBelow}
+use Rattle.nf_trial.proofs.Comparing.{AreAlikeBelow}
 use Rattle.nf_thin.proofs.known.is_one_pattern.Given as goal
 
 -- the links before have the same states

@@ -1,0 +1,17 @@
+pub mod Folds
+pub mod Inequalities
+pub mod Failing
+pub mod Comparing
+pub mod Concluding
+pub mod Patterns
+pub mod Tried
+pub mod Cells
+pub mod ActivePlaces
+pub mod EquationRows
+pub mod NodeEntries
+pub mod LinkEntries
+pub mod NodeRows
+pub mod LinkRows
+pub mod Sizes
+pub mod SourceRow
+pub mod Spreading

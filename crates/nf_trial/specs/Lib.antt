@@ -1,0 +1,3 @@
+pub mod Filling
+pub mod Trying
+pub mod Judging

@@ -1,0 +1,10 @@
+//! One pattern of a phase: the table of its equations, whether flows and slopes meet its inequalities, and what comes of it.
+#![tactic(auto)]
+
+mod filling;
+mod trying;
+mod verdicts;
+
+pub use filling::surplus;
+pub use trying::{Tried, judge_values, pattern_values, solved, try_pattern};
+pub use verdicts::{Judged, verdict};
