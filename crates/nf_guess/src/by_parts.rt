@@ -28,7 +28,7 @@ fn slopes_and_flows(
 }
 
 /// The values that solve the table of a pattern: the slopes of the nodes, in node order, and the flows of the active links, in link
-/// order. None where not just one does, or an operation passes.
+/// order. None where not just one does, or an operation passes. None of this is promised by a clause.
 pub fn part_values(
     alloc: Global,
     net: &Network,

@@ -1,5 +1,5 @@
-//! A guess of a pattern that is accepted, from the first listed one on. Nothing rests on what is guessed: only that the values with the
-//! pattern solve its table is promised, and who asks judges it like any other.
+//! A guess of a pattern that is accepted. It is promised that the values with it solve the pattern's table, and nothing else: who asks
+//! judges it like any other pattern.
 #![tactic(auto)]
 
 mod by_parts;

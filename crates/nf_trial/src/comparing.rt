@@ -13,7 +13,7 @@ fn is_one_state(one: Option<State>, other: Option<State>) -> bool
     one == other
 }
 
-/// Two patterns have the same state at each link.
+/// Whether two patterns have the same state at each link. Where it answers true, they have.
 pub fn is_one_pattern(net: &Network, one: &Pattern, other: &Pattern) -> bool
     requires one { length one.now ≡ length net.now.net.links }
     requires other { length other.now ≡ length net.now.net.links }

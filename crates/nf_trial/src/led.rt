@@ -9,7 +9,7 @@ use nf_model::State;
 use nf_net::Network;
 use nf_pattern::Pattern;
 
-/// The link is Tight, Full or resetting.
+/// Whether the link is Tight, Full or resetting: one that may carry flow. Where it answers true, it is.
 pub fn may_carry(sets: &LinkSets, pattern: &Pattern, link: LinkId) -> bool
     requires link { link < length pattern.now }
     requires sets { length sets.now.active ≡ length pattern.now }
@@ -41,7 +41,7 @@ fn is_led(net: &Network, sets: &LinkSets, pattern: &Pattern, node: NodeId) -> bo
     false
 }
 
-/// One leads to each node but the source.
+/// Whether a link that may carry flow leads to each node but the source. Where it answers true, one does.
 pub fn each_is_led(net: &Network, sets: &LinkSets, pattern: &Pattern) -> bool
     requires { IsPatternIn net.now.net sets.now pattern.now }
     ensures { IsTrue result → EachIsLed net.now.net sets.now pattern.now }
