@@ -12,7 +12,7 @@ use Rattle.nf_work.specs.declared.PassedAt.{PassedAt}
 use Rattle.nf_work.specs.Checked.{each, at_part, placed}
 use Rattle.nf_work.proofs.Each.{with_front, each_ok, each_err}
 use Rattle.nf_lists_laws.proofs.Ending.{enumerated}
-use Rattle.nf_thin.proofs.Folds.{drop_at, part_ok}
+use Rattle.nf_trial.proofs.Folds.{drop_at, part_ok}
 use Rattle.nf_plain_laws.proofs.Results.{same_Err}
 
 module _ {A B : Type 0} (f : ℕ × A → Result B (Passed ℚ)) (xs : List A) where

@@ -21,7 +21,7 @@ use Rattle.nf_curve.specs.Points.{Grown}
 use Rattle.nf_curve.specs.Flows.{trace_of, flow_of as flow_in}
 use Rattle.nf_curve.specs.declared.flow.Flow as code
 use Rattle.nf_curve.proofs.Exits.{after_err, after_ok, each_goes, each_stops, each_ends, err_before, ok_before}
-use Rattle.nf_thin.proofs.Folds.{drop_at}
+use Rattle.nf_trial.proofs.Folds.{drop_at}
 use Rattle.nf_pattern.proofs.Each.{take_pushed}
 use Rattle.nf_phase.specs.Restarting.{of_link, of_links}
 

@@ -20,7 +20,7 @@ use Rattle.nf_lists.specs.PhaseRun.{Standing}
 use Rattle.nf_forever_lists.specs.ForeverRun.{end_after, end_list, GoesToEnd, GoesForever, FailsOn}
 use Rattle.nf_curve_laws.proofs.Operations.{then_ok, checked-is}
 use Rattle.nf_phase_laws.proofs.Length.{IsExtension-some}
-use Rattle.nf_thin.proofs.Folds.{part_ok}
+use Rattle.nf_trial.proofs.Folds.{part_ok}
 use Rattle.nf_phase.specs.declared.fault.StepFault.{StepFault}
 use Rattle.nf_phase.specs.declared.finding.Found.{Found}
 use Rattle.nf_phase.specs.declared.phase.Phase.{Phase}

@@ -20,7 +20,7 @@ use Rattle.nf_thin_laws.proofs.States.{AllowState-thin}
 use Rattle.nf_thin.specs.declared.allowed.Allowed.{Allowed}
 use Rattle.nf_thin.specs.Slopes.{AreThinSlopes}
 use Rattle.nf_thin.specs.Allowing.{allows, flags_of, flags_by, IsAllowedAt, AllowSolvable}
-use Rattle.nf_thin.proofs.Inequalities.{all_true}
+use Rattle.nf_trial.proofs.Inequalities.{all_true}
 use Rattle.nf_plain_laws.proofs.Naturals.{before_or_at}
 
 -- what slopes allow has its flag

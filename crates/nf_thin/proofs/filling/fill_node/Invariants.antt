@@ -1,5 +1,0 @@
-use Rattle.nf_thin.proofs.NodeEntries.{IsFillingNode}
-use Rattle.nf_thin.proofs.filling.fill_node.Given as goal
-
-abbrev pub invariant-loop-e : goal.invariant-loop-e
-invariant-loop-e l = IsFillingNode l.net.net l.sets l.node l.fn.table l.table l.row l.e l.column
