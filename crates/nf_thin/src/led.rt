@@ -10,7 +10,7 @@ ghost use Rattle.nf_thin.specs.Slopes.{MayCarry, IsLed, AreThinSlopes};
 
 use crate::guess::SolvedPattern;
 use crate::known::Known;
-use nf_trial::{Tried, judge_values};
+use nf_trial::{Outcome, judge_values};
 use nf_frac::{Halt, Q};
 use nf_graph::{LinkId, LinkSets, NodeId, topological};
 use nf_model::State;
@@ -86,12 +86,12 @@ pub(crate) fn known_by(
         return Ok(None);
     }
     match judge_values(alloc, net, sets, &pattern, values) {
-        Ok(Tried::Accepted { flows, slopes }) => Ok(Some(Known {
+        Ok(Outcome::Accepted { flows, slopes }) => Ok(Some(Known {
             pattern,
             flows,
             slopes,
         })),
-        Ok(Tried::Refused) => Ok(None),
+        Ok(Outcome::Refused) => Ok(None),
         Err(Halt::Passed(_)) => Ok(None),
         Err(Halt::Memory) => Err(AllocError),
     }

@@ -21,4 +21,4 @@ mod sifting;
 mod tight_flows;
 
 pub use searches::{SearchFault, Thin, search};
-pub use nf_trial::{Judged, verdict};
+pub use nf_trial::{Judged, Tried, try_pattern, unknown_count, verdict};

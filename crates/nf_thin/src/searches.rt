@@ -9,7 +9,7 @@ ghost use Rattle.nf_equation_laws.specs.Equations.{IsPatternIn};
 ghost use Rattle.nf_thin.specs.Searching.{TriesNext, Searches, SlopesAreOnly, AreSetsOf, AsksOf};
 
 use crate::sifting::sifted_search;
-use nf_trial::{Tried, try_pattern};
+use nf_trial::{Outcome, try_one};
 use nf_frac::{Halt, PassedAt, Q};
 use nf_graph::{LinkId, LinkSets};
 use nf_net::Network;
@@ -112,8 +112,8 @@ pub(crate) fn try_next(
         return Err(SearchFault::Budget { tried: budget });
     }
     vain.tried += 1;
-    match try_pattern(alloc, net, sets, rate, pattern) {
-        Ok(Tried::Accepted { flows, slopes }) => {
+    match try_one(alloc, net, sets, rate, pattern) {
+        Ok(Outcome::Accepted { flows, slopes }) => {
             let pattern = pattern.copy(alloc)?;
             Ok(Some(Thin {
                 flows,
@@ -122,7 +122,7 @@ pub(crate) fn try_next(
                 place: vain.tried,
             }))
         }
-        Ok(Tried::Refused) => Ok(None),
+        Ok(Outcome::Refused) => Ok(None),
         Err(Halt::Passed(at)) => {
             vain.note(at);
             Ok(None)

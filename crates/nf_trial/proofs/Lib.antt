@@ -4,7 +4,7 @@ pub mod Failing
 pub mod Comparing
 pub mod Concluding
 pub mod Patterns
-pub mod Tried
+pub mod Outcomes
 pub mod Cells
 pub mod ActivePlaces
 pub mod EquationRows
@@ -15,3 +15,4 @@ pub mod LinkRows
 pub mod Sizes
 pub mod SourceRow
 pub mod Spreading
+pub mod Slices

@@ -2,9 +2,10 @@
 #![tactic(auto)]
 
 mod filling;
+mod solving;
 mod trying;
 mod verdicts;
 
-pub use filling::surplus;
-pub use trying::{Tried, judge_values, pattern_values, solved, try_pattern};
+pub use filling::{surplus, unknown_count};
+pub use trying::{Outcome, Tried, judge_values, pattern_values, solved, try_one, try_pattern};
 pub use verdicts::{Judged, verdict};

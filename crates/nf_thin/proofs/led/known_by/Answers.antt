@@ -2,7 +2,7 @@ use Rattle.std.proofs.Common.{subst, ◌∙◌}
 use Rattle.std.specs.Prelude.{Ok}
 use Rattle.nf_work.specs.Passing.{passes_Q}
 use Rattle.nf_trial.specs.Trying.{Tries}
-use Rattle.nf_trial.proofs.Tried.{values_count, tried_values}
+use Rattle.nf_trial.proofs.Outcomes.{values_count, tried_values}
 use Rattle.nf_thin.proofs.Leading.{led_slopes}
 use Rattle.nf_thin.proofs.led.known_by.Goals as goal
 
