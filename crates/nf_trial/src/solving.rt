@@ -7,6 +7,7 @@ ghost use Rattle.nf_lists.specs.Table.{table_list};
 ghost use Rattle.nf_lists.specs.Equations.{unknowns, equations};
 ghost use Rattle.nf_linear.specs.Grids.{values_if};
 ghost use Rattle.nf_equation_laws.specs.Equations.{IsPatternIn};
+ghost use Rattle.nf_trial.specs.Filling.{all_zero};
 
 use crate::filling::fill;
 use nf_frac::{PassedAt, Q};
@@ -18,9 +19,9 @@ use nf_pattern::Pattern;
 /// Of so many unknowns at most a table is solved without memory.
 pub const MOST_UNKNOWNS: u32 = 32;
 
-// The table of a pattern is solved on a grid for so many unknowns.
+// The table of a pattern is solved on a grid that is all zero.
 fn solve_on<const N: usize>(
-    count: u32,
+    grid: &mut Grid<N>,
     net: &Network,
     sets: &LinkSets,
     rate: Q,
@@ -28,14 +29,12 @@ fn solve_on<const N: usize>(
     values: &mut [Q],
 ) -> Result<Eliminated, PassedAt<Q>>
     requires pattern { IsPatternIn net.now.net sets.now pattern.now }
-    requires count { count ≡ length (unknowns net.now.net sets.now) }
-    requires fits { count ≤ N }
-    requires values { length values.old ≡ count }
+    requires zero { grid.old ≡ all_zero (length (unknowns net.now.net sets.now)) }
+    requires values { length values.old ≡ length (unknowns net.now.net sets.now) }
     ensures { seen_at (λ found. values_if found values.new) (λ q. q) result ≡ at_part Part.Table (table_list passes_Q (equations net.now.net sets.now rate pattern.now)) }
 {
-    let mut grid = Grid::<N>::zero(count);
-    fill(&mut grid, net, sets, rate, pattern);
-    solve_grid(&mut grid, values)
+    fill(grid, net, sets, rate, pattern);
+    solve_grid(grid, values)
 }
 
 /// Whether the table of a pattern has one solution, and the values of its unknowns then; or the first operation that passes. It is
@@ -55,12 +54,16 @@ pub fn solve_pattern(
     ensures { seen_at (λ found. values_if found values.new) (λ q. q) result ≡ at_part Part.Table (table_list passes_Q (equations net.now.net sets.now rate pattern.now)) }
 {
     if count <= 4 {
-        solve_on::<4>(count, net, sets, rate, pattern, values)
+        let mut grid = Grid::<4>::zero(count);
+        solve_on(&mut grid, net, sets, rate, pattern, values)
     } else if count <= 8 {
-        solve_on::<8>(count, net, sets, rate, pattern, values)
+        let mut grid = Grid::<8>::zero(count);
+        solve_on(&mut grid, net, sets, rate, pattern, values)
     } else if count <= 16 {
-        solve_on::<16>(count, net, sets, rate, pattern, values)
+        let mut grid = Grid::<16>::zero(count);
+        solve_on(&mut grid, net, sets, rate, pattern, values)
     } else {
-        solve_on::<32>(count, net, sets, rate, pattern, values)
+        let mut grid = Grid::<32>::zero(count);
+        solve_on(&mut grid, net, sets, rate, pattern, values)
     }
 }
