@@ -16,7 +16,7 @@ use nf_graph::LinkSets;
 use nf_guess::SolvedPattern;
 use nf_net::Network;
 use nf_pattern::Pattern;
-use nf_trial::{Tried, each_is_led, is_one_pattern, judge_values};
+use nf_trial::{Outcome, each_is_led, is_one_pattern, judge_values};
 use std::alloc::{AllocError, Global};
 
 /// A pattern that is accepted, with its flows and slopes.
@@ -46,12 +46,12 @@ pub(crate) fn known_by(
         return Ok(None);
     }
     match judge_values(alloc, net, sets, &pattern, values) {
-        Ok(Tried::Accepted { flows, slopes }) => Ok(Some(Known {
+        Ok(Outcome::Accepted { flows, slopes }) => Ok(Some(Known {
             pattern,
             flows,
             slopes,
         })),
-        Ok(Tried::Refused) => Ok(None),
+        Ok(Outcome::Refused) => Ok(None),
         Err(Halt::Passed(_)) => Ok(None),
         Err(Halt::Memory) => Err(AllocError),
     }

@@ -11,7 +11,7 @@ use nf_frac::{Halt, Q};
 use nf_graph::LinkSets;
 use nf_net::Network;
 use nf_pattern::Pattern;
-use nf_trial::{Tried, try_pattern};
+use nf_trial::{Outcome, try_one};
 use std::alloc::Global;
 
 /// The next pattern is tried: its thin flow, or none.
@@ -32,8 +32,8 @@ pub(crate) fn try_next(
         return Err(SearchFault::Budget { tried: budget });
     }
     vain.tried += 1;
-    match try_pattern(alloc, net, sets, rate, pattern) {
-        Ok(Tried::Accepted { flows, slopes }) => {
+    match try_one(alloc, net, sets, rate, pattern) {
+        Ok(Outcome::Accepted { flows, slopes }) => {
             let pattern = pattern.copy(alloc)?;
             Ok(Some(Thin {
                 flows,
@@ -42,7 +42,7 @@ pub(crate) fn try_next(
                 place: vain.tried,
             }))
         }
-        Ok(Tried::Refused) => Ok(None),
+        Ok(Outcome::Refused) => Ok(None),
         Err(Halt::Passed(at)) => {
             vain.note(at);
             Ok(None)

@@ -16,3 +16,4 @@ pub mod Sizes
 pub mod SourceRow
 pub mod Spreading
 pub mod Leading
+pub mod Slices

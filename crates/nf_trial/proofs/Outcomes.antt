@@ -18,7 +18,8 @@ use Rattle.nf_linear_laws.proofs.Solutions.{one_solution}
 use Rattle.nf_equation_laws.specs.Equations.{IsPatternIn}
 use Rattle.nf_equation_laws.proofs.Table.{rows-length, is_square}
 use Rattle.nf_trial.specs.declared.trying.Tried.{Tried}
-use Rattle.nf_trial.specs.Trying.{AreValuesOf, JudgesValues, Tries}
+use Rattle.nf_trial.specs.declared.trying.Outcome.{Outcome}
+use Rattle.nf_trial.specs.Trying.{AreValuesOf, JudgesFlows, JudgesValues, Tries, TriesInto}
 use Rattle.nf_trial.proofs.Patterns.{table_ok, table_passes, verdict_passes, accepted, refused, not_one}
 
 module _ (passes : Passing) (net : Network) (sets : Sets) (rate : ℚ) (pattern : Pattern) (p : IsPatternIn net sets pattern) where
@@ -37,12 +38,32 @@ module _ (passes : Passing) (net : Network) (sets : Sets) (rate : ℚ) (pattern 
       (one_solution passes (equations net sets rate pattern) values (is_square net sets rate pattern p.network p.sets_are) (table_ok passes net sets rate pattern p (Some values) h)).solves.count
       ∙ rows-length net sets rate pattern p.network p.sets_are
 
-  pub tried_values : (values : List ℚ) → AreValuesOf passes net sets rate pattern values → (r : Result Tried (Halt ℚ))
+  pub tried_values : (values : List ℚ) → AreValuesOf passes net sets rate pattern values → (r : Result Outcome (Halt ℚ))
       → JudgesValues net pattern (flows_in net.nodes sets.active values) (slopes_in net.nodes values) (at_part Part.Verdict (verdict_list passes net pattern (slopes_in net.nodes values))) r
       → Tries passes net sets rate pattern r
-  tried_values values h (Ok (Tried.Accepted flows slopes)) j =
+  tried_values values h (Ok (Outcome.Accepted flows slopes)) j =
       let found = accepted passes net sets rate pattern p values h j.0 j.3 in
       (found.0, subst (λ (l : List ℚ). IsSolution net sets rate pattern flows.items l) (sym j.2) (subst (λ (f : List ℚ). IsSolution net sets rate pattern f (slopes_in net.nodes values)) (sym j.1) found.1))
-  tried_values values h (Ok Tried.Refused) j = refused passes net sets rate pattern p values h j.0 j.1
+  tried_values values h (Ok Outcome.Refused) j = refused passes net sets rate pattern p values h j.0 j.1
   tried_values values h (Err (Halt.Passed at)) j = verdict_passes passes net sets rate pattern p values h at j
   tried_values values h (Err Halt.Memory) j = tt
+
+  -- ---- where flows and slopes are written into slices
+  pub into_err : (at : PassedAt ℚ) → Err at ≡ list → pattern_lists passes net sets rate pattern ≡ Err at
+  into_err at s = table_passes passes net sets rate pattern p at (sym s)
+
+  into_own : (values : List ℚ) → AreValuesOf passes net sets rate pattern values → (r : Result Tried (PassedAt ℚ))
+      → JudgesFlows net pattern (flows_in net.nodes sets.active values) (slopes_in net.nodes values) (at_part Part.Verdict (verdict_list passes net pattern (slopes_in net.nodes values))) r
+      → TriesInto passes net sets rate pattern (flows_in net.nodes sets.active values) (slopes_in net.nodes values) r
+  into_own values h (Ok Tried.Accepted) j = accepted passes net sets rate pattern p values h j.0 j.1
+  into_own values h (Ok Tried.NotSolvable) j = refused passes net sets rate pattern p values h j.0 j.1
+  into_own values h (Err at) j = verdict_passes passes net sets rate pattern p values h at j
+
+  pub into_values : (values flows slopes : List ℚ) → AreValuesOf passes net sets rate pattern values → flows ≡ flows_in net.nodes sets.active values → slopes ≡ slopes_in net.nodes values
+      → (r : Result Tried (PassedAt ℚ)) → JudgesFlows net pattern flows slopes (at_part Part.Verdict (verdict_list passes net pattern slopes)) r
+      → TriesInto passes net sets rate pattern flows slopes r
+  into_values values flows slopes h f s r j =
+      let i = subst (λ (l : List ℚ). JudgesFlows net pattern (flows_in net.nodes sets.active values) l (at_part Part.Verdict (verdict_list passes net pattern l)) r) s
+      (subst (λ (k : List ℚ). JudgesFlows net pattern k slopes (at_part Part.Verdict (verdict_list passes net pattern slopes)) r) f j) in
+      subst (λ (k : List ℚ). TriesInto passes net sets rate pattern k slopes r) (sym f)
+      (subst (λ (l : List ℚ). TriesInto passes net sets rate pattern (flows_in net.nodes sets.active values) l r) (sym s) (into_own values h r i))

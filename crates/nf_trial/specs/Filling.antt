@@ -10,6 +10,10 @@ use Rattle.nf_lists.specs.Equations.{Unknown}
 
 -- ---- rows of a table
 
+-- as many rows as unknowns, each with a number for each unknown and its right side, all of them 0
+abbrev pub all_zero : ℕ → List Row
+all_zero size = replicate size (replicate (size + 1) 0ℚ)
+
 -- a row of a table for these unknowns that is all zero
 pub record IsBlank (unknowns : List Unknown) (table : List Row) (i : ℕ) : Type 0 where
   pub within : i < length table

@@ -7,18 +7,18 @@ ghost use Rattle.nf_model.specs.Pattern.{Pattern as SeenPattern};
 ghost use Rattle.nf_formats.specs.WellNamed.{IsNamed};
 ghost use Rattle.nf_lists.specs.Table.{row_at};
 ghost use Rattle.nf_lists.specs.Equations.{unknowns, one_if, leaves_less_enters as leaves_less_enters_of, node_row, equations};
-ghost use Rattle.nf_trial.specs.Filling.{IsBlank, ChangesRow, IsFilledTo, with_entries, tight_entries, full_entries, link_entries};
+ghost use Rattle.nf_trial.specs.Filling.{all_zero, IsBlank, ChangesRow, IsFilledTo, with_entries, tight_entries, full_entries, link_entries};
 
 use nf_frac::Q;
 use nf_graph::{LinkId, LinkSets, NodeId};
-use nf_linear::Table;
+use nf_linear::{System, Table};
 use nf_model::State;
 use nf_net::{Link, Network};
 use nf_pattern::Pattern;
 use std::alloc::{AllocError, Global};
 
-// How many unknowns there are: the slope of each node, and the flow of each active link.
-fn unknown_count(net: &Network, sets: &LinkSets) -> u32
+/// How many unknowns there are: the slope of each node, and the flow of each active link.
+pub fn unknown_count(net: &Network, sets: &LinkSets) -> u32
     requires { length sets.now.active ≡ length net.now.net.links }
     ensures count { result ≡ length (unknowns net.now.net sets.now) }
     ensures some { 0 < result }
@@ -65,11 +65,11 @@ pub fn surplus(source: NodeId, rate: Q, node: NodeId) -> Q
 }
 
 // A number of a row that is 0 so far becomes this one.
-fn set_number(table: &mut Table<Q>, row: u32, column: u32, number: Q)
-    requires row { row < length table.old }
-    requires column { column < length table.old }
-    requires blank { number_at (row_at table.old row) column ≡ 0ℚ }
-    ensures { table.new ≡ set table.old row (set (row_at table.old row) column number) }
+fn set_number<T: System>(table: &mut T, row: u32, column: u32, number: Q)
+    requires row { row < length (T.rows_of table.old) }
+    requires column { column < length (T.rows_of table.old) }
+    requires blank { number_at (row_at (T.rows_of table.old) row) column ≡ 0ℚ }
+    ensures { T.rows_of table.new ≡ set (T.rows_of table.old) row (set (row_at (T.rows_of table.old) row) column number) }
 {
     if number.is_zero() {
         return;
@@ -78,10 +78,17 @@ fn set_number(table: &mut Table<Q>, row: u32, column: u32, number: Q)
 }
 
 // The row of a node.
-fn fill_node(table: &mut Table<Q>, net: &Network, sets: &LinkSets, rate: Q, row: u32, node: NodeId)
-    requires blank { IsBlank (unknowns net.now.net sets.now) table.old row }
+fn fill_node<T: System>(
+    table: &mut T,
+    net: &Network,
+    sets: &LinkSets,
+    rate: Q,
+    row: u32,
+    node: NodeId,
+)
+    requires blank { IsBlank (unknowns net.now.net sets.now) (T.rows_of table.old) row }
     requires sets { length sets.now.active ≡ length net.now.net.links }
-    ensures { ChangesRow table.old table.new row (node_row net.now.net sets.now rate node) }
+    ensures { ChangesRow (T.rows_of table.old) (T.rows_of table.new) row (node_row net.now.net sets.now rate node) }
 {
     let mut column = net.node_count();
     for e in 0..net.link_count() {
@@ -95,11 +102,11 @@ fn fill_node(table: &mut Table<Q>, net: &Network, sets: &LinkSets, rate: Q, row:
 }
 
 // The rows of all nodes but the sink, in node order, after that of the source's slope.
-fn fill_nodes(table: &mut Table<Q>, net: &Network, sets: &LinkSets, rate: Q)
-    requires first { (pattern : SeenPattern) → IsFilledTo (equations net.now.net sets.now rate pattern) table.old 1 }
+fn fill_nodes<T: System>(table: &mut T, net: &Network, sets: &LinkSets, rate: Q)
+    requires first { (pattern : SeenPattern) → IsFilledTo (equations net.now.net sets.now rate pattern) (T.rows_of table.old) 1 }
     requires sets { length sets.now.active ≡ length net.now.net.links }
-    ensures nodes { (pattern : SeenPattern) → IsFilledTo (equations net.now.net sets.now rate pattern) table.new net.now.net.nodes }
-    ensures size { length table.new ≡ length table.old }
+    ensures nodes { (pattern : SeenPattern) → IsFilledTo (equations net.now.net sets.now rate pattern) (T.rows_of table.new) net.now.net.nodes }
+    ensures size { length (T.rows_of table.new) ≡ length (T.rows_of table.old) }
 {
     let sink = net.sink();
     let mut row = 1;
@@ -115,11 +122,11 @@ fn fill_nodes(table: &mut Table<Q>, net: &Network, sets: &LinkSets, rate: Q)
 // ---- the rows of links; the number of each is that of the column of the link's flow
 
 // The slopes of the two ends agree.
-fn fill_tight(table: &mut Table<Q>, row: u32, link: Link)
-    requires row { row < length table.old }
-    requires tail { link.tail < length table.old }
-    requires head { link.head < length table.old }
-    ensures { ChangesRow table.old table.new row (with_entries (row_at table.old row) (tight_entries link)) }
+fn fill_tight<T: System>(table: &mut T, row: u32, link: Link)
+    requires row { row < length (T.rows_of table.old) }
+    requires tail { link.tail < length (T.rows_of table.old) }
+    requires head { link.head < length (T.rows_of table.old) }
+    ensures { ChangesRow (T.rows_of table.old) (T.rows_of table.new) row (with_entries (row_at (T.rows_of table.old) row) (tight_entries link)) }
 {
     if link.head != link.tail {
         table.set(row, link.head.0, Q::one());
@@ -128,10 +135,10 @@ fn fill_tight(table: &mut Table<Q>, row: u32, link: Link)
 }
 
 // The flow fills the capacity.
-fn fill_full(table: &mut Table<Q>, row: u32, link: Link)
-    requires row { row < length table.old }
-    requires head { link.head < length table.old }
-    ensures { ChangesRow table.old table.new row (with_entries (row_at table.old row) (full_entries row link)) }
+fn fill_full<T: System>(table: &mut T, row: u32, link: Link)
+    requires row { row < length (T.rows_of table.old) }
+    requires head { link.head < length (T.rows_of table.old) }
+    ensures { ChangesRow (T.rows_of table.old) (T.rows_of table.new) row (with_entries (row_at (T.rows_of table.old) row) (full_entries row link)) }
 {
     let capacity = link.capacity.unwrap_or(Q::zero());
     table.set(row, link.head.0, capacity.negated());
@@ -139,11 +146,11 @@ fn fill_full(table: &mut Table<Q>, row: u32, link: Link)
 }
 
 // The row of a link in its state.
-fn fill_link(table: &mut Table<Q>, row: u32, link: Link, state: Option<State>)
-    requires row { row < length table.old }
-    requires tail { link.tail < length table.old }
-    requires head { link.head < length table.old }
-    ensures { ChangesRow table.old table.new row (with_entries (row_at table.old row) (link_entries row link state)) }
+fn fill_link<T: System>(table: &mut T, row: u32, link: Link, state: Option<State>)
+    requires row { row < length (T.rows_of table.old) }
+    requires tail { link.tail < length (T.rows_of table.old) }
+    requires head { link.head < length (T.rows_of table.old) }
+    ensures { ChangesRow (T.rows_of table.old) (T.rows_of table.new) row (with_entries (row_at (T.rows_of table.old) row) (link_entries row link state)) }
 {
     match state {
         Some(State::Tight) => fill_tight(table, row, link),
@@ -153,12 +160,12 @@ fn fill_link(table: &mut Table<Q>, row: u32, link: Link, state: Option<State>)
 }
 
 // The rows of the active links, in link order.
-fn fill_links(table: &mut Table<Q>, net: &Network, sets: &LinkSets, pattern: &Pattern)
-    requires size { length table.old ≡ length (unknowns net.now.net sets.now) }
+fn fill_links<T: System>(table: &mut T, net: &Network, sets: &LinkSets, pattern: &Pattern)
+    requires size { length (T.rows_of table.old) ≡ length (unknowns net.now.net sets.now) }
     requires sets { length sets.now.active ≡ length net.now.net.links }
     requires states { length pattern.now ≡ length net.now.net.links }
-    ensures { (rate : ℚ) → IsFilledTo (equations net.now.net sets.now rate pattern.now) table.old net.now.net.nodes
-        → table.new ≡ equations net.now.net sets.now rate pattern.now }
+    ensures { (rate : ℚ) → IsFilledTo (equations net.now.net sets.now rate pattern.now) (T.rows_of table.old) net.now.net.nodes
+        → T.rows_of table.new ≡ equations net.now.net sets.now rate pattern.now }
 {
     let mut row = net.node_count();
     for e in 0..net.link_count() {
@@ -170,9 +177,24 @@ fn fill_links(table: &mut Table<Q>, net: &Network, sets: &LinkSets, pattern: &Pa
     }
 }
 
-/// The table of the equations of a pattern at a rate of supply. Its columns are the slope of each node, in node order, and the
-/// flow of each active link, in link order; its rows that of the source's slope, that of each node but the sink, and that of each
-/// active link.
+/// A system for the unknowns of a pattern that is all zero becomes that of its equations at a rate of supply. Its columns are the
+/// slope of each node, in node order, and the flow of each active link, in link order; its rows that of the source's slope, that of
+/// each node but the sink, and that of each active link.
+pub fn fill<T: System>(table: &mut T, net: &Network, sets: &LinkSets, rate: Q, pattern: &Pattern)
+    requires zero { T.rows_of table.old ≡ all_zero (length (unknowns net.now.net sets.now)) }
+    requires sets { length sets.now.active ≡ length net.now.net.links }
+    requires states { length pattern.now ≡ length net.now.net.links }
+    ensures { T.rows_of table.new ≡ equations net.now.net sets.now rate pattern.now }
+{
+    // For the proof: the network is well formed.
+    let _ = net.hops();
+    table.set(0, net.source().0, Q::one());
+    table.set_right(0, Q::one());
+    fill_nodes(table, net, sets, rate);
+    fill_links(table, net, sets, pattern);
+}
+
+/// The table of the equations of a pattern at a rate of supply, with the columns and rows of `fill`.
 pub fn table_of(
     alloc: Global,
     net: &Network,
@@ -185,9 +207,6 @@ pub fn table_of(
     ensures { IfOk result (λ table. table ≡ equations net.now.net sets.now rate pattern.now) }
 {
     let mut table = Table::new(alloc, unknown_count(net, sets))?;
-    table.set(0, net.source().0, Q::one());
-    table.set_right(0, Q::one());
-    fill_nodes(&mut table, net, sets, rate);
-    fill_links(&mut table, net, sets, pattern);
+    fill(&mut table, net, sets, rate, pattern);
     Ok(table)
 }

@@ -6,12 +6,13 @@ mod comparing;
 mod filling;
 mod fulls;
 mod led;
+mod solving;
 mod trying;
 mod verdicts;
 
 pub use comparing::is_one_pattern;
-pub use filling::surplus;
+pub use filling::{surplus, unknown_count};
 pub use fulls::full_flow;
 pub use led::{each_is_led, may_carry};
-pub use trying::{Tried, judge_values, pattern_values, solved, try_pattern};
+pub use trying::{Outcome, Tried, judge_values, pattern_values, solved, try_one, try_pattern};
 pub use verdicts::{Judged, verdict};

@@ -19,6 +19,7 @@ fn answer(alloc: Global, line: &str) -> Option<String> {
     let fields = Fields::of(line);
     match fields.name {
         "table" => systems::table(alloc, fields),
+        "grid" => systems::grid(alloc, fields),
         "slacks" => questions::slacks(alloc, fields),
         "sets" => questions::sets(alloc, fields),
         "base" => questions::base(alloc, fields),
@@ -26,6 +27,7 @@ fn answer(alloc: Global, line: &str) -> Option<String> {
         "verdict" => questions::verdict(alloc, fields),
         "values" => questions::values(alloc, fields),
         "conserves" => questions::conserves(alloc, fields),
+        "tried" => searches::tried(alloc, fields),
         "search" => searches::searched(alloc, fields),
         "slopes" => searches::searched_by_slopes(alloc, fields),
         _ => None,

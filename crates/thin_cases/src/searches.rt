@@ -11,7 +11,7 @@ use nf_graph::LinkSets;
 use nf_net::Network;
 use nf_pattern::Pattern;
 use nf_thin::parts::sifted_search;
-use nf_thin::{SearchFault, Thin, search};
+use nf_thin::{SearchFault, Thin, Tried, search, try_pattern, unknown_count};
 use std::alloc::Global;
 
 // A thin flow: its place, its flows and its slopes.
@@ -109,4 +109,41 @@ pub fn searched_by_slopes(alloc: Global, fields: Fields) -> Option<String> {
     let net = network(alloc, fields.fourth)?;
     let (sets, base) = phase(alloc, &net, fields.third, "")?;
     by_slopes(alloc, &net, &sets, rate, &base, budget)
+}
+
+// What comes of a pattern that is tried.
+fn tried_text(
+    alloc: Global,
+    net: &Network,
+    sets: &LinkSets,
+    rate: Q,
+    pattern: &Pattern,
+) -> Option<String>
+    requires sets { AreSetsOf net.now.net sets.now }
+    requires pattern { IsPattern sets.now (unbounded net.now.net) pattern.now }
+{
+    if unknown_count(net, sets) > 32 {
+        return None;
+    }
+    let mut flows = vec![in alloc; Q::zero(); net.link_count() as usize].ok()?;
+    let mut labels = vec![in alloc; Q::zero(); net.node_count() as usize].ok()?;
+    match try_pattern(net, sets, rate, pattern, &mut flows, &mut labels) {
+        Ok(Tried::Accepted) => {
+            let mut text = String::from_str(alloc, "accepted flows").ok()?;
+            put_all(alloc, &mut text, &flows)?;
+            text.push_str(" slopes").ok()?;
+            put_all(alloc, &mut text, &labels)?;
+            Some(text)
+        }
+        Ok(Tried::NotSolvable) => String::from_str(alloc, "not solvable").ok(),
+        Err(at) => passed(alloc, at),
+    }
+}
+
+/// What comes of a pattern: a rate, its states, the slacks and the network.
+pub fn tried(alloc: Global, fields: Fields) -> Option<String> {
+    let rate = number(fields.first)?;
+    let net = network(alloc, fields.fourth)?;
+    let (sets, pattern) = phase(alloc, &net, fields.third, fields.second)?;
+    tried_text(alloc, &net, &sets, rate, &pattern)
 }

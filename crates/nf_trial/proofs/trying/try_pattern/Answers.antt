@@ -1,23 +1,25 @@
-use Rattle.std.proofs.Common.{◌∙◌, ap}
-use Rattle.std.specs.Prelude.{Ok, option_map}
+use Rattle.std.proofs.Common.{Ok, sym, ap, ◌∙◌}
 use Rattle.std.proofs.lemmas.Result.{err_from_is_err_and}
 use Rattle.nf_work.specs.Passing.{passes_Q}
-use Rattle.nf_trial.proofs.Outcomes.{tried_err, tried_none, values_count, tried_values}
+use Rattle.nf_linear.specs.Grids.{values_if}
+use Rattle.nf_trial.proofs.Outcomes.{into_err, into_values, tried_none, values_count}
 use Rattle.nf_trial.proofs.trying.try_pattern.Goals as goal
 
-pub returns-in_err-values : goal.returns-in_err-values
-returns-in_err-values c =
+pub returns-in_err-solve_pattern : goal.returns-in_err-solve_pattern
+returns-in_err-solve_pattern c =
     let q = err_from_is_err_and c.from_residual.result c.from_residual.ensures.1 in
-    rw (q.1, q.2) (tried_err passes_Q c.args.net.now.net c.args.sets.now c.args.rate c.args.pattern.now c.requires c.in_err-values.field-0.0 c.in_err-values.ensures)
+    rw (q.1, q.2) (into_err passes_Q c.args.net.now.net c.args.sets.now c.args.rate c.args.pattern.now c.requires.pattern c.in_err-solve_pattern.field-0.0 c.in_err-solve_pattern.ensures)
 
-pub judge_values-requires-clause-values : goal.judge_values-requires-clause-values
-judge_values-requires-clause-values c = values_count passes_Q c.args.net.now.net c.args.sets.now c.args.rate c.args.pattern.now c.requires
-    c.in-Some.values.items (c.in_ok-values.ensures ∙ ap (λ o. Ok (option_map (λ values. values.items) o)) c.in-Some.is)
+pub judge_into-requires-clause-values : goal.judge_into-requires-clause-values
+judge_into-requires-clause-values c = values_count passes_Q c.args.net.now.net c.args.sets.now c.args.rate c.args.pattern.now c.requires.pattern c.solve_pattern.new.values
+    (sym c.in_ok-solve_pattern.ensures ∙ ap (λ f. Ok (values_if f c.solve_pattern.new.values)) c.in-One.is)
 
-pub returns-in-Some : goal.returns-in-Some
-returns-in-Some c = tried_values passes_Q c.args.net.now.net c.args.sets.now c.args.rate c.args.pattern.now c.requires
-    c.in-Some.values.items (c.in_ok-values.ensures ∙ ap (λ o. Ok (option_map (λ values. values.items) o)) c.in-Some.is) c.judge_values.result c.judge_values.ensures
+pub returns-in-One : goal.returns-in-One
+returns-in-One c = into_values passes_Q c.args.net.now.net c.args.sets.now c.args.rate c.args.pattern.now c.requires.pattern c.solve_pattern.new.values
+    c.judge_into.new.flows c.judge_into.new.slopes
+    (sym c.in_ok-solve_pattern.ensures ∙ ap (λ f. Ok (values_if f c.solve_pattern.new.values)) c.in-One.is)
+    c.judge_into.ensures.flows c.judge_into.ensures.slopes c.judge_into.result c.judge_into.ensures.judged
 
-pub returns-in-None : goal.returns-in-None
-returns-in-None c = tried_none passes_Q c.args.net.now.net c.args.sets.now c.args.rate c.args.pattern.now c.requires
-    (c.in_ok-values.ensures ∙ ap (λ o. Ok (option_map (λ values. values.items) o)) c.in-None.is)
+pub returns-in-NotOne : goal.returns-in-NotOne
+returns-in-NotOne c = tried_none passes_Q c.args.net.now.net c.args.sets.now c.args.rate c.args.pattern.now c.requires.pattern
+    (sym c.in_ok-solve_pattern.ensures ∙ ap (λ f. Ok (values_if f c.solve_pattern.new.values)) c.in-NotOne.is)
