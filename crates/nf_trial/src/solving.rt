@@ -1,5 +1,5 @@
 // The table of a pattern, solved without memory.
-ghost use Rattle.std.specs.Prelude.{◌≡◌, ◌≤◌, length};
+ghost use Rattle.std.specs.Prelude.{◌≡◌, ◌<◌, ◌≤◌, length};
 ghost use Rattle.nf_work.specs.declared.Part.TheVariants as Part;
 ghost use Rattle.nf_work.specs.Passing.{passes_Q};
 ghost use Rattle.nf_work.specs.Checked.{at_part, seen_at};
@@ -7,7 +7,6 @@ ghost use Rattle.nf_lists.specs.Table.{table_list};
 ghost use Rattle.nf_lists.specs.Equations.{unknowns, equations};
 ghost use Rattle.nf_linear.specs.Grids.{values_if};
 ghost use Rattle.nf_equation_laws.specs.Equations.{IsPatternIn};
-ghost use Rattle.nf_trial.specs.Filling.{all_zero};
 
 use crate::filling::fill;
 use nf_frac::{PassedAt, Q};
@@ -19,9 +18,10 @@ use nf_pattern::Pattern;
 /// Of so many unknowns at most a table is solved without memory.
 pub const MOST_UNKNOWNS: u32 = 32;
 
-// The table of a pattern is solved on a grid that is all zero.
+// The same on a grid of this size. Not inlined, so that no call makes room for a larger grid than it uses.
+#[inline(never)]
 fn solve_on<const N: usize>(
-    grid: &mut Grid<N>,
+    count: u32,
     net: &Network,
     sets: &LinkSets,
     rate: Q,
@@ -29,12 +29,15 @@ fn solve_on<const N: usize>(
     values: &mut [Q],
 ) -> Result<Eliminated, PassedAt<Q>>
     requires pattern { IsPatternIn net.now.net sets.now pattern.now }
-    requires zero { grid.old ≡ all_zero (length (unknowns net.now.net sets.now)) }
-    requires values { length values.old ≡ length (unknowns net.now.net sets.now) }
+    requires count { count ≡ length (unknowns net.now.net sets.now) }
+    requires size { (0 < count) × (count ≤ N) }
+    requires few { N ≤ 32 }
+    requires values { length values.old ≡ count }
     ensures { seen_at (λ found. values_if found values.new) (λ q. q) result ≡ at_part Part.Table (table_list passes_Q (equations net.now.net sets.now rate pattern.now)) }
 {
-    fill(grid, net, sets, rate, pattern);
-    solve_grid(grid, values)
+    let mut grid = Grid::<N>::zero(count);
+    fill(&mut grid, net, sets, rate, pattern);
+    solve_grid(&mut grid, values)
 }
 
 /// Whether the table of a pattern has one solution, and the values of its unknowns then; or the first operation that passes. It is
@@ -54,16 +57,12 @@ pub fn solve_pattern(
     ensures { seen_at (λ found. values_if found values.new) (λ q. q) result ≡ at_part Part.Table (table_list passes_Q (equations net.now.net sets.now rate pattern.now)) }
 {
     if count <= 4 {
-        let mut grid = Grid::<4>::zero(count);
-        solve_on(&mut grid, net, sets, rate, pattern, values)
+        solve_on::<4>(count, net, sets, rate, pattern, values)
     } else if count <= 8 {
-        let mut grid = Grid::<8>::zero(count);
-        solve_on(&mut grid, net, sets, rate, pattern, values)
+        solve_on::<8>(count, net, sets, rate, pattern, values)
     } else if count <= 16 {
-        let mut grid = Grid::<16>::zero(count);
-        solve_on(&mut grid, net, sets, rate, pattern, values)
+        solve_on::<16>(count, net, sets, rate, pattern, values)
     } else {
-        let mut grid = Grid::<32>::zero(count);
-        solve_on(&mut grid, net, sets, rate, pattern, values)
+        solve_on::<32>(count, net, sets, rate, pattern, values)
     }
 }

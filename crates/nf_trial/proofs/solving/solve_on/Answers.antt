@@ -6,7 +6,7 @@ use Rattle.nf_trial.proofs.solving.solve_on.Goals as goal
 pub solve_grid-requires : goal.solve_grid-requires
 solve_grid-requires g c = (
   search rules,
-  c.requires.values
+  c.requires.values ∙ c.requires.count
       ∙ (sym (as_many_rows c.args.net.now.net c.args.sets.now c.args.rate c.args.pattern.now c.requires.pattern.network.sink c.requires.pattern.sets_are.count)
       ∙ ap (λ (rows : List Row). length rows) (sym c.fill.ensures)),
 )
