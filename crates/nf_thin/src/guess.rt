@@ -9,11 +9,11 @@ ghost use Rattle.nf_thin.specs.Guessing.{IsSolved};
 use crate::part_values::part_values;
 use crate::repairs::repair;
 use crate::settling::settled;
-use nf_trial::pattern_values;
 use nf_frac::{Halt, Q};
 use nf_graph::LinkSets;
 use nf_net::Network;
 use nf_pattern::Pattern;
+use nf_trial::pattern_values;
 use std::alloc::{AllocError, Global};
 
 /// A pattern, and the values that solve its table.

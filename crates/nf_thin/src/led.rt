@@ -10,12 +10,12 @@ ghost use Rattle.nf_thin.specs.Slopes.{MayCarry, IsLed, AreThinSlopes};
 
 use crate::guess::SolvedPattern;
 use crate::known::Known;
-use nf_trial::{Outcome, judge_values};
 use nf_frac::{Halt, Q};
 use nf_graph::{LinkId, LinkSets, NodeId, topological};
 use nf_model::State;
 use nf_net::Network;
 use nf_pattern::Pattern;
+use nf_trial::{Outcome, judge_values};
 use std::alloc::{AllocError, Global};
 
 /// The link is Tight, Full or resetting.

@@ -20,5 +20,5 @@ mod settling;
 mod sifting;
 mod tight_flows;
 
+pub use nf_trial::{Judged, MOST_UNKNOWNS, Tried, try_pattern, unknown_count, verdict};
 pub use searches::{SearchFault, Thin, search};
-pub use nf_trial::{Judged, Tried, try_pattern, unknown_count, verdict};

@@ -9,12 +9,12 @@ ghost use Rattle.nf_model.specs.ThinFlow.{surplus as surplus_of};
 ghost use Rattle.nf_thin.specs.Ranges.{IsWithin};
 ghost use Rattle.nf_thin.specs.Balancing.{full_of, full_by, CanFlow, BoundsFirst, needed_at};
 
-use nf_trial::surplus;
 use crate::ranges::{Range, flow_range};
 use nf_frac::Q;
 use nf_graph::{LinkId, LinkSets, NodeId};
 use nf_net::Network;
 use nf_pattern::Pattern;
+use nf_trial::surplus;
 use std::alloc::{AllocError, Global};
 
 /// The flow that fills a link: its capacity times the slope of its head. None where it is unbounded, or that passes.

@@ -3,13 +3,13 @@
 ghost use Rattle.std.specs.Prelude.{◌≡◌, ◌<◌, ◌≤◌, length};
 
 use crate::node_parts::{Parts, state_in, tight_forest};
-use nf_trial::solved;
 use nf_frac::{Halt, Part, Q, at};
 use nf_graph::{LinkId, LinkSets, NodeId};
 use nf_linear::Table;
 use nf_model::State;
 use nf_net::Network;
 use nf_pattern::Pattern;
+use nf_trial::solved;
 use std::alloc::{AllocError, Global};
 
 // The most unknowns that a table may have.

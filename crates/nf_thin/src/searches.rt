@@ -9,11 +9,11 @@ ghost use Rattle.nf_equation_laws.specs.Equations.{IsPatternIn};
 ghost use Rattle.nf_thin.specs.Searching.{TriesNext, Searches, SlopesAreOnly, AreSetsOf, AsksOf};
 
 use crate::sifting::sifted_search;
-use nf_trial::{Outcome, try_one};
 use nf_frac::{Halt, PassedAt, Q};
 use nf_graph::{LinkId, LinkSets};
 use nf_net::Network;
 use nf_pattern::{Pattern, Patterns};
+use nf_trial::{Outcome, try_one};
 use std::alloc::{AllocError, Global};
 
 /// A thin flow with resetting: of each link its flow, an amount per unit of time, and of each node the slope of its label; and the

@@ -7,5 +7,6 @@ mod trying;
 mod verdicts;
 
 pub use filling::{surplus, unknown_count};
+pub use solving::MOST_UNKNOWNS;
 pub use trying::{Outcome, Tried, judge_values, pattern_values, solved, try_one, try_pattern};
 pub use verdicts::{Judged, verdict};
