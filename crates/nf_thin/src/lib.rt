@@ -18,6 +18,6 @@ mod trying_next;
 mod vain;
 
 pub use fault::SearchFault;
-pub use nf_trial::{Judged, Tried, try_pattern, unknown_count, verdict};
+pub use nf_trial::{Judged, MOST_UNKNOWNS, Tried, try_pattern, unknown_count, verdict};
 pub use searches::search;
 pub use thin::Thin;
