@@ -7,3 +7,4 @@ pub mod Clearing
 pub mod Stages
 pub mod Values
 pub mod Answered
+pub mod Grids

@@ -2,10 +2,17 @@
 #![tactic(auto)]
 
 mod elimination;
+mod grid;
+mod grid_elimination;
+mod grid_pivots;
+mod grid_row;
 mod pivots;
 mod row;
 mod solution;
+mod system;
 mod table;
 
+pub use grid::{Eliminated, Grid, solve_grid};
 pub use solution::{Solved, solve};
+pub use system::System;
 pub use table::Table;

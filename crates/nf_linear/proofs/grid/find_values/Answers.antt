@@ -1,0 +1,32 @@
+use Rattle.std.proofs.Common.{◌+◌, ◌<◌, List, length, get_or, subst, sym, ◌∙◌, length-set, arith}
+use Rattle.std.proofs.lemmas.Result.{err_from_is_err_and}
+use Rattle.std.proofs.lemmas.List.{take_more_set}
+use Rattle.std.proofs.Common.{take}
+use Rattle.nf_rational.specs.Rational.{ℚ}
+use Rattle.nf_work.specs.Passing.{passes_Q}
+use Rattle.nf_work.specs.Checked.{seen_passed_at}
+use Rattle.nf_linear.proofs.Clearing.{row_read}
+use Rattle.nf_linear.proofs.Values.{ValuesSoFar, values_stop, values_more}
+use Rattle.nf_linear.proofs.grid.find_values.Goals as goal
+
+pub returns-in_err-value : goal.returns-in_err-value
+returns-in_err-value g c =
+    let p = err_from_is_err_and c.from_residual.result c.from_residual.ensures.1 in
+    let inside : c.loop-column.column < length c.args.pivots.now = omega arith in
+    let below : get_or c.args.pivots.now c.loop-column.column 0 < length c.args.rows.now = c.requires.pivots.within c.loop-column.column (let e = c.requires.pivots.count in omega arith) in
+    let row = row_read c.args.rows.now (get_or c.args.pivots.now c.loop-column.column 0) c.index-rows-pivot.result below c.index-rows-pivot.is in
+    rw (p.1, p.2) (sym (values_stop passes_Q c.args.rows.now c.args.pivots.now c.requires.pivots (take c.loop-column.column c.loop-column.found) c.loop-column.column inside c.loop-column.invariant.0
+    c.index-rows-pivot.result row (seen_passed_at (λ (q : ℚ). q) c.in_err-value.field-0.0) c.in_err-value.ensures))
+
+pub loop-column-preserved : goal.loop-column-preserved
+loop-column-preserved g c =
+    let inside : c.loop-column.column < length c.args.pivots.now = omega arith in
+    let below : get_or c.args.pivots.now c.loop-column.column 0 < length c.args.rows.now = c.requires.pivots.within c.loop-column.column (let e = c.requires.pivots.count in omega arith) in
+    let row = row_read c.args.rows.now (get_or c.args.pivots.now c.loop-column.column 0) c.index-rows-pivot.result below c.index-rows-pivot.is in
+    let room : c.loop-column.column < length c.loop-column.found = let e = c.loop-column.invariant.1 in let f = c.requires.room in omega arith in (
+      subst (λ (xs : List ℚ). ValuesSoFar passes_Q c.args.rows.now c.args.pivots.now xs (c.loop-column.column + 1))
+          (sym (take_more_set c.loop-column.found c.loop-column.column c.in_ok-value.value room))
+          (values_more passes_Q c.args.rows.now c.args.pivots.now c.requires.pivots (take c.loop-column.column c.loop-column.found) c.loop-column.column inside c.loop-column.invariant.0
+          c.index-rows-pivot.result row c.in_ok-value.value c.in_ok-value.ensures),
+      length-set c.loop-column.found c.loop-column.column c.in_ok-value.value ∙ c.loop-column.invariant.1,
+    )

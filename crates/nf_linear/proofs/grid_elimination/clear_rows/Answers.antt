@@ -1,0 +1,46 @@
+use Rattle.std.proofs.Common.{◌≡◌, ℕ, ◌<◌, List, length, get_or, Ok, Err, sym, subst, ◌∙◌, arith, rules}
+use Rattle.std.specs.List.{AllByRecursion}
+use Rattle.std.proofs.lemmas.Result.{err_from_is_err_and}
+use Rattle.nf_rational.specs.Rational.{ℚ}
+use Rattle.nf_work.specs.Passing.{passes_Q}
+use Rattle.nf_work.specs.declared.Part.TheVariants as Part
+use Rattle.nf_work.specs.Checked.{at_part, seen_passed_at}
+use Rattle.nf_linear.proofs.Clearing.{step, cleared_first, cleared_more, cleared_stops, row_before, row_got}
+use Rattle.nf_linear.proofs.grid_elimination.clear_rows.Goals as goal
+
+pub loop-i-init : goal.loop-i-init
+loop-i-init g c = cleared_first passes_Q c.args.column c.args.pivot c.args.own c.args.later.now c.args.rows.now
+
+pub loop-i-preserved : goal.loop-i-preserved
+loop-i-preserved g c =
+    let here : c.loop-i.i < length c.loop-i.rows = omega arith in
+    let given : Ok c.clear_one.new.row ≡ at_part Part.Table (step passes_Q c.args.column c.args.pivot c.args.own c.args.later.now c.loop-i.i (get_or c.loop-i.rows c.loop-i.i c.index-rows-i.result)) = c.in_ok-clear_one.ensures in
+    cleared_more passes_Q c.args.column c.args.pivot c.args.own c.args.later.now c.args.rows.now c.loop-i.rows c.loop-i.i here c.loop-i.invariant c.clear_one.new.row
+    (subst (λ (row : List ℚ). Ok c.clear_one.new.row ≡ at_part Part.Table (step passes_Q c.args.column c.args.pivot c.args.own c.args.later.now c.loop-i.i row))
+    (row_got c.loop-i.rows c.loop-i.i c.index-rows-i.result here) given)
+
+pub clear_one-requires : goal.clear_one-requires
+clear_one-requires g c =
+    let here : c.loop-i.i < length c.loop-i.rows = omega arith in
+    let inside : c.loop-i.i < length c.args.rows.now = omega arith in
+    let same = sym (row_got c.loop-i.rows c.loop-i.i c.index-rows-i.result here
+    ∙ row_before passes_Q c.args.column c.args.pivot c.args.own c.args.later.now c.args.rows.now c.loop-i.rows c.loop-i.i here c.loop-i.invariant inside) in (
+      search rules,
+      (
+        subst (λ (row : List ℚ). c.args.column < length row) same (c.requires.column c.loop-i.i inside),
+        (
+          c.requires.own,
+          subst (λ (row : List ℚ). AllByRecursion (λ (other : ℕ × ℚ). other.0 < length row) c.args.later.now) same (c.requires.later c.loop-i.i inside),
+        ),
+      ),
+    )
+
+pub returns-in_err-clear_one : goal.returns-in_err-clear_one
+returns-in_err-clear_one g c =
+    let here : c.loop-i.i < length c.loop-i.rows = omega arith in
+    let p = err_from_is_err_and c.from_residual.result c.from_residual.ensures.1 in
+    let stop : Err (seen_passed_at (λ (q : ℚ). q) c.in_err-clear_one.field-0.0) ≡ at_part Part.Table (step passes_Q c.args.column c.args.pivot c.args.own c.args.later.now c.loop-i.i (get_or c.loop-i.rows c.loop-i.i c.index-rows-i.result)) = c.in_err-clear_one.ensures in
+    rw (p.1, p.2) (cleared_stops passes_Q c.args.column c.args.pivot c.args.own c.args.later.now c.args.rows.now c.loop-i.rows c.loop-i.i here c.loop-i.invariant
+    (seen_passed_at (λ (q : ℚ). q) c.in_err-clear_one.field-0.0)
+    (subst (λ (row : List ℚ). Err (seen_passed_at (λ (q : ℚ). q) c.in_err-clear_one.field-0.0) ≡ at_part Part.Table (step passes_Q c.args.column c.args.pivot c.args.own c.args.later.now c.loop-i.i row))
+    (row_got c.loop-i.rows c.loop-i.i c.index-rows-i.result here) stop))

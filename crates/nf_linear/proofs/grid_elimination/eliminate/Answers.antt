@@ -1,0 +1,40 @@
+use Rattle.std.proofs.Common.{◌≡◌, ◌+◌, List, take, drop, get_or, sym, ap, ◌∙◌, arith, rules}
+use Rattle.nf_rational.specs.Rational.{ℚ}
+use Rattle.nf_work.specs.Passing.{passes_Q}
+use Rattle.nf_work.specs.declared.Part.TheVariants as Part
+use Rattle.nf_work.specs.Checked.{at_part}
+use Rattle.nf_model.specs.Entries.{number_at}
+use Rattle.nf_lists.specs.Table.{row_at}
+use Rattle.nf_linear.specs.Rows.{some_from}
+use Rattle.nf_linear.proofs.Clearing.{row_got, later_fit, eliminated}
+use Rattle.nf_linear.proofs.grid_elimination.eliminate.Goals as goal
+
+pub clear_rows-requires : goal.clear_rows-requires
+clear_rows-requires g c =
+    let first : get_or c.args.rows.now c.args.pivot c.index-rows-pivot.result ≡ row_at c.args.rows.now c.args.pivot = row_got c.args.rows.now c.args.pivot c.index-rows-pivot.result c.requires.pivot in
+    let row : get_or c.args.rows.now c.args.pivot c.index-rows-pivot-2.result ≡ row_at c.args.rows.now c.args.pivot = row_got c.args.rows.now c.args.pivot c.index-rows-pivot-2.result c.requires.pivot in
+    let items : take c.later-count.result c.later-count.new.entries ≡ some_from (c.args.column + 1) (drop (c.args.column + 1) (get_or c.args.rows.now c.args.pivot c.index-rows-pivot-2.result)) = c.later-count.ensures.value in
+    let same : take c.later-count.result c.later-count.new.entries ≡ some_from (c.args.column + 1) (drop (c.args.column + 1) (row_at c.args.rows.now c.args.pivot)) =
+    items ∙ ap (λ (r : List ℚ). some_from (c.args.column + 1) (drop (c.args.column + 1) r)) row in
+    let own : c.at-own.result ≡ number_at (row_at c.args.rows.now c.args.pivot) c.args.column = c.at-own.ensures ∙ ap (λ (r : List ℚ). number_at r c.args.column) first in (
+      search rules,
+      (
+        (λ z. c.requires.some (sym own ∙ z)),
+        (
+          (λ i b. let e = c.requires.square i b in let f = c.requires.column in omega arith),
+          later_fit c.args.rows.now c.args.pivot c.args.column c.requires.square c.requires.pivot c.requires.column c.at-own.result (take c.later-count.result c.later-count.new.entries) same,
+        ),
+      ),
+    )
+
+pub returns : goal.returns
+returns g c =
+    let first : get_or c.args.rows.now c.args.pivot c.index-rows-pivot.result ≡ row_at c.args.rows.now c.args.pivot = row_got c.args.rows.now c.args.pivot c.index-rows-pivot.result c.requires.pivot in
+    let row : get_or c.args.rows.now c.args.pivot c.index-rows-pivot-2.result ≡ row_at c.args.rows.now c.args.pivot = row_got c.args.rows.now c.args.pivot c.index-rows-pivot-2.result c.requires.pivot in
+    let items : take c.later-count.result c.later-count.new.entries ≡ some_from (c.args.column + 1) (drop (c.args.column + 1) (get_or c.args.rows.now c.args.pivot c.index-rows-pivot-2.result)) = c.later-count.ensures.value in
+    let same : take c.later-count.result c.later-count.new.entries ≡ some_from (c.args.column + 1) (drop (c.args.column + 1) (row_at c.args.rows.now c.args.pivot)) =
+    items ∙ ap (λ (r : List ℚ). some_from (c.args.column + 1) (drop (c.args.column + 1) r)) row in
+    let own : c.at-own.result ≡ number_at (row_at c.args.rows.now c.args.pivot) c.args.column = c.at-own.ensures ∙ ap (λ (r : List ℚ). number_at r c.args.column) first in
+    c.clear_rows.ensures
+    ∙ ap (at_part Part.Table) (eliminated c.args.rows.now c.args.pivot c.args.column c.requires.square c.requires.pivot c.requires.column c.at-own.result
+    (take c.later-count.result c.later-count.new.entries) same passes_Q own)

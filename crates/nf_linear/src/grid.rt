@@ -1,0 +1,160 @@
+// Linear systems on grids of fixed size.
+ghost use Rattle.std.specs.Prelude.{◌≡◌, ℕ, ◌+◌, ◌<◌, ◌≤◌, length, set, replicate, IfOk, IfErr};
+ghost use Rattle.nf_rational.specs.Operations.{0ℚ};
+ghost use Rattle.nf_work.specs.declared.Part.TheVariants as Part;
+ghost use Rattle.nf_work.specs.Passing.{passes_Q};
+ghost use Rattle.nf_work.specs.Checked.{at_part, seen_at};
+ghost use Rattle.nf_lists.specs.Table.{row_at, solution_from, table_list};
+ghost use Rattle.nf_linear_laws.specs.Solution.{IsSquare};
+ghost use Rattle.nf_linear.specs.Pivots.{HasPivots};
+ghost use Rattle.nf_linear.specs.Grids.{values_if, IsTrueWith};
+
+use crate::grid_elimination::clear_columns;
+use crate::grid_pivots::GridPivots;
+use crate::grid_row::GridRow;
+use nf_frac::{PassedAt, Q};
+use std::marker::Model;
+
+/// A linear system of at most `N` unknowns: as many rows as unknowns, each with a number for each unknown and its right side.
+#[derive(Drop)]
+pub struct Grid<const N: usize> {
+    rows: [GridRow<N>; N],
+    size: u32,
+}
+
+impl<const N: usize> Model for Grid<N> {
+    ghost use Rattle.std.specs.Prelude.{List, ◌≤◌, take};
+    ghost use Rattle.nf_rational.specs.Rational.{ℚ};
+    ghost use Rattle.nf_linear_laws.specs.Solution.{IsSquare};
+
+    ghost Value = { List (List ℚ) };
+
+    ghost view = { λ t. take t.size t.rows };
+
+    ghost invariant = { λ t. (N ≤ 32) × (t.size ≤ N) × IsSquare (take t.size t.rows) };
+}
+
+/// What is found of a system on a grid.
+#[derive(Clone, Copy, PartialEq, Eq, Debug)]
+pub enum Eliminated {
+    /// There is one solution.
+    One,
+    /// There is no solution, or more than one.
+    NotOne,
+}
+
+// The rows become all zero, of this many unknowns.
+fn wipe<const N: usize>(rows: &mut [GridRow<N>], size: u32)
+    requires { size ≤ N }
+    ensures { rows.new ≡ replicate (length rows.old) (replicate (size + 1) 0ℚ) }
+{
+    for i in 0..rows.len() {
+        rows[i].wipe(size);
+    }
+}
+
+// A number of a row becomes this one.
+fn set_at<const N: usize>(rows: &mut [GridRow<N>], row: usize, column: usize, value: Q)
+    requires row { row < length rows.old }
+    requires column { column < length (row_at rows.old row) }
+    ensures { rows.new ≡ set rows.old row (set (row_at rows.old row) column value) }
+{
+    let changed = &mut rows[row];
+    changed.set(column, value);
+}
+
+impl<const N: usize> Grid<N> {
+    /// The grid of this many unknowns, all zero.
+    pub fn zero(size: u32) -> Grid<N>
+        requires size { (0 < size) × (size ≤ N) }
+        requires few { N ≤ 32 }
+        ensures { result ≡ replicate size (replicate (size + 1) 0ℚ) }
+    {
+        let mut rows: [GridRow<N>; N] = Default::default();
+        wipe(&mut rows[..size as usize], size);
+        Grid { rows, size }
+    }
+
+    /// The number of a row for an unknown becomes this one.
+    pub fn set(&mut self, row: u32, column: u32, value: Q)
+        requires row { row < length self.old }
+        requires column { column < length self.old }
+        ensures { self.new ≡ set self.old row (set (row_at self.old row) column value) }
+    {
+        let size = self.size as usize;
+        set_at(&mut self.rows[..size], row as usize, column as usize, value);
+    }
+
+    /// The right side of a row becomes this number.
+    pub fn set_right(&mut self, row: u32, value: Q)
+        requires { row < length self.old }
+        ensures { self.new ≡ set self.old row (set (row_at self.old row) (length self.old) value) }
+    {
+        let size = self.size as usize;
+        set_at(&mut self.rows[..size], row as usize, size, value);
+    }
+}
+
+// The value of each unknown, once the columns are cleared.
+fn find_values<const N: usize>(
+    rows: &[GridRow<N>],
+    pivots: &[usize],
+    found: &mut [Q],
+) -> Result<(), PassedAt<Q>>
+    requires pivots { HasPivots rows.now pivots.now }
+    requires room { length found.old ≡ length pivots.now }
+    ensures { seen_at (λ _. found.new) (λ q. q) result ≡ at_part Part.Table (solution_from passes_Q rows.now 0 pivots.now) }
+{
+    for column in 0..pivots.len() {
+        let pivot = pivots[column];
+        let value = rows[pivot].value_of(column)?;
+        found[column] = value;
+    }
+    Ok(())
+}
+
+// The solution of the rows, each with its right side last; what is left in them is spent.
+fn solve_rows<const N: usize>(
+    rows: &mut [GridRow<N>],
+    values: &mut [Q],
+) -> Result<Eliminated, PassedAt<Q>>
+    requires square { IsSquare rows.old }
+    requires room { length rows.old ≤ N }
+    requires few { N ≤ 32 }
+    requires values { length values.old ≡ length rows.old }
+    ensures list { seen_at (λ found. values_if found values.new) (λ q. q) result ≡ at_part Part.Table (table_list passes_Q rows.old) }
+    ensures solution { IfOk result (λ found. IsTrueWith rows.old found values.new) }
+    ensures not_one { IfOk result (λ found. found ≡ Eliminated.NotOne → values.new ≡ values.old) }
+    ensures passed { IfErr result (λ _. values.new ≡ values.old) }
+{
+    let mut pivots: GridPivots<N> = GridPivots::new();
+    if !clear_columns(rows, &mut pivots)? {
+        return Ok(Eliminated::NotOne);
+    }
+    let mut found = [Q::zero(); N];
+    let front = &mut found[..rows.len()];
+    find_values(rows, pivots.rows(), front)?;
+    values.copy_from_slice(front);
+    Ok(Eliminated::One)
+}
+
+/// Solves a system by elimination (after Gauss and Jordan), without memory. Where no operation passes, it gives One exactly where
+/// there is one solution, which `values` then holds, and NotOne where there is none or more than one. Passed comes exactly where an
+/// operation passes, with the first one, and has part Table. Without a solution `values` stays as it was. The grid is all zero
+/// afterwards.
+pub fn solve_grid<const N: usize>(
+    grid: &mut Grid<N>,
+    values: &mut [Q],
+) -> Result<Eliminated, PassedAt<Q>>
+    requires { length values.old ≡ length grid.old }
+    ensures list { seen_at (λ found. values_if found values.new) (λ q. q) result ≡ at_part Part.Table (table_list passes_Q grid.old) }
+    ensures solution { IfOk result (λ found. IsTrueWith grid.old found values.new) }
+    ensures not_one { IfOk result (λ found. found ≡ Eliminated.NotOne → values.new ≡ values.old) }
+    ensures passed { IfErr result (λ _. values.new ≡ values.old) }
+    ensures zero { grid.new ≡ replicate (length grid.old) (replicate (length grid.old + 1) 0ℚ) }
+{
+    let size = grid.size;
+    let solved = solve_rows(&mut grid.rows[..size as usize], values);
+    wipe(&mut grid.rows[..size as usize], size);
+    solved
+}
