@@ -6,8 +6,7 @@ ghost use Rattle.nf_lines.specs.Faults.{first_fault_of, longest_text};
 ghost use Rattle.nf_text.specs.Reading.{Tells};
 
 use crate::line::ReadLine;
-use crate::reading::{line_len, read_line};
-use nf_text::TextFault;
+use nf_text::{TextFault, read_line};
 use std::alloc::Global;
 use std::marker::Model;
 
@@ -53,16 +52,14 @@ impl<'a> Cursor<'a> {
         ensures fine { IfOk result (λ next. MatchOption next (self.new ≡ self.old) (λ line. first_fault_of self.old ≡ first_fault_of self.new)) }
         ensures fault { IfErr result (λ fault. Tells fault (first_fault_of self.old)) }
     {
-        let rest = &self.text[self.start..];
-        if rest.is_empty() {
+        if self.start == self.text.len() {
             return Ok(None);
         }
-        let len = line_len(rest);
-        match read_line(alloc, &rest[..len], self.line_number) {
-            Ok(line) => {
-                self.start += len;
+        match read_line(alloc, self.text, self.start, self.line_number) {
+            Ok((line, next)) => {
+                self.start = next;
                 self.line_number += 1;
-                Ok(Some(line))
+                Ok(Some(ReadLine::new(line.number, line.plain, self.text, line.words)))
             }
             Err(fault) => Err(fault),
         }

@@ -4,7 +4,6 @@
 
 mod cursor;
 mod line;
-mod reading;
 
 pub use cursor::Cursor;
 pub use line::{ReadLine, is_word};

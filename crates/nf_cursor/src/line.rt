@@ -4,7 +4,7 @@ ghost use Rattle.std.specs.Str.{bytes_eq};
 ghost use Rattle.nf_text.specs.Spans.{text_of};
 ghost use Rattle.nf_cursor.specs.Within.{AreWithin, word_at};
 
-use nf_text::Span;
+use nf_text::{Span, is_same};
 use std::marker::Model;
 
 /// A line of a text: its number, counted from 1, its words, and whether it is plain: its words joined by single spaces and ended by
@@ -79,5 +79,5 @@ impl<'a> ReadLine<'a> {
 pub fn is_word(word: &[u8], wanted: &[u8]) -> bool
     ensures { result ≡ bytes_eq word.now wanted.now }
 {
-    word == wanted
+    is_same(word, wanted)
 }

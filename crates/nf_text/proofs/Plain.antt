@@ -1,6 +1,6 @@
 -- A line compared with its words.
-use Rattle.std.specs.Prelude.{◌≡◌, ℕ, ◌+◌, ◌<◌, ◌≤◌, Bool, true, false, ◌&&◌, nat_eq, nat_lt, List, [], ◌∷◌, ◌++◌, length, take, drop, Option, None, Some, MatchOption, refl}
-use Rattle.std.proofs.Common.{arith, zero, suc, ◌∙◌, sym, ap, append_assoc, append-nil, add-one, get_or}
+use Rattle.std.specs.Prelude.{◌≡◌, ℕ, ◌+◌, ◌-◌, ◌<◌, ◌≤◌, Bool, true, false, ◌&&◌, nat_eq, nat_lt, List, [], ◌∷◌, ◌++◌, length, take, drop, Option, None, Some, MatchOption, refl}
+use Rattle.std.proofs.Common.{arith, zero, suc, ◌∙◌, sym, ap, append_assoc, append-nil, add-one, get_or, take_all, length-drop}
 use Rattle.std.specs.Borrow.{Bor}
 use Rattle.std.specs.List.{join_with_byte, flat_map}
 use Rattle.std.specs.Str.{bytes_eq}
@@ -19,14 +19,15 @@ bytes_eq-append [] (x ∷ front) tail = refl
 bytes_eq-append (y ∷ line) (x ∷ front) tail = ap (λ b. nat_eq y x && b) (bytes_eq-append line front tail)
     ∙ sym (and-assoc (nat_eq y x) (bytes_eq (take (length front) line) front) (bytes_eq (drop (length front) line) tail))
 
--- what `strip_prefix` answers
-pub goes_on : (line front : List ℕ) (rest : Option (Bor (List ℕ)))
-    → MatchOption rest (bytes_eq (take (length front) line) front ≡ false)
-    (λ r. (bytes_eq (take (length front) line) front ≡ true) × (r.now ≡ drop (length front) line) × (length r.now + length front ≡ length line))
-    → GoesOn line front rest
-goes_on line front None h tail = bytes_eq-append line front tail ∙ ap (λ b. b && bytes_eq (drop (length front) line) tail) h
-goes_on line front (Some r) h tail = bytes_eq-append line front tail ∙ ap (λ b. b && bytes_eq (drop (length front) line) tail) h.0
-    ∙ ap (λ t. bytes_eq t tail) (sym h.1)
+-- a line that begins with a front, and what follows it
+pub begins : (line front : List ℕ) → bytes_eq (take (length front) line) front ≡ true
+    → (tail : List ℕ) → bytes_eq line (front ++ tail) ≡ bytes_eq (take (length line - length front) (drop (length front) line)) tail
+begins line front h tail = bytes_eq-append line front tail ∙ ap (λ b. b && bytes_eq (drop (length front) line) tail) h
+    ∙ ap (λ t. bytes_eq t tail) (sym (take_all (length line - length front) (drop (length front) line) (omega (arith, length-drop (length front) line))))
+
+-- or not
+pub begins_not : (line front : List ℕ) → bytes_eq (take (length front) line) front ≡ false → (tail : List ℕ) → bytes_eq line (front ++ tail) ≡ false
+begins_not line front h tail = bytes_eq-append line front tail ∙ ap (λ b. b && bytes_eq (drop (length front) line) tail) h
 
 -- after a space, a word
 pub goes_on_spaced : (line word : List ℕ) (next : Bor (List ℕ)) (rest : Option (Bor (List ℕ)))

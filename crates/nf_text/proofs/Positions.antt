@@ -1,11 +1,12 @@
 -- The first place at which a byte passes a test.
-use Rattle.std.specs.Prelude.{◌≡◌, ℕ, ◌<◌, ◌≤◌, Bool, List, length, position, unwrap_or, Some, None, refl}
+use Rattle.std.specs.Prelude.{◌≡◌, ℕ, true, false, ◌<◌, ◌≤◌, Bool, List, length, position, unwrap_or, Some, None, refl}
 use Rattle.std.specs.List.{position_or_len}
-use Rattle.std.proofs.Common.{arith, ◌∙◌, sym, ap, cond, nat_lt}
+use Rattle.std.proofs.Common.{get_or, arith, ◌∙◌, sym, ap, cond, nat_lt}
 use Rattle.std.proofs.lemmas.Bool.{cond_below, cond_above}
-use Rattle.std.proofs.lemmas.List.Sums.{prefix_len-le-length}
+use Rattle.std.proofs.lemmas.List.Sums.{prefix_len-le-length, position_or_len_is}
 use Rattle.std.specs.Prelude.{not}
 use native.Mathlib.Decide.{dec_lt}
+use Rattle.nf_lines.specs.Words.{is_blank}
 
 pub position_or_len_within : {X : Type 0} (p : X → Bool) (xs : List X) → position_or_len p xs ≤ length xs
 position_or_len_within p xs = prefix_len-le-length (λ x. not (p x)) xs
@@ -20,3 +21,20 @@ unwrap_or_position p xs = at (position_or_len p xs) (length xs) (position_or_len
         by : (k n : ℕ) → k ≤ n → Dec (k < n) → unwrap_or (cond (nat_lt k n) (Some k) None) n ≡ k
         by k n h (yes l) = ap (λ o. unwrap_or o n) (sym (cond_below k n (Some k) None l))
         by k n h (no m) = ap (λ o. unwrap_or o n) (sym (cond_above k n (Some k) None None (omega (arith, m)) refl)) ∙ omega (arith, m, h)
+
+-- ---- what a loop over the places answers
+-- the place that it has come to, where the byte passes
+pub first_there : {X : Type 0} (p : X → Bool) (xs : List X) (i : ℕ) (d : X) → i < length xs → ((k : ℕ) → k < i → p (get_or xs k d) ≡ false) → p (get_or xs i d) ≡ true
+    → i ≡ position_or_len p xs
+first_there p xs i d h before e = sym (position_or_len_is p xs i d (omega (arith, h)) before (λ _. e))
+
+-- or the end
+pub none_there : {X : Type 0} (p : X → Bool) (xs : List X) (i n : ℕ) (d : X) → length xs ≤ i → n ≡ length xs → ((k : ℕ) → k < i → p (get_or xs k d) ≡ false)
+    → n ≡ position_or_len p xs
+none_there p xs i n d h e before = sym (position_or_len_is p xs n d (omega (arith, e)) (λ k l. before k (omega (arith, l, h, e))) (λ l. absurd (omega (arith, l, e))))
+
+pub is_space : (b : ℕ) → b ≡ 32 → is_blank b ≡ true
+is_space b e = ap is_blank e
+
+pub is_tab : (b : ℕ) → b ≡ 9 → is_blank b ≡ true
+is_tab b e = ap is_blank e

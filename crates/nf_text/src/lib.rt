@@ -10,9 +10,11 @@ ghost use Rattle.nf_text.specs.declared.TextFault.TheVariants as TextFault;
 
 mod places;
 mod reading;
+mod sameness;
 mod words;
 
-use reading::read_line;
+pub use reading::read_line;
+pub use sameness::is_same;
 use std::alloc::{AllocError, AllocFailed, Global};
 use thiserror::Error;
 

@@ -5,7 +5,7 @@ ghost use Rattle.nf_lines.specs.Lines.{lines_from};
 ghost use Rattle.nf_lines.specs.Words.{read_line as as_read};
 ghost use Rattle.nf_lines.specs.Faults.{is_allowed, fault_of, line_fault, longest_text};
 ghost use Rattle.nf_text.specs.Spans.{Rise};
-ghost use Rattle.nf_text.specs.Reading.{seen_line, Tells, bytes_len, whole_len, first_line};
+ghost use Rattle.nf_text.specs.Reading.{seen_line, WordsAreIn, Tells, bytes_len, whole_len, first_line};
 
 use crate::places::{comment_start, line_len};
 use crate::words::{is_plain, spans};
@@ -18,10 +18,15 @@ fn is_text_byte(byte: u8) -> bool
     byte == b'\t' || (b' ' <= byte && byte <= b'~')
 }
 
+// A loop without an early exit, for speed: LLVM tests 16 bytes at once, measured.
 fn is_text(bytes: &[u8]) -> bool
     ensures { result ≡ list_all is_allowed bytes.now }
 {
-    bytes.iter().all(|byte| is_text_byte(*byte))
+    let mut fine = true;
+    for byte in bytes {
+        fine &= is_text_byte(*byte);
+    }
+    fine
 }
 
 fn check_line(bytes: &[u8], number: u32) -> Result<(), TextFault>
@@ -70,7 +75,8 @@ fn first_extent(rest: &[u8]) -> Extent
     }
 }
 
-// The line that begins at a place of the text, and where the next one begins.
+/// The line that begins at a place of a text of at most 67,108,864 bytes, as that of a number, with its words; and where the next one
+/// begins. Or the fault of the line, if it has one.
 pub fn read_line(
     alloc: Global,
     text: &[u8],
@@ -84,6 +90,7 @@ pub fn read_line(
     ensures next { IfOk result (λ r. r.1 ≡ start + whole_len (drop start text.now)) }
     ensures more { IfOk result (λ r. start < r.1) }
     ensures within { IfOk result (λ r. r.1 ≤ length text.now) }
+    ensures words { IfOk result (λ r. WordsAreIn text.now r.0) }
     ensures none { OnOk result (line_fault (first_line number (drop start text.now)) ≡ None) }
     ensures fault { IfErr result (λ fault. Tells fault (line_fault (first_line number (drop start text.now)))) }
 {

@@ -7,6 +7,7 @@ ghost use Rattle.nf_text.specs.Spans.{text_of, Rise, space_before, GoesOn};
 
 use crate::Span;
 use crate::places::word_len;
+use crate::sameness::{begins_with, is_same};
 use std::alloc::{AllocError, Global};
 
 // The words between two places of the text, where no comment stands.
@@ -37,7 +38,11 @@ pub fn spans(alloc: Global, text: &[u8], start: usize, end: usize) -> Result<Vec
 fn after<'a>(line: &'a [u8], front: &[u8]) -> Option<&'a [u8]>
     ensures { GoesOn line.now front.now result }
 {
-    line.strip_prefix(front)
+    if begins_with(line, front) {
+        Some(&line[front.len()..])
+    } else {
+        None
+    }
 }
 
 // What follows a word, and maybe a space before it.
@@ -63,5 +68,5 @@ pub fn is_plain(text: &[u8], line: &[u8], words: &[Span]) -> bool
         };
         rest = next;
     }
-    rest == b"\n".as_slice()
+    is_same(rest, b"\n")
 }

@@ -32,3 +32,11 @@ returns-clause-rise c =
     let extent = c.first_extent-extent.result in
     let within : c.comment_start.result ≤ extent.whole = comment_within rest c.args.start extent.bytes c.comment_start.result extent.whole c.comment_start.ensures.within c.first_extent-extent.ensures.ordered in
     Rise_higher c.args.start (c.args.start + c.comment_start.result) (c.args.start + extent.whole) c.in_ok-words.words.items (omega (arith, within)) c.in_ok-words.ensures.rise
+
+pub returns-clause-words : goal.returns-clause-words
+returns-clause-words c =
+    let rest = drop c.args.start c.args.text.now in
+    let extent = c.first_extent-extent.result in
+    let within : c.comment_start.result ≤ extent.whole = comment_within rest c.args.start extent.bytes c.comment_start.result extent.whole c.comment_start.ensures.within c.first_extent-extent.ensures.ordered in
+    let last : c.args.start + c.comment_start.result ≤ length c.args.text.now = omega (arith, within, c.first_extent-extent.ensures.within, length-drop c.args.start c.args.text.now, c.requires.some) in
+    Rise_within c.args.start (c.args.start + c.comment_start.result) (length c.args.text.now) c.in_ok-words.words.items last c.in_ok-words.ensures.rise

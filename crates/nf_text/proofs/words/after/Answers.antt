@@ -1,5 +1,9 @@
-use Rattle.nf_text.proofs.Plain.{goes_on}
+use Rattle.std.proofs.Common.{sym, ◌∙◌}
+use Rattle.nf_text.proofs.Plain.{begins, begins_not}
 use Rattle.nf_text.proofs.words.after.Goals as goal
 
-pub returns : goal.returns
-returns c = goes_on c.args.line.now c.args.front.now c.strip_prefix.result c.strip_prefix.ensures.cases
+pub returns-then-begins_with : goal.returns-then-begins_with
+returns-then-begins_with c = begins c.args.line.now c.args.front.now (sym c.begins_with.ensures ∙ c.if-begins_with.true)
+
+pub returns-else-begins_with : goal.returns-else-begins_with
+returns-else-begins_with c = begins_not c.args.line.now c.args.front.now (sym c.begins_with.ensures ∙ c.if-begins_with.false)

@@ -1,4 +1,4 @@
-use Rattle.std.proofs.Common.{◌<◌, ◌≤◌, ◌∙◌, ap, sym, arith, length, map}
+use Rattle.std.proofs.Common.{◌<◌, ◌≤◌, ◌∙◌, sym, arith, length, map}
 use Rattle.std.specs.Str.{bytes_eq}
 use Rattle.std.proofs.lemmas.List.{length-map}
 use Rattle.std.proofs.Math.ListN.{get_or-map}
@@ -22,5 +22,4 @@ loop-index-preserved c = let f = text_of c.args.text.now in let words = map f c.
 pub returns : goal.returns
 returns c = let f = text_of c.args.text.now in let words = map f c.args.words.now in let i = c.loop-index.index in
     let all : length words ≤ i = omega (arith, c.loop-index-test.false, length-map c.args.words.now f) in
-    c.eq.ensures ∙ ap (bytes_eq c.loop-index.rest.now) c.as_slice.ensures
-    ∙ plain_end (bytes_eq c.args.line.now (line_of_words words)) c.loop-index.rest.now words i all c.loop-index.invariant
+    c.is_same.ensures ∙ plain_end (bytes_eq c.args.line.now (line_of_words words)) c.loop-index.rest.now words i all c.loop-index.invariant

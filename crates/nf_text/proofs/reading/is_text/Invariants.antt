@@ -1,0 +1,7 @@
+use Rattle.std.proofs.Common.{◌≡◌, take}
+use Rattle.std.specs.List.{list_all}
+use Rattle.nf_lines.specs.Faults.{is_allowed}
+use Rattle.nf_text.proofs.reading.is_text.Given as goal
+
+abbrev pub invariant-loop-byte : goal.invariant-loop-byte
+invariant-loop-byte l = l.fine ≡ list_all is_allowed (take l.byte-index l.bytes)
