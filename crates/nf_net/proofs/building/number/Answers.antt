@@ -1,6 +1,8 @@
-use Rattle.std.proofs.Common.{ap}
+use Rattle.std.proofs.Common.{◌∙◌, ap}
 use Rattle.nf_formats.specs.Named.{numbered}
 use Rattle.nf_net.proofs.building.number.Goals as goal
 
 pub returns : goal.returns
-returns c = rw (c.place_or_len-tail.ensures.place, c.place_or_len-head.ensures.place) (ap (numbered c.args.nodes.now) c.link.view_is)
+returns c =
+    (λ i. record { tail = c.place_or_len-tail.ensures.place i; head = c.place_or_len-head.ensures.place i; transit = c.link.inside.transit; capacity = c.link.inside.capacity })
+    ∙ ap (numbered c.args.nodes.now) c.link.view_is
