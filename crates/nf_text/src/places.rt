@@ -8,8 +8,8 @@ fn place_of(bytes: &[u8], wanted: u8) -> usize
     ensures place { result ≡ position_or_len (λ b. b == wanted) bytes.now }
     ensures within { result ≤ length bytes.now }
 {
-    for place in 0..bytes.len() {
-        if bytes[place] == wanted {
+    for (place, byte) in bytes.iter().enumerate() {
+        if *byte == wanted {
             return place;
         }
     }
@@ -21,8 +21,8 @@ pub fn word_len(line: &[u8]) -> usize
     ensures place { result ≡ position_or_len is_blank line.now }
     ensures within { result ≤ length line.now }
 {
-    for place in 0..line.len() {
-        if line[place] == b' ' || line[place] == b'\t' {
+    for (place, byte) in line.iter().enumerate() {
+        if *byte == b' ' || *byte == b'\t' {
             return place;
         }
     }

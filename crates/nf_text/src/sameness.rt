@@ -9,8 +9,8 @@ pub fn is_same(left: &[u8], right: &[u8]) -> bool
     if left.len() != right.len() {
         return false;
     }
-    for place in 0..left.len() {
-        if left[place] != right[place] {
+    for (place, byte) in left.iter().enumerate() {
+        if *byte != right[place] {
             return false;
         }
     }

@@ -3,9 +3,9 @@ use Rattle.nf_text.proofs.Positions.{first_there, none_there}
 use Rattle.nf_text.proofs.places.place_of.Goals as goal
 use Rattle.std.proofs.Common.{arith, eq-eqb, refl}
 
-pub returns-then-bytes-place-clause-place : goal.returns-then-bytes-place-clause-place
-returns-then-bytes-place-clause-place c =
-    first_there (λ b. b == c.args.wanted) c.args.bytes.now c.loop-place.place 0 c.loop-place-test.true c.loop-place.invariant (eq-eqb _ _ c.if-bytes-place.true)
+pub returns-then-byte-wanted-clause-place : goal.returns-then-byte-wanted-clause-place
+returns-then-byte-wanted-clause-place c =
+    first_there (λ b. b == c.args.wanted) c.args.bytes.now c.loop-place.place 0 c.loop-place-test.true c.loop-place.invariant (eq-eqb _ _ c.if-byte-wanted.true)
 
 pub returns-clause-place : goal.returns-clause-place
 returns-clause-place c =

@@ -2,15 +2,15 @@ use Rattle.std.proofs.Common.{◌==◌}
 use Rattle.nf_lines.specs.Words.{is_blank}
 use Rattle.nf_text.proofs.Positions.{first_there, none_there, is_space, is_tab}
 use Rattle.nf_text.proofs.places.word_len.Goals as goal
-use Rattle.nf_text.proofs.places.word_len.Goals.{then-line-place-eq32-via-then-line-place-eq32, then-line-place-eq32-via-else-line-place-eq32+then-line-place-eq9}
+use Rattle.nf_text.proofs.places.word_len.Goals.{then-byte-eq32-via-then-byte-eq32, then-byte-eq32-via-else-byte-eq32+then-byte-eq9}
 use Rattle.std.proofs.Common.{arith, refl}
 
-pub returns-then-line-place-eq32-clause-place : goal.returns-then-line-place-eq32-clause-place
-returns-then-line-place-eq32-clause-place c =
+pub returns-then-byte-eq32-clause-place : goal.returns-then-byte-eq32-clause-place
+returns-then-byte-eq32-clause-place c =
     first_there is_blank c.args.line.now c.loop-place.place 0 c.loop-place-test.true c.loop-place.invariant
-    (elim c.then-line-place-eq32.branch [
-      | then-line-place-eq32-via-then-line-place-eq32 w ↦ is_space _ w.if-line-place-eq32.true
-      | then-line-place-eq32-via-else-line-place-eq32+then-line-place-eq9 w ↦ is_tab _ w.if-line-place-eq9.true
+    (elim c.then-byte-eq32.branch [
+      | then-byte-eq32-via-then-byte-eq32 w ↦ is_space _ w.if-byte-eq32.true
+      | then-byte-eq32-via-else-byte-eq32+then-byte-eq9 w ↦ is_tab _ w.if-byte-eq9.true
     ])
 
 pub returns-clause-place : goal.returns-clause-place
