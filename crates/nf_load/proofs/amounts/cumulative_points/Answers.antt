@@ -1,5 +1,6 @@
-use Rattle.std.proofs.Common.{◌≡◌, ◌+◌, ◌<◌, true, List, [], ◌∷◌, ◌++◌, length, drop, refl, sym, ap, ◌∙◌, arith}
-use Rattle.std.proofs.lemmas.List.{take_rest}
+use Rattle.std.proofs.Common.{◌≡◌, ◌+◌, ◌<◌, ◌≤◌, true, false, List, [], ◌∷◌, ◌++◌, length, drop, refl, sym, ap, ◌∙◌, arith}
+use Rattle.std.specs.Prelude.{Ok}
+use Rattle.std.proofs.lemmas.List.{take_rest, drop_all}
 use Rattle.std.proofs.lemmas.Option.{slice_get_read}
 use Rattle.nf_rational.specs.Rational.{ℚ}
 use Rattle.nf_rational.specs.Order.{lt_ℚ}
@@ -8,14 +9,23 @@ use Rattle.nf_work.specs.Passing.{passes_Q}
 use Rattle.nf_work.specs.Checked.{at_part}
 use Rattle.nf_work.proofs.Each.{with_front}
 use Rattle.nf_model.specs.Network.{Piece}
-use Rattle.nf_load_lists.specs.Cumulative.{end_of, point_if_after_0, with_piece, cumulative_from}
-use Rattle.nf_load.proofs.Supplying.{begins_with, goes_on_at}
+use Rattle.nf_load_lists.specs.Cumulative.{end_of, point_if_after_0, with_piece, cumulative_from, checked_cumulative}
+use Rattle.nf_load.proofs.Supplying.{begins_with, ends_before_at, ends_there, goes_on_at}
 use Rattle.nf_load.proofs.amounts.cumulative_points.Goals as goal
 
 pub loop-index-init : goal.loop-index-init
 loop-index-init c =
     begins_with passes_Q c.args.pieces.now c.args.last c.zero-so_far.result c.zero.result c.zero-2.result c.push.new.self.items c.zero-so_far.ensures c.zero.ensures c.zero-2.ensures
     (c.in_ok-push.ensures.items ∙ ap (λ (l : List (ℚ × ℚ)). l ++ (c.zero.result, c.zero-2.result) ∷ []) c.new-points.ensures.items)
+
+pub returns-then-not-is_below : goal.returns-then-not-is_below
+returns-then-not-is_below c =
+    let inside : c.loop-index.index < length c.args.pieces.now = omega arith in
+    let g = slice_get_read c.args.pieces.now _ c.loop-index.index c.index-pieces-index.result refl inside c.index-pieces-index.is in
+    let late : lt_ℚ c.index-pieces-index.result.start c.args.last ≡ false =
+    sym (c.is_below.ensures ∙ ap (λ (p : Piece). lt_ℚ p.start c.args.last) c.piece.view_is) ∙ c.if-not-is_below.true in
+    ends_before_at passes_Q Load c.loop-index.points.items c.loop-index.so_far c.args.last c.args.pieces.now c.loop-index.index (c.loop-index.index + 1) c.index-pieces-index.result
+    g (omega arith) c.loop-index.invariant late ∙ ap Ok (sym c.in_ok-ended.ensures)
 
 pub loop-index-preserved : goal.loop-index-preserved
 loop-index-preserved c =
@@ -30,3 +40,10 @@ loop-index-preserved c =
     ∙ goes_on_at passes_Q Load c.loop-index.points.items c.loop-index.so_far c.args.last c.args.pieces.now c.loop-index.index (c.loop-index.index + 1) c.index-pieces-index.result
     g (omega arith) c.loop-index.invariant c.in_ok-sum.sum below
     (ap (λ (z : ℚ). at_part Load (with_piece passes_Q c.loop-index.so_far c.index-pieces-index.result z)) (sym end) ∙ sym c.in_ok-sum.ensures)
+
+pub returns : goal.returns
+returns c =
+    let past : length c.args.pieces.now ≤ c.loop-index.index = omega arith in
+    ends_there passes_Q Load c.loop-index.points.items c.loop-index.so_far c.args.last (checked_cumulative passes_Q c.args.pieces.now c.args.last)
+    (ap (λ (l : List Piece). with_front c.loop-index.points.items (cumulative_from passes_Q c.loop-index.so_far l c.args.last)) (sym (drop_all c.loop-index.index c.args.pieces.now past)) ∙ c.loop-index.invariant)
+    ∙ ap Ok (sym c.in_ok-ended-2.ensures)

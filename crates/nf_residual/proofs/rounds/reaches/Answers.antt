@@ -1,11 +1,35 @@
-use Rattle.std.proofs.Common.{◌≡◌, ◌<◌, length, sym, ◌∙◌, arith}
+use Rattle.std.proofs.Common.{◌≡◌, ℕ, ◌<◌, List, length, sym, ap, subst, ◌∙◌, arith}
 use Rattle.std.proofs.lemmas.Result.{err_from_is_err_and}
 use Rattle.nf_work.specs.Passing.{passes_Q}
-use Rattle.nf_residual.proofs.Rounding.{search_first, search_stops, search_still, search_more}
+use Rattle.nf_residual.specs.declared.legs.Leg.{Leg}
+use Rattle.nf_residual.specs.Legs.{AreLegs, AreSettled}
+use Rattle.nf_residual.specs.Ways.{Places, AreWithin}
+use Rattle.nf_residual.proofs.Rounding.{search_first, search_stops, search_still, search_more, places_are, within_still, count_still, search_all, search_count}
 use Rattle.nf_residual.proofs.rounds.reaches.Goals as goal
 
 pub loop-init : goal.loop-init
 loop-init c = search_first passes_Q c.args.net.now.net c.args.flows.now c.args.from c.in_ok-legs.legs.items c.in_ok-ways.ways c.in_ok-places.places.items c.in_ok-ways.ensures c.in_ok-places.ensures
+
+pub round-requires-clause-legs : goal.round-requires-clause-legs
+round-requires-clause-legs c =
+    let nodes : length c.deref-in-loop-2.result.now ≡ c.args.net.now.net.nodes = ap (λ (p : Places). length p) c.deref-in-loop-2.ensures.value
+    ∙ places_are passes_Q c.args.net.now.net c.args.flows.now c.args.from c.in_ok-legs.legs.items c.loop.fresh c.loop.ways c.loop.places.items c.loop.counter c.loop.invariant in
+    subst (λ (n : ℕ). AreLegs n c.deref-in-loop.result.now) (sym nodes)
+    (subst (λ (l : List Leg). AreLegs c.args.net.now.net.nodes l) (sym c.deref-in-loop.ensures.value) c.in_ok-legs.ensures.within)
+
+pub round-requires-clause-tree : goal.round-requires-clause-tree
+round-requires-clause-tree c = c.loop.invariant.good
+
+pub round-requires-clause-same : goal.round-requires-clause-same
+round-requires-clause-same c = c.in_ok-next.ensures ∙ c.deref.ensures.value ∙ sym c.deref-in-loop-2.ensures.value
+
+pub round-requires-clause-within : goal.round-requires-clause-within
+round-requires-clause-within c = subst (λ (p : Places). AreWithin (length c.loop.ways) p) (sym c.deref-in-loop-2.ensures.value) c.loop.invariant.within
+
+pub round-requires-clause-settled : goal.round-requires-clause-settled
+round-requires-clause-settled c =
+    subst (λ (p : Places). AreSettled passes_Q c.deref-in-loop.result.now c.loop.fresh c.loop.ways p) (sym c.deref-in-loop-2.ensures.value)
+    (subst (λ (l : List Leg). AreSettled passes_Q l c.loop.fresh c.loop.ways c.loop.places.items) (sym c.deref-in-loop.ensures.value) c.loop.invariant.settled)
 
 pub returns-in_err-round-clause-list : goal.returns-in_err-round-clause-list
 returns-in_err-round-clause-list c =
@@ -13,6 +37,20 @@ returns-in_err-round-clause-list c =
     let inside : c.loop.counter < c.args.net.now.net.nodes = omega arith in
     rw (p.1, p.2) (search_stops passes_Q c.args.net.now.net c.args.flows.now c.args.from c.in_ok-legs.legs.items c.loop.fresh c.loop.ways c.loop.places.items c.loop.counter c.loop.invariant inside
     c.in_ok-legs.ensures.legs c.deref-in-loop.result.now c.deref-in-loop.ensures.value c.deref-in-loop-2.result.now c.deref-in-loop-2.ensures.value c.in_err-round.field-0.0 c.in_err-round.ensures.list)
+
+pub of-requires : goal.of-requires
+of-requires c =
+    let inside : c.loop.counter < c.args.net.now.net.nodes = omega arith in
+    within_still passes_Q c.args.net.now.net c.args.flows.now c.args.from c.in_ok-legs.legs.items c.loop.fresh c.loop.ways c.loop.places.items c.loop.counter c.loop.invariant inside
+    c.in_ok-legs.ensures.legs c.deref-in-loop.result.now c.deref-in-loop.ensures.value c.deref-in-loop-2.result.now c.deref-in-loop-2.ensures.value
+    c.round.new.ways c.round.new.places.items c.in_ok-round.ensures.list c.in_ok-round.ensures.grows
+
+pub returns-then-count-clause-count : goal.returns-then-count-clause-count
+returns-then-count-clause-count c =
+    let inside : c.loop.counter < c.args.net.now.net.nodes = omega arith in
+    count_still passes_Q c.args.net.now.net c.args.flows.now c.args.from c.in_ok-legs.legs.items c.loop.fresh c.loop.ways c.loop.places.items c.loop.counter c.loop.invariant inside
+    c.in_ok-legs.ensures.legs c.deref-in-loop.result.now c.deref-in-loop.ensures.value c.deref-in-loop-2.result.now c.deref-in-loop-2.ensures.value
+    c.round.new.ways c.round.new.places.items c.in_ok-round.ensures.list c.in_ok-round.ensures.grows c.of.result c.of.ensures
 
 pub returns-then-count-clause-list : goal.returns-then-count-clause-list
 returns-then-count-clause-list c =
@@ -28,3 +66,12 @@ loop-preserved c =
     search_more passes_Q c.args.net.now.net c.args.flows.now c.args.from c.in_ok-legs.legs.items c.loop.fresh c.loop.ways c.loop.places.items c.loop.counter c.loop.invariant inside
     c.in_ok-legs.ensures.legs c.deref-in-loop.result.now c.deref-in-loop.ensures.value c.deref-in-loop-2.result.now c.deref-in-loop-2.ensures.value
     c.round.new.ways c.round.new.places.items c.in_ok-round.ensures.list c.in_ok-round.ensures.grows c.count.ensures.tree c.in_ok-round.ensures.settled c.count-count.result c.count-count.ensures.count
+
+pub of-requires-2 : goal.of-requires-2
+of-requires-2 c = c.loop.invariant.within
+
+pub returns-clause-list : goal.returns-clause-list
+returns-clause-list c = search_all passes_Q c.args.net.now.net c.args.flows.now c.args.from c.in_ok-legs.legs.items c.loop.fresh c.loop.ways c.loop.places.items c.loop.counter c.loop.invariant (omega arith) c.of-2.result c.of-2.ensures
+
+pub returns-clause-count : goal.returns-clause-count
+returns-clause-count c = search_count passes_Q c.args.net.now.net c.args.flows.now c.args.from c.in_ok-legs.legs.items c.loop.fresh c.loop.ways c.loop.places.items c.loop.counter c.loop.invariant c.of-2.result c.of-2.ensures

@@ -1,9 +1,29 @@
-use Rattle.std.proofs.Common.{◌≤◌, length, arith}
+use Rattle.std.proofs.Common.{ℕ, ◌<◌, ◌≤◌, length, sym, subst, arith}
 use Rattle.std.proofs.lemmas.Result.{err_from_is_err_and}
 use Rattle.nf_work.specs.Passing.{passes_Q}
-use Rattle.nf_residual.proofs.Rounding.{offer_stops, offer_more, old_more, round_all, settled_all}
+use Rattle.nf_residual.proofs.Rounding.{round_first, leg_ends, count_is, way_within, within_grown, offer_stops, offer_more, old_more, round_all, settled_all}
 use Rattle.nf_residual.proofs.rounds.round.Goals.{in-Some+in_ok-offer, in_default}
 use Rattle.nf_residual.proofs.rounds.round.Goals as goal
+
+pub loop-leg-init : goal.loop-leg-init
+loop-leg-init c = round_first passes_Q c.args.legs.now c.args.fresh c.args.ways.now c.args.before.now c.args.places.now.items c.requires.same c.requires.settled
+
+pub fresh_way-requires : goal.fresh_way-requires
+fresh_way-requires c = (leg_ends passes_Q c.args.legs.now c.args.fresh c.args.ways.now c.args.before.now c.loop-leg.ways c.loop-leg.places.items c.loop-leg.leg-index c.loop-leg.invariant
+    c.leg-item.result c.loop-leg-test.true c.leg-item.is c.requires.legs).0
+
+pub offer-requires-clause-way : goal.offer-requires-clause-way
+offer-requires-clause-way c = way_within passes_Q c.args.legs.now c.args.fresh c.args.ways.now c.args.before.now c.loop-leg.ways c.loop-leg.places.items c.loop-leg.leg-index c.loop-leg.invariant
+    c.leg-item.result c.loop-leg-test.true c.leg-item.is c.requires.tree c.requires.within c.in-Some.way c.in-Some.ensures.way
+
+pub offer-requires-clause-end : goal.offer-requires-clause-end
+offer-requires-clause-end c =
+    subst (λ (n : ℕ). c.leg-item.result.end < n) (sym (count_is passes_Q c.args.legs.now c.args.fresh c.args.ways.now c.args.before.now c.loop-leg.ways c.loop-leg.places.items c.loop-leg.leg-index c.loop-leg.invariant))
+    (leg_ends passes_Q c.args.legs.now c.args.fresh c.args.ways.now c.args.before.now c.loop-leg.ways c.loop-leg.places.items c.loop-leg.leg-index c.loop-leg.invariant
+    c.leg-item.result c.loop-leg-test.true c.leg-item.is c.requires.legs).1
+
+pub offer-requires-clause-within : goal.offer-requires-clause-within
+offer-requires-clause-within c = within_grown c.args.ways.now c.loop-leg.ways c.args.before.now c.loop-leg.places.items c.loop-leg.invariant.grows c.requires.within
 
 pub returns-in_err-offer-clause-list : goal.returns-in_err-offer-clause-list
 returns-in_err-offer-clause-list c =
@@ -23,6 +43,9 @@ pub returns-clause-list : goal.returns-clause-list
 returns-clause-list c =
     let past : length c.args.legs.now ≤ c.loop-leg.leg-index = omega arith in
     round_all passes_Q c.args.legs.now c.args.fresh c.args.ways.now c.args.before.now c.loop-leg.ways c.loop-leg.places.items c.loop-leg.leg-index c.loop-leg.invariant past
+
+pub returns-clause-grows : goal.returns-clause-grows
+returns-clause-grows c = c.loop-leg.invariant.grows
 
 pub returns-clause-settled : goal.returns-clause-settled
 returns-clause-settled c =
