@@ -10,7 +10,7 @@ ghost use Rattle.nf_equation_laws.specs.Equations.{IsPatternIn};
 ghost use Rattle.nf_trial.specs.Trying.{JudgesFlows, JudgesValues, Tries, TriesInto};
 
 use crate::filling::{table_of, unknown_count};
-use crate::solving::{MOST_UNKNOWNS, solve_pattern};
+use crate::solving::solve_pattern;
 use crate::verdicts::{Judged, verdict};
 use nf_frac::{Halt, PassedAt, Q};
 use nf_graph::{LinkId, LinkSets};
@@ -18,6 +18,9 @@ use nf_linear::{Eliminated, Solved, Table, solve};
 use nf_net::Network;
 use nf_pattern::Pattern;
 use std::alloc::{AllocError, Global};
+
+// Up to so many unknowns a pattern is tried on a grid: there that takes less time than in a table (measured), and above it doesn't.
+const FEW_UNKNOWNS: u32 = 8;
 
 /// What comes of a pattern, where its flows and labels are written into slices.
 #[derive(Clone, Copy, Debug, PartialEq, Eq)]
@@ -198,7 +201,7 @@ pub fn pattern_values(
     ensures { Gives (option_map (λ values. values.items)) (λ q. q) result (at_part Part.Table (table_list passes_Q (equations net.now.net sets.now rate pattern.now))) }
 {
     let count = unknown_count(net, sets);
-    if count <= MOST_UNKNOWNS {
+    if count <= FEW_UNKNOWNS {
         few_values(alloc, count, net, sets, rate, pattern)
     } else {
         table_values(alloc, net, sets, rate, pattern)
@@ -272,7 +275,7 @@ fn try_in_table(
 }
 
 /// Whether a pattern is accepted, and with which flows and slopes; or the first of its operations that passes. By `try_pattern` where
-/// the unknowns are few enough for it.
+/// the unknowns are few.
 pub fn try_one(
     alloc: Global,
     net: &Network,
@@ -283,7 +286,7 @@ pub fn try_one(
     requires { IsPatternIn net.now.net sets.now pattern.now }
     ensures { Tries passes_Q net.now.net sets.now rate pattern.now result }
 {
-    if unknown_count(net, sets) <= MOST_UNKNOWNS {
+    if unknown_count(net, sets) <= FEW_UNKNOWNS {
         try_few(alloc, net, sets, rate, pattern)
     } else {
         try_in_table(alloc, net, sets, rate, pattern)
