@@ -29,7 +29,7 @@ use Rattle.nf_lists.specs.PhaseRun.{Fails, at_slack as at_slack_below, at_search
 use Rattle.nf_forever_lists.specs.ForeverRun.{end_list, SeeksOn}
 use Rattle.nf_forever_lists.specs.ForeverRun.{FailsOn, at_slack as at_slack_on, at_search as at_search_on, at_extend as at_extend_on, at_lists as at_lists_on}
 use Rattle.nf_lists_laws.proofs.Exact.{slacks_exact, advanced_exact}
-use Rattle.nf_thin.specs.declared.searches.SearchFault.{SearchFault}
+use Rattle.nf_thin.specs.declared.fault.SearchFault.{SearchFault}
 use Rattle.nf_phase.specs.declared.fault.StepFault.{StepFault}
 use Rattle.nf_thin.specs.Searching.{Searches}
 use Rattle.nf_trial.proofs.Folds.{part_ok}

@@ -1,7 +1,7 @@
 -- Which fault of a step the faults of its parts are.
 use Rattle.nf_rational.specs.Rational.{ℚ}
 use Rattle.nf_work.specs.declared.Halt.{Halt}
-use Rattle.nf_thin.specs.declared.searches.SearchFault.{SearchFault}
+use Rattle.nf_thin.specs.declared.fault.SearchFault.{SearchFault}
 use Rattle.nf_phase.specs.declared.fault.StepFault.{StepFault}
 
 abbrev pub of_halt : Halt ℚ → StepFault

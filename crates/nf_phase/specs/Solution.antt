@@ -11,7 +11,7 @@ use Rattle.nf_lists.specs.PhaseRun.{Standing, Bounds, IsRunReport, report_of}
 use Rattle.nf_resume_lists.specs.Open.{RunsOn}
 use Rattle.nf_run_laws.specs.RunLaws.{IsShortFlow, KeepsLabels, reached_by}
 use Rattle.nf_curve.specs.Flows.{flow_of}
-use Rattle.nf_thin.specs.declared.searches.SearchFault.TheVariants as SearchFault
+use Rattle.nf_thin.specs.declared.fault.SearchFault.TheVariants as SearchFault
 use Rattle.nf_phase.specs.declared.fault.StepFault.{StepFault}
 use Rattle.nf_phase.specs.declared.solution.Budgets.{Budgets}
 use Rattle.nf_phase.specs.declared.solution.Solution.{Solution}

@@ -9,8 +9,8 @@ use Rattle.nf_lists.specs.PhaseRun.{Standing, IsStart, Goes, Fails}
 use Rattle.nf_resume_lists.specs.Open.{Continues, with_last}
 use Rattle.nf_forever_lists.specs.Tails.{Tail}
 use Rattle.nf_forever_lists.specs.ForeverRun.{FailsOn}
-use Rattle.nf_thin.specs.declared.searches.SearchFault.TheVariants as SearchFault
-use Rattle.nf_thin.specs.declared.searches.Thin.{Thin}
+use Rattle.nf_thin.specs.declared.fault.SearchFault.TheVariants as SearchFault
+use Rattle.nf_thin.specs.declared.thin.Thin.{Thin}
 use Rattle.nf_phase.specs.declared.fault.StepFault.{StepFault}
 use Rattle.nf_phase.specs.Restarting.{IsRestored}
 

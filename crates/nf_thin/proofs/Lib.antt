@@ -1,10 +1,12 @@
+pub mod Hops
 pub mod Places
 pub mod Searched
 pub mod Asking
+pub mod FoundThin
 pub mod Looping
-pub mod Leading
+pub mod NoCycle
+pub mod LedSlopes
 pub mod AllowedStates
-pub mod Changing
 pub mod Within
-pub mod Balances
+pub mod Conserving
 pub mod Refusing

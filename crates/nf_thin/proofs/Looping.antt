@@ -10,11 +10,12 @@ use Rattle.nf_lists.specs.Search.{Answers, IsSearch}
 use Rattle.nf_pattern.specs.Given.{Question, Given, IsListedBy, IsNext, NoneLeft, Gives}
 use Rattle.nf_equation_laws.specs.Equations.{IsPatternIn}
 use Rattle.nf_pattern.proofs.Deciding.{has_listing}
-use Rattle.nf_thin.specs.declared.searches.Thin.{Thin}
-use Rattle.nf_thin.specs.declared.searches.Vain.{Vain}
-use Rattle.nf_thin.specs.declared.searches.SearchFault.{SearchFault}
+use Rattle.nf_thin.specs.declared.thin.Thin.{Thin}
+use Rattle.nf_thin.specs.declared.vain.Vain.{Vain}
+use Rattle.nf_thin.specs.declared.fault.SearchFault.{SearchFault}
 use Rattle.nf_thin.specs.declared.sifting.Sifted.{Sifted}
-use Rattle.nf_thin.specs.Searching.{Searches, fault_of, TriesNext, AreSetsOf, AsksOf}
+use Rattle.nf_thin.specs.FirstPassing.{fault_of}
+use Rattle.nf_thin.specs.Searching.{Searches, TriesNext, AreSetsOf, AsksOf}
 use Rattle.nf_thin.specs.Sifting.{SiftsNext}
 use Rattle.nf_pattern.specs.Front.{IsListingOf}
 use Rattle.nf_thin.proofs.Searched.{Vainly, none_tried, over_budget, found, vainly_more, search_ends, all_searched}

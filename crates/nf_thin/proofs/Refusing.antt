@@ -9,7 +9,7 @@ use Rattle.nf_model.specs.Pattern.{Pattern, IsListedIn, IsSolvable}
 use Rattle.nf_thin_laws.specs.ActiveLinks.{AreSets, HoldNoCycle}
 use Rattle.nf_thin_laws.proofs.States.{slopes-same}
 use Rattle.nf_thin.specs.Slopes.{AreThinSlopes, AreSlopesOfListed}
-use Rattle.nf_thin.specs.Balancing.{full_by, CanFlow}
+use Rattle.nf_thin.specs.Conserving.{full_by, CanFlow}
 
 -- the slopes of a thin flow are those of each solution of a listed pattern
 pub slopes_of_listed : (net : Network) (sets : Sets) (rate : ℚ) (slopes : List ℚ) → IsNetwork net → AreSets net sets → HoldNoCycle net sets → AreThinSlopes net sets rate slopes

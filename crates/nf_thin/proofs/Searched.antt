@@ -12,10 +12,11 @@ use Rattle.nf_lists.specs.Accepted.{pattern_lists, IsAccepted}
 use Rattle.nf_lists.specs.Listing.{HasPlace, IsListingIn}
 use Rattle.nf_lists.specs.Search.{Answer, Found, OverBudget, PassesAt, NoPattern, NoneAcceptedBefore, IsOverBudget, IsInVain, IsFirstPassing, Answers, IsSearch}
 use Rattle.nf_pattern.specs.Given.{Question, Last, AtStart, UpTo, IsNext, NoneLeft}
-use Rattle.nf_thin.specs.declared.searches.Thin.{Thin}
-use Rattle.nf_thin.specs.declared.searches.Vain.{Vain}
-use Rattle.nf_thin.specs.declared.searches.SearchFault.{SearchFault}
-use Rattle.nf_thin.specs.Searching.{Searches, or_first, fault_of, Noted, IsFound, question_of}
+use Rattle.nf_thin.specs.declared.thin.Thin.{Thin}
+use Rattle.nf_thin.specs.declared.vain.Vain.{Vain}
+use Rattle.nf_thin.specs.declared.fault.SearchFault.{SearchFault}
+use Rattle.nf_thin.specs.FirstPassing.{or_first, fault_of}
+use Rattle.nf_thin.specs.Searching.{Searches, Noted, IsFound, question_of}
 use Rattle.nf_thin.specs.Sifting.{IsCounted}
 use Rattle.nf_pattern.specs.Front.{IsListingOf}
 use Rattle.nf_thin.proofs.Places.{GivenUpTo, given_next, given_all}

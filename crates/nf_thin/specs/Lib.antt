@@ -1,7 +1,8 @@
+pub mod FirstPassing
 pub mod Searching
-pub mod Guessing
 pub mod Slopes
 pub mod Allowing
 pub mod Ranges
-pub mod Balancing
+pub mod Conserving
+pub mod Knowing
 pub mod Sifting

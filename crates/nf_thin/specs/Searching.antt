@@ -11,9 +11,10 @@ use Rattle.nf_lists.specs.Accepted.{pattern_lists, IsAccepted}
 use Rattle.nf_lists.specs.Search.{Answer, Found, OverBudget, PassesAt, NoPattern}
 use Rattle.nf_pattern.specs.Given.{Question, IsQuestion, Given, AtStart}
 use Rattle.nf_thin_laws.specs.ActiveLinks.{AreSets, HoldNoCycle}
-use Rattle.nf_thin.specs.declared.searches.Thin.{Thin}
-use Rattle.nf_thin.specs.declared.searches.Vain.{Vain}
-use Rattle.nf_thin.specs.declared.searches.SearchFault.{SearchFault}
+use Rattle.nf_thin.specs.declared.thin.Thin.{Thin}
+use Rattle.nf_thin.specs.declared.vain.Vain.{Vain}
+use Rattle.nf_thin.specs.declared.fault.SearchFault.{SearchFault}
+use Rattle.nf_thin.specs.FirstPassing.{or_first}
 
 -- the answer of the definition that is given, unless memory is wanting
 abbrev pub Searches : (Answer → Type 0) → ℕ → Result Thin SearchFault → Type 0
@@ -28,16 +29,6 @@ abbrev pub SlopesAreOnly : Network → Sets → ℚ → List ℚ → Type 0
 SlopesAreOnly net sets rate slopes = HoldNoCycle net sets → (flows other : List ℚ) → IsThinFlow net sets rate flows other → other ≡ slopes
 
 -- ---- one pattern more
-
--- the first that passes, where one has passed already
-abbrev pub or_first : Option (ℕ × PassedAt ℚ) → ℕ × PassedAt ℚ → Option (ℕ × PassedAt ℚ)
-or_first (Some first) now = Some first
-or_first None now = Some now
-
--- why nothing was found
-abbrev pub fault_of : Option (ℕ × PassedAt ℚ) → SearchFault
-fault_of (Some (place, at)) = SearchFault.Passed place at
-fault_of None = SearchFault.NoPattern
 
 module _ (passes : Passing) (net : Network) (sets : Sets) (rate : ℚ) (pattern : Pattern) where
   -- no operation passes, or the first of this pattern's that does is noted with its place

@@ -4,32 +4,19 @@ use Rattle.nf_rational.specs.Rational.{ℚ}
 use Rattle.nf_work.specs.Passing.{Passing}
 use Rattle.nf_model.specs.Network.{Network}
 use Rattle.nf_model.specs.ThinFlow.{Sets}
-use Rattle.nf_model.specs.Pattern.{Pattern, IsSolution}
+use Rattle.nf_model.specs.Pattern.{Pattern}
 use Rattle.nf_lists.specs.Accepted.{IsAccepted}
 use Rattle.nf_lists.specs.Search.{Answer}
-use Rattle.nf_thin.specs.declared.searches.Thin.{Thin}
-use Rattle.nf_thin.specs.declared.searches.Vain.{Vain}
-use Rattle.nf_thin.specs.declared.searches.SearchFault.{SearchFault}
-use Rattle.nf_thin.specs.declared.known.Known.{Known}
+use Rattle.nf_thin.specs.declared.thin.Thin.{Thin}
+use Rattle.nf_thin.specs.declared.vain.Vain.{Vain}
+use Rattle.nf_thin.specs.declared.fault.SearchFault.{SearchFault}
 use Rattle.nf_thin.specs.declared.sifting.Guide.{Guide}
 use Rattle.nf_thin.specs.declared.sifting.Sifted.{Sifted}
 use Rattle.nf_thin.specs.Slopes.{AreSlopesOfListed}
 use Rattle.nf_thin.specs.Allowing.{AllowSolvable}
-use Rattle.nf_thin.specs.Balancing.{full_by}
+use Rattle.nf_thin.specs.Conserving.{full_by}
+use Rattle.nf_thin.specs.Knowing.{IsKnown}
 use Rattle.nf_thin.specs.Searching.{Searches, Noted, IsFound}
-
--- a known pattern is accepted, with its flows and slopes as the solution
-pub record IsKnown (passes : Passing) (net : Network) (sets : Sets) (rate : ℚ) (known : Known) : Type 0 where
-  pub states : length known.pattern ≡ length net.links
-  pub accepted : IsAccepted passes net sets rate known.pattern
-  pub solution : IsSolution net sets rate known.pattern known.flows.items known.slopes.items
-
--- it is found at this place
-pub record IsThinAt (known : Known) (place : ℕ) (thin : Thin) : Type 0 where
-  pub place_is : thin.place ≡ place
-  pub pattern_is : thin.pattern ≡ known.pattern
-  pub flows_are : thin.flows.items ≡ known.flows.items
-  pub slopes_are : thin.labels.items ≡ known.slopes.items
 
 -- what a guide tells is so
 pub record Guides (passes : Passing) (net : Network) (sets : Sets) (rate : ℚ) (guide : Guide) : Type 0 where

@@ -1,20 +1,9 @@
--- Slopes of thin flows, and patterns by which nodes are led to.
-use Rattle.std.specs.Prelude.{◌≡◌, ◌⊎◌, ℕ, List}
+-- Slopes of thin flows.
+use Rattle.std.specs.Prelude.{◌≡◌, List}
 use Rattle.nf_rational.specs.Rational.{ℚ}
-use Rattle.nf_model.specs.declared.State.TheVariants.{Tight, Full}
-use Rattle.nf_model.specs.Entries.{Has}
-use Rattle.nf_model.specs.Walk.{Hop, IsHop}
-use Rattle.nf_model.specs.Network.{Network, hops}
+use Rattle.nf_model.specs.Network.{Network}
 use Rattle.nf_model.specs.ThinFlow.{Sets, IsThinFlow}
-use Rattle.nf_model.specs.Pattern.{Pattern, HasState, IsListedIn, Solves, Meets}
-
--- link e is resetting, Tight or Full
-abbrev pub MayCarry : Sets → Pattern → ℕ → Type 0
-MayCarry sets pattern e = Has sets.resetting e ⊎ (HasState pattern e Tight ⊎ HasState pattern e Full)
-
--- such a link leads to node v
-abbrev pub IsLed : Network → Sets → Pattern → ℕ → Type 0
-IsLed net sets pattern v = (e : ℕ) × (hop : Hop) × IsHop (hops net) e hop × (hop.head ≡ v) × MayCarry sets pattern e
+use Rattle.nf_model.specs.Pattern.{Pattern, IsListedIn, Solves, Meets}
 
 -- these are the slopes of a thin flow
 abbrev pub AreThinSlopes : Network → Sets → ℚ → List ℚ → Type 0

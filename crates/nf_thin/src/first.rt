@@ -5,7 +5,7 @@ ghost use Rattle.nf_model.specs.Pattern.{IsPattern};
 ghost use Rattle.nf_equation_laws.specs.Equations.{IsPatternIn};
 ghost use Rattle.nf_thin.specs.Searching.{AreSetsOf};
 
-use crate::searches::listing;
+use crate::listings::listing;
 use nf_graph::LinkSets;
 use nf_net::Network;
 use nf_pattern::Pattern;

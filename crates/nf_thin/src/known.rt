@@ -1,16 +1,22 @@
 // A pattern that is known to be accepted: where it is listed, it is found without a table.
-ghost use Rattle.std.specs.Prelude.{◌≡◌, ◌≤◌, length, IsTrue, IfOk};
+ghost use Rattle.std.specs.Prelude.{◌≡◌, ◌≤◌, length, IsTrue, IfOk, IfSome};
 ghost use Rattle.nf_work.specs.Passing.{passes_Q};
 ghost use Rattle.nf_equation_laws.specs.Equations.{IsPatternIn};
+ghost use Rattle.nf_guess.specs.Guessing.{IsSolved};
 ghost use Rattle.nf_thin.specs.Searching.{TriesNext};
-ghost use Rattle.nf_thin.specs.Sifting.{IsKnown, IsThinAt};
+ghost use Rattle.nf_thin.specs.Knowing.{IsKnown, IsThinAt};
+ghost use Rattle.nf_thin.specs.Slopes.{AreThinSlopes};
 
-use crate::searches::{SearchFault, Thin, Vain, try_next};
-use nf_frac::Q;
-use nf_graph::{LinkId, LinkSets};
-use nf_model::State;
+use crate::fault::SearchFault;
+use crate::thin::Thin;
+use crate::trying_next::try_next;
+use crate::vain::Vain;
+use nf_frac::{Halt, Q};
+use nf_graph::LinkSets;
+use nf_guess::SolvedPattern;
 use nf_net::Network;
 use nf_pattern::Pattern;
+use nf_trial::{Outcome, each_is_led, is_one_pattern, judge_values};
 use std::alloc::{AllocError, Global};
 
 /// A pattern that is accepted, with its flows and slopes.
@@ -19,6 +25,36 @@ pub(crate) struct Known {
     pub(crate) pattern: Pattern,
     pub(crate) flows: Vec<Q>,
     pub(crate) slopes: Vec<Q>,
+}
+
+/// The guessed pattern with its flows and slopes, if it is accepted and each node is led to.
+pub(crate) fn known_by(
+    alloc: Global,
+    net: &Network,
+    sets: &LinkSets,
+    rate: Q,
+    last: SolvedPattern,
+) -> Result<Option<Known>, AllocError>
+    requires { IsSolved passes_Q net.now.net sets.now rate last }
+    ensures known { IfOk result (λ found. IfSome found (λ known. IsKnown passes_Q net.now.net sets.now rate known)) }
+    ensures thin { IfOk result (λ found. IfSome found (λ known. AreThinSlopes net.now.net sets.now rate known.slopes.items)) }
+{
+    // For the proof: the rate at which the values solve the pattern's table.
+    let _ = rate;
+    let SolvedPattern { pattern, values } = last;
+    if !each_is_led(net, sets, &pattern) {
+        return Ok(None);
+    }
+    match judge_values(alloc, net, sets, &pattern, values) {
+        Ok(Outcome::Accepted { flows, slopes }) => Ok(Some(Known {
+            pattern,
+            flows,
+            slopes,
+        })),
+        Ok(Outcome::Refused) => Ok(None),
+        Err(Halt::Passed(_)) => Ok(None),
+        Err(Halt::Memory) => Err(AllocError),
+    }
 }
 
 // A copy of the thin flow of the known pattern, which has this place.
@@ -34,28 +70,6 @@ fn thin_at(alloc: Global, known: &Known, place: u64) -> Result<Thin, AllocError>
         pattern,
         place,
     })
-}
-
-// Two links have one state, or both none.
-fn is_one_state(one: Option<State>, other: Option<State>) -> bool
-    ensures { IsTrue result → one ≡ other }
-{
-    one == other
-}
-
-/// Two patterns have the same state at each link.
-pub(crate) fn is_one_pattern(net: &Network, one: &Pattern, other: &Pattern) -> bool
-    requires one { length one.now ≡ length net.now.net.links }
-    requires other { length other.now ≡ length net.now.net.links }
-    ensures { IsTrue result → one.now ≡ other.now }
-{
-    for e in 0..net.link_count() {
-        let link = LinkId(e);
-        if !is_one_state(one.state(link), other.state(link)) {
-            return false;
-        }
-    }
-    true
 }
 
 /// The next pattern is tried: its thin flow, or none. Without a table, where it is the known one.

@@ -1,24 +1,23 @@
-//! Thin flows with resetting (Koch and Skutella 2011; Cominetti, Correa and Larré 2015): whether flows and slopes meet a pattern,
-//! and the search for the first pattern that is accepted.
+//! The search for a thin flow with resetting: the first listed pattern that is accepted.
 #![tactic(auto)]
 
 mod allowed;
+mod cycles;
+mod fault;
 mod first;
-mod forest;
-mod guess;
 mod known;
-mod led;
-mod node_parts;
+mod listings;
 mod node_test;
-mod part_slopes;
-mod part_values;
 pub mod parts;
+mod plain;
 mod ranges;
-mod repairs;
 mod searches;
-mod settling;
 mod sifting;
-mod tight_flows;
+mod thin;
+mod trying_next;
+mod vain;
 
-pub use searches::{SearchFault, Thin, search};
-pub use nf_trial::{Judged, Tried, try_pattern, unknown_count, verdict};
+pub use fault::SearchFault;
+pub use nf_trial::{Judged, MOST_UNKNOWNS, Tried, try_pattern, unknown_count, verdict};
+pub use searches::search;
+pub use thin::Thin;

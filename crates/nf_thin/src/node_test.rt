@@ -1,5 +1,5 @@
-// Whether the links at each node can carry what the node needs, where slopes are known: a pattern of which one can't isn't accepted, and
-// no table is needed to see it.
+// Whether the links at each node can carry what conservation of flow asks there, where slopes are known: a pattern of which some can't
+// isn't accepted, and no table is needed to see it.
 ghost use Rattle.std.specs.Prelude.{◌≡◌, ◌<◌, ℕ, suc, true, List, length, IfOk};
 ghost use Rattle.nf_rational.specs.Rational.{ℚ};
 ghost use Rattle.nf_work.specs.Passing.{beyond, passes_Q};
@@ -7,27 +7,17 @@ ghost use Rattle.nf_model.specs.Entries.{number_at};
 ghost use Rattle.nf_model.specs.Network.{Network as SeenNetwork, Link as SeenLink, IsLink, IsNetwork};
 ghost use Rattle.nf_model.specs.ThinFlow.{surplus as surplus_of};
 ghost use Rattle.nf_thin.specs.Ranges.{IsWithin};
-ghost use Rattle.nf_thin.specs.Balancing.{full_of, full_by, CanFlow, BoundsFirst, needed_at};
+ghost use Rattle.nf_thin.specs.Conserving.{full_by, CanFlow, BoundsFirst, needed_at};
 
-use nf_trial::surplus;
 use crate::ranges::{Range, flow_range};
 use nf_frac::Q;
 use nf_graph::{LinkId, LinkSets, NodeId};
 use nf_net::Network;
 use nf_pattern::Pattern;
+use nf_trial::{full_flow, surplus};
 use std::alloc::{AllocError, Global};
 
-/// The flow that fills a link: its capacity times the slope of its head. None where it is unbounded, or that passes.
-pub(crate) fn full_flow(capacity: Option<Q>, head_slope: Q) -> Option<Q>
-    ensures { result ≡ full_of passes_Q capacity head_slope }
-{
-    match capacity {
-        Some(capacity) => capacity.product(head_slope).ok(),
-        None => None,
-    }
-}
-
-/// The same of each link, by these slopes of the nodes.
+/// The flow that fills each link, by these slopes of the nodes, in link order. None where it is unbounded, or its product passes.
 pub fn full_flows(alloc: Global, net: &Network, slopes: &[Q]) -> Result<Vec<Option<Q>>, AllocError>
     requires { length slopes.now ≡ net.now.net.nodes }
     ensures { IfOk result (λ full. full.items ≡ full_by passes_Q net.now.net slopes.now) }
@@ -117,8 +107,8 @@ fn needed(net: &Network, rate: Q, node: NodeId) -> Q
     }
 }
 
-// A node's balance can be met: its links can send out of it what they are to, beyond what they bring to it.
-fn balances_at(
+// Flow can be conserved at a node: its links can send out of it what they are to, beyond what they bring to it.
+fn can_conserve_at(
     net: &Network,
     sets: &LinkSets,
     rate: Q,
@@ -137,8 +127,8 @@ fn balances_at(
     range.holds(needed(net, rate, node))
 }
 
-/// Whether the balance of each node can be met by what its links may carry in their states.
-pub fn balances(
+/// Whether flow can be conserved at each node, by what its links may carry in their states.
+pub fn can_conserve(
     net: &Network,
     sets: &LinkSets,
     rate: Q,
@@ -152,7 +142,7 @@ pub fn balances(
     ensures { (flows : List ℚ) → CanFlow passes_Q net.now.net sets.now rate pattern.now full.now flows → result ≡ true }
 {
     for v in 0..net.node_count() {
-        if !balances_at(net, sets, rate, full, pattern, NodeId(v)) {
+        if !can_conserve_at(net, sets, rate, full, pattern, NodeId(v)) {
             return false;
         }
     }

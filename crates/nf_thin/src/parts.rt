@@ -1,5 +1,5 @@
 //! Parts of the search, for those who look at them one by one.
-pub use crate::node_test::{balances, full_flows};
-pub use crate::part_values::part_values;
-pub use crate::searches::listing;
+pub use crate::listings::listing;
+pub use crate::node_test::{can_conserve, full_flows};
 pub use crate::sifting::sifted_search;
+pub use nf_guess::part_values;

@@ -124,7 +124,7 @@ fn range_in(state: State, full: Option<Q>) -> Range
     }
 }
 
-/// The same of any link: without a state it carries what fills it where it is resetting, and else nothing.
+/// What any link may carry: by its state, as above; without one, what fills it where it is resetting, and else nothing.
 pub(crate) fn flow_range(state: Option<State>, resetting: bool, full: Option<Q>) -> Range
     ensures { (capacity : Option ℚ) (flow tail_slope head_slope : ℚ) → MeetsState state resetting full capacity flow tail_slope head_slope → IsWithin result flow }
 {

@@ -10,14 +10,17 @@ ghost use Rattle.nf_thin.specs.Searching.{AreSetsOf, AsksOf};
 ghost use Rattle.nf_thin.specs.Sifting.{Guides, SiftsNext, Sifts};
 
 use crate::allowed::{Allowed, allowed_by, forbidden_link};
+use crate::cycles::hold_no_cycle;
+use crate::fault::SearchFault;
 use crate::first::first_listed;
-use crate::guess::guess;
-use crate::known::{Known, try_or_know};
-use crate::led::{hold_no_cycle, known_by};
-use crate::node_test::{balances, full_flows};
-use crate::searches::{SearchFault, Thin, Vain, listing};
+use crate::known::{Known, known_by, try_or_know};
+use crate::listings::listing;
+use crate::node_test::{can_conserve, full_flows};
+use crate::thin::Thin;
+use crate::vain::Vain;
 use nf_frac::Q;
 use nf_graph::{LinkId, LinkSets};
+use nf_guess::guess;
 use nf_net::Network;
 use nf_pattern::{Pattern, Patterns};
 use std::alloc::{AllocError, Global};
@@ -41,7 +44,7 @@ struct Sifted {
 }
 
 // Where it is seen without a table that the pattern isn't accepted, a link that the next one is likely to be passed over for: one whose
-// state isn't allowed; or the likely link again, where only the balance of a node can't be met.
+// state isn't allowed; or the likely link again, where only flow can't be conserved at a node.
 fn refusing_link(
     net: &Network,
     sets: &LinkSets,
@@ -58,14 +61,14 @@ fn refusing_link(
     if let Some(link) = forbidden_link(net, &guide.allowed, pattern, likely) {
         return Some(link);
     }
-    if balances(net, sets, rate, &guide.full, pattern) {
+    if can_conserve(net, sets, rate, &guide.full, pattern) {
         None
     } else {
         Some(likely)
     }
 }
 
-// The next pattern is passed over where one of its states isn't allowed or the balance of a node can't be met, and else tried.
+// The next pattern is passed over where one of its states isn't allowed or flow can't be conserved at a node, and else tried.
 fn sift_next(
     alloc: Global,
     net: &Network,

@@ -1,7 +1,7 @@
 pub mod Folds
 pub mod Inequalities
 pub mod Failing
-pub mod Comparing
+pub mod Alike
 pub mod Concluding
 pub mod Patterns
 pub mod Outcomes
@@ -16,3 +16,4 @@ pub mod Sizes
 pub mod SourceRow
 pub mod Spreading
 pub mod Slices
+pub mod Leading

@@ -26,7 +26,7 @@ fn answer(alloc: Global, line: &str) -> Option<String> {
         "patterns" => questions::patterns(alloc, fields),
         "verdict" => questions::verdict(alloc, fields),
         "values" => questions::values(alloc, fields),
-        "balances" => questions::balances(alloc, fields),
+        "conserves" => questions::conserves(alloc, fields),
         "tried" => searches::tried(alloc, fields),
         "search" => searches::searched(alloc, fields),
         "slopes" => searches::searched_by_slopes(alloc, fields),

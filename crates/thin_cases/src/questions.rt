@@ -11,7 +11,7 @@ use nf_frac::{Halt, Q};
 use nf_graph::LinkSets;
 use nf_net::Network;
 use nf_pattern::{Pattern, Patterns};
-use nf_thin::parts::{balances as balances_of, full_flows, listing, part_values};
+use nf_thin::parts::{can_conserve, full_flows, listing, part_values};
 use nf_thin::{Judged, verdict as verdict_of};
 use std::alloc::Global;
 
@@ -153,8 +153,8 @@ pub fn values(alloc: Global, fields: Fields) -> Option<String> {
     values_texts(alloc, &net, &sets, rate, fields.second)
 }
 
-// Whether the nodes can balance at these slopes.
-fn can_balance(
+// Whether flow can be conserved at the nodes, with these slopes.
+fn conserves_at(
     alloc: Global,
     net: &Network,
     sets: &LinkSets,
@@ -174,15 +174,15 @@ fn can_balance(
     }
     // For the proof: the network is well formed.
     let _ = net.hops();
-    Some(balances_of(net, sets, rate, &full, pattern))
+    Some(can_conserve(net, sets, rate, &full, pattern))
 }
 
-/// Whether nodes can balance: a rate, the states of links, their slacks, the slopes of nodes, and the network.
-pub fn balances(alloc: Global, fields: Fields) -> Option<String> {
+/// Whether flow can be conserved at the nodes: a rate, the states of links, their slacks, the slopes of nodes, and the network.
+pub fn conserves(alloc: Global, fields: Fields) -> Option<String> {
     let rate = number(fields.first)?;
     let slopes = numbers(alloc, fields.fourth)?;
     let net = network(alloc, fields.fifth)?;
     let (sets, pattern) = phase(alloc, &net, fields.third, fields.second)?;
-    let balance = can_balance(alloc, &net, &sets, rate, &pattern, &slopes)?;
-    format!(in alloc; "{balance}").ok()
+    let conserves = conserves_at(alloc, &net, &sets, rate, &pattern, &slopes)?;
+    format!(in alloc; "{conserves}").ok()
 }

@@ -1,6 +1,6 @@
 use Rattle.std.proofs.Common.{subst, add-one, arith}
 use Rattle.nf_thin.specs.Ranges.{IsWithin}
-use Rattle.nf_thin.proofs.Balances.{none_sent, surplus_of_all}
+use Rattle.nf_thin.proofs.Conserving.{none_sent, surplus_of_all}
 use Rattle.nf_thin.proofs.node_test.surplus_range.Goals as goal
 
 pub loop-e-init : goal.loop-e-init

@@ -1,7 +1,7 @@
 use Rattle.std.proofs.Common.{ap}
 use Rattle.nf_work.specs.Passing.{passes_Q}
 use Rattle.nf_model.specs.Walk.{Hop}
-use Rattle.nf_thin.proofs.Balances.{link_read, end_test, bounds_still, bounds_sum, bounds_difference}
+use Rattle.nf_thin.proofs.Conserving.{link_read, end_test, bounds_still, bounds_sum, bounds_difference}
 use Rattle.nf_thin.proofs.node_test.with_link.Goals as goal
 
 pub returns-then-leaves-enters : goal.returns-then-leaves-enters

@@ -1,5 +1,5 @@
 use Rattle.nf_work.specs.Passing.{passes_Q}
-use Rattle.nf_thin.proofs.Asking.{result_is_thin, result_is_only}
+use Rattle.nf_thin.proofs.FoundThin.{result_is_thin, result_is_only}
 use Rattle.nf_thin.proofs.searches.search.Goals as goal
 
 pub returns-clause-thin : goal.returns-clause-thin

@@ -5,10 +5,10 @@ use Rattle.nf_work.specs.Passing.{passes_Q}
 use Rattle.nf_thin.specs.declared.known.Known.{Known}
 use Rattle.nf_thin.specs.declared.allowed.Allowed.{Allowed}
 use Rattle.nf_thin.specs.Slopes.{AreThinSlopes}
-use Rattle.nf_thin.specs.Sifting.{IsKnown}
+use Rattle.nf_thin.specs.Knowing.{IsKnown}
 use Rattle.nf_thin.specs.Allowing.{flags_by, AllowSolvable}
 use Rattle.nf_thin.proofs.AllowedStates.{flags_count, slopes_allow}
-use Rattle.nf_thin.specs.Balancing.{full_by}
+use Rattle.nf_thin.specs.Conserving.{full_by}
 use Rattle.nf_thin.proofs.Refusing.{slopes_of_listed}
 use Rattle.nf_thin.proofs.sifting.guide_of.Goals as goal
 

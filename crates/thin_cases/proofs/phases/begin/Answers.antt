@@ -5,7 +5,7 @@ use Rattle.nf_rational.specs.Order.{le_ℚ}
 use Rattle.nf_model.specs.Network.{unbounded}
 use Rattle.nf_model.specs.ThinFlow.{Sets}
 use Rattle.nf_pattern.proofs.FirstPatterns.{base_is_pattern}
-use Rattle.nf_thin.proofs.Asking.{below_nodes}
+use Rattle.nf_thin.proofs.Hops.{below_nodes}
 use Rattle.thin_cases.proofs.phases.begin.Goals as goal
 
 pub base-requires-clause-ends : goal.base-requires-clause-ends

@@ -1,4 +1,4 @@
-use Rattle.nf_thin.proofs.Asking.{below_nodes}
+use Rattle.nf_thin.proofs.Hops.{below_nodes}
 use Rattle.thin_cases.proofs.questions.slacks_text.Goals as goal
 
 pub slacks-requires : goal.slacks-requires

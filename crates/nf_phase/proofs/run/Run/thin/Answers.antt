@@ -6,7 +6,7 @@ use Rattle.nf_model.specs.ThinFlow.{Sets, sets_at}
 use Rattle.nf_model.specs.Pattern.{Pattern, IsPattern, IsBase}
 use Rattle.nf_lists.specs.PhaseRun.{Standing}
 use Rattle.nf_thin.specs.Searching.{AreSetsOf}
-use Rattle.nf_thin.proofs.Asking.{below_nodes, few_hops, hops_length}
+use Rattle.nf_thin.proofs.Hops.{below_nodes, few_hops, hops_length}
 use Rattle.nf_phase.proofs.Reached.{Stands-reached, sets_fit, base_fits}
 use Rattle.nf_phase.proofs.run.Run.thin.Goals as goal
 

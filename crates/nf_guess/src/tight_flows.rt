@@ -1,0 +1,218 @@
+// The flows of links, where the slopes that solve the table of a pattern are known: a Full or resetting link fills its capacity, and
+// the Tight links are a forest, whose flows come from its leaves on. Nothing rests on them, since only a guess asks.
+ghost use Rattle.std.specs.Prelude.{◌≡◌, ◌<◌, length};
+
+use crate::node_parts::state_in;
+use crate::numbers::{add_at, number_or_zero, take_off_at};
+use nf_frac::{Halt, Part, Q, at};
+use nf_graph::{LinkId, LinkSets, NodeId};
+use nf_model::State;
+use nf_net::Network;
+use nf_pattern::Pattern;
+use std::alloc::{AllocError, Global};
+
+// A Tight link whose flow isn't known yet: its ends, and the place of its flow among the values.
+#[derive(Clone, Copy)]
+struct OpenLink {
+    tail: NodeId,
+    head: NodeId,
+    place: usize,
+}
+
+// Of each node what must leave it on open links beyond what enters it on such ones, and how many of them it has.
+#[derive(Drop)]
+struct OpenFlows {
+    sink: NodeId,
+    missing: Vec<Q>,
+    degrees: Vec<u32>,
+    open: Vec<OpenLink>,
+}
+
+// A count rises by one.
+fn count_up(counts: &mut [u32], place: usize) {
+    if place < counts.len() {
+        counts[place] = counts[place].saturating_add(1);
+    }
+}
+
+// A count falls by one.
+fn count_down(counts: &mut [u32], place: usize) {
+    if place < counts.len() {
+        counts[place] = counts[place].saturating_sub(1);
+    }
+}
+
+impl OpenFlows {
+    // No link carries flow yet, and none is open.
+    fn new(alloc: Global, net: &Network, rate: Q) -> Result<OpenFlows, Halt<Q>> {
+        let nodes = net.node_count() as usize;
+        let mut missing = vec![in alloc; Q::zero(); nodes]?;
+        add_at(&mut missing, net.source().index(), rate)?;
+        let degrees = vec![in alloc; 0; nodes]?;
+        Ok(OpenFlows {
+            sink: net.sink(),
+            missing,
+            degrees,
+            open: Vec::new(alloc),
+        })
+    }
+
+    // A link carries this flow.
+    fn carry(&mut self, tail: NodeId, head: NodeId, flow: Q) -> Result<(), Halt<Q>> {
+        take_off_at(&mut self.missing, tail.index(), flow)?;
+        add_at(&mut self.missing, head.index(), flow)
+    }
+
+    // The flow of a link isn't known yet.
+    fn open(&mut self, link: OpenLink) -> Result<(), Halt<Q>> {
+        count_up(&mut self.degrees, link.tail.index());
+        count_up(&mut self.degrees, link.head.index());
+        self.open.push(link)?;
+        Ok(())
+    }
+
+    // A node that isn't the sink has just one open link.
+    fn is_leaf(&self, node: NodeId) -> bool {
+        node != self.sink && node.index() < self.degrees.len() && self.degrees[node.index()] == 1
+    }
+
+    // The first open link at a node is taken away.
+    fn take_open(&mut self, node: NodeId) -> Option<OpenLink> {
+        for i in 0..self.open.len() {
+            let link = self.open[i];
+            if link.tail == node || link.head == node {
+                let _ = self.open.swap_remove(i);
+                return Some(link);
+            }
+        }
+        None
+    }
+
+    // The open link of a leaf carries what is missing there. Its other end, if that becomes a leaf.
+    fn close_leaf(&mut self, leaf: NodeId, values: &mut [Q]) -> Result<Option<NodeId>, Halt<Q>> {
+        let Some(link) = self.take_open(leaf) else {
+            return Ok(None);
+        };
+        let missing = number_or_zero(&self.missing, leaf.index());
+        let (flow, other) = if link.tail == leaf {
+            (missing, link.head)
+        } else {
+            (at!(Part::Table, Q::zero().difference(missing)), link.tail)
+        };
+        if link.place < values.len() {
+            values[link.place] = flow;
+        }
+        self.carry(link.tail, link.head, flow)?;
+        count_down(&mut self.degrees, link.tail.index());
+        count_down(&mut self.degrees, link.head.index());
+        Ok(if self.is_leaf(other) {
+            Some(other)
+        } else {
+            None
+        })
+    }
+}
+
+// The flow of a link is put after the values, or its link is open.
+fn put_flow(
+    net: &Network,
+    link: LinkId,
+    state: State,
+    values: &mut Vec<Q>,
+    flows: &mut OpenFlows,
+) -> Result<(), Halt<Q>>
+    requires { link < length net.now.net.links }
+{
+    let here = net.link(link);
+    match state {
+        State::Tight => {
+            flows.open(OpenLink {
+                tail: here.tail,
+                head: here.head,
+                place: values.len(),
+            })?;
+            values.push(Q::zero())?;
+        }
+        State::Zero => values.push(Q::zero())?,
+        State::Full => {
+            let capacity = here.capacity.unwrap_or(Q::zero());
+            let head_slope = number_or_zero(values, here.head.index());
+            let flow = at!(Part::Table, capacity.product(head_slope));
+            flows.carry(here.tail, here.head, flow)?;
+            values.push(flow)?;
+        }
+    }
+    Ok(())
+}
+
+// The same of all active links, in link order.
+fn put_flows(
+    net: &Network,
+    sets: &LinkSets,
+    pattern: &Pattern,
+    values: &mut Vec<Q>,
+    flows: &mut OpenFlows,
+) -> Result<(), Halt<Q>>
+    requires sets { length sets.now.active ≡ length net.now.net.links }
+    requires states { length pattern.now ≡ length net.now.net.links }
+{
+    for e in 0..net.link_count() {
+        if let Some(state) = state_in(sets, pattern, LinkId(e)) {
+            put_flow(net, LinkId(e), state, values, flows)?;
+        }
+    }
+    Ok(())
+}
+
+// The leaves to begin with.
+fn leaves(alloc: Global, net: &Network, flows: &OpenFlows) -> Result<Vec<NodeId>, AllocError> {
+    let mut leaves = Vec::new(alloc);
+    for v in 0..net.node_count() {
+        if flows.is_leaf(NodeId(v)) {
+            leaves.push(NodeId(v))?;
+        }
+    }
+    Ok(leaves)
+}
+
+// The open links get their flows from the leaves on; a node becomes a leaf once.
+fn close_leaves(
+    alloc: Global,
+    net: &Network,
+    values: &mut [Q],
+    flows: &mut OpenFlows,
+) -> Result<(), Halt<Q>> {
+    let mut leaves = leaves(alloc, net, flows)?;
+    for _ in 0..net.node_count() {
+        let Some(leaf) = leaves.pop() else {
+            return Ok(());
+        };
+        if let Some(next) = flows.close_leaf(leaf, values)? {
+            leaves.push(next)?;
+        }
+    }
+    Ok(())
+}
+
+/// These slopes, and after them the flows of the active links, in link order. None where Tight links close a cycle.
+pub(crate) fn with_flows(
+    alloc: Global,
+    net: &Network,
+    sets: &LinkSets,
+    rate: Q,
+    pattern: &Pattern,
+    slopes: Vec<Q>,
+) -> Result<Option<Vec<Q>>, Halt<Q>>
+    requires sets { length sets.now.active ≡ length net.now.net.links }
+    requires states { length pattern.now ≡ length net.now.net.links }
+{
+    let mut values = slopes;
+    let mut flows = OpenFlows::new(alloc, net, rate)?;
+    put_flows(net, sets, pattern, &mut values, &mut flows)?;
+    close_leaves(alloc, net, &mut values, &mut flows)?;
+    if flows.open.is_empty() {
+        Ok(Some(values))
+    } else {
+        Ok(None)
+    }
+}

@@ -1,0 +1,199 @@
+-- What the first links send out of a node, one link after the other; and what each may carry.
+use Rattle.std.proofs.Common.{◌≡◌, ◌≢◌, ℕ, zero, suc, ◌<◌, ◌≤◌, List, [], ◌∷◌, length, take, get_or, ⊎_elim, Bool, true, false, eqb, refl, sym, ap, subst, ◌∙◌}
+use mathlib.Core.Bool.{beq}
+use Rattle.std.specs.Prelude.{if◌then◌else◌, Option, Some, None, slice_get, unwrap_or, MatchBool}
+use Rattle.std.proofs.lemmas.List.{length-map, take_all}
+use Rattle.std.specs.Option.{option_map}
+use Rattle.std.proofs.lemmas.Bool.Decides.{eqb_tells}
+use Rattle.std.proofs.lemmas.Option.{slice_get-map, slice_get_read, none-some, same_Some}
+use Rattle.nf_rational.specs.Rational.{ℚ}
+use Rattle.nf_rational.specs.Operations.{0ℚ, ◌+ℚ◌, ◌-ℚ◌, neg_ℚ}
+use Rattle.nf_rational_laws.proofs.Polynomial.{reading_of}
+use Rattle.nf_rational_laws.proofs.Linear.{eq, linear_eq}
+use Rattle.nf_work.specs.declared.Op.TheVariants.{Product}
+use Rattle.nf_work.specs.Passing.{Passing}
+use Rattle.nf_model.specs.declared.State.{State}
+use Rattle.nf_model.specs.Entries.{number_at}
+use Rattle.nf_model.specs.Network.{IsNetwork, Link, Network, IsLink, hop_of, hops, sum_in, sum_out}
+use Rattle.nf_model.specs.Walk.{Hop}
+use Rattle.nf_model.specs.ThinFlow.{Sets, surplus}
+use Rattle.nf_model.specs.Pattern.{Pattern, Fills, Equation}
+use Rattle.nf_thin.specs.declared.ranges.Range.{Range}
+use Rattle.nf_thin.specs.Ranges.{IsWithin, MeetsState}
+use Rattle.nf_thin_laws.proofs.Totals.{sink_takes}
+use Rattle.nf_thin.proofs.Within.{checked_is}
+use Rattle.nf_trial.specs.Fulls.{full_of}
+use Rattle.nf_thin.specs.Conserving.{full_by, CanFlow, surplus_of_first, BoundsFirst, needed_at}
+
+-- ---- one link more
+first_term : (b : Bool) (a : ℚ) → (if b then a +ℚ 0ℚ else 0ℚ) ≡ 0ℚ +ℚ (if b then a else 0ℚ)
+first_term true a = linear_eq (a ∷ []) [] (search reading_of depth 12) tt tt
+first_term false a = linear_eq [] [] (search reading_of depth 12) tt tt
+
+later_term : (b : Bool) (a s t c : ℚ) → s ≡ t +ℚ c → (if b then a +ℚ s else s) ≡ (if b then a +ℚ t else t) +ℚ c
+later_term true a s t c e = linear_eq (a ∷ s ∷ t ∷ c ∷ []) (eq e ∷ []) (search reading_of depth 12) tt tt
+later_term false a s t c e = e
+
+sum_out-more : (links : List Link) (f : ℕ → ℚ) (v n : ℕ) (link : Link) → slice_get links n ≡ Some link
+    → sum_out (take (suc n) links) f v ≡ sum_out (take n links) f v +ℚ (if eqb link.tail v then f n else 0ℚ)
+sum_out-more [] f v n link h = absurd (none-some link h)
+sum_out-more (l ∷ links) f v zero link h = ap (λ (k : Link). if eqb k.tail v then f 0 +ℚ 0ℚ else 0ℚ) (same_Some l link h) ∙ first_term (eqb link.tail v) (f 0)
+sum_out-more (l ∷ links) f v (suc n) link h = later_term (eqb l.tail v) (f 0) _ _ _ (sum_out-more links (λ e. f (suc e)) v n link h)
+
+sum_in-more : (links : List Link) (f : ℕ → ℚ) (v n : ℕ) (link : Link) → slice_get links n ≡ Some link
+    → sum_in (take (suc n) links) f v ≡ sum_in (take n links) f v +ℚ (if eqb link.head v then f n else 0ℚ)
+sum_in-more [] f v n link h = absurd (none-some link h)
+sum_in-more (l ∷ links) f v zero link h = ap (λ (k : Link). if eqb k.head v then f 0 +ℚ 0ℚ else 0ℚ) (same_Some l link h) ∙ first_term (eqb link.head v) (f 0)
+sum_in-more (l ∷ links) f v (suc n) link h = later_term (eqb l.head v) (f 0) _ _ _ (sum_in-more links (λ e. f (suc e)) v n link h)
+
+-- by whether the link leaves the node, and whether it enters it
+both_or_none : (o p i j x : ℚ) (b : Bool) → o ≡ p +ℚ (if b then x else 0ℚ) → i ≡ j +ℚ (if b then x else 0ℚ) → p -ℚ j ≡ o -ℚ i
+both_or_none o p i j x b e f = linear_eq (o ∷ p ∷ i ∷ j ∷ (if b then x else 0ℚ) ∷ []) (eq e ∷ eq f ∷ []) (search reading_of depth 12) tt tt
+
+just_leaves : (o p i j x : ℚ) → o ≡ p +ℚ x → i ≡ j +ℚ 0ℚ → (p -ℚ j) +ℚ x ≡ o -ℚ i
+just_leaves o p i j x e f = linear_eq (o ∷ p ∷ i ∷ j ∷ x ∷ []) (eq e ∷ eq f ∷ []) (search reading_of depth 12) tt tt
+
+just_enters : (o p i j x : ℚ) → o ≡ p +ℚ 0ℚ → i ≡ j +ℚ x → (p -ℚ j) -ℚ x ≡ o -ℚ i
+just_enters o p i j x e f = linear_eq (o ∷ p ∷ i ∷ j ∷ x ∷ []) (eq e ∷ eq f ∷ []) (search reading_of depth 12) tt tt
+
+module _ (net : Network) (flows : List ℚ) (v e : ℕ) (link : Link) (is_link : IsLink net e link) where
+  abbrev before : ℚ
+  before = surplus_of_first net flows v e
+
+  abbrev x : ℚ
+  x = number_at flows e
+
+  out_more : (b : Bool) → eqb link.tail v ≡ b → sum_out (take (suc e) net.links) (number_at flows) v ≡ sum_out (take e net.links) (number_at flows) v +ℚ (if b then x else 0ℚ)
+  out_more b is = sum_out-more net.links (number_at flows) v e link is_link ∙ ap (λ (c : Bool). sum_out (take e net.links) (number_at flows) v +ℚ (if c then x else 0ℚ)) is
+
+  in_more : (b : Bool) → eqb link.head v ≡ b → sum_in (take (suc e) net.links) (number_at flows) v ≡ sum_in (take e net.links) (number_at flows) v +ℚ (if b then x else 0ℚ)
+  in_more b is = sum_in-more net.links (number_at flows) v e link is_link ∙ ap (λ (c : Bool). sum_in (take e net.links) (number_at flows) v +ℚ (if c then x else 0ℚ)) is
+
+  pub same_surplus : eqb link.tail v ≡ eqb link.head v → before ≡ surplus_of_first net flows v (suc e)
+  same_surplus same = both_or_none _ _ _ _ x (eqb link.head v) (out_more (eqb link.head v) same) (in_more (eqb link.head v) refl)
+
+  pub greater_surplus : eqb link.tail v ≡ true → eqb link.head v ≡ false → before +ℚ x ≡ surplus_of_first net flows v (suc e)
+  greater_surplus leaves enters = just_leaves _ _ _ _ x (out_more true leaves) (in_more false enters)
+
+  pub lesser_surplus : eqb link.tail v ≡ false → eqb link.head v ≡ true → before -ℚ x ≡ surplus_of_first net flows v (suc e)
+  lesser_surplus leaves enters = just_enters _ _ _ _ x (out_more false leaves) (in_more true enters)
+
+-- of no link
+pub none_sent : (net : Network) (flows : List ℚ) (v : ℕ) (nothing : ℚ) → nothing ≡ 0ℚ → (known : ℚ) → Some nothing ≡ Some known → surplus_of_first net flows v 0 ≡ known
+none_sent net flows v nothing none known at = less_itself 0ℚ ∙ (sym none ∙ same_Some nothing known at)
+  where
+    less_itself : (a : ℚ) → a -ℚ a ≡ 0ℚ
+    less_itself a = linear_eq (a ∷ []) [] (search reading_of depth 12) tt tt
+
+-- all links are the first ones
+pub surplus_of_all : (net : Network) (flows : List ℚ) (v n : ℕ) → length net.links ≤ n → surplus_of_first net flows v n ≡ surplus net flows v
+surplus_of_all net flows v n all = ap (λ (links : List Link). sum_out links (number_at flows) v -ℚ sum_in links (number_at flows) v) (take_all n net.links all)
+
+-- ---- what fills a link
+full_fills : (passes : Passing) (capacity : Option ℚ) (head_slope most : ℚ) → full_of passes capacity head_slope ≡ Some most → Fills capacity most head_slope
+full_fills passes (Some capacity) head_slope most e = (capacity, refl, checked_is passes Product capacity head_slope most e)
+full_fills passes None head_slope most e = absurd (none-some most e)
+
+pub full_by-at : (passes : Passing) (net : Network) (slopes : List ℚ) (e : ℕ) (link : Link) → IsLink net e link
+    → slice_get (full_by passes net slopes) e ≡ Some (full_of passes link.capacity (number_at slopes link.head))
+full_by-at passes net slopes e link h =
+    slice_get-map (λ (l : Link). full_of passes l.capacity (number_at slopes l.head)) net.links e ∙ ap (option_map (λ (l : Link). full_of passes l.capacity (number_at slopes l.head))) h
+
+pub full_there : (passes : Passing) (net : Network) (slopes : List ℚ) (e : ℕ) (link : Link) (head_slope : ℚ) (full : Option ℚ) → IsLink net e link
+    → full ≡ full_of passes link.capacity head_slope → head_slope ≡ number_at slopes link.head → slice_get (full_by passes net slopes) e ≡ Some full
+full_there passes net slopes e link head_slope full h is head_is =
+    full_by-at passes net slopes e link h ∙ ap (λ (o : Option ℚ). Some o) (sym (is ∙ ap (λ (z : ℚ). full_of passes link.capacity z) head_is))
+
+pub full_count : (passes : Passing) (net : Network) (slopes : List ℚ) → length (full_by passes net slopes) ≡ length net.links
+full_count passes net slopes = length-map net.links (λ (l : Link). full_of passes l.capacity (number_at slopes l.head))
+
+pub full_read : (full : List (Option ℚ)) (count e i : ℕ) (most : Option ℚ) → length full ≡ count → e < count → i ≡ e → most ≡ get_or full i most → slice_get full e ≡ Some most
+full_read full count e i most same within index is = slice_get_read full count e most (sym same) within (is ∙ ap (λ (k : ℕ). get_or full k most) index)
+
+-- ---- flows that there can be
+module _ (passes : Passing) (net : Network) (sets : Sets) (rate : ℚ) (pattern : Pattern) (full : List (Option ℚ)) (flows : List ℚ) (can : CanFlow passes net sets rate pattern full flows) where
+  pub meets_state : (e : ℕ) (link : Link) (state : Option State) (resetting : Bool) (most : Option ℚ) → IsLink net e link → slice_get pattern e ≡ Some state
+      → slice_get sets.resetting e ≡ Some resetting → slice_get full e ≡ Some most
+      → MeetsState state resetting most link.capacity (number_at flows e) (number_at can.slopes link.tail) (number_at can.slopes link.head)
+  meets_state e link state resetting most h at_state at_flag at_full = record {
+    fills = λ m is. full_fills passes link.capacity (number_at can.slopes link.head) m
+        (same_Some _ most (sym (full_by-at passes net can.slopes e link h) ∙ (ap (λ (l : List (Option ℚ)). slice_get l e) (sym can.full_are) ∙ at_full)) ∙ is);
+    no_negative = can.meets.no_negative_flow e;
+    equation = subst (λ (b : Bool). Equation state b link.capacity (number_at flows e) (number_at can.slopes link.tail) (number_at can.slopes link.head))
+        (ap (λ (o : Option Bool). unwrap_or o false) at_flag) (can.solves.links e link state h at_state);
+    inequality = can.meets.links e link state h at_state;
+  }
+
+  -- what a node sends out beyond what comes in
+  pub needed : IsNetwork net → (v : ℕ) → v < net.nodes → surplus net flows v ≡ needed_at net rate v
+  needed good v within = ⊎_elim
+      (λ (t : (eqb v net.sink ≡ true) × (v ≡ net.sink)). ap (surplus net flows) t.1
+      ∙ (sink_takes net good (number_at flows) rate can.solves.source can.solves.inner
+      ∙ (other_sign rate ∙ sym (ap (λ (b : Bool). if b then neg_ℚ rate else (if eqb v net.source then rate else 0ℚ)) t.0))))
+      (λ (t : (eqb v net.sink ≡ false) × (v ≢ net.sink)). ⊎_elim
+      (λ (s : (eqb v net.source ≡ true) × (v ≡ net.source)). ap (surplus net flows) s.1 ∙ (can.solves.source ∙ sym (ap (λ (b : Bool). if b then rate else 0ℚ) s.0)))
+      (λ (s : (eqb v net.source ≡ false) × (v ≢ net.source)). can.solves.inner v within s.1 t.1 ∙ sym (ap (λ (b : Bool). if b then rate else 0ℚ) s.0))
+      (eqb_tells v net.source)
+      ∙ sym (ap (λ (b : Bool). if b then neg_ℚ rate else (if eqb v net.source then rate else 0ℚ)) t.0))
+      (eqb_tells v net.sink)
+    where
+      other_sign : (r : ℚ) → 0ℚ -ℚ r ≡ neg_ℚ r
+      other_sign r = linear_eq (r ∷ []) [] (search reading_of depth 12) tt tt
+
+-- what lies in a range passes its test
+pub holds_true : {P : Type 0} (b : Bool) → MatchBool b P (P → ⊥) → P → b ≡ true
+holds_true true is p = refl
+holds_true false is p = absurd (is p)
+
+-- ---- one link more, where what the ones before it send out is bounded
+-- the link of a hop that is read
+pub link_read : (net : Network) (listed : List Hop) (e i : ℕ) (hop : Hop) → listed ≡ hops net → i ≡ e → e < length net.links → hop ≡ get_or listed i hop
+    → (link : Link) × IsLink net e link × (link.tail ≡ hop.tail) × (link.head ≡ hop.head)
+link_read net listed e i hop same index within is = go (slice_get net.links e) refl
+  where
+    at : slice_get (hops net) e ≡ Some hop
+    at = slice_get_read (hops net) (length net.links) e hop (sym (length-map net.links hop_of)) within
+        (is ∙ (ap (λ (l : List Hop). get_or l i hop) same ∙ ap (λ (k : ℕ). get_or (hops net) k hop) index))
+
+    go : (found : Option Link) → slice_get net.links e ≡ found → (link : Link) × IsLink net e link × (link.tail ≡ hop.tail) × (link.head ≡ hop.head)
+    go None none = absurd (none-some hop (sym (slice_get-map hop_of net.links e ∙ ap (option_map hop_of) none) ∙ at))
+    go (Some link) there =
+        let one : hop_of link ≡ hop = same_Some (hop_of link) hop (sym (slice_get-map hop_of net.links e ∙ ap (option_map hop_of) there) ∙ at) in
+        (link, there, ap (λ (h : Hop). h.tail) one, ap (λ (h : Hop). h.head) one)
+
+-- a test of an end of the hop is one of the link's
+pub end_test : (b : Bool) (inside read here v : ℕ) → b ≡ eqb inside v → inside ≡ read → here ≡ read → eqb here v ≡ b
+end_test b inside read here v is same found = ap (λ (k : ℕ). eqb k v) (found ∙ sym same) ∙ sym is
+
+same_bits : (a b : Bool) → beq a b ≡ true → a ≡ b
+same_bits true b e = sym (beq_true b e)
+  where
+    beq_true : (b : Bool) → beq true b ≡ true → b ≡ true
+    beq_true true e = refl
+    beq_true false e = e
+same_bits false true e = e
+same_bits false false e = refl
+
+pub other_false : (a b : Bool) → beq a b ≡ false → a ≡ true → b ≡ false
+other_false true true e t = e
+other_false true false e t = refl
+other_false false b e t = absurd (cc)
+
+pub other_true : (a b : Bool) → beq a b ≡ false → a ≡ false → b ≡ true
+other_true false true e t = refl
+other_true false false e t = sym e
+other_true true b e t = absurd (cc)
+
+module _ (passes : Passing) (net : Network) (sets : Sets) (pattern : Pattern) (full : List (Option ℚ)) (v e : ℕ) (range : Range) (link : Link) (is_link : IsLink net e link)
+    (so_far : BoundsFirst passes net sets pattern full v e range) (leaves enters : Bool) (tail_is : eqb link.tail v ≡ leaves) (head_is : eqb link.head v ≡ enters) where
+  pub bounds_still : beq leaves enters ≡ true → BoundsFirst passes net sets pattern full v (suc e) range
+  bounds_still same rate flows can = subst (IsWithin range) (same_surplus net flows v e link is_link (tail_is ∙ (same_bits leaves enters same ∙ sym head_is))) (so_far rate flows can)
+
+  module _ (apart : beq leaves enters ≡ false) (flow more : Range) (carries : (rate : ℚ) (flows : List ℚ) → CanFlow passes net sets rate pattern full flows → IsWithin flow (number_at flows e)) where
+    pub bounds_sum : leaves ≡ true → ((x y : ℚ) → IsWithin range x → IsWithin flow y → IsWithin more (x +ℚ y)) → BoundsFirst passes net sets pattern full v (suc e) more
+    bounds_sum out sums rate flows can = subst (IsWithin more) (greater_surplus net flows v e link is_link (tail_is ∙ out) (head_is ∙ other_false leaves enters apart out))
+        (sums _ _ (so_far rate flows can) (carries rate flows can))
+
+    pub bounds_difference : leaves ≡ false → ((x y : ℚ) → IsWithin range x → IsWithin flow y → IsWithin more (x -ℚ y)) → BoundsFirst passes net sets pattern full v (suc e) more
+    bounds_difference not_out differences rate flows can = subst (IsWithin more) (lesser_surplus net flows v e link is_link (tail_is ∙ not_out) (head_is ∙ other_true leaves enters apart not_out))
+        (differences _ _ (so_far rate flows can) (carries rate flows can))

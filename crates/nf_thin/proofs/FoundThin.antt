@@ -1,0 +1,29 @@
+-- What is found is a thin flow, and its slopes are the only ones.
+use Rattle.std.proofs.Common.{ℕ}
+use Rattle.std.specs.Prelude.{Result, Ok, Err, IfOk}
+use Rattle.nf_rational.specs.Rational.{ℚ}
+use Rattle.nf_model.specs.Network.{Network, IsNetwork}
+use Rattle.nf_model.specs.ThinFlow.{Sets, IsThinFlow}
+use Rattle.nf_model.specs.Pattern.{Pattern, IsListedIn}
+use Rattle.nf_work.specs.Passing.{Passing}
+use Rattle.nf_lists.specs.Search.{Found, IsSearch}
+use Rattle.nf_thin_laws.proofs.Accepted.{IsThinFlow-accepted}
+use Rattle.nf_thin_laws.proofs.Slopes.{slopes-unique}
+use Rattle.nf_thin.specs.declared.thin.Thin.{Thin}
+use Rattle.nf_thin.specs.declared.fault.SearchFault.{SearchFault}
+use Rattle.nf_thin.specs.Searching.{Searches, SlopesAreOnly, AreSetsOf}
+
+module _ (passes : Passing) (net : Network) (sets : Sets) (rate : ℚ) (base : Pattern) (budget : ℕ) (good : IsNetwork net) (sets_are : AreSetsOf net sets) where
+  found_is_thin : (thin : Thin) → IsSearch passes net sets rate base budget (Found thin.place thin.pattern thin.flows.items thin.labels.items) → IsThinFlow net sets rate thin.flows.items thin.labels.items
+  found_is_thin thin s =
+      let first = s.answers in
+      let listed : IsListedIn net sets thin.pattern = s.is_listing.listed thin.place thin.pattern first.has_place in
+      IsThinFlow-accepted net sets rate thin.pattern thin.flows.items thin.labels.items good sets_are.sets_are listed.states listed.entered first.solution.solves first.solution.meets
+
+  pub result_is_thin : (result : Result Thin SearchFault) → Searches (IsSearch passes net sets rate base budget) budget result → IfOk result (λ thin. IsThinFlow net sets rate thin.flows.items thin.labels.items)
+  result_is_thin (Ok thin) s = found_is_thin thin s
+  result_is_thin (Err fault) s = tt
+
+  pub result_is_only : (result : Result Thin SearchFault) → Searches (IsSearch passes net sets rate base budget) budget result → IfOk result (λ thin. SlopesAreOnly net sets rate thin.labels.items)
+  result_is_only (Ok thin) s = λ no_cycle flows other is_thin. slopes-unique net sets rate good no_cycle flows other thin.flows.items thin.labels.items is_thin (found_is_thin thin s)
+  result_is_only (Err fault) s = tt

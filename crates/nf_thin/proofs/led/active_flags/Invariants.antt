@@ -1,7 +1,0 @@
-use Rattle.std.proofs.Common.{◌≡◌}
-use Rattle.std.specs.Prelude.{take}
-use Rattle.nf_thin.proofs.led.active_flags.Given as goal
-
--- the flags of the links so far
-abbrev pub invariant-loop-e : goal.invariant-loop-e
-invariant-loop-e l = l.flags.items ≡ take l.e l.sets.active

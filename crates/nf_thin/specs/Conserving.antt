@@ -1,0 +1,35 @@
+-- Whether flow can be conserved at a node by what its links may carry, where slopes are known.
+use Rattle.std.specs.Prelude.{◌≡◌, ℕ, List, map, take, Option, eqb, if◌then◌else◌}
+use Rattle.nf_rational.specs.Rational.{ℚ}
+use Rattle.nf_rational.specs.Operations.{0ℚ, ◌-ℚ◌, neg_ℚ}
+use Rattle.nf_work.specs.Passing.{Passing}
+use Rattle.nf_model.specs.Entries.{number_at}
+use Rattle.nf_model.specs.Network.{Link, Network, sum_in, sum_out}
+use Rattle.nf_model.specs.ThinFlow.{Sets}
+use Rattle.nf_model.specs.Pattern.{Pattern, Solves, Meets}
+use Rattle.nf_trial.specs.Fulls.{full_of}
+use Rattle.nf_thin.specs.declared.ranges.Range.{Range}
+use Rattle.nf_thin.specs.Ranges.{IsWithin}
+
+-- the flow that fills each link of a network, by these slopes of the nodes
+abbrev pub full_by : Passing → Network → List ℚ → List (Option ℚ)
+full_by passes net slopes = map (λ (link : Link). full_of passes link.capacity (number_at slopes link.head)) net.links
+
+-- with the slopes that the full flows were found by, these flows solve the pattern and meet its inequalities
+pub record CanFlow (passes : Passing) (net : Network) (sets : Sets) (rate : ℚ) (pattern : Pattern) (full : List (Option ℚ)) (flows : List ℚ) : Type 0 where
+  pub slopes : List ℚ
+  pub full_are : full ≡ full_by passes net slopes
+  pub solves : Solves net sets rate pattern flows slopes
+  pub meets : Meets net pattern flows slopes
+
+-- what the first links send out of a node beyond what they bring to it
+abbrev pub surplus_of_first : Network → List ℚ → ℕ → ℕ → ℚ
+surplus_of_first net flows v count = sum_out (take count net.links) (number_at flows) v -ℚ sum_in (take count net.links) (number_at flows) v
+
+-- it lies in this range, whatever flows there can be
+abbrev pub BoundsFirst : Passing → Network → Sets → Pattern → List (Option ℚ) → ℕ → ℕ → Range → Type 0
+BoundsFirst passes net sets pattern full v count range = (rate : ℚ) (flows : List ℚ) → CanFlow passes net sets rate pattern full flows → IsWithin range (surplus_of_first net flows v count)
+
+-- what a node is to send out beyond what comes in: the rate out of the source and into the sink, and nothing elsewhere
+abbrev pub needed_at : Network → ℚ → ℕ → ℚ
+needed_at net rate v = if eqb v net.sink then neg_ℚ rate else (if eqb v net.source then rate else 0ℚ)

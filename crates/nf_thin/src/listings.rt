@@ -1,0 +1,41 @@
+// The listing of the patterns of a network, as a search asks for it.
+ghost use Rattle.std.specs.Prelude.{◌≡◌, IfOk};
+ghost use Rattle.nf_model.specs.Network.{IsNetwork, unbounded as unbounded_of};
+ghost use Rattle.nf_model.specs.Pattern.{IsPattern};
+ghost use Rattle.nf_thin.specs.Searching.{AreSetsOf, AsksOf};
+
+use nf_graph::{LinkId, LinkSets};
+use nf_net::Network;
+use nf_pattern::{Pattern, Patterns};
+use std::alloc::{AllocError, Global};
+
+// Of each link, whether it is unbounded.
+fn unbounded_flags(alloc: Global, net: &Network) -> Result<Vec<bool>, AllocError>
+    ensures { IfOk result (λ flags. flags.items ≡ unbounded_of net.now.net) }
+{
+    let mut flags = Vec::new(alloc);
+    for e in 0..net.link_count() {
+        let link = net.link(LinkId(e));
+        flags.push(link.capacity.is_none())?;
+    }
+    Ok(flags)
+}
+
+/// The listing of the patterns of a network for these sets, from a base on.
+pub fn listing(
+    alloc: Global,
+    net: &Network,
+    sets: &LinkSets,
+    base: &Pattern,
+) -> Result<Patterns, AllocError>
+    requires sets { AreSetsOf net.now.net sets.now }
+    requires base { IsPattern sets.now (unbounded_of net.now.net) base.now }
+    ensures asked { IfOk result (λ patterns. AsksOf net.now.net sets.now patterns) }
+    ensures base { IfOk result (λ patterns. patterns.question.base ≡ base.now) }
+    ensures network { IsNetwork net.now.net }
+{
+    let hops = net.hops();
+    let nodes = net.node_count();
+    let unbounded = unbounded_flags(alloc, net)?;
+    Patterns::new(alloc, nodes, net.source(), hops, sets, base, &unbounded)
+}

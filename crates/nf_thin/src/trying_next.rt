@@ -1,0 +1,52 @@
+// One pattern more is tried, within the budget.
+ghost use Rattle.std.specs.Prelude.{◌≤◌};
+ghost use Rattle.nf_work.specs.Passing.{passes_Q};
+ghost use Rattle.nf_equation_laws.specs.Equations.{IsPatternIn};
+ghost use Rattle.nf_thin.specs.Searching.{TriesNext};
+
+use crate::fault::SearchFault;
+use crate::thin::Thin;
+use crate::vain::Vain;
+use nf_frac::{Halt, Q};
+use nf_graph::LinkSets;
+use nf_net::Network;
+use nf_pattern::Pattern;
+use nf_trial::{Outcome, try_one};
+use std::alloc::Global;
+
+/// The next pattern is tried: its thin flow, or none.
+pub(crate) fn try_next(
+    alloc: Global,
+    net: &Network,
+    sets: &LinkSets,
+    rate: Q,
+    pattern: &Pattern,
+    budget: u64,
+    vain: &mut Vain,
+) -> Result<Option<Thin>, SearchFault>
+    requires pattern { IsPatternIn net.now.net sets.now pattern.now }
+    requires within { vain.old.tried ≤ budget }
+    ensures { TriesNext passes_Q net.now.net sets.now rate budget pattern.now vain.old vain.new result }
+{
+    if vain.tried == budget {
+        return Err(SearchFault::Budget { tried: budget });
+    }
+    vain.tried += 1;
+    match try_one(alloc, net, sets, rate, pattern) {
+        Ok(Outcome::Accepted { flows, slopes }) => {
+            let pattern = pattern.copy(alloc)?;
+            Ok(Some(Thin {
+                flows,
+                labels: slopes,
+                pattern,
+                place: vain.tried,
+            }))
+        }
+        Ok(Outcome::Refused) => Ok(None),
+        Err(Halt::Passed(at)) => {
+            vain.note(at);
+            Ok(None)
+        }
+        Err(Halt::Memory) => Err(SearchFault::Memory),
+    }
+}
