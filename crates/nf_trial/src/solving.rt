@@ -16,7 +16,7 @@ use nf_linear::{Eliminated, Grid, solve_grid};
 use nf_net::Network;
 use nf_pattern::Pattern;
 
-/// Of so many unknowns at most a table is solved without memory.
+/// The most unknowns of a table that is solved without memory.
 pub const MOST_UNKNOWNS: u32 = 32;
 
 // The table of a pattern is solved on a grid that is all zero.

@@ -11,7 +11,7 @@ use nf_graph::LinkSets;
 use nf_net::Network;
 use nf_pattern::Pattern;
 use nf_thin::parts::sifted_search;
-use nf_thin::{SearchFault, Thin, Tried, search, try_pattern, unknown_count};
+use nf_thin::{MOST_UNKNOWNS, SearchFault, Thin, Tried, search, try_pattern, unknown_count};
 use std::alloc::Global;
 
 // A thin flow: its place, its flows and its slopes.
@@ -122,7 +122,7 @@ fn tried_text(
     requires sets { AreSetsOf net.now.net sets.now }
     requires pattern { IsPattern sets.now (unbounded net.now.net) pattern.now }
 {
-    if unknown_count(net, sets) > 32 {
+    if unknown_count(net, sets) > MOST_UNKNOWNS {
         return None;
     }
     let mut flows = vec![in alloc; Q::zero(); net.link_count() as usize].ok()?;
