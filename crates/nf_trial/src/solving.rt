@@ -37,6 +37,84 @@ fn solve_on<const N: usize>(
     solve_grid(grid, values)
 }
 
+// ---- on a grid of its own, whose memory is that of the call: each size in a call for itself, since a call pays for all that it holds
+
+// At most 4 unknowns.
+fn solve_four(
+    count: u32,
+    net: &Network,
+    sets: &LinkSets,
+    rate: Q,
+    pattern: &Pattern,
+    values: &mut [Q],
+) -> Result<Eliminated, PassedAt<Q>>
+    requires pattern { IsPatternIn net.now.net sets.now pattern.now }
+    requires count { count ≡ length (unknowns net.now.net sets.now) }
+    requires few { count ≤ 4 }
+    requires values { length values.old ≡ count }
+    ensures { seen_at (λ found. values_if found values.new) (λ q. q) result ≡ at_part Part.Table (table_list passes_Q (equations net.now.net sets.now rate pattern.now)) }
+{
+    let mut grid = Grid::<4>::zero(count);
+    solve_on(&mut grid, net, sets, rate, pattern, values)
+}
+
+// At most 8 unknowns.
+fn solve_eight(
+    count: u32,
+    net: &Network,
+    sets: &LinkSets,
+    rate: Q,
+    pattern: &Pattern,
+    values: &mut [Q],
+) -> Result<Eliminated, PassedAt<Q>>
+    requires pattern { IsPatternIn net.now.net sets.now pattern.now }
+    requires count { count ≡ length (unknowns net.now.net sets.now) }
+    requires few { count ≤ 8 }
+    requires values { length values.old ≡ count }
+    ensures { seen_at (λ found. values_if found values.new) (λ q. q) result ≡ at_part Part.Table (table_list passes_Q (equations net.now.net sets.now rate pattern.now)) }
+{
+    let mut grid = Grid::<8>::zero(count);
+    solve_on(&mut grid, net, sets, rate, pattern, values)
+}
+
+// At most 16 unknowns.
+fn solve_sixteen(
+    count: u32,
+    net: &Network,
+    sets: &LinkSets,
+    rate: Q,
+    pattern: &Pattern,
+    values: &mut [Q],
+) -> Result<Eliminated, PassedAt<Q>>
+    requires pattern { IsPatternIn net.now.net sets.now pattern.now }
+    requires count { count ≡ length (unknowns net.now.net sets.now) }
+    requires few { count ≤ 16 }
+    requires values { length values.old ≡ count }
+    ensures { seen_at (λ found. values_if found values.new) (λ q. q) result ≡ at_part Part.Table (table_list passes_Q (equations net.now.net sets.now rate pattern.now)) }
+{
+    let mut grid = Grid::<16>::zero(count);
+    solve_on(&mut grid, net, sets, rate, pattern, values)
+}
+
+// At most 32 unknowns.
+fn solve_thirty_two(
+    count: u32,
+    net: &Network,
+    sets: &LinkSets,
+    rate: Q,
+    pattern: &Pattern,
+    values: &mut [Q],
+) -> Result<Eliminated, PassedAt<Q>>
+    requires pattern { IsPatternIn net.now.net sets.now pattern.now }
+    requires count { count ≡ length (unknowns net.now.net sets.now) }
+    requires few { count ≤ 32 }
+    requires values { length values.old ≡ count }
+    ensures { seen_at (λ found. values_if found values.new) (λ q. q) result ≡ at_part Part.Table (table_list passes_Q (equations net.now.net sets.now rate pattern.now)) }
+{
+    let mut grid = Grid::<32>::zero(count);
+    solve_on(&mut grid, net, sets, rate, pattern, values)
+}
+
 /// Whether the table of a pattern has one solution, and the values of its unknowns then; or the first operation that passes. It is
 /// solved on the least grid that the unknowns fit.
 pub fn solve_pattern(
@@ -54,16 +132,12 @@ pub fn solve_pattern(
     ensures { seen_at (λ found. values_if found values.new) (λ q. q) result ≡ at_part Part.Table (table_list passes_Q (equations net.now.net sets.now rate pattern.now)) }
 {
     if count <= 4 {
-        let mut grid = Grid::<4>::zero(count);
-        solve_on(&mut grid, net, sets, rate, pattern, values)
+        solve_four(count, net, sets, rate, pattern, values)
     } else if count <= 8 {
-        let mut grid = Grid::<8>::zero(count);
-        solve_on(&mut grid, net, sets, rate, pattern, values)
+        solve_eight(count, net, sets, rate, pattern, values)
     } else if count <= 16 {
-        let mut grid = Grid::<16>::zero(count);
-        solve_on(&mut grid, net, sets, rate, pattern, values)
+        solve_sixteen(count, net, sets, rate, pattern, values)
     } else {
-        let mut grid = Grid::<32>::zero(count);
-        solve_on(&mut grid, net, sets, rate, pattern, values)
+        solve_thirty_two(count, net, sets, rate, pattern, values)
     }
 }
