@@ -1,5 +1,6 @@
 -- Rows in place: a number set in one, and a front of a list that is written anew.
-use Rattle.std.proofs.Common.{◌≡◌, ℕ, zero, suc, ◌+◌, ◌<◌, ◌≤◌, List, [], ◌∷◌, ◌++◌, length, set, take, refl, sym, ap, ◌∙◌, arith, length-take-le, length-append}
+use Rattle.std.proofs.Common.{◌≡◌, ℕ, zero, suc, ◌+◌, ◌<◌, ◌≤◌, List, [], ◌∷◌, ◌++◌, length, set, take, drop, refl, sym, ap, ◌∙◌, arith, length-take-le, length-append}
+use Rattle.std.proofs.lemmas.List.{take-append-drop}
 use Rattle.nf_rational.specs.Rational.{ℚ}
 
 pub row_set_cell : (cells : List ℚ) (right x : ℚ) (n column : ℕ) → column < n → n ≤ length cells → take n (set cells column x) ++ right ∷ [] ≡ set (take n cells ++ right ∷ []) column x
@@ -19,3 +20,11 @@ pub row_long : (cells now : List ℚ) (right : ℚ) (n : ℕ) → take n cells +
 row_long cells now right n e b =
     let front : length (take n cells) ≡ n = length-take-le n cells b in
     sym (ap (length {A = ℚ}) e) ∙ length-append (take n cells) (right ∷ []) ∙ ap (λ (k : ℕ). k + 1) front
+
+pub front_written : (cells : List ℚ) (right x : ℚ) (n column : ℕ) → column < n → n ≤ length cells
+    → take n (set (take n cells) column x ++ drop n cells) ++ right ∷ [] ≡ set (take n cells ++ right ∷ []) column x
+front_written [] right x zero column b e = absurd (omega arith)
+front_written [] right x (suc n) column b e = absurd (omega arith)
+front_written (y ∷ cells) right x zero column b e = absurd (omega arith)
+front_written (y ∷ cells) right x (suc n) zero b e = ap (λ (l : List ℚ). x ∷ (take n l ++ right ∷ [])) (take-append-drop n cells)
+front_written (y ∷ cells) right x (suc n) (suc column) b e = ap (λ (l : List ℚ). y ∷ l) (front_written cells right x n column (omega arith) (omega arith))

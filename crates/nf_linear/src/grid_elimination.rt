@@ -1,5 +1,5 @@
 // The elimination of a grid, column by column: the pivot of a column, and the rows that are cleared in it.
-ghost use Rattle.std.specs.Prelude.{◌≡◌, ◌≢◌, ℕ, ◌<◌, ◌≤◌, ◌==◌, ◌||◌, ◌&&◌, not, true, [], length, Some, None, IfOk, if◌then◌else◌};
+ghost use Rattle.std.specs.Prelude.{◌≡◌, ◌≢◌, ℕ, ◌+◌, ◌<◌, ◌≤◌, ◌==◌, ◌||◌, ◌&&◌, not, true, [], length, Some, None, IfOk, if◌then◌else◌};
 ghost use Rattle.std.specs.List.{AllByRecursion, list_any};
 ghost use Rattle.nf_rational.specs.Operations.{0ℚ};
 ghost use Rattle.nf_work.specs.declared.Part.TheVariants as Part;
@@ -58,7 +58,7 @@ fn clear_one<const N: usize>(
     own: Q,
     later: &[(usize, Q)],
 ) -> Result<(), PassedAt<Q>>
-    requires column { column < length row.old }
+    requires column { column + 1 < length row.old }
     requires own { own ≢ 0ℚ }
     requires later { AllByRecursion (λ other. other.0 < length row.old) later.now }
     ensures { seen_at (λ _. row.new) (λ q. q) result ≡ at_part Part.Table (clear_unless passes_Q (is_pivot || Signs.is_zero (number_at row.old column)) column own later.now row.old) }
@@ -78,7 +78,7 @@ fn clear_rows<const N: usize>(
     later: &[(usize, Q)],
 ) -> Result<(), PassedAt<Q>>
     requires own { own ≢ 0ℚ }
-    requires column { (i : ℕ) → i < length rows.old → column < length (row_at rows.old i) }
+    requires column { (i : ℕ) → i < length rows.old → column + 1 < length (row_at rows.old i) }
     requires later { (i : ℕ) → i < length rows.old → AllByRecursion (λ other. other.0 < length (row_at rows.old i)) later.now }
     ensures { seen_at (λ _. rows.new) (λ q. q) result ≡ at_part Part.Table (clear_each passes_Q column pivot own later.now 0 rows.old) }
 {

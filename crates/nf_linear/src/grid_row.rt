@@ -95,6 +95,15 @@ impl<const N: usize> GridRow<N> {
         }
     }
 
+    // The number of this unknown becomes 0.
+    fn set_zero(&mut self, column: usize)
+        requires { column + 1 < length self.old }
+        ensures { self.new ≡ set self.old column 0ℚ }
+    {
+        let cells = &mut self.cells[..self.size as usize];
+        cells[column] = Q::zero();
+    }
+
     // One more entry in place of the one there, unless it is 0; how many there are then.
     fn push_some(&self, entries: &mut [(usize, Q)], count: usize, column: usize) -> usize
         requires column { column < length self.now }
@@ -140,13 +149,13 @@ impl<const N: usize> GridRow<N> {
 
     // The entry of this column becomes 0, and the later ones lose those of the pivot row, times the quotient of the two.
     pub fn clear(&mut self, column: usize, own: Q, later: &[(usize, Q)]) -> Result<(), PassedAt<Q>>
-        requires column { column < length self.old }
+        requires column { column + 1 < length self.old }
         requires own { own ≢ 0ℚ }
         requires later { AllByRecursion (λ other. other.0 < length self.old) later.now }
         ensures { seen_at (λ _. self.new) (λ q. q) result ≡ at_part Part.Table (clear_row passes_Q column own later.now self.old) }
     {
         let factor = nf_frac::at!(Part::Table, self.at(column).quotient(own));
-        self.set(column, Q::zero());
+        self.set_zero(column);
         self.subtract(factor, later)
     }
 

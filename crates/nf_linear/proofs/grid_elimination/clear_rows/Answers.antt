@@ -1,4 +1,4 @@
-use Rattle.std.proofs.Common.{◌≡◌, ℕ, ◌<◌, List, length, get_or, Ok, Err, sym, subst, ◌∙◌, arith, rules}
+use Rattle.std.proofs.Common.{◌≡◌, ℕ, ◌+◌, ◌<◌, List, length, get_or, Ok, Err, sym, subst, ◌∙◌, arith, rules}
 use Rattle.std.specs.List.{AllByRecursion}
 use Rattle.std.proofs.lemmas.Result.{err_from_is_err_and}
 use Rattle.nf_rational.specs.Rational.{ℚ}
@@ -27,7 +27,7 @@ clear_one-requires g c =
     ∙ row_before passes_Q c.args.column c.args.pivot c.args.own c.args.later.now c.args.rows.now c.loop-i.rows c.loop-i.i here c.loop-i.invariant inside) in (
       search rules,
       (
-        subst (λ (row : List ℚ). c.args.column < length row) same (c.requires.column c.loop-i.i inside),
+        subst (λ (row : List ℚ). c.args.column + 1 < length row) same (c.requires.column c.loop-i.i inside),
         (
           c.requires.own,
           subst (λ (row : List ℚ). AllByRecursion (λ (other : ℕ × ℚ). other.0 < length row) c.args.later.now) same (c.requires.later c.loop-i.i inside),
