@@ -19,9 +19,6 @@ use nf_net::Network;
 use nf_pattern::Pattern;
 use std::alloc::{AllocError, Global};
 
-// Up to so many unknowns a pattern is tried on a grid: there that takes less time than in a table (measured), and above it doesn't.
-const FEW_UNKNOWNS: u32 = 8;
-
 /// What comes of a pattern, where its flows and labels are written into slices.
 #[derive(Clone, Copy, Debug, PartialEq, Eq)]
 pub enum Tried {
@@ -153,42 +150,6 @@ pub fn solved(alloc: Global, table: Table<Q>) -> Result<Option<Vec<Q>>, Halt<Q>>
     }
 }
 
-// That of a pattern's table, which is made for it.
-fn table_values(
-    alloc: Global,
-    net: &Network,
-    sets: &LinkSets,
-    rate: Q,
-    pattern: &Pattern,
-) -> Result<Option<Vec<Q>>, Halt<Q>>
-    requires { IsPatternIn net.now.net sets.now pattern.now }
-    ensures { Gives (option_map (λ values. values.items)) (λ q. q) result (at_part Part.Table (table_list passes_Q (equations net.now.net sets.now rate pattern.now))) }
-{
-    let table = table_of(alloc, net, sets, rate, pattern)?;
-    solved(alloc, table)
-}
-
-// That of a pattern's table with few unknowns, so many as these, without the table in memory.
-fn few_values(
-    alloc: Global,
-    count: u32,
-    net: &Network,
-    sets: &LinkSets,
-    rate: Q,
-    pattern: &Pattern,
-) -> Result<Option<Vec<Q>>, Halt<Q>>
-    requires pattern { IsPatternIn net.now.net sets.now pattern.now }
-    requires count { count ≡ length (unknowns net.now.net sets.now) }
-    requires few { count ≤ 32 }
-    ensures { Gives (option_map (λ values. values.items)) (λ q. q) result (at_part Part.Table (table_list passes_Q (equations net.now.net sets.now rate pattern.now))) }
-{
-    let mut values = vec![in alloc; Q::zero(); count as usize]?;
-    match solve_pattern(count, net, sets, rate, pattern, &mut values)? {
-        Eliminated::One => Ok(Some(values)),
-        Eliminated::NotOne => Ok(None),
-    }
-}
-
 /// The only solution of a pattern's table, and None where there is none or more than one; or the first operation that passes.
 pub fn pattern_values(
     alloc: Global,
@@ -200,12 +161,8 @@ pub fn pattern_values(
     requires { IsPatternIn net.now.net sets.now pattern.now }
     ensures { Gives (option_map (λ values. values.items)) (λ q. q) result (at_part Part.Table (table_list passes_Q (equations net.now.net sets.now rate pattern.now))) }
 {
-    let count = unknown_count(net, sets);
-    if count <= FEW_UNKNOWNS {
-        few_values(alloc, count, net, sets, rate, pattern)
-    } else {
-        table_values(alloc, net, sets, rate, pattern)
-    }
+    let table = table_of(alloc, net, sets, rate, pattern)?;
+    solved(alloc, table)
 }
 
 // ---- the whole of a pattern
@@ -237,45 +194,8 @@ pub fn try_pattern(
     }
 }
 
-// The same with flows and labels of its own.
-fn try_few(
-    alloc: Global,
-    net: &Network,
-    sets: &LinkSets,
-    rate: Q,
-    pattern: &Pattern,
-) -> Result<Outcome, Halt<Q>>
-    requires pattern { IsPatternIn net.now.net sets.now pattern.now }
-    requires few { length (unknowns net.now.net sets.now) ≤ 32 }
-    ensures { Tries passes_Q net.now.net sets.now rate pattern.now result }
-{
-    let mut flows = vec![in alloc; Q::zero(); net.link_count() as usize]?;
-    let mut slopes = vec![in alloc; Q::zero(); net.node_count() as usize]?;
-    match try_pattern(net, sets, rate, pattern, &mut flows, &mut slopes)? {
-        Tried::Accepted => Ok(Outcome::Accepted { flows, slopes }),
-        Tried::NotSolvable => Ok(Outcome::Refused),
-    }
-}
-
-// The same for however many unknowns, in a table.
-fn try_in_table(
-    alloc: Global,
-    net: &Network,
-    sets: &LinkSets,
-    rate: Q,
-    pattern: &Pattern,
-) -> Result<Outcome, Halt<Q>>
-    requires { IsPatternIn net.now.net sets.now pattern.now }
-    ensures { Tries passes_Q net.now.net sets.now rate pattern.now result }
-{
-    match table_values(alloc, net, sets, rate, pattern)? {
-        Some(values) => judge_values(alloc, net, sets, pattern, values),
-        None => Ok(Outcome::Refused),
-    }
-}
-
-/// Whether a pattern is accepted, and with which flows and slopes; or the first of its operations that passes. By `try_pattern` where
-/// the unknowns are few.
+/// Whether a pattern is accepted, and with which flows and slopes; or the first of its operations that passes. For however many
+/// unknowns, in a table that takes memory: it is there sooner than a grid is made.
 pub fn try_one(
     alloc: Global,
     net: &Network,
@@ -286,9 +206,8 @@ pub fn try_one(
     requires { IsPatternIn net.now.net sets.now pattern.now }
     ensures { Tries passes_Q net.now.net sets.now rate pattern.now result }
 {
-    if unknown_count(net, sets) <= FEW_UNKNOWNS {
-        try_few(alloc, net, sets, rate, pattern)
-    } else {
-        try_in_table(alloc, net, sets, rate, pattern)
+    match pattern_values(alloc, net, sets, rate, pattern)? {
+        Some(values) => judge_values(alloc, net, sets, pattern, values),
+        None => Ok(Outcome::Refused),
     }
 }

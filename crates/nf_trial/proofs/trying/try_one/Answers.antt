@@ -3,7 +3,7 @@ use Rattle.std.specs.Prelude.{Ok, option_map}
 use Rattle.std.proofs.lemmas.Result.{err_from_is_err_and}
 use Rattle.nf_work.specs.Passing.{passes_Q}
 use Rattle.nf_trial.proofs.Outcomes.{tried_err, tried_none, values_count, tried_values}
-use Rattle.nf_trial.proofs.trying.try_in_table.Goals as goal
+use Rattle.nf_trial.proofs.trying.try_one.Goals as goal
 
 pub returns-in_err-values : goal.returns-in_err-values
 returns-in_err-values c =
