@@ -6,7 +6,7 @@ ghost use Rattle.nf_readings.specs.ReportCauses.{printed_number as number_by};
 
 use nf_frac::Q;
 
-// A number up to this one has room for one more digit.
+// A number up to this one has room for one more digit in 64 bits.
 const ROOM: u64 = 1_844_674_407_370_955_160;
 
 // The least denominator that is printed.
@@ -109,7 +109,7 @@ fn plain_parts(word: &[u8]) -> Option<(i128, u64)>
     Some((num, den))
 }
 
-/// The number that a word is the printed form of, where its parts have at most 64 bits. None says nothing of the word.
+/// The number that a word is the printed form of, where its parts are at most `ROOM` times ten and 9. None says nothing of the word.
 pub(crate) fn plain_number(word: &[u8]) -> Option<Q>
     ensures { IfSome result (λ q. number_by word.now ≡ Some q) }
 {
