@@ -7,3 +7,4 @@ pub mod LineByLine
 pub mod Accepted
 pub mod Sorting
 pub mod BodyLines
+pub mod PlainNumbers

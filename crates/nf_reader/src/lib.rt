@@ -12,6 +12,7 @@ mod keys;
 mod lines;
 mod numbers;
 mod opening;
+mod plain_numbers;
 mod reading;
 mod report;
 

@@ -7,6 +7,7 @@ ghost use Rattle.nf_readings.specs.declared.ReportRule.TheVariants.{P8};
 ghost use Rattle.nf_readings.specs.ReportCauses.{printed_number as number_by, or_rule, place_in};
 ghost use Rattle.nf_readings.specs.ReportLines.{rate_word};
 
+use crate::plain_numbers::plain_number;
 use nf_cursor::is_word;
 use nf_frac::{Q, TextBuf};
 use nf_numerals::count;
@@ -21,13 +22,23 @@ fn is_printed(word: &[u8], number: Q) -> bool
     is_word(word, text.text())
 }
 
-// The number that a word is the printed form of.
-fn printed_number(word: &[u8]) -> Option<Q>
+// The number that a word is the printed form of: it is read, and printed again to be compared with the word.
+fn any_number(word: &[u8]) -> Option<Q>
     ensures { result ≡ number_by word.now }
 {
     match Q::read(word) {
         Ok(number) if is_printed(word, number) => Some(number),
         _ => None,
+    }
+}
+
+// The same, where nearly all words take a shorter way: their parts have at most 64 bits.
+fn printed_number(word: &[u8]) -> Option<Q>
+    ensures { result ≡ number_by word.now }
+{
+    match plain_number(word) {
+        Some(number) => Some(number),
+        None => any_number(word),
     }
 }
 
