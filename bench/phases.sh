@@ -8,7 +8,12 @@ trap 'rm -rf "$work"' EXIT
 bench=$work/repo/crates/bench_phases
 mkdir -p "$bench/src" "$bench/specs" "$bench/proofs"
 cp "$here/../HANDLES" "$work/repo/"
-grep -v '^nf_app:\|^nfot:\|^nf_phase:' "$here/../crates.txt" >"$work/repo/crates.txt"
+# The crates above the search are left out.
+awk '{
+    above = 0
+    for (i = 1; i <= NF; i++) { name = $i; sub(":", "", name); if (name ~ /^(nf_phase|nf_forever|nf_resume|nf_app|nfot)$/) above = 1 }
+    if (!above) print
+}' "$here/../crates.txt" >"$work/repo/crates.txt"
 for crate in $(sed -n 's/^\([a-z_]*\):.*/\1/p' "$work/repo/crates.txt"); do
     cp -r "$here/../crates/$crate" "$work/repo/crates/"
 done
