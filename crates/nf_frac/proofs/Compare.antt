@@ -2,7 +2,9 @@
 use Rattle.std.proofs.Common.{◌≡◌, ◌≢◌, ℕ, zero, suc, ◌+◌, ◌*◌, ◌/◌, ◌%◌, ◌<◌, ◌≤◌, ◌⊎◌, inl, inr, ⊎_elim, refl, sym, ◌∙◌, ap, subst, arith, Less, Equal, Greater}
 use mathlib.Core.Path.{ap₂}
 use native.Mathlib.Nat.{div-add-mod, mod-lt, mul-le-mul_right, mul-lt-mul_of_pos_right}
-use Rattle.std.specs.Ordering.{nat_cmp, int_cmp}
+use Rattle.std.specs.Ordering.{nat_cmp, int_cmp, MatchOrdering}
+use Rattle.std.specs.declared.cmp.Ordering.{Ordering}
+use Rattle.std.specs.Cmp.{int_ranks, int_cmp_is}
 use Rattle.std.proofs.Common.{ℤ, pos, negsuc, ◌*ℤ◌, ◌<ℤ◌, ◌≤ℤ◌, neg_ℤ, nat_abs, Bool, true, false, cond}
 use lib.IntN.{zero-*ℤ}
 use lib.Signed.{lt_z}
@@ -196,3 +198,12 @@ right_negative n m d e some h k = sym (int_greater _ _ (join_lt _ _ (below_zero 
 -- ---- at the numbers' own parts
 pub cmp_is : (x y : ℚ) (n m : ℤ) (d e : ℕ) → n ≡ x.num → m ≡ y.num → x.den ≡ d → y.den ≡ e → int_cmp (n *ℤ pos e) (m *ℤ pos d) ≡ cmp_ℚ x y
 cmp_is x y n m d e xn yn xd yd = ap₂ int_cmp (ap₂ (λ (z : ℤ) (t : ℕ). z *ℤ pos t) xn (sym yd)) (ap₂ (λ (z : ℤ) (t : ℕ). z *ℤ pos t) yn (sym xd))
+
+-- numerators over the same denominator compare as the fractions do
+pub over_same : (a b : ℤ) (d : ℕ) → 0 < d → int_cmp a b ≡ int_cmp (a *ℤ pos d) (b *ℤ pos d)
+over_same a b d some = int_cmp_is (a *ℤ pos d) (b *ℤ pos d) (int_cmp a b) (go (int_cmp a b) (int_ranks a b))
+  where
+    go : (r : Ordering) → MatchOrdering r (a <ℤ b) (a ≡ b) (b <ℤ a) → MatchOrdering r ((a *ℤ pos d) <ℤ (b *ℤ pos d)) (a *ℤ pos d ≡ b *ℤ pos d) ((b *ℤ pos d) <ℤ (a *ℤ pos d))
+    go Less h = lt-times a b (pos d) (pos_in d some) h
+    go Equal h = ap (λ (z : ℤ). z *ℤ pos d) h
+    go Greater h = lt-times b a (pos d) (pos_in d some) h

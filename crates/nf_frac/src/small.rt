@@ -115,6 +115,9 @@ impl Small {
     pub(crate) fn compare(self, right: Small) -> Ordering
         ensures { result ≡ cmp_ℚ self right }
     {
+        if self.den == right.den {
+            return self.num.cmp(&right.num);
+        }
         times(self.num, right.den).cmp(&times(right.num, self.den))
     }
 

@@ -81,8 +81,8 @@ fn clear_rows<S: Scalar>(
 
 // One column is cleared in all rows but its pivot row.
 pub fn eliminate<S: Scalar>(
-    alloc: Global,
     rows: &mut [Row<S>],
+    later: &mut Vec<Entry<S>>,
     pivot: usize,
     column: usize,
 ) -> Result<(), Halt<S>>
@@ -93,15 +93,15 @@ pub fn eliminate<S: Scalar>(
     ensures { Gives (λ _. rows.new) S.means result (at_part Part.Table (Lists.clear_rows S.passes column pivot (row_at rows.old pivot) 0 rows.old)) }
 {
     let own = rows[pivot].at(column);
-    let later = rows[pivot].later(alloc, column)?;
-    clear_rows(rows, pivot, column, own, &later)?;
+    rows[pivot].later(column, later)?;
+    clear_rows(rows, pivot, column, own, later)?;
     Ok(())
 }
 
 // The column is cleared, and its pivot row noted; false where it has no pivot.
 fn clear_column<S: Scalar>(
-    alloc: Global,
     rows: &mut [Row<S>],
+    later: &mut Vec<Entry<S>>,
     pivots: &mut Pivots,
     column: usize,
 ) -> Result<bool, Halt<S>>
@@ -113,7 +113,7 @@ fn clear_column<S: Scalar>(
     let Some(pivot) = pivot_of(rows, pivots, column) else {
         return Ok(false);
     };
-    eliminate(alloc, rows, pivot, column)?;
+    eliminate(rows, later, pivot, column)?;
     pivots.push(pivot)?;
     Ok(true)
 }
@@ -129,8 +129,9 @@ pub fn clear_columns<S: Scalar>(
     ensures pivots { IfOk result (λ found. IfSome found (λ pivots. HasPivots rows.new pivots.items)) }
 {
     let mut pivots = Pivots::new(alloc, rows.len())?;
+    let mut later = Vec::with_capacity(alloc, rows.len())?;
     for column in 0..rows.len() {
-        if !clear_column(alloc, rows, &mut pivots, column)? {
+        if !clear_column(rows, &mut later, &mut pivots, column)? {
             return Ok(None);
         }
     }

@@ -71,9 +71,9 @@ impl<S: Scalar> Row<S> {
     pub fn zero(alloc: Global, len: usize) -> Result<Row<S>, AllocError>
         ensures { IfOk result (λ row. row ≡ replicate len 0ℚ) }
     {
-        let mut cells = Vec::new(alloc);
+        let mut cells = Vec::with_capacity(alloc, len)?;
         cells.resize(len, S::zero())?;
-        let mut some = Vec::new(alloc);
+        let mut some = Vec::with_capacity(alloc, len)?;
         some.resize(len, false)?;
         Ok(Row { cells, some })
     }
@@ -120,16 +120,16 @@ impl<S: Scalar> Row<S> {
     }
 
     // The entries other than 0 after this column.
-    pub fn later(&self, alloc: Global, column: usize) -> Result<Vec<Entry<S>>, AllocError>
+    pub fn later(&self, column: usize, later: &mut Vec<Entry<S>>) -> Result<(), AllocError>
         requires { column < length self.now }
-        ensures { IfOk result (λ later. later.items ≡ some_from (column + 1) (drop (column + 1) self.now)) }
+        ensures { IfOk result (λ _. later.new.items ≡ some_from (column + 1) (drop (column + 1) self.now)) }
     {
         let len = self.len();
-        let mut later = Vec::new(alloc);
+        later.clear();
         for i in column + 1..len {
-            self.push_some(&mut later, i)?;
+            self.push_some(later, i)?;
         }
-        Ok(later)
+        Ok(())
     }
 
     // Each of these entries of another row, times the factor, is taken off.

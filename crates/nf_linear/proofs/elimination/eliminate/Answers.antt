@@ -12,7 +12,7 @@ use Rattle.nf_linear.proofs.elimination.eliminate.Goals as goal
 pub clear_rows-requires-clause-later : goal.clear_rows-requires-clause-later
 clear_rows-requires-clause-later g c =
     let row : get_or c.args.rows.now c.args.pivot c.index-rows-pivot-2.result ≡ row_at c.args.rows.now c.args.pivot = row_got c.args.rows.now c.args.pivot c.index-rows-pivot-2.result c.requires.pivot in
-    let items : c.in_ok-later.later.items ≡ some_from (c.args.column + 1) (drop (c.args.column + 1) (get_or c.args.rows.now c.args.pivot c.index-rows-pivot-2.result)) = c.in_ok-later.ensures in
+    let items : c.later.new.later.items ≡ some_from (c.args.column + 1) (drop (c.args.column + 1) (get_or c.args.rows.now c.args.pivot c.index-rows-pivot-2.result)) = c.in_ok-later.ensures in
     let same : c.deref.result.now ≡ some_from (c.args.column + 1) (drop (c.args.column + 1) (row_at c.args.rows.now c.args.pivot)) =
     c.deref.ensures.value ∙ items ∙ ap (λ (r : List ℚ). some_from (c.args.column + 1) (drop (c.args.column + 1) r)) row in
     later_fit c.args.rows.now c.args.pivot c.args.column c.requires.square c.requires.pivot c.requires.column (g.S.Scalar.means c.at-own.result) c.deref.result.now same
@@ -22,7 +22,7 @@ returns-in_err-clear_rows g c =
     let p = err_from_is_err_and c.from_residual-in_err-clear_rows.result c.from_residual-in_err-clear_rows.ensures.1 in
     let first : get_or c.args.rows.now c.args.pivot c.index-rows-pivot.result ≡ row_at c.args.rows.now c.args.pivot = row_got c.args.rows.now c.args.pivot c.index-rows-pivot.result c.requires.pivot in
     let row : get_or c.args.rows.now c.args.pivot c.index-rows-pivot-2.result ≡ row_at c.args.rows.now c.args.pivot = row_got c.args.rows.now c.args.pivot c.index-rows-pivot-2.result c.requires.pivot in
-    let items : c.in_ok-later.later.items ≡ some_from (c.args.column + 1) (drop (c.args.column + 1) (get_or c.args.rows.now c.args.pivot c.index-rows-pivot-2.result)) = c.in_ok-later.ensures in
+    let items : c.later.new.later.items ≡ some_from (c.args.column + 1) (drop (c.args.column + 1) (get_or c.args.rows.now c.args.pivot c.index-rows-pivot-2.result)) = c.in_ok-later.ensures in
     let same : c.deref.result.now ≡ some_from (c.args.column + 1) (drop (c.args.column + 1) (row_at c.args.rows.now c.args.pivot)) =
     c.deref.ensures.value ∙ items ∙ ap (λ (r : List ℚ). some_from (c.args.column + 1) (drop (c.args.column + 1) r)) row in
     let own : g.S.Scalar.means c.at-own.result ≡ number_at (row_at c.args.rows.now c.args.pivot) c.args.column = c.at-own.ensures ∙ ap (λ (r : List ℚ). number_at r c.args.column) first in
@@ -33,7 +33,7 @@ pub returns : goal.returns
 returns g c =
     let first : get_or c.args.rows.now c.args.pivot c.index-rows-pivot.result ≡ row_at c.args.rows.now c.args.pivot = row_got c.args.rows.now c.args.pivot c.index-rows-pivot.result c.requires.pivot in
     let row : get_or c.args.rows.now c.args.pivot c.index-rows-pivot-2.result ≡ row_at c.args.rows.now c.args.pivot = row_got c.args.rows.now c.args.pivot c.index-rows-pivot-2.result c.requires.pivot in
-    let items : c.in_ok-later.later.items ≡ some_from (c.args.column + 1) (drop (c.args.column + 1) (get_or c.args.rows.now c.args.pivot c.index-rows-pivot-2.result)) = c.in_ok-later.ensures in
+    let items : c.later.new.later.items ≡ some_from (c.args.column + 1) (drop (c.args.column + 1) (get_or c.args.rows.now c.args.pivot c.index-rows-pivot-2.result)) = c.in_ok-later.ensures in
     let same : c.deref.result.now ≡ some_from (c.args.column + 1) (drop (c.args.column + 1) (row_at c.args.rows.now c.args.pivot)) =
     c.deref.ensures.value ∙ items ∙ ap (λ (r : List ℚ). some_from (c.args.column + 1) (drop (c.args.column + 1) r)) row in
     let own : g.S.Scalar.means c.at-own.result ≡ number_at (row_at c.args.rows.now c.args.pivot) c.args.column = c.at-own.ensures ∙ ap (λ (r : List ℚ). number_at r c.args.column) first in
