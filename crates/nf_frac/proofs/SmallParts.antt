@@ -1,18 +1,18 @@
 -- What the parts of a small fraction in code say of the number, and back.
 use Rattle.std.proofs.Common.{◌≡◌, ℕ, ◌%◌, ◌<◌, ◌≤◌, ℤ, pos, negsuc, ◌*ℤ◌, nat_abs, ◌⊎◌, inl, inr, refl, sym, ◌∙◌, ap, subst, arith}
 use mathlib.Core.Path.{ap₂}
-use mir.Syntax.{w64}
+use mir.Syntax.{w64, w128}
 use mir.Val.{to_z, of_z, SFits}
-use mir.Facts.{to_z-of_z}
+use mir.Facts.{to_z-of_z, to_z_pos}
 use native.Mathlib.Nat.{one-dvd}
 use Rattle.std.specs.Int.{IsGcd}
 use Rattle.std.proofs.lemmas.Nat.Gcd.{same_from_IsGcd, IsGcd-from_mod, dvd_refl}
 use Rattle.nf_rational.specs.Gcd.{gcd, IsGcd-gcd}
 use Rattle.nf_rational.specs.Rational.{ℚ, ratio}
 use Rattle.nf_rational.proofs.Lowest.{parts_ratio}
-use Rattle.nf_frac.specs.Parts.{InForm, IsWithin}
+use Rattle.nf_frac.specs.Parts.{greatest, InForm, IsWithin}
 use Rattle.nf_frac.specs.Short.{short, IsShort, short_back}
-use Rattle.nf_frac.proofs.Bits.{bits_of, plain, short_product}
+use Rattle.nf_frac.proofs.Bits.{bits_of, fits_128, plain, short_product}
 use Rattle.nf_frac.proofs.Form.{Parts, parts_of}
 
 abbrev pub bits_64 : ℤ → ℤ
@@ -97,3 +97,17 @@ not_short q n d m h e f either w = go either
     go : ((m ≤ short) × (short < d)) ⊎ (short < m) → ⊥
     go (inl l) = omega (arith, l.1, small_den)
     go (inr l) = omega (arith, l, small)
+
+-- ---- a product of a short number and a short natural number, each cast to 128 bits
+module _ (a : ℤ) (b : ℕ) (small : nat_abs a ≤ short) (few : b ≤ short) where
+  cast_factors : bits_of (bits_64 a) *ℤ bits_of (to_z w64 b) ≡ a *ℤ pos b
+  cast_factors = ap₂ (λ (x y : ℤ). x *ℤ y) (ap bits_of (plain_64 a small) ∙ plain a (omega arith)) (ap bits_of (to_z_pos w64 (omega arith)) ∙ plain (pos b) (omega arith))
+
+  product_within : nat_abs (a *ℤ pos b) ≤ greatest
+  product_within = short_product a (pos b) small few
+
+  pub cast_product_fits : SFits w128 (bits_of (bits_64 a) *ℤ bits_of (to_z w64 b))
+  cast_product_fits = subst (SFits w128) (sym cast_factors) (fits_128 (a *ℤ pos b) product_within)
+
+  pub cast_product : bits_of (bits_of (bits_64 a) *ℤ bits_of (to_z w64 b)) ≡ a *ℤ pos b
+  cast_product = ap bits_of cast_factors ∙ plain (a *ℤ pos b) product_within

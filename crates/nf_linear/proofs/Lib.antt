@@ -3,6 +3,7 @@ pub mod Taken
 pub mod Filled
 pub mod Sparse
 pub mod Columns
+pub mod Changed
 pub mod Clearing
 pub mod Stages
 pub mod Values

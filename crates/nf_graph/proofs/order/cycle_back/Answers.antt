@@ -1,11 +1,12 @@
-use Rattle.std.proofs.Common.{◌≡◌, ℕ, ◌<◌, List, length, set, true, Some, slice_get, sym, subst, ap, ◌∙◌, arith}
+use Rattle.std.proofs.Common.{◌≡◌, ℕ, ◌<◌, List, length, set, replicate, true, false, Some, slice_get, sym, subst, ap, ◌∙◌, arith}
 use Rattle.std.proofs.lemmas.Option.{slice_get_within}
+use Rattle.std.proofs.lemmas.List.{length-replicate}
 use Rattle.nf_model.specs.Walk.{Hop, IsHop}
 use Rattle.nf_graph.specs.Order.{Turns, IsChosenCycle}
 use Rattle.nf_graph.proofs.Flags.{free, Has_from_place, not_Has_from_place}
 use Rattle.nf_graph.proofs.Reaching.{fewer_free}
 use Rattle.nf_graph.proofs.Walks.{IsHop-read}
-use Rattle.nf_graph.proofs.Cycles.{IsBack, back_more, back_within, back_cycle, insert-first}
+use Rattle.nf_graph.proofs.Cycles.{IsBack, back_first, back_more, back_within, back_cycle, insert-first}
 use Rattle.nf_graph.proofs.order.cycle_back.Goals as goal
 
 pub loop-visited-smaller : goal.loop-visited-smaller
@@ -36,3 +37,9 @@ pub returns : goal.returns
 returns c = subst (λ (walk : List ℕ). IsChosenCycle c.args.hops.now c.args.chosen.now walk) (sym c.truncate.ensures.items)
     (back_cycle c.args.hops.now c.args.chosen.now c.args.placed.now c.args.start c.loop-visited.visited.items c.loop-visited.walk.items c.loop-visited.node c.turn_back.result c.loop-visited.invariant
     (subst (λ (walk : List ℕ). Turns c.args.hops.now walk c.loop-visited.node c.turn_back.result) c.deref.ensures.value c.turn_back.ensures))
+
+pub loop-visited-init : goal.loop-visited-init
+loop-visited-init c =
+    let unset : c.in_ok-visited.visited.items ≡ replicate (length c.args.placed.now) false = c.in_ok-visited.ensures.items_if_clones_equal (λ _ e. e) in
+    back_first c.args.hops.now c.args.chosen.now c.args.placed.now c.args.start (length c.args.placed.now) c.in_ok-visited.visited.items c.new-walk.result.items
+    c.requires.below c.requires.free unset (ap length unset ∙ length-replicate (length c.args.placed.now) false) c.new-walk.ensures.items

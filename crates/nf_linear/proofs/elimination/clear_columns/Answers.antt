@@ -1,8 +1,8 @@
-use Rattle.std.proofs.Common.{◌≡◌, ◌<◌, length, Bool, true, false, ap, ◌∙◌, arith}
+use Rattle.std.proofs.Common.{◌≡◌, ◌<◌, length, Bool, true, false, ℕ, List, sym, subst, ap, ◌∙◌, arith}
 use Rattle.std.specs.Prelude.{if◌then◌else◌, Some, None, Ok}
 use Rattle.std.proofs.lemmas.Result.{err_from_is_err_and}
 use Rattle.nf_linear.specs.Pivots.{eliminated}
-use Rattle.nf_linear.proofs.Stages.{stage_none, stage_stops, stage_more}
+use Rattle.nf_linear.proofs.Stages.{Stage, first_stage, stage_square, stage_none, stage_stops, stage_more}
 use Rattle.nf_linear.proofs.elimination.clear_columns.Goals as goal
 
 pub returns-in_err-clear_column-clause-list : goal.returns-in_err-clear_column-clause-list
@@ -25,3 +25,13 @@ loop-column-preserved g c =
     let found : c.in_ok-clear_column.field-0 ≡ true = c.if-not-branch.false in
     stage_more g.S.Scalar.passes c.args.rows.now c.loop-column.rows c.loop-column.pivots c.loop-column.column c.loop-column.invariant here c.clear_column.new.rows c.clear_column.new.pivots
     (c.in_ok-clear_column.ensures ∙ ap (λ (b : Bool). Ok (if b then Some (eliminated c.clear_column.new.rows c.clear_column.new.pivots) else None)) found)
+
+pub loop-column-init : goal.loop-column-init
+loop-column-init g c =
+    subst (λ (pivots : List ℕ). Stage g.S.Scalar.passes c.args.rows.now c.args.rows.now pivots 0) (sym c.in_ok-pivots.ensures) (first_stage g.S.Scalar.passes c.args.rows.now c.requires)
+
+pub clear_column-requires-clause-square : goal.clear_column-requires-clause-square
+clear_column-requires-clause-square g c = stage_square g.S.Scalar.passes c.args.rows.now c.loop-column.rows c.loop-column.pivots c.loop-column.column c.loop-column.invariant
+
+pub clear_column-requires-clause-column : goal.clear_column-requires-clause-column
+clear_column-requires-clause-column g c = let count = c.loop-column.invariant.cleared.count in omega arith

@@ -1,7 +1,8 @@
-use Rattle.std.proofs.Common.{◌+◌, ◌<◌, List, ◌∷◌, [], map, length, get_or, subst, sym, ap, ◌∙◌, arith}
+use Rattle.std.proofs.Common.{◌≡◌, suc, ◌+◌, ◌<◌, List, ◌∷◌, [], map, length, get_or, subst, sym, ap, ◌∙◌, arith}
 use Rattle.std.proofs.lemmas.Result.{err_from_is_err_and}
 use Rattle.std.proofs.lemmas.List.{map-append}
 use Rattle.nf_rational.specs.Rational.{ℚ}
+use Rattle.nf_model.specs.Entries.{number_at}
 use Rattle.nf_linear.proofs.Clearing.{row_read}
 use Rattle.nf_linear.proofs.Values.{ValuesSoFar, values_stop, values_more}
 use Rattle.nf_linear.proofs.solution.values.Goals as goal
@@ -24,3 +25,20 @@ loop-column-preserved g c =
     (sym (ap (map g.S.Scalar.means) c.in_ok-push.ensures.items ∙ map-append g.S.Scalar.means c.loop-column.values.items (c.in_ok-value.value ∷ [])))
     (values_more g.S.Scalar.passes c.args.rows.now c.args.pivots.now c.requires (map g.S.Scalar.means c.loop-column.values.items) c.loop-column.column inside c.loop-column.invariant
     c.index-rows-pivot.result row (g.S.Scalar.means c.in_ok-value.value) c.in_ok-value.ensures)
+
+pub bounds-rows-pivot : goal.bounds-rows-pivot
+bounds-rows-pivot g c = c.requires.within c.loop-column.column (let e = c.requires.count in omega arith)
+
+pub value_of-requires-clause-column : goal.value_of-requires-clause-column
+value_of-requires-clause-column g c =
+    let below : get_or c.args.pivots.now c.loop-column.column 0 < length c.args.rows.now = c.requires.within c.loop-column.column (let e = c.requires.count in omega arith) in
+    let row = row_read c.args.rows.now (get_or c.args.pivots.now c.loop-column.column 0) c.index-rows-pivot.result below c.index-rows-pivot.is in
+    let long : length c.index-rows-pivot.result ≡ suc (length c.args.rows.now) = ap length row ∙ c.requires.square (get_or c.args.pivots.now c.loop-column.column 0) below in
+    let count = c.requires.count in
+    omega arith
+
+pub value_of-requires-clause-own : goal.value_of-requires-clause-own
+value_of-requires-clause-own g c =
+    let inside : c.loop-column.column < length c.args.rows.now = (let e = c.requires.count in omega arith) in
+    let row = row_read c.args.rows.now (get_or c.args.pivots.now c.loop-column.column 0) c.index-rows-pivot.result (c.requires.within c.loop-column.column inside) c.index-rows-pivot.is in
+    λ zero. c.requires.some c.loop-column.column inside (ap (λ (r : List ℚ). number_at r c.loop-column.column) (sym row) ∙ zero)

@@ -1,0 +1,8 @@
+use Rattle.std.proofs.Common.{set, ap, ◌∙◌}
+use Rattle.nf_lists.specs.Table.{Row}
+use Rattle.nf_linear.proofs.Clearing.{row_got}
+use Rattle.nf_linear.proofs.grid.set_at.Goals as goal
+
+pub returns : goal.returns
+returns g c =
+    ap (λ (r : Row). set c.args.rows.now c.args.row r) (c.set.ensures ∙ ap (λ (r : Row). set r c.args.column c.args.value) (row_got c.args.rows.now c.args.row c.index-rows-row.result c.requires.row))

@@ -1,0 +1,16 @@
+use Rattle.std.proofs.Common.{◌≡◌, ℕ, length, set, ap, ◌∙◌, arith}
+use Rattle.nf_lists.specs.Table.{row_at}
+use Rattle.nf_linear.proofs.Changed.{changed_row, still_square}
+use Rattle.nf_linear.proofs.table.Table.set_right.Goals as goal
+
+pub invariant_of-self : goal.invariant_of-self
+invariant_of-self g c =
+    still_square c.self.inside.rows.items c.args.self.now c.args.row c.len-size.result (g.S.Scalar.means c.args.value) c.index_mut-changed.result.now c.set.new.self
+    c.self.invariant c.self.view_is c.requires c.index_mut-changed.ensures.value c.set.ensures
+
+pub returns : goal.returns
+returns g c =
+    let size : c.len-size.result ≡ length c.args.self.now = omega (arith, ap length c.self.view_is) in
+    changed_row c.self.inside.rows.items c.args.self.now c.args.row c.len-size.result (g.S.Scalar.means c.args.value) c.index_mut-changed.result.now c.set.new.self
+    c.self.view_is c.requires c.index_mut-changed.ensures.value c.set.ensures
+    ∙ ap (λ (n : ℕ). set c.args.self.now c.args.row (set (row_at c.args.self.now c.args.row) n (g.S.Scalar.means c.args.value))) size
