@@ -9,6 +9,7 @@ ghost use Rattle.nf_edge.specs.Faults.{Rose};
 ghost use Rattle.nf_edge.specs.Taken.{with_more};
 ghost use Rattle.nf_edge.specs.declared.FetchFault.TheVariants as FetchFault;
 
+mod asked;
 mod memory_shelf;
 mod memory_sink;
 mod real;

@@ -3,6 +3,7 @@ ghost use Rattle.std.specs.Prelude.{◌≡◌, ◌⊎◌, ℕ, ◌+◌, ◌<◌,
 ghost use Rattle.nf_edge.specs.Faults.{one_more};
 ghost use Rattle.nf_edge.specs.Memory.{told_under, found, fetched, Answers};
 
+use crate::asked::note;
 use crate::{FetchFault, Shelf};
 use std::alloc::{AllocError, Global};
 use std::marker::Model;
@@ -149,7 +150,7 @@ impl Shelf for MemShelf {
     {
         self.calls = self.calls.saturating_add(1);
         self.taken = 0;
-        self.asked.push(name.to_owned(alloc)?)?;
+        note(&mut self.asked, alloc, name)?;
         match find(&self.files, &self.failing, self.calls, name, limit) {
             Ok(bytes) => {
                 self.taken = bytes.len() as u64;

@@ -5,6 +5,7 @@ ghost use Rattle.nf_edge.specs.Faults.{Rose, one_more};
 ghost use Rattle.nf_edge.specs.Names.{texts};
 ghost use Rattle.nf_edge.specs.Real.{writer_of, faults_of};
 
+use crate::asked::note;
 use crate::{FetchFault, Shelf, Sink, SinkFault};
 use std::alloc::Global;
 use std::fs;
@@ -40,6 +41,24 @@ fn read_file<F: Read>(file: &mut F, bytes: &mut Vec<u8>, limit: u32) -> Result<(
     Err(FetchFault::TooLong)
 }
 
+// Reads the file of that name, as `read_file` does. It fails where none can be opened.
+fn read_named<R: Files>(
+    runtime: &R,
+    name: &str,
+    bytes: &mut Vec<u8>,
+    limit: u32,
+) -> Result<(), FetchFault>
+    requires { bytes.old.items ≡ [] }
+    ensures within { OnOk result (length bytes.new.items ≤ limit) }
+    ensures too_long { IsErrOf result FetchFault.TooLong → length bytes.new.items ≡ limit + 1 }
+    ensures long { limit < length bytes.new.items → IsErrOf result FetchFault.TooLong }
+{
+    match fs::open(runtime, name) {
+        Ok(mut file) => read_file(&mut file, bytes, limit),
+        Err(_) => Err(FetchFault::Failed),
+    }
+}
+
 /// The files of the runtime.
 #[derive(Drop)]
 pub struct RealShelf<'r, R: Files> {
@@ -63,14 +82,18 @@ impl<'r, R: Files> RealShelf<'r, R> {
         }
     }
 
-    // Counts the outside's failure.
-    fn failed(&mut self) -> FetchFault
-        ensures fault { result ≡ FetchFault.Failed }
+    // Counts a failure of the outside, and gives the fault on.
+    fn counted(&mut self, fault: FetchFault) -> FetchFault
+        ensures fault { result ≡ fault }
+        ensures asked { self.new.asked ≡ self.old.asked }
+        ensures taken { self.new.taken ≡ self.old.taken }
+        ensures failed { fault ≡ FetchFault.Failed → self.new.faults ≡ one_more self.old.faults }
         ensures never_falls { self.old.faults ≤ self.new.faults }
-        ensures counted { self.new ≡ record self.old { faults = one_more self.old.faults } }
     {
-        self.faults = self.faults.saturating_add(1);
-        FetchFault::Failed
+        if fault == FetchFault::Failed {
+            self.faults = self.faults.saturating_add(1);
+        }
+        fault
     }
 }
 
@@ -85,17 +108,13 @@ impl<'r, R: Files> Shelf for RealShelf<'r, R> {
 
     fn fetch(&mut self, alloc: Global, name: &str, limit: u32) -> Result<Vec<u8>, FetchFault> {
         self.taken = 0;
-        self.asked.push(name.to_owned(alloc)?)?;
-        let Ok(mut file) = fs::open(self.runtime, name) else {
-            return Err(self.failed());
-        };
+        note(&mut self.asked, alloc, name)?;
         let mut bytes = Vec::new(alloc);
-        let read = read_file(&mut file, &mut bytes, limit);
+        let read = read_named(self.runtime, name, &mut bytes, limit);
         self.taken = bytes.len() as u64;
         match read {
             Ok(()) => Ok(bytes),
-            Err(FetchFault::Failed) => Err(self.failed()),
-            Err(fault) => Err(fault),
+            Err(fault) => Err(self.counted(fault)),
         }
     }
 }
