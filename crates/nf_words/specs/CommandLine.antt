@@ -3,7 +3,7 @@ use Rattle.std.specs.Prelude.{true, List, [], ◌∷◌, Option, Some, None, unw
 use Rattle.clap.specs.Lexer.{usize_max}
 use Rattle.clap.specs.declared.builder.action.ArgAction.TheVariants.{SetTrue}
 use Rattle.clap.specs.Walk.{Row, Rule, Text, first_of, all_of}
-use Rattle.clap.specs.Simple.{App, new_rule, new_shape, matches_of}
+use Rattle.clap.specs.Simple.{App, new_rule, new_shape, matches_of, with_rule}
 use Rattle.clap.specs.Takes.{takes}
 
 -- ---- the command
@@ -26,6 +26,19 @@ flag_rule name = record (new_rule name) { long = Some name; action = Some SetTru
 -- the command `nfot`, without a flag for help or for a version, and without subcommands; it has no argument yet
 unfoldable pub bare : App
 bare = record { top = record (new_shape (codes "nfot")) { disable_help_flag = true }; subs = [] }
+
+-- a command with more options of one value
+abbrev pub with_options : List Text → App → App
+with_options [] app = app
+with_options (name ∷ names) app = with_options names (with_rule app (option_rule name))
+
+-- the options of a run
+abbrev pub run_options : List Text
+run_options = codes "horizon" ∷ codes "phases" ∷ codes "patterns" ∷ []
+
+-- the options of a quickest flow, and those of a ladder
+abbrev pub other_options : List Text
+other_options = codes "amount" ∷ codes "augments" ∷ codes "number" ∷ codes "rungs" ∷ []
 
 -- its arguments
 abbrev pub arguments : List Rule

@@ -2,7 +2,7 @@
 ghost use Rattle.std.specs.Prelude.{◌≡◌, IfOk, option_map};
 ghost use Rattle.clap.specs.Simple.{with_rule};
 ghost use Rattle.nf_edge.specs.Names.{texts};
-ghost use Rattle.nf_words.specs.CommandLine.{bare, nfot, command_rule, files_rule, flag_rule, option_rule, matches_on};
+ghost use Rattle.nf_words.specs.CommandLine.{bare, nfot, command_rule, files_rule, flag_rule, option_rule, run_options, other_options, with_options, matches_on};
 ghost use Rattle.nf_words.specs.Views.{app_in, rows_in};
 
 use clap::error::ErrorKind;
@@ -51,18 +51,32 @@ fn with_files<'w>(alloc: Global, command: Command<'w>) -> Result<Command<'w>, Al
     command.arg(files)
 }
 
+// The command with the options of a run.
+fn with_run_options<'w>(alloc: Global, command: Command<'w>) -> Result<Command<'w>, AllocError>
+    ensures { IfOk result (λ more. app_in more ≡ with_options run_options (app_in command.entry)) }
+{
+    let command = with_option(alloc, command, "horizon")?;
+    let command = with_option(alloc, command, "phases")?;
+    with_option(alloc, command, "patterns")
+}
+
+// The command with the options of a quickest flow and of a ladder.
+fn with_other_options<'w>(alloc: Global, command: Command<'w>) -> Result<Command<'w>, AllocError>
+    ensures { IfOk result (λ more. app_in more ≡ with_options other_options (app_in command.entry)) }
+{
+    let command = with_option(alloc, command, "amount")?;
+    let command = with_option(alloc, command, "augments")?;
+    let command = with_option(alloc, command, "number")?;
+    with_option(alloc, command, "rungs")
+}
+
 // The command `nfot`, with its arguments.
 fn command_line<'w>(alloc: Global) -> Result<Command<'w>, AllocError>
     ensures { IfOk result (λ command. app_in command ≡ nfot) }
 {
     let command = start_command(alloc)?;
-    let command = with_option(alloc, command, "horizon")?;
-    let command = with_option(alloc, command, "phases")?;
-    let command = with_option(alloc, command, "patterns")?;
-    let command = with_option(alloc, command, "amount")?;
-    let command = with_option(alloc, command, "augments")?;
-    let command = with_option(alloc, command, "number")?;
-    let command = with_option(alloc, command, "rungs")?;
+    let command = with_run_options(alloc, command)?;
+    let command = with_other_options(alloc, command)?;
     let command = with_flag(alloc, command, "forever")?;
     with_files(alloc, command)
 }
