@@ -7,6 +7,7 @@ use Rattle.std.proofs.lemmas.List.Elements.{All-cons, All-nil, All-head, All-tai
 use Rattle.nf_formats.specs.Named.{Named}
 use Rattle.nf_formats.specs.NetLines.{Broken}
 use Rattle.nf_formats.specs.NetFile.{Reads}
+use Rattle.nf_app.specs.declared.outcome.Found.{Found}
 use Rattle.nf_app.specs.declared.outcome.Outcome.{Outcome}
 use Rattle.nf_app.specs.declared.refusal.Refusal.{Refusal}
 use Rattle.nf_app.specs.Files.{Wanted, Visit, names_of, Fits, FetchedNone, FetchedAll, FetchedTo}
@@ -20,7 +21,7 @@ use Rattle.nf_app.specs.Refusals.{answer_of, refusal_of_net}
 use Rattle.nf_app.specs.Given.{IsGiven}
 use Rattle.nf_app.specs.Runs.{Call, Asks, Reached, NetworkReads, Read, IsRefused, IsComputed, IsAnswer}
 use Rattle.nf_app.specs.Fetching.{IsTold, AreTold, AreMissing, AreFetched, AreRead}
-use Rattle.nf_app.specs.Outcomes.{IsGiving, IsAnswered}
+use Rattle.nf_app.specs.Outcomes.{IsGiving, IsAnswered, with_net}
 
 -- ---- the last of files that were all fetched was reached
 record EndsIn (x : Wanted) (xs : List Wanted) : Type 0 where
@@ -124,12 +125,15 @@ module _ (words : List (List ℕ)) (shelf : Visit) (request : Request) (asks : r
     computed : (answer : Answer) → IsGiven shelf n request answer → IsAnswer call answer
     computed answer g = inr (record { request = request; net = n; read = read_of (Ok n) h.0 h.1; given = g })
 
-    pub given : (r : Result Outcome Refusal) → IsGiving shelf n request r → IsAnswered call r
-    given (Ok outcome) g = (computed _ g.0, g.1)
-    given (Err refusal) (inl none) =
+    given_with : (r : Result Found Refusal) → IsGiving shelf n request r → IsAnswered call (with_net n r)
+    given_with (Ok found) g = (computed _ g.0, g.1)
+    given_with (Err refusal) (inl none) =
         let last = all_reached shelf file others h.0 in
         subst (λ (r : Refusal). IsAnswer call (answer_of r)) (sym none) (inl (inr (last.0, reached last.0 last.1)))
-    given (Err refusal) (inr g) = computed (answer_of refusal) g
+    given_with (Err refusal) (inr g) = computed (answer_of refusal) g
+
+    pub given : (r : Result Found Refusal) → IsGiving shelf n request r → (out : Result Outcome Refusal) → out ≡ with_net n r → IsAnswered call out
+    given r g out e = subst (λ (o : Result Outcome Refusal). IsAnswered call o) (sym e) (given_with r g)
 
 -- ---- a request without files, whose network is generated
 module _ (words : List (List ℕ)) (shelf : Visit) (request : Request) (asks : request_of words ≡ Some request) (no_files : files_of request ≡ [])
@@ -147,10 +151,13 @@ module _ (words : List (List ℕ)) (shelf : Visit) (request : Request) (asks : r
   summed : (answer : Answer) → IsGiven shelf n request answer → IsAnswer (record { words = words; shelf = shelf }) answer
   summed answer g = inr (record { request = request; net = n; read = generated_read; given = g })
 
-  pub generated_given : (r : Result Outcome Refusal) → IsGiving shelf n request r → IsAnswered (record { words = words; shelf = shelf }) r
-  generated_given (Ok outcome) g = (summed _ g.0, g.1)
-  generated_given (Err refusal) (inl none) = subst (λ (r : Refusal). IsAnswer (record { words = words; shelf = shelf }) (answer_of r)) (sym none) (inl (inl untouched))
-  generated_given (Err refusal) (inr g) = summed (answer_of refusal) g
+  summed_with : (r : Result Found Refusal) → IsGiving shelf n request r → IsAnswered (record { words = words; shelf = shelf }) (with_net n r)
+  summed_with (Ok found) g = (summed _ g.0, g.1)
+  summed_with (Err refusal) (inl none) = subst (λ (r : Refusal). IsAnswer (record { words = words; shelf = shelf }) (answer_of r)) (sym none) (inl (inl untouched))
+  summed_with (Err refusal) (inr g) = summed (answer_of refusal) g
+
+  pub generated_given : (r : Result Found Refusal) → IsGiving shelf n request r → (out : Result Outcome Refusal) → out ≡ with_net n r → IsAnswered (record { words = words; shelf = shelf }) out
+  generated_given r g out e = subst (λ (o : Result Outcome Refusal). IsAnswered (record { words = words; shelf = shelf }) o) (sym e) (summed_with r g)
 
 -- ---- where there is no text, a sink takes nothing
 pub no_text : (refusal : Refusal) → out_text (answer_of refusal) ≡ []

@@ -18,14 +18,14 @@ ghost use Rattle.nf_words.specs.Requests as requests;
 ghost use Rattle.nf_words.specs.Views.{requested};
 ghost use Rattle.nf_app.specs.Requests.{loads_file, flows_file, routes_file, report_file};
 ghost use Rattle.nf_app.specs.Fetching.{IsTold};
-ghost use Rattle.nf_app.specs.Outcomes.{IsGiving, IsAnswered};
+ghost use Rattle.nf_app.specs.Outcomes.{IsGiving, IsAnswered, with_net};
 
 use crate::arrival::{find_arrival, last_label};
 use crate::augments_text::augments_text;
 use crate::fetching::{fetch_network, fetch_network_with};
 use crate::gen_text::Ladder;
 use crate::loading::load_links;
-use crate::outcome::Outcome;
+use crate::outcome::{Found, Outcome};
 use crate::quick_text::flow_text;
 use crate::refusal::Refusal;
 use crate::settling::settle_at_start;
@@ -58,50 +58,45 @@ const LONGEST_ROUTES: u32 = 1_048_576;
 /// The most bytes that a report may have.
 const LONGEST_REPORT: u32 = 67_108_864;
 
-// The network, with what solving it to a horizon gives.
-fn solve_to(alloc: Global, net: Network, horizon: Q, budgets: Budgets) -> Result<Outcome, Refusal>
+// What solving the network to a horizon gives.
+fn solve_to(alloc: Global, net: &Network, horizon: Q, budgets: Budgets) -> Result<Found, Refusal>
     requires { 0ℚ ≤ℚ horizon }
-    ensures { (shelf : Visit) (file : List ℕ) → IsGiving shelf net (Solve file horizon budgets.phases budgets.patterns) result }
+    ensures { (shelf : Visit) (file : List ℕ) → IsGiving shelf net.now (Solve file horizon budgets.phases budgets.patterns) result }
 {
     // For the proof: the network is that of an accepted file, and the parts of the horizon are within the bound.
     let _ = net.version();
     let _ = horizon.numer();
     let _ = horizon.denom();
-    let solution = solve(alloc, &net, horizon, budgets)?;
-    Ok(Outcome::Solved {
-        net,
-        horizon,
-        solution,
-    })
+    let solution = solve(alloc, net, horizon, budgets)?;
+    Ok(Found::Solved { horizon, solution })
 }
 
-// The network, with what solving it without a horizon gives.
-fn solve_on(alloc: Global, net: Network, budgets: Budgets) -> Result<Outcome, Refusal>
-    ensures { (shelf : Visit) (file : List ℕ) → IsGiving shelf net (SolveForever file budgets.phases budgets.patterns) result }
+// What solving the network without a horizon gives.
+fn solve_on(alloc: Global, net: &Network, budgets: Budgets) -> Result<Found, Refusal>
+    ensures { (shelf : Visit) (file : List ℕ) → IsGiving shelf net.now (SolveForever file budgets.phases budgets.patterns) result }
 {
     // For the proof: the network is that of an accepted file.
     let _ = net.version();
-    let forever = solve_forever(alloc, &net, budgets)?;
-    Ok(Outcome::SolvedForever { net, forever })
+    let forever = solve_forever(alloc, net, budgets)?;
+    Ok(Found::SolvedForever { forever })
 }
 
-// The ladder of a number, with what solving it to a horizon gives.
+// What solving the ladder of a number to a horizon gives.
 fn sum_up(
     alloc: Global,
-    net: Network,
+    net: &Network,
     ladder: Ladder,
     horizon: Q,
     budgets: Budgets,
-) -> Result<Outcome, Refusal>
+) -> Result<Found, Refusal>
     requires { 0ℚ ≤ℚ horizon }
-    ensures { (shelf : Visit) → IsGiving shelf net (Gen ladder.number ladder.rungs horizon budgets.phases budgets.patterns) result }
+    ensures { (shelf : Visit) → IsGiving shelf net.now (Gen ladder.number ladder.rungs horizon budgets.phases budgets.patterns) result }
 {
     // For the proof: the network is that of an accepted file.
     let _ = net.version();
-    let solution = solve(alloc, &net, horizon, budgets)?;
+    let solution = solve(alloc, net, horizon, budgets)?;
     let (_, arrival) = last_label(&solution.flow, net.sink());
-    Ok(Outcome::Generated {
-        net,
+    Ok(Found::Generated {
         ladder,
         horizon,
         solution,
@@ -109,97 +104,90 @@ fn sum_up(
     })
 }
 
-// The network, with its text.
-fn show(alloc: Global, net: Network) -> Result<Outcome, Refusal>
-    ensures { (shelf : Visit) (file : List ℕ) → IsGiving shelf net (Show file) result }
+// The text of the network.
+fn show(alloc: Global, net: &Network) -> Result<Found, Refusal>
+    ensures { (shelf : Visit) (file : List ℕ) → IsGiving shelf net.now (Show file) result }
 {
-    let text = text(alloc, &net)?;
-    Ok(Outcome::Shown { net, text })
+    let text = text(alloc, net)?;
+    Ok(Found::Shown { text })
 }
 
-// The network, with the loading of each link by the pieces that the text of a loads file gives it.
-fn load_to(alloc: Global, net: Network, loads: &[u8], horizon: Q) -> Result<Outcome, Refusal>
+// The loading of each link by the pieces that the text of a loads file gives it.
+fn load_to(alloc: Global, net: &Network, loads: &[u8], horizon: Q) -> Result<Found, Refusal>
     requires horizon { 0ℚ ≤ℚ horizon }
     requires within { length loads.now ≤ longest_text }
-    ensures { (shelf : Visit) (file name : List ℕ) → IsTold shelf (loads_file name) loads.now → IsGiving shelf net (Load file name horizon) result }
+    ensures { (shelf : Visit) (file name : List ℕ) → IsTold shelf (loads_file name) loads.now → IsGiving shelf net.now (Load file name horizon) result }
 {
-    let loads = parse_loads(alloc, &net, loads)?;
-    let links = load_links(alloc, &net, &loads, horizon)?;
-    Ok(Outcome::Loaded {
-        net,
-        horizon,
-        links,
-    })
+    // For the proof: the network is that of an accepted file.
+    let _ = net.version();
+    let loads = parse_loads(alloc, net, loads)?;
+    let links = load_links(alloc, net, &loads, horizon)?;
+    Ok(Found::Loaded { horizon, links })
 }
 
-// The network, with the verdict on the flow of the report that the text is.
-fn check_report(alloc: Global, net: Network, text: &[u8]) -> Result<Outcome, Refusal>
+// The verdict on the flow of the report that the text is.
+fn check_report(alloc: Global, net: &Network, text: &[u8]) -> Result<Found, Refusal>
     requires { length text.now ≤ report_limit }
-    ensures { (shelf : Visit) (file name : List ℕ) → IsTold shelf (report_file name) text.now → IsGiving shelf net (Check file name) result }
+    ensures { (shelf : Visit) (file name : List ℕ) → IsTold shelf (report_file name) text.now → IsGiving shelf net.now (Check file name) result }
 {
-    let report = parse_report(alloc, &net, text)?;
-    let verdict = check(alloc, &net, &report.flow)?;
-    Ok(Outcome::Checked { net, verdict })
+    let report = parse_report(alloc, net, text)?;
+    let verdict = check(alloc, net, &report.flow)?;
+    Ok(Found::Checked { verdict })
 }
 
-// The network, with what the thin flow is settled to that the text of a flows file gives.
-fn settle_to(alloc: Global, net: Network, text: &[u8]) -> Result<Outcome, Refusal>
+// What the thin flow is settled to that the text of a flows file gives.
+fn settle_to(alloc: Global, net: &Network, text: &[u8]) -> Result<Found, Refusal>
     requires { length text.now ≤ longest_text }
-    ensures { (shelf : Visit) (file name : List ℕ) → IsTold shelf (flows_file name) text.now → IsGiving shelf net (Settle file name) result }
+    ensures { (shelf : Visit) (file name : List ℕ) → IsTold shelf (flows_file name) text.now → IsGiving shelf net.now (Settle file name) result }
 {
-    let flows = parse_flows(alloc, &net, text)?;
-    match settle_at_start(alloc, &net, &flows)? {
-        Some(settled) => Ok(Outcome::Settled { net, settled }),
+    let flows = parse_flows(alloc, net, text)?;
+    match settle_at_start(alloc, net, &flows)? {
+        Some(settled) => Ok(Found::Settled { settled }),
         None => Err(Refusal::NotThin),
     }
 }
 
 // Why a report isn't resumed; where its flow is no equilibrium, what the check answers.
-fn refuse_resume(net: Network, fault: ResumeFault) -> Result<Outcome, Refusal>
-    ensures { (shelf : Visit) (file name : List ℕ) (horizon : ℚ) (phases patterns : ℕ) (text : List ℕ) (old : Report) → IsTold shelf (report_file name) text → report_in net text ≡ Ok old
-        → IsResumeFault passes_Q net.net old horizon fault → IsGiving shelf net (Resume file name horizon phases patterns) result }
+fn refuse_resume(net: &Network, fault: ResumeFault) -> Result<Found, Refusal>
+    ensures { (shelf : Visit) (file name : List ℕ) (horizon : ℚ) (phases patterns : ℕ) (text : List ℕ) (old : Report) → IsTold shelf (report_file name) text → report_in net.now text ≡ Ok old
+        → IsResumeFault passes_Q net.now.net old horizon fault → IsGiving shelf net.now (Resume file name horizon phases patterns) result }
 {
     match fault {
         ResumeFault::Earlier { .. } => Err(Refusal::Earlier),
-        ResumeFault::No(verdict) => Ok(Outcome::Checked { net, verdict }),
+        ResumeFault::No(verdict) => Ok(Found::Checked { verdict }),
         ResumeFault::Passed(at) => Err(Refusal::Passes(at)),
         ResumeFault::Memory => Err(Refusal::NoMemory),
     }
 }
 
-// The network, with the report of the run that goes on to a horizon from the report that the text is.
+// The report of the run that goes on to a horizon from the report that the text is.
 fn resume_to(
     alloc: Global,
-    net: Network,
+    net: &Network,
     text: &[u8],
     horizon: Q,
     budgets: Budgets,
-) -> Result<Outcome, Refusal>
+) -> Result<Found, Refusal>
     requires { length text.now ≤ report_limit }
     ensures { (shelf : Visit) (file name : List ℕ) → IsTold shelf (report_file name) text.now
-        → IsGiving shelf net (Resume file name horizon budgets.phases budgets.patterns) result }
+        → IsGiving shelf net.now (Resume file name horizon budgets.phases budgets.patterns) result }
 {
-    let report = parse_report(alloc, &net, text)?;
-    match resume(alloc, &net, &report, horizon, budgets) {
-        Ok(solution) => Ok(Outcome::Solved {
-            net,
-            horizon,
-            solution,
-        }),
+    let report = parse_report(alloc, net, text)?;
+    match resume(alloc, net, &report, horizon, budgets) {
+        Ok(solution) => Ok(Found::Solved { horizon, solution }),
         Err(fault) => refuse_resume(net, fault),
     }
 }
 
-// The network, with what becomes of the inflow that the text of a routes file gives along its routes, up to a horizon.
-fn distribute(alloc: Global, net: Network, text: &[u8], horizon: Q) -> Result<Outcome, Refusal>
+// What becomes of the inflow that the text of a routes file gives along its routes, up to a horizon.
+fn distribute(alloc: Global, net: &Network, text: &[u8], horizon: Q) -> Result<Found, Refusal>
     requires horizon { 0ℚ ≤ℚ horizon }
     requires within { length text.now ≤ longest_text }
-    ensures { (shelf : Visit) (file name : List ℕ) → IsTold shelf (routes_file name) text.now → IsGiving shelf net (Routes file name horizon) result }
+    ensures { (shelf : Visit) (file name : List ℕ) → IsTold shelf (routes_file name) text.now → IsGiving shelf net.now (Routes file name horizon) result }
 {
-    let routes = parse_routes(alloc, &net, text)?;
-    let routed = load_routes(alloc, &net, &routes, horizon)?;
-    Ok(Outcome::Distributed {
-        net,
+    let routes = parse_routes(alloc, net, text)?;
+    let routed = load_routes(alloc, net, &routes, horizon)?;
+    Ok(Found::Distributed {
         routes,
         horizon,
         routed,
@@ -209,16 +197,15 @@ fn distribute(alloc: Global, net: Network, text: &[u8], horizon: Q) -> Result<Ou
 // The walks that were pushed, as many as allowed, with their text.
 fn end_over_budget(
     alloc: Global,
-    net: Network,
+    net: &Network,
     augments: u64,
     walks: Vec<Augment>,
-) -> Result<Outcome, Refusal>
-    ensures { (shelf : Visit) (file : List ℕ) (amount : ℚ) → answered.IsAnswered passes_Q net.net amount augments (Err (QuickFault.Budget walks))
-        → IsGiving shelf net (requests.Quick file amount augments) result }
+) -> Result<Found, Refusal>
+    ensures { (shelf : Visit) (file : List ℕ) (amount : ℚ) → answered.IsAnswered passes_Q net.now.net amount augments (Err (QuickFault.Budget walks))
+        → IsGiving shelf net.now (requests.Quick file amount augments) result }
 {
-    let text = augments_text(alloc, &net, &walks)?;
-    Ok(Outcome::TooManyWalks {
-        net,
+    let text = augments_text(alloc, net, &walks)?;
+    Ok(Found::TooManyWalks {
         augments,
         walks,
         text,
@@ -228,11 +215,11 @@ fn end_over_budget(
 // Why there is no quickest flow of an amount; where too many walks are wanted, those that were pushed.
 fn refuse_quick(
     alloc: Global,
-    net: Network,
+    net: &Network,
     augments: u64,
     fault: QuickFault,
-) -> Result<Outcome, Refusal>
-    ensures { (shelf : Visit) (file : List ℕ) (amount : ℚ) → answered.IsAnswered passes_Q net.net amount augments (Err fault) → IsGiving shelf net (requests.Quick file amount augments) result }
+) -> Result<Found, Refusal>
+    ensures { (shelf : Visit) (file : List ℕ) (amount : ℚ) → answered.IsAnswered passes_Q net.now.net amount augments (Err fault) → IsGiving shelf net.now (requests.Quick file amount augments) result }
 {
     match fault {
         QuickFault::Budget { walks } => end_over_budget(alloc, net, augments, walks),
@@ -243,17 +230,16 @@ fn refuse_quick(
 }
 
 // A quickest flow of an amount, beside the arrival in an equilibrium of who departs when the amount is supplied.
-fn beside_arrival(alloc: Global, net: Network, amount: Q, quick: Quick) -> Result<Outcome, Refusal>
+fn beside_arrival(alloc: Global, net: &Network, amount: Q, quick: Quick) -> Result<Found, Refusal>
     requires amount { 0ℚ ≤ℚ amount }
-    requires flow { IsQuickFlow net.net amount quick }
-    ensures { (shelf : Visit) (file : List ℕ) (augments : ℕ) → answered.IsAnswered passes_Q net.net amount augments (Ok quick)
-        → IsGiving shelf net (requests.Quick file amount augments) result }
+    requires flow { IsQuickFlow net.now.net amount quick }
+    ensures { (shelf : Visit) (file : List ℕ) (augments : ℕ) → answered.IsAnswered passes_Q net.now.net amount augments (Ok quick)
+        → IsGiving shelf net.now (requests.Quick file amount augments) result }
 {
-    let departs = departure(&net, amount)?;
-    let arrival = find_arrival(alloc, &net, departs)?;
-    let text = flow_text(alloc, &net, &quick)?;
-    Ok(Outcome::Quickest {
-        net,
+    let departs = departure(net, amount)?;
+    let arrival = find_arrival(alloc, net, departs)?;
+    let text = flow_text(alloc, net, &quick)?;
+    Ok(Found::Quickest {
         quick,
         arrival,
         text,
@@ -261,14 +247,24 @@ fn beside_arrival(alloc: Global, net: Network, amount: Q, quick: Quick) -> Resul
 }
 
 // The quickest flow of an amount in the network, and the arrival in an equilibrium of who departs when the amount is supplied.
-fn quick_to(alloc: Global, net: Network, amount: Q, augments: u64) -> Result<Outcome, Refusal>
+fn quick_to(alloc: Global, net: &Network, amount: Q, augments: u64) -> Result<Found, Refusal>
     requires amount { 0ℚ ≤ℚ amount }
     requires augments { 1 ≤ augments }
-    ensures { (shelf : Visit) (file : List ℕ) → IsGiving shelf net (requests.Quick file amount augments) result }
+    ensures { (shelf : Visit) (file : List ℕ) → IsGiving shelf net.now (requests.Quick file amount augments) result }
 {
-    match quickest(alloc, &net, amount, augments) {
+    match quickest(alloc, net, amount, augments) {
         Ok(quick) => beside_arrival(alloc, net, amount, quick),
         Err(fault) => refuse_quick(alloc, net, augments, fault),
+    }
+}
+
+// What was found, with its network.
+fn with_net(found: Result<Found, Refusal>, net: Network) -> Result<Outcome, Refusal>
+    ensures { result ≡ with_net net found }
+{
+    match found {
+        Ok(found) => Ok(Outcome { net, found }),
+        Err(refusal) => Err(refusal),
     }
 }
 
@@ -299,7 +295,10 @@ fn answer_request<S: Shelf>(
             patterns,
         } => {
             let net = fetch_network(alloc, shelf, file)?;
-            solve_to(alloc, net, horizon, Budgets { phases, patterns })
+            with_net(
+                solve_to(alloc, &net, horizon, Budgets { phases, patterns }),
+                net,
+            )
         }
         Request::SolveForever {
             file,
@@ -307,11 +306,11 @@ fn answer_request<S: Shelf>(
             patterns,
         } => {
             let net = fetch_network(alloc, shelf, file)?;
-            solve_on(alloc, net, Budgets { phases, patterns })
+            with_net(solve_on(alloc, &net, Budgets { phases, patterns }), net)
         }
         Request::Show { file } => {
             let net = fetch_network(alloc, shelf, file)?;
-            show(alloc, net)
+            with_net(show(alloc, &net), net)
         }
         Request::Load {
             file,
@@ -319,11 +318,11 @@ fn answer_request<S: Shelf>(
             horizon,
         } => {
             let (net, loads) = fetch_network_with(alloc, shelf, file, loads, LONGEST_LOADS)?;
-            load_to(alloc, net, &loads, horizon)
+            with_net(load_to(alloc, &net, &loads, horizon), net)
         }
         Request::Check { file, report } => {
             let (net, report) = fetch_network_with(alloc, shelf, file, report, LONGEST_REPORT)?;
-            check_report(alloc, net, &report)
+            with_net(check_report(alloc, &net, &report), net)
         }
         Request::Quick {
             file,
@@ -331,7 +330,7 @@ fn answer_request<S: Shelf>(
             augments,
         } => {
             let net = fetch_network(alloc, shelf, file)?;
-            quick_to(alloc, net, amount, augments)
+            with_net(quick_to(alloc, &net, amount, augments), net)
         }
         Request::Gen {
             number,
@@ -342,11 +341,14 @@ fn answer_request<S: Shelf>(
         } => {
             let net = generated(alloc, number, rungs)?;
             let ladder = Ladder { number, rungs };
-            sum_up(alloc, net, ladder, horizon, Budgets { phases, patterns })
+            with_net(
+                sum_up(alloc, &net, ladder, horizon, Budgets { phases, patterns }),
+                net,
+            )
         }
         Request::Settle { file, flows } => {
             let (net, flows) = fetch_network_with(alloc, shelf, file, flows, LONGEST_FLOWS)?;
-            settle_to(alloc, net, &flows)
+            with_net(settle_to(alloc, &net, &flows), net)
         }
         Request::Resume {
             file,
@@ -356,7 +358,10 @@ fn answer_request<S: Shelf>(
             patterns,
         } => {
             let (net, report) = fetch_network_with(alloc, shelf, file, report, LONGEST_REPORT)?;
-            resume_to(alloc, net, &report, horizon, Budgets { phases, patterns })
+            with_net(
+                resume_to(alloc, &net, &report, horizon, Budgets { phases, patterns }),
+                net,
+            )
         }
         Request::Routes {
             file,
@@ -364,7 +369,7 @@ fn answer_request<S: Shelf>(
             horizon,
         } => {
             let (net, routes) = fetch_network_with(alloc, shelf, file, routes, LONGEST_ROUTES)?;
-            distribute(alloc, net, &routes, horizon)
+            with_net(distribute(alloc, &net, &routes, horizon), net)
         }
     }
 }

@@ -15,7 +15,7 @@ use nf_words::{USUAL_PATTERNS, USUAL_PHASES};
 use std::alloc::{AllocError, Global};
 
 /// When the flow arrives of which an amount is to be supplied, in an equilibrium.
-#[derive(Clone, Copy, Debug, PartialEq, Eq)]
+#[derive(Clone, Copy)]
 pub enum Arrival {
     /// The amount is never supplied.
     Never,

@@ -16,7 +16,7 @@ use nf_phase::Solution;
 use nf_report::{write_line, write_stop};
 
 /// Which ladder is generated: its number, and how many rungs it has.
-#[derive(Clone, Copy, Debug)]
+#[derive(Clone, Copy)]
 pub(crate) struct Ladder {
     pub number: u64,
     pub rungs: u32,

@@ -2,10 +2,11 @@
 ghost use Rattle.std.specs.Prelude.{◌≡◌, ◌++◌};
 ghost use Rattle.std.specs.Option.{option_copied};
 ghost use Rattle.nf_edge.specs.Taken.{Wrote};
+ghost use Rattle.nf_formats.specs.Named.{Named};
 ghost use Rattle.nf_app.specs.Answers.{status_of, status_of_cause, status_of_stop, status_of_forever, status_of_verdict, err_text, text_of_stop, text_of_verdict};
 ghost use Rattle.nf_app.specs.QuickText.{arrival_text};
 ghost use Rattle.nf_app.specs.Refusals.{answer_of};
-ghost use Rattle.nf_app.specs.Outcomes.{answer_in, text_in, HasText};
+ghost use Rattle.nf_app.specs.Outcomes.{answer_in, answer_with, text_with, HasText, HasTextWith};
 ghost use Rattle.nf_app.specs.Sinks.{TookText};
 ghost use Rattle.nf_app.specs.Runs.{IsShown};
 
@@ -13,7 +14,7 @@ use crate::arrival::Arrival;
 use crate::check_text::write_verdict;
 use crate::gen_text::write_summary;
 use crate::load_text::write_loads;
-use crate::outcome::Outcome;
+use crate::outcome::{Found, Outcome};
 use crate::quick_text::write_arrival;
 use crate::refusal::Refusal;
 use crate::routes_text::write_routed;
@@ -24,6 +25,7 @@ use nf_check::Answer;
 use nf_curve::Stop;
 use nf_edge::{Sink, SinkFault, write_text};
 use nf_forever::write_forever;
+use nf_net::Network;
 use nf_report::write_report;
 
 // The text of a quickest flow, and then that of the arrival.
@@ -34,17 +36,13 @@ fn write_quick<O: Sink>(text: &[u8], arrival: &Arrival, out: &mut O) -> Result<(
     write_arrival(out, arrival)
 }
 
-// The text of the outcome.
-fn write_outcome<O: Sink>(outcome: &Outcome, out: &mut O) -> Result<(), SinkFault>
-    requires { HasText outcome.now }
-    ensures { Wrote (O.took out.old) (O.took out.new) (O.faults out.old) (O.faults out.new) (text_in outcome.now) result }
+// The text of what was found.
+fn write_found<O: Sink>(net: &Network, found: &Found, out: &mut O) -> Result<(), SinkFault>
+    requires { HasTextWith net.now found.now }
+    ensures { Wrote (O.took out.old) (O.took out.new) (O.faults out.old) (O.faults out.new) (text_with net.now found.now) result }
 {
-    match outcome {
-        Outcome::Solved {
-            net,
-            horizon,
-            solution,
-        } => write_report(
+    match found {
+        Found::Solved { horizon, solution } => write_report(
             net,
             *horizon,
             &solution.flow,
@@ -52,26 +50,20 @@ fn write_outcome<O: Sink>(outcome: &Outcome, out: &mut O) -> Result<(), SinkFaul
             &solution.last,
             out,
         ),
-        Outcome::SolvedForever { net, forever } => write_forever(net, forever, out),
-        Outcome::Shown { text, .. } => write_text(out, text),
-        Outcome::Loaded {
-            net,
-            horizon,
-            links,
-        } => write_loads(out, net, *horizon, links),
-        Outcome::Checked { net, verdict } => write_verdict(out, net, verdict),
-        Outcome::Quickest { arrival, text, .. } => write_quick(text, arrival, out),
-        Outcome::TooManyWalks { text, .. } => write_text(out, text),
-        Outcome::Generated {
-            net,
+        Found::SolvedForever { forever } => write_forever(net, forever, out),
+        Found::Shown { text } => write_text(out, text),
+        Found::Loaded { horizon, links } => write_loads(out, net, *horizon, links),
+        Found::Checked { verdict } => write_verdict(out, net, verdict),
+        Found::Quickest { arrival, text, .. } => write_quick(text, arrival, out),
+        Found::TooManyWalks { text, .. } => write_text(out, text),
+        Found::Generated {
             ladder,
             solution,
             arrival,
             ..
         } => write_summary(out, net, *ladder, solution, *arrival),
-        Outcome::Settled { net, settled } => write_settled(out, net, settled),
-        Outcome::Distributed {
-            net,
+        Found::Settled { settled } => write_settled(out, net, settled),
+        Found::Distributed {
             routes,
             horizon,
             routed,
@@ -145,29 +137,28 @@ fn tell_verdict<E: Sink>(verdict: &Answer, err: &mut E) -> Status
     }
 }
 
-// Says why an outcome isn't the whole answer, if it isn't.
-fn tell<E: Sink>(outcome: &Outcome, err: &mut E) -> Status
-    ensures status { result ≡ status_of (answer_in outcome.now) }
-    ensures told { TookText (record {
+// Says why what was found isn't the whole answer, if it isn't.
+fn tell<E: Sink>(found: &Found, err: &mut E) -> Status
+    ensures status { (net : Named) → result ≡ status_of (answer_with net found.now) }
+    ensures told { (net : Named) → TookText (record {
       before = E.took err.old;
       now = E.took err.new;
       faults_before = E.faults err.old;
       faults_now = E.faults err.new;
-    }) (err_text (answer_in outcome.now)) }
+    }) (err_text (answer_with net found.now)) }
 {
-    match outcome {
-        Outcome::SolvedForever { forever, .. } => tell_forever(forever.stopped.as_ref(), err),
-        Outcome::Checked { verdict, .. } => tell_verdict(verdict, err),
-        Outcome::TooManyWalks { augments, .. } => {
+    match found {
+        Found::SolvedForever { forever, .. } => tell_forever(forever.stopped.as_ref(), err),
+        Found::Checked { verdict, .. } => tell_verdict(verdict, err),
+        Found::TooManyWalks { augments, .. } => {
             let _ = write_over_budget(err, *augments);
             Status::Augments
         }
-        _ => tell_stop(outcome.stop(), err),
+        _ => tell_stop(found.stop(), err),
     }
 }
 
 /// Writes the text of an outcome, and says how the run ends.
-#[tactic(auto, using(crate::proofs::Statuses::writes))]
 pub(crate) fn give<O: Sink, E: Sink>(outcome: &Outcome, out: &mut O, err: &mut E) -> Status
     requires { HasText outcome.now }
     ensures { IsShown (answer_in outcome.now) (record {
@@ -182,8 +173,8 @@ pub(crate) fn give<O: Sink, E: Sink>(outcome: &Outcome, out: &mut O, err: &mut E
       faults_now = E.faults err.new;
     }) result }
 {
-    match write_outcome(outcome, out) {
-        Ok(()) => tell(outcome, err),
+    match write_found(&outcome.net, &outcome.found, out) {
+        Ok(()) => tell(&outcome.found, err),
         Err(SinkFault) => {
             let _ = write_text(err, b"nfot: output\n");
             Status::Output

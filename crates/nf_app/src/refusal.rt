@@ -15,7 +15,7 @@ use nf_route_reader::{RoutesFault, RoutesRule};
 use std::alloc::AllocError;
 
 /// Why a run has no text for its output.
-#[derive(Clone, Copy, Debug, PartialEq, Eq)]
+#[derive(Clone, Copy)]
 pub(crate) enum Refusal {
     /// Memory is wanting.
     NoMemory,

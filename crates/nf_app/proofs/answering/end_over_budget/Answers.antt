@@ -13,6 +13,6 @@ returns-in_err-text c shelf file amount h =
 
 pub returns : goal.returns
 returns c shelf file amount h = (
-  budget_given shelf c.args.net file amount c.args.augments c.args.walks.items h.0 h.1,
-  c.in_ok-text.ensures ∙ ap (λ (l : List lists.Augment). augments_text c.args.net l) c.deref.ensures.value,
+  budget_given shelf c.args.net.now file amount c.args.augments c.args.walks.items h.0 h.1,
+  c.in_ok-text.ensures ∙ ap (λ (l : List lists.Augment). augments_text c.args.net.now l) c.deref.ensures.value,
 )

@@ -9,15 +9,15 @@ use Rattle.nf_app.proofs.answering.refuse_quick.Goals as goal
 
 pub returns-in-Budget : goal.returns-in-Budget
 returns-in-Budget c shelf file amount h =
-    c.end_over_budget.ensures shelf file amount (subst (λ (f : QuickFault). IsAnswered passes_Q c.args.net.net amount c.args.augments (Err f)) c.in-Budget.is h)
+    c.end_over_budget.ensures shelf file amount (subst (λ (f : QuickFault). IsAnswered passes_Q c.args.net.now.net amount c.args.augments (Err f)) c.in-Budget.is h)
 
 pub returns-in-Unbounded : goal.returns-in-Unbounded
 returns-in-Unbounded c shelf file amount h =
-    inr (unbounded_given shelf c.args.net file amount c.args.augments c.in-Unbounded.links (subst (λ (f : QuickFault). IsAnswered passes_Q c.args.net.net amount c.args.augments (Err f)) c.in-Unbounded.is h))
+    inr (unbounded_given shelf c.args.net.now file amount c.args.augments c.in-Unbounded.links (subst (λ (f : QuickFault). IsAnswered passes_Q c.args.net.now.net amount c.args.augments (Err f)) c.in-Unbounded.is h))
 
 pub returns-in-Passed : goal.returns-in-Passed
 returns-in-Passed c shelf file amount h =
-    inr (passed_given shelf c.args.net file amount c.args.augments _ (subst (λ (f : QuickFault). IsAnswered passes_Q c.args.net.net amount c.args.augments (Err f)) c.in-Passed.is h))
+    inr (passed_given shelf c.args.net.now file amount c.args.augments _ (subst (λ (f : QuickFault). IsAnswered passes_Q c.args.net.now.net amount c.args.augments (Err f)) c.in-Passed.is h))
 
-pub returns-in-Memory : goal.returns-in-Memory
-returns-in-Memory c shelf file amount h = inl refl
+pub returns : goal.returns
+returns c shelf file amount h = inl refl

@@ -10,13 +10,13 @@ resume-requires c = c.in_ok-report.ensures.formed
 pub returns-in_err-report : goal.returns-in_err-report
 returns-in_err-report c shelf file name told =
     let p = err_from_is_err_and c.from_residual.result c.from_residual.ensures.1 in
-    rw (p.1, p.2) (old_refused shelf c.args.net file name c.args.horizon c.args.budgets.phases c.args.budgets.patterns c.args.text.now told c.in_err-report.field-0.0 c.in_err-report.ensures.reads)
+    rw (p.1, p.2) (old_refused shelf c.args.net.now file name c.args.horizon c.args.budgets.phases c.args.budgets.patterns c.args.text.now told c.in_err-report.field-0.0 c.in_err-report.ensures.reads)
 
 pub returns-in-Ok : goal.returns-in-Ok
 returns-in-Ok c shelf file name told =
     let e = c.in-Ok.ensures in
     let s = c.in-Ok.solution in (
-      gone_on_given shelf c.args.net file name c.args.horizon c.args.budgets.phases c.args.budgets.patterns c.args.text.now told (report_of c.in_ok-report.report) c.in_ok-report.ensures.reads (report_in c.args.horizon s) s.phases e.not_earlier e.resumed e.formed e.equilibrium e.goes_on,
+      gone_on_given shelf c.args.net.now file name c.args.horizon c.args.budgets.phases c.args.budgets.patterns c.args.text.now told (report_of c.in_ok-report.report) c.in_ok-report.ensures.reads (report_in c.args.horizon s) s.phases e.not_earlier e.resumed e.formed e.equilibrium e.goes_on,
       e.formed,
     )
 

@@ -28,8 +28,8 @@ returns c shelf file =
           run = e.run;
           equilibrium = e.equilibrium;
           stop = stop_seen c.in_ok-forever.forever.tail (f.stop ≡ None) e.stop;
-          goes_on = tail_seen (λ tail. (until : ℚ) → 0ℚ ≤ℚ until → Equilibrium c.args.net.net (flow_until c.args.net.net f.flow tail until)) c.in_ok-forever.forever.tail e.tail;
-          no_thin_flow = forever_stops_for_none passes_Q c.args.net.net c.args.budgets.phases c.args.budgets.patterns f c.version.ensures.named.network e.run;
+          goes_on = tail_seen (λ tail. (until : ℚ) → 0ℚ ≤ℚ until → Equilibrium c.args.net.now.net (flow_until c.args.net.now.net f.flow tail until)) c.in_ok-forever.forever.tail e.tail;
+          no_thin_flow = forever_stops_for_none passes_Q c.args.net.now.net c.args.budgets.phases c.args.budgets.patterns f c.version.ensures.named.network e.run;
         },
       ),
       e.form,
