@@ -5,17 +5,21 @@ use Rattle.std.specs.List.{AllByRecursion, AllZip, IsDistinct}
 use Rattle.std.specs.Str.{bytes_eq}
 use Rattle.std.proofs.lemmas.Simd.{map-map}
 use Rattle.nf_model.specs.Entries.{Has}
-use Rattle.nf_model.specs.Walk.{Hop}
-use Rattle.nf_model.specs.Network.{Link, hop_of}
+use Rattle.nf_model.specs.Network.{hop_of}
 use Rattle.nf_formats.specs.Names.{Name, place_of, with_names, without}
-use Rattle.nf_formats.specs.Named.{NamedLink, Named, numbered, hops_among, ends, names_of}
+use Rattle.nf_formats.specs.Named.{NamedLink, Named, numbered, ends, names_of}
 use Rattle.nf_formats.specs.NetLines.{Draft}
-use Rattle.nf_formats.specs.NetClosing.{source_name, sink_name, IsReached, marked, network_of, StandsFor}
+use Rattle.nf_formats.specs.NetClosing.{source_name, sink_name, IsReached, marked, network_of}
 use Rattle.nf_formats.specs.WellNamed.{IsNamed}
 use Rattle.nf_formats_laws.proofs.NameFacts.{same_names, bytes_eq-turned, has_none, with_name_new}
 use Rattle.nf_formats_laws.proofs.LinkFacts.{distinct_left}
 use Rattle.nf_formats_laws.proofs.AcceptedNamed.{is_named}
-use Rattle.nf_net.specs.Kept.{with_parts, IsKept}
+use Rattle.nf_net.specs.declared.building.SortedLinks.{SortedLinks}
+use Rattle.nf_net.specs.declared.building.SortedNodes.{SortedNodes}
+use Rattle.nf_net.specs.declared.building.NumberedLinks.{NumberedLinks}
+use Rattle.nf_net.specs.declared.building.Parts.{Parts}
+use Rattle.nf_net.specs.Building.{AreSorted, AreNodesOf, AreNumbersOf, net_of, ArePartsOf}
+use Rattle.nf_net.specs.Kept.{with_parts}
 use Rattle.nf_net.specs.Contents.{IsRead}
 use Rattle.nf_net.specs.Closing.{HasEnds, BreaksNone, flag_at, tail_flags, AreFlags}
 use Rattle.nf_net.proofs.Limits.{few_nodes}
@@ -63,9 +67,6 @@ module _ (draft : Draft) (flags : List Bool) (are : AreFlags draft flags) where
   )
 
 module _ (draft : Draft) (flags : List Bool) (read : IsRead draft) (has : HasEnds draft) (fine : BreaksNone draft) (are : AreFlags draft flags) where
-  abbrev marks : List Bool
-  marks = tail_flags draft.nodes flags draft.links
-
   named_net : IsNamed (network_of draft (marked (tail_flags draft.nodes flags draft.links) draft.links) (marked (map not (tail_flags draft.nodes flags draft.links)) draft.links))
   named_net = is_named draft (good_of draft read) fine (tail_flags draft.nodes flags draft.links) (active_flags draft flags are draft.links)
 
@@ -78,36 +79,37 @@ module _ (draft : Draft) (flags : List Bool) (read : IsRead draft) (has : HasEnd
   abbrev net_with : List Name → List NamedLink → List NamedLink → Named
   net_with nodes active idle = with_parts draft.version nodes (names_of active) (map (numbered nodes) active) draft.pieces (without nodes (with_names [] (ends idle))) idle
 
-  module _ (active idle : List NamedLink) (nodes names others : List Name) (numbers : List Link) (hops : List Hop)
-      (e_active : active ≡ marked (tail_flags draft.nodes flags draft.links) draft.links)
-      (e_idle : idle ≡ marked (map not (tail_flags draft.nodes flags draft.links)) draft.links)
-      (e_nodes : nodes ≡ with_names (with_names [] (source_name draft ∷ sink_name draft ∷ [])) (ends active)) where
-    nodes_are : nodes ≡ with_names (source_name draft ∷ sink_name draft ∷ []) (ends active)
-    nodes_are = e_nodes ∙ ap (λ (l : List Name). with_names l (ends active)) (put_two (source_name draft) (sink_name draft) two_ends)
+  module _ (links : SortedLinks) (nodes : SortedNodes) (sorted : AreSorted draft flags links) (of : AreNodesOf draft links nodes) where
+    nodes_are : nodes.active ≡ nodes_with links.active.items
+    nodes_are = of.active ∙ ap (λ (l : List Name). with_names l (ends links.active.items)) (put_two (source_name draft) (sink_name draft) two_ends)
 
-    nodes_all : nodes ≡ with_names (source_name draft ∷ sink_name draft ∷ []) (ends (marked (tail_flags draft.nodes flags draft.links) draft.links))
-    nodes_all = nodes_are ∙ ap (λ (links : List NamedLink). with_names (source_name draft ∷ sink_name draft ∷ []) (ends links)) e_active
+    nodes_all : nodes.active ≡ nodes_with (marked (tail_flags draft.nodes flags draft.links) draft.links)
+    nodes_all = nodes_are ∙ ap nodes_with sorted.active
 
-    pub few_names : length nodes ≤ 64
+    pub few_names : length nodes.active ≤ 64
     few_names = subst (λ (l : List Name). length l ≤ 64) (sym nodes_all) (few_nodes _ named_net)
 
-    net_is : net_with nodes active idle ≡ network_of draft (marked (tail_flags draft.nodes flags draft.links) draft.links) (marked (map not (tail_flags draft.nodes flags draft.links)) draft.links)
-    net_is = ap (λ (l : List Name). net_with l active idle) nodes_are ∙ (λ i. net_with (nodes_with (e_active i)) (e_active i) (e_idle i))
+    net_is : net_with nodes.active links.active.items links.idle.items
+        ≡ network_of draft (marked (tail_flags draft.nodes flags draft.links) draft.links) (marked (map not (tail_flags draft.nodes flags draft.links)) draft.links)
+    net_is = ap (λ (l : List Name). net_with l links.active.items links.idle.items) nodes_are ∙ (λ i. net_with (nodes_with (sorted.active i)) (sorted.active i) (sorted.idle i))
 
-    module _ (e_others : others ≡ without nodes (with_names [] (ends idle))) (e_names : names ≡ with_names [] (names_of active))
-        (e_numbers : numbers ≡ map (numbered nodes) active) (e_hops : hops ≡ hops_among nodes active) where
-      names_are : names ≡ names_of active
-      names_are = e_names ∙ put_each [] (names_of active) (subst (λ (links : List NamedLink). IsDistinct bytes_eq (names_of links)) (sym e_active)
+    module _ (numbers : NumberedLinks) (are_numbers : AreNumbersOf nodes.active links.active.items numbers) where
+      names_are : numbers.names ≡ names_of links.active.items
+      names_are = are_numbers.names ∙ put_each [] (names_of links.active.items) (subst (λ (ls : List NamedLink). IsDistinct bytes_eq (names_of ls)) (sym sorted.active)
           (distinct_left (names_of (marked (tail_flags draft.nodes flags draft.links) draft.links)) (names_of (marked (map not (tail_flags draft.nodes flags draft.links)) draft.links)) named_net.link_names.distinct))
 
-      pub parts_are : with_parts draft.version nodes names numbers draft.pieces others idle ≡ network_of draft (marked (tail_flags draft.nodes flags draft.links) draft.links) (marked (map not (tail_flags draft.nodes flags draft.links)) draft.links)
-      parts_are = (λ i. with_parts draft.version nodes (names_are i) (e_numbers i) draft.pieces (e_others i) idle) ∙ net_is
+      abbrev parts : Parts
+      parts = record { links = links; nodes = nodes; numbers = numbers }
 
-      pub is_kept : IsKept (with_parts draft.version nodes names numbers draft.pieces others idle) hops
-      is_kept = record {
-        named = subst IsNamed (sym parts_are) named_net;
-        hops = e_hops ∙ sym (map-map hop_of (numbered nodes) active) ∙ ap (map hop_of) (sym e_numbers);
+      net_of_is : net_of draft parts
+          ≡ network_of draft (marked (tail_flags draft.nodes flags draft.links) draft.links) (marked (map not (tail_flags draft.nodes flags draft.links)) draft.links)
+      net_of_is = (λ i. with_parts draft.version nodes.active (names_are i) (are_numbers.links i) draft.pieces (of.idle i) links.idle.items) ∙ net_is
+
+      pub are_parts : ArePartsOf draft parts
+      are_parts = record {
+        kept = record {
+          named = subst IsNamed (sym net_of_is) named_net;
+          hops = are_numbers.hops ∙ sym (map-map hop_of (numbered nodes.active) links.active.items) ∙ ap (map hop_of) (sym are_numbers.links);
+        };
+        stands = record { flags = tail_flags draft.nodes flags draft.links; active = active_flags draft flags are draft.links; network = net_of_is };
       }
-
-      pub stands : StandsFor draft (with_parts draft.version nodes names numbers draft.pieces others idle)
-      stands = record { flags = tail_flags draft.nodes flags draft.links; active = active_flags draft flags are draft.links; network = parts_are }

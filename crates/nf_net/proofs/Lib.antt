@@ -11,6 +11,8 @@ pub mod HeadLine
 pub mod ContentLines
 pub mod FirstRule
 pub mod Marks
+pub mod Filling
+pub mod LinkLine
 pub mod FileWalks
 pub mod Built
 pub mod StartLabels

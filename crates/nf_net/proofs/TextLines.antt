@@ -10,7 +10,6 @@ use Rattle.nf_formats.specs.NetText.{link_words}
 use Rattle.nf_formats.specs.WellNamed.{IsNamed}
 use Rattle.nf_net.specs.Printing.{PushesLink}
 use Rattle.nf_net.proofs.Limits.{length-links_by_name}
-use Rattle.std.proofs.lemmas.Option.{same_Some}
 
 -- ---- texts put behind each other
 -- with one word more

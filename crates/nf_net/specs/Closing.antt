@@ -45,3 +45,9 @@ AreFlags draft flags = AreReached (length draft.nodes) (draft_hops draft) (sourc
 abbrev pub HasFraction : DistanceFault → Type 0
 HasFraction (Passed link left right) = is_wide greatest left ≡ false
 HasFraction Memory = ⊥
+
+-- the file as a whole breaks no rule, and these are its flags
+pub record IsWhole (draft : Draft) (flags : List Bool) : Type 0 where
+  pub ends : HasEnds draft
+  pub fine : BreaksNone draft
+  pub reached : AreFlags draft flags

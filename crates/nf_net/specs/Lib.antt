@@ -7,3 +7,4 @@ pub mod Drafts
 pub mod Contents
 pub mod Printing
 pub mod Closing
+pub mod Building

@@ -6,6 +6,7 @@ ghost use Rattle.nf_formats.specs.NetClosing.{marked, StandsFor};
 ghost use Rattle.nf_net.specs.Drafts.{seen_draft};
 ghost use Rattle.nf_net.specs.Contents.{IsRead};
 ghost use Rattle.nf_net.specs.Closing.{HasEnds, BreaksNone, AreFlags, flag_at, tail_flags};
+ghost use Rattle.nf_net.specs.Building.{AreSorted, AreNodesOf, AreNumbersOf, ArePartsOf};
 ghost use Rattle.nf_formats.specs.Limits.{most_nodes};
 
 use crate::closing::hops_of;
@@ -14,7 +15,7 @@ use crate::link::{Link, NamedLink};
 use crate::name::Name;
 use crate::names::Names;
 use crate::network::Network;
-use nf_graph::NodeId;
+use nf_graph::{Hop, NodeId};
 use std::alloc::{AllocError, Global};
 
 // The flag of a link's tail.
@@ -31,7 +32,6 @@ fn is_active(nodes: &Names, flags: &[bool], link: &NamedLink) -> bool
 }
 
 // The links whose tails are reached.
-#[tactic(auto, using(crate::proofs::Marks::marked_with, crate::proofs::Marks::marked_past))]
 fn active_of(
     alloc: Global,
     nodes: &Names,
@@ -51,7 +51,6 @@ fn active_of(
 }
 
 // The links whose tails aren't.
-#[tactic(auto, using(crate::proofs::Marks::marked_with, crate::proofs::Marks::marked_past))]
 fn idle_of(
     alloc: Global,
     nodes: &Names,
@@ -122,7 +121,6 @@ fn numbered_links(
 }
 
 // The names that aren't among these.
-#[tactic(auto, using(crate::proofs::Marks::kept_with))]
 fn names_without(alloc: Global, these: &Names, names: &[Name]) -> Result<Vec<Name>, AllocError>
     ensures { IfOk result (λ others. others.items ≡ without these.now names.now) }
 {
@@ -170,31 +168,114 @@ fn given(name: &Option<Name>) -> &Name
     }
 }
 
-/// The network that the lines of a file stand for, where they break no rule.
-pub fn network_of(alloc: Global, draft: Draft, flags: &[bool]) -> Result<Network, AllocError>
-    requires read { IsRead (seen_draft draft) }
-    requires ends { HasEnds (seen_draft draft) }
-    requires fine { BreaksNone (seen_draft draft) }
-    requires flags { AreFlags (seen_draft draft) flags.now }
-    ensures { IfOk result (λ net. StandsFor (seen_draft draft) net) }
+// The links of a draft: those whose tails are reached, and the others.
+#[derive(Drop)]
+struct SortedLinks {
+    active: Vec<NamedLink>,
+    idle: Vec<NamedLink>,
+}
+
+fn sorted_links(alloc: Global, draft: &Draft, flags: &[bool]) -> Result<SortedLinks, AllocError>
+    requires { length draft.now.nodes ≤ length flags.now }
+    ensures { IfOk result (λ links. AreSorted (seen_draft draft.now) flags.now links) }
 {
-    let Draft {
-        version,
-        source,
-        sink,
-        nodes,
+    let active = active_of(alloc, &draft.nodes, flags, &draft.links)?;
+    let idle = idle_of(alloc, &draft.nodes, flags, &draft.links)?;
+    Ok(SortedLinks { active, idle })
+}
+
+// The nodes of a draft: those that have numbers, and the others.
+#[derive(Drop)]
+struct SortedNodes {
+    active: Names,
+    idle: Vec<Name>,
+}
+
+fn sorted_nodes(
+    alloc: Global,
+    draft: &Draft,
+    links: &SortedLinks,
+) -> Result<SortedNodes, AllocError>
+    requires { HasEnds (seen_draft draft.now) }
+    ensures { IfOk result (λ nodes. AreNodesOf (seen_draft draft.now) links.now nodes) }
+{
+    let source = given(&draft.source);
+    let sink = given(&draft.sink);
+    let active = active_nodes(alloc, source, sink, &links.active)?;
+    let idle = idle_nodes(alloc, &active, &links.idle)?;
+    Ok(SortedNodes { active, idle })
+}
+
+// Links by their numbers: their names, what they are between nodes, and that without their capacities.
+#[derive(Drop)]
+struct NumberedLinks {
+    names: Names,
+    links: Vec<Link>,
+    hops: Vec<Hop>,
+}
+
+fn number_links(
+    alloc: Global,
+    nodes: &Names,
+    links: &[NamedLink],
+) -> Result<NumberedLinks, AllocError>
+    requires { length nodes.now ≤ most_nodes }
+    ensures { IfOk result (λ numbers. AreNumbersOf nodes.now links.now numbers) }
+{
+    let numbers = numbered_links(alloc, nodes, links)?;
+    let hops = hops_of(alloc, nodes, links)?;
+    let names = link_names(alloc, links)?;
+    Ok(NumberedLinks {
+        names,
+        links: numbers,
+        hops,
+    })
+}
+
+/// What a network has beside the version and the pieces of its draft.
+#[derive(Drop)]
+pub struct Parts {
+    links: SortedLinks,
+    nodes: SortedNodes,
+    numbers: NumberedLinks,
+}
+
+/// The parts of the network that the lines of a file stand for, where they break no rule.
+pub fn parts_of(alloc: Global, draft: &Draft, flags: &[bool]) -> Result<Parts, AllocError>
+    requires read { IsRead (seen_draft draft.now) }
+    requires ends { HasEnds (seen_draft draft.now) }
+    requires fine { BreaksNone (seen_draft draft.now) }
+    requires flags { AreFlags (seen_draft draft.now) flags.now }
+    ensures { IfOk result (λ parts. ArePartsOf (seen_draft draft.now) parts) }
+{
+    let links = sorted_links(alloc, draft, flags)?;
+    let nodes = sorted_nodes(alloc, draft, &links)?;
+    let numbers = number_links(alloc, &nodes.active, &links.active)?;
+    Ok(Parts {
         links,
-        pieces,
-        ended: _,
-    } = draft;
-    let active = active_of(alloc, &nodes, flags, &links)?;
-    let idle = idle_of(alloc, &nodes, flags, &links)?;
-    let node_names = active_nodes(alloc, given(&source), given(&sink), &active)?;
-    let others = idle_nodes(alloc, &node_names, &idle)?;
-    let names = link_names(alloc, &active)?;
-    let numbers = numbered_links(alloc, &node_names, &active)?;
-    let hops = hops_of(alloc, &node_names, &active)?;
-    Ok(Network::kept(
-        version, node_names, names, numbers, hops, pieces, others, idle,
-    ))
+        nodes,
+        numbers,
+    })
+}
+
+/// The network that a draft and its parts make.
+pub fn network_of(draft: Draft, parts: Parts) -> Network
+    requires { ArePartsOf (seen_draft draft) parts }
+    ensures { StandsFor (seen_draft draft) result }
+{
+    let Parts {
+        links,
+        nodes,
+        numbers,
+    } = parts;
+    Network::kept(
+        draft.version,
+        nodes.active,
+        numbers.names,
+        numbers.links,
+        numbers.hops,
+        draft.pieces,
+        nodes.idle,
+        links.idle,
+    )
 }

@@ -6,8 +6,9 @@ ghost use Rattle.nf_text.specs.Reading.{seen_line};
 ghost use Rattle.nf_formats.specs.NetFile.{Closes, Reads};
 ghost use Rattle.nf_net.specs.Drafts.{seen_draft};
 ghost use Rattle.nf_net.specs.Contents.{AreLinesWithin, IfBroken, IsRead};
+ghost use Rattle.nf_net.specs.Closing.{IsWhole};
 
-use crate::building::network_of;
+use crate::building::{network_of, parts_of};
 use crate::closing::{flags_of, hops_of, names_rule, walk_rule};
 use crate::contents::read_draft;
 use crate::draft::Draft;
@@ -45,22 +46,32 @@ fn lines_of(alloc: Global, text: &[u8]) -> Result<Vec<Line>, NetFault>
     Ok(read)
 }
 
+// The flags of the nodes by which they are reached, or the first rule of the file as a whole that is broken.
+fn closing_flags(alloc: Global, draft: &Draft) -> Result<Vec<bool>, NetFault>
+    requires { IsRead (seen_draft draft.now) }
+    ensures { MatchResult result (λ flags. IsWhole (seen_draft draft.now) flags.items)
+        (λ fault. IfBroken fault (λ broken. Closes (seen_draft draft.now) (Err broken))) }
+{
+    if let Some(rule) = names_rule(draft) {
+        return Err(NetFault::Broken { rule, line: 0 });
+    }
+    let hops = hops_of(alloc, &draft.nodes, &draft.links)?;
+    let flags = flags_of(alloc, draft, &hops)?;
+    match walk_rule(alloc, draft, &hops, &flags)? {
+        Some(rule) => Err(NetFault::Broken { rule, line: 0 }),
+        None => Ok(flags),
+    }
+}
+
 // The network that lines stand for, or the first rule of the file as a whole that they break.
 fn close(alloc: Global, draft: Draft) -> Result<Network, NetFault>
     requires { IsRead (seen_draft draft) }
     ensures { MatchResult result (λ net. Closes (seen_draft draft) (Ok net))
         (λ fault. IfBroken fault (λ broken. Closes (seen_draft draft) (Err broken))) }
 {
-    if let Some(rule) = names_rule(&draft) {
-        return Err(NetFault::Broken { rule, line: 0 });
-    }
-    let hops = hops_of(alloc, &draft.nodes, &draft.links)?;
-    let flags = flags_of(alloc, &draft, &hops)?;
-    if let Some(rule) = walk_rule(alloc, &draft, &hops, &flags)? {
-        return Err(NetFault::Broken { rule, line: 0 });
-    }
-    let net = network_of(alloc, draft, &flags)?;
-    Ok(net)
+    let flags = closing_flags(alloc, &draft)?;
+    let parts = parts_of(alloc, &draft, &flags)?;
+    Ok(network_of(draft, parts))
 }
 
 /// The network that a text of at most 67,108,864 bytes stands for; or the first rule that it breaks, and the line. The rules of

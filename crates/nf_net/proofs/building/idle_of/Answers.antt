@@ -1,0 +1,22 @@
+use Rattle.std.proofs.Common.{◌+◌, ◌++◌, List, [], ◌∷◌, drop, map, not, sym, ◌∙◌, ap, append-nil}
+use Rattle.nf_formats.specs.Named.{NamedLink}
+use Rattle.nf_formats.specs.NetClosing.{marked}
+use Rattle.nf_net.specs.Closing.{tail_flags}
+use Rattle.nf_net.proofs.Filling.{filled}
+use Rattle.nf_net.proofs.Marks.{marked_with, marked_past}
+use Rattle.nf_net.proofs.building.idle_of.Goals as goal
+use Rattle.nf_net.proofs.building.idle_of.Goals.{then-not-is_active+in_ok-push, else-not-is_active}
+
+pub loop-link-preserved : goal.loop-link-preserved
+loop-link-preserved c =
+    let given : List NamedLink → List NamedLink = λ (ls : List NamedLink). marked (map not (tail_flags c.args.nodes.now c.args.flags.now ls)) ls in
+    let link : NamedLink = c.link-item.result in
+    let front : List NamedLink = c.loop-link.idle.items in
+    elim c.if-not-is_active.branch [
+      | then-not-is_active+in_ok-push w ↦ filled given c.args.links.now c.loop-link.link-index link front (link ∷ []) _ _
+          (ap (λ v. v.items) w.idle-is ∙ w.in_ok-push.ensures.items ∙ ap (λ (x : NamedLink). front ++ x ∷ []) w.copy.ensures)
+          c.loop-link-test.true c.link-item.is (marked_with _ _ link (drop (c.loop-link.link-index + 1) c.args.links.now) (ap not (sym c.is_active.ensures ∙ w.if-not-is_active.true))) c.loop-link.invariant
+      | else-not-is_active w ↦ filled given c.args.links.now c.loop-link.link-index link front [] _ _
+          (ap (λ v. v.items) w.idle-is ∙ sym (append-nil front))
+          c.loop-link-test.true c.link-item.is (marked_past _ _ link (drop (c.loop-link.link-index + 1) c.args.links.now) (ap not (sym c.is_active.ensures ∙ w.if-not-is_active.false))) c.loop-link.invariant
+    ]

@@ -1,0 +1,12 @@
+use Rattle.std.proofs.Common.{◌++◌, List, [], ◌∷◌, map, refl, ◌∙◌, ap}
+use Rattle.nf_model.specs.Network.{Link}
+use Rattle.nf_formats.specs.Named.{numbered}
+use Rattle.nf_net.proofs.Filling.{filled}
+use Rattle.nf_net.proofs.building.numbered_links.Goals as goal
+
+pub loop-link-preserved : goal.loop-link-preserved
+loop-link-preserved c =
+    let front : List Link = c.loop-link.numbers.items in
+    filled (map (numbered c.args.nodes.now)) c.args.links.now c.loop-link.link-index c.link-item.result front _ _ _
+    (c.in_ok-push.ensures.items ∙ ap (λ (link : Link). front ++ link ∷ []) c.number.ensures)
+    c.loop-link-test.true c.link-item.is refl c.loop-link.invariant

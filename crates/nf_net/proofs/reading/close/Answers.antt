@@ -1,6 +1,0 @@
-use Rattle.nf_net.specs.Drafts.{seen_draft}
-use Rattle.nf_net.proofs.FileWalks.{good_of}
-use Rattle.nf_net.proofs.reading.close.Goals as goal
-
-pub hops_of-requires : goal.hops_of-requires
-hops_of-requires c = (good_of (seen_draft c.args.draft) c.requires).few_nodes

@@ -1,0 +1,36 @@
+-- The parts of the network that a draft stands for.
+use Rattle.std.specs.Prelude.{◌≡◌, not, Bool, List, [], ◌∷◌, map}
+use Rattle.nf_formats.specs.Names.{Name, with_names, without}
+use Rattle.nf_formats.specs.Named.{NamedLink, Named, numbered, hops_among, ends, names_of}
+use Rattle.nf_formats.specs.NetLines.{Draft}
+use Rattle.nf_formats.specs.NetClosing.{source_name, sink_name, marked, StandsFor}
+use Rattle.nf_net.specs.declared.building.SortedLinks.{SortedLinks}
+use Rattle.nf_net.specs.declared.building.SortedNodes.{SortedNodes}
+use Rattle.nf_net.specs.declared.building.NumberedLinks.{NumberedLinks}
+use Rattle.nf_net.specs.declared.building.Parts.{Parts}
+use Rattle.nf_net.specs.Kept.{with_parts, IsKept}
+use Rattle.nf_net.specs.Closing.{tail_flags}
+
+-- the links of a draft, by the flags of their tails
+pub record AreSorted (draft : Draft) (flags : List Bool) (links : SortedLinks) : Type 0 where
+  pub active : links.active.items ≡ marked (tail_flags draft.nodes flags draft.links) draft.links
+  pub idle : links.idle.items ≡ marked (map not (tail_flags draft.nodes flags draft.links)) draft.links
+
+-- source, sink and the ends of active links, and the nodes that idle links alone lead from and to
+pub record AreNodesOf (draft : Draft) (links : SortedLinks) (nodes : SortedNodes) : Type 0 where
+  pub active : nodes.active ≡ with_names (with_names [] (source_name draft ∷ sink_name draft ∷ [])) (ends links.active.items)
+  pub idle : nodes.idle.items ≡ without nodes.active (with_names [] (ends links.idle.items))
+
+-- the names of links, the links by the places of their ends among nodes, and that without their capacities
+pub record AreNumbersOf (nodes : List Name) (named : List NamedLink) (numbers : NumberedLinks) : Type 0 where
+  pub names : numbers.names ≡ with_names [] (names_of named)
+  pub links : numbers.links.items ≡ map (numbered nodes) named
+  pub hops : numbers.hops.items ≡ hops_among nodes named
+
+abbrev pub net_of : Draft → Parts → Named
+net_of draft parts = with_parts draft.version parts.nodes.active parts.numbers.names parts.numbers.links.items draft.pieces parts.nodes.idle.items parts.links.idle.items
+
+-- with these parts the draft stands for a network
+pub record ArePartsOf (draft : Draft) (parts : Parts) : Type 0 where
+  pub kept : IsKept (net_of draft parts) parts.numbers.hops.items
+  pub stands : StandsFor draft (net_of draft parts)
