@@ -1,5 +1,5 @@
 -- Lines that are read one after the other, with the line behind each.
-use Rattle.std.proofs.Common.{◌≡◌, ℕ, suc, List, [], ◌∷◌, length, map, Option, Some, None, option_map, Result, Ok, Err, MatchOption, MatchResult, IfOk, IfErr, OnOk, sym, ap, subst, ◌∙◌, arith}
+use Rattle.std.proofs.Common.{◌≡◌, ℕ, suc, List, [], ◌∷◌, length, map, Option, Some, None, option_map, Result, Ok, Err, MatchOption, MatchResult, sym, ap, subst, ◌∙◌, arith}
 use Rattle.std.proofs.lemmas.List.{length-map}
 use Rattle.nf_work.specs.Checked.{◌>>=◌}
 use Rattle.nf_lines.specs.Lines.{TextLine, lines}
@@ -135,18 +135,16 @@ module _ (n : Named) (text : List ℕ) (before after : List TextLine) (all : bef
     faults_are : first_fault text ≡ first_fault_of after
     faults_are = ap first_fault_of (sym all) ∙ subst (λ (o : Option ReadLine). MatchOption o (after ≡ before) (λ l. first_fault_of before ≡ first_fault_of after)) some fine
 
-    pub draft_read : (result : Result Draft ReportFault) → IfOk result (λ read. report_lines_from n draft (first ∷ map read_line after) ≡ Ok (seen_draft n read)) → OnOk result (first_fault_of after ≡ None)
-        → IfOk result (λ read. report_in n text ≡ if_at_end (seen_stage read.stage) (seen_draft n read))
-    draft_read (Ok read) e f =
+    pub draft_read : (read : Draft) → report_lines_from n draft (first ∷ map read_line after) ≡ Ok (seen_draft n read) → first_fault_of after ≡ None
+        → report_in n text ≡ if_at_end (seen_stage read.stage) (seen_draft n read)
+    draft_read read e f =
         text_closes n text first (map read_line after) lines_are (seen_draft n read) (faults_are ∙ f)
         (ap (λ (d : ReportDraft). report_lines_from n d (first ∷ map read_line after)) (sym empty) ∙ e)
-    draft_read (Err fault) e f = tt
 
-    pub fault_read : (result : Result Draft ReportFault)
-        → IfErr result (λ fault. IfBroken fault (λ broken. report_by_bytes (first_fault_of after) (closed_by (report_lines_from n draft (first ∷ map read_line after))) ≡ Err broken))
-        → IfErr result (λ fault. IfBroken fault (λ broken. report_in n text ≡ Err broken))
-    fault_read (Ok read) h = tt
-    fault_read (Err fault) h =
+    pub fault_read : (fault : ReportFault)
+        → IfBroken fault (λ broken. report_by_bytes (first_fault_of after) (closed_by (report_lines_from n draft (first ∷ map read_line after))) ≡ Err broken)
+        → IfBroken fault (λ broken. report_in n text ≡ Err broken)
+    fault_read fault h =
         broken_more fault
         (λ broken. report_by_bytes (first_fault_of after) (closed_by (report_lines_from n draft (first ∷ map read_line after))) ≡ Err broken)
         (λ broken. report_in n text ≡ Err broken)

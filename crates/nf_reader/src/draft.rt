@@ -5,7 +5,7 @@ ghost use Rattle.nf_formats.specs.Named.{Named};
 ghost use Rattle.nf_readings.specs.ReportLines.{empty_report, curve_keys, with_rate, comes_after, has_all as has_all_by};
 ghost use Rattle.nf_reader.specs.Drafts.{seen_draft, IsWithin, begun_count};
 ghost use Rattle.nf_reader.specs.Entries.{drafted, closed, Fits};
-ghost use Rattle.nf_reader.specs.declared.entry.Entry.TheVariants.{OfCurve, Never, OfLink};
+ghost use Rattle.nf_reader.specs.declared.entry.Entry.TheVariants.{OfCurve, Never, OfLink, End};
 ghost use Rattle.nf_reader.specs.declared.entry.Opening.TheVariants.{GoesOn, Begins};
 
 use crate::entry::{Entry, Opening, RatedPoint};
@@ -213,6 +213,19 @@ impl Draft {
         Ok(())
     }
 
+    // All lines are read.
+    fn add_end(&mut self, net: &Network) -> Result<(), AllocError>
+        requires { IsWithin net.now self.old }
+        ensures draft { OnOk result (seen_draft net.now self.new ≡ drafted net.now (seen_draft net.now self.old) End) }
+        ensures within { OnOk result (IsWithin net.now self.new) }
+    {
+        // For the proof: the clauses speak of the network's curves.
+        let _ = net;
+        self.close()?;
+        self.stage = Stage::End;
+        Ok(())
+    }
+
     /// Adds what a line says.
     pub fn add(&mut self, alloc: Global, net: &Network, entry: &Entry) -> Result<(), AllocError>
         requires within { IsWithin net.now self.old }
@@ -234,13 +247,10 @@ impl Draft {
                 self.stop = *stop;
                 self.stage = Stage::Body;
             }
-            Entry::OfCurve(opening, point) => self.add_point(alloc, net, *opening, point)?,
-            Entry::Never => self.add_never(net)?,
-            Entry::OfLink(link, state) => self.add_state(net, *link, *state)?,
-            Entry::End => {
-                self.close()?;
-                self.stage = Stage::End;
-            }
+            Entry::OfCurve(opening, point) => return self.add_point(alloc, net, *opening, point),
+            Entry::Never => return self.add_never(net),
+            Entry::OfLink(link, state) => return self.add_state(net, *link, *state),
+            Entry::End => return self.add_end(net),
         }
         Ok(())
     }

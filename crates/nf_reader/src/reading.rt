@@ -64,20 +64,20 @@ fn first_broken(alloc: Global, cursor: &mut Cursor, fault: ReportFault) -> Repor
     }
 }
 
-// What lines say, each read with the line behind it: from a draft, this line and the lines that are still to come.
-fn read_from(
+// Adds what lines say, each read with the line behind it: this line and the lines that are still to come.
+fn add_lines(
     alloc: Global,
     net: &Network,
     cursor: &mut Cursor,
     first: ReadLine,
-    mut draft: Draft,
-) -> Result<Draft, ReportFault>
-    requires { IsWithin net.now draft }
-    ensures draft { IfOk result (λ read. report_lines_from net.now (seen_draft net.now draft) (first.entry ∷ map read_line cursor.old) ≡ Ok (seen_draft net.now read)) }
-    ensures within { IfOk result (λ read. IsWithin net.now read) }
+    draft: &mut Draft,
+) -> Result<(), ReportFault>
+    requires { IsWithin net.now draft.old }
+    ensures draft { OnOk result (report_lines_from net.now (seen_draft net.now draft.old) (first.entry ∷ map read_line cursor.old) ≡ Ok (seen_draft net.now draft.new)) }
+    ensures within { OnOk result (IsWithin net.now draft.new) }
     ensures fine { OnOk result (first_fault_of cursor.old ≡ None) }
     ensures fault { IfErr result (λ fault. IfBroken fault (λ broken.
-        report_by_bytes (first_fault_of cursor.old) (closed_by (report_lines_from net.now (seen_draft net.now draft) (first.entry ∷ map read_line cursor.old))) ≡ Err broken)) }
+        report_by_bytes (first_fault_of cursor.old) (closed_by (report_lines_from net.now (seen_draft net.now draft.old) (first.entry ∷ map read_line cursor.old))) ≡ Err broken)) }
 {
     let mut line = Some(first);
     while let Some(current) = line {
@@ -91,7 +91,7 @@ fn read_from(
         }
         line = next;
     }
-    Ok(draft)
+    Ok(())
 }
 
 // What the lines of a text say, read one after the other.
@@ -102,17 +102,20 @@ fn read_draft(alloc: Global, net: &Network, text: &[u8]) -> Result<Draft, Report
     ensures fault { IfErr result (λ fault. IfBroken fault (λ broken. report_in net.now text.now ≡ Err broken)) }
 {
     let mut cursor = Cursor::new(text);
-    let draft = Draft::new(alloc, net)?;
     let line = match next_line(alloc, &mut cursor) {
         Ok(line) => line,
         Err(fault) => return Err(fault),
     };
-    match line {
-        Some(first) => read_from(alloc, net, &mut cursor, first, draft),
-        None => Err(ReportFault::Broken {
+    let Some(first) = line else {
+        return Err(ReportFault::Broken {
             rule: ReportRule::P4,
             line: 1,
-        }),
+        });
+    };
+    let mut draft = Draft::new(alloc, net)?;
+    match add_lines(alloc, net, &mut cursor, first, &mut draft) {
+        Ok(()) => Ok(draft),
+        Err(fault) => Err(fault),
     }
 }
 

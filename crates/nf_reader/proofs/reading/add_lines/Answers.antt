@@ -6,7 +6,7 @@ use Rattle.nf_reader.specs.Lines.{words_behind}
 use Rattle.nf_reader.specs.Drafts.{seen_draft}
 use Rattle.nf_reader.specs.Files.{closed_by}
 use Rattle.nf_reader.proofs.LineByLine.{from_line, count_from, broken_more, next_lines, next_faults, next_ends, next_behind, next_count, line_adds, line_breaks, fault_breaks, loop_ends}
-use Rattle.nf_reader.proofs.reading.read_from.Goals as goal
+use Rattle.nf_reader.proofs.reading.add_lines.Goals as goal
 
 pub loop-line-init : goal.loop-line-init
 loop-line-init c = (refl, refl, tt, c.requires)
@@ -22,7 +22,7 @@ add_line-requires c = c.loop-line.invariant.3
 pub returns-in-Err-add_line-clause-fault : goal.returns-in-Err-add_line-clause-fault
 returns-in-Err-add_line-clause-fault c =
     let n = c.args.net.now in
-    let whole = report_lines_from n (seen_draft n c.args.draft) (c.args.first ∷ map read_line c.args.cursor.now) in
+    let whole = report_lines_from n (seen_draft n c.args.draft.now) (c.args.first ∷ map read_line c.args.cursor.now) in
     let draft = seen_draft n c.loop-line.draft in
     let so : report_lines_from n draft (c.in-Some.current ∷ map read_line c.loop-line.cursor) ≡ whole =
     subst (λ (o : Option ReadLine). report_lines_from n draft (from_line o c.loop-line.cursor) ≡ whole) c.in-Some.is c.loop-line.invariant.0 in
@@ -45,7 +45,7 @@ loop-line-smaller c =
 pub loop-line-preserved : goal.loop-line-preserved
 loop-line-preserved c =
     let n = c.args.net.now in
-    let whole = report_lines_from n (seen_draft n c.args.draft) (c.args.first ∷ map read_line c.args.cursor.now) in
+    let whole = report_lines_from n (seen_draft n c.args.draft.now) (c.args.first ∷ map read_line c.args.cursor.now) in
     let draft = seen_draft n c.loop-line.draft in
     let next = seen_draft n c.add_line.new.self in
     let so : report_lines_from n draft (c.in-Some.current ∷ map read_line c.loop-line.cursor) ≡ whole =

@@ -4,7 +4,7 @@ use Rattle.nf_lines.specs.Faults.{first_fault_of}
 use Rattle.nf_readings.specs.ReportFile.{report_lines_from}
 use Rattle.nf_reader.specs.Drafts.{seen_draft, IsWithin}
 use Rattle.nf_reader.proofs.LineByLine.{from_line, count_from, EndsThere}
-use Rattle.nf_reader.proofs.reading.read_from.Given as goal
+use Rattle.nf_reader.proofs.reading.add_lines.Given as goal
 
 abbrev pub invariant-loop-line : goal.invariant-loop-line
 invariant-loop-line l =
