@@ -9,3 +9,4 @@ pub mod QueueSteps
 pub mod ExitSteps
 pub mod LoadedCurves
 pub mod LoadingSteps
+pub mod ExitsInTurn

@@ -64,14 +64,22 @@ fn outflow_points(alloc: Global, all: &[Leaves]) -> Result<Vec<Point>, AllocErro
     Ok(points)
 }
 
+// The curve of these points, in short form.
+fn short_curve(alloc: Global, points: &[Point]) -> Result<Curve, Halt<Q>>
+    requires { IsCurve points.now }
+    ensures { Gives (λ c. c.points) (λ q. q) result (at_part Load (checked_short passes_Q points.now)) }
+{
+    let curve = curve_of(alloc, points)?;
+    Curve::short(alloc, &curve, Part::Load)
+}
+
 /// The queue by time, in short form.
 pub(crate) fn queue_curve(alloc: Global, waits: &[Waits]) -> Result<Curve, Halt<Q>>
     requires { IsCurve (map queue_point waits.now) }
     ensures { Gives (λ c. c.points) (λ q. q) result (at_part Load (checked_short passes_Q (map queue_point waits.now))) }
 {
     let points = queue_points(alloc, waits)?;
-    let curve = curve_of(alloc, &points)?;
-    Curve::short(alloc, &curve, Part::Load)
+    short_curve(alloc, &points)
 }
 
 /// The exit by the time of entry, in short form.
@@ -80,8 +88,7 @@ pub(crate) fn exit_curve(alloc: Global, all: &[Leaves]) -> Result<Curve, Halt<Q>
     ensures { Gives (λ c. c.points) (λ q. q) result (at_part Load (checked_short passes_Q (map exit_point all.now))) }
 {
     let points = exit_points(alloc, all)?;
-    let curve = curve_of(alloc, &points)?;
-    Curve::short(alloc, &curve, Part::Load)
+    short_curve(alloc, &points)
 }
 
 /// The outflow by time, up to the time `end`.

@@ -54,39 +54,35 @@ fn is_loads_1(words: &Words) -> bool
     words.len() == 2 && is_word(words.at(0), b"loads") && is_word(words.at(1), b"1")
 }
 
-// What is said so far, and by one more line: the first that has words is `loads 1`.
-fn with_line(
+// Adds what one more line says: the first that has words is `loads 1`.
+fn add_line(
     alloc: Global,
     net: &Network,
     text: &[u8],
-    draft: Option<Draft>,
+    draft: &mut Option<Draft>,
     line: &Line,
-) -> Result<Option<Draft>, LoadsFault>
+) -> Result<(), LoadsFault>
     requires within { AreWithin text.now line.now.words.items }
-    requires links { HaveLinks net.now draft }
-    ensures adds { MatchResult result (λ next. Adds net.now text.now line.now draft (λ rest. draft_on net.now next rest))
-        (λ fault. IfBroken fault (λ broken. Adds net.now text.now line.now draft (λ _. Err broken))) }
-    ensures links { IfOk result (λ next. HaveLinks net.now next) }
+    requires links { HaveLinks net.now draft.old }
+    ensures adds { MatchResult result (λ _. Adds net.now text.now line.now draft.old (λ rest. draft_on net.now draft.new rest))
+        (λ fault. IfBroken fault (λ broken. Adds net.now text.now line.now draft.old (λ _. Err broken))) }
+    ensures links { OnOk result (HaveLinks net.now draft.new) }
 {
     let words = Words::new(text, &line.words);
     if words.len() == 0 {
-        return Ok(draft);
+        return Ok(());
     }
-    match draft {
-        Some(mut draft) => {
-            draft.add_line(net, line.number, &words)?;
-            Ok(Some(draft))
-        }
-        None => {
-            if !is_loads_1(&words) {
-                return Err(LoadsFault::Broken {
-                    rule: LoadRule::L3,
-                    line: line.number,
-                });
-            }
-            Ok(Some(Draft::new(alloc, net)?))
-        }
+    if let Some(draft) = draft {
+        return draft.add_line(net, line.number, &words);
     }
+    if !is_loads_1(&words) {
+        return Err(LoadsFault::Broken {
+            rule: LoadRule::L3,
+            line: line.number,
+        });
+    }
+    *draft = Some(Draft::new(alloc, net)?);
+    Ok(())
 }
 
 // What lines say, up to the first that breaks a rule; None where none has words.
@@ -102,7 +98,7 @@ fn read_draft(
 {
     let mut draft = None;
     for line in lines {
-        draft = with_line(alloc, net, text, draft, line)?;
+        add_line(alloc, net, text, &mut draft, line)?;
     }
     Ok(draft)
 }

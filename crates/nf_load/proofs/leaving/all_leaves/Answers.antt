@@ -1,4 +1,5 @@
 use Rattle.std.proofs.Common.{suc, List, drop, refl, sym, ap, ◌∙◌, add-one}
+use Rattle.std.proofs.lemmas.List.{drop_all}
 use Rattle.std.proofs.lemmas.Option.{slice_get_read}
 use Rattle.std.proofs.lemmas.Result.{err_from_is_err_and}
 use Rattle.nf_work.specs.declared.Part.TheVariants.{Load}
@@ -6,7 +7,7 @@ use Rattle.nf_work.specs.Passing.{passes_Q}
 use Rattle.nf_work.specs.Checked.{each}
 use Rattle.nf_work.proofs.Each.{with_front}
 use Rattle.nf_load_lists.specs.Loading.{Waits, leaves}
-use Rattle.nf_curve.proofs.Exits.{each_goes, each_stops}
+use Rattle.nf_curve.proofs.Exits.{each_goes, each_stops, each_ends}
 use Rattle.nf_curve.proofs.Shortening.{drop-at}
 use Rattle.nf_load.proofs.leaving.all_leaves.Goals as goal
 
@@ -26,3 +27,9 @@ loop-moment-preserved c =
     rw (c.in_ok-push.ensures.items, add-one) (each_goes Load (leaves passes_Q c.args.capacity.now c.args.transit) c.loop-moment.all.items _ c.moment-item.result (drop (suc c.loop-moment.moment-index) c.args.waits.now)
     (ap (λ (l : List Waits). with_front c.loop-moment.all.items (each (leaves passes_Q c.args.capacity.now c.args.transit) l)) (sym d) ∙ c.loop-moment.invariant)
     c.in_ok-one.one (sym c.in_ok-one.ensures))
+
+pub returns : goal.returns
+returns c =
+    let f = leaves passes_Q c.args.capacity.now c.args.transit in
+    each_ends f c.loop-moment.all.items _ Load
+    (ap (λ (l : List Waits). with_front c.loop-moment.all.items (each f l)) (sym (drop_all c.loop-moment.moment-index c.args.waits.now c.loop-moment-test.false)) ∙ c.loop-moment.invariant)

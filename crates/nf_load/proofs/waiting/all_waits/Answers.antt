@@ -1,7 +1,11 @@
-use Rattle.std.proofs.Common.{◌+◌, suc, List, [], ◌∷◌, ◌++◌, drop, refl, sym, ap, ◌∙◌, arith}
+use Rattle.std.proofs.Common.{ℕ, ◌+◌, suc, ◌≤◌, length, append-nil, subst, List, [], ◌∷◌, ◌++◌, drop, refl, sym, ap, ◌∙◌, arith}
+use Rattle.std.specs.Prelude.{Ok}
+use Rattle.std.proofs.lemmas.List.{drop_all}
 use Rattle.std.proofs.lemmas.Result.{err_from_is_err_and}
 use Rattle.nf_work.specs.declared.Part.TheVariants.{Load}
 use Rattle.nf_work.specs.Passing.{passes_Q}
+use Rattle.nf_work.specs.Checked.{at_part}
+use Rattle.nf_model.specs.Curve.{Point}
 use Rattle.nf_work.proofs.Each.{with_front}
 use Rattle.nf_load_lists.specs.Loading.{Waits, waits_after}
 use Rattle.nf_load.proofs.QueueSteps.{begins, goes_on, stops, later_first, later_here, later_next}
@@ -31,3 +35,11 @@ loop-i-preserved c = (
       c.point-end.ensures (omega arith) c.loop-i.invariant.0 c.in_ok-over.over (sym c.in_ok-over.ensures.list),
   later_next c.loop-i.last c.in_ok-over.over.end c.args.inflow.now.points c.loop-i.i (c.loop-i.i + 1) c.point-end.result c.point-end.ensures (omega arith) c.in_ok-over.ensures.end c.loop-i.invariant.1,
 )
+
+pub returns : goal.returns
+returns c =
+    let so_far : List Waits = c.loop-i.all.items in
+    let past : length c.args.inflow.now.points ≤ c.loop-i.i = subst (λ (count : ℕ). count ≤ c.loop-i.i) c.len-count.ensures.count c.loop-i-test.false in
+    ap (at_part Load) (sym c.loop-i.invariant.0)
+    ∙ ap (λ (l : List Point). at_part Load (with_front so_far (waits_after passes_Q c.args.capacity.now c.loop-i.last l))) (drop_all c.loop-i.i c.args.inflow.now.points past)
+    ∙ ap Ok (append-nil so_far)

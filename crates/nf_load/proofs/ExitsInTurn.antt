@@ -1,0 +1,27 @@
+-- The points of the outflow, exit by exit.
+use Rattle.std.proofs.Common.{◌≡◌, ℕ, ◌+◌, ◌<◌, Bool, true, false, List, [], ◌∷◌, ◌++◌, length, get_or, drop, ap, ◌∙◌, sym, append_assoc}
+use Rattle.nf_rational.specs.Rational.{ℚ}
+use Rattle.nf_model.specs.Curve.{Point}
+use Rattle.nf_lists.specs.Signs.{is_same}
+use Rattle.nf_load_lists.specs.Loading.{Leaves, outflow_from}
+use Rattle.nf_net.proofs.Filling.{at_entry}
+
+module _ (all : List Leaves) (i : ℕ) (one : Leaves) (front whole : List Point) (last : ℚ) (below : i < length all) (is : one ≡ get_or all i one)
+    (so_far : front ++ outflow_from last (drop i all) ≡ whole) where
+  abbrev by_test : Bool → List Point
+  by_test b = elim b [
+    | true ↦ outflow_from last (drop (i + 1) all)
+    | false ↦ (one.exit, one.waits.amount) ∷ outflow_from one.exit (drop (i + 1) all)
+  ]
+
+  with_test : (b : Bool) → is_same last one.exit ≡ b → front ++ by_test b ≡ whole
+  with_test b e = ap (λ (t : Bool). front ++ by_test t) (sym e) ∙ ap (λ (l : List Leaves). front ++ outflow_from last l) (sym (at_entry all i one below is)) ∙ so_far
+
+  -- an exit that is the one before
+  pub same_exit : (new : List Point) (next : ℚ) → new ≡ front → next ≡ last → is_same last one.exit ≡ true → new ++ outflow_from next (drop (i + 1) all) ≡ whole
+  same_exit new next points still e = (λ j. points j ++ outflow_from (still j) (drop (i + 1) all)) ∙ with_test true e
+
+  -- a later exit
+  pub later_exit : (new : List Point) (next : ℚ) → new ≡ front ++ (one.exit, one.waits.amount) ∷ [] → next ≡ one.exit → is_same last one.exit ≡ false → new ++ outflow_from next (drop (i + 1) all) ≡ whole
+  later_exit new next points now e =
+      (λ j. points j ++ outflow_from (now j) (drop (i + 1) all)) ∙ append_assoc front ((one.exit, one.waits.amount) ∷ []) (outflow_from one.exit (drop (i + 1) all)) ∙ with_test false e

@@ -1,0 +1,24 @@
+use Rattle.std.proofs.Common.{◌++◌, List, [], ◌∷◌, sym, ◌∙◌, ap}
+use Rattle.nf_rational.specs.Rational.{ℚ}
+use Rattle.nf_model.specs.Curve.{Point}
+use Rattle.nf_lists.specs.Signs.{is_same}
+use Rattle.nf_load_lists.specs.Loading.{Leaves}
+use Rattle.nf_load.specs.declared.waits.Leaves.TheInside.{Inside}
+use Rattle.nf_load.proofs.ExitsInTurn.{same_exit, later_exit}
+use Rattle.nf_load.proofs.curves.outflow_points.Goals as goal
+use Rattle.nf_load.proofs.curves.outflow_points.Goals.{then-not-is_same+in_ok-push-2, else-not-is_same}
+
+pub loop-one-preserved : goal.loop-one-preserved
+loop-one-preserved c =
+    let front : List Point = c.loop-one.points.items in
+    let last : ℚ = c.loop-one.last in
+    elim c.if-not-is_same.branch [
+      | then-not-is_same+in_ok-push-2 w ↦ later_exit c.args.all.now c.loop-one.one-index c.one-item.result front _ last c.loop-one-test.true c.one-item.is c.loop-one.invariant _ _
+          (ap (λ v. v.items) w.points-is ∙ w.in_ok-push-2.ensures.items
+          ∙ ap (λ (i : Inside). front ++ (i.exit, i.waits.amount) ∷ []) c.one-inside.view_is ∙ ap (λ (l : Leaves). front ++ (l.exit, l.waits.amount) ∷ []) c.one.view_is)
+          (w.last-is ∙ ap (λ (i : Inside). i.exit) c.one-inside.view_is ∙ ap (λ (l : Leaves). l.exit) c.one.view_is)
+          (sym (ap (λ (i : Inside). is_same last i.exit) c.one-inside.view_is ∙ ap (λ (l : Leaves). is_same last l.exit) c.one.view_is) ∙ sym c.is_same.ensures ∙ w.if-not-is_same.true)
+      | else-not-is_same w ↦ same_exit c.args.all.now c.loop-one.one-index c.one-item.result front _ last c.loop-one-test.true c.one-item.is c.loop-one.invariant _ _
+          (ap (λ v. v.items) w.points-is) w.last-is
+          (sym (ap (λ (i : Inside). is_same last i.exit) c.one-inside.view_is ∙ ap (λ (l : Leaves). is_same last l.exit) c.one.view_is) ∙ sym c.is_same.ensures ∙ w.if-not-is_same.false)
+    ]
