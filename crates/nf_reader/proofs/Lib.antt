@@ -8,3 +8,4 @@ pub mod Accepted
 pub mod Sorting
 pub mod BodyLines
 pub mod PlainNumbers
+pub mod HeadLines
