@@ -16,9 +16,9 @@ use Rattle.nf_formats_laws.proofs.LinkFacts.{distinct_left}
 use Rattle.nf_formats_laws.proofs.AcceptedNamed.{is_named}
 use Rattle.nf_net.specs.declared.building.SortedLinks.{SortedLinks}
 use Rattle.nf_net.specs.declared.building.SortedNodes.{SortedNodes}
-use Rattle.nf_net.specs.declared.building.NumberedLinks.{NumberedLinks}
+use Rattle.nf_net.specs.declared.building.LinkTables.{LinkTables}
 use Rattle.nf_net.specs.declared.building.Parts.{Parts}
-use Rattle.nf_net.specs.Building.{AreSorted, AreNodesOf, AreNumbersOf, net_of, ArePartsOf}
+use Rattle.nf_net.specs.Building.{AreSorted, AreNodesOf, AreTablesOf, net_of, ArePartsOf}
 use Rattle.nf_net.specs.Kept.{with_parts}
 use Rattle.nf_net.specs.Contents.{IsRead}
 use Rattle.nf_net.specs.Closing.{HasEnds, BreaksNone, flag_at, tail_flags, AreFlags}
@@ -93,23 +93,23 @@ module _ (draft : Draft) (flags : List Bool) (read : IsRead draft) (has : HasEnd
         ≡ network_of draft (marked (tail_flags draft.nodes flags draft.links) draft.links) (marked (map not (tail_flags draft.nodes flags draft.links)) draft.links)
     net_is = ap (λ (l : List Name). net_with l links.active.items links.idle.items) nodes_are ∙ (λ i. net_with (nodes_with (sorted.active i)) (sorted.active i) (sorted.idle i))
 
-    module _ (numbers : NumberedLinks) (are_numbers : AreNumbersOf nodes.active links.active.items numbers) where
-      names_are : numbers.names ≡ names_of links.active.items
-      names_are = are_numbers.names ∙ put_each [] (names_of links.active.items) (subst (λ (ls : List NamedLink). IsDistinct bytes_eq (names_of ls)) (sym sorted.active)
+    module _ (tables : LinkTables) (are_tables : AreTablesOf nodes.active links.active.items tables) where
+      names_are : tables.names ≡ names_of links.active.items
+      names_are = are_tables.names ∙ put_each [] (names_of links.active.items) (subst (λ (ls : List NamedLink). IsDistinct bytes_eq (names_of ls)) (sym sorted.active)
           (distinct_left (names_of (marked (tail_flags draft.nodes flags draft.links) draft.links)) (names_of (marked (map not (tail_flags draft.nodes flags draft.links)) draft.links)) named_net.link_names.distinct))
 
       abbrev parts : Parts
-      parts = record { links = links; nodes = nodes; numbers = numbers }
+      parts = record { links = links; nodes = nodes; tables = tables }
 
       net_of_is : net_of draft parts
           ≡ network_of draft (marked (tail_flags draft.nodes flags draft.links) draft.links) (marked (map not (tail_flags draft.nodes flags draft.links)) draft.links)
-      net_of_is = (λ i. with_parts draft.version nodes.active (names_are i) (are_numbers.links i) draft.pieces (of.idle i) links.idle.items) ∙ net_is
+      net_of_is = (λ i. with_parts draft.version nodes.active (names_are i) (are_tables.links i) draft.pieces (of.idle i) links.idle.items) ∙ net_is
 
       pub are_parts : ArePartsOf draft parts
       are_parts = record {
         kept = record {
           named = subst IsNamed (sym net_of_is) named_net;
-          hops = are_numbers.hops ∙ sym (map-map hop_of (numbered nodes.active) links.active.items) ∙ ap (map hop_of) (sym are_numbers.links);
+          hops = are_tables.hops ∙ sym (map-map hop_of (numbered nodes.active) links.active.items) ∙ ap (map hop_of) (sym are_tables.links);
         };
         stands = record { flags = tail_flags draft.nodes flags draft.links; active = active_flags draft flags are draft.links; network = net_of_is };
       }

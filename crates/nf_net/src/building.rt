@@ -6,7 +6,7 @@ ghost use Rattle.nf_formats.specs.NetClosing.{marked, StandsFor};
 ghost use Rattle.nf_net.specs.Drafts.{seen_draft};
 ghost use Rattle.nf_net.specs.Contents.{IsRead};
 ghost use Rattle.nf_net.specs.Closing.{HasEnds, BreaksNone, AreFlags, flag_at, tail_flags};
-ghost use Rattle.nf_net.specs.Building.{AreSorted, AreNodesOf, AreNumbersOf, ArePartsOf};
+ghost use Rattle.nf_net.specs.Building.{AreSorted, AreNodesOf, AreTablesOf, ArePartsOf};
 ghost use Rattle.nf_formats.specs.Limits.{most_nodes};
 
 use crate::closing::hops_of;
@@ -175,6 +175,7 @@ struct SortedLinks {
     idle: Vec<NamedLink>,
 }
 
+// The links of a draft, by the flags of its nodes.
 fn sorted_links(alloc: Global, draft: &Draft, flags: &[bool]) -> Result<SortedLinks, AllocError>
     requires { length draft.now.nodes ≤ length flags.now }
     ensures { IfOk result (λ links. AreSorted (seen_draft draft.now) flags.now links) }
@@ -191,6 +192,7 @@ struct SortedNodes {
     idle: Vec<Name>,
 }
 
+// The nodes of a draft, by the links that lead from and to them.
 fn sorted_nodes(
     alloc: Global,
     draft: &Draft,
@@ -206,26 +208,23 @@ fn sorted_nodes(
     Ok(SortedNodes { active, idle })
 }
 
-// Links by their numbers: their names, what they are between nodes, and that without their capacities.
+// What a network keeps of its links, by their numbers: their names, the links between numbered nodes, and those without capacities.
 #[derive(Drop)]
-struct NumberedLinks {
+struct LinkTables {
     names: Names,
     links: Vec<Link>,
     hops: Vec<Hop>,
 }
 
-fn number_links(
-    alloc: Global,
-    nodes: &Names,
-    links: &[NamedLink],
-) -> Result<NumberedLinks, AllocError>
+// The same links by their numbers, their ends by their places among these names.
+fn link_tables(alloc: Global, nodes: &Names, links: &[NamedLink]) -> Result<LinkTables, AllocError>
     requires { length nodes.now ≤ most_nodes }
-    ensures { IfOk result (λ numbers. AreNumbersOf nodes.now links.now numbers) }
+    ensures { IfOk result (λ tables. AreTablesOf nodes.now links.now tables) }
 {
     let numbers = numbered_links(alloc, nodes, links)?;
     let hops = hops_of(alloc, nodes, links)?;
     let names = link_names(alloc, links)?;
-    Ok(NumberedLinks {
+    Ok(LinkTables {
         names,
         links: numbers,
         hops,
@@ -237,7 +236,7 @@ fn number_links(
 pub struct Parts {
     links: SortedLinks,
     nodes: SortedNodes,
-    numbers: NumberedLinks,
+    tables: LinkTables,
 }
 
 /// The parts of the network that the lines of a file stand for, where they break no rule.
@@ -250,11 +249,11 @@ pub fn parts_of(alloc: Global, draft: &Draft, flags: &[bool]) -> Result<Parts, A
 {
     let links = sorted_links(alloc, draft, flags)?;
     let nodes = sorted_nodes(alloc, draft, &links)?;
-    let numbers = number_links(alloc, &nodes.active, &links.active)?;
+    let tables = link_tables(alloc, &nodes.active, &links.active)?;
     Ok(Parts {
         links,
         nodes,
-        numbers,
+        tables,
     })
 }
 
@@ -266,14 +265,14 @@ pub fn network_of(draft: Draft, parts: Parts) -> Network
     let Parts {
         links,
         nodes,
-        numbers,
+        tables,
     } = parts;
     Network::kept(
         draft.version,
         nodes.active,
-        numbers.names,
-        numbers.links,
-        numbers.hops,
+        tables.names,
+        tables.links,
+        tables.hops,
         draft.pieces,
         nodes.idle,
         links.idle,

@@ -1,17 +1,17 @@
 use Rattle.std.proofs.Common.{List, subst}
 use Rattle.nf_formats.specs.Named.{NamedLink}
 use Rattle.nf_net.specs.Drafts.{seen_draft}
-use Rattle.nf_net.specs.Building.{AreNumbersOf}
+use Rattle.nf_net.specs.Building.{AreTablesOf}
 use Rattle.nf_net.proofs.Built.{few_names, are_parts}
 use Rattle.nf_net.proofs.building.parts_of.Goals as goal
 
-pub number_links-requires : goal.number_links-requires
-number_links-requires c =
+pub link_tables-requires : goal.link_tables-requires
+link_tables-requires c =
     few_names (seen_draft c.args.draft.now) c.args.flags.now c.requires.read c.requires.ends c.requires.fine c.requires.flags
     c.in_ok-links.links c.in_ok-nodes.nodes c.in_ok-links.ensures c.in_ok-nodes.ensures
 
 pub returns : goal.returns
 returns c =
     are_parts (seen_draft c.args.draft.now) c.args.flags.now c.requires.read c.requires.ends c.requires.fine c.requires.flags
-    c.in_ok-links.links c.in_ok-nodes.nodes c.in_ok-links.ensures c.in_ok-nodes.ensures c.in_ok-numbers.numbers
-    (subst (λ (l : List NamedLink). AreNumbersOf c.in_ok-nodes.nodes.active l c.in_ok-numbers.numbers) c.deref.ensures.value c.in_ok-numbers.ensures)
+    c.in_ok-links.links c.in_ok-nodes.nodes c.in_ok-links.ensures c.in_ok-nodes.ensures c.in_ok-tables.tables
+    (subst (λ (l : List NamedLink). AreTablesOf c.in_ok-nodes.nodes.active l c.in_ok-tables.tables) c.deref.ensures.value c.in_ok-tables.ensures)
