@@ -213,7 +213,7 @@ impl Draft {
         Ok(())
     }
 
-    // All lines are read.
+    // The last line is read.
     fn add_end(&mut self, net: &Network) -> Result<(), AllocError>
         requires { IsWithin net.now self.old }
         ensures draft { OnOk result (seen_draft net.now self.new ≡ drafted net.now (seen_draft net.now self.old) End) }
