@@ -1,6 +1,6 @@
 -- The points of a curve whose times lie between two others, by the places of these.
 use Rattle.std.proofs.Common.{◌≡◌, ℕ, zero, suc, ◌≤◌, List, [], ◌∷◌, ◌++◌, take, drop, reverse, ⊎_elim, Bool, true, false, ◌&&◌, cond, refl, sym, ap, subst, ◌∙◌, append-nil}
-use Rattle.std.specs.Prelude.{Some, slice_get, slice_range, Err}
+use Rattle.std.specs.Prelude.{Some, slice_get, slice_range, Ok, Err}
 use Rattle.std.specs.List.{filter}
 use Rattle.std.proofs.lemmas.List.Elements.{filter-append}
 use Rattle.std.proofs.lemmas.List.{reverse-append}
@@ -11,14 +11,15 @@ use Rattle.nf_rational_laws.proofs.Order.{≤ℚ_of_lt, not_both_ℚ}
 use Rattle.nf_rational_laws.proofs.Tests.{lt_ℚ_cases, test_of_less}
 use Rattle.nf_work.specs.declared.Part.{Part}
 use Rattle.nf_work.specs.declared.PassedAt.{PassedAt}
-use Rattle.nf_work.specs.Checked.{Checked, at_part, each}
+use Rattle.nf_work.specs.Checked.{Checked, at_part, each, ◌>>=◌}
 use Rattle.nf_model.specs.Curve.{Point, TimesRise}
 use Rattle.nf_model_laws.proofs.Affine.{<_≤_trans}
 use Rattle.nf_curve_lists.specs.Composed.{points_between, points_along}
 use Rattle.nf_curve.specs.Places.{place_of}
 use Rattle.nf_curve.specs.Steps.{behind}
 use Rattle.nf_curve.proofs.Placing.{place-behind, place-past, place-rises, rises-rest}
-use Rattle.nf_curve.proofs.Exits.{after_err}
+use Rattle.nf_curve.proofs.Composing.{point_first}
+use Rattle.nf_curve.proofs.Exits.{after_err, was_ok}
 
 -- all are later
 AllLater : ℚ → List Point → Type 0
@@ -132,12 +133,41 @@ along-level first last points s t = ap (λ (b : Bool). points_along b first last
         below : p.0 <ℚ first → p.0 ≤ℚ last
         below h = ≤ℚ_of_lt _ _ (<_≤_trans _ _ _ h (⊎_elim (λ (w : (lt_ℚ last first ≡ true) × (last <ℚ first)). absurd (cc)) (λ (w : (lt_ℚ last first ≡ false) × (first ≤ℚ last)). w.1) (lt_ℚ_cases last first)))
 
+-- ---- a corner, if it passes a test
+module _ {A : Type 0} (f : A → Checked Point) (part : Part) (front : List Point) (t : A → Bool) (x : A) where
+  of_test : Bool → Checked (List Point)
+  of_test b = behind front (each f (cond b (x ∷ []) []))
+
+  pub corner_fails : t x ≡ false → at_part part (behind front (each f (filter t (x ∷ [])))) ≡ Ok front
+  unfolding of_test
+  corner_fails h = ap (λ (b : Bool). at_part part (of_test b)) h ∙ ap Ok (append-nil front)
+
+  pub corner_added : t x ≡ true → (y : Point) → at_part part (f x) ≡ Ok y → at_part part (behind front (each f (filter t (x ∷ [])))) ≡ Ok (front ++ y ∷ [])
+  unfolding of_test
+  corner_added h y e = ap (λ (b : Bool). at_part part (of_test b)) h ∙ ap (λ (r : Checked Point). at_part part (behind front (r >>= λ y. Ok (y ∷ [])))) (was_ok part (f x) y e)
+
+  pub corner_passes : t x ≡ true → (p : PassedAt ℚ) → at_part part (f x) ≡ Err p → at_part part (behind front (each f (filter t (x ∷ [])))) ≡ Err p
+  unfolding of_test
+  corner_passes h p e = ap (λ (b : Bool). at_part part (of_test b)) h ∙ after_err part (each f (x ∷ [])) _ p (after_err part (f x) _ p e)
+
 -- ---- a step along them
-module _ {A : Type 0} (f : A → Checked Point) (part : Part) (front : List Point) (all : Checked (List Point)) where
-  pub corner_stops : (t : A → Bool) (x : A) (rest : List A) → behind front (each f (filter t (x ∷ rest))) ≡ all → t x ≡ true → (p : PassedAt ℚ) → at_part part (f x) ≡ Err p → at_part part all ≡ Err p
-  corner_stops t x rest so_far h p e =
-      ap (at_part part) (sym so_far ∙ ap (λ (b : Bool). behind front (each f (cond b (x ∷ filter t rest) (filter t rest)))) h)
-      ∙ after_err part (each f (x ∷ filter t rest)) _ p (after_err part (f x) _ p e)
+module _ {A : Type 0} (f : A → Checked Point) (part : Part) (front : List Point) (all : Checked (List Point)) (t : A → Bool) (x : A) (rest : List A)
+    (so_far : behind front (each f (filter t (x ∷ rest))) ≡ all) where
+  by_value : (later : Checked (List Point)) (r : Checked Point) → behind front (r >>= λ y. later >>= λ ys. Ok (y ∷ ys)) ≡ (behind front (r >>= λ y. Ok (y ∷ [])) >>= λ points. behind points later)
+  by_value later (Ok y) = point_first front y later
+  by_value later (Err p) = refl
+
+  by_test : (b : Bool) → behind front (each f (cond b (x ∷ filter t rest) (filter t rest))) ≡ (behind front (each f (cond b (x ∷ []) [])) >>= λ points. behind points (each f (filter t rest)))
+  by_test true = by_value (each f (filter t rest)) (f x)
+  by_test false = ap (λ (l : List Point). behind l (each f (filter t rest))) (sym (append-nil front))
+
+  pub corner_goes : (points : List Point) → at_part part (behind front (each f (filter t (x ∷ [])))) ≡ Ok points → behind points (each f (filter t rest)) ≡ all
+  corner_goes points e =
+      sym (ap (λ (r : Checked (List Point)). r >>= λ points. behind points (each f (filter t rest))) (was_ok part (behind front (each f (filter t (x ∷ [])))) points e))
+      ∙ sym (by_test (t x)) ∙ so_far
+
+  pub corner_stops : (p : PassedAt ℚ) → at_part part (behind front (each f (filter t (x ∷ [])))) ≡ Err p → at_part part all ≡ Err p
+  corner_stops p e = ap (at_part part) (sym so_far ∙ by_test (t x)) ∙ after_err part (behind front (each f (filter t (x ∷ [])))) _ p e
 
 -- from the last one down
 take-more : {A : Type 0} (xs : List A) (i : ℕ) (x : A) → slice_get xs i ≡ Some x → take (suc i) xs ≡ take i xs ++ x ∷ []

@@ -14,13 +14,18 @@ use Rattle.nf_curve.proofs.Exits.{after_err, after_ok, was_ok, err_before, ok_be
 use Rattle.nf_curve.proofs.Shortening.{drop-at, drop-two}
 
 -- ---- a point first, and what comes behind it
-point_first : (front : List Point) (p : Point) (r : Checked (List Point)) → behind front (r >>= λ more. Ok (p ∷ more)) ≡ behind (front ++ p ∷ []) r
+pub point_first : (front : List Point) (p : Point) (r : Checked (List Point)) → behind front (r >>= λ more. Ok (p ∷ more)) ≡ behind (front ++ p ∷ []) r
 point_first front p (Ok more) = ap Ok (sym (append_assoc front (p ∷ []) more))
 point_first front p (Err e) = refl
 
-pub piece_goes : (part : Part) (front : List Point) (time y : ℚ) (v : Checked ℚ) (corners : Checked (List Point)) → at_part part v ≡ Ok y
+piece_goes : (part : Part) (front : List Point) (time y : ℚ) (v : Checked ℚ) (corners : Checked (List Point)) → at_part part v ≡ Ok y
     → behind front (v >>= λ y. corners >>= λ more. Ok ((time, y) ∷ more)) ≡ behind (front ++ (time, y) ∷ []) corners
 piece_goes part front time y v corners e = ap (λ (v : Checked ℚ). behind front (v >>= λ y. corners >>= λ more. Ok ((time, y) ∷ more))) (was_ok part v y e) ∙ point_first front (time, y) corners
+
+-- once its first point is there, a piece goes on with its corners
+pub piece_begun : (part : Part) (front begun : List Point) (time y : ℚ) (v : Checked ℚ) (corners : Checked (List Point)) → at_part part v ≡ Ok y → begun ≡ front ++ (time, y) ∷ []
+    → at_part part (behind front (v >>= λ y. corners >>= λ more. Ok ((time, y) ∷ more))) ≡ at_part part (behind begun corners)
+piece_begun part front begun time y v corners e h = ap (at_part part) (piece_goes part front time y v corners e ∙ ap (λ (l : List Point). behind l corners) (sym h))
 
 -- ---- one piece, and then the others
 pieces_behind : (front piece : List Point) (r : Checked (List Point)) → behind front (r >>= λ later. Ok (piece ++ later)) ≡ behind (front ++ piece) r

@@ -1,5 +1,5 @@
 // A curve at the values of another.
-ghost use Rattle.std.specs.Prelude.{◌≡◌, ◌≢◌, ℕ, ◌++◌, reverse, slice_get, Some, IfOk};
+ghost use Rattle.std.specs.Prelude.{◌≡◌, ◌≢◌, ℕ, [], ◌∷◌, ◌++◌, reverse, slice_get, Some, IfOk};
 ghost use Rattle.std.specs.List.{filter};
 ghost use Rattle.nf_rational.specs.Rational.{ℚ};
 ghost use Rattle.nf_rational.specs.Operations.{0ℚ};
@@ -27,6 +27,28 @@ fn corner_at(p: &Point, q: &Point, corner: &Point, part: Part) -> Result<Point, 
     Ok((time, corner.1))
 }
 
+// Where a piece comes to a point of the outer curve, if that point is below a bound.
+fn add_corner_below(
+    composed: &mut Vec<Point>,
+    corner: &Point,
+    bound: Q,
+    p: &Point,
+    q: &Point,
+    part: Part,
+) -> Result<(), Halt<Q>>
+    requires later { p.now.0 <ℚ q.now.0 }
+    requires apart { p.now.1 ≢ q.now.1 }
+    ensures { Gives (λ _. composed.new.items) (λ q. q) result
+        (at_part part (behind composed.old.items (each (corner_by passes_Q p.now q.now) (filter (λ c. lt_ℚ c.0 bound) (corner.now ∷ []))))) }
+{
+    if !corner.0.is_below(bound) {
+        return Ok(());
+    }
+    let point = corner_at(p, q, corner, part)?;
+    composed.push(point)?;
+    Ok(())
+}
+
 // Where a piece that goes up comes to these points of the outer curve, but not to one at the piece's end.
 fn add_corners_up(
     composed: &mut Vec<Point>,
@@ -41,10 +63,7 @@ fn add_corners_up(
         (at_part part (behind composed.old.items (each (corner_by passes_Q p.now q.now) (filter (λ c. lt_ℚ c.0 q.now.1) between.now)))) }
 {
     for corner in between {
-        if corner.0.is_below(q.1) {
-            let point = corner_at(p, q, corner, part)?;
-            composed.push(point)?;
-        }
+        add_corner_below(composed, corner, q.1, p, q, part)?;
     }
     Ok(())
 }
@@ -66,11 +85,7 @@ fn add_corners_down(
     let mut left = between.len();
     while left > 0 {
         left -= 1;
-        let corner = &between[left];
-        if corner.0.is_below(p.1) {
-            let point = corner_at(p, q, corner, part)?;
-            composed.push(point)?;
-        }
+        add_corner_below(composed, &between[left], p.1, p, q, part)?;
     }
     Ok(())
 }

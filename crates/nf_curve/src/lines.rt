@@ -13,7 +13,7 @@ use nf_frac::{Part, PassedAt, Q, at};
 pub(crate) type Point = (Q, Q);
 
 /// Two curves at a time: the values of the left one and of the right one.
-#[derive(Clone, Copy, Debug)]
+#[derive(Clone, Copy)]
 pub(crate) struct Sides {
     pub time: Q,
     pub left: Q,

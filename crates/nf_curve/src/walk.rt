@@ -16,7 +16,7 @@ use crate::places::{place_up, value_at};
 use nf_frac::{Part, PassedAt, Q};
 
 /// A time, with its places on two curves.
-#[derive(Clone, Copy, Debug)]
+#[derive(Clone, Copy)]
 pub(crate) struct Moment {
     pub time: Q,
     pub left: usize,

@@ -1,4 +1,4 @@
-use Rattle.std.proofs.Common.{◌≡◌, ℕ, ◌<◌, ◌-◌, List, length, take, reverse, refl, sym, ap, ◌∙◌, arith, append-nil}
+use Rattle.std.proofs.Common.{◌≡◌, ℕ, ◌<◌, ◌-◌, List, ◌∷◌, [], length, take, reverse, refl, sym, ap, ◌∙◌, arith, append-nil}
 use Rattle.std.specs.Prelude.{Ok}
 use Rattle.std.specs.List.{filter}
 use Rattle.std.proofs.lemmas.Option.{slice_get_read}
@@ -6,22 +6,35 @@ use Rattle.std.proofs.lemmas.Result.{err_from_is_err_and}
 use Rattle.nf_rational.specs.Rational.{ℚ}
 use Rattle.nf_rational.specs.Order.{lt_ℚ}
 use Rattle.nf_work.specs.Passing.{passes_Q}
-use Rattle.nf_work.specs.Checked.{at_part, each}
+use Rattle.nf_work.specs.Checked.{Checked, at_part, each}
 use Rattle.nf_curve_lists.specs.Composed.{corner_at}
 use Rattle.nf_curve.specs.Steps.{behind}
-use Rattle.nf_curve.proofs.Between.{corner_stops, take-last}
+use Rattle.nf_curve.proofs.Between.{corner_goes, corner_stops, take-last}
+use Rattle.nf_curve.proofs.Exits.{stops_on}
 use Rattle.nf_curve.proofs.composed.add_corners_down.Goals as goal
 
-pub returns-in_err-point : goal.returns-in_err-point
-returns-in_err-point c =
+pub returns-in_err-add_corner_below : goal.returns-in_err-add_corner_below
+returns-in_err-add_corner_below c =
     let p = err_from_is_err_and c.from_residual.result c.from_residual.ensures.1 in
+    let corners : List (ℚ × ℚ) → Checked (List (ℚ × ℚ)) = λ l. each (corner_at passes_Q c.args.p.now c.args.q.now) (filter (λ (x : ℚ × ℚ). lt_ℚ x.0 c.args.p.now.1) l) in
     let b : c.loop-left.left - 1 < length c.args.between.now = omega (arith, c.loop-left.invariant.within) in
     let g = slice_get_read c.args.between.now _ (c.loop-left.left - 1) c.index-between-left.result refl b c.index-between-left.is in
     let d = take-last c.args.between.now (c.loop-left.left - 1) c.loop-left.left c.index-between-left.result g (omega arith) in
-    rw (p.1, p.2) (corner_stops (corner_at passes_Q c.args.p.now c.args.q.now) c.args.part c.loop-left.composed.items _ (λ (x : ℚ × ℚ). lt_ℚ x.0 c.args.p.now.1) c.index-between-left.result
-    (reverse (take (c.loop-left.left - 1) c.args.between.now))
-    (ap (λ (l : List (ℚ × ℚ)). behind c.loop-left.composed.items (each (corner_at passes_Q c.args.p.now c.args.q.now) (filter (λ (x : ℚ × ℚ). lt_ℚ x.0 c.args.p.now.1) l))) (sym d) ∙ c.loop-left.invariant.so_far)
-    (sym c.is_below.ensures ∙ c.if-is_below.true) c.in_err-point.field-0.0 (sym c.in_err-point.ensures))
+    rw (p.1, p.2) (stops_on c.in_err-add_corner_below.field-0.0 (at_part c.args.part (behind c.loop-left.composed.items (corners (c.index-between-left.result ∷ [])))) (at_part c.args.part (behind c.args.composed.now.items (corners (reverse c.args.between.now))))
+    (corner_stops (corner_at passes_Q c.args.p.now c.args.q.now) c.args.part c.loop-left.composed.items _ (λ (x : ℚ × ℚ). lt_ℚ x.0 c.args.p.now.1) c.index-between-left.result (reverse (take (c.loop-left.left - 1) c.args.between.now))
+    (ap (λ (l : List (ℚ × ℚ)). behind c.loop-left.composed.items (corners l)) (sym d) ∙ c.loop-left.invariant.so_far)) c.in_err-add_corner_below.ensures)
+
+pub loop-left-preserved : goal.loop-left-preserved
+loop-left-preserved c =
+    let corners : List (ℚ × ℚ) → Checked (List (ℚ × ℚ)) = λ l. each (corner_at passes_Q c.args.p.now c.args.q.now) (filter (λ (x : ℚ × ℚ). lt_ℚ x.0 c.args.p.now.1) l) in
+    let b : c.loop-left.left - 1 < length c.args.between.now = omega (arith, c.loop-left.invariant.within) in
+    let g = slice_get_read c.args.between.now _ (c.loop-left.left - 1) c.index-between-left.result refl b c.index-between-left.is in
+    let d = take-last c.args.between.now (c.loop-left.left - 1) c.loop-left.left c.index-between-left.result g (omega arith) in
+    record {
+      within = omega arith;
+      so_far = corner_goes (corner_at passes_Q c.args.p.now c.args.q.now) c.args.part c.loop-left.composed.items _ (λ (x : ℚ × ℚ). lt_ℚ x.0 c.args.p.now.1) c.index-between-left.result (reverse (take (c.loop-left.left - 1) c.args.between.now))
+          (ap (λ (l : List (ℚ × ℚ)). behind c.loop-left.composed.items (corners l)) (sym d) ∙ c.loop-left.invariant.so_far) c.add_corner_below.new.composed.items c.in_ok-add_corner_below.ensures;
+    }
 
 pub returns : goal.returns
 returns c =

@@ -1,16 +1,37 @@
-use Rattle.std.proofs.Common.{List, sym, ap, ◌∙◌}
+use Rattle.std.proofs.Common.{List, sym, ◌∙◌}
+use Rattle.std.proofs.lemmas.Result.{err_from_is_err_and}
 use Rattle.nf_rational.specs.Rational.{ℚ}
 use Rattle.nf_rational.specs.Order.{lt_ℚ}
 use Rattle.nf_work.specs.Passing.{passes_Q}
-use Rattle.nf_work.specs.Checked.{Checked, at_part, each}
+use Rattle.nf_work.specs.Checked.{Checked, each}
 use Rattle.nf_curve_lists.specs.Values.{checked_value}
-use Rattle.nf_curve_lists.specs.Composed.{corner_at, points_along}
-use Rattle.nf_curve.specs.Steps.{behind}
-use Rattle.nf_curve.proofs.Composing.{piece_goes}
+use Rattle.nf_curve_lists.specs.Composed.{corner_at, points_along, composed_piece}
+use Rattle.nf_curve.proofs.Composing.{piece_begun}
+use Rattle.nf_curve.proofs.Exits.{after_err}
 use Rattle.nf_curve.proofs.composed.add_piece.Goals as goal
+
+pub returns-in_err-value-clause-points : goal.returns-in_err-value-clause-points
+returns-in_err-value-clause-points c =
+    let p = err_from_is_err_and c.from_residual.result c.from_residual.ensures.1 in
+    rw (p.1, p.2) (after_err {B = List (ℚ × ℚ)} c.args.part (composed_piece passes_Q c.args.outer.now c.args.p.now c.args.q.now) _ c.in_err-value.field-0.0
+    (after_err {B = List (ℚ × ℚ)} c.args.part (checked_value passes_Q c.args.outer.now c.args.p.now.1) _ c.in_err-value.field-0.0 (sym c.in_err-value.ensures)))
+
+pub returns-in_err-push-clause-points : goal.returns-in_err-push-clause-points
+returns-in_err-push-clause-points c =
+    let p = err_from_is_err_and c.from_residual-in_err-push.result c.from_residual-in_err-push.ensures.1 in rw (p.1, p.2) tt
+
+pub returns-in_err-add_corners-clause-points : goal.returns-in_err-add_corners-clause-points
+returns-in_err-add_corners-clause-points c =
+    let p = err_from_is_err_and c.from_residual-in_err-add_corners.result c.from_residual-in_err-add_corners.ensures.1 in
+    let corners : Checked (List (ℚ × ℚ)) = each (corner_at passes_Q c.args.p.now c.args.q.now) (points_along (lt_ℚ c.args.p.now.1 c.args.q.now.1) c.args.p.now.1 c.args.q.now.1 c.args.outer.now) in
+    let begun = piece_begun c.args.part c.args.composed.now.items c.push.new.self.items c.args.p.now.0 c.in_ok-value.value (checked_value passes_Q c.args.outer.now c.args.p.now.1) corners (sym c.in_ok-value.ensures) c.in_ok-push.ensures.items in
+    rw (p.1, p.2, begun) c.in_err-add_corners.ensures
 
 pub returns-clause-points : goal.returns-clause-points
 returns-clause-points c =
     let corners : Checked (List (ℚ × ℚ)) = each (corner_at passes_Q c.args.p.now c.args.q.now) (points_along (lt_ℚ c.args.p.now.1 c.args.q.now.1) c.args.p.now.1 c.args.q.now.1 c.args.outer.now) in
-    ap (at_part c.args.part) (piece_goes c.args.part c.args.composed.now.items c.args.p.now.0 c.in_ok-value.value (checked_value passes_Q c.args.outer.now c.args.p.now.1) corners (sym c.in_ok-value.ensures))
-    ∙ ap (λ (l : List (ℚ × ℚ)). at_part c.args.part (behind l corners)) (sym c.in_ok-push.ensures.items) ∙ c.in_ok-add_corners.ensures
+    piece_begun c.args.part c.args.composed.now.items c.push.new.self.items c.args.p.now.0 c.in_ok-value.value (checked_value passes_Q c.args.outer.now c.args.p.now.1) corners (sym c.in_ok-value.ensures) c.in_ok-push.ensures.items
+    ∙ c.in_ok-add_corners.ensures
+
+pub returns-clause-place : goal.returns-clause-place
+returns-clause-place c = c.place_from-next.ensures

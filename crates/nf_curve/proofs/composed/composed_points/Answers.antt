@@ -1,15 +1,17 @@
 use Rattle.std.proofs.Common.{◌≡◌, ℕ, ◌<◌, ◌+◌, ◌-◌, length, drop, Some, refl, sym, ap, ◌∙◌, arith}
-use Rattle.std.specs.Prelude.{slice_get}
+use Rattle.std.specs.Prelude.{slice_get, Ok}
 use Rattle.std.proofs.lemmas.Option.{slice_get_read}
 use Rattle.std.proofs.lemmas.Result.{err_from_is_err_and}
 use Rattle.nf_rational.specs.Rational.{ℚ}
 use Rattle.nf_work.specs.Passing.{passes_Q}
-use Rattle.nf_curve_lists.specs.Composed.{composed_all}
+use Rattle.nf_work.specs.Checked.{at_part}
+use Rattle.nf_curve_lists.specs.Composed.{composed_piece, composed_all}
 use Rattle.nf_curve.specs.Places.{place_of}
 use Rattle.nf_curve.specs.Steps.{behind}
 use Rattle.nf_curve.proofs.Points.{points_there}
 use Rattle.nf_curve.proofs.Placing.{rise-pairs, curve-rises}
-use Rattle.nf_curve.proofs.Composing.{pieces_go, last_stops}
+use Rattle.nf_curve.proofs.Composing.{pieces_go, pieces_stop, last_stops, last_goes}
+use Rattle.nf_curve.proofs.Exits.{stops_on}
 use Rattle.nf_curve.proofs.composed.composed_points.Goals as goal
 
 pub add_piece-requires-clause-later : goal.add_piece-requires-clause-later
@@ -28,6 +30,17 @@ pub add_piece-requires-clause-place : goal.add_piece-requires-clause-place
 add_piece-requires-clause-place c =
     let a : c.loop-i.i - 1 < length c.args.inner.now = omega arith in
     c.loop-i.invariant.place c.index-inner-i.result (slice_get_read c.args.inner.now _ (c.loop-i.i - 1) c.index-inner-i.result refl a c.index-inner-i.is)
+
+pub returns-in_err-place : goal.returns-in_err-place
+returns-in_err-place c =
+    let p = err_from_is_err_and c.from_residual.result c.from_residual.ensures.1 in
+    let a : c.loop-i.i - 1 < length c.args.inner.now = omega arith in
+    let g = slice_get_read c.args.inner.now _ (c.loop-i.i - 1) c.index-inner-i.result refl a c.index-inner-i.is in
+    let k = slice_get_read c.args.inner.now _ c.loop-i.i c.index-inner-i-in-loop-i.result refl c.loop-i-test.true c.index-inner-i-in-loop-i.is in
+    rw (p.1, p.2) (stops_on c.in_err-place.field-0.0 (at_part c.args.part (behind c.loop-i.composed.items (composed_piece passes_Q c.args.outer.now c.index-inner-i.result c.index-inner-i-in-loop-i.result)))
+    (at_part c.args.part (composed_all passes_Q c.args.outer.now c.args.inner.now))
+    (pieces_stop passes_Q c.args.part c.args.outer.now c.args.inner.now c.loop-i.composed.items _ (c.loop-i.i - 1) c.loop-i.i c.index-inner-i.result c.index-inner-i-in-loop-i.result (omega arith) g k
+    c.loop-i.invariant.so_far) c.in_err-place.ensures.points)
 
 pub loop-i-preserved : goal.loop-i-preserved
 loop-i-preserved c =
@@ -64,3 +77,17 @@ returns-in_err-value c =
     let g = slice_get_read c.args.inner.now _ (length c.args.inner.now - 1) c.index-inner-inner.result refl a c.index-inner-inner.is in
     rw (p.1, p.2) (last_stops passes_Q c.args.part c.args.outer.now c.args.inner.now c.loop-i.composed.items _ (length c.args.inner.now - 1) c.index-inner-inner.result g (omega arith)
     (ap (λ (m : ℕ). behind c.loop-i.composed.items (composed_all passes_Q c.args.outer.now (drop m c.args.inner.now))) (sym i) ∙ c.loop-i.invariant.so_far) c.in_err-value.field-0.0 (sym c.in_err-value.ensures))
+
+pub returns-in_err-push : goal.returns-in_err-push
+returns-in_err-push c =
+    let p = err_from_is_err_and c.from_residual-in_err-push.result c.from_residual-in_err-push.ensures.1 in rw (p.1, p.2) tt
+
+pub returns : goal.returns
+returns c =
+    let some = points_there c.args.inner.now c.requires.inner in
+    let a : length c.args.inner.now - 1 < length c.args.inner.now = omega arith in
+    let i : c.loop-i.i - 1 ≡ length c.args.inner.now - 1 = omega arith in
+    let g = slice_get_read c.args.inner.now _ (length c.args.inner.now - 1) c.index-inner-inner.result refl a c.index-inner-inner.is in
+    last_goes passes_Q c.args.part c.args.outer.now c.args.inner.now c.loop-i.composed.items _ (length c.args.inner.now - 1) c.index-inner-inner.result g (omega arith)
+    (ap (λ (m : ℕ). behind c.loop-i.composed.items (composed_all passes_Q c.args.outer.now (drop m c.args.inner.now))) (sym i) ∙ c.loop-i.invariant.so_far) c.in_ok-value.value (sym c.in_ok-value.ensures)
+    ∙ ap Ok (sym c.in_ok-push.ensures.items)

@@ -67,3 +67,7 @@ loop-now-preserved c =
 pub returns : goal.returns
 unfolding checked_least
 returns c = front_ends c.args.part c.loop-now.points.items _ (rw c.in_default.is at c.loop-now.invariant.so_far)
+
+pub returns-in_err-push : goal.returns-in_err-push
+returns-in_err-push c =
+    let p = err_from_is_err_and c.from_residual-in_err-push.result c.from_residual-in_err-push.ensures.1 in rw (p.1, p.2) tt

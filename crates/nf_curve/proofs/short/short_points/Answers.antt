@@ -77,3 +77,15 @@ returns c =
     let g = slice_get_read c.args.points.now _ (length c.args.points.now - 1) c.index-points-points.result refl b c.index-points-points.is in
     rw c.in_ok-push-2.ensures.items (short_ends passes_Q c.args.part c.args.points.now c.loop-i.short.items c.loop-i.before c.loop-i.i c.index-points-points.result
     (ap (slice_get c.args.points.now) i ∙ g) (omega arith) c.loop-i.invariant)
+
+pub returns-in_err-push : goal.returns-in_err-push
+returns-in_err-push c =
+    let p = err_from_is_err_and c.from_residual.result c.from_residual.ensures.1 in rw (p.1, p.2) tt
+
+pub returns-in_err-keep_if_turning : goal.returns-in_err-keep_if_turning
+returns-in_err-keep_if_turning c =
+    let p = err_from_is_err_and c.from_residual-in_err-keep_if_turning.result c.from_residual-in_err-keep_if_turning.ensures.1 in rw (p.1, p.2) tt
+
+pub returns-in_err-push-2 : goal.returns-in_err-push-2
+returns-in_err-push-2 c =
+    let p = err_from_is_err_and c.from_residual-in_err-push-2.result c.from_residual-in_err-push-2.ensures.1 in rw (p.1, p.2) tt

@@ -29,3 +29,7 @@ loop-now-preserved c =
 pub returns : goal.returns
 unfolding checked_sum
 returns c = each_ends (sum_at passes_Q c.args.left.now c.args.right.now) c.loop-now.points.items _ c.args.part (rw c.in_default.is at c.loop-now.invariant.so_far)
+
+pub returns-in_err-push : goal.returns-in_err-push
+returns-in_err-push c =
+    let p = err_from_is_err_and c.from_residual-in_err-push.result c.from_residual-in_err-push.ensures.1 in rw (p.1, p.2) tt
