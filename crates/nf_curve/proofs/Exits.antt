@@ -50,6 +50,10 @@ ok_before part (Ok x) h y e = (x, refl, let same : h x ≡ y = cc in same)
 ok_before part (Err q) h y e = absurd (cc)
 
 -- ---- what is there so far, before what the rest gives
+pub front_none : {B : Type 0} (r : Result (List B) (Passed ℚ)) → with_front [] r ≡ r
+front_none (Ok ys) = refl
+front_none (Err q) = refl
+
 pub front_err : {B : Type 0} (part : Part) (front : List B) (r : Result (List B) (Passed ℚ)) (p : PassedAt ℚ) → at_part part r ≡ Err p → at_part part (with_front front r) ≡ Err p
 front_err part front (Ok ys) p e = absurd (cc)
 front_err part front (Err q) p e = let same : placed part q ≡ p = cc in ap Err same

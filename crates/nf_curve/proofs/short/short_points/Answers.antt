@@ -10,12 +10,28 @@ use Rattle.nf_curve.proofs.Placing.{rise-pairs, curve-rises}
 use Rattle.nf_curve.proofs.Shortening.{begin_stops, begin_goes, step_stops, step_goes, short_ends, short_alone}
 use Rattle.nf_curve.proofs.short.short_points.Goals as goal
 
+pub bounds-points-0 : goal.bounds-points-0
+bounds-points-0 c = points_there c.args.points.now c.requires
+
 pub returns-then-points-eq1 : goal.returns-then-points-eq1
 returns-then-points-eq1 c =
     let b : 0 < length c.args.points.now = omega arith in
     let g = slice_get_read c.args.points.now _ 0 c.index-points-0.result refl b c.index-points-0.is in
     let one : c.push.new.self.items ≡ c.index-points-0.result ∷ [] = c.in_ok-push.ensures.items ∙ ap (λ (l : List (ℚ × ℚ)). l ++ c.index-points-0.result ∷ []) c.new-short.ensures.items in
     rw one (short_alone passes_Q c.args.part c.args.points.now c.index-points-0.result g c.if-points-eq1.true)
+
+pub bounds-points-0-2 : goal.bounds-points-0-2
+bounds-points-0-2 c = points_there c.args.points.now c.requires
+
+pub bounds-points-1 : goal.bounds-points-1
+bounds-points-1 c = let some = points_there c.args.points.now c.requires in omega arith
+
+pub slope-requires : goal.slope-requires
+slope-requires c =
+    let a : 0 < length c.args.points.now = points_there c.args.points.now c.requires in
+    let b : 1 < length c.args.points.now = omega arith in
+    rise-pairs c.args.points.now 0 1 c.index-points-0-2.result c.index-points-1.result (curve-rises c.args.points.now c.requires)
+    (slice_get_read c.args.points.now _ 0 c.index-points-0-2.result refl a c.index-points-0-2.is) (slice_get_read c.args.points.now _ 1 c.index-points-1.result refl b c.index-points-1.is) (omega arith)
 
 pub returns-in_err-before : goal.returns-in_err-before
 returns-in_err-before c =
@@ -25,6 +41,9 @@ returns-in_err-before c =
     rw (p.1, p.2) (begin_stops passes_Q c.args.part c.args.points.now c.index-points-0-2.result c.index-points-1.result
     (slice_get_read c.args.points.now _ 0 c.index-points-0-2.result refl a c.index-points-0-2.is) (slice_get_read c.args.points.now _ 1 c.index-points-1.result refl b c.index-points-1.is)
     c.in_err-before.field-0.0 (sym c.in_err-before.ensures))
+
+pub overflow_sub-i-end : goal.overflow_sub-i-end
+overflow_sub-i-end c = let some = points_there c.args.points.now c.requires in omega arith
 
 pub loop-i-init : goal.loop-i-init
 loop-i-init c =
@@ -68,6 +87,12 @@ loop-i-preserved c =
     g (slice_get_read c.args.points.now _ (c.loop-i.i + 1) c.index-points-i-in-loop-i.result refl b c.index-points-i-in-loop-i.is)
     c.loop-i.invariant c.in_ok-after.after c.keep_if_turning.new.short.items (sym c.in_ok-after.ensures)
     (c.in_ok-keep_if_turning.ensures ∙ ap (λ (x : ℚ × ℚ). if is_same c.loop-i.before c.in_ok-after.after then c.loop-i.short.items else c.loop-i.short.items ++ x ∷ []) same)
+
+pub overflow_sub-points : goal.overflow_sub-points
+overflow_sub-points c = let some = points_there c.args.points.now c.requires in omega arith
+
+pub bounds-points-points : goal.bounds-points-points
+bounds-points-points c = let some = points_there c.args.points.now c.requires in omega arith
 
 pub returns : goal.returns
 returns c =

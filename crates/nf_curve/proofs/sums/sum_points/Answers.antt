@@ -1,14 +1,23 @@
-use Rattle.std.proofs.Common.{◌≡◌, List, sym, ap, ◌∙◌}
+use Rattle.std.proofs.Common.{◌≡◌, List, ◌∷◌, sym, ap, ◌∙◌}
 use Rattle.std.proofs.lemmas.Result.{err_from_is_err_and}
 use Rattle.nf_rational.specs.Rational.{ℚ}
 use Rattle.nf_work.specs.Passing.{passes_Q}
-use Rattle.nf_work.specs.Checked.{each}
+use Rattle.nf_work.specs.Checked.{Checked, each}
 use Rattle.nf_work.proofs.Each.{with_front}
 use Rattle.nf_curve_lists.specs.Times.{both_times}
 use Rattle.nf_curve_lists.specs.Sums.{sum_at, checked_sum}
 use Rattle.nf_curve.specs.Places.{times_after}
-use Rattle.nf_curve.proofs.Exits.{each_goes, each_stops, each_ends}
+use Rattle.nf_curve.proofs.Exits.{front_none, each_goes, each_stops, each_ends}
 use Rattle.nf_curve.proofs.sums.sum_points.Goals as goal
+
+pub loop-now-init : goal.loop-now-init
+loop-now-init c =
+    let sums : List ℚ → Checked (List (ℚ × ℚ)) = each (sum_at passes_Q c.args.left.now c.args.right.now) in
+    record {
+      there = c.first_moment.ensures.there;
+      so_far = ap (λ (l : List (ℚ × ℚ)). with_front l (sums (c.first_moment.result.time ∷ times_after c.first_moment.result.time c.args.left.now c.args.right.now))) c.new-points.ensures.items
+          ∙ front_none (sums (c.first_moment.result.time ∷ times_after c.first_moment.result.time c.args.left.now c.args.right.now)) ∙ ap sums (sym c.first_moment.ensures.times);
+    }
 
 pub returns-in_err-point : goal.returns-in_err-point
 unfolding checked_sum
