@@ -8,4 +8,5 @@ pub mod Merging
 pub mod Stretching
 pub mod Testing
 pub mod Answering
+pub mod Attaining
 pub mod Keeping

@@ -37,6 +37,14 @@ pub part_ends : {A : Type 0} (part : Part) (h : Halt ℚ) (r : Checked A) → St
 part_ends part (Halt.Passed p) r s = part_passes part r _ s
 part_ends part Halt.Memory r s = tt
 
+-- and then what follows
+module _ {A B : Type 0} (part : Part) (r : Checked A) (f : A → Trial B) where
+  pub part_goes : (x : A) → at_part part r ≡ Ok x → (in_part part r >>= f) ≡ f x
+  part_goes x e = goes_on (in_part part r) f x (part_ok part r x e)
+
+  pub part_stops : (h : Halt ℚ) → Stops (λ (q : ℚ). q) h (at_part part r) → EndsAs (of_halt h) (in_part part r >>= f)
+  part_stops h s = ends (of_halt h) (in_part part r) f (part_ends part h r s)
+
 -- ---- only whether it goes through
 pub done_ends : {A : Type 0} (e : Ended) (r : Trial A) → EndsAs e r → EndsAs e (done r)
 done_ends (Ended.AtNode rule node sides) r h = ap done h

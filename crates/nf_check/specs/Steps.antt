@@ -9,11 +9,12 @@ use Rattle.nf_model.specs.Curve.{Point}
 use Rattle.nf_model.specs.Network.{Network}
 use Rattle.nf_model.specs.Equilibrium.{Flow, points_at}
 use Rattle.nf_curve_lists.specs.Sums.{checked_sum}
+use Rattle.nf_curve_lists.specs.Composed.{checked_composed}
 use Rattle.nf_curve_lists.specs.Differences.{checked_difference}
 use Rattle.nf_load_lists.specs.Cumulative.{checked_cumulative}
 use Rattle.nf_load_lists.specs.Loading.{Loaded}
 use Rattle.nf_check_lists.specs.declared.CheckRule.{CheckRule}
-use Rattle.nf_check_lists.specs.declared.CheckRule.TheVariants.{C3}
+use Rattle.nf_check_lists.specs.declared.CheckRule.TheVariants.{C3, C7}
 use Rattle.nf_check_lists.specs.declared.Subject.{Subject}
 use Rattle.nf_check_lists.specs.declared.Subject.TheVariants.{Node}
 use Rattle.nf_check_lists.specs.Rules.{all_nodes, all_links, nodes_but}
@@ -31,6 +32,14 @@ compared_by passes rule subject left right last = do
 -- what comes into a node, with the supply at the source
 abbrev pub with_supply_by : Passing → Network → List Point → ℕ → List Point → Checked (List Point)
 with_supply_by passes net supplied v total = if v == net.source then checked_sum passes total supplied else Ok total
+
+-- what stays at the sink by an arrival, and what was supplied by its departure
+abbrev pub stays_by : Passing → ℕ → List Point → List Point → List Point → List Point → ℚ → Trial (Unit {0})
+stays_by passes sink label comes goes supplied reached = do
+  come ← in_part Check (checked_composed passes comes label reached)
+  gone ← in_part Check (checked_composed passes goes label reached)
+  total ← in_part Check (checked_sum passes gone supplied)
+  compared_by passes C7 (Node sink) come total reached
 
 module _ (passes : Passing) (net : Network) (flow : Flow) where
   -- the labels up to the departure reached, and the loadings; first come the rules that need only the points

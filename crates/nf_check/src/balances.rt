@@ -10,8 +10,8 @@ ghost use Rattle.nf_check_lists.specs.Curves.{last_value as last_by};
 ghost use Rattle.nf_check_lists.specs.CheckList.{balance, sink_rules};
 ghost use Rattle.nf_model.specs.Equilibrium.{points_at};
 ghost use Rattle.nf_curve.specs.Flows.{flow_of};
-ghost use Rattle.nf_check.specs.Kept.{IsWorked, labels_in, loaded_in};
-ghost use Rattle.nf_check.specs.Steps.{with_supply_by, balances_list};
+ghost use Rattle.nf_check.specs.Kept.{IsFromZero, IsWorked, labels_in, loaded_in};
+ghost use Rattle.nf_check.specs.Steps.{with_supply_by, stays_by, balances_list};
 ghost use Rattle.nf_check.specs.Trials.{Tries, done};
 
 use crate::answer::Subject;
@@ -110,6 +110,26 @@ fn check_balances_at(
     Ok(())
 }
 
+// The sink from its first arrival on: what stays there by an arrival is what was supplied by its departure.
+fn check_stays(
+    alloc: Global,
+    sink: NodeId,
+    label: &Curve,
+    comes: &Curve,
+    goes: &Curve,
+    supplied: &Curve,
+    reached: Q,
+) -> Result<(), Ended>
+    requires label { IsFromZero label.now.points }
+    requires reached { 0ℚ ≤ℚ reached }
+    ensures { Tries (λ _. tt) result (stays_by passes_Q sink label.now.points comes.now.points goes.now.points supplied.now.points reached) }
+{
+    let come = Curve::compose(alloc, comes, label, reached, Part::Check)?;
+    let gone = Curve::compose(alloc, goes, label, reached, Part::Check)?;
+    let total = Curve::sum(alloc, &gone, supplied, Part::Check)?;
+    compare(CheckRule::C7, Subject::Node(sink), &come, &total, reached)
+}
+
 // The sink: up to its first arrival what comes goes on; and from then on what stays there by an arrival is what was supplied by its
 // departure.
 fn check_sink(
@@ -135,16 +155,7 @@ fn check_sink(
         &goes,
         first_value(label),
     )?;
-    let come = Curve::compose(alloc, &comes, label, flow.reached, Part::Check)?;
-    let gone = Curve::compose(alloc, &goes, label, flow.reached, Part::Check)?;
-    let total = Curve::sum(alloc, &gone, supplied, Part::Check)?;
-    compare(
-        CheckRule::C7,
-        Subject::Node(sink),
-        &come,
-        &total,
-        flow.reached,
-    )
+    check_stays(alloc, sink, label, &comes, &goes, supplied, flow.reached)
 }
 
 /// What comes into each node and goes out of it; last comes the sink.

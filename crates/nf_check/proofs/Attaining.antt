@@ -1,0 +1,45 @@
+-- The least exit over the links into a node, with one link more.
+use Rattle.std.proofs.Common.{◌≡◌, ℕ, List, Bool, true, false, not, refl, sym, ap, ◌∙◌}
+use Rattle.std.specs.Prelude.{◌==◌, if◌then◌else◌, Option, Ok}
+use Rattle.nf_rational.specs.Rational.{ℚ}
+use Rattle.nf_work.specs.Passing.{Passing}
+use Rattle.nf_work.specs.declared.Halt.{Halt}
+use Rattle.nf_work.specs.declared.Part.TheVariants.{Check}
+use Rattle.nf_work.specs.Checked.{Checked, Stops, at_part, ◌>>=◌}
+use Rattle.nf_model.specs.Curve.{Point}
+use Rattle.nf_model.specs.Network.{Link}
+use Rattle.nf_model.specs.Equilibrium.{points_at}
+use Rattle.nf_load_lists.specs.Loading.{Loaded}
+use Rattle.nf_curve_lists.specs.Composed.{checked_composed}
+use Rattle.nf_check_lists.specs.Curves.{loaded_at, least_so_far, with_exit}
+use Rattle.nf_curve.proofs.Exits.{after_err, after_ok, stops_on}
+
+same_not : (a b : Bool) → not a ≡ not b → a ≡ b
+same_not true true e = refl
+same_not true false e = cc
+same_not false true e = cc
+same_not false false e = refl
+
+-- a link, by the test whether its head is another node
+module _ (passes : Passing) (labels : List (List Point)) (loaded : List Loaded) (last : ℚ) (node : ℕ) (so_far : Option (List Point)) (e : ℕ)
+    (link here : Link) (same : link ≡ here) (head : ℕ) (is_head : head ≡ link.head) (differs : Bool) (tested : differs ≡ not (head == node)) where
+  abbrev exit : Checked (List Point)
+  exit = checked_composed passes (loaded_at loaded e).exit (points_at labels link.tail) last
+
+  abbrev by_test : Bool → Checked (Option (List Point))
+  by_test leads = if leads then (exit >>= λ x. least_so_far passes so_far x) else Ok so_far
+
+  at_test : (leads : Bool) → differs ≡ not leads → with_exit passes labels loaded last node so_far (e, here) ≡ by_test leads
+  at_test leads h =
+      ap (λ (l : Link). with_exit passes labels loaded last node so_far (e, l)) (sym same)
+      ∙ ap by_test (ap (λ (k : ℕ). k == node) (sym is_head) ∙ same_not (head == node) leads (sym tested ∙ h))
+
+  pub exit_left_out : differs ≡ true → at_part Check (with_exit passes labels loaded last node so_far (e, here)) ≡ Ok so_far
+  exit_left_out h = ap (at_part Check) (at_test false h)
+
+  pub exit_goes : differs ≡ false → (points : List Point) → at_part Check exit ≡ Ok points → at_part Check (with_exit passes labels loaded last node so_far (e, here)) ≡ at_part Check (least_so_far passes so_far points)
+  exit_goes h points f = ap (at_part Check) (at_test true h) ∙ after_ok Check exit _ points f
+
+  pub exit_stops : differs ≡ false → (halt : Halt ℚ) → Stops (λ (q : ℚ). q) halt (at_part Check exit) → Stops (λ (q : ℚ). q) halt (at_part Check (with_exit passes labels loaded last node so_far (e, here)))
+  exit_stops h halt s = stops_on halt (at_part Check exit) (at_part Check (with_exit passes labels loaded last node so_far (e, here)))
+      (λ p f. ap (at_part Check) (at_test true h) ∙ after_err Check exit _ p f) s
