@@ -10,8 +10,8 @@ use Rattle.nf_work.specs.declared.Part.TheVariants.{Extend, Advance, Curve}
 use Rattle.nf_work.specs.declared.PassedAt.{PassedAt}
 use Rattle.nf_work.specs.declared.Halt.{Halt}
 use Rattle.nf_work.specs.Checked.{at_part, Stops}
-use Rattle.nf_model.specs.Network.{Network, IsNetwork, hops}
-use Rattle.nf_model.specs.ThinFlow.{Sets, slacks_of, sets_at}
+use Rattle.nf_model.specs.Network.{Network, IsNetwork, hop_of, hops}
+use Rattle.nf_model.specs.ThinFlow.{Sets, slack, slacks_of, sets_at}
 use Rattle.nf_model.specs.Phases.{IsExtension, IsUnending}
 use Rattle.nf_lists.specs.Slack.{slack_list}
 use Rattle.nf_lists.specs.Extend.{extend_list}
@@ -38,6 +38,17 @@ pub found_here : (passes : Passing) (net : Network) (patterns : ℕ) (s : Standi
     → found.slacks.items ≡ slacks_of (hops net) s.labels → found.sets ≡ sets_at net s.labels
     → IsSearchHere passes net horizon patterns s (FoundAt found.thin.place found.thin.pattern found.thin.flows.items found.thin.labels.items) → IsFound passes net patterns s found
 found_here passes net patterns s list horizon found slacks sets h = record { slacks = slacks; sets = sets; seeks = seeks_here passes net patterns s list horizon _ h }
+
+-- ---- how many there are
+module _ (passes : Passing) (net : Network) (patterns : ℕ) (s : Standing) (found : Found) (is : IsFound passes net patterns s found) where
+  pub slack_count : (slacks : List ℚ) → slacks ≡ found.slacks.items → length slacks ≡ length net.links
+  slack_count slacks e = ap (λ (l : List ℚ). length l) (e ∙ is.slacks) ∙ length-map (hops net) (slack s.labels) ∙ length-map net.links hop_of
+
+  pub thin_slope_count : (slopes : List ℚ) → slopes ≡ found.thin.labels.items → length slopes ≡ net.nodes
+  thin_slope_count slopes e = ap (λ (l : List ℚ). length l) e ∙ is.seeks.is_search.answers.solution.solves.slope_count
+
+  pub thin_flow_count : (flows : List ℚ) → flows ≡ found.thin.flows.items → length flows ≡ length net.links
+  thin_flow_count flows e = ap (λ (l : List ℚ). length l) e ∙ is.seeks.is_search.answers.solution.solves.flow_count
 
 -- ---- the lists
 module _ (passes : Passing) (net : Network) (good : IsNetwork net) (horizon : ℚ) (patterns : ℕ) (s : Standing) (reaches : Reaches passes net s) (found : Found)

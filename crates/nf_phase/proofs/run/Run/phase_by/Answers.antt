@@ -1,11 +1,20 @@
 use Rattle.std.proofs.Common.{List, length, Ok, refl, sym, ap, ◌∙◌}
+use Rattle.std.proofs.lemmas.Result.{IfOk-from_err}
 use Rattle.nf_rational.specs.Rational.{ℚ}
 use Rattle.nf_work.specs.Passing.{passes_Q}
 use Rattle.nf_lists.specs.Advance.{Advanced}
 use Rattle.nf_lists.specs.PhaseRun.{Standing}
 use Rattle.nf_phase.specs.Growing.{all_grown}
-use Rattle.nf_phase.proofs.PhaseFound.{pattern_count, counts_agree, amounts_count, extension_stops, advance_stops, end_count, curve_stops, leads_on}
+use Rattle.nf_phase.specs.declared.fault.StepFault.{StepFault}
+use Rattle.nf_phase.proofs.Found.{by_fault}
+use Rattle.nf_phase.proofs.PhaseFound.{slack_count, thin_slope_count, thin_flow_count, pattern_count, counts_agree, amounts_count, extension_stops, advance_stops, end_count, curve_stops, leads_on}
 use Rattle.nf_phase.proofs.run.Run.phase_by.Goals as goal
+
+pub extension-requires-clause-slacks : goal.extension-requires-clause-slacks
+extension-requires-clause-slacks c = slack_count passes_Q c.args.net.now.net c.args.patterns c.args.self.now c.args.found c.requires.found c.deref.result.now c.deref.ensures.value
+
+pub extension-requires-clause-slopes : goal.extension-requires-clause-slopes
+extension-requires-clause-slopes c = thin_slope_count passes_Q c.args.net.now.net c.args.patterns c.args.self.now c.args.found c.requires.found c.deref-2.result.now c.deref-2.ensures.value
 
 pub returns-in_err-extension-clause-cause : goal.returns-in_err-extension-clause-cause
 returns-in_err-extension-clause-cause c =
@@ -22,6 +31,15 @@ returns-in_err-end-clause-cause c =
     advance_stops passes_Q c.args.net.now.net c.requires.named.network c.args.horizon c.args.patterns c.args.self.now c.requires.reaches c.args.found c.requires.found
     c.deref.result.now c.deref-2.result.now c.self.inside.reached c.deref.ensures.value c.deref-2.ensures.value (ap (λ (s : Standing). s.time) c.self.view_is) c.in_ok-extension.extension c.in_ok-extension.ensures.list
     c.deref-3.result.now c.deref-4.result.now (c.deref-3.ensures.value ∙ ap (λ (s : Standing). s.labels) c.self.view_is) c.deref-4.ensures.value c.in_err-end.field-0.0 c.in_err-end.ensures c.from_residual-in_err-end.result c.from_residual-in_err-end.ensures.1
+
+pub returns-in_err-amounts-clause-cause : goal.returns-in_err-amounts-clause-cause
+returns-in_err-amounts-clause-cause c = by_fault c.from_residual-in_err-amounts.result StepFault.Memory _ c.from_residual-in_err-amounts.ensures.1 tt
+
+pub link_steps-requires-clause-flows : goal.link_steps-requires-clause-flows
+link_steps-requires-clause-flows c = thin_flow_count passes_Q c.args.net.now.net c.args.patterns c.args.self.now c.args.found c.requires.found c.deref-6.result.now c.deref-6.ensures.value
+
+pub link_steps-requires-clause-slopes : goal.link_steps-requires-clause-slopes
+link_steps-requires-clause-slopes c = thin_slope_count passes_Q c.args.net.now.net c.args.patterns c.args.self.now c.args.found c.requires.found c.deref-7.result.now c.deref-7.ensures.value
 
 pub link_steps-requires-clause-states : goal.link_steps-requires-clause-states
 link_steps-requires-clause-states c =
@@ -56,3 +74,30 @@ returns-clause-leads c =
     (record { length = c.end.inside.length; labels = c.end.inside.labels.items }) (c.in_ok-end.ensures ∙ ap (λ (a : Advanced). Ok a) (sym c.end.view_is))
     c.args.found.sets c.deref-6.result.now c.deref-7.result.now c.deref-8.result.now c.deref-9.result.now (all_grown c.deref-5.result.now) refl c.deref-6.ensures.value c.deref-7.ensures.value c.deref-8.ensures.value
     (c.deref-9.ensures.value ∙ c.in_ok-amounts.ensures) (ap all_grown c.deref-5.ensures.value ∙ ap (λ (s : Standing). s.link_curves) c.self.view_is) c.requires.below c.in_ok-extension.ensures.length _ refl refl refl c.in_ok-steps.ensures
+
+pub returns-clause-slopes : goal.returns-clause-slopes
+returns-clause-slopes c = refl
+
+pub returns-in_err-extension-clause-leads : goal.returns-in_err-extension-clause-leads
+returns-in_err-extension-clause-leads c = IfOk-from_err c.from_residual.result _ c.from_residual.ensures.0
+
+pub returns-in_err-extension-clause-slopes : goal.returns-in_err-extension-clause-slopes
+returns-in_err-extension-clause-slopes c = IfOk-from_err c.from_residual.result _ c.from_residual.ensures.0
+
+pub returns-in_err-end-clause-leads : goal.returns-in_err-end-clause-leads
+returns-in_err-end-clause-leads c = IfOk-from_err c.from_residual-in_err-end.result _ c.from_residual-in_err-end.ensures.0
+
+pub returns-in_err-end-clause-slopes : goal.returns-in_err-end-clause-slopes
+returns-in_err-end-clause-slopes c = IfOk-from_err c.from_residual-in_err-end.result _ c.from_residual-in_err-end.ensures.0
+
+pub returns-in_err-amounts-clause-leads : goal.returns-in_err-amounts-clause-leads
+returns-in_err-amounts-clause-leads c = IfOk-from_err c.from_residual-in_err-amounts.result _ c.from_residual-in_err-amounts.ensures.0
+
+pub returns-in_err-amounts-clause-slopes : goal.returns-in_err-amounts-clause-slopes
+returns-in_err-amounts-clause-slopes c = IfOk-from_err c.from_residual-in_err-amounts.result _ c.from_residual-in_err-amounts.ensures.0
+
+pub returns-in_err-steps-clause-leads : goal.returns-in_err-steps-clause-leads
+returns-in_err-steps-clause-leads c = IfOk-from_err c.from_residual-in_err-steps.result _ c.from_residual-in_err-steps.ensures.0
+
+pub returns-in_err-steps-clause-slopes : goal.returns-in_err-steps-clause-slopes
+returns-in_err-steps-clause-slopes c = IfOk-from_err c.from_residual-in_err-steps.result _ c.from_residual-in_err-steps.ensures.0
