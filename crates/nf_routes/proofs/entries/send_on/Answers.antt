@@ -10,3 +10,6 @@ next_entry-requires-clause-amount c =
     subst (λ (l : List (ℚ × ℚ)). IsAmount l) (sym c.last.ensures)
     (last_amount c.args.sent.now c.requires.sends.amounts
     (c.requires.sends.some (ap (λ (l : List ℕ). goes_over l c.args.link) (sym c.links.ensures) ∙ sym c.goes_over.ensures ∙ c.if-goes_over.true)))
+
+pub next_entry-requires-clause-exits : goal.next_entry-requires-clause-exits
+next_entry-requires-clause-exits c = c.requires.exits

@@ -51,3 +51,6 @@ returns-clause-complete c =
     c.deref-link-items.ensures.value ∙ c.in_ok-order.ensures ∙ ap (λ (n : ℕ). loading_order n (routes_of c.args.routes.now)) c.link_count.ensures in
     let past : length c.deref-link-items.result.now ≤ c.loop-link.link-index = omega arith in
     loads_complete passes_Q c.args.net.now.net (routes_of c.args.routes.now) c.args.horizon c.deref-link-items.result.now order c.requires.routes (seen_so_far c.loop-link.so_far) c.loop-link.link-index c.loop-link.invariant past c.version.ensures.named.network c.requires.straight
+
+pub load_here-requires-clause-horizon : goal.load_here-requires-clause-horizon
+load_here-requires-clause-horizon c = c.requires.horizon

@@ -106,3 +106,6 @@ returns-in_err-send_all_on c =
     (λ q k. ap (λ (o : Option Link). at_part Load (load_here passes_Q c.args.horizon (routes_of c.args.routes.now) (seen_so_far c.args.so_far.now) c.args.link o)) c.link-here.ensures.link
     ∙ send_stops passes_Q c.args.horizon (routes_of c.args.routes.now) (seen_so_far c.args.so_far.now) c.args.link c.link-here.result c.begin_all.new.entries begun c.in_ok-inflow.inflow.points inflow (loaded_of c.in_ok-loaded.loaded) loaded q k)
     (subst (λ (l : List Sent). Stops (λ (q : ℚ). q) c.in_err-send_all_on.field-0.0 (at_part Load (next_all passes_Q c.args.link (loaded_of c.in_ok-loaded.loaded).exit (routes_of c.args.routes.now) l))) (c.deref_mut-2.ensures.value ∙ items) c.in_err-send_all_on.ensures))
+
+pub begin_all-requires-clause-horizon : goal.begin_all-requires-clause-horizon
+begin_all-requires-clause-horizon c = c.requires.horizon

@@ -31,3 +31,9 @@ returns-in_err-one c =
     rw (p.1, p.2) (stops_on c.in_err-one.field-0.0 (at_part Load ((λ (route : Route). travel_along passes_Q c.args.horizon (map loaded_of c.args.links.now) route.links (departures c.args.horizon)) c.route-item.result.route)) (at_part Load (each (λ (route : Route). travel_along passes_Q c.args.horizon (map loaded_of c.args.links.now) route.links (departures c.args.horizon)) (routes_of c.args.routes.now)))
     (each_stops Load (λ (route : Route). travel_along passes_Q c.args.horizon (map loaded_of c.args.links.now) route.links (departures c.args.horizon)) (map (λ (g : Grown). g.points) c.loop-route.travels.items) (each (λ (route : Route). travel_along passes_Q c.args.horizon (map loaded_of c.args.links.now) route.links (departures c.args.horizon)) (routes_of c.args.routes.now)) c.route-item.result.route (routes_of (drop (c.loop-route.route-index + 1) c.args.routes.now))
     (sym (ap (λ (l : List Route). with_front (map (λ (g : Grown). g.points) c.loop-route.travels.items) (each (λ (route : Route). travel_along passes_Q c.args.horizon (map loaded_of c.args.links.now) route.links (departures c.args.horizon)) l)) rest) ∙ c.loop-route.invariant)) c.in_err-one.ensures)
+
+pub travel-requires-clause-horizon : goal.travel-requires-clause-horizon
+travel-requires-clause-horizon c = c.requires.horizon
+
+pub travel-requires-clause-exits : goal.travel-requires-clause-exits
+travel-requires-clause-exits c = c.requires.exits

@@ -1,4 +1,7 @@
-use Rattle.std.proofs.Common.{ℕ, ◌<◌, sym, ap, subst, ◌∙◌}
+use Rattle.std.proofs.Common.{◌≡◌, ℕ, ◌<◌, length, take, sym, ap, subst, ◌∙◌, arith}
+use Rattle.std.proofs.Math.ListN.{length-map}
+use Rattle.std.proofs.Math.Seq.{take-length}
+use Rattle.nf_model.specs.Entries.{number_at}
 use Rattle.std.specs.Prelude.{Option}
 use Rattle.nf_rational.specs.Rational.{ℚ}
 use Rattle.nf_work.specs.Passing.{passes_Q}
@@ -19,3 +22,12 @@ loop-e-preserved c =
     (number_read c.args.slopes.now c.index.result c.link-link.result.head _ (c.index.ensures ∙ ap (λ (l : Link). l.head) c.link.view_is)
     (subst (λ (n : ℕ). c.link-link.result.head < n) (sym c.requires) (good.heads c.loop-e.e c.link-link.result c.link-link.ensures.link)) c.index-slopes-index.is))
     c.loop-e.invariant c.in_ok-push.ensures.items
+
+pub loop-e-init : goal.loop-e-init
+loop-e-init c = c.new-full.ensures.items
+
+pub returns : goal.returns
+returns c =
+    let whole : c.loop-e.e ≡ length (full_by passes_Q c.args.net.now.net c.args.slopes.now) =
+    omega (arith, c.link_count-e-end.ensures, length-map c.args.net.now.net.links (λ (link : Link). full_of passes_Q link.capacity (number_at c.args.slopes.now link.head))) in
+    c.loop-e.invariant ∙ ap (λ (n : ℕ). take n (full_by passes_Q c.args.net.now.net c.args.slopes.now)) whole ∙ take-length (full_by passes_Q c.args.net.now.net c.args.slopes.now)

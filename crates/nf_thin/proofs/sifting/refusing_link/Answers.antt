@@ -1,4 +1,5 @@
-use Rattle.std.proofs.Common.{sym, ◌∙◌}
+use Rattle.std.proofs.Common.{List, length, sym, ap, ◌∙◌}
+use Rattle.nf_thin.specs.declared.allowed.Allowed.{Allowed}
 use Rattle.nf_work.specs.Passing.{passes_Q}
 use Rattle.nf_thin.proofs.Refusing.{can_flow}
 use Rattle.nf_thin.proofs.sifting.refusing_link.Goals as goal
@@ -10,3 +11,18 @@ returns-else-can_conserve c accepted =
     (can_flow c.args.net.now.net c.args.sets.now c.args.rate c.args.pattern.now c.requires.listed accepted.solvable passes_Q c.args.guide.now.known.slopes.items c.deref-2.result.now
     c.requires.guide.slopes (c.deref-2.ensures.value ∙ c.requires.guide.full)))
     ∙ c.if-can_conserve.false)
+
+pub forbidden_link-requires-clause-allowed : goal.forbidden_link-requires-clause-allowed
+forbidden_link-requires-clause-allowed c = ap (λ (l : List Allowed). length l) c.deref.ensures.value ∙ c.requires.guide.count
+
+pub forbidden_link-requires-clause-states : goal.forbidden_link-requires-clause-states
+forbidden_link-requires-clause-states c = c.requires.pattern.pattern_is.count ∙ c.requires.pattern.sets_are.count
+
+pub can_conserve-requires-clause-network : goal.can_conserve-requires-clause-network
+can_conserve-requires-clause-network c = c.requires.pattern.network
+
+pub can_conserve-requires-clause-sets : goal.can_conserve-requires-clause-sets
+can_conserve-requires-clause-sets c = c.requires.pattern.sets_are.count
+
+pub can_conserve-requires-clause-states : goal.can_conserve-requires-clause-states
+can_conserve-requires-clause-states c = c.requires.pattern.pattern_is.count ∙ c.requires.pattern.sets_are.count
