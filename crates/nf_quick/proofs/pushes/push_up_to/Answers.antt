@@ -43,3 +43,9 @@ returns-in-Some-2-clause-pushed c =
     let past : c.args.augments ≤ c.loop.counter = omega arith in
     over_budget passes_Q c.args.net.now.net c.args.amount c.args.augments c.loop.standing c.loop.counter c.loop.invariant past c.in-Some-2.field-0 (c.in_ok-next.ensures.list c.args.amount ∙ ap Ok c.in-Some-2.is)
     ∙ ap (λ (s : Standing). Ok (OverBudget s.pushed)) (sym c.standing-2.view_is)
+
+pub next-requires-clause-limited : goal.next-requires-clause-limited
+next-requires-clause-limited c = c.requires
+
+pub next-requires-2-clause-limited : goal.next-requires-2-clause-limited
+next-requires-2-clause-limited c = c.requires

@@ -22,3 +22,6 @@ loop-preserved c =
       count = c.in-Some.ensures.count ∙ c.loop.invariant.count;
       node = subst (λ (v : ℕ). v < c.args.net.now.net.nodes) (sym (ap (λ (l : Link). l.head) c.node.view_is)) (c.link.ensures.named.network.heads c.in-Some.link c.link.result c.link.ensures.link);
     }
+
+pub next_out-requires-clause-flows : goal.next_out-requires-clause-flows
+next_out-requires-clause-flows c = c.requires.flows
