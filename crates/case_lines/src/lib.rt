@@ -1,45 +1,19 @@
-//! Bytes written as lines, for the programs that read cases.
+//! Cases that programs read from their input, and what they print of them alike. The input is cases, one after another:
+//!
+//!     == TITLE       begins a case, with the file of its network
+//!     ++ WORDS       says what is asked of the case
+//!     --             begins the other file of the case
+//!     LINE           any other line is one of the file
+//!
+//! In a line of a file `\` and two hexadecimal digits stand for the byte of that number, and a `\` at the end says that no LF follows.
 #![tactic(auto)]
 
-use std::alloc::AllocError;
+mod case;
+mod line;
+mod network;
+mod shown;
 
-// How far an escape in a line has come.
-#[derive(Clone, Copy)]
-enum Escape {
-    None,
-    Begun,
-    Half(u8),
-}
-
-// The value of a hexadecimal digit.
-fn digit(byte: u8) -> u8 {
-    match byte {
-        b'0'..=b'9' => byte - b'0',
-        b'a'..=b'f' => byte - b'a' + 10,
-        _ => 0,
-    }
-}
-
-/// Adds the bytes that a line stands for: `\` and two hexadecimal digits are the byte of that number, any other byte is itself.
-/// LF follows, unless the line ends with `\`.
-pub fn add_line(text: &mut Vec<u8>, line: &[u8]) -> Result<(), AllocError> {
-    let mut escape = Escape::None;
-    for byte in line {
-        escape = match escape {
-            Escape::None if *byte == b'\\' => Escape::Begun,
-            Escape::None => {
-                text.push(*byte)?;
-                Escape::None
-            }
-            Escape::Begun => Escape::Half(digit(*byte)),
-            Escape::Half(high) => {
-                text.push((high << 4) | digit(*byte))?;
-                Escape::None
-            }
-        };
-    }
-    if matches!(escape, Escape::None) {
-        text.push(b'\n')?;
-    }
-    Ok(())
-}
+pub use case::{Case, read_cases};
+pub use line::add_line;
+pub use network::{link_name, network_of, node_name};
+pub use shown::{Shown, as_text, op_word, tell_passed};

@@ -1,44 +1,34 @@
-//! What texts and network files are read as. The input is cases, one after another:
+//! What texts and network files are read as. The input is cases in the form of `case_lines`. A case with a file beside the network's has
+//! no network: the file is read as lines. What is asked of a network is words: a number is a time, any other word a name.
 //!
-//!     -- TITLE       begins a case whose text is read as lines
-//!     == TITLE       begins a case whose text is read as a network file
-//!     ?? WORD ..     words that its network is asked about: a number is a time, any other word a name
-//!     LINE           any other line is one of its text
-//!
-//! In a line of a text `\` and two hexadecimal digits stand for the byte of that number, and a `\` at the end says that no LF
-//! follows. Of each case the title is printed, and then: of a text its lines with their words, `+` before a plain one and `-`
-//! before another, or the first line that has a fault; of a network file the first rule that it breaks, with the line, or the
-//! canonical text of its network, the nodes with their start labels, the idle nodes, the links, as hops too, the nodes in an order
-//! along all links, and what the network answers to the words.
+//! Of each case the title is printed, and then: of a text its lines with their words, `+` before a plain one and `-` before another, or
+//! the first line that has a fault; of a network file the first rule that it breaks, with the line, or the canonical text of its
+//! network, the nodes with their start labels, the idle nodes, the links, as hops too, the nodes in an order along all links, and what
+//! the network answers to the words.
 #![tactic(auto)]
 
-mod case;
+mod network;
 mod shown;
-mod telling;
+mod text;
 
-use case::{Case, Kind};
+use case_lines::{Case, network_of, read_cases};
 use std::io;
 
-// The cases of the input.
-fn read_cases<R: Input + AllocGlobal>(rt: &R) -> io::Result<Vec<Case>> {
-    let mut cases: Vec<Case> = Vec::new(rt.alloc());
-    for line in rt.lines(rt.alloc()) {
-        let line = line?;
-        if let Some(title) = line.strip_prefix("-- ") {
-            cases.push(Case::new(rt.alloc(), Kind::Lines, title)?)?;
-        } else if let Some(title) = line.strip_prefix("== ") {
-            cases.push(Case::new(rt.alloc(), Kind::Network, title)?)?;
-        } else if let Some(case) = cases.last_mut() {
-            case.add_line(rt.alloc(), line.as_str())?;
-        }
+// Prints a case's title, and what its text is read as.
+fn tell<R: Print + AllocGlobal>(rt: &R, case: &Case) -> io::Result<()> {
+    if case.has_file {
+        return text::tell(rt, case);
     }
-    Ok(cases)
+    match network_of(rt, case)? {
+        Some(net) => network::tell(rt, &net, case.asked.as_str()),
+        None => Ok(()),
+    }
 }
 
 fn main(rt: HostRuntime) -> io::Result<()> {
     let cases = read_cases(&rt)?;
     for case in &cases {
-        telling::tell(&rt, case)?;
+        tell(&rt, case)?;
     }
     Ok(())
 }

@@ -1,0 +1,36 @@
+// Numbers, and operations that pass, as they are printed.
+use nf_frac::{Op, PassedAt, Q, TextBuf};
+use std::{fmt, io};
+
+/// Bytes as text; `?` where they are none.
+pub fn as_text(bytes: &[u8]) -> &str {
+    std::str::from_utf8(bytes).unwrap_or("?")
+}
+
+/// A number as files write it.
+#[derive(Drop)]
+pub struct Shown(pub Q);
+
+impl fmt::Display for Shown {
+    fn fmt<W: fmt::Write>(&self, f: &mut fmt::Formatter<W>) -> fmt::Result {
+        let mut room = TextBuf::new();
+        self.0.write(&mut room);
+        f.write_str(as_text(room.text()))
+    }
+}
+
+/// The word of an operation.
+pub fn op_word(op: Op) -> &'static str {
+    match op {
+        Op::Sum => "sum",
+        Op::Difference => "difference",
+        Op::Product => "product",
+        Op::Quotient => "quotient",
+    }
+}
+
+/// Prints an operation that passes, with its operands.
+pub fn tell_passed<R: Print>(rt: &R, at: &PassedAt<Q>) -> io::Result<()> {
+    let op = op_word(at.op);
+    println!(rt; "passed {op} {} {}", Shown(at.left), Shown(at.right))
+}
