@@ -1,41 +1,43 @@
-//! What loads files are read as, and how links are loaded. The input is cases, one after another:
+//! What loads files and routes files are read as, and how links are loaded. The input is cases in the form of `case_lines`, each with the
+//! file of a network and a loads file or a routes file. What is asked is words: `routes` says that the file is a routes file, and a
+//! number is the horizon up to which the links are loaded.
 //!
-//!     == TITLE       begins a case, with the file of its network
-//!     ++ HORIZON     the links are loaded up to this time
-//!     --             begins the loads file of a case
-//!     LINE           any other line is one of the file, in the form of `case_lines`
-//!
-//! Of each case the title is printed, and then the first rule that the loads file breaks, with the line; or the pieces of each link.
-//! With a horizon follow, link by link, the points of queue, outflow and exit. Where an operation passes, `passed`, the operation
-//! and its operands follow, and nothing more of the case.
+//! Of each case the title is printed, and then the first rule that the file breaks, with the line. Of a loads file follow the pieces of
+//! each link and, with a horizon, link by link the points of queue, outflow and exit. Of a routes file with a horizon follow, link by
+//! link, its end and the same points; and route by route, the points of its entries, of its arrival and of its travel. Where an operation
+//! passes, `passed`, the operation and its operands follow, and nothing more of the case.
 #![tactic(auto)]
 
-mod case;
-mod loading;
-mod shown;
-mod telling;
+mod curves;
+mod loads;
+mod routes;
 
-use case::Case;
+use case_lines::{Case, network_of, read_cases};
+use nf_net::{LONGEST_FILE, Network};
 use std::io;
 
-// The cases of the input.
-fn read_cases<R: Input + AllocGlobal>(rt: &R) -> io::Result<Vec<Case>> {
-    let mut cases: Vec<Case> = Vec::new(rt.alloc());
-    for line in rt.lines(rt.alloc()) {
-        let line = line?;
-        if let Some(title) = line.strip_prefix("== ") {
-            cases.push(Case::new(rt.alloc(), title)?)?;
-        } else if let Some(case) = cases.last_mut() {
-            case.add_line(rt.alloc(), line.as_str())?;
-        }
+fn tell_case<R: Print + AllocGlobal>(rt: &R, net: &Network, case: &Case) -> io::Result<()> {
+    if case.file.len() > LONGEST_FILE as usize {
+        return println!(rt; "too long");
     }
-    Ok(cases)
+    match case.asked.strip_prefix("routes") {
+        Some(horizon) => routes::tell(rt, net, &case.file, horizon.trim()),
+        None => loads::tell(rt, net, &case.file, case.asked.as_str()),
+    }
+}
+
+// Tells of a case.
+fn tell<R: Print + AllocGlobal>(rt: &R, case: &Case) -> io::Result<()> {
+    match network_of(rt, case)? {
+        Some(net) => tell_case(rt, &net, case),
+        None => Ok(()),
+    }
 }
 
 fn main(rt: HostRuntime) -> io::Result<()> {
     let cases = read_cases(&rt)?;
     for case in &cases {
-        telling::tell(&rt, case)?;
+        tell(&rt, case)?;
     }
     Ok(())
 }
