@@ -1,37 +1,69 @@
-//! What reports are read as. The input is cases, one after another:
+//! What reports are read as, and what is answered of them. The input is cases in the form of `case_lines`: each a network and a report,
+//! and what is asked is nothing, `check`, or the horizon to which the report is resumed.
 //!
-//!     == TITLE       begins a case, with the file of its network
-//!     --             begins the report of a case
-//!     LINE           any other line is one of the file, in the form of `case_lines`
-//!
-//! Of each case the title is printed, and then the first rule that the report breaks, with the line; or whether the report that was
-//! read is written as the same bytes.
+//! Of each case the title is printed, and then the first rule that the report breaks, with the line. Where it breaks none and nothing is
+//! asked, whether the report that was read is written as the same bytes. To `check` the answer is `yes`, or `no` with the rule, the node
+//! or link, the time and the two values. With a horizon it is the report to which this one is resumed, with at most four phases more; or
+//! `earlier` with the departure reached, or the answer `no` of the check. Where an operation passes, `passed` follows with the part, the
+//! operation and its operands.
 #![tactic(auto)]
 
-mod case;
-mod telling;
+ghost use Rattle.std.specs.Prelude.{◌≤◌, length};
+ghost use Rattle.nf_formats.specs.Report.{IsWellFormed};
+ghost use Rattle.nf_lines.specs.Faults.{longest_text};
+ghost use Rattle.nf_reader.specs.Files.{report_of};
 
-use case::Case;
+mod checking;
+mod resuming;
+mod writing;
+
+use case_lines::{Case, network_of, read_cases};
+use nf_net::Network;
+use nf_reader::{Report, ReportFault, parse_report};
 use std::io;
 
-// The cases of the input.
-fn read_cases<R: Input + AllocGlobal>(rt: &R) -> io::Result<Vec<Case>> {
-    let mut cases: Vec<Case> = Vec::new(rt.alloc());
-    for line in rt.lines(rt.alloc()) {
-        let line = line?;
-        if let Some(title) = line.strip_prefix("== ") {
-            cases.push(Case::new(rt.alloc(), title)?)?;
-        } else if let Some(case) = cases.last_mut() {
-            case.add_line(line.as_str())?;
-        }
+/// The most bytes of a report here.
+pub const MOST: u32 = 65_536;
+
+// What is answered of a report.
+fn tell_report<R: Print + AllocGlobal>(
+    rt: &R,
+    net: &Network,
+    report: &Report,
+    case: &Case,
+) -> io::Result<()>
+    requires { IsWellFormed net.now.net (report_of report.now) }
+{
+    match case.asked.as_str() {
+        "" => writing::tell(rt, net, report, &case.file),
+        "check" => checking::tell(rt, net, report),
+        horizon => resuming::tell(rt, net, report, horizon),
     }
-    Ok(cases)
+}
+
+fn tell_case<R: Print + AllocGlobal>(rt: &R, net: &Network, case: &Case) -> io::Result<()> {
+    if case.file.len() > MOST as usize {
+        return println!(rt; "too long");
+    }
+    match parse_report(rt.alloc(), net, &case.file) {
+        Ok(report) => tell_report(rt, net, &report, case),
+        Err(ReportFault::Broken { rule, line }) => println!(rt; "line {line}: {rule:?}"),
+        Err(ReportFault::Memory) => println!(rt; "memory is wanting"),
+    }
+}
+
+// Tells of a case.
+fn tell<R: Print + AllocGlobal>(rt: &R, case: &Case) -> io::Result<()> {
+    match network_of(rt, case)? {
+        Some(net) => tell_case(rt, &net, case),
+        None => Ok(()),
+    }
 }
 
 fn main(rt: HostRuntime) -> io::Result<()> {
     let cases = read_cases(&rt)?;
     for case in &cases {
-        telling::tell(&rt, case)?;
+        tell(&rt, case)?;
     }
     Ok(())
 }
