@@ -3,10 +3,9 @@ ghost use Rattle.std.specs.Prelude.{◌≤◌, IfSome, IfOk};
 ghost use Rattle.nf_rational.specs.Operations.{0ℚ};
 ghost use Rattle.nf_rational.specs.Order.{◌≤ℚ◌};
 
-use crate::case::Case;
 use crate::telling::{tell_departure, tell_fault, tell_quick};
 use nf_frac::Q;
-use nf_net::{LONGEST_FILE, NetFault, Network, parse};
+use nf_net::Network;
 use nf_quick::{departure, quickest};
 use std::io;
 
@@ -31,16 +30,16 @@ fn augments_of(word: &str) -> Option<u64>
     }
 }
 
-fn tell_net<R: Print + AllocGlobal>(rt: &R, net: &Network, asked: &str) -> io::Result<()> {
-    let Some((amount, augments)) = asked.split_once(" ") else {
-        return println!(rt; "no amount");
-    };
-    let Some(amount) = amount_of(amount) else {
-        return println!(rt; "no amount");
-    };
-    let Some(augments) = augments_of(augments) else {
-        return println!(rt; "no number of walks");
-    };
+// What is answered to an amount and a number of walks.
+fn tell_answers<R: Print + AllocGlobal>(
+    rt: &R,
+    net: &Network,
+    amount: Q,
+    augments: u64,
+) -> io::Result<()>
+    requires amount { 0ℚ ≤ℚ amount }
+    requires augments { 1 ≤ augments }
+{
     match quickest(rt.alloc(), net, amount, augments) {
         Ok(quick) => tell_quick(rt, net, &quick)?,
         Err(fault) => tell_fault(rt, net, &fault)?,
@@ -48,15 +47,14 @@ fn tell_net<R: Print + AllocGlobal>(rt: &R, net: &Network, asked: &str) -> io::R
     tell_departure(rt, departure(net, amount))
 }
 
-/// Tells of a case.
-pub fn tell<R: Print + AllocGlobal>(rt: &R, case: &Case) -> io::Result<()> {
-    println!(rt; "== {}", case.title)?;
-    if case.net.len() > LONGEST_FILE as usize {
-        return println!(rt; "too long");
-    }
-    match parse(rt.alloc(), &case.net) {
-        Ok(net) => tell_net(rt, &net, case.asked.as_str()),
-        Err(NetFault::Broken { rule, line }) => println!(rt; "network line {line}: {rule:?}"),
-        Err(NetFault::Memory) => println!(rt; "memory is wanting"),
+/// Tells what is answered to these words: an amount, and how many walks may be pushed.
+pub fn tell<R: Print + AllocGlobal>(rt: &R, net: &Network, asked: &str) -> io::Result<()> {
+    let Some((amount, augments)) = asked.split_once(" ") else {
+        return println!(rt; "no amount");
+    };
+    match (amount_of(amount), augments_of(augments)) {
+        (Some(amount), Some(augments)) => tell_answers(rt, net, amount, augments),
+        (None, _) => println!(rt; "no amount"),
+        (Some(_), None) => println!(rt; "no number of walks"),
     }
 }

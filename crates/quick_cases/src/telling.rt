@@ -1,19 +1,9 @@
 // Answers as lines of the output.
-use crate::shown::Shown;
-use nf_frac::{Op, PassedAt, Q};
+use case_lines::{Shown, link_name, tell_passed};
+use nf_frac::{PassedAt, Q};
 use nf_net::{LinkId, Network, NodeId};
 use nf_quick::{Augment, Quick, QuickFault, Rated};
-use nf_residual::Step;
 use std::io;
-
-// The name of a link.
-fn link_name(net: &Network, link: LinkId) -> &str {
-    if link.0 < net.link_count() {
-        net.link_name(link)
-    } else {
-        "?"
-    }
-}
 
 fn tell_links<R: Print>(rt: &R, net: &Network, links: &[LinkId]) -> io::Result<()> {
     for link in links {
@@ -28,9 +18,9 @@ fn tell_walk<R: Print>(rt: &R, net: &Network, walk: &Rated) -> io::Result<()> {
 }
 
 fn tell_cut<R: Print>(rt: &R, net: &Network, cut: &[Q]) -> io::Result<()> {
-    for (node, time) in cut.iter().enumerate() {
-        if node < net.node_count() as usize {
-            let name = net.node_name(NodeId(node as u32));
+    for node in 0..net.node_count() {
+        if let Some(time) = cut.get(node as usize) {
+            let name = net.node_name(NodeId(node));
             println!(rt; "cut {name} {}", Shown(*time))?;
         }
     }
@@ -47,43 +37,26 @@ pub fn tell_quick<R: Print>(rt: &R, net: &Network, quick: &Quick) -> io::Result<
     println!(rt; "value {}", Shown(quick.value))
 }
 
-fn tell_step<R: Print>(rt: &R, net: &Network, step: Step) -> io::Result<()> {
-    let sign = if step.forward { "+" } else { "-" };
-    print!(rt; " {sign}{}", link_name(net, step.link))
-}
-
 fn tell_augment<R: Print>(rt: &R, net: &Network, augment: &Augment) -> io::Result<()> {
     print!(rt; "augment {}", Shown(augment.amount))?;
     for step in &augment.walk.steps {
-        tell_step(rt, net, *step)?;
+        let sign = if step.forward { "+" } else { "-" };
+        print!(rt; " {sign}{}", link_name(net, step.link))?;
     }
     println!(rt; "")
 }
 
-// The word of an operation.
-fn op_word(op: Op) -> &'static str {
-    match op {
-        Op::Sum => "sum",
-        Op::Difference => "difference",
-        Op::Product => "product",
-        Op::Quotient => "quotient",
+fn tell_augments<R: Print>(rt: &R, net: &Network, augments: &[Augment]) -> io::Result<()> {
+    for augment in augments {
+        tell_augment(rt, net, augment)?;
     }
-}
-
-fn tell_passed<R: Print>(rt: &R, at: &PassedAt<Q>) -> io::Result<()> {
-    let op = op_word(at.op);
-    println!(rt; "passed {op} {} {}", Shown(at.left), Shown(at.right))
+    Ok(())
 }
 
 /// Prints why there is no quickest flow.
 pub fn tell_fault<R: Print>(rt: &R, net: &Network, fault: &QuickFault) -> io::Result<()> {
     match fault {
-        QuickFault::Budget { walks } => {
-            for augment in walks {
-                tell_augment(rt, net, augment)?;
-            }
-            Ok(())
-        }
+        QuickFault::Budget { walks } => tell_augments(rt, net, walks),
         QuickFault::Unbounded { links } => {
             print!(rt; "unbounded")?;
             tell_links(rt, net, links)
