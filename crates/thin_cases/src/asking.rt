@@ -8,34 +8,34 @@ use nf_net::{Network, parse};
 use nf_pattern::Pattern;
 use std::alloc::Global;
 
-/// The first fields of a line, and empty ones beyond its end.
+/// The fields of a line, empty ones beyond its end: what is asked, a number, words, states of links, their slacks, and a network.
 #[derive(Clone, Copy)]
 pub struct Fields<'a> {
-    pub name: &'a str,
-    pub first: &'a str,
-    pub second: &'a str,
-    pub third: &'a str,
-    pub fourth: &'a str,
-    pub fifth: &'a str,
+    pub asked: &'a str,
+    pub number: &'a str,
+    pub words: &'a str,
+    pub states: &'a str,
+    pub slacks: &'a str,
+    pub net: &'a str,
 }
 
 impl<'a> Fields<'a> {
     /// Those of a line.
     pub fn of(line: &'a str) -> Fields<'a> {
         let mut fields = line.split('|');
-        let name = fields.next().unwrap_or("");
-        let first = fields.next().unwrap_or("");
-        let second = fields.next().unwrap_or("");
-        let third = fields.next().unwrap_or("");
-        let fourth = fields.next().unwrap_or("");
-        let fifth = fields.next().unwrap_or("");
+        let asked = fields.next().unwrap_or("");
+        let number = fields.next().unwrap_or("");
+        let words = fields.next().unwrap_or("");
+        let states = fields.next().unwrap_or("");
+        let slacks = fields.next().unwrap_or("");
+        let net = fields.next().unwrap_or("");
         Fields {
-            name,
-            first,
-            second,
-            third,
-            fourth,
-            fifth,
+            asked,
+            number,
+            words,
+            states,
+            slacks,
+            net,
         }
     }
 }

@@ -1,6 +1,12 @@
 //! Cases of what a phase is found by: linear systems, slacks, link sets, patterns, verdicts and searches. Each line of the input asks
-//! for one, and its answer is a line of the output. The fields of a line are parted by `|`: first the name of what is asked, and last,
-//! where there is one, a network, its file with `;` for each end of a line. States are letters, `-` for none; numbers are words.
+//! for one, and its answer is a line of the output. The fields of a line are parted by `|`:
+//!
+//!     table|SIZE|NUMBERS, grid|SIZE|NUMBERS    the solution of a system, with memory or without
+//!     sets||SLACKS                             the sets of links with these slacks
+//!     slacks||LABELS|||NET                     the slacks of the links at the labels of the nodes
+//!     QUESTION|RATE|WORDS|STATES|SLACKS|NET    what is asked of a phase: the links' slacks, and the states of the last phase
+//!
+//! A network is its file with `;` for each end of a line. States are letters, `-` for none; numbers are words.
 #![tactic(auto)]
 
 mod asking;
@@ -10,37 +16,75 @@ mod searches;
 mod systems;
 mod telling;
 
-use crate::asking::Fields;
-use std::alloc::Global;
+ghost use Rattle.nf_model.specs.Network.{unbounded};
+ghost use Rattle.nf_model.specs.Pattern.{IsPattern};
+ghost use Rattle.nf_thin.specs.Searching.{AreSetsOf};
+
+use crate::asking::{Fields, network, number};
+use crate::phases::phase;
+use crate::telling::tell_none;
+use nf_graph::LinkSets;
+use nf_net::Network;
+use nf_pattern::Pattern;
 use std::io;
 
-// What a line asks, if it can be read and memory is there.
-fn answer(alloc: Global, line: &str) -> Option<String> {
-    let fields = Fields::of(line);
-    match fields.name {
-        "table" => systems::table(alloc, fields),
-        "grid" => systems::grid(alloc, fields),
-        "slacks" => questions::slacks(alloc, fields),
-        "sets" => questions::sets(alloc, fields),
-        "base" => questions::base(alloc, fields),
-        "patterns" => questions::patterns(alloc, fields),
-        "verdict" => questions::verdict(alloc, fields),
-        "values" => questions::values(alloc, fields),
-        "conserves" => questions::conserves(alloc, fields),
-        "tried" => searches::tried(alloc, fields),
-        "search" => searches::searched(alloc, fields),
-        "slopes" => searches::searched_by_slopes(alloc, fields),
-        _ => None,
+// What is asked of a phase, with the pattern that it begins with.
+fn tell_phase<R: Print + AllocGlobal>(
+    rt: &R,
+    net: &Network,
+    sets: &LinkSets,
+    base: &Pattern,
+    fields: Fields,
+) -> io::Result<()>
+    requires sets { AreSetsOf net.now.net sets.now }
+    requires base { IsPattern sets.now (unbounded net.now.net) base.now }
+{
+    let Some(rate) = number(fields.number) else {
+        return tell_none(rt);
+    };
+    match fields.asked {
+        "base" => print!(rt; "{base:?}"),
+        "patterns" => questions::tell_patterns(rt, net, sets, base),
+        "verdict" => questions::tell_verdict(rt, net, sets, base, fields.words),
+        "values" => questions::tell_values(rt, net, sets, rate, fields.words),
+        "conserves" => questions::tell_conserves(rt, net, sets, rate, base, fields.words),
+        "tried" => searches::tell_tried(rt, net, sets, rate, base),
+        "search" => searches::tell_searches(rt, net, sets, rate, base, fields.words),
+        "slopes" => searches::tell_sifted(rt, net, sets, rate, base, fields.words),
+        _ => tell_none(rt),
+    }
+}
+
+// What is asked of a network.
+fn tell_network<R: Print + AllocGlobal>(rt: &R, net: &Network, fields: Fields) -> io::Result<()> {
+    if fields.asked == "slacks" {
+        return questions::tell_slacks(rt, net, fields.words);
+    }
+    match phase(rt.alloc(), net, fields.slacks, fields.states) {
+        Some((sets, base)) => tell_phase(rt, net, &sets, &base, fields),
+        None => tell_none(rt),
+    }
+}
+
+// What a line asks.
+fn tell<R: Print + AllocGlobal>(rt: &R, fields: Fields) -> io::Result<()> {
+    match fields.asked {
+        "table" => return systems::tell_table(rt, fields.number, fields.words),
+        "grid" => return systems::tell_grid(rt, fields.number, fields.words),
+        "sets" => return questions::tell_sets(rt, fields.words),
+        _ => {}
+    }
+    match network(rt.alloc(), fields.net) {
+        Some(net) => tell_network(rt, &net, fields),
+        None => tell_none(rt),
     }
 }
 
 fn main(rt: HostRuntime) -> io::Result<()> {
     for line in rt.lines(rt.alloc()) {
         let line = line?;
-        match answer(rt.alloc(), line.as_str()) {
-            Some(text) => println!(rt; "{text}")?,
-            None => println!(rt; "no answer")?,
-        }
+        tell(&rt, Fields::of(line.as_str()))?;
+        println!(rt; "")?;
     }
     Ok(())
 }

@@ -4,185 +4,181 @@ ghost use Rattle.nf_model.specs.Network.{unbounded};
 ghost use Rattle.nf_model.specs.Pattern.{IsPattern};
 ghost use Rattle.nf_thin.specs.Searching.{AreSetsOf};
 
-use crate::asking::{Fields, network, number, numbers, pattern};
-use crate::phases::phase;
-use crate::telling::{passed, put_all};
+use crate::asking::{numbers, pattern};
+use crate::telling::{tell_none, tell_numbers, tell_passed};
 use nf_frac::{Halt, Q};
 use nf_graph::LinkSets;
 use nf_net::Network;
-use nf_pattern::{Pattern, Patterns};
+use nf_pattern::Pattern;
 use nf_thin::parts::{can_conserve, full_flows, listing, part_values};
-use nf_thin::{Judged, verdict as verdict_of};
-use std::alloc::Global;
+use nf_thin::verdict;
+use std::io;
 
 // The slacks at these labels.
-fn slacks_text(alloc: Global, net: &Network, labels: &[Q]) -> Option<String>
+fn tell_slacks_at<R: Print + AllocGlobal>(rt: &R, net: &Network, labels: &[Q]) -> io::Result<()>
     requires { length labels.now ≡ net.now.net.nodes }
 {
-    match nf_sets::slacks(alloc, net.hops(), labels) {
-        Ok(slacks) => {
-            let mut text = String::from_str(alloc, "slacks").ok()?;
-            put_all(alloc, &mut text, &slacks)?;
-            Some(text)
-        }
-        Err(Halt::Passed(at)) => passed(alloc, at),
-        Err(Halt::Memory) => None,
+    match nf_sets::slacks(rt.alloc(), net.hops(), labels) {
+        Ok(slacks) => tell_numbers(rt, "slacks", &slacks),
+        Err(Halt::Passed(at)) => tell_passed(rt, &at),
+        Err(Halt::Memory) => tell_none(rt),
     }
 }
 
-/// The slacks of a network's links: the labels of its nodes, and the network.
-pub fn slacks(alloc: Global, fields: Fields) -> Option<String> {
-    let labels = numbers(alloc, fields.first)?;
-    let net = network(alloc, fields.second)?;
-    if labels.len() != net.node_count() as usize {
-        return None;
+/// The slacks of a network's links, at the labels of its nodes.
+pub fn tell_slacks<R: Print + AllocGlobal>(rt: &R, net: &Network, labels: &str) -> io::Result<()> {
+    match numbers(rt.alloc(), labels) {
+        Some(labels) if labels.len() == net.node_count() as usize => {
+            tell_slacks_at(rt, net, &labels)
+        }
+        _ => tell_none(rt),
     }
-    slacks_text(alloc, &net, &labels)
 }
 
 /// The sets of links with these slacks.
-pub fn sets(alloc: Global, fields: Fields) -> Option<String> {
-    let slacks = numbers(alloc, fields.first)?;
-    let sets = nf_sets::sets(alloc, &slacks).ok()?;
-    format!(in alloc; "{sets:?}").ok()
+pub fn tell_sets<R: Print + AllocGlobal>(rt: &R, slacks: &str) -> io::Result<()> {
+    match numbers(rt.alloc(), slacks) {
+        Some(slacks) => {
+            let sets = nf_sets::sets(rt.alloc(), &slacks)?;
+            print!(rt; "{sets:?}")
+        }
+        None => tell_none(rt),
+    }
 }
 
-/// The pattern that a phase begins with: the slacks, the states of the last phase, and the network.
-pub fn base(alloc: Global, fields: Fields) -> Option<String> {
-    let net = network(alloc, fields.third)?;
-    let (_, base) = phase(alloc, &net, fields.first, fields.second)?;
-    format!(in alloc; "{base:?}").ok()
-}
-
-// The next patterns, at most so many of them, and at last how many were given.
-fn listed(alloc: Global, patterns: Patterns, most: u32) -> Option<String> {
-    let mut patterns = patterns;
-    let mut text = String::new(alloc);
-    for _ in 0..most {
+/// The listed patterns of a phase, at most 100 of them, and at last how many were given.
+pub fn tell_patterns<R: Print + AllocGlobal>(
+    rt: &R,
+    net: &Network,
+    sets: &LinkSets,
+    base: &Pattern,
+) -> io::Result<()>
+    requires sets { AreSetsOf net.now.net sets.now }
+    requires base { IsPattern sets.now (unbounded net.now.net) base.now }
+{
+    let mut patterns = listing(rt.alloc(), net, sets, base)?;
+    for _ in 0..100 {
         let Some(pattern) = patterns.next() else {
             break;
         };
-        let states = format!(in alloc; "{pattern:?} ").ok()?;
-        text.push_str(states.as_str()).ok()?;
+        print!(rt; "{pattern:?} ")?;
     }
-    let place = patterns.place();
-    format!(in alloc; "{text}{place}").ok()
-}
-
-/// The listed patterns of a first phase: the slacks and the network.
-pub fn patterns(alloc: Global, fields: Fields) -> Option<String> {
-    let net = network(alloc, fields.second)?;
-    let (sets, base) = phase(alloc, &net, fields.first, "")?;
-    let patterns = listing(alloc, &net, &sets, &base).ok()?;
-    listed(alloc, patterns, 100)
+    print!(rt; "{}", patterns.place())
 }
 
 // The verdict on these numbers: flows, and then slopes.
-fn verdict_text(
-    alloc: Global,
+fn tell_verdict_on<R: Print>(
+    rt: &R,
     net: &Network,
     sets: &LinkSets,
     pattern: &Pattern,
     numbers: &[Q],
-) -> Option<String>
+) -> io::Result<()>
     requires sets { AreSetsOf net.now.net sets.now }
     requires pattern { IsPattern sets.now (unbounded net.now.net) pattern.now }
 {
     let links = net.link_count() as usize;
     if numbers.len() != links + net.node_count() as usize {
-        return None;
+        return tell_none(rt);
     }
-    let (flows, slopes) = (&numbers[..links], &numbers[links..]);
-    match verdict_of(net, sets, pattern, flows, slopes) {
-        Ok(judged) => format!(in alloc; "{judged:?}").ok(),
-        Err(at) => passed(alloc, at),
+    match verdict(net, sets, pattern, &numbers[..links], &numbers[links..]) {
+        Ok(judged) => print!(rt; "{judged:?}"),
+        Err(at) => tell_passed(rt, &at),
     }
 }
 
-/// The verdict on a pattern: its states, its flows and then its slopes, the slacks and the network.
-pub fn verdict(alloc: Global, fields: Fields) -> Option<String> {
-    let numbers = numbers(alloc, fields.second)?;
-    let net = network(alloc, fields.fourth)?;
-    let (sets, pattern) = phase(alloc, &net, fields.third, fields.first)?;
-    verdict_text(alloc, &net, &sets, &pattern, &numbers)
+/// The verdict on a pattern with flows and then slopes.
+pub fn tell_verdict<R: Print + AllocGlobal>(
+    rt: &R,
+    net: &Network,
+    sets: &LinkSets,
+    pattern: &Pattern,
+    words: &str,
+) -> io::Result<()>
+    requires sets { AreSetsOf net.now.net sets.now }
+    requires pattern { IsPattern sets.now (unbounded net.now.net) pattern.now }
+{
+    match numbers(rt.alloc(), words) {
+        Some(numbers) => tell_verdict_on(rt, net, sets, pattern, &numbers),
+        None => tell_none(rt),
+    }
 }
 
-// The slopes and flows of a pattern with these states.
-fn values_text(
-    alloc: Global,
+// The slopes and flows of a pattern.
+fn tell_values_of<R: Print + AllocGlobal>(
+    rt: &R,
     net: &Network,
     sets: &LinkSets,
     rate: Q,
-    states: &str,
-) -> Option<String>
-    requires { length sets.now.active ≡ length net.now.net.links }
+    pattern: &Pattern,
+) -> io::Result<()>
+    requires sets { AreSetsOf net.now.net sets.now }
+    requires states { length pattern.now ≡ length net.now.net.links }
 {
-    let pattern = pattern(alloc, net.link_count(), states)?;
-    let Some(values) = part_values(alloc, net, sets, rate, &pattern).ok()? else {
-        return String::from_str(alloc, "not one; ").ok();
-    };
-    let mut text = String::from_str(alloc, "one").ok()?;
-    put_all(alloc, &mut text, &values)?;
-    text.push_str("; ").ok()?;
-    Some(text)
+    match part_values(rt.alloc(), net, sets, rate, pattern)? {
+        Some(values) => tell_numbers(rt, "one", &values)?,
+        None => print!(rt; "not one")?,
+    }
+    print!(rt; "; ")
 }
 
-// The same of several patterns.
-fn values_texts(
-    alloc: Global,
+/// The slopes and flows of patterns with these states, without their tables.
+pub fn tell_values<R: Print + AllocGlobal>(
+    rt: &R,
     net: &Network,
     sets: &LinkSets,
     rate: Q,
     words: &str,
-) -> Option<String>
-    requires { length sets.now.active ≡ length net.now.net.links }
+) -> io::Result<()>
+    requires { AreSetsOf net.now.net sets.now }
 {
-    let mut text = String::new(alloc);
     for states in words.split_whitespace() {
-        let values = values_text(alloc, net, sets, rate, states)?;
-        text.push_str(values.as_str()).ok()?;
+        match pattern(rt.alloc(), net.link_count(), states) {
+            Some(pattern) => tell_values_of(rt, net, sets, rate, &pattern)?,
+            None => tell_none(rt)?,
+        }
     }
-    Some(text)
-}
-
-/// The slopes and flows of patterns, without their tables: a rate, the states of each, the slacks and the network.
-pub fn values(alloc: Global, fields: Fields) -> Option<String> {
-    let rate = number(fields.first)?;
-    let net = network(alloc, fields.fourth)?;
-    let (sets, _) = phase(alloc, &net, fields.third, "")?;
-    values_texts(alloc, &net, &sets, rate, fields.second)
+    Ok(())
 }
 
 // Whether flow can be conserved at the nodes, with these slopes.
-fn conserves_at(
-    alloc: Global,
+fn tell_conserves_at<R: Print + AllocGlobal>(
+    rt: &R,
     net: &Network,
     sets: &LinkSets,
     rate: Q,
     pattern: &Pattern,
     slopes: &[Q],
-) -> Option<bool>
+) -> io::Result<()>
     requires sets { AreSetsOf net.now.net sets.now }
     requires pattern { IsPattern sets.now (unbounded net.now.net) pattern.now }
 {
-    if slopes.len() != net.node_count() as usize {
-        return None;
-    }
-    let full = full_flows(alloc, net, slopes).ok()?;
-    if full.len() != net.link_count() as usize {
-        return None;
-    }
     // For the proof: the network is well formed.
     let _ = net.hops();
-    Some(can_conserve(net, sets, rate, &full, pattern))
+    if slopes.len() != net.node_count() as usize {
+        return tell_none(rt);
+    }
+    let full = full_flows(rt.alloc(), net, slopes)?;
+    if full.len() != net.link_count() as usize {
+        return tell_none(rt);
+    }
+    print!(rt; "{}", can_conserve(net, sets, rate, &full, pattern))
 }
 
-/// Whether flow can be conserved at the nodes: a rate, the states of links, their slacks, the slopes of nodes, and the network.
-pub fn conserves(alloc: Global, fields: Fields) -> Option<String> {
-    let rate = number(fields.first)?;
-    let slopes = numbers(alloc, fields.fourth)?;
-    let net = network(alloc, fields.fifth)?;
-    let (sets, pattern) = phase(alloc, &net, fields.third, fields.second)?;
-    let conserves = conserves_at(alloc, &net, &sets, rate, &pattern, &slopes)?;
-    format!(in alloc; "{conserves}").ok()
+/// The same, with the slopes of these words.
+pub fn tell_conserves<R: Print + AllocGlobal>(
+    rt: &R,
+    net: &Network,
+    sets: &LinkSets,
+    rate: Q,
+    pattern: &Pattern,
+    slopes: &str,
+) -> io::Result<()>
+    requires sets { AreSetsOf net.now.net sets.now }
+    requires pattern { IsPattern sets.now (unbounded net.now.net) pattern.now }
+{
+    match numbers(rt.alloc(), slopes) {
+        Some(slopes) => tell_conserves_at(rt, net, sets, rate, pattern, &slopes),
+        None => tell_none(rt),
+    }
 }

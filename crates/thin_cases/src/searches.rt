@@ -3,147 +3,123 @@ ghost use Rattle.nf_model.specs.Network.{unbounded};
 ghost use Rattle.nf_model.specs.Pattern.{IsPattern};
 ghost use Rattle.nf_thin.specs.Searching.{AreSetsOf};
 
-use crate::asking::{Fields, network, number};
-use crate::phases::phase;
-use crate::telling::{passed, put_all};
+use crate::telling::{tell_none, tell_numbers, tell_passed};
 use nf_frac::Q;
 use nf_graph::LinkSets;
 use nf_net::Network;
 use nf_pattern::Pattern;
 use nf_thin::parts::sifted_search;
 use nf_thin::{MOST_UNKNOWNS, SearchFault, Thin, Tried, search, try_pattern, unknown_count};
-use std::alloc::Global;
+use std::io;
 
-// A thin flow: its place, its flows and its slopes.
-fn thin_text(alloc: Global, thin: &Thin) -> Option<String> {
-    let place = thin.place;
-    let mut text = format!(in alloc; "place {place} flows").ok()?;
-    put_all(alloc, &mut text, &thin.flows)?;
-    text.push_str(" slopes").ok()?;
-    put_all(alloc, &mut text, &thin.labels)?;
-    Some(text)
+// Flows and slopes.
+fn tell_flows<R: Print>(rt: &R, flows: &[Q], slopes: &[Q]) -> io::Result<()> {
+    tell_numbers(rt, " flows", flows)?;
+    tell_numbers(rt, " slopes", slopes)
 }
 
-fn fault_text(alloc: Global, fault: SearchFault) -> Option<String> {
+// A thin flow: its place, its flows and its slopes.
+fn tell_thin<R: Print>(rt: &R, thin: &Thin) -> io::Result<()> {
+    print!(rt; "place {}", thin.place)?;
+    tell_flows(rt, &thin.flows, &thin.labels)
+}
+
+fn tell_fault<R: Print>(rt: &R, fault: &SearchFault) -> io::Result<()> {
     match fault {
-        SearchFault::Budget { tried } => format!(in alloc; "budget {tried}").ok(),
+        SearchFault::Budget { tried } => print!(rt; "budget {tried}"),
         SearchFault::Passed { place, at } => {
-            let at = passed(alloc, at)?;
-            format!(in alloc; "place {place} {at}").ok()
+            print!(rt; "place {place} ")?;
+            tell_passed(rt, at)
         }
-        SearchFault::NoPattern => String::from_str(alloc, "none").ok(),
-        SearchFault::Memory => None,
+        SearchFault::NoPattern => print!(rt; "none"),
+        SearchFault::Memory => tell_none(rt),
     }
 }
 
 // What comes of the search with a budget.
-fn with_budget(
-    alloc: Global,
+fn tell_search<R: Print + AllocGlobal>(
+    rt: &R,
     net: &Network,
     sets: &LinkSets,
     rate: Q,
     base: &Pattern,
     budget: u64,
-) -> Option<String>
+) -> io::Result<()>
     requires sets { AreSetsOf net.now.net sets.now }
     requires base { IsPattern sets.now (unbounded net.now.net) base.now }
 {
-    match search(alloc, net, sets, rate, base, budget) {
-        Ok(thin) => thin_text(alloc, &thin),
-        Err(fault) => fault_text(alloc, fault),
+    match search(rt.alloc(), net, sets, rate, base, budget) {
+        Ok(thin) => tell_thin(rt, &thin),
+        Err(fault) => tell_fault(rt, &fault),
     }
 }
 
-// The same with each of these budgets.
-fn with_budgets(
-    alloc: Global,
+/// Searches in a phase, with each of these budgets.
+pub fn tell_searches<R: Print + AllocGlobal>(
+    rt: &R,
     net: &Network,
     sets: &LinkSets,
     rate: Q,
     base: &Pattern,
     budgets: &str,
-) -> Option<String>
+) -> io::Result<()>
     requires sets { AreSetsOf net.now.net sets.now }
     requires base { IsPattern sets.now (unbounded net.now.net) base.now }
 {
-    let mut text = String::new(alloc);
     for word in budgets.split_whitespace() {
-        let found = with_budget(alloc, net, sets, rate, base, word.parse().ok()?)?;
-        text.push_str(found.as_str()).ok()?;
-        text.push_str("; ").ok()?;
+        match word.parse() {
+            Ok(budget) => tell_search(rt, net, sets, rate, base, budget)?,
+            Err(_) => tell_none(rt)?,
+        }
+        print!(rt; "; ")?;
     }
-    Some(text)
+    Ok(())
 }
 
-/// Searches in a first phase: a rate, budgets, the slacks and the network.
-pub fn searched(alloc: Global, fields: Fields) -> Option<String> {
-    let rate = number(fields.first)?;
-    let net = network(alloc, fields.fourth)?;
-    let (sets, base) = phase(alloc, &net, fields.third, "")?;
-    with_budgets(alloc, &net, &sets, rate, &base, fields.second)
-}
-
-// What comes of the search by slopes alone.
-fn by_slopes(
-    alloc: Global,
+/// The search by slopes alone, with this budget.
+pub fn tell_sifted<R: Print + AllocGlobal>(
+    rt: &R,
     net: &Network,
     sets: &LinkSets,
     rate: Q,
     base: &Pattern,
-    budget: u64,
-) -> Option<String>
+    budget: &str,
+) -> io::Result<()>
     requires sets { AreSetsOf net.now.net sets.now }
     requires base { IsPattern sets.now (unbounded net.now.net) base.now }
 {
-    match sifted_search(alloc, net, sets, rate, base, budget) {
-        Ok(Some(thin)) => thin_text(alloc, &thin),
-        Ok(None) => String::from_str(alloc, "no end").ok(),
-        Err(fault) => fault_text(alloc, fault),
+    let Ok(budget) = budget.parse::<u64>() else {
+        return tell_none(rt);
+    };
+    match sifted_search(rt.alloc(), net, sets, rate, base, budget) {
+        Ok(Some(thin)) => tell_thin(rt, &thin),
+        Ok(None) => print!(rt; "no end"),
+        Err(fault) => tell_fault(rt, &fault),
     }
 }
 
-/// The search by slopes alone, in a first phase: a rate, a budget, the slacks and the network.
-pub fn searched_by_slopes(alloc: Global, fields: Fields) -> Option<String> {
-    let rate = number(fields.first)?;
-    let budget: u64 = fields.second.parse().ok()?;
-    let net = network(alloc, fields.fourth)?;
-    let (sets, base) = phase(alloc, &net, fields.third, "")?;
-    by_slopes(alloc, &net, &sets, rate, &base, budget)
-}
-
-// What comes of a pattern that is tried.
-fn tried_text(
-    alloc: Global,
+/// What comes of a pattern that is tried.
+pub fn tell_tried<R: Print + AllocGlobal>(
+    rt: &R,
     net: &Network,
     sets: &LinkSets,
     rate: Q,
     pattern: &Pattern,
-) -> Option<String>
+) -> io::Result<()>
     requires sets { AreSetsOf net.now.net sets.now }
     requires pattern { IsPattern sets.now (unbounded net.now.net) pattern.now }
 {
     if unknown_count(net, sets) > MOST_UNKNOWNS {
-        return None;
+        return tell_none(rt);
     }
-    let mut flows = vec![in alloc; Q::zero(); net.link_count() as usize].ok()?;
-    let mut labels = vec![in alloc; Q::zero(); net.node_count() as usize].ok()?;
+    let mut flows = vec![in rt.alloc(); Q::zero(); net.link_count() as usize]?;
+    let mut labels = vec![in rt.alloc(); Q::zero(); net.node_count() as usize]?;
     match try_pattern(net, sets, rate, pattern, &mut flows, &mut labels) {
         Ok(Tried::Accepted) => {
-            let mut text = String::from_str(alloc, "accepted flows").ok()?;
-            put_all(alloc, &mut text, &flows)?;
-            text.push_str(" slopes").ok()?;
-            put_all(alloc, &mut text, &labels)?;
-            Some(text)
+            print!(rt; "accepted")?;
+            tell_flows(rt, &flows, &labels)
         }
-        Ok(Tried::NotSolvable) => String::from_str(alloc, "not solvable").ok(),
-        Err(at) => passed(alloc, at),
+        Ok(Tried::NotSolvable) => print!(rt; "not solvable"),
+        Err(at) => tell_passed(rt, &at),
     }
-}
-
-/// What comes of a pattern: a rate, its states, the slacks and the network.
-pub fn tried(alloc: Global, fields: Fields) -> Option<String> {
-    let rate = number(fields.first)?;
-    let net = network(alloc, fields.fourth)?;
-    let (sets, pattern) = phase(alloc, &net, fields.third, fields.second)?;
-    tried_text(alloc, &net, &sets, rate, &pattern)
 }

@@ -1,11 +1,11 @@
 // Linear systems.
 ghost use Rattle.std.specs.Prelude.{◌≡◌, ◌<◌, ◌≤◌, length};
 
-use crate::asking::{Fields, numbers};
-use crate::telling::{passed, put_all};
+use crate::asking::numbers;
+use crate::telling::{tell_none, tell_numbers, tell_passed};
 use nf_frac::{Halt, Q};
 use nf_linear::{Eliminated, Grid, Solved, System, Table, solve, solve_grid};
-use std::alloc::Global;
+use std::io;
 
 // A number has this place, row by row with the right side last.
 fn set<T: System>(system: &mut T, size: u32, place: usize, number: Q)
@@ -37,34 +37,30 @@ fn fill<T: System>(system: &mut T, size: u32, numbers: &[Q])
     }
 }
 
-// What comes of a table.
-fn solved(alloc: Global, table: Table<Q>) -> Option<String> {
-    match solve(alloc, table) {
-        Ok(Solved::One(values)) => {
-            let mut text = String::from_str(alloc, "one").ok()?;
-            put_all(alloc, &mut text, &values)?;
-            Some(text)
-        }
-        Ok(Solved::NotOne) => String::from_str(alloc, "not one").ok(),
-        Err(Halt::Passed(at)) => passed(alloc, at),
-        Err(Halt::Memory) => None,
+// What comes of a system of so many unknowns.
+fn tell_solved<R: Print + AllocGlobal>(rt: &R, size: u32, numbers: &[Q]) -> io::Result<()>
+    requires { (0 < size) × (size ≤ 264) }
+{
+    let mut table = Table::new(rt.alloc(), size)?;
+    fill(&mut table, size, numbers);
+    match solve(rt.alloc(), table) {
+        Ok(Solved::One(values)) => tell_numbers(rt, "one", &values),
+        Ok(Solved::NotOne) => print!(rt; "not one"),
+        Err(Halt::Passed(at)) => tell_passed(rt, &at),
+        Err(Halt::Memory) => tell_none(rt),
     }
 }
 
-/// A system: how many unknowns, and its numbers row by row, each with its right side last.
-pub fn table(alloc: Global, fields: Fields) -> Option<String> {
-    let size: u32 = fields.first.parse().ok()?;
-    let numbers = numbers(alloc, fields.second)?;
-    if size == 0 || size > 264 {
-        return None;
+/// A system of so many unknowns: its numbers row by row, each with its right side last.
+pub fn tell_table<R: Print + AllocGlobal>(rt: &R, size: &str, words: &str) -> io::Result<()> {
+    match (size.parse::<u32>(), numbers(rt.alloc(), words)) {
+        (Ok(size), Some(numbers)) if 0 < size && size <= 264 => tell_solved(rt, size, &numbers),
+        _ => tell_none(rt),
     }
-    let mut table = Table::new(alloc, size).ok()?;
-    fill(&mut table, size, &numbers);
-    solved(alloc, table)
 }
 
-// What comes of a system of so many unknowns that is solved without memory.
-fn grid_text(alloc: Global, size: u32, numbers: &[Q]) -> Option<String>
+// The same of a system that is solved without memory.
+fn tell_grid_of<R: Print>(rt: &R, size: u32, numbers: &[Q]) -> io::Result<()>
     requires { (0 < size) × (size ≤ 4) }
 {
     let mut grid = Grid::<4>::zero(size);
@@ -72,22 +68,16 @@ fn grid_text(alloc: Global, size: u32, numbers: &[Q]) -> Option<String>
     let mut room = [Q::zero(); 4];
     let values = &mut room[..size as usize];
     match solve_grid(&mut grid, values) {
-        Ok(Eliminated::One) => {
-            let mut text = String::from_str(alloc, "one").ok()?;
-            put_all(alloc, &mut text, values)?;
-            Some(text)
-        }
-        Ok(Eliminated::NotOne) => String::from_str(alloc, "not one").ok(),
-        Err(at) => passed(alloc, at),
+        Ok(Eliminated::One) => tell_numbers(rt, "one", values),
+        Ok(Eliminated::NotOne) => print!(rt; "not one"),
+        Err(at) => tell_passed(rt, &at),
     }
 }
 
-/// The same of at most 4 unknowns, without memory.
-pub fn grid(alloc: Global, fields: Fields) -> Option<String> {
-    let size: u32 = fields.first.parse().ok()?;
-    let numbers = numbers(alloc, fields.second)?;
-    if size == 0 || size > 4 {
-        return None;
+/// A system of at most 4 unknowns, without memory.
+pub fn tell_grid<R: Print + AllocGlobal>(rt: &R, size: &str, words: &str) -> io::Result<()> {
+    match (size.parse::<u32>(), numbers(rt.alloc(), words)) {
+        (Ok(size), Some(numbers)) if 0 < size && size <= 4 => tell_grid_of(rt, size, &numbers),
+        _ => tell_none(rt),
     }
-    grid_text(alloc, size, &numbers)
 }

@@ -1,30 +1,29 @@
 // Answers as text.
+use case_lines::Shown;
 use nf_frac::{PassedAt, Q};
-use std::alloc::Global;
+use std::io;
 
-/// A number is put behind a text.
-pub fn put(alloc: Global, text: &mut String, number: Q) -> Option<()> {
-    let (numer, denom) = (number.numer(), number.denom());
-    let word = if denom == 1 {
-        format!(in alloc; " {numer}").ok()?
-    } else {
-        format!(in alloc; " {numer}/{denom}").ok()?
-    };
-    text.push_str(word.as_str()).ok()
-}
-
-/// Numbers are put behind a text.
-pub fn put_all(alloc: Global, text: &mut String, numbers: &[Q]) -> Option<()> {
+/// Prints a word, and numbers behind it.
+pub fn tell_numbers<R: Print>(rt: &R, word: &str, numbers: &[Q]) -> io::Result<()> {
+    print!(rt; "{word}")?;
     for number in numbers {
-        put(alloc, text, *number)?;
+        print!(rt; " {}", Shown(*number))?;
     }
-    Some(())
+    Ok(())
 }
 
-/// The text of an operation that passes.
-pub fn passed(alloc: Global, at: PassedAt<Q>) -> Option<String> {
-    let mut text = format!(in alloc; "{:?} {:?}", at.part, at.op).ok()?;
-    put(alloc, &mut text, at.left)?;
-    put(alloc, &mut text, at.right)?;
-    Some(text)
+/// Prints an operation that passes.
+pub fn tell_passed<R: Print>(rt: &R, at: &PassedAt<Q>) -> io::Result<()> {
+    print!(rt;
+        "{:?} {:?} {} {}",
+        at.part,
+        at.op,
+        Shown(at.left),
+        Shown(at.right)
+    )
+}
+
+/// Prints that there is no answer.
+pub fn tell_none<R: Print>(rt: &R) -> io::Result<()> {
+    print!(rt; "no answer")
 }

@@ -1,7 +1,7 @@
-use Rattle.thin_cases.proofs.searches.tried_text.Goals as goal
+use Rattle.thin_cases.proofs.searches.tell_tried.Goals as goal
 
 pub try_pattern-requires-clause-pattern : goal.try_pattern-requires-clause-pattern
-try_pattern-requires-clause-pattern c = record {
+try_pattern-requires-clause-pattern g c = record {
   network = c.unknown_count.ensures.named.network;
   sets_are = c.requires.sets.sets_are;
   bounded = c.requires.sets.bounded;

@@ -1,4 +1,0 @@
-use Rattle.thin_cases.proofs.questions.conserves_at.Goals as goal
-
-pub can_conserve-requires-clause-network : goal.can_conserve-requires-clause-network
-can_conserve-requires-clause-network c = c.hops.ensures.named.network
