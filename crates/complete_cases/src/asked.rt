@@ -6,13 +6,13 @@ ghost use Rattle.nf_model.specs.ThinFlow.{IsThinFlow};
 ghost use Rattle.nf_thin_laws.specs.ActiveLinks.{NoneEntersSource};
 ghost use Rattle.nf_complete_laws.specs.SettleLaws.{AreGoodSets};
 
-use crate::case::Case;
 use crate::fit::fit_sets;
-use crate::telling::{tell_passed, tell_settled};
+use crate::telling::tell_settled;
+use case_lines::tell_passed;
 use nf_complete::{is_thin, settle};
 use nf_frac::{Halt, Q};
 use nf_graph::LinkSets;
-use nf_net::{LONGEST_FILE, NetFault, Network, parse, start_labels};
+use nf_net::{Network, start_labels};
 use std::alloc::{AllocError, Global};
 use std::io;
 
@@ -58,36 +58,60 @@ fn tell_flows<R: Print + AllocGlobal>(
     }
 }
 
-// The labels of a case.
-fn labels_of(alloc: Global, net: &Network, case: &Case) -> Result<Vec<Q>, AllocError> {
-    match &case.labels {
-        Some(labels) => labels.as_slice().to_vec(alloc),
-        None => start_labels(alloc, net),
+// Adds the numbers of words; a word that is no number is left out, so that one is wanting.
+fn add_numbers(numbers: &mut Vec<Q>, words: &str) -> Result<(), AllocError> {
+    for word in words.split_whitespace() {
+        if let Ok(number) = Q::read(word.as_bytes()) {
+            numbers.push(number)?;
+        }
     }
+    Ok(())
+}
+
+// The numbers that are asked about under a name.
+fn numbers(alloc: Global, asked: &str, name: &str) -> Result<Vec<Q>, AllocError> {
+    let mut numbers = Vec::new(alloc);
+    for line in asked.lines() {
+        if let Some(words) = line.strip_prefix(name) {
+            add_numbers(&mut numbers, words)?;
+        }
+    }
+    Ok(numbers)
+}
+
+// The labels that are asked about: the start labels where none are named.
+fn labels_of(alloc: Global, net: &Network, asked: &str) -> Result<Vec<Q>, AllocError> {
+    let labels = numbers(alloc, asked, "labels ")?;
+    if labels.is_empty() {
+        return start_labels(alloc, net);
+    }
+    Ok(labels)
 }
 
 #[tactic(auto, using(nf_rational_laws::proofs::Tests::le_of_test))]
-fn tell_net<R: Print + AllocGlobal>(rt: &R, net: &Network, case: &Case) -> io::Result<()> {
-    let labels = labels_of(rt.alloc(), net, case)?;
-    let Some(sets) = fit_sets(rt.alloc(), net, &labels) else {
-        return println!(rt; "no sets");
-    };
+fn tell_sets<R: Print + AllocGlobal>(
+    rt: &R,
+    net: &Network,
+    sets: &LinkSets,
+    asked: &str,
+) -> io::Result<()>
+    requires sets { AreGoodSets net.now.net sets.now }
+    requires source { NoneEntersSource net.now.net sets.now }
+{
     let rate = net.rate_at(Q::zero());
     if !Q::zero().is_at_most(rate) {
         return println!(rt; "no rate");
     }
-    tell_flows(rt, net, &sets, rate, &case.flows, &case.slopes)
+    let flows = numbers(rt.alloc(), asked, "flows ")?;
+    let slopes = numbers(rt.alloc(), asked, "slopes ")?;
+    tell_flows(rt, net, sets, rate, &flows, &slopes)
 }
 
-/// Tells of a case.
-pub fn tell<R: Print + AllocGlobal>(rt: &R, case: &Case) -> io::Result<()> {
-    println!(rt; "== {}", case.title)?;
-    if case.net.len() > LONGEST_FILE as usize {
-        return println!(rt; "too long");
-    }
-    match parse(rt.alloc(), &case.net) {
-        Ok(net) => tell_net(rt, &net, case),
-        Err(NetFault::Broken { rule, line }) => println!(rt; "network line {line}: {rule:?}"),
-        Err(NetFault::Memory) => println!(rt; "memory is wanting"),
+/// Tells what flows and slopes are settled to in a network, at labels.
+pub fn tell<R: Print + AllocGlobal>(rt: &R, net: &Network, asked: &str) -> io::Result<()> {
+    let labels = labels_of(rt.alloc(), net, asked)?;
+    match fit_sets(rt.alloc(), net, &labels) {
+        Some(sets) => tell_sets(rt, net, &sets, asked),
+        None => println!(rt; "no sets"),
     }
 }

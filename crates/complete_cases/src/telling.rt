@@ -1,9 +1,9 @@
 // Answers as lines of the output.
 ghost use Rattle.std.specs.Prelude.{◌≡◌, ◌<◌, length};
 
-use crate::shown::Shown;
+use case_lines::Shown;
 use nf_complete::Settled;
-use nf_frac::{Op, PassedAt, Q};
+use nf_frac::Q;
 use nf_model::State;
 use nf_net::{LinkId, Network};
 use nf_pattern::Pattern;
@@ -31,6 +31,17 @@ fn tell_state<R: Print>(rt: &R, net: &Network, pattern: &Pattern, link: LinkId) 
     }
 }
 
+// The flows of links.
+fn tell_link_flows<R: Print>(rt: &R, net: &Network, flows: &[Q]) -> io::Result<()> {
+    for e in 0..net.link_count() {
+        if let Some(flow) = flows.get(e as usize) {
+            let name = net.link_name(LinkId(e));
+            println!(rt; "flow {name} {}", Shown(*flow))?;
+        }
+    }
+    Ok(())
+}
+
 /// Prints what a thin flow is settled to.
 pub fn tell_settled<R: Print>(rt: &R, net: &Network, settled: &Settled) -> io::Result<()>
     requires { length settled.now.pattern ≡ length net.now.net.links }
@@ -38,27 +49,6 @@ pub fn tell_settled<R: Print>(rt: &R, net: &Network, settled: &Settled) -> io::R
     for e in 0..net.link_count() {
         tell_state(rt, net, &settled.pattern, LinkId(e))?;
     }
-    for (e, flow) in settled.flows.iter().enumerate() {
-        if e < net.link_count() as usize {
-            let name = net.link_name(LinkId(e as u32));
-            println!(rt; "flow {name} {}", Shown(*flow))?;
-        }
-    }
+    tell_link_flows(rt, net, &settled.flows)?;
     println!(rt; "end")
-}
-
-// The word of an operation.
-fn op_word(op: Op) -> &'static str {
-    match op {
-        Op::Sum => "sum",
-        Op::Difference => "difference",
-        Op::Product => "product",
-        Op::Quotient => "quotient",
-    }
-}
-
-/// Prints the operation that passes.
-pub fn tell_passed<R: Print>(rt: &R, at: &PassedAt<Q>) -> io::Result<()> {
-    let op = op_word(at.op);
-    println!(rt; "passed {op} {} {}", Shown(at.left), Shown(at.right))
 }
