@@ -1,36 +1,26 @@
-//! Runs without a horizon. The input is cases, one after another:
-//!
-//!     == TITLE                    begins a case
-//!     forever PHASES PATTERNS     says how many phases may be made, and how many patterns may be tried in each
-//!     LINE                        any other line is one of the network's file, in the form of `case_lines`
+//! Runs without a horizon. The input is cases in the form of `case_lines`; what is asked is how many phases may be made, and how many
+//! patterns may be tried in each.
 //!
 //! Of each case the title is printed, and then the text of what `solve_forever` answers.
 #![tactic(auto)]
 
-mod case;
 mod solving;
 
-use case::Case;
+use case_lines::{Case, network_of, read_cases};
 use std::io;
 
-// The cases of the input.
-fn read_cases<R: Input + AllocGlobal>(rt: &R) -> io::Result<Vec<Case>> {
-    let mut cases: Vec<Case> = Vec::new(rt.alloc());
-    for line in rt.lines(rt.alloc()) {
-        let line = line?;
-        if let Some(title) = line.strip_prefix("== ") {
-            cases.push(Case::new(rt.alloc(), title)?)?;
-        } else if let Some(case) = cases.last_mut() {
-            case.add_line(rt.alloc(), line.as_str())?;
-        }
+// Tells of a case.
+fn tell<R: Print + AllocGlobal>(rt: &R, case: &Case) -> io::Result<()> {
+    match network_of(rt, case)? {
+        Some(net) => solving::tell(rt, &net, case.asked.as_str()),
+        None => Ok(()),
     }
-    Ok(cases)
 }
 
 fn main(rt: HostRuntime) -> io::Result<()> {
     let cases = read_cases(&rt)?;
     for case in &cases {
-        solving::tell(&rt, case)?;
+        tell(&rt, case)?;
     }
     Ok(())
 }
