@@ -1,22 +1,10 @@
 // Answers as lines of the output.
 use crate::answers::Answer;
 use crate::reading::Fault;
+use case_lines::{Shown, tell_passed};
 use nf_curve::{Curve, Difference};
-use nf_frac::{Op, PassedAt, Q, TextBuf};
 use std::alloc::AllocError;
-use std::{fmt, io};
-
-// A number as words write it.
-#[derive(Drop)]
-struct Shown(Q);
-
-impl fmt::Display for Shown {
-    fn fmt<W: fmt::Write>(&self, f: &mut fmt::Formatter<W>) -> fmt::Result {
-        let mut room = TextBuf::new();
-        self.0.write(&mut room);
-        f.write_str(std::str::from_utf8(room.text()).unwrap_or("?"))
-    }
-}
+use std::io;
 
 fn tell_points<R: Print>(rt: &R, curve: &Curve) -> io::Result<()> {
     let count = curve.len();
@@ -36,21 +24,6 @@ fn tell_difference<R: Print>(rt: &R, found: Option<Difference>) -> io::Result<()
     }
 }
 
-// The word of an operation.
-fn op_word(op: Op) -> &'static str {
-    match op {
-        Op::Sum => "sum",
-        Op::Difference => "difference",
-        Op::Product => "product",
-        Op::Quotient => "quotient",
-    }
-}
-
-fn tell_passed<R: Print>(rt: &R, at: PassedAt<Q>) -> io::Result<()> {
-    let op = op_word(at.op);
-    println!(rt; "passed {op} {} {}", Shown(at.left), Shown(at.right))
-}
-
 /// Prints what a case comes to.
 pub fn tell<R: Print>(rt: &R, answer: &Result<Answer, Fault>) -> io::Result<()> {
     match answer {
@@ -58,7 +31,7 @@ pub fn tell<R: Print>(rt: &R, answer: &Result<Answer, Fault>) -> io::Result<()> 
         Ok(Answer::Curve(curve)) => tell_points(rt, curve),
         Ok(Answer::Difference(found)) => tell_difference(rt, *found),
         Err(Fault::NoCase) => println!(rt; "no case"),
-        Err(Fault::Passed(at)) => tell_passed(rt, *at),
+        Err(Fault::Passed(at)) => tell_passed(rt, at),
         Err(Fault::Memory) => Err(io::Error::from(AllocError)),
     }
 }
