@@ -10,7 +10,6 @@
 #![tactic(auto)]
 
 mod case;
-mod shown;
 mod telling;
 
 use case::Case;

@@ -3,7 +3,7 @@ ghost use Rattle.std.specs.Prelude.{◌≡◌, ◌<◌, ◌≤◌, length};
 ghost use Rattle.nf_lines.specs.Faults.{longest_text};
 
 use crate::case::{Case, GivenFile, Kind};
-use crate::shown::Shown;
+use case_lines::Shown;
 use nf_flows::{Flows, FlowsFault, parse_flows};
 use nf_net::{LONGEST_FILE, LinkId, NetFault, Network, NodeId, parse};
 use nf_route_reader::{Routes, RoutesFault, parse_routes};
