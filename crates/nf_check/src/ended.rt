@@ -15,7 +15,7 @@ use nf_graph::{LinkId, NodeId};
 use std::alloc::{AllocError, AllocFailed};
 
 /// Why a check ends before all is tested.
-#[derive(Clone, Copy, Debug)]
+#[derive(Clone, Copy)]
 pub(crate) enum Ended {
     /// A node breaks a rule, where these two values differ.
     AtNode {

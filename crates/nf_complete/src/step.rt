@@ -3,7 +3,7 @@ use nf_graph::LinkId;
 use std::marker::Model;
 
 /// A step along a link, forward or backward.
-#[derive(Clone, Copy, Debug, PartialEq, Eq)]
+#[derive(Clone, Copy, PartialEq, Eq)]
 pub(crate) struct Step {
     pub link: LinkId,
     pub forward: bool,

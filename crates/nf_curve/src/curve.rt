@@ -31,7 +31,7 @@ use std::marker::Model;
 
 /// A piecewise linear function of time, from time 0 on: points (time, value) whose times rise strictly from 0. It is linear
 /// between neighbouring points and constant after the last.
-#[derive(Drop, Debug)]
+#[derive(Drop)]
 pub struct Curve {
     points: Vec<(Q, Q)>,
 }

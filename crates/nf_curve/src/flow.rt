@@ -4,7 +4,7 @@ use nf_formats::Cause;
 use nf_frac::Q;
 
 /// A cumulative amount by time, with its rate at each point but the last: the rate from this point to the next.
-#[derive(Drop, Debug)]
+#[derive(Drop)]
 pub struct Trace {
     pub curve: Curve,
     pub rates: Vec<Q>,
@@ -12,7 +12,7 @@ pub struct Trace {
 
 /// A flow over time, for all that leaves the source up to the time `reached`: the earliest arrival at each node by departure,
 /// and of each link, by time, the amount that has entered, the amount that has left, and the amount in its queue.
-#[derive(Drop, Debug)]
+#[derive(Drop)]
 pub struct Flow {
     pub reached: Q,
     pub labels: Vec<Curve>,

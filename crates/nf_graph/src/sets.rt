@@ -4,7 +4,7 @@ use std::alloc::{AllocError, Global};
 use std::marker::Model;
 
 /// Which links are active, and which of these are resetting.
-#[derive(Drop, Debug)]
+#[derive(Drop)]
 pub struct LinkSets {
     active: Vec<bool>,
     resetting: Vec<bool>,

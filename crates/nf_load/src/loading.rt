@@ -20,7 +20,7 @@ use nf_frac::{Halt, Part, PassedAt, Q, at};
 use std::alloc::Global;
 
 /// What becomes of the inflow of a link.
-#[derive(Drop, Debug)]
+#[derive(Drop)]
 pub struct Loaded {
     /// The amount that waits, by time.
     pub queue: Curve,

@@ -7,7 +7,7 @@ use crate::choice::{change, first_choice, next_choice};
 use nf_model::State;
 
 // From which link on nothing differs from the base, and how many of the links from there on may.
-#[derive(Clone, Copy, Debug)]
+#[derive(Clone, Copy)]
 pub(crate) struct Quiet {
     pub(crate) link: usize,
     pub(crate) free: u32,

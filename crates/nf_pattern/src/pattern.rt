@@ -5,7 +5,7 @@ use std::alloc::{AllocError, Global};
 use std::marker::Model;
 
 /// Of each link, its state or none.
-#[derive(Drop, Debug)]
+#[derive(Drop)]
 pub struct Pattern {
     pub(crate) states: Vec<Option<State>>,
 }

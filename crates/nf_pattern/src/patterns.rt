@@ -11,7 +11,7 @@ use std::marker::Model;
 /// links that are not resetting, and Full for no unbounded one. It is listed where its Tight links, taken without direction, form
 /// a forest, and each node but the source is entered by a Tight, Full or resetting link. Patterns are ordered by the number of
 /// links whose state differs from that of a base, and then link by link, Tight before Full before Zero.
-#[derive(Drop, Debug)]
+#[derive(Drop)]
 pub struct Patterns {
     question: Question,
     current: Pattern,

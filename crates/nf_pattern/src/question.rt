@@ -10,7 +10,7 @@ use std::alloc::{AllocError, Global};
 use std::marker::Model;
 
 // The links, and the base whose links with a state are those that need one.
-#[derive(Drop, Debug)]
+#[derive(Drop)]
 pub(crate) struct Question {
     nodes: u32,
     source: NodeId,
@@ -22,7 +22,7 @@ pub(crate) struct Question {
 }
 
 // Where a listing stands: before the first listed pattern, at one, or behind the last.
-#[derive(Clone, Copy, Debug)]
+#[derive(Clone, Copy)]
 pub(crate) enum Stand {
     Start,
     Listed,

@@ -8,7 +8,7 @@ use std::alloc::{AllocError, Global};
 // The links before number `depth` were looked at, and the Tight ones among them can be walked along. Of each link it is known which
 // one before it is the last to lead to the same node, of each node behind which link no later one can enter it, and whether none can
 // enter some node.
-#[derive(Drop, Debug)]
+#[derive(Drop)]
 pub(crate) struct Trail {
     depth: usize,
     tight: TightLinks,

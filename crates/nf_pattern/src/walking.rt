@@ -9,7 +9,7 @@ use std::alloc::{AllocError, Global};
 
 // The Tight links that were looked at, in such a way that the last one can be taken back: the last one at each node, and of each one
 // the one before it at its tail and at its head.
-#[derive(Drop, Debug)]
+#[derive(Drop)]
 pub(crate) struct TightLinks {
     last: Vec<Option<LinkId>>,
     tails: Vec<Option<LinkId>>,
@@ -17,7 +17,7 @@ pub(crate) struct TightLinks {
 }
 
 // Where a walk is: at a node, with the link to go on by. With none, the links of the node are gone through.
-#[derive(Clone, Copy, Debug)]
+#[derive(Clone, Copy)]
 pub(crate) struct Place {
     node: NodeId,
     link: Option<LinkId>,

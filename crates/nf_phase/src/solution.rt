@@ -11,7 +11,7 @@ pub struct Budgets {
 
 /// What a run comes to: the flow up to the time that was reached, how many phases were made, of each link its state in the last
 /// one, and why the run ended before the horizon, if it did.
-#[derive(Drop, Debug)]
+#[derive(Drop)]
 pub struct Solution {
     pub flow: Flow,
     pub phases: u64,

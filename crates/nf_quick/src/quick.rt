@@ -6,7 +6,7 @@ use std::marker::Model;
 
 /// A walk from source to sink, by its links, that is fed at a rate from time 0 on, for as long as what is fed can still arrive by
 /// the end (temporally repeated flows go back to Ford and Fulkerson 1958).
-#[derive(Drop, Debug)]
+#[derive(Drop)]
 pub struct Rated {
     pub rate: Q,
     pub links: Vec<LinkId>,
@@ -43,7 +43,7 @@ impl Model for Augment {
 
 /// A quickest flow: its time; walks that are fed at their rates from time 0 until the time less their transit sums; and of each
 /// node its time in a cut over time, whose value, an amount, is that which is delivered.
-#[derive(Drop, Debug)]
+#[derive(Drop)]
 pub struct Quick {
     pub time: Q,
     pub walks: Vec<Rated>,

@@ -19,7 +19,7 @@ use std::alloc::{AllocError, Global};
 
 /// A report: how far the run was to go, its flow up to the time reached, why it stopped below the horizon, if it did, and the states
 /// of the links in its last phase.
-#[derive(Drop, Debug)]
+#[derive(Drop)]
 pub struct Report {
     pub horizon: Q,
     pub flow: Flow,

@@ -11,7 +11,7 @@ use nf_net::{Link, Network};
 use std::alloc::{AllocError, Global};
 
 /// A residual step, the nodes where it begins and ends, and the transit time of its link.
-#[derive(Drop, Debug)]
+#[derive(Drop)]
 pub(crate) struct Leg {
     pub step: Step,
     pub begin: NodeId,

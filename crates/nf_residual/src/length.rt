@@ -23,7 +23,7 @@ enum Form {
 }
 
 /// The length of a way or of a step, a time.
-#[derive(Drop, Debug)]
+#[derive(Drop)]
 pub(crate) struct Length {
     form: Form,
 }

@@ -11,7 +11,7 @@ use std::alloc::{AllocError, Global};
 use std::marker::Model;
 
 /// A way to a node: how long it is, and its steps.
-#[derive(Drop, Debug)]
+#[derive(Drop)]
 pub(crate) struct Reach {
     pub distance: Q,
     pub steps: Vec<Step>,
@@ -29,7 +29,7 @@ impl Model for Reach {
 }
 
 /// Of each node the best way to it, by its number; None where no way is known.
-#[derive(Drop, Debug)]
+#[derive(Drop)]
 pub(crate) struct Reaches {
     ways: Ways,
     places: Vec<Option<usize>>,

@@ -20,7 +20,7 @@ use std::cmp::Ordering;
 use std::marker::Model;
 
 /// A way: how long it is, of how many steps, the last of them, and the number of the way before that one.
-#[derive(Drop, Debug)]
+#[derive(Drop)]
 pub(crate) struct Twig {
     pub distance: Length,
     pub count: usize,
@@ -29,7 +29,7 @@ pub(crate) struct Twig {
 }
 
 /// Ways from a node, numbered as they were added. The first has no step; each other one is an earlier one and a step more.
-#[derive(Drop, Debug)]
+#[derive(Drop)]
 pub(crate) struct Ways {
     twigs: Vec<Twig>,
 }
