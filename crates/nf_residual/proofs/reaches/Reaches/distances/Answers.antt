@@ -1,7 +1,26 @@
 use Rattle.std.proofs.Common.{◌<◌, length, subst, arith}
+use Rattle.std.proofs.lemmas.Result.{err_from_is_err_and}
 use Rattle.nf_quick_lists.specs.Rounds.{Known}
 use Rattle.nf_residual.proofs.Twigs.{distances_more, within_known}
 use Rattle.nf_residual.proofs.reaches.Reaches.distances.Goals as goal
+
+pub returns-in_err-distances : goal.returns-in_err-distances
+returns-in_err-distances c =
+    let p = err_from_is_err_and c.from_residual.result c.from_residual.ensures.1 in
+    rw p.1 tt
+
+pub loop-node-init : goal.loop-node-init
+loop-node-init c = c.in_ok-distances.ensures.items
+
+pub distance_to-requires : goal.distance_to-requires
+distance_to-requires c =
+    let here : c.loop-node.node < length c.self.inside.places.items = omega (arith, c.len-node-end.ensures, c.self.inside.places.ok.0, c.loop-node-test.true) in
+    subst (λ (k : Known). c.loop-node.node < length k) c.self.view_is (within_known c.self.inside.ways c.self.inside.places.items c.loop-node.node here)
+
+pub returns-in_err-push : goal.returns-in_err-push
+returns-in_err-push c =
+    let p = err_from_is_err_and c.from_residual-in_err-push.result c.from_residual-in_err-push.ensures.1 in
+    rw p.1 tt
 
 pub loop-node-preserved : goal.loop-node-preserved
 loop-node-preserved c =

@@ -1,0 +1,54 @@
+use Rattle.std.proofs.Common.{◌≡◌, ℕ, ◌<◌, List, length, Option, Some, option_map, sym, ap, subst, ◌∙◌, arith}
+use Rattle.std.proofs.lemmas.List.{length-map}
+use Rattle.std.proofs.lemmas.Result.{err_from_is_err_and}
+use Rattle.nf_rational.specs.Rational.{ℚ}
+use Rattle.nf_quick_lists.specs.Steps.{Step}
+use Rattle.nf_quick_lists.specs.Order.{Reach}
+use Rattle.nf_quick_lists.specs.Rounds.{Known, known_at}
+use Rattle.nf_residual.specs.declared.ways.Twig.{Twig}
+use Rattle.nf_residual.specs.Ways.{twig_at, way_at, Places, place_at, known_by}
+use Rattle.nf_residual.proofs.Twigs.{known_at-by}
+use Rattle.nf_residual.proofs.reaches.Reaches.way_to.Goals as goal
+
+-- ---- the places of what is known, as they are lent
+module _ (tree : List Twig) (places lent : Places) (known : Known) (v i : ℕ) (view : known_by tree places ≡ known) (same : lent ≡ places) (at : i ≡ v) where
+  place_there : v < length known → i < length lent
+  place_there h =
+      let long : length known ≡ length places = ap (λ (k : Known). length k) (sym view) ∙ length-map places (option_map (way_at tree)) in
+      let count : length lent ≡ length places = ap (λ (p : Places). length p) same in
+      omega (arith, h, long, count, at)
+
+  reach_there : (found : Option ℕ) → found ≡ place_at lent i → option_map (way_at tree) found ≡ known_at known v
+  reach_there found f =
+      ap (λ (p : Option ℕ). option_map (way_at tree) p) (f ∙ ap (λ (p : Places). place_at p i) same ∙ ap (λ (n : ℕ). place_at places n) at)
+      ∙ sym (known_at-by tree places v) ∙ ap (λ (k : Known). known_at k v) view
+
+-- its parts are read one after the other
+way_read : (tree : List Twig) (way : ℕ) (distance : ℚ) (steps : List Step) → distance ≡ (twig_at tree way).distance → steps ≡ (way_at tree way).steps
+    → record { distance = distance; steps = steps } ≡ way_at tree way
+way_read tree way distance steps d s =
+    ap (λ (q : ℚ). record { distance = q; steps = steps }) d ∙ ap (λ (l : List Step). record { distance = (twig_at tree way).distance; steps = l }) s
+
+pub place_of-requires : goal.place_of-requires
+place_of-requires c = place_there c.self.inside.ways c.self.inside.places.items c.deref.result.now c.args.self.now c.args.node c.index.result c.self.view_is c.deref.ensures.value c.index.ensures c.requires
+
+pub steps-requires : goal.steps-requires
+steps-requires c = c.self.invariant c.index.result c.in-Some.way (ap (λ (p : Places). place_at p c.index.result) (sym c.deref.ensures.value) ∙ sym c.place_of.ensures ∙ c.in-Some.is)
+
+pub distance-requires : goal.distance-requires
+distance-requires c = c.self.invariant c.index.result c.in-Some.way (ap (λ (p : Places). place_at p c.index.result) (sym c.deref.ensures.value) ∙ sym c.place_of.ensures ∙ c.in-Some.is)
+
+pub returns-in_err-steps-in-Some : goal.returns-in_err-steps-in-Some
+returns-in_err-steps-in-Some c =
+    let p = err_from_is_err_and c.from_residual.result c.from_residual.ensures.1 in
+    rw p.1 tt
+
+pub returns-in-None : goal.returns-in-None
+returns-in-None c = reach_there c.self.inside.ways c.self.inside.places.items c.deref.result.now c.args.self.now c.args.node c.index.result c.self.view_is c.deref.ensures.value c.index.ensures _
+    (sym c.in-None.is ∙ c.place_of.ensures)
+
+pub returns-in_ok-steps-in-Some : goal.returns-in_ok-steps-in-Some
+returns-in_ok-steps-in-Some c =
+    ap Some (way_read c.self.inside.ways c.in-Some.way c.distance.result c.in_ok-steps-in-Some.steps.items c.distance.ensures c.in_ok-steps-in-Some.ensures)
+    ∙ reach_there c.self.inside.ways c.self.inside.places.items c.deref.result.now c.args.self.now c.args.node c.index.result c.self.view_is c.deref.ensures.value c.index.ensures (Some c.in-Some.way)
+    (sym c.in-Some.is ∙ c.place_of.ensures)
