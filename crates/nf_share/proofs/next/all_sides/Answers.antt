@@ -11,6 +11,35 @@ use Rattle.nf_curve.specs.Places.{times_after}
 use Rattle.nf_curve.proofs.Exits.{each_goes, each_stops, each_ends}
 use Rattle.nf_share.proofs.next.all_sides.Goals as goal
 
+pub first_moment-requires-clause-left : goal.first_moment-requires-clause-left
+first_moment-requires-clause-left c = c.requires.left
+
+pub first_moment-requires-clause-right : goal.first_moment-requires-clause-right
+first_moment-requires-clause-right c = c.requires.right
+
+pub sides_at-requires-clause-left : goal.sides_at-requires-clause-left
+sides_at-requires-clause-left c = c.requires.left
+
+pub sides_at-requires-clause-right : goal.sides_at-requires-clause-right
+sides_at-requires-clause-right c = c.requires.right
+
+pub sides_at-requires-clause-there : goal.sides_at-requires-clause-there
+sides_at-requires-clause-there c = rw c.in-Some.is at c.loop-now.invariant.there
+
+pub next_moment-now-requires-clause-left : goal.next_moment-now-requires-clause-left
+next_moment-now-requires-clause-left c = c.requires.left
+
+pub next_moment-now-requires-clause-right : goal.next_moment-now-requires-clause-right
+next_moment-now-requires-clause-right c = c.requires.right
+
+pub next_moment-now-requires-clause-there : goal.next_moment-now-requires-clause-there
+next_moment-now-requires-clause-there c = rw c.in-Some.is at c.loop-now.invariant.there
+
+pub returns-in_err-push : goal.returns-in_err-push
+returns-in_err-push c =
+    let p = err_from_is_err_and c.from_residual-in_err-push.result c.from_residual-in_err-push.ensures.1 in
+    rw (p.1, p.2) tt
+
 pub returns-in_err-sides : goal.returns-in_err-sides
 returns-in_err-sides c =
     let p = err_from_is_err_and c.from_residual.result c.from_residual.ensures.1 in
