@@ -1,5 +1,7 @@
-use Rattle.std.proofs.Common.{◌≡◌, List, sym, ap, ◌∙◌}
+use Rattle.std.proofs.Common.{◌≡◌, List, [], ◌∷◌, length, refl, sym, ap, ◌∙◌, arith}
+use Rattle.std.specs.Prelude.{Result, Ok, Err, Option}
 use Rattle.std.proofs.lemmas.Result.{err_from_is_err_and}
+use Rattle.nf_rational.specs.Rational.{ℚ}
 use Rattle.nf_work.specs.Passing.{passes_Q}
 use Rattle.nf_work.specs.declared.Part.TheVariants.{Load}
 use Rattle.nf_work.specs.Checked.{each}
@@ -9,6 +11,8 @@ use Rattle.nf_curve_lists.specs.Times.{both_times}
 use Rattle.nf_curve_lists.specs.Sums.{sides_at}
 use Rattle.nf_curve.specs.Places.{times_after}
 use Rattle.nf_curve.proofs.Exits.{each_goes, each_stops, each_ends}
+use Rattle.nf_share.specs.declared.walk.Moment.{Moment}
+use Rattle.nf_share.specs.Moments.{times_left}
 use Rattle.nf_share.proofs.next.all_sides.Goals as goal
 
 pub first_moment-requires-clause-left : goal.first_moment-requires-clause-left
@@ -16,6 +20,19 @@ first_moment-requires-clause-left c = c.requires.left
 
 pub first_moment-requires-clause-right : goal.first_moment-requires-clause-right
 first_moment-requires-clause-right c = c.requires.right
+
+-- before the first side
+none_yet : {B E : Type 0} (all : Result (List B) E) → with_front [] all ≡ all
+none_yet (Ok ys) = refl
+none_yet (Err p) = refl
+
+pub loop-now-init : goal.loop-now-init
+loop-now-init c = record {
+  there = c.first_moment.ensures.there;
+  so_far =
+      ap (λ (l : List Sides). with_front l (each (sides_at passes_Q c.args.left.now c.args.right.now) (c.first_moment.result.time ∷ times_after c.first_moment.result.time c.args.left.now c.args.right.now))) c.new-all.ensures.items
+      ∙ none_yet _ ∙ ap (λ (l : List ℚ). each (sides_at passes_Q c.args.left.now c.args.right.now) l) (sym c.first_moment.ensures.times);
+}
 
 pub sides_at-requires-clause-left : goal.sides_at-requires-clause-left
 sides_at-requires-clause-left c = c.requires.left
@@ -54,6 +71,12 @@ loop-now-preserved c =
     ∙ each_goes Load (sides_at passes_Q c.args.left.now c.args.right.now) c.loop-now.all.items _ c.in-Some.moment.time _
     (rw c.in-Some.is at c.loop-now.invariant.so_far) c.in_ok-sides.sides (sym c.in_ok-sides.ensures) in
     record { there = c.next_moment-now.ensures.there; so_far = rw c.next_moment-now.ensures.times at w }
+
+pub loop-now-smaller : goal.loop-now-smaller
+loop-now-smaller c =
+    let now = ap (λ (m : Option Moment). length (times_left c.args.left.now c.args.right.now m)) c.in-Some.is in
+    let next = ap (λ (l : List ℚ). length l) c.next_moment-now.ensures.times in
+    omega (arith, now, next)
 
 pub returns : goal.returns
 returns c = each_ends (sides_at passes_Q c.args.left.now c.args.right.now) c.loop-now.all.items _ Load (rw c.in_default.is at c.loop-now.invariant.so_far)

@@ -1,4 +1,5 @@
 use Rattle.std.proofs.Common.{◌+◌, List, [], ◌∷◌, ◌++◌, ap, ◌∙◌, arith}
+use Rattle.std.proofs.lemmas.List.{take_all}
 use Rattle.std.proofs.lemmas.Result.{err_from_is_err_and}
 use Rattle.nf_rational.specs.Rational.{ℚ}
 use Rattle.nf_load.proofs.PointByPoint.{next_taken}
@@ -33,3 +34,6 @@ loop-index-preserved c =
 
 pub returns-clause-curve : goal.returns-clause-curve
 returns-clause-curve c = c.len.ensures.curve
+
+pub returns-clause-points : goal.returns-clause-points
+returns-clause-points c = c.loop-index.invariant ∙ take_all c.loop-index.index c.args.curve.now.points (omega (arith, c.len-index-end.ensures.count, c.loop-index-test.false))
