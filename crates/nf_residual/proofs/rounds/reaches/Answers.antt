@@ -75,3 +75,54 @@ returns-clause-list c = search_all passes_Q c.args.net.now.net c.args.flows.now 
 
 pub returns-clause-count : goal.returns-clause-count
 returns-clause-count c = search_count passes_Q c.args.net.now.net c.args.flows.now c.args.from c.in_ok-legs.legs.items c.loop.fresh c.loop.ways c.loop.places.items c.loop.counter c.loop.invariant c.of-2.result c.of-2.ensures
+
+pub returns-in_err-legs-clause-list : goal.returns-in_err-legs-clause-list
+returns-in_err-legs-clause-list c =
+    let p = err_from_is_err_and c.from_residual.result c.from_residual.ensures.1 in
+    rw (p.1, p.2) tt
+
+pub returns-in_err-legs-clause-count : goal.returns-in_err-legs-clause-count
+returns-in_err-legs-clause-count c =
+    let p = err_from_is_err_and c.from_residual.result c.from_residual.ensures.1 in
+    rw p.1 tt
+
+pub returns-in_err-ways-clause-list : goal.returns-in_err-ways-clause-list
+returns-in_err-ways-clause-list c =
+    let p = err_from_is_err_and c.from_residual-in_err-ways.result c.from_residual-in_err-ways.ensures.1 in
+    rw (p.1, p.2) tt
+
+pub returns-in_err-ways-clause-count : goal.returns-in_err-ways-clause-count
+returns-in_err-ways-clause-count c =
+    let p = err_from_is_err_and c.from_residual-in_err-ways.result c.from_residual-in_err-ways.ensures.1 in
+    rw p.1 tt
+
+pub returns-in_err-places-clause-list : goal.returns-in_err-places-clause-list
+returns-in_err-places-clause-list c =
+    let p = err_from_is_err_and c.from_residual-in_err-places.result c.from_residual-in_err-places.ensures.1 in
+    rw (p.1, p.2) tt
+
+pub returns-in_err-places-clause-count : goal.returns-in_err-places-clause-count
+returns-in_err-places-clause-count c =
+    let p = err_from_is_err_and c.from_residual-in_err-places.result c.from_residual-in_err-places.ensures.1 in
+    rw p.1 tt
+
+pub returns-in_err-next-clause-list : goal.returns-in_err-next-clause-list
+returns-in_err-next-clause-list c =
+    let p = err_from_is_err_and c.from_residual-in_err-next.result c.from_residual-in_err-next.ensures.1 in
+    rw (p.1, p.2) tt
+
+pub returns-in_err-next-clause-count : goal.returns-in_err-next-clause-count
+returns-in_err-next-clause-count c =
+    let p = err_from_is_err_and c.from_residual-in_err-next.result c.from_residual-in_err-next.ensures.1 in
+    rw p.1 tt
+
+pub returns-in_err-round-clause-count : goal.returns-in_err-round-clause-count
+returns-in_err-round-clause-count c =
+    let p = err_from_is_err_and c.from_residual-in_err-round.result c.from_residual-in_err-round.ensures.1 in
+    rw p.1 tt
+
+pub legs_of-requires : goal.legs_of-requires
+legs_of-requires c = c.requires.flows
+
+pub first_places-requires : goal.first_places-requires
+first_places-requires c = c.requires.from

@@ -1,5 +1,6 @@
 use Rattle.std.proofs.Common.{◌≡◌, List, length, Vec, Global, sym, ap, subst, ◌∙◌}
 use Rattle.std.specs.Prelude.{Ok}
+use Rattle.std.proofs.lemmas.Result.{err_from_is_err_and}
 use Rattle.nf_work.specs.declared.Part.TheVariants as Part
 use Rattle.nf_work.specs.Checked.{at_part, fold_checked}
 use Rattle.nf_quick_lists.specs.Pushes.{push_step}
@@ -13,6 +14,16 @@ pub move_along-requires : goal.move_along-requires
 move_along-requires c = fits c.args.net.now.net c.args.self.now c.args.walk.now c.deref-2.result.now (length c.copy_from_slice.new.self.items) c.requires.sound c.requires.walk
     (c.deref-2.ensures.value ∙ ap (λ (w : Walk). w.steps) c.walk.view_is)
     (ap (λ (l : List ℚ). length l) (c.copy_from_slice.ensures.items ∙ c.deref.ensures.value ∙ c.self.view_is))
+
+pub returns-in_err-move_along-clause-as_it_was : goal.returns-in_err-move_along-clause-as_it_was
+returns-in_err-move_along-clause-as_it_was c =
+    let p = err_from_is_err_and c.from_residual.result c.from_residual.ensures.1 in
+    rw p.1 c.self.view_is
+
+pub returns-in_err-move_along-clause-sound : goal.returns-in_err-move_along-clause-sound
+returns-in_err-move_along-clause-sound c =
+    let p = err_from_is_err_and c.from_residual.result c.from_residual.ensures.1 in
+    rw p.1 tt
 
 pub returns-clause-sound : goal.returns-clause-sound
 returns-clause-sound c = pushed_sound passes_Q c.args.net.now.net c.args.self.now c.swap.new.x.items c.copy_from_slice.new.self.items c.args.walk.now c.deref-2.result.now c.args.amount
