@@ -1,4 +1,5 @@
 use Rattle.std.proofs.Common.{◌≡◌, ◌<◌, ℕ, List, Some, sym, ap, subst, ◌∙◌}
+use Rattle.std.proofs.lemmas.Result.{err_from_is_err_and}
 use Rattle.nf_model.specs.Network.{Link}
 use Rattle.nf_quick.specs.Ways.{Ways, way_at, LeadsOn, NoneLeadsOn, AreWays}
 use Rattle.nf_quick.proofs.GrowingWays.{unknown, ways_first, fewer, ways_more, all_known}
@@ -24,3 +25,13 @@ loop-link-preserved c =
 pub returns : goal.returns
 returns c = all_known c.args.net.now.net c.version-named.ensures.named.network c.loop-link.ways.items
     (subst (λ (w : Ways). NoneLeadsOn c.args.net.now.net w) c.deref.ensures.value c.in_default.ensures) c.loop-link.invariant
+
+pub returns-in_err-ways : goal.returns-in_err-ways
+returns-in_err-ways c =
+    let p = err_from_is_err_and c.from_residual.result c.from_residual.ensures.1 in
+    rw p.1 tt
+
+pub returns-in_err-way : goal.returns-in_err-way
+returns-in_err-way c =
+    let p = err_from_is_err_and c.from_residual-in_err-way.result c.from_residual-in_err-way.ensures.1 in
+    rw p.1 tt

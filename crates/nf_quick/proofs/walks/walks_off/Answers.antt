@@ -44,3 +44,18 @@ loop-preserved c =
           (subst (λ (l : List ℚ). AreSpent c.args.net.now.net.links l c.way_out.new.spent.items) lent c.in_ok-links.ensures.spent);
       count = c.in_ok-links.ensures.count;
     }
+
+pub returns-in_err-spent : goal.returns-in_err-spent
+returns-in_err-spent c =
+    let p = err_from_is_err_and c.from_residual.result c.from_residual.ensures.1 in
+    rw (p.1, p.2) tt
+
+pub returns-in_err-links : goal.returns-in_err-links
+returns-in_err-links c =
+    let p = err_from_is_err_and c.from_residual-in_err-links.result c.from_residual-in_err-links.ensures.1 in
+    rw (p.1, p.2) tt
+
+pub returns-in_err-push : goal.returns-in_err-push
+returns-in_err-push c =
+    let p = err_from_is_err_and c.from_residual-in_err-push.result c.from_residual-in_err-push.ensures.1 in
+    rw (p.1, p.2) tt
