@@ -3,7 +3,6 @@ use Rattle.std.proofs.lemmas.List.{length-map}
 use Rattle.std.proofs.lemmas.Result.{err_from_is_err_and}
 use Rattle.nf_rational.specs.Rational.{ℚ}
 use Rattle.nf_quick_lists.specs.Steps.{Step}
-use Rattle.nf_quick_lists.specs.Order.{Reach}
 use Rattle.nf_quick_lists.specs.Rounds.{Known, known_at}
 use Rattle.nf_residual.specs.declared.ways.Twig.{Twig}
 use Rattle.nf_residual.specs.Ways.{twig_at, way_at, Places, place_at, known_by}
