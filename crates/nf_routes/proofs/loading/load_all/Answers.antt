@@ -6,7 +6,7 @@ use Rattle.nf_plain_laws.proofs.Entries.{entry}
 use Rattle.nf_routes_lists.specs.Routes.{loading_order}
 use Rattle.nf_route.specs.Kept.{routes_of}
 use Rattle.nf_routes.specs.Standing.{seen_so_far}
-use Rattle.nf_routes.proofs.All.{loads_first, loads_complete, placed_at, may_load_at, loads_stop, loads_go}
+use Rattle.nf_routes.proofs.All.{loads_first, loads_last, loads_complete, placed_at, may_load_at, loads_stop, loads_go}
 use Rattle.nf_routes.proofs.loading.load_all.Goals as goal
 
 pub loop-link-init : goal.loop-link-init
@@ -54,3 +54,34 @@ returns-clause-complete c =
 
 pub load_here-requires-clause-horizon : goal.load_here-requires-clause-horizon
 load_here-requires-clause-horizon c = c.requires.horizon
+
+pub returns-in_err-order-clause-list : goal.returns-in_err-order-clause-list
+returns-in_err-order-clause-list c =
+    let p = err_from_is_err_and c.from_residual.result c.from_residual.ensures.1 in
+    rw (p.1, p.2) tt
+
+pub returns-in_err-order-clause-complete : goal.returns-in_err-order-clause-complete
+returns-in_err-order-clause-complete c =
+    let p = err_from_is_err_and c.from_residual.result c.from_residual.ensures.1 in
+    rw p.1 tt
+
+pub returns-in_err-so_far-clause-list : goal.returns-in_err-so_far-clause-list
+returns-in_err-so_far-clause-list c =
+    let p = err_from_is_err_and c.from_residual-in_err-so_far.result c.from_residual-in_err-so_far.ensures.1 in
+    rw (p.1, p.2) tt
+
+pub returns-in_err-so_far-clause-complete : goal.returns-in_err-so_far-clause-complete
+returns-in_err-so_far-clause-complete c =
+    let p = err_from_is_err_and c.from_residual-in_err-so_far.result c.from_residual-in_err-so_far.ensures.1 in
+    rw p.1 tt
+
+pub returns-in_err-load_here-clause-complete : goal.returns-in_err-load_here-clause-complete
+returns-in_err-load_here-clause-complete c =
+    let p = err_from_is_err_and c.from_residual-in_err-load_here.result c.from_residual-in_err-load_here.ensures.1 in
+    rw p.1 tt
+
+pub returns-clause-list : goal.returns-clause-list
+returns-clause-list c =
+    let order : c.deref-link-items.result.now ≡ loading_order (length c.args.net.now.net.links) (routes_of c.args.routes.now) =
+    c.deref-link-items.ensures.value ∙ c.in_ok-order.ensures ∙ ap (λ (n : ℕ). loading_order n (routes_of c.args.routes.now)) c.link_count.ensures in
+    loads_last passes_Q c.args.net.now.net (routes_of c.args.routes.now) c.args.horizon c.deref-link-items.result.now order c.requires.routes (seen_so_far c.loop-link.so_far) c.loop-link.link-index c.loop-link.invariant c.loop-link-test.false
