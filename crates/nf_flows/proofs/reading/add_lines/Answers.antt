@@ -15,9 +15,11 @@ returns-in-Err-clause-adds c =
     ∙ ap (λ (line : ℕ). Err (record { rule = c.in-Err.rule; line = line })) (sym c.number.ensures)
 
 pub loop-line-preserved : goal.loop-line-preserved
-loop-line-preserved c =
-    (sym (line_adds c.args.net.now (seen_draft c.loop-line.draft) c.args.lines.now c.loop-line.line-index c.line-item.result c.loop-line-test.true c.line-item.is (seen_draft c.add_line.new.self) c.in_default.ensures.adds)
-    ∙ c.loop-line.invariant.0, c.in_default.ensures.places)
+loop-line-preserved c = (
+  sym (line_adds c.args.net.now (seen_draft c.loop-line.draft) c.args.lines.now c.loop-line.line-index c.line-item.result c.loop-line-test.true c.line-item.is (seen_draft c.add_line.new.self) c.in_default.ensures.adds)
+      ∙ c.loop-line.invariant.0,
+  c.in_default.ensures.places,
+)
 
 pub returns-clause-adds : goal.returns-clause-adds
 returns-clause-adds c = sym c.loop-line.invariant.0 ∙ ap (add_flows_lines c.args.net.now (seen_draft c.loop-line.draft)) (drop_of_length-le c.args.lines.now c.loop-line-test.false)
