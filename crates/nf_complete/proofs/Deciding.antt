@@ -1,5 +1,5 @@
 -- What tests of numbers decide.
-use Rattle.std.proofs.Common.{◌≡◌, ℕ, List, slice_get, Bool, true, false, not, ◌&&◌, ◌||◌, refl, sym, ◌∙◌}
+use Rattle.std.proofs.Common.{◌≡◌, ℕ, List, slice_get, ◌⊎◌, inr, ⊎_elim, Bool, true, false, not, ◌&&◌, ◌||◌, refl, sym, ◌∙◌}
 use Rattle.std.specs.Prelude.{Option, Some, None, MatchBool}
 use Rattle.std.specs.Bool.{Decides}
 use Rattle.std.proofs.lemmas.Bool.Decides.{Decides-and, Decides-or, Decides-like}
@@ -77,3 +77,8 @@ not_same x y e h = false_true (sym e ∙ (Decides-same x y).1 h)
 -- a flag that is not set
 pub not_set_by : (flags : List Bool) (e : ℕ) (b : Bool) → slice_get flags e ≡ Some b → b ≡ false → Has flags e → ⊥
 not_set_by flags e b at off h = false_true (sym off ∙ same_Some b true (sym at ∙ h))
+
+-- where the first holds, and the second does not, the third decides
+pub third_decides : (b : Bool) (A B C : Type 0) → A → (B → ⊥) → MatchBool b C (C → ⊥) → MatchBool b (A × (B ⊎ C)) (A × (B ⊎ C) → ⊥)
+third_decides true A B C a n c = (a, inr c)
+third_decides false A B C a n c = λ t. ⊎_elim n c t.1

@@ -1,5 +1,5 @@
 -- A trail gone along the other way round.
-use Rattle.std.proofs.Common.{◌≡◌, ◌≢◌, ℕ, List, [], ◌∷◌, ◌⊎◌, inl, inr, ⊎_elim, Bool, true, false, not, if◌then◌else◌, eqb, Some, sym, ap, subst, refl, ◌∙◌, arith}
+use Rattle.std.proofs.Common.{◌≡◌, ◌≢◌, ℕ, suc, ◌+◌, ◌<◌, List, [], ◌∷◌, length, get_or, drop, add-one, drop-cons, ◌⊎◌, inl, inr, ⊎_elim, Bool, true, false, not, if◌then◌else◌, eqb, Some, sym, ap, subst, refl, ◌∙◌, arith}
 use Rattle.std.specs.Prelude.{Contains}
 use Rattle.std.proofs.lemmas.Bool.Decides.{eqb_tells}
 use Rattle.nf_model.specs.Walk.{Hop}
@@ -8,6 +8,13 @@ use Rattle.nf_complete_lists.specs.Interior.{links_of, turn_of}
 use Rattle.nf_complete_laws.proofs.Trails.{contains_more, contains_first}
 use Rattle.nf_complete.specs.Cycles.{round_onto}
 use Rattle.nf_complete.proofs.Contained.{contains_cases}
+
+-- one step more is turned
+pub round_more : (steps done next : List (ℕ × Bool)) (i : ℕ) (step turned : ℕ × Bool) → i < length steps → step ≡ get_or steps i step → turned ≡ (step.0, not step.1) → next ≡ turned ∷ done
+    → round_onto done (drop i steps) ≡ round_onto [] steps → round_onto next (drop (i + 1) steps) ≡ round_onto [] steps
+round_more steps done next i step turned h is t n so =
+    let first : drop i steps ≡ step ∷ drop (i + 1) steps = rw (add-one, drop-cons steps i step) (ap (λ (s : ℕ × Bool). s ∷ drop (suc i) steps) (sym is)) in
+    ap (λ (l : List (ℕ × Bool)). round_onto l (drop (i + 1) steps)) (n ∙ ap (λ (s : ℕ × Bool). s ∷ done) t) ∙ (sym (ap (round_onto done) first) ∙ so)
 
 flip_first : (b : Bool) (g : Hop) → (if b then g.head else g.tail) ≡ (if not b then g.tail else g.head)
 flip_first true g = refl

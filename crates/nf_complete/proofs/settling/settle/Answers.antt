@@ -1,11 +1,69 @@
-use Rattle.std.proofs.Common.{length, Vec, Global, ap, ◌∙◌}
-use Rattle.std.proofs.lemmas.Result.{err_from_is_err_and}
+use Rattle.std.proofs.Common.{◌∙◌, length, Vec, Global, ap}
+use Rattle.std.proofs.lemmas.Result.{IfOk-from_err, err_from_is_err_and}
 use Rattle.nf_rational.specs.Rational.{ℚ}
 use Rattle.nf_work.specs.Passing.{passes_Q}
 use Rattle.nf_complete_lists.specs.Cancelling.{fulls_list, Settles}
 use Rattle.nf_complete.specs.declared.settled.Settled.{Settled}
 use Rattle.nf_complete.proofs.CancelsOn.{halts_of, settles_stop, settles_on, fulls_read, settled_by, settled_listed, settled_solution}
 use Rattle.nf_complete.proofs.settling.settle.Goals as goal
+
+pub fulls-requires-clause-sets : goal.fulls-requires-clause-sets
+fulls-requires-clause-sets c = c.requires.sets.sets_are.count
+
+pub fulls-requires-clause-slopes : goal.fulls-requires-clause-slopes
+fulls-requires-clause-slopes c = c.requires.thin.slope_count
+
+pub cancelled-requires-clause-sets : goal.cancelled-requires-clause-sets
+cancelled-requires-clause-sets c = c.requires.sets
+
+pub cancelled-requires-clause-thin : goal.cancelled-requires-clause-thin
+cancelled-requires-clause-thin c = c.requires.thin
+
+pub settled_pattern-requires-clause-sets : goal.settled_pattern-requires-clause-sets
+settled_pattern-requires-clause-sets c = c.requires.sets.sets_are.count
+
+pub settled_pattern-requires-clause-slopes : goal.settled_pattern-requires-clause-slopes
+settled_pattern-requires-clause-slopes c = c.requires.thin.slope_count
+
+pub settled_pattern-requires-clause-fulls : goal.settled_pattern-requires-clause-fulls
+settled_pattern-requires-clause-fulls c =
+    fulls_read passes_Q c.args.net.now.net c.args.sets.now c.args.slopes.now c.in_ok-fulls.fulls.items c.deref-2.result.now c.in_ok-fulls.ensures c.deref-2.ensures.value
+
+pub returns-in_err-fulls-clause-pattern : goal.returns-in_err-fulls-clause-pattern
+returns-in_err-fulls-clause-pattern c = IfOk-from_err c.from_residual.result _ c.from_residual.ensures.0
+
+pub returns-in_err-fulls-clause-thin : goal.returns-in_err-fulls-clause-thin
+returns-in_err-fulls-clause-thin c = IfOk-from_err c.from_residual.result _ c.from_residual.ensures.0
+
+pub returns-in_err-fulls-clause-listed : goal.returns-in_err-fulls-clause-listed
+returns-in_err-fulls-clause-listed c = IfOk-from_err c.from_residual.result _ c.from_residual.ensures.0
+
+pub returns-in_err-fulls-clause-solution : goal.returns-in_err-fulls-clause-solution
+returns-in_err-fulls-clause-solution c = IfOk-from_err c.from_residual.result _ c.from_residual.ensures.0
+
+pub returns-in_err-flows-clause-pattern : goal.returns-in_err-flows-clause-pattern
+returns-in_err-flows-clause-pattern c = IfOk-from_err c.from_residual-in_err-flows.result _ c.from_residual-in_err-flows.ensures.0
+
+pub returns-in_err-flows-clause-thin : goal.returns-in_err-flows-clause-thin
+returns-in_err-flows-clause-thin c = IfOk-from_err c.from_residual-in_err-flows.result _ c.from_residual-in_err-flows.ensures.0
+
+pub returns-in_err-flows-clause-listed : goal.returns-in_err-flows-clause-listed
+returns-in_err-flows-clause-listed c = IfOk-from_err c.from_residual-in_err-flows.result _ c.from_residual-in_err-flows.ensures.0
+
+pub returns-in_err-flows-clause-solution : goal.returns-in_err-flows-clause-solution
+returns-in_err-flows-clause-solution c = IfOk-from_err c.from_residual-in_err-flows.result _ c.from_residual-in_err-flows.ensures.0
+
+pub returns-in_err-pattern-clause-pattern : goal.returns-in_err-pattern-clause-pattern
+returns-in_err-pattern-clause-pattern c = IfOk-from_err c.from_residual-in_err-pattern.result _ c.from_residual-in_err-pattern.ensures.0
+
+pub returns-in_err-pattern-clause-thin : goal.returns-in_err-pattern-clause-thin
+returns-in_err-pattern-clause-thin c = IfOk-from_err c.from_residual-in_err-pattern.result _ c.from_residual-in_err-pattern.ensures.0
+
+pub returns-in_err-pattern-clause-listed : goal.returns-in_err-pattern-clause-listed
+returns-in_err-pattern-clause-listed c = IfOk-from_err c.from_residual-in_err-pattern.result _ c.from_residual-in_err-pattern.ensures.0
+
+pub returns-in_err-pattern-clause-solution : goal.returns-in_err-pattern-clause-solution
+returns-in_err-pattern-clause-solution c = IfOk-from_err c.from_residual-in_err-pattern.result _ c.from_residual-in_err-pattern.ensures.0
 
 pub returns-in_err-fulls-clause-list : goal.returns-in_err-fulls-clause-list
 returns-in_err-fulls-clause-list c =
