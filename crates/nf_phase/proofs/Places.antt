@@ -1,12 +1,15 @@
 -- Curves that are changed place by place.
 use Rattle.std.proofs.Common.{◌≡◌, ◌≢◌, ℕ, zero, suc, ◌+◌, ◌<◌, ◌≤◌, List, [], ◌∷◌, ◌++◌, length, set, refl, sym, ap, subst, ◌∙◌, inl, inr, arith}
-use Rattle.std.specs.Prelude.{◌⊎◌, Some, map, slice_get}
+use Rattle.std.specs.Prelude.{◌⊎◌, Some, map, slice_get, Result, Ok, Err}
+use Rattle.std.specs.Result.{IsErr, OnOk, OnErr}
 use Rattle.std.specs.Option.{option_map}
 use Rattle.std.proofs.lemmas.Option.{same_Some, slice_get-map, slice_get_within}
 use Rattle.std.proofs.lemmas.List.{length-map}
+use Rattle.std.proofs.lemmas.Result.{IfOk-from_err}
 use Rattle.nf_model.specs.Curve.{Point}
 use Rattle.nf_model.specs.Equilibrium.{Trace}
-use Rattle.nf_lists.specs.ReportCurves.{LinkCurves}
+use Rattle.nf_lists.specs.ReportCurves.{GrowingCurve, LinkCurves}
+use Rattle.nf_lists.specs.PhaseRun.{Standing}
 use Rattle.nf_phase.specs.Growing.{Roomy, HasRoom, AllHaveRoom, all_grown}
 use Rattle.nf_plain_laws.proofs.Naturals.{before_or_at}
 
@@ -112,3 +115,21 @@ pub record AreLists (entering leaving : List Trace) (waiting : List (List Point)
   pub inflows : entering ≡ map (λ c. c.inflow) links
   pub outflows : leaving ≡ map (λ c. c.outflow) links
   pub queues : waiting ≡ map (λ c. c.queue.points) links
+
+-- a call that fails gives nothing, and what holds anyway holds where it fails
+pub nothing_given : {T E : Type 0} (r : Result T E) (P : Type 0) → IsErr r → OnOk r P
+nothing_given {E = E} (Ok x) P h = IfOk-from_err {E = E} (Ok x) (λ _. P) h
+nothing_given (Err e) P h = tt
+
+pub holds_anyway : {T E : Type 0} (r : Result T E) (P : Type 0) → P → OnErr r P
+holds_anyway (Ok x) P p = tt
+holds_anyway (Err e) P p = p
+
+-- a standing whose curves are what they were
+pub same_standing : (now before : Standing) (label_curves : List GrowingCurve) (link_curves : List LinkCurves) → label_curves ≡ now.label_curves → link_curves ≡ now.link_curves → now ≡ before
+    → record { time = now.time; labels = now.labels; label_curves = label_curves; link_curves = link_curves; made = now.made; last = now.last } ≡ before
+same_standing now before label_curves link_curves labels links same =
+    ap (λ (curves : List GrowingCurve). standing curves link_curves) labels ∙ ap (λ (curves : List LinkCurves). standing now.label_curves curves) links ∙ same
+  where
+    standing : List GrowingCurve → List LinkCurves → Standing
+    standing labels links = record { time = now.time; labels = now.labels; label_curves = labels; link_curves = links; made = now.made; last = now.last }

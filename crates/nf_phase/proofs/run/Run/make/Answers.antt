@@ -7,9 +7,30 @@ use Rattle.nf_model.specs.Entries.{number_at}
 use Rattle.nf_lists.specs.CurveList.{LinkStep}
 use Rattle.nf_lists.specs.ReportCurves.{GrowingCurve, LinkCurves}
 use Rattle.nf_lists.specs.PhaseRun.{Standing}
+use Rattle.nf_phase.specs.contracts.run.Run.{the_view}
+use Rattle.nf_phase.proofs.Places.{nothing_given, holds_anyway, same_standing}
 use Rattle.nf_phase.specs.Growing.{Roomy, all_grown}
 use Rattle.nf_phase.proofs.Stepped.{curve_count, link_count, new_label_count, slope_count, step_count, source_next, labels_later, links_later, new_standing}
 use Rattle.nf_phase.proofs.run.Run.make.Goals as goal
+
+pub returns-in_err-reserve_labels-clause-kept : goal.returns-in_err-reserve_labels-clause-kept
+returns-in_err-reserve_labels-clause-kept c = holds_anyway c.from_residual.result _
+    (same_standing (the_view c.self.inside) c.args.self.now (all_grown (with_items c.self.inside.label_curves c.reserve_labels.new.curves).items) (all_grown c.self.inside.link_curves.items)
+    (ap all_grown (with_items_is c.self.inside.label_curves c.reserve_labels.new.curves (c.reserve_labels.auto.curves ∙ c.deref_mut.ensures.len)) ∙ c.in_err-reserve_labels.ensures.same ∙ ap all_grown c.deref_mut.ensures.value)
+    refl c.self.view_is)
+
+pub returns-in_err-reserve_links-clause-kept : goal.returns-in_err-reserve_links-clause-kept
+returns-in_err-reserve_links-clause-kept c = holds_anyway c.from_residual-in_err-reserve_links.result _
+    (same_standing (the_view c.self.inside) c.args.self.now (all_grown (with_items c.self.inside.label_curves c.reserve_labels.new.curves).items) (all_grown (with_items c.self.inside.link_curves c.reserve_links.new.curves).items)
+    (ap all_grown (with_items_is c.self.inside.label_curves c.reserve_labels.new.curves (c.reserve_labels.auto.curves ∙ c.deref_mut.ensures.len)) ∙ c.in_ok-reserve_labels.ensures.same ∙ ap all_grown c.deref_mut.ensures.value)
+    (ap all_grown (with_items_is c.self.inside.link_curves c.reserve_links.new.curves (c.reserve_links.auto.curves ∙ c.deref_mut-2.ensures.len)) ∙ c.in_err-reserve_links.ensures.same ∙ ap all_grown c.deref_mut-2.ensures.value)
+    c.self.view_is)
+
+pub returns-in_err-reserve_labels-clause-made : goal.returns-in_err-reserve_labels-clause-made
+returns-in_err-reserve_labels-clause-made c = nothing_given c.from_residual.result _ c.from_residual.ensures.0
+
+pub returns-in_err-reserve_links-clause-made : goal.returns-in_err-reserve_links-clause-made
+returns-in_err-reserve_links-clause-made c = nothing_given c.from_residual-in_err-reserve_links.result _ c.from_residual-in_err-reserve_links.ensures.0
 
 pub departure_in-reached-requires : goal.departure_in-reached-requires
 departure_in-reached-requires c =

@@ -1,0 +1,16 @@
+use Rattle.std.proofs.Common.{map, ap}
+use Rattle.std.proofs.lemmas.Result.{IfOk-from_err}
+use Rattle.nf_curve.specs.Flows.{trace_of}
+use Rattle.nf_phase.proofs.growth.copy_links.Goals as goal
+
+pub loop-curves-init : goal.loop-curves-init
+loop-curves-init c = record { inflows = ap (map trace_of) c.none-links.ensures.inflows; outflows = ap (map trace_of) c.none-links.ensures.outflows; queues = ap (map (λ curve. curve.points)) c.none-links.ensures.queues }
+
+pub returns-in_err-push_copy-clause-inflows : goal.returns-in_err-push_copy-clause-inflows
+returns-in_err-push_copy-clause-inflows c = IfOk-from_err c.from_residual.result _ c.from_residual.ensures.0
+
+pub returns-in_err-push_copy-clause-outflows : goal.returns-in_err-push_copy-clause-outflows
+returns-in_err-push_copy-clause-outflows c = IfOk-from_err c.from_residual.result _ c.from_residual.ensures.0
+
+pub returns-in_err-push_copy-clause-queues : goal.returns-in_err-push_copy-clause-queues
+returns-in_err-push_copy-clause-queues c = IfOk-from_err c.from_residual.result _ c.from_residual.ensures.0
