@@ -1,6 +1,9 @@
-use Rattle.std.proofs.Common.{map, ap}
+use Rattle.std.proofs.Common.{◌∙◌, List, ap, map}
+use Rattle.std.proofs.lemmas.List.{take_all}
 use Rattle.std.proofs.lemmas.Result.{IfOk-from_err}
 use Rattle.nf_curve.specs.Flows.{trace_of}
+use Rattle.nf_lists.specs.ReportCurves.{LinkCurves}
+use Rattle.nf_phase.specs.Growing.{Roomy, all_grown}
 use Rattle.nf_phase.proofs.growth.copy_links.Goals as goal
 
 pub loop-curves-init : goal.loop-curves-init
@@ -14,3 +17,12 @@ returns-in_err-push_copy-clause-outflows c = IfOk-from_err c.from_residual.resul
 
 pub returns-in_err-push_copy-clause-queues : goal.returns-in_err-push_copy-clause-queues
 returns-in_err-push_copy-clause-queues c = IfOk-from_err c.from_residual.result _ c.from_residual.ensures.0
+
+pub returns-clause-inflows : goal.returns-clause-inflows
+returns-clause-inflows c = c.loop-curves.invariant.inflows ∙ ap (λ (l : List (Roomy LinkCurves)). map (λ (c : LinkCurves). c.inflow) (all_grown l)) (take_all c.loop-curves.curves-index c.args.growing.now c.loop-curves-test.false)
+
+pub returns-clause-outflows : goal.returns-clause-outflows
+returns-clause-outflows c = c.loop-curves.invariant.outflows ∙ ap (λ (l : List (Roomy LinkCurves)). map (λ (c : LinkCurves). c.outflow) (all_grown l)) (take_all c.loop-curves.curves-index c.args.growing.now c.loop-curves-test.false)
+
+pub returns-clause-queues : goal.returns-clause-queues
+returns-clause-queues c = c.loop-curves.invariant.queues ∙ ap (λ (l : List (Roomy LinkCurves)). map (λ (c : LinkCurves). c.queue.points) (all_grown l)) (take_all c.loop-curves.curves-index c.args.growing.now c.loop-curves-test.false)

@@ -1,3 +1,6 @@
+use Rattle.std.proofs.Common.{◌∙◌, [], ◌∷◌, ap, map}
+use Rattle.std.proofs.lemmas.List.{map-append}
+use Rattle.nf_curve.specs.Flows.{trace_of}
 use Rattle.nf_phase.proofs.Places.{nothing_given}
 use Rattle.nf_phase.proofs.growth.FinishedLinks.add.Goals as goal
 
@@ -27,3 +30,9 @@ returns-in_err-push-3-clause-outflows c = nothing_given c.from_residual-in_err-p
 
 pub returns-in_err-push-3-clause-queues : goal.returns-in_err-push-3-clause-queues
 returns-in_err-push-3-clause-queues c = nothing_given c.from_residual-in_err-push-3.result _ c.from_residual-in_err-push-3.ensures.0
+
+pub returns-clause-inflows : goal.returns-clause-inflows
+returns-clause-inflows c = ap (map trace_of) c.in_ok-push.ensures.items ∙ map-append trace_of c.args.self.now.inflows.items (c.args.inflow ∷ [])
+
+pub returns-clause-outflows : goal.returns-clause-outflows
+returns-clause-outflows c = ap (map trace_of) c.in_ok-push-2.ensures.items ∙ map-append trace_of c.args.self.now.outflows.items (c.args.outflow ∷ [])
