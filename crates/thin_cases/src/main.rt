@@ -22,7 +22,7 @@ ghost use Rattle.nf_thin.specs.Searching.{AreSetsOf};
 
 use crate::asking::{Fields, network, number};
 use crate::phases::phase;
-use crate::telling::tell_none;
+use crate::telling::{tell_none, tell_pattern};
 use nf_graph::LinkSets;
 use nf_net::Network;
 use nf_pattern::Pattern;
@@ -43,7 +43,7 @@ fn tell_phase<R: Print + AllocGlobal>(
         return tell_none(rt);
     };
     match fields.asked {
-        "base" => print!(rt; "{base:?}"),
+        "base" => tell_pattern(rt, base, net.link_count()),
         "patterns" => questions::tell_patterns(rt, net, sets, base),
         "verdict" => questions::tell_verdict(rt, net, sets, base, fields.words),
         "values" => questions::tell_values(rt, net, sets, rate, fields.words),

@@ -5,7 +5,7 @@ ghost use Rattle.nf_model.specs.Pattern.{IsPattern};
 ghost use Rattle.nf_thin.specs.Searching.{AreSetsOf};
 
 use crate::asking::{numbers, pattern};
-use crate::telling::{tell_none, tell_numbers, tell_passed};
+use crate::telling::{tell_link_sets, tell_none, tell_numbers, tell_passed, tell_pattern};
 use nf_frac::{Halt, Q};
 use nf_graph::LinkSets;
 use nf_net::Network;
@@ -40,7 +40,10 @@ pub fn tell_sets<R: Print + AllocGlobal>(rt: &R, slacks: &str) -> io::Result<()>
     match numbers(rt.alloc(), slacks) {
         Some(slacks) => {
             let sets = nf_sets::sets(rt.alloc(), &slacks)?;
-            print!(rt; "{sets:?}")
+            let Ok(links) = u32::try_from(slacks.len()) else {
+                return tell_none(rt);
+            };
+            tell_link_sets(rt, &sets, links)
         }
         None => tell_none(rt),
     }
@@ -56,12 +59,16 @@ pub fn tell_patterns<R: Print + AllocGlobal>(
     requires sets { AreSetsOf net.now.net sets.now }
     requires base { IsPattern sets.now (unbounded net.now.net) base.now }
 {
+    let links = net.link_count();
     let mut patterns = listing(rt.alloc(), net, sets, base)?;
-    for _ in 0..100 {
+    let mut given: u32 = 0;
+    while given < 100 {
         let Some(pattern) = patterns.next() else {
             break;
         };
-        print!(rt; "{pattern:?} ")?;
+        tell_pattern(rt, pattern, links)?;
+        print!(rt; " ")?;
+        given += 1;
     }
     print!(rt; "{}", patterns.place())
 }

@@ -1,6 +1,10 @@
 // Answers as text.
+ghost use Rattle.std.specs.Prelude.{◌≡◌, length};
+
 use case_lines::Shown;
 use nf_frac::{PassedAt, Q};
+use nf_graph::{LinkId, LinkSets};
+use nf_pattern::Pattern;
 use std::io;
 
 /// Prints a word, and numbers behind it.
@@ -26,4 +30,36 @@ pub fn tell_passed<R: Print>(rt: &R, at: &PassedAt<Q>) -> io::Result<()> {
 /// Prints that there is no answer.
 pub fn tell_none<R: Print>(rt: &R) -> io::Result<()> {
     print!(rt; "no answer")
+}
+
+// What stands before an item of a list.
+fn before(place: u32) -> &'static str {
+    if place == 0 { "" } else { ", " }
+}
+
+/// Prints a pattern, which has a state or none for each of so many links.
+pub fn tell_pattern<R: Print>(rt: &R, pattern: &Pattern, links: u32) -> io::Result<()>
+    requires { length pattern.now ≡ links }
+{
+    print!(rt; "{}", "Pattern { states: [")?;
+    for e in 0..links {
+        let state = pattern.state(LinkId(e));
+        print!(rt; "{}{state:?}", before(e))?;
+    }
+    print!(rt; "{}", "] }")
+}
+
+/// Prints which of so many links are active, and which are resetting.
+pub fn tell_link_sets<R: Print>(rt: &R, sets: &LinkSets, links: u32) -> io::Result<()>
+    requires { length sets.now.active ≡ links }
+{
+    print!(rt; "{}", "LinkSets { active: [")?;
+    for e in 0..links {
+        print!(rt; "{}{}", before(e), sets.active(LinkId(e)))?;
+    }
+    print!(rt; "{}", "], resetting: [")?;
+    for e in 0..links {
+        print!(rt; "{}{}", before(e), sets.resetting(LinkId(e)))?;
+    }
+    print!(rt; "{}", "] }")
 }
