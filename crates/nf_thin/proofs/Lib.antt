@@ -4,6 +4,7 @@ pub mod Searched
 pub mod Asking
 pub mod FoundThin
 pub mod Looping
+pub mod BehindFirst
 pub mod NoCycle
 pub mod LedSlopes
 pub mod AllowedStates

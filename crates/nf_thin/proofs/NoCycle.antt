@@ -1,5 +1,5 @@
 -- Active links that hold no cycle.
-use Rattle.std.proofs.Common.{◌≡◌, ℕ, zero, suc, ◌<◌, Bool, List, [], ◌∷◌, sym, subst, arith}
+use Rattle.std.proofs.Common.{◌≡◌, ℕ, zero, suc, Bool, List, [], ◌∷◌, sym, subst, arith}
 use Rattle.std.specs.Prelude.{◌↔◌, Option, Some, IsNone, slice_get}
 use Rattle.std.proofs.lemmas.Option.{none-some, same_Some}
 use Rattle.nf_model.specs.Entries.{Has}

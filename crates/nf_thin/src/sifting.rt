@@ -6,13 +6,13 @@ ghost use Rattle.nf_model.specs.Pattern.{IsPattern, IsListedIn};
 ghost use Rattle.nf_lists.specs.Accepted.{IsAccepted};
 ghost use Rattle.nf_lists.specs.Search.{IsSearch};
 ghost use Rattle.nf_equation_laws.specs.Equations.{IsPatternIn};
-ghost use Rattle.nf_thin.specs.Searching.{AreSetsOf, AsksOf};
+ghost use Rattle.nf_thin.specs.Searching.{AreSetsOf, AsksOf, IsBehindFirst};
 ghost use Rattle.nf_thin.specs.Sifting.{Guides, SiftsNext, Sifts};
 
 use crate::allowed::{Allowed, allowed_by, forbidden_link};
 use crate::cycles::hold_no_cycle;
 use crate::fault::SearchFault;
-use crate::first::first_listed;
+use crate::first::copy_next;
 use crate::known::{Known, known_by, try_or_know};
 use crate::listings::listing;
 use crate::node_test::{can_conserve, full_flows};
@@ -106,24 +106,24 @@ fn sift_next(
     Ok(None)
 }
 
-// The list is gone through from its start on, and what is seen not to be accepted is passed over. None where no pattern is accepted and
-// some were passed over.
+// The list is gone through, its first pattern and then the rest, and what is seen not to be accepted is passed over. None where no pattern
+// is accepted and some were passed over.
 fn sift(
     alloc: Global,
     net: &Network,
     sets: &LinkSets,
     rate: Q,
     guide: &Guide,
-    patterns: Patterns,
+    first: &Pattern,
+    rest: &mut Patterns,
     budget: u64,
 ) -> Result<Option<Thin>, SearchFault>
     requires network { IsNetwork net.now.net }
     requires sets { AreSetsOf net.now.net sets.now }
-    requires question { AsksOf net.now.net sets.now patterns }
+    requires rest { IsBehindFirst net.now.net sets.now first.now rest.old }
     requires guide { Guides passes_Q net.now.net sets.now rate guide.now }
-    ensures { Sifts (IsSearch passes_Q net.now.net sets.now rate patterns.question.base budget) budget result }
+    ensures { Sifts (IsSearch passes_Q net.now.net sets.now rate rest.old.question.base budget) budget result }
 {
-    let mut patterns = patterns;
     let mut sifted = Sifted {
         vain: Vain {
             tried: 0,
@@ -132,7 +132,11 @@ fn sift(
         skips: false,
         last: LinkId(0),
     };
-    while let Some(pattern) = patterns.next() {
+    let found = sift_next(alloc, net, sets, rate, guide, first, budget, &mut sifted)?;
+    if let Some(thin) = found {
+        return Ok(Some(thin));
+    }
+    while let Some(pattern) = rest.next() {
         let found = sift_next(alloc, net, sets, rate, guide, pattern, budget, &mut sifted)?;
         if let Some(thin) = found {
             return Ok(Some(thin));
@@ -174,6 +178,29 @@ fn guide_of(
     }))
 }
 
+// The search over a listing, with slopes that are guessed from its first pattern on.
+fn sift_listing(
+    alloc: Global,
+    net: &Network,
+    sets: &LinkSets,
+    rate: Q,
+    patterns: &mut Patterns,
+    budget: u64,
+) -> Result<Option<Thin>, SearchFault>
+    requires network { IsNetwork net.now.net }
+    requires sets { AreSetsOf net.now.net sets.now }
+    requires question { AsksOf net.now.net sets.now patterns.old }
+    ensures { Sifts (IsSearch passes_Q net.now.net sets.now rate patterns.old.question.base budget) budget result }
+{
+    let Some(first) = copy_next(alloc, patterns)? else {
+        return Ok(None);
+    };
+    let Some(guide) = guide_of(alloc, net, sets, rate, &first)? else {
+        return Ok(None);
+    };
+    sift(alloc, net, sets, rate, &guide, &first, patterns, budget)
+}
+
 /// The search by the slopes of a thin flow, which are guessed from the first listed pattern on. None where it comes to no end: no such
 /// slopes were found, or no pattern is accepted and some were passed over.
 pub fn sifted_search(
@@ -188,12 +215,6 @@ pub fn sifted_search(
     requires base { IsPattern sets.now (unbounded_of net.now.net) base.now }
     ensures { Sifts (IsSearch passes_Q net.now.net sets.now rate base.now budget) budget result }
 {
-    let Some(first) = first_listed(alloc, net, sets, base)? else {
-        return Ok(None);
-    };
-    let Some(guide) = guide_of(alloc, net, sets, rate, &first)? else {
-        return Ok(None);
-    };
-    let patterns = listing(alloc, net, sets, base)?;
-    sift(alloc, net, sets, rate, &guide, patterns, budget)
+    let mut patterns = listing(alloc, net, sets, base)?;
+    sift_listing(alloc, net, sets, rate, &mut patterns, budget)
 }

@@ -5,7 +5,7 @@ use Rattle.nf_thin.proofs.sifting.sift.Given as goal
 
 -- the first patterns of the listing were tried in vain, or passed over
 abbrev pub invariant-loop-pattern : goal.invariant-loop-pattern
-invariant-loop-pattern l = InLoop passes_Q l.net.net l.sets l.rate l.fn.patterns.question l.budget l.patterns l.sifted.skips l.sifted.vain
+invariant-loop-pattern l = InLoop passes_Q l.net.net l.sets l.rate l.fn.rest.question l.budget l.rest l.sifted.skips l.sifted.vain
 
 abbrev pub decreases-loop-pattern : goal.decreases-loop-pattern
 decreases-loop-pattern l = l.budget - l.sifted.vain.tried
