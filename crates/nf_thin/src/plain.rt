@@ -23,15 +23,14 @@ fn go_through(
     net: &Network,
     sets: &LinkSets,
     rate: Q,
-    patterns: Patterns,
+    patterns: &mut Patterns,
     budget: u64,
 ) -> Result<Thin, SearchFault>
     requires network { IsNetwork net.now.net }
     requires sets { AreSetsOf net.now.net sets.now }
-    requires question { AsksOf net.now.net sets.now patterns }
-    ensures { Searches (IsSearch passes_Q net.now.net sets.now rate patterns.question.base budget) budget result }
+    requires question { AsksOf net.now.net sets.now patterns.old }
+    ensures { Searches (IsSearch passes_Q net.now.net sets.now rate patterns.old.question.base budget) budget result }
 {
-    let mut patterns = patterns;
     let mut vain = Vain {
         tried: 0,
         passed: None,
@@ -58,6 +57,6 @@ pub(crate) fn plain_search(
     requires base { IsPattern sets.now (unbounded_of net.now.net) base.now }
     ensures { Searches (IsSearch passes_Q net.now.net sets.now rate base.now budget) budget result }
 {
-    let patterns = listing(alloc, net, sets, base)?;
-    go_through(alloc, net, sets, rate, patterns, budget)
+    let mut patterns = listing(alloc, net, sets, base)?;
+    go_through(alloc, net, sets, rate, &mut patterns, budget)
 }

@@ -9,14 +9,14 @@ use Rattle.nf_thin.proofs.plain.go_through.Goals as goal
 
 pub try_next-requires-clause-pattern : goal.try_next-requires-clause-pattern
 try_next-requires-clause-pattern c =
-    loop_pattern passes_Q c.args.net.now.net c.args.sets.now c.args.rate c.args.patterns c.args.budget c.requires.network c.requires.sets c.requires.question
+    loop_pattern passes_Q c.args.net.now.net c.args.sets.now c.args.rate c.args.patterns.now c.args.budget c.requires.network c.requires.sets c.requires.question
     c.loop-pattern.patterns (all_tried c.loop-pattern.vain) c.loop-pattern.invariant c.in-Some.pattern.now c.next.follows.lender-at-none
     (subst (λ r. Gives c.loop-pattern.patterns (option_copied r) c.next.follows.lender-at-none) c.in-Some.is c.next.follows.holds-at-none)
 
 pub returns-in_err-found : goal.returns-in_err-found
 returns-in_err-found c =
     let p = err_from_is_err_and c.from_residual.result c.from_residual.ensures.1 in
-    rw (p.1, p.2) (loop_fails passes_Q c.args.net.now.net c.args.sets.now c.args.rate c.args.patterns c.args.budget c.requires.network c.requires.sets c.requires.question
+    rw (p.1, p.2) (loop_fails passes_Q c.args.net.now.net c.args.sets.now c.args.rate c.args.patterns.now c.args.budget c.requires.network c.requires.sets c.requires.question
     c.loop-pattern.patterns (all_tried c.loop-pattern.vain) c.loop-pattern.invariant c.in-Some.pattern.now c.next.follows.lender-at-none
     (subst (λ r. Gives c.loop-pattern.patterns (option_copied r) c.next.follows.lender-at-none) c.in-Some.is c.next.follows.holds-at-none)
     (all_tried c.try_next.new.vain) c.in_err-found.field-0.0
@@ -24,7 +24,7 @@ returns-in_err-found c =
 
 pub returns-in-Some-found : goal.returns-in-Some-found
 returns-in-Some-found c =
-    loop_finds passes_Q c.args.net.now.net c.args.sets.now c.args.rate c.args.patterns c.args.budget c.requires.network c.requires.sets c.requires.question
+    loop_finds passes_Q c.args.net.now.net c.args.sets.now c.args.rate c.args.patterns.now c.args.budget c.requires.network c.requires.sets c.requires.question
     c.loop-pattern.patterns (all_tried c.loop-pattern.vain) c.loop-pattern.invariant c.in-Some.pattern.now c.next.follows.lender-at-none
     (subst (λ r. Gives c.loop-pattern.patterns (option_copied r) c.next.follows.lender-at-none) c.in-Some.is c.next.follows.holds-at-none)
     (all_tried c.try_next.new.vain) c.in-Some-found.thin
@@ -33,7 +33,7 @@ returns-in-Some-found c =
 
 pub loop-pattern-preserved : goal.loop-pattern-preserved
 loop-pattern-preserved c =
-    loop_goes_on passes_Q c.args.net.now.net c.args.sets.now c.args.rate c.args.patterns c.args.budget c.requires.network c.requires.sets c.requires.question
+    loop_goes_on passes_Q c.args.net.now.net c.args.sets.now c.args.rate c.args.patterns.now c.args.budget c.requires.network c.requires.sets c.requires.question
     c.loop-pattern.patterns (all_tried c.loop-pattern.vain) c.loop-pattern.invariant c.in-Some.pattern.now c.next.follows.lender-at-none
     (subst (λ r. Gives c.loop-pattern.patterns (option_copied r) c.next.follows.lender-at-none) c.in-Some.is c.next.follows.holds-at-none)
     (all_tried c.try_next.new.vain)
@@ -42,7 +42,7 @@ loop-pattern-preserved c =
 
 pub returns : goal.returns
 returns c =
-    loop_ends passes_Q c.args.net.now.net c.args.sets.now c.args.rate c.args.patterns c.args.budget c.requires.network c.requires.sets c.requires.question
+    loop_ends passes_Q c.args.net.now.net c.args.sets.now c.args.rate c.args.patterns.now c.args.budget c.requires.network c.requires.sets c.requires.question
     c.loop-pattern.patterns (all_tried c.loop-pattern.vain) c.loop-pattern.invariant refl c.next.follows.lender-at-none
     (subst (λ r. Gives c.loop-pattern.patterns (option_copied r) c.next.follows.lender-at-none) c.in_default.is c.next.follows.holds-at-none)
     c.fault.result c.fault.ensures
