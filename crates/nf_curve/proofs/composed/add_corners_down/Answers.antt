@@ -1,10 +1,11 @@
-use Rattle.std.proofs.Common.{◌≡◌, ℕ, ◌<◌, ◌-◌, List, ◌∷◌, [], length, take, reverse, refl, sym, ap, ◌∙◌, arith, append-nil}
+use Rattle.std.proofs.Common.{◌≡◌, ℕ, ◌<◌, ◌-◌, List, ◌∷◌, [], length, take, reverse, refl, sym, ap, subst, ◌∙◌, arith, append-nil}
 use Rattle.std.specs.Prelude.{Ok}
 use Rattle.std.specs.List.{filter}
 use Rattle.std.proofs.lemmas.Option.{slice_get_read}
 use Rattle.std.proofs.lemmas.Result.{err_from_is_err_and}
 use Rattle.nf_rational.specs.Rational.{ℚ}
-use Rattle.nf_rational.specs.Order.{lt_ℚ}
+use Rattle.nf_rational.specs.Order.{◌<ℚ◌, lt_ℚ}
+use Rattle.nf_rational_laws.proofs.Order.{<ℚ_irrefl}
 use Rattle.nf_work.specs.Passing.{passes_Q}
 use Rattle.nf_work.specs.Checked.{Checked, at_part, each}
 use Rattle.nf_curve_lists.specs.Composed.{corner_at}
@@ -12,6 +13,12 @@ use Rattle.nf_curve.specs.Steps.{behind}
 use Rattle.nf_curve.proofs.Between.{corner_goes, corner_stops, take-last}
 use Rattle.nf_curve.proofs.Exits.{stops_on}
 use Rattle.nf_curve.proofs.composed.add_corners_down.Goals as goal
+
+pub add_corner_below-requires-clause-later : goal.add_corner_below-requires-clause-later
+add_corner_below-requires-clause-later c = c.requires.later
+
+pub add_corner_below-requires-clause-apart : goal.add_corner_below-requires-clause-apart
+add_corner_below-requires-clause-apart c = λ e. <ℚ_irrefl c.args.q.now.1 (subst (λ (y : ℚ). c.args.q.now.1 <ℚ y) e c.requires.down)
 
 pub returns-in_err-add_corner_below : goal.returns-in_err-add_corner_below
 returns-in_err-add_corner_below c =

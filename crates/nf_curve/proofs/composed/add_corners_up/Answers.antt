@@ -1,11 +1,12 @@
-use Rattle.std.proofs.Common.{ℕ, suc, List, ◌∷◌, [], drop, refl, sym, ap, ◌∙◌, add-one, append-nil}
+use Rattle.std.proofs.Common.{ℕ, suc, List, ◌∷◌, [], drop, refl, sym, ap, subst, ◌∙◌, add-one, append-nil}
 use Rattle.std.specs.Prelude.{Ok}
 use Rattle.std.specs.List.{filter}
 use Rattle.std.proofs.lemmas.Option.{slice_get_read}
 use Rattle.std.proofs.lemmas.List.{at_drop_all}
 use Rattle.std.proofs.lemmas.Result.{err_from_is_err_and}
 use Rattle.nf_rational.specs.Rational.{ℚ}
-use Rattle.nf_rational.specs.Order.{lt_ℚ}
+use Rattle.nf_rational.specs.Order.{◌<ℚ◌, lt_ℚ}
+use Rattle.nf_rational_laws.proofs.Order.{<ℚ_irrefl}
 use Rattle.nf_work.specs.Passing.{passes_Q}
 use Rattle.nf_work.specs.Checked.{Checked, at_part, each}
 use Rattle.nf_curve_lists.specs.Composed.{corner_at}
@@ -14,6 +15,15 @@ use Rattle.nf_curve.proofs.Between.{corner_goes, corner_stops}
 use Rattle.nf_curve.proofs.Exits.{stops_on}
 use Rattle.nf_curve.proofs.Shortening.{drop-at}
 use Rattle.nf_curve.proofs.composed.add_corners_up.Goals as goal
+
+pub loop-corner-init : goal.loop-corner-init
+loop-corner-init c = refl
+
+pub add_corner_below-requires-clause-later : goal.add_corner_below-requires-clause-later
+add_corner_below-requires-clause-later c = c.requires.later
+
+pub add_corner_below-requires-clause-apart : goal.add_corner_below-requires-clause-apart
+add_corner_below-requires-clause-apart c = λ e. <ℚ_irrefl c.args.q.now.1 (subst (λ (y : ℚ). y <ℚ c.args.q.now.1) e c.requires.up)
 
 pub returns-in_err-add_corner_below : goal.returns-in_err-add_corner_below
 returns-in_err-add_corner_below c =
