@@ -1,24 +1,31 @@
 -- The curves of a link's loading, before they are brought into short form.
 use Rattle.std.proofs.Common.{◌≡◌, List, [], ◌∷◌, Option, refl, sym, ap, subst, ◌∙◌}
-use Rattle.std.specs.Prelude.{Ok, map}
+use Rattle.std.specs.Prelude.{Result, Ok, Err, IfOk, map}
 use Rattle.nf_rational.specs.Rational.{ℚ}
 use Rattle.nf_rational.specs.Operations.{0ℚ, ◌+ℚ◌}
 use Rattle.nf_rational.specs.Order.{◌≤ℚ◌}
 use Rattle.nf_rational_laws.proofs.Polynomial.{reading_of}
 use Rattle.nf_rational_laws.proofs.Linear.{le, linear_le}
 use Rattle.nf_work.specs.Passing.{Passing}
-use Rattle.nf_work.specs.Checked.{checked, each}
+use Rattle.nf_work.specs.declared.Part.{Part}
+use Rattle.nf_work.specs.declared.Halt.{Halt}
+use Rattle.nf_work.specs.Checked.{checked, at_part, each, Gives}
 use Rattle.nf_work.specs.declared.Op.TheVariants.{Sum}
 use Rattle.nf_model.specs.Curve.{Point, value, IsCurve, NeverFalls}
 use Rattle.nf_model_laws.specs.Capacity.{IsPositive}
 use Rattle.nf_curve_lists.specs.Values.{checked_cut}
-use Rattle.nf_load_lists.specs.Loading.{Waits, Leaves, queue_point, exit_point, outflow_points, outflow_from, leaves, all_waits}
+use Rattle.nf_load_lists.specs.Loading.{Waits, Leaves, queue_point, exit_point, outflow_points, outflow_from, leaves, all_waits, checked_loading}
+use Rattle.nf_load_lists.specs.Meanings.{IsLoaded}
 use Rattle.nf_curve_laws.proofs.Operations.{checked-is}
 use Rattle.nf_curve_laws.proofs.Values.{Cut, checked_cut-is}
 use Rattle.nf_load_laws.proofs.Functions.{queue_at, exit_at, out_at}
 use Rattle.nf_load_laws.proofs.Waiting.{AllWaits, all_waits-chain}
 use Rattle.nf_load_laws.proofs.Leaving.{AllLeaves, leaves-are, queue-follows, exit-follows, all_out-follows}
-use Rattle.nf_load_laws.proofs.Loading.{Follows, by_following}
+use Rattle.nf_load_laws.proofs.Loading.{Follows, by_following, checked_loading-is}
+use Rattle.nf_curve.proofs.Exits.{was_ok}
+use Rattle.nf_load.specs.Loadings.{loaded_of}
+use Rattle.nf_load.specs.InSteps.{LeadsToCurves}
+use Rattle.nf_load.specs.declared.loading.Loaded.{Loaded}
 
 module _ (passes : Passing) (transit : ℚ) (capacity : Option ℚ) (inflow : List Point) (last : ℚ) (c : IsCurve inflow) (from_0 : 0ℚ ≤ℚ last)
     (cut : List Point) (cut_is : checked_cut passes inflow last ≡ Ok cut) (waits : List Waits) (waits_are : all_waits passes capacity cut ≡ Ok waits) where
@@ -55,6 +62,23 @@ module _ (passes : Passing) (transit : ℚ) (capacity : Option ℚ) (inflow : Li
         (subst (λ (l : List Leaves). Follows (out_at transit capacity inflow c) (exit_at transit capacity inflow c last) (outflow_points l)) (sym a.all_are)
         (by_following _ _ (0ℚ, 0ℚ) (outflow_from 0ℚ (a.first ∷ a.others)) refl
         (all_out-follows transit capacity inflow c positive rises waits_0 last w.first w.rest a.first a.others w.begins none w.chain a.are))).curve
+
+module _ (passes : Passing) (transit : ℚ) (capacity : Option ℚ) (inflow : List Point) (last : ℚ) where
+  -- all of them are curves
+  pub loaded_curves : IsCurve inflow → 0ℚ ≤ℚ last → (cut : List Point) → checked_cut passes inflow last ≡ Ok cut → value inflow 0ℚ ≡ 0ℚ → NeverFalls (value inflow) → 0ℚ ≤ℚ transit → IsPositive capacity
+      → LeadsToCurves passes transit capacity cut
+  loaded_curves c from_0 cut cut_is none rises waits_0 positive = λ waits all waits_are all_are. record {
+    queue = queue_curve passes transit capacity inflow last c from_0 cut cut_is waits waits_are;
+    exit = exit_curve passes transit capacity inflow last c from_0 cut cut_is waits waits_are none rises waits_0 positive all all_are;
+    outflow = outflow_curve passes transit capacity inflow last c from_0 cut cut_is waits waits_are none rises waits_0 positive all all_are;
+  }
+
+  -- what comes of the list is the loading
+  pub is_loaded : (part : Part) (r : Result Loaded (Halt ℚ)) → IsCurve inflow → value inflow 0ℚ ≡ 0ℚ → NeverFalls (value inflow) → 0ℚ ≤ℚ transit → IsPositive capacity → 0ℚ ≤ℚ last
+      → Gives loaded_of (λ (q : ℚ). q) r (at_part part (checked_loading passes transit capacity inflow last)) → IfOk r (λ l. IsLoaded transit capacity inflow last (loaded_of l))
+  is_loaded part (Ok l) c none rises waits_0 positive from_0 e = checked_loading-is passes transit capacity inflow last _ c none rises waits_0 positive from_0
+      (was_ok part (checked_loading passes transit capacity inflow last) _ e)
+  is_loaded part (Err h) c none rises waits_0 positive from_0 e = tt
 
 -- the end of the outflow isn't before time 0
 pub end_after_0 : (passes : Passing) (last transit end : ℚ) → 0ℚ ≤ℚ last → 0ℚ ≤ℚ transit → checked passes Sum last transit ≡ Ok end → 0ℚ ≤ℚ end

@@ -4,3 +4,4 @@ pub mod Files
 pub mod Kept
 pub mod Codes
 pub mod Loadings
+pub mod InSteps

@@ -11,10 +11,12 @@ ghost use Rattle.nf_model_laws.specs.Capacity.{IsPositive};
 ghost use Rattle.nf_load_lists.specs.Loading.{checked_loading};
 ghost use Rattle.nf_load_lists.specs.Meanings.{IsLoaded};
 ghost use Rattle.nf_load.specs.Loadings.{loaded_of};
+ghost use Rattle.nf_load.specs.InSteps.{AreCurves, LeadsToCurves, in_short_form, until_transit, behind_cut};
 
 use crate::curves::{exit_curve, outflow_until, queue_curve};
 use crate::leaving::all_leaves;
 use crate::waiting::all_waits;
+use crate::waits::{Leaves, Waits};
 use nf_curve::Curve;
 use nf_frac::{Halt, Part, PassedAt, Q, at};
 use std::alloc::Global;
@@ -36,6 +38,63 @@ fn after_transit(time: Q, transit: Q) -> Result<Q, PassedAt<Q>>
 {
     let end = at!(Part::Load, time.sum(transit));
     Ok(end)
+}
+
+// Queue, outflow and exits in short form: from what waits at some moments, when that leaves, and the whole outflow.
+fn short_curves(
+    alloc: Global,
+    waits: &[Waits],
+    all: &[Leaves],
+    whole_outflow: &Curve,
+) -> Result<Loaded, Halt<Q>>
+    requires { AreCurves waits.now all.now }
+    ensures { Gives loaded_of (λ q. q) result (at_part Load (in_short_form passes_Q waits.now all.now whole_outflow.now.points)) }
+{
+    let queue = queue_curve(alloc, waits)?;
+    let outflow = Curve::short(alloc, whole_outflow, Part::Load)?;
+    let exit = exit_curve(alloc, all)?;
+    Ok(Loaded {
+        queue,
+        outflow,
+        exit,
+    })
+}
+
+// The same, with the outflow up to one transit time after the time `until`.
+fn curves_until(
+    alloc: Global,
+    transit: Q,
+    waits: &[Waits],
+    all: &[Leaves],
+    until: Q,
+) -> Result<Loaded, Halt<Q>>
+    requires transit { 0ℚ ≤ℚ transit }
+    requires curves { AreCurves waits.now all.now }
+    requires until { 0ℚ ≤ℚ until }
+    ensures { Gives loaded_of (λ q. q) result (at_part Load (until_transit passes_Q transit waits.now all.now until)) }
+{
+    let end = after_transit(until, transit)?;
+    let whole_outflow = outflow_until(alloc, all, end)?;
+    short_curves(alloc, waits, all, &whole_outflow)
+}
+
+// What becomes of an inflow that ends at the time `until`.
+fn load_cut(
+    alloc: Global,
+    transit: Q,
+    capacity: Option<Q>,
+    cut: &Curve,
+    until: Q,
+) -> Result<Loaded, Halt<Q>>
+    requires transit { 0ℚ ≤ℚ transit }
+    requires capacity { IsPositive capacity }
+    requires curves { LeadsToCurves passes_Q transit capacity cut.now.points }
+    requires until { 0ℚ ≤ℚ until }
+    ensures { Gives loaded_of (λ q. q) result (at_part Load (behind_cut passes_Q transit capacity cut.now.points until)) }
+{
+    let waits = all_waits(alloc, &capacity, cut)?;
+    let leaves = all_leaves(alloc, &capacity, transit, &waits)?;
+    curves_until(alloc, transit, &waits, &leaves, until)
 }
 
 /// Queue, outflow and exits of a link with this transit time and capacity (an amount per unit of time; None: unbounded), by the law
@@ -60,16 +119,5 @@ pub fn load_link(
     // For the proof: the points of the inflow are a curve.
     let _ = inflow.len();
     let cut = inflow.cut(alloc, until, Part::Load)?;
-    let waits = all_waits(alloc, &capacity, &cut)?;
-    let leaves = all_leaves(alloc, &capacity, transit, &waits)?;
-    let end = after_transit(until, transit)?;
-    let whole_outflow = outflow_until(alloc, &leaves, end)?;
-    let queue = queue_curve(alloc, &waits)?;
-    let outflow = Curve::short(alloc, &whole_outflow, Part::Load)?;
-    let exit = exit_curve(alloc, &leaves)?;
-    Ok(Loaded {
-        queue,
-        outflow,
-        exit,
-    })
+    load_cut(alloc, transit, capacity, &cut, until)
 }

@@ -1,0 +1,40 @@
+use Rattle.std.proofs.Common.{sym}
+use Rattle.std.proofs.lemmas.Result.{err_from_is_err_and}
+use Rattle.nf_work.specs.declared.Part.TheVariants.{Load}
+use Rattle.nf_work.specs.declared.Op.TheVariants.{Sum}
+use Rattle.nf_work.specs.Passing.{passes_Q}
+use Rattle.nf_work.specs.Checked.{checked, at_part}
+use Rattle.nf_curve_lists.specs.Values.{checked_cut}
+use Rattle.nf_load_lists.specs.Loading.{outflow_points}
+use Rattle.nf_curve.proofs.Exits.{was_ok, stops_on}
+use Rattle.nf_load.specs.InSteps.{until_transit}
+use Rattle.nf_load.proofs.LoadedCurves.{end_after_0}
+use Rattle.nf_load.proofs.LoadingSteps.{end_stops, whole_stops, whole_goes}
+use Rattle.nf_load.proofs.loading.curves_until.Goals as goal
+
+pub returns-in_err-end : goal.returns-in_err-end
+returns-in_err-end c =
+    let p = err_from_is_err_and c.from_residual.result c.from_residual.ensures.1 in
+    rw (p.1, p.2) (end_stops passes_Q Load c.args.transit c.args.waits.now c.args.all.now c.args.until c.in_err-end.field-0.0 (sym c.in_err-end.ensures))
+
+pub outflow_until-requires-clause-curve : goal.outflow_until-requires-clause-curve
+outflow_until-requires-clause-curve c = c.requires.curves.outflow
+
+pub outflow_until-requires-clause-end : goal.outflow_until-requires-clause-end
+outflow_until-requires-clause-end c = end_after_0 passes_Q c.args.until c.args.transit c.in_ok-end.end c.requires.until c.requires.transit
+    (was_ok Load (checked passes_Q Sum c.args.until c.args.transit) c.in_ok-end.end (sym c.in_ok-end.ensures))
+
+pub returns-in_err-whole_outflow : goal.returns-in_err-whole_outflow
+returns-in_err-whole_outflow c =
+    let p = err_from_is_err_and c.from_residual-in_err-whole_outflow.result c.from_residual-in_err-whole_outflow.ensures.1 in
+    rw (p.1, p.2) (stops_on c.in_err-whole_outflow.field-0.0 (at_part Load (checked_cut passes_Q (outflow_points c.args.all.now) c.in_ok-end.end))
+    (at_part Load (until_transit passes_Q c.args.transit c.args.waits.now c.args.all.now c.args.until))
+    (whole_stops passes_Q Load c.args.transit c.args.waits.now c.args.all.now c.args.until c.in_ok-end.end (sym c.in_ok-end.ensures)) c.in_err-whole_outflow.ensures)
+
+pub short_curves-requires : goal.short_curves-requires
+short_curves-requires c = c.requires.curves
+
+pub returns : goal.returns
+returns c =
+    let e = whole_goes passes_Q Load c.args.transit c.args.waits.now c.args.all.now c.args.until c.in_ok-end.end (sym c.in_ok-end.ensures) c.in_ok-whole_outflow.whole_outflow.points c.in_ok-whole_outflow.ensures in
+    rw e c.short_curves.ensures

@@ -1,0 +1,43 @@
+use Rattle.std.specs.Prelude.{map}
+use Rattle.std.proofs.lemmas.Result.{err_from_is_err_and}
+use Rattle.nf_work.specs.declared.Part.TheVariants.{Load}
+use Rattle.nf_work.specs.Passing.{passes_Q}
+use Rattle.nf_work.specs.Checked.{at_part}
+use Rattle.nf_curve_lists.specs.Short.{checked_short}
+use Rattle.nf_load_lists.specs.Loading.{queue_point, exit_point}
+use Rattle.nf_curve.proofs.Exits.{stops_on}
+use Rattle.nf_load.specs.InSteps.{in_short_form}
+use Rattle.nf_load.proofs.LoadingSteps.{queue_stops, outflow_stops, exit_stops, comes_to}
+use Rattle.nf_load.proofs.loading.short_curves.Goals as goal
+
+pub queue_curve-requires : goal.queue_curve-requires
+queue_curve-requires c = c.requires.queue
+
+pub exit_curve-requires : goal.exit_curve-requires
+exit_curve-requires c = c.requires.exit
+
+pub returns-in_err-queue : goal.returns-in_err-queue
+returns-in_err-queue c =
+    let p = err_from_is_err_and c.from_residual.result c.from_residual.ensures.1 in
+    rw (p.1, p.2) (stops_on c.in_err-queue.field-0.0 (at_part Load (checked_short passes_Q (map queue_point c.args.waits.now)))
+    (at_part Load (in_short_form passes_Q c.args.waits.now c.args.all.now c.args.whole_outflow.now.points))
+    (queue_stops passes_Q Load c.args.waits.now c.args.all.now c.args.whole_outflow.now.points) c.in_err-queue.ensures)
+
+pub returns-in_err-outflow : goal.returns-in_err-outflow
+returns-in_err-outflow c =
+    let p = err_from_is_err_and c.from_residual-in_err-outflow.result c.from_residual-in_err-outflow.ensures.1 in
+    rw (p.1, p.2) (stops_on c.in_err-outflow.field-0.0 (at_part Load (checked_short passes_Q c.args.whole_outflow.now.points))
+    (at_part Load (in_short_form passes_Q c.args.waits.now c.args.all.now c.args.whole_outflow.now.points))
+    (outflow_stops passes_Q Load c.args.waits.now c.args.all.now c.args.whole_outflow.now.points c.in_ok-queue.queue.points c.in_ok-queue.ensures) c.in_err-outflow.ensures.list)
+
+pub returns-in_err-exit : goal.returns-in_err-exit
+returns-in_err-exit c =
+    let p = err_from_is_err_and c.from_residual-in_err-exit.result c.from_residual-in_err-exit.ensures.1 in
+    rw (p.1, p.2) (stops_on c.in_err-exit.field-0.0 (at_part Load (checked_short passes_Q (map exit_point c.args.all.now)))
+    (at_part Load (in_short_form passes_Q c.args.waits.now c.args.all.now c.args.whole_outflow.now.points))
+    (exit_stops passes_Q Load c.args.waits.now c.args.all.now c.args.whole_outflow.now.points c.in_ok-queue.queue.points c.in_ok-queue.ensures
+    c.in_ok-outflow.outflow.points c.in_ok-outflow.ensures.list) c.in_err-exit.ensures)
+
+pub returns : goal.returns
+returns c = comes_to passes_Q Load c.args.waits.now c.args.all.now c.args.whole_outflow.now.points c.in_ok-queue.queue.points c.in_ok-queue.ensures
+    c.in_ok-outflow.outflow.points c.in_ok-outflow.ensures.list c.in_ok-exit.exit.points c.in_ok-exit.ensures
