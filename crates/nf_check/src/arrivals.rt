@@ -139,7 +139,8 @@ fn check_arrival(
     ensures tries { Tries (λ _. tt) result (arrivals passes_Q net.now.net (flow_of flow.now) (labels_in worked.now) (loaded_in worked.now) node) }
     ensures kept { OnOk result (AreKept net.now.net worked.now flow.now.reached exits.new) }
 {
-    match least_exits(alloc, net, worked, flow.reached, node, exits)? {
+    let least = least_exits(alloc, net, worked, flow.reached, node, exits)?;
+    match &least {
         None => Ok(()),
         Some(least) => {
             let label = curve_at(&worked.labels, node.index());
@@ -147,7 +148,7 @@ fn check_arrival(
                 CheckRule::C3,
                 Subject::Node(node),
                 label,
-                &least,
+                least,
                 flow.reached,
             )
         }
