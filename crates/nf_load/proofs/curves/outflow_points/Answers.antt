@@ -1,8 +1,10 @@
-use Rattle.std.proofs.Common.{◌++◌, List, [], ◌∷◌, sym, ◌∙◌, ap}
+use Rattle.std.proofs.Common.{◌++◌, List, [], ◌∷◌, sym, ◌∙◌, ap, append-nil}
+use Rattle.std.proofs.lemmas.List.{at_drop_all}
+use Rattle.std.proofs.lemmas.Result.{IfOk-from_err}
 use Rattle.nf_rational.specs.Rational.{ℚ}
 use Rattle.nf_model.specs.Curve.{Point}
 use Rattle.nf_lists.specs.Signs.{is_same}
-use Rattle.nf_load_lists.specs.Loading.{Leaves}
+use Rattle.nf_load_lists.specs.Loading.{Leaves, outflow_from}
 use Rattle.nf_load.specs.declared.waits.Leaves.TheInside.{Inside}
 use Rattle.nf_load.proofs.ExitsInTurn.{same_exit, later_exit}
 use Rattle.nf_load.proofs.curves.outflow_points.Goals as goal
@@ -22,3 +24,14 @@ loop-one-preserved c =
           (ap (λ v. v.items) w.points-is) w.last-is
           (sym (ap (λ (i : Inside). is_same last i.exit) c.one-inside.view_is ∙ ap (λ (l : Leaves). is_same last l.exit) c.one.view_is) ∙ sym c.is_same.ensures ∙ w.if-not-is_same.false)
     ]
+
+pub returns-in_err-push : goal.returns-in_err-push
+returns-in_err-push c = IfOk-from_err c.from_residual.result _ c.from_residual.ensures.0
+
+pub returns-in_err-push-2 : goal.returns-in_err-push-2
+returns-in_err-push-2 c = IfOk-from_err c.from_residual-in_err-push-2.result _ c.from_residual-in_err-push-2.ensures.0
+
+pub returns : goal.returns
+returns c =
+    let front : List Point = c.loop-one.points.items in
+    sym (append-nil front) ∙ sym (at_drop_all (λ (l : List Leaves). front ++ outflow_from c.loop-one.last l) c.args.all.now c.loop-one.one-index c.loop-one-test.false) ∙ c.loop-one.invariant
