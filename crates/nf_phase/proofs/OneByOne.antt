@@ -23,6 +23,7 @@ use Rattle.nf_curve.specs.declared.flow.Flow as code
 use Rattle.nf_curve.proofs.Exits.{after_err, after_ok, each_goes, each_stops, each_ends, err_before, ok_before}
 use Rattle.nf_trial.proofs.Folds.{drop_at}
 use Rattle.nf_pattern.proofs.Each.{take_pushed}
+use Rattle.nf_phase.specs.Growing.{Roomy, all_grown}
 use Rattle.nf_phase.specs.Restarting.{of_link, of_links}
 
 -- ---- one value after the other
@@ -160,3 +161,10 @@ pub mapped_pushed : {A B : Type 0} (f : A → B) (xs : List A) (ys pushed : List
 mapped_pushed {A = A} {B = B} f xs ys pushed i x y at is e more =
     more ∙ ap (λ (l : List B). l ++ y ∷ []) is ∙ ap (λ (z : B). map f (take i xs) ++ z ∷ []) e ∙ sym (map-append f (take i xs) (x ∷ []))
     ∙ ap (map f) (take_pushed xs (take i xs) (take i xs ++ x ∷ []) i x at refl refl)
+
+-- of one that grows
+pub grown_pushed : {A B : Type 0} (f : A → B) (xs : List (Roomy A)) (ys pushed : List B) (i : ℕ) (x : Roomy A) (y : B) → slice_get xs i ≡ Some x → ys ≡ map f (all_grown (take i xs)) → y ≡ f x.grown → pushed ≡ ys ++ y ∷ []
+    → pushed ≡ map f (all_grown (take (i + 1) xs))
+grown_pushed {A = A} {B = B} f xs ys pushed i x y at is e more =
+    more ∙ ap (λ (l : List B). l ++ y ∷ []) is ∙ ap (λ (z : B). map f (all_grown (take i xs)) ++ z ∷ []) e ∙ sym (map-append f (all_grown (take i xs)) (x.grown ∷ []))
+    ∙ ap (map f) (mapped_pushed (λ (r : Roomy A). r.grown) xs (all_grown (take i xs)) (all_grown (take i xs) ++ x.grown ∷ []) i x x.grown at refl refl refl)

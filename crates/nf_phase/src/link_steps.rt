@@ -128,7 +128,6 @@ fn queue_step(link: &LinkPhase, rate: Option<Q>) -> Result<Option<QueueStep>, Pa
 }
 
 // How a link goes on in a phase of this length, into which so much had entered at its beginning.
-#[tactic(auto, using(crate::proofs::Signs::positive_apart))]
 fn link_step(length: Q, so_far: Q, link: &LinkPhase) -> Result<LinkStep, PassedAt<Q>>
     ensures { result ≡ at_part Curve (link_step_by passes_Q length so_far link.now) }
 {
