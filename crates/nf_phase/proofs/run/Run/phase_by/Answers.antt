@@ -75,6 +75,9 @@ returns-clause-leads c =
     c.args.found.sets c.deref-6.result.now c.deref-7.result.now c.deref-8.result.now c.deref-9.result.now (all_grown c.deref-5.result.now) refl c.deref-6.ensures.value c.deref-7.ensures.value c.deref-8.ensures.value
     (c.deref-9.ensures.value ∙ c.in_ok-amounts.ensures) (ap all_grown c.deref-5.ensures.value ∙ ap (λ (s : Standing). s.link_curves) c.self.view_is) c.requires.below c.in_ok-extension.ensures.length _ refl refl refl c.in_ok-steps.ensures
 
+pub returns-clause-cause : goal.returns-clause-cause
+returns-clause-cause c = tt
+
 pub returns-clause-slopes : goal.returns-clause-slopes
 returns-clause-slopes c = refl
 
