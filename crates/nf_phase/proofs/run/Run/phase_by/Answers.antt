@@ -2,11 +2,13 @@ use Rattle.std.proofs.Common.{List, length, Ok, refl, sym, ap, ◌∙◌}
 use Rattle.std.proofs.lemmas.Result.{IfOk-from_err}
 use Rattle.nf_rational.specs.Rational.{ℚ}
 use Rattle.nf_work.specs.Passing.{passes_Q}
+use Rattle.nf_model.specs.ThinFlow.{Sets}
 use Rattle.nf_lists.specs.Advance.{Advanced}
 use Rattle.nf_lists.specs.PhaseRun.{Standing}
 use Rattle.nf_phase.specs.Growing.{all_grown}
 use Rattle.nf_phase.specs.declared.fault.StepFault.{StepFault}
 use Rattle.nf_phase.proofs.Found.{by_fault}
+use Rattle.nf_phase.proofs.Reached.{active_count}
 use Rattle.nf_phase.proofs.PhaseFound.{slack_count, thin_slope_count, thin_flow_count, pattern_count, counts_agree, amounts_count, extension_stops, advance_stops, end_count, curve_stops, leads_on}
 use Rattle.nf_phase.proofs.run.Run.phase_by.Goals as goal
 
@@ -34,6 +36,9 @@ returns-in_err-end-clause-cause c =
 
 pub returns-in_err-amounts-clause-cause : goal.returns-in_err-amounts-clause-cause
 returns-in_err-amounts-clause-cause c = by_fault c.from_residual-in_err-amounts.result StepFault.Memory _ c.from_residual-in_err-amounts.ensures.1 tt
+
+pub link_steps-requires-clause-active : goal.link_steps-requires-clause-active
+link_steps-requires-clause-active c = ap (λ (s : Sets). length s.active) c.requires.found.sets ∙ active_count c.args.net.now.net c.args.self.now.labels
 
 pub link_steps-requires-clause-flows : goal.link_steps-requires-clause-flows
 link_steps-requires-clause-flows c = thin_flow_count passes_Q c.args.net.now.net c.args.patterns c.args.self.now c.args.found c.requires.found c.deref-6.result.now c.deref-6.ensures.value
