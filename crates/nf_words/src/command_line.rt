@@ -1,13 +1,18 @@
 // The words of the command line as clap reads them.
-ghost use Rattle.std.specs.Prelude.{◌≡◌, IfOk, option_map};
+ghost use Rattle.std.specs.Prelude.{◌≡◌, IfOk, map, option_map};
 ghost use Rattle.clap.specs.Simple.{with_rule};
 ghost use Rattle.nf_edge.specs.Names.{texts};
-ghost use Rattle.nf_words.specs.CommandLine.{bare, nfot, command_rule, files_rule, flag_rule, option_rule, run_options, other_options, with_options, matches_on};
+ghost use Rattle.nf_words.specs.CommandLine.{bare, nfot, command_rule, files_rule, flag_rule, with_options, matches_on};
 ghost use Rattle.nf_words.specs.Views.{app_in, rows_in};
 
 use clap::error::ErrorKind;
 use clap::{Arg, ArgAction, ArgMatches, Command};
 use std::alloc::{AllocError, Global};
+
+// The options of one value: those of a run, of a quickest flow, and of a ladder.
+static OPTIONS: [&str; 7] = [
+    "horizon", "phases", "patterns", "amount", "augments", "number", "rungs",
+];
 
 // The command with its positional COMMAND, which is required.
 fn start_command<'w>(alloc: Global) -> Result<Command<'w>, AllocError>
@@ -19,16 +24,19 @@ fn start_command<'w>(alloc: Global) -> Result<Command<'w>, AllocError>
         .arg(command)
 }
 
-// The command with one more option of one value, `--name`.
-fn with_option<'w>(
+// The command with more options of one value, each `--name`.
+fn with_options<'w>(
     alloc: Global,
-    command: Command<'w>,
-    name: &'static str,
+    mut command: Command<'w>,
+    names: &[&'static str],
 ) -> Result<Command<'w>, AllocError>
-    ensures { IfOk result (λ more. app_in more ≡ with_rule (app_in command.entry) (option_rule name.now)) }
+    ensures { IfOk result (λ more. app_in more ≡ with_options (map (λ name. name.now) names.now) (app_in command.entry)) }
 {
-    let option = Arg::new(alloc, name).long(name);
-    command.arg(option)
+    for name in names {
+        let option = Arg::new(alloc, name).long(name);
+        command = command.arg(option)?;
+    }
+    Ok(command)
 }
 
 // The command with one more flag without a value, `--name`.
@@ -51,32 +59,12 @@ fn with_files<'w>(alloc: Global, command: Command<'w>) -> Result<Command<'w>, Al
     command.arg(files)
 }
 
-// The command with the options of a run.
-fn with_run_options<'w>(alloc: Global, command: Command<'w>) -> Result<Command<'w>, AllocError>
-    ensures { IfOk result (λ more. app_in more ≡ with_options run_options (app_in command.entry)) }
-{
-    let command = with_option(alloc, command, "horizon")?;
-    let command = with_option(alloc, command, "phases")?;
-    with_option(alloc, command, "patterns")
-}
-
-// The command with the options of a quickest flow and of a ladder.
-fn with_other_options<'w>(alloc: Global, command: Command<'w>) -> Result<Command<'w>, AllocError>
-    ensures { IfOk result (λ more. app_in more ≡ with_options other_options (app_in command.entry)) }
-{
-    let command = with_option(alloc, command, "amount")?;
-    let command = with_option(alloc, command, "augments")?;
-    let command = with_option(alloc, command, "number")?;
-    with_option(alloc, command, "rungs")
-}
-
 // The command `nfot`, with its arguments.
 fn command_line<'w>(alloc: Global) -> Result<Command<'w>, AllocError>
     ensures { IfOk result (λ command. app_in command ≡ nfot) }
 {
     let command = start_command(alloc)?;
-    let command = with_run_options(alloc, command)?;
-    let command = with_other_options(alloc, command)?;
+    let command = with_options(alloc, command, OPTIONS.as_slice())?;
     let command = with_flag(alloc, command, "forever")?;
     with_files(alloc, command)
 }
