@@ -1,5 +1,5 @@
 -- The lines of a report behind its head.
-use Rattle.std.proofs.Common.{◌≡◌, ℕ, suc, ◌≤◌, Bool, true, false, not, ◌||◌, cond, nat_lt, List, [], ◌∷◌, drop, Option, Some, None, Result, Ok, Err, refl, ap, ◌∙◌}
+use Rattle.std.proofs.Common.{◌≡◌, ◌≢◌, ℕ, suc, ◌<◌, ◌≤◌, Bool, true, false, not, ◌||◌, cond, nat_lt, List, [], ◌∷◌, length, drop, Option, Some, None, Result, Ok, Err, refl, sym, ap, ◌∙◌, arith}
 use Rattle.std.specs.Prelude.{is_none, is_some, if◌then◌else◌, set}
 use Rattle.std.proofs.lemmas.Bool.{le-ltb}
 use Rattle.nf_model.specs.declared.State.{State}
@@ -8,10 +8,70 @@ use Rattle.nf_rational.specs.Rational.{ℚ}
 use Rattle.nf_work.specs.Checked.{◌>>=◌}
 use Rattle.nf_formats.specs.Named.{Named}
 use Rattle.nf_readings.specs.declared.ReportRule.{ReportRule}
-use Rattle.nf_readings.specs.declared.ReportRule.TheVariants.{P7, P8, P9, P11, P12, P13}
+use Rattle.nf_readings.specs.declared.ReportRule.TheVariants.{P5, P6, P7, P8, P9, P11, P12, P13}
 use Rattle.nf_readings.specs.ReportCauses.{or_rule, printed_number}
-use Rattle.nf_readings.specs.ReportLines.{Kind, ReportDraft, Opened, key_word, opened, comes_after, rate_word, with_rate, with_point, are_alike, begins_with, trace_line, has_all, with_current, state_in, state_of_link, state_line, capacity_at}
-use Rattle.nf_reader.specs.Lines.{IsLinkNamed, state_read}
+use Rattle.nf_readings.specs.ReportLines.{Kind, LineKind, ReportDraft, Opened, key_word, opened, comes_after, rate_word, with_rate, with_point, are_alike, begins_with, point_line, trace_line, line_kind, line_of_kind, body_line, has_all, with_current, state_in, state_of_link, state_line, capacity_at}
+use Rattle.nf_cursor.specs.Within.{word_at}
+use Rattle.nf_reader.specs.declared.body.LineKind as code
+use Rattle.nf_reader.specs.Lines.{IsLinkNamed, seen_line_kind, state_read}
+use Rattle.nf_reader.proofs.WordCounts.{first_word}
+
+-- ---- a line by its first word
+module _ (n : Named) (draft : ReportDraft) (next : Option (List (List ℕ))) (words : List (List ℕ)) (some : 0 < length words)
+    (version : ℕ) (ev : version ≡ n.version) (word : List ℕ) (ew : word ≡ word_at words 0) where
+  by_kind : (kind : Option LineKind) → kind ≡ line_kind version word → body_line n draft next words ≡ (or_rule P5 kind >>= λ kind. line_of_kind n draft next (drop 1 words) kind)
+  by_kind kind e =
+      ap (body_line n draft next) (first_word words some)
+      ∙ ap (λ (k : Option LineKind). or_rule P5 k >>= λ kind. line_of_kind n draft next (drop 1 words) kind) (sym (e ∙ (λ i. line_kind (ev i) (ew i))))
+
+  pub of_kind : (kind this : code.LineKind) → Some (seen_line_kind kind) ≡ line_kind version word → kind ≡ this → body_line n draft next words ≡ line_of_kind n draft next (drop 1 words) (seen_line_kind this)
+  of_kind kind this e is = by_kind (Some (seen_line_kind this)) (sym (ap (λ (k : code.LineKind). Some (seen_line_kind k)) is) ∙ e)
+
+  pub of_none : None ≡ line_kind version word → body_line n draft next words ≡ Err P5
+  of_none e = by_kind None e
+
+-- ---- the lines of points
+pub point_count : (draft : ReportDraft) (kind : Kind) (words : List (List ℕ)) → 0 < length words → length words ≢ 4 → point_line kind draft (drop 1 words) ≡ Err P6
+point_count draft kind [] lt ne = absurd (omega arith)
+point_count draft kind (key ∷ []) lt ne = refl
+point_count draft kind (key ∷ a ∷ []) lt ne = refl
+point_count draft kind (key ∷ a ∷ b ∷ []) lt ne = refl
+point_count draft kind (key ∷ a ∷ b ∷ c ∷ []) lt ne = absurd (ne refl)
+point_count draft kind (key ∷ a ∷ b ∷ c ∷ d ∷ words) lt ne = refl
+
+pub trace_count : (draft : ReportDraft) (kind : Kind) (next : Option (List (List ℕ))) (words : List (List ℕ)) → 0 < length words → length words ≢ 5 → trace_line kind draft next (drop 1 words) ≡ Err P6
+trace_count draft kind next [] lt ne = absurd (omega arith)
+trace_count draft kind next (key ∷ []) lt ne = refl
+trace_count draft kind next (key ∷ a ∷ []) lt ne = refl
+trace_count draft kind next (key ∷ a ∷ b ∷ []) lt ne = refl
+trace_count draft kind next (key ∷ a ∷ b ∷ c ∷ []) lt ne = refl
+trace_count draft kind next (key ∷ a ∷ b ∷ c ∷ d ∷ []) lt ne = absurd (ne refl)
+trace_count draft kind next (key ∷ a ∷ b ∷ c ∷ d ∷ e ∷ words) lt ne = refl
+
+module _ (draft : ReportDraft) (kind : Kind) (words : List (List ℕ)) (name time value : List ℕ) where
+  abbrev by_parts : Result Opened ReportRule → Result ℚ ReportRule → Result ℚ ReportRule → Result ReportDraft ReportRule
+  by_parts o t y = o >>= λ o. (t >>= λ t. y >>= λ y. Ok (t, y)) >>= λ p. if comes_after (last_or None o.curve.points) p.0 then Ok (with_point draft o p o.curve.rates) else Err P11
+
+  module _ (is : drop 1 words ≡ name ∷ time ∷ value ∷ []) (o : Result Opened ReportRule) (eo : opened draft kind name draft.current ≡ o) where
+    pub point_by : (t y : Result ℚ ReportRule) → or_rule P8 (printed_number time) ≡ t → or_rule P8 (printed_number value) ≡ y → point_line kind draft (drop 1 words) ≡ by_parts o t y
+    point_by t y et ey = ap (point_line kind draft) is ∙ (λ i. by_parts (eo i) (et i) (ey i))
+
+  pub point_out : (is : drop 1 words ≡ name ∷ time ∷ value ∷ []) (o : Opened) → opened draft kind name draft.current ≡ Ok o
+      → (t y : ℚ) → or_rule P8 (printed_number time) ≡ Ok t → or_rule P8 (printed_number value) ≡ Ok y → (b : Bool) → comes_after (last_or None o.curve.points) t ≡ b
+      → point_line kind draft (drop 1 words) ≡ (if b then Ok (with_point draft o (t, y) o.curve.rates) else Err P11)
+  point_out is o eo t y et ey b e =
+      point_by is (Ok o) eo (Ok t) (Ok y) et ey ∙ ap (λ (b : Bool). if b then Ok (with_point draft o (t, y) o.curve.rates) else Err P11) e
+
+  module _ (next : Option (List (List ℕ))) (rate : List ℕ) (is : drop 1 words ≡ name ∷ time ∷ value ∷ rate ∷ []) where
+    abbrev by_rated : Result Opened ReportRule → Result ℚ ReportRule → Result ℚ ReportRule → Result ReportDraft ReportRule
+    by_rated o t y = o >>= λ o. (t >>= λ t. y >>= λ y. Ok (t, y)) >>= λ p. rate_word rate >>= λ r.
+        cond (not (comes_after (last_or None o.curve.points) p.0)) (Err P11)
+        (cond (are_alike (is_none r) (begins_with (key_word kind) name next)) (Err P12)
+        (Ok (with_point draft o p (with_rate o.curve.rates r))))
+
+    pub rated_by : (o : Result Opened ReportRule) → opened draft kind name draft.current ≡ o → (t y : Result ℚ ReportRule) → or_rule P8 (printed_number time) ≡ t → or_rule P8 (printed_number value) ≡ y
+        → trace_line kind draft next (drop 1 words) ≡ by_rated o t y
+    rated_by o eo t y et ey = ap (trace_line kind draft next) is ∙ (λ i. by_rated (eo i) (et i) (ey i))
 
 module _ (draft : ReportDraft) (kind : Kind) (next : Option (List (List ℕ))) (words : List (List ℕ)) (name time value rate : List ℕ) (is : drop 1 words ≡ name ∷ time ∷ value ∷ rate ∷ [])
     (o : Opened) (eo : opened draft kind name draft.current ≡ Ok o) (t y : ℚ) (et : or_rule P8 (printed_number time) ≡ Ok t) (ey : or_rule P8 (printed_number value) ≡ Ok y) where

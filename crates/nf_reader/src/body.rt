@@ -18,7 +18,7 @@ use nf_net::{LinkId, Network};
 use nf_readings::ReportRule;
 
 /// What a line behind the head tells of.
-#[derive(Clone, Copy, Debug)]
+#[derive(Clone, Copy)]
 pub enum LineKind {
     Label,
     Inflow,

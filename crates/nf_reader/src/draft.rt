@@ -18,7 +18,7 @@ use nf_pattern::Pattern;
 use std::alloc::{AllocError, Global};
 
 /// The line that comes next: one of the head, one behind it, or one behind `end`.
-#[derive(Clone, Copy, Debug)]
+#[derive(Clone, Copy)]
 pub enum Stage {
     Version,
     Horizon,
@@ -64,17 +64,16 @@ fn begun(alloc: Global, point: &RatedPoint) -> Result<Trace, AllocError>
     Ok(Trace { curve, rates })
 }
 
-// A curve with one more point behind the others.
-fn with_point(mut trace: Trace, point: &RatedPoint) -> Result<Trace, AllocError>
-    requires { comes_after (last_or None trace.curve.points) point.now.time ≡ true }
-    ensures points { IfOk result (λ next. next.curve.points ≡ trace.curve.points ++ (point.now.time, point.now.value) ∷ []) }
-    ensures rates { IfOk result (λ next. next.rates.items ≡ with_rate trace.rates.items point.now.rate) }
+// A point goes behind the others of a curve.
+fn put_behind(trace: &mut Trace, point: &RatedPoint) -> Result<(), AllocError>
+    requires { comes_after (last_or None trace.old.curve.points) point.now.time ≡ true }
+    ensures points { OnOk result (trace.new.curve.points ≡ trace.old.curve.points ++ (point.now.time, point.now.value) ∷ []) }
+    ensures rates { OnOk result (trace.new.rates.items ≡ with_rate trace.old.rates.items point.now.rate) }
 {
     // For the proof: a curve has a point.
     let _ = trace.curve.len();
     push_rate(&mut trace.rates, point.rate)?;
-    trace.curve.push(point.time, point.value)?;
-    Ok(trace)
+    trace.curve.push(point.time, point.value)
 }
 
 impl Draft {
@@ -157,10 +156,10 @@ impl Draft {
         ensures count { OnOk result (begun_count self.new ≡ begun_count self.old) }
         ensures states { self.new.states ≡ self.old.states }
     {
-        if let Some(trace) = self.current.take() {
-            self.current = Some(with_point(trace, point)?);
+        match &mut self.current {
+            Some(trace) => put_behind(trace, point),
+            None => Ok(()),
         }
-        Ok(())
     }
 
     // A point of the curve that is being read, or of the next one.

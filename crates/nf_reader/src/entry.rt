@@ -5,7 +5,7 @@ use nf_model::State;
 use nf_net::LinkId;
 
 /// Which curve a line adds to: the one that is being read, or the next.
-#[derive(Clone, Copy, Debug)]
+#[derive(Clone, Copy)]
 pub enum Opening {
     GoesOn,
     Begins,

@@ -8,7 +8,7 @@ use nf_cursor::is_word;
 use nf_net::{LinkId, Network, NodeId};
 
 /// What a curve tells of; `Never` stands for an idle node, which has none.
-#[derive(Clone, Copy, Debug)]
+#[derive(Clone, Copy)]
 pub enum Kind {
     Label,
     Never,
