@@ -107,6 +107,17 @@ goes_wrong : {A B C : Type 0} (read : Result A ReportRule) (f : A → Result B R
 goes_wrong (Ok x) f g rule e = ap (λ r. r >>= g) e
 goes_wrong (Err other) f g rule e = let same : other ≡ rule = cc in ap (λ (r : ReportRule). Err r) same
 
+goes_on : {A B C : Type 0} (read : Result A ReportRule) (f : A → Result B ReportRule) (g : B → Result C ReportRule) (x : B) → (read >>= f) ≡ Ok x → (read >>= λ x. f x >>= g) ≡ g x
+goes_on (Ok y) f g x e = ap (λ r. r >>= g) e
+goes_on (Err other) f g x e = absurd (cc)
+
+pub state_count : (n : Named) (draft : ReportDraft) (words : List (List ℕ)) → 0 < length words → length words ≢ 3 → state_line n draft (drop 1 words) ≡ Err P6
+state_count n draft [] lt ne = absurd (omega arith)
+state_count n draft (key ∷ []) lt ne = refl
+state_count n draft (key ∷ a ∷ []) lt ne = refl
+state_count n draft (key ∷ a ∷ b ∷ []) lt ne = absurd (ne refl)
+state_count n draft (key ∷ a ∷ b ∷ c ∷ words) lt ne = refl
+
 module _ (n : Named) (draft : ReportDraft) (words : List (List ℕ)) (name word : List ℕ) (is : drop 1 words ≡ name ∷ word ∷ []) (link : ℕ) (named : IsLinkNamed n.link_names name link) (late : draft.next_state ≤ link) where
   abbrev put : ℕ → State → Result ReportDraft ReportRule
   put e state = if has_all draft.keys
@@ -122,3 +133,12 @@ module _ (n : Named) (draft : ReportDraft) (words : List (List ℕ)) (name word 
       ∙ (λ i. by_link (named.there i) (named.place i) (nat_lt (named.place i) draft.next_state))
       ∙ ap (by_link true link) (le-ltb link draft.next_state late)
       ∙ goes_wrong (or_rule P9 (state_in word)) (state_of_link (capacity_at n.net.links link)) (put link) rule e
+
+  pub state_out : (state : State) (b : Bool) → state_read (capacity_at n.net.links link) word ≡ Ok state → has_all draft.keys ≡ b
+      → state_line n draft (drop 1 words) ≡ (if b then Ok (record draft { done = with_current draft.done draft.current; current = None; next_state = suc link; states = set draft.states link (Some state) }) else Err P13)
+  state_out state b e eb =
+      ap (state_line n draft) is
+      ∙ (λ i. by_link (named.there i) (named.place i) (nat_lt (named.place i) draft.next_state))
+      ∙ ap (by_link true link) (le-ltb link draft.next_state late)
+      ∙ goes_on (or_rule P9 (state_in word)) (state_of_link (capacity_at n.net.links link)) (put link) state e
+      ∙ ap (λ (b : Bool). if b then Ok (record draft { done = with_current draft.done draft.current; current = None; next_state = suc link; states = set draft.states link (Some state) }) else Err P13) eb
