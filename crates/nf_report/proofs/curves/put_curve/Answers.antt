@@ -1,8 +1,9 @@
-use Rattle.std.proofs.Common.{[], ◌∷◌, ◌+◌, take, drop, suc}
+use Rattle.std.proofs.Common.{◌≤◌, [], ◌∷◌, ◌+◌, length, take, drop, suc, ap, arith}
+use Rattle.std.proofs.lemmas.List.{take_all}
 use Rattle.nf_formats.specs.Report.{point_lines}
 use Rattle.nf_report.specs.Written.{point_line}
 use Rattle.nf_report.proofs.Parts.{point_lines_next, point_lines_left}
-use Rattle.nf_report.proofs.Gathering.{gathered_nil, gathered_next, gathered_then_failed}
+use Rattle.nf_report.proofs.Gathering.{gathered_nil, gathered_next, gathered_then_failed, same_gathered}
 use Rattle.nf_report.proofs.curves.put_curve.Goals as goal
 
 pub loop-index-init : goal.loop-index-init
@@ -21,3 +22,10 @@ returns-in_err-put_point g c =
     (point_lines c.args.key.now c.args.name.now (drop (suc c.loop-index.index) c.args.curve.now.points)) (point_lines c.args.key.now c.args.name.now c.args.curve.now.points) _
     (point_lines_left c.args.key.now c.args.name.now c.args.curve.now.points c.loop-index.index c.point.result c.point.ensures)
     c.from_residual.ensures.0 c.loop-index.invariant c.in_err-put_point.ensures
+
+pub returns : goal.returns
+returns g c =
+    let points = c.args.curve.now.points in
+    let all : length points ≤ c.loop-index.index = omega arith in
+    same_gathered (point_lines c.args.key.now c.args.name.now (take c.loop-index.index points)) (point_lines c.args.key.now c.args.name.now points)
+    (ap (point_lines c.args.key.now c.args.name.now) (take_all c.loop-index.index points all)) c.loop-index.invariant

@@ -1,9 +1,11 @@
-use Rattle.std.proofs.Common.{◌≡◌, ◌+◌, [], ◌∷◌, take, drop, suc, ap, ◌∙◌}
+use Rattle.std.proofs.Common.{◌≡◌, ◌≤◌, ◌+◌, List, [], ◌∷◌, length, take, drop, suc, ap, ◌∙◌, arith}
+use Rattle.std.proofs.lemmas.List.{take_all}
 use Rattle.std.specs.Prelude.{slice_get}
+use Rattle.nf_model.specs.Curve.{Point}
 use Rattle.nf_formats.specs.Report.{trace_lines}
 use Rattle.nf_report.specs.Written.{trace_line}
 use Rattle.nf_report.proofs.Parts.{trace_lines_next, trace_lines_left}
-use Rattle.nf_report.proofs.Gathering.{gathered_nil, gathered_next, gathered_then_failed}
+use Rattle.nf_report.proofs.Gathering.{gathered_nil, gathered_next, gathered_then_failed, same_gathered}
 use Rattle.nf_report.proofs.curves.put_trace.Goals as goal
 
 pub loop-index-init : goal.loop-index-init
@@ -30,3 +32,11 @@ returns-in_err-put_rated_point g c =
     (trace_lines c.args.key.now c.args.name.now (drop (suc i) points) (drop (suc i) rates)) (trace_lines c.args.key.now c.args.name.now points rates) _
     (trace_lines_left c.args.key.now c.args.name.now points rates i c.point.result c.rate_at.result c.point.ensures rate)
     c.from_residual.ensures.0 c.loop-index.invariant c.in_err-put_rated_point.ensures
+
+pub returns : goal.returns
+returns g c =
+    let rates = c.args.trace.now.rates.items in
+    let points = c.args.trace.now.curve.points in
+    let all : length points ≤ c.loop-index.index = omega arith in
+    same_gathered (trace_lines c.args.key.now c.args.name.now (take c.loop-index.index points) rates) (trace_lines c.args.key.now c.args.name.now points rates)
+    (ap (λ (l : List Point). trace_lines c.args.key.now c.args.name.now l rates) (take_all c.loop-index.index points all)) c.loop-index.invariant
