@@ -1,14 +1,12 @@
 -- What a line changes of the routes so far.
-use Rattle.std.proofs.Common.{◌≡◌, ℕ, ◌+◌, ◌<◌, Bool, false, cond, List, [], ◌∷◌, ◌++◌, length, set, get_or, Option, Some, slice_get, drop, Result, Ok, Err, refl, sym, ap, ◌∙◌}
+use Rattle.std.proofs.Common.{◌≡◌, ℕ, ◌<◌, Bool, false, cond, List, [], ◌∷◌, ◌++◌, length, set, get_or, Option, Some, slice_get, Result, Err, refl, sym, ap, ◌∙◌}
 use Rattle.std.proofs.lemmas.Option.{slice_get_read}
 use Rattle.nf_model.specs.Network.{Piece, Network}
 use Rattle.nf_work.specs.Checked.{◌>>=◌}
-use Rattle.nf_lines.specs.Words.{ReadLine}
 use Rattle.nf_formats.specs.Named.{Named}
-use Rattle.nf_net.proofs.Filling.{at_entry}
 use Rattle.nf_routes_lists.specs.declared.RoutesRule.{RoutesRule}
 use Rattle.nf_routes_lists.specs.declared.RoutesRule.TheVariants.{G4}
-use Rattle.nf_routes_lists.specs.RoutesFile.{NamedRoute, RoutesEntry, RoutesDraft, RouteLine, RateLine, route_names, pieces_of, routes_entry, routes_rule_of, routes_after, RoutesBroken, unless_rule, in_routes_line, add_route_line, add_route_lines, with_piece}
+use Rattle.nf_routes_lists.specs.RoutesFile.{NamedRoute, RoutesEntry, RoutesDraft, RouteLine, RateLine, route_names, pieces_of, routes_entry, routes_rule_of, routes_after, unless_rule, add_route_line, with_piece}
 use Rattle.nf_route_reader.specs.declared.fault.LineFault.{LineFault}
 use Rattle.nf_route_reader.specs.Files.{IfRule}
 use Rattle.nf_route_reader.specs.Drafts.{rule_behind}
@@ -50,11 +48,3 @@ module _ (n : Named) (draft : RoutesDraft) (words : List (List ℕ)) (routes : L
       ∙ ap (λ (r : List NamedRoute). after_entry (routes_entry n.link_names (route_names r) words)) (sym same)
       ∙ ap after_entry e
   entry_breaks LineFault.Memory open_ same e = tt
-
--- ---- a line among others
-module _ (n : Named) (draft next : RoutesDraft) (lines : List ReadLine) (i : ℕ) (line : ReadLine) (lt : i < length lines) (is : line ≡ get_or lines i line) where
-  abbrev after_line : Result RoutesDraft RoutesRule → Result RoutesDraft RoutesBroken
-  after_line r = in_routes_line line.number r >>= λ d. add_route_lines n d (drop (i + 1) lines)
-
-  pub goes_on : add_route_line n draft line.words ≡ Ok next → add_route_lines n draft (drop i lines) ≡ add_route_lines n next (drop (i + 1) lines)
-  goes_on e = ap (add_route_lines n draft) (at_entry lines i line lt is) ∙ ap after_line e
