@@ -39,6 +39,12 @@ row_got [] i d b = absurd (omega arith)
 row_got (x ∷ rows) zero d b = refl
 row_got (x ∷ rows) (suc i) d b = row_got rows i d (omega arith)
 
+pub within_row : (rows : List Row) (i column : ℕ) (d : Row) → IsSquare rows → i < length rows → column < length rows → column < length (get_or rows i d)
+within_row rows i column d square b c =
+    let wide = square i b in
+    let same : length (get_or rows i d) ≡ length (row_at rows i) = ap length (row_got rows i d b) in
+    omega arith
+
 head_is : (x y : Row) (xs ys : List Row) → x ∷ xs ≡ y ∷ ys → x ≡ y
 head_is x y xs ys e = cc
 

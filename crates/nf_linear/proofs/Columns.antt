@@ -28,6 +28,10 @@ at_row : (rows : List Row) (pivots : List ℕ) (c i : ℕ) → i < length rows
     → pivot_from i (drop i rows) pivots c ≡ (if candidate rows pivots c i then Some i else pivot_from (suc i) (drop (suc i) rows) pivots c)
 at_row rows pivots c i b = ap (λ (l : List Row). pivot_from i l pivots c) (drop_row rows i b)
 
+pub candidate_read : (rows : List Row) (pivots : List ℕ) (c i : ℕ) (row : Row) (t : Bool) → row ≡ row_at rows i
+    → t ≡ (not (list_any (λ pivot. pivot == i) pivots) && not (is_zero (number_at row c))) → t ≡ candidate rows pivots c i
+candidate_read rows pivots c i row t e h = h ∙ ap (λ (r : Row). not (list_any (λ pivot. pivot == i) pivots) && not (is_zero (number_at r c))) e
+
 pub pivot_here : (rows : List Row) (pivots : List ℕ) (c i : ℕ) (t : Bool) → i < length rows → t ≡ candidate rows pivots c i → t ≡ true → Some i ≡ pivot_from i (drop i rows) pivots c
 pivot_here rows pivots c i t b e f = sym (at_row rows pivots c i b ∙ rw (sym e ∙ f) refl)
 

@@ -1,5 +1,5 @@
 -- Columns cleared one by one: what is there so far, and the elimination from there on.
-use Rattle.std.proofs.Common.{◌≡◌, ◌≢◌, ℕ, suc, ◌+◌, ◌-◌, ◌<◌, ◌≤◌, List, [], ◌∷◌, ◌++◌, length, refl, sym, ap, subst, ◌∙◌, add-one, arith}
+use Rattle.std.proofs.Common.{◌≡◌, ◌≢◌, ℕ, suc, ◌+◌, ◌-◌, ◌<◌, ◌≤◌, List, [], ◌∷◌, ◌++◌, length, get_or, refl, sym, ap, subst, ◌∙◌, add-one, arith}
 use Rattle.std.specs.Prelude.{Option, Some, None, Ok, Err}
 use Rattle.nf_rational.specs.Rational.{ℚ}
 use Rattle.nf_rational.specs.Operations.{0ℚ}
@@ -15,7 +15,7 @@ use Rattle.nf_linear_laws.specs.Solution.{IsSquare}
 use Rattle.nf_linear_laws.proofs.Pivots.{IsPivot, is_pivot, some_tested}
 use Rattle.nf_linear_laws.proofs.Rows.{rows_after, rows_exact}
 use Rattle.nf_linear_laws.proofs.Elimination.{IsCleared, next_cleared}
-use Rattle.nf_linear.specs.Pivots.{eliminated}
+use Rattle.nf_linear.specs.Pivots.{eliminated, HasPivots}
 use Rattle.nf_linear.proofs.Fronts.{stops}
 use Rattle.nf_linear.proofs.Taken.{ok_of_part}
 use Rattle.nf_plain_laws.proofs.Results.{same_Ok}
@@ -116,3 +116,14 @@ module _ (passes : Passing) (before rows : List Row) (pivots : List ℕ) (column
 
     pub stage_all : at_part Part.Table all ≡ Ok (Some (eliminated rows pivots))
     stage_all = ap (at_part Part.Table) (sym s.same ∙ ap (λ (more : ℕ). eliminate_from passes more column now) ended)
+
+    pub stage_pivots : column ≤ length before → HasPivots rows pivots
+    stage_pivots most =
+        let count = s.cleared.count in
+        let steps = s.cleared.steps in
+        record {
+          square = stage_square;
+          count = omega arith;
+          within = λ d b. subst (λ (n : ℕ). get_or pivots d 0 < n) (sym count) (s.cleared.reduced.within d (omega arith));
+          some = λ d b. s.cleared.reduced.pivot d (omega arith);
+        }

@@ -1,12 +1,14 @@
 -- Lemmas of rows: the test for 0, entries other than 0, and what the entries of a pivot row take off.
-use Rattle.std.proofs.Common.{◌≡◌, ℕ, zero, suc, ◌+◌, ◌<◌, List, [], ◌∷◌, ◌++◌, length, set, drop, get_or, replicate, Bool, true, false, refl, sym, ap, subst, ◌∙◌, add-one, append_assoc, length-set}
+use Rattle.std.proofs.Common.{◌≡◌, ℕ, zero, suc, ◌+◌, ◌<◌, ◌≤◌, List, [], ◌∷◌, ◌++◌, length, set, drop, get_or, replicate, Bool, true, false, refl, sym, ap, subst, ◌∙◌, add-one, append_assoc, length-set}
 use Rattle.std.specs.Prelude.{IsTrue, if◌then◌else◌, Ok, Err}
 use Rattle.std.specs.List.{AllByRecursion}
-use Rattle.std.proofs.lemmas.List.{drop_more}
+use Rattle.std.proofs.Math.ListN.{drop_of_length-le}
+use Rattle.std.proofs.lemmas.List.{drop_more, append-nil}
 use Rattle.nf_rational.specs.Rational.{ℚ}
 use Rattle.nf_rational.specs.Operations.{0ℚ}
 use Rattle.nf_work.specs.Passing.{Passing}
 use Rattle.nf_work.specs.declared.Part.{Part}
+use Rattle.nf_work.specs.declared.PassedAt.{PassedAt}
 use Rattle.nf_work.specs.Checked.{Checked, at_part, fold_checked, ◌>>=◌}
 use Rattle.nf_work.proofs.Each.{fold_ok}
 use Rattle.nf_lists.specs.Table.{less_unless}
@@ -14,6 +16,7 @@ use Rattle.nf_model.specs.Entries.{number_at}
 use Rattle.nf_lists.specs.Signs.{is_zero}
 use Rattle.nf_linear_laws.proofs.Pivots.{zero_tested, is_zero-at}
 use Rattle.nf_linear.specs.Rows.{some_from, entry_less}
+use Rattle.nf_linear.proofs.Fronts.{stopped}
 
 by_cases : (b t : Bool) (x : ℚ) → is_zero x ≡ t → (IsTrue b → x ≡ 0ℚ) → (x ≡ 0ℚ → IsTrue b) → b ≡ t
 by_cases true true x e h k = refl
@@ -51,6 +54,9 @@ some_more items xs i x b e =
     ∙ ap (λ (y : ℚ). some_from i (y ∷ drop (i + 1) xs)) e
     ∙ ap (some_from i) (sym (drop_number xs i b)))
 
+pub all_some : (items : List (ℕ × ℚ)) (xs : List ℚ) (i : ℕ) (all : List (ℕ × ℚ)) → length xs ≤ i → items ++ some_from i (drop i xs) ≡ all → items ≡ all
+all_some items xs i all end e = sym (append-nil items) ∙ ap (λ (l : List ℚ). items ++ some_from i l) (sym (drop_of_length-le xs end)) ∙ e
+
 -- ---- what the entries of a pivot row take off, so far
 pub record TakesOff (passes : Passing) (factor : ℚ) (others : List (ℕ × ℚ)) (before row : List ℚ) (k : ℕ) : Type 0 where
   pub fits : AllByRecursion (λ (other : ℕ × ℚ). other.0 < length row) (drop k others)
@@ -60,11 +66,35 @@ pub ok_of_part : {A : Type 0} (part : Part) (r : Checked A) (x : A) → Ok x ≡
 ok_of_part part (Ok a) x e = let h = e in cc
 ok_of_part part (Err p) x e = absurd (cc)
 
+pub takes_first : (passes : Passing) (factor : ℚ) (others : List (ℕ × ℚ)) (before : List ℚ) → AllByRecursion (λ (other : ℕ × ℚ). other.0 < length before) others → TakesOff passes factor others before before 0
+takes_first passes factor others before fits = record { fits = fits; same = refl }
+
+pub takes_all : (passes : Passing) (factor : ℚ) (others : List (ℕ × ℚ)) (before row : List ℚ) (k : ℕ) → length others ≤ k → TakesOff passes factor others before row k
+    → Ok row ≡ at_part Part.Table (fold_checked (entry_less passes factor) before others)
+takes_all passes factor others before row k end h = ap (λ (l : List (ℕ × ℚ)). at_part Part.Table (fold_checked (entry_less passes factor) row l)) (sym (drop_of_length-le others end)) ∙ h.same
+
+next_other : (others : List (ℕ × ℚ)) (k : ℕ) (e : ℕ × ℚ) (column : ℕ) (p : ℚ) → k < length others → e ≡ get_or others k e → (column, p) ≡ e → drop k others ≡ (column, p) ∷ drop (k + 1) others
+next_other others k e column p b is seen = drop_more others k e b ∙ ap (λ (w : ℕ × ℚ). w ∷ drop (k + 1) others) (sym is ∙ sym seen)
+
+pub fits_next : (passes : Passing) (factor : ℚ) (others : List (ℕ × ℚ)) (before row : List ℚ) (k : ℕ) (e : ℕ × ℚ) (column : ℕ) (p : ℚ)
+    → k < length others → e ≡ get_or others k e → (column, p) ≡ e → TakesOff passes factor others before row k → column < length row
+fits_next passes factor others before row k e column p b is seen h =
+    (subst (λ (l : List (ℕ × ℚ)). AllByRecursion (λ (other : ℕ × ℚ). other.0 < length row) l) (next_other others k e column p b is seen) h.fits).0
+
+pub takes_stops : (passes : Passing) (factor : ℚ) (others : List (ℕ × ℚ)) (before row : List ℚ) (k : ℕ) (e : ℕ × ℚ) (column : ℕ) (p x : ℚ) (q : PassedAt ℚ)
+    → k < length others → e ≡ get_or others k e → (column, p) ≡ e → x ≡ number_at row column → Err q ≡ at_part Part.Table (less_unless passes false factor p x)
+    → TakesOff passes factor others before row k → Err q ≡ at_part Part.Table (fold_checked (entry_less passes factor) before others)
+takes_stops passes factor others before row k e column p x q b is seen value stop h =
+    let first : at_part Part.Table (less_unless passes false factor p (number_at row column)) ≡ Err q = ap (λ (w : ℚ). at_part Part.Table (less_unless passes false factor p w)) (sym value) ∙ sym stop in
+    let here : at_part Part.Table (entry_less passes factor row (column, p)) ≡ Err q = stopped Part.Table (less_unless passes false factor p (number_at row column)) (λ y. Ok (set row column y)) q first in
+    sym (sym h.same ∙ ap (λ (l : List (ℕ × ℚ)). at_part Part.Table (fold_checked (entry_less passes factor) row l)) (next_other others k e column p b is seen)
+    ∙ stopped Part.Table (entry_less passes factor row (column, p)) (λ next. fold_checked (entry_less passes factor) next (drop (k + 1) others)) q here)
+
 pub takes_more : (passes : Passing) (factor : ℚ) (others : List (ℕ × ℚ)) (before row : List ℚ) (k : ℕ) (e : ℕ × ℚ) (column : ℕ) (p x y : ℚ) (after : List ℚ)
     → k < length others → e ≡ get_or others k e → (column, p) ≡ e → x ≡ number_at row column → Ok y ≡ at_part Part.Table (less_unless passes false factor p x) → after ≡ set row column y
     → TakesOff passes factor others before row k → TakesOff passes factor others before after (k + 1)
 takes_more passes factor others before row k e column p x y after b is seen value gives made h =
-    let split : drop k others ≡ (column, p) ∷ drop (k + 1) others = drop_more others k e b ∙ ap (λ (w : ℕ × ℚ). w ∷ drop (k + 1) others) (sym is ∙ sym seen) in
+    let split : drop k others ≡ (column, p) ∷ drop (k + 1) others = next_other others k e column p b is seen in
     let long : length after ≡ length row = ap (length {A = ℚ}) made ∙ length-set row column y in
     let given : less_unless passes false factor p (number_at row column) ≡ Ok y = ap (λ (w : ℚ). less_unless passes false factor p w) (sym value) ∙ ok_of_part Part.Table (less_unless passes false factor p x) y gives in
     let step : entry_less passes factor row (column, p) ≡ Ok after = ap (λ (r : Checked ℚ). r >>= λ y. Ok (set row column y)) given ∙ ap Ok (sym made) in

@@ -1,4 +1,4 @@
-use Rattle.std.proofs.Common.{◌≡◌, ◌+◌, List, drop, get_or, Ok, Err, sym, ap, ◌∙◌}
+use Rattle.std.proofs.Common.{◌≡◌, ◌+◌, List, drop, get_or, Ok, Err, sym, ap, ◌∙◌, arith}
 use Rattle.std.proofs.lemmas.Result.{err_from_is_err_and}
 use Rattle.nf_rational.specs.Rational.{ℚ}
 use Rattle.nf_work.specs.declared.Part.TheVariants as Part
@@ -6,7 +6,7 @@ use Rattle.nf_work.specs.Checked.{at_part, seen_passed_at}
 use Rattle.nf_model.specs.Entries.{number_at}
 use Rattle.nf_lists.specs.Table.{row_at}
 use Rattle.nf_linear.specs.Rows.{some_from, clear_each}
-use Rattle.nf_linear.proofs.Clearing.{row_got, later_fit, eliminated}
+use Rattle.nf_linear.proofs.Clearing.{row_got, later_fit, eliminated, within_row}
 use Rattle.nf_linear.proofs.elimination.eliminate.Goals as goal
 
 pub clear_rows-requires-clause-later : goal.clear_rows-requires-clause-later
@@ -39,3 +39,26 @@ returns g c =
     let own : g.S.Scalar.means c.at-own.result ≡ number_at (row_at c.args.rows.now c.args.pivot) c.args.column = c.at-own.ensures ∙ ap (λ (r : List ℚ). number_at r c.args.column) first in
     let given : Ok c.clear_rows.new.rows ≡ at_part Part.Table (clear_each g.S.Scalar.passes c.args.column c.args.pivot (g.S.Scalar.means c.at-own.result) c.deref.result.now 0 c.args.rows.now) = c.in_ok-clear_rows.ensures in
     sym (given ∙ ap (at_part Part.Table) (eliminated c.args.rows.now c.args.pivot c.args.column c.requires.square c.requires.pivot c.requires.column (g.S.Scalar.means c.at-own.result) c.deref.result.now same g.S.Scalar.passes own))
+
+pub bounds-rows-pivot : goal.bounds-rows-pivot
+bounds-rows-pivot g c = c.requires.pivot
+
+pub bounds-rows-pivot-2 : goal.bounds-rows-pivot-2
+bounds-rows-pivot-2 g c = c.requires.pivot
+
+pub at-own-requires : goal.at-own-requires
+at-own-requires g c = within_row c.args.rows.now c.args.pivot c.args.column c.index-rows-pivot.result c.requires.square c.requires.pivot c.requires.column
+
+pub later-requires : goal.later-requires
+later-requires g c = within_row c.args.rows.now c.args.pivot c.args.column c.index-rows-pivot-2.result c.requires.square c.requires.pivot c.requires.column
+
+pub returns-in_err-later : goal.returns-in_err-later
+returns-in_err-later g c = let p = err_from_is_err_and c.from_residual.result c.from_residual.ensures.1 in rw (p.1, p.2) tt
+
+pub clear_rows-requires-clause-own : goal.clear_rows-requires-clause-own
+clear_rows-requires-clause-own g c =
+    let first : get_or c.args.rows.now c.args.pivot c.index-rows-pivot.result ≡ row_at c.args.rows.now c.args.pivot = row_got c.args.rows.now c.args.pivot c.index-rows-pivot.result c.requires.pivot in
+    λ zero. c.requires.some (sym (c.at-own.ensures ∙ ap (λ (r : List ℚ). number_at r c.args.column) first) ∙ zero)
+
+pub clear_rows-requires-clause-column : goal.clear_rows-requires-clause-column
+clear_rows-requires-clause-column g c = λ i b. let wide = c.requires.square i b in let within = c.requires.column in omega arith

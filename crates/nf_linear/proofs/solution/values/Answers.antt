@@ -4,7 +4,7 @@ use Rattle.std.proofs.lemmas.List.{map-append}
 use Rattle.nf_rational.specs.Rational.{ℚ}
 use Rattle.nf_model.specs.Entries.{number_at}
 use Rattle.nf_linear.proofs.Clearing.{row_read}
-use Rattle.nf_linear.proofs.Values.{ValuesSoFar, values_stop, values_more}
+use Rattle.nf_linear.proofs.Values.{ValuesSoFar, values_first, values_stop, values_more, values_all}
 use Rattle.nf_linear.proofs.solution.values.Goals as goal
 
 pub returns-in_err-value : goal.returns-in_err-value
@@ -42,3 +42,17 @@ value_of-requires-clause-own g c =
     let inside : c.loop-column.column < length c.args.rows.now = (let e = c.requires.count in omega arith) in
     let row = row_read c.args.rows.now (get_or c.args.pivots.now c.loop-column.column 0) c.index-rows-pivot.result (c.requires.within c.loop-column.column inside) c.index-rows-pivot.is in
     λ zero. c.requires.some c.loop-column.column inside (ap (λ (r : List ℚ). number_at r c.loop-column.column) (sym row) ∙ zero)
+
+pub returns-in_err-values : goal.returns-in_err-values
+returns-in_err-values g c = let p = err_from_is_err_and c.from_residual.result c.from_residual.ensures.1 in rw (p.1, p.2) tt
+
+pub returns-in_err-push : goal.returns-in_err-push
+returns-in_err-push g c = let p = err_from_is_err_and c.from_residual-in_err-push.result c.from_residual-in_err-push.ensures.1 in rw (p.1, p.2) tt
+
+pub loop-column-init : goal.loop-column-init
+loop-column-init g c =
+    subst (λ (xs : List ℚ). ValuesSoFar g.S.Scalar.passes c.args.rows.now c.args.pivots.now xs 0) (sym (ap (map g.S.Scalar.means) c.in_ok-values.ensures.items))
+    (values_first g.S.Scalar.passes c.args.rows.now c.args.pivots.now)
+
+pub returns : goal.returns
+returns g c = values_all g.S.Scalar.passes c.args.rows.now c.args.pivots.now (map g.S.Scalar.means c.loop-column.values.items) c.loop-column.column c.loop-column-test.false c.loop-column.invariant

@@ -1,0 +1,26 @@
+use Rattle.std.proofs.Common.{ℕ, ◌+◌, List, [], ◌∷◌, ◌++◌, replicate, ap, sym, ◌∙◌, add-one}
+use Rattle.std.proofs.lemmas.Result.{IfOk-from_err}
+use Rattle.nf_rational.specs.Rational.{ℚ}
+use Rattle.nf_rational.specs.Operations.{0ℚ}
+use Rattle.nf_linear.proofs.Taken.{replicate_more}
+use Rattle.nf_linear.proofs.table.Table.new.Goals as goal
+
+pub loop-init : goal.loop-init
+loop-init g c = c.in_ok-rows.ensures.items
+
+pub loop-preserved : goal.loop-preserved
+loop-preserved g c =
+    c.in_ok-push.ensures.items
+    ∙ ap (λ (row : List ℚ). c.loop.rows.items ++ row ∷ []) c.in_ok-zero.ensures
+    ∙ ap (λ (rows : List (List ℚ)). rows ++ replicate (c.args.size + 1) 0ℚ ∷ []) c.loop.invariant
+    ∙ replicate_more c.loop.counter (replicate (c.args.size + 1) 0ℚ)
+    ∙ ap (λ (k : ℕ). replicate k (replicate (c.args.size + 1) 0ℚ)) (sym (add-one c.loop.counter))
+
+pub returns-in_err-rows : goal.returns-in_err-rows
+returns-in_err-rows g c = IfOk-from_err c.from_residual.result _ c.from_residual.ensures.0
+
+pub returns-in_err-zero : goal.returns-in_err-zero
+returns-in_err-zero g c = IfOk-from_err c.from_residual-in_err-zero.result _ c.from_residual-in_err-zero.ensures.0
+
+pub returns-in_err-push : goal.returns-in_err-push
+returns-in_err-push g c = IfOk-from_err c.from_residual-in_err-push.result _ c.from_residual-in_err-push.ensures.0
