@@ -1,11 +1,13 @@
 -- The last link is taken back from what is kept of the Tight ones.
-use Rattle.std.proofs.Common.{◌≡◌, ◌≢◌, ℕ, suc, ◌<◌, ⊎_elim, true, false, List, length, Option, Some, get_or, slice_get, slice_set, sym, ap, subst, ◌∙◌, arith}
+use Rattle.std.proofs.Common.{◌≡◌, ◌≢◌, ℕ, suc, ◌<◌, ⊎_elim, Bool, true, false, eqb, refl, List, length, Option, Some, get_or, slice_get, slice_set, sym, ap, subst, ◌∙◌, arith}
+use Rattle.std.specs.Prelude.{None, MatchBool}
 use Rattle.std.proofs.Math.ListN.{length-set}
-use Rattle.std.proofs.lemmas.Option.{same_Some, slice_get-get_or}
+use Rattle.std.proofs.lemmas.Option.{none-some, same_Some, slice_get-get_or, slice_get_read}
 use Rattle.nf_model.specs.declared.State.TheVariants.{Tight}
 use Rattle.nf_model.specs.Walk.{Hop, IsHop}
 use Rattle.nf_model.specs.Pattern.{Pattern, HasState}
 use Rattle.nf_graph.specs.Graph.{AreBelow}
+use Rattle.nf_graph.proofs.Walks.{same_from_test, apart_from_test}
 use Rattle.nf_pattern.specs.Forest.{AreJoined, TightBefore}
 use Rattle.nf_pattern.specs.Walking.{last_at, ends_at, other_end, IsWalkable}
 use Rattle.nf_pattern.proofs.Setting.{set_same, set_other, tell}
@@ -97,3 +99,15 @@ module _ (hops : List Hop) (p : Pattern) (n : ℕ) (ends tails heads : List (Opt
       same_Some found (last_at (ends_at hops p) n j) (ap (λ (o : Option ℕ). Some o) read
       ∙ (sym (slice_get-get_or heads n found (let count = chains.count_heads in omega arith)) ∙ (chains.heads_are n hop (omega arith) tight is
       ∙ ap (λ (h : ℕ). Some (last_at (ends_at hops p) n h)) (sym at))))
+
+-- ---- the last link at a node, as it is read
+module _ (last : List (Option ℕ)) (node i : ℕ) (found : Option ℕ) (same : i ≡ node) (below : node < length last) (read : found ≡ get_or last i found) where
+  at_node : slice_get last node ≡ Some found
+  at_node = slice_get_read last (length last) node found refl below (read ∙ ap (λ (k : ℕ). get_or last k found) same)
+
+  pub last_decided : (e link : ℕ) (b : Bool) → found ≡ Some e → b ≡ eqb e link → MatchBool b (slice_get last node ≡ Some (Some link)) (slice_get last node ≡ Some (Some link) → ⊥)
+  last_decided e link true is test = at_node ∙ ap (λ (o : Option ℕ). Some o) is ∙ ap (λ (k : ℕ). Some (Some k)) (same_from_test e link test)
+  last_decided e link false is test = λ other. apart_from_test e link test (same_Some e link (sym is ∙ same_Some found (Some link) (sym at_node ∙ other)))
+
+  pub none_last : (link : ℕ) → found ≡ None → slice_get last node ≡ Some (Some link) → ⊥
+  none_last link is other = none-some link (sym is ∙ same_Some found (Some link) (sym at_node ∙ other))

@@ -1,6 +1,7 @@
-use Rattle.std.proofs.Common.{ℕ, ◌+◌, ◌≤◌, length, sym, subst, ◌∙◌}
+use Rattle.std.proofs.Common.{ℕ, ◌+◌, ◌≤◌, Bool, List, length, ap, sym, subst, ◌∙◌, arith}
+use Rattle.nf_model.specs.Walk.{Hop}
 use Rattle.nf_pattern.specs.Given.{IsBarren}
-use Rattle.nf_pattern.proofs.OnTrail.{gone_on, listed_on, barren_on, barren_from_start, follows_seen, fails_seen, all_seen, count_links}
+use Rattle.nf_pattern.proofs.OnTrail.{gone_on, listed_on, barren_on, barren_from_start, follows_seen, follows_given, fails_seen, all_seen, count_links}
 use Rattle.nf_pattern.proofs.question.Question.failing.Goals as goal
 
 pub returns-then-is_lost-clause-found : goal.returns-then-is_lost-clause-found
@@ -28,3 +29,27 @@ returns-clause-found c =
     (follows_seen _ c.args.self.now c.self.view_is c.deref.result.now c.deref-2.result.now c.deref.ensures.value c.deref-2.ensures.value c.args.states.now c.extend.new.self c.extend.ensures.follows)
     c.extend.ensures.way)
     fails.0 fails.1)
+
+pub returns-then-is_lost-clause-trail : goal.returns-then-is_lost-clause-trail
+returns-then-is_lost-clause-trail c = c.requires.trail
+
+pub extend-requires-clause-resetting : goal.extend-requires-clause-resetting
+extend-requires-clause-resetting c = ap (λ (l : List Bool). length l) c.deref-2.ensures.value ∙ c.self.invariant.resetting ∙ sym (ap (λ (l : List Hop). length l) c.deref.ensures.value)
+
+pub extend-requires-clause-fewer : goal.extend-requires-clause-fewer
+extend-requires-clause-fewer c = let count = ap (λ (l : List Hop). length l) c.deref.ensures.value in let few = c.self.invariant.fewer in omega arith
+
+pub extend-requires-clause-follows : goal.extend-requires-clause-follows
+extend-requires-clause-follows c = follows_given _ c.args.self.now c.self.view_is c.deref.result.now c.deref-2.result.now c.deref.ensures.value c.deref-2.ensures.value c.args.states.now c.args.trail.now c.requires.trail.follows
+
+pub returns-then-extend-clause-trail : goal.returns-then-extend-clause-trail
+returns-then-extend-clause-trail c =
+    gone_on c.args.self.now c.args.states.now c.args.trail.now c.extend.new.self c.requires.trail
+    (follows_seen _ c.args.self.now c.self.view_is c.deref.result.now c.deref-2.result.now c.deref.ensures.value c.deref-2.ensures.value c.args.states.now c.extend.new.self c.extend.ensures.follows)
+    c.extend.ensures.way
+
+pub returns-clause-trail : goal.returns-clause-trail
+returns-clause-trail c =
+    gone_on c.args.self.now c.args.states.now c.args.trail.now c.extend.new.self c.requires.trail
+    (follows_seen _ c.args.self.now c.self.view_is c.deref.result.now c.deref-2.result.now c.deref.ensures.value c.deref-2.ensures.value c.args.states.now c.extend.new.self c.extend.ensures.follows)
+    c.extend.ensures.way

@@ -1,5 +1,8 @@
-use Rattle.std.proofs.Common.{ℕ, List, refl, inr, subst, arith}
-use Rattle.nf_pattern.specs.Entered.{Keeps}
+use Rattle.std.proofs.Common.{ℕ, List, Option, length, refl, inl, inr, ap, sym, subst, ◌∙◌, add-one, arith}
+use Rattle.nf_graph.specs.Graph.{AreBelow}
+use Rattle.nf_pattern.specs.declared.walking.TightLinks.{TightLinks}
+use Rattle.nf_pattern.specs.Entered.{AreChained, Keeps, Strands}
+use Rattle.nf_pattern.specs.Trail.{Follows}
 use Rattle.nf_pattern.proofs.Following.{entered_on}
 use Rattle.nf_pattern.proofs.trail.Trail.enter.Goals as goal
 
@@ -11,3 +14,51 @@ returns-clause-follows c =
     entered_on c.args.source c.args.hops.now c.args.resetting.now c.args.states.now c.requires.follows c.requires.more (omega arith)
     c.if-not-enter.ensures.entered.0 c.if-not-enter.ensures.entered.1 c.enter.ensures.nodes refl refl
     (subst (λ (es : List ℕ). Keeps c.args.source c.args.hops.now c.args.resetting.now c.args.states.now es c.args.self.now.depth) c.deref-2.ensures.value c.if-strands.ensures)
+
+pub strands-requires-clause-link : goal.strands-requires-clause-link
+strands-requires-clause-link c = c.requires.more
+
+pub strands-requires-clause-below : goal.strands-requires-clause-below
+strands-requires-clause-below c = subst (λ (n : ℕ). AreBelow n c.args.hops.now) (sym (ap (λ (es : List ℕ). length es) c.deref-2.ensures.value ∙ c.requires.follows.count_ends)) c.requires.follows.tight.below
+
+pub strands-requires-clause-chain : goal.strands-requires-clause-chain
+strands-requires-clause-chain c = subst (AreChained c.args.hops.now) (sym c.deref.ensures.value) c.requires.follows.chain
+
+pub strands-requires-clause-count : goal.strands-requires-clause-count
+strands-requires-clause-count c = ap (λ (os : List (Option ℕ)). length os) c.deref.ensures.value ∙ c.requires.follows.count_chain
+
+pub returns-then-strands-clause-follows : goal.returns-then-strands-clause-follows
+returns-then-strands-clause-follows c = c.requires.follows
+
+pub returns-then-strands-clause-way : goal.returns-then-strands-clause-way
+returns-then-strands-clause-way c = record { nodes = refl; ends = refl; lost = refl }
+
+pub returns-then-strands-clause-entered : goal.returns-then-strands-clause-entered
+returns-then-strands-clause-entered c = (
+  refl,
+  inl (subst (λ (es : List ℕ). Strands c.args.source c.args.hops.now c.args.resetting.now c.args.states.now es c.args.self.now.depth) c.deref-2.ensures.value c.if-strands.ensures),
+)
+
+pub enter-requires-clause-link : goal.enter-requires-clause-link
+enter-requires-clause-link c = c.requires.more
+
+pub enter-requires-clause-holds : goal.enter-requires-clause-holds
+enter-requires-clause-holds c = c.requires.follows.tight
+
+pub enter-requires-clause-clear : goal.enter-requires-clause-clear
+enter-requires-clause-clear c = c.requires.follows.clear
+
+pub returns-then-not-enter-clause-follows : goal.returns-then-not-enter-clause-follows
+returns-then-not-enter-clause-follows c =
+    subst (λ (t : TightLinks). Follows c.args.source c.args.hops.now c.args.resetting.now c.args.states.now
+    (record { depth = c.args.self.now.depth; tight = t; chain = c.args.self.now.chain; ends = c.args.self.now.ends; lost = c.args.self.now.lost }))
+    (sym c.if-not-enter.ensures.entered.0) c.requires.follows
+
+pub returns-then-not-enter-clause-way : goal.returns-then-not-enter-clause-way
+returns-then-not-enter-clause-way c = record { nodes = c.enter.ensures.nodes; ends = refl; lost = refl }
+
+pub returns-clause-way : goal.returns-clause-way
+returns-clause-way c = record { nodes = c.enter.ensures.nodes; ends = refl; lost = refl }
+
+pub returns-clause-entered : goal.returns-clause-entered
+returns-clause-entered c = add-one c.args.self.now.depth
