@@ -62,6 +62,29 @@ fn solved_pattern(
     }
 }
 
+// The pattern is repaired until no link breaks its inequality; the values that it has then. None where that comes to no end, not just
+// one vector of values solves the table, or an operation passes.
+fn repaired(
+    alloc: Global,
+    net: &Network,
+    sets: &LinkSets,
+    rate: Q,
+    pattern: &mut Pattern,
+) -> Result<Option<Vec<Q>>, AllocError>
+    requires { IsPatternIn net.now.net sets.now pattern.old }
+    ensures { IsPatternIn net.now.net sets.now pattern.new }
+{
+    for _ in 0..MOST_REPAIRS {
+        let Some(values) = part_values(alloc, net, sets, rate, pattern)? else {
+            return Ok(None);
+        };
+        if !repair(alloc, net, sets, &values, pattern)? {
+            return Ok(Some(values));
+        }
+    }
+    Ok(None)
+}
+
 /// What repairs of a pattern come to, with the values that solve its table. None where they come to no end, not just one vector of values
 /// solves the table, or an operation of it passes. The values that repairs go by on their way are found without a table.
 pub fn guess(
@@ -75,14 +98,9 @@ pub fn guess(
     ensures { IfOk result (λ found. IfSome found (λ last. IsSolved passes_Q net.now.net sets.now rate last)) }
 {
     let mut pattern = first.copy(alloc)?;
-    for _ in 0..MOST_REPAIRS {
-        let Some(values) = part_values(alloc, net, sets, rate, &pattern)? else {
-            return Ok(None);
-        };
-        if !repair(alloc, net, sets, &values, &mut pattern)? {
-            let last = reverted(alloc, net, sets, rate, first, &values, pattern)?;
-            return solved_pattern(alloc, net, sets, rate, last);
-        }
-    }
-    Ok(None)
+    let Some(values) = repaired(alloc, net, sets, rate, &mut pattern)? else {
+        return Ok(None);
+    };
+    let last = reverted(alloc, net, sets, rate, first, &values, pattern)?;
+    solved_pattern(alloc, net, sets, rate, last)
 }

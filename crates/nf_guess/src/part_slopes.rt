@@ -166,6 +166,15 @@ fn slopes_of_parts(
     solved(alloc, table)
 }
 
+// The slope of the part of this number, where that of the source's part is 1.
+fn slope_of_part(number: u32, others: &[Q]) -> Q {
+    if number == 0 {
+        Q::one()
+    } else {
+        number_or_zero(others, number as usize - 1)
+    }
+}
+
 // The slope of each node, from those of the parts.
 fn slopes_of_nodes(
     alloc: Global,
@@ -176,13 +185,30 @@ fn slopes_of_nodes(
     let mut slopes = Vec::new(alloc);
     for v in 0..nodes {
         let number = parts.number(NodeId(v));
-        if number == 0 {
-            slopes.push(Q::one())?;
-        } else {
-            slopes.push(number_or_zero(others, number as usize - 1))?;
-        }
+        slopes.push(slope_of_part(number, others))?;
     }
     Ok(slopes)
+}
+
+// The slopes of the nodes, from the parts that Tight links join.
+fn slopes_from(
+    alloc: Global,
+    net: &Network,
+    sets: &LinkSets,
+    rate: Q,
+    pattern: &Pattern,
+    parts: &Parts,
+) -> Result<Option<Vec<Q>>, Halt<Q>>
+    requires sets { length sets.now.active ≡ length net.now.net.links }
+    requires states { length pattern.now ≡ length net.now.net.links }
+{
+    let links = full_links(alloc, net, sets, pattern, parts)?;
+    let sink_part = parts.number(net.sink());
+    let Some(others) = slopes_of_parts(alloc, parts.count, &links, sink_part, rate)? else {
+        return Ok(None);
+    };
+    let slopes = slopes_of_nodes(alloc, net.node_count(), parts, &others)?;
+    Ok(Some(slopes))
 }
 
 /// The slopes of the nodes, in node order. None where the table of the pattern hasn't just one solution.
@@ -200,11 +226,5 @@ pub(crate) fn part_slopes(
         return Ok(None);
     };
     let parts = Parts::new(alloc, net, &forest)?;
-    let links = full_links(alloc, net, sets, pattern, &parts)?;
-    let sink_part = parts.number(net.sink());
-    let Some(others) = slopes_of_parts(alloc, parts.count, &links, sink_part, rate)? else {
-        return Ok(None);
-    };
-    let slopes = slopes_of_nodes(alloc, net.node_count(), &parts, &others)?;
-    Ok(Some(slopes))
+    slopes_from(alloc, net, sets, rate, pattern, &parts)
 }

@@ -134,6 +134,15 @@ fn loosen(net: &Network, sets: &LinkSets, values: &[Q], pattern: &mut Pattern) -
     changes
 }
 
+// A link in this state is Full to a smaller slope, or Zero to a greater one.
+fn breaks(state: Option<State>, tail_slope: Q, head_slope: Q) -> bool {
+    match state {
+        Some(State::Full) => head_slope < tail_slope,
+        Some(State::Zero) => tail_slope < head_slope,
+        _ => false,
+    }
+}
+
 // A Full link to a smaller slope and a Zero link to a greater one become Tight, if that closes no cycle with other Tight links;
 // whether this one does.
 fn tighten_link(
@@ -151,12 +160,10 @@ fn tighten_link(
     let here = net.link(link);
     let tail_slope = number_or_zero(values, here.tail.index());
     let head_slope = number_or_zero(values, here.head.index());
-    let breaks = match pattern.state(link) {
-        Some(State::Full) => head_slope < tail_slope,
-        Some(State::Zero) => tail_slope < head_slope,
-        _ => false,
-    };
-    if !breaks || !forest.grow(here.tail, here.head)? {
+    if !breaks(pattern.state(link), tail_slope, head_slope) {
+        return Ok(false);
+    }
+    if !forest.grow(here.tail, here.head)? {
         return Ok(false);
     }
     let changes = change(net, sets, pattern, link, State::Tight);

@@ -127,6 +127,21 @@ fn revert_all_tight(
     Ok(())
 }
 
+// The values break no link's inequality: no repair changes the pattern.
+fn suits_all(
+    alloc: Global,
+    net: &Network,
+    sets: &LinkSets,
+    values: &[Q],
+    pattern: &Pattern,
+) -> Result<bool, AllocError>
+    requires { IsPatternIn net.now.net sets.now pattern.now }
+{
+    let mut repaired = pattern.copy(alloc)?;
+    let changes = repair(alloc, net, sets, values, &mut repaired)?;
+    Ok(!changes)
+}
+
 // The pattern leads to each node, and its values break no link's inequality.
 fn is_repaired(
     alloc: Global,
@@ -140,12 +155,35 @@ fn is_repaired(
     if !each_is_led(net, sets, pattern) {
         return Ok(false);
     }
-    let Some(values) = part_values(alloc, net, sets, rate, pattern)? else {
+    match part_values(alloc, net, sets, rate, pattern)? {
+        Some(values) => suits_all(alloc, net, sets, &values, pattern),
+        None => Ok(false),
+    }
+}
+
+// A pattern in which the links take their first states, where the values suit them; whether it is another one, still leads to each node
+// and breaks no inequality.
+fn revert(
+    alloc: Global,
+    net: &Network,
+    sets: &LinkSets,
+    rate: Q,
+    first: &Pattern,
+    values: &[Q],
+    pattern: &Pattern,
+    nearer: &mut Pattern,
+) -> Result<bool, AllocError>
+    requires first { length first.now ≡ length net.now.net.links }
+    requires pattern { IsPatternIn net.now.net sets.now pattern.now }
+    requires nearer { IsPatternIn net.now.net sets.now nearer.old }
+    ensures { IsPatternIn net.now.net sets.now nearer.new }
+{
+    revert_all_apart(net, sets, values, first, nearer);
+    revert_all_tight(alloc, net, sets, values, first, nearer)?;
+    if is_one_pattern(net, nearer, pattern) {
         return Ok(false);
-    };
-    let mut repaired = pattern.copy(alloc)?;
-    let changes = repair(alloc, net, sets, &values, &mut repaired)?;
-    Ok(!changes)
+    }
+    is_repaired(alloc, net, sets, rate, nearer)
 }
 
 /// A pattern nearer to the first one, if that still leads to each node and breaks no inequality, or else the same pattern.
@@ -163,10 +201,9 @@ pub(crate) fn reverted(
     ensures { IfOk result (λ nearer. IsPatternIn net.now.net sets.now nearer) }
 {
     let mut nearer = pattern.copy(alloc)?;
-    revert_all_apart(net, sets, values, first, &mut nearer);
-    revert_all_tight(alloc, net, sets, values, first, &mut nearer)?;
-    if is_one_pattern(net, &nearer, &pattern) || !is_repaired(alloc, net, sets, rate, &nearer)? {
-        return Ok(pattern);
+    if revert(alloc, net, sets, rate, first, values, &pattern, &mut nearer)? {
+        Ok(nearer)
+    } else {
+        Ok(pattern)
     }
-    Ok(nearer)
 }

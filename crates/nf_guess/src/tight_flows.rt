@@ -7,7 +7,7 @@ use crate::numbers::{add_at, number_or_zero, take_off_at};
 use nf_frac::{Halt, Part, Q, at};
 use nf_graph::{LinkId, LinkSets, NodeId};
 use nf_model::State;
-use nf_net::Network;
+use nf_net::{Link, Network};
 use nf_pattern::Pattern;
 use std::alloc::{AllocError, Global};
 
@@ -17,6 +17,17 @@ struct OpenLink {
     tail: NodeId,
     head: NodeId,
     place: usize,
+}
+
+impl OpenLink {
+    // The flow of the link where this much leaves one of its ends on it, and the other end.
+    fn flow_from(self, end: NodeId, leaving: Q) -> Result<(Q, NodeId), Halt<Q>> {
+        if self.tail == end {
+            return Ok((leaving, self.head));
+        }
+        let flow = at!(Part::Table, Q::zero().difference(leaving));
+        Ok((flow, self.tail))
+    }
 }
 
 // Of each node what must leave it on open links beyond what enters it on such ones, and how many of them it has.
@@ -88,29 +99,40 @@ impl OpenFlows {
         None
     }
 
+    // An open link carries this flow, and is no longer open.
+    fn close(&mut self, link: OpenLink, flow: Q) -> Result<(), Halt<Q>> {
+        self.carry(link.tail, link.head, flow)?;
+        count_down(&mut self.degrees, link.tail.index());
+        count_down(&mut self.degrees, link.head.index());
+        Ok(())
+    }
+
     // The open link of a leaf carries what is missing there. Its other end, if that becomes a leaf.
     fn close_leaf(&mut self, leaf: NodeId, values: &mut [Q]) -> Result<Option<NodeId>, Halt<Q>> {
         let Some(link) = self.take_open(leaf) else {
             return Ok(None);
         };
         let missing = number_or_zero(&self.missing, leaf.index());
-        let (flow, other) = if link.tail == leaf {
-            (missing, link.head)
-        } else {
-            (at!(Part::Table, Q::zero().difference(missing)), link.tail)
-        };
+        let (flow, other) = link.flow_from(leaf, missing)?;
         if link.place < values.len() {
             values[link.place] = flow;
         }
-        self.carry(link.tail, link.head, flow)?;
-        count_down(&mut self.degrees, link.tail.index());
-        count_down(&mut self.degrees, link.head.index());
+        self.close(link, flow)?;
         Ok(if self.is_leaf(other) {
             Some(other)
         } else {
             None
         })
     }
+}
+
+// A link carries its capacity times the slope of its head.
+fn fill(link: Link, values: &[Q], flows: &mut OpenFlows) -> Result<Q, Halt<Q>> {
+    let capacity = link.capacity.unwrap_or(Q::zero());
+    let head_slope = number_or_zero(values, link.head.index());
+    let flow = at!(Part::Table, capacity.product(head_slope));
+    flows.carry(link.tail, link.head, flow)?;
+    Ok(flow)
 }
 
 // The flow of a link is put after the values, or its link is open.
@@ -124,24 +146,19 @@ fn put_flow(
     requires { link < length net.now.net.links }
 {
     let here = net.link(link);
-    match state {
+    let flow = match state {
         State::Tight => {
             flows.open(OpenLink {
                 tail: here.tail,
                 head: here.head,
                 place: values.len(),
             })?;
-            values.push(Q::zero())?;
+            Q::zero()
         }
-        State::Zero => values.push(Q::zero())?,
-        State::Full => {
-            let capacity = here.capacity.unwrap_or(Q::zero());
-            let head_slope = number_or_zero(values, here.head.index());
-            let flow = at!(Part::Table, capacity.product(head_slope));
-            flows.carry(here.tail, here.head, flow)?;
-            values.push(flow)?;
-        }
-    }
+        State::Zero => Q::zero(),
+        State::Full => fill(here, values, flows)?,
+    };
+    values.push(flow)?;
     Ok(())
 }
 

@@ -1,5 +1,5 @@
 use Rattle.nf_equation_laws.specs.Equations.{IsPatternIn}
-use Rattle.nf_guess.proofs.guessing.guess.Given as goal
+use Rattle.nf_guess.proofs.guessing.repaired.Given as goal
 
 -- it is still a pattern
 abbrev pub invariant-loop : goal.invariant-loop
