@@ -1,5 +1,5 @@
 -- Shortest walks, pushed one after the other.
-use Rattle.std.proofs.Common.{◌≡◌, ℕ, suc, ◌+◌, ◌-◌, ◌<◌, ◌≤◌, List, Bool, true, false, Option, Some, None, sym, ap, subst, ◌∙◌, arith}
+use Rattle.std.proofs.Common.{◌≡◌, ℕ, suc, ◌+◌, ◌-◌, ◌<◌, ◌≤◌, List, [], ◌∷◌, ◌++◌, Bool, true, false, Option, Some, None, sym, ap, subst, ◌∙◌, arith}
 use Rattle.std.specs.Prelude.{Ok, Err, IfSome, if◌then◌else◌}
 use Rattle.nf_rational.specs.Rational.{ℚ}
 use Rattle.nf_rational.specs.Operations.{0ℚ}
@@ -10,15 +10,17 @@ use Rattle.nf_work.specs.Passing.{Passing}
 use Rattle.nf_work.specs.declared.Op.TheVariants.{Sum}
 use Rattle.nf_work.specs.declared.Halt.{Halt}
 use Rattle.nf_work.specs.declared.Part.TheVariants as Part
+use Rattle.nf_work.specs.declared.PassedAt.{PassedAt}
 use Rattle.nf_work.specs.Checked.{Checked, Stops, at_part, checked, checked_at, ◌>>=◌}
 use Rattle.nf_model.specs.Network.{Network}
 use Rattle.nf_quick_lists.specs.Flows.{IsSound}
 use Rattle.nf_quick_lists.specs.Rounds.{Walk, shortest_list}
 use Rattle.nf_quick_lists.specs.Answers.{IsShortestWalk, IsShortest}
+use Rattle.nf_quick_lists.specs.Pushes.{Times, push_list, time_list}
 use Rattle.nf_quick_lists.specs.Quick.{Standing, Pushed, Done, OverBudget, start_of, is_early, push_on, next_of, next_list, ended, push_and, push_up_to}
 use Rattle.nf_quick.specs.Answered.{of_halt, IsPushed}
 use Rattle.nf_residual_laws.proofs.Offers.{checked-ok}
-use Rattle.nf_residual.proofs.Stopping.{ok_of_part, stops, goes_on, stops_as}
+use Rattle.nf_residual.proofs.Stopping.{ok_of_part, stopped, stops, goes_on, stops_as}
 
 -- the sum of a rate of at least 0 and one above 0
 pub some_sum : (passes : Passing) (so_far rate all : ℚ) → 0ℚ ≤ℚ so_far → 0ℚ <ℚ rate → Ok all ≡ checked_at passes Part.Quick Sum so_far rate → 0ℚ <ℚ all
@@ -114,3 +116,25 @@ module _ (passes : Passing) (net : Network) (amount : ℚ) (augments : ℕ) wher
 pub halted : (passes : Passing) (net : Network) (amount : ℚ) (augments : ℕ) (h : Halt ℚ) → Stops (λ (q : ℚ). q) h (at_part Part.Quick (push_up_to passes net amount augments (start_of net))) → IsPushed passes net amount augments (Err (of_halt h))
 halted passes net amount augments (Halt.Passed p) e = e
 halted passes net amount augments Halt.Memory e = tt
+
+-- ---- one push, where it stops
+module _ (passes : Passing) (net : Network) (amount : ℚ) (s t : Standing) (w v : Walk) (same : s ≡ t) (walk_is : w ≡ v) where
+  abbrev moved : Checked (List ℚ)
+  moved = push_list passes v.steps w.room s.flows
+
+  abbrev timed : Checked Times
+  timed = time_list passes amount s.rate s.cost w.room w.length
+
+  abbrev made : List ℚ → Times → Standing
+  made flows times = record { flows = flows; pushed = s.pushed ++ record { walk = v; amount = w.room } ∷ []; rate = times.rate; cost = times.cost; time = Some times.time }
+
+  opened : push_on passes net amount t v ≡ (moved >>= λ flows. timed >>= λ times. Ok (made flows times))
+  opened = sym (ap (λ (u : Standing). push_on passes net amount u v) same)
+      ∙ ap (λ (u : Walk). push_list passes v.steps u.room s.flows >>= λ flows. time_list passes amount s.rate s.cost u.room u.length >>= λ times.
+      Ok (record { flows = flows; pushed = s.pushed ++ record { walk = v; amount = u.room } ∷ []; rate = times.rate; cost = times.cost; time = Some times.time })) (sym walk_is)
+
+  pub move_passes : (p : PassedAt ℚ) → Err p ≡ at_part Part.Quick moved → at_part Part.Quick (push_on passes net amount t v) ≡ Err p
+  move_passes p e = ap (at_part Part.Quick) opened ∙ stopped moved (λ flows. timed >>= λ times. Ok (made flows times)) p (sym e)
+
+  pub time_passes : (flows : List ℚ) → Ok flows ≡ at_part Part.Quick moved → (p : PassedAt ℚ) → Err p ≡ at_part Part.Quick timed → at_part Part.Quick (push_on passes net amount t v) ≡ Err p
+  time_passes flows f p e = ap (at_part Part.Quick) (opened ∙ goes_on moved (λ flows. timed >>= λ times. Ok (made flows times)) flows (sym f)) ∙ stopped timed (λ times. Ok (made flows times)) p (sym e)

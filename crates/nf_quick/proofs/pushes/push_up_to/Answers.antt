@@ -1,7 +1,9 @@
-use Rattle.std.proofs.Common.{◌<◌, ◌≤◌, sym, ap, ◌∙◌, arith}
-use Rattle.std.specs.Prelude.{Ok}
-use Rattle.std.proofs.lemmas.Result.{err_from_is_err_and}
+use Rattle.std.proofs.Common.{◌<◌, ◌≤◌, Option, sym, ap, subst, ◌∙◌, arith}
+use Rattle.std.specs.Prelude.{Ok, IfSome}
+use Rattle.std.proofs.lemmas.Result.{err_from_is_err_and, IfOk-from_err}
 use Rattle.nf_work.specs.Passing.{passes_Q}
+use Rattle.nf_quick_lists.specs.Rounds.{Walk}
+use Rattle.nf_quick_lists.specs.Answers.{IsShortestWalk}
 use Rattle.nf_quick_lists.specs.Quick.{Standing, OverBudget}
 use Rattle.nf_quick.proofs.PushByPush.{pushes_first, next_stops, none_next, push_stops, pushes_more, last_stops, over_budget, halted}
 use Rattle.nf_quick.proofs.pushes.push_up_to.Goals as goal
@@ -49,3 +51,36 @@ next-requires-clause-limited c = c.requires
 
 pub next-requires-2-clause-limited : goal.next-requires-2-clause-limited
 next-requires-2-clause-limited c = c.requires
+
+pub returns-in_err-standing-clause-pushed : goal.returns-in_err-standing-clause-pushed
+returns-in_err-standing-clause-pushed c = let p = err_from_is_err_and c.from_residual.result c.from_residual.ensures.1 in rw (p.1, p.2) tt
+
+pub returns-in_err-standing-clause-sound : goal.returns-in_err-standing-clause-sound
+returns-in_err-standing-clause-sound c = IfOk-from_err c.from_residual.result _ c.from_residual.ensures.0
+
+pub returns-in_err-walk-clause-sound : goal.returns-in_err-walk-clause-sound
+returns-in_err-walk-clause-sound c = IfOk-from_err c.from_residual-in_err-walk.result _ c.from_residual-in_err-walk.ensures.0
+
+pub returns-in_err-push_on-clause-sound : goal.returns-in_err-push_on-clause-sound
+returns-in_err-push_on-clause-sound c = IfOk-from_err c.from_residual-in_err-push_on.result _ c.from_residual-in_err-push_on.ensures.0
+
+pub returns-in_err-next-clause-sound : goal.returns-in_err-next-clause-sound
+returns-in_err-next-clause-sound c = IfOk-from_err c.from_residual-in_err-next.result _ c.from_residual-in_err-next.ensures.0
+
+pub next-requires-clause-sound : goal.next-requires-clause-sound
+next-requires-clause-sound c = c.loop.invariant.sound
+
+pub returns-in_default-clause-sound : goal.returns-in_default-clause-sound
+returns-in_default-clause-sound c = c.loop.invariant.sound
+
+pub push_on-requires-clause-sound : goal.push_on-requires-clause-sound
+push_on-requires-clause-sound c = c.loop.invariant.sound
+
+pub push_on-requires-clause-walk : goal.push_on-requires-clause-walk
+push_on-requires-clause-walk c = subst (λ (found : Option Walk). IfSome found (IsShortestWalk c.args.net.now.net c.loop.standing.flows)) c.in-Some.is c.in_ok-walk.ensures.shortest
+
+pub push_on-requires-clause-rate : goal.push_on-requires-clause-rate
+push_on-requires-clause-rate c = c.loop.invariant.rate
+
+pub next-requires-2-clause-sound : goal.next-requires-2-clause-sound
+next-requires-2-clause-sound c = c.loop.invariant.sound
