@@ -1,11 +1,17 @@
 -- What stops a computation of the part Quick stops it with what would come after it; and where it has a value it goes on with that.
-use Rattle.std.proofs.Common.{◌≡◌, sym, ap, subst}
-use Rattle.std.specs.Prelude.{Result, Ok, Err}
+use Rattle.std.proofs.Common.{◌≡◌, List, Option, Some, None, sym, ap, subst, ◌∙◌}
+use Rattle.std.specs.Prelude.{Result, Ok, Err, unwrap_or}
 use Rattle.nf_rational.specs.Rational.{ℚ}
+use Rattle.nf_rational.specs.Operations.{0ℚ}
+use Rattle.nf_work.specs.Passing.{Passing}
 use Rattle.nf_work.specs.declared.Halt.{Halt}
 use Rattle.nf_work.specs.declared.Part.TheVariants as Part
 use Rattle.nf_work.specs.declared.PassedAt.{PassedAt}
-use Rattle.nf_work.specs.Checked.{Checked, Stops, at_part, seen_passed_at, ◌>>=◌}
+use Rattle.nf_work.specs.Checked.{Checked, Stops, at_part, fold_checked, seen_passed_at, ◌>>=◌}
+use Rattle.nf_model.specs.Network.{Network}
+use Rattle.nf_quick_lists.specs.Steps.{Step}
+use Rattle.nf_quick_lists.specs.Order.{Reach}
+use Rattle.nf_quick_lists.specs.Rounds.{room_after, with_room}
 
 pub ok_of_part : {A : Type 0} (r : Checked A) (x : A) → at_part Part.Quick r ≡ Ok x → r ≡ Ok x
 ok_of_part (Ok a) x e = let h = e in cc
@@ -29,3 +35,12 @@ module _ {A B : Type 0} where
 -- of equal computations
 pub stops_as : {A : Type 0} (r s : Checked A) (h : Halt ℚ) → r ≡ s → Stops (λ (q : ℚ). q) h (at_part Part.Quick s) → Stops (λ (q : ℚ). q) h (at_part Part.Quick r)
 stops_as {A} r s h e k = subst (λ (w : Checked A). Stops (λ (q : ℚ). q) h (at_part Part.Quick w)) (sym e) k
+
+-- the room of a way, where an operation of it passes
+pub room_stops : (passes : Passing) (net : Network) (flows : List ℚ) (way : Option Reach) (reach : Reach) (steps : List Step) → way ≡ Some reach → steps ≡ reach.steps → (p : PassedAt ℚ)
+    → Err p ≡ at_part Part.Quick (fold_checked (room_after passes net flows) None steps) → Err p ≡ at_part Part.Quick (with_room passes net flows way)
+room_stops passes net flows way reach steps is along p e =
+    let room : List Step → Checked (Option ℚ) = λ steps. fold_checked (room_after passes net flows) None steps in
+    sym (ap (λ (o : Option Reach). at_part Part.Quick (with_room passes net flows o)) is
+    ∙ stopped (room reach.steps) (λ room. Ok (Some (record { steps = reach.steps; length = reach.distance; room = unwrap_or room 0ℚ }))) p
+    (ap (λ (l : List Step). at_part Part.Quick (room l)) (sym along) ∙ sym e))

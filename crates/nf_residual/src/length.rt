@@ -16,7 +16,7 @@ use std::marker::Model;
 // The greatest magnitude of a length that is counted, 2^62 - 1.
 const MOST: u64 = 0x3fff_ffff_ffff_ffff;
 
-#[derive(Drop, Debug)]
+#[derive(Drop)]
 enum Form {
     Whole(i64),
     Other(Q),
