@@ -6,3 +6,4 @@ pub mod SpentLinks
 pub mod NodeByNode
 pub mod PushByPush
 pub mod Answering
+pub mod Finishing
