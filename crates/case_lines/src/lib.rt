@@ -1,6 +1,7 @@
 //! Cases that programs read from their input, and what they print of them alike. The input is cases, one after another:
 //!
 //!     == TITLE       begins a case, with the file of its network
+//!     ** TITLE       begins a case whose network the cases after it have too
 //!     ++ WORDS       says what is asked of the case
 //!     --             begins the other file of the case
 //!     LINE           any other line is one of the file
@@ -12,8 +13,10 @@ mod case;
 mod line;
 mod network;
 mod shown;
+mod words;
 
 pub use case::{Case, read_cases};
 pub use line::add_line;
 pub use network::{link_name, network_of, node_name};
 pub use shown::{Shown, as_text, op_word, tell_passed};
+pub use words::{not_negative, numbers};

@@ -8,12 +8,12 @@ use std::io;
 
 /// Prints the title of a case, and gives the network of its file; where there is none, prints why.
 pub fn network_of<R: Print + AllocGlobal>(rt: &R, case: &Case) -> io::Result<Option<Network>> {
-    println!(rt; "== {}", case.title)?;
-    if case.net.len() > LONGEST_FILE as usize {
+    println!(rt; "{} {}", case.mark(), case.title)?;
+    if case.text.len() > LONGEST_FILE as usize {
         println!(rt; "too long")?;
         return Ok(None);
     }
-    match parse(rt.alloc(), &case.net) {
+    match parse(rt.alloc(), &case.text) {
         Ok(net) => return Ok(Some(net)),
         Err(NetFault::Broken { rule, line }) => println!(rt; "network line {line}: {rule:?}")?,
         Err(NetFault::Memory) => println!(rt; "memory is wanting")?,

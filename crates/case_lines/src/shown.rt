@@ -1,5 +1,5 @@
 // Numbers, and operations that pass, as they are printed.
-use nf_frac::{Op, PassedAt, Q, TextBuf};
+use nf_frac::{Frac, Op, PassedAt, Q, TextBuf};
 use std::{fmt, io};
 
 /// Bytes as text; `?` where they are none.
@@ -9,9 +9,9 @@ pub fn as_text(bytes: &[u8]) -> &str {
 
 /// A number as files write it.
 #[derive(Drop)]
-pub struct Shown(pub Q);
+pub struct Shown<const BITS: u32>(pub Frac<BITS>);
 
-impl fmt::Display for Shown {
+impl<const BITS: u32> fmt::Display for Shown<BITS> {
     fn fmt<W: fmt::Write>(&self, f: &mut fmt::Formatter<W>) -> fmt::Result {
         let mut room = TextBuf::new();
         self.0.write(&mut room);

@@ -1,38 +1,56 @@
-//! What flows files and routes files are read as. The input is networks, each with files that are given beside it:
+//! What files are read as: texts, networks, flows files and routes files. The input is cases in the form of `case_lines`:
 //!
-//!     ** TITLE          begins the file of a network
-//!     == flows: TITLE   begins a flows file of the network
-//!     == routes: TITLE  begins a routes file of the network
-//!     LINE              any other line is one of the file, in the form of `case_lines`
+//! - a case with a file beside the network's has no network: the file is read as lines;
+//! - a case behind a common one is a file that is given beside the common network: its title is `flows: TITLE` or `routes: TITLE`;
+//! - any other case is a network, and what is asked of it is words: a number is a time, any other word a name.
 //!
-//! Of each network and each file the title is printed; of a file then the first rule that it breaks, with the line, or else what it
-//! gives: the flow of each link and the slope of each node; or each route with its links by their numbers, and what is sent along it.
+//! Of each case the title is printed, and then: of a text its lines with their words, `+` before a plain one and `-` before another, or
+//! the first line that has a fault; of any other file the first rule that it breaks, with the line; of a network, unless it is common,
+//! its canonical text, the nodes with their start labels, the idle nodes, the links, as hops too, the nodes in an order along all links,
+//! and what it answers to the words; of a flows file the flow of each link and the slope of each node; of a routes file each route with
+//! its links by their numbers, and what is sent along it.
 #![tactic(auto)]
 
-mod case;
-mod telling;
+mod given;
+mod network;
+mod shown;
+mod text;
 
-use case::Case;
+use case_lines::{Case, network_of, read_cases};
 use std::io;
 
-// The cases of the input.
-fn read_cases<R: Input + AllocGlobal>(rt: &R) -> io::Result<Vec<Case>> {
-    let mut cases: Vec<Case> = Vec::new(rt.alloc());
-    for line in rt.lines(rt.alloc()) {
-        let line = line?;
-        if let Some(title) = line.strip_prefix("** ") {
-            cases.push(Case::new(rt.alloc(), title)?)?;
-        } else if let Some(case) = cases.last_mut() {
-            case.add_line(rt.alloc(), line.as_str())?;
+fn tell_network<R: Print + AllocGlobal>(rt: &R, case: &Case) -> io::Result<()> {
+    match network_of(rt, case)? {
+        Some(net) => network::tell(rt, &net, case),
+        None => Ok(()),
+    }
+}
+
+// Tells of a case behind this common one, if there is one.
+fn tell<R: Print + AllocGlobal>(rt: &R, common: Option<&Case>, case: &Case) -> io::Result<()> {
+    if case.has_file {
+        return text::tell(rt, case);
+    }
+    match common {
+        Some(common) => given::tell(rt, common, case),
+        None => tell_network(rt, case),
+    }
+}
+
+fn tell_all<R: Print + AllocGlobal>(rt: &R, cases: &[Case]) -> io::Result<()> {
+    let mut common = None;
+    for case in cases {
+        if case.is_common {
+            tell(rt, None, case)?;
+            common = Some(case);
+        } else {
+            tell(rt, common, case)?;
         }
     }
-    Ok(cases)
+    Ok(())
 }
 
 fn main(rt: HostRuntime) -> io::Result<()> {
     let cases = read_cases(&rt)?;
-    for case in &cases {
-        telling::tell(&rt, case)?;
-    }
-    Ok(())
+    tell_all(&rt, &cases)
 }

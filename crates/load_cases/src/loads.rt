@@ -4,8 +4,8 @@ ghost use Rattle.nf_lines.specs.Faults.{longest_text};
 ghost use Rattle.nf_rational.specs.Operations.{0ℚ};
 ghost use Rattle.nf_rational.specs.Order.{◌≤ℚ◌};
 
-use crate::curves::{tell_loaded, time};
-use case_lines::{Shown, tell_passed};
+use crate::curves::tell_loaded;
+use case_lines::{Shown, not_negative, tell_passed};
 use nf_frac::{Halt, Q};
 use nf_load::{Loaded, Loads, LoadsFault, cumulative, load_link, parse_loads};
 use nf_net::{LinkId, Network};
@@ -74,7 +74,7 @@ fn tell_loads<R: Print + AllocGlobal>(
     for number in 0..net.link_count() {
         tell_pieces(rt, net, loads, LinkId(number))?;
     }
-    match time(horizon) {
+    match not_negative(horizon) {
         Some(until) => tell_links(rt, net, loads, until),
         None if horizon.is_empty() => Ok(()),
         None => println!(rt; "no horizon"),

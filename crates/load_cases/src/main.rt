@@ -34,10 +34,14 @@ fn tell<R: Print + AllocGlobal>(rt: &R, case: &Case) -> io::Result<()> {
     }
 }
 
-fn main(rt: HostRuntime) -> io::Result<()> {
-    let cases = read_cases(&rt)?;
-    for case in &cases {
-        tell(&rt, case)?;
+fn tell_all<R: Print + AllocGlobal>(rt: &R, cases: &[Case]) -> io::Result<()> {
+    for case in cases {
+        tell(rt, case)?;
     }
     Ok(())
+}
+
+fn main(rt: HostRuntime) -> io::Result<()> {
+    let cases = read_cases(&rt)?;
+    tell_all(&rt, &cases)
 }

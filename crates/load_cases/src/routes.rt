@@ -6,8 +6,8 @@ ghost use Rattle.nf_rational.specs.Order.{◌≤ℚ◌};
 ghost use Rattle.nf_routes_lists.specs.Routes.{AreRoutes};
 ghost use Rattle.nf_route.specs.Kept.{routes_of};
 
-use crate::curves::{tell_curve, tell_loaded, time};
-use case_lines::{Shown, tell_passed};
+use crate::curves::{tell_curve, tell_loaded};
+use case_lines::{Shown, not_negative, tell_passed};
 use nf_frac::{Halt, Q};
 use nf_net::{LinkId, Network};
 use nf_routes::{Routed, Routes, RoutesFault, load_routes, parse_routes};
@@ -54,6 +54,11 @@ fn tell_routes<R: Print>(rt: &R, routes: &Routes, routed: &Routed) -> io::Result
     Ok(())
 }
 
+fn tell_all<R: Print>(rt: &R, net: &Network, routes: &Routes, routed: &Routed) -> io::Result<()> {
+    tell_links(rt, net, routed)?;
+    tell_routes(rt, routes, routed)
+}
+
 // Tells how the routes are loaded up to a time, or which operation passes.
 fn tell_routed<R: Print + AllocGlobal>(
     rt: &R,
@@ -65,10 +70,7 @@ fn tell_routed<R: Print + AllocGlobal>(
     requires until { 0ℚ ≤ℚ until }
 {
     match load_routes(rt.alloc(), net, routes, until) {
-        Ok(routed) => {
-            tell_links(rt, net, &routed)?;
-            tell_routes(rt, routes, &routed)
-        }
+        Ok(routed) => tell_all(rt, net, routes, &routed),
         Err(Halt::Passed(at)) => tell_passed(rt, &at),
         Err(Halt::Memory) => println!(rt; "memory is wanting"),
     }
@@ -83,7 +85,7 @@ fn tell_horizon<R: Print + AllocGlobal>(
 ) -> io::Result<()>
     requires { AreRoutes net.now.net (routes_of routes.now) }
 {
-    match time(horizon) {
+    match not_negative(horizon) {
         Some(until) => tell_routed(rt, net, routes, until),
         None if horizon.is_empty() => Ok(()),
         None => println!(rt; "no horizon"),

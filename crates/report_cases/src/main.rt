@@ -1,11 +1,12 @@
-//! What reports are read as, and what is answered of them. The input is cases in the form of `case_lines`: each a network and a report,
-//! and what is asked is nothing, `check`, or the horizon to which the report is resumed.
+//! Texts: reports, runs without a horizon, and ladders. The input is cases in the form of `case_lines`, and what is asked says what a
+//! case is: `forever` and how many phases may be made, and how many patterns may be tried in each; `ladders`, where each line asks for a
+//! ladder; and otherwise a network with a report, of which is asked nothing, `check`, or the horizon to which it is resumed.
 //!
-//! Of each case the title is printed, and then the first rule that the report breaks, with the line. Where it breaks none and nothing is
-//! asked, whether the report that was read is written as the same bytes. To `check` the answer is `yes`, or `no` with the rule, the node
-//! or link, the time and the two values. With a horizon it is the report to which this one is resumed, with at most four phases more; or
-//! `earlier` with the departure reached, or the answer `no` of the check. Where an operation passes, `passed` follows with the part, the
-//! operation and its operands.
+//! Of each case the title is printed. Of a run without a horizon the text of it follows, and of ladders their canonical texts. Of a
+//! report the first rule that it breaks follows, with the line. Where it breaks none and nothing is asked, whether the report that was
+//! read is written as the same bytes. To `check` the answer is `yes`, or `no` with the rule, the node or link, the time and the two
+//! values. With a horizon it is the report to which this one is resumed, with at most four phases more; or `earlier` with the departure
+//! reached, or the answer `no` of the check. Where an operation passes, `passed` follows with the part, the operation and its operands.
 #![tactic(auto)]
 
 ghost use Rattle.std.specs.Prelude.{◌≤◌, length};
@@ -14,6 +15,8 @@ ghost use Rattle.nf_lines.specs.Faults.{longest_text};
 ghost use Rattle.nf_reader.specs.Files.{report_of};
 
 mod checking;
+mod forever;
+mod ladders;
 mod resuming;
 mod writing;
 
@@ -41,7 +44,7 @@ fn tell_report<R: Print + AllocGlobal>(
     }
 }
 
-fn tell_case<R: Print + AllocGlobal>(rt: &R, net: &Network, case: &Case) -> io::Result<()> {
+fn tell_file<R: Print + AllocGlobal>(rt: &R, net: &Network, case: &Case) -> io::Result<()> {
     if case.file.len() > MOST as usize {
         return println!(rt; "too long");
     }
@@ -52,18 +55,32 @@ fn tell_case<R: Print + AllocGlobal>(rt: &R, net: &Network, case: &Case) -> io::
     }
 }
 
-// Tells of a case.
+// Tells of a case with a network.
+fn tell_network<R: Print + AllocGlobal>(rt: &R, net: &Network, case: &Case) -> io::Result<()> {
+    match case.asked.strip_prefix("forever ") {
+        Some(budgets) => forever::tell(rt, net, budgets),
+        None => tell_file(rt, net, case),
+    }
+}
+
 fn tell<R: Print + AllocGlobal>(rt: &R, case: &Case) -> io::Result<()> {
+    if case.asked.as_str() == "ladders" {
+        return ladders::tell(rt, case);
+    }
     match network_of(rt, case)? {
-        Some(net) => tell_case(rt, &net, case),
+        Some(net) => tell_network(rt, &net, case),
         None => Ok(()),
     }
 }
 
-fn main(rt: HostRuntime) -> io::Result<()> {
-    let cases = read_cases(&rt)?;
-    for case in &cases {
-        tell(&rt, case)?;
+fn tell_all<R: Print + AllocGlobal>(rt: &R, cases: &[Case]) -> io::Result<()> {
+    for case in cases {
+        tell(rt, case)?;
     }
     Ok(())
+}
+
+fn main(rt: HostRuntime) -> io::Result<()> {
+    let cases = read_cases(&rt)?;
+    tell_all(&rt, &cases)
 }

@@ -18,24 +18,51 @@ mod running;
 
 use faults::Faults;
 use files::File;
+use std::alloc::{AllocError, Global};
 use std::io;
 
-fn main(rt: HostRuntime) -> io::Result<()> {
-    let mut files: Vec<File> = Vec::new(rt.alloc());
+// Takes in a line of a file, or the beginning of one.
+fn take_file_line(alloc: Global, files: &mut Vec<File>, line: &str) -> Result<(), AllocError> {
+    if let Some(name) = line.strip_prefix("== ") {
+        let file = File::new(alloc, name)?;
+        files.push(file)?;
+        return Ok(());
+    }
+    match files.last_mut() {
+        Some(file) => file.add_line(line),
+        None => Ok(()),
+    }
+}
+
+// Takes in a line, and gives the calls that fail in the next run.
+fn take_line<R: Print + AllocGlobal>(
+    rt: &R,
+    files: &mut Vec<File>,
+    faults: Faults,
+    line: &str,
+) -> io::Result<Faults> {
+    if let Some(fault) = line.strip_prefix("!! ") {
+        return Ok(faults.with(fault));
+    }
+    if let Some(words) = line.strip_prefix("$$") {
+        println!(rt; "{line}")?;
+        running::tell(rt, files, faults, words)?;
+        return Ok(Faults::none());
+    }
+    take_file_line(rt.alloc(), files, line)?;
+    Ok(faults)
+}
+
+fn take_lines<R: Input + Print + AllocGlobal>(rt: &R, files: &mut Vec<File>) -> io::Result<()> {
     let mut faults = Faults::none();
     for line in rt.lines(rt.alloc()) {
         let line = line?;
-        if let Some(name) = line.strip_prefix("== ") {
-            files.push(File::new(rt.alloc(), name)?)?;
-        } else if let Some(fault) = line.strip_prefix("!! ") {
-            faults = faults.with(fault);
-        } else if let Some(words) = line.strip_prefix("$$") {
-            println!(rt; "{line}")?;
-            running::tell(&rt, &files, faults, words)?;
-            faults = Faults::none();
-        } else if let Some(file) = files.last_mut() {
-            file.add_line(line.as_str())?;
-        }
+        faults = take_line(rt, files, faults, line.as_str())?;
     }
     Ok(())
+}
+
+fn main(rt: HostRuntime) -> io::Result<()> {
+    let mut files = Vec::new(rt.alloc());
+    take_lines(&rt, &mut files)
 }

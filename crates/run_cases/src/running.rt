@@ -13,33 +13,48 @@ const ROOM: u32 = 100_000;
 
 const MOST: u32 = 4096;
 
+fn add_word(alloc: Global, words: &mut Vec<String>, word: &str) -> Result<(), AllocError> {
+    let word = word.to_owned(alloc)?;
+    words.push(word)?;
+    Ok(())
+}
+
+fn add_words(alloc: Global, words: &mut Vec<String>, line: &str) -> Result<(), AllocError> {
+    add_word(alloc, words, "nfot")?;
+    if let Some(line) = line.strip_prefix(" ") {
+        for word in line.split(' ') {
+            add_word(alloc, words, word)?;
+        }
+    }
+    Ok(())
+}
+
 // The words, with the program's name first.
 fn words_of(alloc: Global, line: &str) -> Result<Vec<String>, AllocError> {
     let mut words = Vec::new(alloc);
-    words.push("nfot".to_owned(alloc)?)?;
-    if let Some(line) = line.strip_prefix(" ") {
-        for word in line.split(' ') {
-            words.push(word.to_owned(alloc)?)?;
-        }
-    }
+    add_words(alloc, &mut words, line)?;
     Ok(words)
 }
 
-// A shelf with the files that the words name.
-fn shelf_of(
+// Whether one of the words is this name.
+fn is_named(words: &[String], name: &str) -> bool {
+    words.iter().any(|word| word.as_str() == name)
+}
+
+// Puts the files that the words name on a shelf.
+fn fill(
     alloc: Global,
+    shelf: &mut MemShelf,
     files: &[File],
     words: &[String],
-    failing: u32,
-) -> Result<MemShelf, AllocError> {
-    let mut shelf = MemShelf::new(alloc);
+) -> Result<(), AllocError> {
     for file in files {
-        if words.iter().any(|word| word.as_str() == file.name.as_str()) {
-            shelf.put(alloc, file.name.as_str(), &file.bytes)?;
+        let name = file.name.as_str();
+        if is_named(words, name) {
+            shelf.put(alloc, name, &file.bytes)?;
         }
     }
-    shelf.fail(failing)?;
-    Ok(shelf)
+    Ok(())
 }
 
 // The most bytes of a write: one where a write fails, so that each byte is a write.
@@ -56,28 +71,6 @@ fn sink(alloc: Global, failing: u32) -> Result<MemSink, AllocError> {
     Ok(sink)
 }
 
-// A run that ended.
-#[derive(Drop)]
-struct Ended {
-    status: Status,
-    out: MemSink,
-    err: MemSink,
-}
-
-fn run_over(
-    alloc: Global,
-    files: &[File],
-    faults: Faults,
-    line: &str,
-) -> Result<Ended, AllocError> {
-    let words = words_of(alloc, line)?;
-    let mut shelf = shelf_of(alloc, files, &words, faults.fetch)?;
-    let mut out = sink(alloc, faults.out)?;
-    let mut err = sink(alloc, faults.err)?;
-    let status = run(alloc, &words, &mut shelf, &mut out, &mut err);
-    Ok(Ended { status, out, err })
-}
-
 // Bytes as text, with a mark where no LF ends them.
 fn tell_text<R: Print>(rt: &R, bytes: &[u8], mark: &str) -> io::Result<()> {
     let text = std::str::from_utf8(bytes).unwrap_or("?");
@@ -91,6 +84,39 @@ fn tell_text<R: Print>(rt: &R, bytes: &[u8], mark: &str) -> io::Result<()> {
     Ok(())
 }
 
+// How a run ended.
+fn tell_ended<R: Print>(rt: &R, status: Status, out: &MemSink, err: &MemSink) -> io::Result<()> {
+    tell_text(rt, out.bytes(), "")?;
+    tell_text(rt, err.bytes(), "! ")?;
+    println!(rt; "= {}", status.number())
+}
+
+// Runs the program on these words, over the files of a shelf.
+fn run_over<R: Print + AllocGlobal>(
+    rt: &R,
+    shelf: &mut MemShelf,
+    faults: Faults,
+    words: &[String],
+) -> io::Result<()> {
+    let mut out = sink(rt.alloc(), faults.out)?;
+    let mut err = sink(rt.alloc(), faults.err)?;
+    let status = run(rt.alloc(), words, shelf, &mut out, &mut err);
+    tell_ended(rt, status, &out, &err)
+}
+
+// Runs the program on these words, over those of the files that they name.
+fn run_words<R: Print + AllocGlobal>(
+    rt: &R,
+    files: &[File],
+    faults: Faults,
+    words: &[String],
+) -> io::Result<()> {
+    let mut shelf = MemShelf::new(rt.alloc());
+    fill(rt.alloc(), &mut shelf, files, words)?;
+    shelf.fail(faults.fetch)?;
+    run_over(rt, &mut shelf, faults, words)
+}
+
 /// Runs the program on the words of a line, and prints how that ended.
 pub fn tell<R: Print + AllocGlobal>(
     rt: &R,
@@ -98,8 +124,6 @@ pub fn tell<R: Print + AllocGlobal>(
     faults: Faults,
     line: &str,
 ) -> io::Result<()> {
-    let ended = run_over(rt.alloc(), files, faults, line)?;
-    tell_text(rt, ended.out.bytes(), "")?;
-    tell_text(rt, ended.err.bytes(), "! ")?;
-    println!(rt; "= {}", ended.status.number())
+    let words = words_of(rt.alloc(), line)?;
+    run_words(rt, files, faults, &words)
 }

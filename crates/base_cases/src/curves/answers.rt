@@ -1,0 +1,107 @@
+// What the calls answer to the cases.
+use crate::curves::reading::{Fault, curve, is_never_negative, time};
+use nf_curve::{Curve, Difference};
+use nf_frac::{Part, Q};
+use std::alloc::Global;
+
+/// What a call answers.
+#[derive(Drop)]
+pub enum Answer {
+    Value(Q),
+    Curve(Curve),
+    Difference(Option<Difference>),
+}
+
+// What stands before the next `|`, and what stands behind it.
+fn split(operands: &str) -> Result<(&str, &str), Fault> {
+    operands.split_once('|').ok_or(Fault::NoCase)
+}
+
+fn points(alloc: Global, operands: &str) -> Result<Answer, Fault> {
+    Ok(Answer::Curve(curve(alloc, operands)?))
+}
+
+fn short(alloc: Global, operands: &str) -> Result<Answer, Fault> {
+    let short = Curve::short(alloc, &curve(alloc, operands)?, Part::Curve)?;
+    Ok(Answer::Curve(short))
+}
+
+fn value(alloc: Global, operands: &str) -> Result<Answer, Fault> {
+    let (points, at) = split(operands)?;
+    let at = time(at)?;
+    let value = curve(alloc, points)?.value(at, Part::Curve)?;
+    Ok(Answer::Value(value))
+}
+
+fn cut(alloc: Global, operands: &str) -> Result<Answer, Fault> {
+    let (points, until) = split(operands)?;
+    let until = time(until)?;
+    let cut = curve(alloc, points)?.cut(alloc, until, Part::Curve)?;
+    Ok(Answer::Curve(cut))
+}
+
+fn composed(alloc: Global, outer: &Curve, inner: &Curve, until: &str) -> Result<Answer, Fault> {
+    if !is_never_negative(inner) {
+        return Err(Fault::NoCase);
+    }
+    let composed = Curve::compose(alloc, outer, inner, time(until)?, Part::Curve)?;
+    Ok(Answer::Curve(composed))
+}
+
+fn difference(left: &Curve, right: &Curve, until: &str) -> Result<Answer, Fault> {
+    let found = Curve::first_difference(left, right, time(until)?, Part::Curve)?;
+    Ok(Answer::Difference(found))
+}
+
+// What a call on two curves answers.
+fn of_curves(
+    alloc: Global,
+    call: &str,
+    left: &Curve,
+    right: &Curve,
+    until: &str,
+) -> Result<Answer, Fault> {
+    match call {
+        "sum" => Ok(Answer::Curve(Curve::sum(alloc, left, right, Part::Curve)?)),
+        "least" => Ok(Answer::Curve(Curve::least(alloc, left, right, Part::Curve)?)),
+        "compose" => composed(alloc, left, right, until),
+        _ => difference(left, right, until),
+    }
+}
+
+// The same of the curves that are written so.
+fn of_two(
+    alloc: Global,
+    call: &str,
+    left: &str,
+    right: &str,
+    until: &str,
+) -> Result<Answer, Fault> {
+    let left = curve(alloc, left)?;
+    let right = curve(alloc, right)?;
+    of_curves(alloc, call, &left, &right, until)
+}
+
+// A call on two curves and a time.
+fn of_three(alloc: Global, call: &str, operands: &str) -> Result<Answer, Fault> {
+    let (left, operands) = split(operands)?;
+    let (right, until) = split(operands)?;
+    of_two(alloc, call, left, right, until)
+}
+
+/// What the call of this case answers.
+pub fn answer_to(alloc: Global, line: &str) -> Result<Answer, Fault> {
+    let (call, operands) = line.split_once(' ').ok_or(Fault::NoCase)?;
+    match call {
+        "points" => points(alloc, operands),
+        "short" => short(alloc, operands),
+        "value" => value(alloc, operands),
+        "cut" => cut(alloc, operands),
+        "sum" | "least" => {
+            let (left, right) = split(operands)?;
+            of_two(alloc, call, left, right, "")
+        }
+        "compose" | "difference" => of_three(alloc, call, operands),
+        _ => Err(Fault::NoCase),
+    }
+}

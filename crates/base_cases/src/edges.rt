@@ -1,0 +1,23 @@
+// What shelves give and sinks take, in memory and real. A line asks for one of these, and its answer is a line for each fetch or each
+// text that is written:
+//
+//     shelf    a shelf in memory
+//     sinks    sinks in memory
+//     file     a real file
+//     full     a writer that is full
+mod memory;
+mod real;
+
+use std::io;
+use std::rt::Files;
+
+/// Answers a line.
+pub fn tell<R: Print + Files + AllocGlobal>(rt: &R, line: &str) -> io::Result<()> {
+    match line {
+        "shelf" => memory::shelf(rt),
+        "sinks" => memory::sinks(rt),
+        "file" => real::file(rt),
+        "full" => real::full_writer(rt),
+        _ => println!(rt; "no question"),
+    }
+}
