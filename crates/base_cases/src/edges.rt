@@ -8,8 +8,17 @@
 mod memory;
 mod real;
 
+use nf_edge::{Sink, write_text};
 use std::io;
 use std::rt::Files;
+
+/// What comes of a text that is written.
+pub fn answer_of<S: Sink>(sink: &mut S) -> &'static str {
+    match write_text(sink, b"report") {
+        Ok(()) => "written",
+        Err(_) => "failed",
+    }
+}
 
 /// Answers a line.
 pub fn tell<R: Print + Files + AllocGlobal>(rt: &R, line: &str) -> io::Result<()> {

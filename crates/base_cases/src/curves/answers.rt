@@ -26,18 +26,20 @@ fn short(alloc: Global, operands: &str) -> Result<Answer, Fault> {
     Ok(Answer::Curve(short))
 }
 
-fn value(alloc: Global, operands: &str) -> Result<Answer, Fault> {
-    let (points, at) = split(operands)?;
+// What a call on a curve and a time answers.
+fn at_time(alloc: Global, call: &str, curve: &Curve, at: &str) -> Result<Answer, Fault> {
     let at = time(at)?;
-    let value = curve(alloc, points)?.value(at, Part::Curve)?;
-    Ok(Answer::Value(value))
+    match call {
+        "value" => Ok(Answer::Value(curve.value(at, Part::Curve)?)),
+        _ => Ok(Answer::Curve(curve.cut(alloc, at, Part::Curve)?)),
+    }
 }
 
-fn cut(alloc: Global, operands: &str) -> Result<Answer, Fault> {
-    let (points, until) = split(operands)?;
-    let until = time(until)?;
-    let cut = curve(alloc, points)?.cut(alloc, until, Part::Curve)?;
-    Ok(Answer::Curve(cut))
+// The same of a curve that is written so.
+fn of_one(alloc: Global, call: &str, operands: &str) -> Result<Answer, Fault> {
+    let (points, at) = split(operands)?;
+    let curve = curve(alloc, points)?;
+    at_time(alloc, call, &curve, at)
 }
 
 fn composed(alloc: Global, outer: &Curve, inner: &Curve, until: &str) -> Result<Answer, Fault> {
@@ -82,6 +84,12 @@ fn of_two(
     of_curves(alloc, call, &left, &right, until)
 }
 
+// A call on two curves.
+fn of_pair(alloc: Global, call: &str, operands: &str) -> Result<Answer, Fault> {
+    let (left, right) = split(operands)?;
+    of_two(alloc, call, left, right, "")
+}
+
 // A call on two curves and a time.
 fn of_three(alloc: Global, call: &str, operands: &str) -> Result<Answer, Fault> {
     let (left, operands) = split(operands)?;
@@ -95,12 +103,8 @@ pub fn answer_to(alloc: Global, line: &str) -> Result<Answer, Fault> {
     match call {
         "points" => points(alloc, operands),
         "short" => short(alloc, operands),
-        "value" => value(alloc, operands),
-        "cut" => cut(alloc, operands),
-        "sum" | "least" => {
-            let (left, right) = split(operands)?;
-            of_two(alloc, call, left, right, "")
-        }
+        "value" | "cut" => of_one(alloc, call, operands),
+        "sum" | "least" => of_pair(alloc, call, operands),
         "compose" | "difference" => of_three(alloc, call, operands),
         _ => Err(Fault::NoCase),
     }

@@ -6,13 +6,15 @@ use nf_curve::{Curve, Difference};
 use std::alloc::AllocError;
 use std::io;
 
+// What stands before a point.
+fn before(place: usize) -> &'static str {
+    if place == 0 { "" } else { " " }
+}
+
 fn tell_points<R: Print>(rt: &R, curve: &Curve) -> io::Result<()> {
-    let count = curve.len();
-    let (time, value) = curve.point(0);
-    print!(rt; "{} {}", Shown(time), Shown(value))?;
-    for i in 1..count {
+    for i in 0..curve.len() {
         let (time, value) = curve.point(i);
-        print!(rt; " {} {}", Shown(time), Shown(value))?;
+        print!(rt; "{}{} {}", before(i), Shown(time), Shown(value))?;
     }
     println!(rt; "")
 }

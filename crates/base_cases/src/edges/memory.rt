@@ -1,22 +1,32 @@
 // A shelf and sinks in memory.
-use nf_edge::{MemShelf, MemSink, Shelf, write_text};
+use crate::edges::answer_of;
+use case_lines::as_text;
+use nf_edge::{MemShelf, MemSink, Shelf};
 use std::alloc::{AllocError, Global};
 use std::io;
 
-// A shelf with files, of which the fifth fetch fails.
-fn filled(alloc: Global) -> Result<MemShelf, AllocError> {
-    let mut shelf = MemShelf::new(alloc);
+// Puts files on a shelf, of which the fifth fetch fails.
+fn fill(alloc: Global, shelf: &mut MemShelf) -> Result<(), AllocError> {
     shelf.put(alloc, "A", b"one")?;
     shelf.put(alloc, "B", b"two two")?;
     shelf.put(alloc, "A", b"three")?;
     shelf.put(alloc, "none", b"")?;
-    shelf.fail(5)?;
-    Ok(shelf)
+    shelf.fail(5)
 }
 
-/// What was put under a name last is given, unless it is longer than the limit or the call fails.
-pub fn shelf<R: Print + AllocGlobal>(rt: &R) -> io::Result<()> {
-    let mut shelf = filled(rt.alloc())?;
+fn tell_fetch<R: Print + AllocGlobal>(
+    rt: &R,
+    shelf: &mut MemShelf,
+    name: &str,
+    limit: u32,
+) -> io::Result<()> {
+    match shelf.fetch(rt.alloc(), name, limit) {
+        Ok(bytes) => println!(rt; "{name} at most {limit}: `{}`", as_text(&bytes)),
+        Err(fault) => println!(rt; "{name} at most {limit}: {fault:?}"),
+    }
+}
+
+fn tell_fetches<R: Print + AllocGlobal>(rt: &R, shelf: &mut MemShelf) -> io::Result<()> {
     let calls: [(&str, u32); 7] = [
         ("A", 5),
         ("A", 4),
@@ -27,27 +37,29 @@ pub fn shelf<R: Print + AllocGlobal>(rt: &R) -> io::Result<()> {
         ("none", 0),
     ];
     for (name, limit) in calls {
-        match shelf.fetch(rt.alloc(), name, limit) {
-            Ok(bytes) => {
-                let text = std::str::from_utf8(&bytes).unwrap_or("?");
-                println!(rt; "{name} at most {limit}: `{text}`")?;
-            }
-            Err(fault) => println!(rt; "{name} at most {limit}: {fault:?}")?,
-        }
+        tell_fetch(rt, shelf, name, limit)?;
     }
     Ok(())
 }
 
-// Writes `report` into a sink.
+/// What was put under a name last is given, unless it is longer than the limit or the call fails.
+pub fn shelf<R: Print + AllocGlobal>(rt: &R) -> io::Result<()> {
+    let mut shelf = MemShelf::new(rt.alloc());
+    fill(rt.alloc(), &mut shelf)?;
+    tell_fetches(rt, &mut shelf)
+}
+
+fn tell_written<R: Print>(rt: &R, sink: &mut MemSink) -> io::Result<()> {
+    let answer = answer_of(sink);
+    println!(rt; "`{}` {answer}", as_text(sink.bytes()))
+}
+
+// A text is written into a sink with so much room, which takes at most so many bytes a write, until a write fails.
 fn written<R: Print + AllocGlobal>(rt: &R, room: u32, most: u32, failing: u32) -> io::Result<()> {
+    print!(rt; "room {room}, at most {most}, write {failing} fails: ")?;
     let mut sink = MemSink::new(rt.alloc(), room, most.max(1))?;
     sink.fail(failing)?;
-    let answer = match write_text(&mut sink, b"report") {
-        Ok(()) => "written",
-        Err(_) => "failed",
-    };
-    let text = std::str::from_utf8(sink.bytes()).unwrap_or("?");
-    println!(rt; "room {room}, at most {most}, write {failing} fails: `{text}` {answer}")
+    tell_written(rt, &mut sink)
 }
 
 /// The first bytes are taken, up to the room or to a write that fails.

@@ -1,4 +1,6 @@
 // A real file, and a writer that is full.
+use crate::edges::answer_of;
+use case_lines::as_text;
 use nf_edge::{RealShelf, Shelf, StdSink, write_text};
 use std::alloc::{AllocError, Global};
 use std::rt::Files;
@@ -16,6 +18,14 @@ fn long_text(alloc: Global) -> Result<Vec<u8>, AllocError> {
     Ok(text)
 }
 
+fn compared(bytes: &[u8], text: &[u8]) -> &'static str {
+    if bytes == text {
+        "as written"
+    } else {
+        "another text"
+    }
+}
+
 // Fetches the file, at most so many bytes, and compares it with the text that was written.
 fn fetch<R: Print + AllocGlobal, S: Shelf>(
     rt: &R,
@@ -25,39 +35,46 @@ fn fetch<R: Print + AllocGlobal, S: Shelf>(
 ) -> io::Result<()> {
     match shelf.fetch(rt.alloc(), NAME, limit) {
         Ok(bytes) => {
-            let answer = if bytes.as_slice() == text {
-                "as written"
-            } else {
-                "another text"
-            };
+            let answer = compared(&bytes, text);
             println!(rt; "a file at most {limit}: {} bytes, {answer}", bytes.len())
         }
         Err(fault) => println!(rt; "a file at most {limit}: {fault:?}"),
     }
 }
 
+// Whether the text could be written into the file.
+fn write_file<R: Files>(rt: &R, text: &[u8]) -> io::Result<bool> {
+    let mut sink = StdSink::new(fs::create(rt, NAME)?);
+    Ok(write_text(&mut sink, text).is_ok())
+}
+
+fn fetch_text<R: Print + Files + AllocGlobal>(rt: &R, text: &[u8]) -> io::Result<()> {
+    let mut shelf = RealShelf::new(rt, rt.alloc());
+    fetch(rt, &mut shelf, 10_000, text)?;
+    fetch(rt, &mut shelf, 9_999, text)?;
+    fs::remove_file(rt, NAME)?;
+    fetch(rt, &mut shelf, 10_000, text)
+}
+
+fn tell_file<R: Print + Files + AllocGlobal>(rt: &R, text: &[u8]) -> io::Result<()> {
+    if write_file(rt, text)? {
+        fetch_text(rt, text)
+    } else {
+        println!(rt; "a write failed")
+    }
+}
+
 /// A file is written, and fetched within the limit, beyond it, and when it is gone.
 pub fn file<R: Print + Files + AllocGlobal>(rt: &R) -> io::Result<()> {
     let text = long_text(rt.alloc())?;
-    let mut sink = StdSink::new(fs::create(rt, NAME)?);
-    if write_text(&mut sink, &text).is_err() {
-        return println!(rt; "a write failed");
-    }
-    let mut shelf = RealShelf::new(rt, rt.alloc());
-    fetch(rt, &mut shelf, 10_000, &text)?;
-    fetch(rt, &mut shelf, 9_999, &text)?;
-    fs::remove_file(rt, NAME)?;
-    fetch(rt, &mut shelf, 10_000, &text)
+    tell_file(rt, &text)
 }
 
 /// A writer with room for four bytes.
 pub fn full_writer<R: Print>(rt: &R) -> io::Result<()> {
     let mut room = [b'-'; 4];
     let mut sink = StdSink::new(room.as_mut_slice());
-    let answer = match write_text(&mut sink, b"report") {
-        Ok(()) => "written",
-        Err(_) => "failed",
-    };
-    let text = std::str::from_utf8(room.as_slice()).unwrap_or("?");
+    let answer = answer_of(&mut sink);
+    let text = as_text(room.as_slice());
     println!(rt; "a writer with room for 4: `{text}` {answer}")
 }
