@@ -23,7 +23,7 @@ use Rattle.nf_lists.specs.ReportCurves.{GrowingCurve}
 use Rattle.nf_lists.specs.PhaseRun.{Bounds, Standing, flow_of, report_of}
 use Rattle.nf_lists_laws.proofs.Ending.{run_ends}
 use Rattle.nf_phase.specs.Solution.{bounds_of, IsSolution}
-use Rattle.nf_app.specs.declared.arrival.Arrival.{Arrival}
+use Rattle.nf_answers.specs.declared.arrival.Arrival.{Arrival}
 use Rattle.nf_quick_lists.specs.Quick.{Quick as QuickFlow}
 use Rattle.nf_quick_lists.specs.Answers.{IsQuickFlow}
 use Rattle.nf_quick_lists.specs.Departures.{IsDeparture}
@@ -32,10 +32,10 @@ use Rattle.nf_quick.specs.Answered.{HasNoWay, IsAnswered}
 use Rattle.nf_quick.specs.declared.fault.QuickFault.{QuickFault}
 use Rattle.nf_curve.specs.Flows.{flow_of as shown_flow}
 use Rattle.nf_curve.specs.declared.flow.Flow.{Flow as CodeFlow}
-use Rattle.nf_app.specs.Files.{Visit}
+use Rattle.nf_fetch.specs.Files.{Visit}
 use Rattle.nf_words.specs.Requests.{Quick}
 use Rattle.nf_app.specs.Requests.{usual_budgets}
-use Rattle.nf_app.specs.Answers.{Quickest, TooManyWalks, Passes, Unbounded}
+use Rattle.nf_answers.specs.Answers.{Quickest, TooManyWalks, Passes, Unbounded}
 use Rattle.nf_app.specs.Given.{IsGiven}
 use Rattle.nf_app.specs.QuickGiven.{flow_list, departs_list, arrival_of, ArrivesIn, IsArrival}
 

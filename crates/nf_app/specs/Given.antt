@@ -23,17 +23,17 @@ use Rattle.nf_routes_lists.specs.RoutesFile.{RoutesBroken, NamedRoute}
 use Rattle.nf_routes_lists.specs.RoutesList.{Routed}
 use Rattle.nf_quick_lists.specs.Quick.{Augment, Quick as QuickFlow}
 use Rattle.nf_phase.specs.Solution.{bounds_of, IsSolution}
-use Rattle.nf_app.specs.Files.{Visit}
+use Rattle.nf_fetch.specs.Files.{Visit}
 use Rattle.nf_words.specs.Requests.{Request, Solve, SolveForever, Show, Load, Check, Quick, Gen, Settle, Resume, Routes}
 use Rattle.nf_app.specs.Requests.{budgets_of}
-use Rattle.nf_app.specs.Answers.{Answer, Solved, SolvedForever, Shown, Loaded, Checked, Quickest, TooManyWalks, Generated, Settled, Distributed, MalformedLoads, MalformedFlows, MalformedRoutes, MalformedReport, Passes, Unbounded, NotThin, Earlier}
+use Rattle.nf_answers.specs.Answers.{Answer, Solved, SolvedForever, Shown, Loaded, Checked, Quickest, TooManyWalks, Generated, Settled, Distributed, MalformedLoads, MalformedFlows, MalformedRoutes, MalformedReport, Passes, Unbounded, NotThin, Earlier}
 use Rattle.nf_app.specs.CheckGiven.{ReportReads, IsChecked, PassesChecking}
 use Rattle.nf_app.specs.QuickGiven.{IsQuickest, IsOverBudget, PassesQuick, IsUnbounded}
 use Rattle.nf_app.specs.SettleGiven.{FlowsRead, IsSettled, IsNotThin, PassesSettling}
 use Rattle.nf_app.specs.ForeverGiven.{IsUnending}
 use Rattle.nf_app.specs.RoutesGiven.{RoutesRead, IsDistributed, PassesRoutes}
 use Rattle.nf_app.specs.ResumeGiven.{IsGoneOn, IsNoStart, PassesResuming, IsBefore}
-use Rattle.nf_app.specs.declared.arrival.Arrival.{Arrival}
+use Rattle.nf_answers.specs.declared.arrival.Arrival.{Arrival}
 
 -- where the shelf tells the bytes of the file, they read as these pieces of the links of the network, or break this rule first
 abbrev pub LoadsRead : Visit → Named → List ℕ → Result (List (List Piece)) LoadsBroken → Type 0

@@ -1,10 +1,4 @@
-pub mod ErrorLines
-pub mod Files
-pub mod Sinks
 pub mod Requests
-pub mod QuickText
-pub mod GenText
-pub mod Answers
 pub mod CheckGiven
 pub mod QuickGiven
 pub mod SettleGiven
@@ -14,7 +8,5 @@ pub mod ResumeGiven
 pub mod Given
 pub mod Runs
 pub mod Completeness
-pub mod Refusals
-pub mod Fetching
 pub mod Outcomes
 pub mod Settling

@@ -20,7 +20,7 @@ use Rattle.nf_quick_lists.specs.Answers.{IsQuickFlow}
 use Rattle.nf_quick_lists.specs.Departures.{IsDeparture, departure_list}
 use Rattle.nf_quick.specs.Answered.{HasNoWay}
 use Rattle.nf_phase.specs.Solution.{bounds_of, IsSolution}
-use Rattle.nf_app.specs.declared.arrival.Arrival.{Arrival}
+use Rattle.nf_answers.specs.declared.arrival.Arrival.{Arrival}
 use Rattle.nf_app.specs.Requests.{usual_budgets}
 
 -- ---- the lists of operations

@@ -5,22 +5,7 @@ use Rattle.nf_gen.specs.Ladder.{ladder}
 use Rattle.nf_phase.specs.declared.solution.Budgets.{Budgets}
 use Rattle.nf_words.specs.Numbers.{usual_phases, usual_patterns}
 use Rattle.nf_words.specs.Requests.{Request, Solve, SolveForever, Show, Load, Check, Quick, Gen, Settle, Resume, Routes}
-use Rattle.nf_app.specs.Files.{Wanted, network_limit, loads_limit, flows_limit, routes_limit, report_limit}
-
-abbrev pub network_file : List ℕ → Wanted
-network_file name = record { name = name; limit = network_limit }
-
-abbrev pub loads_file : List ℕ → Wanted
-loads_file name = record { name = name; limit = loads_limit }
-
-abbrev pub flows_file : List ℕ → Wanted
-flows_file name = record { name = name; limit = flows_limit }
-
-abbrev pub routes_file : List ℕ → Wanted
-routes_file name = record { name = name; limit = routes_limit }
-
-abbrev pub report_file : List ℕ → Wanted
-report_file name = record { name = name; limit = report_limit }
+use Rattle.nf_fetch.specs.Files.{Wanted, network_file, loads_file, flows_file, routes_file, report_file}
 
 -- the files that are wanted, in the order in which they are fetched; the first is the network's
 abbrev pub files_of : Request → List Wanted

@@ -1,16 +1,16 @@
 -- When a run of the program gives which answer, and what its sinks then took.
-use Rattle.std.specs.Prelude.{◌≡◌, ◌⊎◌, ℕ, List, [], ◌∷◌, Option, Some, None, IfSome, Result, Ok, Err}
+use Rattle.std.specs.Prelude.{◌≡◌, ◌⊎◌, ℕ, List, Some, None, Result, Ok, Err}
 use Rattle.nf_formats.specs.Named.{Named}
 use Rattle.nf_formats.specs.NetLines.{Broken}
-use Rattle.nf_formats.specs.NetFile.{Reads}
-use Rattle.nf_app.specs.ErrorLines.{output_line}
-use Rattle.nf_app.specs.declared.status.Status.{Status}
-use Rattle.nf_app.specs.Files.{Wanted, Visit, FetchedNone, FetchedAll, FetchedTo, Failed, HasTooMany}
+use Rattle.nf_answers.specs.declared.status.Status.{Status}
+use Rattle.nf_answers.specs.Answers.{Answer, NoMemory, NoRequest, ShelfFailed, ShelfTooLong, Malformed}
+use Rattle.nf_fetch.specs.Files.{Wanted, Visit, FetchedNone, FetchedAll, FetchedTo, Failed, HasTooMany}
+use Rattle.nf_fetch.specs.Fetching.{NetworkReads}
+use Rattle.nf_output.specs.Sinks.{Taken}
+use Rattle.nf_output.specs.Shown.{IsShown}
 use Rattle.nf_words.specs.Requests.{Request, request_of}
 use Rattle.nf_app.specs.Requests.{files_of, generated_by}
-use Rattle.nf_app.specs.Answers.{Answer, NoMemory, NoRequest, ShelfFailed, ShelfTooLong, Malformed, HasOutput, status_of, out_text, err_text}
 use Rattle.nf_app.specs.Given.{IsGiven}
-use Rattle.nf_app.specs.Sinks.{Taken, TookAll, CutShort, TookText}
 
 -- the words of a call, and what it did with its shelf
 pub record Call : Type 0 where
@@ -25,13 +25,6 @@ pub record Reached (call : Call) (last : Wanted) : Type 0 where
   pub request : Request
   pub asks : Asks call request
   pub fetched : FetchedTo call.shelf (files_of request) last
-
--- The network is the generated one, if there is one; else the first of the files is the network's: where the shelf tells its bytes, they
--- read as this network, or break this rule first.
-abbrev pub NetworkReads : Visit → Option Named → List Wanted → Result Named Broken → Type 0
-NetworkReads shelf (Some n) files read = read ≡ Ok n
-NetworkReads shelf None [] read = ⊥
-NetworkReads shelf None (file ∷ others) read = IfSome (shelf.told file.name) (λ text. Reads text read)
 
 -- all files of the request were fetched, and its network reads so
 pub record Read (call : Call) (request : Request) (read : Result Named Broken) : Type 0 where
@@ -58,12 +51,6 @@ pub record IsComputed (call : Call) (answer : Answer) : Type 0 where
 -- when which answer is given
 abbrev pub IsAnswer : Call → Answer → Type 0
 IsAnswer call answer = IsRefused call answer ⊎ IsComputed call answer
-
--- The status is that of the answer, and `out` took its whole text; or the answer has a text and `out` failed. A fault of `err` changes no status.
-abbrev pub IsShown : Answer → Taken → Taken → Status → Type 0
-IsShown answer out err status =
-    ((status ≡ status_of answer) × TookAll out (out_text answer) × TookText err (err_text answer))
-    ⊎ ((status ≡ Status.Output) × HasOutput answer × CutShort out (out_text answer) × TookText err output_line)
 
 -- ---- a whole run: it gave an answer where that comes, and its status and its sinks show it
 pub record Ran (call : Call) (out err : Taken) (status : Status) : Type 0 where

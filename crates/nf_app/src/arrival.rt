@@ -7,23 +7,13 @@ ghost use Rattle.nf_curve.specs.Flows.{flow_of};
 ghost use Rattle.nf_app.specs.Requests.{usual_budgets};
 ghost use Rattle.nf_app.specs.QuickGiven.{IsArrival, ArrivesIn};
 
-use nf_curve::{Curve, Flow, Stop};
+use nf_answers::Arrival;
+use nf_curve::{Curve, Flow};
 use nf_frac::Q;
 use nf_net::{Network, NodeId};
 use nf_phase::{Budgets, solve};
 use nf_words::{USUAL_PATTERNS, USUAL_PHASES};
 use std::alloc::{AllocError, Global};
-
-/// When the flow arrives of which an amount is to be supplied, in an equilibrium.
-#[derive(Clone, Copy)]
-pub enum Arrival {
-    /// The amount is never supplied.
-    Never,
-    /// The arrival at the sink, a time.
-    At(Q),
-    /// The run ended before the departure.
-    Stopped(Stop),
-}
 
 // The last point of a curve.
 fn last_point(curve: &Curve) -> (Q, Q)

@@ -3,23 +3,9 @@
 
 mod answering;
 mod arrival;
-mod augments_text;
-mod check_text;
-mod fetching;
-mod gen_text;
-mod load_text;
 mod loading;
-mod outcome;
-mod output;
-mod quick_text;
-mod refusal;
-mod routes_text;
 mod running;
-mod settle_text;
 mod settling;
-mod status;
-mod telling;
-mod words;
 
+pub use nf_answers::Status;
 pub use running::run;
-pub use status::Status;

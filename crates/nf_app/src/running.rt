@@ -4,10 +4,9 @@ ghost use Rattle.nf_app.specs.Runs.{Ran};
 ghost use Rattle.nf_app.specs.Completeness.{IsComplete};
 
 use crate::answering::answer;
-use crate::outcome::Outcome;
-use crate::output::{give, refuse};
-use crate::status::Status;
+use nf_answers::{Outcome, Status};
 use nf_edge::{Shelf, Sink};
+use nf_output::{give, refuse};
 use std::alloc::Global;
 
 // Frees what the words gave, apart from `run`, whose check needn't follow the parts of each kind of outcome then.

@@ -3,13 +3,12 @@ use Rattle.std.specs.Prelude.{Option, Some}
 use Rattle.std.proofs.lemmas.Result.{err_from_is_err_and}
 use Rattle.nf_formats.specs.Named.{Named}
 use Rattle.nf_words.specs.declared.request.Request as code
-use Rattle.nf_app.specs.Files.{Visit}
-use Rattle.nf_app.specs.Fetching.{IsTold}
+use Rattle.nf_fetch.specs.Files.{Visit, network_file, loads_file, flows_file, routes_file, report_file}
+use Rattle.nf_fetch.specs.Fetching.{IsTold}
 use Rattle.nf_app.specs.Outcomes.{IsGiving, with_net}
 use Rattle.nf_words.specs.Requests.{Request, CanBeAsked, Solve, SolveForever, Show, Load, Check, Quick, Gen, Settle, Resume, Routes}
 use Rattle.nf_words.specs.Views.{requested}
 use Rattle.nf_gen.specs.Ladder.{ladder}
-use Rattle.nf_app.specs.Requests.{network_file, loads_file, flows_file, routes_file, report_file}
 use Rattle.nf_app.proofs.Calls.{refused, given, generated_given}
 use Rattle.nf_app.proofs.answering.answer_request.Goals as goal
 

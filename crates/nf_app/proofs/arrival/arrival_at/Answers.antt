@@ -5,7 +5,7 @@ use Rattle.std.proofs.lemmas.List.{length-map}
 use Rattle.nf_phase.specs.Solution.{bounds_of, report_in, IsSolution}
 use Rattle.nf_phase.specs.declared.solution.Budgets.{Budgets}
 use Rattle.nf_app.specs.QuickGiven.{ArrivesIn}
-use Rattle.nf_app.specs.declared.arrival.Arrival.{Arrival}
+use Rattle.nf_answers.specs.declared.arrival.Arrival.{Arrival}
 use Rattle.nf_app.proofs.QuickTold.{sink_in, at_sink, stopped_arrives, reached_arrives}
 use Rattle.nf_app.proofs.arrival.arrival_at.Goals as goal
 

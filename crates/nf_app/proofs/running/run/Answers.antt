@@ -1,7 +1,7 @@
 use Rattle.std.proofs.Common.{inl}
 use Rattle.nf_edge.specs.Names.{texts}
-use Rattle.nf_app.specs.Outcomes.{answer_in}
-use Rattle.nf_app.specs.Refusals.{answer_of}
+use Rattle.nf_answers.specs.Outcomes.{answer_in}
+use Rattle.nf_answers.specs.Refusals.{answer_of}
 use Rattle.nf_app.proofs.Calls.{took_no_text}
 use Rattle.nf_app.proofs.Completing.{complete_by_text, complete_by_refusal}
 use Rattle.nf_app.proofs.running.run.Goals as goal

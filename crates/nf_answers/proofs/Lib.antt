@@ -1,0 +1,5 @@
+pub mod ErrorTexts
+pub mod LoadLines
+pub mod QuickLines
+pub mod RouteLines
+mod ErrorExamples

@@ -1,0 +1,109 @@
+// The summary of a run in a generated ladder.
+ghost use Rattle.std.specs.Prelude.{◌≡◌, [], ◌∷◌, ◌++◌, codes};
+ghost use Rattle.std.specs.Option.{option_copied};
+ghost use Rattle.nf_numerals.specs.Digits.{digits_of};
+ghost use Rattle.nf_numerals.specs.Printed.{printed};
+ghost use Rattle.nf_formats.specs.Causes.{cause_words};
+ghost use Rattle.nf_report.specs.Written.{WroteLines};
+ghost use Rattle.nf_answers.specs.GenText.{ladder_lines, size_lines, run_lines, end_lines};
+
+use nf_curve::Stop;
+use nf_edge::{Sink, SinkFault};
+use nf_frac::{Q, TextBuf};
+use nf_net::Network;
+use nf_numerals::write_count;
+use nf_phase::Solution;
+use nf_report::{write_line, write_stop};
+
+/// Which ladder is generated: its number, and how many rungs it has.
+#[derive(Clone, Copy)]
+pub struct Ladder {
+    pub number: u64,
+    pub rungs: u32,
+}
+
+// A count behind its name.
+fn write_counted<O: Sink>(out: &mut O, name: &[u8], count: u64) -> Result<(), SinkFault>
+    ensures { WroteLines (O.took out.old) (O.took out.new) (O.faults out.old) (O.faults out.new)
+        ((name.now ∷ digits_of count ∷ []) ∷ []) result }
+{
+    let mut word = TextBuf::new();
+    write_count(count, &mut word);
+    write_line(out, name, &[word.text()])
+}
+
+// A number behind its name.
+fn write_number<O: Sink>(out: &mut O, name: &[u8], number: Q) -> Result<(), SinkFault>
+    ensures { WroteLines (O.took out.old) (O.took out.new) (O.faults out.old) (O.faults out.new)
+        ((name.now ∷ printed number ∷ []) ∷ []) result }
+{
+    let mut word = TextBuf::new();
+    number.write(&mut word);
+    write_line(out, name, &[word.text()])
+}
+
+// The number of a ladder, and how many rungs it has.
+fn write_ladder<O: Sink>(out: &mut O, ladder: Ladder) -> Result<(), SinkFault>
+    ensures { WroteLines (O.took out.old) (O.took out.new) (O.faults out.old) (O.faults out.new) (ladder_lines ladder.number ladder.rungs) result }
+{
+    let mut first = TextBuf::new();
+    let mut second = TextBuf::new();
+    write_count(ladder.number, &mut first);
+    write_count(u64::from(ladder.rungs), &mut second);
+    write_line(out, b"gen", &[first.text(), second.text()])
+}
+
+// How many nodes and links there are.
+fn write_size<O: Sink>(out: &mut O, net: &Network) -> Result<(), SinkFault>
+    ensures { WroteLines (O.took out.old) (O.took out.new) (O.faults out.old) (O.faults out.new) (size_lines net.now) result }
+{
+    write_counted(out, b"nodes", u64::from(net.node_count()))?;
+    write_counted(out, b"links", u64::from(net.link_count()))
+}
+
+// How far the run came.
+fn write_run<O: Sink>(out: &mut O, phases: u64, reached: Q) -> Result<(), SinkFault>
+    ensures { WroteLines (O.took out.old) (O.took out.new) (O.faults out.old) (O.faults out.new) (run_lines phases reached) result }
+{
+    write_counted(out, b"phases", phases)?;
+    write_number(out, b"reached", reached)
+}
+
+// Why the run ended.
+fn write_cause<O: Sink>(out: &mut O, stop: Option<&Stop>) -> Result<(), SinkFault>
+    ensures { WroteLines (O.took out.old) (O.took out.new) (O.faults out.old) (O.faults out.new)
+        ((codes "cause" ∷ cause_words (option_copied stop.entry)) ∷ []) result }
+{
+    match stop {
+        None => write_line(out, b"cause", &[b"done"]),
+        Some(stop) => write_stop(out, b"cause", stop),
+    }
+}
+
+// Why the run ended, and when who departs last arrives.
+fn write_end<O: Sink>(out: &mut O, stop: Option<&Stop>, arrival: Q) -> Result<(), SinkFault>
+    ensures { WroteLines (O.took out.old) (O.took out.new) (O.faults out.old) (O.faults out.new) (end_lines (option_copied stop.entry) arrival) result }
+{
+    write_cause(out, stop)?;
+    write_number(out, b"arrival", arrival)
+}
+
+/// Writes the summary of a run in a ladder: its number and its rungs, how large the network is, how many phases were made,
+/// the departure that was reached, why the run ended, and the arrival at the sink of who departs last, a time. Where the sink fails, it has
+/// taken the first bytes. It takes no memory.
+pub fn write_summary<O: Sink>(
+    out: &mut O,
+    net: &Network,
+    ladder: Ladder,
+    solution: &Solution,
+    arrival: Q,
+) -> Result<(), SinkFault>
+    ensures { WroteLines (O.took out.old) (O.took out.new) (O.faults out.old) (O.faults out.new)
+        (ladder_lines ladder.number ladder.rungs ++ size_lines net.now ++ run_lines solution.now.phases solution.now.flow.reached
+        ++ end_lines solution.now.stopped arrival) result }
+{
+    write_ladder(out, ladder)?;
+    write_size(out, net)?;
+    write_run(out, solution.phases, solution.flow.reached)?;
+    write_end(out, solution.stopped.as_ref(), arrival)
+}

@@ -1,0 +1,83 @@
+// The text of what a thin flow is settled to.
+ghost use Rattle.std.specs.Prelude.{◌≡◌, ◌<◌, [], ◌∷◌, length, codes};
+ghost use Rattle.nf_numerals.specs.Printed.{printed};
+ghost use Rattle.nf_formats.specs.Names.{name_at};
+ghost use Rattle.nf_formats.specs.Report.{for_each};
+ghost use Rattle.nf_edge.specs.Taken.{Wrote};
+ghost use Rattle.nf_report.specs.Pages.{GatheredLines};
+ghost use Rattle.nf_complete_lists.specs.SettleText.{flow_line, settled_lines, settled_text};
+
+use nf_complete::Settled;
+use nf_edge::{Sink, SinkFault, write_text};
+use nf_frac::{Q, TextBuf};
+use nf_net::{LinkId, Network};
+use nf_report::{Page, put_line, put_states};
+
+// The line of a link's flow.
+fn put_flow<O: Sink>(
+    out: &mut O,
+    page: &mut Page,
+    net: &Network,
+    link: u32,
+    flow: Q,
+) -> Result<(), SinkFault>
+    requires { link < length net.now.net.links }
+    ensures { GatheredLines (O.took out.old) (O.took out.new) (O.faults out.old) (O.faults out.new) page.old.items page.new.items
+        ((codes "flow" ∷ name_at net.now.link_names link ∷ printed flow ∷ []) ∷ []) result }
+{
+    let name = net.link_name(LinkId(link)).as_bytes();
+    let mut word = TextBuf::new();
+    flow.write(&mut word);
+    put_line(out, page, b"flow", &[name, word.text()])
+}
+
+// The lines of the flows of all links.
+fn put_flows<O: Sink>(
+    out: &mut O,
+    page: &mut Page,
+    net: &Network,
+    flows: &[Q],
+) -> Result<(), SinkFault>
+    requires { length flows.now ≡ length net.now.net.links }
+    ensures { GatheredLines (O.took out.old) (O.took out.new) (O.faults out.old) (O.faults out.new) page.old.items page.new.items
+        (for_each (length net.now.net.links) (flow_line net.now flows.now)) result }
+{
+    for link in 0..net.link_count() {
+        put_flow(out, page, net, link, flows[link as usize])?;
+    }
+    Ok(())
+}
+
+// All lines: the states, the flows and the end.
+fn put_settled<O: Sink>(
+    out: &mut O,
+    page: &mut Page,
+    net: &Network,
+    settled: &Settled,
+) -> Result<(), SinkFault>
+    requires flows { length settled.now.flows.items ≡ length net.now.net.links }
+    requires states { length settled.now.pattern ≡ length net.now.net.links }
+    ensures { GatheredLines (O.took out.old) (O.took out.new) (O.faults out.old) (O.faults out.new) page.old.items page.new.items
+        (settled_lines net.now settled.now.pattern settled.now.flows.items) result }
+{
+    put_states(out, page, net, &settled.pattern)?;
+    put_flows(out, page, net, &settled.flows)?;
+    put_line(out, page, b"end", &[])
+}
+
+/// Writes what a thin flow is settled to: the states of the links that have one, and the flows of all links, which are rates. Where the sink
+/// fails, it has taken the first bytes. It takes no memory.
+pub fn write_settled<O: Sink>(
+    out: &mut O,
+    net: &Network,
+    settled: &Settled,
+) -> Result<(), SinkFault>
+    requires flows { length settled.now.flows.items ≡ length net.now.net.links }
+    requires states { length settled.now.pattern ≡ length net.now.net.links }
+    ensures { Wrote (O.took out.old) (O.took out.new) (O.faults out.old) (O.faults out.new)
+        (settled_text net.now settled.now.pattern settled.now.flows.items) result }
+{
+    let mut page = Page::new();
+    put_settled(out, &mut page, net, settled)?;
+    write_text(out, page.as_slice())
+}

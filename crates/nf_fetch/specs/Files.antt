@@ -1,0 +1,84 @@
+-- The files that a request wants, and what a shelf did for it.
+use Rattle.std.specs.Prelude.{◌≡◌, ◌⊎◌, ℕ, ◌<◌, ◌≤◌, List, [], ◌∷◌, ◌++◌, length, map, Option, None, IfSome}
+use Rattle.std.specs.List.{All, last_or}
+use Rattle.nf_edge.specs.Faults.{Rose}
+
+-- the most bytes that a network file, a loads file, a flows file, a routes file and a report may have
+abbrev pub network_limit : ℕ
+network_limit = 1048576
+
+abbrev pub loads_limit : ℕ
+loads_limit = 1048576
+
+abbrev pub flows_limit : ℕ
+flows_limit = 1048576
+
+abbrev pub routes_limit : ℕ
+routes_limit = 1048576
+
+abbrev pub report_limit : ℕ
+report_limit = 67108864
+
+-- the name of a file that is wanted, and the most bytes that it may have
+pub record Wanted : Type 0 where
+  pub name : List ℕ
+  pub limit : ℕ
+
+-- a file of each kind
+abbrev pub network_file : List ℕ → Wanted
+network_file name = record { name = name; limit = network_limit }
+
+abbrev pub loads_file : List ℕ → Wanted
+loads_file name = record { name = name; limit = loads_limit }
+
+abbrev pub flows_file : List ℕ → Wanted
+flows_file name = record { name = name; limit = flows_limit }
+
+abbrev pub routes_file : List ℕ → Wanted
+routes_file name = record { name = name; limit = routes_limit }
+
+abbrev pub report_file : List ℕ → Wanted
+report_file name = record { name = name; limit = report_limit }
+
+abbrev pub names_of : List Wanted → List (List ℕ)
+names_of files = map (λ file. file.name) files
+
+-- what a shelf had before a call, and did in it
+pub record Visit : Type 0 where
+  pub told : List ℕ → Option (List ℕ)
+  pub asked_before : List (List ℕ)
+  pub asked_now : List (List ℕ)
+  pub faults_before : ℕ
+  pub faults_now : ℕ
+  pub taken : ℕ
+
+-- where the shelf tells the bytes of a file, there are at most as many as it may have
+abbrev pub Fits : Visit → Wanted → Type 0
+Fits shelf file = IfSome (shelf.told file.name) (λ text. length text ≤ file.limit)
+
+-- no file was fetched
+abbrev pub FetchedNone : Visit → Type 0
+FetchedNone shelf = shelf.asked_now ≡ shelf.asked_before
+
+-- the files were fetched, each once and in order, and no other; none has too many bytes
+pub record FetchedAll (shelf : Visit) (files : List Wanted) : Type 0 where
+  pub asked : shelf.asked_now ≡ shelf.asked_before ++ names_of files
+  pub fit : All (Fits shelf) files
+  pub taken : IfSome (last_or None files) (λ last. shelf.taken ≤ last.limit)
+
+-- the files up to this one were fetched, each once and in order, and no other; none before it has too many bytes
+pub record FetchedTo (shelf : Visit) (files : List Wanted) (last : Wanted) : Type 0 where
+  pub first : List Wanted
+  pub behind : List Wanted
+  pub files_are : files ≡ first ++ last ∷ behind
+  pub asked : shelf.asked_now ≡ shelf.asked_before ++ names_of (first ++ last ∷ [])
+  pub fit : All (Fits shelf) first
+
+-- the shelf failed at this file
+abbrev pub Failed : Visit → Wanted → Type 0
+Failed shelf file = (shelf.taken ≤ file.limit) × Rose shelf.faults_before shelf.faults_now
+
+-- More bytes of this file were taken than it may have. Where the shelf tells them, and no fault of it was counted, there are more.
+abbrev pub HasTooMany : Visit → Wanted → Type 0
+HasTooMany shelf file =
+    (file.limit < shelf.taken) × IfSome (shelf.told file.name) (λ text. Rose shelf.faults_before shelf.faults_now ⊎ (file.limit < length text))
