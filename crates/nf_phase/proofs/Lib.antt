@@ -1,14 +1,6 @@
-pub mod Corners
-pub mod Places
-pub mod Signs
-pub mod Queued
-pub mod Looping
-pub mod Meaning
-pub mod Numbered
-pub mod LinkLoop
+pub mod Standings
+pub mod RestoreList
 pub mod Restarting
-pub mod OneByOne
-pub mod LastSlopes
 pub mod Opened
 pub mod Reached
 pub mod ShortReached
@@ -18,6 +10,5 @@ pub mod Found
 pub mod PhaseFound
 pub mod Going
 pub mod Stopping
-pub mod Copying
 pub mod ToEnd
 pub mod Told

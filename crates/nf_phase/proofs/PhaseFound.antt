@@ -12,14 +12,14 @@ use Rattle.nf_work.specs.declared.Halt.{Halt}
 use Rattle.nf_work.specs.Checked.{at_part, Stops}
 use Rattle.nf_model.specs.Network.{Network, IsNetwork, hop_of, hops}
 use Rattle.nf_model.specs.ThinFlow.{Sets, slack, slacks_of, sets_at}
-use Rattle.nf_model.specs.Phases.{IsExtension, IsUnending}
+use Rattle.nf_model.specs.Phases.{IsExtension, IsUnending, IsPhaseLength}
 use Rattle.nf_lists.specs.Slack.{slack_list}
 use Rattle.nf_lists.specs.Extend.{extend_list}
 use Rattle.nf_lists.specs.Advance.{Advanced, advance_list}
 use Rattle.nf_lists.specs.CurveList.{LinkStep, curve_list}
 use Rattle.nf_lists.specs.ReportCurves.{LinkCurves, amount_so_far}
 use Rattle.nf_lists.specs.Search.{Found as FoundAt}
-use Rattle.nf_lists.specs.PhaseRun.{Standing, IsSearchHere}
+use Rattle.nf_lists.specs.PhaseRun.{Standing, PhaseStep, IsSearchHere, phase_lists}
 use Rattle.nf_lists_laws.proofs.Exact.{advanced_exact}
 use Rattle.nf_lists_laws.proofs.Ending.{length-moved}
 use Rattle.nf_run_laws.proofs.Standing.{label_count_at}
@@ -76,6 +76,22 @@ module _ (passes : Passing) (net : Network) (good : IsNetwork net) (horizon : �
   pub amounts_count : (amounts : List ℚ) (curves : List LinkCurves) → amounts ≡ map amount_so_far curves → curves ≡ s.link_curves → length amounts ≡ length net.links
   amounts_count amounts curves e f = ap (λ (l : List ℚ). length l) e ∙ length-map curves amount_so_far ∙ ap (λ (l : List LinkCurves). length l) f ∙ stands.well.link_count
 
+  -- ---- the phase that is put together
+  abbrev with_links : List LinkStep → Advanced → PhaseStep
+  with_links links end = record { length = end.length; labels = end.labels; links = links }
+
+  pub leads_on : s.time <ℚ horizon → (end : Advanced) (phase : Phase)
+      → phase_lists passes net horizon s found.thin.pattern found.thin.flows.items thin_slopes ≡ Ok (record { length = end.length; labels = end.labels; links = phase.steps.items })
+      → IsPhaseLength net (slacks_of (hops net) s.labels) thin_slopes s.time horizon end.length → phase.pattern ≡ found.thin.pattern → phase.slopes.items ≡ thin_slopes
+      → ◌≡◌ {A = Advanced} (record { length = phase.length; labels = phase.labels.items }) end → LeadsOn passes net horizon patterns s phase
+  leads_on below end phase lists long same_pattern same_slopes same_end = let same_step : step_in phase ≡ with_links phase.steps.items end = ap (with_links phase.steps.items) same_end in record {
+    place = found.thin.place;
+    flows = found.thin.flows.items;
+    finds = rw (same_pattern, same_slopes) (seeks_below passes net patterns s horizon _ below is.seeks);
+    lists = rw (same_pattern, same_slopes, same_step) lists;
+    is_length = rw (ap (λ (a : Advanced). a.length) same_end, same_slopes) long;
+  }
+
   -- ---- the extension
   module _ (slacks slopes : List ℚ) (time : ℚ) (same_slacks : slacks ≡ found.slacks.items) (same_slopes : slopes ≡ thin_slopes) (same_time : time ≡ s.time) where
     extend_is : at_part Extend (extend_list passes net (slacks_of (hops net) s.labels) thin_slopes s.time) ≡ at_part Extend (extend_list passes net slacks slopes time)
@@ -110,6 +126,11 @@ module _ (passes : Passing) (net : Network) (good : IsNetwork net) (horizon : �
               ap (λ (l : List ℚ). length l) (advanced_exact passes horizon s.time extension s.labels thin_slopes end slope_count (part_ok Advance _ end (sym advance_ok))).1
               ∙ length-moved s.labels thin_slopes end.length slope_count ∙ label_count_at net good s stands.well
 
+          pub lasts : MatchOption extension (IsUnending net slacks slopes time) (IsExtension net slacks slopes time) → IsPhaseLength net (slacks_of (hops net) s.labels) thin_slopes s.time horizon end.length
+          lasts long =
+              phase_length passes net (slacks_of (hops net) s.labels) s.labels thin_slopes s.time horizon extension end slope_count
+              (rw (sym (same_slacks ∙ is.slacks), sym same_slopes, sym same_time) long) advance_ok
+
           -- ---- the links
           module _ (sets : Sets) (flows slopes_3 new_labels amounts : List ℚ) (curves : List LinkCurves) (same_sets : sets ≡ found.sets) (same_flows : flows ≡ found.thin.flows.items)
               (same_slopes_3 : slopes_3 ≡ thin_slopes) (same_new : new_labels ≡ end.labels) (same_amounts : amounts ≡ map amount_so_far curves) (same_curves : curves ≡ s.link_curves) where
@@ -123,16 +144,6 @@ module _ (passes : Passing) (net : Network) (good : IsNetwork net) (horizon : �
                 (curve_cause passes net horizon s found.thin.pattern found.thin.flows.items thin_slopes extension extend_ok end advance_ok halt
                 (subst (λ (r : Result (List LinkStep) (PassedAt ℚ)). Stops {A = List LinkStep} (λ q. q) halt r) (sym curve_is) h))
 
-            pub leads_on : s.time <ℚ horizon → MatchOption extension (IsUnending net slacks slopes time) (IsExtension net slacks slopes time) → (phase : Phase) → phase.pattern ≡ found.thin.pattern
-                → phase.slopes.items ≡ thin_slopes → step_in phase ≡ record { length = end.length; labels = end.labels; links = phase.steps.items }
-                → at_part Curve (curve_list passes net sets found.thin.pattern end.length flows slopes_3 new_labels amounts) ≡ Ok phase.steps.items → LeadsOn passes net horizon patterns s phase
-            leads_on below long phase same_pattern same_phase_slopes same_step h = record {
-              place = found.thin.place;
-              flows = found.thin.flows.items;
-              finds = rw (same_pattern, same_phase_slopes) (seeks_below passes net patterns s horizon _ below is.seeks);
-              lists = rw (same_pattern, same_phase_slopes, same_step)
-                  (lists_made passes net horizon s found.thin.pattern found.thin.flows.items thin_slopes extension extend_ok end advance_ok phase.steps.items (curve_is ∙ h));
-              is_length = rw (ap (λ (t : _). t.length) same_step, same_phase_slopes)
-                  (phase_length passes net (slacks_of (hops net) s.labels) s.labels thin_slopes s.time horizon extension end slope_count
-                  (rw (sym (same_slacks ∙ is.slacks), sym same_slopes, sym same_time) long) advance_ok);
-            }
+            pub lists_go : (links : List LinkStep) → at_part Curve (curve_list passes net sets found.thin.pattern end.length flows slopes_3 new_labels amounts) ≡ Ok links
+                → phase_lists passes net horizon s found.thin.pattern found.thin.flows.items thin_slopes ≡ Ok (record { length = end.length; labels = end.labels; links = links })
+            lists_go links h = lists_made passes net horizon s found.thin.pattern found.thin.flows.items thin_slopes extension extend_ok end advance_ok links (curve_is ∙ h)

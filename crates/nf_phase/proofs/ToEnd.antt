@@ -1,25 +1,17 @@
 -- A phase for as long as it may last: when it ends, and what it comes to.
-use Rattle.std.proofs.Common.{◌≡◌, ℕ, suc, List, [], ◌∷◌, refl, sym, subst, ◌∙◌}
-use Rattle.std.specs.Prelude.{Option, Some, None, Result, Ok, Err, IfOk, IfErr, IfSome, MatchOption}
+use Rattle.std.proofs.Common.{◌≡◌, ℕ, suc, List, refl, sym, subst, ◌∙◌}
+use Rattle.std.specs.Prelude.{Option, Some, None, Result, Ok, Err, IfErr}
 use Rattle.std.specs.Result.{IsErrAnd}
 use Rattle.nf_rational.specs.Rational.{ℚ}
-use Rattle.nf_rational.specs.Operations.{0ℚ, ◌+ℚ◌}
-use Rattle.nf_rational.specs.Order.{◌<ℚ◌}
-use Rattle.nf_rational_laws.proofs.Polynomial.{reading_of}
-use Rattle.nf_rational_laws.proofs.Linear.{lt, eq, linear_lt}
 use Rattle.nf_work.specs.Passing.{Passing}
-use Rattle.nf_work.specs.Checked.{Checked, checked, at_part}
-use Rattle.nf_work.specs.declared.Op.TheVariants.{Sum}
+use Rattle.nf_work.specs.Checked.{Checked, at_part}
 use Rattle.nf_work.specs.declared.Part.TheVariants.{Extend}
 use Rattle.nf_work.specs.declared.PassedAt.{PassedAt}
 use Rattle.nf_model.specs.Network.{Network, hops}
 use Rattle.nf_model.specs.ThinFlow.{slacks_of}
-use Rattle.nf_model.specs.Phases.{IsExtension, IsUnending}
 use Rattle.nf_formats.specs.declared.Cause.TheVariants as Cause
 use Rattle.nf_lists.specs.PhaseRun.{Standing}
-use Rattle.nf_forever_lists.specs.ForeverRun.{end_after, end_list, GoesToEnd, GoesForever, FailsOn}
-use Rattle.nf_curve_laws.proofs.Operations.{then_ok, checked-is}
-use Rattle.nf_phase_laws.proofs.Length.{IsExtension-some}
+use Rattle.nf_forever_lists.specs.ForeverRun.{end_list, GoesToEnd, GoesForever, FailsOn}
 use Rattle.nf_trial.proofs.Folds.{part_ok}
 use Rattle.nf_phase.specs.declared.fault.StepFault.{StepFault}
 use Rattle.nf_phase.specs.declared.finding.Found.{Found}
@@ -27,27 +19,6 @@ use Rattle.nf_phase.specs.declared.phase.Phase.{Phase}
 use Rattle.nf_phase.specs.Stepping.{StandsFor, IsCauseOn, tail_of}
 use Rattle.nf_phase.specs.Finding.{step_in, after_phase, IsFound, FindsNone, ListsPass, LeadsOn}
 use Rattle.nf_phase.proofs.Found.{part_err, by_fault, stands_as, none_on, extend_on, lists_on}
-
--- ---- the end is later than the beginning
-module _ (passes : Passing) (net : Network) (slacks slopes : List ℚ) (time : ℚ) where
-  after : (e l : ℚ) → 0ℚ <ℚ l → e ≡ time +ℚ l → time <ℚ e
-  after e l k f = linear_lt (time ∷ e ∷ l ∷ []) (lt k ∷ eq f ∷ []) (search reading_of depth 12) tt
-
-  by_length : (length : Option ℚ) → MatchOption length (IsUnending net slacks slopes time) (IsExtension net slacks slopes time) → (end : ℚ) → end_after passes time length ≡ Ok (Some end) → time <ℚ end
-  by_length None h end e = absurd (cc)
-  by_length (Some length) h end e =
-      let w = then_ok (checked passes Sum time length) (λ (end : ℚ). Ok (Some end)) (Some end) e in
-      let same : w.between ≡ end = one w.between end w.next in
-      after end length (IsExtension-some net slacks slopes time length h) (sym same ∙ checked-is passes Sum time length w.between w.first)
-    where
-      one : (x y : ℚ) → ◌≡◌ {A = Checked (Option ℚ)} (Ok (Some x)) (Ok (Some y)) → x ≡ y
-      one x y e = cc
-
-  pub end_later : (length : Option ℚ) → MatchOption length (IsUnending net slacks slopes time) (IsExtension net slacks slopes time) → (result : Result (Option ℚ) (PassedAt ℚ))
-      → result ≡ at_part Extend (end_after passes time length) → IfOk result (λ end. IfSome end (λ departure. time <ℚ departure))
-  end_later length h (Ok None) e = tt
-  end_later length h (Ok (Some end)) e = by_length length h end (part_ok Extend (end_after passes time length) (Some end) e)
-  end_later length h (Err p) e = tt
 
 -- ---- why there is no thin flow
 pub found_none_on : (passes : Passing) (net : Network) (patterns : ℕ) (s : Standing) {A : Type 0} (result : Result A StepFault) (fault : StepFault) → IsErrAnd result (λ f. f ≡ fault)

@@ -1,7 +1,4 @@
-pub mod Lengths
-pub mod StepCodes
-pub mod Growing
-pub mod LinkGrowth
+pub mod StandingCode
 pub mod Faults
 pub mod Stepping
 pub mod Finding

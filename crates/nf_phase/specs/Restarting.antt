@@ -3,18 +3,15 @@ use Rattle.std.specs.Prelude.{◌≡◌, ◌≢◌, ℕ, ◌<◌, Bool, true, fa
 use Rattle.nf_rational.specs.Rational.{ℚ}
 use Rattle.nf_rational.specs.Operations.{0ℚ}
 use Rattle.nf_work.specs.Passing.{Passing}
-use Rattle.nf_work.specs.Checked.{Checked, each, ◌>>=◌}
 use Rattle.nf_model.specs.Entries.{number_at}
-use Rattle.nf_model.specs.Curve.{Point}
 use Rattle.nf_model.specs.Network.{Link, Piece, Network, IsLink}
 use Rattle.nf_model.specs.declared.State.TheVariants.{Full}
 use Rattle.nf_model.specs.Pattern.{Pattern, HasState}
-use Rattle.nf_model.specs.Equilibrium.{Trace, Flow, points_at, points_of, label, Equilibrium}
+use Rattle.nf_model.specs.Equilibrium.{Flow, points_at, points_of, label, Equilibrium}
 use Rattle.nf_lists.specs.Signs.{is_same}
-use Rattle.nf_lists.specs.ReportCurves.{LinkCurves}
 use Rattle.nf_lists.specs.PhaseRun.{Standing}
 use Rattle.nf_lists.specs.Ends.{end_of}
-use Rattle.nf_resume_lists.specs.Restoring.{growing, link_curves_of, restore_list}
+use Rattle.nf_resume_lists.specs.Restoring.{restore_list}
 use Rattle.nf_resume_lists.specs.Meanings.{IsShortFlow}
 use Rattle.nf_resume_lists.specs.Open.{with_last}
 use Rattle.nf_phase.specs.declared.phase.Phase.{Phase}
@@ -44,18 +41,6 @@ pub record IsRestored (passes : Passing) (net : Network) (s : Standing) : Type 0
   pub states : length last ≡ length net.links
   pub no_full : NoneFull net last
   pub stands : restore_list passes flow last ≡ Ok s
-
--- ---- the list of restoring, link by link
-module _ (passes : Passing) where
-  abbrev pub of_link : Trace → Trace → List Point → Checked LinkCurves
-  of_link inflow outflow queue = do
-    grown ← growing passes queue
-    Ok (record { inflow = inflow; outflow = outflow; queue = grown })
-
-  abbrev pub of_links : List Trace → List Trace → List (List Point) → Checked (List LinkCurves)
-  of_links inflows outflows queues = do
-    grown ← each (growing passes) queues
-    Ok (link_curves_of inflows outflows grown)
 
 -- ---- tests of an open run
 

@@ -2,18 +2,8 @@
 //! horizon.
 #![tactic(auto)]
 
-mod advance;
-mod copies;
 mod fault;
 mod finding;
-mod growing;
-mod growth;
-mod last_slopes;
-mod lengths;
-mod link_curves;
-mod link_growth;
-mod link_phase;
-mod link_steps;
 mod making;
 mod open_runs;
 mod phase;
@@ -22,10 +12,9 @@ mod run;
 mod solution;
 mod solving;
 mod stops;
-mod traces;
 
 pub use fault::StepFault;
-pub use lengths::extension;
+pub use nf_advance::extension;
 pub use run::Run;
 pub use solution::{Budgets, Solution};
 pub use solving::solve;

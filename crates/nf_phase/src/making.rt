@@ -7,11 +7,10 @@ ghost use Rattle.nf_phase.specs.Stepping.{Reaches};
 ghost use Rattle.nf_phase.specs.Finding.{LeadsOn, after_phase};
 ghost use Rattle.nf_phase.specs.Restarting.{after_rest};
 
-use crate::growth::{labels_go_on, reserve_labels, reserve_links};
-use crate::link_growth::links_go_on;
 use crate::phase::Phase;
 use crate::run::Run;
 use nf_frac::Q;
+use nf_growth::{labels_go_on, links_go_on, reserve_labels, reserve_links};
 use nf_net::Network;
 use std::alloc::{AllocError, Global};
 

@@ -8,10 +8,10 @@ ghost use Rattle.nf_resume_lists.specs.Open.{IsOpen, Continues};
 ghost use Rattle.nf_phase.specs.Restarting.{none_starts as none_starts_by, ApartAt, AreApart};
 ghost use Rattle.nf_phase.specs.Stepping.{Reaches};
 
-use crate::growing::is_same;
 use crate::run::Run;
 use nf_frac::Q;
 use nf_graph::LinkId;
+use nf_growth::is_same;
 use nf_net::{Network, Piece};
 use nf_pattern::Pattern;
 

@@ -1,21 +1,22 @@
 // One phase of a run, before it is made: how long it lasts, and how the labels and the links go on in it.
-ghost use Rattle.std.specs.Prelude.{◌≡◌, suc, IfOk, IfErr, MatchBool, map};
+ghost use Rattle.std.specs.Prelude.{◌≡◌, suc, Ok, IfOk, IfErr, MatchBool};
 ghost use Rattle.nf_rational.specs.Order.{◌<ℚ◌};
 ghost use Rattle.nf_work.specs.Passing.{passes_Q};
+ghost use Rattle.nf_model.specs.Network.{hops as hops_of};
+ghost use Rattle.nf_model.specs.ThinFlow.{slacks_of};
+ghost use Rattle.nf_model.specs.Phases.{IsPhaseLength};
 ghost use Rattle.nf_formats.specs.WellNamed.{IsNamed};
-ghost use Rattle.nf_lists.specs.ReportCurves.{amount_so_far};
+ghost use Rattle.nf_lists.specs.PhaseRun.{phase_lists};
 ghost use Rattle.nf_resume_lists.specs.Open.{Continues};
 ghost use Rattle.nf_phase.specs.Stepping.{Reaches, StandsFor, IsCause};
 ghost use Rattle.nf_phase.specs.Finding.{IsFound, ListsPass, LeadsOn};
 
-use crate::advance::{Advanced, advance};
 use crate::fault::StepFault;
 use crate::finding::Found;
-use crate::lengths::extension;
-use crate::link_growth::amounts;
-use crate::link_steps::{LinkStep, link_steps};
 use crate::run::Run;
+use nf_advance::{Advanced, LinkStep, advance, extension, link_steps};
 use nf_frac::Q;
+use nf_growth::amounts;
 use nf_net::Network;
 use nf_pattern::Pattern;
 use nf_thin::Thin;
@@ -40,6 +41,48 @@ pub(crate) struct NextPhase {
 }
 
 impl Run {
+    // How long a phase by a thin flow lasts with the labels at its end, and how each link goes on in it.
+    fn lists(
+        &self,
+        alloc: Global,
+        net: &Network,
+        horizon: Q,
+        patterns: u64,
+        found: &Found,
+    ) -> Result<(Advanced, Vec<LinkStep>), StepFault>
+        requires reaches { Reaches passes_Q net.now.net self.now }
+        requires named { IsNamed net.now }
+        requires found { IsFound passes_Q net.now.net patterns self.now found.now }
+        ensures lists { IfOk result (λ parts. phase_lists passes_Q net.now.net horizon self.now found.now.thin.pattern found.now.thin.flows.items found.now.thin.labels.items
+            ≡ Ok (record { length = parts.0.length; labels = parts.0.labels; links = parts.1.items })) }
+        ensures length { IfOk result (λ parts. IsPhaseLength net.now.net (slacks_of (hops_of net.now.net) self.now.labels) found.now.thin.labels.items self.now.time horizon parts.0.length) }
+        ensures cause { IfErr result (StandsFor (ListsPass passes_Q net.now.net horizon self.now found.now.thin.pattern found.now.thin.flows.items found.now.thin.labels.items) (suc self.now.made)) }
+    {
+        let slopes = &found.thin.labels;
+        let extension = extension(net, &found.slacks, slopes, self.reached)?;
+        let end = advance(
+            alloc,
+            horizon,
+            self.reached,
+            extension,
+            &self.labels,
+            slopes,
+        )?;
+        let amounts = amounts(alloc, &self.link_curves)?;
+        let steps = link_steps(
+            alloc,
+            net,
+            &found.sets,
+            &found.thin.pattern,
+            end.length,
+            &found.thin.flows,
+            slopes,
+            &end.labels,
+            &amounts,
+        )?;
+        Ok((end, steps))
+    }
+
     // The phase by a thin flow.
     pub(crate) fn phase_by(
         &self,
@@ -57,27 +100,19 @@ impl Run {
         ensures slopes { IfOk result (λ phase. phase.slopes.items ≡ found.thin.labels.items) }
         ensures cause { IfErr result (StandsFor (ListsPass passes_Q net.now.net horizon self.now found.thin.pattern found.thin.flows.items found.thin.labels.items) (suc self.now.made)) }
     {
-        let Found { slacks, sets, thin } = found;
+        let (end, steps) = self.lists(alloc, net, horizon, patterns, &found)?;
+        let Found {
+            slacks: _,
+            sets: _,
+            thin,
+        } = found;
         let Thin {
-            flows,
+            flows: _,
             labels: slopes,
             pattern,
             place: _,
         } = thin;
-        let extension = extension(net, &slacks, &slopes, self.reached)?;
-        let end = advance(
-            alloc,
-            horizon,
-            self.reached,
-            extension,
-            &self.labels,
-            &slopes,
-        )?;
         let Advanced { length, labels } = end;
-        let amounts = amounts(alloc, &self.link_curves)?;
-        let steps = link_steps(
-            alloc, net, &sets, &pattern, length, &flows, &slopes, &labels, &amounts,
-        )?;
         Ok(Phase {
             length,
             labels,

@@ -11,11 +11,10 @@ ghost use Rattle.nf_curve.specs.Flows.{flow_of as flow_in};
 ghost use Rattle.nf_phase.specs.Restarting.{EndsAtItsLabels, NoneFull};
 ghost use Rattle.nf_phase.specs.Stepping.{Reaches};
 
-use crate::growth::restore_labels;
-use crate::link_growth::restore_links;
 use crate::run::Run;
 use nf_curve::{Curve, Flow};
 use nf_frac::{Halt, Q};
+use nf_growth::{restore_labels, restore_links};
 use nf_net::Network;
 use nf_pattern::Pattern;
 use std::alloc::{AllocError, Global};

@@ -13,14 +13,11 @@ ghost use Rattle.nf_phase.specs.Stepping.{Reaches, IsCause, IsCauseOn, LeadsOnly
 
 use crate::fault::StepFault;
 use crate::finding::Found;
-use crate::growing::GrowingCurve;
-use crate::growth::{copy_labels, copy_links, first_labels};
-use crate::lengths::end_of;
-use crate::link_curves::LinkCurves;
-use crate::link_growth::first_links;
 use crate::phase::NextPhase;
+use nf_advance::end_of;
 use nf_curve::Flow;
 use nf_frac::Q;
+use nf_growth::{GrowingCurve, LinkCurves, copy_labels, copy_links, first_labels, first_links};
 use nf_net::{Network, start_labels};
 use nf_pattern::Pattern;
 use nf_thin::Thin;
@@ -41,8 +38,8 @@ pub struct Run {
 
 impl Model for Run {
     ghost use Rattle.nf_lists.specs.PhaseRun.{Standing};
-    ghost use Rattle.nf_phase.specs.Growing.{all_grown};
-    ghost use Rattle.nf_phase.specs.LinkGrowth.{coded_standing};
+    ghost use Rattle.nf_growth.specs.Growing.{all_grown};
+    ghost use Rattle.nf_phase.specs.StandingCode.{coded_standing};
 
     ghost Value = { Standing };
 

@@ -10,12 +10,12 @@ ghost use Rattle.nf_curve.specs.Flows.{flow_of as flow_in};
 ghost use Rattle.nf_phase.specs.Stepping.{Reaches};
 ghost use Rattle.nf_phase.specs.Solution.{IsSolution, IsFinished, bounds_of, report_in, stop_after};
 
-use crate::growth::{finish_labels, finish_links};
 use crate::run::Run;
 use crate::solution::{Budgets, Solution};
 use crate::stops::ended_by;
 use nf_curve::Stop;
 use nf_frac::Q;
+use nf_growth::{finish_labels, finish_links};
 use nf_net::Network;
 use std::alloc::{AllocError, Global};
 

@@ -11,11 +11,12 @@ use Rattle.nf_curve.specs.Points.{Grown}
 use Rattle.nf_curve.specs.Flows.{trace_of, flow_of as flow_in}
 use Rattle.nf_curve.specs.declared.flow.Trace as code
 use Rattle.nf_curve.proofs.Exits.{was_ok, stops_on}
-use Rattle.nf_phase.specs.Growing.{all_grown}
-use Rattle.nf_phase.specs.Restarting.{of_links}
+use Rattle.nf_growth.specs.Growing.{all_grown}
+use Rattle.nf_growth.specs.Restoring.{of_links}
 use Rattle.nf_phase.specs.Stepping.{restored}
 use Rattle.nf_phase.proofs.Restarting.{flow_restored}
-use Rattle.nf_phase.proofs.OneByOne.{labels_pass, links_pass, list_made, ends_same, flow_counts, same_parts}
+use Rattle.nf_phase.proofs.RestoreList.{labels_pass, links_pass, list_made, ends_same, flow_counts}
+use Rattle.nf_phase.proofs.Standings.{same_parts}
 use Rattle.nf_phase.proofs.run.Run.restore.Goals as goal
 
 pub restore_links-requires-clause-outflows : goal.restore_links-requires-clause-outflows

@@ -1,0 +1,5 @@
+pub mod Corners
+pub mod Places
+pub mod OneByOne
+pub mod LastSlopes
+pub mod Copying

@@ -1,0 +1,13 @@
+use Rattle.std.proofs.Common.{map, sym, ap, ◌∙◌}
+use Rattle.std.specs.Prelude.{Some}
+use Rattle.nf_lists.specs.ReportCurves.{LinkCurves, first_curves}
+use Rattle.nf_pattern.proofs.Each.{take_pushed}
+use Rattle.nf_growth.specs.Growing.{all_grown}
+use Rattle.nf_growth.proofs.Places.{grown_pushed}
+use Rattle.nf_growth.proofs.link_growth.first_links.Goals as goal
+use Rattle.nf_plain_laws.proofs.Entries.{slice_get-image}
+
+pub loop-e-preserved : goal.loop-e-preserved
+loop-e-preserved c = take_pushed (map (first_curves c.args.labels.now) c.args.net.now.net.links) (all_grown c.loop-e.curves.items) (all_grown c.push.new.self.items) c.loop-e.e c.in_ok-of_link.of_link.grown
+    (slice_get-image (first_curves c.args.labels.now) c.args.net.now.net.links c.loop-e.e c.link-link.result c.link-link.ensures.link ∙ ap (λ (g : LinkCurves). Some g) (sym c.in_ok-of_link.ensures))
+    c.loop-e.invariant (ap all_grown c.in_ok-push.ensures.items ∙ grown_pushed c.loop-e.curves.items c.in_ok-of_link.of_link)

@@ -1,0 +1,12 @@
+use Rattle.std.proofs.Common.{◌∙◌, ap}
+use Rattle.nf_model.specs.Equilibrium.{Trace}
+use Rattle.nf_lists.specs.ReportCurves.{trace_with}
+use Rattle.nf_growth.specs.Growing.{Roomy, rates_by}
+use Rattle.nf_growth.proofs.Corners.{trace-with}
+use Rattle.nf_growth.proofs.traces.GrowingTrace.go_on.Goals as goal
+
+pub returns : goal.returns
+returns c =
+    trace-with c.goes_on-goes.result c.self.inside.rates.items c.close_unless.new.rates.items c.self.inside.curve.grown c.go_on.new.self.grown c.args.rate (c.args.time, c.args.amount)
+    c.self.invariant c.goes_on-goes.ensures (c.close_unless.ensures ∙ ap (rates_by c.goes_on-goes.result c.self.inside.rates.items) c.slope-last.ensures) c.go_on.ensures
+    ∙ ap (λ (t : Roomy Trace). trace_with t.grown (c.args.time, c.args.amount) c.args.rate) c.self.view_is

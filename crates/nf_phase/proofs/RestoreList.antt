@@ -1,0 +1,63 @@
+-- The list of restoring, from those of the labels and of the links, and the parts of the flow that it is given.
+use Rattle.std.proofs.Common.{◌≡◌, List, [], ◌∷◌, length, map, refl, sym, ap, ◌∙◌}
+use Rattle.std.specs.Prelude.{Result, Ok, Err}
+use Rattle.std.proofs.lemmas.List.{length-map}
+use Rattle.nf_rational.specs.Rational.{ℚ}
+use Rattle.nf_work.specs.Passing.{Passing}
+use Rattle.nf_work.specs.declared.Part.TheVariants.{Curve}
+use Rattle.nf_work.specs.declared.Passed.{Passed}
+use Rattle.nf_work.specs.declared.PassedAt.{PassedAt}
+use Rattle.nf_work.specs.Checked.{each, at_part}
+use Rattle.nf_model.specs.Pattern.{Pattern}
+use Rattle.nf_model.specs.Network.{Network}
+use Rattle.nf_model.specs.Equilibrium.{Trace, Flow, Equilibrium}
+use Rattle.nf_lists.specs.ReportCurves.{GrowingCurve, LinkCurves}
+use Rattle.nf_lists.specs.PhaseRun.{Standing}
+use Rattle.nf_resume_lists.specs.Restoring.{value_at_end, link_curves_of, growing, restore_list}
+use Rattle.nf_curve.specs.Points.{Grown}
+use Rattle.nf_curve.specs.Flows.{trace_of, flow_of as flow_in}
+use Rattle.nf_curve.specs.declared.flow.Flow as code
+use Rattle.nf_curve.proofs.Exits.{after_err, after_ok, err_before, ok_before}
+use Rattle.nf_growth.specs.Restoring.{of_links}
+
+-- ---- the whole list
+module _ (passes : Passing) (flow : Flow) (last : Pattern) where
+  abbrev labels_list : Result (List GrowingCurve) (Passed ℚ)
+  labels_list = each (growing passes) flow.labels
+
+  abbrev links_list : Result (List LinkCurves) (Passed ℚ)
+  links_list = of_links passes flow.inflows flow.outflows flow.queues
+
+  abbrev stands_with : List GrowingCurve → List LinkCurves → Standing
+  stands_with label_curves link_curves = record { time = flow.reached; labels = map value_at_end flow.labels; label_curves = label_curves; link_curves = link_curves; made = 0; last = last }
+
+  pub labels_pass : (p : PassedAt ℚ) → at_part Curve labels_list ≡ Err p → at_part Curve (restore_list passes flow last) ≡ Err p
+  unfolding restore_list
+  labels_pass p e = after_err Curve labels_list _ p e
+
+  module _ (label_curves : List GrowingCurve) (by_labels : at_part Curve labels_list ≡ Ok label_curves) where
+    pub links_pass : (p : PassedAt ℚ) → at_part Curve links_list ≡ Err p → at_part Curve (restore_list passes flow last) ≡ Err p
+    unfolding restore_list
+    links_pass p e =
+        after_ok Curve labels_list _ label_curves by_labels
+        ∙ after_err Curve (each (growing passes) flow.queues) _ p (err_before Curve (each (growing passes) flow.queues) (λ (grown : List GrowingCurve). link_curves_of flow.inflows flow.outflows grown) p e)
+
+    pub list_made : (link_curves : List LinkCurves) → at_part Curve links_list ≡ Ok link_curves → at_part Curve (restore_list passes flow last) ≡ Ok (stands_with label_curves link_curves)
+    unfolding restore_list
+    list_made link_curves e =
+        let w = ok_before Curve (each (growing passes) flow.queues) (λ (grown : List GrowingCurve). link_curves_of flow.inflows flow.outflows grown) link_curves e in
+        after_ok Curve labels_list _ label_curves by_labels
+        ∙ after_ok Curve (each (growing passes) flow.queues) _ w.0 (ap (at_part Curve) w.1)
+        ∙ ap (λ (l : List LinkCurves). Ok (stands_with label_curves l)) w.2
+
+-- ---- what the parts of a flow come to
+pub ends_same : (curves : List Grown) → map value_at_end (map (λ (g : Grown). g.points) curves) ≡ map (λ (g : Grown). value_at_end g.points) curves
+ends_same [] = refl
+ends_same (g ∷ curves) = ap (λ (l : List ℚ). value_at_end g.points ∷ l) (ends_same curves)
+
+pub flow_counts : (net : Network) (f : code.Flow) → Equilibrium net (flow_in f) → (length f.outflows.items ≡ length f.inflows.items) × (length f.queues.items ≡ length f.inflows.items)
+flow_counts net f is =
+    let inflows : length f.inflows.items ≡ length net.links = sym (length-map (map trace_of f.inflows.items) (λ (t : Trace). t.points) ∙ length-map f.inflows.items trace_of) ∙ is.shape.inflows.count in
+    let outflows : length f.outflows.items ≡ length net.links = sym (length-map (map trace_of f.outflows.items) (λ (t : Trace). t.points) ∙ length-map f.outflows.items trace_of) ∙ is.shape.outflows.count in
+    let queues : length f.queues.items ≡ length net.links = sym (length-map f.queues.items (λ (g : Grown). g.points)) ∙ is.shape.queues.count in
+    (outflows ∙ sym inflows, queues ∙ sym inflows)
