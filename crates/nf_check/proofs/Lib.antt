@@ -1,12 +1,1 @@
-pub mod Trying
-pub mod Looping
-pub mod Folding
-pub mod PointByPoint
-pub mod ByNumber
-pub mod Known
-pub mod Merging
-pub mod Stretching
-pub mod Testing
 pub mod Answering
-pub mod Attaining
-pub mod Keeping

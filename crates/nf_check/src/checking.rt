@@ -12,29 +12,24 @@ ghost use Rattle.nf_check_lists.specs.CheckList.{trial, check_list};
 ghost use Rattle.nf_curve.specs.Flows.{trace_of, flow_of};
 ghost use Rattle.nf_check.specs.Answers.{IsExact};
 ghost use Rattle.nf_check.specs.Given.{IsGiven};
-ghost use Rattle.nf_check.specs.Kept.{IsWorked, curves_of, labels_in, loaded_in};
-ghost use Rattle.nf_check.specs.Steps.{worked_list, compared_list};
-ghost use Rattle.nf_check.specs.Trials.{Tries, done};
+ghost use Rattle.nf_rules.specs.Kept.{IsWorked, curves_of, labels_in, loaded_in};
+ghost use Rattle.nf_rules.specs.Steps.{worked_list, told_list, compared_list};
+ghost use Rattle.nf_rules.specs.Trials.{Tries, done};
 
-use crate::answer::Answer;
+use crate::answer::{Answer, answer_of};
 use crate::arrivals::check_arrivals;
-use crate::balances::check_balances;
-use crate::ended::{Ended, answer_of};
-use crate::exits::Exits;
-use crate::inflows::check_inflows;
 use crate::labels::cut_labels;
-use crate::loads::load_links;
-use crate::rates::check_rates;
-use crate::routes::check_routes;
-use crate::told::check_told;
-use crate::worked::Worked;
 use nf_curve::{Curve, Flow, Trace};
 use nf_frac::{Halt, Q};
 use nf_net::Network;
+use nf_rules::{
+    Ended, Exits, Worked, check_balances, check_inflows, check_outflows, check_queues, check_rates,
+    check_routes, load_links,
+};
 use std::alloc::Global;
 
 // The labels up to the departure reached and the loadings of the links, once the rules hold that look at points alone.
-#[tactic(auto, unfolding(crate::specs::Steps::worked_list))]
+#[tactic(auto, unfolding(nf_rules::specs::Steps::worked_list))]
 fn work_out(alloc: Global, net: &Network, flow: &Flow) -> Result<Worked, Ended>
     requires { IsGiven net.now.net flow.now }
     ensures list { Tries (λ worked. (labels_in worked, loaded_in worked)) result (worked_list passes_Q net.now.net (flow_of flow.now)) }
@@ -47,8 +42,20 @@ fn work_out(alloc: Global, net: &Network, flow: &Flow) -> Result<Worked, Ended>
     Ok(Worked { labels, loaded })
 }
 
+// The outflows of all links, and then their queues.
+#[tactic(auto, unfolding(nf_rules::specs::Steps::told_list))]
+fn check_told(net: &Network, flow: &Flow, worked: &Worked) -> Result<(), Ended>
+    requires outflows { length flow.now.outflows.items ≡ length net.now.net.links }
+    requires queues { length flow.now.queues.items ≡ length net.now.net.links }
+    requires worked { IsWorked net.now.net worked.now }
+    ensures { Tries (λ _. tt) result (told_list passes_Q net.now.net (flow_of flow.now) (labels_in worked.now) (loaded_in worked.now)) }
+{
+    check_outflows(net, flow, worked)?;
+    check_queues(net, flow, worked)
+}
+
 // The rules that compare curves.
-#[tactic(auto, unfolding(crate::specs::Steps::compared_list), using(crate::proofs::Keeping::none_kept))]
+#[tactic(auto, unfolding(nf_rules::specs::Steps::compared_list), using(nf_rules::proofs::Keeping::none_kept))]
 fn compare_all(alloc: Global, net: &Network, flow: &Flow, worked: &Worked) -> Result<(), Ended>
     requires given { IsGiven net.now.net flow.now }
     requires worked { IsWorked net.now.net worked.now }

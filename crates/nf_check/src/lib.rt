@@ -4,26 +4,10 @@
 
 mod answer;
 mod arrivals;
-mod balances;
 mod checking;
-mod compared;
-mod ended;
-mod exits;
-mod inflows;
 mod labels;
-mod lines;
-mod loads;
-mod places;
-mod rates;
-mod routes;
-mod sent;
-mod stretches;
-mod times;
-mod told;
-mod totals;
-mod values;
-mod worked;
 
-pub use answer::{Answer, Subject};
+pub use answer::Answer;
 pub use checking::check;
 pub use nf_check_lists::CheckRule;
+pub use nf_rules::Subject;

@@ -1,0 +1,7 @@
+pub mod Trials
+pub mod Points
+pub mod Kept
+pub mod Sent
+pub mod Steps
+pub mod Departures
+pub mod Exits
