@@ -9,13 +9,13 @@ use Rattle.nf_rational.specs.Order.{◌≤ℚ◌, le_ℚ}
 use Rattle.nf_rational_laws.proofs.Tests.{le_of_test}
 use Rattle.nf_work.specs.Passing.{bound_of}
 use Rattle.nf_numerals.specs.Numbers.{number_of}
-use Rattle.nf_words.specs.declared.commands.Task.{Task}
-use Rattle.nf_words.specs.declared.commands.Task.TheVariants as task
+use Rattle.nf_commands.specs.declared.commands.Task.{Task}
+use Rattle.nf_commands.specs.declared.commands.Task.TheVariants as task
 use Rattle.nf_words.specs.declared.request.Request as code
-use Rattle.nf_words.specs.CommandLine.{word_in, matches_on}
+use Rattle.nf_commands.specs.CommandLine.{word_in, matches_on, file_in}
 use Rattle.nf_words.specs.Numbers.{to_not_negative, not_negative_of, not_negative_in, count_of, usual_or_count_in, most_phases, most_patterns, most_augments, most_rungs, most_number}
-use Rattle.nf_words.specs.Commands.{commands, first_task}
-use Rattle.nf_words.specs.Requests.{Request, Show, IsWithin, CanBeAsked, solve_request, forever_request, load_request, check_request, quick_request, gen_request, settle_request, resume_request, routes_request, file_in, horizon_in, phases_in, patterns_in, amount_in, augments_in, number_in, rungs_in, asked, request_in, request_of}
+use Rattle.nf_commands.specs.Commands.{commands, first_task}
+use Rattle.nf_words.specs.Requests.{Request, Show, IsWithin, CanBeAsked, solve_request, forever_request, load_request, check_request, quick_request, gen_request, settle_request, resume_request, routes_request, horizon_in, phases_in, patterns_in, amount_in, augments_in, number_in, rungs_in, asked, request_in, request_of}
 use Rattle.nf_words.specs.Views.{requested}
 use Rattle.nf_words.proofs.Counts.{count_within}
 

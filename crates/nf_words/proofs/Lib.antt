@@ -1,6 +1,2 @@
-pub mod Faultless
-pub mod Taken
-pub mod Table
 pub mod Counts
 pub mod Asked
-pub mod Files

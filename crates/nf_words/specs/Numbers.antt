@@ -8,7 +8,7 @@ use Rattle.nf_rational.specs.Order.{le_ℚ}
 use Rattle.nf_work.specs.Passing.{bound_of}
 use Rattle.nf_numerals.specs.Digits.{are_digits, value_of}
 use Rattle.nf_numerals.specs.Numbers.{number_of}
-use Rattle.nf_words.specs.CommandLine.{word_in}
+use Rattle.nf_commands.specs.CommandLine.{word_in}
 
 -- ---- a horizon and an amount: a number of at least 0
 abbrev pub to_not_negative : {F : Type 0} → Result ℚ F → Option ℚ

@@ -1,14 +1,14 @@
 -- What the words of the command line ask.
-use Rattle.std.specs.Prelude.{ℕ, ◌≤◌, List, Option, Some, None, option_map, option_and_then, slice_get, codes}
+use Rattle.std.specs.Prelude.{ℕ, ◌≤◌, List, Option, Some, None, option_map, option_and_then, codes}
 use Rattle.clap.specs.Walk.{Text, Row}
 use Rattle.nf_rational.specs.Rational.{ℚ}
 use Rattle.nf_rational.specs.Operations.{0ℚ}
 use Rattle.nf_rational.specs.Order.{◌≤ℚ◌}
-use Rattle.nf_words.specs.declared.commands.Task.{Task}
-use Rattle.nf_words.specs.declared.commands.Task.TheVariants as task
-use Rattle.nf_words.specs.CommandLine.{files_in, matches_on}
+use Rattle.nf_commands.specs.declared.commands.Task.{Task}
+use Rattle.nf_commands.specs.declared.commands.Task.TheVariants as task
+use Rattle.nf_commands.specs.CommandLine.{matches_on, file_in}
 use Rattle.nf_words.specs.Numbers.{not_negative_in, count_in, usual_or_count_in, usual_phases, most_phases, usual_patterns, most_patterns, usual_augments, most_augments, most_number, most_rungs}
-use Rattle.nf_words.specs.Commands.{commands, first_task}
+use Rattle.nf_commands.specs.Commands.{commands, first_task}
 
 -- Files go by their names. A run has a horizon, or none, and budgets of phases and of patterns in each; a quickest flow has an amount, and a
 -- budget of walks that are pushed; a ladder has a number, and rungs.
@@ -79,10 +79,6 @@ routes_request (Some file) (Some routes) (Some horizon) = Some (Routes file rout
 routes_request file routes horizon = None
 
 -- ---- what a command makes of its files and options
--- the file at a place, from 0
-unfoldable pub file_in : ℕ → List Row → Option Text
-file_in place rows = slice_get (files_in rows) place
-
 unfoldable pub horizon_in : List Row → Option ℚ
 horizon_in rows = not_negative_in (codes "horizon") rows
 

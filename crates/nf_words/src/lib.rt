@@ -1,4 +1,4 @@
-//! The words of the command line: what they ask, as clap reads them. The commands, with their files and options, stand in one table.
+//! The words of the command line: what they ask, with the files and numbers of the command that they name and fit.
 #![tactic(auto)]
 
 ghost use Rattle.std.specs.Prelude.{◌≡◌, option_map, IfOk, IfSome};
@@ -7,13 +7,10 @@ ghost use Rattle.nf_words.specs.Examples.{WordsAreRead};
 ghost use Rattle.nf_words.specs.Requests.{CanBeAsked, request_of};
 ghost use Rattle.nf_words.specs.Views.{requested};
 
-mod command_line;
-mod commands;
-mod given;
 mod numbers;
 mod request;
 
-use command_line::match_words;
+use nf_commands::match_words;
 pub use numbers::{USUAL_PATTERNS, USUAL_PHASES};
 pub use request::Request;
 use request::request_of;

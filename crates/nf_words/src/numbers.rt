@@ -1,12 +1,12 @@
 // The numbers of the command line: a horizon and an amount, and counts within their limits.
 ghost use Rattle.std.specs.Prelude.{◌≡◌, ◌≤◌, IfSome};
 ghost use Rattle.nf_numerals.specs.Digits.{are_digits};
+ghost use Rattle.nf_commands.specs.Views.{rows_in};
 ghost use Rattle.nf_words.specs.Numbers.{count_in, count_of, is_between, is_whole, not_negative_in, not_negative_of, usual_or_count_in};
 ghost use Rattle.nf_words.specs.Requests.{amount_in, augments_in, horizon_in, number_in, patterns_in, phases_in, rungs_in};
-ghost use Rattle.nf_words.specs.Views.{rows_in};
 
-use crate::given::word_of;
 use clap::ArgMatches;
+use nf_commands::word_of;
 use nf_frac::Q;
 
 /// The most phases that may be asked for.

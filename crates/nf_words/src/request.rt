@@ -1,18 +1,18 @@
 // What the words of the command line ask.
 ghost use Rattle.std.specs.Prelude.{◌≡◌, option_map};
+ghost use Rattle.nf_commands.specs.Views.{rows_in};
 ghost use Rattle.nf_words.specs.Requests.{asked, request_in};
-ghost use Rattle.nf_words.specs.Views.{requested, rows_in};
+ghost use Rattle.nf_words.specs.Views.{requested};
 
-use crate::commands::{Task, task_of};
-use crate::given::file_of;
 use crate::numbers::{
     amount_of, augments_of, horizon_of, number_of, patterns_of, phases_of, rungs_of,
 };
 use clap::ArgMatches;
+use nf_commands::{Task, file_of, task_of};
 use nf_frac::Q;
 
 /// What the words ask. Files go by their names.
-#[derive(Clone, Copy, Debug)]
+#[derive(Clone, Copy)]
 pub enum Request<'w> {
     /// The report of a run in a network, from time 0 to a horizon of at least 0, of so many phases at most, each of which may try so
     /// many patterns; both are at least 1.

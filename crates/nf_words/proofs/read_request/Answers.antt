@@ -2,7 +2,7 @@ use Rattle.std.proofs.Common.{◌∙◌, ap, option_map}
 use Rattle.std.specs.Prelude.{option_and_then}
 use Rattle.nf_edge.specs.Names.{texts}
 use Rattle.nf_words.specs.Requests.{request_in, request_of}
-use Rattle.nf_words.specs.Views.{rows_in}
+use Rattle.nf_commands.specs.Views.{rows_in}
 use Rattle.nf_words.proofs.Asked.{can_be}
 use Rattle.nf_words.proofs.read_request.Goals as goal
 

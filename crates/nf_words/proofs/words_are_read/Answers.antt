@@ -5,10 +5,10 @@ use Rattle.nf_rational.specs.Operations.{whole}
 use Rattle.nf_rational.specs.Order.{le_ℚ}
 use Rattle.nf_rational.specs.Gcd.{gcd}
 use Rattle.nf_numerals.specs.Numbers.{number_of, parts_of}
-use Rattle.nf_words.specs.CommandLine.{nfot, matches_on, word_in, files_in}
+use Rattle.nf_commands.specs.CommandLine.{nfot, matches_on, word_in, files_in, file_in}
 use Rattle.nf_words.specs.Numbers.{count_of}
-use Rattle.nf_words.specs.Commands.{commands, fits, is_flagged, is_named, is_there}
-use Rattle.nf_words.specs.Requests.{file_in, horizon_in, phases_in, patterns_in, amount_in, augments_in, number_in, rungs_in, request_of}
+use Rattle.nf_commands.specs.Commands.{commands, fits, is_flagged, is_named, is_there}
+use Rattle.nf_words.specs.Requests.{horizon_in, phases_in, patterns_in, amount_in, augments_in, number_in, rungs_in, request_of}
 use Rattle.nf_words.proofs.words_are_read.Goals as goal
 
 pub returns : goal.returns

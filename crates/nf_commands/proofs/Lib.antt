@@ -1,0 +1,4 @@
+pub mod Faultless
+pub mod Taken
+pub mod Table
+pub mod Files

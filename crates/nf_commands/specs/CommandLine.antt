@@ -1,0 +1,76 @@
+-- The words of the command line as clap reads them: one simple command with its arguments, and its matches.
+use Rattle.std.specs.Prelude.{ℕ, true, List, [], ◌∷◌, Option, Some, None, unwrap_or, slice_get, if◌then◌else◌, codes}
+use Rattle.clap.specs.Lexer.{usize_max}
+use Rattle.clap.specs.declared.builder.action.ArgAction.TheVariants.{SetTrue}
+use Rattle.clap.specs.Walk.{Row, Rule, Text, first_of, all_of}
+use Rattle.clap.specs.Simple.{App, new_rule, new_shape, matches_of, with_rule}
+use Rattle.clap.specs.Takes.{takes}
+
+-- ---- the command
+-- the positional COMMAND, which is required
+abbrev pub command_rule : Rule
+command_rule = record (new_rule (codes "command")) { required = true }
+
+-- the last positional FILES, of any number of values
+abbrev pub files_rule : Rule
+files_rule = record (new_rule (codes "files")) { range = Some (record { start_inclusive = 0; end_inclusive = usize_max }) }
+
+-- an option `--name` of one value; it may be given once
+abbrev pub option_rule : Text → Rule
+option_rule name = record (new_rule name) { long = Some name }
+
+-- a flag `--name` without a value; it may be given once
+abbrev pub flag_rule : Text → Rule
+flag_rule name = record (new_rule name) { long = Some name; action = Some SetTrue }
+
+-- the command `nfot`, without a flag for help or for a version, and without subcommands; it has no argument yet
+unfoldable pub bare : App
+bare = record { top = record (new_shape (codes "nfot")) { disable_help_flag = true }; subs = [] }
+
+-- a command with more options of one value
+abbrev pub with_options : List Text → App → App
+with_options [] app = app
+with_options (name ∷ names) app = with_options names (with_rule app (option_rule name))
+
+-- the options of a run
+abbrev pub run_options : List Text
+run_options = codes "horizon" ∷ codes "phases" ∷ codes "patterns" ∷ []
+
+-- the options of a quickest flow, and those of a ladder
+abbrev pub other_options : List Text
+other_options = codes "amount" ∷ codes "augments" ∷ codes "number" ∷ codes "rungs" ∷ []
+
+-- its arguments
+abbrev pub arguments : List Rule
+arguments =
+    command_rule
+    ∷ option_rule (codes "horizon")
+    ∷ option_rule (codes "phases")
+    ∷ option_rule (codes "patterns")
+    ∷ option_rule (codes "amount")
+    ∷ option_rule (codes "augments")
+    ∷ option_rule (codes "number")
+    ∷ option_rule (codes "rungs")
+    ∷ flag_rule (codes "forever")
+    ∷ files_rule
+    ∷ []
+
+unfoldable pub nfot : App
+nfot = record { top = record (new_shape (codes "nfot")) { disable_help_flag = true; rules = arguments }; subs = [] }
+
+-- ---- its matches
+-- what clap makes of the words, of which the first is the program's name, where it takes them
+unfoldable pub matches_on : List Text → Option (List Row)
+matches_on words = if takes nfot words then Some (matches_of nfot words) else None
+
+-- the word that an argument has, where it is there
+unfoldable pub word_in : Text → List Row → Option Text
+word_in name rows = first_of name rows
+
+-- the words of FILES, in order
+unfoldable pub files_in : List Row → List Text
+files_in rows = unwrap_or (all_of (codes "files") rows) []
+
+-- the file at a place, from 0
+unfoldable pub file_in : ℕ → List Row → Option Text
+file_in place rows = slice_get (files_in rows) place
