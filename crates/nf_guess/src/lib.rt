@@ -2,15 +2,9 @@
 //! judges it like any other pattern.
 #![tactic(auto)]
 
-mod by_parts;
-mod forest;
 mod guessing;
-mod node_parts;
-mod numbers;
-mod part_slopes;
 mod repairs;
 mod reverting;
-mod tight_flows;
 
-pub use by_parts::part_values;
 pub use guessing::{SolvedPattern, guess};
+pub use nf_part_values::part_values;

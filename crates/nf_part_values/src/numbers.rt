@@ -2,7 +2,7 @@
 use nf_frac::{Halt, Part, Q, at};
 
 /// The number at a place, and 0 beyond the last.
-pub(crate) fn number_or_zero(numbers: &[Q], place: usize) -> Q {
+pub fn number_or_zero(numbers: &[Q], place: usize) -> Q {
     if place < numbers.len() {
         numbers[place]
     } else {

@@ -22,7 +22,7 @@ struct Place {
 
 /// Links that close no cycle, one after the other, and the last one at each node.
 #[derive(Drop)]
-pub(crate) struct Forest {
+pub struct Forest {
     branches: Vec<Branch>,
     last: Vec<Option<usize>>,
 }
@@ -116,7 +116,7 @@ impl Forest {
     }
 
     /// A link between these nodes more, unless it closes a cycle; whether it closes none.
-    pub(crate) fn grow(&mut self, tail: NodeId, head: NodeId) -> Result<bool, AllocError> {
+    pub fn grow(&mut self, tail: NodeId, head: NodeId) -> Result<bool, AllocError> {
         if self.joins(tail, head) {
             return Ok(false);
         }

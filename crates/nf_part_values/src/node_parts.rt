@@ -23,7 +23,7 @@ pub(crate) fn state_in(sets: &LinkSets, pattern: &Pattern, link: LinkId) -> Opti
 }
 
 /// The Tight links; None where they close a cycle.
-pub(crate) fn tight_forest(
+pub fn tight_forest(
     alloc: Global,
     net: &Network,
     sets: &LinkSets,
