@@ -8,8 +8,8 @@ use Rattle.nf_text.specs.Reading.{seen_line}
 use Rattle.nf_text.specs.Spans.{text_of}
 use Rattle.nf_formats.specs.Named.{Named}
 use Rattle.nf_formats.specs.NetLines.{empty_draft}
-use Rattle.nf_net.specs.Contents.{contents}
-use Rattle.nf_net.proofs.ContentLines.{with_words}
+use Rattle.nf_draft.specs.Contents.{contents}
+use Rattle.nf_draft.proofs.ContentLines.{with_words}
 use Rattle.nf_readings.specs.declared.LoadRule.TheVariants.{L3}
 use Rattle.nf_readings.specs.LoadsFile.{LoadsDraft, LoadsBroken, add_load, in_load_line, add_loads, is_loads_1, empty_loads}
 use Rattle.nf_load.specs.declared.draft.Draft.{Draft}

@@ -4,7 +4,7 @@ use Rattle.nf_rational.specs.Rational.{ℚ}
 use Rattle.nf_model.specs.Curve.{Point}
 use Rattle.nf_lists.specs.Signs.{is_same}
 use Rattle.nf_load_lists.specs.Loading.{Leaves, outflow_from}
-use Rattle.nf_net.proofs.Filling.{at_entry}
+use Rattle.nf_draft.proofs.Filling.{at_entry}
 
 module _ (all : List Leaves) (i : ℕ) (one : Leaves) (front whole : List Point) (last : ℚ) (below : i < length all) (is : one ≡ get_or all i one)
     (so_far : front ++ outflow_from last (drop i all) ≡ whole) where

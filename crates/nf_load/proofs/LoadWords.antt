@@ -6,7 +6,7 @@ use Rattle.nf_formats.specs.Names.{Name, has_name, place_of}
 use Rattle.nf_formats.specs.Numbers.{greatest}
 use Rattle.nf_readings.specs.declared.LoadRule.TheVariants.{L6, L7}
 use Rattle.nf_readings.specs.LoadsFile.{End, piece_entry, rate_line, end_line, is_loads_1}
-use Rattle.nf_net.specs.Words.{word_at}
+use Rattle.nf_entry.specs.Words.{word_at}
 use Rattle.nf_load.specs.Entries.{IsLinkNamed}
 
 -- ---- a wrong number of words

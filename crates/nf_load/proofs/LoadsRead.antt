@@ -8,7 +8,7 @@ use Rattle.nf_text.specs.Reading.{seen_line}
 use Rattle.nf_model.specs.Network.{Piece}
 use Rattle.nf_formats.specs.Named.{Named}
 use Rattle.nf_formats.specs.WellNamed.{IsNamed}
-use Rattle.nf_net.specs.Contents.{contents}
+use Rattle.nf_draft.specs.Contents.{contents}
 use Rattle.nf_net.proofs.Limits.{as_many_names}
 use Rattle.nf_readings.specs.LoadsFile.{LoadsDraft, LoadsBroken, as_load_rule, loads_by_bytes, loads_draft, if_ended, loads_in}
 use Rattle.nf_readings_laws.proofs.Loads.{loads-pieces}

@@ -7,7 +7,7 @@ use Rattle.nf_text.specs.declared.Line.{Line}
 use Rattle.nf_model.specs.Network.{Piece}
 use Rattle.nf_formats.specs.Named.{Named}
 use Rattle.nf_formats.specs.NetLines.{is_negative, is_not_after}
-use Rattle.nf_net.specs.Contents.{contents}
+use Rattle.nf_draft.specs.Contents.{contents}
 use Rattle.nf_readings.specs.declared.LoadRule.{LoadRule}
 use Rattle.nf_readings.specs.declared.LoadRule.TheVariants.{L9, L10, L11}
 use Rattle.nf_readings.specs.LoadsFile.{LoadsDraft, LoadsBroken, first_load_rule, add_loads, loads_draft, if_ended}

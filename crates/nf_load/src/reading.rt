@@ -3,8 +3,8 @@ ghost use Rattle.std.specs.Prelude.{◌≡◌, ◌≤◌, [], length, map, None,
 ghost use Rattle.nf_lines.specs.Words.{read_lines};
 ghost use Rattle.nf_lines.specs.Faults.{first_fault, longest_text};
 ghost use Rattle.nf_text.specs.Reading.{seen_line};
-ghost use Rattle.nf_net.specs.Words.{AreWithin};
-ghost use Rattle.nf_net.specs.Contents.{contents, AreLinesWithin};
+ghost use Rattle.nf_entry.specs.Words.{AreWithin};
+ghost use Rattle.nf_draft.specs.Contents.{contents, AreLinesWithin};
 ghost use Rattle.nf_readings.specs.LoadsFile.{is_loads_1 as is_loads_1_by, as_load_rule, loads_in};
 ghost use Rattle.nf_load.specs.Drafts.{HaveLinks, draft_on, closed, Adds};
 ghost use Rattle.nf_load.specs.Files.{IfBroken};
@@ -19,7 +19,7 @@ use nf_text::{Line, TextFault, lines};
 use std::alloc::Global;
 
 // The lines of the text, or the first line that has a fault.
-#[tactic(auto, using(nf_net::proofs::ContentLines::lines_within))]
+#[tactic(auto, using(nf_draft::proofs::ContentLines::lines_within))]
 fn lines_of(alloc: Global, text: &[u8]) -> Result<Vec<Line>, LoadsFault>
     requires { length text.now ≤ longest_text }
     ensures ok { IfOk result (λ read. map (seen_line text.now) read.items ≡ read_lines text.now) }

@@ -2,7 +2,7 @@
 ghost use Rattle.std.specs.Prelude.{◌≡◌, ◌<◌, length, map};
 ghost use Rattle.std.specs.Str.{bytes_eq};
 ghost use Rattle.nf_text.specs.Spans.{text_of};
-ghost use Rattle.nf_net.specs.Words.{AreWithin, word_at};
+ghost use Rattle.nf_entry.specs.Words.{AreWithin, word_at};
 
 use nf_text::Span;
 use std::marker::Model;
@@ -17,7 +17,7 @@ pub struct Words<'a> {
 impl<'a> Model for Words<'a> {
     ghost use Rattle.std.specs.Prelude.{ℕ, List, map};
     ghost use Rattle.nf_text.specs.Spans.{text_of};
-    ghost use Rattle.nf_net.specs.Words.{AreWithin};
+    ghost use Rattle.nf_entry.specs.Words.{AreWithin};
 
     ghost Value = { List (List ℕ) };
 

@@ -20,10 +20,10 @@ use Rattle.nf_net.specs.declared.building.LinkTables.{LinkTables}
 use Rattle.nf_net.specs.declared.building.Parts.{Parts}
 use Rattle.nf_net.specs.Building.{AreSorted, AreNodesOf, AreTablesOf, net_of, ArePartsOf}
 use Rattle.nf_net.specs.Kept.{with_parts}
-use Rattle.nf_net.specs.Contents.{IsRead}
-use Rattle.nf_net.specs.Closing.{HasEnds, BreaksNone, flag_at, tail_flags, AreFlags}
+use Rattle.nf_draft.specs.Contents.{IsRead}
+use Rattle.nf_draft.specs.Closing.{HasEnds, BreaksNone, flag_at, tail_flags, AreFlags}
 use Rattle.nf_net.proofs.Limits.{few_nodes}
-use Rattle.nf_net.proofs.FileWalks.{good_of, source_given, sink_given, is_its_name}
+use Rattle.nf_draft.proofs.FileWalks.{good_of, source_given, sink_given, is_its_name}
 
 -- ---- names put one after the other
 all_found : (P : Name → Type 0) (front : List Name) (x : Name) (rest : List Name) → AllByRecursion P (front ++ x ∷ rest) → P x

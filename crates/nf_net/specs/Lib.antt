@@ -1,10 +1,4 @@
-pub mod Names
 pub mod Kept
 pub mod Supply
-pub mod Words
-pub mod Reading
-pub mod Drafts
-pub mod Contents
 pub mod Printing
-pub mod Closing
 pub mod Building

@@ -6,8 +6,8 @@ ghost use Rattle.nf_work.specs.Passing.{passes_Q};
 ghost use Rattle.nf_model.specs.Network.{supply as supply_of};
 ghost use Rattle.nf_net.specs.Supply.{end_before, with_piece, supplied_after, checked_supply};
 
-use crate::link::Piece;
 use crate::network::Network;
+use nf_entry::Piece;
 use nf_frac::{Passed, Q};
 
 // The lesser of the next start and the time.

@@ -4,29 +4,17 @@
 
 mod amounts;
 mod building;
-mod closing;
-mod contents;
-mod draft;
-mod entry;
-mod fault;
 mod labels;
-mod link;
-mod name;
-mod names;
 mod network;
-mod pieces;
 mod printing;
 mod reading;
-mod sizes;
-mod words;
 
 pub use amounts::supply;
-pub use fault::NetFault;
 pub use labels::start_labels;
-pub use link::{Link, Piece};
 pub use network::Network;
+pub use nf_draft::{LONGEST_FILE, MOST_LINKS, MOST_NODES, MOST_PIECES, NetFault};
+pub use nf_entry::{LONGEST_NAME, Link, Piece};
 pub use nf_formats::NetRule;
 pub use nf_graph::{Hop, LinkId, NodeId};
 pub use printing::text;
 pub use reading::parse;
-pub use sizes::{LONGEST_FILE, LONGEST_NAME, MOST_LINKS, MOST_NODES, MOST_PIECES};

@@ -7,10 +7,8 @@ ghost use Rattle.nf_formats.specs.WellNamed.{IsNamed};
 ghost use Rattle.nf_net.specs.Kept.{with_parts, IsKept};
 ghost use Rattle.nf_formats.specs.Limits.{most_links};
 
-use crate::link::{Link, NamedLink, Piece};
-use crate::name::Name;
-use crate::names::Names;
-use crate::pieces::{rate_of, start_after};
+use nf_draft::{rate_of, start_after};
+use nf_entry::{Link, Name, NamedLink, Names, Piece};
 use nf_frac::Q;
 use nf_graph::{Hop, LinkId, NodeId};
 use std::marker::Model;

@@ -11,8 +11,8 @@ ghost use Rattle.nf_formats.specs.NetText.{link_words, inflow_words, canonical};
 ghost use Rattle.nf_formats.specs.NetFile.{Reads};
 ghost use Rattle.nf_net.specs.Printing.{head_text, PushesLink};
 
-use crate::link::{NamedLink, Piece};
 use crate::network::Network;
+use nf_entry::{NamedLink, Piece};
 use nf_frac::{Q, TextBuf};
 use nf_graph::{LinkId, NodeId};
 use std::alloc::{AllocError, Global};

@@ -2,7 +2,7 @@ use Rattle.std.proofs.Common.{ℕ, ◌≤◌, List, [], ◌∷◌, length, sym, 
 use Rattle.std.specs.Prelude.{Err}
 use Rattle.std.proofs.lemmas.Result.{err_from_is_err_and}
 use Rattle.nf_formats.specs.NetFile.{Reads}
-use Rattle.nf_net.specs.Contents.{IfBroken}
+use Rattle.nf_draft.specs.Contents.{IfBroken}
 use Rattle.nf_fetch.specs.Files.{network_file}
 use Rattle.nf_fetch.proofs.Networks.{network_refused}
 use Rattle.nf_fetch.proofs.fetching.fetch_network_with.Goals as goal

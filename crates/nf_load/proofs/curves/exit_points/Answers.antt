@@ -4,7 +4,7 @@ use Rattle.std.proofs.lemmas.Result.{IfOk-from_err}
 use Rattle.nf_model.specs.Curve.{Point}
 use Rattle.nf_load_lists.specs.Loading.{Leaves, exit_point}
 use Rattle.nf_load.specs.declared.waits.Leaves.TheInside.{Inside}
-use Rattle.nf_net.proofs.Filling.{filled}
+use Rattle.nf_draft.proofs.Filling.{filled}
 use Rattle.nf_load.proofs.curves.exit_points.Goals as goal
 
 pub loop-one-init : goal.loop-one-init

@@ -3,7 +3,7 @@ use Rattle.std.proofs.lemmas.List.{at_drop_all}
 use Rattle.std.proofs.lemmas.Result.{IfOk-from_err}
 use Rattle.nf_model.specs.Curve.{Point}
 use Rattle.nf_load_lists.specs.Loading.{Waits, queue_point}
-use Rattle.nf_net.proofs.Filling.{filled}
+use Rattle.nf_draft.proofs.Filling.{filled}
 use Rattle.nf_load.proofs.curves.queue_points.Goals as goal
 
 pub loop-moment-init : goal.loop-moment-init

@@ -2,7 +2,7 @@ use Rattle.std.proofs.Common.{List, length, Ok, Err, sym, ap, ◌∙◌}
 use Rattle.std.proofs.lemmas.Result.{err_from_is_err_and}
 use Rattle.nf_text.specs.declared.Line.{Line}
 use Rattle.nf_model.specs.Network.{Piece}
-use Rattle.nf_net.specs.Contents.{contents}
+use Rattle.nf_draft.specs.Contents.{contents}
 use Rattle.nf_readings.specs.LoadsFile.{loads_draft}
 use Rattle.nf_load.proofs.Adding.{broken_more}
 use Rattle.nf_load.proofs.LoadsRead.{bytes_break, lines_break, lines_close, are_loads, as_many_loads}

@@ -1,5 +1,5 @@
 use Rattle.std.proofs.Common.{◌≡◌, None, drop}
-use Rattle.nf_net.specs.Contents.{contents}
+use Rattle.nf_draft.specs.Contents.{contents}
 use Rattle.nf_load.specs.Drafts.{HaveLinks, draft_on}
 use Rattle.nf_load.proofs.reading.read_draft.Given as goal
 

@@ -1,7 +1,7 @@
 use Rattle.std.proofs.Common.{◌+◌, ◌++◌, Bool, cond, List, [], ◌∷◌, drop, sym, ◌∙◌, ap, append-nil}
 use Rattle.nf_formats.specs.Names.{Name, without}
-use Rattle.nf_net.proofs.Filling.{filled}
-use Rattle.nf_net.proofs.Marks.{kept_with}
+use Rattle.nf_draft.proofs.Filling.{filled}
+use Rattle.nf_draft.proofs.Marks.{kept_with}
 use Rattle.nf_net.proofs.building.names_without.Goals as goal
 use Rattle.nf_net.proofs.building.names_without.Goals.{then-not-has+in_ok-push, else-not-has}
 

@@ -1,0 +1,8 @@
+pub mod NodeCounts
+pub mod LastPiece
+pub mod HeadLine
+pub mod ContentLines
+pub mod FirstRule
+pub mod Marks
+pub mod Filling
+pub mod FileWalks
