@@ -2,19 +2,13 @@
 //! settled into a listed pattern.
 #![tactic(auto)]
 
-mod balances;
-mod cancelling;
 mod cycle;
 mod fulls;
 mod interior;
-mod leading;
-mod numbers;
 mod proper;
 mod settled;
 mod settling;
 mod slopes;
-mod states;
-mod step;
 mod taken;
 mod thin;
 mod way;

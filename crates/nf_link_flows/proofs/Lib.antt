@@ -1,0 +1,9 @@
+pub mod Folds
+pub mod Numbered
+pub mod Deciding
+pub mod Telling
+pub mod LinkByLink
+pub mod Balancing
+pub mod Filling
+pub mod LinkAnswers
+pub mod Stating

@@ -1,0 +1,171 @@
+// Cancelling along a cycle: by how much each of its links may grow or shrink, and the flows after that.
+ghost use Rattle.std.specs.Prelude.{◌≡◌, ◌<◌, ◌^◌, length, Some, None, unwrap_or, slice_get};
+ghost use Rattle.nf_rational.specs.Operations.{0ℚ};
+ghost use Rattle.nf_work.specs.declared.Part.TheVariants.{Verdict};
+ghost use Rattle.nf_work.specs.Passing.{passes_Q};
+ghost use Rattle.nf_work.specs.Checked.{at_part, each, Gives};
+ghost use Rattle.std.specs.List.{enumerate_from};
+ghost use Rattle.nf_complete_lists.specs.Interior.{turn_of};
+ghost use Rattle.nf_complete_lists.specs.Cancelling.{room_on, room_at, lesser_room, least_room, change_on, change_at, cancel_list};
+
+use crate::step::Step;
+use nf_frac::{Halt, Part, PassedAt, Q, at};
+use nf_graph::LinkId;
+use std::alloc::Global;
+
+// In which direction steps take a link, if they do.
+fn turn(steps: &[Step], link: LinkId) -> Option<bool>
+    ensures { result ≡ turn_of steps.now link }
+{
+    for step in steps {
+        let step: Step = *step;
+        if step.link == link {
+            return Some(step.forward);
+        }
+    }
+    None
+}
+
+// By how much a link may grow or shrink.
+fn room(turn: Option<bool>, full: Option<Q>, flow: Q) -> Result<Option<Q>, PassedAt<Q>>
+    ensures { result ≡ at_part Verdict (room_on passes_Q turn full flow) }
+{
+    match turn {
+        Some(true) => match full {
+            Some(full) => {
+                let room = at!(Part::Verdict, full.difference(flow));
+                Ok(Some(room))
+            }
+            None => Ok(None),
+        },
+        Some(false) => Ok(Some(flow)),
+        None => Ok(None),
+    }
+}
+
+// The flow after it has grown or shrunk.
+fn change(turn: Option<bool>, amount: Q, flow: Q) -> Result<Q, PassedAt<Q>>
+    ensures { result ≡ at_part Verdict (change_on passes_Q turn amount flow) }
+{
+    match turn {
+        Some(true) => {
+            let more = at!(Part::Verdict, flow.sum(amount));
+            Ok(more)
+        }
+        Some(false) => {
+            let less = at!(Part::Verdict, flow.difference(amount));
+            Ok(less)
+        }
+        None => Ok(flow),
+    }
+}
+
+// Of the link of a number.
+fn room_of(
+    steps: &[Step],
+    fulls: &[Option<Q>],
+    link: usize,
+    flow: Q,
+) -> Result<Option<Q>, PassedAt<Q>>
+    requires link { link < length fulls.now }
+    requires fewer { length fulls.now < 2 ^ 32 }
+    ensures { result ≡ at_part Verdict (room_at passes_Q steps.now fulls.now (link, flow)) }
+{
+    room(turn(steps, LinkId(link as u32)), fulls[link], flow)
+}
+
+fn change_of(steps: &[Step], amount: Q, link: usize, flow: Q) -> Result<Q, PassedAt<Q>>
+    requires { link < 2 ^ 32 }
+    ensures { result ≡ at_part Verdict (change_at passes_Q steps.now amount (link, flow)) }
+{
+    change(turn(steps, LinkId(link as u32)), amount, flow)
+}
+
+// The rooms of all links.
+fn rooms(
+    alloc: Global,
+    steps: &[Step],
+    fulls: &[Option<Q>],
+    flows: &[Q],
+) -> Result<Vec<Option<Q>>, Halt<Q>>
+    requires count { length fulls.now ≡ length flows.now }
+    requires fewer { length fulls.now < 2 ^ 32 }
+    ensures { Gives (λ rooms. rooms.items) (λ q. q) result
+        (at_part Verdict (each (room_at passes_Q steps.now fulls.now) (enumerate_from 0 flows.now))) }
+{
+    let mut rooms = Vec::new(alloc);
+    for (e, flow) in flows.iter().enumerate() {
+        let next = room_of(steps, fulls, e, *flow)?;
+        rooms.push(next)?;
+    }
+    Ok(rooms)
+}
+
+// The flows of all links after they have grown or shrunk by an amount.
+fn changes(alloc: Global, steps: &[Step], amount: Q, flows: &[Q]) -> Result<Vec<Q>, Halt<Q>>
+    requires { length flows.now < 2 ^ 32 }
+    ensures { Gives (λ new. new.items) (λ q. q) result
+        (at_part Verdict (each (change_at passes_Q steps.now amount) (enumerate_from 0 flows.now))) }
+{
+    let mut new = Vec::new(alloc);
+    for (e, flow) in flows.iter().enumerate() {
+        let next = change_of(steps, amount, e, *flow)?;
+        new.push(next)?;
+    }
+    Ok(new)
+}
+
+// The lesser of two rooms, of which there may be none.
+fn lesser(room: Option<Q>, rest: Option<Q>) -> Option<Q>
+    ensures { result ≡ lesser_room room rest }
+{
+    match room {
+        Some(room) => match rest {
+            Some(rest) => Some(room.lesser(rest)),
+            None => Some(room),
+        },
+        None => rest,
+    }
+}
+
+// The least room, if there is any.
+fn least(rooms: &[Option<Q>]) -> Option<Q>
+    ensures { result ≡ least_room rooms.now }
+{
+    let mut least = None;
+    for done in 0..rooms.len() {
+        least = lesser(rooms[rooms.len() - 1 - done], least);
+    }
+    least
+}
+
+// What one may grow and the other shrink; 0 where there is no room.
+fn amount(room: Option<Q>) -> Q
+    ensures { result ≡ unwrap_or room 0ℚ }
+{
+    match room {
+        Some(room) => room,
+        None => Q::zero(),
+    }
+}
+
+/// The flows after a cycle is cancelled: its forward links grow, and its backward links shrink, by the greatest amount for which each stays
+/// at least 0 and at most what fills it. Passed comes exactly at the first of its operations that passes, and has part Verdict; else it is
+/// refused where memory is wanting.
+#[tactic(auto, unfolding(nf_complete_lists::specs::Cancelling::cancel_list))]
+pub fn cancel(
+    alloc: Global,
+    steps: &[Step],
+    fulls: &[Option<Q>],
+    flows: &[Q],
+) -> Result<Vec<Q>, Halt<Q>>
+    requires count { length fulls.now ≡ length flows.now }
+    requires fewer { length fulls.now < 2 ^ 32 }
+    ensures { Gives (λ new. new.items) (λ q. q) result
+        (at_part Verdict (cancel_list passes_Q steps.now fulls.now flows.now)) }
+{
+    let rooms = rooms(alloc, steps, fulls, flows)?;
+    let amount = amount(least(&rooms));
+    let new = changes(alloc, steps, amount, flows)?;
+    Ok(new)
+}

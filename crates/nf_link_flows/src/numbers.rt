@@ -1,0 +1,37 @@
+// Numbers of nodes and links, whether two are the same, and whether both of two things hold.
+ghost use Rattle.std.specs.Prelude.{◌≡◌, ◌<◌, ◌&&◌, length};
+ghost use Rattle.nf_model.specs.Entries.{number_at};
+ghost use Rattle.nf_link_flows.specs.Testing.{same_test};
+
+use nf_frac::Q;
+use nf_graph::{LinkId, NodeId};
+
+/// Two numbers are the same.
+pub fn is_same(left: Q, right: Q) -> bool
+    ensures { result ≡ same_test left right }
+{
+    left.is_at_most(right) && right.is_at_most(left)
+}
+
+/// Both hold.
+pub fn both(first: bool, second: bool) -> bool
+    ensures { result ≡ (first && second) }
+{
+    first && second
+}
+
+/// The slope of a node.
+pub fn slope_of(slopes: &[Q], node: NodeId) -> Q
+    requires { node < length slopes.now }
+    ensures { result ≡ number_at slopes.now node }
+{
+    slopes[node.index()]
+}
+
+/// The flow of a link.
+pub fn flow_of(flows: &[Q], link: LinkId) -> Q
+    requires { link < length flows.now }
+    ensures { result ≡ number_at flows.now link }
+{
+    flows[link.index()]
+}
