@@ -1,6 +1,7 @@
 -- What a call answers, from what was fetched for its request and what the request gives.
-use Rattle.std.proofs.Common.{◌≡◌, ℕ, List, [], ◌∷◌, refl, sym, ap, subst, ◌∙◌, inl, inr, append-nil}
-use Rattle.std.specs.Prelude.{Option, None, Some, Result, Ok, Err}
+use Rattle.std.proofs.Common.{Vec, Global, ◌≡◌, ℕ, List, [], ◌∷◌, refl, sym, ap, subst, ◌∙◌, inl, inr, append-nil}
+use Rattle.std.specs.Prelude.{Option, None, Some, slice_get, IfSome, Result, Ok, Err, IfOk, IfErr}
+use Rattle.std.specs.Result.{result_map_both}
 use Rattle.std.proofs.lemmas.List.Elements.{All-nil}
 use Rattle.nf_edge.specs.Taken.{with_more}
 use Rattle.nf_formats.specs.Named.{Named}
@@ -8,15 +9,16 @@ use Rattle.nf_formats.specs.NetLines.{Broken}
 use Rattle.nf_answers.specs.declared.outcome.Found.{Found}
 use Rattle.nf_answers.specs.declared.outcome.Outcome.{Outcome}
 use Rattle.nf_answers.specs.declared.refusal.Refusal.{Refusal}
-use Rattle.nf_answers.specs.Answers.{Answer, out_text}
+use Rattle.nf_answers.specs.Answers.{Answer, NoMemory, out_text}
 use Rattle.nf_answers.specs.Refusals.{answer_of}
 use Rattle.nf_fetch.specs.Files.{Wanted, Visit, Fits, FetchedNone, FetchedAll, FetchedTo}
-use Rattle.nf_fetch.specs.Fetching.{NetworkReads, AreRead}
+use Rattle.nf_fetch.specs.Fetching.{NetworkReads, IsTold, AreRead}
 use Rattle.nf_fetch.proofs.Networks.{all_reached}
 use Rattle.nf_words.specs.Requests.{Request, request_of}
 use Rattle.nf_app.specs.Requests.{files_of, generated_by}
 use Rattle.nf_app.specs.Given.{IsGiven}
-use Rattle.nf_app.specs.Runs.{Call, Reached, Read, IsAnswer}
+use Rattle.nf_app.specs.Runs.{Call, Reached, Read, IsRefused, IsAnswer}
+use Rattle.nf_app.specs.Gathered.{IsGathered}
 use Rattle.nf_app.specs.Outcomes.{IsGiving, IsAnswered, with_net}
 
 -- ---- a request with its files
@@ -53,22 +55,38 @@ module _ (words : List (List ℕ)) (shelf : Visit) (request : Request) (asks : r
   refused Refusal.NotThin h = absurd h
   refused Refusal.Earlier h = absurd h
 
-  -- there is a network
-  module _ (n : Named) (texts : List (List ℕ)) (h : AreRead shelf file others (Ok (n, texts))) where
-    computed : (answer : Answer) → IsGiven shelf n request answer → IsAnswer call answer
-    computed answer g = inr (record { request = request; net = n; read = read_of (Ok n) h.0 h.1; given = g })
+  -- all files were fetched, and the first reads as a network
+  read_with : (n : Named) (texts : List (List ℕ)) → AreRead shelf file others (Ok (n, texts)) → Read call request (Ok n)
+  read_with n texts h = read_of (Ok n) h.0 h.1
 
-    given_with : (r : Result Found Refusal) → IsGiving shelf n request r → IsAnswered call (with_net n r)
-    given_with (Ok found) g = (computed _ g.0, g.1)
-    given_with (Err refusal) (inl none) =
-        let last = all_reached shelf file others h.0 in
-        subst (λ (r : Refusal). IsAnswer call (answer_of r)) (sym none) (inl (inr (last.0, reached last.0 last.1)))
-    given_with (Err refusal) (inr g) = computed (answer_of refusal) g
+-- ---- what is gathered for a request
+pub any_fit : (r : Result (Named × Vec ℕ Global) Refusal) → IfOk r (λ got. Unit {0})
+any_fit (Ok got) = tt
+any_fit (Err refusal) = tt
 
-    pub given : (r : Result Found Refusal) → IsGiving shelf n request r → (out : Result Outcome Refusal) → out ≡ with_net n r → IsAnswered call out
-    given r g out e = subst (λ (o : Result Outcome Refusal). IsAnswered call o) (sym e) (given_with r g)
+-- with one file
+module _ (words : List (List ℕ)) (shelf : Visit) (request : Request) (asks : request_of words ≡ Some request) (file : Wanted)
+    (files_are : files_of request ≡ file ∷ []) (from_file : generated_by request ≡ None) where
+  pub gathered_one : (r : Result (Named × Vec ℕ Global) Refusal) → AreRead shelf file [] (result_map_both (λ got. (got.0, [])) (λ refusal. refusal) r)
+      → IsGathered (record { words = words; shelf = shelf }) request (result_map_both (λ got. (got.0, got.1.items)) (λ refusal. refusal) r)
+  gathered_one (Ok got) h = (
+    read_with words shelf request asks file [] files_are from_file got.0 [] h,
+    subst (λ (l : List Wanted). IfSome (slice_get l 1) (λ other. IsTold shelf other got.1.items)) (sym files_are) tt,
+  )
+  gathered_one (Err refusal) h = refused words shelf request asks file [] files_are from_file refusal h
 
--- ---- a request without files, whose network is generated
+-- with another
+module _ (words : List (List ℕ)) (shelf : Visit) (request : Request) (asks : request_of words ≡ Some request) (file other : Wanted)
+    (files_are : files_of request ≡ file ∷ other ∷ []) (from_file : generated_by request ≡ None) where
+  pub gathered_two : (r : Result (Named × Vec ℕ Global) Refusal) → AreRead shelf file (other ∷ []) (result_map_both (λ read. (read.0, read.1.items ∷ [])) (λ refusal. refusal) r)
+      → IsGathered (record { words = words; shelf = shelf }) request (result_map_both (λ got. (got.0, got.1.items)) (λ refusal. refusal) r)
+  gathered_two (Ok got) h = (
+    read_with words shelf request asks file (other ∷ []) files_are from_file got.0 (got.1.items ∷ []) h,
+    subst (λ (l : List Wanted). IfSome (slice_get l 1) (λ more. IsTold shelf more got.1.items)) (sym files_are) h.2.0,
+  )
+  gathered_two (Err refusal) h = refused words shelf request asks file (other ∷ []) files_are from_file refusal h
+
+-- without files, where the network is generated
 module _ (words : List (List ℕ)) (shelf : Visit) (request : Request) (asks : request_of words ≡ Some request) (no_files : files_of request ≡ [])
     (n : Named) (made : generated_by request ≡ Some n) (untouched : FetchedNone shelf) where
   fetched_nothing : FetchedAll shelf []
@@ -81,16 +99,36 @@ module _ (words : List (List ℕ)) (shelf : Visit) (request : Request) (asks : r
     reads = subst (λ (o : Option Named). NetworkReads shelf o (files_of request) (Ok n)) (sym made) refl;
   }
 
-  summed : (answer : Answer) → IsGiven shelf n request answer → IsAnswer (record { words = words; shelf = shelf }) answer
-  summed answer g = inr (record { request = request; net = n; read = generated_read; given = g })
+  pub gathered_none : (r : Result (Named × Vec ℕ Global) Refusal) → IfOk r (λ got. got.0 ≡ n) → IfErr r (λ refusal. refusal ≡ Refusal.NoMemory)
+      → IsGathered (record { words = words; shelf = shelf }) request (result_map_both (λ got. (got.0, got.1.items)) (λ refusal. refusal) r)
+  gathered_none (Ok got) same refused = (
+    subst (λ (m : Named). Read (record { words = words; shelf = shelf }) request (Ok m)) (sym same) generated_read,
+    subst (λ (l : List Wanted). IfSome (slice_get l 1) (λ other. IsTold shelf other got.1.items)) (sym no_files) tt,
+  )
+  gathered_none (Err refusal) same refused = subst (λ (r : Refusal). IsAnswer (record { words = words; shelf = shelf }) (answer_of r)) (sym refused) (inl (inl untouched))
 
-  summed_with : (r : Result Found Refusal) → IsGiving shelf n request r → IsAnswered (record { words = words; shelf = shelf }) (with_net n r)
-  summed_with (Ok found) g = (summed _ g.0, g.1)
-  summed_with (Err refusal) (inl none) = subst (λ (r : Refusal). IsAnswer (record { words = words; shelf = shelf }) (answer_of r)) (sym none) (inl (inl untouched))
-  summed_with (Err refusal) (inr g) = summed (answer_of refusal) g
+-- ---- what a request gives with its network
+module _ (call : Call) (request : Request) (n : Named) (read : Read call request (Ok n)) where
+  computed : (answer : Answer) → IsGiven call.shelf n request answer → IsAnswer call answer
+  computed answer g = inr (record { request = request; net = n; read = read; given = g })
 
-  pub generated_given : (r : Result Found Refusal) → IsGiving shelf n request r → (out : Result Outcome Refusal) → out ≡ with_net n r → IsAnswered (record { words = words; shelf = shelf }) out
-  generated_given r g out e = subst (λ (o : Result Outcome Refusal). IsAnswered (record { words = words; shelf = shelf }) o) (sym e) (summed_with r g)
+  -- memory may be wanting behind the last file
+  wants_memory : IsAnswer call NoMemory
+  wants_memory = inl (behind (files_of request) read.fetched refl)
+    where
+      behind : (files : List Wanted) → FetchedAll call.shelf files → files_of request ≡ files → IsRefused call NoMemory
+      behind [] h e = inl (h.asked ∙ append-nil call.shelf.asked_before)
+      behind (file ∷ others) h e =
+          let last = all_reached call.shelf file others h in
+          inr (last.0, record { request = request; asks = read.asks; fetched = subst (λ (l : List Wanted). FetchedTo call.shelf l last.0) (sym e) last.1 })
+
+  given_with : (r : Result Found Refusal) → IsGiving call.shelf n request r → IsAnswered call (with_net n r)
+  given_with (Ok found) g = (computed _ g.0, g.1)
+  given_with (Err refusal) (inl none) = subst (λ (r : Refusal). IsAnswer call (answer_of r)) (sym none) wants_memory
+  given_with (Err refusal) (inr g) = computed (answer_of refusal) g
+
+  pub given : (r : Result Found Refusal) → IsGiving call.shelf n request r → (out : Result Outcome Refusal) → out ≡ with_net n r → IsAnswered call out
+  given r g out e = subst (λ (o : Result Outcome Refusal). IsAnswered call o) (sym e) (given_with r g)
 
 -- ---- where there is no text, a sink takes nothing
 pub no_text : (refusal : Refusal) → out_text (answer_of refusal) ≡ []

@@ -7,6 +7,7 @@ pub mod RoutesGiven
 pub mod ResumeGiven
 pub mod Given
 pub mod Runs
+pub mod Gathered
 pub mod Completeness
 pub mod Outcomes
 pub mod Settling

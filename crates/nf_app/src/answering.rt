@@ -17,19 +17,19 @@ ghost use Rattle.nf_words.specs.Requests.{Solve, SolveForever, Show, Load, Check
 ghost use Rattle.nf_words.specs.Requests as requests;
 ghost use Rattle.nf_words.specs.Views.{requested};
 ghost use Rattle.nf_fetch.specs.Fetching.{IsTold};
+ghost use Rattle.nf_app.specs.Gathered.{OtherFits, OtherIsTold};
 ghost use Rattle.nf_app.specs.Outcomes.{IsGiving, IsAnswered, with_net};
 
 use crate::arrival::{find_arrival, last_label};
+use crate::gathering::gather;
 use crate::loading::load_links;
 use crate::settling::settle_at_start;
 use nf_answers::{Found, Ladder, Outcome, Refusal, augments_text, flow_text};
 use nf_check::check;
 use nf_edge::Shelf;
-use nf_fetch::{fetch_network, fetch_network_with};
 use nf_flows::parse_flows;
 use nf_forever::solve_forever;
 use nf_frac::Q;
-use nf_gen::generated;
 use nf_load::parse_loads;
 use nf_net::{Network, text};
 use nf_phase::{Budgets, solve};
@@ -40,18 +40,6 @@ use nf_route_reader::parse_routes;
 use nf_routes::load_routes;
 use nf_words::{Request, read_request};
 use std::alloc::{AllocError, Global};
-
-/// The most bytes that a loads file may have.
-const LONGEST_LOADS: u32 = 1_048_576;
-
-/// The most bytes that a flows file may have.
-const LONGEST_FLOWS: u32 = 1_048_576;
-
-/// The most bytes that a routes file may have.
-const LONGEST_ROUTES: u32 = 1_048_576;
-
-/// The most bytes that a report may have.
-const LONGEST_REPORT: u32 = 67_108_864;
 
 // What solving the network to a horizon gives.
 fn solve_to(alloc: Global, net: &Network, horizon: Q, budgets: Budgets) -> Result<Found, Refusal>
@@ -263,14 +251,64 @@ fn with_net(found: Result<Found, Refusal>, net: Network) -> Result<Outcome, Refu
     }
 }
 
+// What a request gives with its network, and with the bytes of the other file that it wants.
+fn find(alloc: Global, request: &Request, net: &Network, other: &[u8]) -> Result<Found, Refusal>
+    requires asked { CanBeAsked (requested request.now) }
+    requires fits { OtherFits (requested request.now) other.now }
+    ensures { (shelf : Visit) → OtherIsTold shelf (requested request.now) other.now → IsGiving shelf net.now (requested request.now) result }
+{
+    match *request {
+        Request::Solve {
+            horizon,
+            phases,
+            patterns,
+            ..
+        } => solve_to(alloc, net, horizon, Budgets { phases, patterns }),
+        Request::SolveForever {
+            phases,
+            patterns,
+            ..
+        } => solve_on(alloc, net, Budgets { phases, patterns }),
+        Request::Show { .. } => show(alloc, net),
+        Request::Load { horizon, .. } => load_to(alloc, net, other, horizon),
+        Request::Check { .. } => check_report(alloc, net, other),
+        Request::Quick {
+            amount,
+            augments,
+            ..
+        } => quick_to(alloc, net, amount, augments),
+        Request::Gen {
+            number,
+            rungs,
+            horizon,
+            phases,
+            patterns,
+        } => sum_up(
+            alloc,
+            net,
+            Ladder { number, rungs },
+            horizon,
+            Budgets { phases, patterns },
+        ),
+        Request::Settle { .. } => settle_to(alloc, net, other),
+        Request::Resume {
+            horizon,
+            phases,
+            patterns,
+            ..
+        } => resume_to(alloc, net, other, horizon, Budgets { phases, patterns }),
+        Request::Routes { horizon, .. } => distribute(alloc, net, other, horizon),
+    }
+}
+
 // What a request gives with the files of the shelf.
 fn answer_request<S: Shelf>(
     alloc: Global,
-    request: Request,
+    request: &Request,
     shelf: &mut S,
 ) -> Result<Outcome, Refusal>
-    requires { CanBeAsked (requested request) }
-    ensures { (words : List (List ℕ)) → request_of words ≡ Some (requested request.entry) → IsAnswered (record {
+    requires { CanBeAsked (requested request.now) }
+    ensures { (words : List (List ℕ)) → request_of words ≡ Some (requested request.now) → IsAnswered (record {
       words = words;
       shelf = record {
         told = S.told shelf.old;
@@ -282,91 +320,8 @@ fn answer_request<S: Shelf>(
       };
     }) result }
 {
-    match request {
-        Request::Solve {
-            file,
-            horizon,
-            phases,
-            patterns,
-        } => {
-            let net = fetch_network(alloc, shelf, file)?;
-            with_net(
-                solve_to(alloc, &net, horizon, Budgets { phases, patterns }),
-                net,
-            )
-        }
-        Request::SolveForever {
-            file,
-            phases,
-            patterns,
-        } => {
-            let net = fetch_network(alloc, shelf, file)?;
-            with_net(solve_on(alloc, &net, Budgets { phases, patterns }), net)
-        }
-        Request::Show { file } => {
-            let net = fetch_network(alloc, shelf, file)?;
-            with_net(show(alloc, &net), net)
-        }
-        Request::Load {
-            file,
-            loads,
-            horizon,
-        } => {
-            let (net, loads) = fetch_network_with(alloc, shelf, file, loads, LONGEST_LOADS)?;
-            with_net(load_to(alloc, &net, &loads, horizon), net)
-        }
-        Request::Check { file, report } => {
-            let (net, report) = fetch_network_with(alloc, shelf, file, report, LONGEST_REPORT)?;
-            with_net(check_report(alloc, &net, &report), net)
-        }
-        Request::Quick {
-            file,
-            amount,
-            augments,
-        } => {
-            let net = fetch_network(alloc, shelf, file)?;
-            with_net(quick_to(alloc, &net, amount, augments), net)
-        }
-        Request::Gen {
-            number,
-            rungs,
-            horizon,
-            phases,
-            patterns,
-        } => {
-            let net = generated(alloc, number, rungs)?;
-            let ladder = Ladder { number, rungs };
-            with_net(
-                sum_up(alloc, &net, ladder, horizon, Budgets { phases, patterns }),
-                net,
-            )
-        }
-        Request::Settle { file, flows } => {
-            let (net, flows) = fetch_network_with(alloc, shelf, file, flows, LONGEST_FLOWS)?;
-            with_net(settle_to(alloc, &net, &flows), net)
-        }
-        Request::Resume {
-            file,
-            report,
-            horizon,
-            phases,
-            patterns,
-        } => {
-            let (net, report) = fetch_network_with(alloc, shelf, file, report, LONGEST_REPORT)?;
-            with_net(
-                resume_to(alloc, &net, &report, horizon, Budgets { phases, patterns }),
-                net,
-            )
-        }
-        Request::Routes {
-            file,
-            routes,
-            horizon,
-        } => {
-            let (net, routes) = fetch_network_with(alloc, shelf, file, routes, LONGEST_ROUTES)?;
-            with_net(distribute(alloc, &net, &routes, horizon), net)
-        }
-    }
+    let (net, other) = gather(alloc, request, shelf)?;
+    with_net(find(alloc, request, &net, &other), net)
 }
 
 /// What the words give with the files of the shelf.
@@ -388,7 +343,7 @@ pub(crate) fn answer<S: Shelf>(
     }) result }
 {
     match read_request(alloc, words) {
-        Ok(Some(request)) => answer_request(alloc, request, shelf),
+        Ok(Some(request)) => answer_request(alloc, &request, shelf),
         Ok(None) => Err(Refusal::NoRequest),
         Err(AllocError) => Err(Refusal::NoMemory),
     }

@@ -3,6 +3,7 @@
 
 mod answering;
 mod arrival;
+mod gathering;
 mod loading;
 mod running;
 mod settling;

@@ -1,0 +1,96 @@
+use Rattle.std.proofs.Common.{◌≡◌, ℕ, ◌≤◌, List, length, ap, sym, subst, arith}
+use Rattle.nf_words.specs.declared.request.Request as code
+use Rattle.nf_words.specs.Requests.{Request, CanBeAsked}
+use Rattle.nf_words.specs.Views.{requested}
+use Rattle.nf_app.specs.Gathered.{OtherFits, OtherIsTold}
+use Rattle.nf_app.specs.Outcomes.{IsGiving}
+use Rattle.nf_app.proofs.answering.find.Goals as goal
+
+pub solve_to-requires : goal.solve_to-requires
+solve_to-requires c = (subst (λ (r : Request). CanBeAsked r) (ap requested c.in-Solve.is) c.requires.asked).0
+
+pub load_to-requires-clause-horizon : goal.load_to-requires-clause-horizon
+load_to-requires-clause-horizon c = (subst (λ (r : Request). CanBeAsked r) (ap requested c.in-Load.is) c.requires.asked)
+
+pub quick_to-requires-clause-amount : goal.quick_to-requires-clause-amount
+quick_to-requires-clause-amount c = (subst (λ (r : Request). CanBeAsked r) (ap requested c.in-Quick.is) c.requires.asked).0
+
+pub quick_to-requires-clause-augments : goal.quick_to-requires-clause-augments
+quick_to-requires-clause-augments c = (subst (λ (r : Request). CanBeAsked r) (ap requested c.in-Quick.is) c.requires.asked).1.0
+
+pub sum_up-requires : goal.sum_up-requires
+sum_up-requires c = (subst (λ (r : Request). CanBeAsked r) (ap requested c.in-Gen.is) c.requires.asked).2
+
+pub distribute-requires-clause-horizon : goal.distribute-requires-clause-horizon
+distribute-requires-clause-horizon c = (subst (λ (r : Request). CanBeAsked r) (ap requested c.in-Routes.is) c.requires.asked)
+
+pub load_to-requires-clause-within : goal.load_to-requires-clause-within
+load_to-requires-clause-within c =
+    let few : length c.args.other.now ≤ 1048576 = subst (λ (r : code.Request). OtherFits (requested r) c.args.other.now) c.in-Load.is c.requires.fits in
+    omega (arith, few)
+
+pub check_report-requires : goal.check_report-requires
+check_report-requires c = subst (λ (r : code.Request). OtherFits (requested r) c.args.other.now) c.in-Check.is c.requires.fits
+
+pub settle_to-requires : goal.settle_to-requires
+settle_to-requires c =
+    let few : length c.args.other.now ≤ 1048576 = subst (λ (r : code.Request). OtherFits (requested r) c.args.other.now) c.in-Settle.is c.requires.fits in
+    omega (arith, few)
+
+pub resume_to-requires : goal.resume_to-requires
+resume_to-requires c = subst (λ (r : code.Request). OtherFits (requested r) c.args.other.now) c.in-Resume.is c.requires.fits
+
+pub distribute-requires-clause-within : goal.distribute-requires-clause-within
+distribute-requires-clause-within c =
+    let few : length c.args.other.now ≤ 1048576 = subst (λ (r : code.Request). OtherFits (requested r) c.args.other.now) c.in-Routes.is c.requires.fits in
+    omega (arith, few)
+
+pub returns-in-Solve : goal.returns-in-Solve
+returns-in-Solve c shelf told =
+    subst (λ (r : code.Request). IsGiving shelf c.args.net.now (requested r) c.solve_to.result) (sym c.in-Solve.is)
+    (c.solve_to.ensures shelf c.in-Solve.file.now)
+
+pub returns-in-SolveForever : goal.returns-in-SolveForever
+returns-in-SolveForever c shelf told =
+    subst (λ (r : code.Request). IsGiving shelf c.args.net.now (requested r) c.solve_on.result) (sym c.in-SolveForever.is)
+    (c.solve_on.ensures shelf c.in-SolveForever.file.now)
+
+pub returns-in-Show : goal.returns-in-Show
+returns-in-Show c shelf told =
+    subst (λ (r : code.Request). IsGiving shelf c.args.net.now (requested r) c.show.result) (sym c.in-Show.is)
+    (c.show.ensures shelf c.in-Show.file.now)
+
+pub returns-in-Load : goal.returns-in-Load
+returns-in-Load c shelf told =
+    subst (λ (r : code.Request). IsGiving shelf c.args.net.now (requested r) c.load_to.result) (sym c.in-Load.is)
+    (c.load_to.ensures shelf c.in-Load.file.now c.in-Load.loads.now (subst (λ (r : code.Request). OtherIsTold shelf (requested r) c.args.other.now) c.in-Load.is told))
+
+pub returns-in-Check : goal.returns-in-Check
+returns-in-Check c shelf told =
+    subst (λ (r : code.Request). IsGiving shelf c.args.net.now (requested r) c.check_report.result) (sym c.in-Check.is)
+    (c.check_report.ensures shelf c.in-Check.file.now c.in-Check.report.now (subst (λ (r : code.Request). OtherIsTold shelf (requested r) c.args.other.now) c.in-Check.is told))
+
+pub returns-in-Quick : goal.returns-in-Quick
+returns-in-Quick c shelf told =
+    subst (λ (r : code.Request). IsGiving shelf c.args.net.now (requested r) c.quick_to.result) (sym c.in-Quick.is)
+    (c.quick_to.ensures shelf c.in-Quick.file.now)
+
+pub returns-in-Gen : goal.returns-in-Gen
+returns-in-Gen c shelf told =
+    subst (λ (r : code.Request). IsGiving shelf c.args.net.now (requested r) c.sum_up.result) (sym c.in-Gen.is)
+    (c.sum_up.ensures shelf)
+
+pub returns-in-Settle : goal.returns-in-Settle
+returns-in-Settle c shelf told =
+    subst (λ (r : code.Request). IsGiving shelf c.args.net.now (requested r) c.settle_to.result) (sym c.in-Settle.is)
+    (c.settle_to.ensures shelf c.in-Settle.file.now c.in-Settle.flows.now (subst (λ (r : code.Request). OtherIsTold shelf (requested r) c.args.other.now) c.in-Settle.is told))
+
+pub returns-in-Resume : goal.returns-in-Resume
+returns-in-Resume c shelf told =
+    subst (λ (r : code.Request). IsGiving shelf c.args.net.now (requested r) c.resume_to.result) (sym c.in-Resume.is)
+    (c.resume_to.ensures shelf c.in-Resume.file.now c.in-Resume.report.now (subst (λ (r : code.Request). OtherIsTold shelf (requested r) c.args.other.now) c.in-Resume.is told))
+
+pub returns-in-Routes : goal.returns-in-Routes
+returns-in-Routes c shelf told =
+    subst (λ (r : code.Request). IsGiving shelf c.args.net.now (requested r) c.distribute.result) (sym c.in-Routes.is)
+    (c.distribute.ensures shelf c.in-Routes.file.now c.in-Routes.routes.now (subst (λ (r : code.Request). OtherIsTold shelf (requested r) c.args.other.now) c.in-Routes.is told))

@@ -1,0 +1,105 @@
+// What a request has before it is answered: its network, and the bytes of the other file that it wants.
+ghost use Rattle.std.specs.Prelude.{◌≡◌, ◌≤◌, ℕ, List, [], Some, IfOk, IfErr};
+ghost use Rattle.std.specs.Result.{result_map_both};
+ghost use Rattle.nf_answers.specs.declared.refusal.Refusal.TheVariants as Refusal;
+ghost use Rattle.nf_fetch.specs.Files.{network_file};
+ghost use Rattle.nf_fetch.specs.Fetching.{AreRead};
+ghost use Rattle.nf_gen.specs.Ladder.{ladder};
+ghost use Rattle.nf_words.specs.Requests.{CanBeAsked, request_of};
+ghost use Rattle.nf_words.specs.Views.{requested};
+ghost use Rattle.nf_app.specs.Gathered.{OtherFits, IsGathered};
+
+use nf_answers::Refusal;
+use nf_edge::Shelf;
+use nf_fetch::{fetch_network, fetch_network_with};
+use nf_gen::generated;
+use nf_net::Network;
+use nf_words::Request;
+use std::alloc::Global;
+
+/// The most bytes that a loads file may have.
+const LONGEST_LOADS: u32 = 1_048_576;
+
+/// The most bytes that a flows file may have.
+const LONGEST_FLOWS: u32 = 1_048_576;
+
+/// The most bytes that a routes file may have.
+const LONGEST_ROUTES: u32 = 1_048_576;
+
+/// The most bytes that a report may have.
+const LONGEST_REPORT: u32 = 67_108_864;
+
+// The network of a file, where no other file is wanted.
+fn fetch_one<S: Shelf>(
+    alloc: Global,
+    shelf: &mut S,
+    file: &str,
+) -> Result<(Network, Vec<u8>), Refusal>
+    ensures { AreRead (record {
+      told = S.told shelf.old;
+      asked_before = S.asked shelf.old;
+      asked_now = S.asked shelf.new;
+      faults_before = S.faults shelf.old;
+      faults_now = S.faults shelf.new;
+      taken = S.taken shelf.new;
+    }) (network_file file.now) [] (result_map_both (λ got. (got.0, [])) (λ refusal. refusal) result) }
+{
+    let net = fetch_network(alloc, shelf, file)?;
+    Ok((net, Vec::new(alloc)))
+}
+
+// The ladder of a number, where no file is wanted.
+fn make_ladder(alloc: Global, number: u64, rungs: u32) -> Result<(Network, Vec<u8>), Refusal>
+    requires some { 1 ≤ rungs }
+    requires few { rungs ≤ 30 }
+    ensures made { IfOk result (λ got. got.0 ≡ ladder number rungs) }
+    ensures refused { IfErr result (λ refusal. refusal ≡ Refusal.NoMemory) }
+{
+    let net = generated(alloc, number, rungs)?;
+    Ok((net, Vec::new(alloc)))
+}
+
+/// The network of a request, and the bytes of the other file that it wants; no bytes where it wants none. Both files are there before
+/// the first is read.
+pub(crate) fn gather<S: Shelf>(
+    alloc: Global,
+    request: &Request,
+    shelf: &mut S,
+) -> Result<(Network, Vec<u8>), Refusal>
+    requires { CanBeAsked (requested request.now) }
+    ensures gathered { (words : List (List ℕ)) → request_of words ≡ Some (requested request.now) → IsGathered (record {
+      words = words;
+      shelf = record {
+        told = S.told shelf.old;
+        asked_before = S.asked shelf.old;
+        asked_now = S.asked shelf.new;
+        faults_before = S.faults shelf.old;
+        faults_now = S.faults shelf.new;
+        taken = S.taken shelf.new;
+      };
+    }) (requested request.now) (result_map_both (λ got. (got.0, got.1.items)) (λ refusal. refusal) result) }
+    ensures fits { IfOk result (λ got. OtherFits (requested request.now) got.1.items) }
+{
+    match request {
+        Request::Solve { file, .. } => fetch_one(alloc, shelf, file),
+        Request::SolveForever { file, .. } => fetch_one(alloc, shelf, file),
+        Request::Show { file } => fetch_one(alloc, shelf, file),
+        Request::Load { file, loads, .. } => {
+            fetch_network_with(alloc, shelf, file, loads, LONGEST_LOADS)
+        }
+        Request::Check { file, report } => {
+            fetch_network_with(alloc, shelf, file, report, LONGEST_REPORT)
+        }
+        Request::Quick { file, .. } => fetch_one(alloc, shelf, file),
+        Request::Gen { number, rungs, .. } => make_ladder(alloc, *number, *rungs),
+        Request::Settle { file, flows } => {
+            fetch_network_with(alloc, shelf, file, flows, LONGEST_FLOWS)
+        }
+        Request::Resume { file, report, .. } => {
+            fetch_network_with(alloc, shelf, file, report, LONGEST_REPORT)
+        }
+        Request::Routes { file, routes, .. } => {
+            fetch_network_with(alloc, shelf, file, routes, LONGEST_ROUTES)
+        }
+    }
+}
