@@ -34,3 +34,24 @@ returns-in-MalformedReport g c = same_text _ _
 
 pub returns-in-Passes : goal.returns-in-Passes
 returns-in-Passes g c = same_text _ _ (sym (ap (λ (r : Refusal). err_text (answer_of r)) c.in-Passes.is)) c.write_passed.ensures
+
+pub returns-in-NoMemory : goal.returns-in-NoMemory
+returns-in-NoMemory g c = same_text _ _ (sym (ap (λ (r : Refusal). err_text (answer_of r)) c.in-NoMemory.is)) c.write_text.ensures
+
+pub returns-in-NoRequest : goal.returns-in-NoRequest
+returns-in-NoRequest g c = same_text _ _ (sym (ap (λ (r : Refusal). err_text (answer_of r)) c.in-NoRequest.is)) c.write_text-in-NoRequest.ensures
+
+pub returns-in-ShelfFailed : goal.returns-in-ShelfFailed
+returns-in-ShelfFailed g c = same_text _ _ (sym (ap (λ (r : Refusal). err_text (answer_of r)) c.in-ShelfFailed.is)) c.write_text-in-ShelfFailed.ensures
+
+pub returns-in-ShelfTooLong : goal.returns-in-ShelfTooLong
+returns-in-ShelfTooLong g c = same_text _ _ (sym (ap (λ (r : Refusal). err_text (answer_of r)) c.in-ShelfTooLong.is)) c.write_text-in-ShelfTooLong.ensures
+
+pub returns-in-Unbounded : goal.returns-in-Unbounded
+returns-in-Unbounded g c = same_text _ _ (sym (ap (λ (r : Refusal). err_text (answer_of r)) c.in-Unbounded.is)) c.write_text-in-Unbounded.ensures
+
+pub returns-in-NotThin : goal.returns-in-NotThin
+returns-in-NotThin g c = same_text _ _ (sym (ap (λ (r : Refusal). err_text (answer_of r)) c.in-NotThin.is)) c.write_text-in-NotThin.ensures
+
+pub returns-in-Earlier : goal.returns-in-Earlier
+returns-in-Earlier g c = same_text _ _ (sym (ap (λ (r : Refusal). err_text (answer_of r)) c.in-Earlier.is)) c.write_text-in-Earlier.ensures
