@@ -1,4 +1,3 @@
 pub mod Codes
 pub mod Ways
-pub mod Spent
 pub mod Answered

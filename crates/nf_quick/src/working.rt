@@ -12,14 +12,13 @@ ghost use Rattle.nf_quick_lists.specs.Quick.{nothing as nothing_in, finish_list}
 ghost use Rattle.nf_quick_lists.specs.Answers.{IsQuickFlow};
 ghost use Rattle.nf_quick.specs.Answered.{IsAnswered};
 
-use crate::cut::{node_times, value_of};
 use crate::fault::QuickFault;
-use crate::pushes::push_up_to;
+use crate::pushing::push_up_to;
 use crate::quick::Quick;
 use crate::unbounded::unbounded_walk;
-use crate::walks::walks_off;
 use nf_frac::{Halt, Q};
 use nf_net::{LinkId, Network};
+use nf_quick_parts::{node_times, value_of, walks_off};
 use nf_residual::Residual;
 use std::alloc::{AllocError, Global};
 

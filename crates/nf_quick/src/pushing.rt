@@ -1,0 +1,38 @@
+// Shortest residual walks, pushed one after the other.
+ghost use Rattle.std.specs.Prelude.{IfOk};
+ghost use Rattle.nf_work.specs.Passing.{passes_Q};
+ghost use Rattle.nf_quick_lists.specs.Steps.{IsLimited};
+ghost use Rattle.nf_quick_lists.specs.Flows.{IsSound};
+ghost use Rattle.nf_quick.specs.Answered.{IsPushed};
+
+use crate::fault::QuickFault;
+use nf_frac::Q;
+use nf_net::Network;
+use nf_quick_parts::Standing;
+use std::alloc::Global;
+
+/// Pushes shortest walks until none is left that is shorter than the time; Budget comes where one is left after so many pushes.
+pub(crate) fn push_up_to(
+    alloc: Global,
+    net: &Network,
+    amount: Q,
+    augments: u64,
+) -> Result<Standing, QuickFault>
+    requires { IsLimited net.now.net }
+    ensures pushed { IsPushed passes_Q net.now.net amount augments result }
+    ensures sound { IfOk result (λ s. IsSound net.now.net s.flows) }
+{
+    let mut standing = Standing::start(alloc, net)?;
+    for _ in 0..augments {
+        let Some(walk) = standing.next(alloc, net)? else {
+            return Ok(standing);
+        };
+        standing.push_on(net, amount, walk)?;
+    }
+    match standing.next(alloc, net)? {
+        None => Ok(standing),
+        Some(_) => Err(QuickFault::Budget {
+            walks: standing.pushed,
+        }),
+    }
+}

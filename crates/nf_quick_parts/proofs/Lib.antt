@@ -1,0 +1,4 @@
+pub mod WalkByWalk
+pub mod SpentLinks
+pub mod NodeByNode
+pub mod OnePush
