@@ -10,3 +10,4 @@ pub mod ExitSteps
 pub mod LoadedCurves
 pub mod LoadingSteps
 pub mod ExitsInTurn
+pub mod OverPieces

@@ -1,0 +1,34 @@
+use Rattle.std.proofs.Common.{List, ◌&&◌, ap, ◌∙◌}
+use Rattle.std.specs.Prelude.{Ok}
+use Rattle.std.proofs.lemmas.Result.{err_from_is_err_and}
+use Rattle.nf_rational.specs.Order.{lt_ℚ, le_ℚ}
+use Rattle.nf_work.specs.Passing.{passes_Q}
+use Rattle.nf_lists.specs.Signs.{is_zero, is_positive}
+use Rattle.nf_load_lists.specs.Loading as lists
+use Rattle.nf_load.proofs.OverPieces.{slope_passes, stays, goes}
+use Rattle.nf_load.proofs.waiting.over_bounded.Goals as goal
+
+pub returns-in_err-rate-clause-list : goal.returns-in_err-rate-clause-list
+returns-in_err-rate-clause-list c =
+    let p = err_from_is_err_and c.from_residual.result c.from_residual.ensures.1 in
+    rw (p.1, p.2) (slope_passes passes_Q c.args.capacity c.args.before.now c.args.end.now c.in_err-rate.field-0.0 c.in_err-rate.ensures)
+
+pub returns-then-stays_empty-clause-list : goal.returns-then-stays_empty-clause-list
+returns-then-stays_empty-clause-list c =
+    ap (λ (l : List lists.Waits). Ok l) c.empty_at.ensures.list
+    ∙ stays passes_Q c.args.capacity c.args.before.now c.args.end.now c.in_ok-rate.rate c.in_ok-rate.ensures c.stays_empty.result
+    (c.stays_empty.ensures ∙ ap (λ (w : lists.Waits). is_zero w.queue && le_ℚ c.in_ok-rate.rate c.args.capacity) c.before-2.view_is) c.if-stays_empty.true
+
+pub returns-then-drains-clause-list : goal.returns-then-drains-clause-list
+returns-then-drains-clause-list c =
+    c.drain.ensures.list
+    ∙ goes passes_Q c.args.capacity c.args.before.now c.args.end.now c.in_ok-rate.rate c.in_ok-rate.ensures c.stays_empty.result
+    (c.stays_empty.ensures ∙ ap (λ (w : lists.Waits). is_zero w.queue && le_ℚ c.in_ok-rate.rate c.args.capacity) c.before-2.view_is) c.if-stays_empty.false c.drains.result _
+    (c.drains.ensures.test ∙ ap (λ (w : lists.Waits). is_positive w.queue && lt_ℚ c.in_ok-rate.rate c.args.capacity) c.before-2.view_is) c.if-drains.true
+
+pub returns-clause-list : goal.returns-clause-list
+returns-clause-list c =
+    c.grow.ensures.list
+    ∙ goes passes_Q c.args.capacity c.args.before.now c.args.end.now c.in_ok-rate.rate c.in_ok-rate.ensures c.stays_empty.result
+    (c.stays_empty.ensures ∙ ap (λ (w : lists.Waits). is_zero w.queue && le_ℚ c.in_ok-rate.rate c.args.capacity) c.before-2.view_is) c.if-stays_empty.false c.drains.result _
+    (c.drains.ensures.test ∙ ap (λ (w : lists.Waits). is_positive w.queue && lt_ℚ c.in_ok-rate.rate c.args.capacity) c.before-2.view_is) c.if-drains.false
