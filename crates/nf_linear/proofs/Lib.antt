@@ -9,3 +9,4 @@ pub mod Stages
 pub mod Values
 pub mod Answered
 pub mod Grids
+pub mod Written

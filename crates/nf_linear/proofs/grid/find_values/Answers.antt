@@ -1,10 +1,11 @@
-use Rattle.std.proofs.Common.{◌+◌, ◌<◌, List, length, get_or, subst, sym, ◌∙◌, length-set, arith}
+use Rattle.std.proofs.Common.{◌+◌, ◌<◌, List, length, get_or, subst, sym, ◌∙◌, ap, length-set, arith, rules}
 use Rattle.std.proofs.lemmas.Result.{err_from_is_err_and}
 use Rattle.std.proofs.lemmas.List.{take_more_set}
 use Rattle.std.proofs.Common.{take}
 use Rattle.nf_rational.specs.Rational.{ℚ}
 use Rattle.nf_work.specs.Passing.{passes_Q}
 use Rattle.nf_work.specs.Checked.{seen_passed_at}
+use Rattle.nf_model.specs.Entries.{number_at}
 use Rattle.nf_linear.proofs.Clearing.{row_read}
 use Rattle.nf_linear.proofs.Values.{ValuesSoFar, values_stop, values_more}
 use Rattle.nf_linear.proofs.grid.find_values.Goals as goal
@@ -30,3 +31,16 @@ loop-column-preserved g c =
           c.index-rows-pivot.result row c.in_ok-value.value c.in_ok-value.ensures),
       length-set c.loop-column.found c.loop-column.column c.in_ok-value.value ∙ c.loop-column.invariant.1,
     )
+
+pub value_of-requires : goal.value_of-requires
+value_of-requires g c =
+    let count = c.requires.pivots.count in
+    let inside : c.loop-column.column < length c.args.rows.now = omega arith in
+    let below = c.requires.pivots.within c.loop-column.column inside in
+    let row = row_read c.args.rows.now (get_or c.args.pivots.now c.loop-column.column 0) c.index-rows-pivot.result below c.index-rows-pivot.is in
+    let wide = c.requires.pivots.square (get_or c.args.pivots.now c.loop-column.column 0) below in
+    let long = ap length row in
+    (search rules, (omega arith, λ z. c.requires.pivots.some c.loop-column.column inside (ap (λ (r : List ℚ). number_at r c.loop-column.column) (sym row) ∙ z)))
+
+pub bounds-rows-pivot : goal.bounds-rows-pivot
+bounds-rows-pivot g c = c.requires.pivots.within c.loop-column.column (let e = c.requires.pivots.count in omega arith)

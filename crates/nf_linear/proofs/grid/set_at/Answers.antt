@@ -1,4 +1,4 @@
-use Rattle.std.proofs.Common.{set, ap, ◌∙◌}
+use Rattle.std.proofs.Common.{◌<◌, length, set, sym, subst, ap, ◌∙◌, rules}
 use Rattle.nf_lists.specs.Table.{Row}
 use Rattle.nf_linear.proofs.Clearing.{row_got}
 use Rattle.nf_linear.proofs.grid.set_at.Goals as goal
@@ -6,3 +6,10 @@ use Rattle.nf_linear.proofs.grid.set_at.Goals as goal
 pub returns : goal.returns
 returns g c =
     ap (λ (r : Row). set c.args.rows.now c.args.row r) (c.set.ensures ∙ ap (λ (r : Row). set r c.args.column c.args.value) (row_got c.args.rows.now c.args.row c.index-rows-row.result c.requires.row))
+
+pub bounds-rows-row : goal.bounds-rows-row
+bounds-rows-row g c = c.requires.row
+
+pub set-requires : goal.set-requires
+set-requires g c =
+    (search rules, subst (λ (r : Row). c.args.column < length r) (sym (row_got c.args.rows.now c.args.row c.index-rows-row.result c.requires.row)) c.requires.column)

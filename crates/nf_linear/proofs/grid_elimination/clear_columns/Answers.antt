@@ -1,11 +1,12 @@
-use Rattle.std.proofs.Common.{◌≡◌, ◌<◌, length, Bool, true, false, ap, sym, ◌∙◌, arith}
+use Rattle.std.proofs.Common.{◌≡◌, ℕ, ◌<◌, ◌≤◌, List, length, Bool, true, false, ap, sym, subst, ◌∙◌, arith}
 use Rattle.std.specs.Prelude.{if◌then◌else◌, Some, None, Ok}
-use Rattle.std.proofs.lemmas.Result.{err_from_is_err_and}
+use Rattle.std.proofs.lemmas.List.{length-replicate}
+use Rattle.std.proofs.lemmas.Result.{err_from_is_err_and, IfOk-from_err}
 use Rattle.nf_rational.specs.Rational.{ℚ}
 use Rattle.nf_work.specs.declared.Halt.TheVariants as Halt
 use Rattle.nf_work.specs.Passing.{passes_Q}
 use Rattle.nf_linear.specs.Pivots.{eliminated}
-use Rattle.nf_linear.proofs.Stages.{stage_none, stage_stops, stage_more}
+use Rattle.nf_linear.proofs.Stages.{Stage, first_stage, stage_square, stage_none, stage_stops, stage_more, stage_all, stage_pivots}
 use Rattle.nf_linear.proofs.grid_elimination.clear_columns.Goals as goal
 
 pub whole_as_slice-clear_column : goal.whole_as_slice-clear_column
@@ -33,3 +34,34 @@ loop-column-preserved g c =
           (sym c.in_ok-clear_column.ensures ∙ ap (λ (b : Bool). Ok (if b then Some (eliminated c.clear_column.new.rows c.clear_column.new.pivots) else None)) found),
       (let e = c.loop-column.invariant.1 in omega arith),
     )
+
+pub clear_column-requires : goal.clear_column-requires
+clear_column-requires g c =
+    let few = c.requires.few in
+    let room = c.requires.room in
+    let rows = c.loop-column.invariant.0.cleared.count in
+    let pivots = c.loop-column.invariant.0.cleared.steps in
+    (omega arith, (omega arith, (stage_square passes_Q c.args.rows.now c.loop-column.rows c.loop-column.pivots c.loop-column.column c.loop-column.invariant.0, (omega arith, (omega arith, c.loop-column.invariant.1)))))
+
+pub loop-column-init : goal.loop-column-init
+loop-column-init g c =
+    let first : ℕ × ℚ = (0, c.zero.result) in (
+      subst (λ (pivots : List ℕ). Stage passes_Q c.args.rows.now c.args.rows.now pivots 0) (sym c.requires.first) (first_stage passes_Q c.args.rows.now c.requires.square),
+      omega (arith, length-replicate g.row.N first),
+    )
+
+pub returns-clause-list : goal.returns-clause-list
+returns-clause-list g c =
+    let end : length c.loop-column.rows ≤ c.loop-column.column = let count = c.loop-column.invariant.0.cleared.count in omega arith in
+    sym (stage_all passes_Q c.args.rows.now c.loop-column.rows c.loop-column.pivots c.loop-column.column c.loop-column.invariant.0 end)
+
+pub returns-clause-pivots : goal.returns-clause-pivots
+returns-clause-pivots g c =
+    let end : length c.loop-column.rows ≤ c.loop-column.column = let count = c.loop-column.invariant.0.cleared.count in omega arith in
+    λ _. stage_pivots passes_Q c.args.rows.now c.loop-column.rows c.loop-column.pivots c.loop-column.column c.loop-column.invariant.0 end (omega arith)
+
+pub returns-in_err-clear_column-clause-pivots : goal.returns-in_err-clear_column-clause-pivots
+returns-in_err-clear_column-clause-pivots g c = IfOk-from_err c.from_residual.result _ c.from_residual.ensures.0
+
+pub returns-then-not-branch-clause-pivots : goal.returns-then-not-branch-clause-pivots
+returns-then-not-branch-clause-pivots g c = λ e. absurd (cc)

@@ -1,4 +1,4 @@
-use Rattle.std.proofs.Common.{◌≡◌, ◌+◌, List, take, drop, get_or, sym, ap, ◌∙◌, arith, rules}
+use Rattle.std.proofs.Common.{◌≡◌, ◌+◌, List, length, take, drop, get_or, sym, ap, ◌∙◌, arith, rules, length-take-le}
 use Rattle.nf_rational.specs.Rational.{ℚ}
 use Rattle.nf_work.specs.Passing.{passes_Q}
 use Rattle.nf_work.specs.declared.Part.TheVariants as Part
@@ -6,7 +6,7 @@ use Rattle.nf_work.specs.Checked.{at_part}
 use Rattle.nf_model.specs.Entries.{number_at}
 use Rattle.nf_lists.specs.Table.{row_at}
 use Rattle.nf_linear.specs.Rows.{some_from}
-use Rattle.nf_linear.proofs.Clearing.{row_got, later_fit, eliminated}
+use Rattle.nf_linear.proofs.Clearing.{row_got, later_fit, eliminated, within_row}
 use Rattle.nf_linear.proofs.grid_elimination.eliminate.Goals as goal
 
 pub clear_rows-requires : goal.clear_rows-requires
@@ -38,3 +38,25 @@ returns g c =
     c.clear_rows.ensures
     ∙ ap (at_part Part.Table) (eliminated c.args.rows.now c.args.pivot c.args.column c.requires.square c.requires.pivot c.requires.column c.at-own.result
     (take c.later-count.result c.later-count.new.entries) same passes_Q own)
+
+pub bounds-rows-pivot : goal.bounds-rows-pivot
+bounds-rows-pivot g c = c.requires.pivot
+
+pub bounds-rows-pivot-2 : goal.bounds-rows-pivot-2
+bounds-rows-pivot-2 g c = c.requires.pivot
+
+pub at-own-requires : goal.at-own-requires
+at-own-requires g c = (search rules, within_row c.args.rows.now c.args.pivot c.args.column c.index-rows-pivot.result c.requires.square c.requires.pivot c.requires.column)
+
+pub later-count-requires : goal.later-count-requires
+later-count-requires g c =
+    let row = ap length (row_got c.args.rows.now c.args.pivot c.index-rows-pivot-2.result c.requires.pivot) in
+    let wide = c.requires.square c.args.pivot c.requires.pivot in
+    let within = c.requires.column in
+    (search rules, (omega arith, c.requires.entries))
+
+pub slice_bounds-clear_rows-end : goal.slice_bounds-clear_rows-end
+slice_bounds-clear_rows-end g c = c.later-count.ensures.within
+
+pub slice_bounds-clear_rows-end-2 : goal.slice_bounds-clear_rows-end-2
+slice_bounds-clear_rows-end-2 g c = sym (length-take-le c.later-count.result c.later-count.new.entries c.later-count.ensures.within)
