@@ -11,9 +11,9 @@ use Rattle.nf_answers.specs.declared.outcome.Outcome.{Outcome}
 use Rattle.nf_answers.specs.declared.refusal.Refusal.{Refusal}
 use Rattle.nf_answers.specs.Answers.{Answer, NoMemory, out_text}
 use Rattle.nf_answers.specs.Refusals.{answer_of}
-use Rattle.nf_fetch.specs.Files.{Wanted, Visit, Fits, FetchedNone, FetchedAll, FetchedTo}
-use Rattle.nf_fetch.specs.Fetching.{NetworkReads, IsTold, AreRead}
-use Rattle.nf_fetch.proofs.Networks.{all_reached}
+use Rattle.nf_outside.specs.Files.{Wanted, Visit, Fits, FetchedNone, FetchedAll, FetchedTo}
+use Rattle.nf_outside.specs.Fetching.{NetworkReads, IsTold, AreRead}
+use Rattle.nf_outside.proofs.Networks.{all_reached}
 use Rattle.nf_words.specs.Requests.{Request, request_of}
 use Rattle.nf_app.specs.Requests.{files_of, generated_by}
 use Rattle.nf_app.specs.Given.{IsGiven}

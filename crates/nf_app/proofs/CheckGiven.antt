@@ -16,13 +16,13 @@ use Rattle.nf_readings.specs.ReportFile.{ReportBroken, report_in}
 use Rattle.nf_reader.specs.declared.fault.ReportFault.{ReportFault}
 use Rattle.nf_reader.specs.Files.{IfBroken}
 use Rattle.nf_answers.specs.declared.refusal.Refusal.{Refusal}
-use Rattle.nf_fetch.specs.Files.{Visit, report_file}
+use Rattle.nf_outside.specs.Files.{Visit, report_file}
 use Rattle.nf_words.specs.Requests.{Check}
 use Rattle.nf_answers.specs.Answers.{Checked}
 use Rattle.nf_answers.specs.Refusals.{answer_of, refusal_of_report, refusal_of_halt}
 use Rattle.nf_app.specs.CheckGiven.{ReportReads}
 use Rattle.nf_app.specs.Given.{IsGiven}
-use Rattle.nf_fetch.specs.Fetching.{IsTold}
+use Rattle.nf_outside.specs.Fetching.{IsTold}
 
 module _ (shelf : Visit) (n : Named) (file name : List ℕ) (text : List ℕ) (told : IsTold shelf (report_file name) text) where
   -- what was read of the bytes is what the shelf tells

@@ -30,7 +30,7 @@ use Rattle.nf_forever_lists.specs.ForeverRun.{Forever}
 use Rattle.nf_routes_lists.specs.RoutesFile.{RoutesBroken, NamedRoute, routes_in}
 use Rattle.nf_forever_laws.proofs.OneForever.{one_forever}
 use Rattle.nf_answers.specs.declared.status.Status.{Status}
-use Rattle.nf_fetch.specs.Files.{Wanted, Visit, FetchedTo, HasTooMany, network_file, loads_file, flows_file, routes_file, report_file}
+use Rattle.nf_outside.specs.Files.{Wanted, Visit, FetchedTo, HasTooMany, network_file, loads_file, flows_file, routes_file, report_file}
 use Rattle.nf_words.specs.Requests.{Request, Solve, SolveForever, Show, Load, Check, Quick, Gen, Settle, Resume, Routes, request_of}
 use Rattle.nf_gen.specs.Ladder.{ladder}
 use Rattle.nf_app.specs.Requests.{budgets_of, files_of, generated_by}
@@ -39,10 +39,10 @@ use Rattle.nf_app.specs.CheckGiven.{ReportReads}
 use Rattle.nf_app.specs.SettleGiven.{FlowsRead}
 use Rattle.nf_app.specs.RoutesGiven.{RoutesRead, by_route_list}
 use Rattle.nf_app.specs.Given.{LoadsRead, loading_list, IsGiven}
-use Rattle.nf_output.specs.Sinks.{Taken}
+use Rattle.nf_outside.specs.Sinks.{Taken}
 use Rattle.nf_app.specs.Runs.{Call, Asks, Reached, Read, IsRefused, IsComputed, IsAnswer}
-use Rattle.nf_fetch.specs.Fetching.{NetworkReads}
-use Rattle.nf_output.specs.Shown.{IsShown}
+use Rattle.nf_outside.specs.Fetching.{NetworkReads}
+use Rattle.nf_outside.specs.Shown.{IsShown}
 use Rattle.nf_app.specs.Completeness.{Tells, TellsNetwork, TellsLoads, TellsFlows, CanBeShown, CanBeSolved, CanBeLoaded, CanBeGenerated, CanGoOn, CanBeDistributed, CanBeJudged, CanBeQuick, CanBeSettled, CanBeResumed, HasAnswer, EndsWell, EndsJudged, EndsQuick, EndsSettled, EndsResumed, IsComplete}
 
 in_the_middle : (P : Wanted → Type 0) (xs : List Wanted) (y : Wanted) (ys : List Wanted) → All P (xs ++ y ∷ ys) → P y

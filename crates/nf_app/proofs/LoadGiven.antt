@@ -19,12 +19,12 @@ use Rattle.nf_readings.specs.LoadsFile.{LoadsBroken, loads_in, pieces_at}
 use Rattle.nf_load.specs.declared.fault.LoadsFault.{LoadsFault}
 use Rattle.nf_load.specs.Files.{IfBroken}
 use Rattle.nf_answers.specs.declared.refusal.Refusal.{Refusal}
-use Rattle.nf_fetch.specs.Files.{Visit, loads_file}
+use Rattle.nf_outside.specs.Files.{Visit, loads_file}
 use Rattle.nf_words.specs.Requests.{Load}
 use Rattle.nf_answers.specs.Answers.{Loaded, MalformedLoads, Passes}
 use Rattle.nf_answers.specs.Refusals.{answer_of, refusal_of_loads, refusal_of_halt}
 use Rattle.nf_app.specs.Given.{LoadsRead, loading_list, IsLoading, IsGiven}
-use Rattle.nf_fetch.specs.Fetching.{IsTold}
+use Rattle.nf_outside.specs.Fetching.{IsTold}
 
 module _ (shelf : Visit) (n : Named) (file name : List ℕ) (horizon : ℚ) (text : List ℕ) (told : IsTold shelf (loads_file name) text) where
   -- what was read of the bytes is what the shelf tells

@@ -18,14 +18,14 @@ use Rattle.nf_resume_lists.specs.Resuming.{resume_list}
 use Rattle.nf_resume_lists.specs.Meanings.{IsResumedReport, GoesOnFrom}
 use Rattle.nf_resume.specs.Faults.{IsRefused}
 use Rattle.nf_answers.specs.declared.refusal.Refusal.{Refusal}
-use Rattle.nf_fetch.specs.Files.{Visit, report_file}
+use Rattle.nf_outside.specs.Files.{Visit, report_file}
 use Rattle.nf_words.specs.Requests.{Resume}
 use Rattle.nf_app.specs.Requests.{budgets_of}
 use Rattle.nf_answers.specs.Answers.{Solved, Checked, Passes, Earlier}
 use Rattle.nf_answers.specs.Refusals.{answer_of, refusal_of_report}
 use Rattle.nf_app.specs.CheckGiven.{ReportReads}
 use Rattle.nf_app.specs.Given.{IsGiven}
-use Rattle.nf_fetch.specs.Fetching.{IsTold}
+use Rattle.nf_outside.specs.Fetching.{IsTold}
 
 module _ (shelf : Visit) (n : Named) (file name : List ℕ) (horizon : ℚ) (phases patterns : ℕ) (text : List ℕ) (told : IsTold shelf (report_file name) text) where
   -- what was read of the bytes is what the shelf tells

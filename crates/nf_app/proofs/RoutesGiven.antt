@@ -18,13 +18,13 @@ use Rattle.nf_routes.specs.Routed.{routed_of}
 use Rattle.nf_route_reader.specs.declared.fault.RoutesFault.{RoutesFault}
 use Rattle.nf_route_reader.specs.Files.{IfBroken}
 use Rattle.nf_answers.specs.declared.refusal.Refusal.{Refusal}
-use Rattle.nf_fetch.specs.Files.{Visit, routes_file}
+use Rattle.nf_outside.specs.Files.{Visit, routes_file}
 use Rattle.nf_words.specs.Requests.{Routes}
 use Rattle.nf_answers.specs.Answers.{Distributed}
 use Rattle.nf_answers.specs.Refusals.{answer_of, refusal_of_routes, refusal_of_halt}
 use Rattle.nf_app.specs.RoutesGiven.{RoutesRead, by_route_list}
 use Rattle.nf_app.specs.Given.{IsGiven}
-use Rattle.nf_fetch.specs.Fetching.{IsTold}
+use Rattle.nf_outside.specs.Fetching.{IsTold}
 
 module _ (shelf : Visit) (n : Named) (file name : List ℕ) (horizon : ℚ) (text : List ℕ) (told : IsTold shelf (routes_file name) text) where
   -- what was read of the bytes is what the shelf tells

@@ -12,14 +12,14 @@ use Rattle.nf_complete.specs.declared.settled.Settled.{Settled as CodeSettled}
 use Rattle.nf_flows.specs.declared.fault.FlowsFault.{FlowsFault}
 use Rattle.nf_flows.specs.Files.{IfBroken}
 use Rattle.nf_answers.specs.declared.refusal.Refusal.{Refusal}
-use Rattle.nf_fetch.specs.Files.{Visit, flows_file}
+use Rattle.nf_outside.specs.Files.{Visit, flows_file}
 use Rattle.nf_words.specs.Requests.{Settle}
 use Rattle.nf_answers.specs.Answers.{Settled, NotThin}
 use Rattle.nf_answers.specs.Refusals.{answer_of, refusal_of_flows, refusal_of_halt}
 use Rattle.nf_app.specs.SettleGiven.{FlowsRead, AreSettled, AreNotThin, PassesFirst, AtStart}
 use Rattle.nf_app.specs.Settling.{AtStartLabels, SettlesAtStart}
 use Rattle.nf_app.specs.Given.{IsGiven}
-use Rattle.nf_fetch.specs.Fetching.{IsTold}
+use Rattle.nf_outside.specs.Fetching.{IsTold}
 
 module _ (shelf : Visit) (n : Named) (file name : List ℕ) (text : List ℕ) (told : IsTold shelf (flows_file name) text) where
   -- what was read of the bytes is what the shelf tells

@@ -10,7 +10,7 @@ use Rattle.nf_check_lists.specs.Rules.{Checks}
 use Rattle.nf_check_lists.specs.CheckList.{check_list}
 use Rattle.nf_check.specs.Answers.{IsExact}
 use Rattle.nf_readings.specs.ReportFile.{ReportBroken, report_in}
-use Rattle.nf_fetch.specs.Files.{Visit}
+use Rattle.nf_outside.specs.Files.{Visit}
 
 -- where the shelf tells the bytes of a file, they read as this report of the network, or break this rule first
 abbrev pub ReportReads : Visit → Named → List ℕ → Result Report ReportBroken → Type 0

@@ -24,7 +24,7 @@ use Rattle.nf_forever_lists.specs.ForeverRun.{Forever, IsForever}
 use Rattle.nf_routes_lists.specs.RoutesFile.{NamedRoute, routes_in}
 use Rattle.nf_routes_lists.specs.RoutesList.{Routed}
 use Rattle.nf_answers.specs.declared.status.Status.{Status}
-use Rattle.nf_fetch.specs.Files.{Wanted, Visit, network_file, loads_file, flows_file, routes_file, report_file}
+use Rattle.nf_outside.specs.Files.{Wanted, Visit, network_file, loads_file, flows_file, routes_file, report_file}
 use Rattle.nf_words.specs.Requests.{Solve, SolveForever, Show, Load, Check, Quick, Gen, Settle, Resume, Routes}
 use Rattle.nf_gen.specs.Ladder.{ladder}
 use Rattle.nf_app.specs.Requests.{budgets_of}
@@ -33,7 +33,7 @@ use Rattle.nf_app.specs.QuickGiven.{PassesQuick}
 use Rattle.nf_app.specs.SettleGiven.{PassesSettling}
 use Rattle.nf_app.specs.RoutesGiven.{by_route_list}
 use Rattle.nf_app.specs.ResumeGiven.{IsGoneOn, PassesResuming}
-use Rattle.nf_output.specs.Sinks.{Taken}
+use Rattle.nf_outside.specs.Sinks.{Taken}
 use Rattle.nf_app.specs.Runs.{Call, Asks}
 
 -- the shelf tells the bytes of a file, and they aren't too many

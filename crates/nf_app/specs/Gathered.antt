@@ -3,8 +3,8 @@ use Rattle.std.specs.Prelude.{ℕ, ◌≤◌, List, length, Option, slice_get, I
 use Rattle.nf_formats.specs.Named.{Named}
 use Rattle.nf_answers.specs.declared.refusal.Refusal.{Refusal}
 use Rattle.nf_answers.specs.Refusals.{answer_of}
-use Rattle.nf_fetch.specs.Files.{Wanted, Visit}
-use Rattle.nf_fetch.specs.Fetching.{IsTold}
+use Rattle.nf_outside.specs.Files.{Wanted, Visit}
+use Rattle.nf_outside.specs.Fetching.{IsTold}
 use Rattle.nf_words.specs.Requests.{Request}
 use Rattle.nf_app.specs.Requests.{files_of}
 use Rattle.nf_app.specs.Runs.{Call, Read, IsAnswer}

@@ -12,7 +12,7 @@ use Rattle.nf_check_lists.specs.declared.Answer.{Answer as Verdict}
 use Rattle.nf_resume_lists.specs.Resuming.{resume_list}
 use Rattle.nf_resume_lists.specs.Meanings.{IsResumedReport, GoesOnFrom}
 use Rattle.nf_resume.specs.Faults.{IsRefused}
-use Rattle.nf_fetch.specs.Files.{Visit}
+use Rattle.nf_outside.specs.Files.{Visit}
 use Rattle.nf_app.specs.CheckGiven.{ReportReads}
 
 -- The report of the run that goes on from the report of the file: from where that one's flow ends, which isn't after the horizon. Its flow

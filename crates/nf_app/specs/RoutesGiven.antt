@@ -10,7 +10,7 @@ use Rattle.nf_routes_lists.specs.RoutesFile.{RoutesBroken, NamedRoute, routes_in
 use Rattle.nf_routes_lists.specs.RoutesList.{Routed, routes_list}
 use Rattle.nf_routes_lists.specs.Meanings.{IsRouted, RoutesArrive}
 use Rattle.nf_route.specs.Kept.{routes_of}
-use Rattle.nf_fetch.specs.Files.{Visit}
+use Rattle.nf_outside.specs.Files.{Visit}
 
 -- where the shelf tells the bytes of a file, they read as these routes of the network, or break this rule first
 abbrev pub RoutesRead : Visit → Named → List ℕ → Result (List NamedRoute) RoutesBroken → Type 0

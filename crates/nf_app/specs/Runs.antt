@@ -4,10 +4,10 @@ use Rattle.nf_formats.specs.Named.{Named}
 use Rattle.nf_formats.specs.NetLines.{Broken}
 use Rattle.nf_answers.specs.declared.status.Status.{Status}
 use Rattle.nf_answers.specs.Answers.{Answer, NoMemory, NoRequest, ShelfFailed, ShelfTooLong, Malformed}
-use Rattle.nf_fetch.specs.Files.{Wanted, Visit, FetchedNone, FetchedAll, FetchedTo, Failed, HasTooMany}
-use Rattle.nf_fetch.specs.Fetching.{NetworkReads}
-use Rattle.nf_output.specs.Sinks.{Taken}
-use Rattle.nf_output.specs.Shown.{IsShown}
+use Rattle.nf_outside.specs.Files.{Wanted, Visit, FetchedNone, FetchedAll, FetchedTo, Failed, HasTooMany}
+use Rattle.nf_outside.specs.Fetching.{NetworkReads}
+use Rattle.nf_outside.specs.Sinks.{Taken}
+use Rattle.nf_outside.specs.Shown.{IsShown}
 use Rattle.nf_words.specs.Requests.{Request, request_of}
 use Rattle.nf_app.specs.Requests.{files_of, generated_by}
 use Rattle.nf_app.specs.Given.{IsGiven}

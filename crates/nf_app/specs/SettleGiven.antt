@@ -17,7 +17,7 @@ use Rattle.nf_complete_lists.specs.Cancelling.{Settles}
 use Rattle.nf_complete_lists.specs.SettledPattern.{IsSettledPattern}
 use Rattle.nf_complete_lists.specs.ThinList.{thin_list}
 use Rattle.nf_complete_lists.specs.FlowsFile.{FlowsBroken, GivenFlows, flows_in}
-use Rattle.nf_fetch.specs.Files.{Visit}
+use Rattle.nf_outside.specs.Files.{Visit}
 
 -- where the shelf tells the bytes of a file, they read as these flows and slopes of the network, or break this rule first
 abbrev pub FlowsRead : Visit → Named → List ℕ → Result GivenFlows FlowsBroken → Type 0

@@ -12,11 +12,11 @@ ghost use Rattle.nf_rational.specs.Rational.{ℚ};
 ghost use Rattle.nf_formats.specs.Report.{Report};
 ghost use Rattle.nf_readings.specs.ReportFile.{report_in};
 ghost use Rattle.nf_resume.specs.Faults.{IsResumeFault};
-ghost use Rattle.nf_fetch.specs.Files.{Visit, report_limit, loads_file, flows_file, routes_file, report_file};
+ghost use Rattle.nf_outside.specs.Files.{Visit, report_limit, loads_file, flows_file, routes_file, report_file};
 ghost use Rattle.nf_words.specs.Requests.{Solve, SolveForever, Show, Load, Check, Gen, Settle, Resume, Routes, CanBeAsked, request_of};
 ghost use Rattle.nf_words.specs.Requests as requests;
 ghost use Rattle.nf_words.specs.Views.{requested};
-ghost use Rattle.nf_fetch.specs.Fetching.{IsTold};
+ghost use Rattle.nf_outside.specs.Fetching.{IsTold};
 ghost use Rattle.nf_app.specs.Gathered.{OtherFits, OtherIsTold};
 ghost use Rattle.nf_app.specs.Outcomes.{IsGiving, IsAnswered, with_net};
 

@@ -2,8 +2,8 @@
 ghost use Rattle.std.specs.Prelude.{◌≡◌, ◌≤◌, ℕ, List, [], Some, IfOk, IfErr};
 ghost use Rattle.std.specs.Result.{result_map_both};
 ghost use Rattle.nf_answers.specs.declared.refusal.Refusal.TheVariants as Refusal;
-ghost use Rattle.nf_fetch.specs.Files.{network_file};
-ghost use Rattle.nf_fetch.specs.Fetching.{AreRead};
+ghost use Rattle.nf_outside.specs.Files.{network_file};
+ghost use Rattle.nf_outside.specs.Fetching.{AreRead};
 ghost use Rattle.nf_gen.specs.Ladder.{ladder};
 ghost use Rattle.nf_words.specs.Requests.{CanBeAsked, request_of};
 ghost use Rattle.nf_words.specs.Views.{requested};
@@ -11,9 +11,9 @@ ghost use Rattle.nf_app.specs.Gathered.{OtherFits, IsGathered};
 
 use nf_answers::Refusal;
 use nf_edge::Shelf;
-use nf_fetch::{fetch_network, fetch_network_with};
 use nf_gen::generated;
 use nf_net::Network;
+use nf_outside::{fetch_network, fetch_network_with};
 use nf_words::Request;
 use std::alloc::Global;
 

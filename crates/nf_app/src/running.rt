@@ -6,7 +6,7 @@ ghost use Rattle.nf_app.specs.Completeness.{IsComplete};
 use crate::answering::answer;
 use nf_answers::{Outcome, Status};
 use nf_edge::{Shelf, Sink};
-use nf_output::{give, refuse};
+use nf_outside::{give, refuse};
 use std::alloc::Global;
 
 // Frees what the words gave, apart from `run`, whose check needn't follow the parts of each kind of outcome then.

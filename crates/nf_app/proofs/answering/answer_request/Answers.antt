@@ -1,6 +1,6 @@
 use Rattle.std.proofs.Common.{◌≡◌, ℕ, List, sym, subst}
 use Rattle.nf_words.specs.Views.{requested}
-use Rattle.nf_fetch.specs.Files.{Visit}
+use Rattle.nf_outside.specs.Files.{Visit}
 use Rattle.nf_app.specs.Gathered.{OtherFits, OtherIsTold}
 use Rattle.nf_app.proofs.Calls.{given}
 use Rattle.nf_app.proofs.answering.answer_request.Goals as goal

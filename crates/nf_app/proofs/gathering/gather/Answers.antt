@@ -4,7 +4,7 @@ use Rattle.nf_words.specs.declared.request.Request as code
 use Rattle.nf_words.specs.Requests.{Request, CanBeAsked}
 use Rattle.nf_words.specs.Views.{requested}
 use Rattle.nf_gen.specs.Ladder.{ladder}
-use Rattle.nf_fetch.specs.Files.{Visit, network_file, loads_file, flows_file, routes_file, report_file}
+use Rattle.nf_outside.specs.Files.{Visit, network_file, loads_file, flows_file, routes_file, report_file}
 use Rattle.nf_app.specs.Requests.{files_of, generated_by}
 use Rattle.nf_app.specs.Gathered.{OtherFits}
 use Rattle.nf_app.proofs.Calls.{gathered_one, gathered_two, gathered_none, any_fit}

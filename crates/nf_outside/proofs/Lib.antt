@@ -1,0 +1,3 @@
+pub mod Fetched
+pub mod Networks
+pub mod Statuses

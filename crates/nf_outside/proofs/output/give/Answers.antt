@@ -1,0 +1,27 @@
+use Rattle.std.proofs.Common.{ℕ, List, ap, inl, inr, refl, subst, ◌∙◌}
+use Rattle.nf_edge.specs.Taken.{with_more, TookFront}
+use Rattle.nf_outside.proofs.Statuses.{writes, text_is, took_text}
+use Rattle.nf_outside.proofs.output.give.Goals as goal
+
+pub returns-in-Ok : goal.returns-in-Ok
+returns-in-Ok g c =
+    let net = c.args.outcome.now.net in
+    inl (
+      c.tell.ensures.status net,
+      c.in-Ok.ensures.whole ∙ ap (with_more (g.O.Sink.took c.args.out.now)) (text_is net c.args.outcome.now.found c.requires),
+      c.tell.ensures.told net,
+    )
+
+pub returns-in-Err : goal.returns-in-Err
+returns-in-Err g c =
+    let net = c.args.outcome.now.net in
+    let found = c.args.outcome.now.found in
+    inr (
+      refl,
+      writes c.args.outcome.now,
+      record {
+        front = subst (λ (text : List ℕ). TookFront (g.O.Sink.took c.args.out.now) (g.O.Sink.took c.write_found.new.out) text) (text_is net found c.requires) c.in-Err.ensures.front;
+        cause = c.in-Err.ensures.cause;
+      },
+      took_text _ _ _ _ _ c.write_text.result c.write_text.ensures,
+    )

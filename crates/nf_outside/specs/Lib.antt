@@ -1,0 +1,4 @@
+pub mod Files
+pub mod Fetching
+pub mod Sinks
+pub mod Shown

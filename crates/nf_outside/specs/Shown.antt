@@ -1,0 +1,12 @@
+-- What the two sinks took of an answer, and the status of its run.
+use Rattle.std.specs.Prelude.{◌≡◌, ◌⊎◌}
+use Rattle.nf_answers.specs.declared.status.Status.{Status}
+use Rattle.nf_answers.specs.ErrorLines.{output_line}
+use Rattle.nf_answers.specs.Answers.{Answer, HasOutput, status_of, out_text, err_text}
+use Rattle.nf_outside.specs.Sinks.{Taken, TookAll, CutShort, TookText}
+
+-- The status is that of the answer, and `out` took its whole text; or the answer has a text and `out` failed. A fault of `err` changes no status.
+abbrev pub IsShown : Answer → Taken → Taken → Status → Type 0
+IsShown answer out err status =
+    ((status ≡ status_of answer) × TookAll out (out_text answer) × TookText err (err_text answer))
+    ⊎ ((status ≡ Status.Output) × HasOutput answer × CutShort out (out_text answer) × TookText err output_line)

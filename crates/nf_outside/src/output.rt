@@ -1,0 +1,191 @@
+// What the two sinks are given.
+ghost use Rattle.std.specs.Prelude.{◌≡◌, ◌++◌};
+ghost use Rattle.std.specs.Option.{option_copied};
+ghost use Rattle.nf_edge.specs.Taken.{Wrote};
+ghost use Rattle.nf_formats.specs.Named.{Named};
+ghost use Rattle.nf_answers.specs.Answers.{status_of, status_of_cause, status_of_stop, status_of_forever, status_of_verdict, err_text, text_of_stop, text_of_verdict};
+ghost use Rattle.nf_answers.specs.QuickText.{arrival_text};
+ghost use Rattle.nf_answers.specs.Refusals.{answer_of};
+ghost use Rattle.nf_answers.specs.Outcomes.{answer_in, answer_with, text_with, HasText, HasTextWith};
+ghost use Rattle.nf_outside.specs.Sinks.{TookText};
+ghost use Rattle.nf_outside.specs.Shown.{IsShown};
+
+use nf_answers::{
+    Arrival, Found, Outcome, Refusal, Status, write_arrival, write_loads, write_over_budget,
+    write_refusal, write_routed, write_settled, write_stopped, write_summary, write_verdict,
+};
+use nf_check::Answer;
+use nf_curve::Stop;
+use nf_edge::{Sink, SinkFault, write_text};
+use nf_forever::write_forever;
+use nf_net::Network;
+use nf_report::write_report;
+
+// The text of a quickest flow, and then that of the arrival.
+fn write_quick<O: Sink>(text: &[u8], arrival: &Arrival, out: &mut O) -> Result<(), SinkFault>
+    ensures { Wrote (O.took out.old) (O.took out.new) (O.faults out.old) (O.faults out.new) (text.now ++ arrival_text arrival.now) result }
+{
+    write_text(out, text)?;
+    write_arrival(out, arrival)
+}
+
+// The text of what was found.
+fn write_found<O: Sink>(net: &Network, found: &Found, out: &mut O) -> Result<(), SinkFault>
+    requires { HasTextWith net.now found.now }
+    ensures { Wrote (O.took out.old) (O.took out.new) (O.faults out.old) (O.faults out.new) (text_with net.now found.now) result }
+{
+    match found {
+        Found::Solved { horizon, solution } => write_report(
+            net,
+            *horizon,
+            &solution.flow,
+            solution.stopped.as_ref(),
+            &solution.last,
+            out,
+        ),
+        Found::SolvedForever { forever } => write_forever(net, forever, out),
+        Found::Shown { text } => write_text(out, text),
+        Found::Loaded { horizon, links } => write_loads(out, net, *horizon, links),
+        Found::Checked { verdict } => write_verdict(out, net, verdict),
+        Found::Quickest { arrival, text, .. } => write_quick(text, arrival, out),
+        Found::TooManyWalks { text, .. } => write_text(out, text),
+        Found::Generated {
+            ladder,
+            solution,
+            arrival,
+            ..
+        } => write_summary(out, net, *ladder, solution, *arrival),
+        Found::Settled { settled } => write_settled(out, net, settled),
+        Found::Distributed {
+            routes,
+            horizon,
+            routed,
+        } => write_routed(out, net, routes, *horizon, routed),
+    }
+}
+
+// How a run of the program ends whose report has this cause.
+fn status_of_cause(stop: &Stop) -> Status
+    ensures { result ≡ status_of_cause stop.now }
+{
+    match stop {
+        Stop::Phases { .. } => Status::Phases,
+        Stop::Patterns { .. } => Status::Patterns,
+        Stop::Passed { .. } => Status::Passed,
+        Stop::NoPattern { .. } => Status::NoPattern,
+    }
+}
+
+// Says why the run of a report stopped, if it did. The status is the same where that can't be said.
+fn tell_stop<E: Sink>(stop: Option<&Stop>, err: &mut E) -> Status
+    ensures status { result ≡ status_of_stop (option_copied stop.entry) }
+    ensures told { TookText (record {
+      before = E.took err.old;
+      now = E.took err.new;
+      faults_before = E.faults err.old;
+      faults_now = E.faults err.new;
+    }) (text_of_stop (option_copied stop.entry)) }
+{
+    match stop {
+        None => Status::Ok,
+        Some(stop) => {
+            let _ = write_stopped(err, stop);
+            status_of_cause(stop)
+        }
+    }
+}
+
+// Says why a run without a horizon stopped, if it did; the budget of phases then has a status of its own.
+fn tell_forever<E: Sink>(stop: Option<&Stop>, err: &mut E) -> Status
+    ensures status { result ≡ status_of_forever (option_copied stop.entry) }
+    ensures told { TookText (record {
+      before = E.took err.old;
+      now = E.took err.new;
+      faults_before = E.faults err.old;
+      faults_now = E.faults err.new;
+    }) (text_of_stop (option_copied stop.entry)) }
+{
+    match tell_stop(stop, err) {
+        Status::Phases => Status::Events,
+        status => status,
+    }
+}
+
+// Says that a flow is no equilibrium, if it is none. The status is the same where that can't be said.
+fn tell_verdict<E: Sink>(verdict: &Answer, err: &mut E) -> Status
+    ensures status { result ≡ status_of_verdict verdict.now }
+    ensures told { TookText (record {
+      before = E.took err.old;
+      now = E.took err.new;
+      faults_before = E.faults err.old;
+      faults_now = E.faults err.new;
+    }) (text_of_verdict verdict.now) }
+{
+    match verdict {
+        Answer::Yes => Status::Ok,
+        Answer::No { .. } => {
+            let _ = write_text(err, b"nfot: no equilibrium\n");
+            Status::NotEquilibrium
+        }
+    }
+}
+
+// Says why what was found isn't the whole answer, if it isn't.
+fn tell<E: Sink>(found: &Found, err: &mut E) -> Status
+    ensures status { (net : Named) → result ≡ status_of (answer_with net found.now) }
+    ensures told { (net : Named) → TookText (record {
+      before = E.took err.old;
+      now = E.took err.new;
+      faults_before = E.faults err.old;
+      faults_now = E.faults err.new;
+    }) (err_text (answer_with net found.now)) }
+{
+    match found {
+        Found::SolvedForever { forever, .. } => tell_forever(forever.stopped.as_ref(), err),
+        Found::Checked { verdict, .. } => tell_verdict(verdict, err),
+        Found::TooManyWalks { augments, .. } => {
+            let _ = write_over_budget(err, *augments);
+            Status::Augments
+        }
+        _ => tell_stop(found.stop(), err),
+    }
+}
+
+/// Writes the text of an outcome to `out`, says on `err` why it isn't the whole answer, if it isn't, or that `out` failed, and gives the
+/// status with which the run ends. A fault of `err` changes no status.
+pub fn give<O: Sink, E: Sink>(outcome: &Outcome, out: &mut O, err: &mut E) -> Status
+    requires { HasText outcome.now }
+    ensures { IsShown (answer_in outcome.now) (record {
+      before = O.took out.old;
+      now = O.took out.new;
+      faults_before = O.faults out.old;
+      faults_now = O.faults out.new;
+    }) (record {
+      before = E.took err.old;
+      now = E.took err.new;
+      faults_before = E.faults err.old;
+      faults_now = E.faults err.new;
+    }) result }
+{
+    match write_found(&outcome.net, &outcome.found, out) {
+        Ok(()) => tell(&outcome.found, err),
+        Err(SinkFault) => {
+            let _ = write_text(err, b"nfot: output\n");
+            Status::Output
+        }
+    }
+}
+
+/// Says on `err` why there is nothing on the output, and gives the status with which the run ends. It is the same where that can't be said.
+pub fn refuse<E: Sink>(refusal: &Refusal, err: &mut E) -> Status
+    ensures status { result ≡ status_of (answer_of refusal.now) }
+    ensures told { TookText (record {
+      before = E.took err.old;
+      now = E.took err.new;
+      faults_before = E.faults err.old;
+      faults_now = E.faults err.new;
+    }) (err_text (answer_of refusal.now)) }
+{
+    let _ = write_refusal(err, refusal);
+    refusal.status()
+}
