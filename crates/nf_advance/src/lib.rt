@@ -1,12 +1,11 @@
-//! How a phase goes on from where it begins, before it is made: how long it may last, its length up to a horizon with the labels at
-//! its end, and of each link what enters and leaves it until then.
+//! A phase from where it begins, before it is made: how long it may last, its length up to a horizon with the labels at its end, and what
+//! each link is in it.
 #![tactic(auto)]
 
 mod advancing;
 mod lengths;
-mod link_phase;
-mod stepping;
+mod phase_links;
 
 pub use advancing::{Advanced, advance};
 pub use lengths::{end_of, extension};
-pub use stepping::{LinkStep, QueueStep, link_steps};
+pub use phase_links::{LinkPhase, link_phase};

@@ -1,3 +1,5 @@
+pub mod Queued
+pub mod LinkLoop
 pub mod Corners
 pub mod Places
 pub mod OneByOne

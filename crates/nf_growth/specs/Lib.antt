@@ -1,3 +1,4 @@
+pub mod StepCodes
 pub mod Growing
 pub mod LinkGrowth
 pub mod Restoring

@@ -1,5 +1,5 @@
-//! Curves that grow in short form, phase by phase: those of nodes and links, from the start or from where others end. What may want
-//! memory is asked for beforehand, so that going on can't fail.
+//! Curves that grow in short form, phase by phase: those of nodes and links, from the start or from where others end, and how those of
+//! each link go on in a phase. What may want memory is asked for beforehand, so that going on can't fail.
 #![tactic(auto)]
 
 mod copies;
@@ -8,6 +8,7 @@ mod growth;
 mod last_slopes;
 mod link_curves;
 mod link_growth;
+mod stepping;
 mod traces;
 
 pub use growing::{GrowingCurve, is_same};
@@ -17,3 +18,4 @@ pub use growth::{
 };
 pub use link_curves::LinkCurves;
 pub use link_growth::{amounts, first_links, links_go_on, restore_links};
+pub use stepping::{LinkStep, QueueStep, link_steps};

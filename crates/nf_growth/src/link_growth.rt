@@ -11,7 +11,7 @@ ghost use Rattle.nf_growth.specs.LinkGrowth.{LinkEndsBefore, AllLinksEndBefore};
 ghost use Rattle.nf_growth.specs.Restoring.{of_links};
 
 use crate::link_curves::LinkCurves;
-use nf_advance::LinkStep;
+use crate::stepping::LinkStep;
 use nf_curve::{Curve, Trace};
 use nf_frac::{Halt, Q};
 use nf_net::{Link, LinkId, Network};

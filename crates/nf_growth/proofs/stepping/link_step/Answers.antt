@@ -1,9 +1,9 @@
 use Rattle.std.proofs.Common.{sym, ◌∙◌}
 use Rattle.std.proofs.lemmas.Result.{err_from_is_err_and}
 use Rattle.nf_work.specs.Passing.{passes_Q}
-use Rattle.nf_advance.proofs.Queued.{inflow_passes, outflow_passes, queue_passes}
+use Rattle.nf_growth.proofs.Queued.{inflow_passes, outflow_passes, queue_passes}
 use Rattle.nf_advance.proofs.Signs.{positive_apart}
-use Rattle.nf_advance.proofs.stepping.link_step.Goals as goal
+use Rattle.nf_growth.proofs.stepping.link_step.Goals as goal
 
 pub rate_over-requires : goal.rate_over-requires
 rate_over-requires c = λ above. positive_apart c.link.inside.tail_slope (sym c.is_positive.ensures ∙ above)

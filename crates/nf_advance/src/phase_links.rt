@@ -13,7 +13,7 @@ use std::marker::Model;
 /// A link in a phase: the flow that it carries, whether that fills it, the slopes of the labels of its ends, and these labels at
 /// the phase's end.
 #[derive(Clone, Copy)]
-pub(crate) struct LinkPhase {
+pub struct LinkPhase {
     pub capacity: Option<Q>,
     pub transit: Q,
     pub flow: Q,
@@ -48,7 +48,7 @@ fn is_filled(state: Option<State>, resetting: bool) -> bool
 }
 
 /// What the list reads of the link of a number, with these labels at the phase's end.
-pub(crate) fn link_phase(
+pub fn link_phase(
     net: &Network,
     sets: &LinkSets,
     pattern: &Pattern,

@@ -4,8 +4,8 @@ use Rattle.nf_work.specs.Passing.{passes_Q}
 use Rattle.nf_work.specs.declared.Part.TheVariants.{Curve}
 use Rattle.nf_lists.specs.CurveList.{curve_list}
 use Rattle.nf_advance.proofs.Numbered.{all_done}
-use Rattle.nf_advance.proofs.LinkLoop.{numbered_step, one_step, step_passes}
-use Rattle.nf_advance.proofs.stepping.link_steps.Goals as goal
+use Rattle.nf_growth.proofs.LinkLoop.{numbered_step, one_step, step_passes}
+use Rattle.nf_growth.proofs.stepping.link_steps.Goals as goal
 
 pub returns-in_err-next : goal.returns-in_err-next
 unfolding curve_list

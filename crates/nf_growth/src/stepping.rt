@@ -9,7 +9,7 @@ ghost use Rattle.nf_model.specs.Network.{Link as SeenLink, IsLink};
 ghost use Rattle.nf_lists.specs.Signs.{is_positive as is_positive_by};
 ghost use Rattle.nf_lists.specs.CurveList.{rate_over as rate_over_by, size_at as size_at_by, slope_at as slope_at_by, queue_step as queue_step_by, link_step as link_step_by, link_phase as link_phase_of, curve_list};
 
-use crate::link_phase::{LinkPhase, link_phase};
+use nf_advance::{LinkPhase, link_phase};
 use nf_frac::{Halt, Part, PassedAt, Q, at};
 use nf_graph::{LinkId, LinkSets};
 use nf_net::Network;
@@ -26,7 +26,7 @@ pub struct QueueStep {
 
 impl Model for QueueStep {
     ghost use Rattle.nf_lists.specs.CurveList.{QueueStep as SeenStep};
-    ghost use Rattle.nf_advance.specs.StepCodes.{coded_queue_step};
+    ghost use Rattle.nf_growth.specs.StepCodes.{coded_queue_step};
 
     ghost Value = { SeenStep };
 
@@ -50,7 +50,7 @@ pub struct LinkStep {
 
 impl Model for LinkStep {
     ghost use Rattle.nf_lists.specs.CurveList.{LinkStep as SeenStep};
-    ghost use Rattle.nf_advance.specs.StepCodes.{coded_link_step};
+    ghost use Rattle.nf_growth.specs.StepCodes.{coded_link_step};
 
     ghost Value = { SeenStep };
 

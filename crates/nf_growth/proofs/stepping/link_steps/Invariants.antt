@@ -1,7 +1,7 @@
 use Rattle.nf_work.specs.Passing.{passes_Q}
 use Rattle.nf_advance.proofs.Numbered.{SoFar}
-use Rattle.nf_advance.proofs.LinkLoop.{numbered_step}
-use Rattle.nf_advance.proofs.stepping.link_steps.Given as goal
+use Rattle.nf_growth.proofs.LinkLoop.{numbered_step}
+use Rattle.nf_growth.proofs.stepping.link_steps.Given as goal
 
 -- the steps so far stand before what comes of the other links
 abbrev pub invariant-loop-e : goal.invariant-loop-e

@@ -1,8 +1,8 @@
 use Rattle.std.proofs.Common.{sym, ◌∙◌}
 use Rattle.std.proofs.lemmas.Result.{err_from_is_err_and}
 use Rattle.nf_work.specs.Passing.{passes_Q}
-use Rattle.nf_advance.proofs.Queued.{slope_passes}
-use Rattle.nf_advance.proofs.stepping.queue_step.Goals as goal
+use Rattle.nf_growth.proofs.Queued.{slope_passes}
+use Rattle.nf_growth.proofs.stepping.queue_step.Goals as goal
 
 pub returns-in_err-slope-in-Some : goal.returns-in_err-slope-in-Some
 returns-in_err-slope-in-Some c =
