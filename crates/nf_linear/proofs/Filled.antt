@@ -1,5 +1,5 @@
 -- Lists of one value, many times.
-use Rattle.std.proofs.Common.{◌≡◌, ℕ, zero, suc, ◌-◌, List, [], ◌∷◌, ◌++◌, take, map, replicate, refl, ap, ◌∙◌, arith}
+use Rattle.std.proofs.Common.{◌≡◌, ℕ, zero, suc, ◌-◌, List, [], ◌++◌, take, map, replicate, refl, ap, ◌∙◌, arith}
 
 pub filled_up : {A : Type 0} (n k : ℕ) (old new : List A) (x : A) → new ≡ take n old ++ replicate (n - k) x → old ≡ [] → k ≡ 0 → new ≡ replicate n x
 filled_up {A = A} n k old new x e o z =

@@ -1,4 +1,4 @@
-use Rattle.std.proofs.Common.{◌≡◌, ℕ, ◌+◌, ◌≤◌, List, length, take, replicate, sym, subst, ap, ◌∙◌, arith, length-take-le}
+use Rattle.std.proofs.Common.{ℕ, ◌+◌, ◌≤◌, List, length, replicate, sym, subst, ap, ◌∙◌, arith, length-take-le}
 use Rattle.std.specs.Prelude.{IfOk}
 use Rattle.nf_rational.specs.Operations.{0ℚ}
 use Rattle.nf_work.specs.declared.Part.TheVariants as Part

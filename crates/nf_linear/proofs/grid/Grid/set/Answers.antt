@@ -1,6 +1,6 @@
-use Rattle.std.proofs.Common.{◌≡◌, ℕ, ◌<◌, ◌≤◌, List, length, set, take, sym, subst, ap, ◌∙◌, arith}
-use Rattle.nf_lists.specs.Table.{Row, row_at}
-use Rattle.nf_linear.proofs.Written.{seen_long, set_seen, set_square}
+use Rattle.std.proofs.Common.{◌≡◌, ◌<◌, ◌≤◌, List, length, take, sym, subst, ap, arith}
+use Rattle.nf_lists.specs.Table.{Row}
+use Rattle.nf_linear.proofs.Written.{set_seen, set_square}
 use Rattle.nf_linear.proofs.grid.Grid.set.Goals as goal
 
 pub whole_as_front-set_at : goal.whole_as_front-set_at

@@ -1,4 +1,4 @@
-use Rattle.std.proofs.Common.{◌≡◌, List, replicate, map, Bool, true, false, not, refl, sym, ap, ◌∙◌}
+use Rattle.std.proofs.Common.{map, false, not, refl, sym, ap, ◌∙◌}
 use Rattle.nf_rational.specs.Rational.{ℚ}
 use Rattle.nf_rational.specs.Operations.{0ℚ}
 use Rattle.nf_lists.specs.Signs.{is_zero}

@@ -1,5 +1,6 @@
-use Rattle.std.proofs.Common.{◌≡◌, ℕ, length, set, ap, ◌∙◌, arith}
-use Rattle.nf_lists.specs.Table.{row_at}
+use Rattle.std.proofs.Common.{◌≡◌, ℕ, ◌<◌, List, length, set, sym, subst, ap, ◌∙◌, arith}
+use Rattle.nf_lists.specs.Table.{Row, row_at}
+use Rattle.nf_linear.proofs.Clearing.{row_read}
 use Rattle.nf_linear.proofs.Changed.{changed_row, still_square}
 use Rattle.nf_linear.proofs.table.Table.set_right.Goals as goal
 
@@ -14,3 +15,11 @@ returns g c =
     changed_row c.self.inside.rows.items c.args.self.now c.args.row c.len-size.result (g.S.Scalar.means c.args.value) c.index_mut-changed.result.now c.set.new.self
     c.self.view_is c.requires c.index_mut-changed.ensures.value c.set.ensures
     ∙ ap (λ (n : ℕ). set c.args.self.now c.args.row (set (row_at c.args.self.now c.args.row) n (g.S.Scalar.means c.args.value))) size
+
+pub set-requires : goal.set-requires
+set-requires g c =
+    let below : c.args.row < length c.self.inside.rows.items = subst (λ (l : List Row). c.args.row < length l) (sym c.self.view_is) c.requires in
+    let row = ap length (row_read c.self.inside.rows.items c.args.row c.index_mut-changed.result.now below c.index_mut-changed.ensures.value) in
+    let wide = c.self.invariant c.args.row below in
+    let seen = ap length c.self.view_is in
+    omega arith
