@@ -50,3 +50,18 @@ returns-clause-list c =
     let front = map loaded_of c.loop-link.loaded.items in
     let done = ap (λ (l : List (Link × List Piece)). with_front front (each (load_link_list passes_Q c.args.horizon) l)) (sym (zip_ends c.args.net.now.net.links c.args.loads.now c.loop-link.link c.requires.many end)) ∙ c.loop-link.invariant.1 in
     each_ends (load_link_list passes_Q c.args.horizon) front (each (load_link_list passes_Q c.args.horizon) (zip c.args.net.now.net.links c.args.loads.now)) Load done
+
+pub load_by_pieces-requires-clause-pieces : goal.load_by_pieces-requires-clause-pieces
+load_by_pieces-requires-clause-pieces c = c.pieces-supplied.ensures.pieces
+
+pub load_by_pieces-requires-clause-horizon : goal.load_by_pieces-requires-clause-horizon
+load_by_pieces-requires-clause-horizon c = c.requires.horizon
+
+pub load_by_pieces-requires-clause-transit : goal.load_by_pieces-requires-clause-transit
+load_by_pieces-requires-clause-transit c = c.link-here.ensures.named.network.transits c.loop-link.link c.link-here.result c.link-here.ensures.link
+
+pub load_by_pieces-requires-clause-capacity : goal.load_by_pieces-requires-clause-capacity
+load_by_pieces-requires-clause-capacity c rate is = c.link-here.ensures.named.network.capacities c.loop-link.link c.link-here.result rate c.link-here.ensures.link is
+
+pub returns-clause-many : goal.returns-clause-many
+returns-clause-many c = let end : c.loop-link.link ≡ length c.args.net.now.net.links = omega arith in c.loop-link.invariant.0 ∙ end
