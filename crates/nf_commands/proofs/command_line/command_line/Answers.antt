@@ -2,7 +2,6 @@ use Rattle.std.proofs.Common.{◌≡◌, ◌∙◌, ◌++◌, ap, ap₂, codes, 
 use Rattle.std.proofs.lemmas.Result.{IfOk-weaker}
 use Rattle.clap.specs.Simple.{App, with_rule}
 use Rattle.nf_commands.specs.CommandLine.{bare, nfot, command_rule, files_rule, flag_rule, run_options, other_options, with_options}
-use Rattle.nf_commands.specs.Views.{app_in}
 use Rattle.nf_commands.proofs.command_line.command_line.Goals as goal
 
 abbrev with_all : App → App
