@@ -60,6 +60,7 @@ module _ (words : List (List ℕ)) (shelf : Visit) (request : Request) (asks : r
   read_with n texts h = read_of (Ok n) h.0 h.1
 
 -- ---- what is gathered for a request
+-- where no other file is wanted, any bytes fit
 pub any_fit : (r : Result (Named × Vec ℕ Global) Refusal) → IfOk r (λ got. Unit {0})
 any_fit (Ok got) = tt
 any_fit (Err refusal) = tt
