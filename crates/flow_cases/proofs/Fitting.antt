@@ -18,7 +18,7 @@ use Rattle.nf_plain_laws.proofs.Entries.{slice_get-image}
 use Rattle.nf_thin_laws.specs.ActiveLinks.{HoldNoCycle, AreSets}
 use Rattle.nf_thin_laws.proofs.ActiveLinks.{AreSets-sets_at, HoldNoCycle-sets_at}
 use Rattle.nf_complete_laws.specs.SettleLaws.{AreGoodSets}
-use Rattle.nf_link_flows.proofs.Folds.{part_ok}
+use Rattle.nf_lists_laws.proofs.Numbered.{part_ok}
 
 -- a link is one of those before the end
 pub is_among : (net : Network) (e : ℕ) → Has (unbounded net) e → e < length net.links

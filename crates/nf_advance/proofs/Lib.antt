@@ -1,5 +1,4 @@
 pub mod Signs
 pub mod Looping
 pub mod Meaning
-pub mod Numbered
 pub mod LaterEnds

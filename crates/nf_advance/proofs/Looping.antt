@@ -10,7 +10,8 @@ use Rattle.nf_work.specs.Checked.{Checked, fold_checked, at_part}
 use Rattle.nf_model.specs.Network.{Link, Network, IsLink}
 use Rattle.nf_lists.specs.Extend.{least_after}
 use Rattle.nf_lists_laws.proofs.Ending.{enumerated}
-use Rattle.nf_trial.proofs.Folds.{goes_on, stops_in, ends, part_ok}
+use Rattle.nf_lists_laws.proofs.Numbered.{part_ok}
+use Rattle.nf_trial.proofs.Folds.{goes_on, stops_in, ends}
 use Rattle.nf_advance.specs.Lengths.{after_all}
 use Rattle.nf_plain_laws.proofs.Entries.{entry, length-enumerated}
 

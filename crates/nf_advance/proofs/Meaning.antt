@@ -11,7 +11,7 @@ use Rattle.nf_model.specs.Phases.{IsExtension, IsUnending}
 use Rattle.nf_lists.specs.Extend.{until_change, extend_list}
 use Rattle.nf_run_laws.proofs.Extension.{extension_is, unending_is}
 use Rattle.nf_advance.specs.Lengths.{after_all}
-use Rattle.nf_trial.proofs.Folds.{part_ok}
+use Rattle.nf_lists_laws.proofs.Numbered.{part_ok}
 
 module _ (passes : Passing) (net : Network) (slacks slopes : List ℚ) (time : ℚ) (pieces : ArePieces net.pieces) where
   abbrev Means : Option ℚ → Type 0

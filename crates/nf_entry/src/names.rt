@@ -1,7 +1,7 @@
 // Tables of names.
-ghost use Rattle.std.specs.Prelude.{◌≡◌, ◌<◌, ◌≤◌, [], true, false, length, position, is_some, IsSome, OnOk, OnErr};
+ghost use Rattle.std.specs.Prelude.{◌≡◌, ◌≤◌, [], true, false, length, position, is_some, IsSome, OnOk, OnErr};
 ghost use Rattle.std.specs.Str.{bytes_eq};
-ghost use Rattle.nf_formats.specs.Names.{has_name, name_at, place_of, with_name};
+ghost use Rattle.nf_formats.specs.Names.{has_name, place_of, with_name};
 
 use crate::name::Name;
 use indexmap::IndexSet;
@@ -46,8 +46,8 @@ impl Names {
         self.table.as_slice()
     }
 
-    /// The place of a name, if it is there.
-    pub fn place(&self, name: &Name) -> Option<usize>
+    // The place of a name, if it is there.
+    fn place(&self, name: &Name) -> Option<usize>
         ensures place { result ≡ position (bytes_eq name.now) self.now }
         ensures there { is_some result ≡ has_name self.now name.now }
     {
@@ -68,14 +68,6 @@ impl Names {
         ensures { result ≡ has_name self.now name.now }
     {
         self.table.contains(name)
-    }
-
-    /// The name at a place.
-    pub fn at(&self, place: usize) -> &Name
-        requires { place < length self.now }
-        ensures { result.now ≡ name_at self.now place }
-    {
-        &self.as_slice()[place]
     }
 
     /// Puts a name behind the others, if it isn't there. It is refused where memory is wanting, and the names stay as they were.

@@ -12,7 +12,7 @@ use Rattle.nf_model.specs.Network.{Link, Network, IsLink}
 use Rattle.nf_model.specs.ThinFlow.{Sets}
 use Rattle.nf_model.specs.Pattern.{Pattern}
 use Rattle.nf_lists.specs.CurveList.{LinkStep, link_phase, link_step}
-use Rattle.nf_advance.proofs.Numbered.{SoFar, one_more, one_passes}
+use Rattle.nf_lists_laws.proofs.Numbered.{SoFar, one_more, one_passes}
 use Rattle.nf_plain_laws.proofs.Entries.{entry}
 
 module _ (passes : Passing) (sets : Sets) (pattern : Pattern) (duration : ℚ) (flows slopes labels amounts : List ℚ) where

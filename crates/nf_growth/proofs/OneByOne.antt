@@ -15,7 +15,7 @@ use Rattle.nf_model.specs.Equilibrium.{Trace}
 use Rattle.nf_lists.specs.ReportCurves.{GrowingCurve, LinkCurves}
 use Rattle.nf_resume_lists.specs.Restoring.{link_curves_of, growing}
 use Rattle.nf_curve.proofs.Exits.{after_err, after_ok, each_goes, each_stops, each_ends, err_before, ok_before}
-use Rattle.nf_trial.proofs.Folds.{drop_at}
+use Rattle.nf_lists_laws.proofs.Numbered.{drop_at}
 use Rattle.nf_pattern.proofs.Each.{take_pushed}
 use Rattle.nf_growth.specs.Growing.{Roomy, all_grown}
 use Rattle.nf_growth.specs.Restoring.{of_link, of_links}

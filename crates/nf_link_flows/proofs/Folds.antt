@@ -1,25 +1,15 @@
 -- A loop over a list, one value after the other.
-use Rattle.std.proofs.Common.{◌≡◌, ℕ, zero, suc, ◌≤◌, List, [], ◌∷◌, length, drop, ap, refl, ◌∙◌}
+use Rattle.std.proofs.Common.{◌≡◌, ℕ, suc, ◌≤◌, List, length, drop, ap, refl, ◌∙◌}
 use Rattle.std.specs.Prelude.{Some, slice_get, Result, Ok, Err}
 use Rattle.std.proofs.Math.ListN.{drop_of_length-le}
-use Rattle.std.proofs.lemmas.Option.{none-some, same_Some}
 use Rattle.nf_rational.specs.Rational.{ℚ}
 use Rattle.nf_work.specs.declared.Part.{Part}
 use Rattle.nf_work.specs.declared.Passed.{Passed}
 use Rattle.nf_work.specs.declared.PassedAt.{PassedAt}
 use Rattle.nf_work.specs.Checked.{fold_checked, placed, at_part}
 use Rattle.nf_work.proofs.Each.{fold_ok, fold_err}
+use Rattle.nf_lists_laws.proofs.Numbered.{drop_at}
 use Rattle.nf_plain_laws.proofs.Results.{same_Err}
-
-pub drop_at : {A : Type 0} (xs : List A) (i : ℕ) (x : A) → slice_get xs i ≡ Some x → drop i xs ≡ x ∷ drop (suc i) xs
-drop_at [] i x e = absurd (none-some x e)
-drop_at (y ∷ xs) zero x e = ap (λ (z : _). z ∷ xs) (same_Some y x e)
-drop_at (y ∷ xs) (suc i) x e = drop_at xs i x e
-
--- the value that a part of the work gives
-pub part_ok : {A : Type 0} (part : Part) (r : Result A (Passed ℚ)) (x : A) → Ok x ≡ at_part part r → r ≡ Ok x
-part_ok part (Ok y) x e = cc
-part_ok part (Err q) x e = absurd (cc)
 
 module _ {A B : Type 0} (f : B → A → Result B (Passed ℚ)) (xs : List A) (start : B) where
   abbrev pub FoldsOn : B → ℕ → Type 0

@@ -1,5 +1,4 @@
 pub mod Folds
-pub mod Numbered
 pub mod Deciding
 pub mod Telling
 pub mod LinkByLink

@@ -9,7 +9,8 @@ use Rattle.nf_work.specs.declared.PassedAt.{PassedAt}
 use Rattle.nf_work.specs.Checked.{Checked, fold_checked, at_part}
 use Rattle.nf_model.specs.Network.{Link, Network, IsLink}
 use Rattle.nf_plain_laws.proofs.Entries.{entry}
-use Rattle.nf_link_flows.proofs.Folds.{part_ok, FoldsOn, folds_more, fold_stops, fold_ends}
+use Rattle.nf_lists_laws.proofs.Numbered.{part_ok}
+use Rattle.nf_link_flows.proofs.Folds.{FoldsOn, folds_more, fold_stops, fold_ends}
 use Rattle.nf_link_flows.proofs.Telling.{numbered_at}
 
 module _ (f : ℚ → ℕ × Link → Checked ℚ) (net : Network) (start : ℚ) where

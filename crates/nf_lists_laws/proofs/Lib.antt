@@ -7,3 +7,4 @@ pub mod Exact
 pub mod Ending
 pub mod Parallel
 pub mod Member
+pub mod Numbered

@@ -1,7 +1,7 @@
 -- The network that a file stands for, from its parts.
-use Rattle.std.proofs.Common.{◌≡◌, ℕ, zero, suc, ◌≤◌, Bool, true, false, not, List, [], ◌∷◌, ◌++◌, length, map, unwrap_or, Option, Some, refl, sym, ◌∙◌, ap, subst, append_assoc, append-nil}
+use Rattle.std.proofs.Common.{◌≡◌, ℕ, zero, suc, ◌≤◌, Bool, true, false, not, List, [], ◌∷◌, length, map, unwrap_or, Option, Some, refl, sym, ◌∙◌, ap, subst}
 use Rattle.std.specs.Bool.{Decides}
-use Rattle.std.specs.List.{AllByRecursion, AllZip, IsDistinct}
+use Rattle.std.specs.List.{AllZip}
 use Rattle.std.specs.Str.{bytes_eq}
 use Rattle.std.proofs.lemmas.Simd.{map-map}
 use Rattle.nf_model.specs.Entries.{Has}
@@ -11,12 +11,11 @@ use Rattle.nf_formats.specs.Named.{NamedLink, Named, numbered, ends, names_of}
 use Rattle.nf_formats.specs.NetLines.{Draft}
 use Rattle.nf_formats.specs.NetClosing.{source_name, sink_name, IsReached, marked, network_of}
 use Rattle.nf_formats.specs.WellNamed.{IsNamed}
-use Rattle.nf_formats_laws.proofs.NameFacts.{same_names, bytes_eq-turned, has_none, with_name_new}
-use Rattle.nf_formats_laws.proofs.LinkFacts.{distinct_left}
+use Rattle.nf_formats_laws.proofs.NameFacts.{same_names, has_none, with_name_new}
 use Rattle.nf_formats_laws.proofs.AcceptedNamed.{is_named}
 use Rattle.nf_net.specs.declared.building.SortedLinks.{SortedLinks}
 use Rattle.nf_net.specs.declared.building.SortedNodes.{SortedNodes}
-use Rattle.nf_net.specs.declared.building.LinkTables.{LinkTables}
+use Rattle.nf_net.specs.declared.building.Tables.{Tables}
 use Rattle.nf_net.specs.declared.building.Parts.{Parts}
 use Rattle.nf_net.specs.Building.{AreSorted, AreNodesOf, AreTablesOf, net_of, ArePartsOf}
 use Rattle.nf_net.specs.Kept.{with_parts}
@@ -26,22 +25,6 @@ use Rattle.nf_net.proofs.Limits.{few_nodes}
 use Rattle.nf_draft.proofs.FileWalks.{good_of, source_given, sink_given, is_its_name}
 
 -- ---- names put one after the other
-all_found : (P : Name → Type 0) (front : List Name) (x : Name) (rest : List Name) → AllByRecursion P (front ++ x ∷ rest) → P x
-all_found P [] x rest h = h.0
-all_found P (y ∷ front) x rest h = all_found P front x rest h.1
-
-not_in_front : (front : List Name) (x : Name) (rest : List Name) → IsDistinct bytes_eq (front ++ x ∷ rest) → AllByRecursion (λ y. bytes_eq x y ≡ false) front
-unfolding IsDistinct
-not_in_front [] x rest d = tt
-not_in_front (y ∷ front) x rest d = (bytes_eq-turned y x (all_found (λ z. bytes_eq y z ≡ false) front x rest d.0), not_in_front front x rest d.1)
-
-put_each : (front more : List Name) → IsDistinct bytes_eq (front ++ more) → with_names front more ≡ front ++ more
-put_each front [] d = sym (append-nil front)
-put_each front (x ∷ more) d =
-    ap (λ (l : List Name). with_names l more) (with_name_new front x (has_none front x (not_in_front front x more d)))
-    ∙ put_each (front ++ x ∷ []) more (subst (IsDistinct bytes_eq) (sym (append_assoc front (x ∷ []) more)) d)
-    ∙ append_assoc front (x ∷ []) more
-
 put_two : (s t : Name) → (s ≡ t → ⊥) → with_names [] (s ∷ t ∷ []) ≡ s ∷ t ∷ []
 put_two s t apart = step (bytes_eq t s) refl
   where
@@ -93,17 +76,13 @@ module _ (draft : Draft) (flags : List Bool) (read : IsRead draft) (has : HasEnd
         ≡ network_of draft (marked (tail_flags draft.nodes flags draft.links) draft.links) (marked (map not (tail_flags draft.nodes flags draft.links)) draft.links)
     net_is = ap (λ (l : List Name). net_with l links.active.items links.idle.items) nodes_are ∙ (λ i. net_with (nodes_with (sorted.active i)) (sorted.active i) (sorted.idle i))
 
-    module _ (tables : LinkTables) (are_tables : AreTablesOf nodes.active links.active.items tables) where
-      names_are : tables.names ≡ names_of links.active.items
-      names_are = are_tables.names ∙ put_each [] (names_of links.active.items) (subst (λ (ls : List NamedLink). IsDistinct bytes_eq (names_of ls)) (sym sorted.active)
-          (distinct_left (names_of (marked (tail_flags draft.nodes flags draft.links) draft.links)) (names_of (marked (map not (tail_flags draft.nodes flags draft.links)) draft.links)) named_net.link_names.distinct))
-
+    module _ (tables : Tables) (are_tables : AreTablesOf nodes.active links.active.items tables) where
       abbrev parts : Parts
       parts = record { links = links; nodes = nodes; tables = tables }
 
       net_of_is : net_of draft parts
           ≡ network_of draft (marked (tail_flags draft.nodes flags draft.links) draft.links) (marked (map not (tail_flags draft.nodes flags draft.links)) draft.links)
-      net_of_is = (λ i. with_parts draft.version nodes.active (names_are i) (are_tables.links i) draft.pieces (of.idle i) links.idle.items) ∙ net_is
+      net_of_is = (λ i. with_parts draft.version (are_tables.node_names i) (are_tables.link_names i) (are_tables.links i) draft.pieces (of.idle i) links.idle.items) ∙ net_is
 
       pub are_parts : ArePartsOf draft parts
       are_parts = record {

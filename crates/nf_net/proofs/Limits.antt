@@ -1,8 +1,9 @@
 -- How many nodes, links and names a network has.
-use Rattle.std.proofs.Common.{◌≡◌, ℕ, ◌<◌, ◌≤◌, suc, List, [], ◌∷◌, length, ◌++◌, refl, sym, ◌∙◌, ap, arith, ◌&&◌, ◌||◌, Bool, true, false, Some, slice_get, get_or, length-append}
-use Rattle.std.specs.List.{list_all, position}
+use Rattle.std.proofs.Common.{◌≡◌, ℕ, ◌+◌, ◌<◌, ◌≤◌, suc, List, [], ◌∷◌, length, ◌++◌, refl, sym, ◌∙◌, ap, arith, ◌&&◌, ◌||◌, Bool, true, false, not, cond, nat_lt, is_some, None, Some, slice_get, get_or, length-append}
+use Rattle.std.specs.List.{list_all, position, position_or_len}
 use Rattle.std.specs.Str.{bytes_eq}
 use Rattle.std.proofs.lemmas.List.Quantifiers.{position-Some}
+use Rattle.std.proofs.lemmas.Bool.{lt-ltb}
 use Rattle.std.proofs.lemmas.Option.{slice_get-get_or}
 use Rattle.nf_formats_laws.proofs.NameFacts.{same_names}
 use Rattle.nf_model.specs.Network.{Link}
@@ -55,6 +56,30 @@ not_there (x ∷ xs) name e f = step (is_name x) refl (bytes_eq name x) refl e (
     step true is true same e rest = absurd (f (ap is_name (same_names name x same) ∙ is))
     step true is false same e rest = rest e
     step false is t same e rest = absurd (cc)
+
+-- a name is there just where it has a place
+next : (k n : ℕ) → nat_lt (1 + k) (suc n) ≡ nat_lt k n
+next k n = grind arith
+
+below : (names : List Name) (name : Name) → nat_lt (position_or_len (bytes_eq name) names) (length names) ≡ has_name names name
+below [] name = refl
+below (x ∷ names) name = step (bytes_eq name x) (below names name)
+  where
+    step : (b : Bool) → nat_lt (position_or_len (bytes_eq name) names) (length names) ≡ has_name names name
+        → nat_lt (cond (not b) (1 + position_or_len (bytes_eq name) names) 0) (suc (length names)) ≡ (b || has_name names name)
+    step true h = lt-ltb 0 (suc (length names)) (omega arith)
+    step false h = next (position_or_len (bytes_eq name) names) (length names) ∙ h
+
+has_place : (names : List Name) (name : Name) → is_some (position (bytes_eq name) names) ≡ has_name names name
+has_place names name = some_if (nat_lt (position_or_len (bytes_eq name) names) (length names)) (position_or_len (bytes_eq name) names) ∙ below names name
+  where
+    some_if : (b : Bool) (k : ℕ) → is_some (cond b (Some k) None) ≡ b
+    some_if true k = refl
+    some_if false k = refl
+
+-- and so isn't there where it has none
+pub no_place : (names : List Name) (name : Name) → position (bytes_eq name) names ≡ None → has_name names name ≡ false
+no_place names name e = sym (has_place names name) ∙ ap is_some e
 
 -- the place that is found
 pub position_there : (names : List Name) (name : Name) (place : ℕ) → position (bytes_eq name) names ≡ Some place → slice_get names place ≡ Some name

@@ -6,7 +6,7 @@ use Rattle.nf_formats.specs.NetLines.{Draft}
 use Rattle.nf_formats.specs.NetClosing.{source_name, sink_name, marked, StandsFor}
 use Rattle.nf_net.specs.declared.building.SortedLinks.{SortedLinks}
 use Rattle.nf_net.specs.declared.building.SortedNodes.{SortedNodes}
-use Rattle.nf_net.specs.declared.building.LinkTables.{LinkTables}
+use Rattle.nf_net.specs.declared.building.Tables.{Tables}
 use Rattle.nf_net.specs.declared.building.Parts.{Parts}
 use Rattle.nf_net.specs.Kept.{with_parts, IsKept}
 use Rattle.nf_draft.specs.Closing.{tail_flags}
@@ -21,14 +21,15 @@ pub record AreNodesOf (draft : Draft) (links : SortedLinks) (nodes : SortedNodes
   pub active : nodes.active ≡ with_names (with_names [] (source_name draft ∷ sink_name draft ∷ [])) (ends links.active.items)
   pub idle : nodes.idle.items ≡ without nodes.active (with_names [] (ends links.idle.items))
 
--- the names of links, the links by the places of their ends among nodes, and that without their capacities
-pub record AreTablesOf (nodes : List Name) (named : List NamedLink) (tables : LinkTables) : Type 0 where
-  pub names : tables.names ≡ with_names [] (names_of named)
+-- the names of nodes and of links, the links by the places of their ends among nodes, and that without their capacities
+pub record AreTablesOf (nodes : List Name) (named : List NamedLink) (tables : Tables) : Type 0 where
+  pub node_names : tables.node_names.items ≡ nodes
+  pub link_names : tables.link_names.items ≡ names_of named
   pub links : tables.links.items ≡ map (numbered nodes) named
   pub hops : tables.hops.items ≡ hops_among nodes named
 
 abbrev pub net_of : Draft → Parts → Named
-net_of draft parts = with_parts draft.version parts.nodes.active parts.tables.names parts.tables.links.items draft.pieces parts.nodes.idle.items parts.links.idle.items
+net_of draft parts = with_parts draft.version parts.tables.node_names.items parts.tables.link_names.items parts.tables.links.items draft.pieces parts.nodes.idle.items parts.links.idle.items
 
 -- with these parts the draft stands for a network
 pub record ArePartsOf (draft : Draft) (parts : Parts) : Type 0 where

@@ -77,15 +77,26 @@ fn put_ends(names: &mut Names, links: &[NamedLink]) -> Result<(), AllocError>
     Ok(())
 }
 
-// The names of links, of which no two are equal.
-fn link_names(alloc: Global, links: &[NamedLink]) -> Result<Names, AllocError>
-    ensures { IfOk result (λ names. names ≡ with_names [] (names_of links.now)) }
+// The names of links.
+fn link_names(alloc: Global, links: &[NamedLink]) -> Result<Vec<Name>, AllocError>
+    ensures { IfOk result (λ names. names.items ≡ names_of links.now) }
 {
-    let mut names = Names::new(alloc);
+    let mut names = Vec::new(alloc);
     for link in links {
-        names.put(link.name.copy())?;
+        names.push(link.name.copy())?;
     }
     Ok(names)
+}
+
+// The same names once more.
+fn copied(alloc: Global, names: &[Name]) -> Result<Vec<Name>, AllocError>
+    ensures { IfOk result (λ copies. copies.items ≡ names.now) }
+{
+    let mut copies = Vec::new(alloc);
+    for name in names {
+        copies.push(name.copy())?;
+    }
+    Ok(copies)
 }
 
 fn number(nodes: &Names, link: &NamedLink) -> Link
@@ -205,24 +216,28 @@ fn sorted_nodes(
     Ok(SortedNodes { active, idle })
 }
 
-// What a network keeps of its links, by their numbers: their names, the links between numbered nodes, and those without capacities.
+// What a network keeps by numbers: the names of its nodes and of its links, the links between numbered nodes, and those without
+// capacities.
 #[derive(Drop)]
-struct LinkTables {
-    names: Names,
+struct Tables {
+    node_names: Vec<Name>,
+    link_names: Vec<Name>,
     links: Vec<Link>,
     hops: Vec<Hop>,
 }
 
 // The same links by their numbers, their ends by their places among these names.
-fn link_tables(alloc: Global, nodes: &Names, links: &[NamedLink]) -> Result<LinkTables, AllocError>
+fn tables_of(alloc: Global, nodes: &Names, links: &[NamedLink]) -> Result<Tables, AllocError>
     requires { length nodes.now ≤ most_nodes }
     ensures { IfOk result (λ tables. AreTablesOf nodes.now links.now tables) }
 {
     let numbers = numbered_links(alloc, nodes, links)?;
     let hops = hops_of(alloc, nodes, links)?;
-    let names = link_names(alloc, links)?;
-    Ok(LinkTables {
-        names,
+    let node_names = copied(alloc, nodes.as_slice())?;
+    let link_names = link_names(alloc, links)?;
+    Ok(Tables {
+        node_names,
+        link_names,
         links: numbers,
         hops,
     })
@@ -233,7 +248,7 @@ fn link_tables(alloc: Global, nodes: &Names, links: &[NamedLink]) -> Result<Link
 pub struct Parts {
     links: SortedLinks,
     nodes: SortedNodes,
-    tables: LinkTables,
+    tables: Tables,
 }
 
 /// The parts of the network that the lines of a file stand for, where they break no rule.
@@ -246,7 +261,7 @@ pub fn parts_of(alloc: Global, draft: &Draft, flags: &[bool]) -> Result<Parts, A
 {
     let links = sorted_links(alloc, draft, flags)?;
     let nodes = sorted_nodes(alloc, draft, &links)?;
-    let tables = link_tables(alloc, &nodes.active, &links.active)?;
+    let tables = tables_of(alloc, &nodes.active, &links.active)?;
     Ok(Parts {
         links,
         nodes,
@@ -266,8 +281,8 @@ pub fn network_of(draft: Draft, parts: Parts) -> Network
     } = parts;
     Network::kept(
         draft.version,
-        nodes.active,
-        tables.names,
+        tables.node_names,
+        tables.link_names,
         tables.links,
         tables.hops,
         draft.pieces,

@@ -1,6 +1,7 @@
 // Networks.
-ghost use Rattle.std.specs.Prelude.{◌≡◌, ◌<◌, ◌≤◌, length, slice_get, Some, MatchOption, true, false};
+ghost use Rattle.std.specs.Prelude.{◌≡◌, ◌<◌, ◌≤◌, length, position, slice_get, Some, MatchOption, true, false};
 ghost use Rattle.std.specs.List.{list_all};
+ghost use Rattle.std.specs.Str.{bytes_eq};
 ghost use Rattle.nf_model.specs.Network.{IsLink, hops as hops_of, rate_at as rate_of_net, next_change as change_of_net};
 ghost use Rattle.nf_formats.specs.Names.{has_name, is_name, name_at};
 ghost use Rattle.nf_formats.specs.WellNamed.{IsNamed};
@@ -8,7 +9,7 @@ ghost use Rattle.nf_net.specs.Kept.{with_parts, IsKept};
 ghost use Rattle.nf_formats.specs.Limits.{most_links};
 
 use nf_draft::{rate_of, start_after};
-use nf_entry::{Link, Name, NamedLink, Names, Piece};
+use nf_entry::{Link, Name, NamedLink, Piece};
 use nf_frac::Q;
 use nf_graph::{Hop, LinkId, NodeId};
 use std::marker::Model;
@@ -19,8 +20,8 @@ use std::marker::Model;
 #[derive(Drop)]
 pub struct Network {
     version: u32,
-    node_names: Names,
-    link_names: Names,
+    node_names: Vec<Name>,
+    link_names: Vec<Name>,
     links: Vec<Link>,
     hops: Vec<Hop>,
     pieces: Vec<Piece>,
@@ -36,20 +37,27 @@ impl Model for Network {
 
     ghost coded = { coded_named };
 
-    ghost view = { λ a. with_parts a.version a.node_names a.link_names a.links.items a.pieces.items a.idle_nodes.items a.idle_links.items };
+    ghost view = { λ a. with_parts a.version a.node_names.items a.link_names.items a.links.items a.pieces.items a.idle_nodes.items a.idle_links.items };
 
-    ghost invariant = { λ a. IsKept (with_parts a.version a.node_names a.link_names a.links.items a.pieces.items a.idle_nodes.items a.idle_links.items) a.hops.items };
+    ghost invariant = { λ a. IsKept (with_parts a.version a.node_names.items a.link_names.items a.links.items a.pieces.items a.idle_nodes.items a.idle_links.items) a.hops.items };
 }
 
-// The place of a name in a table of names.
-#[tactic(auto, using(crate::proofs::Limits::not_there, crate::proofs::Limits::position_there))]
-fn found(names: &Names, text: &str) -> Option<u32>
+// The place of a name, if it is there.
+fn place_of(names: &[Name], name: &Name) -> Option<usize>
+    ensures { result ≡ position (bytes_eq name.now) names.now }
+{
+    names.iter().position(|other| name == other)
+}
+
+// The place of the name that a text is, if it is there.
+#[tactic(auto, using(crate::proofs::Limits::not_there, crate::proofs::Limits::no_place, crate::proofs::Limits::position_there))]
+fn found(names: &[Name], text: &str) -> Option<u32>
     requires few { length names.now ≤ most_links }
     requires names { list_all is_name names.now ≡ true }
     ensures { MatchOption result (has_name names.now text.now ≡ false) (λ place. slice_get names.now place ≡ Some text.now) }
 {
     match Name::read(text.as_bytes()) {
-        Some(name) => match names.place(&name) {
+        Some(name) => match place_of(names, &name) {
             Some(place) => Some(place as u32),
             None => None,
         },
@@ -62,16 +70,16 @@ impl Network {
     // The network of these parts.
     pub(crate) fn kept(
         version: u32,
-        node_names: Names,
-        link_names: Names,
+        node_names: Vec<Name>,
+        link_names: Vec<Name>,
         links: Vec<Link>,
         hops: Vec<Hop>,
         pieces: Vec<Piece>,
         idle_nodes: Vec<Name>,
         idle_links: Vec<NamedLink>,
     ) -> Network
-        requires { IsKept (with_parts version node_names link_names links.items pieces.items idle_nodes.items idle_links.items) hops.items }
-        ensures { result ≡ with_parts version node_names link_names links.items pieces.items idle_nodes.items idle_links.items }
+        requires { IsKept (with_parts version node_names.items link_names.items links.items pieces.items idle_nodes.items idle_links.items) hops.items }
+        ensures { result ≡ with_parts version node_names.items link_names.items links.items pieces.items idle_nodes.items idle_links.items }
     {
         Network {
             version,
@@ -132,7 +140,7 @@ impl Network {
         requires { node < self.now.net.nodes }
         ensures { result.now ≡ name_at self.now.node_names node }
     {
-        self.node_names.at(node.index()).text()
+        self.node_names[node.index()].text()
     }
 
     /// The name of a link.
@@ -140,7 +148,7 @@ impl Network {
         requires { link < length self.now.net.links }
         ensures { result.now ≡ name_at self.now.link_names link }
     {
-        self.link_names.at(link.index()).text()
+        self.link_names[link.index()].text()
     }
 
     /// The node of a name; None exactly where no node has it. Idle nodes have none of the numbers.

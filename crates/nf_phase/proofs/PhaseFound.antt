@@ -23,7 +23,7 @@ use Rattle.nf_lists.specs.PhaseRun.{Standing, PhaseStep, IsSearchHere, phase_lis
 use Rattle.nf_lists_laws.proofs.Exact.{advanced_exact}
 use Rattle.nf_lists_laws.proofs.Ending.{length-moved}
 use Rattle.nf_run_laws.proofs.Standing.{label_count_at}
-use Rattle.nf_trial.proofs.Folds.{part_ok}
+use Rattle.nf_lists_laws.proofs.Numbered.{part_ok}
 use Rattle.nf_phase.specs.declared.fault.StepFault.{StepFault}
 use Rattle.nf_phase.specs.declared.finding.Found.{Found}
 use Rattle.nf_phase.specs.declared.phase.Phase.{Phase}

@@ -12,7 +12,7 @@ use Rattle.nf_model.specs.ThinFlow.{slacks_of}
 use Rattle.nf_formats.specs.declared.Cause.TheVariants as Cause
 use Rattle.nf_lists.specs.PhaseRun.{Standing}
 use Rattle.nf_forever_lists.specs.ForeverRun.{end_list, GoesToEnd, GoesForever, FailsOn}
-use Rattle.nf_trial.proofs.Folds.{part_ok}
+use Rattle.nf_lists_laws.proofs.Numbered.{part_ok}
 use Rattle.nf_phase.specs.declared.fault.StepFault.{StepFault}
 use Rattle.nf_phase.specs.declared.finding.Found.{Found}
 use Rattle.nf_phase.specs.declared.phase.Phase.{Phase}

@@ -19,7 +19,8 @@ use Rattle.nf_lists.specs.Verdict.{verdict_list}
 use Rattle.nf_lists_laws.proofs.Ending.{enumerated}
 use Rattle.nf_thin_laws.proofs.Flags.{number_at-beyond}
 use Rattle.nf_trial.specs.Judging.{NoneNegativeBefore, IsFirstFailing, first_of, numbered_verdict, broken_after, first_broken}
-use Rattle.nf_trial.proofs.Folds.{goes_on, stops_in, ends, part_ok}
+use Rattle.nf_lists_laws.proofs.Numbered.{part_ok}
+use Rattle.nf_trial.proofs.Folds.{goes_on, stops_in, ends}
 use Rattle.nf_trial.proofs.Failing.{AllMeet, SoFar, found_means, passes_means}
 use Rattle.nf_plain_laws.proofs.Entries.{entry}
 use Rattle.nf_plain_laws.proofs.Results.{same_Err}

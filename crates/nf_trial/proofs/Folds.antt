@@ -1,19 +1,14 @@
 -- A fold over a list, one value after the other.
-use Rattle.std.proofs.Common.{◌≡◌, ℕ, zero, suc, ◌≤◌, List, [], ◌∷◌, length, drop, sym, ap, refl, ◌∙◌}
+use Rattle.std.proofs.Common.{◌≡◌, ℕ, suc, ◌≤◌, List, length, drop, ap, refl, ◌∙◌}
 use Rattle.std.specs.Prelude.{Some, slice_get, Result, Ok, Err}
 use Rattle.std.proofs.Math.ListN.{drop_of_length-le}
-use Rattle.std.proofs.lemmas.Option.{none-some, same_Some}
 use Rattle.nf_rational.specs.Rational.{ℚ}
 use Rattle.nf_work.specs.declared.Part.{Part}
 use Rattle.nf_work.specs.declared.Passed.{Passed}
 use Rattle.nf_work.specs.declared.PassedAt.{PassedAt}
 use Rattle.nf_work.specs.Checked.{fold_checked, placed, at_part}
 use Rattle.nf_work.proofs.Each.{fold_ok, fold_err}
-
-pub drop_at : {A : Type 0} (xs : List A) (i : ℕ) (x : A) → slice_get xs i ≡ Some x → drop i xs ≡ x ∷ drop (suc i) xs
-drop_at [] i x e = absurd (none-some x e)
-drop_at (y ∷ xs) zero x e = ap (λ (z : _). z ∷ xs) (same_Some y x e)
-drop_at (y ∷ xs) (suc i) x e = drop_at xs i x e
+use Rattle.nf_lists_laws.proofs.Numbered.{drop_at}
 
 module _ {A B E : Type 0} (f : B → A → Result B E) (xs : List A) (start : B) where
   pub goes_on : (so_far next : B) (i : ℕ) (x : A) → slice_get xs i ≡ Some x → fold_checked f start xs ≡ fold_checked f so_far (drop i xs) → f so_far x ≡ Ok next
@@ -27,13 +22,6 @@ module _ {A B E : Type 0} (f : B → A → Result B E) (xs : List A) (start : B)
   ends so_far i end h = h ∙ ap (fold_checked f so_far) (drop_of_length-le xs end)
 
 -- ---- with the part of the work
-pub part_ok : {A : Type 0} (part : Part) (r : Result A (Passed ℚ)) (x : A) → Ok x ≡ at_part part r → r ≡ Ok x
-part_ok part (Ok y) x e = ap (λ (v : _). Ok v) (sym (same x y e))
-  where
-    same : {A : Type 0} (x y : A) → ◌≡◌ {A = Result A (PassedAt ℚ)} (Ok x) (Ok y) → x ≡ y
-    same x y e = cc
-part_ok part (Err q) x e = absurd (cc)
-
 -- what passes in a step passes in the fold
 pub stops_in : {A B : Type 0} (part : Part) (f : B → A → Result B (Passed ℚ)) (xs : List A) (start so_far : B) (i : ℕ) (x : A) (p : PassedAt ℚ) → slice_get xs i ≡ Some x
     → fold_checked f start xs ≡ fold_checked f so_far (drop i xs) → at_part part (f so_far x) ≡ Err p → at_part part (fold_checked f start xs) ≡ Err p

@@ -6,7 +6,7 @@ use Rattle.std.proofs.lemmas.List.{append-nil}
 use Rattle.nf_rational.specs.Rational.{ℚ}
 use Rattle.nf_rational.specs.Operations.{0ℚ}
 use Rattle.nf_lists.specs.Equations.{active_from, onto_links, flows_in}
-use Rattle.nf_trial.proofs.Folds.{drop_at}
+use Rattle.nf_lists_laws.proofs.Numbered.{drop_at}
 
 -- the flows of the links before link e, with the values from this place on left for the others
 pub record AreFlows (active : List Bool) (values : List ℚ) (nodes : ℕ) (flows : List ℚ) (e next : ℕ) : Type 0 where

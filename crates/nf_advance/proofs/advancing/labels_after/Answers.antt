@@ -4,7 +4,7 @@ use Rattle.std.proofs.lemmas.Result.{err_from_is_err_and}
 use Rattle.nf_work.specs.Passing.{passes_Q}
 use Rattle.nf_work.specs.declared.Part.TheVariants.{Advance}
 use Rattle.nf_lists.specs.Advance.{label_after, labels_after}
-use Rattle.nf_advance.proofs.Numbered.{one_more, one_passes, all_done}
+use Rattle.nf_lists_laws.proofs.Numbered.{one_more, one_passes, all_done}
 use Rattle.nf_advance.proofs.advancing.labels_after.Goals as goal
 
 pub returns-in_err-next : goal.returns-in_err-next

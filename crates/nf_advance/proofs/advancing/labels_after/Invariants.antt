@@ -1,6 +1,6 @@
 use Rattle.nf_work.specs.Passing.{passes_Q}
 use Rattle.nf_lists.specs.Advance.{label_after}
-use Rattle.nf_advance.proofs.Numbered.{SoFar}
+use Rattle.nf_lists_laws.proofs.Numbered.{SoFar}
 use Rattle.nf_advance.proofs.advancing.labels_after.Given as goal
 
 -- the labels so far stand before what comes of the other nodes

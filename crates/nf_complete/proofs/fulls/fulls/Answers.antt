@@ -4,7 +4,7 @@ use Rattle.nf_work.specs.Passing.{passes_Q}
 use Rattle.nf_work.specs.declared.Part.TheVariants.{Verdict}
 use Rattle.nf_plain_laws.proofs.Entries.{entry}
 use Rattle.nf_complete_lists.specs.Cancelling.{full_at, fulls_list}
-use Rattle.nf_link_flows.proofs.Numbered.{one_more, one_passes, all_done}
+use Rattle.nf_lists_laws.proofs.Numbered.{one_more, one_passes, all_done}
 use Rattle.nf_complete.proofs.fulls.fulls.Goals as goal
 
 pub returns-in_err-full : goal.returns-in_err-full

@@ -1,6 +1,6 @@
 use Rattle.nf_work.specs.Passing.{passes_Q}
 use Rattle.nf_complete_lists.specs.Cancelling.{full_at}
-use Rattle.nf_link_flows.proofs.Numbered.{SoFar}
+use Rattle.nf_lists_laws.proofs.Numbered.{SoFar}
 use Rattle.nf_complete.proofs.fulls.fulls.Given as goal
 
 -- what fills the links so far stands before what fills the others

@@ -3,7 +3,7 @@ use Rattle.std.proofs.lemmas.Result.{err_from_is_err_and}
 use Rattle.nf_work.specs.Passing.{passes_Q}
 use Rattle.nf_work.specs.declared.Part.TheVariants.{Curve}
 use Rattle.nf_lists.specs.CurveList.{curve_list}
-use Rattle.nf_advance.proofs.Numbered.{all_done}
+use Rattle.nf_lists_laws.proofs.Numbered.{all_done}
 use Rattle.nf_growth.proofs.LinkLoop.{numbered_step, one_step, step_passes}
 use Rattle.nf_growth.proofs.stepping.link_steps.Goals as goal
 

@@ -1,5 +1,5 @@
 use Rattle.nf_work.specs.Passing.{passes_Q}
-use Rattle.nf_advance.proofs.Numbered.{SoFar}
+use Rattle.nf_lists_laws.proofs.Numbered.{SoFar}
 use Rattle.nf_growth.proofs.LinkLoop.{numbered_step}
 use Rattle.nf_growth.proofs.stepping.link_steps.Given as goal
 

@@ -1,6 +1,6 @@
 use Rattle.nf_work.specs.Passing.{passes_Q}
 use Rattle.nf_complete_lists.specs.Cancelling.{change_at}
-use Rattle.nf_link_flows.proofs.Numbered.{SoFar}
+use Rattle.nf_lists_laws.proofs.Numbered.{SoFar}
 use Rattle.nf_link_flows.proofs.cancelling.changes.Given as goal
 
 -- those so far stand before what comes of the other links

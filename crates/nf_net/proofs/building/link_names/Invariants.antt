@@ -1,7 +1,6 @@
-use Rattle.std.proofs.Common.{◌≡◌, [], drop}
-use Rattle.nf_formats.specs.Names.{with_names}
+use Rattle.std.proofs.Common.{◌≡◌, ◌++◌, drop}
 use Rattle.nf_formats.specs.Named.{names_of}
 use Rattle.nf_net.proofs.building.link_names.Given as goal
 
 abbrev pub invariant-loop-link : goal.invariant-loop-link
-invariant-loop-link l = with_names l.names (names_of (drop l.link-index l.links)) ≡ with_names [] (names_of l.links)
+invariant-loop-link l = l.names.items ++ names_of (drop l.link-index l.links) ≡ names_of l.links

@@ -5,8 +5,8 @@ use Rattle.nf_net.specs.Building.{AreTablesOf}
 use Rattle.nf_net.proofs.Built.{few_names, are_parts}
 use Rattle.nf_net.proofs.building.parts_of.Goals as goal
 
-pub link_tables-requires : goal.link_tables-requires
-link_tables-requires c =
+pub tables_of-requires : goal.tables_of-requires
+tables_of-requires c =
     few_names (seen_draft c.args.draft.now) c.args.flags.now c.requires.read c.requires.ends c.requires.fine c.requires.flags
     c.in_ok-links.links c.in_ok-nodes.nodes c.in_ok-links.ensures c.in_ok-nodes.ensures
 

@@ -1,10 +1,11 @@
 -- A loop that pushes what comes of each entry of a list with its number: what is there so far stands before what comes of the rest.
-use Rattle.std.proofs.Common.{◌≡◌, ℕ, suc, ◌+◌, ◌≤◌, List, [], ◌∷◌, ◌++◌, length, drop, sym, ap, subst, refl, ◌∙◌, arith}
+use Rattle.std.proofs.Common.{◌≡◌, ℕ, zero, suc, ◌+◌, ◌≤◌, List, [], ◌∷◌, ◌++◌, length, drop, sym, ap, subst, refl, ◌∙◌, arith}
 use Rattle.std.specs.Prelude.{Some, slice_get, Result, Ok, Err}
 use Rattle.std.specs.List.{enumerate_from}
 use Rattle.std.proofs.Math.ListN.{drop_of_length-le}
 use Rattle.std.proofs.lemmas.List.{append-nil}
 use Rattle.std.proofs.lemmas.List.FromFn.{length-enumerate_from}
+use Rattle.std.proofs.lemmas.Option.{none-some, same_Some}
 use Rattle.nf_rational.specs.Rational.{ℚ}
 use Rattle.nf_work.specs.declared.Part.{Part}
 use Rattle.nf_work.specs.declared.Passed.{Passed}
@@ -12,8 +13,17 @@ use Rattle.nf_work.specs.declared.PassedAt.{PassedAt}
 use Rattle.nf_work.specs.Checked.{each, at_part, placed}
 use Rattle.nf_work.proofs.Each.{with_front, each_ok, each_err}
 use Rattle.nf_lists_laws.proofs.Ending.{enumerated}
-use Rattle.nf_trial.proofs.Folds.{drop_at, part_ok}
 use Rattle.nf_plain_laws.proofs.Results.{same_Err}
+
+pub drop_at : {A : Type 0} (xs : List A) (i : ℕ) (x : A) → slice_get xs i ≡ Some x → drop i xs ≡ x ∷ drop (suc i) xs
+drop_at [] i x e = absurd (none-some x e)
+drop_at (y ∷ xs) zero x e = ap (λ (z : _). z ∷ xs) (same_Some y x e)
+drop_at (y ∷ xs) (suc i) x e = drop_at xs i x e
+
+-- the value that a part of the work gives
+pub part_ok : {A : Type 0} (part : Part) (r : Result A (Passed ℚ)) (x : A) → Ok x ≡ at_part part r → r ≡ Ok x
+part_ok part (Ok y) x e = cc
+part_ok part (Err q) x e = absurd (cc)
 
 module _ {A B : Type 0} (f : ℕ × A → Result B (Passed ℚ)) (xs : List A) where
   abbrev pub SoFar : List B → ℕ → Type 0
