@@ -2,7 +2,7 @@
 ghost use Rattle.nf_formats.specs.Report.{IsWellFormed};
 ghost use Rattle.nf_reader.specs.Files.{report_of};
 
-use crate::MOST;
+use crate::reports::MOST;
 use nf_edge::MemSink;
 use nf_net::Network;
 use nf_reader::Report;

@@ -3,8 +3,8 @@ ghost use Rattle.nf_formats.specs.Report.{IsWellFormed};
 ghost use Rattle.nf_phase.specs.Solution.{report_in};
 ghost use Rattle.nf_reader.specs.Files.{report_of};
 
-use crate::MOST;
 use crate::checking::{tell_answer, tell_passed};
+use crate::reports::MOST;
 use case_lines::{Shown, as_text};
 use nf_edge::MemSink;
 use nf_frac::Q;

@@ -1,7 +1,7 @@
 use Rattle.std.proofs.Common.{sym, ap, ◌∙◌}
 use Rattle.nf_model.specs.Network.{Link}
 use Rattle.nf_model_laws.proofs.Earliest.{IsPositive-link}
-use Rattle.load_cases.proofs.loads.loaded.Goals as goal
+use Rattle.file_cases.proofs.loads.loaded.Goals as goal
 
 pub load_link-requires-clause-capacity : goal.load_link-requires-clause-capacity
 load_link-requires-clause-capacity c =

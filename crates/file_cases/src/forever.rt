@@ -2,7 +2,7 @@
 ghost use Rattle.nf_forever_lists.specs.ForeverText.{HasForm};
 ghost use Rattle.nf_forever.specs.Seen.{forever_in};
 
-use crate::MOST;
+use crate::reports::MOST;
 use case_lines::as_text;
 use nf_edge::MemSink;
 use nf_forever::{Forever, solve_forever, write_forever};
