@@ -21,7 +21,7 @@ loop-visited-preserved c =
     let read : IsHop c.args.hops.now link c.index-hops-index.result = subst (λ (n : ℕ). IsHop c.args.hops.now n c.index-hops-index.result) c.index-in-loop-visited-3.ensures
     (IsHop-read c.args.hops.now c.index-in-loop-visited-3.result c.index-hops-index.result (subst (λ (n : ℕ). n < length c.args.hops.now) (sym c.index-in-loop-visited-3.ensures) within) c.index-hops-index.is) in
     subst (λ (walk : List ℕ). IsBack c.args.hops.now c.args.chosen.now c.args.placed.now c.args.start (set c.loop-visited.visited.items c.index-in-loop-visited-2.result true) walk c.hop.inside.tail)
-    (sym (insert-first c.loop-visited.walk.items link) ∙ sym c.in_ok-insert.ensures.items)
+    (sym {A = List ℕ} (insert-first c.loop-visited.walk.items link) ∙ sym {A = List ℕ} c.in_ok-insert.ensures.items)
     (back_more c.args.hops.now c.args.chosen.now c.args.placed.now c.args.start c.loop-visited.visited.items c.loop-visited.walk.items c.loop-visited.node link c.hop.inside.tail
     c.index-in-loop-visited-2.result c.index-hops-index.result c.requires.ends c.loop-visited.invariant c.entering_link-link.ensures read (ap (λ (h : Hop). h.tail) c.hop.view_is) c.index-in-loop-visited-2.ensures)
 

@@ -1,7 +1,9 @@
-use Rattle.std.proofs.Common.{◌<◌, ℕ, List, Bool, set, true, sym, subst}
+use Rattle.std.proofs.Common.{◌≡◌, ◌<◌, ℕ, List, Bool, length, set, replicate, true, false, sym, ap, subst, ◌∙◌, rules}
+use Rattle.std.proofs.lemmas.List.{length-replicate}
+use Rattle.nf_model.specs.Entries.{Has}
 use Rattle.nf_graph.specs.Graph.{Leaves, IsClosed}
-use Rattle.nf_graph.proofs.Flags.{free}
-use Rattle.nf_graph.proofs.Reaching.{Leaves-below, walked_more, fewer_free, reached_all}
+use Rattle.nf_graph.proofs.Flags.{free, Has-replicate}
+use Rattle.nf_graph.proofs.Reaching.{Leaves-below, walked_more, fewer_free, reached_all, walked_first}
 use Rattle.nf_graph.proofs.reach.reached.Goals as goal
 
 pub loop-node-smaller : goal.loop-node-smaller
@@ -16,3 +18,9 @@ loop-node-preserved c =
 
 pub returns : goal.returns
 returns c = reached_all c.args.nodes c.args.hops.now c.args.from c.loop-node.flags.items c.loop-node.invariant (subst (λ (f : List Bool). IsClosed c.args.hops.now f) c.deref.ensures.value c.in_default.ensures)
+
+pub loop-node-init : goal.loop-node-init
+loop-node-init c =
+    let none : c.in_ok-flags.flags.items ≡ replicate c.args.nodes false = c.in_ok-flags.ensures.items_if_clones_equal (λ y e. search rules) in
+    walked_first c.args.nodes c.args.hops.now c.args.from c.index.result c.in_ok-flags.flags.items (ap length none ∙ length-replicate c.args.nodes false)
+    (λ v h. Has-replicate c.args.nodes v (subst (λ (f : List Bool). Has f v) none h)) c.requires.from c.index.ensures
