@@ -14,7 +14,7 @@ use Rattle.nf_model.specs.Network.{Network}
 use Rattle.nf_quick_lists.specs.Rounds.{Walk, shortest_list}
 use Rattle.nf_quick_lists.specs.Answers.{IsShortestWalk, IsShortest}
 use Rattle.nf_quick_lists.specs.Pushes.{Times, push_list, time_list}
-use Rattle.nf_quick_lists.specs.Quick.{Standing, is_early, push_on, next_of, next_list}
+use Rattle.nf_quick_lists.specs.Quick.{Augment, Standing, is_early, push_on, next_of, next_list}
 use Rattle.nf_residual_laws.proofs.Offers.{checked-ok}
 use Rattle.nf_residual.proofs.Stopping.{ok_of_part, stopped, goes_on}
 
@@ -61,3 +61,11 @@ module _ (passes : Passing) (net : Network) (amount : ℚ) (s t : Standing) (w v
 
   pub time_passes : (flows : List ℚ) → Ok flows ≡ at_part Part.Quick moved → (p : PassedAt ℚ) → Err p ≡ at_part Part.Quick timed → at_part Part.Quick (push_on passes net amount t v) ≡ Err p
   time_passes flows f p e = ap (at_part Part.Quick) (opened ∙ goes_on moved (λ flows. timed >>= λ times. Ok (made flows times)) flows (sym f)) ∙ stopped timed (λ times. Ok (made flows times)) p (sym e)
+
+  -- and where it doesn't
+  pub push_made : (flows : List ℚ) → Ok flows ≡ at_part Part.Quick moved → (times u : Times) → Ok times ≡ at_part Part.Quick timed → u ≡ times → (pushed : List Augment) → pushed ≡ s.pushed ++ record { walk = v; amount = w.room } ∷ []
+      → at_part Part.Quick (push_on passes net amount t v) ≡ Ok (record { flows = flows; pushed = pushed; rate = u.rate; cost = u.cost; time = Some u.time })
+  push_made flows f times u e is pushed more =
+      ap (at_part Part.Quick) (opened ∙ goes_on moved (λ flows. timed >>= λ times. Ok (made flows times)) flows (sym f) ∙ goes_on timed (λ times. Ok (made flows times)) times (sym e))
+      ∙ ap (λ (x : Times). Ok (made flows x)) (sym is)
+      ∙ ap (λ (l : List Augment). Ok (record { flows = flows; pushed = l; rate = u.rate; cost = u.cost; time = Some u.time })) (sym more)

@@ -2,7 +2,7 @@ use Rattle.std.proofs.Common.{List, sym, ap, subst}
 use Rattle.std.proofs.lemmas.Result.{err_from_is_err_and}
 use Rattle.nf_rational.specs.Rational.{ℚ}
 use Rattle.nf_rational.specs.Operations.{0ℚ}
-use Rattle.nf_rational.specs.Order.{◌≤ℚ◌}
+use Rattle.nf_rational.specs.Order.{◌≤ℚ◌, ◌<ℚ◌}
 use Rattle.nf_rational_laws.proofs.Chains.{≤ℚ_refl}
 use Rattle.nf_work.specs.Passing.{passes_Q}
 use Rattle.nf_quick_lists.specs.Rounds.{Walk}
@@ -10,7 +10,7 @@ use Rattle.nf_quick_lists.specs.Flows.{IsSound}
 use Rattle.nf_quick_lists.specs.Answers.{IsShortestWalk}
 use Rattle.nf_quick_lists.specs.Pushes.{Times}
 use Rattle.nf_quick_lists.specs.Quick.{Standing}
-use Rattle.nf_quick_parts.proofs.OnePush.{move_passes, time_passes}
+use Rattle.nf_quick_parts.proofs.OnePush.{move_passes, time_passes, push_made}
 use Rattle.nf_quick_parts.proofs.pushes.Standing.push_on.Goals as goal
 
 pub push-requires-clause-sound : goal.push-requires-clause-sound
@@ -18,6 +18,9 @@ push-requires-clause-sound c = subst (IsSound c.args.net.now.net) (sym (ap (λ (
 
 pub push-requires-clause-walk : goal.push-requires-clause-walk
 push-requires-clause-walk c = subst (λ (flows : List ℚ). IsShortestWalk c.args.net.now.net flows c.args.walk) (sym (ap (λ (s : Standing). s.flows) c.self.view_is)) c.requires.walk
+
+pub push-requires-clause-some : goal.push-requires-clause-some
+push-requires-clause-some c = subst (λ (room : ℚ). 0ℚ <ℚ room) (sym (ap (λ (w : Walk). w.room) c.walk.view_is)) c.requires.walk.room_is.some
 
 pub push-requires-clause-room : goal.push-requires-clause-room
 push-requires-clause-room c = subst (λ (room : ℚ). c.walk.inside.room ≤ℚ room) (ap (λ (w : Walk). w.room) c.walk.view_is) (≤ℚ_refl c.walk.inside.room)
@@ -36,6 +39,9 @@ returns-in_err-push-clause-rate c = let p = err_from_is_err_and c.from_residual.
 pub time_with-requires-clause-so_far : goal.time_with-requires-clause-so_far
 time_with-requires-clause-so_far c = subst (λ (rate : ℚ). 0ℚ ≤ℚ rate) (sym (ap (λ (s : Standing). s.rate) c.self.view_is)) c.requires.rate
 
+pub time_with-requires-clause-some : goal.time_with-requires-clause-some
+time_with-requires-clause-some c = subst (λ (room : ℚ). 0ℚ <ℚ room) (sym (ap (λ (w : Walk). w.room) c.walk.view_is)) c.requires.walk.room_is.some
+
 pub returns-in_err-times-clause-list : goal.returns-in_err-times-clause-list
 returns-in_err-times-clause-list c =
     let p = err_from_is_err_and c.from_residual-in_err-times.result c.from_residual-in_err-times.ensures.1 in
@@ -49,3 +55,7 @@ returns-clause-sound c = c.in_ok-push.ensures.sound
 
 pub returns-clause-rate : goal.returns-clause-rate
 returns-clause-rate c = subst (λ (rate : ℚ). 0ℚ ≤ℚ rate) (sym (ap (λ (t : Times). t.rate) c.times.view_is)) c.in_ok-times.ensures.rate
+
+pub returns-clause-list : goal.returns-clause-list
+returns-clause-list c = push_made passes_Q c.args.net.now.net c.args.amount _ c.args.self.now _ c.args.walk c.self.view_is c.walk.view_is c.push.new.self c.in_ok-push.ensures.list c.in_ok-times.times _ c.in_ok-times.ensures.list
+    c.times.view_is c.push-2.new.self.items c.in_ok-push-2.ensures.items
