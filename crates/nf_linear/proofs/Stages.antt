@@ -35,6 +35,13 @@ module _ (rows : List Row) (pivots : List ℕ) (column pivot : ℕ) (e : pivot_o
   pub pivot_some : number_at (row_at rows pivot) column ≢ 0ℚ
   pivot_some = subst (λ (i : ℕ). number_at (row_at rows i) column ≢ 0ℚ) place (some_tested (number_at (row_at rows found.number) column) found.some)
 
+  pub column_cleared : (passes : Passing) (new_rows : List Row) (new_pivots : List ℕ) → at_part Part.Table (clear_rows passes column pivot (row_at rows pivot) 0 rows) ≡ Ok new_rows → new_pivots ≡ pivots ++ pivot ∷ []
+      → at_part Part.Table (eliminate_column passes (eliminated rows pivots) column) ≡ Ok (Some (eliminated new_rows new_pivots))
+  column_cleared passes new_rows new_pivots cleared pushed =
+      ap (λ (o : Option ℕ). at_part Part.Table (eliminate_at passes (eliminated rows pivots) column o)) e
+      ∙ ap (λ (r : Checked (List Row)). at_part Part.Table (r >>= λ rows. Ok (Some (eliminated rows (pivots ++ pivot ∷ []))))) (ok_of_part Part.Table (clear_rows passes column pivot (row_at rows pivot) 0 rows) new_rows (sym cleared))
+      ∙ ap (λ (p : List ℕ). Ok (Some (eliminated new_rows p))) (sym pushed)
+
 -- ---- the next column
 
 after_rows : (r s : Checked (List Row)) (f : List Row → Eliminated) (next : Eliminated) (exact : List Row) → ((rows : List Row) → r ≡ Ok rows → s ≡ Ok rows) → s ≡ Ok exact

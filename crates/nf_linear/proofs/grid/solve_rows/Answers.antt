@@ -1,4 +1,4 @@
-use Rattle.std.proofs.Common.{◌≡◌, ℕ, List, Bool, true, false, ap, subst, sym, ◌∙◌}
+use Rattle.std.proofs.Common.{◌≡◌, ℕ, List, Bool, true, false, refl, ap, subst, sym, ◌∙◌}
 use Rattle.std.specs.Prelude.{if◌then◌else◌, Some, None, Ok}
 use Rattle.std.proofs.lemmas.Result.{err_from_is_err_and}
 use Rattle.nf_rational.specs.Rational.{ℚ}
@@ -52,3 +52,6 @@ returns-clause-solution g c =
     let values = ap (λ (l : List ℕ). at_part Part.Table (solution_from passes_Q c.clear_columns.new.rows 0 l)) (sym c.rows.ensures) ∙ sym c.in_ok-find_values.ensures in
     subst (IsOnlySolution c.args.rows.now) (sym c.copy_from_slice.ensures.after)
     (one passes_Q c.args.rows.now c.clear_columns.new.rows c.clear_columns.new.pivots some c.find_values.new.found values c.requires.square)
+
+pub returns-then-not-branch-clause-not_one : goal.returns-then-not-branch-clause-not_one
+returns-then-not-branch-clause-not_one g c = λ _. refl

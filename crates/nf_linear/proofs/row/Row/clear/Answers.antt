@@ -5,6 +5,9 @@ use Rattle.nf_linear.proofs.row.Row.clear.Goals as goal
 pub at-requires : goal.at-requires
 at-requires g c = c.requires.column
 
+pub quotient-requires : goal.quotient-requires
+quotient-requires g c = c.requires.own
+
 pub set-requires : goal.set-requires
 set-requires g c = c.requires.column
 
