@@ -42,6 +42,17 @@ module _ (rows : List Row) (pivots : List ℕ) (column pivot : ℕ) (e : pivot_o
       ∙ ap (λ (r : Checked (List Row)). at_part Part.Table (r >>= λ rows. Ok (Some (eliminated rows (pivots ++ pivot ∷ []))))) (ok_of_part Part.Table (clear_rows passes column pivot (row_at rows pivot) 0 rows) new_rows (sym cleared))
       ∙ ap (λ (p : List ℕ). Ok (Some (eliminated new_rows p))) (sym pushed)
 
+  -- the column stops where its rows do
+  module _ (passes : Passing) where
+    in_rows : eliminate_column passes (eliminated rows pivots) column ≡ (clear_rows passes column pivot (row_at rows pivot) 0 rows >>= λ rows. Ok (Some (eliminated rows (pivots ++ pivot ∷ []))))
+    in_rows = ap (eliminate_at passes (eliminated rows pivots) column) e
+
+    pub column_stops : {S : Type 0} (means : S → ℚ) (h : Halt S) → Stops means h (at_part Part.Table (clear_rows passes column pivot (row_at rows pivot) 0 rows))
+        → Stops means h (at_part Part.Table (eliminate_column passes (eliminated rows pivots) column))
+    column_stops means h s =
+        subst (λ (r : Checked (Option Eliminated)). Stops means h (at_part Part.Table r)) (sym in_rows)
+        (stops Part.Table means h (clear_rows passes column pivot (row_at rows pivot) 0 rows) (λ rows. Ok (Some (eliminated rows (pivots ++ pivot ∷ [])))) s)
+
 -- ---- the next column
 
 after_rows : (r s : Checked (List Row)) (f : List Row → Eliminated) (next : Eliminated) (exact : List Row) → ((rows : List Row) → r ≡ Ok rows → s ≡ Ok rows) → s ≡ Ok exact

@@ -38,7 +38,7 @@ row_of_zero zero r i b = absurd (omega arith)
 row_of_zero (suc n) r zero b = refl
 row_of_zero (suc n) r (suc i) b = row_of_zero n r i (omega arith)
 
-zero_square : (n : ℕ) → IsSquare (replicate n (replicate (n + 1) 0ℚ))
+pub zero_square : (n : ℕ) → IsSquare (replicate n (replicate (n + 1) 0ℚ))
 zero_square n i b =
     let count : length (replicate n (replicate (n + 1) 0ℚ)) ≡ n = length-replicate n (replicate (n + 1) 0ℚ) in
     let wide : length (replicate (n + 1) 0ℚ) ≡ n + 1 = length-replicate (n + 1) 0ℚ in

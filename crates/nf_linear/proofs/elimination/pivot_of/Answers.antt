@@ -1,5 +1,5 @@
-use Rattle.std.proofs.Common.{◌≡◌, refl, ◌∙◌}
-use Rattle.nf_lists.specs.Table.{row_at}
+use Rattle.std.proofs.Common.{◌≡◌, ◌<◌, length, refl, sym, subst, ◌∙◌}
+use Rattle.nf_lists.specs.Table.{Row, row_at}
 use Rattle.nf_linear.proofs.Clearing.{row_read}
 use Rattle.nf_linear.proofs.Columns.{candidate_read, pivot_here, pivot_later, pivot_nowhere}
 use Rattle.nf_linear.proofs.elimination.pivot_of.Goals as goal
@@ -23,3 +23,8 @@ loop-i-preserved g c =
 
 pub returns : goal.returns
 returns g c = pivot_nowhere c.args.rows.now c.args.pivots.now c.args.column c.loop-i.i c.loop-i-test.false ∙ c.loop-i.invariant
+
+pub is_candidate-requires : goal.is_candidate-requires
+is_candidate-requires g c =
+    let row : c.index-rows-i.result ≡ row_at c.args.rows.now c.loop-i.i = row_read c.args.rows.now c.loop-i.i c.index-rows-i.result c.loop-i-test.true c.index-rows-i.is in
+    subst (λ (r : Row). c.args.column < length r) (sym row) (c.requires c.loop-i.i c.loop-i-test.true)

@@ -23,6 +23,13 @@ returns-in_err-value g c =
     c.other-item.result.0 c.other-item.result.1 c.at-value.result (seen_passed_at (λ (q : ℚ). q) c.in_err-value.field-0.0)
     c.loop-other-test.true c.other-item.is refl c.at-value.ensures c.in_err-value.ensures c.loop-other.invariant)
 
+pub set-requires : goal.set-requires
+set-requires g c = (
+  search rules,
+  fits_next passes_Q c.args.factor c.args.others.now c.args.self.now c.loop-other.self c.loop-other.other-index c.other-item.result
+      c.other-item.result.0 c.other-item.result.1 c.loop-other-test.true c.other-item.is refl c.loop-other.invariant,
+)
+
 pub loop-other-preserved : goal.loop-other-preserved
 loop-other-preserved g c =
     takes_more passes_Q c.args.factor c.args.others.now c.args.self.now c.loop-other.self c.loop-other.other-index c.other-item.result

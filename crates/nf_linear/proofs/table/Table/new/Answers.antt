@@ -1,7 +1,9 @@
-use Rattle.std.proofs.Common.{ℕ, ◌+◌, List, [], ◌∷◌, ◌++◌, replicate, ap, sym, ◌∙◌, add-one}
+use Rattle.std.proofs.Common.{◌≡◌, ℕ, ◌+◌, List, [], ◌∷◌, ◌++◌, replicate, ap, sym, subst, ◌∙◌, add-one, arith}
 use Rattle.std.proofs.lemmas.Result.{IfOk-from_err}
 use Rattle.nf_rational.specs.Rational.{ℚ}
 use Rattle.nf_rational.specs.Operations.{0ℚ}
+use Rattle.nf_linear_laws.specs.Solution.{IsSquare}
+use Rattle.nf_linear.proofs.Written.{zero_square}
 use Rattle.nf_linear.proofs.Taken.{replicate_more}
 use Rattle.nf_linear.proofs.table.Table.new.Goals as goal
 
@@ -24,3 +26,8 @@ returns-in_err-zero g c = IfOk-from_err c.from_residual-in_err-zero.result _ c.f
 
 pub returns-in_err-push : goal.returns-in_err-push
 returns-in_err-push g c = IfOk-from_err c.from_residual-in_err-push.result _ c.from_residual-in_err-push.ensures.0
+
+pub invariant_of-result : goal.invariant_of-result
+invariant_of-result g c =
+    let end : c.loop.counter ≡ c.args.size = omega arith in
+    subst IsSquare (sym (c.loop.invariant ∙ ap (λ (k : ℕ). replicate k (replicate (c.args.size + 1) 0ℚ)) end)) (zero_square c.args.size)
