@@ -20,3 +20,9 @@ returns-in-Ok-Accepted-clause-thin c =
     let t = subst (λ t. Tries passes_Q c.args.net.now.net c.args.sets.now c.args.rate c.args.last.pattern (Ok t)) c.in-Ok-Accepted.field-0-is
     (tried_values passes_Q c.args.net.now.net c.args.sets.now c.args.rate c.args.last.pattern c.requires.pattern_in c.args.last.values.items c.requires.values_are (Ok c.in-Ok-Accepted.field-0) c.in-Ok-Accepted.ensures) in
     led_slopes c.args.net.now.net c.args.sets.now c.args.rate c.args.last.pattern c.in-Ok-Accepted.flows.items c.in-Ok-Accepted.slopes.items c.requires.pattern_in (c.each_is_led.ensures c.if-not-each_is_led.false) t.1
+
+pub returns-in-Ok-Refused-clause-known : goal.returns-in-Ok-Refused-clause-known
+returns-in-Ok-Refused-clause-known c = tt
+
+pub returns-in-Ok-Refused-clause-thin : goal.returns-in-Ok-Refused-clause-thin
+returns-in-Ok-Refused-clause-thin c = tt
