@@ -7,7 +7,7 @@ use Rattle.nf_model.specs.Network.{Network, IsNetwork}
 use Rattle.nf_model.specs.ThinFlow.{Sets}
 use Rattle.nf_model.specs.Pattern.{Pattern, IsListedIn}
 use Rattle.nf_lists.specs.Search.{IsSearch}
-use Rattle.nf_pattern.specs.Given.{Last, AtStart, UpTo, Given, Gives, next_place}
+use Rattle.nf_pattern.specs.Given.{Last, AtStart, UpTo, Given, IsNext, Gives, next_place}
 use Rattle.nf_equation_laws.specs.Equations.{IsPatternIn}
 use Rattle.nf_thin.specs.declared.thin.Thin.{Thin}
 use Rattle.nf_thin.specs.declared.fault.SearchFault.{SearchFault}
@@ -28,6 +28,12 @@ untried = record { vain = record { tried = 0; passed = None }; skips = false; la
 -- with the rest, the listing from its start is asked for
 pub asks_again : (net : Network) (sets : Sets) (first : Pattern) (rest : Given) → IsBehindFirst net sets first rest → AsksOf net sets (at_start rest)
 asks_again net sets first rest behind = record { asked = behind.asked; is_question = behind.is_question; start = refl }
+
+-- what is left of a listing once its first pattern is given
+pub behind_first : (net : Network) (sets : Sets) (first : Pattern) (given after : Given) → AsksOf net sets given → Gives given (Some first) after → IsBehindFirst net sets first after
+behind_first net sets first given after asks gives =
+    subst (IsBehindFirst net sets first) (sym gives.1)
+    (record { asked = asks.asked; is_question = asks.is_question; first_is = subst (λ (l : Last). IsNext given.question l first) asks.start gives.0; last = refl })
 
 module _ (passes : Passing) (net : Network) (sets : Sets) (rate : ℚ) (first : Pattern) (rest : Given) (budget : ℕ) (good : IsNetwork net) (sets_are : AreSetsOf net sets) (behind : IsBehindFirst net sets first rest) where
   asks : AsksOf net sets (at_start rest)

@@ -1,8 +1,9 @@
 -- Links as hops: how many there are, and that they stay within the nodes.
 use Rattle.std.proofs.Common.{◌≡◌, ◌^◌, ◌<◌, length, subst, arith}
+use Rattle.std.specs.Prelude.{is_none}
 use Rattle.std.proofs.lemmas.List.{length-map}
 use Rattle.nf_model.specs.Walk.{Hop}
-use Rattle.nf_model.specs.Network.{Network, IsNetwork, hop_of, hops}
+use Rattle.nf_model.specs.Network.{Link, Network, IsNetwork, hop_of, hops, unbounded}
 use Rattle.nf_formats.specs.Named.{Named}
 use Rattle.nf_formats.specs.WellNamed.{IsNamed}
 use Rattle.nf_lists_laws.proofs.Ending.{from_map}
@@ -11,6 +12,9 @@ use Rattle.nf_graph.specs.Graph.{AreBelow}
 
 pub hops_length : (net : Network) → length (hops net) ≡ length net.links
 hops_length net = length-map net.links hop_of
+
+pub unbounded_length : (net : Network) → length (unbounded net) ≡ length net.links
+unbounded_length net = length-map net.links (λ (link : Link). is_none link.capacity)
 
 pub below_nodes : (net : Network) → IsNetwork net → AreBelow net.nodes (hops net)
 below_nodes net good = record {

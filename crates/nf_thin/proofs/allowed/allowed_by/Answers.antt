@@ -1,9 +1,31 @@
-use Rattle.std.proofs.Common.{ℕ, ◌<◌, ap, subst, sym, ◌∙◌}
+use Rattle.std.proofs.Common.{◌≡◌, ℕ, ◌<◌, length, take, ap, subst, sym, ◌∙◌, arith}
+use Rattle.std.proofs.Math.Seq.{take-length}
 use Rattle.nf_model.specs.Network.{Link}
 use Rattle.nf_pattern.proofs.Each.{take_pushed}
 use Rattle.nf_thin.specs.Allowing.{flags_by}
-use Rattle.nf_thin.proofs.AllowedStates.{number_read, flags_there}
+use Rattle.nf_thin.proofs.AllowedStates.{number_read, flags_there, flags_count}
 use Rattle.nf_thin.proofs.allowed.allowed_by.Goals as goal
+
+pub bounds-slopes-index : goal.bounds-slopes-index
+bounds-slopes-index c =
+    let good = c.link-link.ensures.named.network in
+    let tail : c.index.result ≡ c.link-link.result.tail = c.index.ensures ∙ ap (λ (l : Link). l.tail) c.link.view_is in
+    let within = good.tails c.loop-e.e c.link-link.result c.link-link.ensures.link in
+    let count = c.requires in
+    omega arith
+
+pub bounds-slopes-index-in-loop-e : goal.bounds-slopes-index-in-loop-e
+bounds-slopes-index-in-loop-e c =
+    let good = c.link-link.ensures.named.network in
+    let head : c.index-in-loop-e.result ≡ c.link-link.result.head = c.index-in-loop-e.ensures ∙ ap (λ (l : Link). l.head) c.link.view_is in
+    let within = good.heads c.loop-e.e c.link-link.result c.link-link.ensures.link in
+    let count = c.requires in
+    omega arith
+
+pub returns : goal.returns
+returns c =
+    let whole : c.loop-e.e ≡ length (flags_by c.args.net.now.net c.args.slopes.now) = omega (arith, c.link_count-e-end.ensures, flags_count c.args.net.now.net c.args.slopes.now) in
+    c.loop-e.invariant ∙ ap (λ (n : ℕ). take n (flags_by c.args.net.now.net c.args.slopes.now)) whole ∙ take-length (flags_by c.args.net.now.net c.args.slopes.now)
 
 pub loop-e-preserved : goal.loop-e-preserved
 loop-e-preserved c =

@@ -1,10 +1,16 @@
-use Rattle.std.proofs.Common.{◌∙◌}
-use Rattle.nf_thin.proofs.Hops.{below_nodes, few_hops}
+use Rattle.std.proofs.Common.{List, Bool, length, sym, ap, ◌∙◌}
+use Rattle.nf_model.specs.Walk.{Hop}
+use Rattle.nf_thin.proofs.Hops.{hops_length, below_nodes, few_hops}
 use Rattle.nf_thin.proofs.NoCycle.{ordered_round}
 use Rattle.nf_thin.proofs.cycles.hold_no_cycle.Goals as goal
 
 pub topological-requires-clause-ends : goal.topological-requires-clause-ends
 topological-requires-clause-ends c = rw (c.node_count.ensures, c.hops.ensures.value) (below_nodes c.args.net.now.net c.hops.ensures.named.network)
+
+pub topological-requires-clause-count : goal.topological-requires-clause-count
+topological-requires-clause-count c =
+    ap (λ (l : List Bool). length l) (c.deref.ensures.value ∙ c.in_ok-active.ensures)
+    ∙ (c.requires ∙ (sym (hops_length c.args.net.now.net) ∙ ap (λ (l : List Hop). length l) (sym c.hops.ensures.value)))
 
 pub topological-requires-clause-fewer : goal.topological-requires-clause-fewer
 topological-requires-clause-fewer c = rw (c.hops.ensures.value) (few_hops c.args.net.now c.hops.ensures.named)

@@ -13,6 +13,14 @@ use Rattle.nf_thin.proofs.AllowedStates.{number_read}
 use Rattle.nf_thin.proofs.Conserving.{full_there}
 use Rattle.nf_thin.proofs.node_test.full_flows.Goals as goal
 
+pub bounds-slopes-index : goal.bounds-slopes-index
+bounds-slopes-index c =
+    let good = c.link-link.ensures.named.network in
+    let head : c.index.result ≡ c.link-link.result.head = c.index.ensures ∙ ap (λ (l : Link). l.head) c.link.view_is in
+    let within = good.heads c.loop-e.e c.link-link.result c.link-link.ensures.link in
+    let count = c.requires in
+    omega arith
+
 pub loop-e-preserved : goal.loop-e-preserved
 loop-e-preserved c =
     let good = c.link-link.ensures.named.network in

@@ -1,8 +1,16 @@
-use Rattle.std.proofs.Common.{ap}
+use Rattle.std.proofs.Common.{◌≡◌, List, length, ap, ◌∙◌, arith}
 use Rattle.nf_work.specs.Passing.{passes_Q}
 use Rattle.nf_model.specs.Walk.{Hop}
 use Rattle.nf_thin.proofs.Conserving.{link_read, end_test, bounds_still, bounds_sum, bounds_difference}
+use Rattle.nf_thin.proofs.Hops.{hops_length}
 use Rattle.nf_thin.proofs.node_test.with_link.Goals as goal
+
+pub bounds-hops-index : goal.bounds-hops-index
+bounds-hops-index c =
+    let count : length c.hops.result.now ≡ length c.args.net.now.net.links = ap (λ (l : List Hop). length l) c.hops.ensures.value ∙ hops_length c.args.net.now.net in
+    let index = c.index.ensures in
+    let link = c.requires.link in
+    omega arith
 
 pub returns-then-leaves-enters : goal.returns-then-leaves-enters
 returns-then-leaves-enters c =

@@ -2,6 +2,8 @@ use Rattle.std.proofs.Common.{List, length, subst, sym, ap, ◌∙◌}
 use Rattle.std.specs.Prelude.{Option, IfSome}
 use Rattle.nf_rational.specs.Rational.{ℚ}
 use Rattle.nf_work.specs.Passing.{passes_Q}
+use Rattle.nf_guess.specs.declared.guessing.SolvedPattern.{SolvedPattern}
+use Rattle.nf_guess.specs.Guessing.{IsSolved}
 use Rattle.nf_thin.specs.declared.known.Known.{Known}
 use Rattle.nf_thin.specs.declared.allowed.Allowed.{Allowed}
 use Rattle.nf_thin.specs.Slopes.{AreThinSlopes}
@@ -11,6 +13,20 @@ use Rattle.nf_thin.proofs.AllowedStates.{flags_count, slopes_allow}
 use Rattle.nf_thin.specs.Conserving.{full_by}
 use Rattle.nf_thin.proofs.Refusing.{slopes_of_listed}
 use Rattle.nf_thin.proofs.sifting.guide_of.Goals as goal
+
+pub known_by-requires : goal.known_by-requires
+known_by-requires c =
+    subst (λ (found : Option SolvedPattern). IfSome found (λ last. IsSolved passes_Q c.args.net.now.net c.args.sets.now c.args.rate last)) c.in-Some.is c.in_ok-last.ensures
+
+pub allowed_by-requires : goal.allowed_by-requires
+allowed_by-requires c =
+    let known = subst (λ (found : Option Known). IfSome found (λ known. IsKnown passes_Q c.args.net.now.net c.args.sets.now c.args.rate known)) c.in-Some-2.is c.in_ok-known.ensures.known in
+    ap (λ (l : List ℚ). length l) c.deref.ensures.value ∙ known.solution.solves.slope_count
+
+pub full_flows-requires : goal.full_flows-requires
+full_flows-requires c =
+    let known = subst (λ (found : Option Known). IfSome found (λ known. IsKnown passes_Q c.args.net.now.net c.args.sets.now c.args.rate known)) c.in-Some-2.is c.in_ok-known.ensures.known in
+    ap (λ (l : List ℚ). length l) c.deref-2.ensures.value ∙ known.solution.solves.slope_count
 
 pub returns : goal.returns
 returns c =

@@ -1,6 +1,9 @@
 use Rattle.std.proofs.Common.{List, length, sym, ap, ◌∙◌}
+use Rattle.std.specs.Prelude.{Option}
+use Rattle.nf_rational.specs.Rational.{ℚ}
 use Rattle.nf_thin.specs.declared.allowed.Allowed.{Allowed}
 use Rattle.nf_work.specs.Passing.{passes_Q}
+use Rattle.nf_thin.proofs.Conserving.{full_count}
 use Rattle.nf_thin.proofs.Refusing.{can_flow}
 use Rattle.nf_thin.proofs.sifting.refusing_link.Goals as goal
 use Rattle.std.proofs.lemmas.Bool.{true≢false}
@@ -20,6 +23,10 @@ forbidden_link-requires-clause-states c = c.requires.pattern.pattern_is.count �
 
 pub can_conserve-requires-clause-network : goal.can_conserve-requires-clause-network
 can_conserve-requires-clause-network c = c.requires.pattern.network
+
+pub can_conserve-requires-clause-full : goal.can_conserve-requires-clause-full
+can_conserve-requires-clause-full c =
+    ap (λ (l : List (Option ℚ)). length l) (c.deref-2.ensures.value ∙ c.requires.guide.full) ∙ full_count passes_Q c.args.net.now.net c.args.guide.now.known.slopes.items
 
 pub can_conserve-requires-clause-sets : goal.can_conserve-requires-clause-sets
 can_conserve-requires-clause-sets c = c.requires.pattern.sets_are.count
