@@ -1,17 +1,21 @@
 -- What is found is a thin flow, and its slopes are the only ones.
-use Rattle.std.proofs.Common.{ℕ}
+use Rattle.std.proofs.Common.{◌≡◌, ℕ, ◌+◌, List, sym, subst, ◌∙◌, add-one}
 use Rattle.std.specs.Prelude.{Result, Ok, Err, IfOk}
 use Rattle.nf_rational.specs.Rational.{ℚ}
 use Rattle.nf_model.specs.Network.{Network, IsNetwork}
 use Rattle.nf_model.specs.ThinFlow.{Sets, IsThinFlow}
-use Rattle.nf_model.specs.Pattern.{Pattern, IsListedIn}
+use Rattle.nf_model.specs.Pattern.{Pattern, IsListedIn, IsSolution}
 use Rattle.nf_work.specs.Passing.{Passing}
+use Rattle.nf_lists.specs.Accepted.{IsAccepted}
 use Rattle.nf_lists.specs.Search.{Found, IsSearch}
 use Rattle.nf_thin_laws.proofs.Accepted.{IsThinFlow-accepted}
 use Rattle.nf_thin_laws.proofs.Slopes.{slopes-unique}
 use Rattle.nf_thin.specs.declared.thin.Thin.{Thin}
 use Rattle.nf_thin.specs.declared.fault.SearchFault.{SearchFault}
-use Rattle.nf_thin.specs.Searching.{Searches, SlopesAreOnly, AreSetsOf}
+use Rattle.nf_thin.specs.declared.known.Known.{Known}
+use Rattle.nf_thin.specs.declared.vain.Vain.{Vain}
+use Rattle.nf_thin.specs.Knowing.{IsKnown, IsThinAt}
+use Rattle.nf_thin.specs.Searching.{Searches, SlopesAreOnly, AreSetsOf, IsFound}
 
 module _ (passes : Passing) (net : Network) (sets : Sets) (rate : ℚ) (base : Pattern) (budget : ℕ) (good : IsNetwork net) (sets_are : AreSetsOf net sets) where
   found_is_thin : (thin : Thin) → IsSearch passes net sets rate base budget (Found thin.place thin.pattern thin.flows.items thin.labels.items) → IsThinFlow net sets rate thin.flows.items thin.labels.items
@@ -27,3 +31,15 @@ module _ (passes : Passing) (net : Network) (sets : Sets) (rate : ℚ) (base : P
   pub result_is_only : (result : Result Thin SearchFault) → Searches (IsSearch passes net sets rate base budget) budget result → IfOk result (λ thin. SlopesAreOnly net sets rate thin.labels.items)
   result_is_only (Ok thin) s = λ no_cycle flows other is_thin. slopes-unique net sets rate good no_cycle flows other thin.flows.items thin.labels.items is_thin (found_is_thin thin s)
   result_is_only (Err fault) s = tt
+
+-- the known pattern, where it is the next one
+pub found_known : (passes : Passing) (net : Network) (sets : Sets) (rate : ℚ) (known : Known) (pattern : Pattern) (before : Vain) (thin : Thin)
+    → IsKnown passes net sets rate known → IsThinAt known (before.tried + 1) thin → known.pattern ≡ pattern → IsFound passes net sets rate pattern before thin
+found_known passes net sets rate known pattern before thin is at same = record {
+  place = at.place_is ∙ add-one before.tried;
+  pattern_is = at.pattern_is ∙ same;
+  accepted = subst (λ (p : Pattern). IsAccepted passes net sets rate p) same is.accepted;
+  solution = subst (λ (p : Pattern). IsSolution net sets rate p thin.flows.items thin.labels.items) same
+      (subst (λ (flows : List ℚ). IsSolution net sets rate known.pattern flows thin.labels.items) (sym at.flows_are)
+      (subst (λ (slopes : List ℚ). IsSolution net sets rate known.pattern known.flows.items slopes) (sym at.slopes_are) is.solution));
+}

@@ -1,12 +1,18 @@
-use Rattle.std.proofs.Common.{List, length, sym, ap, ◌∙◌}
+use Rattle.std.proofs.Common.{List, length, sym, subst, ap, ◌∙◌}
 use Rattle.std.specs.Prelude.{Option}
 use Rattle.nf_rational.specs.Rational.{ℚ}
 use Rattle.nf_thin.specs.declared.allowed.Allowed.{Allowed}
+use Rattle.nf_thin.specs.Allowing.{IsForbidden}
 use Rattle.nf_work.specs.Passing.{passes_Q}
 use Rattle.nf_thin.proofs.Conserving.{full_count}
 use Rattle.nf_thin.proofs.Refusing.{can_flow}
 use Rattle.nf_thin.proofs.sifting.refusing_link.Goals as goal
 use Rattle.std.proofs.lemmas.Bool.{true≢false}
+
+pub returns-in-Some : goal.returns-in-Some
+returns-in-Some c accepted =
+    let f = subst (λ (allowed : List Allowed). IsForbidden allowed c.args.pattern.now c.in-Some.link) c.deref.ensures.value c.in-Some.ensures in
+    true≢false (sym (c.requires.guide.allowed c.args.pattern.now c.requires.listed accepted.solvable c.in-Some.link f.0 f.1 f.2 f.3) ∙ f.4)
 
 pub returns-else-can_conserve : goal.returns-else-can_conserve
 returns-else-can_conserve c accepted =
