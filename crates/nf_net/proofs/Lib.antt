@@ -6,3 +6,5 @@ pub mod LinkLine
 pub mod Built
 pub mod StartLabels
 pub mod Closes
+pub mod Ended
+pub mod WholeText

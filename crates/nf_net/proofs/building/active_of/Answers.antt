@@ -1,9 +1,10 @@
-use Rattle.std.proofs.Common.{◌+◌, ◌++◌, List, [], ◌∷◌, drop, sym, ◌∙◌, ap, append-nil}
+use Rattle.std.proofs.Common.{◌+◌, ◌++◌, List, [], ◌∷◌, drop, refl, sym, ◌∙◌, ap, append-nil}
 use Rattle.nf_formats.specs.Named.{NamedLink}
 use Rattle.nf_formats.specs.NetClosing.{marked}
 use Rattle.nf_draft.specs.Closing.{tail_flags}
 use Rattle.nf_draft.proofs.Filling.{filled}
 use Rattle.nf_draft.proofs.Marks.{marked_with, marked_past}
+use Rattle.nf_net.proofs.Ended.{all_filled}
 use Rattle.nf_net.proofs.building.active_of.Goals as goal
 use Rattle.nf_net.proofs.building.active_of.Goals.{then-is_active+in_ok-push, else-is_active}
 
@@ -20,3 +21,7 @@ loop-link-preserved c =
           (ap (λ v. v.items) w.active-is ∙ sym (append-nil front))
           c.loop-link-test.true c.link-item.is (marked_past _ _ link (drop (c.loop-link.link-index + 1) c.args.links.now) (sym c.is_active.ensures ∙ w.if-is_active.false)) c.loop-link.invariant
     ]
+
+pub returns : goal.returns
+returns c =
+    all_filled (λ (ls : List NamedLink). marked (tail_flags c.args.nodes.now c.args.flags.now ls) ls) c.args.links.now c.loop-link.link-index c.loop-link.active.items _ refl c.loop-link-test.false c.loop-link.invariant

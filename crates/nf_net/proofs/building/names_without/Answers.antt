@@ -1,7 +1,8 @@
-use Rattle.std.proofs.Common.{◌+◌, ◌++◌, Bool, cond, List, [], ◌∷◌, drop, sym, ◌∙◌, ap, append-nil}
+use Rattle.std.proofs.Common.{◌+◌, ◌++◌, Bool, cond, List, [], ◌∷◌, drop, refl, sym, ◌∙◌, ap, append-nil}
 use Rattle.nf_formats.specs.Names.{Name, without}
 use Rattle.nf_draft.proofs.Filling.{filled}
 use Rattle.nf_draft.proofs.Marks.{kept_with}
+use Rattle.nf_net.proofs.Ended.{all_filled}
 use Rattle.nf_net.proofs.building.names_without.Goals as goal
 use Rattle.nf_net.proofs.building.names_without.Goals.{then-not-has+in_ok-push, else-not-has}
 
@@ -20,3 +21,6 @@ loop-name-preserved c =
           (ap (λ v. v.items) w.others-is ∙ sym (append-nil front))
           c.loop-name-test.true c.name-item.is (kept_with these name rest ∙ ap by_flag (sym c.has.ensures ∙ w.if-not-has.false)) c.loop-name.invariant
     ]
+
+pub returns : goal.returns
+returns c = all_filled (without c.args.these.now) c.args.names.now c.loop-name.name-index c.loop-name.others.items _ refl c.loop-name-test.false c.loop-name.invariant

@@ -2,6 +2,7 @@ use Rattle.std.proofs.Common.{◌++◌, List, [], ◌∷◌, map, refl, ◌∙�
 use Rattle.nf_model.specs.Network.{Link}
 use Rattle.nf_formats.specs.Named.{numbered}
 use Rattle.nf_draft.proofs.Filling.{filled}
+use Rattle.nf_net.proofs.Ended.{all_filled}
 use Rattle.nf_net.proofs.building.numbered_links.Goals as goal
 
 pub loop-link-preserved : goal.loop-link-preserved
@@ -10,3 +11,7 @@ loop-link-preserved c =
     filled (map (numbered c.args.nodes.now)) c.args.links.now c.loop-link.link-index c.link-item.result front _ _ _
     (c.in_ok-push.ensures.items ∙ ap (λ (link : Link). front ++ link ∷ []) c.number.ensures)
     c.loop-link-test.true c.link-item.is refl c.loop-link.invariant
+
+pub returns : goal.returns
+returns c =
+    all_filled (map (numbered c.args.nodes.now)) c.args.links.now c.loop-link.link-index c.loop-link.numbers.items _ refl c.loop-link-test.false c.loop-link.invariant

@@ -2,6 +2,7 @@ use Rattle.std.proofs.Common.{◌++◌, List, [], ◌∷◌, map, Option, Some, 
 use Rattle.std.proofs.lemmas.List.{map-append}
 use Rattle.nf_rational.specs.Rational.{ℚ}
 use Rattle.nf_draft.proofs.Filling.{filled}
+use Rattle.nf_net.proofs.Ended.{all_filled}
 use Rattle.nf_net.proofs.labels.given_sums.Goals as goal
 
 pub loop-sum-preserved : goal.loop-sum-preserved
@@ -11,3 +12,7 @@ loop-sum-preserved c =
     filled (λ (os : List (Option ℚ)). os) c.args.sums.now c.loop-sum.sum-index c.sum-item.result (sums front) (c.sum-item.result ∷ []) _ _
     (ap sums c.in_ok-push-in-Some.ensures.items ∙ map-append (λ (q : ℚ). Some q) front _ ∙ ap (λ (o : Option ℚ). sums front ++ o ∷ []) (sym c.in-Some.is))
     c.loop-sum-test.true c.sum-item.is refl c.loop-sum.invariant
+
+pub returns : goal.returns
+returns c =
+    all_filled (λ (os : List (Option ℚ)). os) c.args.sums.now c.loop-sum.sum-index (map (λ q. Some q) c.loop-sum.numbers.items) _ refl c.loop-sum-test.false c.loop-sum.invariant

@@ -1,0 +1,17 @@
+use Rattle.std.proofs.Common.{List, ℕ, map, refl}
+use Rattle.std.specs.List.{flat_map}
+use Rattle.nf_lines.specs.Words.{line_of_words}
+use Rattle.nf_model.specs.Network.{Piece}
+use Rattle.nf_formats.specs.NetText.{inflow_words}
+use Rattle.nf_draft.proofs.Filling.{filled}
+use Rattle.nf_net.proofs.Ended.{all_filled}
+use Rattle.nf_net.proofs.printing.push_pieces.Goals as goal
+
+pub loop-piece-preserved : goal.loop-piece-preserved
+loop-piece-preserved c =
+    filled (λ (ps : List Piece). flat_map line_of_words (map inflow_words ps)) c.args.pieces.now c.loop-piece.piece-index c.piece-item.result c.loop-piece.out.items (line_of_words (inflow_words c.piece-item.result)) _ _
+    c.in_ok-push_piece.ensures c.loop-piece-test.true c.piece-item.is refl c.loop-piece.invariant
+
+pub returns : goal.returns
+returns c =
+    all_filled (λ (ps : List Piece). flat_map line_of_words (map inflow_words ps)) c.args.pieces.now c.loop-piece.piece-index c.loop-piece.out.items _ refl c.loop-piece-test.false c.loop-piece.invariant
