@@ -18,6 +18,13 @@ use Rattle.nf_resume_lists.specs.Resuming.{OfLink, CutLink, links_with, cut_shor
 use Rattle.nf_resume_laws.proofs.CutFlow.{each_length, end-nn}
 use Rattle.nf_resume.specs.Cuts.{AreLists}
 
+-- where the labels stop, so does the whole
+pub labels_stop : (passes : Passing) (part : Part) (net : Network) (flow : Flow) (h : Halt ℚ) → Stops (λ (q : ℚ). q) h (at_part part (each (cut_short passes flow.reached) flow.labels))
+    → Stops (λ (q : ℚ). q) h (at_part part (cut_flow passes net flow))
+unfolding cut_flow
+labels_stop passes part net flow h s =
+    stops_on h (at_part part (each (cut_short passes flow.reached) flow.labels)) (at_part part (cut_flow passes net flow)) (λ p e. after_err part (each (cut_short passes flow.reached) flow.labels) _ p e) s
+
 module _ (passes : Passing) (part : Part) (net : Network) (flow : Flow) (labels : List (List Point)) (by_labels : at_part part (each (cut_short passes flow.reached) flow.labels) ≡ Ok labels) where
   abbrev links : List OfLink
   links = links_with net.links flow.inflows flow.outflows flow.queues

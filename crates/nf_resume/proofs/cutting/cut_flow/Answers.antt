@@ -10,8 +10,28 @@ use Rattle.nf_curve.specs.Points.{Grown}
 use Rattle.nf_curve.specs.Flows.{trace_of, flow_of}
 use Rattle.nf_resume_lists.specs.Restoring.{value_at_end}
 use Rattle.nf_resume.specs.Cuts.{curves_of, cut_in}
-use Rattle.nf_resume.proofs.CutFlow.{labels_count, labels_end, links_stop, flow_is_cut}
+use Rattle.nf_resume.proofs.CutFlow.{labels_stop, labels_count, labels_end, links_stop, flow_is_cut}
 use Rattle.nf_resume.proofs.cutting.cut_flow.Goals as goal
+
+pub cut_labels-requires : goal.cut_labels-requires
+cut_labels-requires c = c.requires.reached
+
+pub returns-in_err-labels : goal.returns-in_err-labels
+returns-in_err-labels c =
+    let p = err_from_is_err_and c.from_residual.result c.from_residual.ensures.1 in
+    let stops = rw c.deref.ensures.value at c.in_err-labels.ensures in
+    rw (p.1, p.2) (labels_stop passes_Q OfCurve c.args.net.now.net (flow_of c.args.flow.now) c.in_err-labels.field-0.0 stops)
+
+pub cut_links-requires-clause-inflows : goal.cut_links-requires-clause-inflows
+cut_links-requires-clause-inflows c =
+    sym (length-map c.args.flow.now.inflows.items trace_of) ∙ sym (length-map (map trace_of c.args.flow.now.inflows.items) (λ trace. trace.points)) ∙ c.requires.shape.inflows.count
+
+pub cut_links-requires-clause-outflows : goal.cut_links-requires-clause-outflows
+cut_links-requires-clause-outflows c =
+    sym (length-map c.args.flow.now.outflows.items trace_of) ∙ sym (length-map (map trace_of c.args.flow.now.outflows.items) (λ trace. trace.points)) ∙ c.requires.shape.outflows.count
+
+pub cut_links-requires-clause-queues : goal.cut_links-requires-clause-queues
+cut_links-requires-clause-queues c = sym (length-map c.args.flow.now.queues.items (λ curve. curve.points)) ∙ c.requires.shape.queues.count
 
 pub cut_links-requires-clause-labels : goal.cut_links-requires-clause-labels
 cut_links-requires-clause-labels c =

@@ -1,8 +1,10 @@
-use Rattle.std.proofs.Common.{◌≡◌, List, length, map, ap, subst, ◌∙◌, arith}
+use Rattle.std.proofs.Common.{◌≡◌, ℕ, ◌<◌, List, length, map, sym, ap, subst, ◌∙◌, arith}
 use Rattle.std.specs.Prelude.{Ok}
 use Rattle.std.proofs.lemmas.List.{length-map, map-append}
 use Rattle.std.proofs.lemmas.Result.{err_from_is_err_and}
 use Rattle.nf_rational.specs.Rational.{ℚ}
+use Rattle.nf_rational.specs.Operations.{0ℚ}
+use Rattle.nf_rational.specs.Order.{◌≤ℚ◌}
 use Rattle.nf_work.specs.declared.Part.TheVariants.{Curve as OfCurve}
 use Rattle.nf_work.specs.Passing.{passes_Q}
 use Rattle.nf_work.specs.Checked.{Checked, Stops, at_part}
@@ -18,6 +20,35 @@ use Rattle.nf_resume.specs.Cuts.{curves_of, cut_in}
 use Rattle.nf_resume.proofs.Looping.{front_halts, front_goes, front_last}
 use Rattle.nf_resume.proofs.Ends.{link_cut}
 use Rattle.nf_resume.proofs.links.cut_links.Goals as goal
+
+pub last_label-tail-requires : goal.last_label-tail-requires
+last_label-tail-requires c =
+    subst (λ (n : ℕ). c.link.inside.tail < n) (sym c.requires.labels)
+    (subst (λ (l : Link). l.tail < c.args.net.now.net.nodes) (sym c.link.view_is) (c.link-link.ensures.named.network.tails c.loop-number.number c.link-link.result c.link-link.ensures.link))
+
+pub last_label-head-requires : goal.last_label-head-requires
+last_label-head-requires c =
+    subst (λ (n : ℕ). c.link.inside.head < n) (sym c.requires.labels)
+    (subst (λ (l : Link). l.head < c.args.net.now.net.nodes) (sym c.link.view_is) (c.link-link.ensures.named.network.heads c.loop-number.number c.link-link.result c.link-link.ensures.link))
+
+pub index-inflow-requires : goal.index-inflow-requires
+index-inflow-requires c = omega (arith, c.requires.inflows, c.link_count-number-end.ensures, c.loop-number-test.true)
+
+pub index-outflow-requires : goal.index-outflow-requires
+index-outflow-requires c = omega (arith, c.requires.outflows, c.link_count-number-end.ensures, c.loop-number-test.true)
+
+pub index-queue-requires : goal.index-queue-requires
+index-queue-requires c = omega (arith, c.requires.queues, c.link_count-number-end.ensures, c.loop-number-test.true)
+
+pub cut_link-requires-clause-tail : goal.cut_link-requires-clause-tail
+cut_link-requires-clause-tail c =
+    subst (λ (q : ℚ). 0ℚ ≤ℚ q) (sym c.last_label-tail.ensures) (c.requires.ends c.link.inside.tail
+    (subst (λ (l : Link). l.tail < c.args.net.now.net.nodes) (sym c.link.view_is) (c.link-link.ensures.named.network.tails c.loop-number.number c.link-link.result c.link-link.ensures.link)))
+
+pub cut_link-requires-clause-head : goal.cut_link-requires-clause-head
+cut_link-requires-clause-head c =
+    subst (λ (q : ℚ). 0ℚ ≤ℚ q) (sym c.last_label-head.ensures) (c.requires.ends c.link.inside.head
+    (subst (λ (l : Link). l.head < c.args.net.now.net.nodes) (sym c.link.view_is) (c.link-link.ensures.named.network.heads c.loop-number.number c.link-link.result c.link-link.ensures.link)))
 
 pub returns-in_err-cut : goal.returns-in_err-cut
 returns-in_err-cut c =
