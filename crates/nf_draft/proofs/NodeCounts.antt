@@ -1,5 +1,7 @@
 -- How many names there are with some more.
-use Rattle.std.proofs.Common.{◌≡◌, ℕ, ◌+◌, Bool, true, false, ◌||◌, List, [], ◌∷◌, length, refl, ◌∙◌, ap, arith, bytes_eq, length-append}
+use Rattle.std.proofs.Common.{◌≡◌, ℕ, ◌+◌, ◌-◌, ◌≤◌, ltb, Bool, true, false, ◌||◌, List, [], ◌∷◌, length, refl, ◌∙◌, ap, arith, bytes_eq, length-append}
+use Rattle.std.proofs.lemmas.Bool.Decides.{nat_tests}
+use Rattle.nf_formats.specs.Limits.{most_nodes}
 use Rattle.nf_formats.specs.Names.{Name, has_name, with_name, with_names}
 use Rattle.nf_formats_laws.proofs.NameFacts.{has_name-append, same_names, with_name_there, with_name_new}
 use Rattle.nf_draft.specs.Drafts.{one_unless}
@@ -34,3 +36,11 @@ length_with_two names x y =
     let b : length (with_name names x) ≡ length names + one_unless (has_name names x) = length_with_one names x in
     let c : one_unless (has_name (with_name names x) y) ≡ one_unless (has_name names y || bytes_eq y x) = ap one_unless (after_one names x y (has_name names x) refl) in
     a ∙ ap (λ (t : ℕ). length (with_name names x) + t) c ∙ ap (λ (t : ℕ). t + one_unless (has_name names y || bytes_eq y x)) b ∙ omega arith
+
+-- ---- more than 64 with some more
+pub too_many : (n more all : ℕ) → more ≤ 2 → all ≡ n + more → ltb (64 - more) n ≡ ltb most_nodes all
+too_many n more all small e = grind (arith, nat_tests)
+
+pub too_many_with_one : (n more all : ℕ) (known : Bool) → more ≡ one_unless known → all ≡ n + one_unless known → ltb (64 - more) n ≡ ltb most_nodes all
+too_many_with_one n more all true e f = too_many n more all (omega arith) (omega arith)
+too_many_with_one n more all false e f = too_many n more all (omega arith) (omega arith)
