@@ -1,5 +1,5 @@
 use Rattle.std.proofs.lemmas.Result.{err_from_is_err_and}
-use Rattle.std.proofs.Common.{◌∙◌}
+use Rattle.std.proofs.Common.{◌∙◌, rules}
 use Rattle.nf_work.specs.Passing.{passes_Q}
 use Rattle.nf_curve.specs.Flows.{flow_of}
 use Rattle.nf_rules.specs.Kept.{labels_in, loaded_in}
@@ -36,8 +36,8 @@ unfolding compared_list
 returns-in_err-check_balances c =
     let p = err_from_is_err_and c.from_residual-in_err-check_balances.result c.from_residual-in_err-check_balances.ensures.1 in
     rw (p.1, p.2) (ends_as c.in_err-check_balances.field-0.0 (compared_list passes_Q c.args.net.now.net (flow_of c.args.flow.now) (labels_in c.args.worked.now) (loaded_in c.args.worked.now)) _
-    (goes_on (arrivals_list passes_Q c.args.net.now.net (flow_of c.args.flow.now) (labels_in c.args.worked.now) (loaded_in c.args.worked.now)) _ tt c.in_ok-check_arrivals.ensures.tries
-    ∙ goes_on (told_list passes_Q c.args.net.now.net (flow_of c.args.flow.now) (labels_in c.args.worked.now) (loaded_in c.args.worked.now)) _ tt c.in_ok-check_told.ensures)
+    (goes_on (arrivals_list passes_Q c.args.net.now.net (flow_of c.args.flow.now) (labels_in c.args.worked.now) (loaded_in c.args.worked.now)) _ tt (search rules)
+    ∙ goes_on (told_list passes_Q c.args.net.now.net (flow_of c.args.flow.now) (labels_in c.args.worked.now) (loaded_in c.args.worked.now)) _ tt (search rules))
     (ends c.in_err-check_balances.field-0.0 (balances_list passes_Q c.args.net.now.net (flow_of c.args.flow.now) (labels_in c.args.worked.now) (loaded_in c.args.worked.now)) _ c.in_err-check_balances.ensures))
 
 pub check_routes-requires-clause-kept : goal.check_routes-requires-clause-kept
