@@ -1,8 +1,30 @@
 use Rattle.std.proofs.Common.{sym, refl, ◌∙◌, ◌/◌, ℕ}
+use Rattle.std.proofs.Math.Nat.{le_trans}
 use mathlib.Core.Path.{ap₂}
 use Rattle.nf_frac.proofs.Form.{parts_of, num_plain, stops, form_of, value_of, within_more, own_within}
 use Rattle.nf_frac.proofs.Products.{factor_is, part_plain, no_num, no_den, num_of_product, den_of_product, product_within}
 use Rattle.nf_frac.proofs.lowest.Lowest.product.Goals as goal
+
+pub shortened-requires-clause-positive : goal.shortened-requires-clause-positive
+shortened-requires-clause-positive c = c.gcd_of-left.ensures.positive c.right.invariant.positive
+
+pub shortened-requires-clause-bounded : goal.shortened-requires-clause-bounded
+shortened-requires-clause-bounded c = le_trans (c.gcd_of-left.ensures.small c.right.invariant.positive) c.right.invariant.small_den
+
+pub shortened-requires-2-clause-positive : goal.shortened-requires-2-clause-positive
+shortened-requires-2-clause-positive c = c.gcd_of-other.ensures.positive c.self.invariant.positive
+
+pub shortened-requires-2-clause-bounded : goal.shortened-requires-2-clause-bounded
+shortened-requires-2-clause-bounded c = le_trans (c.gcd_of-other.ensures.small c.self.invariant.positive) c.self.invariant.small_den
+
+pub multiplied-requires : goal.multiplied-requires
+multiplied-requires c = c.requires
+
+pub divided-requires : goal.divided-requires
+divided-requires c = c.gcd_of-other.ensures.positive c.self.invariant.positive
+
+pub divided-requires-2 : goal.divided-requires-2
+divided-requires-2 c = c.gcd_of-left.ensures.positive c.right.invariant.positive
 
 pub returns-in_err-num : goal.returns-in_err-num
 returns-in_err-num c =
