@@ -87,6 +87,16 @@ number_changes old now new i j before x h a e =
     then_changes old now new i before (set before j x) a
     (set_changes now new i (set before j x) (let c = a.count in omega arith) (e ∙ ap (λ (r : Row). set now i (set r j x)) a.here))
 
+-- two numbers of a row, one after the other
+pub two_changes : (old once twice : List Row) (i j k : ℕ) (x y : ℚ) → i < length old → once ≡ set old i (set (row_at old i) j x) → twice ≡ set once i (set (row_at once i) k y)
+    → ChangesRow old twice i (set (set (row_at old i) j x) k y)
+two_changes old once twice i j k x y h a b =
+    number_changes old once twice i k (set (row_at old i) j x) y h (number_changes old old once i j (row_at old i) x h (none_changes old i) a) b
+
+-- no row is gone
+pub still_inside : (old once : List Row) (i n : ℕ) (row : Row) → n < length old → once ≡ set old i row → n < length once
+still_inside old once i n row h e = subst (λ (k : ℕ). n < k) (sym (ap (λ (l : List Row). length l) e ∙ length-set old i row)) h
+
 -- a number that is set where it stands already
 set_own : {A : Type 0} (xs : List A) (i : ℕ) (x d : A) → i < length xs → unwrap_or (slice_get xs i) d ≡ x → set xs i x ≡ xs
 set_own {A = A} [] i x d b e = absurd (omega arith)

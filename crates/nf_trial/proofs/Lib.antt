@@ -17,3 +17,4 @@ pub mod SourceRow
 pub mod Spreading
 pub mod Leading
 pub mod Slices
+pub mod LinkChanges

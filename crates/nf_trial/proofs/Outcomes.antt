@@ -2,7 +2,7 @@
 use Rattle.std.proofs.Common.{◌≡◌, ◌+◌, List, length, sym, subst, ◌∙◌}
 use Rattle.std.specs.Prelude.{Option, Some, None, Result, Ok, Err, IsOk}
 use Rattle.nf_rational.specs.Rational.{ℚ}
-use Rattle.nf_work.specs.Passing.{Passing}
+use Rattle.nf_work.specs.Passing.{Passing, passes_Q}
 use Rattle.nf_work.specs.declared.Part.TheVariants as Part
 use Rattle.nf_work.specs.declared.Halt.{Halt}
 use Rattle.nf_work.specs.declared.PassedAt.{PassedAt}
@@ -17,6 +17,8 @@ use Rattle.nf_lists.specs.Accepted.{pattern_lists}
 use Rattle.nf_linear_laws.proofs.Solutions.{one_solution}
 use Rattle.nf_equation_laws.specs.Equations.{IsPatternIn}
 use Rattle.nf_equation_laws.proofs.Table.{rows-length, is_square}
+use Rattle.nf_trial.specs.declared.verdicts.Judged.{Judged}
+use Rattle.nf_trial.specs.Judging.{IsJudged}
 use Rattle.nf_trial.specs.declared.trying.Tried.{Tried}
 use Rattle.nf_trial.specs.declared.trying.Outcome.{Outcome}
 use Rattle.nf_trial.specs.Trying.{AreValuesOf, JudgesFlows, JudgesValues, Tries, TriesInto}
@@ -67,3 +69,11 @@ module _ (passes : Passing) (net : Network) (sets : Sets) (rate : ℚ) (pattern 
       (subst (λ (k : List ℚ). JudgesFlows net pattern k slopes (at_part Part.Verdict (verdict_list passes net pattern slopes)) r) f j) in
       subst (λ (k : List ℚ). TriesInto passes net sets rate pattern k slopes r) (sym f)
       (subst (λ (l : List ℚ). TriesInto passes net sets rate pattern (flows_in net.nodes sets.active values) l r) (sym s) (into_own values h r i))
+
+-- what is judged, of lists that are the same
+pub judged_so : (net : Network) (pattern : Pattern) (fs gs ss ts : List ℚ) (j k : Judged) → fs ≡ gs → ss ≡ ts → j ≡ k
+    → IsOk (at_part Part.Verdict (verdict_list passes_Q net pattern ss)) × IsJudged net pattern fs ss j
+    → IsOk (at_part Part.Verdict (verdict_list passes_Q net pattern ts)) × IsJudged net pattern gs ts k
+judged_so net pattern fs gs ss ts j k f s e h =
+    subst (λ (l : List ℚ). IsOk (at_part Part.Verdict (verdict_list passes_Q net pattern l)) × IsJudged net pattern gs l k) s
+    (h.0, subst (λ (l : List ℚ). IsJudged net pattern l ss k) f (subst (λ (x : Judged). IsJudged net pattern fs ss x) e h.1))

@@ -24,3 +24,6 @@ returns-clause-nodes g c =
 
 pub returns-clause-size : goal.returns-clause-size
 returns-clause-size g c = let now = c.loop-v.invariant.filled [] in let old = c.requires.first [] in now.count ∙ sym old.count
+
+pub fill_node-requires-clause-sets : goal.fill_node-requires-clause-sets
+fill_node-requires-clause-sets g c = c.requires.sets

@@ -1,4 +1,4 @@
-use Rattle.std.proofs.Common.{◌≡◌, ◌≤◌, length, arith}
+use Rattle.std.proofs.Common.{◌≡◌, ◌<◌, ◌≤◌, length, arith}
 use Rattle.nf_net.proofs.Limits.{few_links}
 use Rattle.nf_trial.proofs.ActivePlaces.{none_before, one_more_before, none_more_before}
 use Rattle.nf_trial.proofs.Sizes.{few_columns, as_many_hops, counted}
@@ -35,3 +35,10 @@ pub returns-clause-few : goal.returns-clause-few
 returns-clause-few c =
     let m : length c.hops-links.result.now ≡ length c.args.net.now.net.links = as_many_hops c.args.net.now c.hops-links.result.now c.hops-links.ensures.value in
     few_columns c.args.net.now c.hops-links.ensures.named c.args.sets.now.active c.loop-e.e c.loop-e.count (omega arith) c.loop-e.invariant
+
+pub active-requires : goal.active-requires
+active-requires c =
+    let m : length c.hops-links.result.now ≡ length c.args.net.now.net.links = as_many_hops c.args.net.now c.hops-links.result.now c.hops-links.ensures.value in
+    let r : length c.args.sets.now.active ≡ length c.args.net.now.net.links = c.requires in
+    let t : c.loop-e.e < length c.hops-links.result.now = c.loop-e-test.true in
+    omega (arith, m, r, t)

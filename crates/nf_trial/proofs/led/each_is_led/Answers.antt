@@ -12,3 +12,6 @@ loop-v-preserved c = elim c.if-ne.branch [
 
 pub returns : goal.returns
 returns c = λ _ v less other. c.loop-v.invariant v (let n = c.node_count-v-end.ensures in let t = c.loop-v-test.false in omega arith) other
+
+pub returns-then-not-is_led : goal.returns-then-not-is_led
+returns-then-not-is_led c = λ f. absurd (cc)

@@ -23,3 +23,9 @@ returns-in-One c = into_values passes_Q c.args.net.now.net c.args.sets.now c.arg
 pub returns-in-NotOne : goal.returns-in-NotOne
 returns-in-NotOne c = tried_none passes_Q c.args.net.now.net c.args.sets.now c.args.rate c.args.pattern.now c.requires.pattern
     (sym c.in_ok-solve_pattern.ensures ∙ ap (λ f. Ok (values_if f c.solve_pattern.new.values)) c.in-NotOne.is)
+
+pub judge_into-requires-clause-flows : goal.judge_into-requires-clause-flows
+judge_into-requires-clause-flows c = c.requires.flows
+
+pub judge_into-requires-clause-slopes : goal.judge_into-requires-clause-slopes
+judge_into-requires-clause-slopes c = c.requires.labels
