@@ -115,3 +115,10 @@ pub grown_pushed : {A B : Type 0} (f : A → B) (xs : List (Roomy A)) (ys pushed
 grown_pushed {A = A} {B = B} f xs ys pushed i x y at is e more =
     more ∙ ap (λ (l : List B). l ++ y ∷ []) is ∙ ap (λ (z : B). map f (all_grown (take i xs)) ++ z ∷ []) e ∙ sym (map-append f (all_grown (take i xs)) (x.grown ∷ []))
     ∙ ap (map f) (mapped_pushed (λ (r : Roomy A). r.grown) xs (all_grown (take i xs)) (all_grown (take i xs) ++ x.grown ∷ []) i x x.grown at refl refl refl)
+
+-- the same of a list that is taken apart
+pub yielded_pushed : {A B : Type 0} (f : A → B) (xs : List (Roomy A)) (ys pushed : List B) (x : Roomy A) (y : B) → ys ≡ map f (all_grown xs) → y ≡ f x.grown → pushed ≡ ys ++ y ∷ []
+    → pushed ≡ map f (all_grown (xs ++ x ∷ []))
+yielded_pushed {A = A} {B = B} f xs ys pushed x y is e more =
+    more ∙ ap (λ (l : List B). l ++ y ∷ []) is ∙ ap (λ (z : B). map f (all_grown xs) ++ z ∷ []) e ∙ sym (map-append f (all_grown xs) (x.grown ∷ []))
+    ∙ ap (map f) (sym (map-append (λ (r : Roomy A). r.grown) xs (x ∷ [])))

@@ -14,6 +14,11 @@ go_on-requires-clause-later c =
     c.requires.later c.loop-v.v _
     (grown_before _ c.args.curves.now c.loop-v.curves c.loop-v.v _ (slice_get-get_or c.loop-v.curves c.loop-v.v c.index-curves-v.result inside) c.loop-v.invariant)
 
+pub go_on-requires-clause-room : goal.go_on-requires-clause-room
+go_on-requires-clause-room c =
+    let inside : c.loop-v.v < length c.loop-v.curves = omega arith in
+    c.requires.room c.loop-v.v _ (sym (c.loop-v.invariant.rest c.loop-v.v (omega arith)) ∙ slice_get-get_or c.loop-v.curves c.loop-v.v c.index-curves-v.result inside)
+
 pub loop-v-init : goal.loop-v-init
 loop-v-init c = none_grown (label_curves_after c.args.time c.args.labels.now c.args.slopes.now (all_grown c.args.curves.now)) c.args.curves.now
 

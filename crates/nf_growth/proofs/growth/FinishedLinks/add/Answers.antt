@@ -1,6 +1,7 @@
 use Rattle.std.proofs.Common.{◌∙◌, [], ◌∷◌, ap, map}
 use Rattle.std.proofs.lemmas.List.{map-append}
 use Rattle.nf_curve.specs.Flows.{trace_of}
+use Rattle.nf_curve.specs.Points.{Grown}
 use Rattle.nf_growth.proofs.Places.{nothing_given}
 use Rattle.nf_growth.proofs.growth.FinishedLinks.add.Goals as goal
 
@@ -36,3 +37,6 @@ returns-clause-inflows c = ap (map trace_of) c.in_ok-push.ensures.items ∙ map-
 
 pub returns-clause-outflows : goal.returns-clause-outflows
 returns-clause-outflows c = ap (map trace_of) c.in_ok-push-2.ensures.items ∙ map-append trace_of c.args.self.now.outflows.items (c.args.outflow ∷ [])
+
+pub returns-clause-queues : goal.returns-clause-queues
+returns-clause-queues c = ap (map (λ (g : Grown). g.points)) c.in_ok-push-3.ensures.items ∙ map-append (λ (g : Grown). g.points) c.args.self.now.queues.items (c.args.queue ∷ [])
