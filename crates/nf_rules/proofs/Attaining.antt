@@ -43,3 +43,10 @@ module _ (passes : Passing) (labels : List (List Point)) (loaded : List Loaded) 
   pub exit_stops : differs ≡ false → (halt : Halt ℚ) → Stops (λ (q : ℚ). q) halt (at_part Check exit) → Stops (λ (q : ℚ). q) halt (at_part Check (with_exit passes labels loaded last node so_far (e, here)))
   exit_stops h halt s = stops_on halt (at_part Check exit) (at_part Check (with_exit passes labels loaded last node so_far (e, here)))
       (λ p f. ap (at_part Check) (at_test true h) ∙ after_err Check exit _ p f) s
+
+-- ---- by the test whether an end of a link is another node
+pub at_node : {X : Type 0} (end node : ℕ) (differs : Bool) → differs ≡ not (end == node) → differs ≡ false → (a b : X) → (if end == node then a else b) ≡ a
+at_node end node differs t h a b = ap (λ (w : Bool). if w then a else b) (same_not (end == node) true (sym t ∙ h))
+
+pub at_other : {X : Type 0} (end node : ℕ) (differs : Bool) → differs ≡ not (end == node) → differs ≡ true → (a b : X) → (if end == node then a else b) ≡ b
+at_other end node differs t h a b = ap (λ (w : Bool). if w then a else b) (same_not (end == node) false (sym t ∙ h))

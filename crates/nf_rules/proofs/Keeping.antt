@@ -18,7 +18,9 @@ use Rattle.nf_curve_lists.specs.Short.{checked_short}
 use Rattle.nf_check_lists.specs.Curves.{loaded_at}
 use Rattle.nf_check_lists.specs.Routes.{detour_list}
 use Rattle.nf_check_lists.specs.CheckList.{route}
-use Rattle.nf_check_lists.specs.Trial.{in_part}
+use Rattle.nf_check_lists.specs.declared.CheckRule.TheVariants.{C8}
+use Rattle.nf_check_lists.specs.declared.Subject.TheVariants.{Link as OfLink}
+use Rattle.nf_check_lists.specs.Trial.{in_part, unless}
 use Rattle.nf_curve.specs.Points.{Grown}
 use Rattle.nf_curve.proofs.Exits.{was_ok}
 use Rattle.nf_rules.specs.declared.exits.Exits.{Exits}
@@ -27,7 +29,7 @@ use Rattle.nf_rules.specs.Exits.{short_exits, AreKept, Keeps}
 use Rattle.nf_rules.specs.Kept.{labels_in, loaded_in}
 use Rattle.nf_rules.specs.Sent.{sent_list, known_list}
 use Rattle.nf_rules.specs.Trials.{of_halt, EndsAs}
-use Rattle.nf_rules.proofs.Trying.{ends, part_ends}
+use Rattle.nf_rules.proofs.Trying.{ends, part_ends, part_goes}
 
 -- ---- entries of a list of which one was set
 set_cases : {A : Type 0} (xs : List A) (v w : ℕ) (o x : A) → slice_get (set xs v o) w ≡ Some x → ((w ≡ v) × (x ≡ o)) ⊎ (slice_get xs w ≡ Some x)
@@ -121,17 +123,21 @@ module _ (passes : Passing) (inflow exit exits tail_label head_label : List Poin
       let w = bind_ok (checked_composed passes exit tail_label last) (λ x. checked_short passes x) exits e in
       sym (ap by_composed w.1 ∙ ap by_short w.2)
 
--- ---- a link whose list stops
-module _ (passes : Passing) (net : Network) (flow : Flow) (labels : List (List Point)) (loaded : List Loaded) (e : ℕ) (here : Link) (inflow exit tail_label head_label : List Point) where
-  pub route_ends : inflow ≡ points_at (points_of flow.inflows) e → exit ≡ (loaded_at loaded e).exit → tail_label ≡ points_at labels here.tail → head_label ≡ points_at labels here.head
-      → (h : Halt ℚ) → Stops (λ (q : ℚ). q) h (at_part Check (detour_list passes inflow exit tail_label head_label flow.reached)) → EndsAs (of_halt h) (route passes net flow labels loaded (e, here))
-  route_ends f g k l h s = ends (of_halt h) (in_part Check (detour_list passes (points_at (points_of flow.inflows) e) (loaded_at loaded e).exit (points_at labels here.tail) (points_at labels here.head) flow.reached)) _
-      (part_ends Check h (detour_list passes (points_at (points_of flow.inflows) e) (loaded_at loaded e).exit (points_at labels here.tail) (points_at labels here.head) flow.reached)
-      (subst (λ (r : Checked (Option Sides)). Stops (λ (q : ℚ). q) h (at_part Check r)) same s))
-    where
-      same : detour_list passes inflow exit tail_label head_label flow.reached ≡ detour_list passes (points_at (points_of flow.inflows) e) (loaded_at loaded e).exit (points_at labels here.tail) (points_at labels here.head) flow.reached
-      same =
-          ap (λ (x : List Point). detour_list passes x exit tail_label head_label flow.reached) f
-          ∙ ap (λ (x : List Point). detour_list passes (points_at (points_of flow.inflows) e) x tail_label head_label flow.reached) g
-          ∙ ap (λ (x : List Point). detour_list passes (points_at (points_of flow.inflows) e) (loaded_at loaded e).exit x head_label flow.reached) k
-          ∙ ap (λ (x : List Point). detour_list passes (points_at (points_of flow.inflows) e) (loaded_at loaded e).exit (points_at labels here.tail) x flow.reached) l
+-- ---- a link whose list stops, or goes through
+module _ (passes : Passing) (net : Network) (flow : Flow) (labels : List (List Point)) (loaded : List Loaded) (e : ℕ) (here : Link) (inflow exit tail_label head_label : List Point)
+    (f : inflow ≡ points_at (points_of flow.inflows) e) (g : exit ≡ (loaded_at loaded e).exit) (k : tail_label ≡ points_at labels here.tail) (l : head_label ≡ points_at labels here.head) where
+  abbrev detours : Checked (Option Sides)
+  detours = detour_list passes (points_at (points_of flow.inflows) e) (loaded_at loaded e).exit (points_at labels here.tail) (points_at labels here.head) flow.reached
+
+  same_detours : detour_list passes inflow exit tail_label head_label flow.reached ≡ detours
+  same_detours =
+      ap (λ (x : List Point). detour_list passes x exit tail_label head_label flow.reached) f
+      ∙ ap (λ (x : List Point). detour_list passes (points_at (points_of flow.inflows) e) x tail_label head_label flow.reached) g
+      ∙ ap (λ (x : List Point). detour_list passes (points_at (points_of flow.inflows) e) (loaded_at loaded e).exit x head_label flow.reached) k
+      ∙ ap (λ (x : List Point). detour_list passes (points_at (points_of flow.inflows) e) (loaded_at loaded e).exit (points_at labels here.tail) x flow.reached) l
+
+  pub route_ends : (h : Halt ℚ) → Stops (λ (q : ℚ). q) h (at_part Check (detour_list passes inflow exit tail_label head_label flow.reached)) → EndsAs (of_halt h) (route passes net flow labels loaded (e, here))
+  route_ends h s = ends (of_halt h) (in_part Check detours) _ (part_ends Check h detours (subst (λ (r : Checked (Option Sides)). Stops (λ (q : ℚ). q) h (at_part Check r)) same_detours s))
+
+  pub route_goes : (detour : Option Sides) → at_part Check (detour_list passes inflow exit tail_label head_label flow.reached) ≡ Ok detour → route passes net flow labels loaded (e, here) ≡ unless C8 (OfLink e) detour
+  route_goes detour s = part_goes Check detours _ detour (sym (ap (at_part Check) same_detours) ∙ s)

@@ -153,3 +153,10 @@ label_known w curves k v points known e f g =
 
 pub labels_in_number : (passes : Passing) (net : Network) (flow : Flow) → CanBeChecked net flow → (all labels : List Grown) → all ≡ labels → each (label_cut passes net flow) (all_nodes net) ≡ Ok (curves_of labels) → length all ≡ net.nodes
 labels_in_number passes net flow given all labels same e = ap length same ∙ sym (length-map labels (λ (c : Grown). c.points)) ∙ labels_many passes net flow given (curves_of labels) e
+
+-- where a label of a node, or a curve of a link, is looked for there is one
+pub label_there : (net : Network) (w : Worked) → IsWorked net w → (curves : List Grown) (k v : ℕ) → curves ≡ w.labels.items → k ≡ v → v < net.nodes → k < length curves
+label_there net w h curves k v e f g = subst (λ (n : ℕ). k < n) (sym (ap length e ∙ h.nodes)) (subst (λ (n : ℕ). n < net.nodes) (sym f) g)
+
+pub one_there : {A : Type 0} (xs ys : List A) (k n : ℕ) → xs ≡ ys → length ys ≡ n → k < n → k < length xs
+one_there xs ys k n e f g = subst (λ (m : ℕ). k < m) (sym (ap length e ∙ f)) g

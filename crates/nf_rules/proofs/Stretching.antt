@@ -1,6 +1,6 @@
 -- Stretches of departures, one after the other.
 use Rattle.std.proofs.Common.{◌≡◌, Bool, ℕ, zero, suc, ◌+◌, ◌-◌, ◌<◌, ◌≤◌, List, [], ◌∷◌, length, drop, Option, Some, None, slice_get, refl, sym, ap, subst, ◌∙◌, arith}
-use Rattle.std.specs.Prelude.{Result, Ok, Err, pos, nat_abs, SomeIff, unwrap_or}
+use Rattle.std.specs.Prelude.{Result, Ok, Err, pos, nat_abs, SomeIff, unwrap_or, OnOk}
 use Rattle.nf_rational.specs.Gcd.{gcd}
 use Rattle.nf_rational.specs.Rational.{ℚ, ratio}
 use Rattle.nf_rational.specs.Operations.{0ℚ, whole, ◌+ℚ◌, ◌*ℚ◌, ◌/ℚ◌}
@@ -11,7 +11,7 @@ use Rattle.nf_rational_laws.proofs.Quotient.{/ℚ-times}
 use Rattle.nf_frac.specs.Parts.{IsWithin, IsMade}
 use Rattle.nf_work.specs.Passing.{bound_of}
 use Rattle.nf_curve_laws.proofs.Operations.{checked-is, then_ok}
-use Rattle.nf_work.specs.Passing.{Passing}
+use Rattle.nf_work.specs.Passing.{Passing, passes_Q}
 use Rattle.nf_work.specs.Checked.{Checked, checked, at_part, ◌>>=◌}
 use Rattle.nf_work.specs.declared.Op.TheVariants.{Sum, Quotient}
 use Rattle.nf_work.specs.declared.Part.TheVariants.{Check}
@@ -19,11 +19,17 @@ use Rattle.nf_work.specs.declared.PassedAt.{PassedAt}
 use Rattle.nf_model.specs.Curve.{Point}
 use Rattle.nf_curve_lists.specs.Lines.{Sides}
 use Rattle.nf_curve_lists.specs.Values.{checked_value}
+use Rattle.nf_curve_lists.specs.Sums.{sides_at}
 use Rattle.nf_curve_lists.specs.Short.{checked_short}
 use Rattle.nf_curve_lists.specs.Composed.{checked_composed}
 use Rattle.nf_curve.proofs.Exits.{after_err, after_ok, was_ok}
 use Rattle.nf_check_lists.specs.Routes.{three_times, checked_middle, on_rising, on_stretch, or_later, stretches_from, all_stretches, detour_list}
+use Rattle.nf_curve.specs.Differences.{difference_of}
+use Rattle.nf_curve.specs.declared.curve.Difference.{Difference}
 use Rattle.nf_rules.specs.Sent.{sent_list}
+use Rattle.nf_rules.specs.Departures.{IsDeparture}
+use Rattle.nf_rules.specs.declared.sent.Sent.{Sent}
+use Rattle.nf_rules.specs.declared.stretches.Departure.{Departure}
 use Rattle.nf_rules.proofs.PointByPoint.{drop_one}
 
 module _ (passes : Passing) (taken exits labels : List Point) (times : List ℚ) (i : ℕ) (some : 0 < i)
@@ -178,3 +184,25 @@ middle_from passes first next time h k e =
   where
     over : (first next time sum : ℚ) → 0ℚ ≤ℚ first → 0ℚ ≤ℚ next → sum ≡ first +ℚ next → time *ℚ whole (pos 2) ≡ sum → 0ℚ ≤ℚ time
     over first next time sum h k e f = linear_le (first ∷ next ∷ time ∷ sum ∷ []) (le h ∷ le k ∷ eq e ∷ eq f ∷ []) (search reading_of depth 12) tt
+
+-- ---- a departure whose sides are known then
+pub with_sides : (sent : Sent) (there now : Departure) → IsDeparture sent there → (sides : Difference) → at_part Check (sides_at passes_Q sent.exits.points sent.labels.points there.time) ≡ Ok (difference_of sides)
+    → now ≡ record there { sides = Some sides } → IsDeparture sent now
+with_sides sent there now known sides e is = subst (λ (d : Departure). IsDeparture sent d) (sym is) (record {
+  from_zero = known.from_zero;
+  places = known.places;
+  within = known.within;
+  taken = known.taken;
+  sides = λ other same. was_ok Check (sides_at passes_Q sent.exits.points sent.labels.points there.time) (difference_of sides) e ∙ ap (λ (d : Difference). Ok (difference_of d)) (one sides other same);
+})
+  where
+    one : (a b : Difference) → Some a ≡ Some b → a ≡ b
+    one a b e = cc
+
+-- what holds anyway holds of an Ok
+pub on_any : {X E P : Type 0} (r : Result X E) → P → OnOk r P
+on_any (Ok x) p = p
+on_any (Err e) p = tt
+
+pub no_sides : {P : Type 0} (sides : Difference) → None ≡ Some sides → P
+no_sides sides e = absurd (cc)

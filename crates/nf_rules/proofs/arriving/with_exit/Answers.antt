@@ -1,4 +1,4 @@
-use Rattle.std.proofs.Common.{sym, ap, ◌∙◌}
+use Rattle.std.proofs.Common.{sym, ap, ◌∙◌, ℕ, ◌<◌, subst}
 use Rattle.std.specs.Prelude.{option_map}
 use Rattle.std.proofs.lemmas.Result.{err_from_is_err_and}
 use Rattle.nf_work.specs.Passing.{passes_Q}
@@ -43,3 +43,18 @@ returns-clause-list c = λ here is.
 pub returns-clause-kept : goal.returns-clause-kept
 returns-clause-kept c = keep_kept c.args.net.now.net c.args.worked.now c.args.reached c.args.exits.now c.keep.new.self c.requires.kept c.args.link c.link.result c.link.ensures.link
     c.in_ok-exit.exit.points (c.in_ok-exit.ensures c.link.result c.link.ensures.link) c.in_ok-keep.ensures
+
+pub exit_along-requires-clause-link : goal.exit_along-requires-clause-link
+exit_along-requires-clause-link c = c.requires.link
+
+pub exit_along-requires-clause-worked : goal.exit_along-requires-clause-worked
+exit_along-requires-clause-worked c = c.requires.worked
+
+pub keep-requires : goal.keep-requires
+keep-requires c = subst (λ (n : ℕ). c.args.link < n) (sym c.requires.kept.count) c.requires.link
+
+pub returns-in_err-keep-clause-kept : goal.returns-in_err-keep-clause-kept
+returns-in_err-keep-clause-kept c = let p = err_from_is_err_and c.from_residual-in_err-keep.result c.from_residual-in_err-keep.ensures.1 in rw p.1 tt
+
+pub returns-in_err-least-clause-kept : goal.returns-in_err-least-clause-kept
+returns-in_err-least-clause-kept c = let p = err_from_is_err_and c.from_residual-in_err-least.result c.from_residual-in_err-least.ensures.1 in rw p.1 tt

@@ -44,3 +44,15 @@ returns c =
     ∙ part_goes Check (total_out passes_Q (points_of (flow_of c.args.flow.now).inflows) c.args.net.now.net.links c.args.node) _ c.in_ok-goes.goes.points c.in_ok-goes.ensures
     ∙ ap (λ (t : ℚ). compared_by passes_Q C6 (Node c.args.node) c.in_ok-total.total.points c.in_ok-goes.goes.points t) (sym c.end_at.ensures.end))
     c.compare.ensures
+
+pub total_out-requires : goal.total_out-requires
+total_out-requires c = c.requires.inflows
+
+pub end_at-requires-clause-node : goal.end_at-requires-clause-node
+end_at-requires-clause-node c = c.requires.node
+
+pub end_at-requires-clause-worked : goal.end_at-requires-clause-worked
+end_at-requires-clause-worked c = c.requires.worked
+
+pub end_at-requires-clause-reached : goal.end_at-requires-clause-reached
+end_at-requires-clause-reached c = c.requires.reached

@@ -43,3 +43,6 @@ returns c =
     ∙ goes_on (done (each (balance passes_Q c.args.net.now.net (flow_of c.args.flow.now) (labels_in c.args.worked.now) (loaded_in c.args.worked.now) c.in_ok-supplied.supplied.points) (nodes_but c.args.net.now.net.sink c.args.net.now.net))) _
     tt c.in_ok-check_balances_at.ensures)
     c.check_sink.ensures
+
+pub check_sink-requires-clause-inflows : goal.check_sink-requires-clause-inflows
+check_sink-requires-clause-inflows c = c.requires.inflows

@@ -25,3 +25,6 @@ loop-number-preserved c =
       | else-ne w ↦ but_skips (balance passes_Q c.args.net.now.net (flow_of c.args.flow.now) (labels_in c.args.worked.now) (loaded_in c.args.worked.now) c.args.supplied.now.points) c.args.net.now.net.sink c.args.net.now.net.nodes c.loop-number.number c.loop-number.invariant inside
           (is_one c.loop-number.number c.args.net.now.net.sink c.sink.result c.sink.ensures.value (sym c.ne.ensures ∙ w.if-ne.false))
     ]
+
+pub check_balance-requires-clause-inflows : goal.check_balance-requires-clause-inflows
+check_balance-requires-clause-inflows c = c.requires.inflows

@@ -59,3 +59,13 @@ returns c =
     ∙ part_goes Check (total_out passes_Q (points_of (flow_of c.args.flow.now).inflows) c.args.net.now.net.links c.sink-sink.result) _ c.in_ok-goes.goes.points c.in_ok-goes.ensures
     ∙ goes_on (compared_by passes_Q C7 (Node c.sink-sink.result) c.in_ok-comes.comes.points c.in_ok-goes.goes.points c.first_value.result) _ tt c.in_ok-compare.ensures)
     c.check_stays.ensures
+
+pub check_stays-requires-clause-reached : goal.check_stays-requires-clause-reached
+check_stays-requires-clause-reached c = c.requires.reached
+
+pub compare-requires : goal.compare-requires
+compare-requires c = c.first_value.ensures.nonnegative
+    (label_known c.args.worked.now _ _ c.sink-sink.result c.curve_at-label.result.now.points (c.requires.worked.labels c.sink-sink.result c.sink-sink.ensures.node) c.deref.ensures.value c.index.ensures c.curve_at-label.ensures).none_negative
+
+pub total_out-requires : goal.total_out-requires
+total_out-requires c = c.requires.inflows

@@ -31,3 +31,8 @@ pub returns : goal.returns
 returns c =
     let past : length c.args.net.now.net.links ≤ c.loop-number.number = omega arith in
     keep_last (loading passes_Q c.args.net.now.net (flow_of c.args.flow.now) (curves_of c.args.labels.now)) c.args.net.now.net.links c.loop-number.number (loadings_of c.loop-number.loaded.items) c.loop-number.invariant past
+
+pub load-requires-clause-inflow : goal.load-requires-clause-inflow
+load-requires-clause-inflow c =
+    let inside : c.loop-number.number < length c.args.net.now.net.links = omega arith in
+    c.requires.hold c.loop-number.number inside

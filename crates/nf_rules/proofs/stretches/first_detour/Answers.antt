@@ -1,3 +1,4 @@
+use Rattle.nf_rules.proofs.Merging.{time_from}
 use Rattle.std.proofs.lemmas.Result.{err_from_is_err_and}
 use Rattle.std.proofs.lemmas.Option.{slice_get_read}
 use Rattle.std.proofs.Common.{◌≡◌, ◌<◌, ◌≤◌, ◌+◌, ◌-◌, ℕ, length, Some, slice_get, refl, sym, ap, ◌∙◌, arith}
@@ -58,3 +59,30 @@ returns c =
     let some : 0 < c.loop-i.i = omega arith in
     let past : length c.args.times.now ≤ c.loop-i.i = omega arith in
     sym (ap (at_part Check) (no_stretch passes_Q c.args.sent.now.taken.points c.args.sent.now.exits.points c.args.sent.now.labels.points c.args.times.now c.loop-i.i some c.loop-i.invariant.left past))
+
+pub departure_at-requires-clause-time : goal.departure_at-requires-clause-time
+departure_at-requires-clause-time c =
+    let inside : 0 < length c.args.times.now = omega arith in
+    time_from c.args.times.now 0 c.index-times-0.result (slice_get_read c.args.times.now _ 0 c.index-times-0.result refl inside c.index-times-0.is) c.requires
+
+pub loop-i-init : goal.loop-i-init
+loop-i-init c =
+    let inside : 0 < length c.args.times.now = omega arith in
+    record {
+      left = refl;
+      at = slice_get_read c.args.times.now _ 0 c.index-times-0.result refl inside c.index-times-0.is ∙ ap (λ (t : ℚ). Some t) (sym c.in_ok-here.ensures.time);
+      here = c.in_ok-here.ensures.there;
+    }
+
+pub departure_at-requires-in-loop-i-clause-time : goal.departure_at-requires-in-loop-i-clause-time
+departure_at-requires-in-loop-i-clause-time c =
+    time_from c.args.times.now c.loop-i.i c.index-times-i.result (slice_get_read c.args.times.now _ c.loop-i.i c.index-times-i.result refl c.loop-i-test.true c.index-times-i.is) c.requires
+
+pub departure_at-requires-in-loop-i-clause-within : goal.departure_at-requires-in-loop-i-clause-within
+departure_at-requires-in-loop-i-clause-within c = c.loop-i.invariant.here.within
+
+pub on_stretch-requires-clause-here : goal.on_stretch-requires-clause-here
+on_stretch-requires-clause-here c = c.loop-i.invariant.here
+
+pub on_stretch-requires-clause-there : goal.on_stretch-requires-clause-there
+on_stretch-requires-clause-there c = c.in_ok-there.ensures.there

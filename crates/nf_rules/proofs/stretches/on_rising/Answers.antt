@@ -1,5 +1,6 @@
+use Rattle.nf_rules.proofs.Stretching.{with_sides, on_any}
 use Rattle.std.proofs.lemmas.Result.{err_from_is_err_and}
-use Rattle.std.proofs.Common.{Bool, sym, ap, ◌∙◌}
+use Rattle.std.proofs.Common.{Bool, sym, ap, ◌∙◌, refl}
 use Rattle.nf_work.specs.Passing.{passes_Q}
 use Rattle.nf_work.specs.Checked.{at_part}
 use Rattle.nf_work.specs.declared.Part.TheVariants.{Check}
@@ -39,3 +40,12 @@ returns-else-do_differ-2-clause-list c =
     ∙ ap (λ (b : Bool). at_part Check (at_end passes_Q b (difference_of c.in_ok-sides.sides) c.args.sent.now.exits.points c.args.sent.now.labels.points c.args.here.now.time c.args.there.now.time)) (sym c.do_differ.ensures ∙ c.if-do_differ.false)
     ∙ after_ok Check (sides_at passes_Q c.args.sent.now.exits.points c.args.sent.now.labels.points c.args.there.now.time) _ (difference_of c.in_ok-end.end) (sym c.in_ok-end.ensures)
     ∙ ap (λ (b : Bool). at_part Check (at_middle passes_Q b c.args.sent.now.exits.points c.args.sent.now.labels.points c.args.here.now.time c.args.there.now.time)) (sym c.do_differ-2.ensures ∙ c.if-do_differ-2.false))
+
+pub returns-then-do_differ-2-clause-there : goal.returns-then-do_differ-2-clause-there
+returns-then-do_differ-2-clause-there c = on_any c.at_middle.result (with_sides c.args.sent.now c.args.there.now _ c.requires.there c.in_ok-end.end (sym c.in_ok-end.ensures) refl)
+
+pub returns-then-do_differ-2-clause-time : goal.returns-then-do_differ-2-clause-time
+returns-then-do_differ-2-clause-time c = on_any c.at_middle.result refl
+
+pub returns-else-do_differ-2-clause-there : goal.returns-else-do_differ-2-clause-there
+returns-else-do_differ-2-clause-there c = with_sides c.args.sent.now c.args.there.now _ c.requires.there c.in_ok-end.end (sym c.in_ok-end.ensures) refl

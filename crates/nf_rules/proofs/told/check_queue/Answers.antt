@@ -9,7 +9,7 @@ use Rattle.nf_load.specs.Loadings.{loaded_of}
 use Rattle.nf_check_lists.specs.Curves.{loaded_at, last_value}
 use Rattle.nf_rules.specs.Kept.{curves_of, labels_in, loaded_in, loadings_of}
 use Rattle.nf_rules.proofs.Keeping.{same_some}
-use Rattle.nf_rules.proofs.Known.{label_known}
+use Rattle.nf_rules.proofs.Known.{label_known, label_there}
 use Rattle.nf_rules.proofs.told.check_queue.Goals as goal
 
 pub compare-requires : goal.compare-requires
@@ -28,3 +28,7 @@ returns c = λ here is.
     let last : c.last_value-last.result ≡ last_value (points_at (labels_in c.args.worked.now) here.tail) =
     c.last_value-last.ensures.value ∙ ap last_value (c.curve_at.ensures ∙ ap (λ (l : List Grown). points_at (curves_of l) c.index.result) c.deref.ensures.value ∙ ap (points_at (labels_in c.args.worked.now)) (c.index.ensures ∙ ap (λ (l : Link). l.tail) (c.tail.view_is ∙ one))) in
     rw (sym told, sym right, sym last) c.compare.ensures
+
+pub curve_at-requires : goal.curve_at-requires
+curve_at-requires c = label_there c.args.net.now.net c.args.worked.now c.requires.worked _ c.index.result c.link.result.tail c.deref.ensures.value (c.index.ensures ∙ ap (λ (l : Link). l.tail) c.tail.view_is)
+    (c.link.ensures.named.network.tails c.args.link c.link.result c.link.ensures.link)

@@ -40,3 +40,6 @@ returns-clause-list c =
     after_ok Check (checked_composed passes_Q c.args.inflow.now.points c.args.tail_label.now.points c.args.last) _ c.in_ok-all_taken.all_taken.points c.in_ok-all_taken.ensures.list
     ∙ after_ok Check (checked_short passes_Q c.in_ok-all_taken.all_taken.points) _ c.in_ok-taken.taken.points c.in_ok-taken.ensures.list
     ∙ after_ok Check (checked_short passes_Q c.args.head_label.now.points) _ c.in_ok-labels.labels.points c.in_ok-labels.ensures.list
+
+pub returns-clause-curves : goal.returns-clause-curves
+returns-clause-curves c = record { taken = c.in_ok-taken.ensures.short.curve; exits = c.len.ensures.curve; labels = c.in_ok-labels.ensures.short.curve }
