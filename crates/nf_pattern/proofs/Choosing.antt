@@ -5,7 +5,8 @@ use Rattle.nf_model.specs.declared.State.{State}
 use Rattle.nf_model.specs.declared.State.TheVariants.{Tight, Full, Zero}
 use Rattle.nf_model.specs.ThinFlow.{Sets}
 use Rattle.nf_model.specs.Pattern.{Pattern, HasState, IsPattern}
-use Rattle.nf_pattern.specs.Successor.{choices, IsIn, IsAssignment}
+use Rattle.nf_pattern.specs.Successor.{choices, IsIn, IsAssignment, first_good}
+use Rattle.std.specs.Prelude.{is_some}
 
 -- ---- link by link
 abbrev pub HasEntry : {A : Type 0} → List A → ℕ → A → Type 0
@@ -143,3 +144,10 @@ same_front_at {A = A} n e xs ys less same = sym (taken n e xs less) ∙ (ap (λ 
     taken (suc n) e [] less = refl
     taken (suc n) zero (z ∷ zs) less = refl
     taken (suc n) (suc e) (z ∷ zs) less = taken n e zs (omega arith)
+
+-- Full is the first choice that fits
+pub full_fits : (good : Option State → Bool) (base : Option State) (unbounded : Bool) → is_some base ≡ true → unbounded ≡ false → false ≡ good (Some Tight) → true ≡ good (Some Full)
+    → Some (Some Full) ≡ first_good good (choices base unbounded)
+full_fits good None unbounded there bounded tight full = absurd (cc)
+full_fits good (Some state) true there bounded tight full = absurd (cc)
+full_fits good (Some state) false there bounded tight full = rw (sym tight, sym full) refl

@@ -1,13 +1,15 @@
 -- Which links enter each node, backward from the last that leads to it; and behind which one no later one can.
 use Rattle.std.proofs.Common.{◌≡◌, ◌≢◌, ℕ, zero, suc, ◌+◌, ◌<◌, ◌≤◌, Bool, true, false, not, List, length, get_or, replicate, slice_set, inl, inr, ◌⊎◌, ⊎_elim, Option, Some, None, refl, sym, ap, subst, ◌∙◌, arith}
-use Rattle.std.specs.Prelude.{slice_get, MatchBool}
-use Rattle.std.proofs.lemmas.Option.{same_Some}
+use Rattle.std.specs.Prelude.{slice_get, MatchBool, is_some}
+use Rattle.std.proofs.lemmas.Option.{same_Some, none-some}
 use Rattle.nf_model.specs.Walk.{Hop, IsHop}
-use Rattle.nf_model.specs.Pattern.{Pattern}
+use Rattle.nf_model.specs.Pattern.{Pattern, HasState}
 use Rattle.nf_graph.proofs.Walks.{IsHop-unique, IsHop-read}
 use Rattle.nf_pattern.specs.Entered.{MayCarry, EntersBy, EnteredBefore, LeadsTo, IsLastInto, AreLastInto, AreChained, CanCarry, IsEndBefore, AreEndsBefore, Strands, Keeps}
 use Rattle.nf_pattern.proofs.Setting.{set_same, set_other, tell}
 use Rattle.nf_plain_laws.proofs.Naturals.{before_or_at}
+use Rattle.nf_model.specs.Entries.{Has}
+use Rattle.nf_model.specs.declared.State.{State}
 
 apart_or_same : (e k : ℕ) → (e < k) ⊎ ((k < e) ⊎ (e ≡ k))
 apart_or_same e k = grind arith
@@ -15,6 +17,14 @@ apart_or_same e k = grind arith
 -- the hop of a link's number
 pub hop_there : (hops : List Hop) (e i : ℕ) (hop : Hop) → e < length hops → i ≡ e → hop ≡ get_or hops i hop → IsHop hops e hop
 hop_there hops e i hop within same read = IsHop-read hops e hop within (read ∙ ap (λ (k : ℕ). get_or hops k hop) same)
+
+-- a link that isn't resetting can carry where it may have a state
+pub carried_by_state : (resetting : List Bool) (base : Pattern) (e : ℕ) → slice_get resetting e ≡ Some false → (given : Option State) → slice_get base e ≡ Some given
+    → MatchBool (is_some given) (CanCarry resetting base e) (CanCarry resetting base e → ⊥)
+carried_by_state resetting base e off (Some state) at = inr (state, at)
+carried_by_state resetting base e off None at = λ can. ⊎_elim
+    (λ (on : Has resetting e). absurd (let same : false ≡ true = same_Some false true (sym off ∙ on) in cc))
+    (λ (w : (state : State) × HasState base e state). absurd (none-some w.0 (same_Some None (Some w.0) (sym at ∙ w.1)))) can
 
 -- how many links may be left to go back to
 abbrev pub left_back_to : Option ℕ → ℕ

@@ -1,7 +1,7 @@
 -- Base patterns, link by link.
-use Rattle.std.proofs.Common.{◌≡◌, ℕ, zero, suc, ◌<◌, List, Bool, length, get_or, replicate, true, false, refl, ap, ◌∙◌, arith, inl, inr}
+use Rattle.std.proofs.Common.{◌≡◌, ℕ, zero, suc, ◌<◌, List, Bool, length, get_or, replicate, true, false, refl, ap, ◌∙◌, arith, inl, inr, ⊎_elim, subst, sym, ◌+◌}
 use Rattle.std.specs.Prelude.{Option, Some, None, slice_get}
-use Rattle.std.proofs.lemmas.Option.{slice_get_within, slice_get-get_or}
+use Rattle.std.proofs.lemmas.Option.{slice_get_within, slice_get-get_or, same_Some}
 use Rattle.nf_rational.specs.Operations.{0ℚ}
 use Rattle.nf_model.specs.declared.State.{State}
 use Rattle.nf_model.specs.declared.State.TheVariants.{Tight, Full, Zero}
@@ -12,6 +12,7 @@ use Rattle.nf_model.specs.Pattern.{Pattern, HasState, NeedsState, IsPattern, IsF
 use Rattle.nf_graph.proofs.Walks.{IsHop-unique}
 use Rattle.nf_pattern.specs.Base.{Bars, IsBaseState}
 use Rattle.nf_pattern.proofs.Each.{EachEntry}
+use Rattle.nf_plain_laws.proofs.Naturals.{before_or_at}
 
 module _ (hops : List Hop) (sets : Sets) where
   -- no link bars this one
@@ -32,6 +33,14 @@ module _ (hops : List Hop) (sets : Sets) where
   not_first_into e k here other p q same bars hop first =
       barred e k hop other q (same ∙ ap (λ (h : Hop). h.head) (IsHop-unique hops e here hop p first.is_hop)) bars first
 
+  -- none of the links so far bars this one, nor does the next
+  pub free_more : (e node n : ℕ) → ((k : ℕ) (other : Hop) → k < n → IsHop hops k other → other.head ≡ node → Bars sets k e → ⊥)
+      → ((other : Hop) → IsHop hops n other → other.head ≡ node → Bars sets n e → ⊥) → (k : ℕ) (other : Hop) → k < n + 1 → IsHop hops k other → other.head ≡ node → Bars sets k e → ⊥
+  free_more e node n free here k other less q head bars = ⊎_elim
+      (λ (l : k < n). free k other l q head bars)
+      (λ (same : k ≡ n). here other (subst (λ (i : ℕ). IsHop hops i other) same q) head (subst (λ (i : ℕ). Bars sets i e) same bars))
+      (before_or_at k n (omega (arith, less)))
+
   -- ---- the state of the first one
   any_hop : Hop
   any_hop = record { tail = 0; head = 0; transit = 0ℚ }
@@ -50,6 +59,29 @@ module _ (hops : List Hop) (sets : Sets) where
     kept = λ state _ was. absurd (no_state last e state none was);
     first = λ _ _ _ _. refl;
     later = λ _ _ not_first. absurd (not_first (get_or hops e any_hop) (first (get_or hops e any_hop) (slice_get-get_or hops e any_hop below)));
+  }
+
+  -- ---- the state of one that had one, and of a later one
+  same_state : (last : Pattern) (e : ℕ) (s t : State) → slice_get last e ≡ Some (Some s) → HasState last e t → s ≡ t
+  same_state last e s t at was = same_Some s t (same_Some (Some s) (Some t) (sym at ∙ was))
+
+  pub state_kept : (last : Pattern) (e : ℕ) (state : State) → Has sets.active e → slice_get sets.resetting e ≡ Some false → slice_get last e ≡ Some (Some state) → IsBaseState hops sets last e (Some state)
+  state_kept last e state active off at = record {
+    needed = λ s _. (active, not_set e off);
+    there = λ _. (state, refl);
+    kept = λ s _ was. ap (λ (x : State). Some x) (same_state last e state s at was);
+    first = λ _ _ none _. absurd (no_state last e state none at);
+    later = λ _ none _. absurd (no_state last e state none at);
+  }
+
+  pub zero_later : (last : Pattern) (e : ℕ) → Has sets.active e → slice_get sets.resetting e ≡ Some false → slice_get last e ≡ Some None
+      → ((hop : Hop) → IsFirstInto hops sets e hop → ⊥) → IsBaseState hops sets last e (Some Zero)
+  zero_later last e active off none not_first = record {
+    needed = λ state _. (active, not_set e off);
+    there = λ _. (Zero, refl);
+    kept = λ state _ was. absurd (no_state last e state none was);
+    first = λ hop _ _ is. absurd (not_first hop is);
+    later = λ _ _ _. refl;
   }
 
   -- ---- the whole pattern

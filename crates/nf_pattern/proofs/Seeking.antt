@@ -15,6 +15,14 @@ use Rattle.nf_pattern.proofs.Successors.{changes_few}
 use Rattle.nf_pattern.proofs.InOrder.{base_first, next_is, next_none, next_least}
 use Rattle.nf_pattern.proofs.Quiet.{quiet_end}
 use Rattle.nf_pattern.proofs.Ranging.{before_or, left_after, fewer_left}
+use Rattle.nf_model.specs.Walk.{Hop}
+
+-- of the same values
+pub same_question : (nodes source : ℕ) {hops hops' : List Hop} {active active' resetting resetting' unbounded unbounded' : List Bool} {base base' : Pattern}
+    → hops ≡ hops' → active ≡ active' → resetting ≡ resetting' → unbounded ≡ unbounded' → base ≡ base'
+    → ◌≡◌ {A = Question} (record { nodes = nodes; source = source; hops = hops; sets = record { active = active; resetting = resetting }; unbounded = unbounded; base = base })
+    (record { nodes = nodes; source = source; hops = hops'; sets = record { active = active'; resetting = resetting' }; unbounded = unbounded'; base = base' })
+same_question nodes source h a r u b = rw (h, a, r, u, b) refl
 
 -- no listed pattern from the start on comes before p
 pub record IsSought (question : Question) (start p : Pattern) : Type 0 where

@@ -1,8 +1,10 @@
-use Rattle.std.proofs.Common.{◌∙◌, ℕ, ◌+◌, List, Option, length, ap, sym, subst, arith}
-use Rattle.std.proofs.lemmas.List.{with_items_is}
+use Rattle.std.proofs.Common.{◌∙◌, ℕ, ◌+◌, List, Option, length, ap, sym, subst, arith, replicate, None, ◌≡◌, rules}
+use Rattle.std.proofs.lemmas.List.{with_items_is, length-replicate}
 use Rattle.nf_model.specs.Walk.{Hop, IsHop}
 use Rattle.nf_pattern.specs.Entered.{IsLastInto, AreLastInto, AreChained}
 use Rattle.nf_pattern.proofs.Each.{each_pushed, length_pushed}
+use Rattle.std.proofs.lemmas.Option.{none-some}
+use Rattle.nf_pattern.proofs.Entries.{none_last}
 use Rattle.nf_pattern.proofs.entered.chain.Goals as goal
 
 pub loop-e-preserved : goal.loop-e-preserved
@@ -17,4 +19,14 @@ loop-e-preserved c =
       chain = subst (AreChained c.args.hops.now) (sym c.in_ok-push.ensures.items)
           (each_pushed (λ (e : ℕ) (found : Option ℕ). (hop : Hop) → IsHop c.args.hops.now e hop → IsLastInto c.args.hops.now e hop.head found) c.loop-e.chain.items c.chain_link-before.result c.loop-e.e
           c.loop-e.invariant.count c.loop-e.invariant.chain c.chain_link-before.ensures.before);
+    }
+
+pub loop-e-init : goal.loop-e-init
+loop-e-init c =
+    let start : c.in_ok-last.last.items ≡ replicate {A = Option ℕ} c.args.nodes None = c.in_ok-last.ensures.items_if_clones_equal (λ y e. search rules) in
+    record {
+      count_last = ap (λ (os : List (Option ℕ)). length os) start ∙ length-replicate c.args.nodes None;
+      last = subst (AreLastInto c.args.hops.now 0) (sym start) (none_last c.args.hops.now c.args.nodes);
+      count = ap (λ (os : List (Option ℕ)). length os) c.in_ok-chain.ensures.items;
+      chain = subst (AreChained c.args.hops.now) (sym c.in_ok-chain.ensures.items) (λ e found at. absurd (none-some found at));
     }

@@ -1,4 +1,4 @@
-use Rattle.std.proofs.Common.{◌∙◌, ap, sym}
+use Rattle.std.proofs.Common.{◌∙◌, ap, sym, subst, length, ◌<◌, ℕ}
 use Rattle.nf_model.specs.Walk.{Hop, IsHop}
 use Rattle.nf_graph.proofs.Walks.{same_from_test, apart_from_test}
 use Rattle.nf_pattern.proofs.Entries.{hop_there, head_led, carries_keeps, source_keeps, later_keeps, strands_told}
@@ -30,3 +30,8 @@ returns c =
     strands_told c.args.hops.now c.args.resetting.now c.args.states.now c.args.source c.args.ends.now c.args.link c.index-hops-index.result here c.hop.inside.head
     (ap (λ (h : Hop). h.head) c.hop.view_is) (apart_from_test c.hop.inside.head c.args.source (sym c.if-eq.false ∙ c.eq.ensures)) c.if-may_carry.ensures c.if-not-is_end.ensures
     c.is_entered_before.result c.is_entered_before.ensures
+
+pub is_end-requires : goal.is_end-requires
+is_end-requires c =
+    let here : IsHop c.args.hops.now c.args.link c.index-hops-index.result = hop_there c.args.hops.now c.args.link c.index.result c.index-hops-index.result c.requires.link c.index.ensures c.index-hops-index.is in
+    subst (λ (n : ℕ). n < length c.args.ends.now) (sym (ap (λ (h : Hop). h.head) c.hop.view_is)) (c.requires.below.heads c.args.link c.index-hops-index.result here)

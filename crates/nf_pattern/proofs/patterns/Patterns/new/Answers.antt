@@ -1,5 +1,6 @@
-use Rattle.std.proofs.Common.{refl}
+use Rattle.std.proofs.Common.{refl, subst}
 use Rattle.nf_pattern.proofs.Seeking.{standing_start}
+use Rattle.nf_pattern.specs.Given.{IsQuestion}
 use Rattle.nf_pattern.proofs.patterns.Patterns.new.Goals as goal
 
 pub invariant_of-result : goal.invariant_of-result
@@ -14,3 +15,6 @@ invariant_of-result c = standing_start c.in_ok-question.question _ c.in_ok-curre
       nodes = c.ranges.nodes.fits;
     })
     c.in_ok-current.ensures c.in_ok-trail.ensures refl refl
+
+pub trail-requires : goal.trail-requires
+trail-requires c = record { question = subst IsQuestion c.question.view_is c.question.invariant }

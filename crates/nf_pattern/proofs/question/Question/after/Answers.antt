@@ -3,6 +3,7 @@ use Rattle.nf_model.specs.Pattern.{Pattern}
 use Rattle.nf_pattern.specs.Successor.{IsAssignment}
 use Rattle.nf_pattern.proofs.Choosing.{assigned_length}
 use Rattle.nf_pattern.proofs.Seeking.{none_after, next_assigned, match_after}
+use Rattle.nf_pattern.specs.Trail.{IsTrailOf}
 use Rattle.nf_pattern.proofs.question.Question.after.Goals as goal
 
 pub advance-requires-clause-same : goal.advance-requires-clause-same
@@ -24,3 +25,6 @@ returns-in-Some-clause-found c = match_after c.args.self.now c.requires.question
 
 pub seek-requires-clause-trail : goal.seek-requires-clause-trail
 seek-requires-clause-trail c = c.retreat.ensures c.args.states.now c.advance.new.states c.requires.trail c.advance.auto.states c.in-Some.ensures.found.1.1
+
+pub returns-in-None-clause-trail : goal.returns-in-None-clause-trail
+returns-in-None-clause-trail c = subst (λ (x : Pattern). IsTrailOf c.args.self.now x c.args.trail.now) (sym c.in-None.ensures.found.1) c.requires.trail

@@ -2,6 +2,7 @@ use Rattle.std.proofs.Common.{subst, sym}
 use Rattle.nf_model.specs.Pattern.{Pattern}
 use Rattle.nf_pattern.specs.Successor.{IsAssignment}
 use Rattle.nf_pattern.proofs.Seeking.{sought_first, sought_found, sought_more, sought_none, step_fewer}
+use Rattle.nf_pattern.specs.Trail.{IsTrailOf}
 use Rattle.nf_pattern.proofs.question.Question.seek.Goals as goal
 
 pub loop-same-init : goal.loop-same-init
@@ -39,3 +40,6 @@ returns-clause-assigned c = c.loop-same.invariant.sought.assigned
 
 pub returns-clause-found : goal.returns-clause-found
 returns-clause-found c = sought_found c.args.self.now c.requires.question c.args.states.now c.loop-same.states c.loop-same.invariant.sought c.in_default.ensures.found
+
+pub returns-in_default-advance-clause-trail : goal.returns-in_default-advance-clause-trail
+returns-in_default-advance-clause-trail c = subst (λ (x : Pattern). IsTrailOf c.args.self.now x c.failing.new.trail) (sym c.in_default-advance.ensures.found.1) c.in-Some.ensures.trail

@@ -1,4 +1,4 @@
-use Rattle.std.proofs.Common.{ℕ, refl, sym, subst}
+use Rattle.std.proofs.Common.{ℕ, refl, sym, subst, ◌<◌, length, ap}
 use Rattle.nf_model.specs.Walk.{Hop, IsHop}
 use Rattle.nf_pattern.specs.Forest.{AreJoined, TightBefore}
 use Rattle.nf_pattern.proofs.Entries.{hop_there}
@@ -29,3 +29,13 @@ returns-clause-entered c =
           (λ joined. c.if-join.ensures (subst (λ (n : ℕ). AreJoined c.args.hops.now (TightBefore c.args.states.now n) c.hop.inside.head c.hop.inside.tail) (sym c.index-2.ensures)
           (subst (λ (h : Hop). AreJoined c.args.hops.now (TightBefore c.args.states.now c.args.link) h.head h.tail) (sym c.hop.view_is) joined)))),
     )
+
+pub join-requires-clause-tail : goal.join-requires-clause-tail
+join-requires-clause-tail c =
+    let here : IsHop c.args.hops.now c.args.link c.index-hops-index.result = hop_there c.args.hops.now c.args.link c.index.result c.index-hops-index.result c.requires.link c.index.ensures c.index-hops-index.is in
+    subst (λ (n : ℕ). n < length c.args.self.now.last.items) (sym (ap (λ (h : Hop). h.tail) c.hop.view_is)) (c.requires.holds.below.tails c.args.link c.index-hops-index.result here)
+
+pub join-requires-clause-head : goal.join-requires-clause-head
+join-requires-clause-head c =
+    let here : IsHop c.args.hops.now c.args.link c.index-hops-index.result = hop_there c.args.hops.now c.args.link c.index.result c.index-hops-index.result c.requires.link c.index.ensures c.index-hops-index.is in
+    subst (λ (n : ℕ). n < length c.args.self.now.last.items) (sym (ap (λ (h : Hop). h.head) c.hop.view_is)) (c.requires.holds.below.heads c.args.link c.index-hops-index.result here)
