@@ -11,3 +11,5 @@ pub mod LoadedCurves
 pub mod LoadingSteps
 pub mod ExitsInTurn
 pub mod OverPieces
+mod Pushed
+mod SpanWords

@@ -1,5 +1,5 @@
 -- Cumulative amounts, piece by piece.
-use Rattle.std.proofs.Common.{◌≡◌, ⊎_elim, ℕ, suc, drop, Bool, true, false, List, [], ◌∷◌, ◌++◌, refl, sym, ap, ◌∙◌, append_assoc}
+use Rattle.std.proofs.Common.{◌≡◌, ⊎_elim, ℕ, suc, ◌+◌, arith, drop, Bool, true, false, List, [], ◌∷◌, ◌++◌, refl, sym, ap, ◌∙◌, append_assoc}
 use Rattle.std.specs.Prelude.{Ok, Err, Some, slice_get}
 use Rattle.nf_rational.specs.Rational.{ℚ}
 use Rattle.nf_rational.specs.Operations.{0ℚ}
@@ -82,6 +82,9 @@ module _ (passes : Passing) where
           stop : (r : Checked ℚ) → at_part part r ≡ Err p → at_part part (with_front front (by_sum r)) ≡ Err p
           stop (Ok y) d = absurd (cc)
           stop (Err q) d = let same : placed part q ≡ p = cc in ap (λ (x : PassedAt ℚ). Err x) same
+
+pub one_on : (i : ℕ) → i + 1 ≡ suc i
+one_on i = omega arith
 
 -- ---- the same of the piece of a number
 pub piece_first : (xs : List Piece) (i next : ℕ) (p : Piece) → slice_get xs i ≡ Some p → next ≡ suc i → drop i xs ≡ p ∷ drop next xs

@@ -11,7 +11,7 @@ use Rattle.nf_work.specs.Checked.{at_part}
 use Rattle.nf_work.proofs.Each.{with_front}
 use Rattle.nf_model.specs.Network.{Piece}
 use Rattle.nf_load_lists.specs.Cumulative.{end_of, point_if_after_0, with_piece, cumulative_from, checked_cumulative}
-use Rattle.nf_load.proofs.Supplying.{begins_with, ends_before_at, ends_there, goes_on_at, stops_at}
+use Rattle.nf_load.proofs.Supplying.{begins_with, ends_before_at, ends_there, goes_on_at, stops_at, one_on}
 use Rattle.nf_load.proofs.amounts.cumulative_points.Goals as goal
 
 pub loop-index-init : goal.loop-index-init
@@ -21,16 +21,16 @@ loop-index-init c =
 
 pub returns-then-not-is_below : goal.returns-then-not-is_below
 returns-then-not-is_below c =
-    let inside : c.loop-index.index < length c.args.pieces.now = omega arith in
+    let inside : c.loop-index.index < length c.args.pieces.now = c.loop-index-test.true in
     let g = slice_get_read c.args.pieces.now _ c.loop-index.index c.index-pieces-index.result refl inside c.index-pieces-index.is in
     let late : lt_ℚ c.index-pieces-index.result.start c.args.last ≡ false =
     sym (c.is_below.ensures ∙ ap (λ (p : Piece). lt_ℚ p.start c.args.last) c.piece.view_is) ∙ c.if-not-is_below.true in
     ends_before_at passes_Q Load c.loop-index.points.items c.loop-index.so_far c.args.last c.args.pieces.now c.loop-index.index (c.loop-index.index + 1) c.index-pieces-index.result
-    g (omega arith) c.loop-index.invariant late ∙ ap Ok (sym c.in_ok-ended.ensures)
+    g (one_on c.loop-index.index) c.loop-index.invariant late ∙ ap Ok (sym c.in_ok-ended.ensures)
 
 pub loop-index-preserved : goal.loop-index-preserved
 loop-index-preserved c =
-    let inside : c.loop-index.index < length c.args.pieces.now = omega arith in
+    let inside : c.loop-index.index < length c.args.pieces.now = c.loop-index-test.true in
     let g = slice_get_read c.args.pieces.now _ c.loop-index.index c.index-pieces-index.result refl inside c.index-pieces-index.is in
     let below : lt_ℚ c.index-pieces-index.result.start c.args.last ≡ true =
     sym (c.is_below.ensures ∙ ap (λ (p : Piece). lt_ℚ p.start c.args.last) c.piece.view_is) ∙ c.if-not-is_below.false in
@@ -39,7 +39,7 @@ loop-index-preserved c =
     ap (λ (l : List (ℚ × ℚ)). with_front l (cumulative_from passes_Q c.in_ok-sum.sum (drop (c.loop-index.index + 1) c.args.pieces.now) c.args.last))
     (c.in_ok-push_after_0.ensures ∙ ap (λ (p : Piece). c.loop-index.points.items ++ point_if_after_0 p.start c.loop-index.so_far) c.piece.view_is)
     ∙ goes_on_at passes_Q Load c.loop-index.points.items c.loop-index.so_far c.args.last c.args.pieces.now c.loop-index.index (c.loop-index.index + 1) c.index-pieces-index.result
-    g (omega arith) c.loop-index.invariant c.in_ok-sum.sum below
+    g (one_on c.loop-index.index) c.loop-index.invariant c.in_ok-sum.sum below
     (ap (λ (z : ℚ). at_part Load (with_piece passes_Q c.loop-index.so_far c.index-pieces-index.result z)) (sym end) ∙ sym c.in_ok-sum.ensures)
 
 pub returns : goal.returns
@@ -52,12 +52,12 @@ returns c =
 pub returns-in_err-sum : goal.returns-in_err-sum
 returns-in_err-sum c =
     let p = err_from_is_err_and c.from_residual-in_err-sum.result c.from_residual-in_err-sum.ensures.1 in
-    let inside : c.loop-index.index < length c.args.pieces.now = omega arith in
+    let inside : c.loop-index.index < length c.args.pieces.now = c.loop-index-test.true in
     let g = slice_get_read c.args.pieces.now _ c.loop-index.index c.index-pieces-index.result refl inside c.index-pieces-index.is in
     let below : lt_ℚ c.index-pieces-index.result.start c.args.last ≡ true =
     sym (c.is_below.ensures ∙ ap (λ (p : Piece). lt_ℚ p.start c.args.last) c.piece.view_is) ∙ c.if-not-is_below.false in
     let end : c.end_of.result ≡ end_of (drop (c.loop-index.index + 1) c.args.pieces.now) c.args.last =
     c.end_of.ensures ∙ ap (λ (l : List Piece). end_of l c.args.last) (take_rest c.args.pieces.now (c.loop-index.index + 1)) in
     rw (p.1, p.2) (stops_at passes_Q Load c.loop-index.points.items c.loop-index.so_far c.args.last c.args.pieces.now c.loop-index.index (c.loop-index.index + 1) c.index-pieces-index.result
-    g (omega arith) c.loop-index.invariant c.in_err-sum.field-0.0 below
+    g (one_on c.loop-index.index) c.loop-index.invariant c.in_err-sum.field-0.0 below
     (ap (λ (z : ℚ). at_part Load (with_piece passes_Q c.loop-index.so_far c.index-pieces-index.result z)) (sym end) ∙ sym c.in_err-sum.ensures))

@@ -1,11 +1,11 @@
-use Rattle.std.proofs.Common.{◌<◌, List, length, refl, sym, subst, ◌∙◌, arith}
+use Rattle.std.proofs.Common.{◌<◌, ◌+◌, List, length, refl, sym, subst, ◌∙◌, arith}
 use Rattle.std.proofs.lemmas.Option.{slice_get_read}
 use Rattle.std.proofs.lemmas.Result.{IfOk-from_err}
 use Rattle.nf_rational.specs.Rational.{ℚ}
 use Rattle.nf_rational.specs.Order.{◌<ℚ◌}
 use Rattle.nf_curve.specs.Points.{last_time}
 use Rattle.nf_curve.proofs.Points.{points_there}
-use Rattle.nf_load.proofs.PointByPoint.{first_taken, taken_to_end, later_than_taken}
+use Rattle.nf_load.proofs.PointByPoint.{first_taken, taken_to_end, later_than_taken, next_by_parts}
 use Rattle.nf_load.proofs.points.curve_of.Goals as goal
 
 pub bounds-points-0 : goal.bounds-points-0
@@ -34,3 +34,10 @@ pub returns : goal.returns
 returns c =
     let some = points_there c.args.points.now c.requires in
     c.loop-i.invariant.0 ∙ taken_to_end c.args.points.now c.loop-i.i (omega arith)
+
+pub loop-i-preserved : goal.loop-i-preserved
+loop-i-preserved c = (
+  next_by_parts c.args.points.now c.push.new.self.points c.loop-i.curve.points c.loop-i.i (c.loop-i.i + 1) c.index-points-i.result c.index-points-i-in-loop-i.result c.in_ok-push.ensures.ok c.loop-i.invariant.0
+      c.loop-i-test.true (omega arith),
+  omega arith,
+)

@@ -1,4 +1,5 @@
-use Rattle.std.proofs.Common.{◌<◌, List, length, Err, sym, ◌∙◌, arith}
+use Rattle.std.proofs.Common.{◌<◌, List, length, Err, refl, sym, ◌∙◌, arith}
+use Rattle.std.proofs.lemmas.Option.{slice_get_read}
 use Rattle.std.proofs.lemmas.Result.{err_from_is_err_and}
 use Rattle.nf_lines.specs.Words.{ReadLine}
 use Rattle.nf_load.specs.Drafts.{draft_on}
@@ -20,3 +21,7 @@ loop-line-preserved c = (
       (λ (rest : List ReadLine). draft_on c.args.net.now c.add_line.new.draft rest) c.in_ok-add_line.ensures.adds) ∙ c.loop-line.invariant.0,
   c.in_ok-add_line.ensures.links,
 )
+
+pub add_line-requires-clause-within : goal.add_line-requires-clause-within
+add_line-requires-clause-within c =
+    c.requires.each c.loop-line.line-index c.line-item.result (slice_get_read c.args.lines.now _ c.loop-line.line-index c.line-item.result refl c.loop-line-test.true c.line-item.is)
