@@ -7,3 +7,4 @@ pub mod Here
 pub mod All
 pub mod Travelling
 pub mod Whole
+mod Passed

@@ -1,10 +1,14 @@
-use Rattle.std.proofs.Common.{◌<◌, [], ◌∷◌, length, refl, arith}
-use Rattle.std.proofs.lemmas.List.{length-map}
+use Rattle.std.proofs.Common.{ℕ, ◌<◌, ◌≤◌, List, [], ◌∷◌, length, drop, refl, sym, ap, subst, ◌∙◌, arith}
+use Rattle.std.proofs.lemmas.List.{length-map, drop_all}
 use Rattle.std.proofs.lemmas.Option.{slice_get_read}
 use Rattle.std.proofs.lemmas.Result.{err_from_is_err_and}
 use Rattle.nf_rational.specs.Operations.{0ℚ}
+use Rattle.nf_work.specs.declared.Part.TheVariants.{Load}
 use Rattle.nf_work.specs.Passing.{passes_Q}
+use Rattle.nf_work.specs.Checked.{at_part}
 use Rattle.nf_plain_laws.proofs.Entries.{slice_get-image}
+use Rattle.nf_routes_lists.specs.Routes.{Route}
+use Rattle.nf_routes_lists.specs.RoutesList.{sum_from}
 use Rattle.nf_routes_lists.specs.RoutesFile.{NamedRoute}
 use Rattle.nf_route.specs.Kept.{routes_of}
 use Rattle.nf_routes.specs.Standing.{Sends}
@@ -46,3 +50,10 @@ loop-i-preserved c =
     sums_go passes_Q c.args.link ((0ℚ, 0ℚ) ∷ []) (routes_of c.args.routes.now) c.args.entries.now c.loop-i.total.points c.loop-i.i c.loop-i.invariant c.index-routes-i.result.route c.index-entries-i.result
     (slice_get-image (λ (r : NamedRoute). r.route) c.args.routes.now c.loop-i.i c.index-routes-i.result (slice_get_read c.args.routes.now _ c.loop-i.i c.index-routes-i.result refl inside c.index-routes-i.is))
     (slice_get_read c.args.entries.now _ c.loop-i.i c.index-entries-i.result refl there c.index-entries-i.is) c.in_ok-total-2.total.points c.in_ok-total-2.ensures
+
+pub returns : goal.returns
+returns c =
+    let count = length-map c.args.routes.now (λ (r : NamedRoute). r.route) in
+    let past : length (routes_of c.args.routes.now) ≤ c.loop-i.i = subst (λ (n : ℕ). n ≤ c.loop-i.i) (sym count) c.loop-i-test.false in
+    ap (at_part Load) (sym c.loop-i.invariant.same
+    ∙ ap (λ (l : List Route). sum_from passes_Q c.args.link c.loop-i.total.points l (drop c.loop-i.i c.args.entries.now)) (drop_all c.loop-i.i (routes_of c.args.routes.now) past))

@@ -1,13 +1,19 @@
-use Rattle.std.proofs.Common.{◌≡◌, ◌<◌, ℕ, List, length, get_or, map, refl, sym, ap, ◌∙◌, rules, arith}
-use Rattle.std.specs.Prelude.{Some}
+use Rattle.std.proofs.Common.{◌≡◌, ◌<◌, ◌≤◌, ℕ, List, length, get_or, map, refl, sym, ap, subst, ◌∙◌, rules, arith}
+use Rattle.std.specs.Prelude.{Some, Result}
 use Rattle.std.specs.List.{slice_get}
 use Rattle.std.proofs.lemmas.List.{length-map}
 use Rattle.std.proofs.lemmas.Option.{slice_get-get_or, slice_get_read}
 use Rattle.std.proofs.lemmas.Result.{err_from_is_err_and}
+use Rattle.nf_rational.specs.Rational.{ℚ}
+use Rattle.nf_work.specs.declared.Part.TheVariants.{Load}
+use Rattle.nf_work.specs.declared.PassedAt.{PassedAt}
 use Rattle.nf_work.specs.Passing.{passes_Q}
+use Rattle.nf_work.specs.Checked.{at_part, Gives}
+use Rattle.nf_model.specs.Curve.{Point}
+use Rattle.nf_curve.specs.Points.{Grown}
 use Rattle.nf_plain_laws.proofs.Entries.{slice_get-image}
 use Rattle.nf_load.specs.Loadings.{loaded_of}
-use Rattle.nf_routes.proofs.Travelling.{travels_first, travels_stop, travels_go}
+use Rattle.nf_routes.proofs.Travelling.{travels_first, travels_last, travels_stop, travels_go}
 use Rattle.nf_routes.proofs.travels.travel.Goals as goal
 
 pub loop-link-init : goal.loop-link-init
@@ -56,3 +62,9 @@ loop-link-preserved c =
     let inside : c.index.result < length c.args.links.now = omega arith in
     let is = slice_get-image loaded_of c.args.links.now c.index.result (get_or c.args.links.now c.index.result c.index-links-index.result) (slice_get-get_or c.args.links.now c.index.result c.index-links-index.result inside) in
     travels_go passes_Q c.args.horizon (map loaded_of c.args.links.now) c.args.route.now.route.links c.loop-link.travel.points c.loop-link.link-index c.loop-link.invariant c.index.result (loaded_of (get_or c.args.links.now c.index.result c.index-links-index.result)) at is c.in_ok-travel-2.travel.points (c.requires.exits.each c.index.result (loaded_of (get_or c.args.links.now c.index.result c.index-links-index.result)) is) c.in_ok-travel-2.ensures.list c.in_ok-travel-2.ensures.composed
+
+pub returns : goal.returns
+returns c =
+    let past = subst (λ (l : List ℕ). length l ≤ c.loop-link.link-index) c.links-link-items.ensures c.loop-link-test.false in
+    subst (λ (r : Result (List Point) (PassedAt ℚ)). Gives (λ (g : Grown). g.points) (λ (q : ℚ). q) c.short.result r)
+    (ap (at_part Load) (travels_last passes_Q c.args.horizon (map loaded_of c.args.links.now) c.args.route.now.route.links c.loop-link.travel.points c.loop-link.link-index c.loop-link.invariant past)) c.short.ensures.list
