@@ -1,12 +1,14 @@
-//! What the crates at the base answer: numbers, fractions, curves, and the edge to files. The input is cases in the form of
-//! `case_lines`, each a subject with questions of it, a line each. Of each case the subject is printed, and then the answers; what can
-//! be asked stands at each subject.
+//! What the crates at the base answer: numbers, fractions, curves, the edge to files, and texts as lines. The input is cases in the form of
+//! `case_lines`. A case that asks for `lines` is a text: its title is printed, and then its lines with their words, `+` before a plain one
+//! and `-` before another, or the first line that has a fault. Any other case is a subject with questions of it, a line each: the subject is
+//! printed, and then the answers; what can be asked stands at each subject.
 #![tactic(auto)]
 
 mod curves;
 mod edges;
 mod fractions;
 mod numbers;
+mod text;
 
 use case_lines::{Case, as_text, read_cases};
 use std::io;
@@ -23,8 +25,11 @@ fn tell_line<R: Print + Files + AllocGlobal>(rt: &R, subject: &str, line: &str) 
     }
 }
 
-// Answers the lines of a subject.
-fn tell_subject<R: Print + Files + AllocGlobal>(rt: &R, case: &Case) -> io::Result<()> {
+// Answers a case: a text, or the lines of a subject.
+fn tell_case<R: Print + Files + AllocGlobal>(rt: &R, case: &Case) -> io::Result<()> {
+    if case.asked.as_str() == "lines" {
+        return text::tell(rt, case);
+    }
     println!(rt; "== {}", case.title)?;
     for line in as_text(&case.text).lines() {
         tell_line(rt, case.title.as_str(), line)?;
@@ -34,7 +39,7 @@ fn tell_subject<R: Print + Files + AllocGlobal>(rt: &R, case: &Case) -> io::Resu
 
 fn tell_all<R: Print + Files + AllocGlobal>(rt: &R, cases: &[Case]) -> io::Result<()> {
     for case in cases {
-        tell_subject(rt, case)?;
+        tell_case(rt, case)?;
     }
     Ok(())
 }

@@ -1,12 +1,10 @@
 //! Cases that programs read from their input, and what they print of them alike. The input is cases, one after another:
 //!
-//!     == TITLE       begins a case, with the file of its network
-//!     ** TITLE       begins a case whose network the cases after it have too
+//!     == TITLE       begins a case
 //!     ++ WORDS       says what is asked of the case
-//!     --             begins the other file of the case
-//!     LINE           any other line is one of the file
+//!     LINE           any other line is one of its text, which mostly is the file of a network
 //!
-//! In a line of a file `\` and two hexadecimal digits stand for the byte of that number, and a `\` at the end says that no LF follows.
+//! In a line of a text `\` and two hexadecimal digits stand for the byte of that number, and a `\` at the end says that no LF follows.
 #![tactic(auto)]
 
 mod case;
@@ -17,6 +15,6 @@ mod words;
 
 pub use case::{Case, read_cases};
 pub use line::add_line;
-pub use network::{link_name, network_of, node_name};
+pub use network::{link_name, network_of};
 pub use shown::{Shown, as_text, op_word, tell_passed};
 pub use words::{not_negative, numbers};

@@ -3,12 +3,12 @@ ghost use Rattle.std.specs.Prelude.{◌≤◌, length};
 ghost use Rattle.nf_lines.specs.Faults.{longest_text};
 
 use crate::case::Case;
-use nf_net::{LONGEST_FILE, LinkId, NetFault, Network, NodeId, parse};
+use nf_net::{LONGEST_FILE, LinkId, NetFault, Network, parse};
 use std::io;
 
 /// Prints the title of a case, and gives the network of its file; where there is none, prints why.
 pub fn network_of<R: Print + AllocGlobal>(rt: &R, case: &Case) -> io::Result<Option<Network>> {
-    println!(rt; "{} {}", case.mark(), case.title)?;
+    println!(rt; "== {}", case.title)?;
     if case.text.len() > LONGEST_FILE as usize {
         println!(rt; "too long")?;
         return Ok(None);
@@ -19,15 +19,6 @@ pub fn network_of<R: Print + AllocGlobal>(rt: &R, case: &Case) -> io::Result<Opt
         Err(NetFault::Memory) => println!(rt; "memory is wanting")?,
     }
     Ok(None)
-}
-
-/// The name of a node; `?` where there is none of this number.
-pub fn node_name(net: &Network, node: NodeId) -> &str {
-    if node.0 < net.node_count() {
-        net.node_name(node)
-    } else {
-        "?"
-    }
 }
 
 /// The name of a link; `?` where there is none of this number.

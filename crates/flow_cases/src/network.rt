@@ -1,6 +1,6 @@
 // What a network file is read as.
 use crate::shown::{Found, OrWord};
-use case_lines::{Case, Shown, as_text, op_word};
+use case_lines::{Shown, as_text, op_word};
 use nf_frac::Q;
 use nf_graph::topological;
 use nf_net::{LinkId, Network, NodeId, start_labels, supply, text};
@@ -135,11 +135,8 @@ fn tell_parts<R: Print + AllocGlobal>(rt: &R, net: &Network) -> io::Result<()> {
     tell_ordered(rt, net)
 }
 
-/// Prints what a network is, and what it answers to words; of a common one nothing.
-pub fn tell<R: Print + AllocGlobal>(rt: &R, net: &Network, case: &Case) -> io::Result<()> {
-    if case.is_common {
-        return Ok(());
-    }
+/// Prints what a network is, and what it answers to words.
+pub fn tell<R: Print + AllocGlobal>(rt: &R, net: &Network, words: &str) -> io::Result<()> {
     tell_parts(rt, net)?;
-    tell_words(rt, net, case.asked.as_str())
+    tell_words(rt, net, words)
 }

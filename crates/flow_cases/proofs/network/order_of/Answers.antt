@@ -1,7 +1,7 @@
 use Rattle.std.proofs.Common.{ℕ, ◌≤◌, ◌≡◌, length, arith}
 use Rattle.nf_net.proofs.Limits.{few_links}
 use Rattle.nf_net.proofs.StartLabels.{net_below, net_hops}
-use Rattle.file_cases.proofs.network.order_of.Goals as goal
+use Rattle.flow_cases.proofs.network.order_of.Goals as goal
 
 pub topological-requires-clause-ends : goal.topological-requires-clause-ends
 topological-requires-clause-ends c =

@@ -36,11 +36,11 @@ fn tell_lines<R: Print>(rt: &R, text: &[u8], lines: &[Line]) -> io::Result<()> {
 /// Prints a case's title, and the lines of its text or the first fault.
 pub fn tell<R: Print + AllocGlobal>(rt: &R, case: &Case) -> io::Result<()> {
     println!(rt; "== {}", case.title)?;
-    if case.file.len() > LONGEST_FILE as usize {
+    if case.text.len() > LONGEST_FILE as usize {
         return println!(rt; "too long");
     }
-    match lines(rt.alloc(), &case.file) {
-        Ok(read) => tell_lines(rt, &case.file, &read),
+    match lines(rt.alloc(), &case.text) {
+        Ok(read) => tell_lines(rt, &case.text, &read),
         Err(TextFault::NotAscii { line }) => println!(rt; "line {line} isn't ASCII"),
         Err(TextFault::LongLine { line }) => println!(rt; "line {line} is too long"),
         Err(TextFault::Memory) => println!(rt; "memory is wanting"),
