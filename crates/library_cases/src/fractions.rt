@@ -1,0 +1,57 @@
+// What checked fractions answer. A line is a question; values are words of fractions:
+//
+//     make BITS NUM DEN       the parts of the fraction of these two numbers, whose parts have at most so many bits
+//     narrow OP LEFT RIGHT    the operation on fractions of 15 bits
+//     wide OP LEFT RIGHT      the operation on fractions of 127 bits, with the form of its value
+//     order LEFT RIGHT        how the two compare, by each call that compares, and whether their hashes are equal
+//     read WORD               the printed form of a word
+//     decimal WORD            the same where decimals are allowed
+//     less A B C              a · b - c, by callers of `Scalar` and of `at!`
+//     ratio A B               the quotient, or 0 where b is 0, and the lesser of the two
+//
+// The line is printed, and then the answer. An operation that passes is told with its operands.
+mod making;
+mod operations;
+mod ordering;
+mod scalars;
+
+use case_lines::Shown;
+use nf_frac::{NumberFault, Q};
+use std::io;
+
+// The first word, and the others.
+fn split(words: &str) -> (&str, &str) {
+    words.split_once(' ').unwrap_or((words, ""))
+}
+
+// The printed form of what a word is read as, or why it is none.
+fn tell_reading(rt: &HostRuntime, reading: Result<Q, NumberFault>) -> io::Result<()> {
+    match reading {
+        Ok(value) => println!(rt; "{}", Shown(value)),
+        Err(fault) => println!(rt; "{fault:?}"),
+    }
+}
+
+// Answers a question of up to three words, empty ones beyond their end.
+fn answer(rt: &HostRuntime, question: &str, words: &str) -> io::Result<()> {
+    let (first, others) = split(words);
+    let (second, third) = split(others);
+    match question {
+        "make" => making::tell(rt, first, second, third),
+        "narrow" => operations::tell_narrow(rt, first, second, third),
+        "wide" => operations::tell_wide(rt, first, second, third),
+        "order" => ordering::tell(rt, first, second),
+        "read" => tell_reading(rt, Q::read(first.as_bytes())),
+        "decimal" => tell_reading(rt, Q::read_decimal(first.as_bytes())),
+        "less" => scalars::tell_less(rt, first, second, third),
+        "ratio" => scalars::tell_ratio(rt, first, second),
+        _ => println!(rt; "no question"),
+    }
+}
+
+/// Prints a line, and answers it.
+pub fn tell(rt: &HostRuntime, line: &str) -> io::Result<()> {
+    print!(rt; "{line}: ")?;
+    let (question, words) = split(line);
+    answer(rt, question, words)
+}

@@ -1,0 +1,49 @@
+// The canonical texts of ladders. Each line has a number and how many rungs, of which there are 1 to 30; for any other line `no ladder`
+// is printed.
+ghost use Rattle.std.specs.Prelude.{◌≤◌};
+
+use case_lines::{Case, as_text};
+use nf_gen::generated;
+use nf_net::text;
+use std::alloc::{AllocError, Global};
+use std::io;
+
+// The number and the rungs of a line.
+fn asked(line: &str) -> Option<(u64, u32)> {
+    let (number, rungs) = line.split_once(' ')?;
+    Some((number.parse().ok()?, rungs.parse().ok()?))
+}
+
+fn ladder(alloc: Global, number: u64, rungs: u32) -> Result<Vec<u8>, AllocError>
+    requires some { 1 ≤ rungs }
+    requires few { rungs ≤ 30 }
+{
+    let net = generated(alloc, number, rungs)?;
+    text(alloc, &net)
+}
+
+// The text of a ladder.
+fn tell_ladder(rt: &HostRuntime, number: u64, rungs: u32) -> io::Result<()>
+    requires some { 1 ≤ rungs }
+    requires few { rungs ≤ 30 }
+{
+    let text = ladder(rt.alloc(), number, rungs)?;
+    print!(rt; "{}", as_text(&text))
+}
+
+// The text of the ladder of a line, if it asks for one.
+fn tell_line(rt: &HostRuntime, line: &str) -> io::Result<()> {
+    match asked(line) {
+        Some((number, rungs)) if 1 <= rungs && rungs <= 30 => tell_ladder(rt, number, rungs),
+        _ => println!(rt; "no ladder"),
+    }
+}
+
+/// Prints the title of a case, and the texts of the ladders that its lines ask for.
+pub fn tell(rt: &HostRuntime, case: &Case) -> io::Result<()> {
+    println!(rt; "== {}", case.title)?;
+    for line in as_text(&case.text).lines() {
+        tell_line(rt, line)?;
+    }
+    Ok(())
+}

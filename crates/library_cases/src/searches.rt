@@ -1,0 +1,125 @@
+// Searches for thin flows.
+ghost use Rattle.nf_model.specs.Network.{unbounded};
+ghost use Rattle.nf_model.specs.Pattern.{IsPattern};
+ghost use Rattle.nf_thin.specs.Searching.{AreSetsOf};
+
+use crate::telling::{tell_none, tell_numbers, tell_passed};
+use nf_frac::Q;
+use nf_graph::LinkSets;
+use nf_net::Network;
+use nf_pattern::Pattern;
+use nf_thin::parts::sifted_search;
+use nf_thin::{MOST_UNKNOWNS, SearchFault, Thin, Tried, search, try_pattern, unknown_count};
+use std::io;
+
+// Flows and slopes.
+fn tell_flows(rt: &HostRuntime, flows: &[Q], slopes: &[Q]) -> io::Result<()> {
+    tell_numbers(rt, " flows", flows)?;
+    tell_numbers(rt, " slopes", slopes)
+}
+
+// A thin flow: its place, its flows and its slopes.
+fn tell_thin(rt: &HostRuntime, thin: &Thin) -> io::Result<()> {
+    print!(rt; "place {}", thin.place)?;
+    tell_flows(rt, &thin.flows, &thin.labels)
+}
+
+fn tell_fault(rt: &HostRuntime, fault: &SearchFault) -> io::Result<()> {
+    match fault {
+        SearchFault::Budget { tried } => print!(rt; "budget {tried}"),
+        SearchFault::Passed { place, at } => {
+            print!(rt; "place {place} ")?;
+            tell_passed(rt, at)
+        }
+        SearchFault::NoPattern => print!(rt; "none"),
+        SearchFault::Memory => tell_none(rt),
+    }
+}
+
+// What comes of the search with a budget.
+fn tell_search(
+    rt: &HostRuntime,
+    net: &Network,
+    sets: &LinkSets,
+    rate: Q,
+    base: &Pattern,
+    budget: u64,
+) -> io::Result<()>
+    requires sets { AreSetsOf net.now.net sets.now }
+    requires base { IsPattern sets.now (unbounded net.now.net) base.now }
+{
+    match search(rt.alloc(), net, sets, rate, base, budget) {
+        Ok(thin) => tell_thin(rt, &thin),
+        Err(fault) => tell_fault(rt, &fault),
+    }
+}
+
+/// Searches in a phase, with each of these budgets.
+pub fn tell_searches(
+    rt: &HostRuntime,
+    net: &Network,
+    sets: &LinkSets,
+    rate: Q,
+    base: &Pattern,
+    budgets: &str,
+) -> io::Result<()>
+    requires sets { AreSetsOf net.now.net sets.now }
+    requires base { IsPattern sets.now (unbounded net.now.net) base.now }
+{
+    for word in budgets.split_whitespace() {
+        match word.parse() {
+            Ok(budget) => tell_search(rt, net, sets, rate, base, budget)?,
+            Err(_) => tell_none(rt)?,
+        }
+        print!(rt; "; ")?;
+    }
+    Ok(())
+}
+
+/// The search by slopes alone, with this budget.
+pub fn tell_sifted(
+    rt: &HostRuntime,
+    net: &Network,
+    sets: &LinkSets,
+    rate: Q,
+    base: &Pattern,
+    budget: &str,
+) -> io::Result<()>
+    requires sets { AreSetsOf net.now.net sets.now }
+    requires base { IsPattern sets.now (unbounded net.now.net) base.now }
+{
+    let Ok(budget) = budget.parse::<u64>() else {
+        return tell_none(rt);
+    };
+    match sifted_search(rt.alloc(), net, sets, rate, base, budget) {
+        Ok(Some(thin)) => tell_thin(rt, &thin),
+        Ok(None) => print!(rt; "no end"),
+        Err(fault) => tell_fault(rt, &fault),
+    }
+}
+
+/// What comes of a pattern that is tried.
+pub fn tell_tried(
+    rt: &HostRuntime,
+    net: &Network,
+    sets: &LinkSets,
+    rate: Q,
+    pattern: &Pattern,
+) -> io::Result<()>
+    requires sets { AreSetsOf net.now.net sets.now }
+    requires pattern { IsPattern sets.now (unbounded net.now.net) pattern.now }
+{
+    if unknown_count(net, sets) > MOST_UNKNOWNS {
+        return tell_none(rt);
+    }
+    let mut flows = vec![in rt.alloc(); Q::zero(); net.link_count() as usize]?;
+    let mut labels = vec![in rt.alloc(); Q::zero(); net.node_count() as usize]?;
+    match try_pattern(net, sets, rate, pattern, &mut flows, &mut labels) {
+        Ok(Tried::Accepted) => {
+            print!(rt; "accepted")?;
+            tell_flows(rt, &flows, &labels)
+        }
+        Ok(Tried::NotSolvable) => print!(rt; "not solvable"),
+        Err(at) => tell_passed(rt, &at),
+    }
+}

@@ -1,0 +1,83 @@
+// Linear systems.
+ghost use Rattle.std.specs.Prelude.{◌≡◌, ◌<◌, ◌≤◌, length};
+
+use crate::telling::{tell_none, tell_numbers, tell_passed};
+use case_lines::numbers;
+use nf_frac::{Halt, Q};
+use nf_linear::{Eliminated, Grid, Solved, System, Table, solve, solve_grid};
+use std::io;
+
+// A number has this place, row by row with the right side last.
+fn set<T: System>(system: &mut T, size: u32, place: usize, number: Q)
+    requires some { 0 < size }
+    requires size { length (T.rows_of system.old) ≡ size }
+    ensures { length (T.rows_of system.new) ≡ size }
+{
+    let width = size as usize + 1;
+    let row = place / width;
+    let column = place % width;
+    if row >= size as usize {
+        return;
+    }
+    if column < size as usize {
+        system.set(row as u32, column as u32, number);
+    } else {
+        system.set_right(row as u32, number);
+    }
+}
+
+// The numbers of a system.
+fn fill<T: System>(system: &mut T, size: u32, numbers: &[Q])
+    requires some { 0 < size }
+    requires size { length (T.rows_of system.old) ≡ size }
+    ensures { length (T.rows_of system.new) ≡ size }
+{
+    for i in 0..numbers.len() {
+        set(system, size, i, numbers[i]);
+    }
+}
+
+// What comes of a system of so many unknowns.
+fn tell_solved(rt: &HostRuntime, size: u32, numbers: &[Q]) -> io::Result<()>
+    requires { (0 < size) × (size ≤ 264) }
+{
+    let mut table = Table::new(rt.alloc(), size)?;
+    fill(&mut table, size, numbers);
+    match solve(rt.alloc(), table) {
+        Ok(Solved::One(values)) => tell_numbers(rt, "one", &values),
+        Ok(Solved::NotOne) => print!(rt; "not one"),
+        Err(Halt::Passed(at)) => tell_passed(rt, &at),
+        Err(Halt::Memory) => tell_none(rt),
+    }
+}
+
+/// A system of so many unknowns: its numbers row by row, each with its right side last.
+pub fn tell_table(rt: &HostRuntime, size: &str, words: &str) -> io::Result<()> {
+    match (size.parse::<u32>(), numbers(rt.alloc(), words)) {
+        (Ok(size), Some(numbers)) if 0 < size && size <= 264 => tell_solved(rt, size, &numbers),
+        _ => tell_none(rt),
+    }
+}
+
+// The same of a system that is solved without memory.
+fn tell_grid_of(rt: &HostRuntime, size: u32, numbers: &[Q]) -> io::Result<()>
+    requires { (0 < size) × (size ≤ 4) }
+{
+    let mut grid = Grid::<4>::zero(size);
+    fill(&mut grid, size, numbers);
+    let mut room = [Q::zero(); 4];
+    let values = &mut room[..size as usize];
+    match solve_grid(&mut grid, values) {
+        Ok(Eliminated::One) => tell_numbers(rt, "one", values),
+        Ok(Eliminated::NotOne) => print!(rt; "not one"),
+        Err(at) => tell_passed(rt, &at),
+    }
+}
+
+/// A system of at most 4 unknowns, without memory.
+pub fn tell_grid(rt: &HostRuntime, size: &str, words: &str) -> io::Result<()> {
+    match (size.parse::<u32>(), numbers(rt.alloc(), words)) {
+        (Ok(size), Some(numbers)) if 0 < size && size <= 4 => tell_grid_of(rt, size, &numbers),
+        _ => tell_none(rt),
+    }
+}

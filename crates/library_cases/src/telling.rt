@@ -1,0 +1,65 @@
+// Answers as text.
+ghost use Rattle.std.specs.Prelude.{◌≡◌, length};
+
+use case_lines::Shown;
+use nf_frac::{PassedAt, Q};
+use nf_graph::{LinkId, LinkSets};
+use nf_pattern::Pattern;
+use std::io;
+
+/// Prints a word, and numbers behind it.
+pub fn tell_numbers(rt: &HostRuntime, word: &str, numbers: &[Q]) -> io::Result<()> {
+    print!(rt; "{word}")?;
+    for number in numbers {
+        print!(rt; " {}", Shown(*number))?;
+    }
+    Ok(())
+}
+
+/// Prints an operation that passes.
+pub fn tell_passed(rt: &HostRuntime, at: &PassedAt<Q>) -> io::Result<()> {
+    print!(rt;
+        "{:?} {:?} {} {}",
+        at.part,
+        at.op,
+        Shown(at.left),
+        Shown(at.right)
+    )
+}
+
+/// Prints that there is no answer.
+pub fn tell_none(rt: &HostRuntime) -> io::Result<()> {
+    print!(rt; "no answer")
+}
+
+// What stands before an item of a list.
+fn before(place: u32) -> &'static str {
+    if place == 0 { "" } else { ", " }
+}
+
+/// Prints a pattern, which has a state or none for each of so many links.
+pub fn tell_pattern(rt: &HostRuntime, pattern: &Pattern, links: u32) -> io::Result<()>
+    requires { length pattern.now ≡ links }
+{
+    print!(rt; "{}", "Pattern { states: [")?;
+    for e in 0..links {
+        let state = pattern.state(LinkId(e));
+        print!(rt; "{}{state:?}", before(e))?;
+    }
+    print!(rt; "{}", "] }")
+}
+
+/// Prints which of so many links are active, and which are resetting.
+pub fn tell_link_sets(rt: &HostRuntime, sets: &LinkSets, links: u32) -> io::Result<()>
+    requires { length sets.now.active ≡ links }
+{
+    print!(rt; "{}", "LinkSets { active: [")?;
+    for e in 0..links {
+        print!(rt; "{}{}", before(e), sets.active(LinkId(e)))?;
+    }
+    print!(rt; "{}", "], resetting: [")?;
+    for e in 0..links {
+        print!(rt; "{}{}", before(e), sets.resetting(LinkId(e)))?;
+    }
+    print!(rt; "{}", "] }")
+}

@@ -1,0 +1,48 @@
+// A text as lines.
+ghost use Rattle.std.specs.Prelude.{◌≤◌, length};
+ghost use Rattle.nf_lines.specs.Faults.{longest_text};
+
+use case_lines::{Case, as_text};
+use nf_net::LONGEST_FILE;
+use nf_text::{Line, Span, TextFault, lines};
+use std::io;
+
+// A word of a text; `?` where its place lies outside.
+fn word_of(text: &[u8], place: Span) -> &str {
+    if u64::from(place.start) + u64::from(place.len) > text.len() as u64 {
+        return "?";
+    }
+    as_text(place.of(text))
+}
+
+// The words of a line, each behind a `|`.
+fn tell_words(rt: &HostRuntime, text: &[u8], words: &[Span]) -> io::Result<()> {
+    for word in words {
+        print!(rt; "|{}", word_of(text, *word))?;
+    }
+    println!(rt; "")
+}
+
+// Lines: of each whether it is plain, its number, and its words.
+fn tell_lines(rt: &HostRuntime, text: &[u8], lines: &[Line]) -> io::Result<()> {
+    for line in lines {
+        let sign = if line.plain { "+" } else { "-" };
+        print!(rt; "{sign} {}", line.number)?;
+        tell_words(rt, text, &line.words)?;
+    }
+    Ok(())
+}
+
+/// Prints a case's title, and the lines of its text or the first fault.
+pub fn tell(rt: &HostRuntime, case: &Case) -> io::Result<()> {
+    println!(rt; "== {}", case.title)?;
+    if case.text.len() > LONGEST_FILE as usize {
+        return println!(rt; "too long");
+    }
+    match lines(rt.alloc(), &case.text) {
+        Ok(read) => tell_lines(rt, &case.text, &read),
+        Err(TextFault::NotAscii { line }) => println!(rt; "line {line} isn't ASCII"),
+        Err(TextFault::LongLine { line }) => println!(rt; "line {line} is too long"),
+        Err(TextFault::Memory) => println!(rt; "memory is wanting"),
+    }
+}
