@@ -1,5 +1,5 @@
 -- Signed numbers of 128 bits that go to their bits and are read again, as a call's clause has them.
-use Rattle.std.proofs.Common.{◌≡◌, refl, neg_ℤ, suc, zero, ℕ, ◌<◌, ◌≤◌, ℤ, pos, negsuc, ◌*ℤ◌, nat_abs, sym, ◌∙◌, ap, subst, arith}
+use Rattle.std.proofs.Common.{◌≡◌, refl, neg_ℤ, suc, zero, ℕ, ◌<◌, ◌≤◌, ℤ, pos, negsuc, ◌+ℤ◌, ◌*ℤ◌, nat_abs, sym, ◌∙◌, ap, subst, arith}
 use mathlib.Core.Path.{ap₂}
 use mir.Syntax.{w128}
 use mir.Val.{to_z, of_z, SFits}
@@ -30,12 +30,29 @@ short_product a b h k = omega (arith, abs-product a b, mul-le (nat_abs a) (nat_a
 pub short_times : (a b : ℤ) → SFits w128 a → SFits w128 b → nat_abs a ≤ 9223372036854775807 → nat_abs b ≤ 9223372036854775807 → bits_of (bits_of a *ℤ bits_of b) ≡ a *ℤ b
 short_times a b f g h k = ap₂ (λ (x y : ℤ). bits_of (x *ℤ y)) (to_z-of_z f) (to_z-of_z g) ∙ plain (a *ℤ b) (short_product a b h k)
 
+-- a product or a sum of cast numbers fits if its magnitude does
+pub product_bits_fit : (a b : ℤ) → SFits w128 a → SFits w128 b → nat_abs (a *ℤ b) ≤ greatest → SFits w128 (bits_of a *ℤ bits_of b)
+product_bits_fit a b f g h = subst (SFits w128) (sym (ap₂ (λ (x y : ℤ). x *ℤ y) (to_z-of_z f) (to_z-of_z g))) (fits_128 (a *ℤ b) h)
+
+pub sum_bits_fit : (a b : ℤ) → SFits w128 a → SFits w128 b → nat_abs (a +ℤ b) ≤ greatest → SFits w128 (bits_of a +ℤ bits_of b)
+sum_bits_fit a b f g h = subst (SFits w128) (sym (ap₂ (λ (x y : ℤ). x +ℤ y) (to_z-of_z f) (to_z-of_z g))) (fits_128 (a +ℤ b) h)
+
 -- a bound on the magnitude that a call computed
 pub size_of : (z : ℤ) (m limit : ℕ) → SFits w128 z → m ≡ nat_abs (bits_of z) → m ≤ limit → nat_abs z ≤ limit
 size_of z m limit f e h = subst (λ (k : ℕ). k ≤ limit) (e ∙ ap nat_abs (to_z-of_z f)) h
 
 pub size_along : (y z : ℤ) (m limit : ℕ) → y ≡ z → m ≡ nat_abs y → m ≤ limit → nat_abs z ≤ limit
 size_along y z m limit e f h = subst (λ (k : ℕ). k ≤ limit) (f ∙ ap nat_abs e) h
+
+pub size_beyond : (y z : ℤ) (m limit : ℕ) → y ≡ z → m ≡ nat_abs y → limit < m → nat_abs z ≤ limit → ⊥
+size_beyond y z m limit e f h k = omega (arith, f ∙ ap nat_abs e, h, k)
+
+-- a number within the greatest magnitude stays so when it is cast
+pub kept_within : (z : ℤ) → nat_abs z ≤ greatest → nat_abs (bits_of z) ≤ greatest
+kept_within z h = subst (λ (y : ℤ). nat_abs y ≤ greatest) (sym (plain z h)) h
+
+pub kept_below : (z : ℤ) → nat_abs z ≤ greatest → nat_abs (bits_of z) < 170141183460469231731687303715884105728
+kept_below z h = omega (arith, kept_within z h)
 
 -- ---- the greatest common divisor as a call's clauses have it
 pub gcd_positive : (a b g : ℕ) → g ≡ gcd a b → 0 < b → 0 < g

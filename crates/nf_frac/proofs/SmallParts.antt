@@ -1,14 +1,15 @@
 -- What the parts of a small fraction in code say of the number, and back.
-use Rattle.std.proofs.Common.{◌≡◌, ℕ, ◌%◌, ◌<◌, ◌≤◌, ℤ, pos, negsuc, ◌*ℤ◌, nat_abs, ◌⊎◌, inl, inr, refl, sym, ◌∙◌, ap, subst, arith}
+use Rattle.std.proofs.Common.{◌≡◌, ℕ, ◌/◌, ◌%◌, ◌<◌, ◌≤◌, ℤ, pos, negsuc, ◌*ℤ◌, nat_abs, ◌⊎◌, inl, inr, refl, sym, ◌∙◌, ap, subst, arith}
 use mathlib.Core.Path.{ap₂}
 use mir.Syntax.{w64, w128}
 use mir.Val.{to_z, of_z, SFits}
 use mir.Facts.{to_z-of_z, to_z_pos}
-use native.Mathlib.Nat.{one-dvd}
+use lib.Signed.{quot_z}
+use native.Mathlib.Nat.{div-le_self, one-dvd}
 use Rattle.std.specs.Int.{IsGcd}
 use Rattle.std.proofs.lemmas.Nat.Gcd.{same_from_IsGcd, IsGcd-from_mod, dvd_refl}
 use Rattle.nf_rational.specs.Gcd.{gcd, IsGcd-gcd}
-use Rattle.nf_rational.specs.Rational.{ℚ, ratio}
+use Rattle.nf_rational.specs.Rational.{ℚ, ratio, abs_quot}
 use Rattle.nf_rational.proofs.Lowest.{parts_ratio}
 use Rattle.nf_frac.specs.Parts.{greatest, InForm, IsWithin}
 use Rattle.nf_frac.specs.Short.{short, IsShort, short_back}
@@ -24,6 +25,28 @@ fits_64 (negsuc n) h = record { sfits = omega arith }
 
 pub plain_64 : (z : ℤ) → nat_abs z ≤ short → bits_64 z ≡ z
 plain_64 z h = to_z-of_z (fits_64 z h)
+
+pub kept_short : (z : ℤ) → nat_abs z ≤ short → nat_abs (bits_64 z) ≤ short
+kept_short z h = subst (λ (y : ℤ). nat_abs y ≤ short) (sym (plain_64 z h)) h
+
+-- a short number that is cast to 128 bits, and from them
+pub within_wide : (z : ℤ) → nat_abs z ≤ short → nat_abs z ≤ greatest
+within_wide z h = omega (arith, h)
+
+pub plain_widened : (z : ℤ) → nat_abs z ≤ short → bits_of (bits_64 z) ≡ z
+plain_widened z h = ap bits_of (plain_64 z h) ∙ plain z (within_wide z h)
+
+pub plain_narrowed : (z : ℤ) → nat_abs z ≤ short → bits_64 (bits_of z) ≡ z
+plain_narrowed z h = ap bits_64 (plain z (within_wide z h)) ∙ plain_64 z h
+
+pub widened_fits : (z : ℤ) → nat_abs z ≤ short → SFits w128 (bits_64 z)
+widened_fits z h = subst (SFits w128) (sym (plain_64 z h)) (fits_128 z (within_wide z h))
+
+pub narrowed_fits : (z : ℤ) → nat_abs z ≤ short → SFits w64 (bits_of z)
+narrowed_fits z h = subst (SFits w64) (sym (plain z (within_wide z h))) (fits_64 z h)
+
+pub widened_within : (z : ℤ) → nat_abs z ≤ short → nat_abs (bits_of (bits_64 z)) ≤ greatest
+widened_within z h = subst (λ (y : ℤ). nat_abs y ≤ greatest) (sym (plain_widened z h)) (within_wide z h)
 
 pub wider : {n : ℤ} {d : ℕ} → IsShort n d → InForm n d
 wider {n} {d} h = record { positive = h.positive; small = omega (arith, h.small); small_den = omega (arith, h.small_den); lowest = h.lowest }
@@ -111,3 +134,30 @@ module _ (a : ℤ) (b : ℕ) (small : nat_abs a ≤ short) (few : b ≤ short) w
 
   pub cast_product : bits_of (bits_of (bits_64 a) *ℤ bits_of (to_z w64 b)) ≡ a *ℤ pos b
   cast_product = ap bits_of cast_factors ∙ plain (a *ℤ pos b) product_within
+
+-- ---- two short numbers, each cast to 128 bits
+pub wide_product_is : (a b : ℤ) → nat_abs a ≤ short → nat_abs b ≤ short → bits_of (bits_of (bits_64 a) *ℤ bits_of (bits_64 b)) ≡ a *ℤ b
+wide_product_is a b h k = ap₂ (λ (x y : ℤ). bits_of (x *ℤ y)) (plain_widened a h) (plain_widened b k) ∙ plain (a *ℤ b) (short_product a b h k)
+
+-- ---- a quotient of short numbers
+pub part_short : (a g : ℕ) → a ≤ short → a / g ≤ short
+part_short a g h = omega (arith, div-le_self a g)
+
+pub quotient_short : (n : ℤ) (g : ℕ) → nat_abs n ≤ short → nat_abs (quot_z n (pos g)) ≤ short
+quotient_short n g h = subst (λ (k : ℕ). k ≤ short) (sym (abs_quot n g)) (part_short (nat_abs n) g h)
+
+module _ (a : ℤ) (b : ℕ) (small : nat_abs a ≤ short) (few : b ≤ short) where
+  cast_parts : quot_z (bits_64 (bits_of a)) (to_z w64 b) ≡ quot_z a (pos b)
+  cast_parts = ap₂ quot_z (plain_narrowed a small) (to_z_pos w64 (omega arith))
+
+  pub cast_quotient_fits : SFits w64 (quot_z (bits_64 (bits_of a)) (to_z w64 b))
+  cast_quotient_fits = subst (SFits w64) (sym cast_parts) (fits_64 _ (quotient_short a b small))
+
+  cast_quotient : bits_64 (quot_z (bits_64 (bits_of a)) (to_z w64 b)) ≡ quot_z a (pos b)
+  cast_quotient = ap bits_64 cast_parts ∙ plain_64 _ (quotient_short a b small)
+
+  pub wide_quotient_fits : SFits w128 (bits_64 (quot_z (bits_64 (bits_of a)) (to_z w64 b)))
+  wide_quotient_fits = subst (SFits w128) (sym cast_quotient) (fits_128 (quot_z a (pos b)) (within_wide (quot_z a (pos b)) (quotient_short a b small)))
+
+  pub wide_quotient : bits_of (bits_64 (quot_z (bits_64 (bits_of a)) (to_z w64 b))) ≡ quot_z a (pos b)
+  wide_quotient = ap bits_of cast_quotient ∙ plain (quot_z a (pos b)) (within_wide (quot_z a (pos b)) (quotient_short a b small))

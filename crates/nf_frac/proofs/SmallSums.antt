@@ -6,10 +6,10 @@ use lib.Signed.{quot_z}
 use borrow.Author.Differences.{ints}
 use mir.Syntax.{w128}
 use mir.Val.{SFits}
-use native.Mathlib.Nat.{mul-pos, div-le_self, dvd_trans, div-mul_cancel, mul-div_cancel', eq_of_mul-eq-mul_left, mul_comm}
+use native.Mathlib.Nat.{mul-pos, dvd_trans, div-mul_cancel, mul-div_cancel', eq_of_mul-eq-mul_left, mul_comm}
 use Rattle.std.proofs.lemmas.Nat.{mul-le}
 use Rattle.nf_rational.specs.Gcd.{gcd, IsGcd-gcd}
-use Rattle.nf_rational.specs.Rational.{ℚ, ratio, abs_quot, gcd_pos, part_pos}
+use Rattle.nf_rational.specs.Rational.{ℚ, ratio, gcd_pos, part_pos}
 use Rattle.nf_rational.specs.Operations.{◌+ℚ◌, ◌*ℚ◌}
 use Rattle.nf_rational_laws.proofs.Ints.{abs-mul}
 use Rattle.nf_rational_laws.proofs.Lowest.{plus_over_lcm}
@@ -20,7 +20,7 @@ use Rattle.nf_frac.proofs.Bits.{bits_of, plain, fits_128, short_product}
 use Rattle.nf_frac.proofs.Factors.{left_over, right_over, sum_over, factors_of_sum}
 use Rattle.nf_frac.proofs.Form.{num_of, den_of, ratio_within, form_of, value_of}
 use Rattle.nf_frac.proofs.Passing.{sum_within}
-use Rattle.nf_frac.proofs.SmallParts.{bits_64, plain_64, times_plain}
+use Rattle.nf_frac.proofs.SmallParts.{bits_64, plain_64, kept_short, part_short, quotient_short, times_plain}
 
 -- ---- sizes
 short_times : (a b : ℕ) → a ≤ short → b ≤ short → a * b ≤ 85070591730234615847396907784232501249
@@ -31,9 +31,6 @@ abs_plus a b = omega (arith, ints)
 
 total_small : (a b : ℤ) → nat_abs a ≤ 85070591730234615847396907784232501249 → nat_abs b ≤ 85070591730234615847396907784232501249 → nat_abs (a +ℤ b) ≤ greatest
 total_small a b h k = omega (arith, abs_plus a b, h, k)
-
-part_short : (a g : ℕ) → a ≤ short → a / g ≤ short
-part_short a g h = omega (arith, div-le_self a g)
 
 one_part : (n : ℤ) (k : ℕ) → nat_abs n ≤ short → k ≤ short → nat_abs (n *ℤ pos k) ≤ 85070591730234615847396907784232501249
 one_part n k h l = subst (λ (m : ℕ). m ≤ 85070591730234615847396907784232501249) (sym (abs-mul n k)) (short_times (nat_abs n) k h l)
@@ -169,9 +166,11 @@ module _ (x y : ℚ) (xw : IsWithin short x) (yw : IsWithin short y) (n m u v q 
   product_value = value_of (x *ℚ y) q den product_num product_den (product_fits x y xw yw)
 
 -- a numerator that is divided
-quotient_short : (n : ℤ) (g : ℕ) → nat_abs n ≤ short → nat_abs (quot_z n (pos g)) ≤ short
-quotient_short n g h = subst (λ (k : ℕ). k ≤ short) (sym (abs_quot n g)) (part_short (nat_abs n) g h)
+part_within : (p n : ℤ) (g : ℕ) → p ≡ quot_z (bits_64 n) (pos g) → nat_abs n ≤ short → nat_abs p ≤ short
+part_within p n g e h = subst (λ (z : ℤ). nat_abs z ≤ short) (sym (e ∙ ap (λ (z : ℤ). quot_z z (pos g)) (plain_64 n h))) (quotient_short n g h)
 
 pub part_plain : (p n : ℤ) (g : ℕ) → p ≡ quot_z (bits_64 n) (pos g) → nat_abs n ≤ short → bits_64 p ≡ quot_z (bits_64 n) (pos g)
-part_plain p n g e h =
-    plain_64 p (subst (λ (z : ℤ). nat_abs z ≤ short) (sym (e ∙ ap (λ (z : ℤ). quot_z z (pos g)) (plain_64 n h))) (quotient_short n g h)) ∙ e
+part_plain p n g e h = plain_64 p (part_within p n g e h) ∙ e
+
+pub part_kept : (p n : ℤ) (g : ℕ) → p ≡ quot_z (bits_64 n) (pos g) → nat_abs n ≤ short → nat_abs (bits_64 p) ≤ short
+part_kept p n g e h = kept_short p (part_within p n g e h)

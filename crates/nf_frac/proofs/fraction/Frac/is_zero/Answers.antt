@@ -1,9 +1,16 @@
-use Rattle.std.proofs.Common.{◌∙◌, ap}
+use Rattle.std.proofs.Common.{◌≡◌, Bool, sym, ◌∙◌, ap, subst}
+use Rattle.std.specs.Bool.{Decides}
 use Rattle.nf_rational.specs.Rational.{ℚ}
+use Rattle.nf_rational.specs.Operations.{0ℚ}
 use Rattle.nf_frac.specs.Order.{same_ℚ}
+use Rattle.nf_frac.specs.Total.{same_decides}
 use Rattle.nf_frac.proofs.Comparisons.{same_by_order}
 use Rattle.nf_frac.proofs.fraction.Frac.is_zero.Goals as goal
 
 pub returns-clause-by_order : goal.returns-clause-by_order
 returns-clause-by_order g c =
     c.eq.ensures ∙ ap (λ (q : ℚ). same_ℚ c.args.self q) c.zero.ensures ∙ same_by_order c.args.self _
+
+pub returns-clause-zero : goal.returns-clause-zero
+returns-clause-zero g c =
+    subst (λ (t : Bool). Decides t (c.args.self ≡ 0ℚ)) (sym (c.eq.ensures ∙ ap (λ (q : ℚ). same_ℚ c.args.self q) c.zero.ensures)) (same_decides c.args.self 0ℚ)

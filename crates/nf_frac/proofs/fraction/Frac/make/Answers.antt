@@ -1,10 +1,11 @@
-use Rattle.std.proofs.Common.{ap}
+use Rattle.std.proofs.Common.{ap, ◌∙◌}
 use mir.Syntax.{w128}
 use mir.Val.{of_z}
 use mir.Facts.{to_z-of_z}
 use Rattle.nf_work.specs.Passing.{bound_of}
 use Rattle.nf_frac.proofs.Form.{stops}
 use Rattle.nf_frac.proofs.Made.{made, not_made}
+use Rattle.nf_frac.proofs.Passing.{within_along}
 use Rattle.nf_frac.proofs.fraction.Frac.make.Goals as goal
 
 pub returns-in_err-value : goal.returns-in_err-value
@@ -17,3 +18,8 @@ pub returns : goal.returns
 returns g c =
     made c.args.num c.args.den _ _ _ _ (bound_of g.row.BITS) (to_z-of_z c.ranges.num) (to_z-of_z c.ranges.den) c.unsigned_abs.ensures.value c.unsigned_abs-2.ensures.value (λ e. c.if-den-eq0.false (ap (of_z w128) e))
     c.held.result (rw (c.bound.ensures.value, ← c.held.ensures) at c.in_ok-value.ensures)
+
+pub invariant_of-result : goal.invariant_of-result
+invariant_of-result g c =
+    let w = rw c.bound.ensures.value at c.in_ok-value.ensures in
+    within_along (bound_of g.row.BITS) _ _ (c.held.ensures ∙ w.1) w.0

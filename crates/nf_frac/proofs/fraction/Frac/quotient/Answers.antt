@@ -22,3 +22,8 @@ returns-in-Some-product g c =
 pub returns-in-None : goal.returns-in-None
 returns-in-None g c =
     quotient_passed (bound_of g.row.BITS) c.args.self c.args.right (rw (c.bound.ensures.value, c.lowest.ensures, c.self.view_is, c.inverted-2.ensures, c.lowest-2.ensures, c.right.view_is) at c.in-None.ensures)
+
+pub invariant_of-result-in-Some-product : goal.invariant_of-result-in-Some-product
+invariant_of-result-in-Some-product g c =
+    let w = rw c.bound.ensures.value at c.in-Some-product.ensures in
+    within_along (bound_of g.row.BITS) _ _ (c.held.ensures ∙ w.1) w.0

@@ -1,6 +1,7 @@
 use Rattle.std.proofs.Common.{sym, ◌∙◌, ap}
 use Rattle.nf_work.specs.Passing.{bound_of}
 use Rattle.nf_rational.specs.Rational.{ℚ}
+use Rattle.nf_frac.proofs.Bits.{kept_below}
 use Rattle.nf_frac.proofs.Passing.{within_along}
 use Rattle.nf_frac.proofs.Written.{written, written_read, written_read_as_decimal}
 use Rattle.nf_frac.proofs.fraction.Frac.write.Goals as goal
@@ -18,3 +19,6 @@ pub returns-clause-reads_back_as_decimal : goal.returns-clause-reads_back_as_dec
 returns-clause-reads_back_as_decimal g c =
     written_read_as_decimal c.args.self _ _ (c.numer.ensures.value ∙ ap (λ (q : ℚ). q.num) c.self.view_is) c.numer.ensures.small (c.denom.ensures.value ∙ ap (λ (q : ℚ). q.den) c.self.view_is) _ c.write_parts.ensures
     (bound_of g.row.BITS) (within_along (bound_of g.row.BITS) _ _ (sym c.self.view_is) c.self.invariant)
+
+pub write_parts-requires-clause-num : goal.write_parts-requires-clause-num
+write_parts-requires-clause-num g c = kept_below c.numer.result c.numer.ensures.small

@@ -20,3 +20,6 @@ returns c =
     let n = num_over c.args.num c.args.den _ _ _ _ _ size c.gcd_of-rest.ensures.value c.requires.factor part c.divided.ensures c.requires.positive in
     let d = den_over c.args.num c.args.den _ _ _ _ _ size c.gcd_of-rest.ensures.value c.requires.factor part c.divided.ensures c.requires.positive in
     value_of _ _ _ n d (ratio_within greatest c.args.num c.args.den c.requires.positive c.requires.small c.requires.small_den)
+
+pub divided-requires : goal.divided-requires
+divided-requires c = c.gcd_of-rest.ensures.positive c.requires.some

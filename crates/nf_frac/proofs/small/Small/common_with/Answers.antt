@@ -1,4 +1,5 @@
 use Rattle.std.proofs.Common.{sym, ap, nat_abs, ◌∙◌}
+use Rattle.std.proofs.Math.Nat.{le_trans}
 use mathlib.Core.Path.{ap₂}
 use Rattle.nf_rational.specs.Gcd.{gcd}
 use Rattle.nf_frac.proofs.SmallParts.{short_parts, short_num, own_factor}
@@ -12,3 +13,9 @@ pub returns-else-self-other-clause-value : goal.returns-else-self-other-clause-v
 returns-else-self-other-clause-value c =
     c.common_factor.ensures.value
     ∙ ap₂ gcd (c.unsigned_abs.ensures.value ∙ ap nat_abs (short_num c.self.invariant c.self.view_is)) (sym (short_parts c.other.invariant c.other.view_is).den)
+
+pub returns-else-self-other-clause-positive : goal.returns-else-self-other-clause-positive
+returns-else-self-other-clause-positive c = c.common_factor.ensures.positive c.other.invariant.positive
+
+pub returns-else-self-other-clause-small : goal.returns-else-self-other-clause-small
+returns-else-self-other-clause-small c = le_trans (c.common_factor.ensures.small c.other.invariant.positive) c.other.invariant.small_den

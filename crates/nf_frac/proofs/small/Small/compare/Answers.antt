@@ -2,7 +2,7 @@ use Rattle.std.proofs.Common.{ℤ, ℕ, pos, ◌*ℤ◌, ◌∙◌, sym, ap}
 use mathlib.Core.Path.{ap₂}
 use Rattle.std.specs.Ordering.{int_cmp}
 use Rattle.nf_frac.proofs.Compare.{over_same}
-use Rattle.nf_frac.proofs.SmallParts.{short_parts, short_num, own_short, times_plain}
+use Rattle.nf_frac.proofs.SmallParts.{short_parts, short_num, own_short, kept_short, times_plain}
 use Rattle.nf_frac.proofs.small.Small.compare.Goals as goal
 
 pub returns : goal.returns
@@ -28,3 +28,9 @@ returns-then-self-right c =
     ∙ ap₂ int_cmp (sym xp.num) (sym yp.num)
     ∙ over_same x.num y.num x.den x.positive
     ∙ ap (λ (k : ℕ). int_cmp (x.num *ℤ pos k) (y.num *ℤ pos x.den)) (xp.den ∙ c.if-self-right.true ∙ sym yp.den)
+
+pub times-requires-clause-small : goal.times-requires-clause-small
+times-requires-clause-small c = kept_short c.self.inside.num c.self.invariant.small
+
+pub times-requires-2-clause-small : goal.times-requires-2-clause-small
+times-requires-2-clause-small c = kept_short c.right.inside.num c.right.invariant.small

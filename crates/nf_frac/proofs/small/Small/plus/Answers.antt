@@ -1,5 +1,5 @@
 use Rattle.std.proofs.Common.{◌∙◌}
-use Rattle.nf_frac.proofs.SmallParts.{called_short, plain_64}
+use Rattle.nf_frac.proofs.SmallParts.{called_short, kept_short, plain_64}
 use Rattle.nf_frac.proofs.SmallSums.{total_fits, sum_form, sum_value}
 use Rattle.nf_frac.proofs.small.Small.plus.Goals as goal
 
@@ -37,3 +37,12 @@ returns c =
     xn yn c.times.ensures c.times-2.ensures
     c.unsigned_abs.result c.rest_factor-rest.result c.divided_short.result c.widened.result c.shortened.result
     c.unsigned_abs.ensures.value c.rest_factor-rest.ensures.value c.shortened.ensures c.divided_short.ensures c.widened.ensures
+
+pub times-requires-clause-small : goal.times-requires-clause-small
+times-requires-clause-small c = kept_short c.numer.result c.numer.ensures.small
+
+pub times-requires-2-clause-small : goal.times-requires-2-clause-small
+times-requires-2-clause-small c = kept_short c.numer-2.result c.numer-2.ensures.small
+
+pub rest_factor-rest-requires : goal.rest_factor-rest-requires
+rest_factor-rest-requires c = c.common_factor-common.ensures.positive c.denom-right_den.ensures.positive
