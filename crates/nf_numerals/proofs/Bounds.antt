@@ -1,8 +1,10 @@
 -- Numbers that pass a bound on the way to their digits' end.
-use Rattle.std.proofs.Common.{subst, ◌≡◌, ℕ, suc, ◌+◌, ◌-◌, ◌*◌, ◌/◌, ◌^◌, ◌<◌, ◌≤◌, List, [], ◌∷◌, length, get_or, drop, ap, ◌∙◌, arith, pow-suc}
+use Rattle.std.proofs.Common.{subst, ◌≡◌, ℕ, suc, ◌+◌, ◌-◌, ◌*◌, ◌/◌, ◌^◌, ◌<◌, ◌≤◌, List, [], ◌∷◌, length, get_or, drop, true, sym, ap, ◌∙◌, arith, pow-suc}
 use Rattle.std.proofs.Math.Nat.{pow-le-pow_right}
-use Rattle.std.proofs.lemmas.List.{drop_more}
-use Rattle.nf_numerals.specs.Digits.{value_after, value_of}
+use Rattle.std.proofs.lemmas.List.{drop_more, drop_all}
+use Rattle.std.proofs.lemmas.Bool.{and_parts}
+use Rattle.std.specs.Char.{is_ascii_digit}
+use Rattle.nf_numerals.specs.Digits.{are_digits, value_after, value_of}
 use Rattle.std.specs.Prelude.{Option, SomeIff}
 use Rattle.nf_numerals.proofs.Digits.{le-value_after}
 
@@ -19,6 +21,17 @@ passes_by_digit start value bound i digits h rest wide fits =
     let step : value_after value (drop i digits) ≡ value_after (10 * value + (get_or digits i 0 - 48)) (drop (i + 1) digits) = ap (value_after value) (drop_more digits i 0 h) in
     let most : 10 * value + (get_or digits i 0 - 48) ≤ value_after (10 * value + (get_or digits i 0 - 48)) (drop (i + 1) digits) = le-value_after (10 * value + (get_or digits i 0 - 48)) (drop (i + 1) digits) in
     omega arith
+
+-- ---- digit by digit
+pub value_by_digit : (start value i : ℕ) (digits : List ℕ) → i < length digits → value_after value (drop i digits) ≡ value_after start digits
+    → value_after (10 * value + (get_or digits i 0 - 48)) (drop (i + 1) digits) ≡ value_after start digits
+value_by_digit start value i digits h rest = sym (ap (value_after value) (drop_more digits i 0 h)) ∙ rest
+
+pub value_at_end : (start value i : ℕ) (digits : List ℕ) → length digits ≤ i → value_after value (drop i digits) ≡ value_after start digits → value ≡ value_after start digits
+value_at_end start value i digits h rest = sym (ap (value_after value) (drop_all i digits h)) ∙ rest
+
+pub next_is_digit : (digits : List ℕ) (i : ℕ) → i < length digits → are_digits (drop i digits) ≡ true → (is_ascii_digit (get_or digits i 0) ≡ true) × (are_digits (drop (i + 1) digits) ≡ true)
+next_is_digit digits i h all = and_parts _ _ (sym (ap are_digits (drop_more digits i 0 h)) ∙ all)
 
 -- a power of ten that is beyond a tenth of the bound is passed by the next
 pub power_passes : (i exponent bound : ℕ) → i < exponent → bound / 10 < 10 ^ i → 10 ^ exponent ≤ bound → ⊥

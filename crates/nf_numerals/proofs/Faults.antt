@@ -1,11 +1,11 @@
 -- What two fields of digits are read as, case by case.
 use Rattle.std.proofs.Math.Nat.{one-le-pow}
-use Rattle.std.proofs.Common.{subst, ◌≡◌, ℕ, zero, suc, ◌+◌, ◌*◌, ◌^◌, ◌<◌, ◌≤◌, Bool, true, false, ◌||◌, cond, List, length, ℤ, pos, refl, sym, ap, ◌∙◌, arith}
+use Rattle.std.proofs.Common.{subst, ◌≡◌, ℕ, zero, suc, ◌+◌, ◌*◌, ◌^◌, ◌<◌, ◌≤◌, Bool, true, false, not, ◌||◌, ◌&&◌, cond, List, length, ℤ, pos, refl, sym, ap, ◌∙◌, arith}
 use Rattle.std.specs.Prelude.{◌==◌, nat_lt, nat_abs, neg_ℤ, Ok, Err, Result, IfOk, IfErr}
 use Rattle.std.specs.Str.Parse.{starts_with_minus}
-use Rattle.std.proofs.lemmas.Bool.{and_from, or_from, or_left, or_right, ne_eqb, eq-eqb, le-ltb, lt-ltb, not_from_true, cond-true, cond-false}
+use Rattle.std.proofs.lemmas.Bool.{or_parts, eqb-false, ltb-false, and_from, or_from, or_left, or_right, ne_eqb, eq-eqb, le-ltb, lt-ltb, not_from_true, cond-true, cond-false}
 use Rattle.nf_numerals.specs.declared.NumberFault.{NumberFault}
-use Rattle.nf_numerals.specs.declared.NumberFault.TheVariants.{TooWide, ZeroDenominator}
+use Rattle.nf_numerals.specs.declared.NumberFault.TheVariants.{Empty, BadDigit, TooWide, ZeroDenominator}
 use Rattle.nf_numerals.specs.Digits.{are_digits, value_of}
 use Rattle.nf_numerals.specs.Numbers.{slash, point, before, after, unsigned, signed_by, denominator, is_decimal, parts_or_fault, parts_of, decimal_parts_of, as_ratio, number_of, decimal_of}
 use Rattle.nf_rational.specs.Rational.{ratio}
@@ -99,3 +99,43 @@ decimal_given bound left digits right num den m is_digits are fits_num is_num fi
     ∙ ap (λ (d : ℕ). Ok (signed_by left value, d)) is_den
     ∙ sym (parts_read bound (unsigned left) right (signed_by left value) (10 ^ length right) (subst (λ ds. AreFields ds right) is_digits are)
     (subst (λ (n : ℕ). n ≤ bound) (same ∙ sym (abs-signed_by left value)) fits_num) fits_den (one-le-pow (length right) 10 (omega arith)))
+
+-- ---- the parts that are read are within the bound
+abbrev IsWithin : ℕ → ℤ × ℕ → Type 0
+IsWithin bound p = (nat_abs p.0 ≤ bound) × (p.1 ≤ bound) × (0 < p.1)
+
+within_cases : (bound : ℕ) (n : ℤ) (d : ℕ) (some fine wide none : Bool) → (nat_lt bound (nat_abs n) || nat_lt bound d) ≡ wide → (d == 0) ≡ none
+    → IfOk (cond some (Err Empty) (cond fine (Err BadDigit) (cond wide (Err TooWide) (cond none (Err ZeroDenominator) (Ok (n, d)))))) (IsWithin bound)
+within_cases bound n d true fine wide none w z = tt
+within_cases bound n d false true wide none w z = tt
+within_cases bound n d false false true none w z = tt
+within_cases bound n d false false false true w z = tt
+within_cases bound n d false false false false w z =
+    let q = or_parts _ _ w in
+    let some : d ≡ 0 → ⊥ = eqb-false d 0 z in
+    (ltb-false bound (nat_abs n) q.0, ltb-false bound d q.1, omega arith)
+
+fields_within : (bound : ℕ) (left right : List ℕ) (n : ℤ) (d : ℕ) → IfOk (parts_or_fault bound left right n d) (IsWithin bound)
+fields_within bound left right n d =
+    within_cases bound n d (length left == 0 || length right == 0) (not (are_digits left && are_digits right)) (nat_lt bound (nat_abs n) || nat_lt bound d) (d == 0) refl refl
+
+parts_of_within : (bound : ℕ) (word : List ℕ) → IfOk (parts_of bound word) (IsWithin bound)
+unfolding parts_of
+parts_of_within bound word = fields_within bound (unsigned (before slash word)) (denominator word) (signed_by (before slash word) (value_of (unsigned (before slash word)))) (value_of (denominator word))
+
+decimal_parts_of_within : (bound : ℕ) (word : List ℕ) → IfOk (decimal_parts_of bound word) (IsWithin bound)
+unfolding decimal_parts_of
+decimal_parts_of_within bound word = either (is_decimal word) _ _
+    (fields_within bound (unsigned (before point word)) (after point word)
+    (signed_by (before point word) (value_of (unsigned (before point word)) * 10 ^ length (after point word) + value_of (after point word))) (10 ^ length (after point word)))
+    (parts_of_within bound word)
+  where
+    either : (b : Bool) (x y : Result (ℤ × ℕ) NumberFault) → IfOk x (IsWithin bound) → IfOk y (IsWithin bound) → IfOk (cond b x y) (IsWithin bound)
+    either true x y h k = h
+    either false x y h k = k
+
+pub parts_within : (bound : ℕ) (word : List ℕ) (r : Result (ℤ × ℕ) NumberFault) → r ≡ parts_of bound word → IfOk r (λ p. (nat_abs p.0 ≤ bound) × (p.1 ≤ bound) × (0 < p.1))
+parts_within bound word r e = subst (λ (r : Result (ℤ × ℕ) NumberFault). IfOk r (IsWithin bound)) (sym e) (parts_of_within bound word)
+
+pub decimal_parts_within : (bound : ℕ) (word : List ℕ) (r : Result (ℤ × ℕ) NumberFault) → r ≡ decimal_parts_of bound word → IfOk r (λ p. (nat_abs p.0 ≤ bound) × (p.1 ≤ bound) × (0 < p.1))
+decimal_parts_within bound word r e = subst (λ (r : Result (ℤ × ℕ) NumberFault). IfOk r (IsWithin bound)) (sym e) (decimal_parts_of_within bound word)

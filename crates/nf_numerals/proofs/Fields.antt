@@ -4,8 +4,9 @@ use Rattle.std.specs.Prelude.{◌==◌, Some, None}
 use Rattle.std.specs.List.{position, position_or_len}
 use Rattle.std.specs.Option.{unwrap_or}
 use Rattle.std.proofs.lemmas.List.Sums.{prefix_len-le-length}
+use Rattle.std.specs.Str.Parse.{starts_with_minus}
 use Rattle.std.specs.Char.{is_ascii_digit}
-use Rattle.std.proofs.lemmas.Bool.{or_parts, or_from, or_left, or_right, and_parts, cond-true, cond-false, eq-eqb, ne_eqb, not_from_true, not_from_false, ltb-false}
+use Rattle.std.proofs.lemmas.Bool.{true≢false, or_parts, or_from, or_left, or_right, and_parts, cond-true, cond-false, eq-eqb, ne_eqb, not_from_true, not_from_false, ltb-false}
 use Rattle.std.proofs.lemmas.List.{take_all, take_at, drop_at, drop-drop}
 use Rattle.nf_numerals.specs.Digits.{are_digits}
 use Rattle.nf_numerals.specs.Numbers.{has, before, after}
@@ -58,3 +59,8 @@ place_cases false place size none = sym (none refl)
 
 pub place_from_position : (p : ℕ → Bool) (xs : List ℕ) → unwrap_or (position p xs) (length xs) ≡ position_or_len p xs
 place_from_position p xs = place_cases _ _ _ (λ e. let past : length xs ≤ position_or_len p xs = ltb-false _ _ e in let within : position_or_len p xs ≤ length xs = prefix_len-le-length (λ x. not (p x)) xs in omega arith)
+
+-- a field with a minus isn't empty
+pub minus_some : (field : List ℕ) → starts_with_minus field ≡ true → 1 ≤ length field
+minus_some [] e = absurd (true≢false (sym e))
+minus_some (c ∷ rest) e = omega arith
