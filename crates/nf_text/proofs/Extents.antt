@@ -1,14 +1,14 @@
 -- The first line of a text.
 use Rattle.std.specs.Prelude.{◌≡◌, ℕ, ◌+◌, ◌-◌, ◌<◌, ◌≤◌, ◌==◌, Bool, true, false, ◌&&◌, List, [], ◌∷◌, ◌++◌, length, take, drop, All, refl}
-use Rattle.std.proofs.Common.{arith, suc, ◌∙◌, sym, ap, cond, get_or, length-take, take-take, take_all, append_assoc, append-nil, true≢false, zero, add-one}
+use Rattle.std.proofs.Common.{arith, suc, ◌∙◌, sym, ap, cond, get_or, length-drop, length-take, take-take, take_all, append_assoc, append-nil, true≢false, zero, add-one}
 use Rattle.std.specs.List.{slice_split, before_first, after_first}
-use Rattle.std.proofs.lemmas.List.{drop_all, take_more, get_or-take}
+use Rattle.std.proofs.lemmas.List.{drop_all, take_rest, take_more, get_or-take}
 use Rattle.std.proofs.lemmas.List.Splits.{slice_split_first, slice_split_none, length-slice_split}
 use Rattle.std.proofs.lemmas.List.Sums.{fails_before_first, passes_at_first}
 use Rattle.std.proofs.lemmas.Bool.{lt-ltb, le-ltb, ltb-true, eqb-true, ne_eqb}
 use native.Mathlib.Decide.{dec_lt}
 use Rattle.nf_lines.specs.Lines.{TextLine, lines_from, lines_of_parts, ended_line}
-use Rattle.nf_text.specs.Reading.{lf_place, has_lf, ends_with_cr, whole_len, first_line}
+use Rattle.nf_text.specs.Reading.{lf_place, has_lf, ends_with_cr, bytes_len, whole_len, first_line}
 use Rattle.nf_text.proofs.Positions.{position_or_len_within}
 
 abbrev is_lf : ℕ → Bool
@@ -110,3 +110,20 @@ whole_by n text false cr lf e = append-nil (take (lf_place text) text)
 
 pub whole_bytes : (n : ℕ) (text : List ℕ) → (first_line n text).bytes ++ (first_line n text).ending ≡ take (whole_len text) text
 whole_bytes n text = whole_by n text (has_lf text) (ends_with_cr (take (lf_place text) text)) refl refl
+
+-- ---- the next line's place
+module _ (text : List ℕ) (start : ℕ) (h : start < length text) where
+  pub next_after : (whole : ℕ) → (0 < length (take (length text - start) (drop start text)) → 0 < whole) → start < start + whole
+  next_after whole some =
+      let rest : length (take (length text - start) (drop start text)) ≡ length (drop start text) = ap length (take_rest text start) in
+      let more : 0 < whole = some (omega (arith, rest, length-drop start text, h)) in omega arith
+
+  pub next_within : (whole : ℕ) → whole ≤ length (take (length text - start) (drop start text)) → start + whole ≤ length text
+  next_within whole within =
+      let rest : length (take (length text - start) (drop start text)) ≡ length (drop start text) = ap length (take_rest text start) in omega (arith, rest, length-drop start text, h)
+
+-- the bytes that are cut out of a text as its first line from a place on
+pub line_bytes : (text : List ℕ) (start bytes : ℕ) → bytes ≡ bytes_len (take (length text - start) (drop start text)) → take (start + bytes - start) (drop start text) ≡ take (bytes_len (drop start text)) (drop start text)
+line_bytes text start bytes e =
+    let some : start + bytes - start ≡ bytes = omega arith in
+    ap (λ n. take n (drop start text)) (some ∙ e ∙ ap bytes_len (take_rest text start))

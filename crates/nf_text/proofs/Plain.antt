@@ -1,11 +1,12 @@
 -- A line compared with its words.
-use Rattle.std.specs.Prelude.{◌≡◌, ℕ, ◌+◌, ◌-◌, ◌<◌, ◌≤◌, Bool, true, false, ◌&&◌, nat_eq, nat_lt, List, [], ◌∷◌, ◌++◌, length, take, drop, Option, None, Some, MatchOption, refl}
-use Rattle.std.proofs.Common.{arith, zero, suc, ◌∙◌, sym, ap, append_assoc, append-nil, add-one, get_or, take_all, length-drop}
+use Rattle.std.specs.Prelude.{◌≡◌, ℕ, ◌+◌, ◌-◌, ◌<◌, ◌≤◌, Bool, true, false, ◌&&◌, nat_eq, nat_lt, List, [], ◌∷◌, ◌++◌, length, take, drop, Option, None, Some, refl}
+use Rattle.std.proofs.Common.{arith, zero, suc, ◌∙◌, sym, ap, append_assoc, append-nil, add-one, get_or, take_all, length-drop, length-take}
 use Rattle.std.specs.Borrow.{Bor}
 use Rattle.std.specs.List.{join_with_byte, flat_map}
 use Rattle.std.specs.Str.{bytes_eq}
 use Rattle.std.proofs.lemmas.List.{drop_more, drop_all}
 use Rattle.std.proofs.lemmas.Bool.{lt-ltb}
+use Rattle.std.proofs.lemmas.Slice.Eq.{bytes_eq-Decides}
 use Rattle.nf_text.specs.Spans.{space_before, GoesOn}
 
 and-assoc : (a b c : Bool) → ((a && b) && c) ≡ (a && (b && c))
@@ -86,3 +87,7 @@ plain_stop whole line words i d w h k g e = sym (e ∙ ap (λ t. bytes_eq line (
 pub plain_end : (whole : Bool) (line : List ℕ) (words : List (List ℕ)) (i : ℕ) → length words ≤ i
     → whole ≡ bytes_eq line (words_left words i ++ 10 ∷ []) → bytes_eq line (10 ∷ []) ≡ whole
 plain_end whole line words i h e = sym (e ∙ ap (λ t. bytes_eq line (t ++ 10 ∷ [])) (words_left-all words i h))
+
+-- a line that begins with these bytes has as many
+pub front_fits : (line front : List ℕ) → bytes_eq (take (length front) line) front ≡ true → length front ≤ length line
+front_fits line front e = let same : take (length front) line ≡ front = (bytes_eq-Decides (take (length front) line) front).0 e in omega (arith, ap length same, length-take (length front) line)

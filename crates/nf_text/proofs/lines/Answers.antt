@@ -1,7 +1,10 @@
-use Rattle.std.proofs.Common.{arith, ℕ, ◌≡◌, ◌+◌, vec_len}
+use Rattle.std.proofs.Common.{arith, ℕ, ◌≡◌, ◌≤◌, ◌+◌, ◌++◌, length, map, sym, ap, ◌∙◌, append-nil, vec_len}
+use Rattle.std.proofs.lemmas.List.{drop_all}
 use Rattle.std.proofs.lemmas.Result.{err_from_is_err_and}
-use Rattle.nf_lines.specs.Words.{read_lines}
-use Rattle.nf_lines.specs.Faults.{first_fault}
+use Rattle.nf_lines.specs.Words.{read_line, read_lines}
+use Rattle.nf_lines.specs.Lines.{lines_from}
+use Rattle.nf_lines.specs.Faults.{first_fault, first_fault_of}
+use Rattle.nf_text.specs.Reading.{seen_line}
 use Rattle.nf_text.proofs.LineSteps.{words_are_in, step_read, step_fault, step_rise, stops_at_fault}
 use Rattle.nf_text.proofs.lines.Goals as goal
 
@@ -32,3 +35,13 @@ loop-start-preserved c =
 
 pub returns-clause-within : goal.returns-clause-within
 returns-clause-within c = words_are_in c.args.text.now c.loop-start.start c.loop-start.lines.items c.loop-start.invariant.within c.loop-start.invariant.rise
+
+pub returns-clause-lines : goal.returns-clause-lines
+returns-clause-lines c = sym (c.loop-start.invariant.read
+    ∙ ap (λ rest. map (seen_line c.args.text.now) c.loop-start.lines.items ++ map read_line (lines_from (vec_len c.loop-start.lines + 1) rest)) (drop_all c.loop-start.start c.args.text.now c.loop-start-test.false)
+    ∙ append-nil (map (seen_line c.args.text.now) c.loop-start.lines.items))
+
+pub returns-clause-none : goal.returns-clause-none
+returns-clause-none c =
+    let past : length c.args.text.now ≤ c.loop-start.start = omega arith in
+    c.loop-start.invariant.fault ∙ ap (λ rest. first_fault_of (lines_from (vec_len c.loop-start.lines + 1) rest)) (drop_all c.loop-start.start c.args.text.now past)

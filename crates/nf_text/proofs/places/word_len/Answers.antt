@@ -1,4 +1,3 @@
-use Rattle.std.proofs.Common.{◌==◌}
 use Rattle.nf_lines.specs.Words.{is_blank}
 use Rattle.nf_text.proofs.Positions.{first_there, none_there, is_space, is_tab}
 use Rattle.nf_text.proofs.places.word_len.Goals as goal

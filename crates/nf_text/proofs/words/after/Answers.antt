@@ -1,5 +1,5 @@
 use Rattle.std.proofs.Common.{sym, ◌∙◌}
-use Rattle.nf_text.proofs.Plain.{begins, begins_not}
+use Rattle.nf_text.proofs.Plain.{begins, begins_not, front_fits}
 use Rattle.nf_text.proofs.words.after.Goals as goal
 
 pub returns-then-begins_with : goal.returns-then-begins_with
@@ -7,3 +7,9 @@ returns-then-begins_with c = begins c.args.line.now c.args.front.now (sym c.begi
 
 pub returns-else-begins_with : goal.returns-else-begins_with
 returns-else-begins_with c = begins_not c.args.line.now c.args.front.now (sym c.begins_with.ensures ∙ c.if-begins_with.false)
+
+pub slice_bounds-result-count : goal.slice_bounds-result-count
+slice_bounds-result-count c = front_fits c.args.line.now c.args.front.now (sym c.begins_with.ensures ∙ c.if-begins_with.true)
+
+pub slice_bounds-result-start : goal.slice_bounds-result-start
+slice_bounds-result-start c = front_fits c.args.line.now c.args.front.now (sym c.begins_with.ensures ∙ c.if-begins_with.true)
