@@ -1,5 +1,5 @@
 -- Lists of flags, and how many of them are not set.
-use Rattle.std.proofs.Common.{◌≡◌, ℕ, zero, suc, ◌<◌, ◌⊎◌, inl, inr, ⊎_elim, Bool, true, false, List, [], ◌∷◌, length, get_or, set, replicate, Some, slice_get, refl, subst, ap, ◌∙◌, arith}
+use Rattle.std.proofs.Common.{◌≡◌, ℕ, zero, suc, ◌<◌, ◌⊎◌, inl, inr, ⊎_elim, Bool, true, false, not, MatchBool, List, [], ◌∷◌, length, get_or, set, replicate, Some, slice_get, refl, sym, subst, ap, ◌∙◌, arith}
 use Rattle.std.proofs.lemmas.Option.{slice_get_within, slice_get_read}
 use Rattle.nf_model.specs.Entries.{Has}
 
@@ -73,3 +73,25 @@ Has_from_place flags i v x e r n h =
 pub not_Has_from_place : (flags : List Bool) (i v : ℕ) (x : Bool) → x ≡ false → x ≡ get_or flags i x → i ≡ v → v < length flags → Has flags v → ⊥
 not_Has_from_place flags i v x e r n h s =
     let p : slice_get flags v ≡ Some x = slice_get_read flags (length flags) v x refl h (subst (λ (k : ℕ). x ≡ get_or flags k x) n r) in cc
+
+-- whether a flag is not set, by what was read of it
+pub free_by_read : (flags : List Bool) (i v : ℕ) (A : Type 0) → i ≡ v → A → MatchBool (not (get_or flags i false)) (A × (Has flags v → ⊥)) (A → Has flags v)
+free_by_read flags i v A e a = subst (λ (n : ℕ). MatchBool (not (get_or flags i false)) (A × (Has flags n → ⊥)) (A → Has flags n)) e (go (get_or flags i false) refl)
+  where
+    go : (b : Bool) → get_or flags i false ≡ b → MatchBool (not b) (A × (Has flags i → ⊥)) (A → Has flags i)
+    go true r = λ _. Has_from_read flags i r
+    go false r = (a, not_Has_from_read flags i r)
+
+pub set_by_read : (flags : List Bool) (i v : ℕ) → i ≡ v → get_or flags i false ≡ true → Has flags v
+set_by_read flags i v e r = Has_from_read flags v (subst (λ (n : ℕ). get_or flags n false ≡ true) e r)
+
+pub unset_by_read : (flags : List Bool) (i v : ℕ) → i ≡ v → get_or flags i false ≡ false → Has flags v → ⊥
+unset_by_read flags i v e r = not_Has_from_read flags v (subst (λ (n : ℕ). get_or flags n false ≡ false) e r)
+
+pub otherwise : (b : Bool) (P Q : Type 0) → b ≡ false → Q → MatchBool b P Q
+otherwise b P Q e q = subst (λ (t : Bool). MatchBool t P Q) (sym e) q
+
+-- a flag of a list in a set
+pub flag_of : (flags seen : List Bool) (i v : ℕ) (x : Bool) → flags ≡ seen → i ≡ v → v < length seen → x ≡ get_or flags i x → slice_get seen v ≡ Some x
+flag_of flags seen i v x e n b r =
+    slice_get_read seen (length seen) v x refl b (subst (λ (k : ℕ). x ≡ get_or seen k x) n (subst (λ (l : List Bool). x ≡ get_or l i x) e r))

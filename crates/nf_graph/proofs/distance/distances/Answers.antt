@@ -1,6 +1,7 @@
-use Rattle.std.proofs.Common.{rules, ◌≡◌, ℕ, ◌<◌, List, Option, Some, None, length, set, sym, subst, arith}
+use Rattle.std.proofs.Common.{rules, ◌≡◌, ℕ, ◌<◌, List, Option, Some, None, length, set, sym, subst, ap, ◌∙◌, arith}
 use Rattle.std.proofs.lemmas.Result.{err_from_is_err_and}
 use Rattle.nf_rational.specs.Rational.{ℚ}
+use Rattle.nf_graph.specs.Graph.{AreBelow}
 use Rattle.nf_graph.specs.Distances.{Offers, StopsAt, PassesAt}
 use Rattle.nf_graph.specs.Steps.{IsNearest, ForPassed}
 use Rattle.nf_graph.proofs.Offering.{nearest_least, nearest_none, ForPassed-weaker}
@@ -48,3 +49,7 @@ pub returns-clause-fits : goal.returns-clause-fits
 returns-clause-fits c =
     let near : IsNearest c.args.hops.now c.loop-sums.sums.items c.in_ok-step.field-0 = subst (λ (s : List (Option ℚ)). IsNearest c.args.hops.now s c.in_ok-step.field-0) c.deref.ensures.value c.in_ok-step.ensures.nearest in
     all_fit c.args.nodes c.args.hops.now c.args.from c.loop-sums.sums.items c.requires.ends c.requires.transits c.loop-sums.invariant (nearest_none c.args.hops.now c.loop-sums.sums.items c.in_ok-step.field-0 near c.in_default.is) near.fits
+
+pub nearest-requires-clause-ends : goal.nearest-requires-clause-ends
+nearest-requires-clause-ends c =
+    subst (λ (n : ℕ). AreBelow n c.args.hops.now) (sym (ap (length {A = Option ℚ}) c.deref.ensures.value ∙ c.loop-sums.invariant.count)) c.requires.ends

@@ -1,3 +1,5 @@
+use Rattle.std.proofs.Common.{◌<◌, ℕ, length, sym, subst}
+use borrow.Author.Rules.{scaled_Fits}
 use Rattle.std.proofs.lemmas.Result.{err_from_is_err_and}
 use Rattle.nf_model.specs.Walk.{Hop, IsHop}
 use Rattle.nf_graph.specs.Distances.{HasSum}
@@ -30,3 +32,27 @@ returns-in_ok-sum-in-Some-clause-offered c =
     let tail : HasSum c.args.sums.now seen.tail c.in-Some.before = entry_read c.args.sums.now c.index-2.result seen.tail _ _ c.in-Some.is c.index-2.ensures (c.requires.ends.tails c.args.link seen here) in
     offered_by_settled c.args.hops.now c.args.sums.now c.args.link seen c.in-Some.before c.in_ok-sum-in-Some.sum c.step_to.result here tail
     (c.in_ok-sum-in-Some.ensures.sum seen here) c.step_to.ensures.unsettled c.step_to.ensures.either
+
+pub bounds-sums-index : goal.bounds-sums-index
+bounds-sums-index c =
+    let seen : Hop = record { tail = c.hop.inside.tail; head = c.hop.inside.head; transit = c.hop.inside.transit } in
+    let here : IsHop c.args.hops.now c.args.link seen = IsHop-read_at c.args.hops.now c.index.result c.args.link c.index-hops-index.result seen c.requires.link c.index.ensures c.index-hops-index.is c.hop.view_is in
+    subst (λ (n : ℕ). n < length c.args.sums.now) (sym c.index-2.ensures) (c.requires.ends.tails c.args.link seen here)
+
+pub bounds : goal.bounds
+bounds c =
+    let seen : Hop = record { tail = c.hop.inside.tail; head = c.hop.inside.head; transit = c.hop.inside.transit } in
+    let here : IsHop c.args.hops.now c.args.link seen = IsHop-read_at c.args.hops.now c.index.result c.args.link c.index-hops-index.result seen c.requires.link c.index.ensures c.index-hops-index.is c.hop.view_is in
+    subst (λ (n : ℕ). n < length c.args.sums.now) (sym c.index-2.ensures) (c.requires.ends.tails c.args.link seen here)
+
+pub bounds-sums : goal.bounds-sums
+bounds-sums c =
+    let seen : Hop = record { tail = c.hop.inside.tail; head = c.hop.inside.head; transit = c.hop.inside.transit } in
+    let here : IsHop c.args.hops.now c.args.link seen = IsHop-read_at c.args.hops.now c.index.result c.args.link c.index-hops-index.result seen c.requires.link c.index.ensures c.index-hops-index.is c.hop.view_is in
+    subst (λ (n : ℕ). n < length c.args.sums.now) (sym c.index-2.ensures) (c.requires.ends.tails c.args.link seen here)
+
+pub offset_bounds-sums-index : goal.offset_bounds-sums-index
+offset_bounds-sums-index c =
+    let seen : Hop = record { tail = c.hop.inside.tail; head = c.hop.inside.head; transit = c.hop.inside.transit } in
+    let here : IsHop c.args.hops.now c.args.link seen = IsHop-read_at c.args.hops.now c.index.result c.args.link c.index-hops-index.result seen c.requires.link c.index.ensures c.index-hops-index.is c.hop.view_is in
+    let below = subst (λ (n : ℕ). n < length c.args.sums.now) (sym c.index-2.ensures) (c.requires.ends.tails c.args.link seen here) in search scaled_Fits

@@ -43,3 +43,17 @@ loop-visited-init c =
     let unset : c.in_ok-visited.visited.items ≡ replicate (length c.args.placed.now) false = c.in_ok-visited.ensures.items_if_clones_equal (λ _ e. e) in
     back_first c.args.hops.now c.args.chosen.now c.args.placed.now c.args.start (length c.args.placed.now) c.in_ok-visited.visited.items c.new-walk.result.items
     c.requires.below c.requires.free unset (ap length unset ∙ length-replicate (length c.args.placed.now) false) c.new-walk.ensures.items
+
+pub bounds-hops-index : goal.bounds-hops-index
+bounds-hops-index c =
+    subst (λ (n : ℕ). n < length c.args.hops.now) (sym c.index-in-loop-visited-3.ensures)
+    (slice_get_within c.args.hops.now c.entering_link-link.result c.entering_link-link.ensures.hop c.entering_link-link.ensures.is_hop)
+
+pub entering_link-link-requires-clause-ends : goal.entering_link-link-requires-clause-ends
+entering_link-link-requires-clause-ends c = c.requires.ends
+
+pub entering_link-link-requires-clause-count : goal.entering_link-link-requires-clause-count
+entering_link-link-requires-clause-count c = c.requires.count
+
+pub entering_link-link-requires-clause-some : goal.entering_link-link-requires-clause-some
+entering_link-link-requires-clause-some c = c.requires.stuck c.loop-visited.node c.loop-visited.invariant.below c.loop-visited.invariant.free

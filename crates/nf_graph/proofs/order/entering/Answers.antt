@@ -11,7 +11,7 @@ use Rattle.nf_graph.proofs.order.entering.Goals.{then-chosen-e+else-leads_in, el
 pub returns-then-leads_in : goal.returns-then-leads_in
 returns-then-leads_in c = record {
   hop = c.index-hops-e.result;
-  is_hop = IsHop-read c.args.hops.now c.loop-e.e c.index-hops-e.result (omega arith) c.index-hops-e.is;
+  is_hop = IsHop-read c.args.hops.now c.loop-e.e c.index-hops-e.result c.loop-e-test.true c.index-hops-e.is;
   chosen_too = Has_from_read c.args.chosen.now c.loop-e.e c.if-chosen-e.true;
   head = c.if-leads_in.ensures.0;
   free = c.if-leads_in.ensures.1;
@@ -21,10 +21,14 @@ pub loop-e-preserved : goal.loop-e-preserved
 loop-e-preserved c = below_more (λ (k : ℕ). Enters c.args.hops.now c.args.chosen.now c.args.placed.now k c.args.node → ⊥) c.loop-e.e c.loop-e.invariant
     (elim c.if-chosen-e.branch [
       | then-chosen-e+else-leads_in w ↦ λ x.
-          let same : x.hop ≡ c.index-hops-e.result = IsHop-unique c.args.hops.now c.loop-e.e _ _ x.is_hop (IsHop-read c.args.hops.now c.loop-e.e c.index-hops-e.result (omega arith) c.index-hops-e.is) in
+          let same : x.hop ≡ c.index-hops-e.result = IsHop-unique c.args.hops.now c.loop-e.e _ _ x.is_hop (IsHop-read c.args.hops.now c.loop-e.e c.index-hops-e.result c.loop-e-test.true c.index-hops-e.is) in
           x.free (subst (λ (h : Hop). Has c.args.placed.now h.tail) (sym same) (w.if-leads_in.ensures (subst (λ (h : Hop). h.head ≡ c.args.node) same x.head)))
       | else-chosen-e w ↦ λ x. not_Has_from_read c.args.chosen.now c.loop-e.e w.if-chosen-e.false x.chosen_too
     ])
 
 pub returns : goal.returns
 returns c = λ e x. let h : e < length c.args.hops.now = slice_get_within c.args.hops.now e x.hop x.is_hop in c.loop-e.invariant e (omega arith) x
+
+pub leads_in-requires : goal.leads_in-requires
+leads_in-requires c =
+    c.requires.ends.tails c.loop-e.e c.index-hops-e.result (IsHop-read c.args.hops.now c.loop-e.e c.index-hops-e.result c.loop-e-test.true c.index-hops-e.is)

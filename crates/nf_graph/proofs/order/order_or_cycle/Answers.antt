@@ -1,6 +1,7 @@
-use Rattle.std.proofs.Common.{ℕ, ◌<◌, List, Bool, length, set, true, sym, subst}
+use Rattle.std.proofs.Common.{ℕ, ◌<◌, List, Bool, length, set, true, sym, subst, ◌∙◌}
 use Rattle.nf_model.specs.Entries.{Has}
-use Rattle.nf_graph.specs.Order.{IsReady}
+use Rattle.nf_graph.specs.Graph.{AreBelow}
+use Rattle.nf_graph.specs.Order.{IsReady, IsStuck}
 use Rattle.nf_graph.proofs.Flags.{free}
 use Rattle.nf_graph.proofs.Reaching.{fewer_free}
 use Rattle.nf_graph.proofs.Orders.{ArePlaced, placed_first, placed_next, order_all}
@@ -23,3 +24,25 @@ loop-node-preserved c =
 pub returns-in-None : goal.returns-in-None
 returns-in-None c = order_all c.args.nodes c.args.hops.now c.args.chosen.now c.loop-node.placed.items c.loop-node.order.items c.loop-node.invariant
     (subst (λ (f : List Bool). (v : ℕ) → v < length f → Has f v) c.deref-2.ensures.value c.in-None.ensures)
+
+pub cycle_back-requires-clause-ends : goal.cycle_back-requires-clause-ends
+cycle_back-requires-clause-ends c =
+    subst (λ (f : List Bool). AreBelow (length f) c.args.hops.now) (sym c.deref-in-Some-unplaced.ensures.value)
+    (subst (λ (n : ℕ). AreBelow n c.args.hops.now) (sym c.loop-node.invariant.count) c.requires.ends)
+
+pub cycle_back-requires-clause-count : goal.cycle_back-requires-clause-count
+cycle_back-requires-clause-count c = c.requires.count
+
+pub cycle_back-requires-clause-stuck : goal.cycle_back-requires-clause-stuck
+cycle_back-requires-clause-stuck c =
+    subst (IsStuck c.args.hops.now c.args.chosen.now) (c.deref.ensures.value ∙ sym c.deref-in-Some-unplaced.ensures.value) (c.in_default.ensures {u = tt})
+
+pub cycle_back-requires-clause-below : goal.cycle_back-requires-clause-below
+cycle_back-requires-clause-below c =
+    let found = c.in-Some-unplaced.ensures {u = tt} in
+    subst (λ (f : List Bool). c.in-Some-unplaced.start < length f) (c.deref-2.ensures.value ∙ sym c.deref-in-Some-unplaced.ensures.value) found.0
+
+pub cycle_back-requires-clause-free : goal.cycle_back-requires-clause-free
+cycle_back-requires-clause-free c =
+    let found = c.in-Some-unplaced.ensures {u = tt} in
+    subst (λ (f : List Bool). Has f c.in-Some-unplaced.start → ⊥) (c.deref-2.ensures.value ∙ sym c.deref-in-Some-unplaced.ensures.value) found.1

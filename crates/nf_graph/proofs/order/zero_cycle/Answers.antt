@@ -1,4 +1,6 @@
-use Rattle.std.proofs.Common.{◌≡◌, refl, subst, ◌∙◌}
+use Rattle.std.proofs.Common.{◌≡◌, length, ap, refl, subst, ◌∙◌}
+use Rattle.std.proofs.Math.ListN.{length-map}
+use Rattle.std.proofs.lemmas.Bool.{true≢false}
 use Rattle.nf_graph.specs.Found.{IsFound}
 use Rattle.nf_graph.specs.declared.order.Found.{Found}
 use Rattle.nf_graph.specs.Order.{IsOrder, IsZeroCycle}
@@ -20,4 +22,7 @@ pub returns-clause-none : goal.returns-clause-none
 returns-clause-none c =
     let cycle : IsZeroCycle c.args.hops.now c.in-Cycle.cycle.items = zero_of_chosen c.args.hops.now c.deref.result.now c.in-Cycle.cycle.items (c.deref.ensures.value ∙ c.in_ok-chosen.ensures)
     (subst (λ (f : Found). IsFound c.args.nodes c.args.hops.now c.deref.result.now f) c.in-Cycle.is c.in_ok-order_or_cycle.ensures) in
-    (λ e. absurd (cc), λ none. absurd (none c.in-Cycle.cycle.items cycle))
+    (λ e. absurd (true≢false e), λ none. absurd (none c.in-Cycle.cycle.items cycle))
+
+pub order_or_cycle-requires-clause-count : goal.order_or_cycle-requires-clause-count
+order_or_cycle-requires-clause-count c = ap length (c.deref.ensures.value ∙ c.in_ok-chosen.ensures) ∙ length-map c.args.hops.now _
