@@ -9,4 +9,5 @@ pub mod Stages
 pub mod Values
 pub mod Answered
 pub mod Grids
+pub mod Noted
 pub mod Written

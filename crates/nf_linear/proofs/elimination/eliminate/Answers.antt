@@ -9,14 +9,6 @@ use Rattle.nf_linear.specs.Rows.{some_from, clear_each}
 use Rattle.nf_linear.proofs.Clearing.{row_got, later_fit, eliminated, within_row}
 use Rattle.nf_linear.proofs.elimination.eliminate.Goals as goal
 
-pub clear_rows-requires-clause-later : goal.clear_rows-requires-clause-later
-clear_rows-requires-clause-later g c =
-    let row : get_or c.args.rows.now c.args.pivot c.index-rows-pivot-2.result ≡ row_at c.args.rows.now c.args.pivot = row_got c.args.rows.now c.args.pivot c.index-rows-pivot-2.result c.requires.pivot in
-    let items : c.later.new.later.items ≡ some_from (c.args.column + 1) (drop (c.args.column + 1) (get_or c.args.rows.now c.args.pivot c.index-rows-pivot-2.result)) = c.in_ok-later.ensures in
-    let same : c.deref.result.now ≡ some_from (c.args.column + 1) (drop (c.args.column + 1) (row_at c.args.rows.now c.args.pivot)) =
-    c.deref.ensures.value ∙ items ∙ ap (λ (r : List ℚ). some_from (c.args.column + 1) (drop (c.args.column + 1) r)) row in
-    later_fit c.args.rows.now c.args.pivot c.args.column c.requires.square c.requires.pivot c.requires.column (g.S.Scalar.means c.at-own.result) c.deref.result.now same
-
 pub returns-in_err-clear_rows : goal.returns-in_err-clear_rows
 returns-in_err-clear_rows g c =
     let p = err_from_is_err_and c.from_residual-in_err-clear_rows.result c.from_residual-in_err-clear_rows.ensures.1 in
@@ -55,10 +47,15 @@ later-requires g c = within_row c.args.rows.now c.args.pivot c.args.column c.ind
 pub returns-in_err-later : goal.returns-in_err-later
 returns-in_err-later g c = let p = err_from_is_err_and c.from_residual.result c.from_residual.ensures.1 in rw (p.1, p.2) tt
 
-pub clear_rows-requires-clause-own : goal.clear_rows-requires-clause-own
-clear_rows-requires-clause-own g c =
+pub clear_rows-requires : goal.clear_rows-requires
+clear_rows-requires g c =
+    let row : get_or c.args.rows.now c.args.pivot c.index-rows-pivot-2.result ≡ row_at c.args.rows.now c.args.pivot = row_got c.args.rows.now c.args.pivot c.index-rows-pivot-2.result c.requires.pivot in
+    let items : c.later.new.later.items ≡ some_from (c.args.column + 1) (drop (c.args.column + 1) (get_or c.args.rows.now c.args.pivot c.index-rows-pivot-2.result)) = c.in_ok-later.ensures in
+    let same : c.deref.result.now ≡ some_from (c.args.column + 1) (drop (c.args.column + 1) (row_at c.args.rows.now c.args.pivot)) =
+    c.deref.ensures.value ∙ items ∙ ap (λ (r : List ℚ). some_from (c.args.column + 1) (drop (c.args.column + 1) r)) row in
     let first : get_or c.args.rows.now c.args.pivot c.index-rows-pivot.result ≡ row_at c.args.rows.now c.args.pivot = row_got c.args.rows.now c.args.pivot c.index-rows-pivot.result c.requires.pivot in
-    λ zero. c.requires.some (sym (c.at-own.ensures ∙ ap (λ (r : List ℚ). number_at r c.args.column) first) ∙ zero)
-
-pub clear_rows-requires-clause-column : goal.clear_rows-requires-clause-column
-clear_rows-requires-clause-column g c = λ i b. let wide = c.requires.square i b in let within = c.requires.column in omega arith
+    record {
+      later = later_fit c.args.rows.now c.args.pivot c.args.column c.requires.square c.requires.pivot c.requires.column (g.S.Scalar.means c.at-own.result) c.deref.result.now same;
+      own = λ zero. c.requires.some (sym (c.at-own.ensures ∙ ap (λ (r : List ℚ). number_at r c.args.column) first) ∙ zero);
+      column = λ i b. let wide = c.requires.square i b in let within = c.requires.column in omega arith;
+    }

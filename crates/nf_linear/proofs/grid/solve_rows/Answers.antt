@@ -1,4 +1,4 @@
-use Rattle.std.proofs.Common.{◌≡◌, ℕ, List, Bool, true, false, refl, ap, subst, sym, ◌∙◌}
+use Rattle.std.proofs.Common.{◌≡◌, ℕ, ◌≤◌, List, length, Bool, true, false, refl, ap, subst, sym, ◌∙◌, rules}
 use Rattle.std.specs.Prelude.{if◌then◌else◌, Some, None, Ok}
 use Rattle.std.proofs.lemmas.Result.{err_from_is_err_and}
 use Rattle.nf_rational.specs.Rational.{ℚ}
@@ -8,8 +8,9 @@ use Rattle.nf_work.specs.Passing.{passes_Q}
 use Rattle.nf_work.specs.Checked.{at_part}
 use Rattle.nf_lists.specs.Table.{solution_from}
 use Rattle.nf_linear_laws.specs.Solution.{IsOnlySolution}
-use Rattle.nf_linear.specs.Pivots.{eliminated}
+use Rattle.nf_linear.specs.Pivots.{eliminated, HasPivots}
 use Rattle.nf_linear.proofs.Answered.{columns_stop, not_one_listed, not_one, values_stop, one_listed, one}
+use Rattle.nf_linear.proofs.Grids.{front_count}
 use Rattle.nf_linear.proofs.grid.solve_rows.Goals as goal
 
 pub returns-in_err-clear_columns-clause-list : goal.returns-in_err-clear_columns-clause-list
@@ -55,3 +56,20 @@ returns-clause-solution g c =
 
 pub returns-then-not-branch-clause-not_one : goal.returns-then-not-branch-clause-not_one
 returns-then-not-branch-clause-not_one g c = λ _. refl
+
+pub find_values-requires : goal.find_values-requires
+find_values-requires g c =
+    let found = c.in_ok-clear_columns.ensures {u = tt} in
+    let pivots : HasPivots c.clear_columns.new.rows c.clear_columns.new.pivots = found.pivots c.if-not-branch.false in
+    let room : length c.clear_columns.new.rows ≤ g.row.N = subst (λ (n : ℕ). n ≤ g.row.N) (sym c.clear_columns.auto.rows) c.requires.room in (
+      search rules,
+      (
+        subst (HasPivots c.clear_columns.new.rows) (sym c.rows.ensures) pivots,
+        front_count (length c.clear_columns.new.rows) g.row.N c.zero-found.result room ∙ sym pivots.count ∙ ap length (sym c.rows.ensures),
+      ),
+    )
+
+pub copy_from_slice-requires : goal.copy_from_slice-requires
+copy_from_slice-requires g c =
+    let room : length c.clear_columns.new.rows ≤ g.row.N = subst (λ (n : ℕ). n ≤ g.row.N) (sym c.clear_columns.auto.rows) c.requires.room in
+    c.requires.values ∙ sym c.clear_columns.auto.rows ∙ sym (front_count (length c.clear_columns.new.rows) g.row.N c.zero-found.result room) ∙ sym c.find_values.auto.found

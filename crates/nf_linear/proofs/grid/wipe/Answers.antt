@@ -1,7 +1,9 @@
 use Rattle.std.proofs.Common.{ℕ, ◌+◌, ◌<◌, List, [], ◌∷◌, ◌++◌, length, take, replicate, refl, sym, ap, ◌∙◌, add-one, arith, length-set, rules}
 use Rattle.std.proofs.lemmas.List.{take_more_set}
+use borrow.Author.Rules.{scaled_Fits}
 use Rattle.nf_rational.specs.Operations.{0ℚ}
 use Rattle.nf_lists.specs.Table.{Row}
+use Rattle.nf_linear.proofs.Grids.{all_copies}
 use Rattle.nf_linear.proofs.Taken.{replicate_more}
 use Rattle.nf_linear.proofs.grid.wipe.Goals as goal
 
@@ -26,3 +28,10 @@ loop-i-preserved g c =
           ∙ ap (λ (k : ℕ). replicate k (replicate (c.args.size + 1) 0ℚ)) (sym (add-one c.loop-i.i)),
       length-set c.loop-i.rows c.loop-i.i c.wipe.new.self ∙ same,
     )
+
+pub returns : goal.returns
+returns g c =
+    all_copies c.loop-i.rows c.loop-i.i (length c.args.rows.now) (replicate (c.args.size + 1) 0ℚ) c.loop-i.invariant.0 c.loop-i.invariant.1 c.loop-i-test.false c.loop-i.auto.i-end
+
+pub offset_bounds-rows-i : goal.offset_bounds-rows-i
+offset_bounds-rows-i g c = let b = c.loop-i-test.true in search scaled_Fits

@@ -1,5 +1,6 @@
 use Rattle.std.proofs.Common.{◌≡◌, ℕ, ◌<◌, ◌≤◌, List, length, Bool, true, false, ap, sym, subst, ◌∙◌, arith}
 use Rattle.std.specs.Prelude.{if◌then◌else◌, Some, None, Ok}
+use Rattle.std.proofs.lemmas.Bool.{false≢true}
 use Rattle.std.proofs.lemmas.List.{length-replicate}
 use Rattle.std.proofs.lemmas.Result.{err_from_is_err_and, IfOk-from_err}
 use Rattle.nf_rational.specs.Rational.{ℚ}
@@ -15,24 +16,24 @@ whole_as_slice-clear_column g c = let few = c.requires.few in omega arith
 pub returns-in_err-clear_column-clause-list : goal.returns-in_err-clear_column-clause-list
 returns-in_err-clear_column-clause-list g c =
     let p = err_from_is_err_and c.from_residual.result c.from_residual.ensures.1 in
-    let here : c.loop-column.column < length c.args.rows.now = omega arith in
+    let here : c.loop-column.column < length c.args.rows.now = c.loop-column-test.true in
     rw (p.1, p.2) (sym (stage_stops passes_Q c.args.rows.now c.loop-column.rows c.loop-column.pivots c.loop-column.column c.loop-column.invariant.0 here
     (λ (q : ℚ). q) (Halt.Passed c.in_err-clear_column.field-0.0) (sym c.in_err-clear_column.ensures)))
 
 pub returns-then-not-branch-clause-list : goal.returns-then-not-branch-clause-list
 returns-then-not-branch-clause-list g c =
-    let here : c.loop-column.column < length c.args.rows.now = omega arith in
+    let here : c.loop-column.column < length c.args.rows.now = c.loop-column-test.true in
     let not_found : c.in_ok-clear_column.field-0 ≡ false = c.if-not-branch.true in
     sym (stage_none passes_Q c.args.rows.now c.loop-column.rows c.loop-column.pivots c.loop-column.column c.loop-column.invariant.0 here
     (sym c.in_ok-clear_column.ensures ∙ ap (λ (b : Bool). Ok (if b then Some (eliminated c.clear_column.new.rows c.clear_column.new.pivots) else None)) not_found))
 
 pub loop-column-preserved : goal.loop-column-preserved
 loop-column-preserved g c =
-    let here : c.loop-column.column < length c.args.rows.now = omega arith in
+    let here : c.loop-column.column < length c.args.rows.now = c.loop-column-test.true in
     let found : c.in_ok-clear_column.field-0 ≡ true = c.if-not-branch.false in (
       stage_more passes_Q c.args.rows.now c.loop-column.rows c.loop-column.pivots c.loop-column.column c.loop-column.invariant.0 here c.clear_column.new.rows c.clear_column.new.pivots
           (sym c.in_ok-clear_column.ensures ∙ ap (λ (b : Bool). Ok (if b then Some (eliminated c.clear_column.new.rows c.clear_column.new.pivots) else None)) found),
-      (let e = c.loop-column.invariant.1 in omega arith),
+      subst (λ (n : ℕ). g.row.N ≤ n) (sym c.clear_column.auto.entries) c.loop-column.invariant.1,
     )
 
 pub clear_column-requires : goal.clear_column-requires
@@ -52,16 +53,16 @@ loop-column-init g c =
 
 pub returns-clause-list : goal.returns-clause-list
 returns-clause-list g c =
-    let end : length c.loop-column.rows ≤ c.loop-column.column = let count = c.loop-column.invariant.0.cleared.count in omega arith in
+    let end = subst (λ (n : ℕ). n ≤ c.loop-column.column) (sym c.loop-column.auto.rows) c.loop-column-test.false in
     sym (stage_all passes_Q c.args.rows.now c.loop-column.rows c.loop-column.pivots c.loop-column.column c.loop-column.invariant.0 end)
 
 pub returns-clause-pivots : goal.returns-clause-pivots
 returns-clause-pivots g c =
-    let end : length c.loop-column.rows ≤ c.loop-column.column = let count = c.loop-column.invariant.0.cleared.count in omega arith in
-    λ _. stage_pivots passes_Q c.args.rows.now c.loop-column.rows c.loop-column.pivots c.loop-column.column c.loop-column.invariant.0 end (omega arith)
+    let end = subst (λ (n : ℕ). n ≤ c.loop-column.column) (sym c.loop-column.auto.rows) c.loop-column-test.false in
+    λ _. stage_pivots passes_Q c.args.rows.now c.loop-column.rows c.loop-column.pivots c.loop-column.column c.loop-column.invariant.0 end c.loop-column.auto.column-end
 
 pub returns-in_err-clear_column-clause-pivots : goal.returns-in_err-clear_column-clause-pivots
 returns-in_err-clear_column-clause-pivots g c = IfOk-from_err c.from_residual.result _ c.from_residual.ensures.0
 
 pub returns-then-not-branch-clause-pivots : goal.returns-then-not-branch-clause-pivots
-returns-then-not-branch-clause-pivots g c = λ e. absurd (cc)
+returns-then-not-branch-clause-pivots g c = λ e. absurd (false≢true e)

@@ -1,4 +1,5 @@
 use Rattle.std.proofs.Common.{◌≡◌, ◌+◌, List, length, take, drop, get_or, sym, ap, ◌∙◌, arith, rules, length-take-le}
+use borrow.Author.Rules.{scaled_Fits}
 use Rattle.nf_rational.specs.Rational.{ℚ}
 use Rattle.nf_work.specs.Passing.{passes_Q}
 use Rattle.nf_work.specs.declared.Part.TheVariants as Part
@@ -60,3 +61,9 @@ slice_bounds-clear_rows-end g c = c.later-count.ensures.within
 
 pub slice_bounds-clear_rows-end-2 : goal.slice_bounds-clear_rows-end-2
 slice_bounds-clear_rows-end-2 g c = sym (length-take-le c.later-count.result c.later-count.new.entries c.later-count.ensures.within)
+
+pub offset_bounds-rows-pivot : goal.offset_bounds-rows-pivot
+offset_bounds-rows-pivot g c = let b = c.requires.pivot in search scaled_Fits
+
+pub offset_bounds-rows-pivot-2 : goal.offset_bounds-rows-pivot-2
+offset_bounds-rows-pivot-2 g c = let b = c.requires.pivot in search scaled_Fits

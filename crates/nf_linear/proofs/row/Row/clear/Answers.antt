@@ -6,15 +6,6 @@ use Rattle.nf_work.specs.Checked.{checked, seen}
 use Rattle.nf_model.specs.Entries.{number_at}
 use Rattle.nf_linear.proofs.row.Row.clear.Goals as goal
 
-pub at-requires : goal.at-requires
-at-requires g c = c.requires.column
-
-pub quotient-requires : goal.quotient-requires
-quotient-requires g c = c.requires.own
-
-pub set-requires : goal.set-requires
-set-requires g c = c.requires.column
-
 pub subtract-requires : goal.subtract-requires
 subtract-requires g c =
     let same : length c.set.new.self ≡ length c.args.self.now = ap length c.set.ensures ∙ length-set c.args.self.now c.args.column (g.S.Scalar.means c.zero.result) in

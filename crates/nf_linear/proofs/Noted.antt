@@ -1,0 +1,58 @@
+-- The pivot rows noted so far, and of each row whether it is one of them.
+use Rattle.std.proofs.Common.{◌≡◌, ◌≢◌, ℕ, zero, suc, ◌<◌, ◌≤◌, List, [], ◌∷◌, ◌++◌, length, set, get_or, replicate, Bool, true, false, ◌||◌, eqb, refl, sym, ap, subst, ◌∙◌, arith, length-set}
+use Rattle.std.specs.Prelude.{◌==◌}
+use Rattle.std.specs.List.{list_any}
+use Rattle.std.proofs.lemmas.List.{get_or-set_same, get_or-set_other, length-replicate}
+use Rattle.std.proofs.lemmas.List.Folds.{list_any-append}
+use borrow.Author.Tests.{eqb-true, eq-eqb}
+use Rattle.nf_linear.specs.Pivots.{AreTaken}
+
+either_false : (a : Bool) → (a || false) ≡ a
+either_false true = refl
+either_false false = refl
+
+either_true : (a : Bool) → (a || true) ≡ true
+either_true true = refl
+either_true false = refl
+
+true_false : true ≡ false → ⊥
+true_false e = cc
+
+other_row : (row i : ℕ) (b : Bool) → (row ≡ i → ⊥) → eqb row i ≡ b → eqb row i ≡ false
+other_row row i true apart e = absurd (apart (eqb-true row i e))
+other_row row i false apart e = e
+
+-- one more pivot row: each other row is one of them where it was
+one_more : (rows : List ℕ) (row i : ℕ) (b : Bool) → eqb row i ≡ b → list_any (λ pivot. pivot == i) (rows ++ row ∷ []) ≡ (list_any (λ pivot. pivot == i) rows || (b || false))
+one_more rows row i b e = list_any-append (λ pivot. pivot == i) rows (row ∷ []) ∙ ap (λ (t : Bool). list_any (λ pivot. pivot == i) rows || (t || false)) e
+
+other_more : (rows : List ℕ) (row i : ℕ) → (row ≡ i → ⊥) → list_any (λ pivot. pivot == i) (rows ++ row ∷ []) ≡ list_any (λ pivot. pivot == i) rows
+other_more rows row i apart = one_more rows row i false (other_row row i _ apart refl) ∙ either_false _
+
+pub taken_more : (taken : List Bool) (rows : List ℕ) (row : ℕ) (after : List ℕ) → row < length taken → after ≡ rows ++ row ∷ [] → AreTaken taken rows → AreTaken (set taken row true) after
+taken_more taken rows row after some e h i b d = go (eqb row i) refl ∙ ap (list_any (λ pivot. pivot == i)) (sym e)
+  where
+    go : (t : Bool) → eqb row i ≡ t → get_or (set taken row true) i d ≡ list_any (λ pivot. pivot == i) (rows ++ row ∷ [])
+    go true f =
+        ap (λ (k : ℕ). get_or (set taken row true) k d) (sym (eqb-true row i f)) ∙ get_or-set_same taken row true d some
+        ∙ sym (one_more rows row i true f ∙ either_true _)
+    go false f =
+        let apart : row ≡ i → ⊥ = (λ (same : row ≡ i). absurd (true_false (sym (eq-eqb row i same) ∙ f))) in
+        get_or-set_other taken row i true d (λ same. apart (sym same))
+        ∙ h i (subst (λ (n : ℕ). i < n) (length-set taken row true) b) d
+        ∙ sym (other_more rows row i apart)
+
+pub taken_beyond : (taken : List Bool) (rows : List ℕ) (row : ℕ) (after : List ℕ) → length taken ≤ row → after ≡ rows ++ row ∷ [] → AreTaken taken rows → AreTaken taken after
+taken_beyond taken rows row after past e h i b d = h i b d ∙ sym (other_more rows row i (apart i row (length taken) b past)) ∙ ap (list_any (λ pivot. pivot == i)) (sym e)
+  where
+    apart : (i row n : ℕ) → i < n → n ≤ row → row ≡ i → ⊥
+    apart i row n b past same = omega arith
+
+pub none_taken : (taken : List Bool) (rows : List ℕ) (n : ℕ) → taken ≡ replicate n false → rows ≡ [] → AreTaken taken rows
+none_taken taken rows n e f i b d =
+    ap (λ (l : List Bool). get_or l i d) e ∙ unset n i (subst (λ (k : ℕ). i < k) (ap length e ∙ length-replicate n false) b) d ∙ ap (list_any (λ pivot. pivot == i)) (sym f)
+  where
+    unset : (n i : ℕ) → i < n → (d : Bool) → get_or (replicate n false) i d ≡ false
+    unset zero i b d = absurd (omega arith)
+    unset (suc n) zero b d = refl
+    unset (suc n) (suc i) b d = unset n i (omega arith) d

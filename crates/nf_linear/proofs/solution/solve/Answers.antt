@@ -1,0 +1,15 @@
+use Rattle.std.proofs.Common.{List, subst, ◌∙◌}
+use Rattle.std.specs.Prelude.{IfOk}
+use Rattle.nf_work.specs.declared.Part.TheVariants as Part
+use Rattle.nf_work.specs.Checked.{at_part, Gives}
+use Rattle.nf_lists.specs.Table.{Row, table_list}
+use Rattle.nf_linear.specs.Solved.{values_of, IsTrueOf}
+use Rattle.nf_linear.proofs.solution.solve.Goals as goal
+
+pub returns : goal.returns
+returns g c =
+    record {
+      list = subst (λ (rows : List Row). Gives (values_of g.S.Scalar.means) g.S.Scalar.means c.solve_rows.result (at_part Part.Table (table_list g.S.Scalar.passes rows)))
+          (c.deref_mut.ensures.value ∙ c.into_rows-rows.ensures.rows) c.solve_rows.ensures.list;
+      solution = subst (λ (rows : List Row). IfOk c.solve_rows.result (IsTrueOf g.S.Scalar.means rows)) (c.deref_mut.ensures.value ∙ c.into_rows-rows.ensures.rows) c.solve_rows.ensures.solution;
+    }
