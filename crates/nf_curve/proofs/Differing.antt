@@ -65,8 +65,9 @@ module _ (passes : Passing) (left right : List Point) (last : ℚ) where
     pub last_stops : (p : PassedAt ℚ) → at_part part (sides_at passes left right last) ≡ Err p → at_part part all ≡ Err p
     last_stops p e = ap (at_part part) (sym so_far) ∙ after_err part (sides_at passes left right last) _ p e
 
-    pub last_ends : (sides : Sides) → at_part part (sides_at passes left right last) ≡ Ok sides → at_part part all ≡ Ok (if_differ sides)
-    last_ends sides e = ap (at_part part) (sym so_far) ∙ after_ok part (sides_at passes left right last) _ sides e
+    pub last_found : (sides : Sides) (differ : Bool) → Ok sides ≡ at_part part (sides_at passes left right last) → do_differ sides ≡ differ → Ok (if differ then Some sides else None) ≡ at_part part all
+    last_found sides differ e t = sym (ap (at_part part) (sym so_far) ∙ after_ok part (sides_at passes left right last) (λ sides. Ok (if_differ sides)) sides (sym e)
+        ∙ ap (λ (t : Bool). Ok (if t then Some sides else None)) t)
 
 -- ---- what is left of a walk that ends before a last time
 module _ (last : ℚ) (left right : List Point) where
@@ -110,3 +111,12 @@ module _ (last : ℚ) (left right : List Point) where
 
   pub kept-before : (now kept : Option Moment) → kept ≡ only_before last now → IsThere left right now → Kept now kept
   kept-before now kept e w = subst (λ (k : Option Moment). Kept now k) (sym e) (record { there = only-there now w; before = only-before now; times = only-times now; fewer = only-fewer now })
+
+-- what a step gives, by the tests that it makes
+pub step_found : (passes : Passing) (left right : List Point) (time : ℚ) (part : Part) (sides : Sides) (differ ends found : Bool) → Ok sides ≡ at_part part (sides_at passes left right time)
+    → do_differ sides ≡ differ → Ok ends ≡ at_part part (differ_at passes differ time left right) → ends ≡ found → Ok (if found then Some sides else None) ≡ at_part part (difference_step passes left right time)
+step_found passes left right time part sides differ ends found e t d f =
+    sym (after_ok part (sides_at passes left right time) (λ sides. differ_at passes (do_differ sides) time left right >>= λ ends. Ok (if ends then Some sides else None)) sides (sym e)
+    ∙ ap (λ (t : Bool). at_part part (differ_at passes t time left right >>= λ ends. Ok (if ends then Some sides else None))) t
+    ∙ after_ok part (differ_at passes differ time left right) (λ ends. Ok (if ends then Some sides else None)) ends (sym d)
+    ∙ ap (λ (t : Bool). Ok (if t then Some sides else None)) f)

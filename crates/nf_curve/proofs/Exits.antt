@@ -1,21 +1,29 @@
 -- What a computation comes to where one before it ended: its value, or the operation that passes.
 use Rattle.std.proofs.Common.{◌≡◌, List, [], ◌∷◌, ◌++◌, refl, sym, ap, ◌∙◌, append-nil, append_assoc}
 use Rattle.std.specs.Prelude.{Result, Ok, Err, IfOk}
+use Rattle.std.specs.Result.{is_ok}
+use Rattle.std.proofs.lemmas.Bool.{true≢false, false≢true}
 use Rattle.nf_rational.specs.Rational.{ℚ}
 use Rattle.nf_work.specs.declared.Part.{Part}
 use Rattle.nf_work.specs.declared.Passed.{Passed}
 use Rattle.nf_work.specs.declared.PassedAt.{PassedAt}
-use Rattle.nf_work.specs.Checked.{placed, at_part, each, Stops, ◌>>=◌}
+use Rattle.nf_work.specs.Checked.{at_part, each, Stops, ◌>>=◌}
 use Rattle.nf_work.specs.declared.Halt.{Halt}
 use Rattle.nf_work.proofs.Each.{with_front, each_ok, each_err}
 
+ok_same : {A E : Type 0} {x y : A} → ◌≡◌ {A = Result A E} (Ok x) (Ok y) → x ≡ y
+ok_same e = cc
+
+err_same : {A E : Type 0} {p q : E} → ◌≡◌ {A = Result A E} (Err p) (Err q) → p ≡ q
+err_same e = cc
+
 pub after_err : {A B : Type 0} (part : Part) (r : Result A (Passed ℚ)) (f : A → Result B (Passed ℚ)) (p : PassedAt ℚ) → at_part part r ≡ Err p → at_part part (r >>= f) ≡ Err p
-after_err part (Ok x) f p e = absurd (cc)
-after_err part (Err q) f p e = let d : at_part {A = _} part (Err q) ≡ Err p = e in cc
+after_err part (Ok x) f p e = absurd (true≢false (ap is_ok e))
+after_err part (Err q) f p e = ap Err (err_same e)
 
 pub was_ok : {A : Type 0} (part : Part) (r : Result A (Passed ℚ)) (x : A) → at_part part r ≡ Ok x → r ≡ Ok x
-was_ok part (Ok y) x e = cc
-was_ok part (Err q) x e = absurd (cc)
+was_ok part (Ok y) x e = ap Ok (ok_same e)
+was_ok part (Err q) x e = absurd (false≢true (ap is_ok e))
 
 pub after_ok : {A B : Type 0} (part : Part) (r : Result A (Passed ℚ)) (f : A → Result B (Passed ℚ)) (x : A) → at_part part r ≡ Ok x → at_part part (r >>= f) ≡ at_part part (f x)
 after_ok part r f x e = ap (λ s. at_part part (s >>= f)) (was_ok part r x e)
@@ -29,8 +37,8 @@ module _ {A B : Type 0} (part : Part) (f : A → Result B (Passed ℚ)) (front :
   each_stops p e = ap (at_part part) (sym so_far) ∙ stop (f x) refl e
     where
       stop : (r : Result B (Passed ℚ)) → f x ≡ r → at_part part r ≡ Err p → at_part part (with_front front (each f (x ∷ rest))) ≡ Err p
-      stop (Ok y) d i = absurd (cc)
-      stop (Err q) d i = let same : placed part q ≡ p = cc in ap (at_part part) (each_err f front x rest q d) ∙ ap Err same
+      stop (Ok y) d i = absurd (true≢false (ap is_ok i))
+      stop (Err q) d i = ap (at_part part) (each_err f front x rest q d) ∙ ap Err (err_same i)
 
 pub each_ends : {A B : Type 0} (f : A → Result B (Passed ℚ)) (front : List B) (all : Result (List B) (Passed ℚ)) (part : Part) → with_front front (each f []) ≡ all → at_part part all ≡ Ok front
 each_ends f front all part e = ap (at_part part) (sym e) ∙ ap Ok (append-nil front)
@@ -42,12 +50,12 @@ if_ok part (Err p) s P e f = tt
 
 -- ---- a last step that can't pass
 pub err_before : {A B : Type 0} (part : Part) (r : Result A (Passed ℚ)) (h : A → B) (p : PassedAt ℚ) → at_part part (r >>= λ x. Ok (h x)) ≡ Err p → at_part part r ≡ Err p
-err_before part (Ok x) h p e = absurd (cc)
-err_before part (Err q) h p e = let same : placed part q ≡ p = cc in ap Err same
+err_before part (Ok x) h p e = absurd (true≢false (ap is_ok e))
+err_before part (Err q) h p e = ap Err (err_same e)
 
 pub ok_before : {A B : Type 0} (part : Part) (r : Result A (Passed ℚ)) (h : A → B) (y : B) → at_part part (r >>= λ x. Ok (h x)) ≡ Ok y → (x : A) × (r ≡ Ok x) × (h x ≡ y)
-ok_before part (Ok x) h y e = (x, refl, let same : h x ≡ y = cc in same)
-ok_before part (Err q) h y e = absurd (cc)
+ok_before part (Ok x) h y e = (x, refl, ok_same e)
+ok_before part (Err q) h y e = absurd (false≢true (ap is_ok e))
 
 -- ---- what is there so far, before what the rest gives
 pub front_none : {B : Type 0} (r : Result (List B) (Passed ℚ)) → with_front [] r ≡ r
@@ -55,8 +63,8 @@ front_none (Ok ys) = refl
 front_none (Err q) = refl
 
 pub front_err : {B : Type 0} (part : Part) (front : List B) (r : Result (List B) (Passed ℚ)) (p : PassedAt ℚ) → at_part part r ≡ Err p → at_part part (with_front front r) ≡ Err p
-front_err part front (Ok ys) p e = absurd (cc)
-front_err part front (Err q) p e = let same : placed part q ≡ p = cc in ap Err same
+front_err part front (Ok ys) p e = absurd (true≢false (ap is_ok e))
+front_err part front (Err q) p e = ap Err (err_same e)
 
 pub front_more : {B : Type 0} (front more : List B) (r : Result (List B) (Passed ℚ)) → with_front front (r >>= λ ys. Ok (more ++ ys)) ≡ with_front (front ++ more) r
 front_more front more (Ok ys) = ap Ok (sym (append_assoc front more ys))

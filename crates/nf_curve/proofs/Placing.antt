@@ -1,5 +1,6 @@
 -- Places on curves: what lies before and behind them.
-use Rattle.std.proofs.Common.{◌≡◌, ℕ, zero, suc, ◌-◌, ◌<◌, ◌≤◌, List, [], ◌∷◌, length, ⊎_elim, Bool, true, false, refl, sym, ap, subst, ◌∙◌, arith}
+use Rattle.std.proofs.Common.{◌≡◌, ℕ, zero, suc, ◌+◌, ◌-◌, ◌<◌, ◌≤◌, List, [], ◌∷◌, length, ⊎_elim, Bool, true, false, refl, sym, ap, subst, ◌∙◌, arith}
+use Rattle.std.proofs.lemmas.Option.{none-some, same_Some}
 use Rattle.std.specs.Prelude.{Option, Some, None, slice_get, Result, Ok, if◌then◌else◌}
 use Rattle.nf_rational.specs.Rational.{ℚ}
 use Rattle.nf_rational.specs.Operations.{0ℚ}
@@ -53,33 +54,33 @@ place_within time (p ∷ rest) = ⊎_elim
 
 -- a point before the place is at or before the time
 pub before-place : (time : ℚ) (points : List Point) (i : ℕ) (p : Point) → slice_get points i ≡ Some p → i < place_of time points → p.0 ≤ℚ time
-before-place time [] i p g h = absurd (cc)
+before-place time [] i p g h = absurd (none-some p g)
 before-place time (x ∷ rest) i p g h = ⊎_elim
     (λ (w : (lt_ℚ time x.0 ≡ true) × (time <ℚ x.0)). let e = place-behind time x rest w.1 in absurd (omega arith))
     (λ (w : (lt_ℚ time x.0 ≡ false) × (x.0 ≤ℚ time)). at (λ i g k. before-place time rest i p g k) i g (let e = place-past time x rest w.1 in omega arith) w.1)
     (lt_ℚ_cases time x.0)
   where
     at : ((i : ℕ) → slice_get rest i ≡ Some p → i < place_of time rest → p.0 ≤ℚ time) → (i : ℕ) → slice_get (x ∷ rest) i ≡ Some p → i < suc (place_of time rest) → x.0 ≤ℚ time → p.0 ≤ℚ time
-    at further zero g h k = subst (λ (q : Point). q.0 ≤ℚ time) (let same : x ≡ p = cc in same) k
+    at further zero g h k = subst (λ (q : Point). q.0 ≤ℚ time) (same_Some x p g) k
     at further (suc i) g h k = further i g (omega arith)
 
 -- all points of a curve come at or after its first
 first-least : (x : Point) (rest : List Point) (i : ℕ) (p : Point) → TimesRise (x ∷ rest) → slice_get (x ∷ rest) i ≡ Some p → x.0 ≤ℚ p.0
-first-least x rest zero p r g = subst (λ (q : Point). x.0 ≤ℚ q.0) (let same : x ≡ p = cc in same) (≤ℚ_refl x.0)
-first-least x [] (suc i) p r g = absurd (cc)
+first-least x rest zero p r g = subst (λ (q : Point). x.0 ≤ℚ q.0) (same_Some x p g) (≤ℚ_refl x.0)
+first-least x [] (suc i) p r g = absurd (none-some p g)
 first-least x (y ∷ rest) (suc i) p r g = ≤ℚ_trans _ _ _ (≤ℚ_of_lt _ _ r.0) (first-least y rest i p r.1 g)
 
 -- of two points the one with the greater number is later
 pub rise-pairs : (points : List Point) (i j : ℕ) (p q : Point) → TimesRise points → slice_get points i ≡ Some p → slice_get points j ≡ Some q → i < j → p.0 <ℚ q.0
-rise-pairs [] i j p q r e f h = absurd (cc)
+rise-pairs [] i j p q r e f h = absurd (none-some p e)
 rise-pairs (x ∷ rest) i zero p q r e f h = absurd (omega arith)
-rise-pairs (x ∷ []) i (suc j) p q r e f h = absurd (cc)
-rise-pairs (x ∷ y ∷ rest) zero (suc j) p q r e f h = subst (λ (z : Point). z.0 <ℚ q.0) (let same : x ≡ p = cc in same) (<_≤_trans _ _ _ r.0 (first-least y rest j q r.1 f))
+rise-pairs (x ∷ []) i (suc j) p q r e f h = absurd (none-some q f)
+rise-pairs (x ∷ y ∷ rest) zero (suc j) p q r e f h = subst (λ (z : Point). z.0 <ℚ q.0) (same_Some x p e) (<_≤_trans _ _ _ r.0 (first-least y rest j q r.1 f))
 rise-pairs (x ∷ y ∷ rest) (suc i) (suc j) p q r e f h = rise-pairs (y ∷ rest) i j p q r.1 e f (omega arith)
 
 -- a point from the place on is after the time
 pub from-place : (time : ℚ) (points : List Point) (i : ℕ) (p : Point) → TimesRise points → slice_get points i ≡ Some p → place_of time points ≤ i → time <ℚ p.0
-from-place time [] i p r g h = absurd (cc)
+from-place time [] i p r g h = absurd (none-some p g)
 from-place time (x ∷ rest) i p r g h = ⊎_elim
     (λ (w : (lt_ℚ time x.0 ≡ true) × (time <ℚ x.0)). <_≤_trans _ _ _ w.1 (first-least x rest i p r g))
     (λ (w : (lt_ℚ time x.0 ≡ false) × (x.0 ≤ℚ time)). at (λ i g k. from-place time rest i p (rises-rest x rest r) g k) i g (let e = place-past time x rest w.1 in omega arith))
@@ -186,3 +187,13 @@ module _ (passes : Passing) (part : Part) (time : ℚ) (points : List Point) (k 
 
   pub value-line : (q : Point) (r : Result ℚ (PassedAt ℚ)) → slice_get points k ≡ Some q → is_same time p.0 ≡ false → r ≡ at_part part (checked_line passes p q time) → r ≡ at_part part (checked_value passes points time)
   value-line q r g t i = i ∙ sym (ap (at_part part) (value-at passes time points k p (Some q) c h e f g ∙ ap (λ (b : Bool). if b then Ok p.1 else checked_line passes p q time) t))
+
+-- ---- a number before the last one
+pub before_last : (i n : ℕ) → i < n - 1 → i < n
+before_last i n h = omega arith
+
+pub next_there : (i n : ℕ) → i < n - 1 → i + 1 < n
+next_there i n h = omega arith
+
+pub last_there : (n : ℕ) → 0 < n → n - 1 < n
+last_there n h = omega arith

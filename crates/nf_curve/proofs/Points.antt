@@ -1,6 +1,7 @@
 -- A point after the last one.
-use Rattle.std.proofs.Common.{◌≡◌, ℕ, zero, suc, ◌+◌, ◌-◌, ◌<◌, true, List, [], ◌∷◌, ◌++◌, length, refl, sym, ap, subst, arith}
+use Rattle.std.proofs.Common.{◌≡◌, ℕ, zero, suc, ◌+◌, ◌-◌, ◌<◌, true, List, [], ◌∷◌, ◌++◌, length, refl, sym, ap, subst, ◌∙◌, arith}
 use Rattle.std.specs.Prelude.{Some, slice_get}
+use Rattle.std.proofs.lemmas.Option.{none-some, same_Some}
 use Rattle.std.specs.Ordering.{MatchOrdering, is_lt}
 use Rattle.std.specs.declared.cmp.Ordering.{Ordering}
 use Rattle.std.specs.declared.cmp.Ordering.TheVariants.{Less, Equal, Greater}
@@ -8,7 +9,7 @@ use Rattle.nf_frac.specs.Total.{ranks_ℚ}
 use Rattle.nf_rational.specs.Rational.{ℚ}
 use Rattle.nf_rational.specs.Order.{◌<ℚ◌, cmp_ℚ}
 use Rattle.nf_model.specs.Curve.{TimesRise, IsCurve}
-use Rattle.nf_curve.specs.Points.{last_time}
+use Rattle.nf_curve.specs.Points.{Grown, last_time}
 
 pub last_time-append : (points : List (ℚ × ℚ)) (p : ℚ × ℚ) → last_time (points ++ p ∷ []) ≡ p.0
 last_time-append [] p = refl
@@ -26,9 +27,9 @@ IsCurve-append (x ∷ rest) p curve later = (curve.0, TimesRise-append x rest p 
 
 -- the last point has the last time
 pub last_time-last : (points : List (ℚ × ℚ)) (k : ℕ) (p : ℚ × ℚ) → slice_get points k ≡ Some p → length points ≡ k + 1 → last_time points ≡ p.0
-last_time-last [] k p h e = absurd (omega arith)
-last_time-last (x ∷ []) zero p h e = ap (λ (q : ℚ × ℚ). q.0) (let same : x ≡ p = cc in same)
-last_time-last (x ∷ []) (suc k) p h e = absurd (omega arith)
+last_time-last [] k p h e = absurd (none-some p h)
+last_time-last (x ∷ []) zero p h e = ap (λ (q : ℚ × ℚ). q.0) (same_Some x p h)
+last_time-last (x ∷ []) (suc k) p h e = absurd (none-some p h)
 last_time-last (x ∷ y ∷ rest) zero p h e = absurd (omega arith)
 last_time-last (x ∷ y ∷ rest) (suc k) p h e = last_time-last (y ∷ rest) k p h (omega arith)
 
@@ -47,3 +48,13 @@ after_last points count p time h e some t =
 pub points_there : (points : List (ℚ × ℚ)) → IsCurve points → 0 < length points
 points_there [] curve = absurd curve
 points_there (p ∷ rest) curve = omega arith
+
+-- ---- what is inside a curve
+pub points_seen : (points inside : List (ℚ × ℚ)) (spare : ℕ) (seen : Grown) → points ≡ inside → record { points = inside; spare = spare } ≡ seen → points ≡ seen.points
+points_seen points inside spare seen e v = e ∙ ap (λ (g : Grown). g.points) v
+
+pub curve_seen : (inside : List (ℚ × ℚ)) (spare : ℕ) (seen : Grown) → IsCurve inside → record { points = inside; spare = spare } ≡ seen → IsCurve seen.points
+curve_seen inside spare seen curve v = subst (λ (g : Grown). IsCurve g.points) v curve
+
+pub curve_read : (points inside : List (ℚ × ℚ)) → points ≡ inside → IsCurve inside → IsCurve points
+curve_read points inside e curve = subst IsCurve (sym e) curve

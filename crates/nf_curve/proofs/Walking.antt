@@ -1,5 +1,5 @@
 -- A walk along two curves comes to their times, one after the other.
-use Rattle.std.proofs.Common.{◌≡◌, ℕ, zero, suc, List, [], ◌∷◌, ⊎_elim, Bool, true, false, refl, sym, ap, subst, ◌∙◌}
+use Rattle.std.proofs.Common.{◌≡◌, ℕ, zero, suc, ◌<◌, List, [], ◌∷◌, length, ⊎_elim, Bool, true, false, refl, sym, ap, subst, ◌∙◌, arith}
 use Rattle.std.specs.Prelude.{Option, Some, None, slice_get, option_map, if◌then◌else◌}
 use Rattle.nf_rational.specs.Rational.{ℚ}
 use Rattle.nf_rational.specs.Operations.{0ℚ}
@@ -11,7 +11,7 @@ use Rattle.nf_curve_lists.specs.Times.{merged, times_of, both_times}
 use Rattle.nf_curve_laws.proofs.Times.{merged_from-cases}
 use Rattle.nf_curve_laws.proofs.Least.{min-left, min-right}
 use Rattle.nf_curve.specs.Places.{place_of, later, times_after, earlier_of, ComesNext}
-use Rattle.nf_curve.specs.Moments.{IsMoment}
+use Rattle.nf_curve.specs.Moments.{IsMoment, times_left}
 use Rattle.nf_curve.specs.declared.walk.Moment.{Moment}
 use Rattle.nf_curve.proofs.Placing.{rises-rest, curve-rises}
 use Rattle.nf_rational_laws.proofs.Chains.{≤ℚ_refl, ≤ℚ_trans}
@@ -150,3 +150,9 @@ module _ (left right : List Point) (c : IsCurve left) (d : IsCurve right) (now :
 
   pub walk-goes : (time : ℚ) → next ≡ Some time → (now.time <ℚ time) × (times_after now.time left right ≡ time ∷ times_after time left right)
   walk-goes time h = subst (λ (o : Option ℚ). ComesNext now.time left right o) h next-is
+
+-- where a walk goes on, fewer times are left
+pub fewer_left : (left right : List Point) (now : Option Moment) (moment : Moment) (next : Option Moment) → now ≡ Some moment
+    → times_after moment.time left right ≡ times_left left right next → length (times_left left right next) < length (times_left left right now)
+fewer_left left right now moment next n t =
+    let e : length (times_after moment.time left right) ≡ length (times_left left right next) = ap length t in rw n (omega (arith, e))

@@ -35,3 +35,15 @@ returns-clause-points c =
 
 pub returns-clause-place : goal.returns-clause-place
 returns-clause-place c = c.place_from-next.ensures
+
+pub add_corners-requires-clause-outer : goal.add_corners-requires-clause-outer
+add_corners-requires-clause-outer c = c.requires.outer
+
+pub add_corners-requires-clause-later : goal.add_corners-requires-clause-later
+add_corners-requires-clause-later c = c.requires.later
+
+pub add_corners-requires-clause-first : goal.add_corners-requires-clause-first
+add_corners-requires-clause-first c = c.requires.place
+
+pub add_corners-requires-clause-last : goal.add_corners-requires-clause-last
+add_corners-requires-clause-last c = c.place_from-next.ensures

@@ -1,6 +1,6 @@
 use Rattle.std.proofs.Common.{◌≡◌, ℕ, ◌<◌, ◌+◌, ◌-◌, length, drop, Some, refl, sym, ap, ◌∙◌, arith}
 use Rattle.std.specs.Prelude.{slice_get, Ok}
-use Rattle.std.proofs.lemmas.Option.{slice_get_read}
+use Rattle.std.proofs.lemmas.Option.{slice_get_read, same_Some}
 use Rattle.std.proofs.lemmas.Result.{err_from_is_err_and}
 use Rattle.nf_rational.specs.Rational.{ℚ}
 use Rattle.nf_work.specs.Passing.{passes_Q}
@@ -9,7 +9,7 @@ use Rattle.nf_curve_lists.specs.Composed.{composed_piece, composed_all}
 use Rattle.nf_curve.specs.Places.{place_of}
 use Rattle.nf_curve.specs.Steps.{behind}
 use Rattle.nf_curve.proofs.Points.{points_there}
-use Rattle.nf_curve.proofs.Placing.{rise-pairs, curve-rises}
+use Rattle.nf_curve.proofs.Placing.{rise-pairs, curve-rises, last_there}
 use Rattle.nf_curve.proofs.Composing.{pieces_go, pieces_stop, last_stops, last_goes}
 use Rattle.nf_curve.proofs.Exits.{stops_on}
 use Rattle.nf_curve.proofs.composed.composed_points.Goals as goal
@@ -52,7 +52,7 @@ loop-i-preserved c =
     let g = slice_get_read c.args.inner.now _ (c.loop-i.i - 1) c.index-inner-i.result refl a c.index-inner-i.is in
     let k = slice_get_read c.args.inner.now _ c.loop-i.i c.index-inner-i-in-loop-i.result refl c.loop-i-test.true c.index-inner-i-in-loop-i.is in
     record {
-      place = λ p e. c.in_ok-place.ensures.place ∙ ap (λ (x : ℚ × ℚ). place_of x.1 c.args.outer.now) (let h : slice_get c.args.inner.now c.loop-i.i ≡ Some p = ap (slice_get c.args.inner.now) (sym n) ∙ e in let same : c.index-inner-i-in-loop-i.result ≡ p = cc in same);
+      place = λ p e. c.in_ok-place.ensures.place ∙ ap (λ (x : ℚ × ℚ). place_of x.1 c.args.outer.now) (let h : slice_get c.args.inner.now c.loop-i.i ≡ Some p = ap (slice_get c.args.inner.now) (sym n) ∙ e in same_Some _ _ (sym k ∙ h));
       so_far = ap (λ (m : ℕ). behind c.add_piece.new.composed.items (composed_all passes_Q c.args.outer.now (drop m c.args.inner.now))) n
           ∙ pieces_go passes_Q c.args.part c.args.outer.now c.args.inner.now c.loop-i.composed.items _ (c.loop-i.i - 1) c.loop-i.i c.index-inner-i.result c.index-inner-i-in-loop-i.result (omega arith) g k
           c.loop-i.invariant.so_far c.add_piece.new.composed.items c.in_ok-place.ensures.points;
@@ -61,13 +61,13 @@ loop-i-preserved c =
 pub value_at-requires-clause-time : goal.value_at-requires-clause-time
 value_at-requires-clause-time c =
     let some = points_there c.args.inner.now c.requires.inner in
-    let a : length c.args.inner.now - 1 < length c.args.inner.now = omega arith in
+    let a : length c.args.inner.now - 1 < length c.args.inner.now = last_there _ some in
     c.requires.values (length c.args.inner.now - 1) c.index-inner-inner.result (slice_get_read c.args.inner.now _ (length c.args.inner.now - 1) c.index-inner-inner.result refl a c.index-inner-inner.is)
 
 pub value_at-requires-clause-place : goal.value_at-requires-clause-place
 value_at-requires-clause-place c =
     let some = points_there c.args.inner.now c.requires.inner in
-    let a : length c.args.inner.now - 1 < length c.args.inner.now = omega arith in
+    let a : length c.args.inner.now - 1 < length c.args.inner.now = last_there _ some in
     let i : c.loop-i.i - 1 ≡ length c.args.inner.now - 1 = omega arith in
     c.loop-i.invariant.place c.index-inner-inner.result (ap (slice_get c.args.inner.now) i ∙ slice_get_read c.args.inner.now _ (length c.args.inner.now - 1) c.index-inner-inner.result refl a c.index-inner-inner.is)
 
@@ -75,7 +75,7 @@ pub returns-in_err-value : goal.returns-in_err-value
 returns-in_err-value c =
     let p = err_from_is_err_and c.from_residual-in_err-value.result c.from_residual-in_err-value.ensures.1 in
     let some = points_there c.args.inner.now c.requires.inner in
-    let a : length c.args.inner.now - 1 < length c.args.inner.now = omega arith in
+    let a : length c.args.inner.now - 1 < length c.args.inner.now = last_there _ some in
     let i : c.loop-i.i - 1 ≡ length c.args.inner.now - 1 = omega arith in
     let g = slice_get_read c.args.inner.now _ (length c.args.inner.now - 1) c.index-inner-inner.result refl a c.index-inner-inner.is in
     rw (p.1, p.2) (last_stops passes_Q c.args.part c.args.outer.now c.args.inner.now c.loop-i.composed.items _ (length c.args.inner.now - 1) c.index-inner-inner.result g (omega arith)
@@ -88,9 +88,21 @@ returns-in_err-push c =
 pub returns : goal.returns
 returns c =
     let some = points_there c.args.inner.now c.requires.inner in
-    let a : length c.args.inner.now - 1 < length c.args.inner.now = omega arith in
+    let a : length c.args.inner.now - 1 < length c.args.inner.now = last_there _ some in
     let i : c.loop-i.i - 1 ≡ length c.args.inner.now - 1 = omega arith in
     let g = slice_get_read c.args.inner.now _ (length c.args.inner.now - 1) c.index-inner-inner.result refl a c.index-inner-inner.is in
     last_goes passes_Q c.args.part c.args.outer.now c.args.inner.now c.loop-i.composed.items _ (length c.args.inner.now - 1) c.index-inner-inner.result g (omega arith)
     (ap (λ (m : ℕ). behind c.loop-i.composed.items (composed_all passes_Q c.args.outer.now (drop m c.args.inner.now))) (sym i) ∙ c.loop-i.invariant.so_far) c.in_ok-value.value (sym c.in_ok-value.ensures)
     ∙ ap Ok (sym c.in_ok-push.ensures.items)
+
+pub add_piece-requires-clause-outer : goal.add_piece-requires-clause-outer
+add_piece-requires-clause-outer c = c.requires.outer
+
+pub value_at-requires-clause-curve : goal.value_at-requires-clause-curve
+value_at-requires-clause-curve c = c.requires.outer
+
+pub overflow_sub-end : goal.overflow_sub-end
+overflow_sub-end c = points_there c.args.inner.now c.requires.inner
+
+pub bounds-inner-inner : goal.bounds-inner-inner
+bounds-inner-inner c = last_there _ (points_there c.args.inner.now c.requires.inner)

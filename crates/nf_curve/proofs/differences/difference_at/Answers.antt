@@ -1,4 +1,4 @@
-use Rattle.std.proofs.Common.{Bool, true, sym, ap, ◌∙◌}
+use Rattle.std.proofs.Common.{Bool, true, false, refl, sym, ap, ◌∙◌}
 use Rattle.std.specs.Prelude.{Some, None, Ok, if◌then◌else◌}
 use Rattle.std.proofs.lemmas.Result.{err_from_is_err_and}
 use Rattle.nf_work.specs.Passing.{passes_Q}
@@ -7,7 +7,9 @@ use Rattle.nf_curve_lists.specs.Sums.{sides_at}
 use Rattle.nf_curve_lists.specs.Differences.{differ_at}
 use Rattle.nf_curve.specs.Sides.{sides_of}
 use Rattle.nf_curve.proofs.Exits.{after_err, after_ok}
+use Rattle.nf_curve.proofs.Differing.{step_found}
 use Rattle.nf_curve.proofs.differences.difference_at.Goals as goal
+use Rattle.nf_curve.proofs.differences.difference_at.Goals.{else-do_differ-via-then-do_differ+in_ok-is_corner+else-branch, else-do_differ-via-else-do_differ}
 
 pub returns-in_err-is_corner : goal.returns-in_err-is_corner
 returns-in_err-is_corner c =
@@ -16,3 +18,18 @@ returns-in_err-is_corner c =
     ∙ ap (λ (b : Bool). at_part c.args.part (differ_at passes_Q b c.args.now.now.time c.args.left.now c.args.right.now >>= λ ends. Ok (if ends then Some (sides_of c.in_ok-sides.sides) else None)))
     (sym c.do_differ.ensures ∙ c.if-do_differ.true)
     ∙ after_err c.args.part (differ_at passes_Q true c.args.now.now.time c.args.left.now c.args.right.now) (λ ends. Ok (if ends then Some (sides_of c.in_ok-sides.sides) else None)) c.in_err-is_corner.field-0.0 (sym c.in_err-is_corner.ensures)))
+
+pub returns-then-branch : goal.returns-then-branch
+returns-then-branch c =
+    step_found passes_Q c.args.left.now c.args.right.now c.args.now.now.time c.args.part (sides_of c.in_ok-sides.sides) true c.in_ok-is_corner.field-0 true c.in_ok-sides.ensures.list
+    (sym c.do_differ.ensures ∙ c.if-do_differ.true) c.in_ok-is_corner.ensures c.if-branch.true
+
+pub returns-else-do_differ : goal.returns-else-do_differ
+returns-else-do_differ c = elim c.else-do_differ.branch [
+  | else-do_differ-via-then-do_differ+in_ok-is_corner+else-branch w ↦
+      step_found passes_Q c.args.left.now c.args.right.now c.args.now.now.time c.args.part (sides_of c.in_ok-sides.sides) true w.in_ok-is_corner.field-0 false c.in_ok-sides.ensures.list
+      (sym c.do_differ.ensures ∙ w.if-do_differ.true) w.in_ok-is_corner.ensures w.if-branch.false
+  | else-do_differ-via-else-do_differ w ↦
+      step_found passes_Q c.args.left.now c.args.right.now c.args.now.now.time c.args.part (sides_of c.in_ok-sides.sides) false false false c.in_ok-sides.ensures.list
+      (sym c.do_differ.ensures ∙ w.if-do_differ.false) refl refl
+]

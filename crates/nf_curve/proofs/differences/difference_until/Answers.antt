@@ -1,4 +1,4 @@
-use Rattle.std.proofs.Common.{◌≡◌, ◌<◌, length, Some, sym, ap, subst, ◌∙◌, arith}
+use Rattle.std.proofs.Common.{◌≡◌, ◌<◌, length, Some, true, false, sym, ap, subst, ◌∙◌, arith}
 use Rattle.std.specs.Prelude.{Ok, Option, option_map}
 use Rattle.std.proofs.lemmas.Result.{err_from_is_err_and}
 use Rattle.nf_rational.specs.Order.{◌<ℚ◌}
@@ -10,9 +10,10 @@ use Rattle.nf_curve.specs.declared.lines.Sides.{Sides}
 use Rattle.nf_curve.specs.Places.{times_after}
 use Rattle.nf_curve.specs.Moments.{times_left}
 use Rattle.nf_curve.specs.declared.walk.Moment.{Moment}
-use Rattle.nf_curve.proofs.Placing.{place-rises}
-use Rattle.nf_curve.proofs.Differing.{Kept, kept-before, step_stops, step_ends, step_goes}
+use Rattle.nf_curve.proofs.Placing.{place-rises, curve-rises}
+use Rattle.nf_curve.proofs.Differing.{Kept, kept-before, step_stops, step_ends, step_goes, last_stops, last_found}
 use Rattle.nf_curve.proofs.differences.difference_until.Goals as goal
+use Rattle.nf_curve.proofs.differences.difference_until.Goals.{then-do_differ, else-do_differ}
 
 pub loop-now-init : goal.loop-now-init
 unfolding checked_difference
@@ -66,3 +67,49 @@ loop-now-preserved c =
           ∙ step_goes passes_Q c.args.left.now c.args.right.now c.args.last c.args.part c.in-Some.moment.time (times_after c.in-Some.moment.time c.args.left.now c.args.right.now) _
           b (rw c.in-Some.is at c.loop-now.invariant.so_far) (sym c.in_ok-sides.ensures ∙ ap (λ (o : Option Sides). Ok (option_map sides_of o)) c.in_default-2.is);
     }
+
+pub difference_at-requires-clause-left : goal.difference_at-requires-clause-left
+difference_at-requires-clause-left c = c.requires.left
+
+pub difference_at-requires-clause-right : goal.difference_at-requires-clause-right
+difference_at-requires-clause-right c = c.requires.right
+
+pub difference_at-requires-clause-there : goal.difference_at-requires-clause-there
+difference_at-requires-clause-there c = rw c.in-Some.is at c.loop-now.invariant.there
+
+pub next_moment-requires-clause-left : goal.next_moment-requires-clause-left
+next_moment-requires-clause-left c = c.requires.left
+
+pub next_moment-requires-clause-right : goal.next_moment-requires-clause-right
+next_moment-requires-clause-right c = c.requires.right
+
+pub next_moment-requires-clause-there : goal.next_moment-requires-clause-there
+next_moment-requires-clause-there c = rw c.in-Some.is at c.loop-now.invariant.there
+
+pub place_up-requires-clause-rise : goal.place_up-requires-clause-rise
+place_up-requires-clause-rise c = curve-rises c.args.left.now c.requires.left
+
+pub place_up-requires-2-clause-rise : goal.place_up-requires-2-clause-rise
+place_up-requires-2-clause-rise c = curve-rises c.args.right.now c.requires.right
+
+pub sides_at-requires-clause-left : goal.sides_at-requires-clause-left
+sides_at-requires-clause-left c = c.requires.left
+
+pub sides_at-requires-clause-right : goal.sides_at-requires-clause-right
+sides_at-requires-clause-right c = c.requires.right
+
+pub sides_at-requires-clause-there : goal.sides_at-requires-clause-there
+sides_at-requires-clause-there c = record { time = c.requires.last; left_place = c.place_up.ensures; right_place = c.place_up-2.ensures }
+
+pub returns-in_err-sides-2 : goal.returns-in_err-sides-2
+returns-in_err-sides-2 c =
+    let p = err_from_is_err_and c.from_residual-in_err-sides-2.result c.from_residual-in_err-sides-2.ensures.1 in
+    rw (p.1, p.2) (sym (last_stops passes_Q c.args.left.now c.args.right.now c.args.last c.args.part _ (rw c.in_default.is at c.loop-now.invariant.so_far) c.in_err-sides-2.field-0.0 (sym c.in_err-sides-2.ensures.list)))
+
+pub returns : goal.returns
+returns c = elim c.if-do_differ.branch [
+  | then-do_differ w ↦ rw w.result-is (last_found passes_Q c.args.left.now c.args.right.now c.args.last c.args.part _ (rw c.in_default.is at c.loop-now.invariant.so_far) (sides_of c.in_ok-sides-2.sides) true
+      c.in_ok-sides-2.ensures.list (sym c.do_differ.ensures ∙ w.if-do_differ.true))
+  | else-do_differ w ↦ rw w.result-is (last_found passes_Q c.args.left.now c.args.right.now c.args.last c.args.part _ (rw c.in_default.is at c.loop-now.invariant.so_far) (sides_of c.in_ok-sides-2.sides) false
+      c.in_ok-sides-2.ensures.list (sym c.do_differ.ensures ∙ w.if-do_differ.false))
+]

@@ -11,6 +11,7 @@ use Rattle.nf_curve_lists.specs.Least.{least_point, least_after, least_from, che
 use Rattle.nf_curve.specs.Sides.{sides_of}
 use Rattle.nf_curve.specs.Places.{times_after}
 use Rattle.nf_curve.specs.Steps.{lesser_step}
+use Rattle.nf_curve.proofs.Walking.{fewer_left}
 use Rattle.nf_curve.proofs.Exits.{front_ends, stops_on}
 use Rattle.nf_curve.proofs.Lesser.{first_stops, first_goes, sides_stop, step_stops, step_goes}
 use Rattle.nf_curve.proofs.least.least_points.Goals as goal
@@ -71,3 +72,34 @@ returns c = front_ends c.args.part c.loop-now.points.items _ (rw c.in_default.is
 pub returns-in_err-push : goal.returns-in_err-push
 returns-in_err-push c =
     let p = err_from_is_err_and c.from_residual-in_err-push.result c.from_residual-in_err-push.ensures.1 in rw (p.1, p.2) tt
+
+pub sides_at-requires-in-Some-clause-there : goal.sides_at-requires-in-Some-clause-there
+sides_at-requires-in-Some-clause-there c = rw c.in-Some.is at c.loop-now.invariant.there
+
+pub next_moment-now-requires-in-Some-clause-there : goal.next_moment-now-requires-in-Some-clause-there
+next_moment-now-requires-in-Some-clause-there c = rw c.in-Some.is at c.loop-now.invariant.there
+
+pub add_points-requires : goal.add_points-requires
+add_points-requires c =
+    subst (λ (t : ℚ). c.loop-now.before.time <ℚ t) (sym c.in_ok-sides.ensures.time) (rw c.in-Some.is at c.loop-now.invariant.later)
+
+pub sides_at-requires-in-Some-clause-left : goal.sides_at-requires-in-Some-clause-left
+sides_at-requires-in-Some-clause-left c = c.requires.left
+
+pub sides_at-requires-in-Some-clause-right : goal.sides_at-requires-in-Some-clause-right
+sides_at-requires-in-Some-clause-right c = c.requires.right
+
+pub next_moment-now-requires-in-Some-clause-left : goal.next_moment-now-requires-in-Some-clause-left
+next_moment-now-requires-in-Some-clause-left c = c.requires.left
+
+pub next_moment-now-requires-in-Some-clause-right : goal.next_moment-now-requires-in-Some-clause-right
+next_moment-now-requires-in-Some-clause-right c = c.requires.right
+
+pub next_moment-now-requires-clause-left : goal.next_moment-now-requires-clause-left
+next_moment-now-requires-clause-left c = c.requires.left
+
+pub next_moment-now-requires-clause-right : goal.next_moment-now-requires-clause-right
+next_moment-now-requires-clause-right c = c.requires.right
+
+pub loop-now-smaller : goal.loop-now-smaller
+loop-now-smaller c = fewer_left c.args.left.now c.args.right.now c.loop-now.now c.in-Some.moment c.next_moment-now-in-Some.result c.in-Some.is c.next_moment-now-in-Some.ensures.times

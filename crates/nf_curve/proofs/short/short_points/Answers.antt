@@ -1,12 +1,12 @@
 use Rattle.std.proofs.Common.{◌≡◌, ◌<◌, ◌+◌, ◌-◌, List, [], ◌∷◌, ◌++◌, length, refl, sym, ap, ◌∙◌, arith}
 use Rattle.std.specs.Prelude.{slice_get, if◌then◌else◌}
-use Rattle.std.proofs.lemmas.Option.{slice_get_read}
+use Rattle.std.proofs.lemmas.Option.{slice_get_read, same_Some}
 use Rattle.std.proofs.lemmas.Result.{err_from_is_err_and}
 use Rattle.nf_rational.specs.Rational.{ℚ}
 use Rattle.nf_work.specs.Passing.{passes_Q}
 use Rattle.nf_lists.specs.Signs.{is_same}
 use Rattle.nf_curve.proofs.Points.{points_there}
-use Rattle.nf_curve.proofs.Placing.{rise-pairs, curve-rises}
+use Rattle.nf_curve.proofs.Placing.{rise-pairs, curve-rises, before_last, next_there, last_there}
 use Rattle.nf_curve.proofs.Shortening.{begin_stops, begin_goes, step_stops, step_goes, short_ends, short_alone}
 use Rattle.nf_curve.proofs.short.short_points.Goals as goal
 
@@ -51,7 +51,7 @@ loop-i-init c =
     let b : 1 < length c.args.points.now = omega arith in
     let g = slice_get_read c.args.points.now _ 0 c.index-points-0-2.result refl a c.index-points-0-2.is in
     let k = slice_get_read c.args.points.now _ 0 c.index-points-0.result refl a c.index-points-0.is in
-    let same : c.index-points-0.result ≡ c.index-points-0-2.result = cc in
+    let same : c.index-points-0.result ≡ c.index-points-0-2.result = same_Some _ _ (sym k ∙ g) in
     let one : c.push.new.self.items ≡ c.index-points-0-2.result ∷ [] = c.in_ok-push.ensures.items ∙ ap (λ (l : List (ℚ × ℚ)). l ++ c.index-points-0.result ∷ []) c.new-short.ensures.items
     ∙ ap (λ (x : ℚ × ℚ). x ∷ []) same in
     rw one (begin_goes passes_Q c.args.part c.args.points.now c.index-points-0-2.result c.index-points-1.result
@@ -60,8 +60,8 @@ loop-i-init c =
 
 pub slope-requires-in-loop-i : goal.slope-requires-in-loop-i
 slope-requires-in-loop-i c =
-    let a : c.loop-i.i < length c.args.points.now = omega arith in
-    let b : c.loop-i.i + 1 < length c.args.points.now = omega arith in
+    let a : c.loop-i.i < length c.args.points.now = before_last c.loop-i.i _ c.loop-i-test.true in
+    let b : c.loop-i.i + 1 < length c.args.points.now = next_there c.loop-i.i _ c.loop-i-test.true in
     rise-pairs c.args.points.now c.loop-i.i (c.loop-i.i + 1) c.index-points-i.result c.index-points-i-in-loop-i.result (curve-rises c.args.points.now c.requires)
     (slice_get_read c.args.points.now _ c.loop-i.i c.index-points-i.result refl a c.index-points-i.is)
     (slice_get_read c.args.points.now _ (c.loop-i.i + 1) c.index-points-i-in-loop-i.result refl b c.index-points-i-in-loop-i.is) (omega arith)
@@ -69,8 +69,8 @@ slope-requires-in-loop-i c =
 pub returns-in_err-after : goal.returns-in_err-after
 returns-in_err-after c =
     let p = err_from_is_err_and c.from_residual-in_err-after.result c.from_residual-in_err-after.ensures.1 in
-    let a : c.loop-i.i < length c.args.points.now = omega arith in
-    let b : c.loop-i.i + 1 < length c.args.points.now = omega arith in
+    let a : c.loop-i.i < length c.args.points.now = before_last c.loop-i.i _ c.loop-i-test.true in
+    let b : c.loop-i.i + 1 < length c.args.points.now = next_there c.loop-i.i _ c.loop-i-test.true in
     rw (p.1, p.2) (step_stops passes_Q c.args.part c.args.points.now c.loop-i.short.items c.loop-i.before c.loop-i.i (c.loop-i.i + 1) c.index-points-i.result c.index-points-i-in-loop-i.result (omega arith)
     (slice_get_read c.args.points.now _ c.loop-i.i c.index-points-i.result refl a c.index-points-i.is)
     (slice_get_read c.args.points.now _ (c.loop-i.i + 1) c.index-points-i-in-loop-i.result refl b c.index-points-i-in-loop-i.is)
@@ -78,11 +78,11 @@ returns-in_err-after c =
 
 pub loop-i-preserved : goal.loop-i-preserved
 loop-i-preserved c =
-    let a : c.loop-i.i < length c.args.points.now = omega arith in
-    let b : c.loop-i.i + 1 < length c.args.points.now = omega arith in
+    let a : c.loop-i.i < length c.args.points.now = before_last c.loop-i.i _ c.loop-i-test.true in
+    let b : c.loop-i.i + 1 < length c.args.points.now = next_there c.loop-i.i _ c.loop-i-test.true in
     let g = slice_get_read c.args.points.now _ c.loop-i.i c.index-points-i.result refl a c.index-points-i.is in
     let k = slice_get_read c.args.points.now _ c.loop-i.i c.index-points-i-in-loop-i-2.result refl a c.index-points-i-in-loop-i-2.is in
-    let same : c.index-points-i-in-loop-i-2.result ≡ c.index-points-i.result = cc in
+    let same : c.index-points-i-in-loop-i-2.result ≡ c.index-points-i.result = same_Some _ _ (sym k ∙ g) in
     step_goes passes_Q c.args.part c.args.points.now c.loop-i.short.items c.loop-i.before c.loop-i.i (c.loop-i.i + 1) c.index-points-i.result c.index-points-i-in-loop-i.result (omega arith)
     g (slice_get_read c.args.points.now _ (c.loop-i.i + 1) c.index-points-i-in-loop-i.result refl b c.index-points-i-in-loop-i.is)
     c.loop-i.invariant c.in_ok-after.after c.keep_if_turning.new.short.items (sym c.in_ok-after.ensures)
@@ -97,7 +97,7 @@ bounds-points-points c = let some = points_there c.args.points.now c.requires in
 pub returns : goal.returns
 returns c =
     let a : 0 < length c.args.points.now = points_there c.args.points.now c.requires in
-    let b : length c.args.points.now - 1 < length c.args.points.now = omega arith in
+    let b : length c.args.points.now - 1 < length c.args.points.now = last_there _ a in
     let i : c.loop-i.i ≡ length c.args.points.now - 1 = omega arith in
     let g = slice_get_read c.args.points.now _ (length c.args.points.now - 1) c.index-points-points.result refl b c.index-points-points.is in
     rw c.in_ok-push-2.ensures.items (short_ends passes_Q c.args.part c.args.points.now c.loop-i.short.items c.loop-i.before c.loop-i.i c.index-points-points.result
@@ -114,3 +114,12 @@ returns-in_err-keep_if_turning c =
 pub returns-in_err-push-2 : goal.returns-in_err-push-2
 returns-in_err-push-2 c =
     let p = err_from_is_err_and c.from_residual-in_err-push-2.result c.from_residual-in_err-push-2.ensures.1 in rw (p.1, p.2) tt
+
+pub bounds-points-i : goal.bounds-points-i
+bounds-points-i c = before_last c.loop-i.i _ c.loop-i-test.true
+
+pub bounds-points-i-in-loop-i : goal.bounds-points-i-in-loop-i
+bounds-points-i-in-loop-i c = next_there c.loop-i.i _ c.loop-i-test.true
+
+pub bounds-points-i-in-loop-i-2 : goal.bounds-points-i-in-loop-i-2
+bounds-points-i-in-loop-i-2 c = before_last c.loop-i.i _ c.loop-i-test.true

@@ -7,6 +7,7 @@ use Rattle.nf_work.proofs.Each.{with_front}
 use Rattle.nf_curve_lists.specs.Times.{both_times}
 use Rattle.nf_curve_lists.specs.Sums.{sum_at, checked_sum}
 use Rattle.nf_curve.specs.Places.{times_after}
+use Rattle.nf_curve.proofs.Walking.{fewer_left}
 use Rattle.nf_curve.proofs.Exits.{front_none, each_goes, each_stops, each_ends}
 use Rattle.nf_curve.proofs.sums.sum_points.Goals as goal
 
@@ -42,3 +43,24 @@ returns c = each_ends (sum_at passes_Q c.args.left.now c.args.right.now) c.loop-
 pub returns-in_err-push : goal.returns-in_err-push
 returns-in_err-push c =
     let p = err_from_is_err_and c.from_residual-in_err-push.result c.from_residual-in_err-push.ensures.1 in rw (p.1, p.2) tt
+
+pub sum_at-requires-clause-left : goal.sum_at-requires-clause-left
+sum_at-requires-clause-left c = c.requires.left
+
+pub sum_at-requires-clause-right : goal.sum_at-requires-clause-right
+sum_at-requires-clause-right c = c.requires.right
+
+pub sum_at-requires-clause-there : goal.sum_at-requires-clause-there
+sum_at-requires-clause-there c = rw c.in-Some.is at c.loop-now.invariant.there
+
+pub next_moment-now-requires-clause-left : goal.next_moment-now-requires-clause-left
+next_moment-now-requires-clause-left c = c.requires.left
+
+pub next_moment-now-requires-clause-right : goal.next_moment-now-requires-clause-right
+next_moment-now-requires-clause-right c = c.requires.right
+
+pub next_moment-now-requires-clause-there : goal.next_moment-now-requires-clause-there
+next_moment-now-requires-clause-there c = rw c.in-Some.is at c.loop-now.invariant.there
+
+pub loop-now-smaller : goal.loop-now-smaller
+loop-now-smaller c = fewer_left c.args.left.now c.args.right.now c.loop-now.now c.in-Some.moment c.next_moment-now.result c.in-Some.is c.next_moment-now.ensures.times

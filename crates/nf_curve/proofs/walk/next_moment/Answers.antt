@@ -2,6 +2,7 @@ use Rattle.std.proofs.Common.{arith}
 use Rattle.nf_rational_laws.proofs.Order.{≤ℚ_of_lt}
 use Rattle.nf_curve.proofs.Placing.{place-rises}
 use Rattle.nf_curve.proofs.Walking.{walk-ends, walk-goes}
+use Rattle.nf_curve.proofs.Placing.{curve-rises}
 use Rattle.nf_curve.proofs.walk.next_moment.Goals as goal
 use Rattle.nf_rational_laws.proofs.Chains.{≤ℚ_trans}
 
@@ -36,3 +37,9 @@ returns-clause-times c = (walk-goes c.args.left.now c.args.right.now c.requires.
 pub returns-clause-later : goal.returns-clause-later
 returns-clause-later c = (walk-goes c.args.left.now c.args.right.now c.requires.left c.requires.right c.args.now.now c.requires.there c.time_at.result c.time_at-2.result c.earlier.result
     c.time_at.ensures c.time_at-2.ensures c.earlier.ensures c.in-Some.time c.in-Some.is).0
+
+pub place_up-requires-clause-rise : goal.place_up-requires-clause-rise
+place_up-requires-clause-rise c = curve-rises c.args.left.now c.requires.left
+
+pub place_up-requires-2-clause-rise : goal.place_up-requires-2-clause-rise
+place_up-requires-2-clause-rise c = curve-rises c.args.right.now c.requires.right

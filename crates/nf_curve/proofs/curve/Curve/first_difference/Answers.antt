@@ -1,10 +1,9 @@
-use Rattle.std.proofs.Common.{◌≡◌, Some, sym, ap, subst, ◌∙◌, rules}
+use Rattle.std.proofs.Common.{◌≡◌, Some, sym, ap, subst, ◌∙◌}
 use Rattle.std.specs.Prelude.{Option, None, Result, Ok, option_map}
 use Rattle.nf_rational.specs.Rational.{ℚ}
 use Rattle.nf_work.specs.Passing.{passes_Q}
 use Rattle.nf_work.specs.declared.PassedAt.{PassedAt}
 use Rattle.nf_work.specs.Checked.{at_part}
-use Rattle.nf_model.specs.Curve.{IsCurve}
 use Rattle.nf_curve_lists.specs.Lines as lists
 use Rattle.nf_curve_lists.specs.Differences.{checked_difference}
 use Rattle.nf_curve_lists.specs.Meanings.{DifferFirst}
@@ -12,13 +11,17 @@ use Rattle.nf_curve_laws.proofs.Differences.{checked_difference-is}
 use Rattle.nf_curve.specs.Sides.{sides_of}
 use Rattle.nf_curve.specs.declared.lines.Sides.{Sides}
 use Rattle.nf_curve.proofs.Exits.{was_ok}
+use Rattle.nf_curve.proofs.Points.{points_seen, curve_seen}
 use Rattle.nf_curve.proofs.curve.Curve.first_difference.Goals as goal
 
 pub returns-in-Some-clause-difference : goal.returns-in-Some-clause-difference
 returns-in-Some-clause-difference c =
-    let left : IsCurve c.args.left.now.points = search rules in
-    let right : IsCurve c.args.right.now.points = search rules in
-    let e : ◌≡◌ {A = Result (Option lists.Sides) (PassedAt ℚ)} (Ok (option_map sides_of c.in_ok-sides.field-0)) (at_part c.args.part (checked_difference passes_Q c.args.left.now.points c.args.right.now.points c.args.until)) = search rules in
+    let left = curve_seen _ _ _ c.left.invariant c.left.view_is in
+    let right = curve_seen _ _ _ c.right.invariant c.right.view_is in
+    let l : c.deref.result.now ≡ c.args.left.now.points = points_seen _ _ _ _ c.deref.ensures.value c.left.view_is in
+    let r : c.deref-2.result.now ≡ c.args.right.now.points = points_seen _ _ _ _ c.deref-2.ensures.value c.right.view_is in
+    let e : ◌≡◌ {A = Result (Option lists.Sides) (PassedAt ℚ)} (Ok (option_map sides_of c.in_ok-sides.field-0)) (at_part c.args.part (checked_difference passes_Q c.args.left.now.points c.args.right.now.points c.args.until)) =
+    rw (l, r) at c.in_ok-sides.ensures in
     subst (λ (s : lists.Sides). DifferFirst c.args.left.now.points c.args.right.now.points c.args.until s) (sym c.of.ensures)
     (checked_difference-is passes_Q c.args.left.now.points c.args.right.now.points left right c.args.until c.requires (Some (sides_of c.in-Some.sides))
     (was_ok c.args.part (checked_difference passes_Q c.args.left.now.points c.args.right.now.points c.args.until) (Some (sides_of c.in-Some.sides))
@@ -26,9 +29,12 @@ returns-in-Some-clause-difference c =
 
 pub returns-in-None-clause-difference : goal.returns-in-None-clause-difference
 returns-in-None-clause-difference c =
-    let left : IsCurve c.args.left.now.points = search rules in
-    let right : IsCurve c.args.right.now.points = search rules in
-    let e : ◌≡◌ {A = Result (Option lists.Sides) (PassedAt ℚ)} (Ok (option_map sides_of c.in_ok-sides.field-0)) (at_part c.args.part (checked_difference passes_Q c.args.left.now.points c.args.right.now.points c.args.until)) = search rules in
+    let left = curve_seen _ _ _ c.left.invariant c.left.view_is in
+    let right = curve_seen _ _ _ c.right.invariant c.right.view_is in
+    let l : c.deref.result.now ≡ c.args.left.now.points = points_seen _ _ _ _ c.deref.ensures.value c.left.view_is in
+    let r : c.deref-2.result.now ≡ c.args.right.now.points = points_seen _ _ _ _ c.deref-2.ensures.value c.right.view_is in
+    let e : ◌≡◌ {A = Result (Option lists.Sides) (PassedAt ℚ)} (Ok (option_map sides_of c.in_ok-sides.field-0)) (at_part c.args.part (checked_difference passes_Q c.args.left.now.points c.args.right.now.points c.args.until)) =
+    rw (l, r) at c.in_ok-sides.ensures in
     checked_difference-is passes_Q c.args.left.now.points c.args.right.now.points left right c.args.until c.requires None
     (was_ok c.args.part (checked_difference passes_Q c.args.left.now.points c.args.right.now.points c.args.until) None
     (sym e ∙ ap (λ (o : Option Sides). Ok (option_map sides_of o)) c.in-None.is))

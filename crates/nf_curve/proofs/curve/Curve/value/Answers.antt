@@ -1,13 +1,17 @@
-use Rattle.std.proofs.Common.{◌≡◌, rules}
+use Rattle.std.proofs.Common.{◌≡◌, List, ap, ◌∙◌}
+use Rattle.nf_rational.specs.Rational.{ℚ}
 use Rattle.nf_work.specs.Passing.{passes_Q}
-use Rattle.nf_model.specs.Curve.{IsCurve, value}
+use Rattle.nf_work.specs.Checked.{at_part}
+use Rattle.nf_model.specs.Curve.{value}
 use Rattle.nf_curve_lists.specs.Values.{checked_value}
 use Rattle.nf_curve_laws.proofs.Values.{checked_value-is}
 use Rattle.nf_curve.proofs.Exits.{if_ok}
+use Rattle.nf_curve.proofs.Points.{points_seen, curve_seen}
 use Rattle.nf_curve.proofs.curve.Curve.value.Goals as goal
 
 pub returns-clause-value : goal.returns-clause-value
 returns-clause-value c =
-    let curve : IsCurve c.args.self.now.points = search rules in
-    if_ok c.args.part c.value_at.result (checked_value passes_Q c.args.self.now.points c.args.time) (λ y. y ≡ value c.args.self.now.points c.args.time) (search rules)
+    let curve = curve_seen _ _ _ c.self.invariant c.self.view_is in
+    if_ok c.args.part c.value_at.result (checked_value passes_Q c.args.self.now.points c.args.time) (λ y. y ≡ value c.args.self.now.points c.args.time)
+    (c.value_at.ensures ∙ ap (λ (l : List (ℚ × ℚ)). at_part c.args.part (checked_value passes_Q l c.args.time)) (points_seen _ _ _ _ c.deref-2.ensures.value c.self.view_is))
     (λ y e. checked_value-is passes_Q c.args.self.now.points c.args.time y curve c.requires e)
