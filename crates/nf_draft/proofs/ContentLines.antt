@@ -1,6 +1,6 @@
 -- What lines say, one after the other.
 use Rattle.std.proofs.Common.{◌≡◌, ℕ, zero, suc, ◌+◌, ◌-◌, ◌<◌, ◌≤◌, Bool, true, false, cond, not, eqb, take, slice_get, Option, Some, List, [], ◌∷◌, ◌++◌, length, map, drop, get_or, Result, Ok, Err, refl, sym, ◌∙◌, ap, subst, arith}
-use Rattle.std.proofs.lemmas.List.{at_drop_more, length-map}
+use Rattle.std.proofs.lemmas.List.{at_drop_more, at_drop_all, length-map}
 use Rattle.std.proofs.lemmas.Bool.Decides.{nat_tests}
 use Rattle.std.proofs.lemmas.List.{take_rest}
 use Rattle.nf_work.specs.Checked.{◌>>=◌}
@@ -13,6 +13,8 @@ use Rattle.std.specs.List.{All, AllByRecursion}
 use Rattle.std.proofs.lemmas.List.Elements.{All-nil, All-cons}
 use Rattle.std.proofs.lemmas.Option.{slice_get-get_or}
 use Rattle.nf_formats.specs.declared.NetRule.{NetRule}
+use Rattle.nf_formats.specs.declared.NetRule.TheVariants.{N3}
+use Rattle.nf_entry.specs.Words.{AreWithin}
 use Rattle.nf_formats.specs.NetLines.{Broken, Draft, empty_draft, add_line, add_lines, in_line, version_of, draft_after, draft_from}
 use Rattle.nf_draft.specs.declared.fault.NetFault.{NetFault}
 use Rattle.nf_draft.specs.Contents.{contents, AddsContent, AreLinesWithin, IfBroken, IsFirstContent}
@@ -88,6 +90,10 @@ words_break text draft rule line lt h =
     ap (add_lines draft) (with_words text draft line lt) ∙ last_of (in_line line.number (add_line draft (map (text_of text) line.words.items)))
     ∙ ap (in_line line.number) h
 
+-- some words of a line are read
+pub some_read : (text : List ℕ) (spans : List Span) (words : List (List ℕ)) (n : ℕ) → n ≡ length words → (n ≡ 0 → ⊥) → words ≡ map (text_of text) spans → 0 < length spans
+some_read text spans words n e some is = omega (arith, e, some, ap length is, length-map spans (text_of text))
+
 -- of a rule that is broken, what follows
 pub broken_more : (fault : NetFault) (P Q : Broken → Type 0) → ((broken : Broken) → P broken → Q broken) → IfBroken fault P → IfBroken fault Q
 broken_more (NetFault.Broken rule line) P Q f h = f (record { rule = rule; line = line }) h
@@ -127,7 +133,42 @@ after_first text lines place version line draft r h lt is v d e =
     ∙ ap (λ (ls : List Line). add_lines draft (contents text ls)) (sym (take_rest lines (place + 1)))
     ∙ e
 
+-- the first line with words is found, or there is none
+pub first_is : (text : List ℕ) (lines : List Line) (i : ℕ) (line : Line) → i < length lines → line ≡ get_or lines i line → contents text lines ≡ contents text (drop i lines)
+    → 0 < length line.words.items → IsFirstContent text lines i
+first_is text lines i line lt is rest some = record {
+  rest = rest;
+  words = λ other e. let at = slice_get-get_or lines i line lt in let same : line ≡ other = cc in subst (λ (l : Line). 0 < length l.words.items) same some;
+}
+
+pub none_is : (text : List ℕ) (lines : List Line) (i : ℕ) → length lines ≤ i → contents text lines ≡ contents text (drop i lines) → IsFirstContent text lines (length lines)
+none_is text lines i past rest = record {
+  rest = rest ∙ at_drop_all (contents text) lines i past ∙ sym (at_drop_all (contents text) lines (length lines) (omega arith));
+  words = λ other e. absurd (past_none lines other e);
+}
+  where
+    past_none : (ls : List Line) (other : Line) → slice_get ls (length ls) ≡ Some other → ⊥
+    past_none [] other e = cc
+    past_none (x ∷ ls) other e = past_none ls other e
+
+-- there are only lines without words
+pub all_wordless : (text : List ℕ) (lines : List Line) (place : ℕ) → IsFirstContent text lines place → place ≡ length lines
+    → draft_from (contents text lines) ≡ Err (record { rule = N3; line = 1 })
+all_wordless text lines place h e = ap draft_from (h.rest ∙ at_drop_all (contents text) lines place (omega (arith, e)))
+
+-- what is left of lines after one without words
+pub past_wordless : (text : List ℕ) (lines : List Line) (i : ℕ) (line : Line) → i < length lines → line ≡ get_or lines i line → length line.words.items ≡ 0
+    → contents text (drop i lines) ≡ contents text (drop (i + 1) lines)
+past_wordless text lines i line lt is none =
+    at_drop_more (contents text) lines i line lt
+    ∙ ap (λ (l : Line). contents text (l ∷ drop (i + 1) lines)) (sym is)
+    ∙ ap (λ (n : ℕ). cond (not (eqb n 0)) (seen_line text line ∷ contents text (drop (i + 1) lines)) (contents text (drop (i + 1) lines)))
+    (length-map line.words.items (text_of text) ∙ none)
+
 -- ---- the words of the lines that are read lie in the text
+pub within_at : (text : List ℕ) (lines : List Line) (i : ℕ) (line : Line) → AreLinesWithin text lines → i < length lines → line ≡ get_or lines i line → AreWithin text line.words.items
+within_at text lines i line h lt is = h.each i line (slice_get-get_or lines i line lt ∙ ap (λ (l : Line). Some l) (sym is))
+
 rise_every : (first last : ℕ) (spans : List Span) → Rise first last spans → AllByRecursion (λ (span : Span). span.start + span.len ≤ last) spans
 rise_every first last [] h = tt
 rise_every first last (span ∷ spans) h = (h.2, rise_every (span.start + span.len) last spans h.3)

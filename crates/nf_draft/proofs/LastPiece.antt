@@ -1,5 +1,6 @@
 -- The last piece.
-use Rattle.std.proofs.Common.{◌≡◌, ℕ, zero, suc, ◌-◌, ◌<◌, List, [], ◌∷◌, length, get_or, Option, Some, None, sym, ◌∙◌, ap, arith}
+use Rattle.std.proofs.Common.{◌≡◌, ℕ, zero, suc, ◌-◌, ◌<◌, true, false, eqb, List, [], ◌∷◌, length, get_or, Option, Some, None, refl, sym, ◌∙◌, ap, arith}
+use Rattle.std.proofs.lemmas.Bool.Decides.{nat_tests}
 use Rattle.std.specs.List.{last_or}
 use Rattle.nf_rational.specs.Rational.{ℚ}
 use Rattle.nf_rational.specs.Order.{le_ℚ}
@@ -20,3 +21,7 @@ pub late_by_last : (start : ℚ) (pieces : List Piece) (last : Piece) → 0 < le
 late_by_last start pieces last some e =
     let is : last_or None pieces ≡ Some (get_or pieces (length pieces - 1) last) = last_is None pieces (length pieces - 1) last (omega arith) in
     ap (λ (p : Piece). le_ℚ start p.start) e ∙ ap (is_not_after start) (sym is)
+
+pub late_of_none : (start : ℚ) (pieces : List Piece) → eqb (length pieces) 0 ≡ true → false ≡ is_not_after start (last_or None pieces)
+late_of_none start [] e = refl
+late_of_none start (p ∷ pieces) e = absurd (grind (arith, nat_tests))

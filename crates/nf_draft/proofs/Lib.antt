@@ -6,3 +6,5 @@ pub mod FirstRule
 pub mod Marks
 pub mod Filling
 pub mod FileWalks
+pub mod Rates
+pub mod LinkNames

@@ -1,7 +1,10 @@
 use Rattle.std.proofs.Common.{◌<◌, length, sym, ◌∙◌, arith}
+use Rattle.std.proofs.lemmas.List.{at_drop_all}
 use Rattle.std.proofs.lemmas.Result.{err_from_is_err_and}
+use Rattle.nf_formats.specs.NetLines.{add_lines}
 use Rattle.nf_draft.specs.Drafts.{seen_draft}
-use Rattle.nf_draft.proofs.ContentLines.{line_added, line_breaks, broken_more}
+use Rattle.nf_draft.specs.Contents.{contents}
+use Rattle.nf_draft.proofs.ContentLines.{line_added, line_breaks, broken_more, within_at}
 use Rattle.nf_draft.proofs.contents.add_lines.Goals as goal
 
 pub returns-in_err-add_content : goal.returns-in_err-add_content
@@ -17,3 +20,12 @@ loop-line-preserved c =
     let lt : c.loop-line.line-index < length c.args.lines.now = omega arith in
     sym (line_added c.args.text.now (seen_draft c.loop-line.draft) c.args.lines.now c.loop-line.line-index c.line-item.result lt c.line-item.is (seen_draft c.add_content.new.draft) c.in_ok-add_content.ensures)
     ∙ c.loop-line.invariant
+
+pub add_content-requires : goal.add_content-requires
+add_content-requires c =
+    within_at c.args.text.now c.args.lines.now c.loop-line.line-index c.line-item.result c.requires c.loop-line-test.true c.line-item.is
+
+pub returns : goal.returns
+returns c =
+    sym c.loop-line.invariant
+    ∙ at_drop_all (λ lines. add_lines (seen_draft c.loop-line.draft) (contents c.args.text.now lines)) c.args.lines.now c.loop-line.line-index c.loop-line-test.false

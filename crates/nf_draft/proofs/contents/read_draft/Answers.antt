@@ -1,10 +1,12 @@
-use Rattle.std.proofs.Common.{◌≡◌, ℕ, ◌+◌, ◌-◌, ◌<◌, length, map, take, drop, Option, Err, sym, ◌∙◌, ap, arith}
+use Rattle.std.proofs.Common.{◌≡◌, ℕ, ◌+◌, ◌-◌, ◌<◌, length, map, take, drop, List, Option, Err, sym, ◌∙◌, ap, subst, arith}
 use Rattle.std.proofs.lemmas.Result.{err_from_is_err_and}
+use Rattle.nf_text.specs.declared.Span.{Span}
 use Rattle.nf_text.specs.Spans.{text_of}
+use Rattle.nf_entry.specs.Words.{AreWithin}
 use Rattle.nf_formats.specs.NetLines.{version_of, add_lines, draft_from, draft_after}
 use Rattle.nf_draft.specs.Drafts.{seen_draft}
 use Rattle.nf_draft.specs.Contents.{contents}
-use Rattle.nf_draft.proofs.ContentLines.{first_line, within_rest, after_first, broken_more}
+use Rattle.nf_draft.proofs.ContentLines.{first_line, within_rest, after_first, broken_more, within_at, all_wordless}
 use Rattle.nf_draft.proofs.contents.read_draft.Goals as goal
 
 pub returns-in_default : goal.returns-in_default
@@ -35,3 +37,12 @@ returns c =
     after_first c.args.text.now c.args.lines.now c.first_content-place.result c.in-Some.version c.index-lines-place.result (seen_draft c.new-draft.result) _
     c.first_content-place.ensures.first lt c.index-lines-place.is
     (c.in-Some.ensures ∙ ap version_of (c.new-words.ensures ∙ ap (map (text_of c.args.text.now)) c.deref.ensures.value)) c.new-draft.ensures c.in_ok-add_lines.ensures
+
+pub new-words-requires : goal.new-words-requires
+new-words-requires c =
+    let lt : c.first_content-place.result < length c.args.lines.now = omega arith in
+    subst (λ (spans : List Span). AreWithin c.args.text.now spans) (sym c.deref.ensures.value)
+    (within_at c.args.text.now c.args.lines.now c.first_content-place.result c.index-lines-place.result c.requires lt c.index-lines-place.is)
+
+pub returns-then-place-lines : goal.returns-then-place-lines
+returns-then-place-lines c = all_wordless c.args.text.now c.args.lines.now c.first_content-place.result c.first_content-place.ensures.first c.if-place-lines.true
