@@ -1,7 +1,8 @@
 -- What holds of each entry of a list, by its place.
-use Rattle.std.proofs.Common.{◌≡◌, ◌⊎◌, ℕ, zero, suc, ◌+◌, List, [], ◌∷◌, ◌++◌, length, length-append, take, add-one, inl, inr, ⊎_elim, refl, sym, ap, subst, ◌∙◌, arith}
+use Rattle.std.proofs.Common.{◌≡◌, ◌⊎◌, Vec, Global, ℕ, zero, suc, ◌+◌, ◌-◌, ◌<◌, List, [], ◌∷◌, ◌++◌, length, length-append, length-drop, get_or, take, drop, add-one, inl, inr, ⊎_elim, refl, sym, ap, subst, ◌∙◌, arith}
 use Rattle.std.specs.Prelude.{Some, slice_get}
-use Rattle.std.proofs.lemmas.Option.{none-some, same_Some}
+use Rattle.std.proofs.lemmas.Option.{none-some, same_Some, slice_get-get_or}
+use Rattle.std.proofs.lemmas.List.{take_rest}
 
 abbrev pub EachEntry : {A : Type 0} → (ℕ → A → Type 0) → List A → Type 0
 EachEntry {A = A} P xs = (k : ℕ) (x : A) → slice_get xs k ≡ Some x → P k x
@@ -32,3 +33,22 @@ take_pushed {A = A} xs front pushed i x at is e = e ∙ (ap (λ (ys : List A). y
     taken [] k h = absurd (none-some x h)
     taken (y ∷ ys) zero h = ap (λ (z : A). z ∷ []) (same_Some y x h)
     taken (y ∷ ys) (suc k) h = ap (λ (zs : List A). y ∷ zs) (taken ys k h)
+
+-- an entry that is read
+pub entry_at : {A : Type 0} (xs : List A) (d x : A) (e i : ℕ) → e < length xs → i ≡ e → get_or xs i d ≡ x → slice_get xs e ≡ Some x
+entry_at {A = A} xs d x e i below at is = slice_get-get_or xs e d below ∙ ap (λ (y : A). Some y) (ap (λ (k : ℕ). get_or xs k d) (sym at) ∙ is)
+
+pub entry_read : {A : Type 0} (xs : List A) (e i : ℕ) (x y : A) → e < length xs → i ≡ e → x ≡ get_or xs i x → slice_get xs e ≡ Some y → x ≡ y
+entry_read xs e i x y below at is there = same_Some x y (sym (entry_at xs x x e i below at (sym is)) ∙ there)
+
+-- no entry of an empty list
+pub each_none : {A : Type 0} (P : ℕ → A → Type 0) (xs : List A) → xs ≡ [] → EachEntry P xs
+each_none P xs none = subst (EachEntry P) (sym none) (λ k x at. absurd (none-some x at))
+
+-- how many entries there are from one on
+pub as_many_from : {A B : Type 0} (xs : List A) (ys : List B) (k : ℕ) → length xs ≡ length ys → length (take (length xs - k) (drop k xs)) ≡ length (take (length ys - k) (drop k ys))
+as_many_from xs ys k e = ap length (take_rest xs k) ∙ (length-drop k xs ∙ (ap (λ (n : ℕ). n - k) e ∙ (sym (length-drop k ys) ∙ ap length (sym (take_rest ys k)))))
+
+-- below how many entries a vector has
+pub under_len : {A : Type 0} (v : Vec A Global) (i n : ℕ) → i ≡ n → n < length v.items → i < v.len
+under_len v i n at below = let count = v.ok.0 in omega arith

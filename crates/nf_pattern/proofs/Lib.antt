@@ -24,3 +24,5 @@ pub mod Comes
 pub mod Steps
 pub mod Backing
 pub mod Holding
+pub mod Tests
+pub mod Crossing

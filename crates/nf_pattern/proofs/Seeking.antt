@@ -5,11 +5,12 @@ use Rattle.nf_model.specs.Pattern.{Pattern, IsBefore}
 use Rattle.nf_lists_laws.proofs.Listings.{IsBefore-asymmetric, IsBefore-transitive}
 use Rattle.nf_pattern.specs.Successor.{IsAssignment, next_assignment}
 use Rattle.nf_pattern.specs.Given.{Question, IsQuestion, IsListedBy, IsBarren, IsFrom, IsFirstFrom, NoneFrom, Last, AtStart, UpTo, IsNext, NoneLeft, Given, next_place}
-use Rattle.nf_pattern.specs.declared.question.Stand.TheVariants.{Start}
+use Rattle.nf_pattern.specs.declared.question.Stand.{Stand}
+use Rattle.nf_pattern.specs.declared.question.Stand.TheVariants.{Start, Listed, End}
 use Rattle.nf_pattern.specs.declared.assignments.Quiet.{Quiet}
 use Rattle.nf_pattern.specs.declared.trail.Trail.{Trail}
 use Rattle.nf_pattern.specs.Trail.{IsTrailOf}
-use Rattle.nf_pattern.specs.Stands.{IsStanding}
+use Rattle.nf_pattern.specs.Stands.{IsStanding, last_of}
 use Rattle.nf_pattern.proofs.Choosing.{assigned_length, assignment_of}
 use Rattle.nf_pattern.proofs.Successors.{changes_few}
 use Rattle.nf_pattern.proofs.InOrder.{base_first, next_is, next_none, next_least}
@@ -180,3 +181,9 @@ gives_next question last place seen same p now after next is count = (
         ∙ (ap (λ (n : ℕ). given_up_to question p n) count ∙ ap (λ (g : Given). given_up_to g.question p (next_place g.place)) same),
   ),
 )
+
+-- the current pattern is the one that was given last
+pub current_is : (stand : Stand) (current p : Pattern) → last_of stand current ≡ UpTo p → current ≡ p
+current_is Start current p e = absurd (cc)
+current_is Listed current p e = cc
+current_is End current p e = absurd (cc)

@@ -26,3 +26,6 @@ returns c =
       (omega arith, refl),
       c.fill-quiet.ensures.quiet,
     )
+
+pub fill-quiet-requires-clause-unbounded : goal.fill-quiet-requires-clause-unbounded
+fill-quiet-requires-clause-unbounded c = c.requires.unbounded

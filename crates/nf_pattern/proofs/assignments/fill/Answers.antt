@@ -45,3 +45,6 @@ returns-then-left-eq0 c = record {
       ∙ ap (λ (x : Pattern). Some x) (sym c.copy_rest.ensures);
   quiet = quiet_rest c.args.base.now c.loop-i.states c.copy_rest.new.states _ (omega arith) c.loop-i.invariant.filled.count c.copy_rest.ensures c.loop-i.invariant.filled.all_free;
 }
+
+pub bounds-states-i : goal.bounds-states-i
+bounds-states-i c = subst (λ (n : ℕ). c.loop-i.i < n) (sym c.loop-i.invariant.filled.count) c.loop-i-test.true

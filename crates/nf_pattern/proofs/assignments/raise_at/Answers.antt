@@ -1,9 +1,10 @@
 use borrow.Rule.Slice.PartMut.{put_mid}
-use Rattle.std.proofs.Common.{◌≡◌, ◌+◌, ◌-◌, ℕ, suc, List, ◌++◌, Bool, length, set, take, drop, Some, ap, subst, refl, sym, ◌∙◌, add-one, arith}
+use Rattle.std.proofs.Common.{◌≡◌, ◌+◌, ◌-◌, ℕ, suc, List, ◌++◌, Bool, length, set, take, drop, Some, ap, subst, refl, sym, ◌∙◌, add-one, length-drop, arith}
 use Rattle.std.proofs.Math.ListN.{length-set}
 use Rattle.nf_model.specs.Pattern.{Pattern}
 use Rattle.nf_pattern.specs.Successor.{earliest, IsQuiet}
 use Rattle.nf_pattern.proofs.Raising.{from_one, put_end, valid_after, chosen_fits, raises, not_raised}
+use Rattle.nf_pattern.proofs.Each.{as_many_from}
 use Rattle.nf_pattern.proofs.Quiet.{quiet_behind}
 use Rattle.nf_pattern.proofs.assignments.raise_at.Goals as goal
 
@@ -41,3 +42,13 @@ returns-in-Some c =
 
 pub returns-in-None : goal.returns-in-None
 returns-in-None c = (not_raised c.args.base.now c.args.unbounded.now c.args.states.now c.args.link c.args.changes c.args.more c.requires.free (sym c.in-None.is ∙ c.next_choice.ensures), refl)
+
+pub fill-quiet-requires-clause-states : goal.fill-quiet-requires-clause-states
+fill-quiet-requires-clause-states c =
+    as_many_from (set c.args.states.now c.args.link c.in-Some.state) c.args.base.now (c.args.link + 1) (length-set c.args.states.now c.args.link c.in-Some.state ∙ c.requires.states)
+
+pub fill-quiet-requires-clause-unbounded : goal.fill-quiet-requires-clause-unbounded
+fill-quiet-requires-clause-unbounded c = as_many_from c.args.unbounded.now c.args.base.now (c.args.link + 1) c.requires.unbounded
+
+pub overflow_add-result : goal.overflow_add-result
+overflow_add-result c = let within = c.fill-quiet.ensures.quiet.within in let count = length-drop (c.args.link + 1) c.args.base.now in omega arith

@@ -58,3 +58,6 @@ loop-i-preserved c =
 
 pub returns : goal.returns
 returns c = (last_all c.args.base.now c.args.unbounded.now c.args.states.now c.args.same c.loop-i.i c.loop-i.changes c.loop-i.more (omega arith) c.loop-i.invariant.last, c.loop-i.invariant.kept)
+
+pub raise_at-requires-clause-unbounded : goal.raise_at-requires-clause-unbounded
+raise_at-requires-clause-unbounded c = c.requires.unbounded

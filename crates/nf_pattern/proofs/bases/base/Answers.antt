@@ -1,6 +1,7 @@
-use Rattle.std.proofs.Common.{◌≡◌, length, arith}
+use Rattle.std.proofs.Common.{◌≡◌, length, ap, arith}
+use Rattle.nf_model.specs.Pattern.{Pattern}
 use Rattle.nf_pattern.specs.Base.{IsBaseState}
-use Rattle.nf_pattern.proofs.Each.{each_pushed, length_pushed}
+use Rattle.nf_pattern.proofs.Each.{each_pushed, length_pushed, each_none}
 use Rattle.nf_pattern.proofs.FirstPatterns.{is_base}
 use Rattle.nf_pattern.proofs.bases.base.Goals as goal
 
@@ -13,3 +14,9 @@ loop-e-preserved c = rw c.in_ok-push.ensures.items (record {
 pub returns : goal.returns
 returns c = rw c.of.ensures (is_base c.args.hops.now c.args.sets.now c.args.last.now c.loop-e.states.items
     (let n : length c.loop-e.states.items ≡ c.loop-e.e = c.loop-e.invariant.count in omega arith) c.loop-e.invariant.each)
+
+pub loop-e-init : goal.loop-e-init
+loop-e-init c = record {
+  count = ap (λ (states : Pattern). length states) c.new-states.ensures.items;
+  each = each_none (IsBaseState c.args.hops.now c.args.sets.now c.args.last.now) c.new-states.result.items c.new-states.ensures.items;
+}

@@ -13,3 +13,12 @@ returns-in-Some c =
 
 pub returns-in-None-2 : goal.returns-in-None-2
 returns-in-None-2 c = zero_later c.args.hops.now c.args.sets.now c.args.last.now c.args.link c.if-not-active.ensures.flag c.if-resetting.ensures.flag c.in-None.ensures c.if-is_first_into.ensures
+
+pub is_first_into-requires-clause-link : goal.is_first_into-requires-clause-link
+is_first_into-requires-clause-link c = c.requires.link
+
+pub is_first_into-requires-clause-fewer : goal.is_first_into-requires-clause-fewer
+is_first_into-requires-clause-fewer c = c.requires.fewer
+
+pub is_first_into-requires-clause-sets : goal.is_first_into-requires-clause-sets
+is_first_into-requires-clause-sets c = c.requires.sets

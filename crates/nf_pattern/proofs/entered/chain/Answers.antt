@@ -1,6 +1,7 @@
 use Rattle.std.proofs.Common.{◌∙◌, ℕ, ◌+◌, List, Option, length, ap, sym, subst, arith, replicate, None, ◌≡◌, rules}
 use Rattle.std.proofs.lemmas.List.{with_items_is, length-replicate}
 use Rattle.nf_model.specs.Walk.{Hop, IsHop}
+use Rattle.nf_graph.specs.Graph.{AreBelow}
 use Rattle.nf_pattern.specs.Entered.{IsLastInto, AreLastInto, AreChained}
 use Rattle.nf_pattern.proofs.Each.{each_pushed, length_pushed}
 use Rattle.std.proofs.lemmas.Option.{none-some}
@@ -30,3 +31,13 @@ loop-e-init c =
       count = ap (λ (os : List (Option ℕ)). length os) c.in_ok-chain.ensures.items;
       chain = subst (AreChained c.args.hops.now) (sym c.in_ok-chain.ensures.items) (λ e found at. absurd (none-some found at));
     }
+
+pub chain_link-before-requires-clause-last : goal.chain_link-before-requires-clause-last
+chain_link-before-requires-clause-last c = subst (AreLastInto c.args.hops.now c.loop-e.e) (sym c.deref_mut.ensures.value) c.loop-e.invariant.last
+
+pub chain_link-before-requires-clause-below : goal.chain_link-before-requires-clause-below
+chain_link-before-requires-clause-below c =
+    subst (λ (n : ℕ). AreBelow n c.args.hops.now) (sym (ap (λ (os : List (Option ℕ)). length os) c.deref_mut.ensures.value ∙ c.loop-e.invariant.count_last)) c.requires.below
+
+pub chain_link-before-requires-clause-fewer : goal.chain_link-before-requires-clause-fewer
+chain_link-before-requires-clause-fewer c = c.requires.fewer

@@ -1,5 +1,6 @@
 use Rattle.std.proofs.Common.{◌∙◌, ℕ, Option, Some, refl, ap, sym, arith, subst, length, ◌<◌}
 use Rattle.std.proofs.lemmas.Option.{slice_get-get_or}
+use Rattle.std.proofs.Common.{rules}
 use Rattle.nf_model.specs.Walk.{Hop, IsHop}
 use Rattle.nf_pattern.proofs.Entries.{hop_there, last_noted, last_is}
 use Rattle.nf_pattern.proofs.entered.chain_link.Goals as goal
@@ -28,3 +29,13 @@ pub bounds-last-index-2 : goal.bounds-last-index-2
 bounds-last-index-2 c =
     let here : IsHop c.args.hops.now c.args.link c.index-hops-link.result = hop_there c.args.hops.now c.args.link c.args.link c.index-hops-link.result c.requires.link refl c.index-hops-link.is in
     subst (λ (n : ℕ). n < length c.args.last.now) (sym (c.index-2.ensures ∙ ap (λ (h : Hop). h.head) c.hop.view_is)) (c.requires.below.heads c.args.link c.index-hops-link.result here)
+
+pub offset_bounds-last-index-2 : goal.offset_bounds-last-index-2
+offset_bounds-last-index-2 c =
+    let here : IsHop c.args.hops.now c.args.link c.index-hops-link.result = hop_there c.args.hops.now c.args.link c.args.link c.index-hops-link.result c.requires.link refl c.index-hops-link.is in
+    let inside = subst (λ (n : ℕ). n < length c.args.last.now) (sym (c.index-2.ensures ∙ ap (λ (h : Hop). h.head) c.hop.view_is)) (c.requires.below.heads c.args.link c.index-hops-link.result here) in search rules
+
+pub offset_bounds-last-index : goal.offset_bounds-last-index
+offset_bounds-last-index c =
+    let here : IsHop c.args.hops.now c.args.link c.index-hops-link.result = hop_there c.args.hops.now c.args.link c.args.link c.index-hops-link.result c.requires.link refl c.index-hops-link.is in
+    let inside = subst (λ (n : ℕ). n < length c.args.last.now) (sym (c.index.ensures ∙ ap (λ (h : Hop). h.head) c.hop.view_is)) (c.requires.below.heads c.args.link c.index-hops-link.result here) in search rules

@@ -39,3 +39,9 @@ pub returns-clause-ends : goal.returns-clause-ends
 returns-clause-ends c =
     let end : c.loop-e.e ≡ length c.args.hops.now = (let all = c.loop-e-test.false in let most = c.loop-e.auto.e-end in omega arith) in
     subst (λ (n : ℕ). AreEndsBefore c.args.hops.now c.args.resetting.now c.args.base.now n c.loop-e.ends.items) end c.loop-e.invariant.ends
+
+pub note_end-requires-clause-resetting : goal.note_end-requires-clause-resetting
+note_end-requires-clause-resetting c = c.requires.resetting
+
+pub note_end-requires-clause-base : goal.note_end-requires-clause-base
+note_end-requires-clause-base c = c.requires.base

@@ -1,4 +1,5 @@
 use Rattle.std.proofs.Common.{◌∙◌, ap, refl, arith, subst, length, ◌<◌, ℕ, sym}
+use Rattle.std.proofs.Common.{rules}
 use Rattle.nf_model.specs.Walk.{Hop, IsHop}
 use Rattle.nf_pattern.proofs.Entries.{hop_there, ends_kept, end_noted}
 use Rattle.nf_pattern.proofs.entered.note_end.Goals as goal
@@ -17,3 +18,8 @@ pub bounds-ends-index : goal.bounds-ends-index
 bounds-ends-index c =
     let here : IsHop c.args.hops.now c.args.link c.index-hops-link.result = hop_there c.args.hops.now c.args.link c.args.link c.index-hops-link.result c.requires.link refl c.index-hops-link.is in
     subst (λ (n : ℕ). n < length c.args.ends.now) (sym (c.index.ensures ∙ ap (λ (h : Hop). h.head) c.hop.view_is)) (c.requires.below.heads c.args.link c.index-hops-link.result here)
+
+pub offset_bounds-ends-index : goal.offset_bounds-ends-index
+offset_bounds-ends-index c =
+    let here : IsHop c.args.hops.now c.args.link c.index-hops-link.result = hop_there c.args.hops.now c.args.link c.args.link c.index-hops-link.result c.requires.link refl c.index-hops-link.is in
+    let inside = subst (λ (n : ℕ). n < length c.args.ends.now) (sym (c.index.ensures ∙ ap (λ (h : Hop). h.head) c.hop.view_is)) (c.requires.below.heads c.args.link c.index-hops-link.result here) in search rules

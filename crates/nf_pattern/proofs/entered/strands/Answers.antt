@@ -35,3 +35,18 @@ pub is_end-requires : goal.is_end-requires
 is_end-requires c =
     let here : IsHop c.args.hops.now c.args.link c.index-hops-index.result = hop_there c.args.hops.now c.args.link c.index.result c.index-hops-index.result c.requires.link c.index.ensures c.index-hops-index.is in
     subst (λ (n : ℕ). n < length c.args.ends.now) (sym (ap (λ (h : Hop). h.head) c.hop.view_is)) (c.requires.below.heads c.args.link c.index-hops-index.result here)
+
+pub is_entered_before-requires-clause-count : goal.is_entered_before-requires-clause-count
+is_entered_before-requires-clause-count c = c.requires.count
+
+pub is_entered_before-requires-clause-resetting : goal.is_entered_before-requires-clause-resetting
+is_entered_before-requires-clause-resetting c = c.requires.resetting
+
+pub is_entered_before-requires-clause-states : goal.is_entered_before-requires-clause-states
+is_entered_before-requires-clause-states c = c.requires.states
+
+pub is_entered_before-requires-clause-link : goal.is_entered_before-requires-clause-link
+is_entered_before-requires-clause-link c = c.requires.link
+
+pub is_entered_before-requires-clause-chain : goal.is_entered_before-requires-clause-chain
+is_entered_before-requires-clause-chain c = c.requires.chain

@@ -1,3 +1,7 @@
+use Rattle.std.proofs.Common.{sym, ap, subst, ◌∙◌}
+use Rattle.nf_model.specs.Pattern.{Pattern}
+use Rattle.nf_pattern.specs.Given.{Question}
+use Rattle.nf_pattern.specs.Successor.{IsQuiet, next_assignment}
 use Rattle.nf_pattern.proofs.OnTrail.{valid_base, count_base}
 use Rattle.nf_pattern.proofs.question.Question.advance.Goals as goal
 
@@ -6,3 +10,17 @@ advance-requires-clause-states c = count_base _ c.args.self.now c.self.view_is c
 
 pub advance-requires-clause-valid : goal.advance-requires-clause-valid
 advance-requires-clause-valid c = valid_base _ c.args.self.now c.self.view_is c.self.invariant c.states.result.now c.deref.result.now c.states.ensures c.deref.ensures.value
+
+pub returns-clause-quiet : goal.returns-clause-quiet
+returns-clause-quiet c =
+    subst (λ (base : Pattern). IsQuiet base c.in_ok-raised.raised.quiet c.advance.new.states) (c.states.ensures ∙ ap (λ (q : Question). q.base) c.self.view_is) c.in_ok-raised.ensures.2
+
+pub returns-in_err-raised-clause-quiet : goal.returns-in_err-raised-clause-quiet
+returns-in_err-raised-clause-quiet c =
+    subst (λ (states : Pattern). IsQuiet c.args.self.now.base c.args.quiet.now states) (sym c.in_err-raised.ensures.1) c.requires.quiet
+
+pub returns-in_err-raised-clause-found : goal.returns-in_err-raised-clause-found
+returns-in_err-raised-clause-found c =
+    let base = ap (λ (q : Question). q.base) (sym c.self.view_is) ∙ sym c.states.ensures in
+    let unbounded = ap (λ (q : Question). q.unbounded) (sym c.self.view_is) ∙ sym c.deref.ensures.value in
+    rw c.from_residual.ensures ((λ i. next_assignment c.args.same (base i) (unbounded i) c.args.states.now) ∙ c.in_err-raised.ensures.0, c.in_err-raised.ensures.1)

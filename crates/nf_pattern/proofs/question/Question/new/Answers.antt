@@ -10,3 +10,9 @@ invariant_of-result c = subst (λ (q : Question). IsQuestion q)
 
 pub returns : goal.returns
 returns c = same_question c.args.nodes c.args.source (c.in_ok-hops.ensures.items_if_clones_equal (λ x y e. e)) c.in_ok-active.ensures c.in_ok-resetting.ensures (c.in_ok-unbounded.ensures.items_if_clones_equal (λ x y e. e)) c.in_ok-base.ensures
+
+pub resetting_flags-requires-clause-active : goal.resetting_flags-requires-clause-active
+resetting_flags-requires-clause-active c = c.requires.active
+
+pub resetting_flags-requires-clause-resetting : goal.resetting_flags-requires-clause-resetting
+resetting_flags-requires-clause-resetting c = c.requires.resetting

@@ -62,3 +62,12 @@ returns-clause-way c = record { nodes = c.enter.ensures.nodes; ends = refl; lost
 
 pub returns-clause-entered : goal.returns-clause-entered
 returns-clause-entered c = add-one c.args.self.now.depth
+
+pub enter-requires-clause-states : goal.enter-requires-clause-states
+enter-requires-clause-states c = c.requires.states
+
+pub strands-requires-clause-resetting : goal.strands-requires-clause-resetting
+strands-requires-clause-resetting c = c.requires.resetting
+
+pub strands-requires-clause-states : goal.strands-requires-clause-states
+strands-requires-clause-states c = c.requires.states

@@ -1,4 +1,4 @@
-use Rattle.std.proofs.Common.{arith}
+use Rattle.std.proofs.Common.{ℕ, ◌<◌, length, sym, subst, arith}
 use Rattle.nf_pattern.proofs.Following.{way_same, way_on}
 use Rattle.nf_pattern.proofs.trail.Trail.extend.Goals as goal
 
@@ -22,3 +22,7 @@ returns-clause-way c = c.loop-self.invariant.way
 
 pub returns-clause-extended : goal.returns-clause-extended
 returns-clause-extended c = let few = c.loop-self.invariant.follows.depth in let end = c.loop-self-test.false in omega arith
+
+pub returns-then-not-enter-clause-extended : goal.returns-then-not-enter-clause-extended
+returns-then-not-enter-clause-extended c =
+    let told = c.if-not-enter.ensures.entered in (subst (λ (n : ℕ). n < length c.args.hops.now) (sym told.0) c.loop-self-test.true, told.1)

@@ -18,3 +18,18 @@ returns-clause-ends c = c.in_ok-ends.ensures.ends
 
 pub returns-clause-lost : goal.returns-clause-lost
 returns-clause-lost c = subst (λ (es : List ℕ). IsLost c.args.source es c.is_lost-lost.result) c.deref.ensures.value c.is_lost-lost.ensures
+
+pub returns-clause-nodes : goal.returns-clause-nodes
+returns-clause-nodes c = c.in_ok-tight.ensures.nodes
+
+pub ends-requires-clause-below : goal.ends-requires-clause-below
+ends-requires-clause-below c = c.requires.below
+
+pub ends-requires-clause-resetting : goal.ends-requires-clause-resetting
+ends-requires-clause-resetting c = c.requires.resetting
+
+pub ends-requires-clause-base : goal.ends-requires-clause-base
+ends-requires-clause-base c = c.requires.base
+
+pub chain-requires-clause-below : goal.chain-requires-clause-below
+chain-requires-clause-below c = c.requires.below

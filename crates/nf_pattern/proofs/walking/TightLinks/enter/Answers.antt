@@ -39,3 +39,6 @@ pub join-requires-clause-head : goal.join-requires-clause-head
 join-requires-clause-head c =
     let here : IsHop c.args.hops.now c.args.link c.index-hops-index.result = hop_there c.args.hops.now c.args.link c.index.result c.index-hops-index.result c.requires.link c.index.ensures c.index-hops-index.is in
     subst (λ (n : ℕ). n < length c.args.self.now.last.items) (sym (ap (λ (h : Hop). h.head) c.hop.view_is)) (c.requires.holds.below.heads c.args.link c.index-hops-index.result here)
+
+pub put-requires-clause-link : goal.put-requires-clause-link
+put-requires-clause-link c = c.requires.link

@@ -40,3 +40,9 @@ loop-next-preserved c = record {
 pub returns : goal.returns
 returns c joined = stands_end c.args.hops.now c.args.states.now c.args.depth c.args.tail c.args.head (length c.args.self.now.last.items) c.loop-next.near.node c.loop-next.near.link c.loop-next.invariant.near (apart_from_test c.args.tail c.args.head (sym c.if-eq.false ∙ c.eq.ensures)) c.in_default.ensures.goes
     (joined_turned c.args.hops.now (TightBefore c.args.states.now c.args.depth) c.args.head c.args.tail joined)
+
+pub step-requires-in-Some-clause-holds : goal.step-requires-in-Some-clause-holds
+step-requires-in-Some-clause-holds c = c.requires.holds
+
+pub step-requires-clause-holds : goal.step-requires-clause-holds
+step-requires-clause-holds c = c.requires.holds

@@ -1,5 +1,7 @@
-use Rattle.std.proofs.Common.{ap, ◌∙◌}
+use Rattle.std.proofs.Common.{Some, set, ap, ◌∙◌}
+use Rattle.std.proofs.Math.ListN.{length-set}
 use Rattle.nf_model.specs.Walk.{Hop, IsHop}
+use Rattle.nf_pattern.proofs.Each.{under_len}
 use Rattle.nf_pattern.proofs.Entries.{hop_there}
 use Rattle.nf_pattern.proofs.Steps.{read_last}
 use Rattle.nf_pattern.proofs.Holding.{holds_tight}
@@ -17,3 +19,27 @@ returns-clause-holds c =
     (c.requires.holds.below.tails c.args.link c.index-hops-index.result here) (c.index-2.ensures ∙ at_tail) c.index-3.ensures)
     (read_last c.args.hops.now c.args.states.now c.args.link c.requires.holds c.index-hops-index.result.head c.index-5.result c.index-6.result.now
     (c.requires.holds.below.heads c.args.link c.index-hops-index.result here) (c.index-5.ensures ∙ at_head) c.index-6.ensures)
+
+pub index_mut-requires-4 : goal.index_mut-requires-4
+index_mut-requires-4 c =
+    let here : IsHop c.args.hops.now c.args.link c.index-hops-index.result = hop_there c.args.hops.now c.args.link c.index.result c.index-hops-index.result c.requires.link c.index.ensures c.index-hops-index.is in
+    under_len c.args.self.now.last _ _ (c.index-9.ensures ∙ ap (λ (h : Hop). h.head) c.hop.view_is) (c.requires.holds.below.heads c.args.link c.index-hops-index.result here)
+
+pub index_mut-requires-3 : goal.index_mut-requires-3
+index_mut-requires-3 c =
+    let here : IsHop c.args.hops.now c.args.link c.index-hops-index.result = hop_there c.args.hops.now c.args.link c.index.result c.index-hops-index.result c.requires.link c.index.ensures c.index-hops-index.is in
+    under_len c.args.self.now.last _ _ (c.index-8.ensures ∙ ap (λ (h : Hop). h.tail) c.hop.view_is) (c.requires.holds.below.tails c.args.link c.index-hops-index.result here)
+
+pub index-requires-6 : goal.index-requires-6
+index-requires-6 c =
+    let here : IsHop c.args.hops.now c.args.link c.index-hops-index.result = hop_there c.args.hops.now c.args.link c.index.result c.index-hops-index.result c.requires.link c.index.ensures c.index-hops-index.is in
+    under_len c.args.self.now.last _ _ (c.index-5.ensures ∙ ap (λ (h : Hop). h.head) c.hop.view_is) (c.requires.holds.below.heads c.args.link c.index-hops-index.result here)
+
+pub index-requires-3 : goal.index-requires-3
+index-requires-3 c =
+    let here : IsHop c.args.hops.now c.args.link c.index-hops-index.result = hop_there c.args.hops.now c.args.link c.index.result c.index-hops-index.result c.requires.link c.index.ensures c.index-hops-index.is in
+    under_len c.args.self.now.last _ _ (c.index-2.ensures ∙ ap (λ (h : Hop). h.tail) c.hop.view_is) (c.requires.holds.below.tails c.args.link c.index-hops-index.result here)
+
+pub returns-clause-nodes : goal.returns-clause-nodes
+returns-clause-nodes c =
+    length-set (set c.args.self.now.last.items c.index-8.result (Some c.args.link)) c.index-9.result (Some c.args.link) ∙ length-set c.args.self.now.last.items c.index-8.result (Some c.args.link)
