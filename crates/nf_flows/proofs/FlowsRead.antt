@@ -1,6 +1,7 @@
 -- The reading of a text from that of its lines and of the file as a whole.
-use Rattle.std.proofs.Common.{◌≡◌, ℕ, ◌+◌, ◌<◌, List, length, drop, get_or, Option, None, Result, Ok, Err, MatchResult, sym, ap, subst, ◌∙◌}
-use Rattle.std.proofs.lemmas.List.{at_drop_more}
+use Rattle.std.proofs.Common.{◌≡◌, ℕ, ◌+◌, ◌-◌, ◌<◌, ◌≤◌, Bool, true, List, [], ◌∷◌, length, take, drop, get_or, Option, None, Result, Ok, Err, MatchResult, sym, ap, subst, ◌∙◌, arith}
+use Rattle.std.specs.Prelude.{if◌then◌else◌}
+use Rattle.std.proofs.lemmas.List.{at_drop_more, take_rest}
 use Rattle.nf_work.specs.Checked.{◌>>=◌}
 use Rattle.nf_lines.specs.Words.{ReadLine, read_lines, content_lines}
 use Rattle.nf_lines.specs.Faults.{LineFault, first_fault}
@@ -8,9 +9,12 @@ use Rattle.nf_text.specs.declared.TextFault.{TextFault}
 use Rattle.nf_text.specs.Reading.{Tells}
 use Rattle.nf_formats.specs.Named.{Named}
 use Rattle.nf_complete_lists.specs.declared.FlowsRule.{FlowsRule}
-use Rattle.nf_complete_lists.specs.FlowsFile.{FlowsDraft, FlowsBroken, GivenFlows, add_flows, in_flows_line, add_flows_lines, flows_draft, if_ended, flows_by_bytes, flows_in}
+use Rattle.nf_complete_lists.specs.declared.FlowsRule.TheVariants.{S3}
+use Rattle.nf_complete_lists.specs.FlowsFile.{is_flows_1, empty_flows, FlowsDraft, FlowsBroken, GivenFlows, add_flows, in_flows_line, add_flows_lines, flows_draft, if_ended, flows_by_bytes, flows_in}
 use Rattle.nf_flows.specs.declared.fault.FlowsFault.{FlowsFault}
 use Rattle.nf_flows.specs.declared.flows.Flows.{Flows}
+use Rattle.nf_flows.specs.declared.draft.Draft.{Draft}
+use Rattle.nf_flows.specs.Drafts.{seen_draft}
 use Rattle.nf_flows.specs.Files.{given_of, IfBroken, fault_of_text}
 
 -- of a rule that is broken, what follows
@@ -29,6 +33,20 @@ module _ (n : Named) (draft : FlowsDraft) (lines : List ReadLine) (i : ℕ) (lin
 
   pub line_breaks : (rule : FlowsRule) → add_flows n draft line.words ≡ Err rule → add_flows_lines n draft (drop i lines) ≡ Err (record { rule = rule; line = line.number })
   line_breaks rule e = from_line ∙ ap (λ (r : Result FlowsDraft FlowsRule). in_flows_line line.number r >>= λ next. add_flows_lines n next (drop (i + 1) lines)) e
+
+-- ---- the first line, and the rest
+pub head_then : (n : Named) (lines : List ReadLine) (head : ReadLine) (draft : FlowsDraft) → 1 ≤ length lines → head ≡ get_or lines 0 head → is_flows_1 head.words ≡ true → draft ≡ empty_flows n
+    → flows_draft n lines ≡ add_flows_lines n draft (take (length lines - 1) (drop 1 lines))
+head_then n [] head draft some is first e = absurd (omega arith)
+head_then n (line ∷ rest) head draft some is first e =
+    ap (λ (b : Bool). if b then add_flows_lines n (empty_flows n) rest else Err (record { rule = S3; line = line.number })) (ap (λ (l : ReadLine). is_flows_1 l.words) (sym is) ∙ first)
+    ∙ ap (λ (d : FlowsDraft). add_flows_lines n d rest) (sym e)
+    ∙ ap (add_flows_lines n draft) (sym (take_rest (line ∷ rest) 1))
+
+pub reads_so : (result : Result Draft FlowsFault) (read other : Result FlowsDraft FlowsBroken) → other ≡ read
+    → MatchResult result (λ draft. read ≡ Ok (seen_draft draft)) (λ fault. IfBroken fault (λ broken. read ≡ Err broken))
+    → MatchResult result (λ draft. other ≡ Ok (seen_draft draft)) (λ fault. IfBroken fault (λ broken. other ≡ Err broken))
+reads_so result read other e h = subst (λ (r : Result FlowsDraft FlowsBroken). MatchResult result (λ draft. r ≡ Ok (seen_draft draft)) (λ fault. IfBroken fault (λ broken. r ≡ Err broken))) (sym e) h
 
 -- ---- the whole text
 module _ (n : Named) (text : List ℕ) where

@@ -1,3 +1,4 @@
 pub mod Nothing
 pub mod FlowWords
 pub mod FlowsRead
+pub mod Giving

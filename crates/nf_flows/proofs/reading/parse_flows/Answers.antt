@@ -1,5 +1,5 @@
-use Rattle.std.proofs.Common.{◌≡◌, List, Ok, Err, sym, ap, subst, ◌∙◌}
-use Rattle.std.proofs.lemmas.Result.{err_from_is_err_and}
+use Rattle.std.proofs.Common.{◌≡◌, List, length, Ok, Err, sym, ap, subst, ◌∙◌}
+use Rattle.std.proofs.lemmas.Result.{err_from_is_err_and, IfOk-weaker}
 use Rattle.nf_lines.specs.Words.{ReadLine}
 use Rattle.nf_complete_lists.specs.FlowsFile.{flows_draft, flows_in, if_ended}
 use Rattle.nf_flows.specs.Drafts.{seen_draft}
@@ -27,3 +27,13 @@ returns-clause-reads c =
     (by_lines c.args.net.now c.args.text.now c.in-Ok.lines.items c.in-Ok.ensures.lines c.in-Ok.ensures.none (Ok (seen_draft c.in_ok-draft.draft))
     (ap (λ (ls : List ReadLine). flows_draft c.args.net.now ls) (sym c.deref.ensures.value) ∙ c.in_ok-draft.ensures.reads))
     c.close.ensures.closes
+
+pub returns-clause-links : goal.returns-clause-links
+returns-clause-links c =
+    IfOk-weaker c.close.result _ (λ flows. length flows.flows.items ≡ length c.args.net.now.net.links)
+    (λ flows e. e ∙ (c.in_ok-draft.ensures.places.links ∙ c.version.ensures.named.numbered.links)) c.close.ensures.flows
+
+pub returns-clause-nodes : goal.returns-clause-nodes
+returns-clause-nodes c =
+    IfOk-weaker c.close.result _ (λ flows. length flows.slopes.items ≡ c.args.net.now.net.nodes)
+    (λ flows e. e ∙ (c.in_ok-draft.ensures.places.nodes ∙ c.version.ensures.named.numbered.nodes)) c.close.ensures.slopes
