@@ -1,4 +1,5 @@
 use Rattle.std.proofs.Common.{arith}
+use Rattle.std.proofs.lemmas.Bool.{false≢true}
 use Rattle.std.proofs.lemmas.Bool.Decides.{nat_tests}
 use Rattle.nf_trial.proofs.Leading.{one_more_led}
 use Rattle.nf_trial.proofs.led.each_is_led.Goals.{then-ne+else-not-is_led, else-ne}
@@ -14,4 +15,4 @@ pub returns : goal.returns
 returns c = λ _ v less other. c.loop-v.invariant v (let n = c.node_count-v-end.ensures in let t = c.loop-v-test.false in omega arith) other
 
 pub returns-then-not-is_led : goal.returns-then-not-is_led
-returns-then-not-is_led c = λ f. absurd (cc)
+returns-then-not-is_led c = λ f. absurd (false≢true f)

@@ -29,3 +29,6 @@ judge_into-requires-clause-flows c = c.requires.flows
 
 pub judge_into-requires-clause-slopes : goal.judge_into-requires-clause-slopes
 judge_into-requires-clause-slopes c = c.requires.labels
+
+pub judge_into-requires-clause-pattern : goal.judge_into-requires-clause-pattern
+judge_into-requires-clause-pattern c = c.requires.pattern
