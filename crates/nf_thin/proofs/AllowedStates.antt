@@ -1,9 +1,10 @@
 -- The slopes of a thin flow allow the states of each pattern that is listed and solvable.
-use Rattle.std.proofs.Common.{◌≡◌, ◌⊎◌, inl, inr, ℕ, ◌+◌, ◌<◌, true, List, length, get_or, sym, ap, subst, refl, ◌∙◌, arith}
-use Rattle.std.specs.Prelude.{Option, Some, None, slice_get}
+use Rattle.std.proofs.Common.{◌≡◌, ◌⊎◌, inl, inr, ℕ, ◌+◌, ◌<◌, Bool, true, false, not, List, length, get_or, sym, ap, subst, refl, ◌∙◌, arith}
+use Rattle.std.specs.Prelude.{Option, Some, None, slice_get, MatchBool}
 use Rattle.std.specs.Option.{option_map}
 use Rattle.std.proofs.lemmas.List.{get_or_read, length-map}
-use Rattle.std.proofs.lemmas.Option.{slice_get-map, same_Some, unwrap_or-slice_get}
+use Rattle.std.proofs.lemmas.Option.{slice_get-map, slice_get-get_or, same_Some, none-some, unwrap_or-slice_get}
+use Rattle.std.proofs.lemmas.Bool.{false≢true}
 use Rattle.nf_rational.specs.Rational.{ℚ}
 use Rattle.nf_rational.specs.Operations.{0ℚ}
 use Rattle.nf_rational_laws.proofs.Order.{≤ℚ_of_same}
@@ -19,7 +20,7 @@ use Rattle.nf_thin_laws.specs.PatternLaws.{AllowState}
 use Rattle.nf_thin_laws.proofs.States.{AllowState-thin}
 use Rattle.nf_thin.specs.declared.allowed.Allowed.{Allowed}
 use Rattle.nf_thin.specs.Slopes.{AreThinSlopes}
-use Rattle.nf_thin.specs.Allowing.{allows, flags_of, flags_by, IsAllowedAt, AllowSolvable}
+use Rattle.nf_thin.specs.Allowing.{allows, allows_of, flags_of, flags_by, IsAllowedAt, IsForbidden, AllowSolvable}
 use Rattle.nf_trial.proofs.Inequalities.{all_true}
 use Rattle.nf_plain_laws.proofs.Naturals.{before_or_at}
 
@@ -76,3 +77,15 @@ agrees_more allowed pattern e so here k less = go (before_or_at k e (omega arith
     go : (k < e) ⊎ (k ≡ e) → IsAllowedAt allowed pattern k
     go (inl b) = so k b
     go (inr s) = subst (IsAllowedAt allowed pattern) (sym s) here
+
+-- the flags of a link, and whether its state is forbidden
+pub flags_read : (allowed : List Allowed) (e i : ℕ) (d : Allowed) → e < length allowed → i ≡ e → slice_get allowed e ≡ Some (get_or allowed i d)
+flags_read allowed e i d below at = slice_get-get_or allowed e d below ∙ ap (λ (k : ℕ). Some (get_or allowed k d)) (sym at)
+
+module _ (allowed : List Allowed) (p : Pattern) (e : ℕ) (flags : Allowed) (at : slice_get allowed e ≡ Some flags) where
+  pub forbidden_told : (given : Option State) (b : Bool) → slice_get p e ≡ Some given → b ≡ allows_of flags given → MatchBool (not b) (IsForbidden allowed p e) (IsAllowedAt allowed p e)
+  forbidden_told (Some state) true has test = λ other there at_other has_there.
+      (λ i. allows (same_Some other flags (sym at_other ∙ at) i) (same_Some there state (same_Some (Some there) (Some state) (sym has_there ∙ has)) i)) ∙ sym test
+  forbidden_told (Some state) false has test = (flags, state, at, has, sym test)
+  forbidden_told None true has test = λ other there at_other has_there. absurd (none-some there (same_Some None (Some there) (sym has ∙ has_there)))
+  forbidden_told None false has test = absurd (false≢true test)

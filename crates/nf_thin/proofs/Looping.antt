@@ -1,5 +1,5 @@
 -- The loop of the search over the patterns that a listing gives.
-use Rattle.std.proofs.Common.{◌≡◌, ℕ, ◌≤◌, Bool, false, List, sym, ap, subst, ◌∙◌, arith}
+use Rattle.std.proofs.Common.{◌≡◌, ℕ, ◌≤◌, Bool, false, List, sym, ap, subst, ◌∙◌, arith, ◌-◌, ◌<◌, suc}
 use Rattle.std.specs.Prelude.{Option, Some, None, Result, Ok, Err}
 use Rattle.nf_rational.specs.Rational.{ℚ}
 use Rattle.nf_work.specs.Passing.{Passing}
@@ -29,6 +29,10 @@ InLoop passes net sets rate q budget given skipped vain = (given.question ≡ q)
 -- patterns of which none was passed over
 abbrev pub all_tried : Vain → Sifted
 all_tried vain = record { vain = vain; skips = false; last = 0 }
+
+-- fewer patterns are left in the budget
+pub fewer_left : (budget before after : ℕ) → before < budget → after ≡ suc before → budget - after < budget - before
+fewer_left budget before after less more = omega arith
 
 -- what is tried is counted, and nothing more is passed over
 pub tried_counts : (passes : Passing) (net : Network) (sets : Sets) (rate : ℚ) (budget : ℕ) (pattern : Pattern) (skipped : Bool) (last : ℕ) (before after : Vain) (result : Result (Option Thin) SearchFault)

@@ -1,4 +1,4 @@
-use Rattle.std.proofs.Common.{◌≡◌, ℕ, ◌<◌, length, take, ap, subst, sym, ◌∙◌, arith}
+use Rattle.std.proofs.Common.{◌≡◌, ℕ, ◌<◌, length, take, ap, subst, sym, ◌∙◌, arith, rules}
 use Rattle.std.proofs.Math.Seq.{take-length}
 use Rattle.nf_model.specs.Network.{Link}
 use Rattle.nf_pattern.proofs.Each.{take_pushed}
@@ -37,3 +37,19 @@ loop-e-preserved c =
     (number_read c.args.slopes.now c.index-in-loop-e.result c.link-link.result.head _ (c.index-in-loop-e.ensures ∙ ap (λ (l : Link). l.head) c.link.view_is)
     (subst (λ (n : ℕ). c.link-link.result.head < n) (sym c.requires) (good.heads c.loop-e.e c.link-link.result c.link-link.ensures.link)) c.index-slopes-index-in-loop-e.is))
     c.loop-e.invariant c.in_ok-push.ensures.items
+
+pub offset_bounds-slopes-index : goal.offset_bounds-slopes-index
+offset_bounds-slopes-index c =
+    let good = c.link-link.ensures.named.network in
+    let tail : c.index.result ≡ c.link-link.result.tail = c.index.ensures ∙ ap (λ (l : Link). l.tail) c.link.view_is in
+    let within = good.tails c.loop-e.e c.link-link.result c.link-link.ensures.link in
+    let count = c.requires in
+    let inside : c.index.result < length c.args.slopes.now = omega arith in search rules
+
+pub offset_bounds-slopes-index-in-loop-e : goal.offset_bounds-slopes-index-in-loop-e
+offset_bounds-slopes-index-in-loop-e c =
+    let good = c.link-link.ensures.named.network in
+    let head : c.index-in-loop-e.result ≡ c.link-link.result.head = c.index-in-loop-e.ensures ∙ ap (λ (l : Link). l.head) c.link.view_is in
+    let within = good.heads c.loop-e.e c.link-link.result c.link-link.ensures.link in
+    let count = c.requires in
+    let inside : c.index-in-loop-e.result < length c.args.slopes.now = omega arith in search rules

@@ -1,6 +1,9 @@
-use Rattle.std.proofs.Common.{List, Bool, length, ◌∙◌, ap, sym}
+use Rattle.std.proofs.Common.{List, Bool, length, ◌∙◌, ap, sym, subst, ◌≡◌}
 use Rattle.nf_model.specs.Walk.{Hop}
 use Rattle.nf_thin.proofs.Hops.{hops_length, unbounded_length, below_nodes, few_hops}
+use Rattle.std.proofs.lemmas.Result.{IfOk-weaker}
+use Rattle.nf_model.specs.Pattern.{IsPattern}
+use Rattle.nf_pattern.specs.Given.{Given}
 use Rattle.nf_thin.proofs.listings.listing.Goals as goal
 
 pub new-requires-clause-ends : goal.new-requires-clause-ends
@@ -19,3 +22,11 @@ new-requires-clause-resetting c = c.requires.sets.count ∙ (sym (hops_length c.
 
 pub new-requires-clause-fewer : goal.new-requires-clause-fewer
 new-requires-clause-fewer c = rw (c.hops-hops.ensures.value) (few_hops c.args.net.now c.hops-hops.ensures.named)
+
+pub new-requires-clause-base : goal.new-requires-clause-base
+new-requires-clause-base c =
+    subst (λ (flags : List Bool). IsPattern c.args.sets.now flags c.args.base.now) (sym (c.deref.ensures.value ∙ c.in_ok-unbounded.ensures)) c.requires.base
+
+pub returns-clause-base : goal.returns-clause-base
+returns-clause-base c =
+    IfOk-weaker c.new.result _ (λ patterns. patterns.question.base ≡ c.args.base.now) (λ patterns e. ap (λ (given : Given). given.question.base) e) c.new.ensures

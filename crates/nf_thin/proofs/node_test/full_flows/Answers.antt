@@ -1,4 +1,4 @@
-use Rattle.std.proofs.Common.{◌≡◌, ℕ, ◌<◌, length, take, sym, ap, subst, ◌∙◌, arith}
+use Rattle.std.proofs.Common.{◌≡◌, ℕ, ◌<◌, length, take, sym, ap, subst, ◌∙◌, arith, rules}
 use Rattle.std.proofs.Math.ListN.{length-map}
 use Rattle.std.proofs.Math.Seq.{take-length}
 use Rattle.nf_model.specs.Entries.{number_at}
@@ -39,3 +39,11 @@ returns c =
     let whole : c.loop-e.e ≡ length (full_by passes_Q c.args.net.now.net c.args.slopes.now) =
     omega (arith, c.link_count-e-end.ensures, length-map c.args.net.now.net.links (λ (link : Link). full_of passes_Q link.capacity (number_at c.args.slopes.now link.head))) in
     c.loop-e.invariant ∙ ap (λ (n : ℕ). take n (full_by passes_Q c.args.net.now.net c.args.slopes.now)) whole ∙ take-length (full_by passes_Q c.args.net.now.net c.args.slopes.now)
+
+pub offset_bounds-slopes-index : goal.offset_bounds-slopes-index
+offset_bounds-slopes-index c =
+    let good = c.link-link.ensures.named.network in
+    let head : c.index.result ≡ c.link-link.result.head = c.index.ensures ∙ ap (λ (l : Link). l.head) c.link.view_is in
+    let within = good.heads c.loop-e.e c.link-link.result c.link-link.ensures.link in
+    let count = c.requires in
+    let inside : c.index.result < length c.args.slopes.now = omega arith in search rules

@@ -1,4 +1,4 @@
-use Rattle.std.proofs.Common.{◌≡◌, List, length, ap, ◌∙◌, arith}
+use Rattle.std.proofs.Common.{◌≡◌, List, length, ap, ◌∙◌, arith, sym}
 use Rattle.nf_work.specs.Passing.{passes_Q}
 use Rattle.nf_model.specs.Walk.{Hop}
 use Rattle.nf_thin.proofs.Conserving.{link_read, end_test, bounds_still, bounds_sum, bounds_difference}
@@ -38,3 +38,9 @@ returns-else-leaves c =
     (end_test c.eq-leaves.result c.hop.inside.tail c.index-hops-index.result.tail (f.0).tail c.args.node c.eq-leaves.ensures (ap (λ (h : Hop). h.tail) c.hop.view_is) f.2)
     (end_test c.eq-enters.result c.hop.inside.head c.index-hops-index.result.head (f.0).head c.args.node c.eq-enters.ensures (ap (λ (h : Hop). h.head) c.hop.view_is) f.3)
     c.if-leaves-enters.false c.range_of-flow.result c.difference.result (λ rate flows can. c.range_of-flow.ensures c.args.net.now.net rate flows f.0 can f.1) c.if-leaves.false c.difference.ensures
+
+pub range_of-flow-requires-clause-full : goal.range_of-flow-requires-clause-full
+range_of-flow-requires-clause-full c = c.requires.full ∙ sym c.requires.states
+
+pub range_of-flow-requires-clause-sets : goal.range_of-flow-requires-clause-sets
+range_of-flow-requires-clause-sets c = c.requires.sets ∙ sym c.requires.states

@@ -4,7 +4,7 @@ use Rattle.std.proofs.lemmas.Result.{err_from_is_err_and}
 use Rattle.nf_work.specs.Passing.{passes_Q}
 use Rattle.nf_pattern.specs.Given.{Gives}
 use Rattle.nf_thin.specs.Searching.{TriesNext}
-use Rattle.nf_thin.proofs.Looping.{all_tried, tried_counts, loop_pattern, loop_finds, loop_fails, loop_goes_on, loop_ends}
+use Rattle.nf_thin.proofs.Looping.{all_tried, tried_counts, fewer_left, loop_starts, loop_pattern, loop_finds, loop_fails, loop_goes_on, loop_ends}
 use Rattle.nf_thin.proofs.plain.go_through.Goals as goal
 
 pub try_next-requires-clause-pattern : goal.try_next-requires-clause-pattern
@@ -46,3 +46,13 @@ returns c =
     c.loop-pattern.patterns (all_tried c.loop-pattern.vain) c.loop-pattern.invariant refl c.next.follows.lender-at-none
     (subst (λ r. Gives c.loop-pattern.patterns (option_copied r) c.next.follows.lender-at-none) c.in_default.is c.next.follows.holds-at-none)
     c.fault.result c.fault.ensures
+
+pub loop-pattern-init : goal.loop-pattern-init
+loop-pattern-init c =
+    loop_starts passes_Q c.args.net.now.net c.args.sets.now c.args.rate c.args.patterns.now c.args.budget c.requires.network c.requires.sets c.requires.question
+    c.args.patterns.now false _ refl refl refl
+
+pub loop-pattern-smaller : goal.loop-pattern-smaller
+loop-pattern-smaller c =
+    let told = subst (λ o. TriesNext passes_Q c.args.net.now.net c.args.sets.now c.args.rate c.args.budget c.in-Some.pattern.now c.loop-pattern.vain c.try_next.new.vain (Ok o)) c.in_default-found.is c.in_ok-found.ensures in
+    fewer_left c.args.budget c.loop-pattern.vain.tried c.try_next.new.vain.tried told.0 told.1.one_more

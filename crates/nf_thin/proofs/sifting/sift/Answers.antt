@@ -4,7 +4,7 @@ use Rattle.std.proofs.lemmas.Result.{err_from_is_err_and}
 use Rattle.nf_work.specs.Passing.{passes_Q}
 use Rattle.nf_pattern.specs.Given.{Gives}
 use Rattle.nf_thin.specs.Sifting.{SiftsNext}
-use Rattle.nf_thin.proofs.Looping.{loop_pattern, loop_listed, loop_finds, loop_fails, loop_goes_on, loop_ends}
+use Rattle.nf_thin.proofs.Looping.{fewer_left, loop_pattern, loop_listed, loop_finds, loop_fails, loop_goes_on, loop_ends}
 use Rattle.nf_thin.proofs.BehindFirst.{at_start, untried, asks_again, first_pattern, first_listed, first_finds, first_fails, first_goes_on}
 use Rattle.nf_thin.proofs.sifting.sift.Goals as goal
 
@@ -76,3 +76,14 @@ returns c =
     c.loop-pattern.rest c.loop-pattern.sifted c.loop-pattern.invariant c.if-sifted.false c.next.follows.lender-at-none
     (subst (λ r. Gives c.loop-pattern.rest (option_copied r) c.next.follows.lender-at-none) c.in_default-next.is c.next.follows.holds-at-none)
     c.fault.result c.fault.ensures
+
+pub sift_next-requires-in-Some-next-clause-guide : goal.sift_next-requires-in-Some-next-clause-guide
+sift_next-requires-in-Some-next-clause-guide c = c.requires.guide
+
+pub loop-pattern-smaller : goal.loop-pattern-smaller
+loop-pattern-smaller c =
+    let told = subst (λ o. SiftsNext passes_Q c.args.net.now.net c.args.sets.now c.args.rate c.args.budget c.in-Some-next.pattern.now c.loop-pattern.sifted c.sift_next-in-Some-next.new.sifted (Ok o)) c.in_default-found.is c.in_ok-found-2.ensures in
+    fewer_left c.args.budget c.loop-pattern.sifted.vain.tried c.sift_next-in-Some-next.new.sifted.vain.tried told.0 told.1.one_more
+
+pub sift_next-requires-in-Some-next-clause-within : goal.sift_next-requires-in-Some-next-clause-within
+sift_next-requires-in-Some-next-clause-within c = c.loop-pattern.invariant.1

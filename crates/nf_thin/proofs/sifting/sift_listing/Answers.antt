@@ -27,3 +27,9 @@ pub returns : goal.returns
 returns c =
     let gives = subst (λ o. Gives c.args.patterns.now o c.copy_next.new.patterns) c.in-Some.is c.in_ok-first.ensures in
     subst (λ (given : Given). Sifts (IsSearch passes_Q c.args.net.now.net c.args.sets.now c.args.rate given.question.base c.args.budget) c.args.budget c.sift.result) gives.1 c.sift.ensures
+
+pub sift-requires-clause-sets : goal.sift-requires-clause-sets
+sift-requires-clause-sets c = c.requires.sets
+
+pub sift-requires-clause-network : goal.sift-requires-clause-network
+sift-requires-clause-network c = c.requires.network
