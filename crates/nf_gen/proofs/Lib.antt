@@ -6,3 +6,4 @@ pub mod LadderWalks
 pub mod LadderNamed
 pub mod Written
 pub mod Read
+pub mod Pushed
