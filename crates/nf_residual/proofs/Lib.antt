@@ -4,6 +4,7 @@ pub mod Moving
 pub mod Fits
 pub mod WholeLengths
 pub mod Twigs
+pub mod Reading
 pub mod FromBehind
 pub mod Offering
 pub mod Settled

@@ -1,5 +1,5 @@
 -- Whole lengths: their operations don't pass, and their order is that of the numbers.
-use Rattle.std.proofs.Common.{◌≡◌, ℕ, ◌≤◌, Bool, true, false, ℤ, pos, ◌+ℤ◌, ◌-ℤ◌, ◌*ℤ◌, neg_ℤ, nat_abs, [], ◌∷◌, Option, Some, None, refl, sym, ap, subst, ◌∙◌, arith}
+use Rattle.std.proofs.Common.{◌≡◌, ℕ, ◌<◌, ◌≤◌, Bool, true, false, ℤ, pos, ◌+ℤ◌, ◌-ℤ◌, ◌*ℤ◌, neg_ℤ, nat_abs, [], ◌∷◌, Option, Some, None, refl, sym, ap, subst, ◌∙◌, arith}
 use mathlib.Core.Path.{ap₂}
 use Rattle.std.specs.Prelude.{Ok, SomeIff, unwrap_or}
 use Rattle.std.specs.Ordering.{int_cmp}
@@ -18,7 +18,7 @@ use Rattle.nf_frac.specs.Short.{short}
 use Rattle.nf_frac.proofs.SmallSums.{sum_fits}
 use Rattle.nf_frac.proofs.Turned.{neg_within, num-neg, den-neg}
 use Rattle.nf_frac.proofs.Bits.{bits_of, plain, cast_plain}
-use Rattle.nf_frac.proofs.SmallParts.{gcd_one, plain_64}
+use Rattle.nf_frac.proofs.SmallParts.{fits_64, gcd_one, plain_64}
 use Rattle.nf_rational_laws.proofs.Polynomial.{ring, reading}
 use Rattle.nf_rational_laws.proofs.IntegerRing.{ints_ring}
 use mir.Syntax.{w64, w128}
@@ -124,3 +124,32 @@ whole_kept forward x y a b n h k e f l g =
     let few : nat_abs n ≤ most = subst (λ (z : ℤ). nat_abs z ≤ most) (sym g) l in
     whole_exact forward x y a b (to_z w64 (of_z w64 n)) h k (sym e) (sym f)
     (plain_64 n (omega (arith, few)) ∙ g ∙ ap₂ (along_by forward) (plain_64 a (omega (arith, h))) (plain_64 b (omega (arith, k))))
+
+pub counted_fits : (number : ℤ) (m : ℕ) → m ≡ nat_abs (bits_of number) → m ≤ most → SFits w64 (bits_of number)
+counted_fits number m e h = fits_64 (bits_of number) (omega (arith, e, h))
+
+pub kept_small : (n z : ℤ) → n ≡ z → nat_abs z ≤ most → nat_abs (to_z w64 (of_z w64 n)) ≤ most
+kept_small n z e h =
+    let few : nat_abs n ≤ most = subst (λ (y : ℤ). nat_abs y ≤ most) (sym e) h in
+    subst (λ (y : ℤ). nat_abs y ≤ most) (sym (plain_64 n (omega (arith, few)))) few
+
+-- ---- a sum or a difference of 64 bits, of which the magnitude m was read
+module _ (op : ℤ → ℤ → ℤ) (a b : ℤ) (f : SFits w64 a) (g : SFits w64 b) where
+  abbrev cast : ℤ
+  cast = op (to_z w64 (of_z w64 a)) (to_z w64 (of_z w64 b))
+
+  cast_is : cast ≡ op a b
+  cast_is = ap₂ op (to_z-of_z f) (to_z-of_z g)
+
+  pub result_fits : nat_abs (op a b) ≤ most → SFits w64 cast
+  result_fits h = subst (SFits w64) (sym cast_is) (fits_64 (op a b) (omega (arith, h)))
+
+  module _ (n : ℤ) (m : ℕ) (w : SFits w64 cast × (n ≡ cast)) (e : m ≡ nat_abs (to_z w64 (of_z w64 n))) where
+    stored : to_z w64 (of_z w64 n) ≡ op a b
+    stored = to_z-of_z (subst (SFits w64) (sym w.1) w.0) ∙ w.1 ∙ cast_is
+
+    pub result_small : m ≤ most → (nat_abs (op a b) ≤ most) × (to_z w64 (of_z w64 n) ≡ op a b)
+    result_small h = (subst (λ (k : ℕ). k ≤ most) (e ∙ ap nat_abs stored) h, stored)
+
+    pub result_beyond : most < m → nat_abs (op a b) ≤ most → ⊥
+    result_beyond h k = omega (arith, e ∙ ap nat_abs stored, h, k)

@@ -1,4 +1,4 @@
-use Rattle.std.proofs.Common.{◌≡◌, ℕ, ◌<◌, List, length, sym, ap, subst, ◌∙◌, arith}
+use Rattle.std.proofs.Common.{◌≡◌, ℕ, ◌<◌, List, length, refl, sym, ap, subst, ◌∙◌, arith}
 use Rattle.std.proofs.lemmas.Result.{err_from_is_err_and}
 use Rattle.nf_work.specs.Passing.{passes_Q}
 use Rattle.nf_residual.specs.declared.legs.Leg.{Leg}
@@ -126,3 +126,12 @@ legs_of-requires c = c.requires.flows
 
 pub first_places-requires : goal.first_places-requires
 first_places-requires c = c.requires.from
+
+pub same-ways-in-loop : goal.same-ways-in-loop
+same-ways-in-loop c = refl
+
+pub same-ways-in-loop-2 : goal.same-ways-in-loop-2
+same-ways-in-loop-2 c = refl
+
+pub same-ways-then-count : goal.same-ways-then-count
+same-ways-then-count c = refl

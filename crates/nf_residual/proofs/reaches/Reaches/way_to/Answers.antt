@@ -1,26 +1,11 @@
-use Rattle.std.proofs.Common.{◌≡◌, ℕ, ◌<◌, List, length, Option, Some, option_map, sym, ap, ◌∙◌, arith}
-use Rattle.std.proofs.lemmas.List.{length-map}
+use Rattle.std.proofs.Common.{◌≡◌, ℕ, List, Some, sym, ap, ◌∙◌}
 use Rattle.std.proofs.lemmas.Result.{err_from_is_err_and}
 use Rattle.nf_rational.specs.Rational.{ℚ}
 use Rattle.nf_quick_lists.specs.Steps.{Step}
-use Rattle.nf_quick_lists.specs.Rounds.{Known, known_at}
 use Rattle.nf_residual.specs.declared.ways.Twig.{Twig}
-use Rattle.nf_residual.specs.Ways.{twig_at, way_at, Places, place_at, known_by}
-use Rattle.nf_residual.proofs.Twigs.{known_at-by}
+use Rattle.nf_residual.specs.Ways.{twig_at, way_at, Places, place_at}
+use Rattle.nf_residual.proofs.Reading.{place_there, reach_there}
 use Rattle.nf_residual.proofs.reaches.Reaches.way_to.Goals as goal
-
--- ---- the places of what is known, as they are lent
-module _ (tree : List Twig) (places lent : Places) (known : Known) (v i : ℕ) (view : known_by tree places ≡ known) (same : lent ≡ places) (at : i ≡ v) where
-  place_there : v < length known → i < length lent
-  place_there h =
-      let long : length known ≡ length places = ap (λ (k : Known). length k) (sym view) ∙ length-map places (option_map (way_at tree)) in
-      let count : length lent ≡ length places = ap (λ (p : Places). length p) same in
-      omega (arith, h, long, count, at)
-
-  reach_there : (found : Option ℕ) → found ≡ place_at lent i → option_map (way_at tree) found ≡ known_at known v
-  reach_there found f =
-      ap (λ (p : Option ℕ). option_map (way_at tree) p) (f ∙ ap (λ (p : Places). place_at p i) same ∙ ap (λ (n : ℕ). place_at places n) at)
-      ∙ sym (known_at-by tree places v) ∙ ap (λ (k : Known). known_at k v) view
 
 -- its parts are read one after the other
 way_read : (tree : List Twig) (way : ℕ) (distance : ℚ) (steps : List Step) → distance ≡ (twig_at tree way).distance → steps ≡ (way_at tree way).steps

@@ -1,4 +1,5 @@
-use Rattle.std.proofs.Common.{◌∙◌}
+use Rattle.std.proofs.Common.{length, ap, ◌∙◌}
+use Rattle.nf_rational.specs.Rational.{ℚ}
 use Rattle.std.proofs.lemmas.Result.{err_from_is_err_and}
 use Rattle.nf_work.specs.Passing.{passes_Q}
 use Rattle.nf_residual.proofs.Finishing.{distances_stop, distances_listed, distances_least}
@@ -19,3 +20,6 @@ pub returns-clause-least : goal.returns-clause-least
 returns-clause-least c = distances_least passes_Q c.args.net.now.net c.args.self.now c.as_slice-flows.result.now (c.as_slice-flows.ensures.value ∙ c.self.view_is) c.args.from
     c.in_ok-known.known c.in_ok-known.ensures.list c.in_ok-distances.distances.items
     c.in_ok-distances.ensures c.version-named.ensures.named.network c.requires.sound c.requires.from
+
+pub reaches-requires-clause-flows : goal.reaches-requires-clause-flows
+reaches-requires-clause-flows c = ap (length {A = ℚ}) (c.as_slice-flows.ensures.value ∙ c.self.view_is) ∙ c.requires.sound.flow.count

@@ -1,4 +1,5 @@
-use Rattle.std.proofs.Common.{◌∙◌}
+use Rattle.std.proofs.Common.{length, ap, ◌∙◌}
+use Rattle.nf_rational.specs.Rational.{ℚ}
 use Rattle.std.proofs.lemmas.Result.{err_from_is_err_and}
 use Rattle.nf_work.specs.Passing.{passes_Q}
 use Rattle.nf_residual.proofs.Finishing.{shortest_stops, room_passes, walk_listed, walk_first, steps_within}
@@ -28,3 +29,9 @@ pub returns-clause-first : goal.returns-clause-first
 returns-clause-first c = walk_first passes_Q c.args.net.now.net c.args.self.now c.as_slice-flows.result.now (c.as_slice-flows.ensures.value ∙ c.self.view_is) c.source.result c.source.ensures.value
     c.in_ok-known.known c.in_ok-known.ensures.list c.in_ok-way.way c.sink.result c.sink.ensures.value c.in_ok-way.ensures c.version-named.ensures.named.network c.requires.sound c.requires.limited
     c.in_ok-walk.walk c.in_ok-walk.ensures
+
+pub with_room-requires-clause-flows : goal.with_room-requires-clause-flows
+with_room-requires-clause-flows c = ap (length {A = ℚ}) (c.as_slice-flows.ensures.value ∙ c.self.view_is) ∙ c.requires.sound.flow.count
+
+pub reaches-requires-clause-flows : goal.reaches-requires-clause-flows
+reaches-requires-clause-flows c = ap (length {A = ℚ}) (c.as_slice-flows.ensures.value ∙ c.self.view_is) ∙ c.requires.sound.flow.count
