@@ -1,4 +1,4 @@
-use Rattle.std.proofs.Common.{◌≤◌, length, arith}
+use Rattle.std.proofs.Common.{ℕ, ◌<◌, ◌≤◌, length, sym, subst, arith}
 use Rattle.std.proofs.lemmas.Result.{err_from_is_err_and}
 use Rattle.nf_work.specs.Passing.{passes_Q}
 use Rattle.nf_quick_parts.proofs.NodeByNode.{values_first, values_all, value_passes, values_more}
@@ -21,3 +21,11 @@ pub returns : goal.returns
 returns c =
     let past : length c.args.net.now.net.links ≤ c.loop-number.number = omega arith in
     values_all passes_Q c.args.net.now.net.links c.args.cut.now c.loop-number.value c.loop-number.number c.loop-number.invariant past
+
+pub value_after-requires-clause-head : goal.value_after-requires-clause-head
+value_after-requires-clause-head c =
+    subst (λ (n : ℕ). c.link-here.result.head < n) (sym c.requires) (c.link-here.ensures.named.network.heads c.loop-number.number c.link-here.result c.link-here.ensures.link)
+
+pub value_after-requires-clause-tail : goal.value_after-requires-clause-tail
+value_after-requires-clause-tail c =
+    subst (λ (n : ℕ). c.link-here.result.tail < n) (sym c.requires) (c.link-here.ensures.named.network.tails c.loop-number.number c.link-here.result c.link-here.ensures.link)

@@ -1,11 +1,12 @@
-use Rattle.std.proofs.Common.{◌<◌, ◌==◌, List, ℕ, length, refl, sym, ap, subst, ◌∙◌, arith}
+use Rattle.std.proofs.Common.{◌<◌, ◌≤◌, ◌==◌, List, ℕ, length, replicate, refl, sym, ap, subst, ◌∙◌}
+use Rattle.std.proofs.lemmas.List.{length-replicate}
 use Rattle.std.proofs.lemmas.Result.{err_from_is_err_and}
 use Rattle.nf_rational.specs.Rational.{ℚ}
 use Rattle.nf_work.specs.Passing.{passes_Q}
 use Rattle.nf_quick_lists.specs.Walks.{way_out}
-use Rattle.nf_quick_parts.proofs.WalkByWalk.{none_left, take_passes, takes_more, none_there, some_there, within_as}
+use Rattle.nf_quick_parts.proofs.WalkByWalk.{takes_first, takes_all, none_left, take_passes, takes_more, none_there, some_there, within_as}
 use Rattle.nf_quick_parts.specs.Spent.{AreSpent, HaveFlow}
-use Rattle.nf_quick_parts.proofs.SpentLinks.{spent_still}
+use Rattle.nf_quick_parts.proofs.SpentLinks.{spent_first, spent_still}
 use Rattle.nf_quick_parts.proofs.walks.walks_off.Goals as goal
 
 pub way_out-requires-clause-spent : goal.way_out-requires-clause-spent
@@ -16,14 +17,14 @@ walk_off-requires c = within_as (length c.args.net.now.net.links) (length c.loop
 
 pub returns-then-is_none : goal.returns-then-is_none
 returns-then-is_none c =
-    let inside : c.loop.counter < length c.args.net.now.net.links = omega arith in
+    let inside : c.loop.counter < length c.args.net.now.net.links = subst (λ (n : ℕ). c.loop.counter < n) c.link_count-end.ensures c.loop-test.true in
     none_left passes_Q c.args.net.now.net c.args.flows.items c.loop.walks.items c.loop.flows.items c.loop.counter c.loop.invariant.takes inside c.in_ok-links.links.items
     (c.in_ok-links.ensures.way ∙ ap (λ (l : List ℚ). way_out c.args.net.now.net l) c.deref.ensures.value)
     (none_there c.in_ok-links.links.items (ap (λ (l : List ℕ). length l == 0) (sym c.deref-in-loop.ensures.value) ∙ sym c.is_none.ensures ∙ c.if-is_none.true))
 
 pub returns-in_err-rated : goal.returns-in_err-rated
 returns-in_err-rated c =
-    let inside : c.loop.counter < length c.args.net.now.net.links = omega arith in
+    let inside : c.loop.counter < length c.args.net.now.net.links = subst (λ (n : ℕ). c.loop.counter < n) c.link_count-end.ensures c.loop-test.true in
     let p = err_from_is_err_and c.from_residual-in_err-rated.result c.from_residual-in_err-rated.ensures.1 in
     rw (p.1, p.2) (take_passes passes_Q c.args.net.now.net c.args.flows.items c.loop.walks.items c.loop.flows.items c.loop.counter c.loop.invariant.takes inside c.in_ok-links.links.items
     (c.in_ok-links.ensures.way ∙ ap (λ (l : List ℚ). way_out c.args.net.now.net l) c.deref.ensures.value)
@@ -32,7 +33,7 @@ returns-in_err-rated c =
 
 pub loop-preserved : goal.loop-preserved
 loop-preserved c =
-    let inside : c.loop.counter < length c.args.net.now.net.links = omega arith in
+    let inside : c.loop.counter < length c.args.net.now.net.links = subst (λ (n : ℕ). c.loop.counter < n) c.link_count-end.ensures c.loop-test.true in
     let lent = c.deref.ensures.value in
     record {
       takes = takes_more passes_Q c.args.net.now.net c.args.flows.items c.loop.walks.items c.loop.flows.items c.loop.counter c.loop.invariant.takes inside c.in_ok-links.links.items
@@ -59,3 +60,24 @@ pub returns-in_err-push : goal.returns-in_err-push
 returns-in_err-push c =
     let p = err_from_is_err_and c.from_residual-in_err-push.result c.from_residual-in_err-push.ensures.1 in
     rw (p.1, p.2) tt
+
+pub loop-init : goal.loop-init
+loop-init c =
+    let unspent = c.in_ok-spent.ensures {u = tt} in
+    let none = unspent.items_if_clones_equal (λ _ e. e) ∙ ap (λ (n : ℕ). replicate n 0) c.node_count.ensures in
+    record {
+      takes = takes_first passes_Q c.args.net.now.net c.args.flows.items c.new-walks.result.items c.args.flows.items c.new-walks.ensures.items refl c.requires;
+      spent = spent_first c.args.net.now.net.links c.args.flows.items c.in_ok-spent.spent.items c.args.net.now.net.nodes none;
+      count = ap length none ∙ length-replicate c.args.net.now.net.nodes 0;
+    }
+
+pub returns : goal.returns
+returns c =
+    takes_all passes_Q c.args.net.now.net c.args.flows.items c.loop.walks.items c.loop.flows.items c.loop.counter c.loop.invariant.takes
+    (subst (λ (n : ℕ). n ≤ c.loop.counter) c.link_count-end.ensures c.loop-test.false)
+
+pub way_out-requires-clause-count : goal.way_out-requires-clause-count
+way_out-requires-clause-count c = c.loop.invariant.count
+
+pub way_out-requires-clause-flows : goal.way_out-requires-clause-flows
+way_out-requires-clause-flows c = ap (length {A = ℚ}) c.deref.ensures.value ∙ c.loop.invariant.takes.count

@@ -1,5 +1,5 @@
-use Rattle.std.proofs.Common.{List, sym, ap, subst}
-use Rattle.std.proofs.lemmas.Result.{err_from_is_err_and}
+use Rattle.std.proofs.Common.{List, refl, sym, ap, subst}
+use Rattle.std.proofs.lemmas.Result.{err_from_is_err_and, IfOk-from_err}
 use Rattle.nf_rational.specs.Rational.{ℚ}
 use Rattle.nf_rational.specs.Operations.{0ℚ}
 use Rattle.nf_rational.specs.Order.{◌≤ℚ◌, ◌<ℚ◌}
@@ -59,3 +59,18 @@ returns-clause-rate c = subst (λ (rate : ℚ). 0ℚ ≤ℚ rate) (sym (ap (λ (
 pub returns-clause-list : goal.returns-clause-list
 returns-clause-list c = push_made passes_Q c.args.net.now.net c.args.amount _ c.args.self.now _ c.args.walk c.self.view_is c.walk.view_is c.push.new.self c.in_ok-push.ensures.list c.in_ok-times.times _ c.in_ok-times.ensures.list
     c.times.view_is c.push-2.new.self.items c.in_ok-push-2.ensures.items
+
+pub same-walk : goal.same-walk
+same-walk c = refl
+
+pub returns-in_err-push-2-clause-rate : goal.returns-in_err-push-2-clause-rate
+returns-in_err-push-2-clause-rate c = IfOk-from_err c.from_residual-in_err-push-2.result _ c.from_residual-in_err-push-2.ensures.0
+
+pub returns-in_err-push-2-clause-sound : goal.returns-in_err-push-2-clause-sound
+returns-in_err-push-2-clause-sound c = IfOk-from_err c.from_residual-in_err-push-2.result _ c.from_residual-in_err-push-2.ensures.0
+
+pub returns-in_err-times-clause-rate : goal.returns-in_err-times-clause-rate
+returns-in_err-times-clause-rate c = IfOk-from_err c.from_residual-in_err-times.result _ c.from_residual-in_err-times.ensures.0
+
+pub returns-in_err-times-clause-sound : goal.returns-in_err-times-clause-sound
+returns-in_err-times-clause-sound c = IfOk-from_err c.from_residual-in_err-times.result _ c.from_residual-in_err-times.ensures.0
