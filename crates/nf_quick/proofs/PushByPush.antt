@@ -81,6 +81,9 @@ module _ (passes : Passing) (net : Network) (amount : ℚ) (augments : ℕ) wher
       pub last_done : at_part Part.Quick next ≡ Ok None → at_part Part.Quick all ≡ Ok (Done s)
       last_done e = ap (at_part Part.Quick) (at_end ∙ goes_on next last None e)
 
+      pub last_none : at_part Part.Quick next ≡ Ok None → at_part Part.Quick all ≡ Ok (Done s)
+      last_none e = ap (at_part Part.Quick) (at_end ∙ goes_on next last None e)
+
       pub over_budget : (walk : Walk) → at_part Part.Quick next ≡ Ok (Some walk) → at_part Part.Quick all ≡ Ok (OverBudget s.pushed)
       over_budget walk e = ap (at_part Part.Quick) (at_end ∙ goes_on next last (Some walk) e)
 

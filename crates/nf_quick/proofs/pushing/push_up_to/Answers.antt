@@ -5,7 +5,7 @@ use Rattle.nf_work.specs.Passing.{passes_Q}
 use Rattle.nf_quick_lists.specs.Rounds.{Walk}
 use Rattle.nf_quick_lists.specs.Answers.{IsShortestWalk}
 use Rattle.nf_quick_lists.specs.Quick.{Standing, OverBudget}
-use Rattle.nf_quick.proofs.PushByPush.{pushes_first, next_stops, none_next, push_stops, pushes_more, last_stops, over_budget, halted}
+use Rattle.nf_quick.proofs.PushByPush.{pushes_first, next_stops, none_next, push_stops, pushes_more, last_stops, last_none, over_budget, halted}
 use Rattle.nf_quick.proofs.pushing.push_up_to.Goals as goal
 
 pub loop-init : goal.loop-init
@@ -84,3 +84,11 @@ push_on-requires-clause-rate c = c.loop.invariant.rate
 
 pub next-requires-2-clause-sound : goal.next-requires-2-clause-sound
 next-requires-2-clause-sound c = c.loop.invariant.sound
+
+pub returns-in-None-clause-pushed : goal.returns-in-None-clause-pushed
+returns-in-None-clause-pushed c =
+    let past : c.args.augments ≤ c.loop.counter = omega arith in
+    last_none passes_Q c.args.net.now.net c.args.amount c.args.augments c.loop.standing c.loop.counter c.loop.invariant past (c.in_ok-next.ensures.list c.args.amount ∙ ap Ok c.in-None.is)
+
+pub returns-in-None-clause-sound : goal.returns-in-None-clause-sound
+returns-in-None-clause-sound c = c.loop.invariant.sound

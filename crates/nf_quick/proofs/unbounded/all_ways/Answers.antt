@@ -1,4 +1,5 @@
-use Rattle.std.proofs.Common.{◌≡◌, ◌<◌, ℕ, List, Some, sym, ap, subst, ◌∙◌}
+use Rattle.std.proofs.Common.{◌≡◌, ◌<◌, ℕ, List, length, Some, sym, ap, subst, ◌∙◌}
+use Rattle.std.proofs.lemmas.Option.{slice_get_within}
 use Rattle.std.proofs.lemmas.Result.{err_from_is_err_and}
 use Rattle.nf_model.specs.Network.{Link}
 use Rattle.nf_quick.specs.Ways.{Ways, way_at, LeadsOn, NoneLeadsOn, AreWays}
@@ -35,3 +36,16 @@ pub returns-in_err-way : goal.returns-in_err-way
 returns-in_err-way c =
     let p = err_from_is_err_and c.from_residual-in_err-way.result c.from_residual-in_err-way.ensures.1 in
     rw p.1 tt
+
+pub link-here-requires : goal.link-here-requires
+link-here-requires c = let on = c.in-Some.ensures in slice_get_within c.args.net.now.net.links c.in-Some.link on.link on.is_link
+
+pub longer-requires : goal.longer-requires
+longer-requires c =
+    let tail = subst (λ (n : ℕ). c.link-here.result.tail < n) (sym c.loop-link.invariant.count) (c.version-named.ensures.named.network.tails c.in-Some.link c.link-here.result c.link-here.ensures.link) in
+    subst (λ (w : Ways). c.here.inside.tail < length w) (sym c.deref-in-Some.ensures.value) (subst (λ (l : Link). l.tail < length c.loop-link.ways.items) (sym c.here.view_is) tail)
+
+pub put-requires : goal.put-requires
+put-requires c =
+    let head = subst (λ (n : ℕ). c.link-here.result.head < n) (sym c.loop-link.invariant.count) (c.version-named.ensures.named.network.heads c.in-Some.link c.link-here.result c.link-here.ensures.link) in
+    subst (λ (l : Link). l.head < length c.loop-link.ways.items) (sym c.here.view_is) head

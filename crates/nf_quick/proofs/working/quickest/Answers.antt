@@ -1,4 +1,4 @@
-use Rattle.std.proofs.Common.{◌≡◌, ℕ, true, false, Vec, Global, unwrap_or, sym, ap, ◌∙◌}
+use Rattle.std.proofs.Common.{◌≡◌, ℕ, true, false, Vec, Global, unwrap_or, sym, ap, subst, ◌∙◌}
 use Rattle.std.proofs.lemmas.Option.{MatchOption-at_some, MatchOption-at_none}
 use Rattle.std.proofs.lemmas.Result.{err_from_is_err_and}
 use Rattle.nf_rational.specs.Rational.{ℚ}
@@ -7,6 +7,7 @@ use Rattle.nf_rational.specs.Order.{le_ℚ}
 use Rattle.nf_work.specs.Passing.{passes_Q}
 use Rattle.nf_rational_laws.proofs.Tests.{lt_of_test}
 use Rattle.nf_quick_lists.specs.Steps.{IsUnboundedWalk, IsLimited}
+use Rattle.nf_quick_lists.specs.Flows.{IsSound}
 use Rattle.nf_quick_lists.specs.Quick.{Standing}
 use Rattle.nf_quick.proofs.Answering.{nothing_answered, pushes_stop, finish_stops, finish_answered, answered_is_quick}
 use Rattle.nf_quick.proofs.working.quickest.Goals as goal
@@ -62,3 +63,9 @@ returns-clause-quickest c =
     (ap (λ (s : Standing). s.flows) c.standing.view_is)
     (c.unwrap_or-time.ensures ∙ ap (λ (s : Standing). unwrap_or s.time c.zero-2.result) c.standing.view_is ∙ ap (λ (z : ℚ). unwrap_or c.in_ok-standing.standing.time z) c.zero-2.ensures)
     c.in_ok-quick.quick (c.in_ok-quick.ensures c.args.amount))
+
+pub push_up_to-requires : goal.push_up_to-requires
+push_up_to-requires c = MatchOption-at_none _ (λ links. IsUnboundedWalk c.args.net.now.net links.items c.args.net.now.net.source c.args.net.now.net.sink) c.in_default.is c.in_ok-links.ensures
+
+pub finish-requires : goal.finish-requires
+finish-requires c = subst (λ (s : Standing). IsSound c.args.net.now.net s.flows) (sym c.standing.view_is) c.in_ok-standing.ensures.sound
