@@ -1,5 +1,5 @@
 -- The list of a link's loading, step by step: where a step stops the whole does, and what the steps come to.
-use Rattle.std.proofs.Common.{◌≡◌, List, Option, ap, subst, ◌∙◌}
+use Rattle.std.proofs.Common.{◌≡◌, List, Option, ◌∙◌}
 use Rattle.std.specs.Prelude.{Ok, Err, map}
 use Rattle.nf_rational.specs.Rational.{ℚ}
 use Rattle.nf_work.specs.Passing.{Passing}
@@ -10,7 +10,7 @@ use Rattle.nf_work.specs.declared.Op.TheVariants.{Sum}
 use Rattle.nf_model.specs.Curve.{Point}
 use Rattle.nf_curve_lists.specs.Values.{checked_cut}
 use Rattle.nf_curve_lists.specs.Short.{checked_short}
-use Rattle.nf_load_lists.specs.Loading.{Waits, Leaves, Loaded, queue_point, exit_point, outflow_points, leaves, all_waits, checked_loading}
+use Rattle.nf_load_lists.specs.Loading.{Waits, Leaves, queue_point, exit_point, outflow_points, leaves, all_waits, checked_loading}
 use Rattle.nf_curve.proofs.Exits.{after_err, after_ok, was_ok}
 use Rattle.nf_load.specs.InSteps.{AreCurves, LeadsToCurves, in_short_form, until_transit, behind_cut}
 

@@ -1,5 +1,6 @@
 -- The reading of a text from that of its lines and of the file as a whole.
 use Rattle.std.proofs.Common.{◌≡◌, ℕ, List, [], length, map, Option, Some, None, option_map, Result, Ok, Err, sym, ap, ◌∙◌}
+use Rattle.std.proofs.lemmas.Option.{none-some, same_Some}
 use Rattle.nf_work.specs.Checked.{◌>>=◌}
 use Rattle.nf_lines.specs.Words.{ReadLine, read_lines, content_lines}
 use Rattle.nf_lines.specs.Faults.{LineFault, first_fault}
@@ -18,8 +19,8 @@ use Rattle.nf_load.specs.Kept.{AreLoads}
 
 -- a line with a fault
 faulty : (o : Option LineFault) (broken : LoadsBroken) (read : Result (List (List Piece)) LoadsBroken) → option_map as_load_rule o ≡ Some broken → loads_by_bytes o read ≡ Err broken
-faulty None broken read e = absurd (cc)
-faulty (Some fault) broken read e = let same : as_load_rule fault ≡ broken = cc in ap (λ (b : LoadsBroken). Err b) same
+faulty None broken read e = absurd (none-some broken e)
+faulty (Some fault) broken read e = ap (λ (b : LoadsBroken). Err b) (same_Some (as_load_rule fault) broken e)
 
 pub bytes_break : (n : Named) (text : List ℕ) (broken : LoadsBroken) → option_map as_load_rule (first_fault text) ≡ Some broken → loads_in n text ≡ Err broken
 unfolding loads_in

@@ -1,7 +1,7 @@
 -- A curve, put together point by point.
 use Rattle.std.proofs.Common.{◌≡◌, ℕ, zero, suc, ◌<◌, List, [], ◌∷◌, ◌++◌, length, get_or, take, refl, sym, ap, subst, ◌∙◌, arith}
 use Rattle.std.specs.Prelude.{Some, slice_get}
-use Rattle.std.proofs.lemmas.Option.{slice_get-get_or}
+use Rattle.std.proofs.lemmas.Option.{none-some, same_Some, slice_get-get_or}
 use Rattle.nf_rational.specs.Rational.{ℚ}
 use Rattle.nf_rational.specs.Operations.{0ℚ}
 use Rattle.nf_rational.specs.Order.{◌<ℚ◌}
@@ -14,8 +14,8 @@ same_read (x ∷ xs) zero p q lt = refl
 same_read (x ∷ xs) (suc i) p q lt = same_read xs i p q (omega arith)
 
 one_more : (xs : List Point) (i : ℕ) (p : Point) → slice_get xs i ≡ Some p → take i xs ++ p ∷ [] ≡ take (suc i) xs
-one_more [] i p e = absurd (cc)
-one_more (x ∷ xs) zero p e = let same : x ≡ p = cc in ap (λ (q : Point). q ∷ []) (sym same)
+one_more [] i p e = absurd (none-some p e)
+one_more (x ∷ xs) zero p e = ap (λ (q : Point). q ∷ []) (sym (same_Some x p e))
 one_more (x ∷ xs) (suc i) p e = ap (λ (l : List Point). x ∷ l) (one_more xs i p e)
 
 pub next_taken : (xs : List Point) (i next : ℕ) (p : Point) → slice_get xs i ≡ Some p → next ≡ suc i → take i xs ++ p ∷ [] ≡ take next xs
@@ -33,8 +33,7 @@ next_by_parts xs now front i next p q e f lt n =
 pub first_taken : (xs : List Point) (p : Point) → IsCurve xs → slice_get xs 0 ≡ Some p → (0ℚ, p.1) ∷ [] ≡ take 1 xs
 first_taken [] p curve e = absurd curve
 first_taken (x ∷ xs) p curve e =
-    let same : x ≡ p = cc in
-    ap (λ (t : ℚ). (t, p.1) ∷ []) (sym curve.0) ∙ ap (λ (y : ℚ). (x.0, y) ∷ []) (ap (λ (q : Point). q.1) (sym same))
+    ap (λ (t : ℚ). (t, p.1) ∷ []) (sym curve.0) ∙ ap (λ (q : Point). (x.0, q.1) ∷ []) (sym (same_Some x p e))
 
 all_taken : (xs : List Point) → take (length xs) xs ≡ xs
 all_taken [] = refl
@@ -44,8 +43,8 @@ pub taken_to_end : (xs : List Point) (k : ℕ) → k ≡ length xs → take k xs
 taken_to_end xs k e = ap (λ (j : ℕ). take j xs) e ∙ all_taken xs
 
 before_next : (p : Point) (rest : List Point) (i : ℕ) (q : Point) → TimesRise (p ∷ rest) → slice_get (p ∷ rest) (suc i) ≡ Some q → last_time (take (suc i) (p ∷ rest)) <ℚ q.0
-before_next p [] i q rise e = absurd (cc)
-before_next p (x ∷ xs) zero q rise e = let same : x ≡ q = cc in subst (λ (z : Point). p.0 <ℚ z.0) same rise.0
+before_next p [] i q rise e = absurd (none-some q e)
+before_next p (x ∷ xs) zero q rise e = subst (λ (z : Point). p.0 <ℚ z.0) (same_Some x q e) rise.0
 before_next p (x ∷ xs) (suc i) q rise e = before_next x xs i q rise.1 e
 
 -- a point is later than those before it

@@ -1,6 +1,8 @@
 -- The queue, piece by piece of the inflow.
 use Rattle.std.proofs.Common.{◌≡◌, ◌≢◌, ⊎_elim, ℕ, suc, true, List, [], ◌∷◌, ◌++◌, drop, refl, sym, ap, subst, ◌∙◌}
 use Rattle.std.specs.Prelude.{Some, None, Option, slice_get, Ok, Err}
+use Rattle.std.proofs.lemmas.Bool.{true≢false}
+use Rattle.std.proofs.lemmas.Option.{none-some, same_Some}
 use Rattle.nf_rational.specs.Rational.{ℚ}
 use Rattle.nf_rational.specs.Operations.{0ℚ}
 use Rattle.nf_rational.specs.Order.{◌<ℚ◌, lt_ℚ}
@@ -26,7 +28,7 @@ pub change_apart : (passes : Passing) (rate capacity change : ℚ) → lt_ℚ ra
 change_apart passes rate capacity change t e is_0 = ⊎_elim
     (λ (w : (lt_ℚ rate capacity ≡ true) × (rate <ℚ capacity)).
     linear_false (rate ∷ capacity ∷ change ∷ []) (lt w.1 ∷ eq (checked-is passes Difference rate capacity change e) ∷ eq is_0 ∷ []) (search reading_of depth 12) tt)
-    (λ w. absurd (cc (t, w.0)))
+    (λ w. absurd (true≢false (sym t ∙ w.0)))
     (lt_ℚ_cases rate capacity)
 
 -- ---- what waits so far, and over the pieces from here on
@@ -35,9 +37,9 @@ module _ (passes : Passing) (capacity : Option ℚ) where
   first_of queue p = record { time = p.0; amount = p.1; queue = queue }
 
   at_first : (xs : List Point) (p : Point) → slice_get xs 0 ≡ Some p → with_front (first_of 0ℚ p ∷ []) (waits_after passes capacity (first_of 0ℚ p) (drop 1 xs)) ≡ all_waits passes capacity xs
-  at_first [] p e = absurd (cc)
+  at_first [] p e = absurd (none-some p e)
   at_first (x ∷ xs) p e =
-      let same : p ≡ x = cc in
+      let same : p ≡ x = sym (same_Some x p e) in
       ap (λ (q : Point). with_front (first_of 0ℚ q ∷ []) (waits_after passes capacity (first_of 0ℚ q) xs)) same
       ∙ go (waits_after passes capacity (first_of 0ℚ x) xs)
     where
@@ -81,7 +83,7 @@ Later before points = TimesRise ((before.time, before.amount) ∷ points)
 
 pub later_first : (xs : List Point) (p : Point) (queue : ℚ) → IsCurve xs → slice_get xs 0 ≡ Some p → Later (record { time = p.0; amount = p.1; queue = queue }) (drop 1 xs)
 later_first [] p queue curve e = absurd curve
-later_first (x ∷ xs) p queue curve e = let same : x ≡ p = cc in subst (λ (q : Point). TimesRise ((q.0, q.1) ∷ xs)) same curve.1
+later_first (x ∷ xs) p queue curve e = subst (λ (q : Point). TimesRise ((q.0, q.1) ∷ xs)) (same_Some x p e) curve.1
 
 pub later_here : (before : Waits) (xs : List Point) (i : ℕ) (p : Point) → slice_get xs i ≡ Some p → Later before (drop i xs) → before.time <ℚ p.0
 later_here before xs i p e h = let k : Later before (p ∷ drop (suc i) xs) = subst (λ (l : List Point). Later before l) (drop-at xs i p e) h in k.0

@@ -1,5 +1,5 @@
 -- Cumulative amounts, piece by piece.
-use Rattle.std.proofs.Common.{◌≡◌, ⊎_elim, ℕ, suc, ◌+◌, arith, drop, Bool, true, false, List, [], ◌∷◌, ◌++◌, refl, sym, ap, ◌∙◌, append_assoc}
+use Rattle.std.proofs.Common.{◌≡◌, ⊎_elim, ℕ, suc, ◌+◌, ◌<◌, ◌≤◌, arith, drop, Bool, true, false, List, [], ◌∷◌, ◌++◌, refl, sym, ap, ◌∙◌, append_assoc}
 use Rattle.std.specs.Prelude.{Ok, Err, Some, slice_get}
 use Rattle.nf_rational.specs.Rational.{ℚ}
 use Rattle.nf_rational.specs.Operations.{0ℚ}
@@ -7,14 +7,14 @@ use Rattle.nf_rational.specs.Order.{lt_ℚ}
 use Rattle.nf_work.specs.Passing.{Passing}
 use Rattle.nf_work.specs.declared.Part.{Part}
 use Rattle.nf_work.specs.declared.PassedAt.{PassedAt}
-use Rattle.nf_work.specs.Checked.{Checked, at_part, placed, ◌>>=◌}
+use Rattle.nf_work.specs.Checked.{Checked, at_part, ◌>>=◌}
 use Rattle.nf_work.proofs.Each.{with_front}
 use Rattle.nf_model.specs.Curve.{Point}
 use Rattle.nf_model.specs.Network.{Piece}
 use Rattle.nf_lists.specs.Signs.{is_same}
 use Rattle.nf_load_lists.specs.Cumulative.{end_of, point_after_0, point_if_after_0, with_piece, cumulative_from, checked_cumulative}
 use Rattle.nf_curve_laws.proofs.Operations.{is_same_cases}
-use Rattle.nf_curve.proofs.Exits.{was_ok}
+use Rattle.nf_curve.proofs.Exits.{was_ok, after_err, front_err}
 use Rattle.nf_curve.proofs.Shortening.{drop-at}
 
 -- ---- points after time 0
@@ -77,11 +77,8 @@ module _ (passes : Passing) where
           more (Err p) = refl
 
       pub stops : (p : PassedAt ℚ) → lt_ℚ piece.start last ≡ true → at_part part (with_piece passes so_far piece (end_of later last)) ≡ Err p → at_part part all ≡ Err p
-      stops p f e = ap (at_part part) (sym so ∙ ap (λ (b : Bool). with_front front (by_test b)) f) ∙ stop (with_piece passes so_far piece (end_of later last)) e
-        where
-          stop : (r : Checked ℚ) → at_part part r ≡ Err p → at_part part (with_front front (by_sum r)) ≡ Err p
-          stop (Ok y) d = absurd (cc)
-          stop (Err q) d = let same : placed part q ≡ p = cc in ap (λ (x : PassedAt ℚ). Err x) same
+      stops p f e = ap (at_part part) (sym so ∙ ap (λ (b : Bool). with_front front (by_test b)) f)
+          ∙ front_err part front (by_sum (with_piece passes so_far piece (end_of later last))) p (after_err part (with_piece passes so_far piece (end_of later last)) _ p e)
 
 pub one_on : (i : ℕ) → i + 1 ≡ suc i
 one_on i = omega arith
@@ -104,3 +101,6 @@ module _ (passes : Passing) (part : Part) (front : List Point) (so_far last : �
 
   pub stops_at : (p : PassedAt ℚ) → lt_ℚ piece.start last ≡ true → at_part part (with_piece passes so_far piece (end_of (drop next pieces) last)) ≡ Err p → at_part part (checked_cumulative passes pieces last) ≡ Err p
   stops_at p f e = stops passes part front so_far last (checked_cumulative passes pieces last) piece (drop next pieces) from_here p f e
+
+pub within_next : (i n : ℕ) → i < n → i + 1 ≤ n
+within_next i n h = omega arith

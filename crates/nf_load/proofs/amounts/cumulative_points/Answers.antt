@@ -11,7 +11,7 @@ use Rattle.nf_work.specs.Checked.{at_part}
 use Rattle.nf_work.proofs.Each.{with_front}
 use Rattle.nf_model.specs.Network.{Piece}
 use Rattle.nf_load_lists.specs.Cumulative.{end_of, point_if_after_0, with_piece, cumulative_from, checked_cumulative}
-use Rattle.nf_load.proofs.Supplying.{begins_with, ends_before_at, ends_there, goes_on_at, stops_at, one_on}
+use Rattle.nf_load.proofs.Supplying.{within_next, begins_with, ends_before_at, ends_there, goes_on_at, stops_at, one_on}
 use Rattle.nf_load.proofs.amounts.cumulative_points.Goals as goal
 
 pub loop-index-init : goal.loop-index-init
@@ -61,3 +61,12 @@ returns-in_err-sum c =
     rw (p.1, p.2) (stops_at passes_Q Load c.loop-index.points.items c.loop-index.so_far c.args.last c.args.pieces.now c.loop-index.index (c.loop-index.index + 1) c.index-pieces-index.result
     g (one_on c.loop-index.index) c.loop-index.invariant c.in_err-sum.field-0.0 below
     (ap (λ (z : ℚ). at_part Load (with_piece passes_Q c.loop-index.so_far c.index-pieces-index.result z)) (sym end) ∙ sym c.in_err-sum.ensures))
+
+pub slice_bounds-end_of-count : goal.slice_bounds-end_of-count
+slice_bounds-end_of-count c = within_next c.loop-index.index (length c.args.pieces.now) c.loop-index-test.true
+
+pub slice_bounds-end_of-start : goal.slice_bounds-end_of-start
+slice_bounds-end_of-start c = within_next c.loop-index.index (length c.args.pieces.now) c.loop-index-test.true
+
+pub bounds-pieces-index : goal.bounds-pieces-index
+bounds-pieces-index c = c.loop-index-test.true

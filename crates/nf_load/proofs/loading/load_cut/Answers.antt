@@ -4,7 +4,7 @@ use Rattle.std.proofs.lemmas.Result.{err_from_is_err_and}
 use Rattle.nf_work.specs.declared.Part.TheVariants.{Load}
 use Rattle.nf_work.specs.Passing.{passes_Q}
 use Rattle.nf_work.specs.Checked.{at_part, each}
-use Rattle.nf_load_lists.specs.Loading.{Waits, Leaves, leaves, all_waits}
+use Rattle.nf_load_lists.specs.Loading.{Waits, leaves, all_waits}
 use Rattle.nf_curve.proofs.Exits.{stops_on}
 use Rattle.nf_load.specs.InSteps.{behind_cut}
 use Rattle.nf_load.proofs.LoadingSteps.{waits_stop, leaves_stop, leaves_go, are_curves}
