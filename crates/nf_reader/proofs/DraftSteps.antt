@@ -1,20 +1,26 @@
 -- What a draft is seen as when something is added to it.
-use Rattle.std.proofs.Common.{◌≡◌, ◌≢◌, ⊎_elim, ℕ, zero, suc, ◌+◌, ◌<◌, ◌≤◌, Bool, true, false, cond, nat_eq, List, [], ◌∷◌, ◌++◌, length, drop, Option, Some, None, Result, Ok, Err, refl, sym, ap, subst, ◌∙◌, arith, length-append}
+use Rattle.std.proofs.Common.{◌≡◌, ◌≢◌, ⊎_elim, ℕ, zero, suc, ◌+◌, ◌<◌, ◌≤◌, Bool, true, false, cond, nat_eq, List, [], ◌∷◌, ◌++◌, length, drop, Option, Some, None, Result, Ok, Err, refl, sym, ap, subst, ◌∙◌, arith, length-append, replicate, set}
 use Rattle.std.specs.Prelude.{slice_get, unwrap_or}
+use Rattle.nf_rational.specs.Rational.{ℚ}
+use Rattle.nf_rational.specs.Operations.{0ℚ}
+use Rattle.nf_model.specs.declared.State.{State}
 use Rattle.std.proofs.lemmas.List.{drop_all}
 use Rattle.std.proofs.lemmas.Bool.Decides.{eqb_tells}
 use Rattle.nf_curve.specs.declared.flow.Trace.{Trace}
 use Rattle.nf_formats.specs.Names.{Name}
 use Rattle.nf_formats.specs.Named.{Named}
 use Rattle.nf_readings.specs.declared.ReportRule.{ReportRule}
-use Rattle.nf_readings.specs.declared.ReportRule.TheVariants.{P7}
+use Rattle.nf_readings.specs.declared.ReportRule.TheVariants.{P7, P14}
+use Rattle.nf_readings.specs.ReportFile.{if_at_end}
+use Rattle.nf_reader.specs.declared.draft.Stage.{Stage}
+use Rattle.nf_reader.specs.declared.draft.Stage.TheVariants as stages
 use Rattle.nf_readings.specs.ReportLines as lines
 use Rattle.nf_readings.specs.ReportLines.{CurveKey, ReadCurve, ReportDraft, Opened, key_of, curve_keys, with_current, with_rate, has_all, is_key, begun, opened}
 use Rattle.nf_reader.specs.Keys.{key_at, key_of_number, is_some_key}
 use Rattle.nf_reader.specs.declared.draft.Draft.{Draft}
 use Rattle.nf_reader.specs.declared.entry.RatedPoint.{RatedPoint}
 use Rattle.nf_reader.specs.declared.entry.Opening.TheVariants.{GoesOn, Begins}
-use Rattle.nf_reader.specs.declared.entry.Entry.TheVariants.{OfCurve, Never}
+use Rattle.nf_reader.specs.declared.entry.Entry.TheVariants.{OfCurve, Never, OfLink}
 use Rattle.nf_reader.specs.Drafts.{seen_stage, seen_curve, seen_done, seen_current, with_open, begun_count, seen_draft, IsWithin}
 use Rattle.nf_reader.specs.Entries.{begun_by, opened_by, closed, drafted}
 use Rattle.nf_cursor.specs.Within.{word_at}
@@ -194,3 +200,36 @@ module _ (n : Named) (d : Draft) (words : List (List ℕ)) (two : length words �
 
   pub never_elsewhere : is_some_key lines.OfNever (word_at words 1) (key_of_number n (begun_count d)) ≡ false → lines.never_line (seen_draft n d) (drop 1 words) ≡ Err P7
   never_elsewhere e = never_test false e
+
+-- ---- what is kept
+pub nothing_read : (n : Named) (horizon reached : ℚ) (done : List (Option Trace)) (states : List (Option State)) → horizon ≡ 0ℚ → reached ≡ 0ℚ → done ≡ [] → states ≡ replicate (length n.link_names) None
+    → record {
+      stage = lines.AtVersion;
+      horizon = horizon;
+      reached = reached;
+      stop = None;
+      done = seen_done n 0 done;
+      current = None;
+      keys = drop (length done) (curve_keys n);
+      next_state = 0;
+      states = states;
+    } ≡ lines.empty_report n
+nothing_read n horizon reached done states h r d s = rw (h, r, d, s) refl
+
+pub within_by : (n : Named) (d : Draft) (count : ℕ) → d.current ≡ None → length d.done.items ≡ count → count ≤ length (curve_keys n) → length d.states ≡ length n.net.links → IsWithin n d
+within_by n d count none many few states = record { curves = subst (λ (k : ℕ). k ≤ length (curve_keys n)) (sym (ap (with_open (length d.done.items)) none ∙ many)) few; states = states }
+
+pub with_state : (n : Named) (d e : Draft) (link next : ℕ) (state : State) (states : List (Option State)) → seen_draft n e ≡ closed (seen_draft n d) → next ≡ suc link → states ≡ set d.states link (Some state)
+    → record (seen_draft n e) { next_state = next; states = states } ≡ drafted n (seen_draft n d) (OfLink link state)
+with_state n d e link next state states h i s =
+    ap (λ (r : ReportDraft). record r { next_state = next; states = states }) h
+    ∙ ap (λ (k : ℕ). record (closed (seen_draft n d)) { next_state = k; states = states }) i
+    ∙ ap (λ (l : List (Option State)). record (closed (seen_draft n d)) { next_state = suc link; states = l }) s
+
+pub not_ended : (stage : Stage) (draft : ReportDraft) → (stage ≡ stages.End → ⊥) → if_at_end (seen_stage stage) draft ≡ Err (record { rule = P14; line = 0 })
+not_ended stages.Version draft other = refl
+not_ended stages.Horizon draft other = refl
+not_ended stages.Reached draft other = refl
+not_ended stages.Cause draft other = refl
+not_ended stages.Body draft other = refl
+not_ended stages.End draft other = absurd (other refl)

@@ -1,5 +1,6 @@
 -- Links by their names.
 use Rattle.std.proofs.Common.{◌≡◌, ℕ, zero, suc, ◌<◌, false, List, [], ◌∷◌, length, slice_get, unwrap_or, Some, sym, ◌∙◌, ap, arith}
+use Rattle.std.proofs.lemmas.Option.{none-some}
 use Rattle.std.specs.Str.{IsUtf8}
 use Rattle.nf_formats.specs.Names.{Name, has_name, place_of, name_at}
 use Rattle.nf_formats.specs.Named.{Named, names_of}
@@ -11,7 +12,7 @@ use Rattle.nf_net.proofs.Limits.{named_links, not_there}
 use Rattle.nf_reader.specs.Lines.{IsLinkNamed}
 
 below : (names : List Name) (i : ℕ) (name : Name) → slice_get names i ≡ Some name → i < length names
-below [] i name e = absurd (cc)
+below [] i name e = absurd (none-some name e)
 below (x ∷ xs) zero name e = omega arith
 below (x ∷ xs) (suc i) name e = let k = below xs i name e in omega arith
 

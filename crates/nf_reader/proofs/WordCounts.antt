@@ -1,5 +1,5 @@
 -- The words of a line, by their number.
-use Rattle.std.proofs.Common.{◌≡◌, ℕ, ◌<◌, Bool, true, false, cond, List, [], ◌∷◌, length, drop, Option, Some, None, refl, sym, ◌∙◌, ap, arith, bytes_eq, codes}
+use Rattle.std.proofs.Common.{◌≡◌, ℕ, ◌<◌, Bool, true, false, cond, List, [], ◌∷◌, length, drop, Option, Some, None, refl, sym, ◌∙◌, ap, arith, bytes_eq, codes, Err}
 use Rattle.nf_work.specs.Checked.{◌>>=◌}
 use Rattle.nf_cursor.specs.Within.{word_at}
 use Rattle.nf_readings.specs.declared.ReportRule.TheVariants.{P9}
@@ -92,3 +92,6 @@ module _ (words : Words) (lt : 1 < length words) (word : List ℕ) (is : word �
 
       pub is_no_pattern : bytes_eq word (codes "passed") ≡ false → bytes_eq word (codes "nopattern") ≡ true → cause_in (drop 1 words) ≡ cause_of_kind (drop 2 words) IsNoPattern
       is_no_pattern e f = by_kind (Some IsNoPattern) (kind_is word false false false false true a b d e f)
+
+      pub is_other : bytes_eq word (codes "passed") ≡ false → bytes_eq word (codes "nopattern") ≡ false → cause_in (drop 1 words) ≡ Err P9
+      is_other e f = by_kind None (kind_is word false false false false false a b d e f)

@@ -1,7 +1,7 @@
 use Rattle.std.proofs.Common.{[], ◌∷◌, length-append, arith}
 use Rattle.nf_reader.specs.Keys.{key_at}
 use Rattle.nf_reader.specs.Drafts.{seen_done}
-use Rattle.nf_reader.proofs.Sorting.{kind_here, one_more_sorted}
+use Rattle.nf_reader.proofs.Sorting.{kind_here, few_here, one_more_sorted}
 use Rattle.nf_reader.proofs.report.by_kind.Goals as goal
 
 pub loop-curve-preserved : goal.loop-curve-preserved
@@ -12,3 +12,7 @@ loop-curve-preserved c =
           (c.in_ok-put.ensures (seen_done c.args.net.now 0 c.loop-curve.yielded) (key_at c.args.net.now c.loop-curve.index)
           (kind_here c.args.net.now c.loop-curve.index c.in-Some-key_at.key c.in-Some-key_at.ensures) c.loop-curve.invariant.1),
     )
+
+pub overflow_add-index : goal.overflow_add-index
+overflow_add-index c =
+    let few = few_here c.args.net.now c.loop-curve.index c.in-Some-key_at.key c.in-Some-key_at.ensures c.version.ensures.named in omega (arith, few)
