@@ -2,7 +2,8 @@
 use Rattle.std.proofs.Common.{◌≡◌, ◌≢◌, ℕ, Bool, true, false, not, ◌||◌, nat_le, List, [], ◌∷◌, length, map, Option, Some, None, Result, Ok, Err, MatchResult, IfErr, refl, ap, ◌∙◌, codes, bytes_eq}
 use Rattle.std.specs.Prelude.{if◌then◌else◌}
 use Rattle.std.specs.List.{last_or, list_all}
-use Rattle.std.specs.Result.{result_ok}
+use Rattle.std.proofs.lemmas.Bool.{true≢false}
+use Rattle.std.specs.Result.{is_ok, result_ok}
 use Rattle.nf_rational.specs.Rational.{ℚ}
 use Rattle.nf_work.specs.Checked.{◌>>=◌}
 use Rattle.nf_lines.specs.Words.{ReadLine, read_lines, content_lines}
@@ -133,19 +134,28 @@ module _ (n : Named) where
       step true = of_lines (record { routes = []; ended = false }) rest
       step false = λ e. cc
 
+first_apart : G1 ≡ G17 → ⊥
+first_apart e = cc
+
+second_apart : G2 ≡ G17 → ⊥
+second_apart e = cc
+
+ended_apart : G16 ≡ G17 → ⊥
+ended_apart e = cc
+
 -- ---- the whole text
 pub circle_there : (n : Named) (text : List ℕ) (broken : RoutesBroken) → routes_in n text ≡ Err broken → broken.rule ≡ G17 → ¬ ¬ HoldsCircleIn n text
 unfolding routes_in
 circle_there n text broken e is none = by (first_fault text) (routes_draft n (content_lines (read_lines text))) refl (of_draft n (content_lines (read_lines text))) e
   where
     of_bytes : (fault : LineFault) → as_routes_rule fault ≡ broken → ⊥
-    of_bytes (NotAscii line) same = let bad : G1 ≡ G17 = ap (λ (b : RoutesBroken). b.rule) same ∙ is in absurd (cc)
-    of_bytes (LongLine line) same = let bad : G2 ≡ G17 = ap (λ (b : RoutesBroken). b.rule) same ∙ is in absurd (cc)
+    of_bytes (NotAscii line) same = first_apart (ap (λ (b : RoutesBroken). b.rule) same ∙ is)
+    of_bytes (LongLine line) same = second_apart (ap (λ (b : RoutesBroken). b.rule) same ∙ is)
 
     closed : (draft : RoutesDraft) → routes_draft n (content_lines (read_lines text)) ≡ Ok draft → (ended ordered : Bool) → is_ordered n draft.routes ≡ ordered
         → (if not ended then Err (record { rule = G16; line = 0 }) else (if ordered then Ok draft.routes else Err (record { rule = G17; line = 0 }))) ≡ Err broken → ⊥
-    closed draft read false ordered o f = let bad : G16 ≡ G17 = ap (λ (b : RoutesBroken). b.rule) (same_Err {A = List NamedRoute} _ broken f) ∙ is in absurd (cc)
-    closed draft read true true o f = absurd (cc)
+    closed draft read false ordered o f = ended_apart (ap (λ (b : RoutesBroken). b.rule) (same_Err {A = List NamedRoute} _ broken f) ∙ is)
+    closed draft read true true o f = true≢false (ap is_ok f)
     closed draft read true false o f =
         not_both (is_ordered n draft.routes) (takes_all-straight n.net (routes_of draft.routes) (draft_sound n (content_lines (read_lines text)) draft read).routes
         (λ circle. none (record { draft = draft; read = read; circle = circle }))) o

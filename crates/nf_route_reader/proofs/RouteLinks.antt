@@ -1,5 +1,5 @@
 -- Links that words name, one after the other, and walks along them.
-use Rattle.std.proofs.Common.{◌≡◌, ℕ, ◌+◌, ◌<◌, ◌≤◌, Bool, false, ◌&&◌, eqb, List, [], ◌∷◌, ◌++◌, length, drop, map, get_or, Option, Some, All, slice_get, sym, ap, ◌∙◌}
+use Rattle.std.proofs.Common.{◌≡◌, ℕ, ◌+◌, ◌<◌, ◌≤◌, Bool, true, false, not, ◌&&◌, eqb, List, [], ◌∷◌, ◌++◌, length, drop, map, get_or, Option, Some, All, slice_get, refl, sym, ap, ◌∙◌}
 use Rattle.std.specs.List.{list_all}
 use Rattle.std.proofs.lemmas.List.{drop_more, at_drop_all, at_drop_more, append_assoc, append-nil}
 use Rattle.std.proofs.lemmas.List.Elements.{All-push}
@@ -56,3 +56,23 @@ module _ (links : List Link) (walk : List ℕ) (sink : ℕ) where
 
   pub walk_ends : (i v : ℕ) → length walk ≤ i → is_walk links (drop i walk) v sink ≡ eqb v sink
   walk_ends i v past = at_drop_all (λ (w : List ℕ). is_walk links w v sink) walk i past
+
+  -- by the test of a link that was read
+  not_not : (b : Bool) → not b ≡ false → b ≡ true
+  not_not true e = refl
+  not_not false e = sym e
+
+  not_it : (b : Bool) → not b ≡ true → b ≡ false
+  not_it true e = sym e
+  not_it false e = refl
+
+  module _ (i v e tail head : ℕ) (link : Link) (lt : i < length walk) (is : e ≡ get_or walk i e) (there : slice_get links e ≡ Some link) (leaves : tail ≡ link.tail) where
+    pub walk_goes : head ≡ link.head → not (eqb tail v) ≡ false → is_walk links (drop (i + 1) walk) head sink ≡ is_walk links (drop i walk) v sink
+    walk_goes leads t =
+        ap (λ (u : ℕ). is_walk links (drop (i + 1) walk) u sink) leads
+        ∙ sym (walk_more i v e link lt is there
+        ∙ ap (λ (b : Bool). b && is_walk links (drop (i + 1) walk) link.head sink) (ap (λ (u : ℕ). eqb u v) (sym leaves) ∙ not_not (eqb tail v) t))
+
+    pub walk_breaks : not (eqb tail v) ≡ true → false ≡ is_walk links (drop i walk) v sink
+    walk_breaks t = sym (walk_more i v e link lt is there
+        ∙ ap (λ (b : Bool). b && is_walk links (drop (i + 1) walk) link.head sink) (ap (λ (u : ℕ). eqb u v) (sym leaves) ∙ not_it (eqb tail v) t))

@@ -1,6 +1,7 @@
 -- The words of a line, by their number.
 use Rattle.std.proofs.Common.{◌≡◌, ◌≢◌, ℕ, ◌<◌, ◌≤◌, Bool, true, false, not, cond, List, [], ◌∷◌, length, drop, map, Result, Ok, Err, refl, sym, ◌∙◌, ap, arith, ◌&&◌, bytes_eq, codes}
 use Rattle.std.specs.List.{list_all}
+use Rattle.std.proofs.lemmas.Bool.{cond-true, cond-false}
 use Rattle.std.specs.Result.{result_ok}
 use Rattle.nf_numerals.specs.Numbers.{number_of}
 use Rattle.nf_formats.specs.Names.{Name, is_name, has_name, place_of}
@@ -9,7 +10,7 @@ use Rattle.nf_cursor.specs.Within.{word_at}
 use Rattle.nf_contents.specs.NameAt.{IsNameAt}
 use Rattle.nf_routes_lists.specs.declared.RoutesRule.{RoutesRule}
 use Rattle.nf_routes_lists.specs.declared.RoutesRule.TheVariants.{G6, G7, G8}
-use Rattle.nf_routes_lists.specs.RoutesFile.{RoutesEntry, RouteLine, End, route_line, piece_entry, rate_line, end_line, is_routes_1}
+use Rattle.nf_routes_lists.specs.RoutesFile.{RoutesEntry, RouteLine, End, route_line, piece_entry, rate_line, end_line, routes_entry, is_routes_1}
 use Rattle.nf_route_reader.specs.declared.fault.LineFault.{LineFault}
 use Rattle.nf_route_reader.specs.Files.{IfRule}
 use Rattle.nf_route_reader.specs.Entries.{AreLinksOf, NoLinks}
@@ -104,3 +105,23 @@ head_is [] n = absurd (omega arith)
 head_is (a ∷ []) n = absurd (omega arith)
 head_is (a ∷ b ∷ []) n = refl
 head_is (a ∷ b ∷ c ∷ rest) n = absurd (omega arith)
+
+-- ---- a line by its key
+module _ (links routes : List Name) (words : List (List ℕ)) (key : List ℕ) (some : length words ≡ 0 → ⊥) (is_key : key ≡ word_at words 0) where
+  by_key : routes_entry links routes words ≡ routes_entry links routes (key ∷ drop 1 words)
+  by_key = at words some is_key
+    where
+      at : (words : List (List ℕ)) → (length words ≡ 0 → ⊥) → key ≡ word_at words 0 → routes_entry links routes words ≡ routes_entry links routes (key ∷ drop 1 words)
+      at [] some e = absurd (some refl)
+      at (word ∷ rest) some e = ap (λ (word : List ℕ). routes_entry links routes (word ∷ rest)) (sym e)
+
+  pub route_line_is : bytes_eq key (codes "route") ≡ true → routes_entry links routes words ≡ route_line links (drop 1 words)
+  route_line_is t = by_key ∙ cond-true (bytes_eq key (codes "route")) _ _ t
+
+  module _ (no_route : bytes_eq key (codes "route") ≡ false) where
+    pub rate_line_is : bytes_eq key (codes "rate") ≡ true → routes_entry links routes words ≡ rate_line routes (drop 1 words)
+    rate_line_is t = by_key ∙ cond-false (bytes_eq key (codes "route")) _ _ no_route ∙ cond-true (bytes_eq key (codes "rate")) _ _ t
+
+    pub end_line_is : bytes_eq key (codes "rate") ≡ false → bytes_eq key (codes "end") ≡ true → routes_entry links routes words ≡ end_line (drop 1 words)
+    end_line_is no_rate t =
+        by_key ∙ cond-false (bytes_eq key (codes "route")) _ _ no_route ∙ cond-false (bytes_eq key (codes "rate")) _ _ no_rate ∙ cond-true (bytes_eq key (codes "end")) _ _ t

@@ -5,7 +5,7 @@ use Rattle.std.proofs.lemmas.Bool.{or_parts, and_parts, leb-false}
 use Rattle.std.proofs.lemmas.Bool.Decides.{eqb_tells}
 use Rattle.std.proofs.lemmas.List.{length-append}
 use Rattle.std.proofs.lemmas.List.Elements.{All-nil, All-push, All-set, All-get_or, All-map, All-weaker}
-use Rattle.std.proofs.lemmas.Option.{slice_get-get_or, slice_get_within}
+use Rattle.std.proofs.lemmas.Option.{none-some, same_Some, slice_get-get_or, slice_get_within}
 use Rattle.nf_rational.specs.Rational.{ℚ}
 use Rattle.nf_rational.specs.Operations.{0ℚ}
 use Rattle.nf_rational.specs.Order.{◌≤ℚ◌, ◌<ℚ◌, lt_ℚ}
@@ -57,17 +57,15 @@ go_on_more before [] piece w h k a = (h, k, a, tt)
 go_on_more before (x ∷ xs) piece w h k a = (w.0, w.1, w.2, go_on_more (Some x) xs piece w.3 h k a)
 
 starts_of : (before : Option Piece) (xs : List Piece) (i : ℕ) (piece : Piece) → GoOn before xs → IsPiece xs i piece → (0ℚ ≤ℚ piece.start) × (0ℚ ≤ℚ piece.rate)
-starts_of before [] i piece w is = absurd (cc)
-starts_of before (x ∷ xs) zero piece w is = let e : x ≡ piece = cc in subst (λ (p : Piece). (0ℚ ≤ℚ p.start) × (0ℚ ≤ℚ p.rate)) e (w.0, w.1)
+starts_of before [] i piece w is = absurd (none-some piece is)
+starts_of before (x ∷ xs) zero piece w is = subst (λ (p : Piece). (0ℚ ≤ℚ p.start) × (0ℚ ≤ℚ p.rate)) (same_Some x piece is) (w.0, w.1)
 starts_of before (x ∷ xs) (suc i) piece w is = starts_of (Some x) xs i piece w.3 is
 
 rise_of : (before : Option Piece) (xs : List Piece) (i : ℕ) (piece next : Piece) → GoOn before xs → IsPiece xs i piece → IsPiece xs (suc i) next → piece.start <ℚ next.start
-rise_of before [] i piece next w is then_ = absurd (cc)
-rise_of before (x ∷ []) i piece next w is then_ = absurd (cc)
+rise_of before [] i piece next w is then_ = absurd (none-some piece is)
+rise_of before (x ∷ []) i piece next w is then_ = absurd (none-some next then_)
 rise_of before (x ∷ y ∷ xs) zero piece next w is then_ =
-    let a : x ≡ piece = cc in
-    let b : y ≡ next = cc in
-    subst (λ (q : Piece). piece.start <ℚ q.start) b (subst (λ (p : Piece). p.start <ℚ y.start) a w.3.2)
+    subst (λ (q : Piece). piece.start <ℚ q.start) (same_Some y next then_) (subst (λ (p : Piece). p.start <ℚ y.start) (same_Some x piece is) w.3.2)
 rise_of before (x ∷ y ∷ xs) (suc i) piece next w is then_ = rise_of (Some x) (y ∷ xs) i piece next w.3 is then_
 
 go_on_pieces : (xs : List Piece) → GoOn None xs → ArePieces xs

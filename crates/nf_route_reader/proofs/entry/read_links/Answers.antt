@@ -1,7 +1,7 @@
-use Rattle.std.proofs.Common.{◌<◌, ◌+◌, ℕ, List, length, refl, sym, ap, subst, ◌∙◌, arith}
+use Rattle.std.proofs.Common.{◌<◌, ◌≤◌, ◌+◌, ℕ, List, length, refl, sym, ap, subst, ◌∙◌, arith}
 use Rattle.nf_formats.specs.Names.{has_name}
 use Rattle.nf_contents.specs.NameAt.{IsNameAt}
-use Rattle.nf_route_reader.proofs.RouteLinks.{AreRead, none_there, one_more}
+use Rattle.nf_route_reader.proofs.RouteLinks.{AreRead, all_read, none_there, one_more}
 use Rattle.nf_route_reader.proofs.entry.read_links.Goals as goal
 
 pub returns-in_default : goal.returns-in_default
@@ -18,3 +18,8 @@ loop-place-preserved c =
     subst (λ (l : List ℕ). AreRead c.args.net.now.link_names c.args.line.now.words (c.loop-place.place + 1) l) (sym c.in_ok-push.ensures.items)
     (one_more c.args.net.now.link_names c.args.line.now.words c.loop-place.place c.loop-place.links.items c.loop-place.invariant lt c.in-Some.link (c.loop-place.place + 1)
     (subst (λ (w : List ℕ). IsNameAt c.args.net.now.link_names w c.in-Some.link) c.at.ensures c.in-Some.ensures) refl)
+
+pub returns : goal.returns
+returns c =
+    all_read c.args.net.now.link_names c.args.line.now.words c.loop-place.place c.loop-place.links.items c.loop-place.invariant
+    (subst (λ (n : ℕ). n ≤ c.loop-place.place) c.len-place-end.ensures c.loop-place-test.false)
