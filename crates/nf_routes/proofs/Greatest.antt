@@ -1,6 +1,7 @@
 -- The end of a link, worked out pair by pair.
 use Rattle.std.proofs.Common.{◌≡◌, ℕ, zero, suc, ◌+◌, ◌-◌, ◌<◌, ◌≤◌, List, [], ◌∷◌, ◌++◌, length, drop, ⊎_elim, Bool, true, false, eqb, refl, sym, ap, subst, ◌∙◌, arith}
 use Rattle.std.specs.Prelude.{Option, Some, if◌then◌else◌, slice_get}
+use Rattle.std.proofs.lemmas.Option.{none-some, same_Some}
 use Rattle.nf_rational.specs.Rational.{ℚ}
 use Rattle.nf_rational.specs.Order.{◌≤ℚ◌, ◌<ℚ◌, max_ℚ}
 use Rattle.nf_rational_laws.proofs.Order.{≤ℚ_of_lt, ≤ℚ_of_same, ≤ℚ_antisymm}
@@ -116,8 +117,8 @@ end_route routes links link i end next all route at so_far is =
 
 -- the value of the last point
 pub last_value-at : (points : List Point) (k : ℕ) (p : Point) → slice_get points k ≡ Some p → length points ≡ k + 1 → last_value points ≡ p.1
-last_value-at [] k p h e = absurd (omega arith)
-last_value-at (x ∷ []) zero p h e = ap (λ (q : Point). q.1) (let same : x ≡ p = cc in same)
-last_value-at (x ∷ []) (suc k) p h e = absurd (omega arith)
+last_value-at [] k p h e = absurd (none-some p h)
+last_value-at (x ∷ []) zero p h e = ap (λ (q : Point). q.1) (same_Some x p h)
+last_value-at (x ∷ []) (suc k) p h e = absurd (none-some p h)
 last_value-at (x ∷ y ∷ rest) zero p h e = absurd (omega arith)
 last_value-at (x ∷ y ∷ rest) (suc k) p h e = last_value-at (y ∷ rest) k p h (omega arith)

@@ -1,4 +1,5 @@
-use Rattle.std.proofs.Common.{◌≡◌, ℕ, true, List, sym, ap, ◌∙◌}
+use Rattle.std.proofs.Common.{◌≡◌, ℕ, true, List, sym, ap, subst, ◌∙◌}
+use Rattle.nf_model.specs.Network.{ArePieces}
 use Rattle.std.proofs.lemmas.Result.{err_from_is_err_and}
 use Rattle.nf_work.specs.declared.Part.TheVariants.{Load}
 use Rattle.nf_work.specs.Passing.{passes_Q}
@@ -19,3 +20,6 @@ returns-in_err-first c =
     rw (p.1, p.2) (stops_on c.in_err-first.field-0.0 (at_part Load (first_entry passes_Q c.pieces.result.now c.args.horizon))
     (at_part Load (begin_if passes_Q (begins_with c.args.route.now.route.links c.args.link) c.args.horizon c.args.route.now.route c.args.sent.now))
     (λ q e. begin_passes passes_Q _ yes q c.args.horizon c.args.route.now.route c.pieces.result.now c.args.sent.now c.pieces.ensures e) c.in_err-first.ensures)
+
+pub first_entry-requires-clause-pieces : goal.first_entry-requires-clause-pieces
+first_entry-requires-clause-pieces c = subst ArePieces (sym c.pieces.ensures) c.requires.pieces

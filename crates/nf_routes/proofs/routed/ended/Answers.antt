@@ -1,5 +1,8 @@
-use Rattle.std.proofs.Common.{◌≡◌, List, [], ◌∷◌, ◌++◌, map, sym, ap, ◌∙◌}
+use Rattle.std.proofs.Common.{◌≡◌, List, [], ◌∷◌, ◌++◌, length, map, Some, refl, sym, ap, ◌∙◌, arith}
 use Rattle.std.proofs.lemmas.List.{map-append}
+use Rattle.std.proofs.lemmas.Iterator.Adapters.{YieldsList-from_vec}
+use Rattle.std.proofs.lemmas.Iterator.Consumers.{YieldsList-turn}
+use Rattle.std.proofs.lemmas.Option.{slice_get_read}
 use Rattle.std.proofs.lemmas.Result.{err_from_is_err_and}
 use Rattle.nf_rational.specs.Rational.{ℚ}
 use Rattle.nf_work.specs.Passing.{passes_Q}
@@ -39,3 +42,9 @@ loop-link-preserved-in-Continue-branch-2 c =
           ∙ ap (λ (z : ℚ). map (end_or passes_Q) c.loop-link.yielded ++ z ∷ []) end ∙ sym (map-append (end_or passes_Q) c.loop-link.yielded (c.in-Some.link ∷ [])),
       same_pushed loaded_of (loaded_or passes_Q) c.loop-link.all.items c.link.inside.loaded c.loop-link.yielded c.in-Some.link c.push-in-Some-link.new.self.items c.in_ok-push-2.ensures.items c.loop-link.invariant.1 loaded,
     )
+
+pub loop-link-preserved : goal.loop-link-preserved
+loop-link-preserved c =
+    let all = YieldsList-from_vec c.args.links.items c.into_iter-link-iterator.ensures.into_iter_gives.0 (omega (arith, c.into_iter-link-iterator.ensures.into_iter_gives.1, c.args.links.ok.0)) in
+    let turn = YieldsList-turn all c.loop-link.yielded c.loop-link.link-iterator c.loop-link.yielded_by c.next.result c.next.new.self c.in-Some.link c.in-Some.is c.next.ensures.steps in
+    absurd (c.requires.each (length c.loop-link.yielded) (slice_get_read c.args.links.items _ (length c.loop-link.yielded) c.in-Some.link refl turn.0 turn.1 ∙ ap Some c.in_default.is))
