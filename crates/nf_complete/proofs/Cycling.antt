@@ -1,14 +1,14 @@
 -- The first cycle of chosen links, link by link.
-use Rattle.std.proofs.Common.{◌≡◌, ℕ, ◌+◌, ◌<◌, ◌≤◌, List, [], ◌∷◌, ◌++◌, length, ◌⊎◌, inl, inr, ⊎_elim, Bool, true, false, not, if◌then◌else◌, set, Some, None, sym, ap, subst, refl, ◌∙◌, arith}
+use Rattle.std.proofs.Common.{◌≡◌, ℕ, ◌+◌, ◌<◌, ◌≤◌, List, [], ◌∷◌, ◌++◌, length, ◌⊎◌, inl, inr, ⊎_elim, Bool, true, false, not, if◌then◌else◌, set, replicate, Some, None, sym, ap, subst, refl, ◌∙◌, arith}
 use Rattle.std.specs.Prelude.{◌↔◌, Contains, nat_le, Result, Ok, Err, IfOk}
-use Rattle.std.proofs.Math.ListN.{length-set}
+use Rattle.std.proofs.Math.ListN.{length-set, length-replicate}
 use Rattle.std.proofs.lemmas.Option.{slice_get_within, none-some, same_Some}
 use Rattle.std.proofs.lemmas.Bool.Decides.{leb_tells}
 use Rattle.std.proofs.lemmas.Bool.{cases_lt}
 use Rattle.nf_model.specs.Entries.{Has}
 use Rattle.nf_model.specs.Walk.{Hop, IsHop}
 use Rattle.nf_model.specs.Pattern.{IsTrail, AllDiffer, IsForest}
-use Rattle.nf_graph.proofs.Flags.{Has-set_same, Has-set_other, Has-set_cases, Has-within}
+use Rattle.nf_graph.proofs.Flags.{Has-set_same, Has-set_other, Has-set_cases, Has-within, Has-replicate}
 use Rattle.nf_thin_laws.proofs.Flags.{flag, flag-cases}
 use Rattle.nf_complete_lists.specs.Interior.{links_of, turn_of}
 use Rattle.nf_complete_laws.proofs.Trails.{contains_more, contains_first}
@@ -52,6 +52,19 @@ pub record AreBefore (hops : List Hop) (chosen : List Bool) (e : ℕ) (before : 
   pub count : length before ≡ length hops
   pub flags : (k : ℕ) → Has before k ↔ ((k < e) × Has chosen k)
   pub forest : IsForest hops (Has before)
+
+-- none is before the first
+no_forest : (hops : List Hop) (before : List Bool) → ((k : ℕ) → Has before k → ⊥) → IsForest hops (Has before)
+no_forest hops before none first rest v d (g, p, a, is, t) = none first.0 a
+
+pub before_first : (hops : List Hop) (chosen before : List Bool) → before ≡ replicate (length hops) false → AreBefore hops chosen 0 before
+before_first hops chosen before is =
+    let none : (k : ℕ) → Has before k → ⊥ = λ k h. Has-replicate (length hops) k (subst (λ (f : List Bool). Has f k) is h) in
+    record {
+      count = ap length is ∙ length-replicate (length hops) false;
+      flags = λ k. ((λ h. absurd (none k h)), (λ w. absurd (let l : k < 0 = w.0 in omega arith)));
+      forest = no_forest hops before none;
+    }
 
 module _ (hops : List Hop) (chosen : List Bool) (e : ℕ) (before : List Bool) (b : AreBefore hops chosen e before) where
   pub before_same : (Has chosen e → ⊥) → AreBefore hops chosen (e + 1) before

@@ -1,5 +1,5 @@
 -- A tree of steps, one step more, and the way back in it.
-use Rattle.std.proofs.Common.{◌≡◌, ◌≢◌, ℕ, ◌<◌, ◌≤◌, List, [], ◌∷◌, length, ◌⊎◌, inl, inr, ⊎_elim, Bool, true, false, not, if◌then◌else◌, eqb, set, Option, Some, None, slice_get, sym, ap, subst, refl, ◌∙◌, arith}
+use Rattle.std.proofs.Common.{◌≡◌, ◌≢◌, ℕ, zero, suc, ◌<◌, ◌≤◌, List, [], ◌∷◌, length, ◌⊎◌, inl, inr, ⊎_elim, Bool, true, false, not, if◌then◌else◌, eqb, set, Option, Some, None, slice_get, sym, ap, subst, refl, ◌∙◌, arith}
 use Rattle.std.specs.Prelude.{◌↔◌, Contains}
 use Rattle.std.specs.Option.{option_map_or}
 use Rattle.std.specs.List.{AllByRecursion}
@@ -161,3 +161,9 @@ none_out hops chosen flags e f h step o = let w : step.0 < length hops = slice_g
 pub tree_below : (hops : List Hop) (chosen : List Bool) (from : ℕ) (tree : List (ℕ × Bool)) → IsTree hops chosen from tree → AllByRecursion (λ (step : ℕ × Bool). step.0 < length hops) tree
 tree_below hops chosen from [] t = tt
 tree_below hops chosen from (s ∷ older) (g, q, a, b, n, t) = (slice_get_within hops s.0 g q, tree_below hops chosen from older t)
+
+-- what holds of each step holds of one of them
+pub one_below : (P : ℕ × Bool → Type 0) (tree : List (ℕ × Bool)) (i : ℕ) (step : ℕ × Bool) → AllByRecursion P tree → slice_get tree i ≡ Some step → P step
+one_below P [] i step all e = absurd (cc)
+one_below P (x ∷ tree) zero step all e = let same : x ≡ step = cc in subst P same all.0
+one_below P (x ∷ tree) (suc i) step all e = one_below P tree i step all.1 e

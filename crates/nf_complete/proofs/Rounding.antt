@@ -1,12 +1,12 @@
 -- A trail gone along the other way round.
-use Rattle.std.proofs.Common.{◌≡◌, ◌≢◌, ℕ, suc, ◌+◌, ◌<◌, List, [], ◌∷◌, length, get_or, drop, add-one, drop-cons, ◌⊎◌, inl, inr, ⊎_elim, Bool, true, false, not, if◌then◌else◌, eqb, Some, sym, ap, subst, refl, ◌∙◌, arith}
+use Rattle.std.proofs.Common.{◌≡◌, ◌≢◌, ℕ, suc, ◌+◌, ◌<◌, List, [], ◌∷◌, length, get_or, drop, add-one, drop-cons, ◌⊎◌, inl, inr, ⊎_elim, Bool, true, false, not, if◌then◌else◌, eqb, Option, Some, None, sym, ap, subst, refl, ◌∙◌, arith}
 use Rattle.std.specs.Prelude.{Contains}
 use Rattle.std.proofs.lemmas.Bool.Decides.{eqb_tells}
 use Rattle.nf_model.specs.Walk.{Hop}
 use Rattle.nf_model.specs.Pattern.{IsTrail, AllDiffer}
 use Rattle.nf_complete_lists.specs.Interior.{links_of, turn_of}
 use Rattle.nf_complete_laws.proofs.Trails.{contains_more, contains_first}
-use Rattle.nf_complete.specs.Cycles.{round_onto}
+use Rattle.nf_complete.specs.Cycles.{round_onto, lower, lowest_from}
 use Rattle.nf_complete.proofs.Contained.{contains_cases}
 
 -- one step more is turned
@@ -15,6 +15,13 @@ pub round_more : (steps done next : List (ℕ × Bool)) (i : ℕ) (step turned :
 round_more steps done next i step turned h is t n so =
     let first : drop i steps ≡ step ∷ drop (i + 1) steps = rw (add-one, drop-cons steps i step) (ap (λ (s : ℕ × Bool). s ∷ drop (suc i) steps) (sym is)) in
     ap (λ (l : List (ℕ × Bool)). round_onto l (drop (i + 1) steps)) (n ∙ ap (λ (s : ℕ × Bool). s ∷ done) t) ∙ (sym (ap (round_onto done) first) ∙ so)
+
+-- and one step more is compared
+pub lowest_more : (steps : List (ℕ × Bool)) (best : Option (ℕ × Bool)) (i : ℕ) (step low : ℕ × Bool) → i < length steps → step ≡ get_or steps i step → low ≡ lower best step
+    → lowest_from best (drop i steps) ≡ lowest_from None steps → lowest_from (Some low) (drop (i + 1) steps) ≡ lowest_from None steps
+lowest_more steps best i step low h is l so =
+    let first : drop i steps ≡ step ∷ drop (i + 1) steps = rw (add-one, drop-cons steps i step) (ap (λ (s : ℕ × Bool). s ∷ drop (suc i) steps) (sym is)) in
+    ap (λ (s : ℕ × Bool). lowest_from (Some s) (drop (i + 1) steps)) l ∙ (sym (ap (lowest_from best) first) ∙ so)
 
 flip_first : (b : Bool) (g : Hop) → (if b then g.head else g.tail) ≡ (if not b then g.tail else g.head)
 flip_first true g = refl

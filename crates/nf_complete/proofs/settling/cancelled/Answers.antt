@@ -27,6 +27,9 @@ next_cycle-requires-clause-flows c = ap length c.deref.ensures.value ∙ c.loop-
 pub next_cycle-requires-clause-known : goal.next_cycle-requires-clause-known
 next_cycle-requires-clause-known c = subst (λ (f : List ℚ). AreForestBelow c.args.net.now.net c.args.sets.now c.args.slopes.now f c.loop-new.known) (sym c.deref.ensures.value) c.loop-new.invariant.1
 
+pub next_cycle-requires-clause-fulls : goal.next_cycle-requires-clause-fulls
+next_cycle-requires-clause-fulls c = c.requires.fulls
+
 pub cancel-requires-clause-count : goal.cancel-requires-clause-count
 cancel-requires-clause-count c = fulls_count passes_Q c.args.net.now.net c.args.sets.now c.args.slopes.now c.args.fulls.now c.requires.fulls
     ∙ sym (ap length c.deref-in-Some-2.ensures.value ∙ c.loop-new.invariant.0.thin.flow_count)

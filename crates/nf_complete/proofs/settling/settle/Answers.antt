@@ -1,8 +1,9 @@
-use Rattle.std.proofs.Common.{◌∙◌, length, Vec, Global, ap}
+use Rattle.std.proofs.Common.{◌∙◌, List, length, Vec, Global, ap, subst}
 use Rattle.std.proofs.lemmas.Result.{IfOk-from_err, err_from_is_err_and}
 use Rattle.nf_rational.specs.Rational.{ℚ}
 use Rattle.nf_work.specs.Passing.{passes_Q}
 use Rattle.nf_complete_lists.specs.Cancelling.{fulls_list, Settles}
+use Rattle.nf_complete_lists.specs.SettledPattern.{IsSettledPattern}
 use Rattle.nf_complete.specs.declared.settled.Settled.{Settled}
 use Rattle.nf_complete.proofs.CancelsOn.{halts_of, settles_stop, settles_on, fulls_read, settled_by, settled_listed, settled_solution}
 use Rattle.nf_complete.proofs.settling.settle.Goals as goal
@@ -98,6 +99,9 @@ pub returns-clause-thin : goal.returns-clause-thin
 returns-clause-thin c =
     (settled_by passes_Q c.args.net.now.net c.args.sets.now c.args.rate c.args.flows.now c.args.slopes.now c.requires.sets c.requires.thin c.in_ok-fulls.fulls.items c.deref.result.now c.in_ok-fulls.ensures
     c.deref.ensures.value c.in_ok-flows.flows.items c.in_ok-flows.ensures).thin
+
+pub returns-clause-pattern : goal.returns-clause-pattern
+returns-clause-pattern c = subst (λ (f : List ℚ). IsSettledPattern c.args.net.now.net c.args.sets.now f c.args.slopes.now c.in_ok-pattern.pattern) c.deref-3.ensures.value c.in_ok-pattern.ensures
 
 pub returns-clause-listed : goal.returns-clause-listed
 returns-clause-listed c =

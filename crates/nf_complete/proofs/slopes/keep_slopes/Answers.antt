@@ -21,6 +21,15 @@ returns-in_err-here c =
     (enumerate_from 0 c.args.net.now.net.links) c.loop-e.e (c.loop-e.e, here.0) (link_at c.args.net.now.net.links c.loop-e.e here.0 here.1) c.loop-e.all c.loop-e.invariant
     c.in_err-here.field-0.0 (c.in_err-here.ensures here.0 here.1))
 
+pub keeps_at-requires-clause-sets : goal.keeps_at-requires-clause-sets
+keeps_at-requires-clause-sets c = c.requires.sets
+
+pub keeps_at-requires-clause-flows : goal.keeps_at-requires-clause-flows
+keeps_at-requires-clause-flows c = c.requires.flows
+
+pub keeps_at-requires-clause-slopes : goal.keeps_at-requires-clause-slopes
+keeps_at-requires-clause-slopes c = c.requires.slopes
+
 pub loop-e-preserved : goal.loop-e-preserved
 loop-e-preserved c =
     let here = entry c.args.net.now.net.links c.loop-e.e (omega arith) in

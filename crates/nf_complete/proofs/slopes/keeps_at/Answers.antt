@@ -1,4 +1,4 @@
-use Rattle.std.proofs.Common.{◌||◌, not, ap, ◌∙◌}
+use Rattle.std.proofs.Common.{◌||◌, ◌<◌, not, ap, ◌∙◌, arith}
 use Rattle.nf_rational.specs.Rational.{ℚ}
 use Rattle.nf_work.specs.Passing.{passes_Q}
 use Rattle.nf_model.specs.Entries.{number_at}
@@ -7,6 +7,18 @@ use Rattle.nf_model_laws.proofs.Networks.{IsLink-unique}
 use Rattle.nf_link_flows.specs.ThinParts.{keeps_test}
 use Rattle.nf_link_flows.proofs.Filling.{keeps_told}
 use Rattle.nf_complete.proofs.slopes.keeps_at.Goals as goal
+
+pub slope_of-requires : goal.slope_of-requires
+slope_of-requires c =
+    let below : c.link-here.result.tail < c.args.net.now.net.nodes = c.link-here.ensures.named.network.tails c.args.link c.link-here.result c.link-here.ensures.link in
+    let is = ap (λ (k : Link). k.tail) c.here.view_is in
+    let count = c.requires.slopes in omega arith
+
+pub slope_of-requires-2 : goal.slope_of-requires-2
+slope_of-requires-2 c =
+    let below : c.link-here.result.head < c.args.net.now.net.nodes = c.link-here.ensures.named.network.heads c.args.link c.link-here.result c.link-here.ensures.link in
+    let is = ap (λ (k : Link). k.head) c.here.view_is in
+    let count = c.requires.slopes in omega arith
 
 pub returns : goal.returns
 returns c = λ here p.

@@ -4,6 +4,15 @@ use Rattle.nf_link_flows.specs.ThinParts.{Takes}
 use Rattle.nf_complete.proofs.taken.each_is_taken.Goals.{then-ne+else-not-is_taken, else-ne}
 use Rattle.nf_complete.proofs.taken.each_is_taken.Goals as goal
 
+pub is_taken-requires-clause-sets : goal.is_taken-requires-clause-sets
+is_taken-requires-clause-sets c = c.requires.sets
+
+pub is_taken-requires-clause-flows : goal.is_taken-requires-clause-flows
+is_taken-requires-clause-flows c = c.requires.flows
+
+pub is_taken-requires-clause-slopes : goal.is_taken-requires-clause-slopes
+is_taken-requires-clause-slopes c = c.requires.slopes
+
 pub returns-then-not-is_taken : goal.returns-then-not-is_taken
 returns-then-not-is_taken c = λ each.
     let other : c.loop-v.v ≢ c.args.net.now.net.source = (λ same. absurd (let e = c.ne.ensures in let f = c.if-ne.true in let s = c.source-source.ensures.value in grind (arith, nat_tests))) in
@@ -16,3 +25,6 @@ loop-v-preserved c = below_more (λ (v : ℕ). v ≢ c.args.net.now.net.source �
       | then-ne+else-not-is_taken w ↦ λ _. w.if-not-is_taken.ensures
       | else-ne w ↦ λ other. absurd (other (let e = c.ne.ensures in let f = w.if-ne.false in let s = c.source-source.ensures.value in grind (arith, nat_tests)))
     ])
+
+pub returns : goal.returns
+returns c = λ v below other. c.loop-v.invariant v (let n = c.node_count-v-end.ensures in let end = c.loop-v-test.false in omega arith) other

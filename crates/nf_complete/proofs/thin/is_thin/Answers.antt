@@ -1,10 +1,34 @@
 use Rattle.std.proofs.Common.{Bool, ◌&&◌, sym, ap, subst, ◌∙◌}
 use Rattle.std.specs.Prelude.{MatchBool}
-use Rattle.std.proofs.lemmas.Result.{err_from_is_err_and}
+use Rattle.std.proofs.lemmas.Result.{IfOk-from_err, err_from_is_err_and}
 use Rattle.nf_work.specs.Passing.{passes_Q}
 use Rattle.nf_model.specs.ThinFlow.{IsThinFlow}
 use Rattle.nf_complete.proofs.ThinAnswers.{balances_pass, slopes_pass, none_passes, thin_told}
 use Rattle.nf_complete.proofs.thin.is_thin.Goals as goal
+
+pub is_proper-proper-requires-clause-sets : goal.is_proper-proper-requires-clause-sets
+is_proper-proper-requires-clause-sets c = c.requires.sets.sets_are.count
+
+pub is_proper-proper-requires-clause-flows : goal.is_proper-proper-requires-clause-flows
+is_proper-proper-requires-clause-flows c = c.requires.flows
+
+pub is_proper-proper-requires-clause-slopes : goal.is_proper-proper-requires-clause-slopes
+is_proper-proper-requires-clause-slopes c = c.requires.slopes
+
+pub keep_slopes-requires-clause-sets : goal.keep_slopes-requires-clause-sets
+keep_slopes-requires-clause-sets c = c.requires.sets.sets_are.count
+
+pub keep_slopes-requires-clause-flows : goal.keep_slopes-requires-clause-flows
+keep_slopes-requires-clause-flows c = c.requires.flows
+
+pub keep_slopes-requires-clause-slopes : goal.keep_slopes-requires-clause-slopes
+keep_slopes-requires-clause-slopes c = c.requires.slopes
+
+pub returns-in_err-balanced-clause-thin : goal.returns-in_err-balanced-clause-thin
+returns-in_err-balanced-clause-thin c = IfOk-from_err c.from_residual.result _ c.from_residual.ensures.0
+
+pub returns-in_err-kept-clause-thin : goal.returns-in_err-kept-clause-thin
+returns-in_err-kept-clause-thin c = IfOk-from_err c.from_residual-in_err-kept.result _ c.from_residual-in_err-kept.ensures.0
 
 pub returns-in_err-balanced-clause-list : goal.returns-in_err-balanced-clause-list
 returns-in_err-balanced-clause-list c =
