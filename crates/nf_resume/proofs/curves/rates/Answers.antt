@@ -3,7 +3,7 @@ use Rattle.std.proofs.lemmas.Result.{err_from_is_err_and}
 use Rattle.nf_work.specs.declared.Part.TheVariants.{Curve as OfCurve}
 use Rattle.nf_work.specs.Passing.{passes_Q}
 use Rattle.nf_resume_laws.proofs.CutFlow.{entry_within}
-use Rattle.nf_resume.proofs.Rates.{times_apart, rate_stops, rate_goes, rates_end}
+use Rattle.nf_resume.proofs.Rates.{times_apart, rates_first, rate_stops, rate_goes, rates_end}
 use Rattle.nf_resume.proofs.curves.rates.Goals as goal
 
 pub slope-requires : goal.slope-requires
@@ -26,3 +26,6 @@ returns c =
     let last : length c.args.curve.now.points ≤ c.loop-i.i + 1 = omega (arith, c.len-count.ensures.count, c.len-count.ensures.some) in
     let there = entry_within c.args.curve.now.points c.loop-i.i inside in
     rates_end passes_Q OfCurve c.args.curve.now.points c.loop-i.i c.loop-i.rates.items c.loop-i.invariant there.0 there.1 last
+
+pub loop-i-init : goal.loop-i-init
+loop-i-init c = let none = c.in_ok-rates.ensures {u = tt} in rates_first passes_Q OfCurve c.args.curve.now.points c.in_ok-rates.rates.items none.items

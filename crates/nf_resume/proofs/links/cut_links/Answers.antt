@@ -17,7 +17,7 @@ use Rattle.nf_resume_lists.specs.Resuming.{links_with, cut_link}
 use Rattle.nf_resume_laws.proofs.CutFlow.{links_with-length}
 use Rattle.nf_resume.specs.declared.links.CutLink.{CutLink}
 use Rattle.nf_resume.specs.Cuts.{curves_of, cut_in}
-use Rattle.nf_resume.proofs.Looping.{front_halts, front_goes, front_last}
+use Rattle.nf_resume.proofs.Looping.{front_first, front_halts, front_goes, front_last}
 use Rattle.nf_resume.proofs.Ends.{link_cut}
 use Rattle.nf_resume.proofs.links.cut_links.Goals as goal
 
@@ -32,13 +32,16 @@ last_label-head-requires c =
     (subst (λ (l : Link). l.head < c.args.net.now.net.nodes) (sym c.link.view_is) (c.link-link.ensures.named.network.heads c.loop-number.number c.link-link.result c.link-link.ensures.link))
 
 pub index-inflow-requires : goal.index-inflow-requires
-index-inflow-requires c = omega (arith, c.requires.inflows, c.link_count-number-end.ensures, c.loop-number-test.true)
+index-inflow-requires c =
+    subst (λ (n : ℕ). c.loop-number.number < n) (c.link_count-number-end.ensures ∙ sym c.requires.inflows ∙ sym c.args.flow.now.inflows.ok.0) c.loop-number-test.true
 
 pub index-outflow-requires : goal.index-outflow-requires
-index-outflow-requires c = omega (arith, c.requires.outflows, c.link_count-number-end.ensures, c.loop-number-test.true)
+index-outflow-requires c =
+    subst (λ (n : ℕ). c.loop-number.number < n) (c.link_count-number-end.ensures ∙ sym c.requires.outflows ∙ sym c.args.flow.now.outflows.ok.0) c.loop-number-test.true
 
 pub index-queue-requires : goal.index-queue-requires
-index-queue-requires c = omega (arith, c.requires.queues, c.link_count-number-end.ensures, c.loop-number-test.true)
+index-queue-requires c =
+    subst (λ (n : ℕ). c.loop-number.number < n) (c.link_count-number-end.ensures ∙ sym c.requires.queues ∙ sym c.args.flow.now.queues.ok.0) c.loop-number-test.true
 
 pub cut_link-requires-clause-tail : goal.cut_link-requires-clause-tail
 cut_link-requires-clause-tail c =
@@ -58,8 +61,8 @@ returns-in_err-cut c =
     c.index-inflow.result.now c.index-outflow.result.now c.index-queue.result.now c.last_label-tail.result c.last_label-head.result c.link-link.ensures.link
     (c.last_label-tail.ensures ∙ ap (λ (l : Link). value_at_end (points_at (curves_of c.args.labels.now) l.tail)) c.link.view_is)
     (c.last_label-head.ensures ∙ ap (λ (l : Link). value_at_end (points_at (curves_of c.args.labels.now) l.head)) c.link.view_is)
-    (omega (arith, c.requires.inflows, c.link_count-number-end.ensures, c.loop-number-test.true)) c.index-inflow.ensures (omega (arith, c.requires.outflows, c.link_count-number-end.ensures, c.loop-number-test.true)) c.index-outflow.ensures
-    (omega (arith, c.requires.queues, c.link_count-number-end.ensures, c.loop-number-test.true)) c.index-queue.ensures in
+    (subst (λ (n : ℕ). c.loop-number.number < n) (c.link_count-number-end.ensures ∙ sym c.requires.inflows) c.loop-number-test.true) c.index-inflow.ensures (subst (λ (n : ℕ). c.loop-number.number < n) (c.link_count-number-end.ensures ∙ sym c.requires.outflows) c.loop-number-test.true) c.index-outflow.ensures
+    (subst (λ (n : ℕ). c.loop-number.number < n) (c.link_count-number-end.ensures ∙ sym c.requires.queues) c.loop-number-test.true) c.index-queue.ensures in
     rw (p.1, p.2) (front_halts (cut_link passes_Q (curves_of c.args.labels.now)) (links_with c.args.net.now.net.links flow.inflows flow.outflows flow.queues) OfCurve c.loop-number.number (map cut_in c.loop-number.cuts.items)
     c.loop-number.invariant one.0 one.1 c.in_err-cut.field-0.0
     (subst (λ (r : Checked lists.CutLink). Stops (λ (q : ℚ). q) c.in_err-cut.field-0.0 (at_part OfCurve r)) one.2 c.in_err-cut.ensures))
@@ -71,8 +74,8 @@ loop-number-preserved c =
     c.index-inflow.result.now c.index-outflow.result.now c.index-queue.result.now c.last_label-tail.result c.last_label-head.result c.link-link.ensures.link
     (c.last_label-tail.ensures ∙ ap (λ (l : Link). value_at_end (points_at (curves_of c.args.labels.now) l.tail)) c.link.view_is)
     (c.last_label-head.ensures ∙ ap (λ (l : Link). value_at_end (points_at (curves_of c.args.labels.now) l.head)) c.link.view_is)
-    (omega (arith, c.requires.inflows, c.link_count-number-end.ensures, c.loop-number-test.true)) c.index-inflow.ensures (omega (arith, c.requires.outflows, c.link_count-number-end.ensures, c.loop-number-test.true)) c.index-outflow.ensures
-    (omega (arith, c.requires.queues, c.link_count-number-end.ensures, c.loop-number-test.true)) c.index-queue.ensures in
+    (subst (λ (n : ℕ). c.loop-number.number < n) (c.link_count-number-end.ensures ∙ sym c.requires.inflows) c.loop-number-test.true) c.index-inflow.ensures (subst (λ (n : ℕ). c.loop-number.number < n) (c.link_count-number-end.ensures ∙ sym c.requires.outflows) c.loop-number-test.true) c.index-outflow.ensures
+    (subst (λ (n : ℕ). c.loop-number.number < n) (c.link_count-number-end.ensures ∙ sym c.requires.queues) c.loop-number-test.true) c.index-queue.ensures in
     front_goes (cut_link passes_Q (curves_of c.args.labels.now)) (links_with c.args.net.now.net.links flow.inflows flow.outflows flow.queues) OfCurve c.loop-number.number (map cut_in c.loop-number.cuts.items)
     c.loop-number.invariant one.0 one.1 (cut_in c.in_ok-cut.cut) (map cut_in c.push.new.self.items)
     (subst (λ (r : Checked lists.CutLink). at_part OfCurve r ≡ Ok (cut_in c.in_ok-cut.cut)) one.2 c.in_ok-cut.ensures)
@@ -86,3 +89,10 @@ returns c =
     (length-map c.args.flow.now.outflows.items trace_of ∙ c.requires.outflows) (length-map c.args.flow.now.queues.items (λ q. q.points) ∙ c.requires.queues) in
     front_last (cut_link passes_Q (curves_of c.args.labels.now)) (links_with c.args.net.now.net.links flow.inflows flow.outflows flow.queues) OfCurve c.loop-number.number (map cut_in c.loop-number.cuts.items)
     c.loop-number.invariant (omega (arith, count, c.link_count-number-end.ensures, c.loop-number-test.false))
+
+pub loop-number-init : goal.loop-number-init
+loop-number-init c =
+    let none = c.in_ok-cuts.ensures {u = tt} in
+    let flow = flow_of c.args.flow.now in
+    front_first (cut_link passes_Q (curves_of c.args.labels.now)) (links_with c.args.net.now.net.links flow.inflows flow.outflows flow.queues) (map cut_in c.in_ok-cuts.cuts.items)
+    (ap (λ (l : List CutLink). map cut_in l) none.items)

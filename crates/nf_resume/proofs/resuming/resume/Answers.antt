@@ -1,3 +1,6 @@
+use Rattle.std.proofs.Common.{sym, subst}
+use Rattle.nf_rational.specs.Rational.{ℚ}
+use Rattle.nf_rational.specs.Order.{◌≤ℚ◌}
 use Rattle.std.proofs.lemmas.Result.{err_from_is_err_and}
 use Rattle.nf_work.specs.Passing.{passes_Q}
 use Rattle.nf_reader.specs.Files.{report_of}
@@ -21,3 +24,16 @@ pub returns-clause-goes_on : goal.returns-clause-goes_on
 returns-clause-goes_on c =
     went_on c.args.net.now.net (bounds_of c.args.horizon c.args.budgets) (report_of c.args.report.now) c.in_ok-solution.solution.phases (report_in c.args.horizon c.in_ok-solution.solution)
     c.in_ok-check_first.ensures.yes c.in_ok-run.run' c.in_ok-run.ensures.list c.in_ok-solution.ensures c.version.ensures.named.network c.in_ok-check_first.ensures.equilibrium
+
+pub finish-requires-clause-horizon : goal.finish-requires-clause-horizon
+finish-requires-clause-horizon c =
+    let run = c.in_ok-run.ensures {u = tt} in subst (λ (t : ℚ). t ≤ℚ c.args.horizon) (sym run.time) (c.if-is_earlier.ensures {u = tt})
+
+pub returns-clause-formed : goal.returns-clause-formed
+returns-clause-formed c = let finished = c.in_ok-solution.ensures {u = tt} in finished.well_formed
+
+pub returns-clause-short : goal.returns-clause-short
+returns-clause-short c = let finished = c.in_ok-solution.ensures {u = tt} in finished.short
+
+pub returns-clause-equilibrium : goal.returns-clause-equilibrium
+returns-clause-equilibrium c = let finished = c.in_ok-solution.ensures {u = tt} in finished.equilibrium
