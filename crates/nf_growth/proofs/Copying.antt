@@ -1,14 +1,15 @@
 -- A curve that is copied point by point.
 use Rattle.std.proofs.Common.{◌≡◌, ℕ, zero, suc, ◌<◌, List, [], ◌∷◌, take, subst, arith}
 use Rattle.std.specs.Prelude.{Some, slice_get}
+use Rattle.std.proofs.lemmas.Option.{none-some, same_Some}
 use Rattle.nf_rational.specs.Order.{◌<ℚ◌}
 use Rattle.nf_model.specs.Curve.{Point, TimesRise, IsCurve}
 use Rattle.nf_curve.specs.Points.{last_time}
 
 -- ---- the first points
 before_next : (p : Point) (rest : List Point) (i : ℕ) (q : Point) → TimesRise (p ∷ rest) → slice_get (p ∷ rest) (suc i) ≡ Some q → last_time (take (suc i) (p ∷ rest)) <ℚ q.0
-before_next p [] i q rise e = absurd (cc)
-before_next p (x ∷ xs) zero q rise e = let same : x ≡ q = cc in subst (λ (z : Point). p.0 <ℚ z.0) same rise.0
+before_next p [] i q rise e = absurd (none-some q e)
+before_next p (x ∷ xs) zero q rise e = subst (λ (z : Point). p.0 <ℚ z.0) (same_Some x q e) rise.0
 before_next p (x ∷ xs) (suc i) q rise e = before_next x xs i q rise.1 e
 
 -- a point is later than those before it

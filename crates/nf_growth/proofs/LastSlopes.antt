@@ -2,6 +2,7 @@
 use Rattle.std.proofs.Common.{◌≡◌, ℕ, zero, suc, ◌+◌, ◌<◌, ◌≤◌, List, [], ◌∷◌, ◌++◌, length, take, refl, sym, ap, subst, ◌∙◌, arith}
 use Rattle.std.specs.Prelude.{◌↔◌, Option, Some, None, IsSome, slice_get, Ok}
 use Rattle.std.specs.Option.{option_to_list}
+use Rattle.std.proofs.lemmas.Option.{none-some, same_Some}
 use Rattle.nf_rational.specs.Rational.{ℚ}
 use Rattle.nf_rational.specs.Order.{◌<ℚ◌}
 use Rattle.nf_work.specs.Passing.{Passing}
@@ -14,13 +15,11 @@ use Rattle.nf_growth.specs.Growing.{AreBefore}
 
 -- ---- the last two points
 rise_at : (points : List Point) (k : ℕ) (p q : Point) → TimesRise points → slice_get points k ≡ Some p → slice_get points (suc k) ≡ Some q → p.0 <ℚ q.0
-rise_at [] k p q r h i = absurd (cc)
-rise_at (x ∷ []) zero p q r h i = absurd (cc)
-rise_at (x ∷ []) (suc k) p q r h i = absurd (cc)
+rise_at [] k p q r h i = absurd (none-some p h)
+rise_at (x ∷ []) zero p q r h i = absurd (none-some q i)
+rise_at (x ∷ []) (suc k) p q r h i = absurd (none-some p h)
 rise_at (x ∷ y ∷ rest) zero p q r h i =
-    let first : x ≡ p = cc in
-    let second : y ≡ q = cc in
-    subst (λ (z : Point). z.0 <ℚ q.0) first (subst (λ (z : Point). x.0 <ℚ z.0) second r.0)
+    subst (λ (z : Point). z.0 <ℚ q.0) (same_Some x p h) (subst (λ (z : Point). x.0 <ℚ z.0) (same_Some y q i) r.0)
 rise_at (x ∷ y ∷ rest) (suc k) p q r h i = rise_at (y ∷ rest) k p q r.1 h i
 
 next_at : (points : List Point) (k j : ℕ) (q : Point) → j ≡ k + 1 → slice_get points j ≡ Some q → slice_get points (suc k) ≡ Some q
@@ -41,10 +40,7 @@ module _ (passes : Passing) where
   slope_at : (points : List Point) (k : ℕ) (p q : Point) → slice_get points k ≡ Some p → slice_get points (suc k) ≡ Some q → length points ≡ k + 2 → last_slope passes points ≡ slope_of p q
   slope_at [] k p q h i e = absurd (omega arith)
   slope_at (x ∷ []) k p q h i e = absurd (omega arith)
-  slope_at (x ∷ y ∷ []) zero p q h i e =
-      let first : x ≡ p = cc in
-      let second : y ≡ q = cc in
-      ap (λ (z : Point). slope_of z y) first ∙ ap (slope_of p) second
+  slope_at (x ∷ y ∷ []) zero p q h i e = ap (λ (z : Point). slope_of z y) (same_Some x p h) ∙ ap (slope_of p) (same_Some y q i)
   slope_at (x ∷ y ∷ []) (suc k) p q h i e = absurd (omega arith)
   slope_at (x ∷ y ∷ z ∷ rest) zero p q h i e = absurd (omega arith)
   slope_at (x ∷ y ∷ z ∷ rest) (suc k) p q h i e = slope_at (y ∷ z ∷ rest) k p q h i (omega arith)
@@ -55,7 +51,7 @@ module _ (passes : Passing) where
 -- ---- the last point behind the others
 pub taken_with_last : (points : List Point) (k : ℕ) (p : Point) → slice_get points k ≡ Some p → length points ≡ k + 1 → take k points ++ p ∷ [] ≡ points
 taken_with_last [] k p h e = absurd (omega arith)
-taken_with_last (x ∷ []) zero p h e = let same : x ≡ p = cc in ap (λ (q : Point). q ∷ []) (sym same)
+taken_with_last (x ∷ []) zero p h e = ap (λ (q : Point). q ∷ []) (sym (same_Some x p h))
 taken_with_last (x ∷ []) (suc k) p h e = absurd (omega arith)
 taken_with_last (x ∷ y ∷ rest) zero p h e = absurd (omega arith)
 taken_with_last (x ∷ y ∷ rest) (suc k) p h e = ap (λ (l : List Point). x ∷ l) (taken_with_last (y ∷ rest) k p h (omega arith))

@@ -5,3 +5,5 @@ pub mod Places
 pub mod OneByOne
 pub mod LastSlopes
 pub mod Copying
+pub mod AtLabels
+pub mod Spare

@@ -1,5 +1,5 @@
 -- The loop that makes a step of each link.
-use Rattle.std.proofs.Common.{◌≡◌, ℕ, ◌+◌, ◌<◌, List, [], ◌∷◌, ◌++◌, length}
+use Rattle.std.proofs.Common.{◌≡◌, ℕ, ◌+◌, ◌<◌, List, [], ◌∷◌, ◌++◌, length, sym, subst}
 use Rattle.std.specs.Prelude.{Ok, Err}
 use Rattle.std.specs.List.{enumerate_from}
 use Rattle.nf_rational.specs.Rational.{ℚ}
@@ -12,6 +12,7 @@ use Rattle.nf_model.specs.Network.{Link, Network, IsLink}
 use Rattle.nf_model.specs.ThinFlow.{Sets}
 use Rattle.nf_model.specs.Pattern.{Pattern}
 use Rattle.nf_lists.specs.CurveList.{LinkStep, link_phase, link_step}
+use Rattle.nf_curve.proofs.Exits.{front_none}
 use Rattle.nf_lists_laws.proofs.Numbered.{SoFar, one_more, one_passes}
 use Rattle.nf_plain_laws.proofs.Entries.{entry}
 
@@ -19,6 +20,10 @@ module _ (passes : Passing) (sets : Sets) (pattern : Pattern) (duration : ℚ) (
   -- the step of a link with its number
   abbrev pub numbered_step : ℕ × Link → Checked LinkStep
   numbered_step numbered = link_step passes duration (number_at amounts numbered.0) (link_phase sets pattern flows slopes labels numbered)
+
+  pub no_step : (net : Network) (steps : List LinkStep) → steps ≡ [] → SoFar numbered_step net.links steps 0
+  no_step net steps none =
+      subst (λ (l : List LinkStep). SoFar numbered_step net.links l 0) (sym none) (sym (front_none (each numbered_step (enumerate_from 0 net.links))))
 
   module _ (net : Network) (steps : List LinkStep) (e : ℕ) (inside : e < length net.links) (so : SoFar numbered_step net.links steps e) where
     here : (link : Link) × IsLink net e link

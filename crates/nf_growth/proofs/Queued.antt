@@ -8,8 +8,28 @@ use Rattle.nf_work.specs.declared.PassedAt.{PassedAt}
 use Rattle.nf_work.specs.Passing.{Passing}
 use Rattle.nf_work.specs.Checked.{checked, at_part}
 use Rattle.nf_lists.specs.Signs.{is_positive}
-use Rattle.nf_lists.specs.CurveList.{LinkPhase, rate_over, size_at, slope_at, queue_step, link_step}
+use Rattle.nf_lists.specs.CurveList.{LinkPhase, QueueStep, rate_over, size_at, slope_at, queue_step, link_step}
 use Rattle.nf_curve.proofs.Exits.{after_ok, after_err}
+
+pub size_passes : (passes : Passing) (link seen : LinkPhase) (rate arrival slack : ℚ) (above : Bool) (p : PassedAt ℚ) → link ≡ seen
+    → checked passes Sum link.tail_label link.transit ≡ Ok arrival → checked passes Difference link.head_label arrival ≡ Ok slack
+    → above ≡ is_positive slack → at_part Curve (size_at passes above link.capacity slack) ≡ Err p → at_part Curve (queue_step passes seen (Some rate)) ≡ Err p
+size_passes passes link seen rate arrival slack above p same e f is g =
+    ap (λ (l : LinkPhase). at_part Curve (queue_step passes l (Some rate))) (sym same)
+    ∙ after_ok Curve (checked passes Sum link.tail_label link.transit) _ arrival (ap (at_part Curve) e)
+    ∙ after_ok Curve (checked passes Difference link.head_label arrival) _ slack (ap (at_part Curve) f)
+    ∙ after_err Curve (size_at passes (is_positive slack) link.capacity slack) _ p (ap (λ (b : Bool). at_part Curve (size_at passes b link.capacity slack)) (sym is) ∙ g)
+
+pub queue_goes_on : (passes : Passing) (link seen : LinkPhase) (rate arrival slack size slope : ℚ) (above : Bool) → link ≡ seen
+    → checked passes Sum link.tail_label link.transit ≡ Ok arrival → checked passes Difference link.head_label arrival ≡ Ok slack
+    → above ≡ is_positive slack → at_part Curve (size_at passes above link.capacity slack) ≡ Ok size → at_part Curve (slope_at passes link.filled link.capacity rate) ≡ Ok slope
+    → at_part Curve (queue_step passes seen (Some rate)) ≡ Ok (Some (record { size = size; slope = slope }))
+queue_goes_on passes link seen rate arrival slack size slope above same e f is g h =
+    ap (λ (l : LinkPhase). at_part Curve (queue_step passes l (Some rate))) (sym same)
+    ∙ after_ok Curve (checked passes Sum link.tail_label link.transit) _ arrival (ap (at_part Curve) e)
+    ∙ after_ok Curve (checked passes Difference link.head_label arrival) _ slack (ap (at_part Curve) f)
+    ∙ after_ok Curve (size_at passes (is_positive slack) link.capacity slack) _ size (ap (λ (b : Bool). at_part Curve (size_at passes b link.capacity slack)) (sym is) ∙ g)
+    ∙ after_ok Curve (slope_at passes link.filled link.capacity rate) _ slope h
 
 pub slope_passes : (passes : Passing) (link seen : LinkPhase) (rate arrival slack size : ℚ) (above : Bool) (p : PassedAt ℚ) → link ≡ seen
     → checked passes Sum link.tail_label link.transit ≡ Ok arrival → checked passes Difference link.head_label arrival ≡ Ok slack
@@ -49,3 +69,13 @@ module _ (passes : Passing) (length so_far : ℚ) (link seen : LinkPhase) (flowe
         ∙ after_ok Curve (rate_over passes (is_positive link.tail_slope) link.flow link.tail_slope) _ inflow (ap (λ (b : Bool). at_part Curve (rate_over passes b link.flow link.tail_slope)) (sym is_tail) ∙ inflow_is)
         ∙ after_ok Curve (rate_over passes (is_positive link.head_slope) link.flow link.head_slope) _ outflow (ap (λ (b : Bool). at_part Curve (rate_over passes b link.flow link.head_slope)) (sym is_head) ∙ outflow_is)
         ∙ after_err Curve (queue_step passes link inflow) _ p (ap (λ (l : LinkPhase). at_part Curve (queue_step passes l inflow)) same ∙ h)
+
+    pub link_goes_on : (outflow : Option ℚ) → at_part Curve (rate_over passes head link.flow link.head_slope) ≡ Ok outflow → (queue : Option QueueStep) → at_part Curve (queue_step passes seen inflow) ≡ Ok queue
+        → at_part Curve (link_step passes length so_far seen) ≡ Ok (record { amount = amount; inflow_rate = inflow; outflow_rate = outflow; queue = queue })
+    link_goes_on outflow outflow_is queue h =
+        ap (λ (l : LinkPhase). at_part Curve (link_step passes length so_far l)) (sym same)
+        ∙ after_ok Curve (checked passes Product length link.flow) _ flowed (ap (at_part Curve) e)
+        ∙ after_ok Curve (checked passes Sum so_far flowed) _ amount (ap (at_part Curve) f)
+        ∙ after_ok Curve (rate_over passes (is_positive link.tail_slope) link.flow link.tail_slope) _ inflow (ap (λ (b : Bool). at_part Curve (rate_over passes b link.flow link.tail_slope)) (sym is_tail) ∙ inflow_is)
+        ∙ after_ok Curve (rate_over passes (is_positive link.head_slope) link.flow link.head_slope) _ outflow (ap (λ (b : Bool). at_part Curve (rate_over passes b link.flow link.head_slope)) (sym is_head) ∙ outflow_is)
+        ∙ after_ok Curve (queue_step passes link inflow) _ queue (ap (λ (l : LinkPhase). at_part Curve (queue_step passes l inflow)) same ∙ h)

@@ -25,3 +25,6 @@ returns c =
     let end = c.loop-e-test.false in
     let k = c.link_count-e-end.ensures in
     c.loop-e.invariant ∙ take_all c.loop-e.e (map (first_curves c.args.labels.now) c.args.net.now.net.links) (omega arith)
+
+pub loop-e-init : goal.loop-e-init
+loop-e-init c = ap all_grown c.new-curves.ensures.items

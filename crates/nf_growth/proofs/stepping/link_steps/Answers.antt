@@ -4,7 +4,7 @@ use Rattle.nf_work.specs.Passing.{passes_Q}
 use Rattle.nf_work.specs.declared.Part.TheVariants.{Curve}
 use Rattle.nf_lists.specs.CurveList.{curve_list}
 use Rattle.nf_lists_laws.proofs.Numbered.{all_done}
-use Rattle.nf_growth.proofs.LinkLoop.{numbered_step, one_step, step_passes}
+use Rattle.nf_growth.proofs.LinkLoop.{numbered_step, no_step, one_step, step_passes}
 use Rattle.nf_growth.proofs.stepping.link_steps.Goals as goal
 
 pub returns-in_err-next : goal.returns-in_err-next
@@ -24,3 +24,8 @@ unfolding curve_list
 returns c =
     all_done (numbered_step passes_Q c.args.sets.now c.args.pattern.now c.args.length c.args.flows.now c.args.slopes.now c.args.labels.now c.args.amounts.now) c.args.net.now.net.links Curve
     c.loop-e.steps.items c.loop-e.e (omega arith) c.loop-e.invariant
+
+pub loop-e-init : goal.loop-e-init
+loop-e-init c =
+    no_step passes_Q c.args.sets.now c.args.pattern.now c.args.length c.args.flows.now c.args.slopes.now c.args.labels.now c.args.amounts.now
+    c.args.net.now.net c.new-steps.result.items c.new-steps.ensures.items
