@@ -12,3 +12,4 @@ pub mod Going
 pub mod Stopping
 pub mod ToEnd
 pub mod Told
+pub mod Rested

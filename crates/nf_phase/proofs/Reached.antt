@@ -59,6 +59,12 @@ Stands-restored passes net good s r = record {
 pub active_count : (net : Network) (labels : List ℚ) → length (sets_at net labels).active ≡ length net.links
 active_count net labels = (AreSets-sets_at net labels).count
 
+pub slacks_count : (net : Network) (labels : List ℚ) → length (slacks_of (hops net) labels) ≡ length net.links
+slacks_count net labels = length-map (hops net) (slack labels) ∙ length-map net.links hop_of
+
+pub resetting_count : (net : Network) (labels : List ℚ) → length (sets_at net labels).resetting ≡ length net.links
+resetting_count net labels = length-map (slacks_of (hops net) labels) (lt_ℚ 0ℚ) ∙ slacks_count net labels
+
 module _ (passes : Passing) (net : Network) (good : IsNetwork net) where
   Stands-goes : (horizon : ℚ) (patterns : ℕ) (s t : Standing) → Goes passes net horizon patterns s t → Stands net s → Stands net t
   Stands-goes horizon patterns s t g stands =

@@ -1,4 +1,5 @@
-use Rattle.std.proofs.Common.{refl, arith}
+use Rattle.std.proofs.Common.{map, refl, ap, ◌∙◌, arith}
+use Rattle.std.proofs.lemmas.List.{take_all}
 use Rattle.std.proofs.lemmas.Option.{slice_get_read}
 use Rattle.nf_resume_lists.specs.Restoring.{value_at_end}
 use Rattle.nf_curve.specs.Points.{Grown}
@@ -11,3 +12,6 @@ loop-curve-preserved c =
     let g = slice_get_read c.args.curves.now _ c.loop-curve.curve-index c.curve-item.result refl c.loop-curve-test.true c.curve-item.is in
     mapped_pushed (λ (g : Grown). value_at_end g.points) c.args.curves.now c.loop-curve.values.items c.push.new.self.items c.loop-curve.curve-index c.curve-item.result c.point-value.result.1 g c.loop-curve.invariant
     (value_at_last c.curve-item.result.points _ c.point-value.result c.point-value.ensures (omega (arith, c.len.ensures.count, c.len.ensures.some))) c.in_ok-push.ensures.items
+
+pub returns : goal.returns
+returns c = c.loop-curve.invariant ∙ ap (map (λ (g : Grown). value_at_end g.points)) (take_all c.loop-curve.curve-index c.args.curves.now c.loop-curve-test.false)

@@ -1,4 +1,4 @@
-use Rattle.std.proofs.Common.{◌+◌, suc, add-one, ap, ◌∙◌, arith}
+use Rattle.std.proofs.Common.{◌≡◌, ◌+◌, suc, add-one, ap, ◌∙◌, arith}
 use Rattle.nf_work.specs.Passing.{passes_Q}
 use Rattle.nf_lists.specs.PhaseRun.{Standing}
 use Rattle.nf_phase.specs.Solution.{bounds_of}
@@ -29,3 +29,9 @@ loop-preserved c =
 pub returns : goal.returns
 returns c =
     ends_after_all passes_Q c.args.net.now.net (bounds_of c.args.horizon c.args.budgets) c.args.self.now c.loop.counter c.loop.self c.loop.invariant c.stop_after_all.result c.stop_after_all.ensures (omega arith)
+
+pub overflow_add-self-inside : goal.overflow_add-self-inside
+overflow_add-self-inside c =
+    let same : c.self.inside.made ≡ c.loop.counter = ap (λ (s : Standing). s.made) (c.self.view_is ∙ c.in-Err.ensures.kept) ∙ c.loop.invariant.made in
+    let test = c.loop-test.true in
+    omega arith

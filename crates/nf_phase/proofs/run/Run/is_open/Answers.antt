@@ -1,12 +1,13 @@
 use Rattle.std.proofs.Common.{List, length, sym, ap, subst, ◌∙◌}
 use Rattle.std.specs.Prelude.{Bool, MatchBool}
+use Rattle.nf_rational.specs.Rational.{ℚ}
 use Rattle.nf_work.specs.Passing.{passes_Q}
 use Rattle.nf_model.specs.Network.{Piece}
 use Rattle.nf_model.specs.Pattern.{Pattern}
 use Rattle.nf_lists.specs.PhaseRun.{Standing}
 use Rattle.nf_resume_lists.specs.Open.{IsOpen}
 use Rattle.nf_phase.specs.Restarting.{none_starts, AreApart}
-use Rattle.nf_phase.proofs.Reached.{Stands-reached}
+use Rattle.nf_phase.proofs.Reached.{Stands-reached, slacks_count}
 use Rattle.nf_phase.proofs.Opened.{open_if, not_started}
 use Rattle.nf_phase.proofs.run.Run.is_open.Goals as goal
 
@@ -28,3 +29,6 @@ returns-else-starts c =
     (not_started c.args.net.now.net c.args.self.now c.args.slacks.now c.requires.slacks c.none_starts-starts.result
     (c.none_starts-starts.ensures ∙ ap (λ (p : List Piece). none_starts p c.self.inside.reached) c.pieces.ensures.value ∙ ap (λ (s : Standing). none_starts c.args.net.now.net.pieces s.time) c.self.view_is)
     c.if-starts.false)
+
+pub are_apart-apart-requires-clause-slacks : goal.are_apart-apart-requires-clause-slacks
+are_apart-apart-requires-clause-slacks c = ap (λ (l : List ℚ). length l) c.requires.slacks ∙ slacks_count c.args.net.now.net c.args.self.now.labels

@@ -10,7 +10,7 @@ use Rattle.nf_lists.specs.PhaseRun.{Standing, phase_lists}
 use Rattle.nf_growth.specs.Growing.{all_grown}
 use Rattle.nf_phase.specs.declared.fault.StepFault.{StepFault}
 use Rattle.nf_phase.proofs.Found.{by_fault}
-use Rattle.nf_phase.proofs.Reached.{active_count}
+use Rattle.nf_phase.proofs.Reached.{active_count, resetting_count}
 use Rattle.nf_phase.proofs.PhaseFound.{slack_count, thin_slope_count, thin_flow_count, pattern_count, counts_agree, amounts_count, extension_stops, advance_stops, end_count, curve_stops, lasts, lists_go}
 use Rattle.nf_phase.proofs.run.Run.lists.Goals as goal
 
@@ -92,9 +92,6 @@ returns-clause-length c =
     c.deref-3.result.now c.deref-4.result.now (c.deref-3.ensures.value ∙ ap (λ (s : Standing). s.labels) c.self.view_is) c.deref-4.ensures.value
     (record { length = c.end.inside.length; labels = c.end.inside.labels.items }) (c.in_ok-end.ensures ∙ ap (λ (a : Advanced). Ok a) (sym c.end.view_is)) c.in_ok-extension.ensures.length)
 
-pub returns-clause-cause : goal.returns-clause-cause
-returns-clause-cause c = tt
-
 pub returns-in_err-extension-clause-lists : goal.returns-in_err-extension-clause-lists
 returns-in_err-extension-clause-lists c = IfOk-from_err c.from_residual.result _ c.from_residual.ensures.0
 
@@ -118,3 +115,9 @@ returns-in_err-steps-clause-lists c = IfOk-from_err c.from_residual-in_err-steps
 
 pub returns-in_err-steps-clause-length : goal.returns-in_err-steps-clause-length
 returns-in_err-steps-clause-length c = IfOk-from_err c.from_residual-in_err-steps.result _ c.from_residual-in_err-steps.ensures.0
+
+pub link_steps-requires-clause-resetting : goal.link_steps-requires-clause-resetting
+link_steps-requires-clause-resetting c = ap (λ (s : Sets). length s.resetting) c.requires.found.sets ∙ resetting_count c.args.net.now.net c.args.self.now.labels
+
+pub same-end : goal.same-end
+same-end c = refl

@@ -1,4 +1,4 @@
-use Rattle.std.proofs.Common.{◌+◌, List, length, suc, add-one, refl, sym, ap, ◌∙◌}
+use Rattle.std.proofs.Common.{◌≡◌, ◌+◌, List, length, suc, add-one, refl, sym, ap, ◌∙◌, arith}
 use Rattle.std.specs.Vec.{with_items}
 use Rattle.std.proofs.lemmas.List.{length-map, with_items_is}
 use Rattle.nf_rational.specs.Rational.{ℚ}
@@ -83,3 +83,9 @@ returns-clause-made c =
     (ap all_grown (with_items_is (with_items c.self.inside.label_curves c.reserve_labels.new.curves) c.labels_go_on.new.curves (c.labels_go_on.auto.curves ∙ c.deref_mut-3.ensures.len)) ∙ c.labels_go_on.ensures ∙ rw (c.deref-2.ensures.value, c.deref-3.ensures.value, (ap all_grown (c.deref_mut-3.ensures.value ∙ with_items_is c.self.inside.label_curves c.reserve_labels.new.curves (c.reserve_labels.auto.curves ∙ c.deref_mut.ensures.len)) ∙ c.in_ok-reserve_labels.ensures.same ∙ ap all_grown c.deref_mut.ensures.value ∙ ap (λ (s : Standing). s.label_curves) c.self.view_is)) refl)
     (ap all_grown (with_items_is (with_items c.self.inside.link_curves c.reserve_links.new.curves) c.links_go_on.new.curves (c.links_go_on.auto.curves ∙ c.deref_mut-4.ensures.len)) ∙ c.links_go_on.ensures ∙ rw (c.deref-4.ensures.value, c.deref-5.ensures.value, (ap all_grown (c.deref_mut-4.ensures.value ∙ with_items_is c.self.inside.link_curves c.reserve_links.new.curves (c.reserve_links.auto.curves ∙ c.deref_mut-2.ensures.len)) ∙ c.in_ok-reserve_links.ensures.same ∙ ap all_grown c.deref_mut-2.ensures.value ∙ ap (λ (s : Standing). s.link_curves) c.self.view_is)) refl)
     (add-one c.self.inside.made ∙ ap (λ (s : Standing). suc s.made) c.self.view_is) refl
+
+pub overflow_add-self : goal.overflow_add-self
+overflow_add-self c =
+    let same : c.self.inside.made ≡ c.args.self.now.made = ap (λ (s : Standing). s.made) c.self.view_is in
+    let more = c.requires.more in
+    omega arith

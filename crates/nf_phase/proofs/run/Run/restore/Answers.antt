@@ -1,4 +1,4 @@
-use Rattle.std.proofs.Common.{List, length, map, sym, ap, subst, ◌∙◌}
+use Rattle.std.proofs.Common.{List, length, map, refl, sym, ap, subst, ◌∙◌}
 use Rattle.std.specs.Prelude.{Ok}
 use Rattle.std.proofs.lemmas.Result.{err_from_is_err_and}
 use Rattle.nf_work.specs.declared.Part.TheVariants.{Curve}
@@ -81,3 +81,9 @@ returns-clause-flow c = flow_restored passes_Q c.args.net.now.net c.version.ensu
   no_full = c.requires.no_full;
   stands = was_ok Curve (restore_list passes_Q (flow_in c.args.flow) c.args.last) _ (returns-clause-list c);
 })
+
+pub same-last : goal.same-last
+same-last c = refl
+
+pub returns-clause-last : goal.returns-clause-last
+returns-clause-last c = refl

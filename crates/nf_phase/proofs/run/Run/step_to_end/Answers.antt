@@ -1,10 +1,15 @@
-use Rattle.std.proofs.Common.{sym, ap, ◌∙◌}
+use Rattle.std.proofs.Common.{refl, sym, ap, subst, ◌∙◌}
 use Rattle.std.specs.Prelude.{Option, Ok}
+use Rattle.std.proofs.lemmas.Bool.{false≢true}
+use Rattle.std.proofs.lemmas.Option.{MatchOption-at_some}
+use Rattle.std.proofs.lemmas.Result.{IfOk-from_err}
 use Rattle.nf_rational.specs.Rational.{ℚ}
+use Rattle.nf_rational.specs.Order.{◌<ℚ◌}
 use Rattle.nf_work.specs.Passing.{passes_Q}
 use Rattle.nf_lists.specs.PhaseRun.{Standing}
 use Rattle.nf_forever_lists.specs.ForeverRun.{GoesToEnd}
-use Rattle.nf_phase.specs.Stepping.{goes_on}
+use Rattle.nf_growth.proofs.Places.{holds_anyway}
+use Rattle.nf_phase.specs.Stepping.{Reaches, goes_on}
 use Rattle.nf_phase.specs.declared.fault.StepFault.{StepFault}
 use Rattle.nf_phase.proofs.Found.{by_fault}
 use Rattle.nf_phase.proofs.PhaseFound.{slack_count, thin_slope_count}
@@ -54,3 +59,82 @@ pub returns-clause-reaches : goal.returns-clause-reaches
 returns-clause-reaches c =
     let g : GoesToEnd passes_Q c.args.net.now.net c.args.patterns c.args.self.now c.make.new.self = returns-clause-phase c in
     goes_on g.end c.args.patterns c.requires.reaches g.goes
+
+pub phase_by-requires-clause-reaches : goal.phase_by-requires-clause-reaches
+phase_by-requires-clause-reaches c = c.requires.reaches
+
+pub phase_by-requires-clause-named : goal.phase_by-requires-clause-named
+phase_by-requires-clause-named c = c.in_ok-found.ensures.named
+
+pub phase_by-requires-clause-found : goal.phase_by-requires-clause-found
+phase_by-requires-clause-found c = c.in_ok-found.ensures.found
+
+pub phase_by-requires-clause-below : goal.phase_by-requires-clause-below
+phase_by-requires-clause-below c =
+    subst (λ (s : Standing). s.time <ℚ c.in-Some.end) c.self.view_is (MatchOption-at_some _ (λ (end : ℚ). c.self.inside.reached <ℚ end) c.in-Some.end c.in-Some.is c.in_ok-end.ensures.later)
+
+pub make-requires-clause-reaches : goal.make-requires-clause-reaches
+make-requires-clause-reaches c = c.requires.reaches
+
+pub make-requires-clause-named : goal.make-requires-clause-named
+make-requires-clause-named c = c.in_ok-found.ensures.named
+
+pub make-requires-clause-more : goal.make-requires-clause-more
+make-requires-clause-more c = c.requires.more
+
+pub make-requires-clause-leads : goal.make-requires-clause-leads
+make-requires-clause-leads c = c.in_ok-phase.ensures.leads
+
+pub returns-in_err-end-clause-reaches : goal.returns-in_err-end-clause-reaches
+returns-in_err-end-clause-reaches c = c.requires.reaches
+
+pub returns-in_err-end-clause-kept : goal.returns-in_err-end-clause-kept
+returns-in_err-end-clause-kept c = holds_anyway c.from_residual-in_err-end.result _ refl
+
+pub returns-in_err-phase-clause-reaches : goal.returns-in_err-phase-clause-reaches
+returns-in_err-phase-clause-reaches c = c.requires.reaches
+
+pub returns-in_err-phase-clause-kept : goal.returns-in_err-phase-clause-kept
+returns-in_err-phase-clause-kept c = holds_anyway c.from_residual-in_err-phase.result _ refl
+
+pub returns-in_default-clause-reaches : goal.returns-in_default-clause-reaches
+returns-in_default-clause-reaches c = c.requires.reaches
+
+pub returns-in_default-clause-stays : goal.returns-in_default-clause-stays
+returns-in_default-clause-stays c = λ some. refl
+
+pub returns-in_err-make-clause-reaches : goal.returns-in_err-make-clause-reaches
+returns-in_err-make-clause-reaches c = subst (λ (s : Standing). Reaches passes_Q c.args.net.now.net s) (sym c.in_err-make.ensures.kept) c.requires.reaches
+
+pub returns-in_err-make-clause-kept : goal.returns-in_err-make-clause-kept
+returns-in_err-make-clause-kept c = holds_anyway c.from_residual-in_err-make.result _ c.in_err-make.ensures.kept
+
+pub returns-clause-stays : goal.returns-clause-stays
+returns-clause-stays c = λ some. absurd (false≢true some)
+
+pub returns-in_err-end-clause-phase : goal.returns-in_err-end-clause-phase
+returns-in_err-end-clause-phase c = IfOk-from_err c.from_residual-in_err-end.result _ c.from_residual-in_err-end.ensures.0
+
+pub returns-in_err-end-clause-stays : goal.returns-in_err-end-clause-stays
+returns-in_err-end-clause-stays c = IfOk-from_err c.from_residual-in_err-end.result _ c.from_residual-in_err-end.ensures.0
+
+pub returns-in_err-phase-clause-phase : goal.returns-in_err-phase-clause-phase
+returns-in_err-phase-clause-phase c = IfOk-from_err c.from_residual-in_err-phase.result _ c.from_residual-in_err-phase.ensures.0
+
+pub returns-in_err-phase-clause-stays : goal.returns-in_err-phase-clause-stays
+returns-in_err-phase-clause-stays c = IfOk-from_err c.from_residual-in_err-phase.result _ c.from_residual-in_err-phase.ensures.0
+
+pub returns-in_err-make-clause-phase : goal.returns-in_err-make-clause-phase
+returns-in_err-make-clause-phase c = IfOk-from_err c.from_residual-in_err-make.result _ c.from_residual-in_err-make.ensures.0
+
+pub returns-in_err-make-clause-stays : goal.returns-in_err-make-clause-stays
+returns-in_err-make-clause-stays c = IfOk-from_err c.from_residual-in_err-make.result _ c.from_residual-in_err-make.ensures.0
+
+pub same-self-in_err-end : goal.same-self-in_err-end
+same-self-in_err-end c = refl
+
+pub same-self-in_default : goal.same-self-in_default
+same-self-in_default c = refl
+
+pub same-self-2 : goal.same-self-2
+same-self-2 c = refl

@@ -7,7 +7,7 @@ use Rattle.nf_model.specs.Pattern.{Pattern, IsPattern, IsBase}
 use Rattle.nf_lists.specs.PhaseRun.{Standing}
 use Rattle.nf_thin.specs.Searching.{AreSetsOf}
 use Rattle.nf_thin.proofs.Hops.{below_nodes, few_hops, hops_length}
-use Rattle.nf_phase.proofs.Reached.{Stands-reached, sets_fit, base_fits}
+use Rattle.nf_phase.proofs.Reached.{Stands-reached, active_count, sets_fit, base_fits}
 use Rattle.nf_phase.proofs.run.Run.thin.Goals as goal
 
 pub base-requires-clause-ends : goal.base-requires-clause-ends
@@ -38,3 +38,7 @@ search-requires-clause-base c =
     (subst (λ (p : Pattern). IsBase (hops_of c.args.net.now.net) (sets_at c.args.net.now.net c.args.self.now.labels) p c.in_ok-base.base) last
     (subst (λ (sets : Sets). IsBase (hops_of c.args.net.now.net) sets c.self.inside.last c.in_ok-base.base) c.requires.sets
     (subst (λ (hs : List Hop). IsBase hs c.args.sets.now c.self.inside.last c.in_ok-base.base) c.hops.ensures.value c.in_ok-base.ensures))))
+
+pub base-requires-clause-sets : goal.base-requires-clause-sets
+base-requires-clause-sets c =
+    ap (λ (s : Sets). length s.active) c.requires.sets ∙ active_count c.args.net.now.net c.args.self.now.labels ∙ sym (hops_length c.args.net.now.net) ∙ ap (λ (hs : List Hop). length hs) (sym c.hops.ensures.value)
