@@ -1,5 +1,5 @@
 -- What is asked can be.
-use Rattle.std.proofs.Common.{◌≡◌, ℕ, ◌≤◌, Bool, true, false, cond, List, refl, subst, lit≤}
+use Rattle.std.proofs.Common.{◌≡◌, ℕ, ◌≤◌, Bool, true, false, cond, List, refl, ap, subst, ◌∙◌, lit≤}
 use Rattle.std.specs.Prelude.{Option, Some, None, IfSome, option_map, option_and_then, Result, Ok, Err, codes}
 use Rattle.std.specs.Option.{option_map_or}
 use Rattle.clap.specs.Walk.{Row, Text}
@@ -18,6 +18,11 @@ use Rattle.nf_commands.specs.Commands.{commands, first_task}
 use Rattle.nf_words.specs.Requests.{Request, Show, IsWithin, CanBeAsked, solve_request, forever_request, load_request, check_request, quick_request, gen_request, settle_request, resume_request, routes_request, horizon_in, phases_in, patterns_in, amount_in, augments_in, number_in, rungs_in, asked, request_in, request_of}
 use Rattle.nf_words.specs.Views.{requested}
 use Rattle.nf_words.proofs.Counts.{count_within}
+
+-- what is asked from other words is the same, where each is
+pub same_5 : {A B C D E R : Type 0} (f : A → B → C → D → E → R) (a x : A) (b y : B) (c z : C) (d v : D) (e w : E) → a ≡ x → b ≡ y → c ≡ z → d ≡ v → e ≡ w → f a b c d e ≡ f x y z v w
+same_5 f a x b y c z d v e w p q r s t =
+    ap (λ i. f i b c d e) p ∙ ap (λ i. f x i c d e) q ∙ ap (λ i. f x y i d e) r ∙ ap (λ i. f x y z i e) s ∙ ap (λ i. f x y z v i) t
 
 -- ---- what an option gives
 module _ {X : Type 0} (P : X → Type 0) (f : Text → Option X) (each : (word : Text) → IfSome (f word) P) where

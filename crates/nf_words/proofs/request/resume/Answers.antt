@@ -1,4 +1,6 @@
 use Rattle.std.proofs.Common.{refl, sym}
+use Rattle.nf_words.specs.Requests.{resume_request}
+use Rattle.nf_words.proofs.Asked.{same_5}
 use Rattle.nf_words.proofs.request.resume.Goals as goal
 
 pub returns-in_err-file_of : goal.returns-in_err-file_of
@@ -19,4 +21,4 @@ returns-in_err-patterns_of c =
     rw (c.from_residual-in_err-patterns_of.ensures, sym c.in_ok-file_of.ensures, sym c.in_ok-file_of-2.ensures, sym c.in_ok-horizon_of.ensures, sym c.in_ok-phases_of.ensures, sym c.in_err-patterns_of.ensures) refl
 
 pub returns : goal.returns
-returns c = rw (sym c.in_ok-file_of.ensures, sym c.in_ok-file_of-2.ensures, sym c.in_ok-horizon_of.ensures, sym c.in_ok-phases_of.ensures, sym c.in_ok-patterns_of.ensures) refl
+returns c = same_5 resume_request _ _ _ _ _ _ _ _ _ _ (sym c.in_ok-file_of.ensures) (sym c.in_ok-file_of-2.ensures) (sym c.in_ok-horizon_of.ensures) (sym c.in_ok-phases_of.ensures) (sym c.in_ok-patterns_of.ensures)
