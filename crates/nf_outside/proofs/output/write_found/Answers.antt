@@ -18,6 +18,9 @@ use Rattle.nf_answers.specs.Outcomes.{text_with, HasTextWith}
 use Rattle.nf_answers.proofs.ErrorTexts.{same_text}
 use Rattle.nf_outside.proofs.output.write_found.Goals as goal
 
+pub write_forever-requires : goal.write_forever-requires
+write_forever-requires g c = subst (λ (f : Found). HasTextWith c.args.net.now f) c.in-SolvedForever.is c.requires
+
 pub returns-in-Solved : goal.returns-in-Solved
 returns-in-Solved g c =
     let s = c.in-Solved.solution in
