@@ -45,6 +45,15 @@ use Rattle.nf_outside.specs.Fetching.{NetworkReads}
 use Rattle.nf_outside.specs.Shown.{IsShown}
 use Rattle.nf_app.specs.Completeness.{Tells, TellsNetwork, TellsLoads, TellsFlows, CanBeShown, CanBeSolved, CanBeLoaded, CanBeGenerated, CanGoOn, CanBeDistributed, CanBeJudged, CanBeQuick, CanBeSettled, CanBeResumed, HasAnswer, EndsWell, EndsJudged, EndsQuick, EndsSettled, EndsResumed, IsComplete}
 
+same_ok : {A E : Type 0} (r : Result A E) (x y : A) → r ≡ Ok x → r ≡ Ok y → x ≡ y
+same_ok r x y h k = cc
+
+ok_err : {A E : Type 0} (r : Result A E) (x : A) (e : E) → r ≡ Ok x → r ≡ Err e → ⊥
+ok_err r x e h k = cc
+
+some_none : {A : Type 0} (o : Option A) (x : A) → o ≡ Some x → o ≡ None → ⊥
+some_none o x h k = cc
+
 in_the_middle : (P : Wanted → Type 0) (xs : List Wanted) (y : Wanted) (ys : List Wanted) → All P (xs ++ y ∷ ys) → P y
 in_the_middle P [] y ys h = All-head P y ys h
 in_the_middle P (x ∷ xs) y ys h = in_the_middle P xs y ys (All-tail P x (xs ++ y ∷ ys) h)
@@ -74,16 +83,11 @@ module _ (call : Call) (no_fault : ¬ Rose call.shelf.faults_before call.shelf.f
     refused_well : (answer : Answer) → IsRefused call answer → Ends (status_of answer)
     refused_well NoMemory h = memory
     refused_well NoRequest h =
-        let none : request_of call.words ≡ None = h.0 in
-        let some : request_of call.words ≡ Some asked_for = asks in
-        let never : ⊥ = cc in
-        absurd never
+        absurd (some_none (request_of call.words) asked_for asks h.0)
     refused_well ShelfFailed h = absurd (no_fault h.2.1)
     refused_well ShelfTooLong h = absurd (not_too_long h.0 h.1 h.2)
     refused_well (Malformed broken) h =
-        let other : Err broken ≡ Ok n = one_reading h.0 (Err broken) h.1 in
-        let never : ⊥ = cc in
-        absurd never
+        absurd (ok_err (Err broken) n broken (one_reading h.0 (Err broken) h.1) refl)
     refused_well (Solved n report) h = absurd h
     refused_well (Shown n) h = absurd h
     refused_well (Loaded n horizon loaded) h = absurd h
@@ -108,7 +112,7 @@ module _ (call : Call) (no_fault : ¬ Rose call.shelf.faults_before call.shelf.f
     ended_well ends answer (inl h) = refused_well answer h
     ended_well ends answer (inr h) =
         let same : Ok h.net ≡ Ok n = one_reading h.request (Ok h.net) h.read in
-        let same_net : h.net ≡ n = cc in
+        let same_net : h.net ≡ n = same_ok (Ok h.net) h.net n refl same in
         ends answer (subst (λ (m : Named). IsGiven call.shelf m asked_for answer) same_net
         (subst (λ (r : Request). IsGiven call.shelf h.net r answer) (one_request h.request h.read.asks) h.given))
 
@@ -165,16 +169,12 @@ module _ (call : Call) (no_fault : ¬ Rose call.shelf.faults_before call.shelf.f
     given_well answer (inl g) = inl (ap status_of g.1)
     given_well answer (inr (inl g)) =
         let same : Ok can.loads.pieces ≡ Ok g.2.pieces = one_loads (Ok g.2.pieces) g.2.read in
-        let pieces : can.loads.pieces ≡ g.2.pieces = cc in
+        let pieces : can.loads.pieces ≡ g.2.pieces = same_ok (Ok can.loads.pieces) can.loads.pieces g.2.pieces refl same in
         let passed : loading_list can.network.net can.loads.pieces can.horizon ≡ Err g.0 =
         ap (λ (p : List (List Piece)). loading_list can.network.net p can.horizon) pieces ∙ g.2.passes in
-        let computed : loading_list can.network.net can.loads.pieces can.horizon ≡ Ok can.loaded = can.computes in
-        let never : ⊥ = cc in
-        absurd never
+        absurd (ok_err (loading_list can.network.net can.loads.pieces can.horizon) can.loaded g.0 can.computes passed)
     given_well answer (inr (inr g)) =
-        let other : Ok can.loads.pieces ≡ Err g.0 = one_loads (Err g.0) g.2 in
-        let never : ⊥ = cc in
-        absurd never
+        absurd (ok_err (Ok can.loads.pieces) can.loads.pieces g.0 refl (one_loads (Err g.0) g.2))
 
     loaded_well : (answer : Answer) → IsAnswer call answer → EndsWell (status_of answer)
     loaded_well = answered_well call no_fault (Load can.file can.loads_name can.horizon) can.asks
@@ -207,16 +207,12 @@ module _ (call : Call) (no_fault : ¬ Rose call.shelf.faults_before call.shelf.f
     routed_well answer (inl g) = inl (ap status_of g.2)
     routed_well answer (inr (inl g)) =
         let same : Ok can.routes.routes ≡ Ok g.2.routes = one_routes (Ok g.2.routes) g.2.read in
-        let routes : can.routes.routes ≡ g.2.routes = cc in
+        let routes : can.routes.routes ≡ g.2.routes = same_ok (Ok can.routes.routes) can.routes.routes g.2.routes refl same in
         let passed : by_route_list can.network.net can.routes.routes can.horizon ≡ Err g.0 =
         ap (λ (r : List NamedRoute). by_route_list can.network.net r can.horizon) routes ∙ g.2.passes in
-        let computed : by_route_list can.network.net can.routes.routes can.horizon ≡ Ok can.routed = can.computes in
-        let never : ⊥ = cc in
-        absurd never
+        absurd (ok_err (by_route_list can.network.net can.routes.routes can.horizon) can.routed g.0 can.computes passed)
     routed_well answer (inr (inr g)) =
-        let other : Ok can.routes.routes ≡ Err g.0 = one_routes (Err g.0) g.2 in
-        let never : ⊥ = cc in
-        absurd never
+        absurd (ok_err (Ok can.routes.routes) can.routes.routes g.0 refl (one_routes (Err g.0) g.2))
 
     distributed_well : (answer : Answer) → IsAnswer call answer → EndsWell (status_of answer)
     distributed_well = answered_well call no_fault (Routes can.file can.routes_name can.horizon) can.asks
@@ -247,16 +243,12 @@ module _ (call : Call) (no_fault : ¬ Rose call.shelf.faults_before call.shelf.f
   verdict_well answer (inl g) = subst (λ (s : Status). EndsJudged s) (sym (ap status_of g.1)) (judged_well g.0)
   verdict_well answer (inr (inl g)) =
       let same : Ok can.report.report ≡ Ok g.2.report = one_reading_of (Ok g.2.report) g.2.read in
-      let report : can.report.report ≡ g.2.report = cc in
+      let report : can.report.report ≡ g.2.report = same_ok (Ok can.report.report) can.report.report g.2.report refl same in
       let passed : check_list passes_Q can.network.net.net can.report.report.flow ≡ Err g.0 =
       ap (λ (r : Report). check_list passes_Q can.network.net.net r.flow) report ∙ g.2.passes in
-      let computed : check_list passes_Q can.network.net.net can.report.report.flow ≡ Ok can.verdict = can.computes in
-      let never : ⊥ = cc in
-      absurd never
+      absurd (ok_err (check_list passes_Q can.network.net.net can.report.report.flow) can.verdict g.0 can.computes passed)
   verdict_well answer (inr (inr g)) =
-      let other : Ok can.report.report ≡ Err g.0 = one_reading_of (Err g.0) g.2 in
-      let never : ⊥ = cc in
-      absurd never
+      absurd (ok_err (Ok can.report.report) can.report.report g.0 refl (one_reading_of (Err g.0) g.2))
 
   checked_well : (answer : Answer) → IsAnswer call answer → EndsJudged (status_of answer)
   checked_well = answered_well call no_fault (Check can.file can.report_name) can.asks
@@ -288,9 +280,7 @@ module _ (call : Call) (no_fault : ¬ Rose call.shelf.faults_before call.shelf.f
   thin_well answer (inr (inl g)) = inr (inl (ap status_of g.0))
   thin_well answer (inr (inr (inl g))) = absurd (can.fits g.0 g.2)
   thin_well answer (inr (inr (inr g))) =
-      let other : Ok can.flows.given ≡ Err g.0 = one_flows (Err g.0) g.2 in
-      let never : ⊥ = cc in
-      absurd never
+      absurd (ok_err (Ok can.flows.given) can.flows.given g.0 refl (one_flows (Err g.0) g.2))
 
   settled_well : (answer : Answer) → IsAnswer call answer → EndsSettled (status_of answer)
   settled_well = answered_well call no_fault (Settle can.file can.flows_name) can.asks
@@ -316,17 +306,15 @@ module _ (call : Call) (no_fault : ¬ Rose call.shelf.faults_before call.shelf.f
   gone_well answer (inl g) = subst (λ (s : Status). EndsResumed s) (sym (ap status_of g.1)) (stop_well g.0.stop (λ phase place at e. can.goes g.0 phase place at g.2 e))
   gone_well answer (inr (inl g)) =
       let same : Ok can.report.report ≡ Ok g.2.old = one_old (Ok g.2.old) g.2.read in
-      let old : can.report.report ≡ g.2.old = cc in
+      let old : can.report.report ≡ g.2.old = same_ok (Ok can.report.report) can.report.report g.2.old refl same in
       absurd (g.2.refused.none (subst (λ (r : Report). Equilibrium can.network.net.net r.flow) old can.equilibrium))
   gone_well answer (inr (inr (inl g))) = absurd (can.fits g.0 g.2)
   gone_well answer (inr (inr (inr (inl g)))) =
       let same : Ok can.report.report ≡ Ok g.1.old = one_old (Ok g.1.old) g.1.read in
-      let old : can.report.report ≡ g.1.old = cc in
+      let old : can.report.report ≡ g.1.old = same_ok (Ok can.report.report) can.report.report g.1.old refl same in
       absurd (not_both_ℚ _ _ g.1.earlier (subst (λ (r : Report). r.flow.reached ≤ℚ can.horizon) old can.not_earlier))
   gone_well answer (inr (inr (inr (inr g)))) =
-      let other : Ok can.report.report ≡ Err g.0 = one_old (Err g.0) g.2 in
-      let never : ⊥ = cc in
-      absurd never
+      absurd (ok_err (Ok can.report.report) can.report.report g.0 refl (one_old (Err g.0) g.2))
 
   resumed_well : (answer : Answer) → IsAnswer call answer → EndsResumed (status_of answer)
   resumed_well = answered_well call no_fault (Resume can.file can.report_name can.horizon can.phases can.patterns) can.asks

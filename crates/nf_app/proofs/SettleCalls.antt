@@ -40,10 +40,16 @@ pub none_of : (test : Bool) (P N : Type 0) → MatchBool test P N → test ≡ f
 none_of true P N h e = let never : ⊥ = cc in absurd never
 none_of false P N h e = h
 
+ok_err : {A E : Type 0} (r : Result A E) (x : A) (e : E) → r ≡ Ok x → r ≡ Err e → ⊥
+ok_err r x e h k = cc
+
+same_err : {A E : Type 0} (r : Result A E) (d e : E) → r ≡ Err d → r ≡ Err e → d ≡ e
+same_err r d e h k = cc
+
 -- an operation that passes in a part
 passed_in : {A : Type 0} (part : Part) (r : Result A (Passed ℚ)) (at : PassedAt ℚ) → at_part part r ≡ Err at → (p : Passed ℚ) × (r ≡ Err p) × (placed part p ≡ at)
-passed_in part (Ok x) at e = let never : ⊥ = cc in absurd never
-passed_in part (Err p) at e = (p, refl, cc)
+passed_in part (Ok x) at e = absurd (ok_err (Ok x) x at refl e)
+passed_in part (Err p) at e = (p, refl, same_err (Err (placed part p)) (placed part p) at refl e)
 
 -- ---- the slacks, of the hops and labels that the call was given
 module _ (net : Network) (labels : List ℚ) (are : AreStartLabels net labels) (hops_now : List Hop) (labels_now : List ℚ) (hops_are : hops_now ≡ hops net) (labels_are : labels_now ≡ labels) where

@@ -1,4 +1,5 @@
 use Rattle.std.proofs.Common.{◌≡◌, ℕ, List, sym, subst}
+use Rattle.std.proofs.lemmas.Result.{err_from_is_err_and}
 use Rattle.nf_words.specs.Views.{requested}
 use Rattle.nf_outside.specs.Files.{Visit}
 use Rattle.nf_app.specs.Gathered.{OtherFits, OtherIsTold}
@@ -7,6 +8,11 @@ use Rattle.nf_app.proofs.answering.answer_request.Goals as goal
 
 pub find-requires-clause-fits : goal.find-requires-clause-fits
 find-requires-clause-fits g c = subst (λ (t : List ℕ). OtherFits (requested c.args.request.now) t) (sym c.deref.ensures.value) c.in_ok-net.ensures.fits
+
+pub returns-in_err-net : goal.returns-in_err-net
+returns-in_err-net g c words asks =
+    let p = err_from_is_err_and c.from_residual.result c.from_residual.ensures.1 in
+    rw (p.1, p.2) (c.in_err-net.ensures.gathered words asks)
 
 pub returns : goal.returns
 returns g c words asks =

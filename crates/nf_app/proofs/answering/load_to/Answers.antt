@@ -24,3 +24,9 @@ returns c shelf file name told = (
       (λ e. subst (λ (l : List (List Piece)). ArePieces (pieces_at l e)) c.loads.view_is (c.loads.invariant.each e)),
   c.in_ok-links.ensures.many,
 )
+
+pub load_links-requires-clause-many : goal.load_links-requires-clause-many
+load_links-requires-clause-many c = c.in_ok-loads.ensures.links
+
+pub load_links-requires-clause-horizon : goal.load_links-requires-clause-horizon
+load_links-requires-clause-horizon c = c.requires.horizon

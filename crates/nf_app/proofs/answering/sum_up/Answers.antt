@@ -2,8 +2,12 @@ use Rattle.std.proofs.Common.{ℕ, ◌<◌, refl, sym, subst}
 use Rattle.nf_phase.specs.Solution.{bounds_of, report_in}
 use Rattle.nf_work.specs.Passing.{passes_Q}
 use Rattle.nf_complete_laws.proofs.Stopped.{stops_for_none}
-use Rattle.nf_app.proofs.QuickTold.{at_sink, last_is_label}
+use Rattle.nf_app.proofs.QuickTold.{sink_in, at_sink, last_is_label}
 use Rattle.nf_app.proofs.answering.sum_up.Goals as goal
+
+pub last_label-arrival-requires : goal.last_label-arrival-requires
+last_label-arrival-requires c =
+    sink_in c.args.net.now.net c.in_ok-solution.solution.flow c.sink.result c.sink.ensures.node c.in_ok-solution.ensures.well_formed.shape.labels.count
 
 pub returns : goal.returns
 returns c shelf =

@@ -2,18 +2,42 @@ use Rattle.std.proofs.Common.{◌≡◌, List, sym, ap, subst}
 use Rattle.std.specs.Prelude.{Result}
 use Rattle.std.proofs.lemmas.Result.{err_from_is_err_and}
 use Rattle.nf_rational.specs.Rational.{ℚ}
+use Rattle.nf_rational.specs.Operations.{0ℚ}
+use Rattle.nf_rational.specs.Order.{◌≤ℚ◌}
 use Rattle.nf_work.specs.declared.Part.TheVariants.{Load}
 use Rattle.nf_work.specs.declared.PassedAt.{PassedAt}
 use Rattle.nf_work.specs.Passing.{passes_Q}
 use Rattle.nf_work.specs.Checked.{at_part, Gives}
 use Rattle.nf_model.specs.Curve.{Point}
 use Rattle.nf_model.specs.Network.{Link}
+use Rattle.nf_model_laws.specs.Capacity.{IsPositive}
 use Rattle.nf_load_lists.specs.Cumulative.{checked_cumulative}
 use Rattle.nf_load_lists.specs.Loading as lists
 use Rattle.nf_load_lists.specs.Loads.{load_link_list}
 use Rattle.nf_curve.proofs.Exits.{after_err, after_ok, stops_on}
 use Rattle.nf_load.specs.Loadings.{loaded_of}
 use Rattle.nf_app.proofs.loading.load_by_pieces.Goals as goal
+
+pub cumulative-requires-clause-pieces : goal.cumulative-requires-clause-pieces
+cumulative-requires-clause-pieces c = c.requires.pieces
+
+pub cumulative-requires-clause-until : goal.cumulative-requires-clause-until
+cumulative-requires-clause-until c = c.requires.horizon
+
+pub load_link-requires-clause-transit : goal.load_link-requires-clause-transit
+load_link-requires-clause-transit c = subst (λ (l : Link). 0ℚ ≤ℚ l.transit) (sym c.link.view_is) c.requires.transit
+
+pub load_link-requires-clause-capacity : goal.load_link-requires-clause-capacity
+load_link-requires-clause-capacity c = subst (λ (l : Link). IsPositive l.capacity) (sym c.link.view_is) c.requires.capacity
+
+pub load_link-requires-clause-begins : goal.load_link-requires-clause-begins
+load_link-requires-clause-begins c = c.in_ok-inflow.ensures.amount.begins
+
+pub load_link-requires-clause-rises : goal.load_link-requires-clause-rises
+load_link-requires-clause-rises c = c.in_ok-inflow.ensures.amount.rises
+
+pub load_link-requires-clause-until : goal.load_link-requires-clause-until
+load_link-requires-clause-until c = c.requires.horizon
 
 pub returns-in_err-inflow : goal.returns-in_err-inflow
 unfolding load_link_list

@@ -1,6 +1,6 @@
-use Rattle.std.proofs.Common.{◌≡◌, ℕ, ◌+◌, List, [], ◌∷◌, ◌++◌, length, drop, refl, sym, ap, subst, ◌∙◌, arith}
+use Rattle.std.proofs.Common.{◌≡◌, ℕ, ◌+◌, ◌<◌, List, [], ◌∷◌, ◌++◌, length, drop, refl, sym, ap, subst, ◌∙◌, arith}
 use Rattle.std.specs.Prelude.{Ok, Err, Result, zip, map}
-use Rattle.std.proofs.lemmas.Result.{err_from_is_err_and}
+use Rattle.std.proofs.lemmas.Result.{IfOk-from_err, err_from_is_err_and}
 use Rattle.std.proofs.lemmas.List.{map-append, length-append}
 use Rattle.nf_rational.specs.Rational.{ℚ}
 use Rattle.nf_work.specs.declared.Part.TheVariants.{Load}
@@ -16,8 +16,31 @@ use Rattle.nf_readings.specs.LoadsFile.{pieces_at}
 use Rattle.nf_load.specs.Loadings.{loaded_of}
 use Rattle.nf_load.specs.declared.loading.Loaded as code
 use Rattle.nf_app.specs.Given.{loading_list}
-use Rattle.nf_app.proofs.LinkLoads.{zip_next, zip_ends}
+use Rattle.nf_app.proofs.LinkLoads.{no_front, zip_next, zip_ends}
 use Rattle.nf_app.proofs.loading.load_links.Goals as goal
+
+pub loop-link-init : goal.loop-link-init
+loop-link-init c = (
+  ap length c.new-loaded.ensures.items,
+  ap (λ (l : List code.Loaded). with_front (map loaded_of l) (each (load_link_list passes_Q c.args.horizon) (zip c.args.net.now.net.links c.args.loads.now))) c.new-loaded.ensures.items
+      ∙ no_front (each (load_link_list passes_Q c.args.horizon) (zip c.args.net.now.net.links c.args.loads.now)),
+)
+
+pub returns-in_err-loading-clause-many : goal.returns-in_err-loading-clause-many
+returns-in_err-loading-clause-many c = IfOk-from_err c.from_residual.result _ c.from_residual.ensures.0
+
+pub returns-in_err-push-clause-many : goal.returns-in_err-push-clause-many
+returns-in_err-push-clause-many c = IfOk-from_err c.from_residual-in_err-push.result _ c.from_residual-in_err-push.ensures.0
+
+pub returns-in_err-push-clause-list : goal.returns-in_err-push-clause-list
+returns-in_err-push-clause-list c =
+    let p = err_from_is_err_and c.from_residual-in_err-push.result c.from_residual-in_err-push.ensures.1 in rw (p.1, p.2) tt
+
+pub pieces-supplied-requires : goal.pieces-supplied-requires
+pieces-supplied-requires c = subst (λ (n : ℕ). c.loop-link.link < n) (c.link_count-link-end.ensures ∙ sym c.requires.many) c.loop-link-test.true
+
+pub link-here-requires : goal.link-here-requires
+link-here-requires c = subst (λ (n : ℕ). c.loop-link.link < n) c.link_count-link-end.ensures c.loop-link-test.true
 
 pub returns-in_err-loading-clause-list : goal.returns-in_err-loading-clause-list
 unfolding load_list
