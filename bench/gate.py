@@ -67,29 +67,38 @@ def note(seen, pid, start, seconds):
     seen[pid, start] = Seen(seconds, words, folder)
 
 
-def kind_of(process, programs, seeds):
-    """Returns the crate that a process is for, or "", and what it does for it."""
+def kept_of(process):
+    """Returns the folder that a check keeps its results in, or ""."""
+    words = process.words
+    return words[words.index("--incremental") + 1] if "--incremental" in words else ""
+
+
+def kind_of(process, programs, last):
+    """Returns the crate that a process is for, or "", and what it does for it.
+
+    Of the checks over one seed, the last ends the edits; the ones before begin them.
+    """
     words = process.words
     if "--crate-name" not in words:
         return "", os.path.basename(words[0]) if words and words[0] else "other"
     crate = words[words.index("--crate-name") + 1]
     if "/rt-edit-" in process.folder:
-        kept = words[words.index("--incremental") + 1] if "--incremental" in words else None
-        if kept is None:
+        kept = kept_of(process)
+        if not kept:
             return crate, "one edit alone"
         if not kept.endswith("/seed"):
             return crate, "edit"
-        seeds[kept] += 1
-        return crate, "check that begins edits" if seeds[kept] == 1 else "check that ends edits"
+        return crate, "check that ends edits" if last[kept] is process else "check that begins edits"
     return crate, "program" if crate in programs else "library"
 
 
 def told(seen, programs):
     """Prints the sums by kind, and the dearest crates of each."""
-    kinds, crates, seeds = collections.Counter(), collections.defaultdict(collections.Counter), collections.Counter()
-    count = collections.Counter()
-    for _, process in sorted(seen.items(), key=lambda it: (it[0][1], it[0][0])):
-        crate, kind = kind_of(process, programs, seeds)
+    kinds, crates, count = collections.Counter(), collections.defaultdict(collections.Counter), collections.Counter()
+    processes = [process for _, process in sorted(seen.items(), key=lambda it: (it[0][1], it[0][0]))]
+    last = {kept_of(process): process for process in processes}
+    for process in processes:
+        crate, kind = kind_of(process, programs, last)
         kinds[kind] += process.seconds
         count[kind] += 1
         crates[kind][crate] += process.seconds
