@@ -9,11 +9,12 @@ use Rattle.nf_work.specs.Checked.{at_part, placed, ◌>>=◌}
 use Rattle.nf_work.specs.declared.Part.TheVariants.{Slack, Extend, Advance, Curve}
 use Rattle.nf_work.specs.declared.Passed.{Passed}
 use Rattle.nf_work.specs.declared.PassedAt.{PassedAt}
+use Rattle.nf_model.specs.Curve.{IsShort}
 use Rattle.nf_model.specs.Network.{Network, hops, rate_at}
 use Rattle.nf_model.specs.ThinFlow.{slacks_of, sets_at}
 use Rattle.nf_model.specs.Pattern.{Pattern, IsBase}
 use Rattle.nf_model.specs.Phases.{AreStartLabels, IsPhaseLength}
-use Rattle.nf_model.specs.Equilibrium.{Flow}
+use Rattle.nf_model.specs.Equilibrium.{Flow, points_at, points_of}
 use Rattle.nf_formats.specs.declared.Cause.{Cause}
 use Rattle.nf_formats.specs.Report.{Report}
 use Rattle.nf_lists.specs.Slack.{slack_list}
@@ -142,6 +143,13 @@ flow_of s = record {
   outflows = map (λ curves. curves.outflow) s.link_curves;
   queues = map (λ curves. curves.queue.points) s.link_curves;
 }
+
+-- each curve of a flow is in short form: it has one point, or its slopes change at each inner point
+pub record IsShortFlow (net : Network) (flow : Flow) : Type 0 where
+  pub labels : (v : ℕ) → v < net.nodes → IsShort (points_at flow.labels v)
+  pub inflows : (e : ℕ) → e < length net.links → IsShort (points_at (points_of flow.inflows) e)
+  pub outflows : (e : ℕ) → e < length net.links → IsShort (points_at (points_of flow.outflows) e)
+  pub queues : (e : ℕ) → e < length net.links → IsShort (points_at flow.queues e)
 
 abbrev pub report_of : ℚ → Standing → Option (Cause ℚ) → Report
 report_of horizon s stop = record { horizon = horizon; flow = flow_of s; stop = stop; last = s.last }

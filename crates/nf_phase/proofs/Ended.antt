@@ -18,11 +18,10 @@ use Rattle.nf_model.specs.Equilibrium.{Equilibrium}
 use Rattle.nf_formats.specs.declared.Cause.{Cause}
 use Rattle.nf_formats.specs.Report.{Report, IsWellFormed}
 use Rattle.nf_formats_laws.proofs.ReportFacts.{well_formed}
-use Rattle.nf_lists.specs.PhaseRun.{Standing, Bounds, IsStart, Goes, Fails, at_slack, at_search, at_lists, IsPhaseRun, flow_of, report_of}
+use Rattle.nf_lists.specs.PhaseRun.{Standing, Bounds, IsStart, Goes, Fails, at_slack, at_search, at_lists, IsPhaseRun, IsShortFlow, flow_of, report_of}
 use Rattle.nf_lists.specs.PhaseRun.{Runs, at_horizon as at_horizon_of_run, at_phases as at_phases_of_run, fails as fails_of_run, goes as goes_of_run}
 use Rattle.nf_resume_lists.specs.Open.{Continues, Steps, continues, begins, RunsOn, at_horizon, at_phases, fails, steps}
 use Rattle.nf_resume_laws.proofs.FirstPlace.{closed-at_start}
-use Rattle.nf_run_laws.specs.RunLaws.{IsShortFlow}
 use Rattle.nf_run_laws.proofs.Sequence.{sequence_ends}
 use Rattle.nf_run_laws.proofs.ShortRun.{run_keeps}
 use Rattle.nf_curve.specs.Flows.{flow_of as flow_in}

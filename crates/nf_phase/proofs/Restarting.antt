@@ -14,7 +14,7 @@ use Rattle.nf_model.specs.Pattern.{Pattern}
 use Rattle.nf_model.specs.Equilibrium.{Trace, Flow, points_at, points_of, label, Equilibrium}
 use Rattle.nf_model_laws.proofs.Curves.{EndsAt-value}
 use Rattle.nf_lists.specs.ReportCurves.{GrowingCurve, LinkCurves}
-use Rattle.nf_lists.specs.PhaseRun.{Standing, flow_of}
+use Rattle.nf_lists.specs.PhaseRun.{Standing, IsShortFlow, flow_of}
 use Rattle.nf_lists.specs.Ends.{end_of}
 use Rattle.nf_curve_lists.specs.Lines.{checked_slope}
 use Rattle.nf_curve_laws.proofs.Operations.{then_ok}
@@ -23,7 +23,6 @@ use Rattle.nf_run_laws.proofs.ShortRun.{AreShort, ShortRun}
 use Rattle.nf_run_laws.proofs.WellRun.{label_points, inflow_points, outflow_points, queue_points, WellRun}
 use Rattle.nf_resume_lists.specs.Restoring.{link_curves_of, standing_of, last_slope, growing, restore_list}
 use Rattle.nf_resume_lists.specs.Resuming.{cut_flow}
-use Rattle.nf_resume_lists.specs.Meanings.{IsShortFlow}
 use Rattle.nf_resume_lists.specs.Open.{with_last}
 use Rattle.nf_resume_laws.proofs.CutShort.{IsShortCut}
 use Rattle.nf_resume_laws.proofs.CutFlow.{each_length, entry_of, IsCutFlow, cut_flow-is}

@@ -1,4 +1,4 @@
--- The flow of a run may be given out, and a run restored from it.
+-- The flow of a run may be given out, and a run restored from it. (That its curves are in short form is `short_reached`.)
 use Rattle.std.proofs.Common.{◌≡◌, ℕ, ◌<◌, length, ap, ◌∙◌, arith}
 use Rattle.std.specs.Prelude.{Option, Some, is_none, slice_get}
 use Rattle.std.specs.Option.{option_map}
@@ -12,13 +12,12 @@ use Rattle.nf_lists.specs.ReportCurves.{LinkCurves}
 use Rattle.nf_lists.specs.PhaseRun.{Standing, flow_of}
 use Rattle.nf_lists.specs.Ends.{end_of, EndsAtLabels}
 use Rattle.nf_run_laws.proofs.WellRun.{label_points, inflow_points, outflow_points, queue_points}
-use Rattle.nf_resume_lists.specs.Meanings.{IsShortFlow}
 use Rattle.nf_plain_laws.proofs.Entries.{entry}
 use Rattle.nf_phase.specs.Restarting.{EndsAtItsLabels, NoneFull}
 use Rattle.nf_phase.specs.Stepping.{Reaches}
 use Rattle.nf_phase.proofs.Reached.{Stands, Stands-reached}
 use Rattle.nf_phase.proofs.Stepped.{ends_reached}
-use Rattle.nf_phase.proofs.ShortReached.{short_reached, keeps_reached}
+use Rattle.nf_phase.proofs.ShortReached.{keeps_reached}
 
 module _ (passes : Passing) (net : Network) (good : IsNetwork net) (s : Standing) (reaches : Reaches passes net s) where
   stands : Stands net s
@@ -40,11 +39,6 @@ module _ (passes : Passing) (net : Network) (good : IsNetwork net) (s : Standing
     outflows = λ e link p. (let c = curves_at e link p in ap end_of (outflow_points s e c.0 c.1) ∙ ends.outflows e link c.0 p c.1 ∙ kept link.head (good.heads e link p));
     queues = λ e link p. (let c = curves_at e link p in ap end_of (queue_points s e c.0 c.1) ∙ ends.queues e link c.0 p c.1 ∙ kept link.tail (good.tails e link p));
   }
-
-  pub short_told : IsShortFlow net (flow_of s)
-  short_told =
-      let short = short_reached passes net good s reaches in
-      record { labels = short.labels; inflows = short.inflows; outflows = short.outflows; queues = short.queues }
 
   pub states_told : length s.last ≡ length net.links
   states_told = stands.last_count

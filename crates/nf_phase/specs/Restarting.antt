@@ -9,10 +9,9 @@ use Rattle.nf_model.specs.declared.State.TheVariants.{Full}
 use Rattle.nf_model.specs.Pattern.{Pattern, HasState}
 use Rattle.nf_model.specs.Equilibrium.{Flow, points_at, points_of, label, Equilibrium}
 use Rattle.nf_lists.specs.Signs.{is_same}
-use Rattle.nf_lists.specs.PhaseRun.{Standing}
+use Rattle.nf_lists.specs.PhaseRun.{Standing, IsShortFlow}
 use Rattle.nf_lists.specs.Ends.{end_of}
 use Rattle.nf_resume_lists.specs.Restoring.{restore_list}
-use Rattle.nf_resume_lists.specs.Meanings.{IsShortFlow}
 use Rattle.nf_resume_lists.specs.Open.{with_last}
 use Rattle.nf_phase.specs.declared.phase.Phase.{Phase}
 use Rattle.nf_phase.specs.Finding.{after_phase}

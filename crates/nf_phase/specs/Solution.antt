@@ -7,9 +7,9 @@ use Rattle.nf_model.specs.Phases.{IsPhaseSequence}
 use Rattle.nf_model.specs.Equilibrium.{Equilibrium}
 use Rattle.nf_formats.specs.declared.Cause.{Cause}
 use Rattle.nf_formats.specs.Report.{Report, IsWellFormed}
-use Rattle.nf_lists.specs.PhaseRun.{Standing, Bounds, IsRunReport, report_of}
+use Rattle.nf_lists.specs.PhaseRun.{Standing, Bounds, IsRunReport, IsShortFlow, report_of}
 use Rattle.nf_resume_lists.specs.Open.{RunsOn}
-use Rattle.nf_run_laws.specs.RunLaws.{IsShortFlow, KeepsLabels, reached_by}
+use Rattle.nf_run_laws.specs.RunLaws.{KeepsLabels, reached_by}
 use Rattle.nf_curve.specs.Flows.{flow_of}
 use Rattle.nf_thin.specs.declared.fault.SearchFault.TheVariants as SearchFault
 use Rattle.nf_phase.specs.declared.fault.StepFault.{StepFault}

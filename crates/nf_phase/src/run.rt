@@ -3,11 +3,11 @@ ghost use Rattle.std.specs.Prelude.{◌≡◌, ◌<◌, ◌^◌, ◌-◌, MatchO
 ghost use Rattle.nf_rational.specs.Order.{◌<ℚ◌};
 ghost use Rattle.nf_work.specs.Passing.{passes_Q};
 ghost use Rattle.nf_model.specs.Equilibrium.{Equilibrium};
-ghost use Rattle.nf_lists.specs.PhaseRun.{IsStart, Goes, flow_of};
+ghost use Rattle.nf_lists.specs.PhaseRun.{IsStart, Goes, IsShortFlow, flow_of};
 ghost use Rattle.nf_lists.specs.Ends.{EndsAtLabels};
 ghost use Rattle.nf_resume_lists.specs.Open.{Continues, Steps};
 ghost use Rattle.nf_forever_lists.specs.ForeverRun.{GoesToEnd, GoesForever};
-ghost use Rattle.nf_run_laws.specs.RunLaws.{IsShortFlow, KeepsLabels, reached_by};
+ghost use Rattle.nf_run_laws.specs.RunLaws.{KeepsLabels, reached_by};
 ghost use Rattle.nf_curve.specs.Flows.{flow_of as flow_in};
 ghost use Rattle.nf_phase.specs.Stepping.{Reaches, IsCause, IsCauseOn, LeadsOnlyTo, tail_of};
 

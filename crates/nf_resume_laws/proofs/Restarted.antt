@@ -18,9 +18,10 @@ use Rattle.nf_phase_laws.specs.CurveRun.{curves_of}
 use Rattle.nf_phase_laws.proofs.Holds.{link_within, IsNashFlow-from_HoldsUpTo}
 use Rattle.nf_phase_laws.proofs.Description.{IsOutflow-described, IsQueue-described}
 use Rattle.nf_phase_laws.proofs.CurveRun.{Grown}
+use Rattle.nf_lists.specs.PhaseRun.{IsShortFlow}
 use Rattle.nf_resume_lists.specs.Restoring.{value_at_end}
 use Rattle.nf_resume_lists.specs.Resuming.{cut_flow}
-use Rattle.nf_resume_lists.specs.Meanings.{GoesOnFrom, IsShortFlow}
+use Rattle.nf_resume_lists.specs.Meanings.{GoesOnFrom}
 use Rattle.nf_resume_laws.proofs.Printed.{label-nn, rises-link}
 use Rattle.nf_resume_laws.proofs.Invariant.{HoldsUpTo-equilibrium, DescribesLinks-equilibrium}
 use Rattle.nf_resume_laws.proofs.Same.{AgreeUpTo, HoldsUpTo-same, DescribesLinks-same}

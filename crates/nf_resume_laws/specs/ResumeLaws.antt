@@ -13,9 +13,9 @@ use Rattle.nf_phase_laws.specs.Invariant.{HoldsUpTo}
 use Rattle.nf_phase_laws.specs.Description.{DescribesLinks}
 use Rattle.nf_resume_lists.specs.Resuming.{cut_flow}
 use Rattle.nf_formats.specs.Report.{Report}
-use Rattle.nf_lists.specs.PhaseRun.{Standing, Bounds, IsStart}
+use Rattle.nf_lists.specs.PhaseRun.{Standing, Bounds, IsStart, IsShortFlow}
 use Rattle.nf_resume_lists.specs.Open.{IsOpen, Continues}
-use Rattle.nf_resume_lists.specs.Meanings.{GoesOnFrom, IsShortFlow, IsResumedReport}
+use Rattle.nf_resume_lists.specs.Meanings.{GoesOnFrom, IsResumedReport}
 
 -- of an equilibrium, whoever made it, the invariant of phases holds up to the departure that it reached, and it describes its links
 pub record EquilibriumHasInvariant : Type 0 where

@@ -1,13 +1,13 @@
 -- What resuming a report has to give.
-use Rattle.std.specs.Prelude.{◌≡◌, ℕ, ◌<◌, ◌≤◌, length, Option, Ok, IsOk}
+use Rattle.std.specs.Prelude.{◌≡◌, ℕ, ◌<◌, ◌≤◌, Option, Ok, IsOk}
 use Rattle.nf_rational.specs.Rational.{ℚ}
 use Rattle.nf_rational.specs.Operations.{0ℚ}
 use Rattle.nf_rational.specs.Order.{◌≤ℚ◌}
 use Rattle.nf_work.specs.Passing.{Passing}
-use Rattle.nf_model.specs.Curve.{Within, IsShort}
+use Rattle.nf_model.specs.Curve.{Within}
 use Rattle.nf_model.specs.Network.{Link, Network, IsLink}
 use Rattle.nf_model.specs.Pattern.{Pattern}
-use Rattle.nf_model.specs.Equilibrium.{Flow, label, inflow, outflow, queue, points_at, points_of}
+use Rattle.nf_model.specs.Equilibrium.{Flow, label, inflow, outflow, queue}
 use Rattle.nf_formats.specs.declared.Cause.{Cause}
 use Rattle.nf_formats.specs.Report.{Report}
 use Rattle.nf_lists.specs.Accepted.{pattern_lists}
@@ -25,13 +25,6 @@ pub record GoesOnFrom (net : Network) (old new : Flow) : Type 0 where
   pub inflows : (e : ℕ) (link : Link) (time : ℚ) → IsLink net e link → Within 0ℚ (label old link.tail old.reached) time → inflow new e time ≡ inflow old e time
   pub outflows : (e : ℕ) (link : Link) (time : ℚ) → IsLink net e link → Within 0ℚ (label old link.head old.reached) time → outflow new e time ≡ outflow old e time
   pub queues : (e : ℕ) (link : Link) (time : ℚ) → IsLink net e link → Within 0ℚ (label old link.tail old.reached) time → queue new e time ≡ queue old e time
-
--- each curve has one point, or its slopes change at each inner point
-pub record IsShortFlow (net : Network) (flow : Flow) : Type 0 where
-  pub labels : (v : ℕ) → v < net.nodes → IsShort (points_at flow.labels v)
-  pub inflows : (e : ℕ) → e < length net.links → IsShort (points_at (points_of flow.inflows) e)
-  pub outflows : (e : ℕ) → e < length net.links → IsShort (points_at (points_of flow.outflows) e)
-  pub queues : (e : ℕ) → e < length net.links → IsShort (points_at flow.queues e)
 
 -- a report is resumed: the run that stands at its end goes on, with its phases counted from there
 pub record IsResumed (passes : Passing) (net : Network) (bounds : Bounds) (old : Report) (last : Standing) (stop : Option (Cause ℚ)) : Type 0 where

@@ -14,9 +14,9 @@ use Rattle.nf_formats.specs.Report.{Report}
 use Rattle.nf_lists.specs.Signs.{is_positive}
 use Rattle.nf_lists.specs.CurveList.{LinkStep}
 use Rattle.nf_lists.specs.ReportCurves.{GrowingCurve, LinkCurves, curve_with, label_curves_after, curves_after, link_curves_after, first_label_curve, first_trace, first_queue, first_curves}
-use Rattle.nf_lists.specs.PhaseRun.{Standing, PhaseStep, Bounds, IsStart, Goes, Runs, at_horizon, at_phases, fails, goes, IsPhaseRun, IsRunReport, standing_after, flow_of}
+use Rattle.nf_lists.specs.PhaseRun.{Standing, PhaseStep, Bounds, IsStart, Goes, Runs, at_horizon, at_phases, fails, goes, IsPhaseRun, IsRunReport, IsShortFlow, standing_after, flow_of}
 use Rattle.nf_lists_laws.proofs.Ending.{from_map}
-use Rattle.nf_run_laws.specs.RunLaws.{IsShortFlow, KeepsLabels}
+use Rattle.nf_run_laws.specs.RunLaws.{KeepsLabels}
 use Rattle.nf_run_laws.proofs.Points.{LastSlope}
 use Rattle.nf_run_laws.proofs.Short.{IsShortCurve, IsShortCurve-with, IsShortCurve-queue, IsShort-trace}
 use Rattle.nf_run_laws.proofs.WellRun.{label_points, inflow_points, outflow_points, queue_points, WellRun, WellRun-start}

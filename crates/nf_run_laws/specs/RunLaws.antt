@@ -4,15 +4,15 @@ use Rattle.nf_rational.specs.Rational.{ℚ}
 use Rattle.nf_rational.specs.Operations.{0ℚ}
 use Rattle.nf_work.specs.Passing.{Passing}
 use Rattle.nf_model.specs.Entries.{number_at}
-use Rattle.nf_model.specs.Curve.{Within, IsShort}
+use Rattle.nf_model.specs.Curve.{Within}
 use Rattle.nf_model.specs.Network.{Network, IsNetwork, ArePieces}
 use Rattle.nf_model.specs.Earliest.{IsEarliest}
 use Rattle.nf_model.specs.Phases.{IsExtension, IsUnending, IsPhaseSequence}
-use Rattle.nf_model.specs.Equilibrium.{Flow, points_at, points_of, label, inflow, HasShape, HasSlopes, Equilibrium}
+use Rattle.nf_model.specs.Equilibrium.{label, inflow, HasShape, HasSlopes, Equilibrium}
 use Rattle.nf_formats.specs.declared.Cause.{Cause}
 use Rattle.nf_formats.specs.Report.{Report}
 use Rattle.nf_lists.specs.Extend.{extend_list}
-use Rattle.nf_lists.specs.PhaseRun.{Standing, Bounds, IsPhaseRun, IsRunReport, flow_of}
+use Rattle.nf_lists.specs.PhaseRun.{Standing, Bounds, IsPhaseRun, IsRunReport, IsShortFlow, flow_of}
 use Rattle.nf_phase_laws.specs.CurveRun.{GrowByPhases, curves_of}
 
 -- the curves of a run grow phase by phase from the start
@@ -35,13 +35,6 @@ abbrev pub RunReportIsEquilibrium : Type 0
 RunReportIsEquilibrium = (passes : Passing) (net : Network) (bounds : Bounds) (report : Report) → IsNetwork net → IsRunReport passes net bounds report → Equilibrium net report.flow
 
 -- ---- short form
-
--- each curve of a flow is in short form
-pub record IsShortFlow (net : Network) (flow : Flow) : Type 0 where
-  pub labels : (v : ℕ) → v < net.nodes → IsShort (points_at flow.labels v)
-  pub inflows : (e : ℕ) → e < length net.links → IsShort (points_at (points_of flow.inflows) e)
-  pub outflows : (e : ℕ) → e < length net.links → IsShort (points_at (points_of flow.outflows) e)
-  pub queues : (e : ℕ) → e < length net.links → IsShort (points_at flow.queues e)
 
 -- the curves of a run are in short form, and so are those of its report
 pub record RunIsShort : Type 0 where
