@@ -96,10 +96,11 @@ fn know_traces(traces: &[Trace])
 }
 
 /// Whether a flow is an equilibrium of a network up to the departure that it reached: Yes exactly where it is one. A No has the first
-/// rule that is broken, the first node or link that breaks it, the first time at which it does, and the two values that differ there.
-/// The flow has a label for each node, and an inflow, an outflow and a queue for each link; its traces have one rate fewer than points,
-/// and the departure reached is at least 0. Passed comes exactly at the first operation of its list that passes, and has part Check or
-/// Load.
+/// rule that is broken, the first node or link that breaks it, a time, and two values that differ. The time is that of the first point
+/// that breaks the rule (C1, C2), the first corner at which two curves differ, which may differ earlier already, between two corners
+/// (C3 to C7), or a departure on the first stretch on which a link takes flow and its exit isn't the label of its head (C8). The flow
+/// has a label for each node, and an inflow, an outflow and a queue for each link; its traces have one rate fewer than points, and the
+/// departure reached is at least 0. Passed comes exactly at the first operation of its list that passes, and has part Check or Load.
 pub fn check(alloc: Global, net: &Network, flow: &Flow) -> Result<Answer, Halt<Q>>
     requires labels { length flow.now.labels.items ≡ net.now.net.nodes }
     requires inflows { length flow.now.inflows.items ≡ length net.now.net.links }
