@@ -4,7 +4,7 @@
 //! speak of it. The real ones are the trusted edge of the program: they tell no bytes, and count their faults.
 #![tactic(auto)]
 
-ghost use Rattle.std.specs.Prelude.{◌≡◌, ◌⊎◌, ℕ, ◌<◌, ◌≤◌, List, [], ◌∷◌, ◌++◌, length, take, Option, IfOk, IfSome, OnErr, IsErrOf};
+ghost use Rattle.std.specs.Prelude.{◌≡◌, ◌⊎◌, ℕ, ◌+◌, ◌<◌, ◌≤◌, List, [], ◌∷◌, ◌++◌, length, take, Option, IfOk, IfSome, OnErr, IsErrOf};
 ghost use Rattle.nf_edge.specs.Faults.{Rose};
 ghost use Rattle.nf_edge.specs.Taken.{with_more};
 ghost use Rattle.nf_edge.specs.declared.FetchFault.TheVariants as FetchFault;
@@ -66,7 +66,7 @@ pub trait Shelf {
     /// The names fetched so far.
     ghost asked: { Self → List (List ℕ) };
 
-    /// The bytes under the name, which are at most `limit`.
+    /// The bytes under the name, which are at most `limit`. It takes one byte more at most.
     fn fetch(&mut self, alloc: Global, name: &str, limit: u32) -> Result<Vec<u8>, FetchFault>
         ensures taken { IfOk result (λ bytes. taken self.new ≡ length bytes.items) }
         ensures told { IfOk result (λ bytes. IfSome (told self.old name.now) (λ held. bytes.items ≡ held)) }
@@ -75,6 +75,9 @@ pub trait Shelf {
         // The outside's failure is counted.
         ensures failed { IsErrOf result FetchFault.Failed → Rose (faults self.old) (faults self.new) }
         ensures never_falls { faults self.old ≤ faults self.new }
+
+        // Whatever it answers, it has taken no more than the limit and one byte.
+        ensures at_most { taken self.new ≤ limit + 1 }
 
         // TooLong comes exactly where more than the limit was taken.
         ensures too_long { IsErrOf result FetchFault.TooLong → limit < taken self.new }

@@ -18,6 +18,7 @@ const TURN: usize = 4096;
 /// Reads a file to its end, in turns that each take at least one byte. It stops at one byte more than the limit.
 fn read_file<F: Read>(file: &mut F, bytes: &mut Vec<u8>, limit: u32) -> Result<(), FetchFault>
     requires { bytes.old.items ≡ [] }
+    ensures at_most { length bytes.new.items ≤ limit + 1 }
     ensures within { OnOk result (length bytes.new.items ≤ limit) }
     ensures too_long { IsErrOf result FetchFault.TooLong → length bytes.new.items ≡ limit + 1 }
     ensures long { limit < length bytes.new.items → IsErrOf result FetchFault.TooLong }
@@ -49,6 +50,7 @@ fn read_named<R: Files>(
     limit: u32,
 ) -> Result<(), FetchFault>
     requires { bytes.old.items ≡ [] }
+    ensures at_most { length bytes.new.items ≤ limit + 1 }
     ensures within { OnOk result (length bytes.new.items ≤ limit) }
     ensures too_long { IsErrOf result FetchFault.TooLong → length bytes.new.items ≡ limit + 1 }
     ensures long { limit < length bytes.new.items → IsErrOf result FetchFault.TooLong }
