@@ -5,7 +5,9 @@ ghost use Rattle.nf_work.specs.Passing.{passes_Q};
 ghost use Rattle.nf_work.specs.Checked.{at_part, Gives};
 ghost use Rattle.nf_model.specs.Equilibrium.{Equilibrium};
 ghost use Rattle.nf_lists.specs.PhaseRun.{IsShortFlow, flow_of};
+ghost use Rattle.nf_lists.specs.Ends.{EndsAtLabels};
 ghost use Rattle.nf_resume_lists.specs.Restoring.{value_at_end, restore_list};
+ghost use Rattle.nf_run_laws.specs.RunLaws.{KeepsLabels};
 ghost use Rattle.nf_curve.specs.Flows.{flow_of as flow_in};
 ghost use Rattle.nf_phase.specs.Restarting.{EndsAtItsLabels, NoneFull};
 ghost use Rattle.nf_phase.specs.Stepping.{Reaches};
@@ -33,8 +35,8 @@ fn end_values(alloc: Global, curves: &[Curve]) -> Result<Vec<Q>, AllocError>
 impl Run {
     /// The run that stands where a flow ends, with no phase made since. The flow is an equilibrium whose curves are in short form and end
     /// at its labels at the departure reached, and `last` has of each link its state or none, and never Full of an unbounded link. The
-    /// run keeps the slopes of the last pieces of labels and queues: Passed comes exactly at the first operation of their list that
-    /// passes, node by node and then link by link, and has part Curve.
+    /// run's labels are those of the flow there, and its curves end at them. It keeps the slopes of the last pieces of labels and queues:
+    /// Passed comes exactly at the first operation of their list that passes, node by node and then link by link, and has part Curve.
     pub fn restore(alloc: Global, net: &Network, flow: Flow, last: Pattern) -> Result<Run, Halt<Q>>
         requires equilibrium { Equilibrium net.now.net (flow_in flow) }
         requires ends { EndsAtItsLabels net.now.net (flow_in flow) }
@@ -43,6 +45,8 @@ impl Run {
         requires no_full { NoneFull net.now.net last }
         ensures list { Gives (λ run. run) (λ q. q) result (at_part CurvePart (restore_list passes_Q (flow_in flow) last)) }
         ensures reaches { IfOk result (Reaches passes_Q net.now.net) }
+        ensures ends { IfOk result (EndsAtLabels net.now.net) }
+        ensures labels { IfOk result (KeepsLabels net.now.net) }
         ensures flow { IfOk result (λ run. flow_of run ≡ flow_in flow) }
         ensures fresh { IfOk result (λ run. run.made ≡ 0) }
         ensures last { IfOk result (λ run. run.last ≡ last) }

@@ -82,9 +82,9 @@ impl Run {
     }
 
     /// One phase more, as long as it may last, but to the horizon at most: by the first accepted pattern, of so many at most. Its
-    /// curves, up to the departure that is reached, stay an equilibrium. Where it is the first since the run was restored, and goes on
-    /// with a phase that was cut short, the last pattern stays. It is refused exactly where the phase can't be made, by
-    /// the first cause for that, or where memory is wanting; then the run is as it was.
+    /// curves, up to the departure that is reached, stay an equilibrium in short form, and end at its labels. Where it is the first
+    /// since the run was restored, and goes on with a phase that was cut short, the last pattern stays. It is refused exactly where
+    /// the phase can't be made, by the first cause for that, or where memory is wanting; then the run is as it was.
     pub fn step(
         &mut self,
         alloc: Global,
@@ -113,9 +113,10 @@ impl Run {
     }
 
     /// One phase more, for as long as it may last: by the first accepted pattern, of so many at most. Where it may last for any
-    /// length no phase is made, and its thin flow is answered: by that the flow goes on from here. It is refused exactly where there
-    /// is no such phase, or it can't be made, by the first cause for that, or where memory is wanting. Where no phase is made the run
-    /// is as it was. The last pattern is that of the phase, also in a restored run.
+    /// length no phase is made, and its thin flow is answered: by that the flow goes on from here. Its curves, up to the departure
+    /// that is reached, stay an equilibrium in short form, and end at its labels. It is refused exactly where there is no such phase,
+    /// or it can't be made, by the first cause for that, or where memory is wanting. Where no phase is made the run is as it was. The
+    /// last pattern is that of the phase, also in a restored run.
     pub fn step_to_end(
         &mut self,
         alloc: Global,
@@ -127,6 +128,10 @@ impl Run {
         ensures phase { IfOk result (λ tail. MatchOption tail (GoesToEnd passes_Q net.now.net patterns self.old self.new) (λ thin. GoesForever passes_Q net.now.net patterns self.old thin.pattern (tail_of thin))) }
         ensures stays { IfOk result (λ tail. IsSome tail → self.new ≡ self.old) }
         ensures reaches { Reaches passes_Q net.now.net self.new }
+        ensures equilibrium { Equilibrium net.now.net (flow_of self.new) }
+        ensures ends { EndsAtLabels net.now.net self.new }
+        ensures labels { KeepsLabels net.now.net self.new }
+        ensures short { IsShortFlow net.now.net (flow_of self.new) }
         ensures kept { OnErr result (self.new ≡ self.old) }
         ensures cause { IfErr result (IsCauseOn passes_Q net.now.net patterns self.old) }
     {

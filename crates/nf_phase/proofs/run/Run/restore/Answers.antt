@@ -1,6 +1,6 @@
 use Rattle.std.proofs.Common.{List, length, map, refl, sym, ap, subst, ◌∙◌}
 use Rattle.std.specs.Prelude.{Ok}
-use Rattle.std.proofs.lemmas.Result.{err_from_is_err_and}
+use Rattle.std.proofs.lemmas.Result.{err_from_is_err_and, IfOk-from_err}
 use Rattle.nf_work.specs.declared.Part.TheVariants.{Curve}
 use Rattle.nf_work.specs.Passing.{passes_Q}
 use Rattle.nf_work.specs.Checked.{each, at_part}
@@ -16,7 +16,9 @@ use Rattle.nf_growth.specs.Restoring.{of_links}
 use Rattle.nf_phase.specs.Stepping.{restored}
 use Rattle.nf_phase.proofs.Restarting.{flow_restored}
 use Rattle.nf_phase.proofs.RestoreList.{labels_pass, links_pass, list_made, ends_same, flow_counts}
+use Rattle.nf_phase.proofs.ShortReached.{keeps_reached}
 use Rattle.nf_phase.proofs.Standings.{same_parts}
+use Rattle.nf_phase.proofs.Stepped.{ends_reached}
 use Rattle.nf_phase.proofs.run.Run.restore.Goals as goal
 
 pub restore_links-requires-clause-outflows : goal.restore_links-requires-clause-outflows
@@ -70,6 +72,12 @@ returns-clause-reaches c = restored (record {
   stands = was_ok Curve (restore_list passes_Q (flow_in c.args.flow) c.args.last) _ (returns-clause-list c);
 })
 
+pub returns-clause-ends : goal.returns-clause-ends
+returns-clause-ends c = ends_reached passes_Q c.args.net.now.net c.version.ensures.named.network _ (returns-clause-reaches c)
+
+pub returns-clause-labels : goal.returns-clause-labels
+returns-clause-labels c = keeps_reached passes_Q c.args.net.now.net c.version.ensures.named.network _ (returns-clause-reaches c)
+
 pub returns-clause-flow : goal.returns-clause-flow
 returns-clause-flow c = flow_restored passes_Q c.args.net.now.net c.version.ensures.named.network _ (record {
   flow = (flow_in c.args.flow);
@@ -87,3 +95,21 @@ same-last c = refl
 
 pub returns-clause-last : goal.returns-clause-last
 returns-clause-last c = refl
+
+pub returns-in_err-labels-clause-ends : goal.returns-in_err-labels-clause-ends
+returns-in_err-labels-clause-ends c = IfOk-from_err c.from_residual.result _ c.from_residual.ensures.0
+
+pub returns-in_err-labels-clause-labels : goal.returns-in_err-labels-clause-labels
+returns-in_err-labels-clause-labels c = IfOk-from_err c.from_residual.result _ c.from_residual.ensures.0
+
+pub returns-in_err-label_curves-clause-ends : goal.returns-in_err-label_curves-clause-ends
+returns-in_err-label_curves-clause-ends c = IfOk-from_err c.from_residual-in_err-label_curves.result _ c.from_residual-in_err-label_curves.ensures.0
+
+pub returns-in_err-label_curves-clause-labels : goal.returns-in_err-label_curves-clause-labels
+returns-in_err-label_curves-clause-labels c = IfOk-from_err c.from_residual-in_err-label_curves.result _ c.from_residual-in_err-label_curves.ensures.0
+
+pub returns-in_err-link_curves-clause-ends : goal.returns-in_err-link_curves-clause-ends
+returns-in_err-link_curves-clause-ends c = IfOk-from_err c.from_residual-in_err-link_curves.result _ c.from_residual-in_err-link_curves.ensures.0
+
+pub returns-in_err-link_curves-clause-labels : goal.returns-in_err-link_curves-clause-labels
+returns-in_err-link_curves-clause-labels c = IfOk-from_err c.from_residual-in_err-link_curves.result _ c.from_residual-in_err-link_curves.ensures.0

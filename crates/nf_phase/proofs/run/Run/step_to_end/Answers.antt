@@ -13,6 +13,8 @@ use Rattle.nf_phase.specs.Stepping.{Reaches, goes_on}
 use Rattle.nf_phase.specs.declared.fault.StepFault.{StepFault}
 use Rattle.nf_phase.proofs.Found.{by_fault}
 use Rattle.nf_phase.proofs.PhaseFound.{slack_count, thin_slope_count}
+use Rattle.nf_phase.proofs.ShortReached.{short_reached, keeps_reached}
+use Rattle.nf_phase.proofs.Stepped.{equilibrium_reached, ends_reached}
 use Rattle.nf_phase.proofs.ToEnd.{found_none_on, end_passes, goes_forever, lists_pass, goes_to_end}
 use Rattle.nf_phase.proofs.run.Run.step_to_end.Goals as goal
 
@@ -138,3 +140,76 @@ same-self-in_default c = refl
 
 pub same-self-2 : goal.same-self-2
 same-self-2 c = refl
+
+-- ---- what holds wherever a run comes to; where no phase is made the run stands where it stood
+pub returns-clause-equilibrium : goal.returns-clause-equilibrium
+returns-clause-equilibrium c = equilibrium_reached passes_Q c.args.net.now.net c.find.ensures.named.network _ (returns-clause-reaches c)
+
+pub returns-clause-ends : goal.returns-clause-ends
+returns-clause-ends c = ends_reached passes_Q c.args.net.now.net c.find.ensures.named.network _ (returns-clause-reaches c)
+
+pub returns-clause-labels : goal.returns-clause-labels
+returns-clause-labels c = keeps_reached passes_Q c.args.net.now.net c.find.ensures.named.network _ (returns-clause-reaches c)
+
+pub returns-clause-short : goal.returns-clause-short
+returns-clause-short c = short_reached passes_Q c.args.net.now.net c.find.ensures.named.network _ (returns-clause-reaches c)
+
+pub returns-in_default-clause-equilibrium : goal.returns-in_default-clause-equilibrium
+returns-in_default-clause-equilibrium c = equilibrium_reached passes_Q c.args.net.now.net c.find.ensures.named.network _ c.requires.reaches
+
+pub returns-in_default-clause-ends : goal.returns-in_default-clause-ends
+returns-in_default-clause-ends c = ends_reached passes_Q c.args.net.now.net c.find.ensures.named.network _ c.requires.reaches
+
+pub returns-in_default-clause-labels : goal.returns-in_default-clause-labels
+returns-in_default-clause-labels c = keeps_reached passes_Q c.args.net.now.net c.find.ensures.named.network _ c.requires.reaches
+
+pub returns-in_default-clause-short : goal.returns-in_default-clause-short
+returns-in_default-clause-short c = short_reached passes_Q c.args.net.now.net c.find.ensures.named.network _ c.requires.reaches
+
+pub returns-in_err-found-clause-equilibrium : goal.returns-in_err-found-clause-equilibrium
+returns-in_err-found-clause-equilibrium c = equilibrium_reached passes_Q c.args.net.now.net c.find.ensures.named.network _ c.requires.reaches
+
+pub returns-in_err-found-clause-ends : goal.returns-in_err-found-clause-ends
+returns-in_err-found-clause-ends c = ends_reached passes_Q c.args.net.now.net c.find.ensures.named.network _ c.requires.reaches
+
+pub returns-in_err-found-clause-labels : goal.returns-in_err-found-clause-labels
+returns-in_err-found-clause-labels c = keeps_reached passes_Q c.args.net.now.net c.find.ensures.named.network _ c.requires.reaches
+
+pub returns-in_err-found-clause-short : goal.returns-in_err-found-clause-short
+returns-in_err-found-clause-short c = short_reached passes_Q c.args.net.now.net c.find.ensures.named.network _ c.requires.reaches
+
+pub returns-in_err-end-clause-equilibrium : goal.returns-in_err-end-clause-equilibrium
+returns-in_err-end-clause-equilibrium c = equilibrium_reached passes_Q c.args.net.now.net c.find.ensures.named.network _ c.requires.reaches
+
+pub returns-in_err-end-clause-ends : goal.returns-in_err-end-clause-ends
+returns-in_err-end-clause-ends c = ends_reached passes_Q c.args.net.now.net c.find.ensures.named.network _ c.requires.reaches
+
+pub returns-in_err-end-clause-labels : goal.returns-in_err-end-clause-labels
+returns-in_err-end-clause-labels c = keeps_reached passes_Q c.args.net.now.net c.find.ensures.named.network _ c.requires.reaches
+
+pub returns-in_err-end-clause-short : goal.returns-in_err-end-clause-short
+returns-in_err-end-clause-short c = short_reached passes_Q c.args.net.now.net c.find.ensures.named.network _ c.requires.reaches
+
+pub returns-in_err-phase-clause-equilibrium : goal.returns-in_err-phase-clause-equilibrium
+returns-in_err-phase-clause-equilibrium c = equilibrium_reached passes_Q c.args.net.now.net c.find.ensures.named.network _ c.requires.reaches
+
+pub returns-in_err-phase-clause-ends : goal.returns-in_err-phase-clause-ends
+returns-in_err-phase-clause-ends c = ends_reached passes_Q c.args.net.now.net c.find.ensures.named.network _ c.requires.reaches
+
+pub returns-in_err-phase-clause-labels : goal.returns-in_err-phase-clause-labels
+returns-in_err-phase-clause-labels c = keeps_reached passes_Q c.args.net.now.net c.find.ensures.named.network _ c.requires.reaches
+
+pub returns-in_err-phase-clause-short : goal.returns-in_err-phase-clause-short
+returns-in_err-phase-clause-short c = short_reached passes_Q c.args.net.now.net c.find.ensures.named.network _ c.requires.reaches
+
+pub returns-in_err-make-clause-equilibrium : goal.returns-in_err-make-clause-equilibrium
+returns-in_err-make-clause-equilibrium c = equilibrium_reached passes_Q c.args.net.now.net c.find.ensures.named.network _ (returns-in_err-make-clause-reaches c)
+
+pub returns-in_err-make-clause-ends : goal.returns-in_err-make-clause-ends
+returns-in_err-make-clause-ends c = ends_reached passes_Q c.args.net.now.net c.find.ensures.named.network _ (returns-in_err-make-clause-reaches c)
+
+pub returns-in_err-make-clause-labels : goal.returns-in_err-make-clause-labels
+returns-in_err-make-clause-labels c = keeps_reached passes_Q c.args.net.now.net c.find.ensures.named.network _ (returns-in_err-make-clause-reaches c)
+
+pub returns-in_err-make-clause-short : goal.returns-in_err-make-clause-short
+returns-in_err-make-clause-short c = short_reached passes_Q c.args.net.now.net c.find.ensures.named.network _ (returns-in_err-make-clause-reaches c)
