@@ -12,7 +12,7 @@ ghost use Rattle.nf_rational.specs.Rational.{ℚ};
 ghost use Rattle.nf_formats.specs.Report.{Report};
 ghost use Rattle.nf_readings.specs.ReportFile.{report_in};
 ghost use Rattle.nf_resume.specs.Faults.{IsResumeFault};
-ghost use Rattle.nf_outside.specs.Files.{Visit, report_limit, loads_file, flows_file, routes_file, report_file};
+ghost use Rattle.nf_outside.specs.Files.{Visit, visit, report_limit, loads_file, flows_file, routes_file, report_file};
 ghost use Rattle.nf_words.specs.Requests.{Solve, SolveForever, Show, Load, Check, Gen, Settle, Resume, Routes, CanBeAsked, request_of};
 ghost use Rattle.nf_words.specs.Requests as requests;
 ghost use Rattle.nf_words.specs.Views.{requested};
@@ -308,17 +308,8 @@ fn answer_request<S: Shelf>(
     shelf: &mut S,
 ) -> Result<Outcome, Refusal>
     requires { CanBeAsked (requested request.now) }
-    ensures { (words : List (List ℕ)) → request_of words ≡ Some (requested request.now) → IsAnswered (record {
-      words = words;
-      shelf = record {
-        told = S.told shelf.old;
-        asked_before = S.asked shelf.old;
-        asked_now = S.asked shelf.new;
-        faults_before = S.faults shelf.old;
-        faults_now = S.faults shelf.new;
-        taken = S.taken shelf.new;
-      };
-    }) result }
+    ensures { (words : List (List ℕ)) → request_of words ≡ Some (requested request.now)
+        → IsAnswered (record { words = words; shelf = visit S.Shelf shelf.old shelf.new }) result }
 {
     let (net, other) = gather(alloc, request, shelf)?;
     with_net(find(alloc, request, &net, &other), net)
@@ -330,17 +321,7 @@ pub(crate) fn answer<S: Shelf>(
     words: &[String],
     shelf: &mut S,
 ) -> Result<Outcome, Refusal>
-    ensures { IsAnswered (record {
-      words = texts words.now;
-      shelf = record {
-        told = S.told shelf.old;
-        asked_before = S.asked shelf.old;
-        asked_now = S.asked shelf.new;
-        faults_before = S.faults shelf.old;
-        faults_now = S.faults shelf.new;
-        taken = S.taken shelf.new;
-      };
-    }) result }
+    ensures { IsAnswered (record { words = texts words.now; shelf = visit S.Shelf shelf.old shelf.new }) result }
 {
     match read_request(alloc, words) {
         Ok(Some(request)) => answer_request(alloc, &request, shelf),

@@ -2,7 +2,7 @@
 ghost use Rattle.std.specs.Prelude.{◌≡◌, ◌≤◌, ℕ, List, [], Some, IfOk, IfErr};
 ghost use Rattle.std.specs.Result.{result_map_both};
 ghost use Rattle.nf_answers.specs.declared.refusal.Refusal.TheVariants as Refusal;
-ghost use Rattle.nf_outside.specs.Files.{network_file};
+ghost use Rattle.nf_outside.specs.Files.{visit, network_file};
 ghost use Rattle.nf_outside.specs.Fetching.{AreRead};
 ghost use Rattle.nf_gen.specs.Ladder.{ladder};
 ghost use Rattle.nf_words.specs.Requests.{CanBeAsked, request_of};
@@ -35,14 +35,7 @@ fn fetch_one<S: Shelf>(
     shelf: &mut S,
     file: &str,
 ) -> Result<(Network, Vec<u8>), Refusal>
-    ensures { AreRead (record {
-      told = S.told shelf.old;
-      asked_before = S.asked shelf.old;
-      asked_now = S.asked shelf.new;
-      faults_before = S.faults shelf.old;
-      faults_now = S.faults shelf.new;
-      taken = S.taken shelf.new;
-    }) (network_file file.now) [] (result_map_both (λ got. (got.0, [])) (λ refusal. refusal) result) }
+    ensures { AreRead (visit S.Shelf shelf.old shelf.new) (network_file file.now) [] (result_map_both (λ got. (got.0, [])) (λ refusal. refusal) result) }
 {
     let net = fetch_network(alloc, shelf, file)?;
     Ok((net, Vec::new(alloc)))
@@ -67,17 +60,9 @@ pub(crate) fn gather<S: Shelf>(
     shelf: &mut S,
 ) -> Result<(Network, Vec<u8>), Refusal>
     requires { CanBeAsked (requested request.now) }
-    ensures gathered { (words : List (List ℕ)) → request_of words ≡ Some (requested request.now) → IsGathered (record {
-      words = words;
-      shelf = record {
-        told = S.told shelf.old;
-        asked_before = S.asked shelf.old;
-        asked_now = S.asked shelf.new;
-        faults_before = S.faults shelf.old;
-        faults_now = S.faults shelf.new;
-        taken = S.taken shelf.new;
-      };
-    }) (requested request.now) (result_map_both (λ got. (got.0, got.1.items)) (λ refusal. refusal) result) }
+    ensures gathered { (words : List (List ℕ)) → request_of words ≡ Some (requested request.now)
+        → IsGathered (record { words = words; shelf = visit S.Shelf shelf.old shelf.new }) (requested request.now)
+        (result_map_both (λ got. (got.0, got.1.items)) (λ refusal. refusal) result) }
     ensures fits { IfOk result (λ got. OtherFits (requested request.now) got.1.items) }
 {
     match request {

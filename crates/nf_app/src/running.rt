@@ -1,5 +1,7 @@
 // The top call.
 ghost use Rattle.nf_edge.specs.Names.{texts};
+ghost use Rattle.nf_outside.specs.Files.{visit};
+ghost use Rattle.nf_outside.specs.Sinks.{taken};
 ghost use Rattle.nf_app.specs.Runs.{Ran};
 ghost use Rattle.nf_app.specs.Completeness.{IsComplete};
 
@@ -28,48 +30,15 @@ pub fn run<S: Shelf, O: Sink, E: Sink>(
     out: &mut O,
     err: &mut E,
 ) -> Status
-    ensures ran { Ran (record {
-      words = texts words.now;
-      shelf = record {
-        told = S.told shelf.old;
-        asked_before = S.asked shelf.old;
-        asked_now = S.asked shelf.new;
-        faults_before = S.faults shelf.old;
-        faults_now = S.faults shelf.new;
-        taken = S.taken shelf.new;
-      };
-    }) (record {
-      before = O.took out.old;
-      now = O.took out.new;
-      faults_before = O.faults out.old;
-      faults_now = O.faults out.new;
-    }) (record {
-      before = E.took err.old;
-      now = E.took err.new;
-      faults_before = E.faults err.old;
-      faults_now = E.faults err.new;
-    }) result }
+    ensures ran { Ran (record { words = texts words.now; shelf = visit S.Shelf shelf.old shelf.new })
+        (taken O.Sink out.old out.new) (taken E.Sink err.old err.new) result }
 
     // Nothing but want of memory keeps a network from being shown, from being solved where its phase run reaches the horizon or goes on for
     // ever, and from being loaded, by loads or by routes, where no operation passes; a report from its verdict, and from being resumed, where none
     // passes; a quickest flow from being found where none passes, unless too many walks are wanted or it is unbounded; and a thin flow from
     // being settled where none passes.
-    ensures complete { IsComplete (record {
-      words = texts words.now;
-      shelf = record {
-        told = S.told shelf.old;
-        asked_before = S.asked shelf.old;
-        asked_now = S.asked shelf.new;
-        faults_before = S.faults shelf.old;
-        faults_now = S.faults shelf.new;
-        taken = S.taken shelf.new;
-      };
-    }) (record {
-      before = O.took out.old;
-      now = O.took out.new;
-      faults_before = O.faults out.old;
-      faults_now = O.faults out.new;
-    }) result }
+    ensures complete { IsComplete (record { words = texts words.now; shelf = visit S.Shelf shelf.old shelf.new })
+        (taken O.Sink out.old out.new) result }
 {
     match answer(alloc, words, shelf) {
         Ok(outcome) => {

@@ -1,6 +1,7 @@
 -- The files that a request wants, and what a shelf did for it.
 use Rattle.std.specs.Prelude.{◌≡◌, ◌⊎◌, ℕ, ◌<◌, ◌≤◌, List, [], ◌∷◌, ◌++◌, length, map, Option, None, IfSome}
 use Rattle.std.specs.List.{All, last_or}
+use Rattle.nf_edge.specs.declared.Shelf.{Ghosts}
 use Rattle.nf_edge.specs.Faults.{Rose}
 
 -- the most bytes that a network file, a loads file, a flows file, a routes file and a report may have
@@ -51,6 +52,17 @@ pub record Visit : Type 0 where
   pub faults_before : ℕ
   pub faults_now : ℕ
   pub taken : ℕ
+
+-- the same of a shelf that stood so before a call and stands so now
+abbrev pub visit : {S : Type 0} → Ghosts S → S → S → Visit
+visit shelf before now = record {
+  told = shelf.told before;
+  asked_before = shelf.asked before;
+  asked_now = shelf.asked now;
+  faults_before = shelf.faults before;
+  faults_now = shelf.faults now;
+  taken = shelf.taken now;
+}
 
 -- where the shelf tells the bytes of a file, there are at most as many as it may have
 abbrev pub Fits : Visit → Wanted → Type 0

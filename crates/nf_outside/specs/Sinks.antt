@@ -1,5 +1,6 @@
 -- What a sink took of a text in a call.
 use Rattle.std.specs.Prelude.{◌≡◌, ◌⊎◌, ℕ, List, Option}
+use Rattle.nf_edge.specs.declared.Sink.{Ghosts}
 use Rattle.nf_edge.specs.Faults.{Rose}
 use Rattle.nf_edge.specs.Taken.{with_more, TookFront}
 
@@ -9,6 +10,10 @@ pub record Taken : Type 0 where
   pub now : Option (List ℕ)
   pub faults_before : ℕ
   pub faults_now : ℕ
+
+-- the same of a sink that stood so before a call and stands so now
+abbrev pub taken : {S : Type 0} → Ghosts S → S → S → Taken
+taken sink before now = record { before = sink.took before; now = sink.took now; faults_before = sink.faults before; faults_now = sink.faults now }
 
 abbrev pub TookAll : Taken → List ℕ → Type 0
 TookAll sink text = sink.now ≡ with_more sink.before text

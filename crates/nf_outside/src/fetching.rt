@@ -1,7 +1,7 @@
 // The files of a request, and the network of the first.
 ghost use Rattle.std.specs.Prelude.{◌≡◌, ◌≤◌, ℕ, List, [], ◌∷◌, length, IfOk};
 ghost use Rattle.std.specs.Result.{result_map_both};
-ghost use Rattle.nf_outside.specs.Files.{network_limit, network_file};
+ghost use Rattle.nf_outside.specs.Files.{visit, network_limit, network_file};
 ghost use Rattle.nf_outside.specs.Fetching.{AreFetched, AreRead};
 
 use nf_answers::Refusal;
@@ -18,14 +18,8 @@ fn fetch_file<S: Shelf>(
 ) -> Result<Vec<u8>, Refusal>
     ensures same { (other : List ℕ) → S.told shelf.new other ≡ S.told shelf.old other }
     ensures never_falls { S.faults shelf.old ≤ S.faults shelf.new }
-    ensures fetched { AreFetched (record {
-      told = S.told shelf.old;
-      asked_before = S.asked shelf.old;
-      asked_now = S.asked shelf.new;
-      faults_before = S.faults shelf.old;
-      faults_now = S.faults shelf.new;
-      taken = S.taken shelf.new;
-    }) (record { name = file.now; limit = limit } ∷ []) (result_map_both (λ text. text.items ∷ []) (λ refusal. refusal) result) }
+    ensures fetched { AreFetched (visit S.Shelf shelf.old shelf.new) (record { name = file.now; limit = limit } ∷ [])
+        (result_map_both (λ text. text.items ∷ []) (λ refusal. refusal) result) }
     ensures within { IfOk result (λ text. length text.items ≤ limit) }
 {
     let text = shelf.fetch(alloc, file, limit)?;
@@ -40,14 +34,7 @@ fn fetch_files<S: Shelf>(
     other: &str,
     limit: u32,
 ) -> Result<(Vec<u8>, Vec<u8>), Refusal>
-    ensures fetched { AreFetched (record {
-      told = S.told shelf.old;
-      asked_before = S.asked shelf.old;
-      asked_now = S.asked shelf.new;
-      faults_before = S.faults shelf.old;
-      faults_now = S.faults shelf.new;
-      taken = S.taken shelf.new;
-    }) (network_file file.now ∷ record { name = other.now; limit = limit } ∷ [])
+    ensures fetched { AreFetched (visit S.Shelf shelf.old shelf.new) (network_file file.now ∷ record { name = other.now; limit = limit } ∷ [])
         (result_map_both (λ texts. texts.0.items ∷ texts.1.items ∷ []) (λ refusal. refusal) result) }
     ensures first { IfOk result (λ texts. length texts.0.items ≤ network_limit) }
     ensures second { IfOk result (λ texts. length texts.1.items ≤ limit) }
@@ -60,14 +47,7 @@ fn fetch_files<S: Shelf>(
 /// Fetches a file, and reads it as a network. It is refused where the file isn't given, has too many bytes or breaks a rule, or memory is
 /// wanting.
 pub fn fetch_network<S: Shelf>(alloc: Global, shelf: &mut S, file: &str) -> Result<Network, Refusal>
-    ensures { AreRead (record {
-      told = S.told shelf.old;
-      asked_before = S.asked shelf.old;
-      asked_now = S.asked shelf.new;
-      faults_before = S.faults shelf.old;
-      faults_now = S.faults shelf.new;
-      taken = S.taken shelf.new;
-    }) (network_file file.now) [] (result_map_both (λ net. (net, [])) (λ refusal. refusal) result) }
+    ensures { AreRead (visit S.Shelf shelf.old shelf.new) (network_file file.now) [] (result_map_both (λ net. (net, [])) (λ refusal. refusal) result) }
 {
     let text = fetch_file(alloc, shelf, file, LONGEST_FILE)?;
     let net = parse(alloc, &text)?;
@@ -83,14 +63,7 @@ pub fn fetch_network_with<S: Shelf>(
     other: &str,
     limit: u32,
 ) -> Result<(Network, Vec<u8>), Refusal>
-    ensures read { AreRead (record {
-      told = S.told shelf.old;
-      asked_before = S.asked shelf.old;
-      asked_now = S.asked shelf.new;
-      faults_before = S.faults shelf.old;
-      faults_now = S.faults shelf.new;
-      taken = S.taken shelf.new;
-    }) (network_file file.now) (record { name = other.now; limit = limit } ∷ [])
+    ensures read { AreRead (visit S.Shelf shelf.old shelf.new) (network_file file.now) (record { name = other.now; limit = limit } ∷ [])
         (result_map_both (λ read. (read.0, read.1.items ∷ [])) (λ refusal. refusal) result) }
     ensures within { IfOk result (λ read. length read.1.items ≤ limit) }
 {

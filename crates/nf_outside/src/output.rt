@@ -7,7 +7,7 @@ ghost use Rattle.nf_answers.specs.Answers.{status_of, status_of_cause, status_of
 ghost use Rattle.nf_answers.specs.QuickText.{arrival_text};
 ghost use Rattle.nf_answers.specs.Refusals.{answer_of};
 ghost use Rattle.nf_answers.specs.Outcomes.{answer_in, answer_with, text_with, HasText, HasTextWith};
-ghost use Rattle.nf_outside.specs.Sinks.{TookText};
+ghost use Rattle.nf_outside.specs.Sinks.{taken, TookText};
 ghost use Rattle.nf_outside.specs.Shown.{IsShown};
 
 use nf_answers::{
@@ -79,12 +79,7 @@ fn status_of_cause(stop: &Stop) -> Status
 // Says why the run of a report stopped, if it did. The status is the same where that can't be said.
 fn tell_stop<E: Sink>(stop: Option<&Stop>, err: &mut E) -> Status
     ensures status { result ≡ status_of_stop (option_copied stop.entry) }
-    ensures told { TookText (record {
-      before = E.took err.old;
-      now = E.took err.new;
-      faults_before = E.faults err.old;
-      faults_now = E.faults err.new;
-    }) (text_of_stop (option_copied stop.entry)) }
+    ensures told { TookText (taken E.Sink err.old err.new) (text_of_stop (option_copied stop.entry)) }
 {
     match stop {
         None => Status::Ok,
@@ -98,12 +93,7 @@ fn tell_stop<E: Sink>(stop: Option<&Stop>, err: &mut E) -> Status
 // Says why a run without a horizon stopped, if it did; the budget of phases then has a status of its own.
 fn tell_forever<E: Sink>(stop: Option<&Stop>, err: &mut E) -> Status
     ensures status { result ≡ status_of_forever (option_copied stop.entry) }
-    ensures told { TookText (record {
-      before = E.took err.old;
-      now = E.took err.new;
-      faults_before = E.faults err.old;
-      faults_now = E.faults err.new;
-    }) (text_of_stop (option_copied stop.entry)) }
+    ensures told { TookText (taken E.Sink err.old err.new) (text_of_stop (option_copied stop.entry)) }
 {
     match tell_stop(stop, err) {
         Status::Phases => Status::Events,
@@ -114,12 +104,7 @@ fn tell_forever<E: Sink>(stop: Option<&Stop>, err: &mut E) -> Status
 // Says that a flow is no equilibrium, if it is none. The status is the same where that can't be said.
 fn tell_verdict<E: Sink>(verdict: &Answer, err: &mut E) -> Status
     ensures status { result ≡ status_of_verdict verdict.now }
-    ensures told { TookText (record {
-      before = E.took err.old;
-      now = E.took err.new;
-      faults_before = E.faults err.old;
-      faults_now = E.faults err.new;
-    }) (text_of_verdict verdict.now) }
+    ensures told { TookText (taken E.Sink err.old err.new) (text_of_verdict verdict.now) }
 {
     match verdict {
         Answer::Yes => Status::Ok,
@@ -133,12 +118,7 @@ fn tell_verdict<E: Sink>(verdict: &Answer, err: &mut E) -> Status
 // Says why what was found isn't the whole answer, if it isn't.
 fn tell<E: Sink>(found: &Found, err: &mut E) -> Status
     ensures status { (net : Named) → result ≡ status_of (answer_with net found.now) }
-    ensures told { (net : Named) → TookText (record {
-      before = E.took err.old;
-      now = E.took err.new;
-      faults_before = E.faults err.old;
-      faults_now = E.faults err.new;
-    }) (err_text (answer_with net found.now)) }
+    ensures told { (net : Named) → TookText (taken E.Sink err.old err.new) (err_text (answer_with net found.now)) }
 {
     match found {
         Found::SolvedForever { forever, .. } => tell_forever(forever.stopped.as_ref(), err),
@@ -155,17 +135,7 @@ fn tell<E: Sink>(found: &Found, err: &mut E) -> Status
 /// status with which the run ends. A fault of `err` changes no status.
 pub fn give<O: Sink, E: Sink>(outcome: &Outcome, out: &mut O, err: &mut E) -> Status
     requires { HasText outcome.now }
-    ensures { IsShown (answer_in outcome.now) (record {
-      before = O.took out.old;
-      now = O.took out.new;
-      faults_before = O.faults out.old;
-      faults_now = O.faults out.new;
-    }) (record {
-      before = E.took err.old;
-      now = E.took err.new;
-      faults_before = E.faults err.old;
-      faults_now = E.faults err.new;
-    }) result }
+    ensures { IsShown (answer_in outcome.now) (taken O.Sink out.old out.new) (taken E.Sink err.old err.new) result }
 {
     match write_found(&outcome.net, &outcome.found, out) {
         Ok(()) => tell(&outcome.found, err),
@@ -179,12 +149,7 @@ pub fn give<O: Sink, E: Sink>(outcome: &Outcome, out: &mut O, err: &mut E) -> St
 /// Says on `err` why there is nothing on the output, and gives the status with which the run ends. It is the same where that can't be said.
 pub fn refuse<E: Sink>(refusal: &Refusal, err: &mut E) -> Status
     ensures status { result ≡ status_of (answer_of refusal.now) }
-    ensures told { TookText (record {
-      before = E.took err.old;
-      now = E.took err.new;
-      faults_before = E.faults err.old;
-      faults_now = E.faults err.new;
-    }) (err_text (answer_of refusal.now)) }
+    ensures told { TookText (taken E.Sink err.old err.new) (err_text (answer_of refusal.now)) }
 {
     let _ = write_refusal(err, refusal);
     refusal.status()

@@ -1,7 +1,7 @@
 use Rattle.std.proofs.Common.{◌≡◌, ℕ, List, sym, subst}
 use Rattle.std.proofs.lemmas.Result.{err_from_is_err_and}
 use Rattle.nf_words.specs.Views.{requested}
-use Rattle.nf_outside.specs.Files.{Visit}
+use Rattle.nf_outside.specs.Files.{visit}
 use Rattle.nf_app.specs.Gathered.{OtherFits, OtherIsTold}
 use Rattle.nf_app.proofs.Calls.{given}
 use Rattle.nf_app.proofs.answering.answer_request.Goals as goal
@@ -16,14 +16,7 @@ returns-in_err-net g c words asks =
 
 pub returns : goal.returns
 returns g c words asks =
-    let shelf : Visit = (record {
-      told = g.S.Shelf.told c.args.shelf.now;
-      asked_before = g.S.Shelf.asked c.args.shelf.now;
-      asked_now = g.S.Shelf.asked c.gather.new.shelf;
-      faults_before = g.S.Shelf.faults c.args.shelf.now;
-      faults_now = g.S.Shelf.faults c.gather.new.shelf;
-      taken = g.S.Shelf.taken c.gather.new.shelf;
-    }) in
+    let shelf = visit g.S.Shelf c.args.shelf.now c.gather.new.shelf in
     let gathered = c.in_ok-net.ensures.gathered words asks in
     given (record { words = words; shelf = shelf }) (requested c.args.request.now) c.in_ok-net.net gathered.0 c.find.result
     (c.find.ensures shelf (subst (λ (t : List ℕ). OtherIsTold shelf (requested c.args.request.now) t) (sym c.deref.ensures.value) gathered.1)) c.with_net.result c.with_net.ensures

@@ -2,6 +2,8 @@ use Rattle.std.proofs.Common.{inl}
 use Rattle.nf_edge.specs.Names.{texts}
 use Rattle.nf_answers.specs.Outcomes.{answer_in}
 use Rattle.nf_answers.specs.Refusals.{answer_of}
+use Rattle.nf_outside.specs.Files.{visit}
+use Rattle.nf_outside.specs.Sinks.{taken}
 use Rattle.nf_app.proofs.Calls.{took_no_text}
 use Rattle.nf_app.proofs.Completing.{complete_by_text, complete_by_refusal}
 use Rattle.nf_app.proofs.running.run.Goals as goal
@@ -11,46 +13,13 @@ returns-in-Ok-clause-ran g c = record { answer = answer_in c.in-Ok.outcome; come
 
 pub returns-in-Ok-clause-complete : goal.returns-in-Ok-clause-complete
 returns-in-Ok-clause-complete g c =
-    complete_by_text (record {
-      words = texts c.args.words.now;
-      shelf = record {
-        told = g.S.Shelf.told c.args.shelf.now;
-        asked_before = g.S.Shelf.asked c.args.shelf.now;
-        asked_now = g.S.Shelf.asked c.answer.new.shelf;
-        faults_before = g.S.Shelf.faults c.args.shelf.now;
-        faults_now = g.S.Shelf.faults c.answer.new.shelf;
-        taken = g.S.Shelf.taken c.answer.new.shelf;
-      };
-    }) (record {
-      before = g.O.Sink.took c.args.out.now;
-      now = g.O.Sink.took c.give-status.new.out;
-      faults_before = g.O.Sink.faults c.args.out.now;
-      faults_now = g.O.Sink.faults c.give-status.new.out;
-    }) (record {
-      before = g.E.Sink.took c.args.err.now;
-      now = g.E.Sink.took c.give-status.new.err;
-      faults_before = g.E.Sink.faults c.args.err.now;
-      faults_now = g.E.Sink.faults c.give-status.new.err;
-    }) c.give-status.result (answer_in c.in-Ok.outcome) c.in-Ok.ensures.0 c.give-status.ensures
+    complete_by_text (record { words = texts c.args.words.now; shelf = visit g.S.Shelf c.args.shelf.now c.answer.new.shelf }) (taken g.O.Sink c.args.out.now c.give-status.new.out)
+    (taken g.E.Sink c.args.err.now c.give-status.new.err) c.give-status.result (answer_in c.in-Ok.outcome) c.in-Ok.ensures.0 c.give-status.ensures
 
 pub returns-in-Err-clause-complete : goal.returns-in-Err-clause-complete
 returns-in-Err-clause-complete g c =
-    complete_by_refusal (record {
-      words = texts c.args.words.now;
-      shelf = record {
-        told = g.S.Shelf.told c.args.shelf.now;
-        asked_before = g.S.Shelf.asked c.args.shelf.now;
-        asked_now = g.S.Shelf.asked c.answer.new.shelf;
-        faults_before = g.S.Shelf.faults c.args.shelf.now;
-        faults_now = g.S.Shelf.faults c.answer.new.shelf;
-        taken = g.S.Shelf.taken c.answer.new.shelf;
-      };
-    }) (record {
-      before = g.O.Sink.took c.args.out.now;
-      now = g.O.Sink.took c.args.out.now;
-      faults_before = g.O.Sink.faults c.args.out.now;
-      faults_now = g.O.Sink.faults c.args.out.now;
-    }) c.refuse.result (answer_of c.in-Err.refusal) c.in-Err.ensures c.refuse.ensures.status
+    complete_by_refusal (record { words = texts c.args.words.now; shelf = visit g.S.Shelf c.args.shelf.now c.answer.new.shelf }) (taken g.O.Sink c.args.out.now c.args.out.now)
+    c.refuse.result (answer_of c.in-Err.refusal) c.in-Err.ensures c.refuse.ensures.status
 
 pub returns-in-Err-clause-ran : goal.returns-in-Err-clause-ran
 returns-in-Err-clause-ran g c = record {

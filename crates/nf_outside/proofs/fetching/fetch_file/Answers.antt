@@ -1,4 +1,5 @@
 use Rattle.std.proofs.lemmas.Result.{err_from_is_err_and}
+use Rattle.nf_outside.specs.Files.{visit}
 use Rattle.nf_outside.proofs.Fetched.{one_missing}
 use Rattle.nf_outside.proofs.fetching.fetch_file.Goals as goal
 
@@ -6,12 +7,5 @@ pub returns-in_err-text-clause-fetched : goal.returns-in_err-text-clause-fetched
 returns-in_err-text-clause-fetched g c =
     let p = err_from_is_err_and c.from_residual.result c.from_residual.ensures.1 in
     let e = c.in_err-text.ensures in
-    rw (p.1, p.2) (one_missing (record {
-      told = g.S.Shelf.told c.args.shelf.now;
-      asked_before = g.S.Shelf.asked c.args.shelf.now;
-      asked_now = g.S.Shelf.asked c.fetch.new.self;
-      faults_before = g.S.Shelf.faults c.args.shelf.now;
-      faults_now = g.S.Shelf.faults c.fetch.new.self;
-      taken = g.S.Shelf.taken c.fetch.new.self;
-    }) (record { name = c.args.file.now; limit = c.args.limit }) c.in_err-text.field-0.0
+    rw (p.1, p.2) (one_missing (visit g.S.Shelf c.args.shelf.now c.fetch.new.self) (record { name = c.args.file.now; limit = c.args.limit }) c.in_err-text.field-0.0
     e.failed e.too_long e.long e.told_too_long e.asked)

@@ -1,39 +1,19 @@
 use Rattle.std.proofs.Common.{refl}
 use Rattle.std.proofs.lemmas.Result.{err_from_is_err_and}
-use Rattle.nf_outside.specs.Files.{network_file}
+use Rattle.nf_outside.specs.Files.{visit, network_file}
 use Rattle.nf_outside.proofs.Fetched.{first_missing, second_missing}
 use Rattle.nf_outside.proofs.fetching.fetch_files.Goals as goal
 
 pub returns-in_err-text-clause-fetched : goal.returns-in_err-text-clause-fetched
 returns-in_err-text-clause-fetched g c =
     let p = err_from_is_err_and c.from_residual.result c.from_residual.ensures.1 in
-    rw (p.1, p.2) (first_missing (record {
-      told = g.S.Shelf.told c.args.shelf.now;
-      asked_before = g.S.Shelf.asked c.args.shelf.now;
-      asked_now = g.S.Shelf.asked c.fetch_file.new.shelf;
-      faults_before = g.S.Shelf.faults c.args.shelf.now;
-      faults_now = g.S.Shelf.faults c.fetch_file.new.shelf;
-      taken = g.S.Shelf.taken c.fetch_file.new.shelf;
-    }) (network_file c.args.file.now) (record { name = c.args.other.now; limit = c.args.limit }) c.in_err-text.field-0.0
-    c.in_err-text.ensures.fetched)
+    rw (p.1, p.2) (first_missing (visit g.S.Shelf c.args.shelf.now c.fetch_file.new.shelf) (network_file c.args.file.now) (record { name = c.args.other.now; limit = c.args.limit })
+    c.in_err-text.field-0.0 c.in_err-text.ensures.fetched)
 
 pub returns-in_err-more-clause-fetched : goal.returns-in_err-more-clause-fetched
 returns-in_err-more-clause-fetched g c =
     let p = err_from_is_err_and c.from_residual-in_err-more.result c.from_residual-in_err-more.ensures.1 in
-    rw (p.1, p.2) (second_missing (record {
-      told = g.S.Shelf.told c.args.shelf.now;
-      asked_before = g.S.Shelf.asked c.args.shelf.now;
-      asked_now = g.S.Shelf.asked c.fetch_file.new.shelf;
-      faults_before = g.S.Shelf.faults c.args.shelf.now;
-      faults_now = g.S.Shelf.faults c.fetch_file.new.shelf;
-      taken = g.S.Shelf.taken c.fetch_file.new.shelf;
-    }) (record {
-      told = g.S.Shelf.told c.fetch_file.new.shelf;
-      asked_before = g.S.Shelf.asked c.fetch_file.new.shelf;
-      asked_now = g.S.Shelf.asked c.fetch_file-2.new.shelf;
-      faults_before = g.S.Shelf.faults c.fetch_file.new.shelf;
-      faults_now = g.S.Shelf.faults c.fetch_file-2.new.shelf;
-      taken = g.S.Shelf.taken c.fetch_file-2.new.shelf;
-    }) (network_file c.args.file.now) (record { name = c.args.other.now; limit = c.args.limit })
+    rw (p.1, p.2) (second_missing (visit g.S.Shelf c.args.shelf.now c.fetch_file.new.shelf) (visit g.S.Shelf c.fetch_file.new.shelf c.fetch_file-2.new.shelf)
+    (network_file c.args.file.now) (record { name = c.args.other.now; limit = c.args.limit })
     (record { asked = refl; faults = refl; told = c.in_ok-text.ensures.same; rises = c.in_ok-text.ensures.never_falls; rises_more = c.in_err-more.ensures.never_falls })
     c.in_ok-text.ensures.fetched.0 c.in_err-more.field-0.0 c.in_err-more.ensures.fetched)
