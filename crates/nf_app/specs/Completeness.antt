@@ -211,8 +211,8 @@ EndsSettled status = (status ≡ Status.Ok) ⊎ (status ≡ Status.NotThin) ⊎ 
 abbrev pub EndsResumed : Status → Type 0
 EndsResumed status = (status ≡ Status.Ok) ⊎ (status ≡ Status.Phases) ⊎ (status ≡ Status.Patterns) ⊎ (status ≡ Status.NoPattern) ⊎ (status ≡ Status.Memory)
 
--- Where neither the shelf nor the output failed in the call, the whole text was taken, of a report up to the horizon, or memory was
--- wanting.
+-- Where neither the shelf nor the output failed in the call, the whole text was taken, of a report and of the summary of `gen` up to the
+-- horizon, or memory was wanting.
 abbrev pub IsComplete : Call → Taken → Status → Type 0
 IsComplete call out status = ¬ Rose call.shelf.faults_before call.shelf.faults_now → ¬ Rose out.faults_before out.faults_now
     → (HasAnswer call → EndsWell status) × (CanBeJudged call → EndsJudged status) × (CanBeQuick call → EndsQuick status) × (CanBeSettled call → EndsSettled status)

@@ -22,7 +22,10 @@ fn let_go(_outcome: Outcome) {}
 /// is no thin flow, or a report goes on beyond the horizon of `resume`. Of a network, of a ladder that `gen` makes, and of a report that
 /// is resumed, a report or a summary is written up to the horizon, or up to the departure where its run stops; without a horizon the run
 /// with its last phase, which never ends; of a report the verdict whether its flow is an equilibrium; of a thin flow what it is settled
-/// to; of routes what their links and they themselves carry, and when.
+/// to; of routes what their links and they themselves carry, and when. `show` writes the canonical text of the network, and `load` the
+/// queue, the outflow and the exits of each link under its loads, up to the horizon. `quick` writes a quickest flow of the amount with its
+/// time, its walks, a cut and the cut's value, and the arrival in an equilibrium of who departs when the amount is supplied; where more walks
+/// would have to be pushed than allowed, those that were.
 pub fn run<S: Shelf, O: Sink, E: Sink>(
     alloc: Global,
     words: &[String],
@@ -34,9 +37,9 @@ pub fn run<S: Shelf, O: Sink, E: Sink>(
         (taken O.Sink out.old out.new) (taken E.Sink err.old err.new) result }
 
     // Nothing but want of memory keeps a network from being shown, from being solved where its phase run reaches the horizon or goes on for
-    // ever, and from being loaded, by loads or by routes, where no operation passes; a report from its verdict, and from being resumed, where none
-    // passes; a quickest flow from being found where none passes, unless too many walks are wanted or it is unbounded; and a thin flow from
-    // being settled where none passes.
+    // ever, and from being loaded, by loads or by routes, where no operation passes; a ladder of `gen` from its summary where its phase run reaches
+    // the horizon; a report from its verdict, and from being resumed, where no operation passes; a quickest flow from being found where none
+    // passes, unless too many walks are wanted or it is unbounded; and a thin flow from being settled where none passes.
     ensures complete { IsComplete (record { words = texts words.now; shelf = visit S.Shelf shelf.old shelf.new })
         (taken O.Sink out.old out.new) result }
 {
