@@ -1,11 +1,14 @@
 // The summary of a run in a generated ladder.
 ghost use Rattle.std.specs.Prelude.{◌≡◌, [], ◌∷◌, ◌++◌, codes};
 ghost use Rattle.std.specs.Option.{option_copied};
+ghost use Rattle.nf_rational.specs.Rational.{ℚ};
 ghost use Rattle.nf_numerals.specs.Digits.{digits_of};
 ghost use Rattle.nf_numerals.specs.Printed.{printed};
+ghost use Rattle.nf_edge.specs.Taken.{Wrote};
 ghost use Rattle.nf_formats.specs.Causes.{cause_words};
+ghost use Rattle.nf_phase.specs.Solution.{report_in};
 ghost use Rattle.nf_report.specs.Written.{WroteLines};
-ghost use Rattle.nf_answers.specs.GenText.{ladder_lines, size_lines, run_lines, end_lines};
+ghost use Rattle.nf_answers.specs.GenText.{ladder_lines, size_lines, run_lines, end_lines, last_arrival, gen_text};
 
 use nf_curve::Stop;
 use nf_edge::{Sink, SinkFault};
@@ -98,7 +101,12 @@ pub fn write_summary<O: Sink>(
     solution: &Solution,
     arrival: Q,
 ) -> Result<(), SinkFault>
-    ensures { WroteLines (O.took out.old) (O.took out.new) (O.faults out.old) (O.faults out.new)
+    ensures text { (horizon : ℚ) → arrival ≡ last_arrival net.now (report_in horizon solution.now)
+        → Wrote (O.took out.old) (O.took out.new) (O.faults out.old) (O.faults out.new)
+        (gen_text ladder.number ladder.rungs net.now solution.now.phases (report_in horizon solution.now)) result }
+
+    // The same lines with any arrival.
+    ensures lines { WroteLines (O.took out.old) (O.took out.new) (O.faults out.old) (O.faults out.new)
         (ladder_lines ladder.number ladder.rungs ++ size_lines net.now ++ run_lines solution.now.phases solution.now.flow.reached
         ++ end_lines solution.now.stopped arrival) result }
 {

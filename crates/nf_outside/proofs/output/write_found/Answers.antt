@@ -14,6 +14,7 @@ use Rattle.nf_routes_lists.specs.RoutesText.{routed_text}
 use Rattle.nf_routes.specs.Routed.{routed_of}
 use Rattle.nf_answers.specs.declared.outcome.Found.{Found}
 use Rattle.nf_answers.specs.QuickText.{arrival_text}
+use Rattle.nf_answers.specs.GenText.{gen_text}
 use Rattle.nf_answers.specs.Outcomes.{text_with, HasTextWith}
 use Rattle.nf_answers.proofs.ErrorTexts.{same_text}
 use Rattle.nf_outside.proofs.output.write_found.Goals as goal
@@ -40,6 +41,14 @@ returns-in-Quickest g c =
     same_text (c.deref-in-Quickest.result.now ++ arrival_text c.in-Quickest.arrival) (text_with c.args.net.now c.args.found.now)
     (ap (λ (l : List ℕ). l ++ arrival_text c.in-Quickest.arrival) (c.deref-in-Quickest.ensures.value ∙ subst (λ (f : Found). HasTextWith c.args.net.now f) c.in-Quickest.is c.requires)
     ∙ sym (ap (text_with c.args.net.now) c.in-Quickest.is)) c.write_quick.ensures
+
+pub returns-in-Generated : goal.returns-in-Generated
+returns-in-Generated g c =
+    let ladder = c.in-Generated.ladder in
+    let s = c.in-Generated.solution in
+    same_text (gen_text ladder.number ladder.rungs c.args.net.now s.phases (report_in c.in-Generated.horizon s)) (text_with c.args.net.now c.args.found.now)
+    (sym (ap (text_with c.args.net.now) c.in-Generated.is))
+    (c.write_summary.ensures.text c.in-Generated.horizon (subst (λ (f : Found). HasTextWith c.args.net.now f) c.in-Generated.is c.requires))
 
 pub returns-in-Settled : goal.returns-in-Settled
 returns-in-Settled g c =
