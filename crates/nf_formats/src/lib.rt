@@ -1,5 +1,5 @@
 //! What the files and the printed texts mean: which network a file stands for or which rule it breaks first, the canonical
-//! text of a network, the text of a report, and the lines on standard error. Definitions, but for plain enums that code and
+//! text of a network, the text of a report, and in words why its run stopped. Definitions, but for plain enums that code and
 //! definitions share: see `specs/`, and docs/FORMATS.md for the same in prose. All formats are this project's own.
 #![tactic(auto)]
 
