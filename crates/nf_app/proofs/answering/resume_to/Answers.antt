@@ -16,7 +16,7 @@ pub returns-in-Ok : goal.returns-in-Ok
 returns-in-Ok c shelf file name told =
     let e = c.in-Ok.ensures in
     let s = c.in-Ok.solution in (
-      gone_on_given shelf c.args.net.now file name c.args.horizon c.args.budgets.phases c.args.budgets.patterns c.args.text.now told (report_of c.in_ok-report.report) c.in_ok-report.ensures.reads (report_in c.args.horizon s) s.phases e.not_earlier e.resumed e.formed e.equilibrium e.goes_on,
+      gone_on_given shelf c.args.net.now file name c.args.horizon c.args.budgets.phases c.args.budgets.patterns c.args.text.now told (report_of c.in_ok-report.report) c.in_ok-report.ensures.reads (report_in c.args.horizon s) s.phases e.not_earlier e.resumed e.formed e.equilibrium e.goes_on e.short,
       e.formed,
     )
 
