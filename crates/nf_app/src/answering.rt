@@ -155,6 +155,10 @@ fn resume_to(
     ensures { (shelf : Visit) (file name : List ℕ) → IsTold shelf (report_file name) text.now
         → IsGiving shelf net.now (Resume file name horizon budgets.phases budgets.patterns) result }
 {
+    // For the proof: the network is that of an accepted file, and the parts of the horizon are within the bound.
+    let _ = net.version();
+    let _ = horizon.numer();
+    let _ = horizon.denom();
     let report = parse_report(alloc, net, text)?;
     match resume(alloc, net, &report, horizon, budgets) {
         Ok(solution) => Ok(Found::Solved { horizon, solution }),

@@ -23,7 +23,7 @@ use Rattle.nf_lists.specs.Signs.{is_positive}
 use Rattle.nf_lists.specs.CurveList.{QueueStep, LinkStep}
 use Rattle.nf_lists.specs.ReportCurves.{GrowingCurve, LinkCurves, goes_on, with_point, with_rate, first_label_curve, first_trace, first_queue, first_curves, label_curves_after, trace_after, queue_after, link_curves_after, amount_so_far}
 use Rattle.nf_lists.specs.Search.{Answer, Found, OverBudget, PassesAt, NoPattern}
-use Rattle.nf_lists.specs.PhaseRun.{Standing, Bounds, IsStart, standing_after, cause_of_search, Seeks, phase_lists, Goes, Fails, at_slack, at_search, at_lists, Runs, at_horizon, at_phases, fails, goes, IsPhaseRun, report_of, IsRunReport}
+use Rattle.nf_lists.specs.PhaseRun.{Standing, Bounds, IsStart, standing_after, cause_of_search, Seeks, phase_lists, Goes, Fails, at_slack, at_search, at_lists, Runs, at_horizon, at_phases, fails, goes, report_of, IsRunReport}
 use Rattle.nf_lists_laws.proofs.Ending.{from_map}
 use Rattle.nf_thin_laws.proofs.ActiveLinks.{AreSets-sets_at}
 use Rattle.nf_equation_laws.specs.Equations.{IsPatternIn}
@@ -41,7 +41,7 @@ use Rattle.nf_readable_laws.proofs.PhaseFits.{slack_list_fits, IsFractionQueueOr
 use Rattle.nf_readable_laws.proofs.Starting.{named_fractions, start_fractions}
 
 -- ---- curves
-abbrev IsFractionCurve : GrowingCurve → Type 0
+abbrev pub IsFractionCurve : GrowingCurve → Type 0
 IsFractionCurve curve = AreFractionPoints curve.points
 
 pub record AreFractionCurves (curves : LinkCurves) : Type 0 where
@@ -106,7 +106,7 @@ first_curves_fractions labels link h = record {
   queue = first_queue_fractions (is_positive (number_at labels link.tail)) (number_at labels link.tail) (number_fraction labels link.tail h);
 }
 
-last_fraction : (o : Option Point) (points : List Point) → IsFraction (option_map_or (λ point. point.1) o 0ℚ) → AreFractionPoints points → IsFraction (option_map_or (λ point. point.1) (last_or o points) 0ℚ)
+pub last_fraction : (o : Option Point) (points : List Point) → IsFraction (option_map_or (λ point. point.1) o 0ℚ) → AreFractionPoints points → IsFraction (option_map_or (λ point. point.1) (last_or o points) 0ℚ)
 last_fraction o [] h all = h
 last_fraction o (p ∷ points) h all = last_fraction (Some p) points all.0.1 all.1
 
@@ -114,12 +114,29 @@ amount_fractions : (curves : List LinkCurves) → AllByRecursion AreFractionCurv
 amount_fractions curves all = all_image IsFraction AreFractionCurves amount_so_far (λ c h. last_fraction None c.inflow.points zero_fraction h.inflow.0) curves all
 
 -- ---- wherever a run stands
-record StandsFit (net : Network) (s : Standing) : Type 0 where
+pub record StandsFit (net : Network) (s : Standing) : Type 0 where
   pub well : WellRun net s
   pub time : IsFraction s.time
   pub labels : AreFractions s.labels
   pub label_curves : AllByRecursion IsFractionCurve s.label_curves
   pub link_curves : AllByRecursion AreFractionCurves s.link_curves
+
+-- where it ends, with the cause
+pub record EndsFit (net : Network) (last : Standing) (stop : Option (Cause ℚ)) : Type 0 where
+  pub fit : StandsFit net last
+  pub cause : IsReadableCause stop
+
+-- the report of a run that ends so can be read
+pub end_readable : (net : Network) (horizon : ℚ) (last : Standing) (stop : Option (Cause ℚ)) → IsFraction horizon → EndsFit net last stop → IsReadable (report_of horizon last stop)
+end_readable net horizon last stop h ends = record {
+  horizon = h;
+  reached = ends.fit.time;
+  stop = ends.cause;
+  labels = all_image AreFractionPoints IsFractionCurve (λ curve. curve.points) (λ c h. h) last.label_curves ends.fit.label_curves;
+  inflows = all_image IsFractionTrace AreFractionCurves (λ curves. curves.inflow) (λ c h. h.inflow) last.link_curves ends.fit.link_curves;
+  outflows = all_image IsFractionTrace AreFractionCurves (λ curves. curves.outflow) (λ c h. h.outflow) last.link_curves ends.fit.link_curves;
+  queues = all_image AreFractionPoints AreFractionCurves (λ curves. curves.queue.points) (λ c h. h.queue) last.link_curves ends.fit.link_curves;
+}
 
 module _ (n : Named) (named : IsNamed n) (bounds : Bounds) (within : AreReadable bounds) where
   abbrev net : Network
@@ -178,7 +195,7 @@ module _ (n : Named) (named : IsNamed n) (bounds : Bounds) (within : AreReadable
         let thin = found place pattern flows slopes seeks in
         phase_fits net has bounds.horizon s pattern flows slopes within.horizon fit.time fit.labels (slacks (Found place pattern flows slopes) seeks) amounts thin.0 thin.1
 
-    StandsFit-after : (t : Standing) → Goes passes_Q net bounds.horizon bounds.patterns s t → StandsFit net t
+    pub StandsFit-after : (t : Standing) → Goes passes_Q net bounds.horizon bounds.patterns s t → StandsFit net t
     StandsFit-after t g =
         let steps : AreSteps g.step = (lists_fit g.place g.pattern g.flows g.slopes g.finds).value g.step g.lists in
         let well : WellRun net t = WellRun-goes passes_Q net named.network bounds s t g fit.well in
@@ -210,7 +227,7 @@ module _ (n : Named) (named : IsNamed n) (bounds : Bounds) (within : AreReadable
         subst IsReadableCause e (h, (omega (arith, first.has_place.1, low, vain.not_longer, budget)), operands.0, operands.1)
     search_cause phase NoPattern cause h seeks e = subst IsReadableCause e h
 
-    cause_readable : (cause : Cause ℚ) → s.made < bounds.phases → Fails passes_Q net bounds.horizon bounds.patterns s cause → IsReadableCause (Some cause)
+    pub cause_readable : (cause : Cause ℚ) → s.made < bounds.phases → Fails passes_Q net bounds.horizon bounds.patterns s cause → IsReadableCause (Some cause)
     cause_readable cause may (at_slack p below e) =
         let operands = (slack_list_fits net has s.labels fit.labels).passed p e in
         (phase_count may, tt, operands.0, operands.1)
@@ -226,28 +243,12 @@ module _ (n : Named) (named : IsNamed n) (bounds : Bounds) (within : AreReadable
         (omega arith, tt, operands.0, operands.1)
 
   -- ---- to the end
-  record EndsFit (last : Standing) (stop : Option (Cause ℚ)) : Type 0 where
-    pub fit : StandsFit net last
-    pub cause : IsReadableCause stop
-
-  ends_fit : (s last : Standing) (stop : Option (Cause ℚ)) → StandsFit net s → Runs passes_Q net bounds s last stop → EndsFit last stop
+  ends_fit : (s last : Standing) (stop : Option (Cause ℚ)) → StandsFit net s → Runs passes_Q net bounds s last stop → EndsFit net last stop
   ends_fit s last stop fit (at_horizon e) = record { fit = fit; cause = tt }
   ends_fit s last stop fit (at_phases below e) = record { fit = fit; cause = subst IsCount (sym e) within.phases }
   ends_fit s last stop fit (fails {cause = c} may f) = record { fit = fit; cause = cause_readable s fit c may f }
   ends_fit s last stop fit (goes {new = t} may g rest) = ends_fit t last stop (StandsFit-after s fit t g) rest
 
-  run_readable : (last : Standing) (stop : Option (Cause ℚ)) → IsPhaseRun passes_Q net bounds last stop → IsReadable (report_of bounds.horizon last stop)
-  run_readable last stop run =
-      let ends : EndsFit last stop = ends_fit run.first last stop (StandsFit-start run.first run.start) run.runs in
-      record {
-        horizon = within.horizon;
-        reached = ends.fit.time;
-        stop = ends.cause;
-        labels = all_image AreFractionPoints IsFractionCurve (λ curve. curve.points) (λ c h. h) last.label_curves ends.fit.label_curves;
-        inflows = all_image IsFractionTrace AreFractionCurves (λ curves. curves.inflow) (λ c h. h.inflow) last.link_curves ends.fit.link_curves;
-        outflows = all_image IsFractionTrace AreFractionCurves (λ curves. curves.outflow) (λ c h. h.outflow) last.link_curves ends.fit.link_curves;
-        queues = all_image AreFractionPoints AreFractionCurves (λ curves. curves.queue.points) (λ c h. h.queue) last.link_curves ends.fit.link_curves;
-      }
-
   pub report_readable : (report : Report) → IsRunReport passes_Q net bounds report → IsReadable report
-  report_readable report r = subst IsReadable (sym r.report_is) (run_readable r.last r.stop r.run)
+  report_readable report r = subst IsReadable (sym r.report_is)
+      (end_readable net bounds.horizon r.last r.stop within.horizon (ends_fit r.run.first r.last r.stop (StandsFit-start r.run.first r.run.start) r.run.runs))

@@ -1,6 +1,9 @@
+use Rattle.std.proofs.Common.{arith}
 use Rattle.std.proofs.lemmas.Result.{err_from_is_err_and}
+use Rattle.nf_readable_laws.proofs.Fractions.{fraction_of_parts}
+use Rattle.nf_resumed_report_laws.proofs.Reading.{resumed_reads_back}
 use Rattle.nf_reader.specs.Files.{report_of}
-use Rattle.nf_phase.specs.Solution.{report_in}
+use Rattle.nf_phase.specs.Solution.{bounds_of, report_in}
 use Rattle.nf_app.proofs.ResumeGiven.{old_refused, gone_on_given}
 use Rattle.nf_app.proofs.answering.resume_to.Goals as goal
 
@@ -15,8 +18,19 @@ returns-in_err-report c shelf file name told =
 pub returns-in-Ok : goal.returns-in-Ok
 returns-in-Ok c shelf file name told =
     let e = c.in-Ok.ensures in
-    let s = c.in-Ok.solution in (
-      gone_on_given shelf c.args.net.now file name c.args.horizon c.args.budgets.phases c.args.budgets.patterns c.args.text.now told (report_of c.in_ok-report.report) c.in_ok-report.ensures.reads (report_in c.args.horizon s) s.phases e.not_earlier e.resumed e.formed e.equilibrium e.goes_on e.short,
+    let s = c.in-Ok.solution in
+    let bounds = bounds_of c.args.horizon c.args.budgets in
+    let old = report_of c.in_ok-report.report in
+    let new = report_in c.args.horizon s in (
+      gone_on_given shelf c.args.net.now file name c.args.horizon c.args.budgets.phases c.args.budgets.patterns c.args.text.now told old c.in_ok-report.ensures.reads new s.phases
+          e.not_earlier e.resumed e.formed e.equilibrium e.goes_on e.short
+          (resumed_reads_back c.args.net.now c.version.ensures.named bounds
+          (record {
+            horizon = fraction_of_parts c.args.horizon c.numer.result c.denom.result c.numer.ensures.value c.numer.ensures.small c.denom.ensures.value c.denom.ensures.small;
+            phases = omega arith;
+            patterns = omega arith;
+          })
+          old s.phases new c.args.text.now c.in_ok-report.ensures.reads e.formed e.resumed),
       e.formed,
     )
 

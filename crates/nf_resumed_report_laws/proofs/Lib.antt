@@ -1,0 +1,3 @@
+pub mod CutFits
+pub mod Restarting
+pub mod Reading
