@@ -13,7 +13,7 @@ use Rattle.nf_check_lists.specs.declared.Answer.{Answer as Verdict}
 use Rattle.nf_readings.specs.ReportFile.{ReportBroken, report_in}
 use Rattle.nf_reader.specs.declared.fault.ReportFault.{ReportFault}
 use Rattle.nf_reader.specs.Files.{IfBroken}
-use Rattle.nf_run_laws.specs.RunLaws.{IsShortFlow}
+use Rattle.nf_lists.specs.PhaseRun.{IsShortFlow}
 use Rattle.nf_readable_laws.specs.Laws.{ReadsBack}
 use Rattle.nf_phase.specs.Solution.{bounds_of}
 use Rattle.nf_resume_lists.specs.Resuming.{resume_list}

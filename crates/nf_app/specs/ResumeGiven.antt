@@ -7,8 +7,7 @@ use Rattle.nf_work.specs.declared.PassedAt.{PassedAt}
 use Rattle.nf_model.specs.Equilibrium.{Equilibrium}
 use Rattle.nf_formats.specs.Named.{Named}
 use Rattle.nf_formats.specs.Report.{Report, IsWellFormed}
-use Rattle.nf_lists.specs.PhaseRun.{Bounds}
-use Rattle.nf_run_laws.specs.RunLaws.{IsShortFlow}
+use Rattle.nf_lists.specs.PhaseRun.{Bounds, IsShortFlow}
 use Rattle.nf_check_lists.specs.declared.Answer.{Answer as Verdict}
 use Rattle.nf_readable_laws.specs.Laws.{ReadsBack}
 use Rattle.nf_resume_lists.specs.Resuming.{resume_list}
