@@ -17,6 +17,10 @@ unfoldable pub drawn : ℕ → ℕ → ℕ
 drawn number zero = number % 65537
 drawn number (suc draws) = next_value (drawn number draws)
 
+-- the most rungs
+abbrev pub most_rungs : ℕ
+most_rungs = 30
+
 -- ---- names: the nodes `u1`, `u2` and so on of the upper rail and `l1`, `l2` and so on of the lower one, and the rungs `r1`, `r2` ..
 abbrev pub upper : ℕ → Name
 upper i = 117 ∷ digits_of i

@@ -2,7 +2,7 @@
 ghost use Rattle.std.specs.Prelude.{◌≡◌, ◌++◌, ◌≤◌, map, flat_map, IfOk, OnOk};
 ghost use Rattle.nf_lines.specs.Words.{line_of_words};
 ghost use Rattle.nf_formats.specs.NetText.{inflow_words, canonical};
-ghost use Rattle.nf_gen.specs.Ladder.{ladder};
+ghost use Rattle.nf_gen.specs.Ladder.{most_rungs, ladder};
 ghost use Rattle.nf_gen.specs.Writing.{pieces_after};
 
 use crate::draws::Draws;
@@ -26,7 +26,7 @@ fn push_pieces(out: &mut Vec<u8>, draws: &mut Draws) -> Result<(), AllocError>
 // The canonical text of the ladder.
 fn ladder_text(alloc: Global, number: u64, rungs: u64) -> Result<Vec<u8>, AllocError>
     requires some { 1 ≤ rungs }
-    requires few { rungs ≤ 30 }
+    requires few { rungs ≤ most_rungs }
     ensures { IfOk result (λ text. text.items ≡ canonical (ladder number rungs)) }
 {
     let mut draws = Draws::new(number);
@@ -41,7 +41,7 @@ fn ladder_text(alloc: Global, number: u64, rungs: u64) -> Result<Vec<u8>, AllocE
 /// The ladder of a number with 1 to 30 rungs. It is refused only where memory is wanting.
 pub fn generated(alloc: Global, number: u64, rungs: u32) -> Result<Network, AllocError>
     requires some { 1 ≤ rungs }
-    requires few { rungs ≤ 30 }
+    requires few { rungs ≤ most_rungs }
     ensures { IfOk result (λ net. net ≡ ladder number rungs) }
 {
     let text = ladder_text(alloc, number, u64::from(rungs))?;

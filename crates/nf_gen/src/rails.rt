@@ -1,7 +1,7 @@
 // The links of a ladder, in order, each with what is drawn for it.
 ghost use Rattle.std.specs.Prelude.{◌≡◌, ◌+◌, ◌≤◌, [], ◌∷◌, IfOk, OnOk};
 ghost use Rattle.nf_numerals.specs.Digits.{digits_of};
-ghost use Rattle.nf_gen.specs.Ladder.{link_from, rung_at, links_in, links_along, links_down, links_out, ladder_ends};
+ghost use Rattle.nf_gen.specs.Ladder.{most_rungs, link_from, rung_at, links_in, links_along, links_down, links_out, ladder_ends};
 ghost use Rattle.nf_gen.specs.Writing.{WritesLinks};
 
 use crate::draws::Draws;
@@ -56,7 +56,7 @@ fn push_rail(
     letter: u8,
     index: u64,
 ) -> Result<(), AllocError>
-    requires { index ≤ 30 }
+    requires { index ≤ most_rungs }
     ensures { OnOk result (WritesLinks
         (link_from (letter ∷ digits_of index) (letter ∷ digits_of index) (letter ∷ digits_of (index + 1)) ∷ [])
         out.old.items out.new.items draws.old draws.new) }
@@ -75,7 +75,7 @@ fn push_rails(
     rungs: u64,
 ) -> Result<(), AllocError>
     requires some { 1 ≤ rungs }
-    requires few { rungs ≤ 30 }
+    requires few { rungs ≤ most_rungs }
     ensures { OnOk result (WritesLinks (links_along rungs) out.old.items out.new.items draws.old draws.new) }
 {
     for index in 1..rungs {
@@ -108,7 +108,7 @@ fn push_rungs(
     draws: &mut Draws,
     rungs: u64,
 ) -> Result<(), AllocError>
-    requires { rungs ≤ 30 }
+    requires { rungs ≤ most_rungs }
     ensures { OnOk result (WritesLinks (links_down rungs) out.old.items out.new.items draws.old draws.new) }
 {
     for index in 1..rungs + 1 {
@@ -141,7 +141,7 @@ pub fn push_links(
     rungs: u64,
 ) -> Result<(), AllocError>
     requires some { 1 ≤ rungs }
-    requires few { rungs ≤ 30 }
+    requires few { rungs ≤ most_rungs }
     ensures { OnOk result (WritesLinks (ladder_ends rungs) out.old.items out.new.items draws.old draws.new) }
 {
     push_first(alloc, out, draws)?;

@@ -10,7 +10,7 @@ use Rattle.nf_formats.specs.NetLines.{is_negative, is_not_after}
 use Rattle.nf_draft.specs.Contents.{contents}
 use Rattle.nf_readings.specs.declared.LoadRule.{LoadRule}
 use Rattle.nf_readings.specs.declared.LoadRule.TheVariants.{L9, L10, L11}
-use Rattle.nf_readings.specs.LoadsFile.{LoadsDraft, LoadsBroken, first_load_rule, add_loads, loads_draft, if_ended}
+use Rattle.nf_readings.specs.LoadsFile.{LoadsDraft, LoadsBroken, most_lines_of_a_link, first_load_rule, add_loads, loads_draft, if_ended}
 use Rattle.nf_load.specs.declared.draft.Draft.{Draft}
 
 abbrev pub seen_draft : Draft → LoadsDraft
@@ -29,7 +29,7 @@ abbrev pub rule_behind : List Piece → Piece → Option LoadRule
 rule_behind before piece = first_load_rule (
     (is_negative piece.start || is_negative piece.rate, L9)
     ∷ (is_not_after piece.start (last_or None before), L10)
-    ∷ (nat_le 200 (length before), L11) ∷ [])
+    ∷ (nat_le most_lines_of_a_link (length before), L11) ∷ [])
 
 -- what comes of lines with words: the first of all is that of the head, and the others say something of links
 abbrev pub draft_on : Named → Option Draft → List ReadLine → Result LoadsDraft LoadsBroken

@@ -1,7 +1,7 @@
 -- What the routes of a file keep.
 use Rattle.std.specs.Prelude.{ℕ, ◌≤◌, List, [], length, map, Option, Some, None, slice_get}
 use Rattle.nf_routes_lists.specs.Routes.{Route, HoldCircle}
-use Rattle.nf_routes_lists.specs.RoutesFile.{NamedRoute}
+use Rattle.nf_routes_lists.specs.RoutesFile.{NamedRoute, most_routes}
 
 -- without their names
 abbrev pub routes_of : List NamedRoute → List Route
@@ -14,7 +14,7 @@ links_of (Some r) = r.route.links
 abbrev pub links_at : List NamedRoute → ℕ → List ℕ
 links_at routes r = links_of (slice_get routes r)
 
--- there are at most 100 of them, and no links stand in a circle
+-- there are no more of them than a file may have, and no links stand in a circle
 pub record AreKept (routes : List NamedRoute) : Type 0 where
-  pub few : length routes ≤ 100
+  pub few : length routes ≤ most_routes
   pub straight : ¬ HoldCircle (routes_of routes)

@@ -7,7 +7,7 @@ use Rattle.nf_formats.specs.NetLines.{is_negative, is_not_after}
 use Rattle.nf_routes_lists.specs.declared.RoutesRule.{RoutesRule}
 use Rattle.nf_routes_lists.specs.declared.RoutesRule.TheVariants.{G13, G14, G15}
 use Rattle.nf_routes_lists.specs.Routes.{AreRoutes}
-use Rattle.nf_routes_lists.specs.RoutesFile.{RoutesDraft, first_rule}
+use Rattle.nf_routes_lists.specs.RoutesFile.{RoutesDraft, most_routes, most_lines_of_a_route, first_rule}
 use Rattle.nf_route.specs.Kept.{routes_of}
 use Rattle.nf_route_reader.specs.declared.draft.Draft.{Draft}
 
@@ -19,9 +19,9 @@ abbrev pub rule_behind : List Piece → Piece → Option RoutesRule
 rule_behind before piece = first_rule (
     (is_negative piece.start || is_negative piece.rate, G13)
     ∷ (is_not_after piece.start (last_or None before), G14)
-    ∷ (nat_le 200 (length before), G15) ∷ [])
+    ∷ (nat_le most_lines_of_a_route (length before), G15) ∷ [])
 
--- at most 100 routes, which are walks from source to sink, and along which pieces are sent
+-- no more routes than a file may have, which are walks from source to sink, and along which pieces are sent
 pub record IsSound (n : Named) (draft : RoutesDraft) : Type 0 where
-  pub few : length draft.routes ≤ 100
+  pub few : length draft.routes ≤ most_routes
   pub routes : AreRoutes n.net (routes_of draft.routes)

@@ -17,6 +17,14 @@ use Rattle.nf_routes_lists.specs.declared.RoutesRule.{RoutesRule}
 use Rattle.nf_routes_lists.specs.declared.RoutesRule.TheVariants.{G1, G2, G3, G4, G5, G6, G7, G8, G9, G10, G11, G12, G13, G14, G15, G16, G17}
 use Rattle.nf_routes_lists.specs.Routes.{Route, takes_all}
 
+-- the most routes
+abbrev pub most_routes : ℕ
+most_routes = 100
+
+-- the most rate lines of a route
+abbrev pub most_lines_of_a_route : ℕ
+most_lines_of_a_route = 200
+
 -- routes with their names, in the order of their lines
 pub record NamedRoute : Type 0 where
   pub name : Name
@@ -95,12 +103,12 @@ first_rule (test ∷ rest) = if test.0 then Some test.1 else first_rule rest
 
 abbrev pub routes_rule_of : Network → RoutesDraft → RoutesEntry → Option RoutesRule
 routes_rule_of net draft (RouteLine name links) = first_rule (
-    (has_name (route_names draft.routes) name, G10) ∷ (nat_le 100 (length draft.routes), G11)
+    (has_name (route_names draft.routes) name, G10) ∷ (nat_le most_routes (length draft.routes), G11)
     ∷ (not (is_walk net.links links net.source net.sink), G12) ∷ [])
 routes_rule_of net draft (RateLine r piece) = first_rule (
     (is_negative piece.start || is_negative piece.rate, G13)
     ∷ (is_not_after piece.start (last_or None (pieces_at draft.routes r)), G14)
-    ∷ (nat_le 200 (length (pieces_at draft.routes r)), G15) ∷ [])
+    ∷ (nat_le most_lines_of_a_route (length (pieces_at draft.routes r)), G15) ∷ [])
 routes_rule_of net draft End = None
 
 abbrev pub with_piece : Piece → Option NamedRoute → List NamedRoute → ℕ → List NamedRoute
