@@ -1,5 +1,5 @@
 -- A phase run that stopped since no pattern was left, stopped where there is no thin flow.
-use Rattle.std.proofs.Common.{◌≡◌, ℕ, suc, ◌<◌, List, length, get_or, Option, Some, unwrap_or, sym, ap, subst, ◌∙◌, arith}
+use Rattle.std.proofs.Common.{◌≡◌, ℕ, suc, ◌<◌, List, length, get_or, Option, Some, None, unwrap_or, sym, ap, subst, ◌∙◌, arith}
 use Rattle.std.proofs.lemmas.Option.{none-some, slice_get-get_or}
 use Rattle.std.proofs.lemmas.List.FromFn.{length-map-range_with_len, get_or-map-range_with_len}
 use Rattle.nf_rational.specs.Rational.{ℚ}
@@ -51,7 +51,16 @@ labels_are net good s well = same_entries 0ℚ (labels_reached net (flow_of s)) 
 same_cause : (c d : Cause ℚ) → Some c ≡ Some d → c ≡ d
 same_cause c d h = cc
 
-module _ (passes : Passing) (net : Network) (good : IsNetwork net) (bounds : Bounds) (flows slopes : List ℚ) where
+-- no thin flow goes on from a standing
+abbrev pub NoneGoesOn : Network → Standing → Type 0
+NoneGoesOn net s = (flows slopes : List ℚ) → IsThinFlow net (sets_at net s.labels) (rate_at net s.time) flows slopes → ⊥
+
+-- where a run ends: if it stopped there since no pattern was left, no thin flow goes on
+pub record EndsForNone (net : Network) (last : Standing) (stop : Option (Cause ℚ)) : Type 0 where
+  pub well : WellRun net last
+  pub none : (phase : ℕ) → stop ≡ Some (Cause.NoPattern phase) → NoneGoesOn net last
+
+module _ (passes : Passing) (net : Network) (good : IsNetwork net) (bounds : Bounds) where
   abbrev Wants : Cause ℚ → ℕ → Type 0
   Wants c phase = c ≡ Cause.NoPattern phase
 
@@ -65,29 +74,39 @@ module _ (passes : Passing) (net : Network) (good : IsNetwork net) (bounds : Bou
   phases_other m phase h = cc
 
   no_answer : (s : Standing) (phase : ℕ) (a : Answer) → Seeks passes net bounds.horizon bounds.patterns s a → cause_of_search (suc s.made) bounds.patterns a ≡ Some (Cause.NoPattern phase) → WellRun net s
-      → IsThinFlow net (sets_at net s.labels) (rate_at net s.time) flows slopes → ⊥
-  no_answer s phase (Found place pattern f l) k h well thin = none-some _ h
-  no_answer s phase OverBudget k h well thin = over_other (suc s.made) bounds.patterns phase (same_cause _ _ h)
-  no_answer s phase (PassesAt place at) k h well thin = passed_other (suc s.made) (Some place) at phase (same_cause _ _ h)
-  no_answer s phase NoPattern k h well thin =
+      → NoneGoesOn net s
+  no_answer s phase (Found place pattern f l) k h well flows slopes thin = none-some _ h
+  no_answer s phase OverBudget k h well flows slopes thin = over_other (suc s.made) bounds.patterns phase (same_cause _ _ h)
+  no_answer s phase (PassesAt place at) k h well flows slopes thin = passed_other (suc s.made) (Some place) at phase (same_cause _ _ h)
+  no_answer s phase NoPattern k h well flows slopes thin =
       none-search passes net (sets_at net s.labels) (rate_at net s.time) k.search.base bounds.patterns flows slopes (AreGoodSets-well net good s well) (rate_from-not_negative net.pieces s.time good.pieces) k.search.is_search thin
 
-  abbrev NoneAt : Standing → Type 0
-  NoneAt s = IsThinFlow net (sets_at net s.labels) (rate_at net s.time) flows slopes → ⊥
+  none_fails : (s : Standing) (c : Cause ℚ) (phase : ℕ) → c ≡ Cause.NoPattern phase → WellRun net s → Fails passes net bounds.horizon bounds.patterns s c → NoneGoesOn net s
+  none_fails s _ phase e well (at_slack p below h) flows slopes thin = passed_other _ _ _ phase e
+  none_fails s c phase e well (at_search a _ k h) flows slopes thin = no_answer s phase a k (h ∙ ap (λ (d : Cause ℚ). Some d) e) well flows slopes thin
+  none_fails s _ phase e well (at_lists place pattern f l p k h) flows slopes thin = passed_other _ _ _ phase e
 
-  none_fails : (s : Standing) (c : Cause ℚ) (phase : ℕ) → c ≡ Cause.NoPattern phase → WellRun net s → Fails passes net bounds.horizon bounds.patterns s c → NoneAt s
-  none_fails s _ phase e well (at_slack p below h) thin = passed_other _ _ _ phase e
-  none_fails s c phase e well (at_search a _ k h) thin = no_answer s phase a k (h ∙ ap (λ (d : Cause ℚ). Some d) e) well thin
-  none_fails s _ phase e well (at_lists place pattern f l p k h) thin = passed_other _ _ _ phase e
+  -- ---- the ends of a run
+  pub horizon_ends : (s : Standing) → WellRun net s → EndsForNone net s None
+  horizon_ends s well = record { well = well; none = λ phase e. absurd (none-some _ e) }
 
-  none_runs : (s last : Standing) (stop : Option (Cause ℚ)) (phase : ℕ) → stop ≡ Some (Cause.NoPattern phase) → WellRun net s → Runs passes net bounds s last stop → NoneAt last × WellRun net last
-  none_runs s last stop phase e well (at_horizon h) = absurd (none-some _ e)
-  none_runs s last stop phase e well (at_phases below h) = absurd (phases_other _ phase (same_cause _ _ e))
-  none_runs s last stop phase e well (fails {cause = c} may f) = (none_fails s c phase (same_cause c (Cause.NoPattern phase) e) well f, well)
-  none_runs s last stop phase e well (goes {new = t} may g rest) = none_runs t last stop phase e (WellRun-goes passes net good bounds s t g well) rest
+  pub phases_end : (s : Standing) → WellRun net s → EndsForNone net s (Some (Cause.Phases s.made))
+  phases_end s well = record { well = well; none = λ phase e. absurd (phases_other _ phase (same_cause _ _ e)) }
+
+  pub failing_ends : (s : Standing) (c : Cause ℚ) → WellRun net s → Fails passes net bounds.horizon bounds.patterns s c → EndsForNone net s (Some c)
+  failing_ends s c well f = record { well = well; none = λ phase e. none_fails s c phase (same_cause c (Cause.NoPattern phase) e) well f }
+
+  run_ends : (s last : Standing) (stop : Option (Cause ℚ)) → WellRun net s → Runs passes net bounds s last stop → EndsForNone net last stop
+  run_ends s last stop well (at_horizon h) = horizon_ends s well
+  run_ends s last stop well (at_phases below h) = phases_end s well
+  run_ends s last stop well (fails {cause = c} may f) = failing_ends s c well f
+  run_ends s last stop well (goes {new = t} may g rest) = run_ends t last stop (WellRun-goes passes net good bounds s t g well) rest
+
+-- so of the flow of the standing where it ends
+pub end_stops : (net : Network) (last : Standing) (stop : Option (Cause ℚ)) → IsNetwork net → EndsForNone net last stop → StopsForNoThinFlow net stop (flow_of last)
+end_stops net last stop good ends phase h flows slopes =
+    subst (λ (l : List ℚ). IsThinFlow net (sets_at net l) (rate_at net last.time) flows slopes → ⊥) (sym (labels_are net good last ends.well)) (ends.none phase h flows slopes)
 
 pub stops_for_none : (passes : Passing) (net : Network) (bounds : Bounds) (report : Report) → IsNetwork net → IsRunReport passes net bounds report → StopsForNoThinFlow net report.stop report.flow
-stops_for_none passes net bounds report good r phase h flows slopes =
-    let n = none_runs passes net good bounds flows slopes r.run.first r.last r.stop phase (ap (λ (w : Report). w.stop) (sym r.report_is) ∙ h) (WellRun-start net good r.run.first r.run.start) r.run.runs in
-    subst (λ (w : Report). IsThinFlow net (sets_at net (labels_reached net w.flow)) (rate_at net w.flow.reached) flows slopes → ⊥) (sym r.report_is)
-    (subst (λ (l : List ℚ). IsThinFlow net (sets_at net l) (rate_at net r.last.time) flows slopes → ⊥) (sym (labels_are net good r.last n.1)) n.0)
+stops_for_none passes net bounds report good r = subst (λ (w : Report). StopsForNoThinFlow net w.stop w.flow) (sym r.report_is)
+    (end_stops net r.last r.stop good (run_ends passes net good bounds r.run.first r.last r.stop (WellRun-start net good r.run.first r.run.start) r.run.runs))

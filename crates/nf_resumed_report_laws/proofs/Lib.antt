@@ -1,3 +1,4 @@
 pub mod CutFits
 pub mod Restarting
 pub mod Reading
+pub mod Stopping

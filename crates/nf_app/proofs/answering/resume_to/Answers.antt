@@ -1,7 +1,9 @@
 use Rattle.std.proofs.Common.{arith}
 use Rattle.std.proofs.lemmas.Result.{err_from_is_err_and}
+use Rattle.nf_work.specs.Passing.{passes_Q}
 use Rattle.nf_readable_laws.proofs.Fractions.{fraction_of_parts}
 use Rattle.nf_resumed_report_laws.proofs.Reading.{resumed_reads_back}
+use Rattle.nf_resumed_report_laws.proofs.Stopping.{resumed_stops_for_none}
 use Rattle.nf_reader.specs.Files.{report_of}
 use Rattle.nf_phase.specs.Solution.{bounds_of, report_in}
 use Rattle.nf_app.proofs.ResumeGiven.{old_refused, gone_on_given}
@@ -30,7 +32,8 @@ returns-in-Ok c shelf file name told =
             phases = omega arith;
             patterns = omega arith;
           })
-          old s.phases new c.args.text.now c.in_ok-report.ensures.reads e.formed e.resumed),
+          old s.phases new c.args.text.now c.in_ok-report.ensures.reads e.formed e.resumed)
+          (resumed_stops_for_none passes_Q c.args.net.now.net bounds old s.phases new c.version.ensures.named.network c.in_ok-report.ensures.formed e.resumed),
       e.formed,
     )
 
