@@ -1,6 +1,7 @@
 // The canonical texts of ladders. Each line has a number and how many rungs, of which there are 1 to 30; for any other line `no ladder`
 // is printed.
 ghost use Rattle.std.specs.Prelude.{◌≤◌};
+ghost use Rattle.nf_gen.specs.Ladder.{most_rungs};
 
 use case_lines::{Case, as_text};
 use nf_gen::generated;
@@ -16,7 +17,7 @@ fn asked(line: &str) -> Option<(u64, u32)> {
 
 fn ladder(alloc: Global, number: u64, rungs: u32) -> Result<Vec<u8>, AllocError>
     requires some { 1 ≤ rungs }
-    requires few { rungs ≤ 30 }
+    requires few { rungs ≤ most_rungs }
 {
     let net = generated(alloc, number, rungs)?;
     text(alloc, &net)
@@ -25,7 +26,7 @@ fn ladder(alloc: Global, number: u64, rungs: u32) -> Result<Vec<u8>, AllocError>
 // The text of a ladder.
 fn tell_ladder(rt: &HostRuntime, number: u64, rungs: u32) -> io::Result<()>
     requires some { 1 ≤ rungs }
-    requires few { rungs ≤ 30 }
+    requires few { rungs ≤ most_rungs }
 {
     let text = ladder(rt.alloc(), number, rungs)?;
     print!(rt; "{}", as_text(&text))

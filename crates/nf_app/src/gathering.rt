@@ -4,7 +4,7 @@ ghost use Rattle.std.specs.Result.{result_map_both};
 ghost use Rattle.nf_answers.specs.declared.refusal.Refusal.TheVariants as Refusal;
 ghost use Rattle.nf_outside.specs.Files.{visit, network_file};
 ghost use Rattle.nf_outside.specs.Fetching.{AreRead};
-ghost use Rattle.nf_gen.specs.Ladder.{ladder};
+ghost use Rattle.nf_gen.specs.Ladder.{most_rungs, ladder};
 ghost use Rattle.nf_words.specs.Requests.{CanBeAsked, request_of};
 ghost use Rattle.nf_words.specs.Views.{requested};
 ghost use Rattle.nf_app.specs.Gathered.{OtherFits, IsGathered};
@@ -44,7 +44,7 @@ fn fetch_one<S: Shelf>(
 // The ladder of a number, where no file is wanted.
 fn make_ladder(alloc: Global, number: u64, rungs: u32) -> Result<(Network, Vec<u8>), Refusal>
     requires some { 1 ≤ rungs }
-    requires few { rungs ≤ 30 }
+    requires few { rungs ≤ most_rungs }
     ensures made { IfOk result (λ got. got.0 ≡ ladder number rungs) }
     ensures refused { IfErr result (λ refusal. refusal ≡ Refusal.NoMemory) }
 {
