@@ -1,6 +1,7 @@
 #!/usr/bin/env bash
-# Tries the edits that a proof must refuse, those of the gate and those of tests/edits, of the named crates or of all, on a copy of the
-# tree as it stands. Outside the gate; a crate's own are tried again whenever the crate or a contract below it changes.
+# Tries the edits that a proof must refuse, those of the gate and those of tests/edits, of the named crates and those below or of all, on a
+# copy of the tree as it stands; what the gate kept on this machine is taken over. It fails too where an edit can't be applied or compiled.
+# Outside the gate; a crate's own are tried again whenever the crate or a contract below it changes.
 #
 #     bash tests/edits.sh [NAME ..]
 set -euo pipefail
@@ -15,4 +16,5 @@ for folder in "$root"/tests/edits/*/; do
     cp "$folder"*.edit "$copy/crates/$name/must-fail/"
 done
 cd "$copy"
-rt must-fail "$@"
+rt ci "$@" 2>&1 | tee said
+! grep 'BAD EDIT' said
