@@ -8,7 +8,7 @@ ghost use Rattle.nf_link_flows.specs.ThinParts.{NoneNegative, CarriesIfActive, C
 use crate::taken::each_is_taken;
 use nf_frac::Q;
 use nf_graph::{LinkId, LinkSets};
-use nf_link_flows::{flow_of, is_same, slope_of};
+use nf_link_flows::{flow_of, slope_of};
 use nf_net::Network;
 
 // The number at a place is below 0.
@@ -40,7 +40,7 @@ fn carries_if_active(sets: &LinkSets, flows: &[Q], link: LinkId) -> bool
     if sets.active(link) {
         return true;
     }
-    is_same(flow_of(flows, link), Q::zero())
+    flow_of(flows, link).is_same(Q::zero())
 }
 
 // No such link carries anything.
@@ -62,7 +62,7 @@ fn starts(net: &Network, slopes: &[Q]) -> bool
     requires { length slopes.now ≡ net.now.net.nodes }
     ensures { MatchBool result (number_at slopes.now net.now.net.source ≡ 1ℚ) (number_at slopes.now net.now.net.source ≡ 1ℚ → ⊥) }
 {
-    is_same(slope_of(slopes, net.source()), Q::one())
+    slope_of(slopes, net.source()).is_same(Q::one())
 }
 
 /// All of it.

@@ -9,7 +9,7 @@ ghost use Rattle.nf_link_flows.specs.ThinParts.{keeps_test, KeepsAt};
 use crate::fulls::full_at;
 use nf_frac::{PassedAt, Q};
 use nf_graph::{LinkId, LinkSets};
-use nf_link_flows::{both, flow_of, is_same, slope_of};
+use nf_link_flows::{both, flow_of, slope_of};
 use nf_net::Network;
 
 // Of a link without a capacity.
@@ -37,7 +37,7 @@ fn keeps_slopes(resets: bool, full: Option<Q>, flow: Q, tail_slope: Q, head_slop
         None => keeps_unbounded(flow, tail_slope, head_slope),
         Some(full) => {
             if resets {
-                is_same(flow, full)
+                flow.is_same(full)
             } else {
                 keeps_bounded(full, flow, tail_slope, head_slope)
             }

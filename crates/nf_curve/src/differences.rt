@@ -17,19 +17,11 @@ use crate::places::place_up;
 use crate::walk::{Moment, first_moment, next_moment, sides_at};
 use nf_frac::{Part, PassedAt, Q};
 
-/// Two numbers are equal.
-#[tactic(auto, using(nf_frac::proofs::Comparisons::same_by_order))]
-pub(crate) fn is_same(left: Q, right: Q) -> bool
-    ensures { result ≡ is_same_by left right }
-{
-    left == right
-}
-
 // The values differ.
 fn do_differ(sides: &Sides) -> bool
     ensures { result ≡ do_differ_by (sides_of sides.now) }
 {
-    !is_same(sides.left, sides.right)
+    !sides.left.is_same(sides.right)
 }
 
 // The slope before the last point isn't 0, which it is after it.
@@ -38,7 +30,7 @@ fn turns_at_end(p: &Point, q: &Point, part: Part) -> Result<bool, PassedAt<Q>>
     ensures { result ≡ at_part part (turn_at passes_Q p.now q.now []) }
 {
     let before = slope(p, q, part)?;
-    Ok(!is_same(before, Q::zero()))
+    Ok(!before.is_same(Q::zero()))
 }
 
 // The slopes before and after the middle one of three points differ.
@@ -49,7 +41,7 @@ fn turns_inside(p: &Point, q: &Point, r: &Point, part: Part) -> Result<bool, Pas
 {
     let before = slope(p, q, part)?;
     let after = slope(q, r, part)?;
-    Ok(!is_same(before, after))
+    Ok(!before.is_same(after))
 }
 
 // The slopes before and after the point before a place differ.
@@ -75,7 +67,7 @@ fn does_turn(points: &[Point], place: usize, time: Q, part: Part) -> Result<bool
     requires within { place ≤ length points.now }
     ensures { result ≡ at_part part (checked_turn passes_Q time points.now) }
 {
-    if place < 2 || !is_same(time, points[place - 1].0) {
+    if place < 2 || !time.is_same(points[place - 1].0) {
         return Ok(false);
     }
     turns_before(points, place, part)
@@ -88,7 +80,7 @@ fn is_corner(left: &[Point], right: &[Point], now: &Moment, part: Part) -> Resul
     requires there { IsMoment left.now right.now now.now }
     ensures { result ≡ at_part part (turns_at passes_Q (is_same_by now.now.time 0ℚ) now.now.time left.now right.now) }
 {
-    if is_same(now.time, Q::zero()) || does_turn(left, now.left, now.time, part)? {
+    if now.time.is_same(Q::zero()) || does_turn(left, now.left, now.time, part)? {
         return Ok(true);
     }
     does_turn(right, now.right, now.time, part)

@@ -17,3 +17,4 @@ mod walk;
 
 pub use curve::{Curve, Difference};
 pub use flow::{Flow, Stop, Trace};
+pub use lines::{Point, line, slope};

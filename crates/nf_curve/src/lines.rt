@@ -10,7 +10,7 @@ ghost use Rattle.nf_curve.specs.Sides.{sides_of};
 use nf_frac::{Part, PassedAt, Q, at};
 
 /// A time and the value there.
-pub(crate) type Point = (Q, Q);
+pub type Point = (Q, Q);
 
 /// Two curves at a time: the values of the left one and of the right one.
 #[derive(Clone, Copy)]
@@ -20,9 +20,10 @@ pub(crate) struct Sides {
     pub right: Q,
 }
 
-/// The slope from one point to a later one.
+/// The slope from one point to a later one, a value per unit of time. Passed comes exactly at the first operation of its list that
+/// passes, with this part. Takes no memory.
 #[tactic(auto, unfolding(nf_curve_lists::specs::Lines::checked_slope), using(crate::proofs::Pieces::run_apart))]
-pub(crate) fn slope(p: &Point, q: &Point, part: Part) -> Result<Q, PassedAt<Q>>
+pub fn slope(p: &Point, q: &Point, part: Part) -> Result<Q, PassedAt<Q>>
     requires { p.now.0 <ℚ q.now.0 }
     ensures { result ≡ at_part part (checked_slope passes_Q p.now q.now) }
 {
@@ -32,9 +33,10 @@ pub(crate) fn slope(p: &Point, q: &Point, part: Part) -> Result<Q, PassedAt<Q>>
     Ok(slope)
 }
 
-/// The value at a time, on the line through two points.
+/// The value at a time, on the line through a point and a later one. Passed comes exactly at the first operation of its list that
+/// passes, with this part. Takes no memory.
 #[tactic(auto, unfolding(nf_curve_lists::specs::Lines::checked_line))]
-pub(crate) fn line(p: &Point, q: &Point, time: Q, part: Part) -> Result<Q, PassedAt<Q>>
+pub fn line(p: &Point, q: &Point, time: Q, part: Part) -> Result<Q, PassedAt<Q>>
     requires { p.now.0 <ℚ q.now.0 }
     ensures { result ≡ at_part part (checked_line passes_Q p.now q.now time) }
 {

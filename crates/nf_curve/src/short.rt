@@ -6,7 +6,6 @@ ghost use Rattle.nf_model.specs.Curve.{IsCurve};
 ghost use Rattle.nf_lists.specs.Signs.{is_same as is_same_by};
 ghost use Rattle.nf_curve_lists.specs.Short.{checked_short};
 
-use crate::differences::is_same;
 use crate::lines::{Point, slope};
 use nf_frac::{Halt, Part, Q};
 use std::alloc::{AllocError, Global};
@@ -20,7 +19,7 @@ fn keep_if_turning(
 ) -> Result<(), AllocError>
     ensures { OnOk result (short.new.items ≡ (if is_same_by before after then short.old.items else short.old.items ++ point.now ∷ [])) }
 {
-    if !is_same(before, after) {
+    if !before.is_same(after) {
         short.push(*point)?;
     }
     Ok(())

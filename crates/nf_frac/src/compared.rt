@@ -22,6 +22,13 @@ impl<const BITS: u32> Frac<BITS> {
         !right.is_at_most(self)
     }
 
+    /// The two values are the same number.
+    pub fn is_same(self, right: Frac<BITS>) -> bool
+        ensures { result ≡ (le_ℚ self.entry right.entry && le_ℚ right.entry self.entry) }
+    {
+        self == right
+    }
+
     /// The lesser of the two.
     #[tactic(auto, using(crate::proofs::Comparisons::lesser_is))]
     pub fn lesser(self, right: Frac<BITS>) -> Frac<BITS>

@@ -4,7 +4,7 @@ ghost use Rattle.nf_rational.specs.Order.{◌<ℚ◌};
 ghost use Rattle.nf_work.specs.declared.Part.TheVariants.{Curve as CurvePart};
 ghost use Rattle.nf_work.specs.Passing.{passes_Q};
 ghost use Rattle.nf_work.specs.Checked.{at_part, Gives};
-ghost use Rattle.nf_lists.specs.Signs.{is_same as is_same_by, is_positive};
+ghost use Rattle.nf_lists.specs.Signs.{is_positive};
 ghost use Rattle.nf_lists.specs.Ends.{end_of};
 ghost use Rattle.nf_lists.specs.ReportCurves.{goes_on as goes_on_by, curve_with, queue_after, first_label_curve, first_queue as queue_at_start};
 ghost use Rattle.nf_resume_lists.specs.Restoring.{growing as growing_by};
@@ -46,19 +46,12 @@ impl Model for GrowingCurve {
     ghost invariant = { λ a. IsAfter a.corners.points a.end };
 }
 
-/// Whether two numbers, in whatever unit, are equal.
-pub fn is_same(left: Q, right: Q) -> bool
-    ensures { result ≡ is_same_by left right }
-{
-    left.is_at_most(right) && right.is_at_most(left)
-}
-
 // A curve that came to its last point with a slope goes on with the same.
 fn goes_on_from(before: Option<Q>, slope: Q) -> bool
     ensures { result ≡ goes_on_by before slope }
 {
     match before {
-        Some(before) => is_same(before, slope),
+        Some(before) => before.is_same(slope),
         None => false,
     }
 }

@@ -11,7 +11,7 @@ mod link_growth;
 mod stepping;
 mod traces;
 
-pub use growing::{GrowingCurve, is_same};
+pub use growing::GrowingCurve;
 pub use growth::{
     FinishedLinks, copy_labels, copy_links, finish_labels, finish_links, first_labels,
     labels_go_on, reserve_labels, reserve_links, restore_labels,

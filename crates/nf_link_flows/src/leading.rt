@@ -2,7 +2,7 @@
 ghost use Rattle.std.specs.Prelude.{◌≡◌, ◌<◌, length, MatchBool};
 ghost use Rattle.nf_link_flows.specs.ThinParts.{LeadsInto, IsLevelAt, Brings};
 
-use crate::numbers::{flow_of, is_same, slope_of};
+use crate::numbers::{flow_of, slope_of};
 use nf_frac::Q;
 use nf_graph::{LinkId, LinkSets, NodeId};
 use nf_net::Network;
@@ -27,7 +27,7 @@ pub fn is_level(net: &Network, slopes: &[Q], link: LinkId) -> bool
     ensures { MatchBool result (IsLevelAt net.now.net slopes.now link) (IsLevelAt net.now.net slopes.now link → ⊥) }
 {
     let here = net.link(link);
-    is_same(slope_of(slopes, here.head), slope_of(slopes, here.tail))
+    slope_of(slopes, here.head).is_same(slope_of(slopes, here.tail))
 }
 
 /// The link is resetting, or it carries something.
@@ -39,5 +39,5 @@ pub fn brings(sets: &LinkSets, flows: &[Q], link: LinkId) -> bool
     if sets.resetting(link) {
         return true;
     }
-    !is_same(flow_of(flows, link), Q::zero())
+    !flow_of(flows, link).is_same(Q::zero())
 }

@@ -12,6 +12,6 @@ mod step;
 pub use cancelling::cancel;
 pub use leading::{brings, is_level, leads_into};
 pub use node_sums::balances;
-pub use numbers::{both, flow_of, is_same, slope_of};
+pub use numbers::{both, flow_of, slope_of};
 pub use states::settled_pattern;
 pub use step::Step;

@@ -12,7 +12,7 @@ ghost use Rattle.nf_complete_lists.specs.ThinList.{is_active, sum_more, in_more,
 ghost use Rattle.nf_link_flows.specs.Testing.{Tells};
 ghost use Rattle.nf_link_flows.specs.ThinParts.{IsBalanced};
 
-use crate::numbers::{both, is_same};
+use crate::numbers::both;
 use nf_frac::{Part, PassedAt, Q, at};
 use nf_graph::{LinkId, LinkSets, NodeId};
 use nf_net::Network;
@@ -136,7 +136,7 @@ fn balances_at(
     let sent = go(net, sets, flows, node)?;
     let all = with_rate(node == net.sink(), sent, rate)?;
     let brought = brought(node == net.source(), rate, by_links);
-    Ok(is_same(brought, all))
+    Ok(brought.is_same(all))
 }
 
 /// Whether what comes to each node is what goes from it; at the source the rate comes, and at the sink it stays. It is refused exactly where

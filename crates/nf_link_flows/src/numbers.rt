@@ -1,17 +1,9 @@
-// Numbers of nodes and links, whether two are the same, and whether both of two things hold.
+// Numbers of nodes and links, and whether both of two things hold.
 ghost use Rattle.std.specs.Prelude.{◌≡◌, ◌<◌, ◌&&◌, length};
 ghost use Rattle.nf_model.specs.Entries.{number_at};
-ghost use Rattle.nf_link_flows.specs.Testing.{same_test};
 
 use nf_frac::Q;
 use nf_graph::{LinkId, NodeId};
-
-/// Two numbers are the same.
-pub fn is_same(left: Q, right: Q) -> bool
-    ensures { result ≡ same_test left right }
-{
-    left.is_at_most(right) && right.is_at_most(left)
-}
 
 /// Both hold.
 pub fn both(first: bool, second: bool) -> bool

@@ -8,7 +8,7 @@ ghost use Rattle.nf_complete_lists.specs.SettledPattern.{IsBare, LeadsToBare, Is
 ghost use Rattle.nf_link_flows.specs.States.{BringsInto, LevelInto, NoneLevelBefore, full_test, IsStateAt};
 
 use crate::leading::{brings, is_level, leads_into};
-use crate::numbers::{flow_of, is_same};
+use crate::numbers::flow_of;
 use nf_frac::Q;
 use nf_graph::{LinkId, LinkSets, NodeId};
 use nf_model::State;
@@ -104,7 +104,7 @@ fn is_full(full: Option<Q>, flow: Q) -> bool
     ensures { result ≡ full_test full flow }
 {
     match full {
-        Some(full) => is_same(flow, full),
+        Some(full) => flow.is_same(full),
         None => false,
     }
 }
@@ -126,7 +126,7 @@ fn state_needed(
     requires needs { NeedsState sets.now link }
     ensures { IsStateAt net.now.net sets.now flows.now slopes.now link (Some result) }
 {
-    if is_same(flow_of(flows, link), Q::zero()) {
+    if flow_of(flows, link).is_same(Q::zero()) {
         if leads_to_bare(net, sets, flows, slopes, link) {
             State::Tight
         } else {

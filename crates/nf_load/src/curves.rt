@@ -6,7 +6,6 @@ ghost use Rattle.nf_work.specs.declared.Part.TheVariants.{Load};
 ghost use Rattle.nf_work.specs.Passing.{passes_Q};
 ghost use Rattle.nf_work.specs.Checked.{at_part, Gives};
 ghost use Rattle.nf_model.specs.Curve.{IsCurve};
-ghost use Rattle.nf_lists.specs.Signs.{is_same as is_same_by};
 ghost use Rattle.nf_curve_lists.specs.Values.{checked_cut};
 ghost use Rattle.nf_curve_lists.specs.Short.{checked_short};
 ghost use Rattle.nf_load_lists.specs.Loading as lists;
@@ -40,14 +39,6 @@ fn exit_points(alloc: Global, all: &[Leaves]) -> Result<Vec<Point>, AllocError>
     Ok(points)
 }
 
-// Two times are equal.
-#[tactic(auto, using(nf_frac::proofs::Comparisons::same_by_order))]
-fn is_same(one: Q, other: Q) -> bool
-    ensures { result ≡ is_same_by one other }
-{
-    one == other
-}
-
 // The points of the outflow: at time 0, and at each exit that isn't the one before.
 fn outflow_points(alloc: Global, all: &[Leaves]) -> Result<Vec<Point>, AllocError>
     ensures { IfOk result (λ points. points.items ≡ lists.outflow_points all.now) }
@@ -56,7 +47,7 @@ fn outflow_points(alloc: Global, all: &[Leaves]) -> Result<Vec<Point>, AllocErro
     let mut last = Q::zero();
     points.push((last, Q::zero()))?;
     for one in all {
-        if !is_same(last, one.exit) {
+        if !last.is_same(one.exit) {
             points.push((one.exit, one.waits.amount))?;
             last = one.exit;
         }

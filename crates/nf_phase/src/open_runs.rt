@@ -11,7 +11,6 @@ ghost use Rattle.nf_phase.specs.Stepping.{Reaches};
 use crate::run::Run;
 use nf_frac::Q;
 use nf_graph::LinkId;
-use nf_growth::is_same;
 use nf_net::{Network, Piece};
 use nf_pattern::Pattern;
 
@@ -20,7 +19,7 @@ fn none_starts(pieces: &[Piece], time: Q) -> bool
     ensures { result ≡ none_starts_by pieces.now time }
 {
     for piece in pieces {
-        if is_same(piece.start, time) {
+        if piece.start.is_same(time) {
             return false;
         }
     }

@@ -11,7 +11,6 @@ ghost use Rattle.nf_reader.specs.Entries.{said_by};
 use crate::causes::read_cause;
 use crate::draft::Draft;
 use crate::numbers::read_number;
-use crate::opening::is_same;
 use nf_cursor::{ReadLine, is_word};
 use nf_curve::Stop;
 use nf_frac::{Q, TextBuf};
@@ -90,7 +89,7 @@ impl Draft {
             return Err(ReportRule::P5);
         }
         let stop = read_cause(line)?;
-        if stop.is_none() != is_same(self.reached, self.horizon) {
+        if stop.is_none() != self.reached.is_same(self.horizon) {
             return Err(ReportRule::P10);
         }
         Ok(stop)

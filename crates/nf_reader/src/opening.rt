@@ -1,7 +1,6 @@
 // Which curve a line adds to, and whether its time may come there.
 ghost use Rattle.std.specs.Prelude.{◌≡◌, IfOk};
 ghost use Rattle.std.specs.List.{last_or};
-ghost use Rattle.nf_lists.specs.Signs.{is_same as is_same_by};
 ghost use Rattle.nf_readings.specs.ReportLines as lines;
 ghost use Rattle.nf_readings.specs.ReportLines.{opened as opened_for, comes_after as comes_after_by};
 ghost use Rattle.nf_reader.specs.Keys.{seen_kind, key_of_number, is_some_key};
@@ -15,13 +14,6 @@ use nf_curve::Curve;
 use nf_frac::Q;
 use nf_net::Network;
 use nf_readings::ReportRule;
-
-/// Whether two numbers are equal.
-pub fn is_same(left: Q, right: Q) -> bool
-    ensures { result ≡ is_same_by left right }
-{
-    left.is_at_most(right) && right.is_at_most(left)
-}
 
 // Whether a time comes after those of a curve's points.
 fn is_later(curve: &Curve, time: Q) -> bool
@@ -65,7 +57,7 @@ impl Draft {
         let _ = net;
         match (opening, &self.current) {
             (Opening::GoesOn, Some(trace)) => is_later(&trace.curve, time),
-            _ => is_same(time, Q::zero()),
+            _ => time.is_same(Q::zero()),
         }
     }
 }

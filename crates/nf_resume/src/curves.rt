@@ -1,34 +1,21 @@
 // One curve: cut at a last time, in short form, with its rates; and its last value.
 ghost use Rattle.std.specs.Prelude.{◌≡◌, ◌<◌, length};
 ghost use Rattle.nf_rational.specs.Operations.{0ℚ};
-ghost use Rattle.nf_rational.specs.Order.{◌≤ℚ◌, ◌<ℚ◌};
+ghost use Rattle.nf_rational.specs.Order.{◌≤ℚ◌};
 ghost use Rattle.nf_work.specs.declared.Part.TheVariants.{Curve as OfCurve};
 ghost use Rattle.nf_work.specs.Passing.{passes_Q};
 ghost use Rattle.nf_work.specs.Checked.{at_part, Gives};
 ghost use Rattle.nf_model.specs.Equilibrium.{points_at};
-ghost use Rattle.nf_curve_lists.specs.Lines.{checked_slope};
 ghost use Rattle.nf_curve_lists.specs.Short.{checked_slopes};
 ghost use Rattle.nf_curve.specs.Flows.{trace_of};
 ghost use Rattle.nf_resume_lists.specs.Restoring.{value_at_end};
 ghost use Rattle.nf_resume_lists.specs.Resuming.{cut_short as cut_short_by, cut_trace as cut_trace_by};
 ghost use Rattle.nf_resume.specs.Cuts.{curves_of};
 
-use nf_curve::{Curve, Trace};
-use nf_frac::{Halt, Part, PassedAt, Q, at};
+use nf_curve::{Curve, Trace, slope};
+use nf_frac::{Halt, Part, Q};
 use nf_graph::NodeId;
 use std::alloc::Global;
-
-// The slope from one point to a later one.
-#[tactic(auto, unfolding(nf_curve_lists::specs::Lines::checked_slope), using(nf_curve::proofs::Pieces::run_apart))]
-fn slope(p: &(Q, Q), q: &(Q, Q)) -> Result<Q, PassedAt<Q>>
-    requires { p.now.0 <ℚ q.now.0 }
-    ensures { result ≡ at_part OfCurve (checked_slope passes_Q p.now q.now) }
-{
-    let rise = at!(Part::Curve, q.1.difference(p.1));
-    let run = at!(Part::Curve, q.0.difference(p.0));
-    let slope = at!(Part::Curve, rise.quotient(run));
-    Ok(slope)
-}
 
 // The rates of a curve: from each point but the last, the slope to the next.
 fn rates(alloc: Global, curve: &Curve) -> Result<Vec<Q>, Halt<Q>>
@@ -39,7 +26,7 @@ fn rates(alloc: Global, curve: &Curve) -> Result<Vec<Q>, Halt<Q>>
     for i in 0..count {
         let point = curve.point(i);
         let next = curve.point(i + 1);
-        let rate = slope(&point, &next)?;
+        let rate = slope(&point, &next, Part::Curve)?;
         rates.push(rate)?;
     }
     Ok(rates)

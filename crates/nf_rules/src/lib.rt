@@ -8,7 +8,6 @@ mod compared;
 mod ended;
 mod exits;
 mod inflows;
-mod lines;
 mod loads;
 mod places;
 mod rates;

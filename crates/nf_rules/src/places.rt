@@ -8,9 +8,8 @@ ghost use Rattle.nf_work.specs.Checked.{at_part};
 ghost use Rattle.nf_curve_lists.specs.Values.{checked_value};
 ghost use Rattle.nf_curve.specs.Places.{place_of};
 
-use crate::lines::{is_same, line};
-use nf_curve::Curve;
-use nf_frac::{PassedAt, Q};
+use nf_curve::{Curve, line};
+use nf_frac::{Part, PassedAt, Q};
 
 // A place that isn't beyond that of a time, from another down.
 fn place_down(curve: &Curve, from: usize, time: Q) -> usize
@@ -59,9 +58,9 @@ pub(crate) fn value_at(curve: &Curve, place: usize, time: Q) -> Result<Q, Passed
     if place == count {
         return Ok(last.1);
     }
-    if is_same(time, last.0) {
+    if time.is_same(last.0) {
         return Ok(last.1);
     }
     let next = curve.point(place);
-    line(&last, &next, time)
+    line(&last, &next, time, Part::Check)
 }

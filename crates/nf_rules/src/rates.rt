@@ -12,12 +12,11 @@ ghost use Rattle.nf_curve.specs.Flows.{flow_of};
 ghost use Rattle.nf_rules.specs.Trials.{Tries, done};
 
 use crate::ended::{Ended, unless};
-use crate::lines::{is_same, slope};
 use crate::subject::Subject;
 use crate::worked::trace_at;
 use nf_check_lists::CheckRule;
-use nf_curve::{Difference, Flow, Trace};
-use nf_frac::Q;
+use nf_curve::{Difference, Flow, Trace, slope};
+use nf_frac::{Part, Q};
 use nf_graph::LinkId;
 use nf_net::Network;
 
@@ -25,7 +24,7 @@ use nf_net::Network;
 fn other_rate(time: Q, rate: Q, slope: Q) -> Option<Difference>
     ensures { option_map difference_of result ≡ if_other time rate slope }
 {
-    if is_same(rate, slope) {
+    if rate.is_same(slope) {
         None
     } else {
         Some(Difference {
@@ -46,7 +45,7 @@ fn check_trace(link: LinkId, trace: &Trace) -> Result<(), Ended>
     for (i, rate) in trace.rates.iter().enumerate() {
         let point = trace.curve.point(i);
         let next = trace.curve.point(i + 1);
-        let slope = slope(&point, &next)?;
+        let slope = slope(&point, &next, Part::Check)?;
         unless(
             CheckRule::C2,
             Subject::Link(link),

@@ -14,7 +14,6 @@ ghost use Rattle.nf_curve.specs.Differences.{difference_of};
 ghost use Rattle.nf_rules.specs.Departures.{IsDeparture};
 ghost use Rattle.nf_rules.specs.Sent.{AreWithin};
 
-use crate::lines::is_same;
 use crate::places::value_at;
 use crate::sent::{Places, Sent};
 use nf_curve::Difference;
@@ -24,7 +23,7 @@ use nf_frac::{Part, PassedAt, Q, at};
 fn do_differ(sides: &Difference) -> bool
     ensures { result ≡ do_differ_by (difference_of sides.now) }
 {
-    !is_same(sides.left, sides.right)
+    !sides.left.is_same(sides.right)
 }
 
 // 2.

@@ -2,7 +2,6 @@
 //! sent into it by the entry. Times and amounts are exact fractions.
 #![tactic(auto)]
 
-mod lines;
 mod next;
 mod places;
 mod points;

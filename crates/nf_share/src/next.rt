@@ -6,7 +6,6 @@ ghost use Rattle.nf_work.specs.Passing.{passes_Q};
 ghost use Rattle.nf_work.specs.declared.Part.TheVariants.{Load};
 ghost use Rattle.nf_work.specs.Checked.{at_part, each, Gives};
 ghost use Rattle.nf_model.specs.Curve.{IsCurve};
-ghost use Rattle.nf_lists.specs.Signs.{is_same as is_same_by};
 ghost use Rattle.nf_curve_lists.specs.Times.{both_times};
 ghost use Rattle.nf_curve_lists.specs.Sums.{sides_at as sides_by};
 ghost use Rattle.nf_routes_lists.specs.RoutesList.{next_from, next_entry as next_by};
@@ -35,14 +34,6 @@ fn all_sides(alloc: Global, left: &[Point], right: &[Point]) -> Result<Vec<Sides
     Ok(all)
 }
 
-// Two times are equal.
-#[tactic(auto, using(nf_frac::proofs::Comparisons::same_by_order))]
-fn is_same(one: Q, other: Q) -> bool
-    ensures { result ≡ is_same_by one other }
-{
-    one == other
-}
-
 // By each exit what has entered by then: at time 0 nothing, and a point at each exit that isn't the one before.
 fn next_points(alloc: Global, all: &[Sides]) -> Result<Vec<Point>, AllocError>
     ensures { IfOk result (λ points. points.items ≡ (0ℚ, 0ℚ) ∷ next_from 0ℚ all.now) }
@@ -51,7 +42,7 @@ fn next_points(alloc: Global, all: &[Sides]) -> Result<Vec<Point>, AllocError>
     let mut last = Q::zero();
     points.push((last, Q::zero()))?;
     for sides in all {
-        if !is_same(last, sides.right) {
+        if !last.is_same(sides.right) {
             points.push((sides.right, sides.left))?;
             last = sides.right;
         }

@@ -9,9 +9,9 @@ ghost use Rattle.nf_model.specs.Curve.{IsCurve, TimesRise};
 ghost use Rattle.nf_curve_lists.specs.Values.{checked_value};
 ghost use Rattle.nf_curve.specs.Places.{place_of};
 
-use crate::lines::line;
 use crate::points::Point;
-use nf_frac::{PassedAt, Q};
+use nf_curve::line;
+use nf_frac::{Part, PassedAt, Q};
 
 /// The place of a time, from a place on that isn't beyond it.
 pub(crate) fn place_up(points: &[Point], from: usize, time: Q) -> usize
@@ -37,5 +37,5 @@ pub(crate) fn value_at(points: &[Point], place: usize, time: Q) -> Result<Q, Pas
     if place == points.len() || time == last.0 {
         return Ok(last.1);
     }
-    line(&last, &points[place], time)
+    line(&last, &points[place], time, Part::Load)
 }

@@ -1,7 +1,0 @@
-use Rattle.std.proofs.Common.{sym, ◌∙◌, arith}
-use Rattle.nf_work.specs.Passing.{passes_Q}
-use Rattle.nf_curve.proofs.Pieces.{run_apart}
-use Rattle.nf_growth.proofs.last_slopes.slope.Goals as goal
-
-pub quotient-requires : goal.quotient-requires
-quotient-requires c = (omega arith, run_apart passes_Q c.args.p.0 c.args.q.0 _ c.requires (sym c.difference-2.ensures ∙ c.in-Ok-at-run.is))
