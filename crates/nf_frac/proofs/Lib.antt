@@ -8,6 +8,8 @@ pub mod SmallPassing
 pub mod Factors
 pub mod Sums
 pub mod Products
+pub mod ShortSums
+pub mod ShortProducts
 pub mod Turned
 pub mod Passing
 pub mod Made

@@ -1,14 +1,16 @@
 -- What the answers of the four operations say of the list of those that pass.
-use Rattle.std.proofs.Common.{◌≡◌, ℕ, ◌*◌, ◌/◌, Bool, true, false, cond, ltb, pos, ◌*ℤ◌, nat_abs, refl, sym, ◌∙◌, ap, subst}
+use Rattle.std.proofs.Common.{◌≡◌, ℕ, ◌*◌, ◌/◌, ◌≤◌, Bool, true, false, cond, ltb, pos, ◌*ℤ◌, nat_abs, refl, sym, ◌∙◌, ap, subst, arith}
 use Rattle.std.specs.Prelude.{Ok, Err}
+use Rattle.std.proofs.Math.Nat.{le_trans}
 use native.Mathlib.Nat.{mul-pos}
 use borrow.Author.Tests.{ltb-false}
 use Rattle.nf_rational.specs.Gcd.{gcd}
 use Rattle.nf_rational.specs.Rational.{ℚ, part_pos}
 use Rattle.nf_rational.specs.Operations.{neg_ℚ, inv_ℚ, ◌+ℚ◌, ◌-ℚ◌, ◌*ℚ◌, ◌/ℚ◌}
 use Rattle.nf_rational_laws.proofs.Lowest.{plus_over_lcm}
+use Rattle.nf_work.specs.declared.Op.{Op}
 use Rattle.nf_work.specs.declared.Op.TheVariants.{Sum, Difference, Product, Quotient}
-use Rattle.nf_work.specs.Passing.{beyond, is_wide, sum_is_wide}
+use Rattle.nf_work.specs.Passing.{bound_of, beyond, is_wide, sum_is_wide, passes_Q}
 use Rattle.nf_work.specs.Checked.{checked}
 use Rattle.nf_frac.specs.Parts.{IsWithin, SumFits}
 use Rattle.nf_frac.specs.Narrow.{none_of, neither, at_most, narrow_in, narrow_out}
@@ -79,3 +81,21 @@ module _ (b : ℕ) (x y : ℚ) where
 -- ---- what a value is within
 pub within_along : (b : ℕ) (p q : ℚ) → p ≡ q → IsWithin b q → IsWithin b p
 within_along b p q e w = subst (λ (z : ℚ). IsWithin b z) (sym e) w
+
+-- ---- what passes no bound passes no wider one
+module _ (b c : ℕ) (wider : b ≤ c) where
+  within_wider : (q : ℚ) → IsWithin b q → IsWithin c q
+  within_wider q w = record { small = le_trans w.small wider; small_den = le_trans w.small_den wider }
+
+  fits_wider : (x y : ℚ) → SumFits b x y → SumFits c x y
+  fits_wider x y w = record { denominator = le_trans w.denominator wider; left = le_trans w.left wider; right = le_trans w.right wider; total = le_trans w.total wider }
+
+  pub beyond_wider : (op : Op) (x y : ℚ) → beyond b op x y ≡ false → beyond c op x y ≡ false
+  unfolding beyond
+  beyond_wider Sum x y e = sum_in c x y (fits_wider x y (sum_out b x y e))
+  beyond_wider Difference x y e = sum_in c x (neg_ℚ y) (fits_wider x (neg_ℚ y) (sum_out b x (neg_ℚ y) e))
+  beyond_wider Product x y e = narrow_in c (x *ℚ y) (within_wider (x *ℚ y) (narrow_out b (x *ℚ y) e))
+  beyond_wider Quotient x y e = narrow_in c (x /ℚ y) (within_wider (x /ℚ y) (narrow_out b (x /ℚ y) e))
+
+pub short_passes_first : (op : Op) (x y : ℚ) → beyond (bound_of 63) op x y ≡ false → passes_Q op x y ≡ false
+short_passes_first = beyond_wider (bound_of 63) (bound_of 127) (omega arith)

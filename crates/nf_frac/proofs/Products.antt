@@ -26,22 +26,22 @@ module _ (x y : ℚ) (n q : ℤ) (a e g : ℕ) (xn : n ≡ x.num) (small : nat_a
 
 -- the parts of the product
 module _ (x y : ℚ) (q r : ℤ) (u v limit : ℕ)
-    (left : bits_of q ≡ quot_z x.num (pos (gcd (nat_abs x.num) y.den)))
-    (right : bits_of r ≡ quot_z y.num (pos (gcd (nat_abs y.num) x.den)))
+    (left : q ≡ quot_z x.num (pos (gcd (nat_abs x.num) y.den)))
+    (right : r ≡ quot_z y.num (pos (gcd (nat_abs y.num) x.den)))
     (below : u ≡ x.den / gcd (nat_abs y.num) x.den) (other : v ≡ y.den / gcd (nat_abs x.num) y.den) where
-  num_is : bits_of q *ℤ bits_of r ≡ (x *ℚ y).num
+  num_is : q *ℤ r ≡ (x *ℚ y).num
   num_is = ap₂ (λ (a b : ℤ). a *ℤ b) left right ∙ sym (num_times x y)
 
   den_is : u * v ≡ (x *ℚ y).den
   den_is = ap₂ (λ (a b : ℕ). a * b) below other ∙ sym (den_times x y)
 
-  pub no_num : (nat_abs (bits_of q *ℤ bits_of r) ≤ limit → ⊥) → IsWithin limit (x *ℚ y) → ⊥
+  pub no_num : (nat_abs (q *ℤ r) ≤ limit → ⊥) → IsWithin limit (x *ℚ y) → ⊥
   no_num n w = n (subst (λ (z : ℤ). nat_abs z ≤ limit) (sym num_is) w.small)
 
   pub no_den : (u * v ≤ limit → ⊥) → IsWithin limit (x *ℚ y) → ⊥
   no_den n w = n (subst (λ (k : ℕ). k ≤ limit) (sym den_is) w.small_den)
 
-  module _ (num : ℤ) (den : ℕ) (s : (nat_abs (bits_of q *ℤ bits_of r) ≤ limit) × (num ≡ bits_of q *ℤ bits_of r)) (t : (u * v ≤ limit) × (den ≡ u * v)) where
+  module _ (num : ℤ) (den : ℕ) (s : (nat_abs (q *ℤ r) ≤ limit) × (num ≡ q *ℤ r)) (t : (u * v ≤ limit) × (den ≡ u * v)) where
     pub num_of_product : num ≡ (x *ℚ y).num
     num_of_product = s.1 ∙ num_is
 

@@ -79,12 +79,18 @@ partial_order = po cmp_total cmp_matches_same
 pub same_hash : (x y : ℚ) → IsTrue (same_ℚ x y) → fed.i128 x.num ++ fed.u128 x.den ≡ fed.i128 y.num ++ fed.u128 y.den
 same_hash x y t = ap (λ (q : ℚ). fed.i128 q.num ++ fed.u128 q.den) ((same_decides x y).0 t)
 
+pub same_small_hash : (x y : ℚ) → IsTrue (same_ℚ x y) → fed.i64 x.num ++ fed.u64 x.den ≡ fed.i64 y.num ++ fed.u64 y.den
+same_small_hash x y t = ap (λ (q : ℚ). fed.i64 q.num ++ fed.u64 q.den) ((same_decides x y).0 t)
+
 -- ---- the laws of counted values
 pub same_values : (x y : ℚ) → IsTrue (same_ℚ x y) ↔ (x ≡ y)
 same_values x y = ((same_decides x y).0, (same_decides x y).1)
 
 pub same_input : (x y : ℚ) → x ≡ y → fed.i128 x.num ++ fed.u128 x.den ≡ fed.i128 y.num ++ fed.u128 y.den
 same_input x y e = ap (λ (q : ℚ). fed.i128 q.num ++ fed.u128 q.den) e
+
+pub same_small_input : (x y : ℚ) → x ≡ y → fed.i64 x.num ++ fed.u64 x.den ≡ fed.i64 y.num ++ fed.u64 y.den
+same_small_input x y e = ap (λ (q : ℚ). fed.i64 q.num ++ fed.u64 q.den) e
 
 -- the order is what its three cases say
 pub cmp_is : (x y : ℚ) (r : Ordering) → MatchOrdering r (x <ℚ y) (x ≡ y) (y <ℚ x) → r ≡ cmp_ℚ x y

@@ -10,8 +10,11 @@ mod number;
 mod order;
 mod scalar;
 mod short;
+mod short_arithmetic;
 mod small;
 mod small_arithmetic;
+mod small_order;
+mod small_scalar;
 mod whole;
 mod words;
 

@@ -1,10 +1,13 @@
 // Arithmetic of whole numbers of at most 63 bits.
-ghost use Rattle.std.specs.Prelude.{◌≡◌, ◌*◌, ◌/◌, ◌<◌, ◌≤◌, pos, ◌*ℤ◌, nat_abs, int_div};
+ghost use Rattle.std.specs.Prelude.{◌≡◌, ◌*◌, ◌/◌, ◌<◌, ◌≤◌, pos, ◌+ℤ◌, ◌*ℤ◌, nat_abs, int_div, SomeIff};
 ghost use Rattle.nf_rational.specs.Gcd.{gcd};
 ghost use Rattle.nf_frac.specs.Parts.{signed};
 ghost use Rattle.nf_frac.specs.Short.{short};
 
 use crate::whole::gcd_short;
+
+// The greatest number of 63 bits.
+const SHORT: u64 = 0x7fff_ffff_ffff_ffff;
 
 /// The greatest common divisor. Where one is 1 or both are equal there is nothing to divide.
 pub(crate) fn common_factor(a: u64, b: u64) -> u64
@@ -95,4 +98,34 @@ pub(crate) fn widened(a: u64, b: u64) -> u128
     ensures { result ≡ a * b }
 {
     a as u128 * b as u128
+}
+
+/// The product of two natural numbers, if it is at most 2^63 - 1.
+pub(crate) fn product_short(a: u64, b: u64) -> Option<u64>
+    ensures { SomeIff result (a * b ≤ short) (a * b) }
+{
+    match a.checked_mul(b) {
+        Some(product) if product <= SHORT => Some(product),
+        _ => None,
+    }
+}
+
+/// The product, if its magnitude is at most 2^63 - 1.
+pub(crate) fn multiplied_short(a: i64, b: i64) -> Option<i64>
+    ensures { SomeIff result (nat_abs (a *ℤ b) ≤ short) (a *ℤ b) }
+{
+    match a.checked_mul(b) {
+        Some(product) if product.unsigned_abs() <= SHORT => Some(product),
+        _ => None,
+    }
+}
+
+/// The sum, if its magnitude is at most 2^63 - 1.
+pub(crate) fn added_short(a: i64, b: i64) -> Option<i64>
+    ensures { SomeIff result (nat_abs (a +ℤ b) ≤ short) (a +ℤ b) }
+{
+    match a.checked_add(b) {
+        Some(sum) if sum.unsigned_abs() <= SHORT => Some(sum),
+        _ => None,
+    }
 }

@@ -38,7 +38,7 @@ returns-in_err-num c =
     let r = part_plain y x _ _ _ _ _ yn (own_within c.right.invariant c.right.view_is).small xd c.unsigned_abs-2.ensures.value c.gcd_of-other.ensures.value c.shortened-2.ensures in
     let g = factor_is x y _ _ _ _ _ xn (own_within c.self.invariant c.self.view_is).small yd c.unsigned_abs.ensures.value c.gcd_of-left.ensures.value c.shortened.ensures in
     let h = factor_is y x _ _ _ _ _ yn (own_within c.right.invariant c.right.view_is).small xd c.unsigned_abs-2.ensures.value c.gcd_of-other.ensures.value c.shortened-2.ensures in
-    stops _ _ _ c.from_residual.ensures (no_num x y c.shortened.result c.shortened-2.result _ _ c.args.limit q r refl refl c.in_err-num.ensures)
+    stops _ _ _ c.from_residual.ensures (no_num x y _ _ _ _ c.args.limit q r refl refl c.in_err-num.ensures)
 
 pub returns-in_err-den : goal.returns-in_err-den
 returns-in_err-den c =
@@ -54,7 +54,7 @@ returns-in_err-den c =
     let h = factor_is y x _ _ _ _ _ yn (own_within c.right.invariant c.right.view_is).small xd c.unsigned_abs-2.ensures.value c.gcd_of-other.ensures.value c.shortened-2.ensures in
     let u = c.divided.ensures ∙ ap₂ (λ (a b : ℕ). a / b) (sym xd) h in
     let v = c.divided-2.ensures ∙ ap₂ (λ (a b : ℕ). a / b) (sym yd) g in
-    stops _ _ _ c.from_residual-in_err-den.ensures (no_den x y c.shortened.result c.shortened-2.result _ _ c.args.limit q r u v c.in_err-den.ensures)
+    stops _ _ _ c.from_residual-in_err-den.ensures (no_den x y _ _ _ _ c.args.limit q r u v c.in_err-den.ensures)
 
 pub invariant_of-result : goal.invariant_of-result
 invariant_of-result c =
@@ -70,9 +70,9 @@ invariant_of-result c =
     let h = factor_is y x _ _ _ _ _ yn (own_within c.right.invariant c.right.view_is).small xd c.unsigned_abs-2.ensures.value c.gcd_of-other.ensures.value c.shortened-2.ensures in
     let u = c.divided.ensures ∙ ap₂ (λ (a b : ℕ). a / b) (sym xd) h in
     let v = c.divided-2.ensures ∙ ap₂ (λ (a b : ℕ). a / b) (sym yd) g in
-    let n = num_of_product x y c.shortened.result c.shortened-2.result _ _ c.args.limit q r u v c.in_ok-num.num c.in_ok-den.den c.in_ok-num.ensures c.in_ok-den.ensures in
-    let d = den_of_product x y c.shortened.result c.shortened-2.result _ _ c.args.limit q r u v c.in_ok-num.num c.in_ok-den.den c.in_ok-num.ensures c.in_ok-den.ensures in
-    let w = product_within x y c.shortened.result c.shortened-2.result _ _ c.args.limit q r u v c.in_ok-num.num c.in_ok-den.den c.in_ok-num.ensures c.in_ok-den.ensures in
+    let n = num_of_product x y _ _ _ _ c.args.limit q r u v c.in_ok-num.num c.in_ok-den.den c.in_ok-num.ensures c.in_ok-den.ensures in
+    let d = den_of_product x y _ _ _ _ c.args.limit q r u v c.in_ok-num.num c.in_ok-den.den c.in_ok-num.ensures c.in_ok-den.ensures in
+    let w = product_within x y _ _ _ _ c.args.limit q r u v c.in_ok-num.num c.in_ok-den.den c.in_ok-num.ensures c.in_ok-den.ensures in
     form_of _ _ _ n d (within_more c.requires w)
 
 pub returns : goal.returns
@@ -89,7 +89,7 @@ returns c =
     let h = factor_is y x _ _ _ _ _ yn (own_within c.right.invariant c.right.view_is).small xd c.unsigned_abs-2.ensures.value c.gcd_of-other.ensures.value c.shortened-2.ensures in
     let u = c.divided.ensures ∙ ap₂ (λ (a b : ℕ). a / b) (sym xd) h in
     let v = c.divided-2.ensures ∙ ap₂ (λ (a b : ℕ). a / b) (sym yd) g in
-    let n = num_of_product x y c.shortened.result c.shortened-2.result _ _ c.args.limit q r u v c.in_ok-num.num c.in_ok-den.den c.in_ok-num.ensures c.in_ok-den.ensures in
-    let d = den_of_product x y c.shortened.result c.shortened-2.result _ _ c.args.limit q r u v c.in_ok-num.num c.in_ok-den.den c.in_ok-num.ensures c.in_ok-den.ensures in
-    let w = product_within x y c.shortened.result c.shortened-2.result _ _ c.args.limit q r u v c.in_ok-num.num c.in_ok-den.den c.in_ok-num.ensures c.in_ok-den.ensures in
+    let n = num_of_product x y _ _ _ _ c.args.limit q r u v c.in_ok-num.num c.in_ok-den.den c.in_ok-num.ensures c.in_ok-den.ensures in
+    let d = den_of_product x y _ _ _ _ c.args.limit q r u v c.in_ok-num.num c.in_ok-den.den c.in_ok-num.ensures c.in_ok-den.ensures in
+    let w = product_within x y _ _ _ _ c.args.limit q r u v c.in_ok-num.num c.in_ok-den.den c.in_ok-num.ensures c.in_ok-den.ensures in
     (w, value_of _ _ _ n d (within_more c.requires w))

@@ -1,0 +1,47 @@
+-- What the code of a sum computes where both denominators are the same: there nothing is scaled.
+use Rattle.std.proofs.Common.{◌≡◌, ℕ, ◌*◌, ◌/◌, ◌<◌, ◌≤◌, ℤ, pos, ◌+ℤ◌, ◌*ℤ◌, nat_abs, refl, sym, ◌∙◌, ap, subst, arith}
+use Rattle.std.proofs.Math.Nat.{div_self}
+use borrow.Author.Differences.{ints}
+use Rattle.nf_rational.specs.Rational.{ℚ, ratio}
+use Rattle.nf_rational.specs.Operations.{◌+ℚ◌}
+use Rattle.nf_frac.specs.Parts.{SumFits}
+use Rattle.nf_frac.specs.Short.{short}
+use Rattle.nf_frac.proofs.SmallParts.{bits_64, plain_64, gcd_itself}
+use Rattle.nf_frac.proofs.Sums.{no_total, fits, value, n_plain}
+
+times_one : (a : ℤ) → a *ℤ pos 1 ≡ a
+times_one a = omega (arith, ints)
+
+few_times_one : (d : ℕ) → d ≤ short → (d * 1 ≤ short) × (d ≡ d * 1)
+few_times_one d h = (omega (arith, h), omega arith)
+
+itself : (k : ℕ) → k ≤ k
+itself k = omega arith
+
+-- a numerator, as a call has it
+scaled_by_one : (n a : ℤ) → n ≡ a → nat_abs n ≤ short → (nat_abs (a *ℤ pos 1) ≤ short) × (n ≡ a *ℤ pos 1)
+scaled_by_one n a e h = (subst (λ (z : ℤ). nat_abs z ≤ short) (e ∙ sym (times_one a)) h, e ∙ sym (times_one a))
+
+module _ (x y : ℚ) (d : ℕ) (n m : ℤ) (same : x.den ≡ y.den) (xd : d ≡ x.den) (few : d ≤ short) (xn : n ≡ x.num) (yn : m ≡ y.num)
+    (small : nat_abs n ≤ short) (other_small : nat_abs m ≤ short) where
+  one : 1 ≡ d / d
+  one = sym (div_self {n = d} (subst (λ (k : ℕ). 0 < k) (sym xd) x.positive))
+
+  pub no_level : (nat_abs (bits_64 n +ℤ bits_64 m) ≤ short → ⊥) → SumFits short x y → ⊥
+  no_level =
+      no_total bits_64 short plain_64 x y d d d 1 1 short (itself short) (sym xd) (sym (xd ∙ same)) (gcd_itself d d refl) one one n m
+      (scaled_by_one n x.num xn small) (scaled_by_one m y.num yn other_small)
+
+  module _ (t : ℤ) (w : (nat_abs (bits_64 n +ℤ bits_64 m) ≤ short) × (t ≡ bits_64 n +ℤ bits_64 m)) where
+    pub level_fits : SumFits short x y
+    level_fits =
+        fits bits_64 short plain_64 x y d d d 1 1 short (itself short) (sym xd) (sym (xd ∙ same)) (gcd_itself d d refl) one one n m
+        (scaled_by_one n x.num xn small) (scaled_by_one m y.num yn other_small) d t (few_times_one d few) w
+
+    pub level_value : ratio (bits_64 t) d ≡ x +ℚ y
+    level_value =
+        ap (λ (z : ℤ). ratio z d)
+        (n_plain bits_64 short plain_64 x y d d d 1 1 short (itself short) (sym xd) (sym (xd ∙ same)) (gcd_itself d d refl) one one n m
+        (scaled_by_one n x.num xn small) (scaled_by_one m y.num yn other_small) d t (few_times_one d few) w)
+        ∙ value bits_64 short plain_64 x y d d d 1 1 short (itself short) (sym xd) (sym (xd ∙ same)) (gcd_itself d d refl) one one n m
+        (scaled_by_one n x.num xn small) (scaled_by_one m y.num yn other_small) d t (few_times_one d few) w
