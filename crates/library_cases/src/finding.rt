@@ -2,6 +2,7 @@
 // a line. The fields of a line are parted by `|`:
 //
 //     table|SIZE|NUMBERS, grid|SIZE|NUMBERS    the solution of a system, with memory or without
+//     small|SIZE|NUMBERS                       the same over small numbers
 //     sets||SLACKS                             the sets of links with these slacks
 //     slacks||LABELS|||NET                     the slacks of the links at the labels of the nodes
 //     QUESTION|RATE|WORDS|STATES|SLACKS|NET    what is asked of a phase: the links' slacks, and the states of the last phase
@@ -64,6 +65,7 @@ fn tell_line(rt: &HostRuntime, fields: Fields) -> io::Result<()> {
     match fields.asked {
         "table" => return systems::tell_table(rt, fields.number, fields.words),
         "grid" => return systems::tell_grid(rt, fields.number, fields.words),
+        "small" => return systems::tell_small(rt, fields.number, fields.words),
         "sets" => return questions::tell_sets(rt, fields.words),
         _ => {}
     }

@@ -2,6 +2,7 @@
 //
 //     make BITS NUM DEN       the parts of the fraction of these two numbers, whose parts have at most so many bits
 //     narrow OP LEFT RIGHT    the operation on fractions of 15 bits
+//     short OP LEFT RIGHT     the operation on small fractions that stay so
 //     wide OP LEFT RIGHT      the operation on fractions of 127 bits, with the form of its value
 //     order LEFT RIGHT        how the two compare, by each call that compares, and whether their hashes are equal
 //     read WORD               the printed form of a word
@@ -39,6 +40,7 @@ fn answer(rt: &HostRuntime, question: &str, words: &str) -> io::Result<()> {
     match question {
         "make" => making::tell(rt, first, second, third),
         "narrow" => operations::tell_narrow(rt, first, second, third),
+        "short" => operations::tell_short(rt, first, second, third),
         "wide" => operations::tell_wide(rt, first, second, third),
         "order" => ordering::tell(rt, first, second),
         "read" => tell_reading(rt, Q::read(first.as_bytes())),

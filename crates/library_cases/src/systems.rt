@@ -1,28 +1,42 @@
 // Linear systems.
-ghost use Rattle.std.specs.Prelude.{◌≡◌, ◌<◌, ◌≤◌, length};
+ghost use Rattle.std.specs.Prelude.{◌≡◌, ◌<◌, ◌≤◌, length, IsTrue, IfOk, IfSome};
+ghost use Rattle.nf_rational.specs.Rational.{ℚ};
 
 use crate::telling::{tell_none, tell_numbers, tell_passed};
 use case_lines::numbers;
-use nf_frac::{Halt, Q};
-use nf_linear::{Eliminated, Grid, Solved, System, Table, solve, solve_grid};
+use nf_frac::{Halt, Q, Small};
+use nf_linear::{Eliminated, Grid, Solved, System, Table, solve, solve_grid, solve_small};
+use std::alloc::{AllocError, Global};
 use std::io;
 
-// A number has this place, row by row with the right side last.
-fn set<T: System>(system: &mut T, size: u32, place: usize, number: Q)
-    requires some { 0 < size }
-    requires size { length (T.rows_of system.old) ≡ size }
-    ensures { length (T.rows_of system.new) ≡ size }
+// The row and the column of a place, row by row with the right side last, which has no column. None behind the last row.
+fn cell_at(size: u32, place: usize) -> Option<(u32, Option<u32>)>
+    requires { 0 < size }
+    ensures { IfSome result (λ cell. (cell.0 < size) × IfSome cell.1 (λ column. column < size)) }
 {
     let width = size as usize + 1;
     let row = place / width;
     let column = place % width;
     if row >= size as usize {
-        return;
-    }
-    if column < size as usize {
-        system.set(row as u32, column as u32, number);
+        None
+    } else if column < size as usize {
+        Some((row as u32, Some(column as u32)))
     } else {
-        system.set_right(row as u32, number);
+        Some((row as u32, None))
+    }
+}
+
+// A number has this place, row by row with the right side last.
+fn set<T: System>(system: &mut T, size: u32, place: usize, number: Q)
+    requires some { 0 < size }
+    requires size { length (T.rows_of system.old) ≡ size }
+    requires takes { IsTrue (T.takes number) }
+    ensures { length (T.rows_of system.new) ≡ size }
+{
+    match cell_at(size, place) {
+        Some((row, Some(column))) => system.set(row, column, number),
+        Some((row, None)) => system.set_right(row, number),
+        None => {}
     }
 }
 
@@ -30,6 +44,7 @@ fn set<T: System>(system: &mut T, size: u32, place: usize, number: Q)
 fn fill<T: System>(system: &mut T, size: u32, numbers: &[Q])
     requires some { 0 < size }
     requires size { length (T.rows_of system.old) ≡ size }
+    requires takes { (q : ℚ) → IsTrue (T.takes q) }
     ensures { length (T.rows_of system.new) ≡ size }
 {
     for i in 0..numbers.len() {
@@ -55,6 +70,59 @@ fn tell_solved(rt: &HostRuntime, size: u32, numbers: &[Q]) -> io::Result<()>
 pub fn tell_table(rt: &HostRuntime, size: &str, words: &str) -> io::Result<()> {
     match (size.parse::<u32>(), numbers(rt.alloc(), words)) {
         (Ok(size), Some(numbers)) if 0 < size && size <= 264 => tell_solved(rt, size, &numbers),
+        _ => tell_none(rt),
+    }
+}
+
+// A small number has this place, row by row with the right side last.
+fn set_small(table: &mut Table<Small>, size: u32, place: usize, number: Small)
+    requires some { 0 < size }
+    requires size { length table.old ≡ size }
+    ensures { length table.new ≡ size }
+{
+    match cell_at(size, place) {
+        Some((row, Some(column))) => table.set(row, column, number),
+        Some((row, None)) => table.set_right(row, number),
+        None => {}
+    }
+}
+
+// The table of these numbers, if each of them is small.
+fn small_table(
+    alloc: Global,
+    size: u32,
+    numbers: &[Q],
+) -> Result<Option<Table<Small>>, AllocError>
+    requires { (0 < size) × (size ≤ 264) }
+{
+    let mut table: Table<Small> = Table::new(alloc, size)?;
+    for i in 0..numbers.len() {
+        let Some(number) = numbers[i].small() else {
+            return Ok(None);
+        };
+        set_small(&mut table, size, i, number);
+    }
+    Ok(Some(table))
+}
+
+// What comes of it over small numbers.
+fn tell_small_of(rt: &HostRuntime, size: u32, numbers: &[Q]) -> io::Result<()>
+    requires { (0 < size) × (size ≤ 264) }
+{
+    let Some(table) = small_table(rt.alloc(), size, numbers)? else {
+        return print!(rt; "not small");
+    };
+    match solve_small(rt.alloc(), table)? {
+        Some(Solved::One(values)) => tell_numbers(rt, "one", &values),
+        Some(Solved::NotOne) => print!(rt; "not one"),
+        None => print!(rt; "passes"),
+    }
+}
+
+/// A system of so many unknowns, over small numbers.
+pub fn tell_small(rt: &HostRuntime, size: &str, words: &str) -> io::Result<()> {
+    match (size.parse::<u32>(), numbers(rt.alloc(), words)) {
+        (Ok(size), Some(numbers)) if 0 < size && size <= 264 => tell_small_of(rt, size, &numbers),
         _ => tell_none(rt),
     }
 }

@@ -1,6 +1,6 @@
-// The four operations, on narrow fractions and on wide ones in both their forms.
+// The four operations, on narrow fractions, on small ones that stay so, and on wide ones in both their forms.
 use case_lines::{Shown, op_word};
-use nf_frac::{Frac, Op, Passed, Q};
+use nf_frac::{Frac, Op, Passed, Q, Scalar, Small};
 use std::io;
 
 // Which operation a word names.
@@ -59,6 +59,31 @@ fn worked_small(asked: &Question<127>) -> Option<Q> {
     }
 }
 
+// The answer of the operation where no small fraction widens; None for a quotient by 0.
+fn worked_short(op: Op, left: Small, right: Small) -> Option<Result<Small, Passed<Small>>> {
+    match op {
+        Op::Sum => Some(Scalar::sum(left, right)),
+        Op::Difference => Some(Scalar::difference(left, right)),
+        Op::Product => Some(Scalar::product(left, right)),
+        Op::Quotient if right == Small::zero() => None,
+        Op::Quotient => Some(Scalar::quotient(left, right)),
+    }
+}
+
+// The same with wide operands, which have a small form.
+fn worked_short_on(asked: &Question<127>) -> Option<Result<Q, Passed<Q>>> {
+    let left = asked.left.small()?;
+    let right = asked.right.small()?;
+    match worked_short(asked.op, left, right)? {
+        Ok(value) => Some(Ok(value.wide())),
+        Err(passed) => Some(Err(Passed {
+            op: passed.op,
+            left: passed.left.wide(),
+            right: passed.right.wide(),
+        })),
+    }
+}
+
 /// An operation that passes, with its operands.
 pub fn tell_passed<const BITS: u32>(
     rt: &HostRuntime,
@@ -109,6 +134,17 @@ pub fn tell_narrow(rt: &HostRuntime, op: &str, left: &str, right: &str) -> io::R
     match worked(&asked) {
         Some(outcome) => tell_outcome(rt, &outcome),
         None => println!(rt; "a quotient by 0"),
+    }
+}
+
+/// The operation on small fractions that stay so.
+pub fn tell_short(rt: &HostRuntime, op: &str, left: &str, right: &str) -> io::Result<()> {
+    let Some(asked) = Question::<127>::read(op, left, right) else {
+        return println!(rt; "no operation");
+    };
+    match worked_short_on(&asked) {
+        Some(outcome) => tell_outcome(rt, &outcome),
+        None => println!(rt; "a wide operand, or a quotient by 0"),
     }
 }
 

@@ -5,7 +5,7 @@ use std::cmp::Ordering;
 use std::hash::{DefaultHasher, Hash, Hasher};
 use std::io;
 
-fn hash_of(value: Q) -> u64 {
+fn hash_of<V: Hash>(value: V) -> u64 {
     let mut state = DefaultHasher::new();
     value.hash(&mut state);
     state.finish()
@@ -30,9 +30,21 @@ fn is_agreed(left: Q, right: Q) -> bool {
         && left.is_zero() == (left == Q::zero())
 }
 
+// Whether the small forms of the two, if both have one, say the same as they do.
+fn is_agreed_by_small(left: Q, right: Q) -> bool {
+    match (left.small(), right.small()) {
+        (Some(one), Some(other)) => {
+            one.cmp(&other) == left.cmp(&right)
+                && (one == other) == (left == right)
+                && (hash_of(one) == hash_of(other)) == (left == right)
+        }
+        _ => true,
+    }
+}
+
 // Whether the calls agree.
 fn agreement(left: Q, right: Q) -> &'static str {
-    if is_agreed(left, right) {
+    if is_agreed(left, right) && is_agreed_by_small(left, right) {
         ""
     } else {
         " by some calls"
