@@ -6,6 +6,7 @@ mod grid;
 mod grid_elimination;
 mod grid_pivots;
 mod grid_row;
+mod narrow;
 mod pivots;
 mod row;
 mod solution;
@@ -13,6 +14,7 @@ mod system;
 mod table;
 
 pub use grid::{Eliminated, Grid, solve_grid};
+pub use narrow::solve_small;
 pub use solution::{Solved, solve};
 pub use system::System;
 pub use table::Table;

@@ -5,3 +5,4 @@ pub mod Pivots
 pub mod Rows
 pub mod Elimination
 pub mod Solutions
+pub mod Fewer

@@ -1,0 +1,35 @@
+// Systems of small numbers, solved over small numbers alone.
+ghost use Rattle.std.specs.Prelude.{◌≡◌, Ok, IfOk, MatchOption};
+ghost use Rattle.nf_work.specs.Passing.{passes_Q};
+ghost use Rattle.nf_lists.specs.Table.{table_list};
+ghost use Rattle.nf_linear.specs.Solved.{values_of};
+ghost use Rattle.nf_linear.specs.Narrow.{PassesSmall};
+
+use crate::solution::{Solved, solve};
+use crate::table::Table;
+use nf_frac::{Halt, Q, Small};
+use std::alloc::{AllocError, Global};
+
+// The same numbers with room for wider parts.
+fn widened(alloc: Global, numbers: &[Small]) -> Result<Vec<Q>, AllocError>
+    ensures { IfOk result (λ wide. wide.items ≡ numbers.now) }
+{
+    numbers.iter().map(|number| number.wide()).collect(alloc)
+}
+
+/// Solves a system of small numbers by elimination over small numbers alone: where it finds something, that is what elimination
+/// over wide numbers finds, and no operation passes there either. None comes only where one of its operations passes 63 bits: over
+/// wide numbers it may not pass, so that the system is to be solved over those. The table is spent on each outcome.
+pub fn solve_small(alloc: Global, table: Table<Small>) -> Result<Option<Solved<Q>>, AllocError>
+    ensures { IfOk result (λ found. MatchOption found (PassesSmall table) (λ solved. table_list passes_Q table ≡ Ok (values_of (λ q. q) solved))) }
+{
+    match solve(alloc, table) {
+        Ok(Solved::One(values)) => {
+            let values = widened(alloc, &values)?;
+            Ok(Some(Solved::One(values)))
+        }
+        Ok(Solved::NotOne) => Ok(Some(Solved::NotOne)),
+        Err(Halt::Passed(_)) => Ok(None),
+        Err(Halt::Memory) => Err(AllocError),
+    }
+}
