@@ -11,4 +11,4 @@ pub mod Answered
 pub mod Grids
 pub mod Noted
 pub mod Written
-pub mod SmallOnes
+pub mod SmallTables

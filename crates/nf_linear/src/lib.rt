@@ -6,15 +6,15 @@ mod grid;
 mod grid_elimination;
 mod grid_pivots;
 mod grid_row;
-mod narrow;
 mod pivots;
 mod row;
+mod small_tables;
 mod solution;
 mod system;
 mod table;
 
 pub use grid::{Eliminated, Grid, solve_grid};
-pub use narrow::solve_small;
+pub use small_tables::solve_small;
 pub use solution::{Solved, solve};
 pub use system::System;
 pub use table::Table;
