@@ -17,4 +17,5 @@ mod walk;
 
 pub use curve::{Curve, Difference};
 pub use flow::{Flow, Stop, Trace};
-pub use lines::{Point, line, slope};
+pub use lines::{Point, Sides, line, slope};
+pub use walk::{Moment, first_moment, next_moment, sides_at};

@@ -12,9 +12,9 @@ use nf_frac::{Part, PassedAt, Q, at};
 /// A time and the value there.
 pub type Point = (Q, Q);
 
-/// Two curves at a time: the values of the left one and of the right one.
+/// Two curves at a time: the values of the left one and of the right one, each in its curve's unit.
 #[derive(Clone, Copy)]
-pub(crate) struct Sides {
+pub struct Sides {
     pub time: Q,
     pub left: Q,
     pub right: Q,

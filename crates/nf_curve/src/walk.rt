@@ -15,9 +15,9 @@ use crate::lines::{Point, Sides};
 use crate::places::{place_up, value_at};
 use nf_frac::{Part, PassedAt, Q};
 
-/// A time, with its places on two curves.
+/// A time of a walk along two curves, in their unit of time, with its place on each: how many of its points are at or before it.
 #[derive(Clone, Copy)]
-pub(crate) struct Moment {
+pub struct Moment {
     pub time: Q,
     pub left: usize,
     pub right: usize,
@@ -45,8 +45,9 @@ fn earlier(left: Option<Q>, right: Option<Q>) -> Option<Q>
     }
 }
 
-/// The first time of two curves.
-pub(crate) fn first_moment(left: &[Point], right: &[Point]) -> Moment
+/// Where a walk along two curves begins: at time 0. It comes to each time of a point of either, once and in rising order. Is never
+/// refused, and takes no memory.
+pub fn first_moment(left: &[Point], right: &[Point]) -> Moment
     requires left { IsCurve left.now }
     requires right { IsCurve right.now }
     ensures there { IsMoment left.now right.now result }
@@ -61,8 +62,9 @@ pub(crate) fn first_moment(left: &[Point], right: &[Point]) -> Moment
     }
 }
 
-/// The next time of two curves, if there is one.
-pub(crate) fn next_moment(left: &[Point], right: &[Point], now: &Moment) -> Option<Moment>
+/// Where a walk along two curves is next: at the first later time of a point of either, and None exactly where there is none.
+/// `now` is where the walk along these two is. Is never refused, and takes no memory.
+pub fn next_moment(left: &[Point], right: &[Point], now: &Moment) -> Option<Moment>
     requires left { IsCurve left.now }
     requires right { IsCurve right.now }
     requires there { IsMoment left.now right.now now.now }
@@ -80,8 +82,9 @@ pub(crate) fn next_moment(left: &[Point], right: &[Point], now: &Moment) -> Opti
     })
 }
 
-/// Both values at a time.
-pub(crate) fn sides_at(
+/// Both values at the time where a walk along two curves is, each in its curve's unit. `now` is where the walk along these two is.
+/// Passed comes exactly at the first operation of its list that passes, with this part. Takes no memory.
+pub fn sides_at(
     left: &[Point],
     right: &[Point],
     now: &Moment,

@@ -3,8 +3,6 @@
 #![tactic(auto)]
 
 mod next;
-mod places;
 mod points;
-mod walk;
 
 pub use next::next_entry;

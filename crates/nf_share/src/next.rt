@@ -1,5 +1,5 @@
 // What a route sends on through a link.
-ghost use Rattle.std.specs.Prelude.{◌≡◌, ◌∷◌, IfOk};
+ghost use Rattle.std.specs.Prelude.{◌≡◌, ◌∷◌, map, IfOk};
 ghost use Rattle.nf_rational.specs.Rational.{ℚ};
 ghost use Rattle.nf_rational.specs.Operations.{0ℚ};
 ghost use Rattle.nf_work.specs.Passing.{passes_Q};
@@ -8,13 +8,13 @@ ghost use Rattle.nf_work.specs.Checked.{at_part, each, Gives};
 ghost use Rattle.nf_model.specs.Curve.{IsCurve};
 ghost use Rattle.nf_curve_lists.specs.Times.{both_times};
 ghost use Rattle.nf_curve_lists.specs.Sums.{sides_at as sides_by};
+ghost use Rattle.nf_curve.specs.Sides.{sides_of};
 ghost use Rattle.nf_routes_lists.specs.RoutesList.{next_from, next_entry as next_by};
 ghost use Rattle.nf_routes_laws.specs.Laws.{CanShare, IsNext};
 ghost use Rattle.nf_share.specs.Amounts.{IsAmount, AreExits};
 
-use crate::points::{Point, Sides, curve_of, points_of};
-use crate::walk::{first_moment, next_moment, sides_at};
-use nf_curve::Curve;
+use crate::points::{curve_of, points_of};
+use nf_curve::{Curve, Point, Sides, first_moment, next_moment, sides_at};
 use nf_frac::{Halt, Part, Q};
 use std::alloc::{AllocError, Global};
 
@@ -22,12 +22,12 @@ use std::alloc::{AllocError, Global};
 fn all_sides(alloc: Global, left: &[Point], right: &[Point]) -> Result<Vec<Sides>, Halt<Q>>
     requires left { IsCurve left.now }
     requires right { IsCurve right.now }
-    ensures { Gives (λ sides. sides.items) (λ q. q) result (at_part Load (each (sides_by passes_Q left.now right.now) (both_times left.now right.now))) }
+    ensures { Gives (λ sides. map sides_of sides.items) (λ q. q) result (at_part Load (each (sides_by passes_Q left.now right.now) (both_times left.now right.now))) }
 {
     let mut all = Vec::new(alloc);
     let mut now = Some(first_moment(left, right));
     while let Some(moment) = now {
-        let sides = sides_at(left, right, &moment)?;
+        let sides = sides_at(left, right, &moment, Part::Load)?;
         all.push(sides)?;
         now = next_moment(left, right, &moment);
     }
@@ -36,7 +36,7 @@ fn all_sides(alloc: Global, left: &[Point], right: &[Point]) -> Result<Vec<Sides
 
 // By each exit what has entered by then: at time 0 nothing, and a point at each exit that isn't the one before.
 fn next_points(alloc: Global, all: &[Sides]) -> Result<Vec<Point>, AllocError>
-    ensures { IfOk result (λ points. points.items ≡ (0ℚ, 0ℚ) ∷ next_from 0ℚ all.now) }
+    ensures { IfOk result (λ points. points.items ≡ (0ℚ, 0ℚ) ∷ next_from 0ℚ (map sides_of all.now)) }
 {
     let mut points = Vec::new(alloc);
     let mut last = Q::zero();

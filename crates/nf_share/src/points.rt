@@ -2,34 +2,9 @@
 ghost use Rattle.std.specs.Prelude.{◌≡◌, IfOk};
 ghost use Rattle.nf_model.specs.Curve.{IsCurve};
 
-use nf_curve::Curve;
+use nf_curve::{Curve, Point};
 use nf_frac::Q;
 use std::alloc::{AllocError, Global};
-use std::marker::Model;
-
-/// A time and the value there.
-pub(crate) type Point = (Q, Q);
-
-/// Two curves at a time: the values of the left one and of the right one.
-#[derive(Clone, Copy)]
-pub(crate) struct Sides {
-    pub time: Q,
-    pub left: Q,
-    pub right: Q,
-}
-
-impl Model for Sides {
-    ghost use Rattle.nf_curve_lists.specs.Lines.{Sides as SeenSides};
-    ghost use Rattle.nf_share.specs.Codes.{coded_sides};
-
-    ghost Value = { SeenSides };
-
-    ghost coded = { coded_sides };
-
-    ghost view = { λ a. record { time = a.time; left = a.left; right = a.right } };
-
-    ghost inverse = { λ s. record { time = s.time; left = s.left; right = s.right } };
-}
 
 /// The points of a curve.
 pub(crate) fn points_of(alloc: Global, curve: &Curve) -> Result<Vec<Point>, AllocError>

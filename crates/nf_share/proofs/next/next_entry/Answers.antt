@@ -1,4 +1,4 @@
-use Rattle.std.proofs.Common.{◌≡◌, List, ◌∷◌, sym, ap, subst, ◌∙◌}
+use Rattle.std.proofs.Common.{◌≡◌, List, ◌∷◌, map, sym, ap, subst, ◌∙◌}
 use Rattle.std.specs.Prelude.{Ok}
 use Rattle.std.proofs.lemmas.Result.{err_from_is_err_and}
 use Rattle.nf_rational.specs.Rational.{ℚ}
@@ -7,10 +7,11 @@ use Rattle.nf_work.specs.declared.Part.TheVariants.{Load}
 use Rattle.nf_work.specs.Passing.{passes_Q}
 use Rattle.nf_work.specs.Checked.{Stops, at_part, each}
 use Rattle.nf_model.specs.Curve.{Point, IsCurve}
-use Rattle.nf_curve_lists.specs.Lines.{Sides}
 use Rattle.nf_curve_lists.specs.Short.{checked_short}
 use Rattle.nf_curve_lists.specs.Times.{both_times}
 use Rattle.nf_curve_lists.specs.Sums.{sides_at}
+use Rattle.nf_curve.specs.declared.lines.Sides.{Sides}
+use Rattle.nf_curve.specs.Sides.{sides_of}
 use Rattle.nf_curve.proofs.Exits.{was_ok, stops_on}
 use Rattle.nf_routes_lists.specs.RoutesList.{next_from, next_entry}
 use Rattle.nf_routes_laws.specs.Laws.{IsNext}
@@ -34,26 +35,26 @@ pub curve_of-requires : goal.curve_of-requires
 curve_of-requires c =
     let entered : c.deref.result.now ≡ c.args.entry.now.points = c.deref.ensures.value ∙ c.in_ok-entered.ensures.points in
     let exits : c.deref-2.result.now ≡ c.args.exit.now.points = c.deref-2.ensures.value ∙ c.in_ok-exits.ensures.points in
-    let sides : at_part Load (each (sides_at passes_Q c.args.entry.now.points c.args.exit.now.points) (both_times c.args.entry.now.points c.args.exit.now.points)) ≡ Ok c.in_ok-sides.sides.items =
+    let sides : at_part Load (each (sides_at passes_Q c.args.entry.now.points c.args.exit.now.points) (both_times c.args.entry.now.points c.args.exit.now.points)) ≡ Ok (map sides_of c.in_ok-sides.sides.items) =
     ap (λ (l : List Point). at_part Load (each (sides_at passes_Q l c.args.exit.now.points) (both_times l c.args.exit.now.points))) (sym entered)
     ∙ ap (λ (l : List Point). at_part Load (each (sides_at passes_Q c.deref.result.now l) (both_times c.deref.result.now l))) (sym exits) ∙ c.in_ok-sides.ensures in
-    let points : c.deref-4.result.now ≡ (0ℚ, 0ℚ) ∷ next_from 0ℚ c.in_ok-sides.sides.items =
-    c.deref-4.ensures.value ∙ c.in_ok-points.ensures ∙ ap (λ (l : List Sides). (0ℚ, 0ℚ) ∷ next_from 0ℚ l) c.deref-3.ensures.value in
+    let points : c.deref-4.result.now ≡ (0ℚ, 0ℚ) ∷ next_from 0ℚ (map sides_of c.in_ok-sides.sides.items) =
+    c.deref-4.ensures.value ∙ c.in_ok-points.ensures ∙ ap (λ (l : List Sides). (0ℚ, 0ℚ) ∷ next_from 0ℚ (map sides_of l)) c.deref-3.ensures.value in
     subst (λ (l : List Point). IsCurve l) (sym points)
-    (points_curve passes_Q c.args.exit.now.points c.args.entry.now.points c.requires.exits c.requires.amount c.in_ok-sides.sides.items
-    (was_ok Load (each (sides_at passes_Q c.args.entry.now.points c.args.exit.now.points) (both_times c.args.entry.now.points c.args.exit.now.points)) c.in_ok-sides.sides.items sides))
+    (points_curve passes_Q c.args.exit.now.points c.args.entry.now.points c.requires.exits c.requires.amount (map sides_of c.in_ok-sides.sides.items)
+    (was_ok Load (each (sides_at passes_Q c.args.entry.now.points c.args.exit.now.points) (both_times c.args.entry.now.points c.args.exit.now.points)) (map sides_of c.in_ok-sides.sides.items) sides))
 
 pub returns-clause-list : goal.returns-clause-list
 returns-clause-list c =
     let entered : c.deref.result.now ≡ c.args.entry.now.points = c.deref.ensures.value ∙ c.in_ok-entered.ensures.points in
     let exits : c.deref-2.result.now ≡ c.args.exit.now.points = c.deref-2.ensures.value ∙ c.in_ok-exits.ensures.points in
-    let sides : at_part Load (each (sides_at passes_Q c.args.entry.now.points c.args.exit.now.points) (both_times c.args.entry.now.points c.args.exit.now.points)) ≡ Ok c.in_ok-sides.sides.items =
+    let sides : at_part Load (each (sides_at passes_Q c.args.entry.now.points c.args.exit.now.points) (both_times c.args.entry.now.points c.args.exit.now.points)) ≡ Ok (map sides_of c.in_ok-sides.sides.items) =
     ap (λ (l : List Point). at_part Load (each (sides_at passes_Q l c.args.exit.now.points) (both_times l c.args.exit.now.points))) (sym entered)
     ∙ ap (λ (l : List Point). at_part Load (each (sides_at passes_Q c.deref.result.now l) (both_times c.deref.result.now l))) (sym exits) ∙ c.in_ok-sides.ensures in
-    let curve : c.in_ok-curve.curve.points ≡ (0ℚ, 0ℚ) ∷ next_from 0ℚ c.in_ok-sides.sides.items =
-    c.in_ok-curve.ensures ∙ c.deref-4.ensures.value ∙ c.in_ok-points.ensures ∙ ap (λ (l : List Sides). (0ℚ, 0ℚ) ∷ next_from 0ℚ l) c.deref-3.ensures.value in
+    let curve : c.in_ok-curve.curve.points ≡ (0ℚ, 0ℚ) ∷ next_from 0ℚ (map sides_of c.in_ok-sides.sides.items) =
+    c.in_ok-curve.ensures ∙ c.deref-4.ensures.value ∙ c.in_ok-points.ensures ∙ ap (λ (l : List Sides). (0ℚ, 0ℚ) ∷ next_from 0ℚ (map sides_of l)) c.deref-3.ensures.value in
     let whole : at_part Load (next_entry passes_Q c.args.exit.now.points c.args.entry.now.points) ≡ at_part Load (checked_short passes_Q c.in_ok-curve.curve.points) =
-    sides_go passes_Q c.args.exit.now.points c.args.entry.now.points c.requires.exits c.requires.amount c.in_ok-sides.sides.items sides
+    sides_go passes_Q c.args.exit.now.points c.args.entry.now.points c.requires.exits c.requires.amount (map sides_of c.in_ok-sides.sides.items) sides
     ∙ ap (λ (l : List Point). at_part Load (checked_short passes_Q l)) (sym curve) in
     rw whole c.short.ensures.list
 
