@@ -1,5 +1,6 @@
 // Linear systems.
-ghost use Rattle.std.specs.Prelude.{◌≡◌, ◌<◌, ◌≤◌, length};
+ghost use Rattle.std.specs.Prelude.{◌≡◌, ◌<◌, ◌≤◌, length, IsTrue};
+ghost use Rattle.nf_rational.specs.Rational.{ℚ};
 
 use crate::telling::{tell_none, tell_numbers, tell_passed};
 use case_lines::numbers;
@@ -11,6 +12,7 @@ use std::io;
 fn set<T: System>(system: &mut T, size: u32, place: usize, number: Q)
     requires some { 0 < size }
     requires size { length (T.rows_of system.old) ≡ size }
+    requires takes { IsTrue (T.takes number) }
     ensures { length (T.rows_of system.new) ≡ size }
 {
     let width = size as usize + 1;
@@ -30,6 +32,7 @@ fn set<T: System>(system: &mut T, size: u32, place: usize, number: Q)
 fn fill<T: System>(system: &mut T, size: u32, numbers: &[Q])
     requires some { 0 < size }
     requires size { length (T.rows_of system.old) ≡ size }
+    requires takes { (number : ℚ) → IsTrue (T.takes number) }
     ensures { length (T.rows_of system.new) ≡ size }
 {
     for i in 0..numbers.len() {
