@@ -18,3 +18,5 @@ pub mod Spreading
 pub mod Leading
 pub mod Slices
 pub mod LinkChanges
+pub mod Held
+pub mod SmallTables

@@ -1,10 +1,10 @@
 -- How the table of a pattern is filled, row by row.
-use Rattle.std.specs.Prelude.{◌≡◌, ◌≢◌, ℕ, ◌+◌, ◌<◌, ◌≤◌, ◌==◌, if◌then◌else◌, List, [], ◌∷◌, length, set, replicate, Option, Some, None, unwrap_or}
+use Rattle.std.specs.Prelude.{◌≡◌, ◌≢◌, ℕ, ◌+◌, ◌<◌, ◌≤◌, ◌==◌, if◌then◌else◌, List, [], ◌∷◌, length, set, replicate, Bool, IsTrue, Option, Some, None, unwrap_or}
 use Rattle.nf_rational.specs.Rational.{ℚ}
 use Rattle.nf_rational.specs.Operations.{0ℚ, 1ℚ, neg_ℚ}
 use Rattle.nf_model.specs.declared.State.{State}
 use Rattle.nf_model.specs.declared.State.TheVariants.{Tight, Full, Zero}
-use Rattle.nf_model.specs.Network.{Link}
+use Rattle.nf_model.specs.Network.{Link, Network, IsLink}
 use Rattle.nf_lists.specs.Table.{Row, row_at}
 use Rattle.nf_lists.specs.Equations.{Unknown}
 
@@ -51,3 +51,17 @@ link_entries own link (Some Tight) = tight_entries link
 link_entries own link (Some Full) = full_entries own link
 link_entries own link (Some Zero) = (own, 1ℚ) ∷ []
 link_entries own link None = full_entries own link
+
+-- ---- which numbers the table has to hold
+
+-- the capacity of a link, as it is written into the table
+abbrev pub HoldsCapacity : (ℚ → Bool) → Link → Type 0
+HoldsCapacity takes link = IsTrue (takes (neg_ℚ (unwrap_or link.capacity 0ℚ)))
+
+abbrev pub HoldsCapacities : (ℚ → Bool) → Network → Type 0
+HoldsCapacities takes net = (e : ℕ) (link : Link) → IsLink net e link → HoldsCapacity takes link
+
+-- the numbers of the equations of a pattern, but for 0, 1 and -1
+pub record HoldsNumbers (takes : ℚ → Bool) (net : Network) (rate : ℚ) : Type 0 where
+  pub supply : IsTrue (takes rate)
+  pub capacities : HoldsCapacities takes net

@@ -1,5 +1,5 @@
 // The table of the equations of a pattern.
-ghost use Rattle.std.specs.Prelude.{◌≡◌, ◌<◌, ◌≤◌, length, set, Some, IfOk, if◌then◌else◌, ◌==◌};
+ghost use Rattle.std.specs.Prelude.{◌≡◌, ◌<◌, ◌≤◌, length, set, Some, IfOk, if◌then◌else◌, ◌==◌, IsTrue};
 ghost use Rattle.nf_rational.specs.Rational.{ℚ};
 ghost use Rattle.nf_rational.specs.Operations.{0ℚ, ◌-ℚ◌};
 ghost use Rattle.nf_model.specs.Entries.{number_at};
@@ -7,7 +7,7 @@ ghost use Rattle.nf_model.specs.Pattern.{Pattern as SeenPattern};
 ghost use Rattle.nf_formats.specs.WellNamed.{IsNamed};
 ghost use Rattle.nf_lists.specs.Table.{row_at};
 ghost use Rattle.nf_lists.specs.Equations.{unknowns, one_if, leaves_less_enters as leaves_less_enters_of, node_row, equations};
-ghost use Rattle.nf_trial.specs.Filling.{all_zero, IsBlank, ChangesRow, IsFilledTo, with_entries, tight_entries, full_entries, link_entries};
+ghost use Rattle.nf_trial.specs.Filling.{all_zero, IsBlank, ChangesRow, IsFilledTo, with_entries, tight_entries, full_entries, link_entries, HoldsCapacity, HoldsCapacities, HoldsNumbers};
 
 use nf_frac::Q;
 use nf_graph::{LinkId, LinkSets, NodeId};
@@ -69,6 +69,7 @@ fn set_number<T: System>(table: &mut T, row: u32, column: u32, number: Q)
     requires row { row < length (T.rows_of table.old) }
     requires column { column < length (T.rows_of table.old) }
     requires blank { number_at (row_at (T.rows_of table.old) row) column ≡ 0ℚ }
+    requires takes { IsTrue (T.takes number) }
     ensures { T.rows_of table.new ≡ set (T.rows_of table.old) row (set (row_at (T.rows_of table.old) row) column number) }
 {
     if number.is_zero() {
@@ -88,6 +89,7 @@ fn fill_node<T: System>(
 )
     requires blank { IsBlank (unknowns net.now.net sets.now) (T.rows_of table.old) row }
     requires sets { length sets.now.active ≡ length net.now.net.links }
+    requires takes { IsTrue (T.takes rate) }
     ensures { ChangesRow (T.rows_of table.old) (T.rows_of table.new) row (node_row net.now.net sets.now rate node) }
 {
     let mut column = net.node_count();
@@ -105,6 +107,7 @@ fn fill_node<T: System>(
 fn fill_nodes<T: System>(table: &mut T, net: &Network, sets: &LinkSets, rate: Q)
     requires first { (pattern : SeenPattern) → IsFilledTo (equations net.now.net sets.now rate pattern) (T.rows_of table.old) 1 }
     requires sets { length sets.now.active ≡ length net.now.net.links }
+    requires takes { IsTrue (T.takes rate) }
     ensures nodes { (pattern : SeenPattern) → IsFilledTo (equations net.now.net sets.now rate pattern) (T.rows_of table.new) net.now.net.nodes }
     ensures size { length (T.rows_of table.new) ≡ length (T.rows_of table.old) }
 {
@@ -138,6 +141,7 @@ fn fill_tight<T: System>(table: &mut T, row: u32, link: Link)
 fn fill_full<T: System>(table: &mut T, row: u32, link: Link)
     requires row { row < length (T.rows_of table.old) }
     requires head { link.head < length (T.rows_of table.old) }
+    requires capacity { HoldsCapacity T.takes link }
     ensures { ChangesRow (T.rows_of table.old) (T.rows_of table.new) row (with_entries (row_at (T.rows_of table.old) row) (full_entries row link)) }
 {
     let capacity = link.capacity.unwrap_or(Q::zero());
@@ -150,6 +154,7 @@ fn fill_link<T: System>(table: &mut T, row: u32, link: Link, state: Option<State
     requires row { row < length (T.rows_of table.old) }
     requires tail { link.tail < length (T.rows_of table.old) }
     requires head { link.head < length (T.rows_of table.old) }
+    requires capacity { HoldsCapacity T.takes link }
     ensures { ChangesRow (T.rows_of table.old) (T.rows_of table.new) row (with_entries (row_at (T.rows_of table.old) row) (link_entries row link state)) }
 {
     match state {
@@ -164,6 +169,7 @@ fn fill_links<T: System>(table: &mut T, net: &Network, sets: &LinkSets, pattern:
     requires size { length (T.rows_of table.old) ≡ length (unknowns net.now.net sets.now) }
     requires sets { length sets.now.active ≡ length net.now.net.links }
     requires states { length pattern.now ≡ length net.now.net.links }
+    requires capacities { HoldsCapacities T.takes net.now.net }
     ensures { (rate : ℚ) → IsFilledTo (equations net.now.net sets.now rate pattern.now) (T.rows_of table.old) net.now.net.nodes
         → T.rows_of table.new ≡ equations net.now.net sets.now rate pattern.now }
 {
@@ -179,11 +185,12 @@ fn fill_links<T: System>(table: &mut T, net: &Network, sets: &LinkSets, pattern:
 
 /// A system for the unknowns of a pattern that is all zero becomes that of its equations at a rate of supply. Its columns are the
 /// slope of each node, in node order, and the flow of each active link, in link order; its rows that of the source's slope, that of
-/// each node but the sink, and that of each active link.
+/// each node but the sink, and that of each active link. The system can hold the rate and the capacities.
 pub fn fill<T: System>(table: &mut T, net: &Network, sets: &LinkSets, rate: Q, pattern: &Pattern)
     requires zero { T.rows_of table.old ≡ all_zero (length (unknowns net.now.net sets.now)) }
     requires sets { length sets.now.active ≡ length net.now.net.links }
     requires states { length pattern.now ≡ length net.now.net.links }
+    requires numbers { HoldsNumbers T.takes net.now.net rate }
     ensures { T.rows_of table.new ≡ equations net.now.net sets.now rate pattern.now }
 {
     // For the proof: the network is well formed.

@@ -6,6 +6,7 @@ mod comparing;
 mod filling;
 mod fulls;
 mod led;
+mod small_numbers;
 mod solving;
 mod trying;
 mod verdicts;

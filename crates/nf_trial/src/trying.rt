@@ -1,20 +1,24 @@
 // One pattern is tried: its table is solved, and the solution judged.
-ghost use Rattle.std.specs.Prelude.{◌≡◌, ◌+◌, ◌≤◌, length, option_map, IfOk};
+ghost use Rattle.std.specs.Prelude.{◌≡◌, ◌+◌, ◌≤◌, length, option_map, Ok, IfOk, IfSome};
 ghost use Rattle.nf_work.specs.declared.Part.TheVariants as Part;
 ghost use Rattle.nf_work.specs.Passing.{passes_Q};
 ghost use Rattle.nf_work.specs.Checked.{at_part, Gives};
 ghost use Rattle.nf_lists.specs.Table.{table_list};
 ghost use Rattle.nf_lists.specs.Verdict.{verdict_list};
 ghost use Rattle.nf_lists.specs.Equations.{active_from, unknowns, equations, flows_in, slopes_in};
+ghost use Rattle.nf_linear.specs.Solved.{values_of};
+ghost use Rattle.nf_linear.specs.Holding.{takes_small};
 ghost use Rattle.nf_equation_laws.specs.Equations.{IsPatternIn};
+ghost use Rattle.nf_trial.specs.Filling.{HoldsNumbers};
 ghost use Rattle.nf_trial.specs.Trying.{JudgesFlows, JudgesValues, Tries, TriesInto};
 
-use crate::filling::{table_of, unknown_count};
+use crate::filling::{fill, table_of, unknown_count};
+use crate::small_numbers::has_small_numbers;
 use crate::solving::solve_pattern;
 use crate::verdicts::{Judged, verdict};
-use nf_frac::{Halt, PassedAt, Q};
+use nf_frac::{Halt, PassedAt, Q, Small};
 use nf_graph::{LinkId, LinkSets};
-use nf_linear::{Eliminated, Solved, Table, solve};
+use nf_linear::{Eliminated, Solved, Table, solve, solve_small};
 use nf_net::Network;
 use nf_pattern::Pattern;
 use std::alloc::{AllocError, Global};
@@ -140,14 +144,39 @@ pub fn judge_values(
 
 // ---- the values of a table's unknowns
 
+// The values of the only solution, and None where there is none or more than one.
+fn only_values(found: Solved<Q>) -> Option<Vec<Q>>
+    ensures { option_map (λ values. values.items) result ≡ values_of (λ q. q) found }
+{
+    match found {
+        Solved::One(values) => Some(values),
+        Solved::NotOne => None,
+    }
+}
+
 /// The only solution of a table, and None where there is none or more than one.
 pub fn solved(alloc: Global, table: Table<Q>) -> Result<Option<Vec<Q>>, Halt<Q>>
     ensures { Gives (option_map (λ values. values.items)) (λ q. q) result (at_part Part.Table (table_list passes_Q table)) }
 {
-    match solve(alloc, table)? {
-        Solved::One(values) => Ok(Some(values)),
-        Solved::NotOne => Ok(None),
-    }
+    let found = solve(alloc, table)?;
+    Ok(only_values(found))
+}
+
+// What is found of a pattern's table over small numbers alone, and None where an operation passes those.
+fn small_solution(
+    alloc: Global,
+    net: &Network,
+    sets: &LinkSets,
+    rate: Q,
+    pattern: &Pattern,
+) -> Result<Option<Solved<Q>>, AllocError>
+    requires pattern { IsPatternIn net.now.net sets.now pattern.now }
+    requires small { HoldsNumbers takes_small net.now.net rate }
+    ensures { IfOk result (λ found. IfSome found (λ solved. table_list passes_Q (equations net.now.net sets.now rate pattern.now) ≡ Ok (values_of (λ q. q) solved))) }
+{
+    let mut table = Table::<Small>::new(alloc, unknown_count(net, sets))?;
+    fill(&mut table, net, sets, rate, pattern);
+    solve_small(alloc, table)
 }
 
 /// The only solution of a pattern's table, and None where there is none or more than one; or the first operation that passes.
@@ -161,6 +190,11 @@ pub fn pattern_values(
     requires { IsPatternIn net.now.net sets.now pattern.now }
     ensures { Gives (option_map (λ values. values.items)) (λ q. q) result (at_part Part.Table (table_list passes_Q (equations net.now.net sets.now rate pattern.now))) }
 {
+    if has_small_numbers(net, rate) {
+        if let Some(found) = small_solution(alloc, net, sets, rate, pattern)? {
+            return Ok(only_values(found));
+        }
+    }
     let table = table_of(alloc, net, sets, rate, pattern)?;
     solved(alloc, table)
 }

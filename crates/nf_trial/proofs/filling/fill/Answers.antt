@@ -2,6 +2,7 @@ use Rattle.std.proofs.Common.{ℕ, length, set, ap, ◌∙◌}
 use Rattle.nf_rational.specs.Rational.{ℚ}
 use Rattle.nf_lists.specs.Table.{row_at}
 use Rattle.nf_trial.proofs.SourceRow.{source_inside, source_filled, source_long}
+use Rattle.nf_trial.proofs.Held.{held_as}
 use Rattle.nf_trial.proofs.filling.fill.Goals as goal
 
 pub set-requires-clause-column : goal.set-requires-clause-column
@@ -28,3 +29,15 @@ fill_links-requires-clause-size g c = c.fill_nodes.ensures.size ∙ source_long 
 
 pub returns : goal.returns
 returns g c = c.fill_links.ensures c.args.rate (c.fill_nodes.ensures.nodes c.args.pattern.now)
+
+pub set-requires-clause-takes : goal.set-requires-clause-takes
+set-requires-clause-takes g c = held_as g.T.System.takes _ _ c.one.ensures g.met.T.System.takes_units.one
+
+pub set_right-requires-clause-takes : goal.set_right-requires-clause-takes
+set_right-requires-clause-takes g c = held_as g.T.System.takes _ _ c.one-2.ensures g.met.T.System.takes_units.one
+
+pub fill_nodes-requires-clause-takes : goal.fill_nodes-requires-clause-takes
+fill_nodes-requires-clause-takes g c = c.requires.numbers.supply
+
+pub fill_links-requires-clause-capacities : goal.fill_links-requires-clause-capacities
+fill_links-requires-clause-capacities g c = c.requires.numbers.capacities

@@ -34,3 +34,6 @@ loop-e-preserved g c = elim c.if-active.branch [
 
 pub returns : goal.returns
 returns g c = λ rate f. links_done c.args.net.now.net c.args.sets.now c.args.pattern.now (g.T.System.rows_of c.args.table.now) (g.T.System.rows_of c.loop-e.table) c.loop-e.e c.loop-e.row c.loop-e.invariant (omega arith) c.requires.size rate f
+
+pub fill_link-requires-clause-capacity : goal.fill_link-requires-clause-capacity
+fill_link-requires-clause-capacity g c = c.requires.capacities c.loop-e.e c.link.result c.link.ensures.link

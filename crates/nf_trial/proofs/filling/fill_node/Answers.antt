@@ -3,6 +3,7 @@ use Rattle.std.specs.Prelude.{if◌then◌else◌}
 use Rattle.nf_rational.specs.Operations.{0ℚ}
 use Rattle.nf_trial.proofs.NodeEntries.{node_first, column_inside, column_blank, node_more, node_same, node_done}
 use Rattle.nf_trial.proofs.Sizes.{few_columns}
+use Rattle.nf_trial.proofs.Held.{factor_held, surplus_held}
 use Rattle.nf_trial.proofs.filling.fill_node.Goals as goal
 use Rattle.nf_trial.proofs.filling.fill_node.Goals.{then-active, else-active}
 
@@ -32,3 +33,9 @@ pub returns : goal.returns
 returns g c = node_done c.args.net.now.net c.args.sets.now c.args.node (g.T.System.rows_of c.args.table.now) (g.T.System.rows_of c.loop-e.table) c.args.row c.loop-e.e c.loop-e.column c.loop-e.invariant
     (g.T.System.rows_of c.set_right.new.self) c.args.rate c.surplus.result (omega arith)
     (c.surplus.ensures ∙ ap (λ (s : ℕ). if eqb c.args.node s then c.args.rate else 0ℚ) c.source.ensures.value) c.set_right.ensures
+
+pub set_number-requires-clause-takes : goal.set_number-requires-clause-takes
+set_number-requires-clause-takes g c = factor_held g.T.System.takes g.met.T.System.takes_units _ _ _ c.leaves_less_enters-factor.ensures
+
+pub set_right-requires-clause-takes : goal.set_right-requires-clause-takes
+set_right-requires-clause-takes g c = surplus_held g.T.System.takes g.met.T.System.takes_units _ _ _ c.surplus.ensures c.requires.takes

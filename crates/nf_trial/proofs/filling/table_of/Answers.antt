@@ -1,5 +1,6 @@
 use Rattle.std.proofs.Common.{ap, ◌∙◌}
 use Rattle.nf_trial.specs.Filling.{all_zero}
+use Rattle.nf_trial.proofs.Held.{all_held}
 use Rattle.nf_trial.proofs.filling.table_of.Goals as goal
 
 pub fill-requires-clause-zero : goal.fill-requires-clause-zero
@@ -10,3 +11,6 @@ fill-requires-clause-sets c = c.requires.sets
 
 pub fill-requires-clause-states : goal.fill-requires-clause-states
 fill-requires-clause-states c = c.requires.states
+
+pub fill-requires-clause-numbers : goal.fill-requires-clause-numbers
+fill-requires-clause-numbers c = all_held c.args.net.now.net c.args.rate
