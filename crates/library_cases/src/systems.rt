@@ -1,5 +1,5 @@
 // Linear systems.
-ghost use Rattle.std.specs.Prelude.{◌≡◌, ◌<◌, ◌≤◌, length, IsTrue, IfOk, IfSome};
+ghost use Rattle.std.specs.Prelude.{◌≡◌, ◌<◌, ◌≤◌, length, IsTrue, IfSome};
 ghost use Rattle.nf_rational.specs.Rational.{ℚ};
 
 use crate::telling::{tell_none, tell_numbers, tell_passed};
@@ -88,11 +88,7 @@ fn set_small(table: &mut Table<Small>, size: u32, place: usize, number: Small)
 }
 
 // The table of these numbers, if each of them is small.
-fn small_table(
-    alloc: Global,
-    size: u32,
-    numbers: &[Q],
-) -> Result<Option<Table<Small>>, AllocError>
+fn small_table(alloc: Global, size: u32, numbers: &[Q]) -> Result<Option<Table<Small>>, AllocError>
     requires { (0 < size) × (size ≤ 264) }
 {
     let mut table: Table<Small> = Table::new(alloc, size)?;

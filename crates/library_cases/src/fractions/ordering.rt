@@ -5,7 +5,7 @@ use std::cmp::Ordering;
 use std::hash::{DefaultHasher, Hash, Hasher};
 use std::io;
 
-fn hash_of<V: Hash>(value: V) -> u64 {
+fn hash_of<V: Hash + Copy>(value: V) -> u64 {
     let mut state = DefaultHasher::new();
     value.hash(&mut state);
     state.finish()
