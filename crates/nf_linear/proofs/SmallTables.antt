@@ -6,8 +6,8 @@ use Rattle.nf_work.specs.declared.Part.TheVariants as Part
 use Rattle.nf_work.specs.Passing.{passes_Q}
 use Rattle.nf_work.specs.Checked.{at_part}
 use Rattle.nf_lists.specs.Table.{Row, table_list}
+use Rattle.nf_lists_laws.proofs.Exact.{table_list_under}
 use Rattle.nf_lists_laws.proofs.Numbered.{part_ok}
-use Rattle.nf_linear_laws.proofs.Fewer.{table_under_fewer}
 use Rattle.nf_frac.proofs.Passing.{short_passes_first}
 use Rattle.nf_linear.specs.SmallTables.{passes_small}
 
@@ -15,4 +15,4 @@ pub solved_small : (rows : List Row) (v : Option (List ℚ)) → at_part Part.Ta
 solved_small rows v e = part_ok Part.Table (table_list passes_small rows) v (sym e)
 
 pub solved_wide : (rows : List Row) (v : Option (List ℚ)) → at_part Part.Table (table_list passes_small rows) ≡ Ok v → table_list passes_Q rows ≡ Ok v
-solved_wide rows v e = table_under_fewer passes_small passes_Q short_passes_first rows v (solved_small rows v e)
+solved_wide rows v e = table_list_under passes_small passes_Q short_passes_first rows v (solved_small rows v e)

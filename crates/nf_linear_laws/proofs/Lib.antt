@@ -5,4 +5,3 @@ pub mod Pivots
 pub mod Rows
 pub mod Elimination
 pub mod Solutions
-pub mod Fewer
