@@ -3,7 +3,7 @@
 
     python3 bench/gate.py
 
-To measure it from nothing, move away what earlier runs kept beside the kit (/opt/rattle-kept). The seconds are those that the processes
+To measure it from nothing, where the kit keeps what earlier runs proved, move that away first. The seconds are those that the processes
 took, as /proc tells them four times a second; on a machine that others slow they grow, so the time of a fixed loop is printed as well,
 before and after.
 """
