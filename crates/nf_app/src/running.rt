@@ -1,9 +1,13 @@
 // The top call.
+ghost use Rattle.std.specs.Prelude.{◌≡◌};
 ghost use Rattle.nf_edge.specs.Names.{texts};
+ghost use Rattle.nf_formats.specs.Report.{report_text};
+ghost use Rattle.nf_answers.specs.declared.status.Status.TheVariants as Status;
 ghost use Rattle.nf_outside.specs.Files.{visit};
-ghost use Rattle.nf_outside.specs.Sinks.{taken};
+ghost use Rattle.nf_outside.specs.Sinks.{taken, TookAll};
 ghost use Rattle.nf_app.specs.Runs.{Ran};
 ghost use Rattle.nf_app.specs.Completeness.{IsComplete};
+ghost use Rattle.nf_app.specs.Resumption.{IsResumption};
 
 use crate::answering::answer;
 use nf_answers::{Outcome, Status};
@@ -42,6 +46,11 @@ pub fn run<S: Shelf, O: Sink, E: Sink>(
     // passes, unless too many walks are wanted or it is unbounded; and a thin flow from being settled where none passes.
     ensures complete { IsComplete (record { words = texts words.now; shelf = visit S.Shelf shelf.old shelf.new })
         (taken O.Sink out.old out.new) result }
+
+    // A report of a run that is gone on from to its horizon comes, byte for byte, to the report of one run from the start to that horizon, where that
+    // one reaches the horizon too, and where no number grows too long in the search for the rest of a phase within which the given report ends.
+    ensures resumes { (r : IsResumption (record { words = texts words.now; shelf = visit S.Shelf shelf.old shelf.new }))
+        → result ≡ Status.Ok → TookAll (taken O.Sink out.old out.new) (report_text r.network.net r.later.report) }
 {
     match answer(alloc, words, shelf) {
         Ok(outcome) => {
