@@ -1,6 +1,6 @@
 -- What is written where the report of a run is gone on from: the report of one long run.
 use Rattle.std.proofs.Common.{◌≡◌, ℕ, List, [], ◌∷◌, refl, sym, ap, subst, ◌∙◌, inl, inr}
-use Rattle.std.specs.Prelude.{Option, Some, None, IfSome, Result, Ok, Err}
+use Rattle.std.specs.Prelude.{Option, Some, None, IfSome, Result, Ok}
 use Rattle.nf_rational.specs.Rational.{ℚ}
 use Rattle.nf_work.specs.Passing.{passes_Q}
 use Rattle.nf_model.specs.Network.{IsNetwork}
@@ -13,7 +13,7 @@ use Rattle.nf_formats.specs.Report.{Report, report_text}
 use Rattle.nf_formats_laws.proofs.Once.{reads_at_most_once}
 use Rattle.nf_formats_laws.proofs.AcceptedNamed.{accepted_named}
 use Rattle.nf_run_laws.proofs.Run.{report_equilibrium}
-use Rattle.nf_readings.specs.ReportFile.{ReportBroken, report_in}
+use Rattle.nf_readings.specs.ReportFile.{report_in}
 use Rattle.nf_resume_lists.specs.Meanings.{IsResumedReport}
 use Rattle.nf_resumed_laws.proofs.Ends.{resumed-solved}
 use Rattle.nf_phase.specs.Solution.{bounds_of}

@@ -29,7 +29,7 @@ fn let_go(_outcome: Outcome) {}
 /// to; of routes what their links and they themselves carry, and when. `show` writes the canonical text of the network, and `load` the
 /// queue, the outflow and the exits of each link under its loads, up to the horizon. `quick` writes a quickest flow of the amount with its
 /// time, its walks, a cut and the cut's value, and the arrival in an equilibrium of who departs when the amount is supplied; where more walks
-/// would have to be pushed than allowed, those that were.
+/// would have to be pushed than allowed, those that were. What `resume` makes of the report of a run is the report of one run from the start.
 pub fn run<S: Shelf, O: Sink, E: Sink>(
     alloc: Global,
     words: &[String],
@@ -47,8 +47,8 @@ pub fn run<S: Shelf, O: Sink, E: Sink>(
     ensures complete { IsComplete (record { words = texts words.now; shelf = visit S.Shelf shelf.old shelf.new })
         (taken O.Sink out.old out.new) result }
 
-    // A report of a run that is gone on from to its horizon comes, byte for byte, to the report of one run from the start to that horizon, where that
-    // one reaches the horizon too, and where no number grows too long in the search for the rest of a phase within which the given report ends.
+    // Where `resume` goes on from the report of a run, it writes, byte for byte, the report of one run from the start to its horizon: if both
+    // reach that horizon and, where the given report ends within a phase, no number grows too long in the search for the rest of the phase.
     ensures resumes { (r : IsResumption (record { words = texts words.now; shelf = visit S.Shelf shelf.old shelf.new }))
         → result ≡ Status.Ok → TookAll (taken O.Sink out.old out.new) (report_text r.network.net r.later.report) }
 {

@@ -37,7 +37,7 @@ returns-in-Ok-clause-resumes g c =
 pub returns-in-Err-clause-resumes : goal.returns-in-Err-clause-resumes
 returns-in-Err-clause-resumes g c =
     resumption_written (record { words = texts c.args.words.now; shelf = visit g.S.Shelf c.args.shelf.now c.answer.new.shelf }) (taken g.O.Sink c.args.out.now c.args.out.now)
-    (taken g.E.Sink c.args.err.now c.args.err.now) c.refuse.result (record {
+    (taken g.E.Sink c.args.err.now c.refuse.new.err) c.refuse.result (record {
       answer = answer_of c.in-Err.refusal;
       comes = c.in-Err.ensures;
       shown = inl (c.refuse.ensures.status, took_no_text (g.O.Sink.took c.args.out.now) c.in-Err.refusal, c.refuse.ensures.told);
