@@ -4,6 +4,7 @@ pub mod LinkLoads
 pub mod LoadGiven
 pub mod CheckGiven
 pub mod QuickTold
+pub mod Resuming
 pub mod Starting
 pub mod SettleCalls
 pub mod SettleGiven

@@ -5,6 +5,7 @@ pub mod SettleGiven
 pub mod ForeverGiven
 pub mod RoutesGiven
 pub mod ResumeGiven
+pub mod Resumption
 pub mod Given
 pub mod Runs
 pub mod Gathered

@@ -9,4 +9,5 @@ mod running;
 mod settling;
 
 pub use nf_answers::Status;
+pub use nf_gen::generated;
 pub use running::run;

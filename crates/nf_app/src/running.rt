@@ -1,9 +1,13 @@
 // The top call.
+ghost use Rattle.std.specs.Prelude.{◌≡◌};
 ghost use Rattle.nf_edge.specs.Names.{texts};
+ghost use Rattle.nf_formats.specs.Report.{report_text};
+ghost use Rattle.nf_answers.specs.declared.status.Status.TheVariants as Status;
 ghost use Rattle.nf_outside.specs.Files.{visit};
-ghost use Rattle.nf_outside.specs.Sinks.{taken};
+ghost use Rattle.nf_outside.specs.Sinks.{taken, TookAll};
 ghost use Rattle.nf_app.specs.Runs.{Ran};
 ghost use Rattle.nf_app.specs.Completeness.{IsComplete};
+ghost use Rattle.nf_app.specs.Resumption.{IsResumption};
 
 use crate::answering::answer;
 use nf_answers::{Outcome, Status};
@@ -25,7 +29,7 @@ fn let_go(_outcome: Outcome) {}
 /// to; of routes what their links and they themselves carry, and when. `show` writes the canonical text of the network, and `load` the
 /// queue, the outflow and the exits of each link under its loads, up to the horizon. `quick` writes a quickest flow of the amount with its
 /// time, its walks, a cut and the cut's value, and the arrival in an equilibrium of who departs when the amount is supplied; where more walks
-/// would have to be pushed than allowed, those that were.
+/// would have to be pushed than allowed, those that were. What `resume` makes of the report of a run is the report of one run from the start.
 pub fn run<S: Shelf, O: Sink, E: Sink>(
     alloc: Global,
     words: &[String],
@@ -42,6 +46,11 @@ pub fn run<S: Shelf, O: Sink, E: Sink>(
     // passes, unless too many walks are wanted or it is unbounded; and a thin flow from being settled where none passes.
     ensures complete { IsComplete (record { words = texts words.now; shelf = visit S.Shelf shelf.old shelf.new })
         (taken O.Sink out.old out.new) result }
+
+    // Where `resume` goes on from the report of a run, it writes, byte for byte, the report of one run from the start to its horizon: if both
+    // reach that horizon and, where the given report ends within a phase, no number grows too long in the search for the rest of the phase.
+    ensures resumes { (r : IsResumption (record { words = texts words.now; shelf = visit S.Shelf shelf.old shelf.new }))
+        → result ≡ Status.Ok → TookAll (taken O.Sink out.old out.new) (report_text r.network.net r.later.report) }
 {
     match answer(alloc, words, shelf) {
         Ok(outcome) => {

@@ -28,7 +28,7 @@ use Rattle.nf_resume_lists.specs.Open.{IsOpen, Continues, with_last, continues, 
 use Rattle.nf_resume_lists.specs.Meanings.{IsResumedReport}
 use Rattle.nf_resume_laws.proofs.FirstPlace.{closed-at_start}
 use Rattle.nf_resume_laws.proofs.Stepping.{list-stands}
-use Rattle.nf_resumed_laws.specs.ResumedLaws.{with_made, NonePassesNext}
+use Rattle.nf_resumed_laws.specs.ResumedLaws.{with_made, NonePassesNext, RestFits}
 use Rattle.nf_resumed_laws.proofs.Back.{flow-back, standing-back}
 use Rattle.nf_resumed_laws.proofs.Once.{same_phase, other_length}
 use Rattle.nf_resumed_laws.proofs.Rest.{restored, opened, rest-whole}
@@ -66,6 +66,11 @@ module _ (passes : Passing) (net : Network) where
 
   open_before : (n : ℕ) (s : Standing) → IsOpen net (with_made n s) → IsOpen net s
   open_before n s o = record { no_start = o.no_start; apart = o.apart }
+
+  -- nor do the lists of the search
+  fits_again : (bounds : Bounds) (n : ℕ) (s : Standing) → RestFits passes net bounds s → RestFits passes net bounds (with_made n s)
+  unfolding unmade
+  fits_again bounds n s fits within new phase = fits (open_before n s within) (with_made (suc s.made) new) (unmade bounds.horizon bounds.patterns n s new phase)
 
   module _ (good : IsNetwork net) (b r : Bounds) (to : r.horizon ≡ b.horizon) where
     -- from there on both make the same phases
@@ -146,8 +151,8 @@ module _ (passes : Passing) (net : Network) (good : IsNetwork net) where
 
   module _ (bounds later resumed : Bounds) (to : resumed.horizon ≡ later.horizon) where
     same_end : (old_last end first final : Standing) (stop o v : Option (Cause ℚ)) → IsPhaseRun passes net bounds old_last stop → IsPhaseRun passes net later end o → o ≡ None → first ≡ with_made 0 old_last
-        → RunsOn passes net resumed first final v → v ≡ None → NonePassesNext passes net resumed first → final ≡ with_made final.made end
-    same_end old_last end first final stop o v run whole x is runs y none =
+        → RunsOn passes net resumed first final v → v ≡ None → RestFits passes net resumed first → final ≡ with_made final.made end
+    same_end old_last end first final stop o v run whole x is runs y fits =
         let start : run.first ≡ whole.first = one_start net run.first whole.first run.start whole.start in
         let inside : old_last.time ≤ℚ later.horizon = subst (λ (h : ℚ). old_last.time ≤ℚ h) to (subst (λ (z : Standing). z.time ≤ℚ resumed.horizon) is (reaches resumed first final v runs y)) in
         ⊎_elim
@@ -159,18 +164,20 @@ module _ (passes : Passing) (net : Network) (good : IsNetwork net) where
         c.closed) c.runs refl runs y)
         (λ (c : CutShort passes net good bounds later old_last end).
         let here : first ≡ restored passes net good bounds later c.before old_last c.after c.well c.knows c.goes c.whole c.short = is ∙ ap (with_made 0) c.goes.new_is in
-        within passes net good later resumed to bounds old_last end c final v (subst (λ (z : Standing). RunsOn passes net resumed z final v) here runs) y (subst (λ (z : Standing). NonePassesNext passes net resumed z) here none))
+        within passes net good later resumed to bounds old_last end c final v (subst (λ (z : Standing). RunsOn passes net resumed z final v) here runs) y
+        (subst (λ (z : Standing). RestFits passes net resumed z) here fits (opened passes net good bounds later c.before old_last c.after c.well c.knows c.goes c.whole c.short)))
         (meets passes net good bounds later run.first old_last end stop o inside (WellRun-start net good run.first run.start) (start_knows run.first run.start)
         (inl (λ d. closed-at_start net run.first good run.start (run.start.made, d))) run.runs (subst (λ (z : Standing). Runs passes net later z end o) (sym start) whole.runs) x)
 
-  pub resumed-solved : (bounds later resumed : Bounds) (old solved report : Report) (phases : ℕ) → IsRunReport passes net bounds old → IsRunReport passes net later solved → solved.stop ≡ None
-      → (again : IsResumedReport passes net resumed old phases report) → report.stop ≡ None → resumed.horizon ≡ later.horizon → NonePassesNext passes net resumed again.run.first → report ≡ solved
-  resumed-solved bounds later resumed old solved report phases run whole done again ended to none =
+  pub resumed-solved : (bounds later resumed : Bounds) (old solved report : Report) (phases : ℕ) → (ran : IsRunReport passes net bounds old) → IsRunReport passes net later solved → solved.stop ≡ None
+      → IsResumedReport passes net resumed old phases report → report.stop ≡ None → resumed.horizon ≡ later.horizon → RestFits passes net resumed ran.last → report ≡ solved
+  resumed-solved bounds later resumed old solved report phases run whole done again ended to fits =
       let o : whole.stop ≡ None = sym (ap (λ (w : Report). w.stop) whole.report_is) ∙ done in
       let v : again.stop ≡ None = sym (ap (λ (w : Report). w.stop) again.report_is) ∙ ended in
       let list : restart_list passes net old ≡ Ok again.run.first = list-stands passes net old again.run.first again.run.stands in
       let is : again.run.first ≡ with_made 0 run.last = run-restored bounds run.last again.run.first run.stop run.run (ap (restart_list passes net) (sym run.report_is) ∙ list) in
-      let end : again.last ≡ with_made again.last.made whole.last = same_end bounds later resumed to run.last whole.last again.run.first again.last run.stop whole.stop again.stop run.run whole.run o is again.run.runs v none in
+      let here : RestFits passes net resumed again.run.first = subst (λ (z : Standing). RestFits passes net resumed z) (sym is) (fits_again passes net resumed 0 run.last fits) in
+      let end : again.last ≡ with_made again.last.made whole.last = same_end bounds later resumed to run.last whole.last again.run.first again.last run.stop whole.stop again.stop run.run whole.run o is again.run.runs v here in
       again.report_is
       ∙ ap (λ (s : Standing). report_of resumed.horizon s again.stop) end
       ∙ ap (λ (h : ℚ). report_of h whole.last again.stop) to

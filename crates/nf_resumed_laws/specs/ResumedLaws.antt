@@ -7,6 +7,7 @@ use Rattle.nf_formats.specs.Report.{Report}
 use Rattle.nf_rational.specs.Rational.{ℚ}
 use Rattle.nf_lists.specs.PhaseRun.{Standing, Bounds, Goes, IsPhaseRun, IsRunReport, report_of}
 use Rattle.nf_resume_lists.specs.Resuming.{restart_list}
+use Rattle.nf_resume_lists.specs.Open.{IsOpen}
 use Rattle.nf_resume_lists.specs.Meanings.{IsResumedReport, NonePassesIn}
 
 -- a standing, but for the number of phases made
@@ -22,10 +23,15 @@ RunIsRestored = (passes : Passing) (net : Network) (bounds : Bounds) (last first
 abbrev pub NonePassesNext : Passing → Network → Bounds → Standing → Type 0
 NonePassesNext passes net bounds s = (new : Standing) (phase : Goes passes net bounds.horizon bounds.patterns s new) → NonePassesIn passes net bounds.horizon bounds.patterns s new phase
 
+-- where a run stands within a phase, no operation of a table or verdict list passes in the search for the rest of it
+abbrev pub RestFits : Passing → Network → Bounds → Standing → Type 0
+RestFits passes net bounds s = IsOpen net s → NonePassesNext passes net bounds s
+
 -- A run has a report, whatever it stopped for. To a later horizon, which both reach, the run from the start and the one that is resumed
--- from the report have the same report, where no operation of a table or verdict list passes in the first phase of the resumed one.
+-- from the report have the same report, where no operation of a table or verdict list passes in the search for the rest of a phase within
+-- which the first run ended.
 abbrev pub ResumedIsSolved : Type 0
 ResumedIsSolved = (passes : Passing) (net : Network) (bounds later resumed : Bounds) (old solved report : Report) (phases : ℕ) → IsNetwork net
-    → IsRunReport passes net bounds old → IsRunReport passes net later solved → solved.stop ≡ None
-    → (again : IsResumedReport passes net resumed old phases report) → report.stop ≡ None → resumed.horizon ≡ later.horizon
-    → NonePassesNext passes net resumed again.run.first → report ≡ solved
+    → (ran : IsRunReport passes net bounds old) → IsRunReport passes net later solved → solved.stop ≡ None
+    → IsResumedReport passes net resumed old phases report → report.stop ≡ None → resumed.horizon ≡ later.horizon
+    → RestFits passes net resumed ran.last → report ≡ solved

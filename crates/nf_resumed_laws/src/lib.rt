@@ -8,7 +8,8 @@ pub fn run_is_restored()
     ensures { RunIsRestored }
 {}
 
-/// Where a run was cut short at its horizon, and resumed to a later one, its report is that of the run to the later horizon.
+/// Where a run is resumed from its report to a later horizon, which the run from the start reaches too, both have the same report; where the
+/// first one ended within a phase, if no operation of a table or verdict list passes in the search for the rest of it.
 pub fn resumed_is_solved()
     ensures { ResumedIsSolved }
 {}

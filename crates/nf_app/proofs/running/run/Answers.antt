@@ -6,6 +6,7 @@ use Rattle.nf_outside.specs.Files.{visit}
 use Rattle.nf_outside.specs.Sinks.{taken}
 use Rattle.nf_app.proofs.Calls.{took_no_text}
 use Rattle.nf_app.proofs.Completing.{complete_by_text, complete_by_refusal}
+use Rattle.nf_app.proofs.Resuming.{resumption_written}
 use Rattle.nf_app.proofs.running.run.Goals as goal
 
 pub returns-in-Ok-clause-ran : goal.returns-in-Ok-clause-ran
@@ -27,3 +28,17 @@ returns-in-Err-clause-ran g c = record {
   comes = c.in-Err.ensures;
   shown = inl (c.refuse.ensures.status, took_no_text (g.O.Sink.took c.args.out.now) c.in-Err.refusal, c.refuse.ensures.told);
 }
+
+pub returns-in-Ok-clause-resumes : goal.returns-in-Ok-clause-resumes
+returns-in-Ok-clause-resumes g c =
+    resumption_written (record { words = texts c.args.words.now; shelf = visit g.S.Shelf c.args.shelf.now c.answer.new.shelf }) (taken g.O.Sink c.args.out.now c.give-status.new.out)
+    (taken g.E.Sink c.args.err.now c.give-status.new.err) c.give-status.result (record { answer = answer_in c.in-Ok.outcome; comes = c.in-Ok.ensures.0; shown = c.give-status.ensures })
+
+pub returns-in-Err-clause-resumes : goal.returns-in-Err-clause-resumes
+returns-in-Err-clause-resumes g c =
+    resumption_written (record { words = texts c.args.words.now; shelf = visit g.S.Shelf c.args.shelf.now c.answer.new.shelf }) (taken g.O.Sink c.args.out.now c.args.out.now)
+    (taken g.E.Sink c.args.err.now c.refuse.new.err) c.refuse.result (record {
+      answer = answer_of c.in-Err.refusal;
+      comes = c.in-Err.ensures;
+      shown = inl (c.refuse.ensures.status, took_no_text (g.O.Sink.took c.args.out.now) c.in-Err.refusal, c.refuse.ensures.told);
+    })

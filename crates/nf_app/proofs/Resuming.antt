@@ -1,0 +1,142 @@
+-- What is written where the report of a run is gone on from: the report of one long run.
+use Rattle.std.proofs.Common.{◌≡◌, ℕ, List, [], ◌∷◌, refl, sym, ap, subst, ◌∙◌, inl, inr}
+use Rattle.std.specs.Prelude.{Option, Some, None, IfSome, Result, Ok}
+use Rattle.nf_rational.specs.Rational.{ℚ}
+use Rattle.nf_work.specs.Passing.{passes_Q}
+use Rattle.nf_model.specs.Network.{IsNetwork}
+use Rattle.nf_model.specs.Equilibrium.{Equilibrium}
+use Rattle.nf_formats.specs.declared.Cause.{Cause}
+use Rattle.nf_formats.specs.Named.{Named}
+use Rattle.nf_formats.specs.NetLines.{Broken}
+use Rattle.nf_formats.specs.NetFile.{Reads}
+use Rattle.nf_formats.specs.Report.{Report, report_text}
+use Rattle.nf_formats_laws.proofs.Once.{reads_at_most_once}
+use Rattle.nf_formats_laws.proofs.AcceptedNamed.{accepted_named}
+use Rattle.nf_run_laws.proofs.Run.{report_equilibrium}
+use Rattle.nf_readings.specs.ReportFile.{report_in}
+use Rattle.nf_resume_lists.specs.Meanings.{IsResumedReport}
+use Rattle.nf_resumed_laws.proofs.Ends.{resumed-solved}
+use Rattle.nf_phase.specs.Solution.{bounds_of}
+use Rattle.nf_words.specs.Requests.{Request, Resume, request_of}
+use Rattle.nf_answers.specs.declared.status.Status.{Status}
+use Rattle.nf_answers.specs.Answers.{Answer, Solved, SolvedForever, Shown, Loaded, Checked, Quickest, TooManyWalks, Generated, Settled, Distributed, NoMemory, NoRequest, ShelfFailed, ShelfTooLong, Malformed, MalformedLoads, MalformedFlows, MalformedRoutes, MalformedReport, Passes, Unbounded, NotThin, Earlier, status_of, status_of_stop, out_text}
+use Rattle.nf_outside.specs.Files.{Wanted, network_file, report_file}
+use Rattle.nf_outside.specs.Fetching.{NetworkReads}
+use Rattle.nf_outside.specs.Sinks.{Taken, TookAll}
+use Rattle.nf_outside.specs.Shown.{IsShown}
+use Rattle.nf_app.specs.Requests.{budgets_of, files_of, generated_by}
+use Rattle.nf_app.specs.CheckGiven.{ReportReads}
+use Rattle.nf_app.specs.Given.{IsGiven}
+use Rattle.nf_app.specs.Runs.{Call, Asks, Read, IsRefused, IsAnswer, Ran}
+use Rattle.nf_app.specs.Completeness.{TellsNetwork}
+use Rattle.nf_app.specs.Resumption.{IsResumption}
+
+same_ok : {A E : Type 0} (r : Result A E) (x y : A) → r ≡ Ok x → r ≡ Ok y → x ≡ y
+same_ok r x y h k = cc
+
+-- ---- a call whose status is 0 gave what its request gives with its network
+module _ (call : Call) (request : Request) (asks : Asks call request) (file : List ℕ) (others : List Wanted) (files_are : files_of request ≡ network_file file ∷ others)
+    (from_file : generated_by request ≡ None) (network : TellsNetwork call.shelf file) where
+  one_request : (other : Request) → Asks call other → other ≡ request
+  one_request other h = let here : request_of call.words ≡ Some request = asks in cc
+
+  one_network : (other : Request) (n : Named) → Read call other (Ok n) → n ≡ network.net
+  one_network other n r =
+      let read : Result Named Broken = Ok n in
+      let here : NetworkReads call.shelf (generated_by request) (files_of request) read =
+      subst (λ (q : Request). NetworkReads call.shelf (generated_by q) (files_of q) read) (one_request other r.asks) r.reads in
+      let first : NetworkReads call.shelf None (network_file file ∷ others) read =
+      subst (λ (l : List Wanted). NetworkReads call.shelf None l read) files_are
+      (subst (λ (o : Option Named). NetworkReads call.shelf o (files_of request) read) from_file here) in
+      let told : Reads network.tells.text read = subst (λ (t : Option (List ℕ)). IfSome t (λ text. Reads text read)) network.tells.told first in
+      same_ok read n network.net refl (reads_at_most_once network.tells.text read (Ok network.net) told network.reads)
+
+  not_refused : (answer : Answer) → IsRefused call answer → status_of answer ≡ Status.Ok → ⊥
+  not_refused NoMemory h e = cc
+  not_refused NoRequest h e = cc
+  not_refused ShelfFailed h e = cc
+  not_refused ShelfTooLong h e = cc
+  not_refused (Malformed broken) h e = cc
+  not_refused (Solved n report) h e = absurd h
+  not_refused (Shown n) h e = absurd h
+  not_refused (Loaded n horizon loaded) h e = absurd h
+  not_refused (MalformedLoads broken) h e = absurd h
+  not_refused (Checked n verdict) h e = absurd h
+  not_refused (MalformedFlows broken) h e = absurd h
+  not_refused (MalformedRoutes broken) h e = absurd h
+  not_refused (MalformedReport broken) h e = absurd h
+  not_refused (Passes at) h e = absurd h
+  not_refused (Quickest n quick arrival) h e = absurd h
+  not_refused (TooManyWalks n augments walks) h e = absurd h
+  not_refused Unbounded h e = absurd h
+  not_refused (Generated number rungs n made report) h e = absurd h
+  not_refused (SolvedForever n forever) h e = absurd h
+  not_refused (Settled n pattern flows) h e = absurd h
+  not_refused NotThin h e = absurd h
+  not_refused Earlier h e = absurd h
+  not_refused (Distributed n routes horizon routed) h e = absurd h
+
+  pub given_well : (answer : Answer) → IsAnswer call answer → status_of answer ≡ Status.Ok → IsGiven call.shelf network.net request answer
+  given_well answer (inl h) e = absurd (not_refused answer h e)
+  given_well answer (inr h) e = subst (λ (m : Named). IsGiven call.shelf m request answer) (one_network h.request h.net h.read)
+      (subst (λ (q : Request). IsGiven call.shelf h.net q answer) (one_request h.request h.read.asks) h.given)
+
+-- ---- a run that goes on has status 0 only at its horizon
+no_stop : (stop : Option (Cause ℚ)) → status_of_stop stop ≡ Status.Ok → stop ≡ None
+no_stop None e = refl
+no_stop (Some (Cause.Phases made)) e = cc
+no_stop (Some (Cause.Patterns phase tried)) e = cc
+no_stop (Some (Cause.Passed phase place at)) e = cc
+no_stop (Some (Cause.NoPattern phase)) e = cc
+
+-- ---- the report of a run
+module _ (call : Call) (r : IsResumption call) where
+  abbrev n : Named
+  n = r.network.net
+
+  good : IsNetwork n.net
+  good = (accepted_named r.network.tells.text n r.network.reads).network
+
+  -- it has one reading
+  one_report : (old : Report) → ReportReads call.shelf n r.report_name (Ok old) → old ≡ r.report.report
+  one_report old h = same_ok (Ok old) old r.report.report refl
+      (sym (subst (λ (told : Option (List ℕ)). IfSome told (λ text. report_in n text ≡ Ok old)) r.report.tells.told h) ∙ r.report.reads)
+
+  whole_text : (answer : Answer) → IsGiven call.shelf n (Resume r.file r.report_name r.horizon r.phases r.patterns) answer → status_of answer ≡ Status.Ok
+      → out_text answer ≡ report_text n r.later.report
+  whole_text answer (inl g) e =
+      let on : IsResumedReport passes_Q n.net (bounds_of r.horizon (budgets_of r.phases r.patterns)) r.report.report g.2.made g.0 =
+      subst (λ (old : Report). IsResumedReport passes_Q n.net (bounds_of r.horizon (budgets_of r.phases r.patterns)) old g.2.made g.0) (one_report g.2.old g.2.read) g.2.resumed in
+      let ended : g.0.stop ≡ None = no_stop g.0.stop (sym (ap status_of g.1) ∙ e) in
+      let same : g.0 ≡ r.later.report = resumed-solved passes_Q n.net good r.first_bounds (bounds_of r.horizon r.later_budgets) (bounds_of r.horizon (budgets_of r.phases r.patterns))
+      r.report.report r.later.report g.0 g.2.made r.first r.later.is_report r.later.no_stop on ended refl r.rest in
+      ap out_text g.1 ∙ ap (report_text n) same
+  whole_text answer (inr (inl g)) e =
+      absurd (g.2.refused.none (subst (λ (old : Report). Equilibrium n.net old.flow) (sym (one_report g.2.old g.2.read)) (report_equilibrium passes_Q n.net good r.first_bounds r.report.report r.first)))
+  whole_text answer (inr (inr (inl g))) e = absurd (other (ap status_of g.1) e)
+    where
+      other : status_of answer ≡ Status.Passed → status_of answer ≡ Status.Ok → ⊥
+      other h k = cc
+  whole_text answer (inr (inr (inr (inl g)))) e = absurd (other (ap status_of g.0) e)
+    where
+      other : status_of answer ≡ Status.Earlier → status_of answer ≡ Status.Ok → ⊥
+      other h k = cc
+  whole_text answer (inr (inr (inr (inr g)))) e = absurd (other (ap status_of g.1) e)
+    where
+      other : status_of answer ≡ Status.Malformed → status_of answer ≡ Status.Ok → ⊥
+      other h k = cc
+
+  taken_whole : (answer : Answer) (out err : Taken) (status : Status) → IsAnswer call answer → IsShown answer out err status → status ≡ Status.Ok → TookAll out (report_text n r.later.report)
+  taken_whole answer out err status comes (inl h) e =
+      let well : status_of answer ≡ Status.Ok = sym h.0 ∙ e in
+      subst (λ (text : List ℕ). TookAll out text)
+      (whole_text answer (given_well call (Resume r.file r.report_name r.horizon r.phases r.patterns) r.asks r.file (report_file r.report_name ∷ []) refl refl r.network answer comes well) well) h.1
+  taken_whole answer out err status comes (inr h) e = absurd (other h.0 e)
+    where
+      other : status ≡ Status.Output → status ≡ Status.Ok → ⊥
+      other f k = cc
+
+-- of a run of the program
+pub resumption_written : (call : Call) (out err : Taken) (status : Status) → Ran call out err status → (r : IsResumption call) → status ≡ Status.Ok
+    → TookAll out (report_text r.network.net r.later.report)
+resumption_written call out err status ran r e = taken_whole call r ran.answer out err status ran.comes ran.shown e

@@ -1,0 +1,30 @@
+-- When the report of a run is gone on from to where one run from the start comes too.
+use Rattle.std.specs.Prelude.{ℕ, List}
+use Rattle.nf_rational.specs.Rational.{ℚ}
+use Rattle.nf_work.specs.Passing.{passes_Q}
+use Rattle.nf_lists.specs.PhaseRun.{Bounds, IsRunReport}
+use Rattle.nf_resumed_laws.specs.ResumedLaws.{RestFits}
+use Rattle.nf_phase.specs.declared.solution.Budgets.{Budgets}
+use Rattle.nf_phase.specs.Solution.{bounds_of}
+use Rattle.nf_words.specs.Requests.{Resume}
+use Rattle.nf_app.specs.Requests.{budgets_of}
+use Rattle.nf_app.specs.Runs.{Call, Asks}
+use Rattle.nf_app.specs.Completeness.{TellsNetwork, TellsReport, ReachesHorizon}
+
+-- The report that is to be gone on from is that of a run of its network, to whatever horizon, within whatever budgets, and whatever stopped
+-- it. One run from the start, within budgets of its own, reaches the horizon that is asked for. Where the first run ended within a phase, no
+-- operation of a table or verdict list passes in the search for the rest of that phase.
+pub record IsResumption (call : Call) : Type 0 where
+  pub file : List ℕ
+  pub report_name : List ℕ
+  pub horizon : ℚ
+  pub phases : ℕ
+  pub patterns : ℕ
+  pub asks : Asks call (Resume file report_name horizon phases patterns)
+  pub network : TellsNetwork call.shelf file
+  pub report : TellsReport call.shelf network.net report_name
+  pub first_bounds : Bounds
+  pub first : IsRunReport passes_Q network.net.net first_bounds report.report
+  pub later_budgets : Budgets
+  pub later : ReachesHorizon network.net horizon later_budgets
+  pub rest : RestFits passes_Q network.net.net (bounds_of horizon (budgets_of phases patterns)) first.last
