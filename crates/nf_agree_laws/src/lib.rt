@@ -1,12 +1,12 @@
-//! Laws of what the labels of an equilibrium agree with: phase sequences, and equilibria under another supply later on. Each is the contract of
-//! a public function with an empty body.
+//! Laws of what the labels of an equilibrium agree with: phase sequences, and equilibria under another supply later on. Each is the
+//! contract of a public function with an empty body.
 #![tactic(auto)]
 
 ghost use Rattle.nf_agree_laws.specs.PhaseLabels.{LabelsFollowPhases};
 ghost use Rattle.nf_agree_laws.specs.Supplies.{LaterSupplyIsUnfelt};
 
-/// At each time of a phase sequence that an equilibrium describes, whoever made it, its labels are those of the sequence; and within a phase
-/// they move at the slopes of its thin flow.
+/// At each time of a phase sequence that an equilibrium describes, whoever made it, its labels are those of the sequence; and within a
+/// phase they move at the slopes of its thin flow.
 pub fn labels_follow_phases()
     ensures { LabelsFollowPhases }
 {}
