@@ -10,3 +10,4 @@ pub mod SettleGiven
 pub mod ForeverGiven
 pub mod RoutesGiven
 pub mod ResumeGiven
+pub mod Alike

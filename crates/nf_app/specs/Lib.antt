@@ -9,5 +9,6 @@ pub mod Given
 pub mod Runs
 pub mod Gathered
 pub mod Completeness
+pub mod Uniqueness
 pub mod Outcomes
 pub mod Settling

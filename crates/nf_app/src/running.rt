@@ -4,6 +4,7 @@ ghost use Rattle.nf_outside.specs.Files.{visit};
 ghost use Rattle.nf_outside.specs.Sinks.{taken};
 ghost use Rattle.nf_app.specs.Runs.{Ran};
 ghost use Rattle.nf_app.specs.Completeness.{IsComplete};
+ghost use Rattle.nf_app.specs.Uniqueness.{RanSame};
 
 use crate::answering::answer;
 use nf_answers::{Outcome, Status};
@@ -42,9 +43,17 @@ pub fn run<S: Shelf, O: Sink, E: Sink>(
     // passes, unless too many walks are wanted or it is unbounded; and a thin flow from being settled where none passes.
     ensures complete { IsComplete (record { words = texts words.now; shelf = visit S.Shelf shelf.old shelf.new })
         (taken O.Sink out.old out.new) result }
+
+    // Every equilibrium of the network, whoever made it, has the labels, queues and exits of the report that is written, of the run without
+    // a horizon, of the run behind the summary of `gen`, and of the report that `check` answers yes, as far as both describe departures; and
+    // who departs when the amount of `quick` is supplied arrives in all of them at the time of its equilibrium line.
+    ensures same_in_all { RanSame (record { words = texts words.now; shelf = visit S.Shelf shelf.old shelf.new })
+        (taken O.Sink out.old out.new) (taken E.Sink err.old err.new) result }
 {
     match answer(alloc, words, shelf) {
         Ok(outcome) => {
+            // For the proof: the network is that of an accepted file.
+            let _ = outcome.net.version();
             let status = give(&outcome, out, err);
             let_go(outcome);
             status
