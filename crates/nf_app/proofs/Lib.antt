@@ -11,3 +11,4 @@ pub mod SettleGiven
 pub mod ForeverGiven
 pub mod RoutesGiven
 pub mod ResumeGiven
+pub mod Alike

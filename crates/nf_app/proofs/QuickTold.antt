@@ -1,6 +1,6 @@
 -- What a request for a quickest flow gives, from what its calls answer; and the arrival in a run.
-use Rattle.std.proofs.Common.{Vec, Global, ◌≡◌, ◌⊎◌, ℕ, zero, suc, ◌-◌, ◌<◌, ◌≤◌, arith, List, [], ◌∷◌, ◌++◌, length, refl, sym, ap, subst, ◌∙◌, inl, inr}
-use Rattle.std.specs.Prelude.{Option, Some, None, IfSome, Result, Ok, Err, slice_get, unwrap_or, map}
+use Rattle.std.proofs.Common.{Vec, Global, ◌≡◌, ℕ, zero, suc, ◌-◌, ◌<◌, arith, List, [], ◌∷◌, ◌++◌, length, refl, sym, ap, subst, ◌∙◌, inl, inr}
+use Rattle.std.specs.Prelude.{Option, Some, None, IfSome, Ok, Err, slice_get, map}
 use Rattle.std.specs.List.{last_or}
 use Rattle.std.proofs.lemmas.List.{length-map}
 use Rattle.std.specs.Option.{option_map_or}
@@ -10,17 +10,17 @@ use Rattle.nf_rational.specs.Order.{◌≤ℚ◌}
 use Rattle.nf_rational_laws.proofs.Chains.{≤ℚ_refl}
 use Rattle.nf_work.specs.Passing.{passes_Q}
 use Rattle.nf_work.specs.declared.PassedAt.{PassedAt}
-use Rattle.nf_model.specs.Curve.{Point, value, IsCurve}
+use Rattle.nf_model.specs.Curve.{Point, Within, value, IsCurve}
 use Rattle.nf_model.specs.Network.{Network, IsNetwork}
 use Rattle.nf_model.specs.Equilibrium.{inflow, label, points_at}
 use Rattle.nf_model.specs.Earliest.{IsEarliest}
-use Rattle.nf_model_laws.proofs.Curves.{EndsAt, EndsAt-value}
+use Rattle.nf_model_laws.proofs.Curves.{EndsAt-value}
 use Rattle.nf_formats.specs.declared.Cause.{Cause}
 use Rattle.nf_formats.specs.Named.{Named}
 use Rattle.nf_formats.specs.Report.{Report}
 use Rattle.nf_lists.specs.Ends.{end_of}
 use Rattle.nf_lists.specs.ReportCurves.{GrowingCurve}
-use Rattle.nf_lists.specs.PhaseRun.{Bounds, Standing, flow_of, report_of}
+use Rattle.nf_lists.specs.PhaseRun.{Bounds, Standing, report_of}
 use Rattle.nf_lists_laws.proofs.Ending.{run_ends}
 use Rattle.nf_phase.specs.Solution.{bounds_of, IsSolution}
 use Rattle.nf_answers.specs.declared.arrival.Arrival.{Arrival}
@@ -34,6 +34,7 @@ use Rattle.nf_curve.specs.Flows.{flow_of as shown_flow}
 use Rattle.nf_curve.specs.declared.flow.Flow.{Flow as CodeFlow}
 use Rattle.nf_outside.specs.Files.{Visit}
 use Rattle.nf_words.specs.Requests.{Quick}
+use Rattle.nf_price_laws.proofs.Feasible.{quickest-le}
 use Rattle.nf_app.specs.Requests.{usual_budgets}
 use Rattle.nf_answers.specs.Answers.{Quickest, TooManyWalks, Passes, Unbounded}
 use Rattle.nf_app.specs.Given.{IsGiven}
@@ -115,6 +116,7 @@ module _ (net : Network) (good : IsNetwork net) (departs : ℚ) (report : Report
     solution = solution;
     arrival_is = ap (λ (o : Option (Cause ℚ)). arrival_of o (label report.flow net.sink departs)) (sym e);
     earliest = λ time is. absurd (cc);
+    no_quicker = λ time amount least is h q. absurd (cc);
   }
 
   module _ (sink : net.sink < net.nodes) (from_0 : 0ℚ ≤ℚ departs) (no_stop : report.stop ≡ None) where
@@ -126,15 +128,23 @@ module _ (net : Network) (good : IsNetwork net) (departs : ℚ) (report : Report
     reached_arrives p is =
         let at : label report.flow net.sink departs ≡ p.1 =
         subst (λ (time : ℚ). label report.flow net.sink time ≡ p.1) reached (last_is_label net good (bounds_of departs usual_budgets) report phases solution sink p is) in
-        let first : IsEarliest net (inflow report.flow) net.sink departs (label report.flow net.sink departs) =
-        solution.equilibrium.nash.labels net.sink departs sink (from_0, subst (λ (t : ℚ). departs ≤ℚ t) (sym reached) (≤ℚ_refl departs)) in
+        let within : Within 0ℚ report.flow.reached departs = (from_0, subst (λ (t : ℚ). departs ≤ℚ t) (sym reached) (≤ℚ_refl departs)) in
+        let first : IsEarliest net (inflow report.flow) net.sink departs (label report.flow net.sink departs) = solution.equilibrium.nash.labels net.sink departs sink within in
         record {
           report = report;
           phases = phases;
           solution = solution;
           arrival_is = ap Arrival.At (sym at) ∙ ap (λ (o : Option (Cause ℚ)). arrival_of o (label report.flow net.sink departs)) (sym no_stop);
           earliest = λ time same. let it : p.1 ≡ time = cc in subst (λ (t : ℚ). IsEarliest net (inflow report.flow) net.sink departs t) (at ∙ it) first;
+          no_quicker = λ time amount least same h q.
+              let it : p.1 ≡ time = cc in subst (λ (t : ℚ). least ≤ℚ t) (at ∙ it) (quickest-le net report.flow good solution.equilibrium amount departs least within h q);
         }
+
+-- so the arrival is no earlier than the time of the quickest flow
+no_earlier-is : (net : Network) (amount : ℚ) (quick : QuickFlow) (departs : Option ℚ) (arrival : Arrival) → IsQuickFlow net amount quick → IsDeparture net amount departs → IsArrival net departs arrival
+    → (time : ℚ) → arrival ≡ Arrival.At time → quick.time ≤ℚ time
+no_earlier-is net amount quick None arrival flow least never time same = absurd (cc)
+no_earlier-is net amount quick (Some departs) arrival flow least arrives time same = arrives.no_quicker time amount quick.time same least.1 flow.quickest
 
 -- ---- what is given, from what `quickest` and `departure` answer
 module _ (shelf : Visit) (n : Named) (file : List ℕ) (amount : ℚ) (augments : ℕ) where
@@ -155,7 +165,21 @@ module _ (shelf : Visit) (n : Named) (file : List ℕ) (amount : ℚ) (augments 
     pub quickest_given : IsQuickFlow n.net amount quick → (departs : Option ℚ) → Ok departs ≡ departs_list n.net amount → IsDeparture n.net amount departs
         → (arrival : Arrival) → IsArrival n.net departs arrival → IsGiven shelf n (Quick file amount augments) (Quickest n quick arrival)
     quickest_given flow departs e least arrival arrives =
-        inl (quick, arrival, refl, record { no_way = h.0; computed = h.1; flow = flow; departs = departs; departs_computed = sym e; least = least; arrives = arrives })
+        inl (
+          quick,
+          arrival,
+          refl,
+          record {
+            no_way = h.0;
+            computed = h.1;
+            flow = flow;
+            departs = departs;
+            departs_computed = sym e;
+            least = least;
+            arrives = arrives;
+            no_earlier = no_earlier-is n.net amount quick departs arrival flow least arrives;
+          },
+        )
 
 -- a departure is at least 0
 pub from_0 : (net : Network) (amount : ℚ) (departs : Option ℚ) → IsDeparture net amount departs → IfSome departs (λ time. 0ℚ ≤ℚ time)

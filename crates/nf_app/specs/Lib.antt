@@ -10,5 +10,6 @@ pub mod Given
 pub mod Runs
 pub mod Gathered
 pub mod Completeness
+pub mod Uniqueness
 pub mod Outcomes
 pub mod Settling

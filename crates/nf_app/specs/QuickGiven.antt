@@ -2,14 +2,15 @@
 use Rattle.std.specs.Prelude.{◌≡◌, ◌⊎◌, ℕ, List, Option, Some, None, Result, Ok, Err}
 use Rattle.nf_rational.specs.Rational.{ℚ}
 use Rattle.nf_rational.specs.Operations.{0ℚ}
-use Rattle.nf_rational.specs.Order.{◌<ℚ◌}
+use Rattle.nf_rational.specs.Order.{◌≤ℚ◌, ◌<ℚ◌}
 use Rattle.nf_work.specs.Passing.{passes_Q}
 use Rattle.nf_work.specs.Checked.{at_part}
 use Rattle.nf_work.specs.declared.Part.TheVariants.{Quick as QuickPart}
 use Rattle.nf_work.specs.declared.PassedAt.{PassedAt}
-use Rattle.nf_model.specs.Network.{Network}
+use Rattle.nf_model.specs.Network.{Network, supply}
 use Rattle.nf_model.specs.Earliest.{IsEarliest}
 use Rattle.nf_model.specs.Equilibrium.{inflow, label}
+use Rattle.nf_model.specs.Quickest as times
 use Rattle.nf_formats.specs.declared.Cause.{Cause}
 use Rattle.nf_formats.specs.Report.{Report}
 use Rattle.nf_net.specs.Supply.{checked_supply}
@@ -37,13 +38,15 @@ arrival_of None time = Arrival.At time
 arrival_of (Some cause) time = Arrival.Stopped cause
 
 -- The network is solved to this departure, within the usual budgets. Where the run isn't stopped, the arrival is the label of the
--- sink there: the earliest arrival of who departs then, in the equilibrium that the report describes.
+-- sink there: the earliest arrival of who departs then, in the equilibrium that the report describes. No quickest flow of what is supplied
+-- by then takes longer.
 pub record ArrivesIn (net : Network) (departs : ℚ) (arrival : Arrival) : Type 0 where
   pub report : Report
   pub phases : ℕ
   pub solution : IsSolution net (bounds_of departs usual_budgets) phases report
   pub arrival_is : arrival ≡ arrival_of report.stop (label report.flow net.sink departs)
   pub earliest : (time : ℚ) → arrival ≡ Arrival.At time → IsEarliest net (inflow report.flow) net.sink departs time
+  pub no_quicker : (time amount least : ℚ) → arrival ≡ Arrival.At time → amount ≤ℚ supply net departs → times.IsQuickest net amount least → least ≤ℚ time
 
 -- of who departs at this time, if ever
 abbrev pub IsArrival : Network → Option ℚ → Arrival → Type 0
@@ -52,7 +55,7 @@ IsArrival net (Some departs) arrival = ArrivesIn net departs arrival
 
 -- ---- what is given
 -- The flow is a quickest one for the amount, and it is what the list computes. The arrival is that of who departs at the least
--- departure by which the amount is supplied, if there is one.
+-- departure by which the amount is supplied, if there is one, and then it is no earlier than the time of the quickest flow.
 pub record IsQuickest (net : Network) (amount : ℚ) (augments : ℕ) (quick : Quick) (arrival : Arrival) : Type 0 where
   pub no_way : HasNoWay net amount
   pub computed : flow_list net amount augments ≡ Ok (Found quick)
@@ -61,6 +64,7 @@ pub record IsQuickest (net : Network) (amount : ℚ) (augments : ℕ) (quick : Q
   pub departs_computed : departs_list net amount ≡ Ok departs
   pub least : IsDeparture net amount departs
   pub arrives : IsArrival net departs arrival
+  pub no_earlier : (time : ℚ) → arrival ≡ Arrival.At time → quick.time ≤ℚ time
 
 -- so many walks as allowed were pushed, these, and the next is shorter than the time
 pub record IsOverBudget (net : Network) (amount : ℚ) (augments : ℕ) (walks : List Augment) : Type 0 where

@@ -8,6 +8,7 @@ ghost use Rattle.nf_outside.specs.Sinks.{taken, TookAll};
 ghost use Rattle.nf_app.specs.Runs.{Ran};
 ghost use Rattle.nf_app.specs.Completeness.{IsComplete};
 ghost use Rattle.nf_app.specs.Resumption.{IsResumption};
+ghost use Rattle.nf_app.specs.Uniqueness.{RanSame};
 
 use crate::answering::answer;
 use nf_answers::{Outcome, Status};
@@ -51,9 +52,17 @@ pub fn run<S: Shelf, O: Sink, E: Sink>(
     // reach that horizon and, where the given report ends within a phase, no number grows too long in the search for the rest of the phase.
     ensures resumes { (r : IsResumption (record { words = texts words.now; shelf = visit S.Shelf shelf.old shelf.new }))
         → result ≡ Status.Ok → TookAll (taken O.Sink out.old out.new) (report_text r.network.net r.later.report) }
+
+    // Every equilibrium of the network, whoever made it, has the labels, queues and exits of the report that is written, of the run without
+    // a horizon, of the run behind the summary of `gen`, and of the report that `check` answers yes, as far as both describe departures; and
+    // who departs when the amount of `quick` is supplied arrives in all of them at the time of its equilibrium line.
+    ensures same_in_all { RanSame (record { words = texts words.now; shelf = visit S.Shelf shelf.old shelf.new })
+        (taken O.Sink out.old out.new) (taken E.Sink err.old err.new) result }
 {
     match answer(alloc, words, shelf) {
         Ok(outcome) => {
+            // For the proof: the network is that of an accepted file.
+            let _ = outcome.net.version();
             let status = give(&outcome, out, err);
             let_go(outcome);
             status

@@ -7,6 +7,7 @@ use Rattle.nf_outside.specs.Sinks.{taken}
 use Rattle.nf_app.proofs.Calls.{took_no_text}
 use Rattle.nf_app.proofs.Completing.{complete_by_text, complete_by_refusal}
 use Rattle.nf_app.proofs.Resuming.{resumption_written}
+use Rattle.nf_app.proofs.Alike.{HasNetwork-found, IsSameInAll-refusal, answered_same}
 use Rattle.nf_app.proofs.running.run.Goals as goal
 
 pub returns-in-Ok-clause-ran : goal.returns-in-Ok-clause-ran
@@ -42,3 +43,20 @@ returns-in-Err-clause-resumes g c =
       comes = c.in-Err.ensures;
       shown = inl (c.refuse.ensures.status, took_no_text (g.O.Sink.took c.args.out.now) c.in-Err.refusal, c.refuse.ensures.told);
     })
+
+pub returns-in-Ok-clause-same_in_all : goal.returns-in-Ok-clause-same_in_all
+returns-in-Ok-clause-same_in_all g c = (
+  record { answer = answer_in c.in-Ok.outcome; comes = c.in-Ok.ensures.0; shown = c.give-status.ensures },
+  answered_same (record { words = texts c.args.words.now; shelf = visit g.S.Shelf c.args.shelf.now c.answer.new.shelf }) (answer_in c.in-Ok.outcome)
+      (HasNetwork-found c.in-Ok.outcome.net c.in-Ok.outcome.found c.version.ensures.named.network) c.in-Ok.ensures.0,
+)
+
+pub returns-in-Err-clause-same_in_all : goal.returns-in-Err-clause-same_in_all
+returns-in-Err-clause-same_in_all g c = (
+  record {
+    answer = answer_of c.in-Err.refusal;
+    comes = c.in-Err.ensures;
+    shown = inl (c.refuse.ensures.status, took_no_text (g.O.Sink.took c.args.out.now) c.in-Err.refusal, c.refuse.ensures.told);
+  },
+  IsSameInAll-refusal (record { words = texts c.args.words.now; shelf = visit g.S.Shelf c.args.shelf.now c.answer.new.shelf }) c.in-Err.refusal,
+)

@@ -1,0 +1,4 @@
+pub mod Sides
+pub mod Staying
+pub mod Phases
+pub mod Supplies

@@ -1,0 +1,2 @@
+pub mod PhaseLabels
+pub mod Supplies
