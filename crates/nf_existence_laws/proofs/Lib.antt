@@ -19,3 +19,4 @@ pub mod Affine
 pub mod Described
 pub mod Assigned
 pub mod Exists
+pub mod TwoLinks
