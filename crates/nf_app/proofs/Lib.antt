@@ -10,3 +10,5 @@ pub mod SettleGiven
 pub mod ForeverGiven
 pub mod RoutesGiven
 pub mod ResumeGiven
+pub mod Unstopped
+pub mod Bounded

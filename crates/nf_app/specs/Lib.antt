@@ -11,3 +11,4 @@ pub mod Gathered
 pub mod Completeness
 pub mod Outcomes
 pub mod Settling
+pub mod Stops

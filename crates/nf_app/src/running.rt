@@ -3,7 +3,8 @@ ghost use Rattle.nf_edge.specs.Names.{texts};
 ghost use Rattle.nf_outside.specs.Files.{visit};
 ghost use Rattle.nf_outside.specs.Sinks.{taken};
 ghost use Rattle.nf_app.specs.Runs.{Ran};
-ghost use Rattle.nf_app.specs.Completeness.{IsComplete};
+ghost use Rattle.nf_app.specs.Completeness.{IsComplete, EndsByBounds};
+ghost use Rattle.nf_app.specs.Stops.{AlwaysHasPattern};
 
 use crate::answering::answer;
 use nf_answers::{Outcome, Status};
@@ -41,6 +42,14 @@ pub fn run<S: Shelf, O: Sink, E: Sink>(
     // the horizon; a report from its verdict, and from being resumed, where no operation passes; a quickest flow from being found where none
     // passes, unless too many walks are wanted or it is unbounded; and a thin flow from being settled where none passes.
     ensures complete { IsComplete (record { words = texts words.now; shelf = visit S.Shelf shelf.old shelf.new })
+        (taken O.Sink out.old out.new) result }
+
+    // No run of a command stops since no pattern is left, for each phase has a thin flow.
+    ensures never_no_pattern { AlwaysHasPattern (record { words = texts words.now; shelf = visit S.Shelf shelf.old shelf.new }) result }
+
+    // So the run of `solve`, `gen` and `resume` ends at the horizon, or in a phase that never ends, or by a bound on the work or on the
+    // length of numbers, unless memory is wanting, or the report can't be gone on from.
+    ensures bounded { EndsByBounds (record { words = texts words.now; shelf = visit S.Shelf shelf.old shelf.new })
         (taken O.Sink out.old out.new) result }
 {
     match answer(alloc, words, shelf) {
