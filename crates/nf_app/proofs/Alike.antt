@@ -20,54 +20,13 @@ use Rattle.nf_unique_laws.specs.UniqueLaws.{SameInAll}
 use Rattle.nf_unique_laws.proofs.Exits.{SameInAll-equilibrium}
 use Rattle.nf_words.specs.Requests.{Request, Solve, SolveForever, Show, Load, Check, Quick, Gen, Settle, Resume, Routes, request_of}
 use Rattle.nf_answers.specs.declared.arrival.Arrival.{Arrival}
-use Rattle.nf_answers.specs.declared.outcome.Found.{Found}
-use Rattle.nf_answers.specs.declared.refusal.Refusal.{Refusal}
 use Rattle.nf_answers.specs.Answers.{Answer, Solved, SolvedForever, Shown, Loaded, Checked, Quickest, TooManyWalks, Generated, Settled, Distributed, NoMemory, NoRequest, ShelfFailed, ShelfTooLong, Malformed, MalformedLoads, MalformedFlows, MalformedRoutes, MalformedReport, Passes, Unbounded, NotThin, Earlier}
-use Rattle.nf_answers.specs.Outcomes.{answer_with}
-use Rattle.nf_answers.specs.Refusals.{answer_of}
 use Rattle.nf_app.specs.CheckGiven.{ReportReads, IsChecked}
 use Rattle.nf_app.specs.QuickGiven.{arrival_of, ArrivesIn, IsArrival}
 use Rattle.nf_app.specs.ForeverGiven.{IsUnending}
 use Rattle.nf_app.specs.Given.{IsGiven}
 use Rattle.nf_app.specs.Runs.{Call, Asks, IsRefused, IsAnswer}
-use Rattle.nf_app.specs.Uniqueness.{SameForever, SameIfYes, SameArrival, IsSameInAll}
-
--- the network of an answer that holds a flow is one
-abbrev pub HasNetwork : Answer → Type 0
-HasNetwork (Solved n report) = IsNetwork n.net
-HasNetwork (Generated number rungs n made report) = IsNetwork n.net
-HasNetwork (SolvedForever n forever) = IsNetwork n.net
-HasNetwork (Checked n verdict) = IsNetwork n.net
-HasNetwork (Quickest n quick arrival) = IsNetwork n.net
-HasNetwork answer = Unit {0}
-
-pub HasNetwork-found : (n : Named) (found : Found) → IsNetwork n.net → HasNetwork (answer_with n found)
-HasNetwork-found n (Found.Solved horizon s) good = good
-HasNetwork-found n (Found.SolvedForever forever) good = good
-HasNetwork-found n (Found.Shown text) good = tt
-HasNetwork-found n (Found.Loaded horizon links) good = tt
-HasNetwork-found n (Found.Checked verdict) good = good
-HasNetwork-found n (Found.Quickest quick arrival text) good = good
-HasNetwork-found n (Found.TooManyWalks augments walks text) good = tt
-HasNetwork-found n (Found.Generated ladder horizon s arrival) good = good
-HasNetwork-found n (Found.Settled settled) good = tt
-HasNetwork-found n (Found.Distributed routes horizon routed) good = tt
-
--- no refusal holds a flow
-pub IsSameInAll-refusal : (call : Call) (refusal : Refusal) → IsSameInAll call (answer_of refusal)
-IsSameInAll-refusal call Refusal.NoMemory = tt
-IsSameInAll-refusal call Refusal.NoRequest = tt
-IsSameInAll-refusal call Refusal.ShelfFailed = tt
-IsSameInAll-refusal call Refusal.ShelfTooLong = tt
-IsSameInAll-refusal call (Refusal.Malformed rule line) = tt
-IsSameInAll-refusal call (Refusal.MalformedLoads rule line) = tt
-IsSameInAll-refusal call (Refusal.MalformedFlows rule line) = tt
-IsSameInAll-refusal call (Refusal.MalformedRoutes rule line) = tt
-IsSameInAll-refusal call (Refusal.MalformedReport rule line) = tt
-IsSameInAll-refusal call (Refusal.Passes at) = tt
-IsSameInAll-refusal call Refusal.Unbounded = tt
-IsSameInAll-refusal call Refusal.NotThin = tt
-IsSameInAll-refusal call Refusal.Earlier = tt
+use Rattle.nf_app.specs.Uniqueness.{SameForever, SameIfYes, SameArrival, IsSameInAll, AnswerIsSameInAll}
 
 -- ---- a run without a horizon
 each_some : {A : Type 0} (P Q : A → Type 0) (o : Option A) → ((x : A) → P x → Q x) → IfSome o P → IfSome o Q
@@ -116,22 +75,19 @@ same_arrival net amount None arrival good least never = subst (SameArrival net a
 same_arrival net amount (Some departs) arrival good least arrives = same_at net good amount departs least arrival arrives arrives.report.stop refl
 
 -- ---- what a request gives
-module _ (call : Call) (n : Named) (answer : Answer) (has : HasNetwork answer) where
+module _ (call : Call) (n : Named) (good : IsNetwork n.net) (answer : Answer) where
   -- it is this answer
   of_this : (other : Answer) → answer ≡ other → IsSameInAll call other → IsSameInAll call answer
   of_this other e h = subst (λ (a : Answer). IsSameInAll call a) (sym e) h
 
-  network : (other : Answer) → answer ≡ other → HasNetwork other
-  network other e = subst HasNetwork e has
-
   given_same : (request : Request) → Asks call request → IsGiven call.shelf n request answer → IsSameInAll call answer
-  given_same (Solve file horizon phases patterns) asks g = of_this (Solved n g.0) g.1 (SameInAll-equilibrium n.net g.0.flow (network (Solved n g.0) g.1) g.2.1.equilibrium)
-  given_same (SolveForever file phases patterns) asks g = of_this (SolvedForever n g.0) g.1 (same_forever n.net phases patterns g.0 (network (SolvedForever n g.0) g.1) g.2)
+  given_same (Solve file horizon phases patterns) asks g = of_this (Solved n g.0) g.1 (SameInAll-equilibrium n.net g.0.flow good g.2.1.equilibrium)
+  given_same (SolveForever file phases patterns) asks g = of_this (SolvedForever n g.0) g.1 (same_forever n.net phases patterns g.0 good g.2)
   given_same (Show file) asks g = of_this (Shown n) g tt
   given_same (Load file loads horizon) asks (inl g) = of_this (Loaded n horizon g.0) g.1 tt
   given_same (Load file loads horizon) asks (inr (inl g)) = of_this (Passes g.0) g.1 tt
   given_same (Load file loads horizon) asks (inr (inr g)) = of_this (MalformedLoads g.0) g.1 tt
-  given_same (Check file name) asks (inl g) = of_this (Checked n g.0) g.1 (same_if_yes call n file name g.0 (network (Checked n g.0) g.1) asks g.2)
+  given_same (Check file name) asks (inl g) = of_this (Checked n g.0) g.1 (same_if_yes call n file name g.0 good asks g.2)
   given_same (Check file name) asks (inr (inl g)) = of_this (Passes g.0) g.1 tt
   given_same (Check file name) asks (inr (inr g)) = of_this (MalformedReport g.0) g.1 tt
   given_same (Quick file amount augments) asks (inl g) = of_this (Quickest n g.0 g.1) g.2
@@ -139,17 +95,17 @@ module _ (call : Call) (n : Named) (answer : Answer) (has : HasNetwork answer) w
       let one : request_of call.words ≡ Some (Quick file amount augments) = asks in
       let other : request_of call.words ≡ Some (Quick file' amount' augments') = asks' in
       let same_amount : amount ≡ amount' = cc in
-      subst (λ (a : ℚ). SameArrival n.net a g.1) same_amount (same_arrival n.net amount g.3.departs g.1 (network (Quickest n g.0 g.1) g.2) g.3.least g.3.arrives))
+      subst (λ (a : ℚ). SameArrival n.net a g.1) same_amount (same_arrival n.net amount g.3.departs g.1 good g.3.least g.3.arrives))
   given_same (Quick file amount augments) asks (inr (inl g)) = of_this (TooManyWalks n augments g.0) g.1 tt
   given_same (Quick file amount augments) asks (inr (inr (inl g))) = of_this (Passes g.0) g.1 tt
   given_same (Quick file amount augments) asks (inr (inr (inr g))) = of_this Unbounded g.0 tt
   given_same (Gen number rungs horizon phases patterns) asks g =
-      of_this (Generated number rungs n g.1 g.0) g.2 (SameInAll-equilibrium n.net g.0.flow (network (Generated number rungs n g.1 g.0) g.2) g.3.equilibrium)
+      of_this (Generated number rungs n g.1 g.0) g.2 (SameInAll-equilibrium n.net g.0.flow good g.3.equilibrium)
   given_same (Settle file flows) asks (inl g) = of_this (Settled n g.0 g.1) g.2 tt
   given_same (Settle file flows) asks (inr (inl g)) = of_this NotThin g.0 tt
   given_same (Settle file flows) asks (inr (inr (inl g))) = of_this (Passes g.0) g.1 tt
   given_same (Settle file flows) asks (inr (inr (inr g))) = of_this (MalformedFlows g.0) g.1 tt
-  given_same (Resume file name horizon phases patterns) asks (inl g) = of_this (Solved n g.0) g.1 (SameInAll-equilibrium n.net g.0.flow (network (Solved n g.0) g.1) g.2.equilibrium)
+  given_same (Resume file name horizon phases patterns) asks (inl g) = of_this (Solved n g.0) g.1 (SameInAll-equilibrium n.net g.0.flow good g.2.equilibrium)
   given_same (Resume file name horizon phases patterns) asks (inr (inl g)) = of_this (Checked n g.0) g.1 (none_checked call n file name horizon phases patterns g.0 asks)
   given_same (Resume file name horizon phases patterns) asks (inr (inr (inl g))) = of_this (Passes g.0) g.1 tt
   given_same (Resume file name horizon phases patterns) asks (inr (inr (inr (inl g)))) = of_this Earlier g.0 tt
@@ -184,6 +140,6 @@ refused_same call NotThin h = absurd h
 refused_same call Earlier h = absurd h
 refused_same call (Distributed n routes horizon routed) h = absurd h
 
-pub answered_same : (call : Call) (answer : Answer) → HasNetwork answer → IsAnswer call answer → IsSameInAll call answer
-answered_same call answer has (inl h) = refused_same call answer h
-answered_same call answer has (inr h) = given_same call h.net answer has h.request h.read.asks h.given
+pub answered_same : (call : Call) → AnswerIsSameInAll call
+answered_same call answer (inl h) = refused_same call answer h
+answered_same call answer (inr h) = given_same call h.net h.named.network answer h.request h.read.asks h.given

@@ -6,6 +6,7 @@ use Rattle.std.proofs.lemmas.List.Elements.{All-nil}
 use Rattle.nf_edge.specs.Taken.{with_more}
 use Rattle.nf_formats.specs.Named.{Named}
 use Rattle.nf_formats.specs.NetLines.{Broken}
+use Rattle.nf_formats.specs.WellNamed.{IsNamed}
 use Rattle.nf_answers.specs.declared.outcome.Found.{Found}
 use Rattle.nf_answers.specs.declared.outcome.Outcome.{Outcome}
 use Rattle.nf_answers.specs.declared.refusal.Refusal.{Refusal}
@@ -109,9 +110,9 @@ module _ (words : List (List ℕ)) (shelf : Visit) (request : Request) (asks : r
   gathered_none (Err refusal) same refused = subst (λ (r : Refusal). IsAnswer (record { words = words; shelf = shelf }) (answer_of r)) (sym refused) (inl (inl untouched))
 
 -- ---- what a request gives with its network
-module _ (call : Call) (request : Request) (n : Named) (read : Read call request (Ok n)) where
+module _ (call : Call) (request : Request) (n : Named) (named : IsNamed n) (read : Read call request (Ok n)) where
   computed : (answer : Answer) → IsGiven call.shelf n request answer → IsAnswer call answer
-  computed answer g = inr (record { request = request; net = n; read = read; given = g })
+  computed answer g = inr (record { request = request; net = n; read = read; named = named; given = g })
 
   -- memory may be wanting behind the last file
   wants_memory : IsAnswer call NoMemory

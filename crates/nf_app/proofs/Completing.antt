@@ -1,5 +1,5 @@
 -- Where what the words ask has its answer, an answer that comes is the whole one, or that memory is wanting.
-use Rattle.std.proofs.Common.{◌≡◌, ◌⊎◌, ℕ, ◌<◌, ◌≤◌, List, [], ◌∷◌, ◌++◌, length, refl, sym, ◌∙◌, ap, subst, inl, inr, arith}
+use Rattle.std.proofs.Common.{◌≡◌, ◌⊎◌, ℕ, ◌<◌, List, [], ◌∷◌, ◌++◌, length, refl, sym, ◌∙◌, ap, subst, inl, inr, arith}
 use Rattle.std.specs.Prelude.{Option, Some, None, IfSome, IsSome, Result, Ok, Err}
 use Rattle.std.specs.List.{All}
 use Rattle.std.proofs.lemmas.List.Elements.{All-cons, All-nil, All-head, All-tail}
@@ -18,7 +18,6 @@ use Rattle.nf_formats.specs.NetFile.{Reads}
 use Rattle.nf_formats.specs.Report.{Report}
 use Rattle.nf_formats_laws.proofs.Once.{reads_at_most_once}
 use Rattle.nf_lists_laws.proofs.OneRun.{one_report}
-use Rattle.nf_load_lists.specs.Loading.{Loaded as Loading}
 use Rattle.nf_check_lists.specs.declared.Answer.{Answer as Verdict}
 use Rattle.nf_check_lists.specs.declared.Answer.TheVariants.{Yes, No}
 use Rattle.nf_check_lists.specs.CheckList.{check_list}
@@ -40,15 +39,16 @@ use Rattle.nf_app.specs.SettleGiven.{FlowsRead}
 use Rattle.nf_app.specs.RoutesGiven.{RoutesRead, by_route_list}
 use Rattle.nf_app.specs.Given.{LoadsRead, loading_list, IsGiven}
 use Rattle.nf_outside.specs.Sinks.{Taken}
-use Rattle.nf_app.specs.Runs.{Call, Asks, Reached, Read, IsRefused, IsComputed, IsAnswer}
+use Rattle.nf_app.specs.Runs.{Call, Asks, Reached, Read, IsRefused, IsAnswer}
 use Rattle.nf_outside.specs.Fetching.{NetworkReads}
 use Rattle.nf_outside.specs.Shown.{IsShown}
-use Rattle.nf_app.specs.Completeness.{Tells, TellsNetwork, TellsLoads, TellsFlows, CanBeShown, CanBeSolved, CanBeLoaded, CanBeGenerated, CanGoOn, CanBeDistributed, CanBeJudged, CanBeQuick, CanBeSettled, CanBeResumed, HasAnswer, EndsWell, EndsJudged, EndsQuick, EndsSettled, EndsResumed, IsComplete}
+use Rattle.nf_app.proofs.Unstopped.{status_never}
+use Rattle.nf_app.specs.Completeness.{Tells, TellsNetwork, TellsReport, CanBeShown, CanBeSolved, CanBeLoaded, CanBeGenerated, CanGoOn, CanBeDistributed, CanBeJudged, CanBeQuick, CanBeSettled, CanBeResumed, HasAnswer, EndsWell, EndsJudged, EndsQuick, EndsSettled, EndsResumed, IsComplete}
 
 same_ok : {A E : Type 0} (r : Result A E) (x y : A) → r ≡ Ok x → r ≡ Ok y → x ≡ y
 same_ok r x y h k = cc
 
-ok_err : {A E : Type 0} (r : Result A E) (x : A) (e : E) → r ≡ Ok x → r ≡ Err e → ⊥
+pub ok_err : {A E : Type 0} (r : Result A E) (x : A) (e : E) → r ≡ Ok x → r ≡ Err e → ⊥
 ok_err r x e h k = cc
 
 some_none : {A : Type 0} (o : Option A) (x : A) → o ≡ Some x → o ≡ None → ⊥
@@ -228,27 +228,27 @@ module _ (call : Call) (no_fault : ¬ Rose call.shelf.faults_before call.shelf.f
   ends_well (inr (inr (inr (inr (inl can))))) = goes_on_well can
   ends_well (inr (inr (inr (inr (inr can))))) = distributed_well can
 
+-- the bytes of a report have one reading
+pub one_report_in : (shelf : Visit) (n : Named) (file : List ℕ) (told : TellsReport shelf n file) (read : Result Report ReportBroken) → ReportReads shelf n file read → Ok told.report ≡ read
+one_report_in shelf n file told read h =
+    sym told.reads ∙ subst (λ (text : Option (List ℕ)). IfSome text (λ bytes. report_in n bytes ≡ read)) told.tells.told h
+
 -- a verdict on a report
 judged_well : (verdict : Verdict ℕ ℕ ℚ) → EndsJudged (status_of_verdict verdict)
 judged_well Yes = inl refl
 judged_well (No rule subject time left right) = inr (inl refl)
 
 module _ (call : Call) (no_fault : ¬ Rose call.shelf.faults_before call.shelf.faults_now) (can : CanBeJudged call) where
-  -- the report has one reading
-  one_reading_of : (read : Result Report ReportBroken) → ReportReads call.shelf can.network.net can.report_name read → Ok can.report.report ≡ read
-  one_reading_of read h =
-      sym can.report.reads ∙ subst (λ (told : Option (List ℕ)). IfSome told (λ text. report_in can.network.net text ≡ read)) can.report.tells.told h
-
   verdict_well : (answer : Answer) → IsGiven call.shelf can.network.net (Check can.file can.report_name) answer → EndsJudged (status_of answer)
   verdict_well answer (inl g) = subst (λ (s : Status). EndsJudged s) (sym (ap status_of g.1)) (judged_well g.0)
   verdict_well answer (inr (inl g)) =
-      let same : Ok can.report.report ≡ Ok g.2.report = one_reading_of (Ok g.2.report) g.2.read in
+      let same : Ok can.report.report ≡ Ok g.2.report = one_report_in call.shelf can.network.net can.report_name can.report (Ok g.2.report) g.2.read in
       let report : can.report.report ≡ g.2.report = same_ok (Ok can.report.report) can.report.report g.2.report refl same in
       let passed : check_list passes_Q can.network.net.net can.report.report.flow ≡ Err g.0 =
       ap (λ (r : Report). check_list passes_Q can.network.net.net r.flow) report ∙ g.2.passes in
       absurd (ok_err (check_list passes_Q can.network.net.net can.report.report.flow) can.verdict g.0 can.computes passed)
   verdict_well answer (inr (inr g)) =
-      absurd (ok_err (Ok can.report.report) can.report.report g.0 refl (one_reading_of (Err g.0) g.2))
+      absurd (ok_err (Ok can.report.report) can.report.report g.0 refl (one_report_in call.shelf can.network.net can.report_name can.report (Err g.0) g.2))
 
   checked_well : (answer : Answer) → IsAnswer call answer → EndsJudged (status_of answer)
   checked_well = answered_well call no_fault (Check can.file can.report_name) can.asks
@@ -288,41 +288,44 @@ module _ (call : Call) (no_fault : ¬ Rose call.shelf.faults_before call.shelf.f
       (All-cons (Tells call.shelf) (flows_file can.flows_name) [] can.flows.tells (All-nil (Tells call.shelf))))
       can.file (flows_file can.flows_name ∷ []) refl refl can.network EndsSettled (inr (inr refl)) thin_well
 
+-- ---- a status that is reached by no answer needn't be looked at
+abbrev pub OrNoPattern : (Status → Type 0) → Status → Type 0
+OrNoPattern Ends status = Ends status ⊎ (status ≡ Status.NoPattern)
+
+pub with_pattern : (Ends : Status → Type 0) (call : Call) (answer : Answer) → IsAnswer call answer → OrNoPattern Ends (status_of answer) → Ends (status_of answer)
+with_pattern Ends call answer comes (inl ends) = ends
+with_pattern Ends call answer comes (inr none) = absurd (status_never call answer comes none)
+
 -- a report is gone on from
-stop_well : (stop : Option (Cause ℚ)) → ((phase : ℕ) (place : Option ℕ) (at : PassedAt ℚ) → stop ≡ Some (Cause.Passed phase place at) → ⊥) → EndsResumed (status_of_stop stop)
-stop_well None never = inl refl
-stop_well (Some (Cause.Phases made)) never = inr (inl refl)
-stop_well (Some (Cause.Patterns phase tried)) never = inr (inr (inl refl))
+stop_well : (stop : Option (Cause ℚ)) → ((phase : ℕ) (place : Option ℕ) (at : PassedAt ℚ) → stop ≡ Some (Cause.Passed phase place at) → ⊥) → OrNoPattern EndsResumed (status_of_stop stop)
+stop_well None never = inl (inl refl)
+stop_well (Some (Cause.Phases made)) never = inl (inr (inl refl))
+stop_well (Some (Cause.Patterns phase tried)) never = inl (inr (inr (inl refl)))
 stop_well (Some (Cause.Passed phase place at)) never = absurd (never phase place at refl)
-stop_well (Some (Cause.NoPattern phase)) never = inr (inr (inr (inl refl)))
+stop_well (Some (Cause.NoPattern phase)) never = inr refl
 
 module _ (call : Call) (no_fault : ¬ Rose call.shelf.faults_before call.shelf.faults_now) (can : CanBeResumed call) where
-  -- the report has one reading
-  one_old : (read : Result Report ReportBroken) → ReportReads call.shelf can.network.net can.report_name read → Ok can.report.report ≡ read
-  one_old read h =
-      sym can.report.reads ∙ subst (λ (told : Option (List ℕ)). IfSome told (λ text. report_in can.network.net text ≡ read)) can.report.tells.told h
-
-  gone_well : (answer : Answer) → IsGiven call.shelf can.network.net (Resume can.file can.report_name can.horizon can.phases can.patterns) answer → EndsResumed (status_of answer)
-  gone_well answer (inl g) = subst (λ (s : Status). EndsResumed s) (sym (ap status_of g.1)) (stop_well g.0.stop (λ phase place at e. can.goes g.0 phase place at g.2 e))
+  gone_well : (answer : Answer) → IsGiven call.shelf can.network.net (Resume can.file can.report_name can.horizon can.phases can.patterns) answer → OrNoPattern EndsResumed (status_of answer)
+  gone_well answer (inl g) = subst (λ (s : Status). OrNoPattern EndsResumed s) (sym (ap status_of g.1)) (stop_well g.0.stop (λ phase place at e. can.goes g.0 phase place at g.2 e))
   gone_well answer (inr (inl g)) =
-      let same : Ok can.report.report ≡ Ok g.2.old = one_old (Ok g.2.old) g.2.read in
+      let same : Ok can.report.report ≡ Ok g.2.old = one_report_in call.shelf can.network.net can.report_name can.report (Ok g.2.old) g.2.read in
       let old : can.report.report ≡ g.2.old = same_ok (Ok can.report.report) can.report.report g.2.old refl same in
       absurd (g.2.refused.none (subst (λ (r : Report). Equilibrium can.network.net.net r.flow) old can.equilibrium))
   gone_well answer (inr (inr (inl g))) = absurd (can.fits g.0 g.2)
   gone_well answer (inr (inr (inr (inl g)))) =
-      let same : Ok can.report.report ≡ Ok g.1.old = one_old (Ok g.1.old) g.1.read in
+      let same : Ok can.report.report ≡ Ok g.1.old = one_report_in call.shelf can.network.net can.report_name can.report (Ok g.1.old) g.1.read in
       let old : can.report.report ≡ g.1.old = same_ok (Ok can.report.report) can.report.report g.1.old refl same in
       absurd (not_both_ℚ _ _ g.1.earlier (subst (λ (r : Report). r.flow.reached ≤ℚ can.horizon) old can.not_earlier))
   gone_well answer (inr (inr (inr (inr g)))) =
-      absurd (ok_err (Ok can.report.report) can.report.report g.0 refl (one_old (Err g.0) g.2))
+      absurd (ok_err (Ok can.report.report) can.report.report g.0 refl (one_report_in call.shelf can.network.net can.report_name can.report (Err g.0) g.2))
 
   resumed_well : (answer : Answer) → IsAnswer call answer → EndsResumed (status_of answer)
-  resumed_well = answered_well call no_fault (Resume can.file can.report_name can.horizon can.phases can.patterns) can.asks
+  resumed_well answer comes = with_pattern EndsResumed call answer comes (answered_well call no_fault (Resume can.file can.report_name can.horizon can.phases can.patterns) can.asks
       (All-cons (Tells call.shelf) (network_file can.file) (report_file can.report_name ∷ []) can.network.tells
       (All-cons (Tells call.shelf) (report_file can.report_name) [] can.report.tells (All-nil (Tells call.shelf))))
-      can.file (report_file can.report_name ∷ []) refl refl can.network EndsResumed (inr (inr (inr (inr refl)))) gone_well
+      can.file (report_file can.report_name ∷ []) refl refl can.network (OrNoPattern EndsResumed) (inl (inr (inr (inr refl)))) gone_well answer comes)
 
-taken_well : (Ends : Status → Type 0) (out : Taken) → ¬ Rose out.faults_before out.faults_now → (answer : Answer) (err : Taken) (status : Status) → Ends (status_of answer)
+pub taken_well : (Ends : Status → Type 0) (out : Taken) → ¬ Rose out.faults_before out.faults_now → (answer : Answer) (err : Taken) (status : Status) → Ends (status_of answer)
     → IsShown answer out err status → Ends status
 taken_well Ends out takes answer err status well (inl h) = subst (λ (s : Status). Ends s) (sym h.0) well
 taken_well Ends out takes answer err status well (inr h) = absurd (takes h.2.cause)

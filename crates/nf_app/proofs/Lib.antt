@@ -12,3 +12,5 @@ pub mod ForeverGiven
 pub mod RoutesGiven
 pub mod ResumeGiven
 pub mod Alike
+pub mod Unstopped
+pub mod Bounded

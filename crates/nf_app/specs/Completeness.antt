@@ -207,9 +207,9 @@ EndsQuick status = (status ≡ Status.Ok) ⊎ (status ≡ Status.Augments) ⊎ (
 abbrev pub EndsSettled : Status → Type 0
 EndsSettled status = (status ≡ Status.Ok) ⊎ (status ≡ Status.NotThin) ⊎ (status ≡ Status.Memory)
 
--- the same of `resume`; a budget may also be used up, or no pattern left
+-- the same of `resume`; a budget may also be used up
 abbrev pub EndsResumed : Status → Type 0
-EndsResumed status = (status ≡ Status.Ok) ⊎ (status ≡ Status.Phases) ⊎ (status ≡ Status.Patterns) ⊎ (status ≡ Status.NoPattern) ⊎ (status ≡ Status.Memory)
+EndsResumed status = (status ≡ Status.Ok) ⊎ (status ≡ Status.Phases) ⊎ (status ≡ Status.Patterns) ⊎ (status ≡ Status.Memory)
 
 -- Where neither the shelf nor the output failed in the call, the whole text was taken, of a report and of the summary of `gen` up to the
 -- horizon, or memory was wanting.
@@ -217,3 +217,58 @@ abbrev pub IsComplete : Call → Taken → Status → Type 0
 IsComplete call out status = ¬ Rose call.shelf.faults_before call.shelf.faults_now → ¬ Rose out.faults_before out.faults_now
     → (HasAnswer call → EndsWell status) × (CanBeJudged call → EndsJudged status) × (CanBeQuick call → EndsQuick status) × (CanBeSettled call → EndsSettled status)
     × (CanBeResumed call → EndsResumed status)
+
+-- ---- runs, whether or not they reach the horizon
+-- a network is to be solved
+pub record AsksToSolve (call : Call) : Type 0 where
+  pub file : List ℕ
+  pub horizon : ℚ
+  pub phases : ℕ
+  pub patterns : ℕ
+  pub asks : Asks call (Solve file horizon phases patterns)
+  pub network : TellsNetwork call.shelf file
+
+-- a ladder is to be generated
+pub record AsksToGenerate (call : Call) : Type 0 where
+  pub number : ℕ
+  pub rungs : ℕ
+  pub horizon : ℚ
+  pub phases : ℕ
+  pub patterns : ℕ
+  pub asks : Asks call (Gen number rungs horizon phases patterns)
+
+-- a network is to be solved without a horizon
+pub record AsksForever (call : Call) : Type 0 where
+  pub file : List ℕ
+  pub phases : ℕ
+  pub patterns : ℕ
+  pub asks : Asks call (SolveForever file phases patterns)
+  pub network : TellsNetwork call.shelf file
+
+-- a report is to be gone on from
+pub record AsksToResume (call : Call) : Type 0 where
+  pub file : List ℕ
+  pub report_name : List ℕ
+  pub horizon : ℚ
+  pub phases : ℕ
+  pub patterns : ℕ
+  pub asks : Asks call (Resume file report_name horizon phases patterns)
+  pub network : TellsNetwork call.shelf file
+  pub report : TellsReport call.shelf network.net report_name
+
+-- at the horizon, by a budget, where an operation passes, or for want of memory
+abbrev pub EndsRun : Status → Type 0
+EndsRun status = (status ≡ Status.Ok) ⊎ (status ≡ Status.Phases) ⊎ (status ≡ Status.Patterns) ⊎ (status ≡ Status.Passed) ⊎ (status ≡ Status.Memory)
+
+-- the same without a horizon, in a phase that never ends; the budget of phases has a status of its own
+abbrev pub EndsForever : Status → Type 0
+EndsForever status = (status ≡ Status.Ok) ⊎ (status ≡ Status.Events) ⊎ (status ≡ Status.Patterns) ⊎ (status ≡ Status.Passed) ⊎ (status ≡ Status.Memory)
+
+-- the same of `resume`; the flow of the report may also be no equilibrium, or reach beyond the horizon
+abbrev pub EndsRest : Status → Type 0
+EndsRest status = EndsRun status ⊎ (status ≡ Status.NotEquilibrium) ⊎ (status ≡ Status.Earlier)
+
+-- Where neither the shelf nor the output failed in the call, a run ends so.
+abbrev pub EndsByBounds : Call → Taken → Status → Type 0
+EndsByBounds call out status = ¬ Rose call.shelf.faults_before call.shelf.faults_now → ¬ Rose out.faults_before out.faults_now
+    → (AsksToSolve call ⊎ AsksToGenerate call → EndsRun status) × (AsksForever call → EndsForever status) × (AsksToResume call → EndsRest status)

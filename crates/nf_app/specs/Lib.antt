@@ -13,3 +13,4 @@ pub mod Completeness
 pub mod Uniqueness
 pub mod Outcomes
 pub mod Settling
+pub mod Stops

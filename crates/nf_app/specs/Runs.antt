@@ -2,6 +2,7 @@
 use Rattle.std.specs.Prelude.{◌≡◌, ◌⊎◌, ℕ, List, Some, None, Result, Ok, Err}
 use Rattle.nf_formats.specs.Named.{Named}
 use Rattle.nf_formats.specs.NetLines.{Broken}
+use Rattle.nf_formats.specs.WellNamed.{IsNamed}
 use Rattle.nf_answers.specs.declared.status.Status.{Status}
 use Rattle.nf_answers.specs.Answers.{Answer, NoMemory, NoRequest, ShelfFailed, ShelfTooLong, Malformed}
 use Rattle.nf_outside.specs.Files.{Wanted, Visit, FetchedNone, FetchedAll, FetchedTo, Failed, HasTooMany}
@@ -41,11 +42,12 @@ IsRefused call ShelfTooLong = (last : Wanted) × Reached call last × HasTooMany
 IsRefused call (Malformed broken) = (request : Request) × Read call request (Err broken)
 IsRefused call answer = ⊥
 
--- the request has its network, and gives this
+-- the request has its network, which is that of an accepted file, and gives this
 pub record IsComputed (call : Call) (answer : Answer) : Type 0 where
   pub request : Request
   pub net : Named
   pub read : Read call request (Ok net)
+  pub named : IsNamed net
   pub given : IsGiven call.shelf net request answer
 
 -- when which answer is given

@@ -16,10 +16,8 @@ use Rattle.nf_unique_laws.specs.UniqueLaws.{SameInAll}
 use Rattle.nf_words.specs.Requests.{Check, Quick}
 use Rattle.nf_answers.specs.Answers.{Answer, Solved, SolvedForever, Checked, Quickest, Generated}
 use Rattle.nf_answers.specs.declared.arrival.Arrival.{Arrival}
-use Rattle.nf_answers.specs.declared.status.Status.{Status}
-use Rattle.nf_outside.specs.Sinks.{Taken}
 use Rattle.nf_app.specs.CheckGiven.{ReportReads}
-use Rattle.nf_app.specs.Runs.{Call, Asks, Ran}
+use Rattle.nf_app.specs.Runs.{Call, Asks, IsAnswer}
 
 -- Of a run without a horizon: of the flow up to the departure reached; and where it has a tail, of the flow up to every departure from 0 on.
 abbrev pub SameForever : Network → Forever → Type 0
@@ -47,6 +45,6 @@ IsSameInAll call (Checked n verdict) = SameIfYes call n verdict
 IsSameInAll call (Quickest n quick arrival) = (file : List ℕ) (amount : ℚ) (augments : ℕ) → Asks call (Quick file amount augments) → SameArrival n.net amount arrival
 IsSameInAll call answer = Unit {0}
 
--- Of what a run answered: whatever it stopped for, the labels, queues and exits of its report are those of every equilibrium.
-abbrev pub RanSame : Call → Taken → Taken → Status → Type 0
-RanSame call out err status = (ran : Ran call out err status) × IsSameInAll call ran.answer
+-- whichever answer comes: whatever a run stopped for, the labels, queues and exits of its report are those of every equilibrium
+abbrev pub AnswerIsSameInAll : Call → Type 0
+AnswerIsSameInAll call = (answer : Answer) → IsAnswer call answer → IsSameInAll call answer

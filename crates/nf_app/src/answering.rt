@@ -316,6 +316,8 @@ fn answer_request<S: Shelf>(
         → IsAnswered (record { words = words; shelf = visit S.Shelf shelf.old shelf.new }) result }
 {
     let (net, other) = gather(alloc, request, shelf)?;
+    // For the proof: the network is that of an accepted file.
+    let _ = net.version();
     with_net(find(alloc, request, &net, &other), net)
 }
 

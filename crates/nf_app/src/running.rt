@@ -6,9 +6,10 @@ ghost use Rattle.nf_answers.specs.declared.status.Status.TheVariants as Status;
 ghost use Rattle.nf_outside.specs.Files.{visit};
 ghost use Rattle.nf_outside.specs.Sinks.{taken, TookAll};
 ghost use Rattle.nf_app.specs.Runs.{Ran};
-ghost use Rattle.nf_app.specs.Completeness.{IsComplete};
+ghost use Rattle.nf_app.specs.Completeness.{IsComplete, EndsByBounds};
+ghost use Rattle.nf_app.specs.Stops.{AlwaysHasPattern};
 ghost use Rattle.nf_app.specs.Resumption.{IsResumption};
-ghost use Rattle.nf_app.specs.Uniqueness.{RanSame};
+ghost use Rattle.nf_app.specs.Uniqueness.{AnswerIsSameInAll};
 
 use crate::answering::answer;
 use nf_answers::{Outcome, Status};
@@ -56,13 +57,18 @@ pub fn run<S: Shelf, O: Sink, E: Sink>(
     // Every equilibrium of the network, whoever made it, has the labels, queues and exits of the report that is written, of the run without
     // a horizon, of the run behind the summary of `gen`, and of the report that `check` answers yes, as far as both describe departures; and
     // who departs when the amount of `quick` is supplied arrives in all of them at the time of its equilibrium line.
-    ensures same_in_all { RanSame (record { words = texts words.now; shelf = visit S.Shelf shelf.old shelf.new })
-        (taken O.Sink out.old out.new) (taken E.Sink err.old err.new) result }
+    ensures same_in_all { AnswerIsSameInAll (record { words = texts words.now; shelf = visit S.Shelf shelf.old shelf.new }) }
+
+    // No run of a command stops since no pattern is left, for each phase has a thin flow.
+    ensures never_no_pattern { AlwaysHasPattern (record { words = texts words.now; shelf = visit S.Shelf shelf.old shelf.new }) result }
+
+    // So the run of `solve`, `gen` and `resume` ends at the horizon, or in a phase that never ends, or by a bound on the work or on the
+    // length of numbers, unless memory is wanting, or the report can't be gone on from.
+    ensures bounded { EndsByBounds (record { words = texts words.now; shelf = visit S.Shelf shelf.old shelf.new })
+        (taken O.Sink out.old out.new) result }
 {
     match answer(alloc, words, shelf) {
         Ok(outcome) => {
-            // For the proof: the network is that of an accepted file.
-            let _ = outcome.net.version();
             let status = give(&outcome, out, err);
             let_go(outcome);
             status

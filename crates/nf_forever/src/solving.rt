@@ -11,6 +11,7 @@ ghost use Rattle.nf_phase.specs.Stepping.{tail_of};
 ghost use Rattle.nf_forever_lists.specs.ForeverRun.{Stops, NeverEnds, IsForeverRun, forever_of, IsForever};
 ghost use Rattle.nf_forever_lists.specs.Extended.{flow_until};
 ghost use Rattle.nf_forever_lists.specs.ForeverText.{HasForm};
+ghost use Rattle.nf_unstopped_laws.specs.Stops.{NeverNoPattern};
 ghost use Rattle.nf_forever.specs.Seen.{tail_in, forever_in};
 ghost use Rattle.nf_forever.specs.Ends.{end_in, IsStopBy};
 
@@ -104,6 +105,7 @@ fn outcome(alloc: Global, run: &Run, end: End) -> Result<Forever, AllocError>
 /// it may last, until one never ends, as many phases as allowed were made, or one can't be made. The flow up to there is an
 /// equilibrium (a Nash flow over time: Koch and Skutella 2011). Where the last phase never ends, it is the tail, and the flow that goes
 /// on by it is an equilibrium up to every departure. The tail is no phase that was made: the budget of phases is looked at before it.
+/// Each phase has a thin flow, so one can't be made only where an operation passes or more patterns than allowed would have to be tried.
 /// It is refused only where memory is wanting.
 pub fn solve_forever(alloc: Global, net: &Network, budgets: Budgets) -> Result<Forever, AllocError>
     ensures run { IfOk result (λ f. IsForever passes_Q net.now.net budgets.phases budgets.patterns (forever_in f)) }
@@ -111,6 +113,7 @@ pub fn solve_forever(alloc: Global, net: &Network, budgets: Budgets) -> Result<F
     ensures equilibrium { IfOk result (λ f. Equilibrium net.now.net (flow_of f.flow)) }
     ensures tail { IfOk result (λ f. IfSome f.tail (λ tail. (until : ℚ) → 0ℚ ≤ℚ until → Equilibrium net.now.net (flow_until net.now.net (flow_of f.flow) (tail_in tail) until))) }
     ensures stop { IfOk result (λ f. IsSome f.tail ↔ (f.stopped ≡ None)) }
+    ensures never_no_pattern { IfOk result (λ f. NeverNoPattern f.stopped) }
 {
     // For the proof: the network is that of an accepted file.
     let _ = net.version();

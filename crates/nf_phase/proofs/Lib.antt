@@ -13,3 +13,4 @@ pub mod Stopping
 pub mod ToEnd
 pub mod Told
 pub mod Rested
+pub mod Unstopped

@@ -6,6 +6,7 @@ ghost use Rattle.nf_work.specs.Passing.{passes_Q};
 ghost use Rattle.nf_formats.specs.WellNamed.{IsNamed};
 ghost use Rattle.nf_lists.specs.PhaseRun.{flow_of};
 ghost use Rattle.nf_resume_lists.specs.Open.{RunsOn};
+ghost use Rattle.nf_unstopped_laws.specs.Stops.{NeverNoPattern};
 ghost use Rattle.nf_curve.specs.Flows.{flow_of as flow_in};
 ghost use Rattle.nf_phase.specs.Stepping.{Reaches};
 ghost use Rattle.nf_phase.specs.Solution.{IsSolution, IsFinished, bounds_of, report_in, stop_after};
@@ -113,7 +114,8 @@ impl Run {
 
 /// Solves a network: goes on phase by phase from departure 0, each by the first accepted pattern, until the horizon is reached,
 /// as many phases as allowed were made, or one can't be made. The flow up to there is an equilibrium (a Nash flow over time:
-/// Koch and Skutella 2011). The horizon is a time of at least 0.
+/// Koch and Skutella 2011). Each phase has a thin flow, so one can't be made only where an operation passes or more patterns than
+/// allowed would have to be tried. The horizon is a time of at least 0.
 pub fn solve(
     alloc: Global,
     net: &Network,
@@ -121,7 +123,8 @@ pub fn solve(
     budgets: Budgets,
 ) -> Result<Solution, AllocError>
     requires { 0ℚ ≤ℚ horizon }
-    ensures { IfOk result (λ s. IsSolution net.now.net (bounds_of horizon budgets) s.phases (report_in horizon s)) }
+    ensures solution { IfOk result (λ s. IsSolution net.now.net (bounds_of horizon budgets) s.phases (report_in horizon s)) }
+    ensures never_no_pattern { IfOk result (λ s. NeverNoPattern s.stopped) }
 {
     // For the proof: the network is that of an accepted file.
     let _ = net.version();

@@ -11,6 +11,7 @@ ghost use Rattle.nf_check_lists.specs.CheckList.{check_list};
 ghost use Rattle.nf_lists.specs.PhaseRun.{IsShortFlow};
 ghost use Rattle.nf_resume_lists.specs.Resuming.{restart_list};
 ghost use Rattle.nf_resume_lists.specs.Meanings.{GoesOnFrom, IsResumedReport};
+ghost use Rattle.nf_unstopped_laws.specs.Stops.{NeverNoPattern};
 ghost use Rattle.nf_curve.specs.Flows.{flow_of};
 ghost use Rattle.nf_reader.specs.Files.{report_of};
 ghost use Rattle.nf_phase.specs.Stepping.{Reaches};
@@ -76,7 +77,8 @@ fn restart(alloc: Global, net: &Network, report: &Report) -> Result<Run, Halt<Q>
 
 /// Goes on from a report to a horizon: from the departure that its flow has reached, phase by phase, until the horizon is reached, as
 /// many phases as allowed were made since then, or one can't be made. The flow up to there is an equilibrium (a Nash flow over time:
-/// Koch and Skutella 2011) with the report's values up to where the report's flow ends. Where the run that wrote the report was cut
+/// Koch and Skutella 2011) with the report's values up to where the report's flow ends. Each phase has a thin flow, so one can't be made
+/// only where an operation passes or more patterns than allowed would have to be tried. Where the run that wrote the report was cut
 /// short within a phase, the first phase is the rest of that one. The report is a well-formed one of the network. It is refused, in this
 /// order, exactly where the horizon is before the departure reached, where its flow is no equilibrium, or at the first operation of its
 /// list that passes: that of the check, and then with part Curve those of cutting the flow at the departure reached and of the slopes
@@ -94,6 +96,7 @@ pub fn resume(
     ensures goes_on { IfOk result (λ s. GoesOnFrom net.now.net (report_of report.now).flow (flow_of s.flow)) }
     ensures short { IfOk result (λ s. IsShortFlow net.now.net (flow_of s.flow)) }
     ensures formed { IfOk result (λ s. IsWellFormed net.now.net (report_in horizon s)) }
+    ensures never_no_pattern { IfOk result (λ s. NeverNoPattern s.stopped) }
     ensures not_earlier { OnOk result ((report_of report.now).flow.reached ≤ℚ horizon) }
     ensures fault { IfErr result (IsResumeFault passes_Q net.now.net (report_of report.now) horizon) }
 {

@@ -1,4 +1,4 @@
-use Rattle.std.proofs.Common.{◌≡◌, ℕ, List, sym, subst}
+use Rattle.std.proofs.Common.{ℕ, List, sym, subst}
 use Rattle.std.proofs.lemmas.Result.{err_from_is_err_and}
 use Rattle.nf_words.specs.Views.{requested}
 use Rattle.nf_outside.specs.Files.{visit}
@@ -18,5 +18,5 @@ pub returns : goal.returns
 returns g c words asks =
     let shelf = visit g.S.Shelf c.args.shelf.now c.gather.new.shelf in
     let gathered = c.in_ok-net.ensures.gathered words asks in
-    given (record { words = words; shelf = shelf }) (requested c.args.request.now) c.in_ok-net.net gathered.0 c.find.result
+    given (record { words = words; shelf = shelf }) (requested c.args.request.now) c.in_ok-net.net c.version.ensures.named gathered.0 c.find.result
     (c.find.ensures shelf (subst (λ (t : List ℕ). OtherIsTold shelf (requested c.args.request.now) t) (sym c.deref.ensures.value) gathered.1)) c.with_net.result c.with_net.ensures

@@ -7,22 +7,22 @@ use Rattle.nf_app.proofs.answering.sum_up.Goals as goal
 
 pub last_label-arrival-requires : goal.last_label-arrival-requires
 last_label-arrival-requires c =
-    sink_in c.args.net.now.net c.in_ok-solution.solution.flow c.sink.result c.sink.ensures.node c.in_ok-solution.ensures.well_formed.shape.labels.count
+    sink_in c.args.net.now.net c.in_ok-solution.solution.flow c.sink.result c.sink.ensures.node c.in_ok-solution.ensures.solution.well_formed.shape.labels.count
 
 pub returns : goal.returns
 returns c shelf =
     let s = c.in_ok-solution.solution in
     let report = report_in c.args.horizon s in
     let net = c.args.net.now.net in
-    let is = last_is_label net c.version.ensures.named.network (bounds_of c.args.horizon c.args.budgets) report s.phases c.in_ok-solution.ensures
+    let is = last_is_label net c.version.ensures.named.network (bounds_of c.args.horizon c.args.budgets) report s.phases c.in_ok-solution.ensures.solution
     (subst (λ (v : ℕ). v < net.nodes) c.sink.ensures.value c.sink.ensures.node) c.last_label-arrival.result
     (at_sink s.flow c.sink.result net.sink c.last_label-arrival.result c.sink.ensures.value c.last_label-arrival.ensures) in (
       (
         report,
         s.phases,
         refl,
-        c.in_ok-solution.ensures,
-        stops_for_none passes_Q net (bounds_of c.args.horizon c.args.budgets) report c.version.ensures.named.network c.in_ok-solution.ensures.run,
+        c.in_ok-solution.ensures.solution,
+        stops_for_none passes_Q net (bounds_of c.args.horizon c.args.budgets) report c.version.ensures.named.network c.in_ok-solution.ensures.solution.run,
       ),
       sym is,
     )

@@ -7,7 +7,9 @@ use Rattle.nf_outside.specs.Sinks.{taken}
 use Rattle.nf_app.proofs.Calls.{took_no_text}
 use Rattle.nf_app.proofs.Completing.{complete_by_text, complete_by_refusal}
 use Rattle.nf_app.proofs.Resuming.{resumption_written}
-use Rattle.nf_app.proofs.Alike.{HasNetwork-found, IsSameInAll-refusal, answered_same}
+use Rattle.nf_app.proofs.Alike.{answered_same}
+use Rattle.nf_app.proofs.Unstopped.{never_by_text, never_by_refusal}
+use Rattle.nf_app.proofs.Bounded.{bounded_by_text, bounded_by_refusal}
 use Rattle.nf_app.proofs.running.run.Goals as goal
 
 pub returns-in-Ok-clause-ran : goal.returns-in-Ok-clause-ran
@@ -45,18 +47,27 @@ returns-in-Err-clause-resumes g c =
     })
 
 pub returns-in-Ok-clause-same_in_all : goal.returns-in-Ok-clause-same_in_all
-returns-in-Ok-clause-same_in_all g c = (
-  record { answer = answer_in c.in-Ok.outcome; comes = c.in-Ok.ensures.0; shown = c.give-status.ensures },
-  answered_same (record { words = texts c.args.words.now; shelf = visit g.S.Shelf c.args.shelf.now c.answer.new.shelf }) (answer_in c.in-Ok.outcome)
-      (HasNetwork-found c.in-Ok.outcome.net c.in-Ok.outcome.found c.version.ensures.named.network) c.in-Ok.ensures.0,
-)
+returns-in-Ok-clause-same_in_all g c = answered_same (record { words = texts c.args.words.now; shelf = visit g.S.Shelf c.args.shelf.now c.answer.new.shelf })
 
 pub returns-in-Err-clause-same_in_all : goal.returns-in-Err-clause-same_in_all
-returns-in-Err-clause-same_in_all g c = (
-  record {
-    answer = answer_of c.in-Err.refusal;
-    comes = c.in-Err.ensures;
-    shown = inl (c.refuse.ensures.status, took_no_text (g.O.Sink.took c.args.out.now) c.in-Err.refusal, c.refuse.ensures.told);
-  },
-  IsSameInAll-refusal (record { words = texts c.args.words.now; shelf = visit g.S.Shelf c.args.shelf.now c.answer.new.shelf }) c.in-Err.refusal,
-)
+returns-in-Err-clause-same_in_all g c = answered_same (record { words = texts c.args.words.now; shelf = visit g.S.Shelf c.args.shelf.now c.answer.new.shelf })
+
+pub returns-in-Ok-clause-never_no_pattern : goal.returns-in-Ok-clause-never_no_pattern
+returns-in-Ok-clause-never_no_pattern g c =
+    never_by_text (record { words = texts c.args.words.now; shelf = visit g.S.Shelf c.args.shelf.now c.answer.new.shelf }) (taken g.O.Sink c.args.out.now c.give-status.new.out)
+    (taken g.E.Sink c.args.err.now c.give-status.new.err) c.give-status.result (answer_in c.in-Ok.outcome) c.in-Ok.ensures.0 c.give-status.ensures
+
+pub returns-in-Err-clause-never_no_pattern : goal.returns-in-Err-clause-never_no_pattern
+returns-in-Err-clause-never_no_pattern g c =
+    never_by_refusal (record { words = texts c.args.words.now; shelf = visit g.S.Shelf c.args.shelf.now c.answer.new.shelf })
+    c.refuse.result (answer_of c.in-Err.refusal) c.in-Err.ensures c.refuse.ensures.status
+
+pub returns-in-Ok-clause-bounded : goal.returns-in-Ok-clause-bounded
+returns-in-Ok-clause-bounded g c =
+    bounded_by_text (record { words = texts c.args.words.now; shelf = visit g.S.Shelf c.args.shelf.now c.answer.new.shelf }) (taken g.O.Sink c.args.out.now c.give-status.new.out)
+    (taken g.E.Sink c.args.err.now c.give-status.new.err) c.give-status.result (answer_in c.in-Ok.outcome) c.in-Ok.ensures.0 c.give-status.ensures
+
+pub returns-in-Err-clause-bounded : goal.returns-in-Err-clause-bounded
+returns-in-Err-clause-bounded g c =
+    bounded_by_refusal (record { words = texts c.args.words.now; shelf = visit g.S.Shelf c.args.shelf.now c.answer.new.shelf }) (taken g.O.Sink c.args.out.now c.args.out.now)
+    c.refuse.result (answer_of c.in-Err.refusal) c.in-Err.ensures c.refuse.ensures.status

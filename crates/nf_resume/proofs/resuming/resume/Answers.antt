@@ -5,6 +5,7 @@ use Rattle.std.proofs.lemmas.Result.{err_from_is_err_and}
 use Rattle.nf_work.specs.Passing.{passes_Q}
 use Rattle.nf_reader.specs.Files.{report_of}
 use Rattle.nf_phase.specs.Solution.{bounds_of, report_in}
+use Rattle.nf_unstopped_laws.proofs.Stops.{never_resumed}
 use Rattle.nf_resume.specs.Faults.{of_halt}
 use Rattle.nf_resume.proofs.Resumed.{in_time, restart_stops, is_resumed, went_on}
 use Rattle.nf_resume.proofs.resuming.resume.Goals as goal
@@ -37,3 +38,10 @@ returns-clause-short c = let finished = c.in_ok-solution.ensures {u = tt} in fin
 
 pub returns-clause-equilibrium : goal.returns-clause-equilibrium
 returns-clause-equilibrium c = let finished = c.in_ok-solution.ensures {u = tt} in finished.equilibrium
+
+pub returns-clause-never_no_pattern : goal.returns-clause-never_no_pattern
+returns-clause-never_no_pattern c =
+    never_resumed passes_Q c.args.net.now.net (bounds_of c.args.horizon c.args.budgets) (report_of c.args.report.now) c.in_ok-solution.solution.phases
+    (report_in c.args.horizon c.in_ok-solution.solution) c.version.ensures.named.network c.requires
+    (is_resumed c.args.net.now.net (bounds_of c.args.horizon c.args.budgets) (report_of c.args.report.now) c.in_ok-solution.solution.phases (report_in c.args.horizon c.in_ok-solution.solution)
+    c.in_ok-check_first.ensures.yes c.in_ok-run.run' c.in_ok-run.ensures.list c.in_ok-solution.ensures)

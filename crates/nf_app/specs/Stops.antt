@@ -1,0 +1,29 @@
+-- No run that an answer tells of stopped since no pattern was left.
+use Rattle.std.specs.Prelude.{◌≡◌, Option, Some, None}
+use Rattle.nf_rational.specs.Rational.{ℚ}
+use Rattle.nf_formats.specs.declared.Cause.{Cause}
+use Rattle.nf_unstopped_laws.specs.Stops.{NeverNoPattern}
+use Rattle.nf_answers.specs.declared.arrival.Arrival.{Arrival}
+use Rattle.nf_answers.specs.declared.status.Status.{Status}
+use Rattle.nf_answers.specs.Answers.{Answer, Solved, SolvedForever, Quickest, Generated}
+use Rattle.nf_app.specs.Runs.{Call, IsAnswer}
+
+-- why the run to the departure was stopped
+abbrev pub stop_of_arrival : Arrival → Option (Cause ℚ)
+stop_of_arrival Arrival.Never = None
+stop_of_arrival (Arrival.At time) = None
+stop_of_arrival (Arrival.Stopped cause) = Some cause
+
+-- why the run was stopped that an answer tells of, if it tells of one: a report, a run without a horizon, a summary, or the arrival
+-- beside a quickest flow
+abbrev pub stop_in : Answer → Option (Cause ℚ)
+stop_in (Solved n report) = report.stop
+stop_in (SolvedForever n forever) = forever.stop
+stop_in (Generated number rungs n made report) = report.stop
+stop_in (Quickest n quick arrival) = stop_of_arrival arrival
+stop_in answer = None
+
+-- whichever answer comes, and so the status
+pub record AlwaysHasPattern (call : Call) (status : Status) : Type 0 where
+  pub stops : (answer : Answer) → IsAnswer call answer → NeverNoPattern (stop_in answer)
+  pub not_status : status ≡ Status.NoPattern → ⊥

@@ -1,0 +1,5 @@
+pub mod AtLabels
+pub mod Stops
+pub mod Lengths
+pub mod Phases
+pub mod Sequences

@@ -1,0 +1,3 @@
+pub mod ThinFlows
+pub mod Stops
+pub mod Sequences
