@@ -11,3 +11,6 @@ pub mod AllowedStates
 pub mod Within
 pub mod Conserving
 pub mod Refusing
+pub mod Narrowing
+pub mod Early
+pub mod FoundBy

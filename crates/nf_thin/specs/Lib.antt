@@ -6,3 +6,4 @@ pub mod Ranges
 pub mod Conserving
 pub mod Knowing
 pub mod Sifting
+pub mod Finding

@@ -12,7 +12,8 @@ use Rattle.nf_thin.specs.declared.vain.Vain.{Vain}
 use Rattle.nf_thin.specs.declared.fault.SearchFault.{SearchFault}
 use Rattle.nf_thin.specs.declared.sifting.Guide.{Guide}
 use Rattle.nf_thin.specs.declared.sifting.Sifted.{Sifted}
-use Rattle.nf_thin.specs.Slopes.{AreSlopesOfListed}
+use Rattle.nf_thin_laws.specs.ActiveLinks.{HoldNoCycle}
+use Rattle.nf_thin.specs.Slopes.{AreThinSlopes, AreSlopesOfListed}
 use Rattle.nf_thin.specs.Allowing.{AllowSolvable}
 use Rattle.nf_thin.specs.Conserving.{full_by}
 use Rattle.nf_thin.specs.Knowing.{IsKnown}
@@ -24,6 +25,8 @@ pub record Guides (passes : Passing) (net : Network) (sets : Sets) (rate : ℚ) 
   pub count : length guide.allowed.items ≡ length net.links
   pub known : IsKnown passes net sets rate guide.known
   pub slopes : AreSlopesOfListed net sets rate guide.known.slopes.items
+  pub acyclic : HoldNoCycle net sets
+  pub thin : AreThinSlopes net sets rate guide.known.slopes.items
   pub full : guide.full.items ≡ full_by passes net guide.known.slopes.items
 
 -- the answer of the definition, if there is one, unless memory is wanting

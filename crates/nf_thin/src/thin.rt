@@ -11,3 +11,32 @@ pub struct Thin {
     pub pattern: Pattern,
     pub place: u64,
 }
+
+/// A thin flow with resetting, and the pattern that it was found by, wherever that stands in the list.
+#[derive(Drop)]
+pub struct ThinFlow {
+    pub flows: Vec<Q>,
+    pub labels: Vec<Q>,
+    pub pattern: Pattern,
+}
+
+impl Thin {
+    ghost use Rattle.std.specs.Prelude.{◌≡◌};
+
+    /// The thin flow, whose place isn't asked for.
+    pub(crate) fn flow(self) -> ThinFlow
+        ensures { result ≡ record { flows = self.flows; labels = self.labels; pattern = self.pattern } }
+    {
+        let Thin {
+            flows,
+            labels,
+            pattern,
+            place: _,
+        } = self;
+        ThinFlow {
+            flows,
+            labels,
+            pattern,
+        }
+    }
+}

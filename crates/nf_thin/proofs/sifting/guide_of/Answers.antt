@@ -40,5 +40,7 @@ returns c =
       known = known;
       slopes = slopes_of_listed c.args.net.now.net c.args.sets.now c.args.rate c.in-Some-2.known.slopes.items c.requires.first.network c.requires.sets.sets_are
           (c.in_ok-hold_no_cycle.ensures c.if-not-branch.false) thin;
+      acyclic = c.in_ok-hold_no_cycle.ensures c.if-not-branch.false;
+      thin = thin;
       full = c.in_ok-full.ensures ∙ ap (λ (slopes : List ℚ). full_by passes_Q c.args.net.now.net slopes) c.deref-2.ensures.value;
     }
