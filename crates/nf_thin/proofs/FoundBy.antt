@@ -21,7 +21,7 @@ use Rattle.nf_narrow.specs.Asking.{question_left, StandsWithin}
 use Rattle.nf_thin.specs.declared.thin.Thin.{Thin}
 use Rattle.nf_thin.specs.declared.fault.SearchFault.{SearchFault}
 use Rattle.nf_thin.specs.Searching.{Searches, AreSetsOf, question_of}
-use Rattle.nf_thin.specs.Finding.{NarrowFinds, FindsBy}
+use Rattle.nf_thin.specs.Finding.{NarrowFinds, Finds, flow_of}
 
 module _ (passes : Passing) (net : Network) (sets : Sets) (rate : ℚ) (base forced : Pattern) (budget : ℕ) (forcing : IsForcing sets (unbounded net) forced)
     (allowed : (pattern : Pattern) → IsListedIn net sets pattern → IsSolvable net sets rate pattern → HasForced forced pattern)
@@ -59,7 +59,7 @@ module _ (passes : Passing) (net : Network) (sets : Sets) (rate : ℚ) (base for
       ap (λ (p : Pattern). length p) f.pattern_is ∙ ((filled_pattern sets (unbounded net) forced forcing f.part l.states).count ∙ count)
 
   pub by_within : (thin : Thin) → NarrowFinds passes net sets rate base forced budget (Ok (Some thin)) → StandsWithin (question_of net sets base) thin.pattern budget true
-      → FindsBy (IsSearch passes net sets rate base budget) budget (Ok (Some thin))
+      → Finds (IsSearch passes net sets rate base budget) budget (Ok (flow_of thin))
   by_within thin finds near =
       let f = finds listing narrow narrows in
       let w = answer_within passes net sets rate base forced listing narrow narrows budget thin.place f.part f.has_place f.accepted f.first thin.flows.items thin.labels.items f.solution

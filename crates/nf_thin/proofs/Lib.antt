@@ -1,13 +1,10 @@
 pub mod Hops
-pub mod Places
 pub mod Searched
 pub mod Asking
 pub mod FoundThin
 pub mod Looping
-pub mod BehindFirst
 pub mod NoCycle
 pub mod LedSlopes
-pub mod AllowedStates
 pub mod Within
 pub mod Conserving
 pub mod Refusing

@@ -19,7 +19,7 @@ use Rattle.nf_narrow.proofs.Places.{GivenUpTo, given_next}
 use Rattle.nf_equation_laws.specs.Equations.{IsPatternIn}
 use Rattle.nf_thin.specs.declared.thin.Thin.{Thin}
 use Rattle.nf_thin.specs.declared.fault.SearchFault.{SearchFault}
-use Rattle.nf_thin.specs.declared.sifting.Sifted.{Sifted}
+use Rattle.nf_thin.specs.declared.vain.Vain.{Vain}
 use Rattle.nf_thin.specs.Searching.{AreSetsOf, question_of}
 use Rattle.nf_thin.specs.Sifting.{SiftsNext}
 use Rattle.nf_thin.specs.Finding.{NarrowFinds, NarrowAnswers, IsFirstFilled}
@@ -49,15 +49,15 @@ module _ (passes : Passing) (net : Network) (sets : Sets) (rate : ℚ) (base for
   pub whole_count : length (filled forced p) ≡ length net.links
   whole_count = whole_listed.states.count ∙ sets_are.sets_are.count
 
-  module _ (budget : ℕ) (before now : Sifted) (vainly : NarrowVainly passes net sets rate base forced before.vain.tried given.last) where
+  module _ (budget : ℕ) (before now : Vain) (vainly : NarrowVainly passes net sets rate base forced before.tried given.last) where
     module _ (listing narrow : List Pattern) (n : Narrows net sets rate base forced listing narrow) where
-      here : slice_get narrow before.vain.tried ≡ Some p
-      here = given_next (question_left forced (question_of net sets base)) narrow n.part given.last p next before.vain.tried (vainly listing narrow n).0
+      here : slice_get narrow before.tried ≡ Some p
+      here = given_next (question_left forced (question_of net sets base)) narrow n.part given.last p next before.tried (vainly listing narrow n).0
 
     pub narrow_found : (thin : Thin) → SiftsNext passes net sets rate budget (filled forced p) before now (Ok (Some thin)) → NarrowFinds passes net sets rate base forced budget (Ok (Some thin))
     narrow_found thin t listing narrow n = record {
       part = p;
-      has_place = (before.vain.tried, t.1.place, here listing narrow n);
+      has_place = (before.tried, t.1.place, here listing narrow n);
       pattern_is = t.1.pattern_is;
       accepted = t.1.accepted;
       solution = t.1.solution;
@@ -67,22 +67,22 @@ module _ (passes : Passing) (net : Network) (sets : Sets) (rate : ℚ) (base for
     pub narrow_failed : (fault : SearchFault) → SiftsNext passes net sets rate budget (filled forced p) before now (Err fault) → NarrowFinds passes net sets rate base forced budget (Err fault)
     narrow_failed (SearchFault.Budget tried) t listing narrow n = (
       t.1,
-      (let w = slice_get_within narrow before.vain.tried p (here listing narrow n) in let e = t.0 in omega arith),
+      (let w = slice_get_within narrow before.tried p (here listing narrow n) in let e = t.0 in omega arith),
       subst (λ (k : ℕ). NoneFilledBefore passes net sets rate forced narrow (suc k)) t.0 (vainly listing narrow n).1,
     )
     narrow_failed (SearchFault.Passed place at) t listing narrow n = t
     narrow_failed SearchFault.NoPattern t listing narrow n = t
     narrow_failed SearchFault.Memory t listing narrow n = tt
 
-    pub narrow_on : SiftsNext passes net sets rate budget (filled forced p) before now (Ok None) → NarrowVainly passes net sets rate base forced now.vain.tried after.last
+    pub narrow_on : SiftsNext passes net sets rate budget (filled forced p) before now (Ok None) → NarrowVainly passes net sets rate base forced now.tried after.last
     narrow_on t listing narrow n = (
-      subst (λ (l : Last). GivenUpTo narrow now.vain.tried l) (sym (ap (λ (g : Given). g.last) gives.1))
+      subst (λ (l : Last). GivenUpTo narrow now.tried l) (sym (ap (λ (g : Given). g.last) gives.1))
           (subst (λ (k : ℕ). GivenUpTo narrow k (UpTo p)) (sym t.1.one_more) (p, here listing narrow n, refl)),
       λ other r less at accepted. ⊎_elim
-          (λ (early : other < suc before.vain.tried). (vainly listing narrow n).1 other r early at accepted)
-          (λ (last : other ≡ suc before.vain.tried).
-          let i : at.0 ≡ before.vain.tried = (let e = at.1 in omega arith) in
+          (λ (early : other < suc before.tried). (vainly listing narrow n).1 other r early at accepted)
+          (λ (last : other ≡ suc before.tried).
+          let i : at.0 ≡ before.tried = (let e = at.1 in omega arith) in
           let e : r ≡ p = same_Some r p (sym at.2 ∙ (ap (slice_get narrow) i ∙ here listing narrow n)) in
           t.1.not_accepted (subst (λ (x : Pattern). IsAccepted passes net sets rate (filled forced x)) e accepted))
-          (before_or_at other (suc before.vain.tried) (let e = t.1.one_more in omega arith)),
+          (before_or_at other (suc before.tried) (let e = t.1.one_more in omega arith)),
     )

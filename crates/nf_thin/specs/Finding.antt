@@ -1,4 +1,4 @@
--- What a search among the listed patterns that have forced states comes to.
+-- What a search comes to that goes through the listed patterns with forced states alone.
 use Rattle.std.specs.Prelude.{◌≡◌, ℕ, suc, ◌<◌, List, length, Option, Some, None, Result, Ok, Err}
 use Rattle.nf_rational.specs.Rational.{ℚ}
 use Rattle.nf_work.specs.Passing.{Passing}
@@ -11,6 +11,7 @@ use Rattle.nf_lists.specs.Search.{Answer, Found}
 use Rattle.nf_listing_laws.specs.Forcing.{filled}
 use Rattle.nf_listing_laws.specs.Laws.{Narrows, NoneFilledBefore}
 use Rattle.nf_thin.specs.declared.thin.Thin.{Thin}
+use Rattle.nf_thin.specs.declared.thin.ThinFlow.{ThinFlow}
 use Rattle.nf_thin.specs.declared.fault.SearchFault.{SearchFault}
 use Rattle.nf_thin.specs.Searching.{Searches}
 
@@ -37,8 +38,19 @@ abbrev pub NarrowFinds : Passing → Network → Sets → ℚ → Pattern → Pa
 NarrowFinds passes net sets rate base forced budget result =
     (listing narrow : List Pattern) → Narrows net sets rate base forced listing narrow → NarrowAnswers passes net sets rate forced narrow budget result
 
--- the answer of the definition, at some place, if there is one, unless memory is wanting
-abbrev pub FindsBy : (Answer → Type 0) → ℕ → Result (Option Thin) SearchFault → Type 0
-FindsBy Answers budget (Ok (Some thin)) = (place : ℕ) × Answers (Found place thin.pattern thin.flows.items thin.labels.items)
+-- ---- the search whose pattern is found at some place
+
+-- a thin flow without its place
+abbrev pub flow_of : Thin → ThinFlow
+flow_of thin = record { flows = thin.flows; labels = thin.labels; pattern = thin.pattern }
+
+-- the answer of the definition, unless memory is wanting
+abbrev pub Finds : (Answer → Type 0) → ℕ → Result ThinFlow SearchFault → Type 0
+Finds Answers budget (Ok found) = (place : ℕ) × Answers (Found place found.pattern found.flows.items found.labels.items)
+Finds Answers budget (Err fault) = Searches Answers budget (Err fault)
+
+-- if there is one
+abbrev pub FindsBy : (Answer → Type 0) → ℕ → Result (Option ThinFlow) SearchFault → Type 0
+FindsBy Answers budget (Ok (Some found)) = Finds Answers budget (Ok found)
 FindsBy Answers budget (Ok None) = Unit {0}
-FindsBy Answers budget (Err fault) = Searches Answers budget (Err fault)
+FindsBy Answers budget (Err fault) = Finds Answers budget (Err fault)

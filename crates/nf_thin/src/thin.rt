@@ -22,10 +22,11 @@ pub struct ThinFlow {
 
 impl Thin {
     ghost use Rattle.std.specs.Prelude.{◌≡◌};
+    ghost use Rattle.nf_thin.specs.Finding.{flow_of};
 
     /// The thin flow, whose place isn't asked for.
     pub(crate) fn flow(self) -> ThinFlow
-        ensures { result ≡ record { flows = self.flows; labels = self.labels; pattern = self.pattern } }
+        ensures { result ≡ flow_of self }
     {
         let Thin {
             flows,

@@ -28,20 +28,20 @@ returns-in_err-found c listing narrow n =
     let p = err_from_is_err_and c.from_residual-in_err-found.result c.from_residual-in_err-found.ensures.1 in
     rw (p.1, p.2) (narrow_failed passes_Q c.args.net.now.net c.args.sets.now c.args.rate c.args.base.now c.args.forced.now c.requires.network c.requires.sets c.requires.forcing c.loop-part.patterns (c.loop-part.invariant.same ∙ c.requires.question)
     c.in-Some.part.now c.next.follows.lender-at-none (subst (λ r. Gives c.loop-part.patterns (option_copied r) c.next.follows.lender-at-none) c.in-Some.is c.next.follows.holds-at-none)
-    c.args.budget c.loop-part.sifted c.sift_next.new.sifted c.loop-part.invariant.vainly c.in_err-found.field-0.0
-    (subst (λ (x : Pattern). SiftsNext passes_Q c.args.net.now.net c.args.sets.now c.args.rate c.args.budget x c.loop-part.sifted c.sift_next.new.sifted (Err c.in_err-found.field-0.0)) c.fill.ensures c.in_err-found.ensures) listing narrow n)
+    c.args.budget c.loop-part.vain c.sift_next.new.vain c.loop-part.invariant.vainly c.in_err-found.field-0.0
+    (subst (λ (x : Pattern). SiftsNext passes_Q c.args.net.now.net c.args.sets.now c.args.rate c.args.budget x c.loop-part.vain c.sift_next.new.vain (Err c.in_err-found.field-0.0)) c.fill.ensures c.in_err-found.ensures) listing narrow n)
 
 pub returns-in-Some-found : goal.returns-in-Some-found
 returns-in-Some-found c = narrow_found passes_Q c.args.net.now.net c.args.sets.now c.args.rate c.args.base.now c.args.forced.now c.requires.network c.requires.sets c.requires.forcing c.loop-part.patterns (c.loop-part.invariant.same ∙ c.requires.question)
     c.in-Some.part.now c.next.follows.lender-at-none (subst (λ r. Gives c.loop-part.patterns (option_copied r) c.next.follows.lender-at-none) c.in-Some.is c.next.follows.holds-at-none)
-    c.args.budget c.loop-part.sifted c.sift_next.new.sifted c.loop-part.invariant.vainly c.in-Some-found.thin
-    (subst (λ (x : Pattern). SiftsNext passes_Q c.args.net.now.net c.args.sets.now c.args.rate c.args.budget x c.loop-part.sifted c.sift_next.new.sifted (Ok (Some c.in-Some-found.thin))) c.fill.ensures
-    (subst (λ o. SiftsNext passes_Q c.args.net.now.net c.args.sets.now c.args.rate c.args.budget c.fill.new.pattern c.loop-part.sifted c.sift_next.new.sifted (Ok o)) c.in-Some-found.is c.in_ok-found.ensures))
+    c.args.budget c.loop-part.vain c.sift_next.new.vain c.loop-part.invariant.vainly c.in-Some-found.thin
+    (subst (λ (x : Pattern). SiftsNext passes_Q c.args.net.now.net c.args.sets.now c.args.rate c.args.budget x c.loop-part.vain c.sift_next.new.vain (Ok (Some c.in-Some-found.thin))) c.fill.ensures
+    (subst (λ o. SiftsNext passes_Q c.args.net.now.net c.args.sets.now c.args.rate c.args.budget c.fill.new.pattern c.loop-part.vain c.sift_next.new.vain (Ok o)) c.in-Some-found.is c.in_ok-found.ensures))
 
 pub loop-part-preserved : goal.loop-part-preserved
 loop-part-preserved c =
-    let t = subst (λ (x : Pattern). SiftsNext passes_Q c.args.net.now.net c.args.sets.now c.args.rate c.args.budget x c.loop-part.sifted c.sift_next.new.sifted (Ok None)) c.fill.ensures
-    (subst (λ o. SiftsNext passes_Q c.args.net.now.net c.args.sets.now c.args.rate c.args.budget c.fill.new.pattern c.loop-part.sifted c.sift_next.new.sifted (Ok o)) c.in_default-found.is c.in_ok-found.ensures) in
+    let t = subst (λ (x : Pattern). SiftsNext passes_Q c.args.net.now.net c.args.sets.now c.args.rate c.args.budget x c.loop-part.vain c.sift_next.new.vain (Ok None)) c.fill.ensures
+    (subst (λ o. SiftsNext passes_Q c.args.net.now.net c.args.sets.now c.args.rate c.args.budget c.fill.new.pattern c.loop-part.vain c.sift_next.new.vain (Ok o)) c.in_default-found.is c.in_ok-found.ensures) in
     let gives = (subst (λ r. Gives c.loop-part.patterns (option_copied r) c.next.follows.lender-at-none) c.in-Some.is c.next.follows.holds-at-none) in
     record {
       same = ap (λ (g : Given). g.question) gives.1 ∙ c.loop-part.invariant.same;
@@ -50,5 +50,5 @@ loop-part-preserved c =
       within = (let less = t.0 in let one = t.1.one_more in omega arith);
       vainly = narrow_on passes_Q c.args.net.now.net c.args.sets.now c.args.rate c.args.base.now c.args.forced.now c.requires.network c.requires.sets c.requires.forcing c.loop-part.patterns (c.loop-part.invariant.same ∙ c.requires.question)
           c.in-Some.part.now c.next.follows.lender-at-none (subst (λ r. Gives c.loop-part.patterns (option_copied r) c.next.follows.lender-at-none) c.in-Some.is c.next.follows.holds-at-none)
-          c.args.budget c.loop-part.sifted c.sift_next.new.sifted c.loop-part.invariant.vainly t;
+          c.args.budget c.loop-part.vain c.sift_next.new.vain c.loop-part.invariant.vainly t;
     }

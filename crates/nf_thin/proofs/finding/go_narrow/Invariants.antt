@@ -8,9 +8,9 @@ abbrev pub invariant-loop-part : goal.invariant-loop-part
 invariant-loop-part l = record {
   same : l.patterns.question ≡ l.fn.patterns.question;
   count : length l.whole ≡ length l.net.net.links;
-  within : l.sifted.vain.tried ≤ l.budget;
-  vainly : NarrowVainly passes_Q l.net.net l.sets l.rate l.base l.forced l.sifted.vain.tried l.patterns.last;
+  within : l.vain.tried ≤ l.budget;
+  vainly : NarrowVainly passes_Q l.net.net l.sets l.rate l.base l.forced l.vain.tried l.patterns.last;
 }
 
 abbrev pub decreases-loop-part : goal.decreases-loop-part
-decreases-loop-part l = l.budget - l.sifted.vain.tried
+decreases-loop-part l = l.budget - l.vain.tried
