@@ -1,6 +1,6 @@
 -- What a search by forced states answers.
-use Rattle.std.proofs.Common.{◌≡◌, ℕ, suc, ◌<◌, true, false, List, length, sym, subst, ap, ◌∙◌}
-use Rattle.std.specs.Prelude.{Option, Some, None, Result, Ok, Err}
+use Rattle.std.proofs.Common.{◌≡◌, ℕ, true, false, List, length, sym, subst, ap, ◌∙◌}
+use Rattle.std.specs.Prelude.{Some, Ok, Err}
 use Rattle.nf_rational.specs.Rational.{ℚ}
 use Rattle.nf_work.specs.Passing.{Passing}
 use Rattle.nf_model.specs.Network.{Network, IsNetwork, unbounded}
@@ -9,7 +9,7 @@ use Rattle.nf_model.specs.Pattern.{Pattern, IsPattern, IsListedIn, IsSolvable}
 use Rattle.nf_lists.specs.Search.{Found, OverBudget, IsSearch}
 use Rattle.nf_pattern.specs.Given.{IsQuestion}
 use Rattle.nf_pattern.proofs.Deciding.{has_listing}
-use Rattle.nf_listing_laws.specs.Forcing.{filled, IsForcing, HasForced}
+use Rattle.nf_listing_laws.specs.Forcing.{IsForcing, HasForced}
 use Rattle.nf_listing_laws.specs.Laws.{Narrows}
 use Rattle.nf_listing_laws.proofs.Forced.{left_pattern, filled_pattern, sets_count, flags_count}
 use Rattle.nf_listing_laws.proofs.Answered.{answer_within, answer_beyond, answer_over}

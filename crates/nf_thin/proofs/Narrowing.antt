@@ -1,14 +1,13 @@
 -- The loop over the patterns that are left where slopes force states.
-use Rattle.std.proofs.Common.{◌≡◌, ◌⊎◌, ⊎_elim, ℕ, suc, ◌+◌, ◌<◌, ◌≤◌, List, length, refl, sym, ap, subst, ◌∙◌, arith}
-use Rattle.std.specs.Prelude.{Option, Some, None, slice_get, Result, Ok, Err}
+use Rattle.std.proofs.Common.{◌≡◌, ⊎_elim, ℕ, suc, ◌<◌, List, length, refl, sym, ap, subst, ◌∙◌, arith}
+use Rattle.std.specs.Prelude.{Some, None, slice_get, Ok, Err}
 use Rattle.std.proofs.lemmas.Option.{same_Some, slice_get_within}
 use Rattle.nf_rational.specs.Rational.{ℚ}
 use Rattle.nf_work.specs.Passing.{Passing}
 use Rattle.nf_model.specs.Network.{Network, IsNetwork, hops, unbounded}
 use Rattle.nf_model.specs.ThinFlow.{Sets}
-use Rattle.nf_model.specs.Pattern.{Pattern, IsPattern, IsListedIn, IsSolution}
+use Rattle.nf_model.specs.Pattern.{Pattern, IsListedIn}
 use Rattle.nf_lists.specs.Accepted.{IsAccepted}
-use Rattle.nf_lists.specs.Listing.{HasPlace}
 use Rattle.nf_plain_laws.proofs.Naturals.{before_or_at}
 use Rattle.nf_listing_laws.specs.Forcing.{filled, IsForcing}
 use Rattle.nf_listing_laws.specs.Laws.{Narrows, NoneFilledBefore}
@@ -22,7 +21,7 @@ use Rattle.nf_thin.specs.declared.fault.SearchFault.{SearchFault}
 use Rattle.nf_thin.specs.declared.vain.Vain.{Vain}
 use Rattle.nf_thin.specs.Searching.{AreSetsOf, question_of}
 use Rattle.nf_thin.specs.Sifting.{SiftsNext}
-use Rattle.nf_thin.specs.Finding.{NarrowFinds, NarrowAnswers, IsFirstFilled}
+use Rattle.nf_thin.specs.Finding.{NarrowFinds}
 
 -- so many of the patterns that are left were given, and none of them is accepted
 abbrev pub NarrowVainly : Passing → Network → Sets → ℚ → Pattern → Pattern → ℕ → Last → Type 0

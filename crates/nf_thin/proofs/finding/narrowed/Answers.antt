@@ -1,4 +1,4 @@
-use Rattle.std.proofs.Common.{List, Bool, length, ◌∙◌, ap, sym, subst, ◌≡◌}
+use Rattle.std.proofs.Common.{List, Bool, length, ◌∙◌, ap, sym, subst}
 use Rattle.nf_model.specs.Walk.{Hop}
 use Rattle.nf_model.specs.Pattern.{IsPattern}
 use Rattle.nf_listing_laws.specs.Forcing.{IsForcing}

@@ -1,4 +1,4 @@
-use Rattle.std.proofs.Common.{List, length, subst, sym, ap, ◌∙◌}
+use Rattle.std.proofs.Common.{List, length, subst, ap, ◌∙◌}
 use Rattle.std.specs.Prelude.{Option, IfSome}
 use Rattle.nf_rational.specs.Rational.{ℚ}
 use Rattle.nf_work.specs.Passing.{passes_Q}

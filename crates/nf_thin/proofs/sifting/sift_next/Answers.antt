@@ -1,4 +1,4 @@
-use Rattle.std.proofs.Common.{List, length, true, sym, ap, ◌∙◌, add-one, arith}
+use Rattle.std.proofs.Common.{List, length, sym, ap, ◌∙◌, add-one, arith}
 use Rattle.std.specs.Prelude.{Option}
 use Rattle.std.proofs.lemmas.Bool.{true≢false}
 use Rattle.nf_rational.specs.Rational.{ℚ}

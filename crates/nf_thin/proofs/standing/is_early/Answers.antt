@@ -1,4 +1,4 @@
-use Rattle.std.proofs.Common.{◌≡◌, ℕ, List, Bool, length, sym, ap, subst, ◌∙◌, arith}
+use Rattle.std.proofs.Common.{ℕ, List, Bool, length, sym, ap, subst, ◌∙◌, arith}
 use Rattle.nf_model.specs.Walk.{Hop}
 use Rattle.nf_model.specs.Network.{hops}
 use Rattle.nf_listing_laws.specs.Ways.{AreSole}

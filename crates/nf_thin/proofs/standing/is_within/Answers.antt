@@ -1,4 +1,4 @@
-use Rattle.std.proofs.Common.{◌≡◌, ap, subst, ◌∙◌}
+use Rattle.std.proofs.Common.{ap, subst, ◌∙◌}
 use Rattle.nf_pattern.specs.Given.{Question}
 use Rattle.nf_narrow.specs.Asking.{StandsWithin}
 use Rattle.nf_thin.specs.Searching.{question_of}
