@@ -44,7 +44,7 @@ fn tell_phase(
         "conserves" => questions::tell_conserves(rt, net, sets, rate, base, fields.words),
         "tried" => searches::tell_tried(rt, net, sets, rate, base),
         "search" => searches::tell_searches(rt, net, sets, rate, base, fields.words),
-        "slopes" => searches::tell_sifted(rt, net, sets, rate, base, fields.words),
+        "slopes" => searches::tell_by_slopes(rt, net, sets, rate, base, fields.words),
         _ => tell_none(rt),
     }
 }

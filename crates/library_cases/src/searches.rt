@@ -1,4 +1,5 @@
 // Searches for thin flows.
+ghost use Rattle.std.specs.Prelude.{◌≡◌, length};
 ghost use Rattle.nf_model.specs.Network.{unbounded};
 ghost use Rattle.nf_model.specs.Pattern.{IsPattern};
 ghost use Rattle.nf_thin.specs.Searching.{AreSetsOf};
@@ -8,7 +9,7 @@ use nf_frac::Q;
 use nf_graph::LinkSets;
 use nf_net::Network;
 use nf_pattern::Pattern;
-use nf_thin::parts::sifted_search;
+use nf_thin::parts::{find_by_slopes, is_within};
 use nf_thin::{MOST_UNKNOWNS, SearchFault, Thin, Tried, search, try_pattern, unknown_count};
 use std::io;
 
@@ -76,8 +77,29 @@ pub fn tell_searches(
     Ok(())
 }
 
+// The place of a listed pattern, if it is within the budget: the least one within which the pattern stands.
+fn tell_place(
+    rt: &HostRuntime,
+    net: &Network,
+    sets: &LinkSets,
+    base: &Pattern,
+    pattern: &Pattern,
+    budget: u64,
+) -> io::Result<()>
+    requires sets { AreSetsOf net.now.net sets.now }
+    requires base { IsPattern sets.now (unbounded net.now.net) base.now }
+    requires pattern { length pattern.now ≡ length net.now.net.links }
+{
+    for earlier in 0..budget {
+        if is_within(rt.alloc(), net, sets, base, pattern, earlier + 1)? {
+            return print!(rt; "place {}", earlier + 1);
+        }
+    }
+    Ok(())
+}
+
 /// The search by slopes alone, with this budget.
-pub fn tell_sifted(
+pub fn tell_by_slopes(
     rt: &HostRuntime,
     net: &Network,
     sets: &LinkSets,
@@ -91,8 +113,11 @@ pub fn tell_sifted(
     let Ok(budget) = budget.parse::<u64>() else {
         return tell_none(rt);
     };
-    match sifted_search(rt.alloc(), net, sets, rate, base, budget) {
-        Ok(Some(thin)) => tell_thin(rt, &thin),
+    match find_by_slopes(rt.alloc(), net, sets, rate, base, budget) {
+        Ok(Some(found)) => {
+            tell_place(rt, net, sets, base, &found.pattern, budget)?;
+            tell_flows(rt, &found.flows, &found.labels)
+        }
         Ok(None) => print!(rt; "no end"),
         Err(fault) => tell_fault(rt, &fault),
     }

@@ -6,7 +6,7 @@ use Rattle.nf_work.specs.Passing.{Passing}
 use Rattle.nf_model.specs.Network.{Network}
 use Rattle.nf_formats.specs.declared.Cause.{Cause}
 use Rattle.nf_lists.specs.PhaseRun.{Standing, IsStart}
-use Rattle.nf_thin.specs.declared.thin.Thin.{Thin}
+use Rattle.nf_thin.specs.declared.thin.ThinFlow.{ThinFlow}
 use Rattle.nf_phase.specs.declared.fault.StepFault.{StepFault}
 use Rattle.nf_phase.specs.Stepping.{Reaches, starts, IsCauseOn, tail_of}
 use Rattle.nf_phase.proofs.Stopping.{stands_stop}
@@ -39,22 +39,22 @@ module _ (passes : Passing) (net : Network) (phases patterns : ℕ) (first : Sta
     }
 
     -- where no thin flow is answered, a phase was made
-    pub gone_further : count < phases → (answer : Option Thin) → answer ≡ None → (t : Standing) → Reaches passes net t
+    pub gone_further : count < phases → (answer : Option ThinFlow) → answer ≡ None → (t : Standing) → Reaches passes net t
         → MatchOption answer (GoesToEnd passes net patterns s t) (λ thin. GoesForever passes net patterns s thin.pattern (tail_of thin)) → GoneOn passes net phases patterns first (count + 1) t
     gone_further may answer is t reaches g =
-        further may t reaches (subst (λ (o : Option Thin). MatchOption o (GoesToEnd passes net patterns s t) (λ thin. GoesForever passes net patterns s thin.pattern (tail_of thin))) is g)
+        further may t reaches (subst (λ (o : Option ThinFlow). MatchOption o (GoesToEnd passes net patterns s t) (λ thin. GoesForever passes net patterns s thin.pattern (tail_of thin))) is g)
 
     -- ---- where it ends
     pub ends_at_phases : count ≡ phases → (made : ℕ) → made ≡ s.made → IsForeverRun passes net phases patterns s (Stops (Cause.Phases made))
     ends_at_phases all made e = subst (λ (n : ℕ). IsForeverRun passes net phases patterns s (Stops (Cause.Phases n))) (sym e) (run_of (Stops (Cause.Phases s.made)) (at_phases (gone.made ∙ all)))
 
     -- by the thin flow that is answered where no phase is made
-    pub ends_never : count < phases → (answer : Option Thin) (thin : Thin) → answer ≡ Some thin → (after : Standing)
+    pub ends_never : count < phases → (answer : Option ThinFlow) (thin : ThinFlow) → answer ≡ Some thin → (after : Standing)
         → MatchOption answer (GoesToEnd passes net patterns s after) (λ thin. GoesForever passes net patterns s thin.pattern (tail_of thin)) → (IsSome answer → after ≡ s)
         → IsForeverRun passes net phases patterns after (NeverEnds thin.pattern (tail_of thin))
     ends_never may answer thin is after g stays =
-        let goes_forever = subst (λ (o : Option Thin). MatchOption o (GoesToEnd passes net patterns s after) (λ thin. GoesForever passes net patterns s thin.pattern (tail_of thin))) is g in
-        let same : after ≡ s = subst (λ (o : Option Thin). IsSome o → after ≡ s) is stays refl in
+        let goes_forever = subst (λ (o : Option ThinFlow). MatchOption o (GoesToEnd passes net patterns s after) (λ thin. GoesForever passes net patterns s thin.pattern (tail_of thin))) is g in
+        let same : after ≡ s = subst (λ (o : Option ThinFlow). IsSome o → after ≡ s) is stays refl in
         subst (λ (t : Standing). IsForeverRun passes net phases patterns t (NeverEnds thin.pattern (tail_of thin))) (sym same)
         (run_of (NeverEnds thin.pattern (tail_of thin)) (never_ends (may_go may) goes_forever))
 

@@ -19,14 +19,14 @@ use crate::forever::{Forever, Tail};
 use nf_curve::Stop;
 use nf_net::Network;
 use nf_phase::{Budgets, Run, StepFault, stop_by};
-use nf_thin::Thin;
+use nf_thin::ThinFlow;
 use std::alloc::{AllocError, Global};
 
 // How a run ends: by a stop, or in a phase that never ends, with its thin flow.
 #[derive(Drop)]
 enum End {
     Stops(Stop),
-    NeverEnds(Thin),
+    NeverEnds(ThinFlow),
 }
 
 // The run ends where the phase of this number isn't made.
@@ -71,16 +71,15 @@ fn stopped(alloc: Global, run: &Run, stop: Stop) -> Result<Forever, AllocError>
 }
 
 // What a run comes to whose next phase never ends.
-fn endless(alloc: Global, run: &Run, thin: Thin) -> Result<Forever, AllocError>
+fn endless(alloc: Global, run: &Run, thin: ThinFlow) -> Result<Forever, AllocError>
     ensures { IfOk result (λ f. forever_in f ≡ forever_of run.now (NeverEnds thin.pattern (tail_of thin))) }
 {
     let flow = run.flow(alloc)?;
     let phases = run.phases();
-    let Thin {
+    let ThinFlow {
         flows,
         labels: slopes,
         pattern,
-        place: _,
     } = thin;
     Ok(Forever {
         flow,

@@ -36,8 +36,8 @@ use Rattle.nf_phase.proofs.Found.{by_fault, seeks_here, seeks_below, extend_caus
 -- ---- the search
 pub found_here : (passes : Passing) (net : Network) (patterns : ℕ) (s : Standing) → slack_list passes (hops net) s.labels ≡ Ok (slacks_of (hops net) s.labels) → (horizon : ℚ) (found : Found)
     → found.slacks.items ≡ slacks_of (hops net) s.labels → found.sets ≡ sets_at net s.labels
-    → IsSearchHere passes net horizon patterns s (FoundAt found.thin.place found.thin.pattern found.thin.flows.items found.thin.labels.items) → IsFound passes net patterns s found
-found_here passes net patterns s list horizon found slacks sets h = record { slacks = slacks; sets = sets; seeks = seeks_here passes net patterns s list horizon _ h }
+    → ((place : ℕ) × IsSearchHere passes net horizon patterns s (FoundAt place found.thin.pattern found.thin.flows.items found.thin.labels.items)) → IsFound passes net patterns s found
+found_here passes net patterns s list horizon found slacks sets h = record { slacks = slacks; sets = sets; seeks = (h.0, seeks_here passes net patterns s list horizon _ h.1) }
 
 -- ---- how many there are
 module _ (passes : Passing) (net : Network) (patterns : ℕ) (s : Standing) (found : Found) (is : IsFound passes net patterns s found) where
@@ -45,10 +45,10 @@ module _ (passes : Passing) (net : Network) (patterns : ℕ) (s : Standing) (fou
   slack_count slacks e = ap (λ (l : List ℚ). length l) (e ∙ is.slacks) ∙ length-map (hops net) (slack s.labels) ∙ length-map net.links hop_of
 
   pub thin_slope_count : (slopes : List ℚ) → slopes ≡ found.thin.labels.items → length slopes ≡ net.nodes
-  thin_slope_count slopes e = ap (λ (l : List ℚ). length l) e ∙ is.seeks.is_search.answers.solution.solves.slope_count
+  thin_slope_count slopes e = ap (λ (l : List ℚ). length l) e ∙ is.seeks.1.is_search.answers.solution.solves.slope_count
 
   pub thin_flow_count : (flows : List ℚ) → flows ≡ found.thin.flows.items → length flows ≡ length net.links
-  thin_flow_count flows e = ap (λ (l : List ℚ). length l) e ∙ is.seeks.is_search.answers.solution.solves.flow_count
+  thin_flow_count flows e = ap (λ (l : List ℚ). length l) e ∙ is.seeks.1.is_search.answers.solution.solves.flow_count
 
 -- ---- the lists
 module _ (passes : Passing) (net : Network) (good : IsNetwork net) (horizon : ℚ) (patterns : ℕ) (s : Standing) (reaches : Reaches passes net s) (found : Found)
@@ -64,11 +64,11 @@ module _ (passes : Passing) (net : Network) (good : IsNetwork net) (horizon : �
 
   pub pattern_count : length found.thin.pattern ≡ length net.links
   pattern_count =
-      let first = is.seeks.is_search.answers in
-      (is.seeks.is_search.is_listing.listed found.thin.place found.thin.pattern first.has_place).states.count ∙ active_count net s.labels
+      let first = is.seeks.1.is_search.answers in
+      (is.seeks.1.is_search.is_listing.listed is.seeks.0 found.thin.pattern first.has_place).states.count ∙ active_count net s.labels
 
   slope_count : length thin_slopes ≡ length s.labels
-  slope_count = is.seeks.is_search.answers.solution.solves.slope_count ∙ sym (label_count_at net good s stands.well)
+  slope_count = is.seeks.1.is_search.answers.solution.solves.slope_count ∙ sym (label_count_at net good s stands.well)
 
   pub counts_agree : (labels slopes : List ℚ) → labels ≡ s.labels → slopes ≡ thin_slopes → length slopes ≡ length labels
   counts_agree labels slopes e f = ap (λ (l : List ℚ). length l) f ∙ slope_count ∙ ap (λ (l : List ℚ). length l) (sym e)
@@ -85,9 +85,9 @@ module _ (passes : Passing) (net : Network) (good : IsNetwork net) (horizon : �
       → IsPhaseLength net (slacks_of (hops net) s.labels) thin_slopes s.time horizon end.length → phase.pattern ≡ found.thin.pattern → phase.slopes.items ≡ thin_slopes
       → ◌≡◌ {A = Advanced} (record { length = phase.length; labels = phase.labels.items }) end → LeadsOn passes net horizon patterns s phase
   leads_on below end phase lists long same_pattern same_slopes same_end = let same_step : step_in phase ≡ with_links phase.steps.items end = ap (with_links phase.steps.items) same_end in record {
-    place = found.thin.place;
+    place = is.seeks.0;
     flows = found.thin.flows.items;
-    finds = rw (same_pattern, same_slopes) (seeks_below passes net patterns s horizon _ below is.seeks);
+    finds = rw (same_pattern, same_slopes) (seeks_below passes net patterns s horizon _ below is.seeks.1);
     lists = rw (same_pattern, same_slopes, same_step) lists;
     is_length = rw (ap (λ (a : Advanced). a.length) same_end, same_slopes) long;
   }

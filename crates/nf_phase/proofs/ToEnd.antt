@@ -41,11 +41,11 @@ module _ (passes : Passing) (net : Network) (patterns : ℕ) (s : Standing) (fou
       let p = part_err Extend (end_list passes net slacks slopes time) at (sym h) in
       by_fault result (StepFault.Passed at) (IsCauseOn passes net patterns s) e
       (subst (λ (at : PassedAt ℚ). FailsOn passes net patterns s (Cause.Passed (suc s.made) None at)) p.2
-      (extend_on passes net patterns s found.thin.place found.thin.pattern found.thin.flows.items found.thin.labels.items is.seeks p.0 (ends_is ∙ p.1)))
+      (extend_on passes net patterns s is.seeks.0 found.thin.pattern found.thin.flows.items found.thin.labels.items is.seeks.1 p.0 (ends_is ∙ p.1)))
 
   -- there is no end
   pub goes_forever : Ok None ≡ at_part Extend (end_list passes net slacks slopes time) → GoesForever passes net patterns s found.thin.pattern (tail_of found.thin)
-  goes_forever h = record { place = found.thin.place; finds = is.seeks; no_end = ends_is ∙ part_ok Extend (end_list passes net slacks slopes time) None h }
+  goes_forever h = record { place = is.seeks.0; finds = is.seeks.1; no_end = ends_is ∙ part_ok Extend (end_list passes net slacks slopes time) None h }
 
   -- this is the end
   module _ (end : ℚ) (ended : Ok (Some end) ≡ at_part Extend (end_list passes net slacks slopes time)) where
@@ -57,7 +57,7 @@ module _ (passes : Passing) (net : Network) (patterns : ℕ) (s : Standing) (fou
     lists_pass result fault e h =
         by_fault result fault (IsCauseOn passes net patterns s) e
         (stands_as (ListsPass passes net end s found.thin.pattern found.thin.flows.items found.thin.labels.items) (FailsOn passes net patterns s) (suc s.made) fault
-        (lists_on passes net patterns s found.thin.place found.thin.pattern found.thin.flows.items found.thin.labels.items is.seeks end end_is) h)
+        (lists_on passes net patterns s is.seeks.0 found.thin.pattern found.thin.flows.items found.thin.labels.items is.seeks.1 end end_is) h)
 
     pub goes_to_end : (phase : Phase) → LeadsOn passes net end patterns s phase → phase.slopes.items ≡ found.thin.labels.items → (t : Standing) → t ≡ after_phase net s phase
         → GoesToEnd passes net patterns s t

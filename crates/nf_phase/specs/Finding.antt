@@ -27,11 +27,11 @@ after_phase net s phase = standing_after net s phase.pattern phase.slopes.items 
 
 -- ---- the search, which asks for no horizon
 module _ (passes : Passing) (net : Network) (patterns : ℕ) (s : Standing) where
-  -- the slacks and their sets, and the thin flow that is found
+  -- the slacks and their sets, and the thin flow that is found, by a pattern that stands at some place
   pub record IsFound (found : code.Found) : Type 0 where
     pub slacks : found.slacks.items ≡ slacks_of (hops net) s.labels
     pub sets : found.sets ≡ sets_at net s.labels
-    pub seeks : SeeksOn passes net patterns s (Found found.thin.place found.thin.pattern found.thin.flows.items found.thin.labels.items)
+    pub seeks : (place : ℕ) × SeeksOn passes net patterns s (Found place found.thin.pattern found.thin.flows.items found.thin.labels.items)
 
   -- why there is none: an operation of the slack list passes, or no pattern is found
   pub data FindsNone : Cause ℚ → Type 0 where

@@ -10,7 +10,7 @@ use Rattle.nf_resume_lists.specs.Open.{Continues, with_last}
 use Rattle.nf_forever_lists.specs.Tails.{Tail}
 use Rattle.nf_forever_lists.specs.ForeverRun.{FailsOn}
 use Rattle.nf_thin.specs.declared.fault.SearchFault.TheVariants as SearchFault
-use Rattle.nf_thin.specs.declared.thin.Thin.{Thin}
+use Rattle.nf_thin.specs.declared.thin.ThinFlow.{ThinFlow}
 use Rattle.nf_phase.specs.declared.fault.StepFault.{StepFault}
 use Rattle.nf_phase.specs.Restarting.{IsRestored}
 
@@ -40,7 +40,7 @@ abbrev pub IsCauseOn : Passing → Network → ℕ → Standing → StepFault �
 IsCauseOn passes net patterns s = StandsFor (FailsOn passes net patterns s) (suc s.made)
 
 -- how labels and flows go on by a thin flow
-abbrev pub tail_of : Thin → Tail
+abbrev pub tail_of : ThinFlow → Tail
 tail_of thin = record { slopes = thin.labels.items; flows = thin.flows.items }
 
 -- one phase leads from a departure with its labels to this one with its own, and to no other

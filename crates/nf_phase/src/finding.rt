@@ -7,7 +7,7 @@ ghost use Rattle.nf_model.specs.ThinFlow.{slacks_of, sets_at};
 ghost use Rattle.nf_formats.specs.WellNamed.{IsNamed};
 ghost use Rattle.nf_lists.specs.PhaseRun.{IsSearchHere};
 ghost use Rattle.nf_lists.specs.Slack.{slack_list};
-ghost use Rattle.nf_thin.specs.Searching.{Searches};
+ghost use Rattle.nf_thin.specs.Finding.{Finds};
 ghost use Rattle.nf_phase.specs.Stepping.{Reaches, StandsFor};
 ghost use Rattle.nf_phase.specs.Finding.{IsFound, FindsNone};
 
@@ -18,7 +18,7 @@ use nf_graph::LinkSets;
 use nf_net::Network;
 use nf_pattern::base;
 use nf_sets::{sets, slacks};
-use nf_thin::{SearchFault, Thin, search};
+use nf_thin::{SearchFault, ThinFlow, find_thin};
 use std::alloc::Global;
 
 // What a phase begins with: the slacks of the links, which of them are active and resetting, and a thin flow for these.
@@ -26,7 +26,7 @@ use std::alloc::Global;
 pub(crate) struct Found {
     pub(crate) slacks: Vec<Q>,
     pub(crate) sets: LinkSets,
-    pub(crate) thin: Thin,
+    pub(crate) thin: ThinFlow,
 }
 
 impl Run {
@@ -49,13 +49,13 @@ impl Run {
         net: &Network,
         sets: &LinkSets,
         patterns: u64,
-    ) -> Result<Thin, SearchFault>
+    ) -> Result<ThinFlow, SearchFault>
         requires reaches { Reaches passes_Q net.now.net self.now }
         requires sets { sets.now ≡ sets_at net.now.net self.now.labels }
-        ensures { (horizon : ℚ) → Searches (IsSearchHere passes_Q net.now.net horizon patterns self.now) patterns result }
+        ensures { (horizon : ℚ) → Finds (IsSearchHere passes_Q net.now.net horizon patterns self.now) patterns result }
     {
         let base = base(alloc, net.node_count(), net.hops(), sets, &self.last)?;
-        search(alloc, net, sets, net.rate_at(self.reached), &base, patterns)
+        find_thin(alloc, net, sets, net.rate_at(self.reached), &base, patterns)
     }
 
     // The thin flow of the phase that begins here.

@@ -19,7 +19,7 @@ use nf_frac::Q;
 use nf_growth::{LinkStep, amounts, link_steps};
 use nf_net::Network;
 use nf_pattern::Pattern;
-use nf_thin::Thin;
+use nf_thin::ThinFlow;
 use std::alloc::Global;
 
 // A phase: its length, the labels at its end, the slopes at which they move, how each link goes on, and the pattern by which the
@@ -106,11 +106,10 @@ impl Run {
             sets: _,
             thin,
         } = found;
-        let Thin {
+        let ThinFlow {
             flows: _,
             labels: slopes,
             pattern,
-            place: _,
         } = thin;
         let Advanced { length, labels } = end;
         Ok(Phase {

@@ -20,7 +20,7 @@ use nf_frac::Q;
 use nf_growth::{GrowingCurve, LinkCurves, copy_labels, copy_links, first_labels, first_links};
 use nf_net::{Network, start_labels};
 use nf_pattern::Pattern;
-use nf_thin::Thin;
+use nf_thin::ThinFlow;
 use std::alloc::{AllocError, Global};
 use std::marker::Model;
 
@@ -122,7 +122,7 @@ impl Run {
         alloc: Global,
         net: &Network,
         patterns: u64,
-    ) -> Result<Option<Thin>, StepFault>
+    ) -> Result<Option<ThinFlow>, StepFault>
         requires reaches { Reaches passes_Q net.now.net self.old }
         requires more { self.old.made < 2 ^ 64 - 1 }
         ensures phase { IfOk result (λ tail. MatchOption tail (GoesToEnd passes_Q net.now.net patterns self.old self.new) (λ thin. GoesForever passes_Q net.now.net patterns self.old thin.pattern (tail_of thin))) }

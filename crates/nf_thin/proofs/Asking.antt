@@ -1,11 +1,12 @@
 -- The listing of a network's patterns, as a search asks for it.
-use Rattle.std.proofs.Common.{◌≡◌, subst}
+use Rattle.std.proofs.Common.{◌≡◌, subst, ap, ◌∙◌}
 use Rattle.nf_model.specs.Network.{Network, IsNetwork}
 use Rattle.nf_model.specs.ThinFlow.{Sets}
 use Rattle.nf_model.specs.Pattern.{Pattern}
-use Rattle.nf_pattern.specs.Given.{Question, IsListedBy}
+use Rattle.std.specs.Prelude.{Some}
+use Rattle.nf_pattern.specs.Given.{Question, Given, IsQuestion, IsListedBy, Gives}
 use Rattle.nf_equation_laws.specs.Equations.{IsPatternIn}
-use Rattle.nf_thin.specs.Searching.{AreSetsOf, question_of}
+use Rattle.nf_thin.specs.Searching.{AreSetsOf, AsksOf, question_of}
 
 -- a listed pattern is one of the network's
 pub listed_in : (net : Network) (sets : Sets) (q : Question) (pattern : Pattern) → IsNetwork net → AreSetsOf net sets → q ≡ question_of net sets q.base → IsListedBy q pattern → IsPatternIn net sets pattern
@@ -15,3 +16,11 @@ listed_in net sets q pattern good sets_are asked listed = record {
   bounded = sets_are.bounded;
   pattern_is = (let l : IsListedBy (question_of net sets q.base) pattern = subst (λ (x : Question). IsListedBy x pattern) asked listed in l.states);
 }
+
+-- so is the first one that is given
+pub given_in : (net : Network) (sets : Sets) (given after : Given) (pattern : Pattern) → IsNetwork net → AreSetsOf net sets → AsksOf net sets given → Gives given (Some pattern) after → IsPatternIn net sets pattern
+given_in net sets given after pattern good sets_are asks gives = listed_in net sets given.question pattern good sets_are asks.asked gives.0.listed
+
+-- what is asked is a question, whatever the base is called
+pub question_asked : (net : Network) (sets : Sets) (base : Pattern) (given : Given) → AsksOf net sets given → given.question.base ≡ base → IsQuestion (question_of net sets base)
+question_asked net sets base given asks is_base = subst IsQuestion (asks.asked ∙ ap (question_of net sets) is_base) asks.is_question

@@ -11,26 +11,41 @@ use Rattle.nf_lists.specs.Search.{Found, IsSearch}
 use Rattle.nf_thin_laws.proofs.Accepted.{IsThinFlow-accepted}
 use Rattle.nf_thin_laws.proofs.Slopes.{slopes-unique}
 use Rattle.nf_thin.specs.declared.thin.Thin.{Thin}
+use Rattle.nf_thin.specs.declared.thin.ThinFlow.{ThinFlow}
 use Rattle.nf_thin.specs.declared.fault.SearchFault.{SearchFault}
 use Rattle.nf_thin.specs.declared.known.Known.{Known}
 use Rattle.nf_thin.specs.declared.vain.Vain.{Vain}
 use Rattle.nf_thin.specs.Knowing.{IsKnown, IsThinAt}
 use Rattle.nf_thin.specs.Searching.{Searches, SlopesAreOnly, AreSetsOf, IsFound}
+use Rattle.nf_thin.specs.Finding.{Finds}
 
 module _ (passes : Passing) (net : Network) (sets : Sets) (rate : ℚ) (base : Pattern) (budget : ℕ) (good : IsNetwork net) (sets_are : AreSetsOf net sets) where
-  found_is_thin : (thin : Thin) → IsSearch passes net sets rate base budget (Found thin.place thin.pattern thin.flows.items thin.labels.items) → IsThinFlow net sets rate thin.flows.items thin.labels.items
-  found_is_thin thin s =
-      let first = s.answers in
-      let listed : IsListedIn net sets thin.pattern = s.is_listing.listed thin.place thin.pattern first.has_place in
-      IsThinFlow-accepted net sets rate thin.pattern thin.flows.items thin.labels.items good sets_are.sets_are listed.states listed.entered first.solution.solves first.solution.meets
+  module _ (place : ℕ) (pattern : Pattern) (flows slopes : List ℚ) (s : IsSearch passes net sets rate base budget (Found place pattern flows slopes)) where
+    found_is_thin : IsThinFlow net sets rate flows slopes
+    found_is_thin =
+        let first = s.answers in
+        let listed : IsListedIn net sets pattern = s.is_listing.listed place pattern first.has_place in
+        IsThinFlow-accepted net sets rate pattern flows slopes good sets_are.sets_are listed.states listed.entered first.solution.solves first.solution.meets
+
+    found_is_only : SlopesAreOnly net sets rate slopes
+    found_is_only no_cycle other_flows other is_thin = slopes-unique net sets rate good no_cycle other_flows other flows slopes is_thin found_is_thin
 
   pub result_is_thin : (result : Result Thin SearchFault) → Searches (IsSearch passes net sets rate base budget) budget result → IfOk result (λ thin. IsThinFlow net sets rate thin.flows.items thin.labels.items)
-  result_is_thin (Ok thin) s = found_is_thin thin s
+  result_is_thin (Ok thin) s = found_is_thin thin.place thin.pattern thin.flows.items thin.labels.items s
   result_is_thin (Err fault) s = tt
 
   pub result_is_only : (result : Result Thin SearchFault) → Searches (IsSearch passes net sets rate base budget) budget result → IfOk result (λ thin. SlopesAreOnly net sets rate thin.labels.items)
-  result_is_only (Ok thin) s = λ no_cycle flows other is_thin. slopes-unique net sets rate good no_cycle flows other thin.flows.items thin.labels.items is_thin (found_is_thin thin s)
+  result_is_only (Ok thin) s = found_is_only thin.place thin.pattern thin.flows.items thin.labels.items s
   result_is_only (Err fault) s = tt
+
+  -- at whatever place it is found
+  pub flow_is_thin : (result : Result ThinFlow SearchFault) → Finds (IsSearch passes net sets rate base budget) budget result → IfOk result (λ found. IsThinFlow net sets rate found.flows.items found.labels.items)
+  flow_is_thin (Ok found) s = found_is_thin s.0 found.pattern found.flows.items found.labels.items s.1
+  flow_is_thin (Err fault) s = tt
+
+  pub flow_is_only : (result : Result ThinFlow SearchFault) → Finds (IsSearch passes net sets rate base budget) budget result → IfOk result (λ found. SlopesAreOnly net sets rate found.labels.items)
+  flow_is_only (Ok found) s = found_is_only s.0 found.pattern found.flows.items found.labels.items s.1
+  flow_is_only (Err fault) s = tt
 
 -- the known pattern, where it is the next one
 pub found_known : (passes : Passing) (net : Network) (sets : Sets) (rate : ℚ) (known : Known) (pattern : Pattern) (before : Vain) (thin : Thin)

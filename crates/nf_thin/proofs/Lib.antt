@@ -1,13 +1,13 @@
 pub mod Hops
-pub mod Places
 pub mod Searched
 pub mod Asking
 pub mod FoundThin
 pub mod Looping
-pub mod BehindFirst
 pub mod NoCycle
 pub mod LedSlopes
-pub mod AllowedStates
 pub mod Within
 pub mod Conserving
 pub mod Refusing
+pub mod Narrowing
+pub mod Early
+pub mod FoundBy

@@ -1,6 +1,6 @@
 -- The loop of the search over the patterns that a listing gives.
-use Rattle.std.proofs.Common.{◌≡◌, ℕ, ◌≤◌, Bool, false, List, sym, ap, subst, ◌∙◌, arith, ◌-◌, ◌<◌, suc}
-use Rattle.std.specs.Prelude.{Option, Some, None, Result, Ok, Err}
+use Rattle.std.proofs.Common.{◌≡◌, ℕ, ◌≤◌, List, sym, ap, subst, ◌∙◌, arith, ◌-◌, ◌<◌, suc}
+use Rattle.std.specs.Prelude.{Some, None, Result, Ok, Err}
 use Rattle.nf_rational.specs.Rational.{ℚ}
 use Rattle.nf_work.specs.Passing.{Passing}
 use Rattle.nf_model.specs.Network.{Network, IsNetwork}
@@ -13,38 +13,20 @@ use Rattle.nf_pattern.proofs.Deciding.{has_listing}
 use Rattle.nf_thin.specs.declared.thin.Thin.{Thin}
 use Rattle.nf_thin.specs.declared.vain.Vain.{Vain}
 use Rattle.nf_thin.specs.declared.fault.SearchFault.{SearchFault}
-use Rattle.nf_thin.specs.declared.sifting.Sifted.{Sifted}
 use Rattle.nf_thin.specs.FirstPassing.{fault_of}
 use Rattle.nf_thin.specs.Searching.{Searches, TriesNext, AreSetsOf, AsksOf}
-use Rattle.nf_thin.specs.Sifting.{SiftsNext}
 use Rattle.nf_pattern.specs.Front.{IsListingOf}
 use Rattle.nf_thin.proofs.Searched.{Vainly, none_tried, over_budget, found, vainly_more, search_ends, all_searched}
 use Rattle.nf_thin.proofs.Asking.{listed_in}
 
--- the listing that was asked for goes on, and its first patterns were tried in vain, or some of them passed over
-abbrev pub InLoop : Passing → Network → Sets → ℚ → Question → ℕ → Given → Bool → Vain → Type 0
-InLoop passes net sets rate q budget given skipped vain = (given.question ≡ q) × (vain.tried ≤ budget)
-    × ((listing : List Pattern) → IsListingOf q listing → Vainly passes net sets rate listing skipped given.last vain)
-
--- patterns of which none was passed over
-abbrev pub all_tried : Vain → Sifted
-all_tried vain = record { vain = vain; skips = false; last = 0 }
+-- the listing that was asked for goes on, and its first patterns were tried in vain
+abbrev pub InLoop : Passing → Network → Sets → ℚ → Question → ℕ → Given → Vain → Type 0
+InLoop passes net sets rate q budget given vain = (given.question ≡ q) × (vain.tried ≤ budget)
+    × ((listing : List Pattern) → IsListingOf q listing → Vainly passes net sets rate listing given.last vain)
 
 -- fewer patterns are left in the budget
 pub fewer_left : (budget before after : ℕ) → before < budget → after ≡ suc before → budget - after < budget - before
 fewer_left budget before after less more = omega arith
-
--- what is tried is counted, and nothing more is passed over
-pub tried_counts : (passes : Passing) (net : Network) (sets : Sets) (rate : ℚ) (budget : ℕ) (pattern : Pattern) (skipped : Bool) (last : ℕ) (before after : Vain) (result : Result (Option Thin) SearchFault)
-    → TriesNext passes net sets rate budget pattern before after result
-    → SiftsNext passes net sets rate budget pattern (record { vain = before; skips = skipped; last = last }) (record { vain = after; skips = skipped; last = last }) result
-tried_counts passes net sets rate budget pattern skipped last before after (Ok None) t =
-    (t.0, record { one_more = t.1.one_more; not_accepted = t.1.not_accepted; noted = λ none. (none, t.1.noted) })
-tried_counts passes net sets rate budget pattern skipped last before after (Ok (Some thin)) t = t
-tried_counts passes net sets rate budget pattern skipped last before after (Err (SearchFault.Budget tried)) t = t
-tried_counts passes net sets rate budget pattern skipped last before after (Err (SearchFault.Passed place at)) t = t
-tried_counts passes net sets rate budget pattern skipped last before after (Err SearchFault.NoPattern) t = t
-tried_counts passes net sets rate budget pattern skipped last before after (Err SearchFault.Memory) t = t
 
 module _ (passes : Passing) (net : Network) (sets : Sets) (rate : ℚ) (first : Given) (budget : ℕ) (good : IsNetwork net) (sets_are : AreSetsOf net sets) (asks : AsksOf net sets first) where
   abbrev q : Question
@@ -62,14 +44,14 @@ module _ (passes : Passing) (net : Network) (sets : Sets) (rate : ℚ) (first : 
   done : (result : Result Thin SearchFault) → Searches (Answers passes net sets rate listing budget) budget result → Finds result
   done result a = all_searched passes net sets rate q asks.asked listing is budget result a
 
-  pub loop_starts : (given : Given) (skipped : Bool) (vain : Vain) → given ≡ first → vain.tried ≡ 0 → vain.passed ≡ None → InLoop passes net sets rate q budget given skipped vain
-  loop_starts given skipped vain same none_tried_yet none_passed = (
+  pub loop_starts : (given : Given) (vain : Vain) → given ≡ first → vain.tried ≡ 0 → vain.passed ≡ None → InLoop passes net sets rate q budget given vain
+  loop_starts given vain same none_tried_yet none_passed = (
     ap (λ (g : Given). g.question) same,
     omega arith,
-    λ list l. none_tried passes net sets rate list skipped given.last vain (ap (λ (g : Given). g.last) same ∙ asks.start) none_tried_yet none_passed,
+    λ list l. none_tried passes net sets rate list given.last vain (ap (λ (g : Given). g.last) same ∙ asks.start) none_tried_yet none_passed,
   )
 
-  module _ (given : Given) (sifted : Sifted) (so : InLoop passes net sets rate q budget given sifted.skips sifted.vain) where
+  module _ (given : Given) (vain : Vain) (so : InLoop passes net sets rate q budget given vain) where
     module _ (pattern : Pattern) (after : Given) (gives : Gives given (Some pattern) after) where
       next : IsNext q given.last pattern
       next = subst (λ (x : Question). IsNext x given.last pattern) so.0 gives.0
@@ -80,24 +62,24 @@ module _ (passes : Passing) (net : Network) (sets : Sets) (rate : ℚ) (first : 
       pub loop_listed : IsListedIn net sets pattern
       loop_listed = subst (λ (x : Question). IsListedBy x pattern) asks.asked next.listed
 
-      pub loop_finds : (now : Sifted) (thin : Thin) → SiftsNext passes net sets rate budget pattern sifted now (Ok (Some thin)) → Finds (Ok thin)
-      loop_finds now thin t = done (Ok thin) (found passes net sets rate listing q is sifted.skips given.last sifted.vain (so.2 listing is) pattern next budget thin t.0 t.1)
+      pub loop_finds : (now : Vain) (thin : Thin) → TriesNext passes net sets rate budget pattern vain now (Ok (Some thin)) → Finds (Ok thin)
+      loop_finds now thin t = done (Ok thin) (found passes net sets rate listing q is given.last vain (so.2 listing is) pattern next budget thin t.0 t.1)
 
-      pub loop_fails : (now : Sifted) (fault : SearchFault) → SiftsNext passes net sets rate budget pattern sifted now (Err fault) → Finds (Err fault)
-      loop_fails now (SearchFault.Budget tried) t = done (Err (SearchFault.Budget tried)) (t.1, over_budget passes net sets rate listing q is sifted.skips given.last sifted.vain (so.2 listing is) pattern next budget t.0)
+      pub loop_fails : (now : Vain) (fault : SearchFault) → TriesNext passes net sets rate budget pattern vain now (Err fault) → Finds (Err fault)
+      loop_fails now (SearchFault.Budget tried) t = done (Err (SearchFault.Budget tried)) (t.1, over_budget passes net sets rate listing q is given.last vain (so.2 listing is) pattern next budget t.0)
       loop_fails now (SearchFault.Passed place at) t = absurd t
       loop_fails now SearchFault.NoPattern t = absurd t
       loop_fails now SearchFault.Memory t = tt
 
-      pub loop_goes_on : (now : Sifted) → SiftsNext passes net sets rate budget pattern sifted now (Ok None) → InLoop passes net sets rate q budget after now.skips now.vain
+      pub loop_goes_on : (now : Vain) → TriesNext passes net sets rate budget pattern vain now (Ok None) → InLoop passes net sets rate q budget after now
       loop_goes_on now t = (
         ap (λ (g : Given). g.question) gives.1 ∙ so.0,
         (let n = t.1.one_more in let l = t.0 in omega arith),
-        λ list l. subst (λ (x : _). Vainly passes net sets rate list now.skips x now.vain) (sym (ap (λ (g : Given). g.last) gives.1))
-            (vainly_more passes net sets rate list q l sifted.skips given.last sifted.vain (so.2 list l) pattern next now.vain now.skips t.1),
+        λ list l. subst (λ (x : _). Vainly passes net sets rate list x now) (sym (ap (λ (g : Given). g.last) gives.1))
+            (vainly_more passes net sets rate list q l given.last vain (so.2 list l) pattern next now t.1),
       )
 
-    pub loop_ends : sifted.skips ≡ false → (after : Given) → Gives given None after → (fault : SearchFault) → fault ≡ fault_of sifted.vain.passed → Finds (Err fault)
-    loop_ends none after gives fault same = subst (λ (f : SearchFault). Finds (Err f)) (sym same)
-        (done (Err (fault_of sifted.vain.passed)) (search_ends passes net sets rate listing q is given.last sifted.vain
-        (subst (λ (b : Bool). Vainly passes net sets rate listing b given.last sifted.vain) none (so.2 listing is)) (subst (λ (x : Question). NoneLeft x given.last) so.0 gives.0) budget so.1))
+    pub loop_ends : (after : Given) → Gives given None after → (fault : SearchFault) → fault ≡ fault_of vain.passed → Finds (Err fault)
+    loop_ends after gives fault same = subst (λ (f : SearchFault). Finds (Err f)) (sym same)
+        (done (Err (fault_of vain.passed)) (search_ends passes net sets rate listing q is given.last vain (so.2 listing is)
+        (subst (λ (x : Question). NoneLeft x given.last) so.0 gives.0) budget so.1))

@@ -1,6 +1,6 @@
--- Listed patterns that are seen not to be accepted, where the slopes of a thin flow are known.
-use Rattle.std.proofs.Common.{◌≡◌, List, sym, ap, ◌∙◌}
-use Rattle.std.specs.Prelude.{Option}
+-- Listed patterns that are tried, or seen not to be accepted, where the slopes of a thin flow are known.
+use Rattle.std.proofs.Common.{◌≡◌, ℕ, List, sym, ap, ◌∙◌}
+use Rattle.std.specs.Prelude.{Option, Some, None, Result, Ok, Err}
 use Rattle.nf_rational.specs.Rational.{ℚ}
 use Rattle.nf_work.specs.Passing.{Passing}
 use Rattle.nf_model.specs.Network.{Network, IsNetwork}
@@ -10,6 +10,11 @@ use Rattle.nf_thin_laws.specs.ActiveLinks.{AreSets, HoldNoCycle}
 use Rattle.nf_thin_laws.proofs.States.{slopes-same}
 use Rattle.nf_thin.specs.Slopes.{AreThinSlopes, AreSlopesOfListed}
 use Rattle.nf_thin.specs.Conserving.{full_by, CanFlow}
+use Rattle.nf_thin.specs.declared.thin.Thin.{Thin}
+use Rattle.nf_thin.specs.declared.vain.Vain.{Vain}
+use Rattle.nf_thin.specs.declared.fault.SearchFault.{SearchFault}
+use Rattle.nf_thin.specs.Searching.{TriesNext}
+use Rattle.nf_thin.specs.Sifting.{SiftsNext}
 
 -- the slopes of a thin flow are those of each solution of a listed pattern
 pub slopes_of_listed : (net : Network) (sets : Sets) (rate : ℚ) (slopes : List ℚ) → IsNetwork net → AreSets net sets → HoldNoCycle net sets → AreThinSlopes net sets rate slopes
@@ -27,3 +32,13 @@ module _ (net : Network) (sets : Sets) (rate : ℚ) (pattern : Pattern) (listed 
     solves = solvable.solution.solves;
     meets = solvable.solution.meets;
   }
+
+-- what is tried is counted
+pub tried_counts : (passes : Passing) (net : Network) (sets : Sets) (rate : ℚ) (budget : ℕ) (pattern : Pattern) (before after : Vain) (result : Result (Option Thin) SearchFault)
+    → TriesNext passes net sets rate budget pattern before after result → SiftsNext passes net sets rate budget pattern before after result
+tried_counts passes net sets rate budget pattern before after (Ok None) t = (t.0, record { one_more = t.1.one_more; not_accepted = t.1.not_accepted })
+tried_counts passes net sets rate budget pattern before after (Ok (Some thin)) t = t
+tried_counts passes net sets rate budget pattern before after (Err (SearchFault.Budget tried)) t = t
+tried_counts passes net sets rate budget pattern before after (Err (SearchFault.Passed place at)) t = t
+tried_counts passes net sets rate budget pattern before after (Err SearchFault.NoPattern) t = t
+tried_counts passes net sets rate budget pattern before after (Err SearchFault.Memory) t = t

@@ -1,5 +1,5 @@
 -- The search, pattern by pattern: what is known of those tried in vain, and what the search answers.
-use Rattle.std.proofs.Common.{◌≡◌, ℕ, suc, ◌<◌, ◌≤◌, List, length, ◌⊎◌, inl, inr, ⊎_elim, Bool, true, false, refl, sym, ap, subst, ◌∙◌, arith}
+use Rattle.std.proofs.Common.{◌≡◌, ℕ, suc, ◌<◌, ◌≤◌, List, length, ◌⊎◌, inl, inr, ⊎_elim, true, false, refl, sym, ap, subst, ◌∙◌, arith}
 use Rattle.std.specs.Prelude.{Option, Some, None, slice_get, Result, Ok, Err, IsOk}
 use Rattle.std.proofs.lemmas.Option.{same_Some, slice_get_within}
 use Rattle.nf_rational.specs.Rational.{ℚ}
@@ -16,10 +16,9 @@ use Rattle.nf_thin.specs.declared.thin.Thin.{Thin}
 use Rattle.nf_thin.specs.declared.vain.Vain.{Vain}
 use Rattle.nf_thin.specs.declared.fault.SearchFault.{SearchFault}
 use Rattle.nf_thin.specs.FirstPassing.{or_first, fault_of}
-use Rattle.nf_thin.specs.Searching.{Searches, Noted, IsFound, question_of}
-use Rattle.nf_thin.specs.Sifting.{IsCounted}
+use Rattle.nf_thin.specs.Searching.{Searches, Noted, InVain, IsFound, question_of}
 use Rattle.nf_pattern.specs.Front.{IsListingOf}
-use Rattle.nf_thin.proofs.Places.{GivenUpTo, given_next, given_all}
+use Rattle.nf_narrow.proofs.Places.{GivenUpTo, given_next, given_all}
 use Rattle.nf_plain_laws.proofs.Naturals.{before_or_at}
 
 module _ (passes : Passing) (net : Network) (sets : Sets) (rate : ℚ) (listing : List Pattern) where
@@ -31,24 +30,24 @@ module _ (passes : Passing) (net : Network) (sets : Sets) (rate : ℚ) (listing 
   PassedBy tried None = AllPass tried
   PassedBy tried (Some (place, at)) = IsFirstPassing passes net sets rate listing place at
 
-  -- the first ones of the listing are not accepted, and as long as none of them is passed over, it is known which is the first to pass
-  pub record Vainly (skipped : Bool) (last : Last) (vain : Vain) : Type 0 where
+  -- the first ones of the listing are not accepted, and it is known which is the first to pass
+  pub record Vainly (last : Last) (vain : Vain) : Type 0 where
     pub given : GivenUpTo listing vain.tried last
     pub none_accepted : NoneAcceptedBefore passes net sets rate listing (suc vain.tried)
-    pub passed : skipped ≡ false → PassedBy vain.tried vain.passed
+    pub passed : PassedBy vain.tried vain.passed
 
-  pub none_tried : (skipped : Bool) (last : Last) (vain : Vain) → last ≡ AtStart → vain.tried ≡ 0 → vain.passed ≡ None → Vainly skipped last vain
-  none_tried skipped last vain start none_yet none_passed = record {
+  pub none_tried : (last : Last) (vain : Vain) → last ≡ AtStart → vain.tried ≡ 0 → vain.passed ≡ None → Vainly last vain
+  none_tried last vain start none_yet none_passed = record {
     given = subst (λ (n : ℕ). GivenUpTo listing n last) (sym none_yet) start;
     none_accepted = λ place pattern less has. absurd (no_place place pattern less has);
-    passed = λ none. subst (PassedBy vain.tried) (sym none_passed) (λ place pattern less has. absurd (no_place place pattern less has));
+    passed = subst (PassedBy vain.tried) (sym none_passed) (λ place pattern less has. absurd (no_place place pattern less has));
   }
     where
       no_place : (place : ℕ) (pattern : Pattern) → place < suc vain.tried → HasPlace listing place pattern → ⊥
       no_place place pattern less has = let s = has.1 in omega arith
 
   -- ---- one pattern more
-  module _ (q : Question) (is : IsListingOf q listing) (skipped : Bool) (last : Last) (vain : Vain) (so : Vainly skipped last vain) (pattern : Pattern) (next : IsNext q last pattern) where
+  module _ (q : Question) (is : IsListingOf q listing) (last : Last) (vain : Vain) (so : Vainly last vain) (pattern : Pattern) (next : IsNext q last pattern) where
     here : slice_get listing vain.tried ≡ Some pattern
     here = given_next q listing is last pattern next vain.tried so.given
 
@@ -73,7 +72,7 @@ module _ (passes : Passing) (net : Network) (sets : Sets) (rate : ℚ) (listing 
       solution = subst (λ (p : Pattern). IsSolution net sets rate p thin.flows.items thin.labels.items) (sym f.pattern_is) f.solution;
     }
 
-    module _ (after : Vain) (skips : Bool) (counted : IsCounted passes net sets rate pattern vain after skipped skips) where
+    module _ (after : Vain) (counted : InVain passes net sets rate pattern vain after) where
       before_or_here : (place : ℕ) → place < suc after.tried → (place < suc vain.tried) ⊎ (place ≡ suc vain.tried)
       before_or_here place less = before_or_at place (suc vain.tried) (let s = counted.one_more in omega arith)
 
@@ -102,15 +101,15 @@ module _ (passes : Passing) (net : Network) (sets : Sets) (rate : ℚ) (listing 
       noted before (inl w) = subst (PassedBy after.tried) (sym w.1) (still vain.passed before w.0)
       noted before (inr w) = subst (PassedBy after.tried) (sym w.2) (now w.0 w.1 vain.passed before)
 
-      pub vainly_more : Vainly skips (UpTo pattern) after
+      pub vainly_more : Vainly (UpTo pattern) after
       vainly_more = record {
         given = subst (λ (n : ℕ). GivenUpTo listing n (UpTo pattern)) (sym counted.one_more) (pattern, here, refl);
         none_accepted = none_more;
-        passed = λ none. noted (so.passed (counted.noted none).0) (counted.noted none).1;
+        passed = noted so.passed counted.noted;
       }
 
   -- ---- the end
-  module _ (q : Question) (is : IsListingOf q listing) (last : Last) (vain : Vain) (so : Vainly false last vain) (none : NoneLeft q last) (budget : ℕ) (within : vain.tried ≤ budget) where
+  module _ (q : Question) (is : IsListingOf q listing) (last : Last) (vain : Vain) (so : Vainly last vain) (none : NoneLeft q last) (budget : ℕ) (within : vain.tried ≤ budget) where
     all_given : length listing ≤ vain.tried
     all_given = given_all q listing is vain.tried last so.given none
 
@@ -125,7 +124,7 @@ module _ (passes : Passing) (net : Network) (sets : Sets) (rate : ℚ) (listing 
     ended (Some (place, at)) first = (in_vain, first)
 
     pub search_ends : Searches (Answers passes net sets rate listing budget) budget (Err (fault_of vain.passed))
-    search_ends = ended vain.passed (so.passed refl)
+    search_ends = ended vain.passed so.passed
 
 -- ---- with the listing
 module _ (passes : Passing) (net : Network) (sets : Sets) (rate : ℚ) (q : Question) (asked : q ≡ question_of net sets q.base) (listing : List Pattern) (is : IsListingOf q listing) (budget : ℕ) where

@@ -1,8 +1,8 @@
 pub mod FirstPassing
 pub mod Searching
 pub mod Slopes
-pub mod Allowing
 pub mod Ranges
 pub mod Conserving
 pub mod Knowing
 pub mod Sifting
+pub mod Finding

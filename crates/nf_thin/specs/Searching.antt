@@ -9,7 +9,7 @@ use Rattle.nf_model.specs.ThinFlow.{Sets, IsThinFlow}
 use Rattle.nf_model.specs.Pattern.{Pattern, IsSolution}
 use Rattle.nf_lists.specs.Accepted.{pattern_lists, IsAccepted}
 use Rattle.nf_lists.specs.Search.{Answer, Found, OverBudget, PassesAt, NoPattern}
-use Rattle.nf_pattern.specs.Given.{Question, IsQuestion, Given, AtStart, UpTo, IsNext}
+use Rattle.nf_pattern.specs.Given.{Question, IsQuestion, Given, AtStart}
 use Rattle.nf_thin_laws.specs.ActiveLinks.{AreSets, HoldNoCycle}
 use Rattle.nf_thin.specs.declared.thin.Thin.{Thin}
 use Rattle.nf_thin.specs.declared.vain.Vain.{Vain}
@@ -79,10 +79,3 @@ pub record AsksOf (net : Network) (sets : Sets) (given : Given) : Type 0 where
   pub asked : given.question ≡ question_of net sets given.question.base
   pub is_question : IsQuestion given.question
   pub start : given.last ≡ AtStart
-
--- such a listing, of which the first pattern alone is given
-pub record IsBehindFirst (net : Network) (sets : Sets) (first : Pattern) (given : Given) : Type 0 where
-  pub asked : given.question ≡ question_of net sets given.question.base
-  pub is_question : IsQuestion given.question
-  pub first_is : IsNext given.question AtStart first
-  pub last : given.last ≡ UpTo first

@@ -1,23 +1,23 @@
 //! The search for a thin flow with resetting: the first listed pattern that is accepted.
 #![tactic(auto)]
 
-mod allowed;
 mod cycles;
 mod fault;
+mod finding;
 mod first;
 mod known;
 mod listings;
 mod node_test;
 pub mod parts;
-mod plain;
 mod ranges;
 mod searches;
 mod sifting;
+mod standing;
 mod thin;
 mod trying_next;
 mod vain;
 
 pub use fault::SearchFault;
 pub use nf_trial::{Judged, MOST_UNKNOWNS, Tried, try_pattern, unknown_count, verdict};
-pub use searches::search;
-pub use thin::Thin;
+pub use searches::{find_thin, search};
+pub use thin::{Thin, ThinFlow};

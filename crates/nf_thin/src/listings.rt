@@ -10,7 +10,7 @@ use nf_pattern::{Pattern, Patterns};
 use std::alloc::{AllocError, Global};
 
 // Of each link, whether it is unbounded.
-fn unbounded_flags(alloc: Global, net: &Network) -> Result<Vec<bool>, AllocError>
+pub(crate) fn unbounded_flags(alloc: Global, net: &Network) -> Result<Vec<bool>, AllocError>
     ensures { IfOk result (λ flags. flags.items ≡ unbounded_of net.now.net) }
 {
     let mut flags = Vec::new(alloc);

@@ -1,5 +1,6 @@
 //! Parts of the search, for those who look at them one by one.
+pub use crate::finding::find_by_slopes;
 pub use crate::listings::listing;
 pub use crate::node_test::{can_conserve, full_flows};
-pub use crate::sifting::sifted_search;
+pub use crate::standing::is_within;
 pub use nf_guess::part_values;

@@ -1,39 +1,50 @@
-// The search for a thin flow: the first accepted pattern of the list.
+// The search for a thin flow: the first accepted pattern of the list, and its thin flow.
 ghost use Rattle.std.specs.Prelude.{◌≡◌, IfOk};
 ghost use Rattle.nf_work.specs.Passing.{passes_Q};
-ghost use Rattle.nf_model.specs.Network.{unbounded as unbounded_of};
+ghost use Rattle.nf_model.specs.Network.{IsNetwork, unbounded as unbounded_of};
 ghost use Rattle.nf_model.specs.ThinFlow.{IsThinFlow};
 ghost use Rattle.nf_model.specs.Pattern.{IsPattern};
 ghost use Rattle.nf_lists.specs.Search.{IsSearch};
-ghost use Rattle.nf_thin.specs.Searching.{Searches, SlopesAreOnly, AreSetsOf};
+ghost use Rattle.nf_thin.specs.Searching.{Searches, SlopesAreOnly, AreSetsOf, AsksOf};
+ghost use Rattle.nf_thin.specs.Finding.{Finds};
 
 use crate::fault::SearchFault;
-use crate::plain::plain_search;
-use crate::sifting::sifted_search;
-use crate::thin::Thin;
+use crate::finding::find_by_slopes;
+use crate::listings::listing;
+use crate::thin::{Thin, ThinFlow};
+use crate::trying_next::try_next;
+use crate::vain::Vain;
 use nf_frac::Q;
 use nf_graph::LinkSets;
 use nf_net::Network;
-use nf_pattern::Pattern;
+use nf_pattern::{Pattern, Patterns};
 use std::alloc::Global;
 
-// The search by the slopes of a thin flow, which are guessed, or the plain one where they lead to no end.
-fn search_by_slopes(
+// The list is gone through, from its start on.
+fn go_through(
     alloc: Global,
     net: &Network,
     sets: &LinkSets,
     rate: Q,
-    base: &Pattern,
+    patterns: &mut Patterns,
     budget: u64,
 ) -> Result<Thin, SearchFault>
+    requires network { IsNetwork net.now.net }
     requires sets { AreSetsOf net.now.net sets.now }
-    requires base { IsPattern sets.now (unbounded_of net.now.net) base.now }
-    ensures { Searches (IsSearch passes_Q net.now.net sets.now rate base.now budget) budget result }
+    requires question { AsksOf net.now.net sets.now patterns.old }
+    ensures { Searches (IsSearch passes_Q net.now.net sets.now rate patterns.old.question.base budget) budget result }
 {
-    match sifted_search(alloc, net, sets, rate, base, budget)? {
-        Some(thin) => Ok(thin),
-        None => plain_search(alloc, net, sets, rate, base, budget),
+    let mut vain = Vain {
+        tried: 0,
+        passed: None,
+    };
+    while let Some(pattern) = patterns.next() {
+        let found = try_next(alloc, net, sets, rate, pattern, budget, &mut vain)?;
+        if let Some(thin) = found {
+            return Ok(thin);
+        }
     }
+    Err(vain.fault())
 }
 
 /// The search for a thin flow with resetting: the listed patterns are tried in their order, from a base on, until one is accepted. It
@@ -55,7 +66,47 @@ pub fn search(
     ensures thin { IfOk result (λ thin. IsThinFlow net.now.net sets.now rate thin.flows.items thin.labels.items) }
     ensures only { IfOk result (λ thin. SlopesAreOnly net.now.net sets.now rate thin.labels.items) }
 {
+    let mut patterns = listing(alloc, net, sets, base)?;
+    go_through(alloc, net, sets, rate, &mut patterns, budget)
+}
+
+// The search by the slopes of a thin flow, or the plain one where they lead to no end.
+fn find_or_search(
+    alloc: Global,
+    net: &Network,
+    sets: &LinkSets,
+    rate: Q,
+    base: &Pattern,
+    budget: u64,
+) -> Result<ThinFlow, SearchFault>
+    requires sets { AreSetsOf net.now.net sets.now }
+    requires base { IsPattern sets.now (unbounded_of net.now.net) base.now }
+    ensures { Finds (IsSearch passes_Q net.now.net sets.now rate base.now budget) budget result }
+{
+    if let Some(found) = find_by_slopes(alloc, net, sets, rate, base, budget)? {
+        return Ok(found);
+    }
+    let thin = search(alloc, net, sets, rate, base, budget)?;
+    Ok(thin.flow())
+}
+
+/// The thin flow that `search` finds, without its place, mostly with no need of the whole list: where the slopes of a thin flow are
+/// known, only the listed patterns that have the states which the slopes force are gone through. What it refuses is what `search` does.
+pub fn find_thin(
+    alloc: Global,
+    net: &Network,
+    sets: &LinkSets,
+    rate: Q,
+    base: &Pattern,
+    budget: u64,
+) -> Result<ThinFlow, SearchFault>
+    requires sets { AreSetsOf net.now.net sets.now }
+    requires base { IsPattern sets.now (unbounded_of net.now.net) base.now }
+    ensures finds { Finds (IsSearch passes_Q net.now.net sets.now rate base.now budget) budget result }
+    ensures thin { IfOk result (λ found. IsThinFlow net.now.net sets.now rate found.flows.items found.labels.items) }
+    ensures only { IfOk result (λ found. SlopesAreOnly net.now.net sets.now rate found.labels.items) }
+{
     // For the proof: the network is well formed.
     let _ = net.hops();
-    search_by_slopes(alloc, net, sets, rate, base, budget)
+    find_or_search(alloc, net, sets, rate, base, budget)
 }

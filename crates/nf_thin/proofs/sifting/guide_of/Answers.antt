@@ -1,15 +1,12 @@
-use Rattle.std.proofs.Common.{List, length, subst, sym, ap, ◌∙◌}
+use Rattle.std.proofs.Common.{List, length, subst, ap, ◌∙◌}
 use Rattle.std.specs.Prelude.{Option, IfSome}
 use Rattle.nf_rational.specs.Rational.{ℚ}
 use Rattle.nf_work.specs.Passing.{passes_Q}
 use Rattle.nf_guess.specs.declared.guessing.SolvedPattern.{SolvedPattern}
 use Rattle.nf_guess.specs.Guessing.{IsSolved}
 use Rattle.nf_thin.specs.declared.known.Known.{Known}
-use Rattle.nf_thin.specs.declared.allowed.Allowed.{Allowed}
 use Rattle.nf_thin.specs.Slopes.{AreThinSlopes}
 use Rattle.nf_thin.specs.Knowing.{IsKnown}
-use Rattle.nf_thin.specs.Allowing.{flags_by, AllowSolvable}
-use Rattle.nf_thin.proofs.AllowedStates.{flags_count, slopes_allow}
 use Rattle.nf_thin.specs.Conserving.{full_by}
 use Rattle.nf_thin.proofs.Refusing.{slopes_of_listed}
 use Rattle.nf_thin.proofs.sifting.guide_of.Goals as goal
@@ -18,27 +15,20 @@ pub known_by-requires : goal.known_by-requires
 known_by-requires c =
     subst (λ (found : Option SolvedPattern). IfSome found (λ last. IsSolved passes_Q c.args.net.now.net c.args.sets.now c.args.rate last)) c.in-Some.is c.in_ok-last.ensures
 
-pub allowed_by-requires : goal.allowed_by-requires
-allowed_by-requires c =
-    let known = subst (λ (found : Option Known). IfSome found (λ known. IsKnown passes_Q c.args.net.now.net c.args.sets.now c.args.rate known)) c.in-Some-2.is c.in_ok-known.ensures.known in
-    ap (λ (l : List ℚ). length l) c.deref.ensures.value ∙ known.solution.solves.slope_count
-
 pub full_flows-requires : goal.full_flows-requires
 full_flows-requires c =
     let known = subst (λ (found : Option Known). IfSome found (λ known. IsKnown passes_Q c.args.net.now.net c.args.sets.now c.args.rate known)) c.in-Some-2.is c.in_ok-known.ensures.known in
-    ap (λ (l : List ℚ). length l) c.deref-2.ensures.value ∙ known.solution.solves.slope_count
+    ap (λ (l : List ℚ). length l) c.deref.ensures.value ∙ known.solution.solves.slope_count
 
 pub returns : goal.returns
 returns c =
     let known = subst (λ (found : Option Known). IfSome found (λ known. IsKnown passes_Q c.args.net.now.net c.args.sets.now c.args.rate known)) c.in-Some-2.is c.in_ok-known.ensures.known in
     let thin = subst (λ (found : Option Known). IfSome found (λ known. AreThinSlopes c.args.net.now.net c.args.sets.now c.args.rate known.slopes.items)) c.in-Some-2.is c.in_ok-known.ensures.thin in
-    let allowed_are = c.in_ok-allowed.ensures ∙ ap (λ (slopes : List ℚ). flags_by c.args.net.now.net slopes) c.deref.ensures.value in
     record {
-      allowed = subst (λ (allowed : List Allowed). AllowSolvable c.args.net.now.net c.args.sets.now c.args.rate allowed) (sym allowed_are)
-          (slopes_allow c.args.net.now.net c.args.sets.now c.args.rate c.in-Some-2.known.slopes.items c.requires.first.network c.requires.sets.sets_are (c.in_ok-hold_no_cycle.ensures c.if-not-branch.false) thin);
-      count = ap (λ (allowed : List Allowed). length allowed) allowed_are ∙ flags_count c.args.net.now.net c.in-Some-2.known.slopes.items;
       known = known;
       slopes = slopes_of_listed c.args.net.now.net c.args.sets.now c.args.rate c.in-Some-2.known.slopes.items c.requires.first.network c.requires.sets.sets_are
           (c.in_ok-hold_no_cycle.ensures c.if-not-branch.false) thin;
-      full = c.in_ok-full.ensures ∙ ap (λ (slopes : List ℚ). full_by passes_Q c.args.net.now.net slopes) c.deref-2.ensures.value;
+      acyclic = c.in_ok-hold_no_cycle.ensures c.if-not-branch.false;
+      thin = thin;
+      full = c.in_ok-full.ensures ∙ ap (λ (slopes : List ℚ). full_by passes_Q c.args.net.now.net slopes) c.deref.ensures.value;
     }

@@ -22,14 +22,14 @@ base-requires-clause-last c =
 pub base-requires-clause-fewer : goal.base-requires-clause-fewer
 base-requires-clause-fewer c = rw (c.hops.ensures.value) (few_hops c.args.net.now c.hops.ensures.named)
 
-pub search-requires-clause-sets : goal.search-requires-clause-sets
-search-requires-clause-sets c =
+pub find_thin-requires-clause-sets : goal.find_thin-requires-clause-sets
+find_thin-requires-clause-sets c =
     let good = c.hops.ensures.named.network in
     let stands = Stands-reached passes_Q c.args.net.now.net good c.args.self.now c.requires.reaches in
     subst (λ (sets : Sets). AreSetsOf c.args.net.now.net sets) (sym c.requires.sets) (sets_fit c.args.net.now.net good c.args.self.now stands)
 
-pub search-requires-clause-base : goal.search-requires-clause-base
-search-requires-clause-base c =
+pub find_thin-requires-clause-base : goal.find_thin-requires-clause-base
+find_thin-requires-clause-base c =
     let good = c.hops.ensures.named.network in
     let stands = Stands-reached passes_Q c.args.net.now.net good c.args.self.now c.requires.reaches in
     let last : c.self.inside.last ≡ c.args.self.now.last = ap (λ (s : Standing). s.last) c.self.view_is in

@@ -1,0 +1,6 @@
+pub mod Entries
+pub mod Places
+pub mod Standing
+pub mod Capping
+pub mod Stepping
+pub mod Reading

@@ -1,0 +1,91 @@
+-- What a search by forced states answers.
+use Rattle.std.proofs.Common.{◌≡◌, ℕ, true, false, List, length, sym, subst, ap, ◌∙◌}
+use Rattle.std.specs.Prelude.{Some, Ok, Err}
+use Rattle.nf_rational.specs.Rational.{ℚ}
+use Rattle.nf_work.specs.Passing.{Passing}
+use Rattle.nf_model.specs.Network.{Network, IsNetwork, unbounded}
+use Rattle.nf_model.specs.ThinFlow.{Sets}
+use Rattle.nf_model.specs.Pattern.{Pattern, IsPattern, IsListedIn, IsSolvable}
+use Rattle.nf_lists.specs.Search.{Found, OverBudget, IsSearch}
+use Rattle.nf_pattern.specs.Given.{IsQuestion}
+use Rattle.nf_pattern.proofs.Deciding.{has_listing}
+use Rattle.nf_listing_laws.specs.Forcing.{IsForcing, HasForced}
+use Rattle.nf_listing_laws.specs.Laws.{Narrows}
+use Rattle.nf_listing_laws.proofs.Forced.{left_pattern, filled_pattern, sets_count, flags_count}
+use Rattle.nf_listing_laws.proofs.Answered.{answer_within, answer_beyond, answer_over}
+use Rattle.nf_listing_laws.specs.Forcing.{forced_by}
+use Rattle.nf_listing_laws.proofs.BySlopes.{forcing as forced_forcing, allowed as forced_allowed}
+use Rattle.nf_thin_laws.specs.ActiveLinks.{HoldNoCycle}
+use Rattle.nf_thin.specs.Slopes.{AreThinSlopes}
+use Rattle.nf_narrow.specs.Asking.{question_left, StandsWithin}
+use Rattle.nf_thin.specs.declared.thin.Thin.{Thin}
+use Rattle.nf_thin.specs.declared.fault.SearchFault.{SearchFault}
+use Rattle.nf_thin.specs.Searching.{Searches, AreSetsOf, question_of}
+use Rattle.nf_thin.specs.Finding.{NarrowFinds, Finds, flow_of}
+
+module _ (passes : Passing) (net : Network) (sets : Sets) (rate : ℚ) (base forced : Pattern) (budget : ℕ) (forcing : IsForcing sets (unbounded net) forced)
+    (allowed : (pattern : Pattern) → IsListedIn net sets pattern → IsSolvable net sets rate pattern → HasForced forced pattern)
+    (is_base : IsPattern sets (unbounded net) base) (asked : IsQuestion (question_of net sets base)) where
+  left_asked : IsQuestion (question_left forced (question_of net sets base))
+  left_asked = record {
+    ends = asked.ends;
+    active = sets_count sets (unbounded net) forced forcing ∙ asked.active;
+    resetting = flags_count sets (unbounded net) forced forcing ∙ asked.active;
+    unbounded = asked.unbounded;
+    base = left_pattern sets (unbounded net) forced forcing base is_base;
+    fewer = asked.fewer;
+    nodes = asked.nodes;
+  }
+
+  abbrev listing : List Pattern
+  listing = (has_listing (question_of net sets base) asked).0
+
+  abbrev narrow : List Pattern
+  narrow = (has_listing (question_left forced (question_of net sets base)) left_asked).0
+
+  narrows : Narrows net sets rate base forced listing narrow
+  narrows = record {
+    forcing = forcing;
+    starts = is_base;
+    whole = (has_listing (question_of net sets base) asked).1;
+    part = (has_listing (question_left forced (question_of net sets base)) left_asked).1;
+    allowed = allowed;
+  }
+
+  pub by_count : (thin : Thin) → NarrowFinds passes net sets rate base forced budget (Ok (Some thin)) → length sets.active ≡ length net.links → length thin.pattern ≡ length net.links
+  by_count thin finds count =
+      let f = finds listing narrow narrows in
+      let l = narrows.part.listed thin.place f.part f.has_place in
+      ap (λ (p : Pattern). length p) f.pattern_is ∙ ((filled_pattern sets (unbounded net) forced forcing f.part l.states).count ∙ count)
+
+  pub by_within : (thin : Thin) → NarrowFinds passes net sets rate base forced budget (Ok (Some thin)) → StandsWithin (question_of net sets base) thin.pattern budget true
+      → Finds (IsSearch passes net sets rate base budget) budget (Ok (flow_of thin))
+  by_within thin finds near =
+      let f = finds listing narrow narrows in
+      let w = answer_within passes net sets rate base forced listing narrow narrows budget thin.place f.part f.has_place f.accepted f.first thin.flows.items thin.labels.items f.solution
+      (λ there at. subst (λ (p : Pattern). StandsWithin (question_of net sets base) p budget true) f.pattern_is near listing there narrows.whole at) in
+      (w.0, subst (λ (p : Pattern). IsSearch passes net sets rate base budget (Found w.0 p thin.flows.items thin.labels.items)) (sym f.pattern_is) w.1)
+
+  pub by_beyond : (thin : Thin) → NarrowFinds passes net sets rate base forced budget (Ok (Some thin)) → StandsWithin (question_of net sets base) thin.pattern budget false
+      → IsSearch passes net sets rate base budget OverBudget
+  by_beyond thin finds far =
+      let f = finds listing narrow narrows in
+      answer_beyond passes net sets rate base forced listing narrow narrows budget thin.place f.part f.has_place f.accepted f.first
+      (λ there at. subst (λ (p : Pattern). StandsWithin (question_of net sets base) p budget false) f.pattern_is far listing there narrows.whole at)
+
+  pub by_fault : (fault : SearchFault) → NarrowFinds passes net sets rate base forced budget (Err fault) → Searches (IsSearch passes net sets rate base budget) budget (Err fault)
+  by_fault (SearchFault.Budget tried) finds =
+      let f = finds listing narrow narrows in (f.0, answer_over passes net sets rate base forced listing narrow narrows budget f.1 f.2)
+  by_fault (SearchFault.Passed place at) finds = absurd (finds listing narrow narrows)
+  by_fault SearchFault.NoPattern finds = absurd (finds listing narrow narrows)
+  by_fault SearchFault.Memory finds = tt
+
+-- ---- the states that slopes force
+module _ (net : Network) (sets : Sets) (rate : ℚ) (base forced : Pattern) (slopes : List ℚ) (good : IsNetwork net) (sets_are : AreSetsOf net sets) (acyclic : HoldNoCycle net sets)
+    (thin : AreThinSlopes net sets rate slopes) (is_base : IsPattern sets (unbounded net) base) (is : forced ≡ forced_by net slopes base) where
+  pub forcing_by : IsForcing sets (unbounded net) forced
+  forcing_by = subst (λ (f : Pattern). IsForcing sets (unbounded net) f) (sym is) (forced_forcing net sets rate base thin.0 slopes good sets_are.sets_are acyclic sets_are.count is_base thin.1)
+
+  pub allowed_by : (pattern : Pattern) → IsListedIn net sets pattern → IsSolvable net sets rate pattern → HasForced forced pattern
+  allowed_by pattern listed solvable =
+      subst (λ (f : Pattern). HasForced f pattern) (sym is) (forced_allowed net sets rate base thin.0 slopes good sets_are.sets_are acyclic sets_are.count is_base thin.1 pattern listed solvable)

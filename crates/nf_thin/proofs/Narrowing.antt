@@ -1,0 +1,87 @@
+-- The loop over the patterns that are left where slopes force states.
+use Rattle.std.proofs.Common.{◌≡◌, ⊎_elim, ℕ, suc, ◌<◌, List, length, refl, sym, ap, subst, ◌∙◌, arith}
+use Rattle.std.specs.Prelude.{Some, None, slice_get, Ok, Err}
+use Rattle.std.proofs.lemmas.Option.{same_Some, slice_get_within}
+use Rattle.nf_rational.specs.Rational.{ℚ}
+use Rattle.nf_work.specs.Passing.{Passing}
+use Rattle.nf_model.specs.Network.{Network, IsNetwork, hops, unbounded}
+use Rattle.nf_model.specs.ThinFlow.{Sets}
+use Rattle.nf_model.specs.Pattern.{Pattern, IsListedIn}
+use Rattle.nf_lists.specs.Accepted.{IsAccepted}
+use Rattle.nf_plain_laws.proofs.Naturals.{before_or_at}
+use Rattle.nf_listing_laws.specs.Forcing.{filled, IsForcing}
+use Rattle.nf_listing_laws.specs.Laws.{Narrows, NoneFilledBefore}
+use Rattle.nf_listing_laws.proofs.Forced.{left_count, filled_listed}
+use Rattle.nf_pattern.specs.Given.{Question, Given, Last, AtStart, UpTo, IsNext, Gives}
+use Rattle.nf_narrow.specs.Asking.{question_left}
+use Rattle.nf_narrow.proofs.Places.{GivenUpTo, given_next}
+use Rattle.nf_equation_laws.specs.Equations.{IsPatternIn}
+use Rattle.nf_thin.specs.declared.thin.Thin.{Thin}
+use Rattle.nf_thin.specs.declared.fault.SearchFault.{SearchFault}
+use Rattle.nf_thin.specs.declared.vain.Vain.{Vain}
+use Rattle.nf_thin.specs.Searching.{AreSetsOf, question_of}
+use Rattle.nf_thin.specs.Sifting.{SiftsNext}
+use Rattle.nf_thin.specs.Finding.{NarrowFinds}
+
+-- so many of the patterns that are left were given, and none of them is accepted
+abbrev pub NarrowVainly : Passing → Network → Sets → ℚ → Pattern → Pattern → ℕ → Last → Type 0
+NarrowVainly passes net sets rate base forced tried last =
+    (listing narrow : List Pattern) → Narrows net sets rate base forced listing narrow → GivenUpTo narrow tried last × NoneFilledBefore passes net sets rate forced narrow (suc tried)
+
+pub none_yet : (passes : Passing) (net : Network) (sets : Sets) (rate : ℚ) (base forced : Pattern) (last : Last) → last ≡ AtStart → NarrowVainly passes net sets rate base forced 0 last
+none_yet passes net sets rate base forced last start listing narrow n = (start, λ other p less at accepted. absurd (let e = at.1 in omega arith))
+
+module _ (passes : Passing) (net : Network) (sets : Sets) (rate : ℚ) (base forced : Pattern) (good : IsNetwork net) (sets_are : AreSetsOf net sets) (forcing : IsForcing sets (unbounded net) forced)
+    (given : Given) (same : given.question ≡ question_left forced (question_of net sets base)) (p : Pattern) (after : Given) (gives : Gives given (Some p) after) where
+  next : IsNext (question_left forced (question_of net sets base)) given.last p
+  next = subst (λ (q : Question). IsNext q given.last p) same gives.0
+
+  pub whole_listed : IsListedIn net sets (filled forced p)
+  whole_listed = filled_listed sets (unbounded net) forced forcing net.nodes net.source (hops net) p next.listed
+
+  pub whole_pattern : IsPatternIn net sets (filled forced p)
+  whole_pattern = record { network = good; sets_are = sets_are.sets_are; bounded = sets_are.bounded; pattern_is = whole_listed.states }
+
+  pub part_count : length p ≡ length net.links
+  part_count = sym (left_count sets (unbounded net) forced forcing p next.listed.states) ∙ (forcing.count ∙ sets_are.sets_are.count)
+
+  pub whole_count : length (filled forced p) ≡ length net.links
+  whole_count = whole_listed.states.count ∙ sets_are.sets_are.count
+
+  module _ (budget : ℕ) (before now : Vain) (vainly : NarrowVainly passes net sets rate base forced before.tried given.last) where
+    module _ (listing narrow : List Pattern) (n : Narrows net sets rate base forced listing narrow) where
+      here : slice_get narrow before.tried ≡ Some p
+      here = given_next (question_left forced (question_of net sets base)) narrow n.part given.last p next before.tried (vainly listing narrow n).0
+
+    pub narrow_found : (thin : Thin) → SiftsNext passes net sets rate budget (filled forced p) before now (Ok (Some thin)) → NarrowFinds passes net sets rate base forced budget (Ok (Some thin))
+    narrow_found thin t listing narrow n = record {
+      part = p;
+      has_place = (before.tried, t.1.place, here listing narrow n);
+      pattern_is = t.1.pattern_is;
+      accepted = t.1.accepted;
+      solution = t.1.solution;
+      first = subst (NoneFilledBefore passes net sets rate forced narrow) (sym t.1.place) (vainly listing narrow n).1;
+    }
+
+    pub narrow_failed : (fault : SearchFault) → SiftsNext passes net sets rate budget (filled forced p) before now (Err fault) → NarrowFinds passes net sets rate base forced budget (Err fault)
+    narrow_failed (SearchFault.Budget tried) t listing narrow n = (
+      t.1,
+      (let w = slice_get_within narrow before.tried p (here listing narrow n) in let e = t.0 in omega arith),
+      subst (λ (k : ℕ). NoneFilledBefore passes net sets rate forced narrow (suc k)) t.0 (vainly listing narrow n).1,
+    )
+    narrow_failed (SearchFault.Passed place at) t listing narrow n = t
+    narrow_failed SearchFault.NoPattern t listing narrow n = t
+    narrow_failed SearchFault.Memory t listing narrow n = tt
+
+    pub narrow_on : SiftsNext passes net sets rate budget (filled forced p) before now (Ok None) → NarrowVainly passes net sets rate base forced now.tried after.last
+    narrow_on t listing narrow n = (
+      subst (λ (l : Last). GivenUpTo narrow now.tried l) (sym (ap (λ (g : Given). g.last) gives.1))
+          (subst (λ (k : ℕ). GivenUpTo narrow k (UpTo p)) (sym t.1.one_more) (p, here listing narrow n, refl)),
+      λ other r less at accepted. ⊎_elim
+          (λ (early : other < suc before.tried). (vainly listing narrow n).1 other r early at accepted)
+          (λ (last : other ≡ suc before.tried).
+          let i : at.0 ≡ before.tried = (let e = at.1 in omega arith) in
+          let e : r ≡ p = same_Some r p (sym at.2 ∙ (ap (slice_get narrow) i ∙ here listing narrow n)) in
+          t.1.not_accepted (subst (λ (x : Pattern). IsAccepted passes net sets rate (filled forced x)) e accepted))
+          (before_or_at other (suc before.tried) (let e = t.1.one_more in omega arith)),
+    )

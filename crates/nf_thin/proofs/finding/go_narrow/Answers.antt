@@ -1,0 +1,54 @@
+use Rattle.std.proofs.Common.{List, length, sym, ap, subst, ◌∙◌, arith}
+use Rattle.std.specs.Prelude.{Option, Some, None, option_copied, Ok, Err}
+use Rattle.std.proofs.lemmas.Result.{err_from_is_err_and}
+use Rattle.nf_work.specs.Passing.{passes_Q}
+use Rattle.nf_model.specs.declared.State.{State}
+use Rattle.nf_model.specs.Pattern.{Pattern, IsListedIn}
+use Rattle.nf_pattern.specs.Given.{Given, Gives}
+use Rattle.nf_equation_laws.specs.Equations.{IsPatternIn}
+use Rattle.nf_thin.specs.Sifting.{SiftsNext}
+use Rattle.nf_thin.proofs.Narrowing.{whole_listed, whole_pattern, part_count, whole_count, narrow_found, narrow_failed, narrow_on}
+use Rattle.nf_thin.proofs.finding.go_narrow.Goals as goal
+
+pub fill-requires-clause-part : goal.fill-requires-clause-part
+fill-requires-clause-part c = part_count passes_Q c.args.net.now.net c.args.sets.now c.args.rate c.args.base.now c.args.forced.now c.requires.network c.requires.sets c.requires.forcing c.loop-part.patterns (c.loop-part.invariant.same ∙ c.requires.question)
+    c.in-Some.part.now c.next.follows.lender-at-none (subst (λ r. Gives c.loop-part.patterns (option_copied r) c.next.follows.lender-at-none) c.in-Some.is c.next.follows.holds-at-none)
+    ∙ sym c.link_count.ensures
+
+pub sift_next-requires-clause-pattern : goal.sift_next-requires-clause-pattern
+sift_next-requires-clause-pattern c = subst (λ (x : Pattern). IsPatternIn c.args.net.now.net c.args.sets.now x) (sym c.fill.ensures) (whole_pattern passes_Q c.args.net.now.net c.args.sets.now c.args.rate c.args.base.now c.args.forced.now c.requires.network c.requires.sets c.requires.forcing c.loop-part.patterns (c.loop-part.invariant.same ∙ c.requires.question)
+    c.in-Some.part.now c.next.follows.lender-at-none (subst (λ r. Gives c.loop-part.patterns (option_copied r) c.next.follows.lender-at-none) c.in-Some.is c.next.follows.holds-at-none))
+
+pub sift_next-requires-clause-listed : goal.sift_next-requires-clause-listed
+sift_next-requires-clause-listed c = subst (λ (x : Pattern). IsListedIn c.args.net.now.net c.args.sets.now x) (sym c.fill.ensures) (whole_listed passes_Q c.args.net.now.net c.args.sets.now c.args.rate c.args.base.now c.args.forced.now c.requires.network c.requires.sets c.requires.forcing c.loop-part.patterns (c.loop-part.invariant.same ∙ c.requires.question)
+    c.in-Some.part.now c.next.follows.lender-at-none (subst (λ r. Gives c.loop-part.patterns (option_copied r) c.next.follows.lender-at-none) c.in-Some.is c.next.follows.holds-at-none))
+
+pub returns-in_err-found : goal.returns-in_err-found
+returns-in_err-found c listing narrow n =
+    let p = err_from_is_err_and c.from_residual-in_err-found.result c.from_residual-in_err-found.ensures.1 in
+    rw (p.1, p.2) (narrow_failed passes_Q c.args.net.now.net c.args.sets.now c.args.rate c.args.base.now c.args.forced.now c.requires.network c.requires.sets c.requires.forcing c.loop-part.patterns (c.loop-part.invariant.same ∙ c.requires.question)
+    c.in-Some.part.now c.next.follows.lender-at-none (subst (λ r. Gives c.loop-part.patterns (option_copied r) c.next.follows.lender-at-none) c.in-Some.is c.next.follows.holds-at-none)
+    c.args.budget c.loop-part.vain c.sift_next.new.vain c.loop-part.invariant.vainly c.in_err-found.field-0.0
+    (subst (λ (x : Pattern). SiftsNext passes_Q c.args.net.now.net c.args.sets.now c.args.rate c.args.budget x c.loop-part.vain c.sift_next.new.vain (Err c.in_err-found.field-0.0)) c.fill.ensures c.in_err-found.ensures) listing narrow n)
+
+pub returns-in-Some-found : goal.returns-in-Some-found
+returns-in-Some-found c = narrow_found passes_Q c.args.net.now.net c.args.sets.now c.args.rate c.args.base.now c.args.forced.now c.requires.network c.requires.sets c.requires.forcing c.loop-part.patterns (c.loop-part.invariant.same ∙ c.requires.question)
+    c.in-Some.part.now c.next.follows.lender-at-none (subst (λ r. Gives c.loop-part.patterns (option_copied r) c.next.follows.lender-at-none) c.in-Some.is c.next.follows.holds-at-none)
+    c.args.budget c.loop-part.vain c.sift_next.new.vain c.loop-part.invariant.vainly c.in-Some-found.thin
+    (subst (λ (x : Pattern). SiftsNext passes_Q c.args.net.now.net c.args.sets.now c.args.rate c.args.budget x c.loop-part.vain c.sift_next.new.vain (Ok (Some c.in-Some-found.thin))) c.fill.ensures
+    (subst (λ o. SiftsNext passes_Q c.args.net.now.net c.args.sets.now c.args.rate c.args.budget c.fill.new.pattern c.loop-part.vain c.sift_next.new.vain (Ok o)) c.in-Some-found.is c.in_ok-found.ensures))
+
+pub loop-part-preserved : goal.loop-part-preserved
+loop-part-preserved c =
+    let t = subst (λ (x : Pattern). SiftsNext passes_Q c.args.net.now.net c.args.sets.now c.args.rate c.args.budget x c.loop-part.vain c.sift_next.new.vain (Ok None)) c.fill.ensures
+    (subst (λ o. SiftsNext passes_Q c.args.net.now.net c.args.sets.now c.args.rate c.args.budget c.fill.new.pattern c.loop-part.vain c.sift_next.new.vain (Ok o)) c.in_default-found.is c.in_ok-found.ensures) in
+    let gives = (subst (λ r. Gives c.loop-part.patterns (option_copied r) c.next.follows.lender-at-none) c.in-Some.is c.next.follows.holds-at-none) in
+    record {
+      same = ap (λ (g : Given). g.question) gives.1 ∙ c.loop-part.invariant.same;
+      count = ap (λ (l : List (Option State)). length l) c.fill.ensures ∙ whole_count passes_Q c.args.net.now.net c.args.sets.now c.args.rate c.args.base.now c.args.forced.now c.requires.network c.requires.sets c.requires.forcing c.loop-part.patterns (c.loop-part.invariant.same ∙ c.requires.question)
+          c.in-Some.part.now c.next.follows.lender-at-none (subst (λ r. Gives c.loop-part.patterns (option_copied r) c.next.follows.lender-at-none) c.in-Some.is c.next.follows.holds-at-none);
+      within = (let less = t.0 in let one = t.1.one_more in omega arith);
+      vainly = narrow_on passes_Q c.args.net.now.net c.args.sets.now c.args.rate c.args.base.now c.args.forced.now c.requires.network c.requires.sets c.requires.forcing c.loop-part.patterns (c.loop-part.invariant.same ∙ c.requires.question)
+          c.in-Some.part.now c.next.follows.lender-at-none (subst (λ r. Gives c.loop-part.patterns (option_copied r) c.next.follows.lender-at-none) c.in-Some.is c.next.follows.holds-at-none)
+          c.args.budget c.loop-part.vain c.sift_next.new.vain c.loop-part.invariant.vainly t;
+    }

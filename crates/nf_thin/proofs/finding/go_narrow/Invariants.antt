@@ -1,0 +1,16 @@
+use Rattle.std.proofs.Common.{◌≡◌, ◌≤◌, ◌-◌, length}
+use Rattle.nf_work.specs.Passing.{passes_Q}
+use Rattle.nf_thin.proofs.Narrowing.{NarrowVainly}
+use Rattle.nf_thin.proofs.finding.go_narrow.Given as goal
+
+-- so many were gone through in vain
+abbrev pub invariant-loop-part : goal.invariant-loop-part
+invariant-loop-part l = record {
+  same : l.patterns.question ≡ l.fn.patterns.question;
+  count : length l.whole ≡ length l.net.net.links;
+  within : l.vain.tried ≤ l.budget;
+  vainly : NarrowVainly passes_Q l.net.net l.sets l.rate l.base l.forced l.vain.tried l.patterns.last;
+}
+
+abbrev pub decreases-loop-part : goal.decreases-loop-part
+decreases-loop-part l = l.budget - l.vain.tried

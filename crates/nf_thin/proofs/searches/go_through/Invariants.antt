@@ -1,0 +1,11 @@
+use Rattle.std.proofs.Common.{◌-◌}
+use Rattle.nf_work.specs.Passing.{passes_Q}
+use Rattle.nf_thin.proofs.Looping.{InLoop}
+use Rattle.nf_thin.proofs.searches.go_through.Given as goal
+
+-- the first patterns of the listing were tried in vain
+abbrev pub invariant-loop-pattern : goal.invariant-loop-pattern
+invariant-loop-pattern l = InLoop passes_Q l.net.net l.sets l.rate l.fn.patterns.question l.budget l.patterns l.vain
+
+abbrev pub decreases-loop-pattern : goal.decreases-loop-pattern
+decreases-loop-pattern l = l.budget - l.vain.tried

@@ -1,0 +1,56 @@
+-- What a search comes to that goes through the listed patterns with forced states alone.
+use Rattle.std.specs.Prelude.{◌≡◌, ℕ, suc, ◌<◌, List, length, Option, Some, None, Result, Ok, Err}
+use Rattle.nf_rational.specs.Rational.{ℚ}
+use Rattle.nf_work.specs.Passing.{Passing}
+use Rattle.nf_model.specs.Network.{Network}
+use Rattle.nf_model.specs.ThinFlow.{Sets}
+use Rattle.nf_model.specs.Pattern.{Pattern, IsSolution}
+use Rattle.nf_lists.specs.Accepted.{IsAccepted}
+use Rattle.nf_lists.specs.Listing.{HasPlace}
+use Rattle.nf_lists.specs.Search.{Answer, Found}
+use Rattle.nf_listing_laws.specs.Forcing.{filled}
+use Rattle.nf_listing_laws.specs.Laws.{Narrows, NoneFilledBefore}
+use Rattle.nf_thin.specs.declared.thin.Thin.{Thin}
+use Rattle.nf_thin.specs.declared.thin.ThinFlow.{ThinFlow}
+use Rattle.nf_thin.specs.declared.fault.SearchFault.{SearchFault}
+use Rattle.nf_thin.specs.Searching.{Searches}
+
+-- the first pattern that is accepted with the forced states, at its place among those that are left
+pub record IsFirstFilled (passes : Passing) (net : Network) (sets : Sets) (rate : ℚ) (forced : Pattern) (narrow : List Pattern) (thin : Thin) : Type 0 where
+  pub part : Pattern
+  pub has_place : HasPlace narrow thin.place part
+  pub pattern_is : thin.pattern ≡ filled forced part
+  pub accepted : IsAccepted passes net sets rate (filled forced part)
+  pub solution : IsSolution net sets rate (filled forced part) thin.flows.items thin.labels.items
+  pub first : NoneFilledBefore passes net sets rate forced narrow thin.place
+
+abbrev pub NarrowAnswers : Passing → Network → Sets → ℚ → Pattern → List Pattern → ℕ → Result (Option Thin) SearchFault → Type 0
+NarrowAnswers passes net sets rate forced narrow budget (Ok (Some thin)) = IsFirstFilled passes net sets rate forced narrow thin
+NarrowAnswers passes net sets rate forced narrow budget (Ok None) = Unit {0}
+NarrowAnswers passes net sets rate forced narrow budget (Err (SearchFault.Budget tried)) =
+    (tried ≡ budget) × (budget < length narrow) × NoneFilledBefore passes net sets rate forced narrow (suc budget)
+NarrowAnswers passes net sets rate forced narrow budget (Err (SearchFault.Passed place at)) = ⊥
+NarrowAnswers passes net sets rate forced narrow budget (Err SearchFault.NoPattern) = ⊥
+NarrowAnswers passes net sets rate forced narrow budget (Err SearchFault.Memory) = Unit {0}
+
+-- whatever the listings are
+abbrev pub NarrowFinds : Passing → Network → Sets → ℚ → Pattern → Pattern → ℕ → Result (Option Thin) SearchFault → Type 0
+NarrowFinds passes net sets rate base forced budget result =
+    (listing narrow : List Pattern) → Narrows net sets rate base forced listing narrow → NarrowAnswers passes net sets rate forced narrow budget result
+
+-- ---- the search whose pattern is found at some place
+
+-- a thin flow without its place
+abbrev pub flow_of : Thin → ThinFlow
+flow_of thin = record { flows = thin.flows; labels = thin.labels; pattern = thin.pattern }
+
+-- the answer of the definition, unless memory is wanting
+abbrev pub Finds : (Answer → Type 0) → ℕ → Result ThinFlow SearchFault → Type 0
+Finds Answers budget (Ok found) = (place : ℕ) × Answers (Found place found.pattern found.flows.items found.labels.items)
+Finds Answers budget (Err fault) = Searches Answers budget (Err fault)
+
+-- if there is one
+abbrev pub FindsBy : (Answer → Type 0) → ℕ → Result (Option ThinFlow) SearchFault → Type 0
+FindsBy Answers budget (Ok (Some found)) = Finds Answers budget (Ok found)
+FindsBy Answers budget (Ok None) = Unit {0}
+FindsBy Answers budget (Err fault) = Finds Answers budget (Err fault)

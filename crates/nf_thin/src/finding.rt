@@ -1,0 +1,157 @@
+// The search where slopes of a thin flow are known: among the listed patterns that have the states which they force.
+ghost use Rattle.std.specs.Prelude.{◌≡◌, IfOk};
+ghost use Rattle.nf_work.specs.Passing.{passes_Q};
+ghost use Rattle.nf_model.specs.Network.{IsNetwork, unbounded as unbounded_of};
+ghost use Rattle.nf_model.specs.Pattern.{IsPattern};
+ghost use Rattle.nf_lists.specs.Search.{IsSearch};
+ghost use Rattle.nf_listing_laws.specs.Forcing.{IsForcing};
+ghost use Rattle.nf_pattern.specs.Given.{AtStart, IsQuestion};
+ghost use Rattle.nf_narrow.specs.Asking.{question_left};
+ghost use Rattle.nf_thin.specs.Searching.{AreSetsOf, question_of};
+ghost use Rattle.nf_thin.specs.Sifting.{Guides};
+ghost use Rattle.nf_thin.specs.Finding.{NarrowFinds, FindsBy};
+
+use crate::fault::SearchFault;
+use crate::first::copy_next;
+use crate::listings::{listing, unbounded_flags};
+use crate::sifting::{Guide, guide_of, sift_next};
+use crate::standing::is_within;
+use crate::thin::{Thin, ThinFlow};
+use crate::vain::Vain;
+use nf_frac::Q;
+use nf_graph::LinkSets;
+use nf_narrow::{fill, forced_by, narrow_listing};
+use nf_net::Network;
+use nf_pattern::{Pattern, Patterns};
+use std::alloc::{AllocError, Global};
+
+// The patterns that are left are gone through, with the forced states put in, until one is accepted; its place is that among them.
+fn go_narrow(
+    alloc: Global,
+    net: &Network,
+    sets: &LinkSets,
+    rate: Q,
+    guide: &Guide,
+    forced: &Pattern,
+    base: &Pattern,
+    patterns: &mut Patterns,
+    budget: u64,
+) -> Result<Option<Thin>, SearchFault>
+    requires network { IsNetwork net.now.net }
+    requires sets { AreSetsOf net.now.net sets.now }
+    requires guide { Guides passes_Q net.now.net sets.now rate guide.now }
+    requires base { IsPattern sets.now (unbounded_of net.now.net) base.now }
+    requires forcing { IsForcing sets.now (unbounded_of net.now.net) forced.now }
+    requires question { patterns.old.question ≡ question_left forced.now (question_of net.now.net sets.now base.now) }
+    requires start { patterns.old.last ≡ AtStart }
+    ensures { NarrowFinds passes_Q net.now.net sets.now rate base.now forced.now budget result }
+{
+    let mut vain = Vain {
+        tried: 0,
+        passed: None,
+    };
+    let mut whole = base.copy(alloc)?;
+    while let Some(part) = patterns.next() {
+        fill(&mut whole, forced, part, net.link_count());
+        let found = sift_next(alloc, net, sets, rate, guide, &whole, budget, &mut vain)?;
+        if let Some(thin) = found {
+            return Ok(Some(thin));
+        }
+    }
+    Ok(None)
+}
+
+// The listing of what is left where links have given states.
+fn narrowed(
+    alloc: Global,
+    net: &Network,
+    sets: &LinkSets,
+    base: &Pattern,
+    forced: &Pattern,
+) -> Result<Patterns, AllocError>
+    requires sets { AreSetsOf net.now.net sets.now }
+    requires base { IsPattern sets.now (unbounded_of net.now.net) base.now }
+    requires forcing { IsForcing sets.now (unbounded_of net.now.net) forced.now }
+    ensures { IfOk result (λ patterns. patterns ≡ record {
+      question = question_left forced.now (question_of net.now.net sets.now base.now);
+      last = AtStart;
+      place = 0;
+    }) }
+{
+    let hops = net.hops();
+    let nodes = net.node_count();
+    let unbounded = unbounded_flags(alloc, net)?;
+    narrow_listing(
+        alloc,
+        nodes,
+        net.source(),
+        hops,
+        sets,
+        base,
+        &unbounded,
+        forced,
+    )
+}
+
+// The search by a guide, among the listed patterns that have the states which its slopes force. None where none of them is accepted.
+fn find_by(
+    alloc: Global,
+    net: &Network,
+    sets: &LinkSets,
+    rate: Q,
+    guide: &Guide,
+    base: &Pattern,
+    budget: u64,
+) -> Result<Option<ThinFlow>, SearchFault>
+    requires network { IsNetwork net.now.net }
+    requires sets { AreSetsOf net.now.net sets.now }
+    requires guide { Guides passes_Q net.now.net sets.now rate guide.now }
+    requires base { IsPattern sets.now (unbounded_of net.now.net) base.now }
+    requires question { IsQuestion (question_of net.now.net sets.now base.now) }
+    ensures { FindsBy (IsSearch passes_Q net.now.net sets.now rate base.now budget) budget result }
+{
+    let forced = forced_by(alloc, net, &guide.known.slopes, base)?;
+    let mut patterns = narrowed(alloc, net, sets, base, &forced)?;
+    let found = go_narrow(
+        alloc,
+        net,
+        sets,
+        rate,
+        guide,
+        &forced,
+        base,
+        &mut patterns,
+        budget,
+    )?;
+    let Some(thin) = found else {
+        return Ok(None);
+    };
+    if is_within(alloc, net, sets, base, &thin.pattern, budget)? {
+        return Ok(Some(thin.flow()));
+    }
+    Err(SearchFault::Budget { tried: budget })
+}
+
+/// The search by the slopes of a thin flow, which are guessed from the first listed pattern on. None where it comes to no end: no such
+/// slopes were found, or none of the listed patterns that have the states which they force is accepted.
+pub fn find_by_slopes(
+    alloc: Global,
+    net: &Network,
+    sets: &LinkSets,
+    rate: Q,
+    base: &Pattern,
+    budget: u64,
+) -> Result<Option<ThinFlow>, SearchFault>
+    requires sets { AreSetsOf net.now.net sets.now }
+    requires base { IsPattern sets.now (unbounded_of net.now.net) base.now }
+    ensures { FindsBy (IsSearch passes_Q net.now.net sets.now rate base.now budget) budget result }
+{
+    let mut patterns = listing(alloc, net, sets, base)?;
+    let Some(first) = copy_next(alloc, &mut patterns)? else {
+        return Ok(None);
+    };
+    let Some(guide) = guide_of(alloc, net, sets, rate, &first)? else {
+        return Ok(None);
+    };
+    find_by(alloc, net, sets, rate, &guide, base, budget)
+}
