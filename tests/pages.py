@@ -1,5 +1,5 @@
 #!/usr/bin/env python3
-"""Runs each command that README.md and docs/GUIDE.md show, in a copy of the folder examples, and compares what it prints with the page.
+"""Runs each command that README.md, docs/GUIDE.md and docs/EXERCISES.md show, in a copy of the folder examples, and compares what it prints with the page.
 
 A block that begins with ```console has lines `$ COMMAND`, each followed by what the command prints (standard output, then standard error).
 """
@@ -11,7 +11,7 @@ import sys
 import tempfile
 
 ROOT = pathlib.Path(__file__).resolve().parent.parent
-PAGES = ["README.md", "docs/GUIDE.md"]
+PAGES = ["README.md", "docs/GUIDE.md", "docs/EXERCISES.md"]
 
 
 def shown(page):
