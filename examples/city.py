@@ -3,15 +3,18 @@
 
 Capacities of siouxfalls.txt are rounded to multiples of UNIT vehicles an hour (at least one), and written a minute. From minute
 START on RATE vehicles a minute are supplied. The file siouxfalls.net is what `city.py 2400 1 20 0:200 30:400 60:200 90:0` prints."""
+import pathlib
 import sys
 from fractions import Fraction
+
+TABLE = pathlib.Path(__file__).with_name("siouxfalls.txt")
 
 
 def main(unit, origin, destination, *supply):
     print("# Sioux Falls (siouxfalls.txt has the source), by city.py. Minutes, and vehicles a minute.")
     print(f"# Transit times as there; capacities rounded to multiples of {unit} an hour.")
     print(f"nfot 1\nsource {origin}\nsink {destination}")
-    for line in open("siouxfalls.txt"):
+    for line in open(TABLE):
         if line.startswith("#"):
             continue
         tail, head, capacity, minutes = line.split()
