@@ -1,5 +1,5 @@
 #!/usr/bin/env python3
-"""nfot quick NET --amount Q | cut.py NET: the links that count in the cut, with their capacity, for how long each counts, and the amount."""
+"""nfot quick NET --amount Q | cut.py NET: which links count in the cut, at which capacity, for how long, and the amounts."""
 import sys
 from fractions import Fraction
 

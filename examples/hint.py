@@ -1,5 +1,5 @@
 #!/usr/bin/env python3
-"""hint.py NET REPORT: prints REPORT with other `state` lines, for `nfot resume NET - ...` to go on from at once.
+"""hint.py NET REPORT: prints REPORT with other `state` lines, for `nfot resume` to go on from at once.
 
 The states are those of a pattern whose equations give a thin flow at the departure that REPORT has reached, so that the first
 search of `resume` accepts the first pattern that it tries. Nothing is trusted: `resume` checks the report and the pattern itself.
