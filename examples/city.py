@@ -11,7 +11,7 @@ TABLE = pathlib.Path(__file__).with_name("siouxfalls.txt")
 
 
 def main(unit, origin, destination, *supply):
-    print("# Sioux Falls, South Dakota (LeBlanc, Morlok and Pierskalla 1975): values of public test networks, as remembered (siouxfalls.txt).")
+    print("# Sioux Falls (LeBlanc, Morlok and Pierskalla 1975): values of public test networks, as remembered (siouxfalls.txt).")
     print(f"# Minutes, and vehicles a minute. Capacities are rounded to multiples of {unit} vehicles an hour, transit times are not.")
     print(f"nfot 1\nsource {origin}\nsink {destination}")
     for line in open(TABLE):
