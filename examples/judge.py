@@ -97,6 +97,9 @@ def main(net, loads, reached, horizon):
     links = {name: ends for name, ends in links.items() if ends[0] in near}
     curves, end = loaded(net, loads, horizon), Fraction(reached)
     label = labels_of(source, links, curves, end)
+    last = max(points[-1][1] for points in label.values())
+    if last > Fraction(horizon):
+        sys.exit(f"judge: HORIZON is too early, flow is on its way until {float(last):.2f} at least")
     print(f"report {version}\nhorizon {end}\nreached {end}\ncause done")
     for node in dict.fromkeys([source, sink] + [node for ends in links.values() for node in ends]):
         for time, arrival in label[node]:
