@@ -1,7 +1,8 @@
 #!/usr/bin/env python3
-"""Runs each command that README.md and docs/GUIDE.md show, in a copy of the folder examples, and compares what it prints with the page.
+"""Runs each command that the pages show, in a copy of the folder examples, and compares what it prints with the page.
 
 A block that begins with ```console has lines `$ COMMAND`, each followed by what the command prints (standard output, then standard error).
+The commands of a page run one after the other in one folder, so that a later one finds the files of an earlier one.
 """
 import os
 import pathlib
@@ -11,7 +12,7 @@ import sys
 import tempfile
 
 ROOT = pathlib.Path(__file__).resolve().parent.parent
-PAGES = ["README.md", "docs/GUIDE.md"]
+PAGES = ["README.md", "docs/GUIDE.md", "docs/EXERCISES.md"]
 
 
 def shown(page):

@@ -1,0 +1,199 @@
+#!/usr/bin/env python3
+"""hint.py NET REPORT: prints REPORT with other `state` lines, for `nfot resume` to go on from at once.
+
+The states are those of a pattern whose equations give a thin flow at the departure that REPORT has reached, so that the first
+search of `resume` accepts the first pattern that it tries. Nothing is trusted: `resume` checks the report and the pattern itself.
+NET and REPORT are ones that nfot accepts. Statuses: 0 printed; 1 no such pattern found in STEPS steps (nothing printed)."""
+import sys
+from fractions import Fraction
+
+STEPS, TIGHT, FULL, ZERO = 2000, "tight", "full", "zero"
+
+
+class Phase:
+    """What a thin flow is asked of: nodes, active links as (tail, head, capacity or None), which of them are resetting."""
+
+    def __init__(self, net, report):
+        lines = [line.split("#")[0].split() for line in open(net)]
+        told = [line.split() for line in open(report)]
+        value = {line[0]: line[1] for line in lines + told if line and line[0] in ("source", "sink", "reached")}
+        self.source, self.sink, reached = value["source"], value["sink"], Fraction(value["reached"])
+        labels, self.kept = {}, {}
+        for line in told:
+            if line and line[0] == "label":
+                labels.setdefault(line[1], []).append((Fraction(line[2]), Fraction(line[3])))
+            elif line and line[0] == "state":
+                self.kept[line[1]] = line[2]
+        labels = {node: at(points, reached) for node, points in labels.items()}
+        self.rate, self.links, self.resetting = Fraction(0), {}, set()
+        for line in lines:
+            if line and line[0] == "inflow" and Fraction(line[1]) <= reached:
+                self.rate = Fraction(line[2])
+            elif line and line[0] == "link" and line[2] in labels:  # idle nodes have no label
+                name, tail, head = line[1:4]
+                slack = labels[head] - (labels[tail] + Fraction(line[4]))
+                if slack >= 0:
+                    self.links[name] = tail, head, None if line[5] == "inf" else Fraction(line[5])
+                if slack > 0:
+                    self.resetting.add(name)
+        self.free = [e for e in self.links if e not in self.resetting]  # in link order, as all that follows
+        self.into = {v: [e for e in self.links if self.links[e][1] == v] for v in labels}
+        self.nodes = self.topological()
+
+    def topological(self):
+        """The nodes, each after the tails of the active links into it (these hold no cycle)."""
+        order, left = [], {v: len(into) for v, into in self.into.items()}
+        ready = [v for v in left if not left[v]]
+        while ready:
+            v = ready.pop()
+            order.append(v)
+            for tail, head, _ in self.links.values():
+                if tail == v:
+                    left[head] -= 1
+                    if not left[head]:
+                        ready.append(head)
+        return order
+
+    def base(self):
+        """The pattern with which the search begins: kept states, else Tight for the first link into a node without a queue, else Zero."""
+        states = {}
+        for e in self.free:
+            into = self.into[self.links[e][1]]
+            first = into[0] == e and not self.resetting & set(into)
+            states[e] = self.kept.get(e) or (TIGHT if first else ZERO)
+        return states
+
+    def parts(self, states):
+        """A name of its Tight part for each node, and the Tight links that close a cycle with those before."""
+        name, closing = {v: v for v in self.nodes}, []
+        for e in self.free:
+            if states[e] == TIGHT:
+                a, b = name[self.links[e][0]], name[self.links[e][1]]
+                if a == b:
+                    closing.append(e)
+                else:
+                    name.update((v, b) for v in name if name[v] == a)
+        return name, closing
+
+    def make_listed(self, states, slopes):
+        """Changes states so that the pattern is listed: a forest, and each node but the source is entered."""
+        def joined(v, w):
+            part = self.parts(states)[0]
+            return part[v] == part[w]
+        for e in self.parts(states)[1]:
+            states[e] = ZERO
+        for w in self.nodes:
+            if w == self.source or any(e in self.resetting or states[e] != ZERO for e in self.into[w]):
+                continue
+            new = min(self.into[w], key=lambda e: slopes.get(self.links[e][0], 0))
+            tail = self.links[new][0]
+            for e in [e for e in self.free if states[e] == TIGHT and self.links[e][0] == w]:
+                if joined(tail, w):  # all Tight links at w lead out of it: the one towards the new one's tail goes
+                    states[e] = ZERO
+                    states[e] = TIGHT if joined(tail, w) else ZERO
+            states[new] = TIGHT
+
+    def solve(self, states):
+        """The slopes and flows of a listed pattern's equations, by its Tight parts.
+
+        The balance of each part but the source's is a row over the slopes of the parts. A column has its greatest entry on the
+        diagonal and sums to at least 0 (an M-matrix, never singular for a listed pattern), so no pivot is looked for."""
+        part = self.parts(states)[0]
+        root, carried = part[self.source], [e for e in self.links if e in self.resetting or states[e] == FULL]
+        rows = {p: {} for p in dict.fromkeys(part[v] for v in reversed(self.nodes)) if p != root}
+        right = {p: Fraction(self.rate if p == part[self.sink] else 0) for p in rows}
+        for e in carried:
+            tail, head, capacity = self.links[e]
+            a, b = part[tail], part[head]
+            for p, x in ((b, capacity), (a, -capacity)):  # capacity * slope of b comes into b and goes out of a
+                if a != b and p != root:
+                    if b == root:
+                        right[p] -= x
+                    else:
+                        rows[p][b] = rows[p].get(b, 0) + x
+        for i, p in enumerate(todo := list(rows)):
+            for q in todo[i + 1:]:
+                f = rows[q].pop(p, 0) / rows[p][p]
+                if f:
+                    right[q] -= f * right[p]
+                    for c, x in rows[p].items():
+                        if c != p:
+                            rows[q][c] = rows[q].get(c, 0) - f * x
+        of = {root: Fraction(1)}
+        for p in reversed(todo):
+            of[p] = (right[p] - sum(x * of[c] for c, x in rows[p].items() if c != p)) / rows[p][p]
+        slopes = {v: of[part[v]] for v in self.nodes}
+        flows, spare = {e: Fraction(0) for e in self.links}, {v: Fraction(0) for v in self.nodes}
+        spare[self.source] += self.rate
+        spare[self.sink] -= self.rate
+        for e in carried:
+            tail, head, capacity = self.links[e]
+            flows[e] = capacity * slopes[head]
+            spare[tail] -= flows[e]
+            spare[head] += flows[e]
+        at_node = {v: {e for e in self.free if states[e] == TIGHT and v in self.links[e][:2]} for v in self.nodes}
+        leaves = [v for v in self.nodes if len(at_node[v]) == 1]
+        while leaves:  # what is spare at a leaf of the forest goes along its one link
+            v = leaves.pop()
+            for e in at_node[v]:
+                tail, head, _ = self.links[e]
+                w = head if v == tail else tail
+                flows[e] = spare[v] if v == tail else -spare[v]
+                spare[w] += spare[v]
+                at_node[w].remove(e)
+                if len(at_node[w]) == 1:
+                    leaves.append(w)
+            at_node[v] = ()
+        return slopes, flows
+
+    def repairs(self, states, slopes, flows):
+        """The links whose inequalities are broken, with the states that they should rather have."""
+        for e in self.free:
+            tail, head, capacity = self.links[e]
+            if states[e] == TIGHT and flows[e] < 0:
+                yield e, ZERO
+            elif states[e] == TIGHT and capacity is not None and flows[e] > capacity * slopes[head]:
+                yield e, FULL
+            elif states[e] == FULL and slopes[head] < slopes[tail] or states[e] == ZERO and slopes[head] > slopes[tail]:
+                yield e, TIGHT
+
+    def settle(self):
+        """A listed pattern whose solution meets all inequalities, with the number of steps, or None."""
+        states, slopes, seen = self.base(), {}, set()
+        for step in range(1, STEPS + 1):
+            self.make_listed(states, slopes)
+            slopes, flows = self.solve(states)
+            repairs = list(self.repairs(states, slopes, flows))
+            if not repairs:
+                return states, step
+            if tuple(states.values()) in seen:  # going round: only one of them, another one each time
+                repairs = [repairs[step % len(repairs)]]
+            seen.add(tuple(states.values()))
+            for e, state in sorted(repairs, key=lambda repair: repair[1] == TIGHT):
+                old, states[e] = states[e], state
+                if state == TIGHT and self.parts(states)[1]:
+                    states[e] = old  # with those before it, it closes a cycle
+        return None, STEPS
+
+
+def at(points, time):
+    """The value of a curve: linear between its points, constant after the last."""
+    for (t, a), (u, b) in zip(points, points[1:]):
+        if t <= time < u:
+            return a + (b - a) * (time - t) / (u - t)
+    return points[-1][1]
+
+
+def main(net, report):
+    phase = Phase(net, report)
+    states, steps = phase.settle()
+    if states is None:
+        sys.exit("hint: no pattern in %d steps" % steps)
+    told = [line for line in open(report).read().split("\n") if not line.startswith(("state ", "end"))]
+    sys.stdout.write("\n".join(told[:-1] + ["state %s %s" % (e, states[e]) for e in phase.free] + ["end", ""]))
+    changed = [e for e, state in phase.base().items() if states[e] != state]
+    print("hint: %d steps, %d changes" % (steps, len(changed)), file=sys.stderr)
+
+
+if __name__ == "__main__":
+    main(*sys.argv[1:])
