@@ -38,7 +38,7 @@ SameArrival net amount (Arrival.At time) = (departs : ℚ) × IsDeparture net am
     × ((other : Flow) → Equilibrium net other → departs ≤ℚ other.reached → label other net.sink departs ≡ time)
 SameArrival net amount arrival = Unit {0}
 
--- of an answer
+-- Of an answer: of the flow of a report, of a run without a horizon, of a verdict, and of the line of `quick`. Other answers hold no flow.
 abbrev pub IsSameInAll : Call → Answer → Type 0
 IsSameInAll call (Solved n report) = SameInAll n.net report.flow
 IsSameInAll call (Generated number rungs n made report) = SameInAll n.net report.flow
@@ -47,6 +47,6 @@ IsSameInAll call (Checked n verdict) = SameIfYes call n verdict
 IsSameInAll call (Quickest n quick arrival) = (file : List ℕ) (amount : ℚ) (augments : ℕ) → Asks call (Quick file amount augments) → SameArrival n.net amount arrival
 IsSameInAll call answer = Unit {0}
 
--- Of what a run answered: whatever it stopped for, the labels, queues and exits of its report are those of every equilibrium.
+-- A whole run: it gave an answer where that comes, as its status and its sinks show, and of this answer it is so, whatever the run stopped for.
 abbrev pub RanSame : Call → Taken → Taken → Status → Type 0
 RanSame call out err status = (ran : Ran call out err status) × IsSameInAll call ran.answer
