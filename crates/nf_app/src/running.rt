@@ -56,7 +56,8 @@ pub fn run<S: Shelf, O: Sink, E: Sink>(
 
     // Every equilibrium of the network, whoever made it, has the labels, queues and exits of the report that is written, of the run without
     // a horizon, of the run behind the summary of `gen`, and of the report that `check` answers yes, as far as both describe departures; and
-    // who departs when the amount of `quick` is supplied arrives in all of them at the time of its equilibrium line.
+    // who departs when the amount of `quick` is supplied arrives, in each of them that describes this departure, at the time of its equilibrium
+    // line.
     ensures same_in_all { AnswerIsSameInAll (record { words = texts words.now; shelf = visit S.Shelf shelf.old shelf.new }) }
 
     // No run of a command stops since no pattern is left, for each phase has a thin flow.
