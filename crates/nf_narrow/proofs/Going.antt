@@ -1,10 +1,10 @@
 -- A listing that goes on: what it has given then, and where the pattern stands that is looked for.
-use Rattle.std.proofs.Common.{◌≡◌, ℕ, suc, ◌-◌, ◌^◌, ◌<◌, ◌≤◌, List, sym, ap, subst, ◌∙◌, arith}
+use Rattle.std.proofs.Common.{◌≡◌, ℕ, suc, ◌-◌, ◌^◌, ◌<◌, List, sym, ap, subst, ◌∙◌, arith}
 use Rattle.std.specs.Prelude.{Some, None}
 use Rattle.nf_model.specs.Pattern.{Pattern}
 use Rattle.nf_lists.specs.Listing.{HasPlace}
 use Rattle.nf_pattern.specs.Front.{IsListingOf}
-use Rattle.nf_pattern.specs.Given.{Question, IsQuestion, IsListedBy, Given, Last, UpTo, IsNext, NoneLeft, Gives}
+use Rattle.nf_pattern.specs.Given.{Question, IsQuestion, IsListedBy, Given, Last, AtStart, UpTo, IsLater, IsNext, NoneLeft, Gives}
 use Rattle.nf_pattern.proofs.Deciding.{has_listing}
 use Rattle.nf_narrow.specs.Asking.{GivenUpTo, GoesThrough, IsBehind, StandsAt}
 use Rattle.nf_narrow.proofs.Places.{later_place}
@@ -55,3 +55,10 @@ module _ (q : Question) (given after : Given) (through : GoesThrough q given) (p
 
     pub not_listed : IsQuestion q → IsListedBy q pattern → ⊥
     not_listed asked listed = let l = has_listing q asked in let w = l.1.whole pattern listed in no_more l.0 w.0 l.1 w.1
+
+-- of which nothing is given yet
+pub from_start : (q : Question) (given : Given) (pattern : Pattern) → given.question ≡ q → given.last ≡ AtStart → given.place ≡ 0 → IsBehind q given pattern
+from_start q given pattern same start none = record {
+  through = record { same = same; counted = λ listing is. subst (λ (n : ℕ). GivenUpTo listing n given.last) (sym none) start };
+  later = subst (λ (l : Last). IsLater q.base l pattern) (sym start) tt;
+}
