@@ -14,4 +14,4 @@ pub use forcing::forced_by;
 pub use listing::narrow_listing;
 pub use row::ways_before;
 pub use sole::sole_flags;
-pub use within::stands_within;
+pub use within::goes_on_to;

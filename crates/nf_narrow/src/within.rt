@@ -1,7 +1,7 @@
 // Whether a listed pattern stands within a budget: the listing is gone through as far as that.
-ghost use Rattle.std.specs.Prelude.{◌≡◌, ◌≤◌, length, MatchBool};
-ghost use Rattle.nf_pattern.specs.Given.{IsQuestion, AtStart};
-ghost use Rattle.nf_narrow.specs.Asking.{StandsWithin};
+ghost use Rattle.std.specs.Prelude.{◌≡◌, true, length, MatchBool};
+ghost use Rattle.nf_pattern.specs.Given.{IsQuestion, IsListedBy};
+ghost use Rattle.nf_narrow.specs.Asking.{StandsWithin, IsBehind, StandsAt};
 
 use nf_graph::LinkId;
 use nf_model::State;
@@ -34,23 +34,23 @@ fn is_one(one: &Pattern, other: &Pattern, links: u32) -> bool
     true
 }
 
-/// Whether a listed pattern is one of so many first ones of a listing, of which nothing was given yet.
-pub fn stands_within(patterns: &mut Patterns, pattern: &Pattern, budget: u64, links: u32) -> bool
+/// Whether a pattern is one of so many first ones of a listing, which goes on as far as that: to the pattern, which is later than what
+/// was given before, or to the end of the budget.
+pub fn goes_on_to(patterns: &mut Patterns, pattern: &Pattern, budget: u64, links: u32) -> bool
     requires question { IsQuestion patterns.old.question }
-    requires start { patterns.old.last ≡ AtStart }
     requires links { length patterns.old.question.hops ≡ links }
     requires pattern { length pattern.now ≡ links }
-    ensures { StandsWithin patterns.old.question pattern.now budget result }
+    requires behind { IsBehind patterns.old.question patterns.old pattern.now }
+    ensures within { StandsWithin patterns.old.question pattern.now budget result }
+    ensures stands { result ≡ true → IsListedBy patterns.old.question pattern.now → StandsAt patterns.old.question patterns.new pattern.now }
 {
-    let mut tried = 0u64;
-    while tried < budget {
+    while patterns.place() < budget {
         let Some(listed) = patterns.next() else {
             return true;
         };
         if is_one(listed, pattern, links) {
             return true;
         }
-        tried += 1;
     }
     false
 }

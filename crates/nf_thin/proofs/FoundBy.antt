@@ -1,23 +1,23 @@
 -- What a search by forced states answers.
-use Rattle.std.proofs.Common.{◌≡◌, ℕ, true, false, List, length, sym, subst, ap, ◌∙◌}
+use Rattle.std.proofs.Common.{◌≡◌, ℕ, List, sym, subst, ◌∙◌}
 use Rattle.std.specs.Prelude.{Some, Ok, Err}
 use Rattle.nf_rational.specs.Rational.{ℚ}
 use Rattle.nf_work.specs.Passing.{Passing}
 use Rattle.nf_model.specs.Network.{Network, IsNetwork, unbounded}
 use Rattle.nf_model.specs.ThinFlow.{Sets}
 use Rattle.nf_model.specs.Pattern.{Pattern, IsPattern, IsListedIn, IsSolvable}
-use Rattle.nf_lists.specs.Search.{Found, OverBudget, IsSearch}
+use Rattle.nf_lists.specs.Search.{Found, IsSearch}
 use Rattle.nf_pattern.specs.Given.{IsQuestion}
 use Rattle.nf_pattern.proofs.Deciding.{has_listing}
 use Rattle.nf_listing_laws.specs.Forcing.{IsForcing, HasForced}
 use Rattle.nf_listing_laws.specs.Laws.{Narrows}
-use Rattle.nf_listing_laws.proofs.Forced.{left_pattern, filled_pattern, sets_count, flags_count}
-use Rattle.nf_listing_laws.proofs.Answered.{answer_within, answer_beyond, answer_over}
+use Rattle.nf_listing_laws.proofs.Forced.{left_pattern, sets_count, flags_count}
+use Rattle.nf_listing_laws.proofs.Answered.{answer_within, answer_beyond}
 use Rattle.nf_listing_laws.specs.Forcing.{forced_by}
 use Rattle.nf_listing_laws.proofs.BySlopes.{forcing as forced_forcing, allowed as forced_allowed}
 use Rattle.nf_thin_laws.specs.ActiveLinks.{HoldNoCycle}
 use Rattle.nf_thin.specs.Slopes.{AreThinSlopes}
-use Rattle.nf_narrow.specs.Asking.{question_left, StandsWithin}
+use Rattle.nf_narrow.specs.Asking.{question_left}
 use Rattle.nf_thin.specs.declared.thin.Thin.{Thin}
 use Rattle.nf_thin.specs.declared.fault.SearchFault.{SearchFault}
 use Rattle.nf_thin.specs.Searching.{Searches, AreSetsOf, question_of}
@@ -52,30 +52,16 @@ module _ (passes : Passing) (net : Network) (sets : Sets) (rate : ℚ) (base for
     allowed = allowed;
   }
 
-  pub by_count : (thin : Thin) → NarrowFinds passes net sets rate base forced budget (Ok (Some thin)) → length sets.active ≡ length net.links → length thin.pattern ≡ length net.links
-  by_count thin finds count =
+  pub by_within : (thin : Thin) → NarrowFinds passes net sets rate base forced budget (Ok (Some thin)) → Finds (IsSearch passes net sets rate base budget) budget (Ok (flow_of thin))
+  by_within thin finds =
       let f = finds listing narrow narrows in
-      let l = narrows.part.listed thin.place f.part f.has_place in
-      ap (λ (p : Pattern). length p) f.pattern_is ∙ ((filled_pattern sets (unbounded net) forced forcing f.part l.states).count ∙ count)
-
-  pub by_within : (thin : Thin) → NarrowFinds passes net sets rate base forced budget (Ok (Some thin)) → StandsWithin (question_of net sets base) thin.pattern budget true
-      → Finds (IsSearch passes net sets rate base budget) budget (Ok (flow_of thin))
-  by_within thin finds near =
-      let f = finds listing narrow narrows in
-      let w = answer_within passes net sets rate base forced listing narrow narrows budget thin.place f.part f.has_place f.accepted f.first thin.flows.items thin.labels.items f.solution
-      (λ there at. subst (λ (p : Pattern). StandsWithin (question_of net sets base) p budget true) f.pattern_is near listing there narrows.whole at) in
+      let w = answer_within passes net sets rate base forced listing narrow narrows budget thin.place f.part f.has_place f.accepted f.first thin.flows.items thin.labels.items f.solution f.within in
       (w.0, subst (λ (p : Pattern). IsSearch passes net sets rate base budget (Found w.0 p thin.flows.items thin.labels.items)) (sym f.pattern_is) w.1)
-
-  pub by_beyond : (thin : Thin) → NarrowFinds passes net sets rate base forced budget (Ok (Some thin)) → StandsWithin (question_of net sets base) thin.pattern budget false
-      → IsSearch passes net sets rate base budget OverBudget
-  by_beyond thin finds far =
-      let f = finds listing narrow narrows in
-      answer_beyond passes net sets rate base forced listing narrow narrows budget thin.place f.part f.has_place f.accepted f.first
-      (λ there at. subst (λ (p : Pattern). StandsWithin (question_of net sets base) p budget false) f.pattern_is far listing there narrows.whole at)
 
   pub by_fault : (fault : SearchFault) → NarrowFinds passes net sets rate base forced budget (Err fault) → Searches (IsSearch passes net sets rate base budget) budget (Err fault)
   by_fault (SearchFault.Budget tried) finds =
-      let f = finds listing narrow narrows in (f.0, answer_over passes net sets rate base forced listing narrow narrows budget f.1 f.2)
+      let f = finds listing narrow narrows in
+      (f.0, answer_beyond passes net sets rate base forced listing narrow narrows budget f.1.place f.1.part f.1.has_place f.1.none f.1.beyond)
   by_fault (SearchFault.Passed place at) finds = absurd (finds listing narrow narrows)
   by_fault SearchFault.NoPattern finds = absurd (finds listing narrow narrows)
   by_fault SearchFault.Memory finds = tt

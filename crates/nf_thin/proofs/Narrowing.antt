@@ -1,20 +1,21 @@
 -- The loop over the patterns that are left where slopes force states.
-use Rattle.std.proofs.Common.{◌≡◌, ⊎_elim, ℕ, suc, ◌<◌, List, length, refl, sym, ap, subst, ◌∙◌, arith}
+use Rattle.std.proofs.Common.{◌≡◌, ⊎_elim, ℕ, suc, ◌<◌, List, length, true, false, refl, sym, ap, subst, ◌∙◌, arith}
 use Rattle.std.specs.Prelude.{Some, None, slice_get, Ok, Err}
-use Rattle.std.proofs.lemmas.Option.{same_Some, slice_get_within}
+use Rattle.std.proofs.lemmas.Option.{same_Some}
 use Rattle.nf_rational.specs.Rational.{ℚ}
 use Rattle.nf_work.specs.Passing.{Passing}
 use Rattle.nf_model.specs.Network.{Network, IsNetwork, hops, unbounded}
 use Rattle.nf_model.specs.ThinFlow.{Sets}
-use Rattle.nf_model.specs.Pattern.{Pattern, IsListedIn}
+use Rattle.nf_model.specs.Pattern.{Pattern, IsPattern, IsListedIn, IsBefore}
 use Rattle.nf_lists.specs.Accepted.{IsAccepted}
 use Rattle.nf_plain_laws.proofs.Naturals.{before_or_at}
 use Rattle.nf_listing_laws.specs.Forcing.{filled, IsForcing}
 use Rattle.nf_listing_laws.specs.Laws.{Narrows, NoneFilledBefore}
 use Rattle.nf_listing_laws.proofs.Forced.{left_count, filled_listed}
-use Rattle.nf_pattern.specs.Given.{Question, Given, Last, AtStart, UpTo, IsNext, Gives}
-use Rattle.nf_narrow.specs.Asking.{question_left}
-use Rattle.nf_narrow.proofs.Places.{GivenUpTo, given_next}
+use Rattle.nf_listing_laws.proofs.Narrowed.{order_put, no_earlier_place}
+use Rattle.nf_pattern.specs.Given.{Question, IsListedBy, Given, Last, AtStart, UpTo, IsLater, IsNext, Gives}
+use Rattle.nf_narrow.specs.Asking.{question_left, StandsWithin, GivenUpTo, StandsAt}
+use Rattle.nf_narrow.proofs.Places.{given_next}
 use Rattle.nf_equation_laws.specs.Equations.{IsPatternIn}
 use Rattle.nf_thin.specs.declared.thin.Thin.{Thin}
 use Rattle.nf_thin.specs.declared.fault.SearchFault.{SearchFault}
@@ -22,6 +23,8 @@ use Rattle.nf_thin.specs.declared.vain.Vain.{Vain}
 use Rattle.nf_thin.specs.Searching.{AreSetsOf, question_of}
 use Rattle.nf_thin.specs.Sifting.{SiftsNext}
 use Rattle.nf_thin.specs.Finding.{NarrowFinds}
+use Rattle.nf_thin.specs.declared.pace.Pace.{Pace}
+use Rattle.nf_thin.specs.Keeping.{StaysBehind, IsInStep}
 
 -- so many of the patterns that are left were given, and none of them is accepted
 abbrev pub NarrowVainly : Passing → Network → Sets → ℚ → Pattern → Pattern → ℕ → Last → Type 0
@@ -30,6 +33,16 @@ NarrowVainly passes net sets rate base forced tried last =
 
 pub none_yet : (passes : Passing) (net : Network) (sets : Sets) (rate : ℚ) (base forced : Pattern) (last : Last) → last ≡ AtStart → NarrowVainly passes net sets rate base forced 0 last
 none_yet passes net sets rate base forced last start listing narrow n = (start, λ other p less at accepted. absurd (let e = at.1 in omega arith))
+
+-- the whole listing, if it is gone through, is gone through as far as the last of the patterns that are left, with the forced states
+pub record IsWhole (net : Network) (sets : Sets) (base forced : Pattern) (last : Last) (all : Given) : Type 0 where
+  pub part : Pattern
+  pub listed : IsListedBy (question_left forced (question_of net sets base)) part
+  pub is_last : last ≡ UpTo part
+  pub stands : StandsAt (question_of net sets base) all (filled forced part)
+
+abbrev pub KeepsUp : Network → Sets → Pattern → Pattern → Last → Pace → Type 0
+KeepsUp net sets base forced last pace = (all : Given) → pace.walk ≡ Some all → IsWhole net sets base forced last all
 
 module _ (passes : Passing) (net : Network) (sets : Sets) (rate : ℚ) (base forced : Pattern) (good : IsNetwork net) (sets_are : AreSetsOf net sets) (forcing : IsForcing sets (unbounded net) forced)
     (given : Given) (same : given.question ≡ question_left forced (question_of net sets base)) (p : Pattern) (after : Given) (gives : Gives given (Some p) after) where
@@ -42,6 +55,19 @@ module _ (passes : Passing) (net : Network) (sets : Sets) (rate : ℚ) (base for
   pub whole_pattern : IsPatternIn net sets (filled forced p)
   whole_pattern = record { network = good; sets_are = sets_are.sets_are; bounded = sets_are.bounded; pattern_is = whole_listed.states }
 
+  -- so the next one comes later, and is reached in its turn
+  pub next_later : IsPattern sets (unbounded net) base → (pace : Pace) → KeepsUp net sets base forced given.last pace → StaysBehind (question_of net sets base) pace (filled forced p)
+  next_later is_base pace keeps all is =
+      let w = keeps all is in
+      let later : IsBefore (question_left forced (question_of net sets base)).base w.part p = subst (λ (l : Last). IsLater (question_left forced (question_of net sets base)).base l p) w.is_last next.later in
+      record {
+        through = w.stands.through;
+        later = subst (λ (l : Last). IsLater base l (filled forced p)) (sym w.stands.last) (order_put sets (unbounded net) forced base w.part p forcing is_base w.listed.states next.listed.states later);
+      }
+
+  pub next_kept : (pace : Pace) → IsInStep (question_of net sets base) pace (filled forced p) → KeepsUp net sets base forced after.last pace
+  next_kept pace in_step all is = record { part = p; listed = next.listed; is_last = ap (λ (g : Given). g.last) gives.1; stands = in_step all is }
+
   pub part_count : length p ≡ length net.links
   part_count = sym (left_count sets (unbounded net) forced forcing p next.listed.states) ∙ (forcing.count ∙ sets_are.sets_are.count)
 
@@ -53,21 +79,41 @@ module _ (passes : Passing) (net : Network) (sets : Sets) (rate : ℚ) (base for
       here : slice_get narrow before.tried ≡ Some p
       here = given_next (question_left forced (question_of net sets base)) narrow n.part given.last p next before.tried (vainly listing narrow n).0
 
-    pub narrow_found : (thin : Thin) → SiftsNext passes net sets rate budget (filled forced p) before now (Ok (Some thin)) → NarrowFinds passes net sets rate base forced budget (Ok (Some thin))
-    narrow_found thin t listing narrow n = record {
+    pub narrow_found : (thin : Thin) → SiftsNext passes net sets rate budget (filled forced p) before now (Ok (Some thin))
+        → StandsWithin (question_of net sets base) (filled forced p) budget true → NarrowFinds passes net sets rate base forced budget (Ok (Some thin))
+    narrow_found thin t near listing narrow n = record {
       part = p;
       has_place = (before.tried, t.1.place, here listing narrow n);
       pattern_is = t.1.pattern_is;
       accepted = t.1.accepted;
       solution = t.1.solution;
       first = subst (NoneFilledBefore passes net sets rate forced narrow) (sym t.1.place) (vainly listing narrow n).1;
+      within = λ there at. near listing there n.whole at;
     }
+
+    pub narrow_beyond : StandsWithin (question_of net sets base) (filled forced p) budget false → NarrowFinds passes net sets rate base forced budget (Err (SearchFault.Budget budget))
+    narrow_beyond far listing narrow n = (
+      refl,
+      record {
+        place = suc before.tried;
+        part = p;
+        has_place = (before.tried, refl, here listing narrow n);
+        none = (vainly listing narrow n).1;
+        beyond = λ there at. far listing there n.whole at;
+      },
+    )
 
     pub narrow_failed : (fault : SearchFault) → SiftsNext passes net sets rate budget (filled forced p) before now (Err fault) → NarrowFinds passes net sets rate base forced budget (Err fault)
     narrow_failed (SearchFault.Budget tried) t listing narrow n = (
       t.1,
-      (let w = slice_get_within narrow before.tried p (here listing narrow n) in let e = t.0 in omega arith),
-      subst (λ (k : ℕ). NoneFilledBefore passes net sets rate forced narrow (suc k)) t.0 (vainly listing narrow n).1,
+      record {
+        place = suc before.tried;
+        part = p;
+        has_place = (before.tried, refl, here listing narrow n);
+        none = (vainly listing narrow n).1;
+        beyond = λ there at.
+            (let le = no_earlier_place passes net sets rate base forced listing narrow n (suc before.tried) there p (before.tried, refl, here listing narrow n) at in let e = t.0 in omega arith);
+      },
     )
     narrow_failed (SearchFault.Passed place at) t listing narrow n = t
     narrow_failed SearchFault.NoPattern t listing narrow n = t

@@ -18,7 +18,8 @@ use Rattle.nf_thin.specs.declared.fault.SearchFault.{SearchFault}
 use Rattle.nf_thin.specs.FirstPassing.{or_first, fault_of}
 use Rattle.nf_thin.specs.Searching.{Searches, Noted, InVain, IsFound, question_of}
 use Rattle.nf_pattern.specs.Front.{IsListingOf}
-use Rattle.nf_narrow.proofs.Places.{GivenUpTo, given_next, given_all}
+use Rattle.nf_narrow.specs.Asking.{GivenUpTo}
+use Rattle.nf_narrow.proofs.Places.{given_next, given_all}
 use Rattle.nf_plain_laws.proofs.Naturals.{before_or_at}
 
 module _ (passes : Passing) (net : Network) (sets : Sets) (rate : ℚ) (listing : List Pattern) where

@@ -5,4 +5,5 @@ pub mod Ranges
 pub mod Conserving
 pub mod Knowing
 pub mod Sifting
+pub mod Keeping
 pub mod Finding

@@ -14,8 +14,8 @@ ghost use Rattle.nf_thin.specs.Finding.{NarrowFinds, FindsBy};
 use crate::fault::SearchFault;
 use crate::first::copy_next;
 use crate::listings::{listing, unbounded_flags};
+use crate::pace::Pace;
 use crate::sifting::{Guide, guide_of, sift_next};
-use crate::standing::is_within;
 use crate::thin::{Thin, ThinFlow};
 use crate::vain::Vain;
 use nf_frac::Q;
@@ -25,7 +25,8 @@ use nf_net::Network;
 use nf_pattern::{Pattern, Patterns};
 use std::alloc::{AllocError, Global};
 
-// The patterns that are left are gone through, with the forced states put in, until one is accepted; its place is that among them.
+// The patterns that are left are gone through, with the forced states put in, until one is accepted, or stands beyond the budget in the
+// whole list; the place of what is found is that among them.
 fn go_narrow(
     alloc: Global,
     net: &Network,
@@ -42,6 +43,7 @@ fn go_narrow(
     requires guide { Guides passes_Q net.now.net sets.now rate guide.now }
     requires base { IsPattern sets.now (unbounded_of net.now.net) base.now }
     requires forcing { IsForcing sets.now (unbounded_of net.now.net) forced.now }
+    requires asked { IsQuestion (question_of net.now.net sets.now base.now) }
     requires question { patterns.old.question ≡ question_left forced.now (question_of net.now.net sets.now base.now) }
     requires start { patterns.old.last ≡ AtStart }
     ensures { NarrowFinds passes_Q net.now.net sets.now rate base.now forced.now budget result }
@@ -50,12 +52,23 @@ fn go_narrow(
         tried: 0,
         passed: None,
     };
+    let mut pace = Pace {
+        asked: 0,
+        walk: None,
+    };
     let mut whole = base.copy(alloc)?;
     while let Some(part) = patterns.next() {
         fill(&mut whole, forced, part, net.link_count());
+        let standing = pace.keep_up(alloc, net, sets, base, &whole, vain.tried, budget)?;
+        if standing.is_beyond() {
+            return Err(SearchFault::Budget { tried: budget });
+        }
         let found = sift_next(alloc, net, sets, rate, guide, &whole, budget, &mut vain)?;
         if let Some(thin) = found {
-            return Ok(Some(thin));
+            if standing.is_within(alloc, net, sets, base, &whole, budget)? {
+                return Ok(Some(thin));
+            }
+            return Err(SearchFault::Budget { tried: budget });
         }
     }
     Ok(None)
@@ -126,10 +139,7 @@ fn find_by(
     let Some(thin) = found else {
         return Ok(None);
     };
-    if is_within(alloc, net, sets, base, &thin.pattern, budget)? {
-        return Ok(Some(thin.flow()));
-    }
-    Err(SearchFault::Budget { tried: budget })
+    Ok(Some(thin.flow()))
 }
 
 /// The search by the slopes of a thin flow, which are guessed from the first listed pattern on. None where it comes to no end: no such

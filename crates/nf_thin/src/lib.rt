@@ -8,6 +8,7 @@ mod first;
 mod known;
 mod listings;
 mod node_test;
+mod pace;
 pub mod parts;
 mod ranges;
 mod searches;

@@ -32,6 +32,7 @@ pub fn listing(
     requires base { IsPattern sets.now (unbounded_of net.now.net) base.now }
     ensures asked { IfOk result (λ patterns. AsksOf net.now.net sets.now patterns) }
     ensures base { IfOk result (λ patterns. patterns.question.base ≡ base.now) }
+    ensures place { IfOk result (λ patterns. patterns.place ≡ 0) }
     ensures network { IsNetwork net.now.net }
 {
     let hops = net.hops();

@@ -3,17 +3,26 @@ ghost use Rattle.std.specs.Prelude.{◌≡◌, true, length, IfOk};
 ghost use Rattle.nf_model.specs.Network.{unbounded as unbounded_of};
 ghost use Rattle.nf_model.specs.Pattern.{IsPattern};
 ghost use Rattle.nf_narrow.specs.Asking.{StandsWithin};
+ghost use Rattle.nf_thin.specs.Keeping.{Tells};
 ghost use Rattle.nf_thin.specs.Searching.{AreSetsOf, question_of};
 
 use crate::listings::{listing, unbounded_flags};
 use nf_graph::LinkSets;
-use nf_narrow::{sole_flags, stands_within, ways_before};
+use nf_narrow::{goes_on_to, sole_flags, ways_before};
 use nf_net::Network;
 use nf_pattern::Pattern;
 use std::alloc::{AllocError, Global};
 
-// So few assignments come before the pattern that its place is within the budget.
-fn is_early(
+/// What is known of where a listed pattern stands: within the budget, or beyond it.
+#[derive(Clone, Copy)]
+pub(crate) enum Standing {
+    Within,
+    Beyond,
+    Unknown,
+}
+
+/// So few assignments come before the pattern that its place is within the budget.
+pub(crate) fn is_early(
     alloc: Global,
     net: &Network,
     sets: &LinkSets,
@@ -50,5 +59,40 @@ pub fn is_within(
         return Ok(true);
     }
     let mut patterns = listing(alloc, net, sets, base)?;
-    Ok(stands_within(&mut patterns, pattern, budget, net.link_count()))
+    Ok(goes_on_to(&mut patterns, pattern, budget, net.link_count()))
+}
+
+impl Standing {
+    ghost use Rattle.std.specs.Prelude.{MatchBool};
+    ghost use Rattle.nf_thin.specs.declared.standing.Standing.TheVariants.{Beyond};
+
+    /// Whether it is known to stand beyond the budget.
+    pub(crate) fn is_beyond(self) -> bool
+        ensures { MatchBool result (self ≡ Beyond) (self ≡ Beyond → ⊥) }
+    {
+        matches!(self, Standing::Beyond)
+    }
+
+    /// Whether the pattern stands within the budget: as is known, or else the list is gone through.
+    pub(crate) fn is_within(
+        self,
+        alloc: Global,
+        net: &Network,
+        sets: &LinkSets,
+        base: &Pattern,
+        pattern: &Pattern,
+        budget: u64,
+    ) -> Result<bool, AllocError>
+        requires sets { AreSetsOf net.now.net sets.now }
+        requires base { IsPattern sets.now (unbounded_of net.now.net) base.now }
+        requires pattern { length pattern.now ≡ length net.now.net.links }
+        requires told { Tells (question_of net.now.net sets.now base.now) pattern.now budget self }
+        ensures { IfOk result (λ within. StandsWithin (question_of net.now.net sets.now base.now) pattern.now budget within) }
+    {
+        match self {
+            Standing::Within => Ok(true),
+            Standing::Beyond => Ok(false),
+            Standing::Unknown => is_within(alloc, net, sets, base, pattern, budget),
+        }
+    }
 }

@@ -1,14 +1,12 @@
-use Rattle.std.proofs.Common.{List, refl, sym, ap, subst, ◌∙◌}
+use Rattle.std.proofs.Common.{List, sym, ap, subst, ◌∙◌}
 use Rattle.std.specs.Prelude.{Ok}
 use Rattle.std.proofs.lemmas.Result.{err_from_is_err_and}
 use Rattle.nf_rational.specs.Rational.{ℚ}
 use Rattle.nf_work.specs.Passing.{passes_Q}
 use Rattle.nf_lists.specs.Search.{IsSearch}
 use Rattle.nf_listing_laws.specs.Forcing.{forced_by}
-use Rattle.nf_narrow.specs.Asking.{StandsWithin}
-use Rattle.nf_thin.specs.Searching.{question_of}
 use Rattle.nf_thin.specs.Finding.{NarrowFinds, Finds}
-use Rattle.nf_thin.proofs.FoundBy.{forcing_by, allowed_by, by_count, by_within, by_beyond, by_fault}
+use Rattle.nf_thin.proofs.FoundBy.{forcing_by, allowed_by, by_within, by_fault}
 use Rattle.nf_thin.proofs.finding.find_by.Goals as goal
 
 pub narrowed-requires-clause-forcing : goal.narrowed-requires-clause-forcing
@@ -29,32 +27,11 @@ returns-in_err-found c =
     (c.in_ok-forced.ensures ∙ ap (λ (s : List ℚ). forced_by c.args.net.now.net s c.args.base.now) c.deref.ensures.value))
     c.requires.base c.requires.question c.in_err-found.field-0.0 c.in_err-found.ensures)
 
-pub is_within-requires-clause-pattern : goal.is_within-requires-clause-pattern
-is_within-requires-clause-pattern c = by_count passes_Q c.args.net.now.net c.args.sets.now c.args.rate c.args.base.now c.in_ok-forced.forced c.args.budget
-    (forcing_by c.args.net.now.net c.args.sets.now c.args.rate c.args.base.now c.in_ok-forced.forced c.args.guide.now.known.slopes.items c.requires.network c.requires.sets c.requires.guide.acyclic c.requires.guide.thin c.requires.base
-    (c.in_ok-forced.ensures ∙ ap (λ (s : List ℚ). forced_by c.args.net.now.net s c.args.base.now) c.deref.ensures.value))
-    (allowed_by c.args.net.now.net c.args.sets.now c.args.rate c.args.base.now c.in_ok-forced.forced c.args.guide.now.known.slopes.items c.requires.network c.requires.sets c.requires.guide.acyclic c.requires.guide.thin c.requires.base
-    (c.in_ok-forced.ensures ∙ ap (λ (s : List ℚ). forced_by c.args.net.now.net s c.args.base.now) c.deref.ensures.value))
-    c.requires.base c.requires.question c.in-Some.thin
-    (subst (λ o. NarrowFinds passes_Q c.args.net.now.net c.args.sets.now c.args.rate c.args.base.now c.in_ok-forced.forced c.args.budget (Ok o)) c.in-Some.is c.in_ok-found.ensures) c.requires.sets.sets_are.count
-
-pub returns-then-branch : goal.returns-then-branch
-returns-then-branch c = subst (λ flow. Finds (IsSearch passes_Q c.args.net.now.net c.args.sets.now c.args.rate c.args.base.now c.args.budget) c.args.budget (Ok flow)) (sym c.flow.ensures) (by_within passes_Q c.args.net.now.net c.args.sets.now c.args.rate c.args.base.now c.in_ok-forced.forced c.args.budget
-    (forcing_by c.args.net.now.net c.args.sets.now c.args.rate c.args.base.now c.in_ok-forced.forced c.args.guide.now.known.slopes.items c.requires.network c.requires.sets c.requires.guide.acyclic c.requires.guide.thin c.requires.base
-    (c.in_ok-forced.ensures ∙ ap (λ (s : List ℚ). forced_by c.args.net.now.net s c.args.base.now) c.deref.ensures.value))
-    (allowed_by c.args.net.now.net c.args.sets.now c.args.rate c.args.base.now c.in_ok-forced.forced c.args.guide.now.known.slopes.items c.requires.network c.requires.sets c.requires.guide.acyclic c.requires.guide.thin c.requires.base
-    (c.in_ok-forced.ensures ∙ ap (λ (s : List ℚ). forced_by c.args.net.now.net s c.args.base.now) c.deref.ensures.value))
-    c.requires.base c.requires.question c.in-Some.thin
-    (subst (λ o. NarrowFinds passes_Q c.args.net.now.net c.args.sets.now c.args.rate c.args.base.now c.in_ok-forced.forced c.args.budget (Ok o)) c.in-Some.is c.in_ok-found.ensures) (subst (λ b. StandsWithin (question_of c.args.net.now.net c.args.sets.now c.args.base.now) c.in-Some.thin.pattern c.args.budget b) c.if-branch.true c.in_ok-is_within.ensures))
-
 pub returns : goal.returns
-returns c = (
-  refl,
-  by_beyond passes_Q c.args.net.now.net c.args.sets.now c.args.rate c.args.base.now c.in_ok-forced.forced c.args.budget
-      (forcing_by c.args.net.now.net c.args.sets.now c.args.rate c.args.base.now c.in_ok-forced.forced c.args.guide.now.known.slopes.items c.requires.network c.requires.sets c.requires.guide.acyclic c.requires.guide.thin c.requires.base
-      (c.in_ok-forced.ensures ∙ ap (λ (s : List ℚ). forced_by c.args.net.now.net s c.args.base.now) c.deref.ensures.value))
-      (allowed_by c.args.net.now.net c.args.sets.now c.args.rate c.args.base.now c.in_ok-forced.forced c.args.guide.now.known.slopes.items c.requires.network c.requires.sets c.requires.guide.acyclic c.requires.guide.thin c.requires.base
-      (c.in_ok-forced.ensures ∙ ap (λ (s : List ℚ). forced_by c.args.net.now.net s c.args.base.now) c.deref.ensures.value))
-      c.requires.base c.requires.question c.in-Some.thin
-      (subst (λ o. NarrowFinds passes_Q c.args.net.now.net c.args.sets.now c.args.rate c.args.base.now c.in_ok-forced.forced c.args.budget (Ok o)) c.in-Some.is c.in_ok-found.ensures) (subst (λ b. StandsWithin (question_of c.args.net.now.net c.args.sets.now c.args.base.now) c.in-Some.thin.pattern c.args.budget b) c.if-branch.false c.in_ok-is_within.ensures),
-)
+returns c = subst (λ flow. Finds (IsSearch passes_Q c.args.net.now.net c.args.sets.now c.args.rate c.args.base.now c.args.budget) c.args.budget (Ok flow)) (sym c.flow.ensures) (by_within passes_Q c.args.net.now.net c.args.sets.now c.args.rate c.args.base.now c.in_ok-forced.forced c.args.budget
+    (forcing_by c.args.net.now.net c.args.sets.now c.args.rate c.args.base.now c.in_ok-forced.forced c.args.guide.now.known.slopes.items c.requires.network c.requires.sets c.requires.guide.acyclic c.requires.guide.thin c.requires.base
+    (c.in_ok-forced.ensures ∙ ap (λ (s : List ℚ). forced_by c.args.net.now.net s c.args.base.now) c.deref.ensures.value))
+    (allowed_by c.args.net.now.net c.args.sets.now c.args.rate c.args.base.now c.in_ok-forced.forced c.args.guide.now.known.slopes.items c.requires.network c.requires.sets c.requires.guide.acyclic c.requires.guide.thin c.requires.base
+    (c.in_ok-forced.ensures ∙ ap (λ (s : List ℚ). forced_by c.args.net.now.net s c.args.base.now) c.deref.ensures.value))
+    c.requires.base c.requires.question c.in-Some.thin
+    (subst (λ o. NarrowFinds passes_Q c.args.net.now.net c.args.sets.now c.args.rate c.args.base.now c.in_ok-forced.forced c.args.budget (Ok o)) c.in-Some.is c.in_ok-found.ensures))

@@ -1,6 +1,6 @@
 use Rattle.std.proofs.Common.{◌≡◌, ◌≤◌, ◌-◌, length}
 use Rattle.nf_work.specs.Passing.{passes_Q}
-use Rattle.nf_thin.proofs.Narrowing.{NarrowVainly}
+use Rattle.nf_thin.proofs.Narrowing.{NarrowVainly, KeepsUp}
 use Rattle.nf_thin.proofs.finding.go_narrow.Given as goal
 
 -- so many were gone through in vain
@@ -9,6 +9,7 @@ invariant-loop-part l = record {
   same : l.patterns.question ≡ l.fn.patterns.question;
   count : length l.whole ≡ length l.net.net.links;
   within : l.vain.tried ≤ l.budget;
+  in_step : KeepsUp l.net.net l.sets l.base l.forced l.patterns.last l.pace;
   vainly : NarrowVainly passes_Q l.net.net l.sets l.rate l.base l.forced l.vain.tried l.patterns.last;
 }
 

@@ -30,3 +30,7 @@ new-requires-clause-base c =
 pub returns-clause-base : goal.returns-clause-base
 returns-clause-base c =
     IfOk-weaker c.new.result _ (λ patterns. patterns.question.base ≡ c.args.base.now) (λ patterns e. ap (λ (given : Given). given.question.base) e) c.new.ensures
+
+pub returns-clause-place : goal.returns-clause-place
+returns-clause-place c =
+    IfOk-weaker c.new.result _ (λ patterns. patterns.place ≡ 0) (λ patterns e. ap (λ (given : Given). given.place) e) c.new.ensures

@@ -1,0 +1,21 @@
+-- How far a search by forced states has come in the whole listing.
+use Rattle.std.specs.Prelude.{◌≡◌, ℕ, true, false, Some}
+use Rattle.nf_model.specs.Pattern.{Pattern}
+use Rattle.nf_pattern.specs.Given.{Question, Given}
+use Rattle.nf_narrow.specs.Asking.{StandsWithin, IsBehind, StandsAt}
+use Rattle.nf_thin.specs.declared.standing.Standing.{Standing}
+use Rattle.nf_thin.specs.declared.pace.Pace.{Pace}
+
+-- what is told of where a pattern stands
+abbrev pub Tells : Question → Pattern → ℕ → Standing → Type 0
+Tells question pattern budget Standing.Within = StandsWithin question pattern budget true
+Tells question pattern budget Standing.Beyond = StandsWithin question pattern budget false
+Tells question pattern budget Standing.Unknown = Unit {0}
+
+-- the whole listing, if it is gone through, is not gone through as far as a pattern yet
+abbrev pub StaysBehind : Question → Pace → Pattern → Type 0
+StaysBehind question pace pattern = (all : Given) → pace.walk ≡ Some all → IsBehind question all pattern
+
+-- and then just as far as that
+abbrev pub IsInStep : Question → Pace → Pattern → Type 0
+IsInStep question pace pattern = (all : Given) → pace.walk ≡ Some all → StandsAt question all pattern
