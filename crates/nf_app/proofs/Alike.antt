@@ -83,7 +83,7 @@ module _ (call : Call) (n : Named) (good : IsNetwork n.net) (answer : Answer) wh
   given_same : (request : Request) → Asks call request → IsGiven call.shelf n request answer → IsSameInAll call answer
   given_same (Solve file horizon phases patterns) asks g = of_this (Solved n g.0) g.1 (SameInAll-equilibrium n.net g.0.flow good g.2.1.equilibrium)
   given_same (SolveForever file phases patterns) asks g = of_this (SolvedForever n g.0) g.1 (same_forever n.net phases patterns g.0 good g.2)
-  given_same (Show file) asks g = of_this (Shown n) g tt
+  given_same (Show file) asks g = of_this (Shown n) g.0 tt
   given_same (Load file loads horizon) asks (inl g) = of_this (Loaded n horizon g.0) g.1 tt
   given_same (Load file loads horizon) asks (inr (inl g)) = of_this (Passes g.0) g.1 tt
   given_same (Load file loads horizon) asks (inr (inr g)) = of_this (MalformedLoads g.0) g.1 tt

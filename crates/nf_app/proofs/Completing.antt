@@ -149,7 +149,7 @@ module _ (call : Call) (no_fault : ¬ Rose call.shelf.faults_before call.shelf.f
 module _ (call : Call) (no_fault : ¬ Rose call.shelf.faults_before call.shelf.faults_now) where
   shown_well : CanBeShown call → (answer : Answer) → IsAnswer call answer → EndsWell (status_of answer)
   shown_well can = answered_well call no_fault (Show can.file) can.asks (All-cons (Tells call.shelf) (network_file can.file) [] can.network.tells (All-nil (Tells call.shelf)))
-      can.file [] refl refl can.network EndsWell (inr refl) (λ answer is. inl (ap status_of is))
+      can.file [] refl refl can.network EndsWell (inr refl) (λ answer is. inl (ap status_of is.0))
 
   solved_well : CanBeSolved call → (answer : Answer) → IsAnswer call answer → EndsWell (status_of answer)
   solved_well can = answered_well call no_fault (Solve can.file can.horizon can.phases can.patterns) can.asks

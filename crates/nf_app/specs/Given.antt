@@ -7,6 +7,8 @@ use Rattle.nf_work.specs.declared.Part.TheVariants.{Load as LoadPart}
 use Rattle.nf_work.specs.declared.PassedAt.{PassedAt}
 use Rattle.nf_model.specs.Network.{Piece}
 use Rattle.nf_formats.specs.Named.{Named}
+use Rattle.nf_formats.specs.NetFile.{Reads}
+use Rattle.nf_formats.specs.NetText.{canonical}
 use Rattle.nf_formats.specs.Report.{Report}
 use Rattle.nf_load_lists.specs.Loading.{Loaded as Loading}
 use Rattle.nf_load_lists.specs.Loads.{load_list}
@@ -56,14 +58,14 @@ pub record PassesLoading (shelf : Visit) (n : Named) (file : List ℕ) (horizon 
   pub read : LoadsRead shelf n file (Ok pieces)
   pub passes : loading_list n pieces horizon ≡ Err at
 
--- The answers of each request that has its network. The text of a report has one reading, and that is the report. A run that stops since
--- no pattern was left stops where there is no thin flow.
+-- The answers of each request that has its network. The canonical text that is shown reads as the same network. The text of a report has
+-- one reading, and that is the report. A run that stops since no pattern was left stops where there is no thin flow.
 abbrev pub IsGiven : Visit → Named → Request → Answer → Type 0
 IsGiven shelf n (Solve file horizon phases patterns) answer =
     (report : Report) × (answer ≡ Solved n report) × ((made : ℕ) × IsSolution n.net (bounds_of horizon (budgets_of phases patterns)) made report) × ReadsBack n report
     × StopsForNoThinFlow n.net report.stop report.flow
 IsGiven shelf n (SolveForever file phases patterns) answer = (forever : Forever) × (answer ≡ SolvedForever n forever) × IsUnending n.net phases patterns forever
-IsGiven shelf n (Show file) answer = answer ≡ Shown n
+IsGiven shelf n (Show file) answer = (answer ≡ Shown n) × Reads (canonical n) (Ok n)
 IsGiven shelf n (Load file loads horizon) answer =
     ((loaded : List Loading) × (answer ≡ Loaded n horizon loaded) × IsLoading shelf n loads horizon loaded)
     ⊎ ((at : PassedAt ℚ) × (answer ≡ Passes at) × PassesLoading shelf n loads horizon at)
