@@ -29,7 +29,8 @@ use Rattle.nf_outside.specs.Files.{Visit}
 use Rattle.nf_words.specs.Requests.{Request, Solve, SolveForever, Show, Load, Check, Quick, Gen, Settle, Resume, Routes}
 use Rattle.nf_app.specs.Requests.{budgets_of}
 use Rattle.nf_answers.specs.Answers.{Answer, Solved, SolvedForever, Shown, Loaded, Checked, Quickest, TooManyWalks, Generated, Settled, Distributed, MalformedLoads, MalformedFlows, MalformedRoutes, MalformedReport, Passes, Unbounded, NotThin, Earlier}
-use Rattle.nf_app.specs.CheckGiven.{ReportReads, IsChecked, PassesChecking}
+use Rattle.nf_app.specs.Reports.{HoldsNoReport}
+use Rattle.nf_app.specs.CheckGiven.{IsChecked, PassesChecking}
 use Rattle.nf_app.specs.QuickGiven.{IsQuickest, IsOverBudget, PassesQuick, IsUnbounded}
 use Rattle.nf_app.specs.SettleGiven.{FlowsRead, IsSettled, IsNotThin, PassesSettling}
 use Rattle.nf_app.specs.ForeverGiven.{IsUnending}
@@ -73,7 +74,7 @@ IsGiven shelf n (Load file loads horizon) answer =
 IsGiven shelf n (Check file report) answer =
     ((verdict : Verdict ℕ ℕ ℚ) × (answer ≡ Checked n verdict) × IsChecked shelf n report verdict)
     ⊎ ((at : PassedAt ℚ) × (answer ≡ Passes at) × PassesChecking shelf n report at)
-    ⊎ ((broken : ReportBroken) × (answer ≡ MalformedReport broken) × ReportReads shelf n report (Err broken))
+    ⊎ ((broken : ReportBroken) × (answer ≡ MalformedReport broken) × HoldsNoReport shelf n report broken)
 IsGiven shelf n (Quick file amount augments) answer =
     ((quick : QuickFlow) × (arrival : Arrival) × (answer ≡ Quickest n quick arrival) × IsQuickest n.net amount augments quick arrival)
     ⊎ ((walks : List Augment) × (answer ≡ TooManyWalks n augments walks) × IsOverBudget n.net amount augments walks)
@@ -92,7 +93,7 @@ IsGiven shelf n (Resume file report horizon phases patterns) answer =
     ⊎ ((verdict : Verdict ℕ ℕ ℚ) × (answer ≡ Checked n verdict) × IsNoStart shelf n report horizon verdict)
     ⊎ ((at : PassedAt ℚ) × (answer ≡ Passes at) × PassesResuming shelf n report horizon at)
     ⊎ ((answer ≡ Earlier) × IsBefore shelf n report horizon)
-    ⊎ ((broken : ReportBroken) × (answer ≡ MalformedReport broken) × ReportReads shelf n report (Err broken))
+    ⊎ ((broken : ReportBroken) × (answer ≡ MalformedReport broken) × HoldsNoReport shelf n report broken)
 IsGiven shelf n (Routes file routes horizon) answer =
     ((sent : List NamedRoute) × (routed : Routed) × (answer ≡ Distributed n sent horizon routed) × IsDistributed shelf n routes sent horizon routed)
     ⊎ ((at : PassedAt ℚ) × (answer ≡ Passes at) × PassesRoutes shelf n routes horizon at)

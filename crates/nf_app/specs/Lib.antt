@@ -1,4 +1,5 @@
 pub mod Requests
+pub mod Reports
 pub mod CheckGiven
 pub mod QuickGiven
 pub mod SettleGiven
