@@ -40,6 +40,7 @@ use Rattle.nf_outside.specs.Sinks.{Taken}
 use Rattle.nf_app.specs.Runs.{Call, Asks, Reached, Read, IsRefused, IsAnswer}
 use Rattle.nf_outside.specs.Fetching.{NetworkReads}
 use Rattle.nf_outside.specs.Shown.{IsShown}
+use Rattle.nf_app.proofs.Fetched.{holds_of_told}
 use Rattle.nf_app.proofs.Reports.{one_report_in, some_report_in}
 use Rattle.nf_app.proofs.Unstopped.{status_never}
 use Rattle.nf_app.specs.Completeness.{Tells, TellsNetwork, CanBeShown, CanBeSolved, CanBeLoaded, CanBeGenerated, CanGoOn, CanBeDistributed, CanBeJudged, CanBeQuick, CanBeSettled, CanBeResumed, HasAnswer, EndsWell, EndsJudged, EndsQuick, EndsSettled, EndsResumed, IsComplete}
@@ -161,8 +162,7 @@ module _ (call : Call) (no_fault : ¬ Rose call.shelf.faults_before call.shelf.f
   module _ (can : CanBeLoaded call) where
     -- the loads file has one reading
     one_loads : (read : Result (List (List Piece)) LoadsBroken) → LoadsRead call.shelf can.network.net can.loads_name read → Ok can.loads.pieces ≡ read
-    one_loads read h =
-        sym can.loads.reads ∙ subst (λ (told : Option (List ℕ)). IfSome told (λ text. loads_in can.network.net text ≡ read)) can.loads.tells.told h
+    one_loads read h = sym can.loads.reads ∙ holds_of_told call.shelf (loads_file can.loads_name) can.loads.tells (λ text. loads_in can.network.net text ≡ read) h
 
     given_well : (answer : Answer) → IsGiven call.shelf can.network.net (Load can.file can.loads_name can.horizon) answer → EndsWell (status_of answer)
     given_well answer (inl g) = inl (ap status_of g.1)
@@ -199,8 +199,7 @@ module _ (call : Call) (no_fault : ¬ Rose call.shelf.faults_before call.shelf.f
   module _ (can : CanBeDistributed call) where
     -- the routes file has one reading
     one_routes : (read : Result (List NamedRoute) RoutesBroken) → RoutesRead call.shelf can.network.net can.routes_name read → Ok can.routes.routes ≡ read
-    one_routes read h =
-        sym can.routes.reads ∙ subst (λ (told : Option (List ℕ)). IfSome told (λ text. routes_in can.network.net text ≡ read)) can.routes.tells.told h
+    one_routes read h = sym can.routes.reads ∙ holds_of_told call.shelf (routes_file can.routes_name) can.routes.tells (λ text. routes_in can.network.net text ≡ read) h
 
     routed_well : (answer : Answer) → IsGiven call.shelf can.network.net (Routes can.file can.routes_name can.horizon) answer → EndsWell (status_of answer)
     routed_well answer (inl g) = inl (ap status_of g.2)
@@ -265,8 +264,7 @@ module _ (call : Call) (no_fault : ¬ Rose call.shelf.faults_before call.shelf.f
 module _ (call : Call) (no_fault : ¬ Rose call.shelf.faults_before call.shelf.faults_now) (can : CanBeSettled call) where
   -- the flows file has one reading
   one_flows : (read : Result GivenFlows FlowsBroken) → FlowsRead call.shelf can.network.net can.flows_name read → Ok can.flows.given ≡ read
-  one_flows read h =
-      sym can.flows.reads ∙ subst (λ (told : Option (List ℕ)). IfSome told (λ text. flows_in can.network.net text ≡ read)) can.flows.tells.told h
+  one_flows read h = sym can.flows.reads ∙ holds_of_told call.shelf (flows_file can.flows_name) can.flows.tells (λ text. flows_in can.network.net text ≡ read) h
 
   thin_well : (answer : Answer) → IsGiven call.shelf can.network.net (Settle can.file can.flows_name) answer → EndsSettled (status_of answer)
   thin_well answer (inl g) = inl (ap status_of g.2)

@@ -1,4 +1,5 @@
 pub mod Calls
+pub mod Fetched
 pub mod Reports
 pub mod Completing
 pub mod LinkLoads

@@ -1,6 +1,6 @@
 -- What the file of a report holds, from what was read of its bytes; and that it holds no other report.
 use Rattle.std.proofs.Common.{◌≡◌, ◌≢◌, ℕ, List, sym, ap, subst, ◌∙◌}
-use Rattle.std.specs.Prelude.{Option, IfSome, Result, Ok, Err}
+use Rattle.std.specs.Prelude.{Result, Ok, Err}
 use Rattle.nf_formats.specs.Named.{Named}
 use Rattle.nf_formats.specs.WellNamed.{IsNamed}
 use Rattle.nf_formats.specs.Report.{Report, IsWellFormed, report_text}
@@ -13,6 +13,7 @@ use Rattle.nf_outside.specs.Files.{Visit, report_file}
 use Rattle.nf_outside.specs.Fetching.{IsTold}
 use Rattle.nf_app.specs.Completeness.{TellsReport}
 use Rattle.nf_app.specs.Reports.{HoldsReport, HoldsNoReport}
+use Rattle.nf_app.proofs.Fetched.{bytes_are}
 
 same_ok : {A E : Type 0} (r : Result A E) (x y : A) → r ≡ Ok x → r ≡ Ok y → x ≡ y
 same_ok r x y h k = cc
@@ -39,12 +40,10 @@ module _ (shelf : Visit) (n : Named) (named : IsNamed n) (file text : List ℕ) 
 
 -- ---- where the shelf tells a report, the file holds just that
 module _ (shelf : Visit) (n : Named) (file : List ℕ) (tells : TellsReport shelf n file) where
-  bytes_are : (text : List ℕ) → IsTold shelf (report_file file) text → text ≡ tells.tells.text
-  bytes_are text told = subst (λ (t : Option (List ℕ)). IfSome t (λ bytes. text ≡ bytes)) tells.tells.told told
-
   pub one_report_in : (report : Report) → HoldsReport shelf n file report → tells.report ≡ report
   one_report_in report h = same_ok (report_in n tells.tells.text) tells.report report tells.reads
-      (ap (λ (t : List ℕ). report_in n t) (sym (bytes_are (report_text n report) h.told)) ∙ h.reads)
+      (ap (λ (t : List ℕ). report_in n t) (sym (bytes_are shelf (report_file file) tells.tells (report_text n report) h.told)) ∙ h.reads)
 
   pub some_report_in : (broken : ReportBroken) → HoldsNoReport shelf n file broken → ⊥
-  some_report_in broken h = ok_err (report_in n tells.tells.text) tells.report broken tells.reads (ap (λ (t : List ℕ). report_in n t) (sym (bytes_are h.text h.told)) ∙ h.breaks)
+  some_report_in broken h = ok_err (report_in n tells.tells.text) tells.report broken tells.reads
+      (ap (λ (t : List ℕ). report_in n t) (sym (bytes_are shelf (report_file file) tells.tells h.text h.told)) ∙ h.breaks)

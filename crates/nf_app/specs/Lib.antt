@@ -1,4 +1,5 @@
 pub mod Requests
+pub mod Fetched
 pub mod Reports
 pub mod CheckGiven
 pub mod QuickGiven
