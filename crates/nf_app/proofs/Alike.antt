@@ -1,6 +1,6 @@
 -- What of an answer is the same in every equilibrium: its flow is an equilibrium, and that of a network.
 use Rattle.std.proofs.Common.{◌≡◌, ℕ, List, inl, inr, refl, sym, ap, subst, ◌∙◌}
-use Rattle.std.specs.Prelude.{Option, Some, None, IfSome, Ok}
+use Rattle.std.specs.Prelude.{Option, Some, None, IfSome}
 use Rattle.nf_rational.specs.Rational.{ℚ}
 use Rattle.nf_rational.specs.Operations.{0ℚ}
 use Rattle.nf_rational.specs.Order.{◌≤ℚ◌}
@@ -21,7 +21,8 @@ use Rattle.nf_unique_laws.proofs.Exits.{SameInAll-equilibrium}
 use Rattle.nf_words.specs.Requests.{Request, Solve, SolveForever, Show, Load, Check, Quick, Gen, Settle, Resume, Routes, request_of}
 use Rattle.nf_answers.specs.declared.arrival.Arrival.{Arrival}
 use Rattle.nf_answers.specs.Answers.{Answer, Solved, SolvedForever, Shown, Loaded, Checked, Quickest, TooManyWalks, Generated, Settled, Distributed, NoMemory, NoRequest, ShelfFailed, ShelfTooLong, Malformed, MalformedLoads, MalformedFlows, MalformedRoutes, MalformedReport, Passes, Unbounded, NotThin, Earlier}
-use Rattle.nf_app.specs.CheckGiven.{ReportReads, IsChecked}
+use Rattle.nf_app.specs.Reports.{HoldsReport}
+use Rattle.nf_app.specs.CheckGiven.{IsChecked}
 use Rattle.nf_app.specs.QuickGiven.{arrival_of, ArrivesIn, IsArrival}
 use Rattle.nf_app.specs.ForeverGiven.{IsUnending}
 use Rattle.nf_app.specs.Given.{IsGiven}
@@ -43,7 +44,7 @@ same_forever net phases patterns forever good is = (
 -- ---- a report that is checked
 same_if_yes : (call : Call) (n : Named) (file name : List ℕ) (verdict : Verdict ℕ ℕ ℚ) → IsNetwork n.net → Asks call (Check file name) → IsChecked call.shelf n name verdict → SameIfYes call n verdict
 same_if_yes call n file name Yes good asks is = λ file' name' asks'.
-    (is.report, subst (λ (m : List ℕ). ReportReads call.shelf n m (Ok is.report)) (same_name file' name' asks') is.read, SameInAll-equilibrium n.net is.report.flow good is.exact)
+    (is.report, subst (λ (m : List ℕ). HoldsReport call.shelf n m is.report) (same_name file' name' asks') is.held, SameInAll-equilibrium n.net is.report.flow good is.exact)
   where
     same_name : (file' name' : List ℕ) → Asks call (Check file' name') → name ≡ name'
     same_name file' name' asks' = let one : request_of call.words ≡ Some (Check file name) = asks in let other : request_of call.words ≡ Some (Check file' name') = asks' in cc
@@ -83,7 +84,7 @@ module _ (call : Call) (n : Named) (good : IsNetwork n.net) (answer : Answer) wh
   given_same : (request : Request) → Asks call request → IsGiven call.shelf n request answer → IsSameInAll call answer
   given_same (Solve file horizon phases patterns) asks g = of_this (Solved n g.0) g.1 (SameInAll-equilibrium n.net g.0.flow good g.2.1.equilibrium)
   given_same (SolveForever file phases patterns) asks g = of_this (SolvedForever n g.0) g.1 (same_forever n.net phases patterns g.0 good g.2)
-  given_same (Show file) asks g = of_this (Shown n) g tt
+  given_same (Show file) asks g = of_this (Shown n) g.0 tt
   given_same (Load file loads horizon) asks (inl g) = of_this (Loaded n horizon g.0) g.1 tt
   given_same (Load file loads horizon) asks (inr (inl g)) = of_this (Passes g.0) g.1 tt
   given_same (Load file loads horizon) asks (inr (inr g)) = of_this (MalformedLoads g.0) g.1 tt

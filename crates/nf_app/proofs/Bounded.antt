@@ -1,6 +1,6 @@
 -- A run ends at the horizon, in a phase that never ends, by a budget, where an operation passes, or for want of memory.
 use Rattle.std.proofs.Common.{◌≡◌, ◌⊎◌, ℕ, [], ◌∷◌, inl, inr, sym, subst, refl}
-use Rattle.std.specs.Prelude.{Option, Some, None, Ok, Err}
+use Rattle.std.specs.Prelude.{Option, Some, None}
 use Rattle.std.proofs.lemmas.List.Elements.{All-cons, All-nil}
 use Rattle.nf_rational.specs.Rational.{ℚ}
 use Rattle.nf_edge.specs.Faults.{Rose}
@@ -17,7 +17,8 @@ use Rattle.nf_words.specs.Requests.{Solve, SolveForever, Gen, Resume}
 use Rattle.nf_app.specs.Runs.{Call, IsAnswer}
 use Rattle.nf_app.specs.Given.{IsGiven}
 use Rattle.nf_app.specs.Completeness.{Tells, AsksToSolve, AsksToGenerate, AsksForever, AsksToResume, EndsRun, EndsForever, EndsRest, EndsByBounds}
-use Rattle.nf_app.proofs.Completing.{ok_err, OrNoPattern, with_pattern, answered_well, generated_well, taken_well, one_report_in}
+use Rattle.nf_app.proofs.Reports.{some_report_in}
+use Rattle.nf_app.proofs.Completing.{OrNoPattern, with_pattern, answered_well, generated_well, taken_well}
 
 -- ---- by the stop
 run_ends : (stop : Option (Cause ℚ)) → OrNoPattern EndsRun (status_of_stop stop)
@@ -73,7 +74,7 @@ module _ (call : Call) (no_fault : ¬ Rose call.shelf.faults_before call.shelf.f
     given_ends answer (inr (inr (inl g))) = along (OrNoPattern EndsRest) answer _ g.1 (inl (inl (inr (inr (inr (inl refl))))))
     given_ends answer (inr (inr (inr (inl g)))) = along (OrNoPattern EndsRest) answer _ g.0 (inl (inr (inr refl)))
     given_ends answer (inr (inr (inr (inr g)))) =
-        absurd (ok_err (Ok can.report.report) can.report.report g.0 refl (one_report_in call.shelf can.network.net can.report_name can.report (Err g.0) g.2))
+        absurd (some_report_in call.shelf can.network.net can.report_name can.report g.0 g.2)
 
     rest_ends_well : (answer : Answer) → IsAnswer call answer → EndsRest (status_of answer)
     rest_ends_well answer comes = with_pattern EndsRest call answer comes (answered_well call no_fault (Resume can.file can.report_name can.horizon can.phases can.patterns) can.asks

@@ -1,18 +1,18 @@
 -- What a request to check a report gives, from what was read of its report and what the checker answers.
-use Rattle.std.proofs.Common.{◌≡◌, ◌⊎◌, ℕ, List, refl, sym, ap, ◌∙◌, inl, inr}
-use Rattle.std.specs.Prelude.{IfSome, Result, Ok, Err}
-use Rattle.std.proofs.lemmas.Option.{IfSome_then}
+use Rattle.std.proofs.Common.{◌≡◌, ◌⊎◌, ℕ, List, refl, inl, inr}
+use Rattle.std.specs.Prelude.{Ok, Err}
 use Rattle.nf_rational.specs.Rational.{ℚ}
 use Rattle.nf_work.specs.declared.Halt.{Halt}
 use Rattle.nf_work.specs.Passing.{passes_Q}
 use Rattle.nf_work.specs.Checked.{Stops}
 use Rattle.nf_formats.specs.Named.{Named}
+use Rattle.nf_formats.specs.WellNamed.{IsNamed}
 use Rattle.nf_formats.specs.Report.{Report}
 use Rattle.nf_check_lists.specs.declared.Answer.{Answer as Verdict}
 use Rattle.nf_check_lists.specs.Rules.{Checks}
 use Rattle.nf_check_lists.specs.CheckList.{check_list}
 use Rattle.nf_check.specs.Answers.{IsExact}
-use Rattle.nf_readings.specs.ReportFile.{ReportBroken, report_in}
+use Rattle.nf_readings.specs.ReportFile.{report_in}
 use Rattle.nf_reader.specs.declared.fault.ReportFault.{ReportFault}
 use Rattle.nf_reader.specs.Files.{IfBroken}
 use Rattle.nf_answers.specs.declared.refusal.Refusal.{Refusal}
@@ -20,25 +20,21 @@ use Rattle.nf_outside.specs.Files.{Visit, report_file}
 use Rattle.nf_words.specs.Requests.{Check}
 use Rattle.nf_answers.specs.Answers.{Checked}
 use Rattle.nf_answers.specs.Refusals.{answer_of, refusal_of_report, refusal_of_halt}
-use Rattle.nf_app.specs.CheckGiven.{ReportReads}
 use Rattle.nf_app.specs.Given.{IsGiven}
 use Rattle.nf_outside.specs.Fetching.{IsTold}
+use Rattle.nf_app.proofs.Reports.{held, none_held}
 
-module _ (shelf : Visit) (n : Named) (file name : List ℕ) (text : List ℕ) (told : IsTold shelf (report_file name) text) where
-  -- what was read of the bytes is what the shelf tells
-  read_so : (read : Result Report ReportBroken) → report_in n text ≡ read → ReportReads shelf n name read
-  read_so read e = IfSome_then (shelf.told name) told (λ held same. ap (λ (t : List ℕ). report_in n t) (sym same) ∙ e)
-
+module _ (shelf : Visit) (n : Named) (named : IsNamed n) (file name text : List ℕ) (told : IsTold shelf (report_file name) text) where
   abbrev Answers : Refusal → Type 0
   Answers refusal = (refusal ≡ Refusal.NoMemory) ⊎ IsGiven shelf n (Check file name) (answer_of refusal)
 
   pub report_refused : (fault : ReportFault) → IfBroken fault (λ broken. report_in n text ≡ Err broken) → Answers (refusal_of_report fault)
-  report_refused (ReportFault.Broken rule line) e = inr (inr (inr (record { rule = rule; line = line }, refl, read_so (Err (record { rule = rule; line = line })) e)))
+  report_refused (ReportFault.Broken rule line) e = inr (inr (inr (record { rule = rule; line = line }, refl, none_held shelf n named name text told (record { rule = rule; line = line }) e)))
   report_refused ReportFault.Memory e = inl refl
 
   module _ (report : Report) (read : report_in n text ≡ Ok report) where
     pub checking_stopped : (halt : Halt ℚ) → Stops (λ (q : ℚ). q) halt (check_list passes_Q n.net report.flow) → Answers (refusal_of_halt halt)
-    checking_stopped (Halt.Passed at) e = inr (inr (inl (at, refl, record { report = report; read = read_so (Ok report) read; passes = e })))
+    checking_stopped (Halt.Passed at) e = inr (inr (inl (at, refl, record { report = report; held = held shelf n named name text told report read; passes = e })))
     checking_stopped Halt.Memory e = inl refl
 
     pub verdict_given : (verdict : Verdict ℕ ℕ ℚ) → check_list passes_Q n.net report.flow ≡ Ok verdict → Checks n.net report.flow verdict → IsExact n.net report.flow verdict
@@ -46,5 +42,5 @@ module _ (shelf : Visit) (n : Named) (file name : List ℕ) (text : List ℕ) (t
     verdict_given verdict e checks exact = inl (
       verdict,
       refl,
-      record { report = report; read = read_so (Ok report) read; computed = e; checks = checks; exact = exact },
+      record { report = report; held = held shelf n named name text told report read; computed = e; checks = checks; exact = exact },
     )

@@ -22,19 +22,17 @@ use Rattle.nf_check_lists.specs.declared.Answer.{Answer as Verdict}
 use Rattle.nf_check_lists.specs.declared.Answer.TheVariants.{Yes, No}
 use Rattle.nf_check_lists.specs.CheckList.{check_list}
 use Rattle.nf_readings.specs.LoadsFile.{LoadsBroken, loads_in}
-use Rattle.nf_readings.specs.ReportFile.{ReportBroken, report_in}
 use Rattle.nf_phase.specs.Solution.{bounds_of}
 use Rattle.nf_complete_lists.specs.FlowsFile.{GivenFlows, FlowsBroken, flows_in}
 use Rattle.nf_forever_lists.specs.ForeverRun.{Forever}
 use Rattle.nf_routes_lists.specs.RoutesFile.{RoutesBroken, NamedRoute, routes_in}
 use Rattle.nf_forever_laws.proofs.OneForever.{one_forever}
 use Rattle.nf_answers.specs.declared.status.Status.{Status}
-use Rattle.nf_outside.specs.Files.{Wanted, Visit, FetchedTo, HasTooMany, network_file, loads_file, flows_file, routes_file, report_file}
+use Rattle.nf_outside.specs.Files.{Wanted, FetchedTo, HasTooMany, network_file, loads_file, flows_file, routes_file, report_file}
 use Rattle.nf_words.specs.Requests.{Request, Solve, SolveForever, Show, Load, Check, Quick, Gen, Settle, Resume, Routes, request_of}
 use Rattle.nf_gen.specs.Ladder.{ladder}
 use Rattle.nf_app.specs.Requests.{budgets_of, files_of, generated_by}
 use Rattle.nf_answers.specs.Answers.{Answer, Solved, SolvedForever, Shown, Loaded, Checked, Quickest, TooManyWalks, Generated, Settled, Distributed, NoMemory, NoRequest, ShelfFailed, ShelfTooLong, Malformed, MalformedLoads, MalformedFlows, MalformedRoutes, MalformedReport, Passes, Unbounded, NotThin, Earlier, status_of, status_of_stop, status_of_forever, status_of_verdict}
-use Rattle.nf_app.specs.CheckGiven.{ReportReads}
 use Rattle.nf_app.specs.SettleGiven.{FlowsRead}
 use Rattle.nf_app.specs.RoutesGiven.{RoutesRead, by_route_list}
 use Rattle.nf_app.specs.Given.{LoadsRead, loading_list, IsGiven}
@@ -42,13 +40,15 @@ use Rattle.nf_outside.specs.Sinks.{Taken}
 use Rattle.nf_app.specs.Runs.{Call, Asks, Reached, Read, IsRefused, IsAnswer}
 use Rattle.nf_outside.specs.Fetching.{NetworkReads}
 use Rattle.nf_outside.specs.Shown.{IsShown}
+use Rattle.nf_app.proofs.Fetched.{holds_of_told}
+use Rattle.nf_app.proofs.Reports.{one_report_in, some_report_in}
 use Rattle.nf_app.proofs.Unstopped.{status_never}
-use Rattle.nf_app.specs.Completeness.{Tells, TellsNetwork, TellsReport, CanBeShown, CanBeSolved, CanBeLoaded, CanBeGenerated, CanGoOn, CanBeDistributed, CanBeJudged, CanBeQuick, CanBeSettled, CanBeResumed, HasAnswer, EndsWell, EndsJudged, EndsQuick, EndsSettled, EndsResumed, IsComplete}
+use Rattle.nf_app.specs.Completeness.{Tells, TellsNetwork, CanBeShown, CanBeSolved, CanBeLoaded, CanBeGenerated, CanGoOn, CanBeDistributed, CanBeJudged, CanBeQuick, CanBeSettled, CanBeResumed, HasAnswer, EndsWell, EndsJudged, EndsQuick, EndsSettled, EndsResumed, IsComplete}
 
 same_ok : {A E : Type 0} (r : Result A E) (x y : A) → r ≡ Ok x → r ≡ Ok y → x ≡ y
 same_ok r x y h k = cc
 
-pub ok_err : {A E : Type 0} (r : Result A E) (x : A) (e : E) → r ≡ Ok x → r ≡ Err e → ⊥
+ok_err : {A E : Type 0} (r : Result A E) (x : A) (e : E) → r ≡ Ok x → r ≡ Err e → ⊥
 ok_err r x e h k = cc
 
 some_none : {A : Type 0} (o : Option A) (x : A) → o ≡ Some x → o ≡ None → ⊥
@@ -149,7 +149,7 @@ module _ (call : Call) (no_fault : ¬ Rose call.shelf.faults_before call.shelf.f
 module _ (call : Call) (no_fault : ¬ Rose call.shelf.faults_before call.shelf.faults_now) where
   shown_well : CanBeShown call → (answer : Answer) → IsAnswer call answer → EndsWell (status_of answer)
   shown_well can = answered_well call no_fault (Show can.file) can.asks (All-cons (Tells call.shelf) (network_file can.file) [] can.network.tells (All-nil (Tells call.shelf)))
-      can.file [] refl refl can.network EndsWell (inr refl) (λ answer is. inl (ap status_of is))
+      can.file [] refl refl can.network EndsWell (inr refl) (λ answer is. inl (ap status_of is.0))
 
   solved_well : CanBeSolved call → (answer : Answer) → IsAnswer call answer → EndsWell (status_of answer)
   solved_well can = answered_well call no_fault (Solve can.file can.horizon can.phases can.patterns) can.asks
@@ -162,8 +162,7 @@ module _ (call : Call) (no_fault : ¬ Rose call.shelf.faults_before call.shelf.f
   module _ (can : CanBeLoaded call) where
     -- the loads file has one reading
     one_loads : (read : Result (List (List Piece)) LoadsBroken) → LoadsRead call.shelf can.network.net can.loads_name read → Ok can.loads.pieces ≡ read
-    one_loads read h =
-        sym can.loads.reads ∙ subst (λ (told : Option (List ℕ)). IfSome told (λ text. loads_in can.network.net text ≡ read)) can.loads.tells.told h
+    one_loads read h = sym can.loads.reads ∙ holds_of_told call.shelf (loads_file can.loads_name) can.loads.tells (λ text. loads_in can.network.net text ≡ read) h
 
     given_well : (answer : Answer) → IsGiven call.shelf can.network.net (Load can.file can.loads_name can.horizon) answer → EndsWell (status_of answer)
     given_well answer (inl g) = inl (ap status_of g.1)
@@ -200,8 +199,7 @@ module _ (call : Call) (no_fault : ¬ Rose call.shelf.faults_before call.shelf.f
   module _ (can : CanBeDistributed call) where
     -- the routes file has one reading
     one_routes : (read : Result (List NamedRoute) RoutesBroken) → RoutesRead call.shelf can.network.net can.routes_name read → Ok can.routes.routes ≡ read
-    one_routes read h =
-        sym can.routes.reads ∙ subst (λ (told : Option (List ℕ)). IfSome told (λ text. routes_in can.network.net text ≡ read)) can.routes.tells.told h
+    one_routes read h = sym can.routes.reads ∙ holds_of_told call.shelf (routes_file can.routes_name) can.routes.tells (λ text. routes_in can.network.net text ≡ read) h
 
     routed_well : (answer : Answer) → IsGiven call.shelf can.network.net (Routes can.file can.routes_name can.horizon) answer → EndsWell (status_of answer)
     routed_well answer (inl g) = inl (ap status_of g.2)
@@ -228,11 +226,6 @@ module _ (call : Call) (no_fault : ¬ Rose call.shelf.faults_before call.shelf.f
   ends_well (inr (inr (inr (inr (inl can))))) = goes_on_well can
   ends_well (inr (inr (inr (inr (inr can))))) = distributed_well can
 
--- the bytes of a report have one reading
-pub one_report_in : (shelf : Visit) (n : Named) (file : List ℕ) (told : TellsReport shelf n file) (read : Result Report ReportBroken) → ReportReads shelf n file read → Ok told.report ≡ read
-one_report_in shelf n file told read h =
-    sym told.reads ∙ subst (λ (text : Option (List ℕ)). IfSome text (λ bytes. report_in n bytes ≡ read)) told.tells.told h
-
 -- a verdict on a report
 judged_well : (verdict : Verdict ℕ ℕ ℚ) → EndsJudged (status_of_verdict verdict)
 judged_well Yes = inl refl
@@ -242,13 +235,12 @@ module _ (call : Call) (no_fault : ¬ Rose call.shelf.faults_before call.shelf.f
   verdict_well : (answer : Answer) → IsGiven call.shelf can.network.net (Check can.file can.report_name) answer → EndsJudged (status_of answer)
   verdict_well answer (inl g) = subst (λ (s : Status). EndsJudged s) (sym (ap status_of g.1)) (judged_well g.0)
   verdict_well answer (inr (inl g)) =
-      let same : Ok can.report.report ≡ Ok g.2.report = one_report_in call.shelf can.network.net can.report_name can.report (Ok g.2.report) g.2.read in
-      let report : can.report.report ≡ g.2.report = same_ok (Ok can.report.report) can.report.report g.2.report refl same in
+      let report : can.report.report ≡ g.2.report = one_report_in call.shelf can.network.net can.report_name can.report g.2.report g.2.held in
       let passed : check_list passes_Q can.network.net.net can.report.report.flow ≡ Err g.0 =
       ap (λ (r : Report). check_list passes_Q can.network.net.net r.flow) report ∙ g.2.passes in
       absurd (ok_err (check_list passes_Q can.network.net.net can.report.report.flow) can.verdict g.0 can.computes passed)
   verdict_well answer (inr (inr g)) =
-      absurd (ok_err (Ok can.report.report) can.report.report g.0 refl (one_report_in call.shelf can.network.net can.report_name can.report (Err g.0) g.2))
+      absurd (some_report_in call.shelf can.network.net can.report_name can.report g.0 g.2)
 
   checked_well : (answer : Answer) → IsAnswer call answer → EndsJudged (status_of answer)
   checked_well = answered_well call no_fault (Check can.file can.report_name) can.asks
@@ -272,8 +264,7 @@ module _ (call : Call) (no_fault : ¬ Rose call.shelf.faults_before call.shelf.f
 module _ (call : Call) (no_fault : ¬ Rose call.shelf.faults_before call.shelf.faults_now) (can : CanBeSettled call) where
   -- the flows file has one reading
   one_flows : (read : Result GivenFlows FlowsBroken) → FlowsRead call.shelf can.network.net can.flows_name read → Ok can.flows.given ≡ read
-  one_flows read h =
-      sym can.flows.reads ∙ subst (λ (told : Option (List ℕ)). IfSome told (λ text. flows_in can.network.net text ≡ read)) can.flows.tells.told h
+  one_flows read h = sym can.flows.reads ∙ holds_of_told call.shelf (flows_file can.flows_name) can.flows.tells (λ text. flows_in can.network.net text ≡ read) h
 
   thin_well : (answer : Answer) → IsGiven call.shelf can.network.net (Settle can.file can.flows_name) answer → EndsSettled (status_of answer)
   thin_well answer (inl g) = inl (ap status_of g.2)
@@ -308,16 +299,14 @@ module _ (call : Call) (no_fault : ¬ Rose call.shelf.faults_before call.shelf.f
   gone_well : (answer : Answer) → IsGiven call.shelf can.network.net (Resume can.file can.report_name can.horizon can.phases can.patterns) answer → OrNoPattern EndsResumed (status_of answer)
   gone_well answer (inl g) = subst (λ (s : Status). OrNoPattern EndsResumed s) (sym (ap status_of g.1)) (stop_well g.0.stop (λ phase place at e. can.goes g.0 phase place at g.2 e))
   gone_well answer (inr (inl g)) =
-      let same : Ok can.report.report ≡ Ok g.2.old = one_report_in call.shelf can.network.net can.report_name can.report (Ok g.2.old) g.2.read in
-      let old : can.report.report ≡ g.2.old = same_ok (Ok can.report.report) can.report.report g.2.old refl same in
+      let old : can.report.report ≡ g.2.old = one_report_in call.shelf can.network.net can.report_name can.report g.2.old g.2.held in
       absurd (g.2.refused.none (subst (λ (r : Report). Equilibrium can.network.net.net r.flow) old can.equilibrium))
   gone_well answer (inr (inr (inl g))) = absurd (can.fits g.0 g.2)
   gone_well answer (inr (inr (inr (inl g)))) =
-      let same : Ok can.report.report ≡ Ok g.1.old = one_report_in call.shelf can.network.net can.report_name can.report (Ok g.1.old) g.1.read in
-      let old : can.report.report ≡ g.1.old = same_ok (Ok can.report.report) can.report.report g.1.old refl same in
+      let old : can.report.report ≡ g.1.old = one_report_in call.shelf can.network.net can.report_name can.report g.1.old g.1.held in
       absurd (not_both_ℚ _ _ g.1.earlier (subst (λ (r : Report). r.flow.reached ≤ℚ can.horizon) old can.not_earlier))
   gone_well answer (inr (inr (inr (inr g)))) =
-      absurd (ok_err (Ok can.report.report) can.report.report g.0 refl (one_report_in call.shelf can.network.net can.report_name can.report (Err g.0) g.2))
+      absurd (some_report_in call.shelf can.network.net can.report_name can.report g.0 g.2)
 
   resumed_well : (answer : Answer) → IsAnswer call answer → EndsResumed (status_of answer)
   resumed_well answer comes = with_pattern EndsResumed call answer comes (answered_well call no_fault (Resume can.file can.report_name can.horizon can.phases can.patterns) can.asks

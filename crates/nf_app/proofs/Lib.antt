@@ -1,4 +1,6 @@
 pub mod Calls
+pub mod Fetched
+pub mod Reports
 pub mod Completing
 pub mod LinkLoads
 pub mod LoadGiven

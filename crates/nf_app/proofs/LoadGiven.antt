@@ -1,7 +1,6 @@
 -- What a request to load links gives, from what was read of its loads file and what its list computes.
-use Rattle.std.proofs.Common.{◌≡◌, ◌⊎◌, ℕ, List, [], length, refl, sym, ap, subst, ◌∙◌, inl, inr}
-use Rattle.std.specs.Prelude.{Some, IfSome, Result, Ok, Err, slice_get, unwrap_or}
-use Rattle.std.proofs.lemmas.Option.{IfSome_then}
+use Rattle.std.proofs.Common.{◌≡◌, ◌⊎◌, ℕ, List, [], length, refl, ap, subst, inl, inr}
+use Rattle.std.specs.Prelude.{Some, Result, Ok, Err, slice_get, unwrap_or}
 use Rattle.nf_rational.specs.Rational.{ℚ}
 use Rattle.nf_rational.specs.Operations.{0ℚ}
 use Rattle.nf_rational.specs.Order.{◌≤ℚ◌}
@@ -27,9 +26,9 @@ use Rattle.nf_app.specs.Given.{LoadsRead, loading_list, IsLoading, IsGiven}
 use Rattle.nf_outside.specs.Fetching.{IsTold}
 
 module _ (shelf : Visit) (n : Named) (file name : List ℕ) (horizon : ℚ) (text : List ℕ) (told : IsTold shelf (loads_file name) text) where
-  -- what was read of the bytes is what the shelf tells
+  -- what was read of the bytes
   read_so : (read : Result (List (List Piece)) LoadsBroken) → loads_in n text ≡ read → LoadsRead shelf n name read
-  read_so read e = IfSome_then (shelf.told name) told (λ held same. ap (λ (t : List ℕ). loads_in n t) (sym same) ∙ e)
+  read_so read e = record { text = text; told = told; holds = e }
 
   abbrev Answers : Refusal → Type 0
   Answers refusal = (refusal ≡ Refusal.NoMemory) ⊎ IsGiven shelf n (Load file name horizon) (answer_of refusal)

@@ -1,16 +1,16 @@
 -- What a request to go on from a report gives, from what was read of its report and what resuming answers.
-use Rattle.std.proofs.Common.{◌≡◌, ◌⊎◌, ℕ, List, refl, sym, ap, ◌∙◌, inl, inr}
-use Rattle.std.specs.Prelude.{IfSome, Result, Ok, Err}
-use Rattle.std.proofs.lemmas.Option.{IfSome_then}
+use Rattle.std.proofs.Common.{◌≡◌, ◌⊎◌, ℕ, List, refl, inl, inr}
+use Rattle.std.specs.Prelude.{Err}
 use Rattle.nf_rational.specs.Rational.{ℚ}
 use Rattle.nf_rational.specs.Order.{◌≤ℚ◌, ◌<ℚ◌}
 use Rattle.nf_work.specs.Passing.{passes_Q}
 use Rattle.nf_work.specs.declared.PassedAt.{PassedAt}
 use Rattle.nf_model.specs.Equilibrium.{Equilibrium}
 use Rattle.nf_formats.specs.Named.{Named}
+use Rattle.nf_formats.specs.WellNamed.{IsNamed}
 use Rattle.nf_formats.specs.Report.{Report, IsWellFormed}
 use Rattle.nf_check_lists.specs.declared.Answer.{Answer as Verdict}
-use Rattle.nf_readings.specs.ReportFile.{ReportBroken, report_in}
+use Rattle.nf_readings.specs.ReportFile.{report_in}
 use Rattle.nf_reader.specs.declared.fault.ReportFault.{ReportFault}
 use Rattle.nf_reader.specs.Files.{IfBroken}
 use Rattle.nf_lists.specs.PhaseRun.{IsShortFlow}
@@ -26,23 +26,22 @@ use Rattle.nf_words.specs.Requests.{Resume}
 use Rattle.nf_app.specs.Requests.{budgets_of}
 use Rattle.nf_answers.specs.Answers.{Solved, Checked, Passes, Earlier}
 use Rattle.nf_answers.specs.Refusals.{answer_of, refusal_of_report}
-use Rattle.nf_app.specs.CheckGiven.{ReportReads}
+use Rattle.nf_app.specs.Reports.{HoldsReport}
 use Rattle.nf_app.specs.Given.{IsGiven}
 use Rattle.nf_outside.specs.Fetching.{IsTold}
+use Rattle.nf_app.proofs.Reports.{none_held}
 
-module _ (shelf : Visit) (n : Named) (file name : List ℕ) (horizon : ℚ) (phases patterns : ℕ) (text : List ℕ) (told : IsTold shelf (report_file name) text) where
-  -- what was read of the bytes is what the shelf tells
-  read_so : (read : Result Report ReportBroken) → report_in n text ≡ read → ReportReads shelf n name read
-  read_so read e = IfSome_then (shelf.told name) told (λ held same. ap (λ (t : List ℕ). report_in n t) (sym same) ∙ e)
-
+module _ (shelf : Visit) (n : Named) (file name : List ℕ) (horizon : ℚ) (phases patterns : ℕ) where
   abbrev Answers : Refusal → Type 0
   Answers refusal = (refusal ≡ Refusal.NoMemory) ⊎ IsGiven shelf n (Resume file name horizon phases patterns) (answer_of refusal)
 
-  pub old_refused : (fault : ReportFault) → IfBroken fault (λ broken. report_in n text ≡ Err broken) → Answers (refusal_of_report fault)
-  old_refused (ReportFault.Broken rule line) e = inr (inr (inr (inr (inr (record { rule = rule; line = line }, refl, read_so (Err (record { rule = rule; line = line })) e)))))
-  old_refused ReportFault.Memory e = inl refl
+  pub old_refused : (named : IsNamed n) (text : List ℕ) → IsTold shelf (report_file name) text → (fault : ReportFault) → IfBroken fault (λ broken. report_in n text ≡ Err broken)
+      → Answers (refusal_of_report fault)
+  old_refused named text told (ReportFault.Broken rule line) e =
+      inr (inr (inr (inr (inr (record { rule = rule; line = line }, refl, none_held shelf n named name text told (record { rule = rule; line = line }) e)))))
+  old_refused named text told ReportFault.Memory e = inl refl
 
-  module _ (old : Report) (read : report_in n text ≡ Ok old) where
+  module _ (old : Report) (held : HoldsReport shelf n name old) where
     pub gone_on_given : (new : Report) (made : ℕ) → old.flow.reached ≤ℚ horizon → IsResumedReport passes_Q n.net (bounds_of horizon (budgets_of phases patterns)) old made new → IsWellFormed n.net new
         → Equilibrium n.net new.flow → GoesOnFrom n.net old.flow new.flow → IsShortFlow n.net new.flow → ReadsBack n new → StopsForNoThinFlow n.net new.stop new.flow
         → IsGiven shelf n (Resume file name horizon phases patterns) (Solved n new)
@@ -51,7 +50,7 @@ module _ (shelf : Visit) (n : Named) (file name : List ℕ) (horizon : ℚ) (pha
       refl,
       record {
         old = old;
-        read = read_so (Ok old) read;
+        held = held;
         not_earlier = later;
         made = made;
         resumed = resumed;
@@ -65,10 +64,10 @@ module _ (shelf : Visit) (n : Named) (file name : List ℕ) (horizon : ℚ) (pha
     )
 
     pub no_start_given : (verdict : Verdict ℕ ℕ ℚ) → old.flow.reached ≤ℚ horizon → IsRefused passes_Q n.net old verdict → IsGiven shelf n (Resume file name horizon phases patterns) (Checked n verdict)
-    no_start_given verdict later refused = inr (inl (verdict, refl, record { old = old; read = read_so (Ok old) read; not_earlier = later; refused = refused }))
+    no_start_given verdict later refused = inr (inl (verdict, refl, record { old = old; held = held; not_earlier = later; refused = refused }))
 
     pub passes_given : (at : PassedAt ℚ) → old.flow.reached ≤ℚ horizon → resume_list passes_Q n.net old ≡ Err at → IsGiven shelf n (Resume file name horizon phases patterns) (Passes at)
-    passes_given at later passes = inr (inr (inl (at, refl, record { old = old; read = read_so (Ok old) read; not_earlier = later; passes = passes })))
+    passes_given at later passes = inr (inr (inl (at, refl, record { old = old; held = held; not_earlier = later; passes = passes })))
 
     pub earlier_given : horizon <ℚ old.flow.reached → IsGiven shelf n (Resume file name horizon phases patterns) Earlier
-    earlier_given earlier = inr (inr (inr (inl (refl, record { old = old; read = read_so (Ok old) read; earlier = earlier }))))
+    earlier_given earlier = inr (inr (inr (inl (refl, record { old = old; held = held; earlier = earlier }))))

@@ -13,7 +13,6 @@ use Rattle.nf_formats.specs.Report.{Report, report_text}
 use Rattle.nf_formats_laws.proofs.Once.{reads_at_most_once}
 use Rattle.nf_formats_laws.proofs.AcceptedNamed.{accepted_named}
 use Rattle.nf_run_laws.proofs.Run.{report_equilibrium}
-use Rattle.nf_readings.specs.ReportFile.{report_in}
 use Rattle.nf_resume_lists.specs.Meanings.{IsResumedReport}
 use Rattle.nf_resumed_laws.proofs.Ends.{resumed-solved}
 use Rattle.nf_phase.specs.Solution.{bounds_of}
@@ -25,11 +24,12 @@ use Rattle.nf_outside.specs.Fetching.{NetworkReads}
 use Rattle.nf_outside.specs.Sinks.{Taken, TookAll}
 use Rattle.nf_outside.specs.Shown.{IsShown}
 use Rattle.nf_app.specs.Requests.{budgets_of, files_of, generated_by}
-use Rattle.nf_app.specs.CheckGiven.{ReportReads}
+use Rattle.nf_app.specs.Reports.{HoldsReport}
 use Rattle.nf_app.specs.Given.{IsGiven}
 use Rattle.nf_app.specs.Runs.{Call, Asks, Read, IsRefused, IsAnswer, Ran}
 use Rattle.nf_app.specs.Completeness.{TellsNetwork}
 use Rattle.nf_app.specs.Resumption.{IsResumption}
+use Rattle.nf_app.proofs.Reports.{one_report_in}
 
 same_ok : {A E : Type 0} (r : Result A E) (x y : A) → r ≡ Ok x → r ≡ Ok y → x ≡ y
 same_ok r x y h k = cc
@@ -98,21 +98,20 @@ module _ (call : Call) (r : IsResumption call) where
   good = (accepted_named r.network.tells.text n r.network.reads).network
 
   -- it has one reading
-  one_report : (old : Report) → ReportReads call.shelf n r.report_name (Ok old) → old ≡ r.report.report
-  one_report old h = same_ok (Ok old) old r.report.report refl
-      (sym (subst (λ (told : Option (List ℕ)). IfSome told (λ text. report_in n text ≡ Ok old)) r.report.tells.told h) ∙ r.report.reads)
+  one_report : (old : Report) → HoldsReport call.shelf n r.report_name old → old ≡ r.report.report
+  one_report old h = sym (one_report_in call.shelf n r.report_name r.report old h)
 
   whole_text : (answer : Answer) → IsGiven call.shelf n (Resume r.file r.report_name r.horizon r.phases r.patterns) answer → status_of answer ≡ Status.Ok
       → out_text answer ≡ report_text n r.later.report
   whole_text answer (inl g) e =
       let on : IsResumedReport passes_Q n.net (bounds_of r.horizon (budgets_of r.phases r.patterns)) r.report.report g.2.made g.0 =
-      subst (λ (old : Report). IsResumedReport passes_Q n.net (bounds_of r.horizon (budgets_of r.phases r.patterns)) old g.2.made g.0) (one_report g.2.old g.2.read) g.2.resumed in
+      subst (λ (old : Report). IsResumedReport passes_Q n.net (bounds_of r.horizon (budgets_of r.phases r.patterns)) old g.2.made g.0) (one_report g.2.old g.2.held) g.2.resumed in
       let ended : g.0.stop ≡ None = no_stop g.0.stop (sym (ap status_of g.1) ∙ e) in
       let same : g.0 ≡ r.later.report = resumed-solved passes_Q n.net good r.first_bounds (bounds_of r.horizon r.later_budgets) (bounds_of r.horizon (budgets_of r.phases r.patterns))
       r.report.report r.later.report g.0 g.2.made r.first r.later.is_report r.later.no_stop on ended refl r.rest in
       ap out_text g.1 ∙ ap (report_text n) same
   whole_text answer (inr (inl g)) e =
-      absurd (g.2.refused.none (subst (λ (old : Report). Equilibrium n.net old.flow) (sym (one_report g.2.old g.2.read)) (report_equilibrium passes_Q n.net good r.first_bounds r.report.report r.first)))
+      absurd (g.2.refused.none (subst (λ (old : Report). Equilibrium n.net old.flow) (sym (one_report g.2.old g.2.held)) (report_equilibrium passes_Q n.net good r.first_bounds r.report.report r.first)))
   whole_text answer (inr (inr (inl g))) e = absurd (other (ap status_of g.1) e)
     where
       other : status_of answer ≡ Status.Passed → status_of answer ≡ Status.Ok → ⊥

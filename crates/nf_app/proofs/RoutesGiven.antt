@@ -1,8 +1,7 @@
 -- What a request to load a network by route gives, from what was read of its routes file and what its list computes.
-use Rattle.std.proofs.Common.{◌≡◌, ◌⊎◌, ℕ, List, length, refl, sym, ap, ◌∙◌, inl, inr}
-use Rattle.std.specs.Prelude.{IfSome, Result, Ok, Err, map}
+use Rattle.std.proofs.Common.{◌≡◌, ◌⊎◌, ℕ, List, length, refl, sym, ◌∙◌, inl, inr}
+use Rattle.std.specs.Prelude.{Result, Ok, Err, map}
 use Rattle.std.proofs.lemmas.List.{length-map}
-use Rattle.std.proofs.lemmas.Option.{IfSome_then}
 use Rattle.nf_rational.specs.Rational.{ℚ}
 use Rattle.nf_work.specs.declared.Halt.{Halt}
 use Rattle.nf_work.specs.Checked.{Stops}
@@ -27,9 +26,9 @@ use Rattle.nf_app.specs.Given.{IsGiven}
 use Rattle.nf_outside.specs.Fetching.{IsTold}
 
 module _ (shelf : Visit) (n : Named) (file name : List ℕ) (horizon : ℚ) (text : List ℕ) (told : IsTold shelf (routes_file name) text) where
-  -- what was read of the bytes is what the shelf tells
+  -- what was read of the bytes
   read_so : (read : Result (List NamedRoute) RoutesBroken) → routes_in n text ≡ read → RoutesRead shelf n name read
-  read_so read e = IfSome_then (shelf.told name) told (λ held same. ap (λ (t : List ℕ). routes_in n t) (sym same) ∙ e)
+  read_so read e = record { text = text; told = told; holds = e }
 
   abbrev Answers : Refusal → Type 0
   Answers refusal = (refusal ≡ Refusal.NoMemory) ⊎ IsGiven shelf n (Routes file name horizon) (answer_of refusal)

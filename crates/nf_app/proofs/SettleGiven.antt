@@ -1,7 +1,6 @@
 -- What a request to settle a thin flow gives, from what was read of its flows file and what settling answers.
-use Rattle.std.proofs.Common.{◌≡◌, ◌⊎◌, ℕ, List, length, refl, sym, ap, ◌∙◌, inl, inr}
-use Rattle.std.specs.Prelude.{Option, Some, None, IfSome, Result, Ok, Err}
-use Rattle.std.proofs.lemmas.Option.{IfSome_then}
+use Rattle.std.proofs.Common.{◌≡◌, ◌⊎◌, ℕ, List, length, refl, ◌∙◌, inl, inr}
+use Rattle.std.specs.Prelude.{Option, Some, None, Result, Ok, Err}
 use Rattle.nf_rational.specs.Rational.{ℚ}
 use Rattle.nf_work.specs.declared.Halt.{Halt}
 use Rattle.nf_model.specs.ThinFlow.{sets_at}
@@ -22,9 +21,9 @@ use Rattle.nf_app.specs.Given.{IsGiven}
 use Rattle.nf_outside.specs.Fetching.{IsTold}
 
 module _ (shelf : Visit) (n : Named) (file name : List ℕ) (text : List ℕ) (told : IsTold shelf (flows_file name) text) where
-  -- what was read of the bytes is what the shelf tells
+  -- what was read of the bytes
   read_so : (read : Result GivenFlows FlowsBroken) → flows_in n text ≡ read → FlowsRead shelf n name read
-  read_so read e = IfSome_then (shelf.told name) told (λ held same. ap (λ (t : List ℕ). flows_in n t) (sym same) ∙ e)
+  read_so read e = record { text = text; told = told; holds = e }
 
   abbrev Answers : Refusal → Type 0
   Answers refusal = (refusal ≡ Refusal.NoMemory) ⊎ IsGiven shelf n (Settle file name) (answer_of refusal)

@@ -58,7 +58,7 @@ given_never shelf n (Solve file horizon phases patterns) answer good g =
     with_stop answer (Solved n g.0) g.1 (never_of n.net g.0.flow g.0.stop good g.2.1.equilibrium g.4)
 given_never shelf n (SolveForever file phases patterns) answer good g =
     with_stop answer (SolvedForever n g.0) g.1 (never_of n.net g.0.flow g.0.stop good g.2.equilibrium g.2.no_thin_flow)
-given_never shelf n (Show file) answer good g = no_run answer (Shown n) g refl
+given_never shelf n (Show file) answer good g = no_run answer (Shown n) g.0 refl
 given_never shelf n (Load file loads horizon) answer good (inl g) = no_run answer (Loaded n horizon g.0) g.1 refl
 given_never shelf n (Load file loads horizon) answer good (inr (inl g)) = no_run answer (Passes g.0) g.1 refl
 given_never shelf n (Load file loads horizon) answer good (inr (inr g)) = no_run answer (MalformedLoads g.0) g.1 refl

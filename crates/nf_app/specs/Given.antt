@@ -1,5 +1,5 @@
 -- What a request gives with the network of its first file.
-use Rattle.std.specs.Prelude.{◌≡◌, ◌⊎◌, ℕ, List, IfSome, Result, Ok, Err}
+use Rattle.std.specs.Prelude.{◌≡◌, ◌⊎◌, ℕ, List, Result, Ok, Err}
 use Rattle.nf_rational.specs.Rational.{ℚ}
 use Rattle.nf_work.specs.Passing.{passes_Q}
 use Rattle.nf_work.specs.Checked.{at_part}
@@ -7,6 +7,8 @@ use Rattle.nf_work.specs.declared.Part.TheVariants.{Load as LoadPart}
 use Rattle.nf_work.specs.declared.PassedAt.{PassedAt}
 use Rattle.nf_model.specs.Network.{Piece}
 use Rattle.nf_formats.specs.Named.{Named}
+use Rattle.nf_formats.specs.NetFile.{Reads}
+use Rattle.nf_formats.specs.NetText.{canonical}
 use Rattle.nf_formats.specs.Report.{Report}
 use Rattle.nf_load_lists.specs.Loading.{Loaded as Loading}
 use Rattle.nf_load_lists.specs.Loads.{load_list}
@@ -23,11 +25,13 @@ use Rattle.nf_routes_lists.specs.RoutesFile.{RoutesBroken, NamedRoute}
 use Rattle.nf_routes_lists.specs.RoutesList.{Routed}
 use Rattle.nf_quick_lists.specs.Quick.{Augment, Quick as QuickFlow}
 use Rattle.nf_phase.specs.Solution.{bounds_of, IsSolution}
-use Rattle.nf_outside.specs.Files.{Visit}
+use Rattle.nf_outside.specs.Files.{Visit, loads_file}
 use Rattle.nf_words.specs.Requests.{Request, Solve, SolveForever, Show, Load, Check, Quick, Gen, Settle, Resume, Routes}
 use Rattle.nf_app.specs.Requests.{budgets_of}
 use Rattle.nf_answers.specs.Answers.{Answer, Solved, SolvedForever, Shown, Loaded, Checked, Quickest, TooManyWalks, Generated, Settled, Distributed, MalformedLoads, MalformedFlows, MalformedRoutes, MalformedReport, Passes, Unbounded, NotThin, Earlier}
-use Rattle.nf_app.specs.CheckGiven.{ReportReads, IsChecked, PassesChecking}
+use Rattle.nf_app.specs.Fetched.{OfBytes}
+use Rattle.nf_app.specs.Reports.{HoldsNoReport}
+use Rattle.nf_app.specs.CheckGiven.{IsChecked, PassesChecking}
 use Rattle.nf_app.specs.QuickGiven.{IsQuickest, IsOverBudget, PassesQuick, IsUnbounded}
 use Rattle.nf_app.specs.SettleGiven.{FlowsRead, IsSettled, IsNotThin, PassesSettling}
 use Rattle.nf_app.specs.ForeverGiven.{IsUnending}
@@ -35,9 +39,9 @@ use Rattle.nf_app.specs.RoutesGiven.{RoutesRead, IsDistributed, PassesRoutes}
 use Rattle.nf_app.specs.ResumeGiven.{IsGoneOn, IsNoStart, PassesResuming, IsBefore}
 use Rattle.nf_answers.specs.declared.arrival.Arrival.{Arrival}
 
--- where the shelf tells the bytes of the file, they read as these pieces of the links of the network, or break this rule first
+-- the bytes of the file read as these pieces of the links of the network, or break this rule first
 abbrev pub LoadsRead : Visit → Named → List ℕ → Result (List (List Piece)) LoadsBroken → Type 0
-LoadsRead shelf n file read = IfSome (shelf.told file) (λ text. loads_in n text ≡ read)
+LoadsRead shelf n file read = OfBytes shelf (loads_file file) (λ text. loads_in n text ≡ read)
 
 -- the list of operations of `load`
 abbrev pub loading_list : Named → List (List Piece) → ℚ → Result (List Loading) (PassedAt ℚ)
@@ -56,14 +60,14 @@ pub record PassesLoading (shelf : Visit) (n : Named) (file : List ℕ) (horizon 
   pub read : LoadsRead shelf n file (Ok pieces)
   pub passes : loading_list n pieces horizon ≡ Err at
 
--- The answers of each request that has its network. The text of a report has one reading, and that is the report. A run that stops since
--- no pattern was left stops where there is no thin flow.
+-- The answers of each request that has its network. The canonical text that is shown reads as the same network. The text of a report has
+-- one reading, and that is the report. A run that stops since no pattern was left stops where there is no thin flow.
 abbrev pub IsGiven : Visit → Named → Request → Answer → Type 0
 IsGiven shelf n (Solve file horizon phases patterns) answer =
     (report : Report) × (answer ≡ Solved n report) × ((made : ℕ) × IsSolution n.net (bounds_of horizon (budgets_of phases patterns)) made report) × ReadsBack n report
     × StopsForNoThinFlow n.net report.stop report.flow
 IsGiven shelf n (SolveForever file phases patterns) answer = (forever : Forever) × (answer ≡ SolvedForever n forever) × IsUnending n.net phases patterns forever
-IsGiven shelf n (Show file) answer = answer ≡ Shown n
+IsGiven shelf n (Show file) answer = (answer ≡ Shown n) × Reads (canonical n) (Ok n)
 IsGiven shelf n (Load file loads horizon) answer =
     ((loaded : List Loading) × (answer ≡ Loaded n horizon loaded) × IsLoading shelf n loads horizon loaded)
     ⊎ ((at : PassedAt ℚ) × (answer ≡ Passes at) × PassesLoading shelf n loads horizon at)
@@ -71,7 +75,7 @@ IsGiven shelf n (Load file loads horizon) answer =
 IsGiven shelf n (Check file report) answer =
     ((verdict : Verdict ℕ ℕ ℚ) × (answer ≡ Checked n verdict) × IsChecked shelf n report verdict)
     ⊎ ((at : PassedAt ℚ) × (answer ≡ Passes at) × PassesChecking shelf n report at)
-    ⊎ ((broken : ReportBroken) × (answer ≡ MalformedReport broken) × ReportReads shelf n report (Err broken))
+    ⊎ ((broken : ReportBroken) × (answer ≡ MalformedReport broken) × HoldsNoReport shelf n report broken)
 IsGiven shelf n (Quick file amount augments) answer =
     ((quick : QuickFlow) × (arrival : Arrival) × (answer ≡ Quickest n quick arrival) × IsQuickest n.net amount augments quick arrival)
     ⊎ ((walks : List Augment) × (answer ≡ TooManyWalks n augments walks) × IsOverBudget n.net amount augments walks)
@@ -90,7 +94,7 @@ IsGiven shelf n (Resume file report horizon phases patterns) answer =
     ⊎ ((verdict : Verdict ℕ ℕ ℚ) × (answer ≡ Checked n verdict) × IsNoStart shelf n report horizon verdict)
     ⊎ ((at : PassedAt ℚ) × (answer ≡ Passes at) × PassesResuming shelf n report horizon at)
     ⊎ ((answer ≡ Earlier) × IsBefore shelf n report horizon)
-    ⊎ ((broken : ReportBroken) × (answer ≡ MalformedReport broken) × ReportReads shelf n report (Err broken))
+    ⊎ ((broken : ReportBroken) × (answer ≡ MalformedReport broken) × HoldsNoReport shelf n report broken)
 IsGiven shelf n (Routes file routes horizon) answer =
     ((sent : List NamedRoute) × (routed : Routed) × (answer ≡ Distributed n sent horizon routed) × IsDistributed shelf n routes sent horizon routed)
     ⊎ ((at : PassedAt ℚ) × (answer ≡ Passes at) × PassesRoutes shelf n routes horizon at)

@@ -1,4 +1,6 @@
 pub mod Requests
+pub mod Fetched
+pub mod Reports
 pub mod CheckGiven
 pub mod QuickGiven
 pub mod SettleGiven

@@ -1,5 +1,5 @@
 -- What a request to load a network by route gives with it.
-use Rattle.std.specs.Prelude.{◌≡◌, ℕ, List, IfSome, Result, Ok, Err}
+use Rattle.std.specs.Prelude.{◌≡◌, ℕ, List, Result, Ok, Err}
 use Rattle.nf_rational.specs.Rational.{ℚ}
 use Rattle.nf_work.specs.Passing.{passes_Q}
 use Rattle.nf_work.specs.Checked.{at_part}
@@ -10,11 +10,12 @@ use Rattle.nf_routes_lists.specs.RoutesFile.{RoutesBroken, NamedRoute, routes_in
 use Rattle.nf_routes_lists.specs.RoutesList.{Routed, routes_list}
 use Rattle.nf_routes_lists.specs.Meanings.{IsRouted, RoutesArrive}
 use Rattle.nf_route.specs.Kept.{routes_of}
-use Rattle.nf_outside.specs.Files.{Visit}
+use Rattle.nf_outside.specs.Files.{Visit, routes_file}
+use Rattle.nf_app.specs.Fetched.{OfBytes}
 
--- where the shelf tells the bytes of a file, they read as these routes of the network, or break this rule first
+-- the bytes of a file read as these routes of the network, or break this rule first
 abbrev pub RoutesRead : Visit → Named → List ℕ → Result (List NamedRoute) RoutesBroken → Type 0
-RoutesRead shelf n file read = IfSome (shelf.told file) (λ text. routes_in n text ≡ read)
+RoutesRead shelf n file read = OfBytes shelf (routes_file file) (λ text. routes_in n text ≡ read)
 
 -- the list of operations of `routes`
 abbrev pub by_route_list : Named → List NamedRoute → ℚ → Result Routed (PassedAt ℚ)

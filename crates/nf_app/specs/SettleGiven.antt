@@ -1,5 +1,5 @@
 -- What a request to settle a thin flow gives with its network.
-use Rattle.std.specs.Prelude.{◌≡◌, ℕ, List, IfSome, IsOk, Result, Ok, Err}
+use Rattle.std.specs.Prelude.{◌≡◌, ℕ, List, IsOk, Result, Ok, Err}
 use Rattle.nf_rational.specs.Rational.{ℚ}
 use Rattle.nf_rational.specs.Operations.{0ℚ}
 use Rattle.nf_work.specs.Passing.{passes_Q}
@@ -17,11 +17,12 @@ use Rattle.nf_complete_lists.specs.Cancelling.{Settles}
 use Rattle.nf_complete_lists.specs.SettledPattern.{IsSettledPattern}
 use Rattle.nf_complete_lists.specs.ThinList.{thin_list}
 use Rattle.nf_complete_lists.specs.FlowsFile.{FlowsBroken, GivenFlows, flows_in}
-use Rattle.nf_outside.specs.Files.{Visit}
+use Rattle.nf_outside.specs.Files.{Visit, flows_file}
+use Rattle.nf_app.specs.Fetched.{OfBytes}
 
--- where the shelf tells the bytes of a file, they read as these flows and slopes of the network, or break this rule first
+-- the bytes of a file read as these flows and slopes of the network, or break this rule first
 abbrev pub FlowsRead : Visit → Named → List ℕ → Result GivenFlows FlowsBroken → Type 0
-FlowsRead shelf n file read = IfSome (shelf.told file) (λ text. flows_in n text ≡ read)
+FlowsRead shelf n file read = OfBytes shelf (flows_file file) (λ text. flows_in n text ≡ read)
 
 -- ---- flows and slopes at labels of departure 0: for the sets of their slacks, and the rate then
 module _ (net : Network) (labels : List ℚ) (given : GivenFlows) where

@@ -1,5 +1,5 @@
 -- What of an answer is the same in every equilibrium of its network, whoever made it.
-use Rattle.std.specs.Prelude.{◌≡◌, ℕ, List, Some, Ok, IfSome}
+use Rattle.std.specs.Prelude.{◌≡◌, ℕ, List, Some, IfSome}
 use Rattle.nf_rational.specs.Rational.{ℚ}
 use Rattle.nf_rational.specs.Operations.{0ℚ}
 use Rattle.nf_rational.specs.Order.{◌≤ℚ◌}
@@ -16,7 +16,7 @@ use Rattle.nf_unique_laws.specs.UniqueLaws.{SameInAll}
 use Rattle.nf_words.specs.Requests.{Check, Quick}
 use Rattle.nf_answers.specs.Answers.{Answer, Solved, SolvedForever, Checked, Quickest, Generated}
 use Rattle.nf_answers.specs.declared.arrival.Arrival.{Arrival}
-use Rattle.nf_app.specs.CheckGiven.{ReportReads}
+use Rattle.nf_app.specs.Reports.{HoldsReport}
 use Rattle.nf_app.specs.Runs.{Call, Asks, IsAnswer}
 
 -- Of a run without a horizon: of the flow up to the departure reached; and where it has a tail, of the flow up to every departure from 0 on.
@@ -26,7 +26,7 @@ SameForever net forever = SameInAll net forever.flow
 
 -- Of a report that `check` answers yes: of the flow that the file describes.
 abbrev pub SameIfYes : Call → Named → Verdict ℕ ℕ ℚ → Type 0
-SameIfYes call n Yes = (file name : List ℕ) → Asks call (Check file name) → (report : Report) × ReportReads call.shelf n name (Ok report) × SameInAll n.net report.flow
+SameIfYes call n Yes = (file name : List ℕ) → Asks call (Check file name) → (report : Report) × HoldsReport call.shelf n name report × SameInAll n.net report.flow
 SameIfYes call n (No rule subject time left right) = Unit {0}
 
 -- Of the equilibrium line of `quick`: in every equilibrium that describes the least departure by which the amount is supplied, who leaves

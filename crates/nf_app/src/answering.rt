@@ -10,13 +10,13 @@ ghost use Rattle.nf_quick.specs.declared.fault.QuickFault.TheVariants as QuickFa
 ghost use Rattle.nf_quick_lists.specs.Answers.{IsQuickFlow};
 ghost use Rattle.nf_rational.specs.Rational.{ℚ};
 ghost use Rattle.nf_formats.specs.Report.{Report};
-ghost use Rattle.nf_readings.specs.ReportFile.{report_in};
 ghost use Rattle.nf_resume.specs.Faults.{IsResumeFault};
 ghost use Rattle.nf_outside.specs.Files.{Visit, visit, report_limit, loads_file, flows_file, routes_file, report_file};
 ghost use Rattle.nf_words.specs.Requests.{Solve, SolveForever, Show, Load, Check, Gen, Settle, Resume, Routes, CanBeAsked, request_of};
 ghost use Rattle.nf_words.specs.Requests as requests;
 ghost use Rattle.nf_words.specs.Views.{requested};
 ghost use Rattle.nf_outside.specs.Fetching.{IsTold};
+ghost use Rattle.nf_app.specs.Reports.{HoldsReport};
 ghost use Rattle.nf_app.specs.Gathered.{OtherFits, OtherIsTold};
 ghost use Rattle.nf_app.specs.Outcomes.{IsGiving, IsAnswered, with_net};
 
@@ -113,6 +113,8 @@ fn check_report(alloc: Global, net: &Network, text: &[u8]) -> Result<Found, Refu
     requires { length text.now ≤ report_limit }
     ensures { (shelf : Visit) (file name : List ℕ) → IsTold shelf (report_file name) text.now → IsGiving shelf net.now (Check file name) result }
 {
+    // For the proof: the network is that of an accepted file.
+    let _ = net.version();
     let report = parse_report(alloc, net, text)?;
     let verdict = check(alloc, net, &report.flow)?;
     Ok(Found::Checked { verdict })
@@ -132,7 +134,7 @@ fn settle_to(alloc: Global, net: &Network, text: &[u8]) -> Result<Found, Refusal
 
 // Why a report isn't resumed; where its flow is no equilibrium, what the check answers.
 fn refuse_resume(net: &Network, fault: ResumeFault) -> Result<Found, Refusal>
-    ensures { (shelf : Visit) (file name : List ℕ) (horizon : ℚ) (phases patterns : ℕ) (text : List ℕ) (old : Report) → IsTold shelf (report_file name) text → report_in net.now text ≡ Ok old
+    ensures { (shelf : Visit) (file name : List ℕ) (horizon : ℚ) (phases patterns : ℕ) (old : Report) → HoldsReport shelf net.now name old
         → IsResumeFault passes_Q net.now.net old horizon fault → IsGiving shelf net.now (Resume file name horizon phases patterns) result }
 {
     match fault {

@@ -6,6 +6,7 @@ use Rattle.nf_resumed_report_laws.proofs.Reading.{resumed_reads_back}
 use Rattle.nf_resumed_report_laws.proofs.Stopping.{resumed_stops_for_none}
 use Rattle.nf_reader.specs.Files.{report_of}
 use Rattle.nf_phase.specs.Solution.{bounds_of, report_in}
+use Rattle.nf_app.proofs.Reports.{held}
 use Rattle.nf_app.proofs.ResumeGiven.{old_refused, gone_on_given}
 use Rattle.nf_app.proofs.answering.resume_to.Goals as goal
 
@@ -15,7 +16,7 @@ resume-requires c = c.in_ok-report.ensures.formed
 pub returns-in_err-report : goal.returns-in_err-report
 returns-in_err-report c shelf file name told =
     let p = err_from_is_err_and c.from_residual.result c.from_residual.ensures.1 in
-    rw (p.1, p.2) (old_refused shelf c.args.net.now file name c.args.horizon c.args.budgets.phases c.args.budgets.patterns c.args.text.now told c.in_err-report.field-0.0 c.in_err-report.ensures.reads)
+    rw (p.1, p.2) (old_refused shelf c.args.net.now file name c.args.horizon c.args.budgets.phases c.args.budgets.patterns c.version.ensures.named c.args.text.now told c.in_err-report.field-0.0 c.in_err-report.ensures.reads)
 
 pub returns-in-Ok : goal.returns-in-Ok
 returns-in-Ok c shelf file name told =
@@ -24,7 +25,8 @@ returns-in-Ok c shelf file name told =
     let bounds = bounds_of c.args.horizon c.args.budgets in
     let old = report_of c.in_ok-report.report in
     let new = report_in c.args.horizon s in (
-      gone_on_given shelf c.args.net.now file name c.args.horizon c.args.budgets.phases c.args.budgets.patterns c.args.text.now told old c.in_ok-report.ensures.reads new s.phases
+      gone_on_given shelf c.args.net.now file name c.args.horizon c.args.budgets.phases c.args.budgets.patterns old
+          (held shelf c.args.net.now c.version.ensures.named name c.args.text.now told old c.in_ok-report.ensures.reads) new s.phases
           e.not_earlier e.resumed e.formed e.equilibrium e.goes_on e.short
           (resumed_reads_back c.args.net.now c.version.ensures.named bounds
           (record {
@@ -39,4 +41,6 @@ returns-in-Ok c shelf file name told =
 
 pub returns : goal.returns
 returns c shelf file name told =
-    c.refuse_resume.ensures shelf file name c.args.horizon c.args.budgets.phases c.args.budgets.patterns c.args.text.now (report_of c.in_ok-report.report) told c.in_ok-report.ensures.reads c.in-Err.ensures.fault
+    let old = report_of c.in_ok-report.report in
+    c.refuse_resume.ensures shelf file name c.args.horizon c.args.budgets.phases c.args.budgets.patterns old
+    (held shelf c.args.net.now c.version.ensures.named name c.args.text.now told old c.in_ok-report.ensures.reads) c.in-Err.ensures.fault

@@ -9,7 +9,7 @@ use Rattle.nf_model.specs.Equilibrium.{Equilibrium}
 use Rattle.nf_forever_lists.specs.Extended.{flow_until}
 use Rattle.nf_forever_laws.proofs.Stopped.{forever_stops_for_none}
 use Rattle.nf_forever.specs.Seen.{forever_in}
-use Rattle.nf_app.proofs.ForeverGiven.{stop_seen, tail_seen}
+use Rattle.nf_app.proofs.ForeverGiven.{stop_seen, tail_seen, forever_short, forever_ends}
 use Rattle.nf_app.proofs.answering.solve_on.Goals as goal
 
 pub returns-in_err-forever : goal.returns-in_err-forever
@@ -27,6 +27,8 @@ returns c shelf file =
         record {
           run = e.run;
           equilibrium = e.equilibrium;
+          short = forever_short passes_Q c.args.net.now.net c.version.ensures.named.network c.args.budgets.phases c.args.budgets.patterns f e.run;
+          ends = forever_ends passes_Q c.args.net.now.net c.version.ensures.named.network c.args.budgets.phases c.args.budgets.patterns f e.run;
           stop = stop_seen c.in_ok-forever.forever.tail (f.stop ≡ None) e.stop;
           goes_on = tail_seen (λ tail. (until : ℚ) → 0ℚ ≤ℚ until → Equilibrium c.args.net.now.net (flow_until c.args.net.now.net f.flow tail until)) c.in_ok-forever.forever.tail e.tail;
           no_thin_flow = forever_stops_for_none passes_Q c.args.net.now.net c.args.budgets.phases c.args.budgets.patterns f c.version.ensures.named.network e.run;
