@@ -42,7 +42,8 @@ pub fn goes_on_to(patterns: &mut Patterns, pattern: &Pattern, budget: u64, links
     requires pattern { length pattern.now ≡ links }
     requires behind { IsBehind patterns.old.question patterns.old pattern.now }
     ensures within { StandsWithin patterns.old.question pattern.now budget result }
-    ensures stands { result ≡ true → IsListedBy patterns.old.question pattern.now → StandsAt patterns.old.question patterns.new pattern.now }
+    ensures stands { result ≡ true → IsListedBy patterns.old.question pattern.now
+        → StandsAt patterns.old.question patterns.new pattern.now }
 {
     while patterns.place() < budget {
         let Some(listed) = patterns.next() else {

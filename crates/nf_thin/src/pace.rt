@@ -69,7 +69,8 @@ impl Pace {
         requires listed { IsListedIn net.now.net sets.now pattern.now }
         requires behind { StaysBehind (question_of net.now.net sets.now base.now) self.old pattern.now }
         ensures told { IfOk result (λ standing. Tells (question_of net.now.net sets.now base.now) pattern.now budget standing) }
-        ensures in_step { IfOk result (λ standing. (standing ≡ Beyond → ⊥) → IsInStep (question_of net.now.net sets.now base.now) self.new pattern.now) }
+        ensures in_step { IfOk result (λ standing. (standing ≡ Beyond → ⊥)
+            → IsInStep (question_of net.now.net sets.now base.now) self.new pattern.now) }
     {
         if self.walk.is_some() {
             return Ok(self.go_on(net, sets, base, pattern, budget));
