@@ -61,7 +61,7 @@ Wrote-append old before now f g h first next (Err e) v w = record {
   whole = w.whole;
   front = record {
     count = length first + w.front.count;
-    within = let a : length (first ++ next) ≡ length first + length next = length-append first next in omega (arith, w.front.within, a);
+    not_all = let a : length (first ++ next) ≡ length first + length next = length-append first next in omega (arith, w.front.not_all, a);
     front = w.front.front ∙ ap (λ t. with_more t (take w.front.count next)) v.whole ∙ with_more-with_more old first (take w.front.count next)
         ∙ ap (with_more old) (sym (take-append-add first next w.front.count));
   };
@@ -69,15 +69,15 @@ Wrote-append old before now f g h first next (Err e) v w = record {
   never_falls = omega (arith, v.never_falls, w.never_falls);
 }
 
--- the first bytes of a text are those of a longer one
+-- the first bytes of a text are those of a longer one, and not all of them
 pub Wrote-longer : {E F : Type 0} (old now : Option (List ℕ)) (faults_before faults_now : ℕ) (first rest : List ℕ) (e : E) (d : F)
     → Wrote old now faults_before faults_now first (Err e) → Wrote old now faults_before faults_now (first ++ rest) (Err d)
 Wrote-longer old now f g first rest e d w = record {
   whole = tt;
   front = record {
     count = w.front.count;
-    within = let a : length (first ++ rest) ≡ length first + length rest = length-append first rest in omega (arith, w.front.within, a);
-    front = w.front.front ∙ ap (with_more old) (sym (take-append-le w.front.count first rest w.front.within));
+    not_all = let a : length (first ++ rest) ≡ length first + length rest = length-append first rest in omega (arith, w.front.not_all, a);
+    front = w.front.front ∙ ap (with_more old) (sym (take-append-le w.front.count first rest (omega (arith, w.front.not_all))));
   };
   cause = w.cause;
   never_falls = w.never_falls;

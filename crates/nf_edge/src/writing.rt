@@ -3,7 +3,7 @@ ghost use Rattle.nf_edge.specs.Taken.{Wrote};
 
 use crate::{Sink, SinkFault};
 
-/// Writes the whole text. Where the sink fails, it has taken the text's first bytes.
+/// Writes the whole text. Where the sink fails, it has taken the text's first bytes, and not all of them.
 pub fn write_text<O: Sink>(out: &mut O, text: &[u8]) -> Result<(), SinkFault>
     ensures { Wrote (O.took out.old) (O.took out.new) (O.faults out.old) (O.faults out.new) text.now result }
 {

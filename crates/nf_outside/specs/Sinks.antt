@@ -18,11 +18,11 @@ taken sink before now = record { before = sink.took before; now = sink.took now;
 abbrev pub TookAll : Taken → List ℕ → Type 0
 TookAll sink text = sink.now ≡ with_more sink.before text
 
--- the first bytes of the text, where the sink failed
+-- the first bytes of the text and not all of them, where the sink failed
 pub record CutShort (sink : Taken) (text : List ℕ) : Type 0 where
   pub front : TookFront sink.before sink.now text
   pub cause : Rose sink.faults_before sink.faults_now
 
--- the text, or its first bytes where the sink failed
+-- the whole text, or its first bytes and not all of them where the sink failed
 abbrev pub TookText : Taken → List ℕ → Type 0
 TookText sink text = TookAll sink text ⊎ CutShort sink text
