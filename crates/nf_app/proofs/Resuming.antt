@@ -25,10 +25,11 @@ use Rattle.nf_outside.specs.Sinks.{Taken, TookAll}
 use Rattle.nf_outside.specs.Shown.{IsShown}
 use Rattle.nf_app.specs.Requests.{budgets_of, files_of, generated_by}
 use Rattle.nf_app.specs.Reports.{HoldsReport}
+use Rattle.nf_app.specs.ResumeGiven.{IsGoneOn}
 use Rattle.nf_app.specs.Given.{IsGiven}
 use Rattle.nf_app.specs.Runs.{Call, Asks, Read, IsRefused, IsAnswer, Ran}
 use Rattle.nf_app.specs.Completeness.{TellsNetwork}
-use Rattle.nf_app.specs.Resumption.{IsResumption}
+use Rattle.nf_app.specs.Resumption.{IsResumption, IsOneRun, ResumesAsOne}
 use Rattle.nf_app.proofs.Reports.{one_report_in}
 
 same_ok : {A E : Type 0} (r : Result A E) (x y : A) → r ≡ Ok x → r ≡ Ok y → x ≡ y
@@ -139,3 +140,55 @@ module _ (call : Call) (r : IsResumption call) where
 pub resumption_written : (call : Call) (out err : Taken) (status : Status) → Ran call out err status → (r : IsResumption call) → status ≡ Status.Ok
     → TookAll out (report_text r.network.net r.later.report)
 resumption_written call out err status ran r e = taken_whole call r ran.answer out err status ran.comes ran.shown e
+
+-- ---- whatever the shelf tells
+module _ (call : Call) (file name : List ℕ) (horizon : ℚ) (phases patterns : ℕ) (asks : Asks call (Resume file name horizon phases patterns)) where
+  asked : (other : Request) → Asks call other → other ≡ Resume file name horizon phases patterns
+  asked other h = let here : request_of call.words ≡ Some (Resume file name horizon phases patterns) = asks in cc
+
+  one_run : (m : Named) (new : Report) → IsNetwork m.net → IsGoneOn call.shelf m name (bounds_of horizon (budgets_of phases patterns)) new → IsOneRun call m name horizon phases patterns new
+  one_run m new good g = record {
+    old = g.old;
+    held = g.held;
+    is_later = λ first_bounds first later_budgets later rest ended.
+        resumed-solved passes_Q m.net good first_bounds (bounds_of horizon later_budgets) (bounds_of horizon (budgets_of phases patterns)) g.old later.report new g.made first later.is_report
+        later.no_stop g.resumed ended refl rest;
+  }
+
+  solved_one : (n m : Named) (new : Report) → IsNetwork m.net → IsGiven call.shelf m (Resume file name horizon phases patterns) (Solved n new) → IsOneRun call n name horizon phases patterns new
+  solved_one n m new good (inl g) =
+      let same_net : n ≡ m = (let e : Solved n new ≡ Solved m g.0 = g.1 in cc) in
+      let same_report : new ≡ g.0 = (let e : Solved n new ≡ Solved m g.0 = g.1 in cc) in
+      subst (λ (x : Named). IsOneRun call x name horizon phases patterns new) (sym same_net)
+      (subst (λ (x : Report). IsOneRun call m name horizon phases patterns x) (sym same_report) (one_run m g.0 good g.2))
+  solved_one n m new good (inr (inl g)) = absurd (let e : Solved n new ≡ Checked m g.0 = g.1 in cc)
+  solved_one n m new good (inr (inr (inl g))) = absurd (let e : Solved n new ≡ Passes g.0 = g.1 in cc)
+  solved_one n m new good (inr (inr (inr (inl g)))) = absurd (let e : Solved n new ≡ Earlier = g.0 in cc)
+  solved_one n m new good (inr (inr (inr (inr g)))) = absurd (let e : Solved n new ≡ MalformedReport g.0 = g.1 in cc)
+
+pub resumed_as_one : (call : Call) → ResumesAsOne call
+resumed_as_one call (Solved n new) (inl h) = absurd h
+resumed_as_one call (Solved n new) (inr h) = λ file name horizon phases patterns asks. solved_one call file name horizon phases patterns asks n h.net new h.named.network
+    (subst (λ (q : Request). IsGiven call.shelf h.net q (Solved n new)) (asked call file name horizon phases patterns asks h.request h.read.asks) h.given)
+resumed_as_one call NoMemory h = tt
+resumed_as_one call NoRequest h = tt
+resumed_as_one call ShelfFailed h = tt
+resumed_as_one call ShelfTooLong h = tt
+resumed_as_one call (Malformed broken) h = tt
+resumed_as_one call (Shown n) h = tt
+resumed_as_one call (Loaded n horizon loaded) h = tt
+resumed_as_one call (MalformedLoads broken) h = tt
+resumed_as_one call (Checked n verdict) h = tt
+resumed_as_one call (MalformedFlows broken) h = tt
+resumed_as_one call (MalformedRoutes broken) h = tt
+resumed_as_one call (MalformedReport broken) h = tt
+resumed_as_one call (Passes at) h = tt
+resumed_as_one call (Quickest n quick arrival) h = tt
+resumed_as_one call (TooManyWalks n augments walks) h = tt
+resumed_as_one call Unbounded h = tt
+resumed_as_one call (Generated number rungs n made report) h = tt
+resumed_as_one call (SolvedForever n forever) h = tt
+resumed_as_one call (Settled n pattern flows) h = tt
+resumed_as_one call NotThin h = tt
+resumed_as_one call Earlier h = tt
+resumed_as_one call (Distributed n routes horizon routed) h = tt

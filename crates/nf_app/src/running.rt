@@ -8,7 +8,7 @@ ghost use Rattle.nf_outside.specs.Sinks.{taken, TookAll};
 ghost use Rattle.nf_app.specs.Runs.{Ran};
 ghost use Rattle.nf_app.specs.Completeness.{IsComplete, EndsByBounds};
 ghost use Rattle.nf_app.specs.Stops.{AlwaysHasPattern};
-ghost use Rattle.nf_app.specs.Resumption.{IsResumption};
+ghost use Rattle.nf_app.specs.Resumption.{IsResumption, ResumesAsOne};
 ghost use Rattle.nf_app.specs.Uniqueness.{AnswerIsSameInAll};
 
 use crate::answering::answer;
@@ -31,7 +31,9 @@ fn let_go(_outcome: Outcome) {}
 /// to; of routes what their links and they themselves carry, and when. `show` writes the canonical text of the network, and `load` the
 /// queue, the outflow and the exits of each link under its loads, up to the horizon. `quick` writes a quickest flow of the amount with its
 /// time, its walks, a cut and the cut's value, and the arrival in an equilibrium of who departs when the amount is supplied; where more walks
-/// would have to be pushed than allowed, those that were. What `resume` makes of the report of a run is the report of one run from the start.
+/// would have to be pushed than allowed, those that were. Where `resume` and one run
+/// from the start both reach the horizon, what it makes of the report of a run is the report of that one run, unless a number grows too long
+/// in the search for the rest of a phase.
 pub fn run<S: Shelf, O: Sink, E: Sink>(
     alloc: Global,
     words: &[String],
@@ -54,6 +56,9 @@ pub fn run<S: Shelf, O: Sink, E: Sink>(
     ensures resumes { (r : IsResumption (record { words = texts words.now; shelf = visit S.Shelf shelf.old shelf.new }))
         → result ≡ Status.Ok → TookAll (taken O.Sink out.old out.new) (report_text r.network.net r.later.report) }
 
+    // So it is of the report that is made, whatever the shelf tells of its files, as with real ones, and whatever becomes of the output.
+    ensures one_run { ResumesAsOne (record { words = texts words.now; shelf = visit S.Shelf shelf.old shelf.new }) }
+
     // Every equilibrium of the network, whoever made it, has the labels, queues and exits of the report that is written, of the run without
     // a horizon, of the run behind the summary of `gen`, and of the report that `check` answers yes, as far as both describe departures; and
     // who departs when the amount of `quick` is supplied arrives, in each of them that describes this departure, at the time of its equilibrium
@@ -63,8 +68,9 @@ pub fn run<S: Shelf, O: Sink, E: Sink>(
     // No run of a command stops since no pattern is left, for each phase has a thin flow.
     ensures never_no_pattern { AlwaysHasPattern (record { words = texts words.now; shelf = visit S.Shelf shelf.old shelf.new }) result }
 
-    // So the run of `solve`, `gen` and `resume` ends at the horizon, or in a phase that never ends, or by a bound on the work or on the
-    // length of numbers, unless memory is wanting, or the report can't be gone on from.
+    // Where the files are told, not too long and read as what they are for, and neither the shelf nor the output failed, the run of `solve`,
+    // `gen` and `resume` ends at the horizon, or in a phase that never ends, or by a bound on the work or on the length of numbers, unless
+    // memory is wanting, or the report can't be gone on from.
     ensures bounded { EndsByBounds (record { words = texts words.now; shelf = visit S.Shelf shelf.old shelf.new })
         (taken O.Sink out.old out.new) result }
 {

@@ -6,7 +6,7 @@ use Rattle.nf_outside.specs.Files.{visit}
 use Rattle.nf_outside.specs.Sinks.{taken}
 use Rattle.nf_app.proofs.Calls.{took_no_text}
 use Rattle.nf_app.proofs.Completing.{complete_by_text, complete_by_refusal}
-use Rattle.nf_app.proofs.Resuming.{resumption_written}
+use Rattle.nf_app.proofs.Resuming.{resumption_written, resumed_as_one}
 use Rattle.nf_app.proofs.Alike.{answered_same}
 use Rattle.nf_app.proofs.Unstopped.{never_by_text, never_by_refusal}
 use Rattle.nf_app.proofs.Bounded.{bounded_by_text, bounded_by_refusal}
@@ -45,6 +45,12 @@ returns-in-Err-clause-resumes g c =
       comes = c.in-Err.ensures;
       shown = inl (c.refuse.ensures.status, took_no_text (g.O.Sink.took c.args.out.now) c.in-Err.refusal, c.refuse.ensures.told);
     })
+
+pub returns-in-Ok-clause-one_run : goal.returns-in-Ok-clause-one_run
+returns-in-Ok-clause-one_run g c = resumed_as_one (record { words = texts c.args.words.now; shelf = visit g.S.Shelf c.args.shelf.now c.answer.new.shelf })
+
+pub returns-in-Err-clause-one_run : goal.returns-in-Err-clause-one_run
+returns-in-Err-clause-one_run g c = resumed_as_one (record { words = texts c.args.words.now; shelf = visit g.S.Shelf c.args.shelf.now c.answer.new.shelf })
 
 pub returns-in-Ok-clause-same_in_all : goal.returns-in-Ok-clause-same_in_all
 returns-in-Ok-clause-same_in_all g c = answered_same (record { words = texts c.args.words.now; shelf = visit g.S.Shelf c.args.shelf.now c.answer.new.shelf })
