@@ -20,7 +20,7 @@ pub enum Status {
     Patterns,
     /// The result of a named operation has a part beyond 2^127 - 1.
     Passed,
-    /// No pattern of a phase is accepted, and none passes.
+    /// No pattern of a phase is accepted, and none passes. No run ends so.
     NoPattern,
     /// The output takes no more bytes.
     Output,

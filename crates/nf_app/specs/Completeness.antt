@@ -207,7 +207,7 @@ EndsQuick status = (status ≡ Status.Ok) ⊎ (status ≡ Status.Augments) ⊎ (
 abbrev pub EndsSettled : Status → Type 0
 EndsSettled status = (status ≡ Status.Ok) ⊎ (status ≡ Status.NotThin) ⊎ (status ≡ Status.Memory)
 
--- the same of `resume`; a budget may also be used up
+-- how `resume` may end: with the whole answer, by a budget, or for want of memory
 abbrev pub EndsResumed : Status → Type 0
 EndsResumed status = (status ≡ Status.Ok) ⊎ (status ≡ Status.Phases) ⊎ (status ≡ Status.Patterns) ⊎ (status ≡ Status.Memory)
 
@@ -256,15 +256,17 @@ pub record AsksToResume (call : Call) : Type 0 where
   pub network : TellsNetwork call.shelf file
   pub report : TellsReport call.shelf network.net report_name
 
--- at the horizon, by a budget, where an operation passes, or for want of memory
+-- how a run may end: at the horizon, by a budget, where an operation passes, or for want of memory
 abbrev pub EndsRun : Status → Type 0
 EndsRun status = (status ≡ Status.Ok) ⊎ (status ≡ Status.Phases) ⊎ (status ≡ Status.Patterns) ⊎ (status ≡ Status.Passed) ⊎ (status ≡ Status.Memory)
 
--- the same without a horizon, in a phase that never ends; the budget of phases has a status of its own
+-- how a run without a horizon may end: in a phase that never ends, by a budget, of which that of phases has a status of its own, where an
+-- operation passes, or for want of memory
 abbrev pub EndsForever : Status → Type 0
 EndsForever status = (status ≡ Status.Ok) ⊎ (status ≡ Status.Events) ⊎ (status ≡ Status.Patterns) ⊎ (status ≡ Status.Passed) ⊎ (status ≡ Status.Memory)
 
--- the same of `resume`; the flow of the report may also be no equilibrium, or reach beyond the horizon
+-- how `resume` may end, whether or not it reaches the horizon: as a run, or since the flow of the report is no equilibrium, or reaches beyond
+-- the horizon
 abbrev pub EndsRest : Status → Type 0
 EndsRest status = EndsRun status ⊎ (status ≡ Status.NotEquilibrium) ⊎ (status ≡ Status.Earlier)
 

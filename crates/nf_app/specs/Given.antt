@@ -39,7 +39,7 @@ use Rattle.nf_app.specs.RoutesGiven.{RoutesRead, IsDistributed, PassesRoutes}
 use Rattle.nf_app.specs.ResumeGiven.{IsGoneOn, IsNoStart, PassesResuming, IsBefore}
 use Rattle.nf_answers.specs.declared.arrival.Arrival.{Arrival}
 
--- the bytes of the file read as these pieces of the links of the network, or break this rule first
+-- some bytes, those of the file where the shelf tells them, read as these pieces of the links of the network, or break this rule first
 abbrev pub LoadsRead : Visit → Named → List ℕ → Result (List (List Piece)) LoadsBroken → Type 0
 LoadsRead shelf n file read = OfBytes shelf (loads_file file) (λ text. loads_in n text ≡ read)
 

@@ -13,7 +13,7 @@ use Rattle.nf_route.specs.Kept.{routes_of}
 use Rattle.nf_outside.specs.Files.{Visit, routes_file}
 use Rattle.nf_app.specs.Fetched.{OfBytes}
 
--- the bytes of a file read as these routes of the network, or break this rule first
+-- some bytes, those of the file where the shelf tells them, read as these routes of the network, or break this rule first
 abbrev pub RoutesRead : Visit → Named → List ℕ → Result (List NamedRoute) RoutesBroken → Type 0
 RoutesRead shelf n file read = OfBytes shelf (routes_file file) (λ text. routes_in n text ≡ read)
 

@@ -42,7 +42,7 @@ IsRefused call ShelfTooLong = (last : Wanted) × Reached call last × HasTooMany
 IsRefused call (Malformed broken) = (request : Request) × Read call request (Err broken)
 IsRefused call answer = ⊥
 
--- the request has its network, which is that of an accepted file, and gives this
+-- the request has its network, which is one that a file can give, and gives this
 pub record IsComputed (call : Call) (answer : Answer) : Type 0 where
   pub request : Request
   pub net : Named

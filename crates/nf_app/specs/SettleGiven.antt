@@ -20,7 +20,7 @@ use Rattle.nf_complete_lists.specs.FlowsFile.{FlowsBroken, GivenFlows, flows_in}
 use Rattle.nf_outside.specs.Files.{Visit, flows_file}
 use Rattle.nf_app.specs.Fetched.{OfBytes}
 
--- the bytes of a file read as these flows and slopes of the network, or break this rule first
+-- some bytes, those of the file where the shelf tells them, read as these flows and slopes of the network, or break this rule first
 abbrev pub FlowsRead : Visit → Named → List ℕ → Result GivenFlows FlowsBroken → Type 0
 FlowsRead shelf n file read = OfBytes shelf (flows_file file) (λ text. flows_in n text ≡ read)
 

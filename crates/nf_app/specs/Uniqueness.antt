@@ -36,7 +36,7 @@ SameArrival net amount (Arrival.At time) = (departs : ℚ) × IsDeparture net am
     × ((other : Flow) → Equilibrium net other → departs ≤ℚ other.reached → label other net.sink departs ≡ time)
 SameArrival net amount arrival = Unit {0}
 
--- Of an answer: of the flow of a report, of a run without a horizon, of a verdict, and of the line of `quick`. Other answers hold no flow.
+-- Of an answer: of the flow of a report, of a run without a horizon, of a verdict, and of the line of `quick`. Other answers tell of no equilibrium.
 abbrev pub IsSameInAll : Call → Answer → Type 0
 IsSameInAll call (Solved n report) = SameInAll n.net report.flow
 IsSameInAll call (Generated number rungs n made report) = SameInAll n.net report.flow

@@ -72,7 +72,7 @@ pub enum Cause<S> {
         place: Option<u64>,
         at: PassedAt<S>,
     },
-    /// In this phase no pattern is accepted.
+    /// In this phase no pattern is accepted. No run stops so.
     NoPattern {
         phase: u64,
     },

@@ -58,7 +58,7 @@ abbrev pub Finds : (Answer → Type 0) → ℕ → Result ThinFlow SearchFault �
 Finds Answers budget (Ok found) = (place : ℕ) × Answers (Found place found.pattern found.flows.items found.labels.items)
 Finds Answers budget (Err fault) = Searches Answers budget (Err fault)
 
--- if there is one
+-- the answer of the definition, if the search by slopes has one
 abbrev pub FindsBy : (Answer → Type 0) → ℕ → Result (Option ThinFlow) SearchFault → Type 0
 FindsBy Answers budget (Ok (Some found)) = Finds Answers budget (Ok found)
 FindsBy Answers budget (Ok None) = Unit {0}

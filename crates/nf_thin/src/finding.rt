@@ -142,8 +142,8 @@ fn find_by(
     Ok(Some(thin.flow()))
 }
 
-/// The search by the slopes of a thin flow, which are guessed from the first listed pattern on. None where it comes to no end: no such
-/// slopes were found, or none of the listed patterns that have the states which they force is accepted.
+/// The search by the slopes of a thin flow, which are guessed from the first listed pattern on. None where it finds no answer; nothing is
+/// promised of when that is.
 pub fn find_by_slopes(
     alloc: Global,
     net: &Network,

@@ -70,7 +70,7 @@ pub fn search(
     go_through(alloc, net, sets, rate, &mut patterns, budget)
 }
 
-// The search by the slopes of a thin flow, or the plain one where they lead to no end.
+// The search by the slopes of a thin flow, or the plain one where that finds no answer.
 fn find_or_search(
     alloc: Global,
     net: &Network,
@@ -91,7 +91,8 @@ fn find_or_search(
 }
 
 /// The thin flow that `search` finds, without its place, mostly with no need of the whole list: where the slopes of a thin flow are
-/// known, only the listed patterns that have the states which the slopes force are gone through. What it refuses is what `search` does.
+/// known, only the listed patterns that have the states which the slopes force are gone through. It refuses where `search` does, with the
+/// same cause.
 pub fn find_thin(
     alloc: Global,
     net: &Network,

@@ -21,7 +21,7 @@ pub(crate) enum Standing {
     Unknown,
 }
 
-/// So few assignments come before the pattern that its place is within the budget.
+/// Whether the number of assignments before the pattern tells that it stands within the budget; `false` tells nothing.
 pub(crate) fn is_early(
     alloc: Global,
     net: &Network,
