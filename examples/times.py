@@ -2,7 +2,7 @@
 """times.py NET REPORT DEPARTURE ..: a report of nfot in decimals.
 
 Prints for each DEPARTURE when it arrives and how long it takes, for each link with a queue from when to when there is one and
-how long the longest wait is (waiting amount by capacity), and the time that all together spend on the way."""
+how long the longest wait is (waiting amount divided by capacity), and the time that all together spend on the way."""
 import sys
 from fractions import Fraction  # reads 3611/35, 4 and 2.5 as they stand
 
