@@ -2,22 +2,33 @@
 """city.py UNIT FROM TO START:RATE ..: a network file of Sioux Falls, from one zone to another.
 
 Capacities of siouxfalls.txt are rounded to multiples of UNIT vehicles an hour (at least one), and written a minute. From minute
-START on RATE vehicles a minute are supplied. The file siouxfalls.net is what `city.py 2400 1 20 0:200 30:400 60:200 90:0` prints."""
+START on RATE vehicles a minute are supplied, whole numbers or fractions. The file siouxfalls.net is what `city.py 2400 1 20 0:200 30:400 60:200 90:0` prints."""
 import pathlib
+import re
 import sys
 from fractions import Fraction
 
 TABLE = pathlib.Path(__file__).with_name("siouxfalls.txt")
+NUMBER = "[0-9]+(/0*[1-9][0-9]*)?"
+
+
+def refuse():
+    """Wrong arguments: prints the usage line, and ends with status 2."""
+    print("usage:", __doc__.splitlines()[0], file=sys.stderr)
+    sys.exit(2)
 
 
 def main(unit, origin, destination, *supply):
+    roads = [line.split() for line in open(TABLE) if not line.startswith("#")]
+    zones = {zone for road in roads for zone in road[:2]}
+    if not {origin, destination} <= zones or not re.fullmatch(NUMBER, unit) or not Fraction(unit):
+        refuse()
+    if not all(re.fullmatch(f"{NUMBER}:{NUMBER}", piece) for piece in supply):
+        refuse()
     print("# Sioux Falls (LeBlanc, Morlok and Pierskalla 1975): values of public test networks, as remembered (siouxfalls.txt).")
     print(f"# Minutes, and vehicles a minute. Capacities are rounded to multiples of {unit} vehicles an hour, transit times are not.")
     print(f"nfot 1\nsource {origin}\nsink {destination}")
-    for line in open(TABLE):
-        if line.startswith("#"):
-            continue
-        tail, head, capacity, minutes = line.split()
+    for tail, head, capacity, minutes in roads:
         times = max(1, round(Fraction(capacity) / Fraction(unit)))
         for v, w in (tail, head), (head, tail):
             print(f"link {v}-{w} {v} {w} {minutes} {times * Fraction(unit) / 60}")
@@ -28,4 +39,6 @@ def main(unit, origin, destination, *supply):
 
 
 if __name__ == "__main__":
+    if len(sys.argv) < 4:
+        refuse()
     main(*sys.argv[1:])

@@ -3,6 +3,9 @@
 import sys
 from fractions import Fraction
 
+if len(sys.argv) != 2:
+    print("usage:", __doc__, file=sys.stderr)
+    sys.exit(2)
 cut = {words[1]: Fraction(words[2]) for words in map(str.split, sys.stdin) if words[0] == "cut"}
 for words in (line.split("#")[0].split() for line in open(sys.argv[1])):
     if words[:1] == ["link"] and words[2] in cut and words[5] != "inf":

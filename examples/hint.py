@@ -3,11 +3,17 @@
 
 The states are those of a pattern whose equations give a thin flow at the departure that REPORT has reached, so that the first
 search of `resume` accepts the first pattern that it tries. Nothing is trusted: `resume` checks the report and the pattern itself.
-NET and REPORT are ones that nfot accepts. Statuses: 0 printed; 1 no such pattern found in STEPS steps (nothing printed)."""
+NET and REPORT are ones that nfot accepts. Statuses: 0 printed; 1 no such pattern found in STEPS steps (nothing printed); 2 wrong arguments."""
 import sys
 from fractions import Fraction
 
 STEPS, TIGHT, FULL, ZERO = 2000, "tight", "full", "zero"
+
+
+def refuse():
+    """Wrong arguments: prints the usage line, and ends with status 2."""
+    print("usage:", __doc__.splitlines()[0], file=sys.stderr)
+    sys.exit(2)
 
 
 class Phase:
@@ -185,7 +191,10 @@ def at(points, time):
 
 
 def main(net, report):
-    phase = Phase(net, report)
+    try:
+        phase = Phase(net, report)
+    except (OSError, ValueError, LookupError):
+        refuse()
     states, steps = phase.settle()
     if states is None:
         sys.exit("hint: no pattern in %d steps" % steps)
@@ -196,4 +205,6 @@ def main(net, report):
 
 
 if __name__ == "__main__":
+    if len(sys.argv) != 3:
+        refuse()
     main(*sys.argv[1:])

@@ -11,6 +11,12 @@ from fractions import Fraction
 ZERO = (Fraction(0), Fraction(0))
 
 
+def refuse():
+    """Wrong arguments: prints the usage line, and ends with status 2."""
+    print("usage:", __doc__.splitlines()[0], file=sys.stderr)
+    sys.exit(2)
+
+
 def words_of(lines):
     """The words of each line, without comments and empty lines."""
     return [words for line in lines if (words := line.split("#")[0].split())]
@@ -92,10 +98,10 @@ def labels_of(source, links, curves, reached):
 
 
 def main(net, loads, reached, horizon):
+    curves, end = loaded(net, loads, horizon), Fraction(reached)  # first, so that nfot refuses files that are none
     version, source, sink, links, near = network(net)
     idle = {name: ends for name, ends in links.items() if ends[0] not in near}
     links = {name: ends for name, ends in links.items() if ends[0] in near}
-    curves, end = loaded(net, loads, horizon), Fraction(reached)
     label = labels_of(source, links, curves, end)
     last = max(points[-1][1] for points in label.values())
     if last > Fraction(horizon):
@@ -118,4 +124,11 @@ def main(net, loads, reached, horizon):
 
 
 if __name__ == "__main__":
-    main(*sys.argv[1:])
+    try:
+        net, loads, reached, horizon = sys.argv[1:]
+        wrong = min(Fraction(reached), Fraction(horizon)) < 0
+    except (ValueError, ZeroDivisionError):
+        refuse()
+    if wrong:
+        refuse()
+    main(net, loads, reached, horizon)

@@ -10,6 +10,12 @@ from fractions import Fraction
 SUPPLY, ROADS = Fraction(3), {"a": (Fraction(1), Fraction(1)), "b": (Fraction(3), Fraction(1))}  # transit, capacity
 
 
+def refuse():
+    """Wrong arguments: prints the usage line, and ends with status 2."""
+    print("usage:", __doc__.splitlines()[0], file=sys.stderr)
+    sys.exit(2)
+
+
 class Road:
     """A point queue: corners (time, amount that has entered, amount that waits)."""
 
@@ -84,4 +90,10 @@ def main(step, horizon):
 
 
 if __name__ == "__main__":
-    main(Fraction(sys.argv[1]), Fraction(sys.argv[2]))
+    try:
+        step, horizon = map(Fraction, sys.argv[1:])
+    except (ValueError, ZeroDivisionError):
+        refuse()
+    if step <= 0 or horizon <= 0:
+        refuse()
+    main(step, horizon)

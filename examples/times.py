@@ -2,9 +2,15 @@
 """times.py NET REPORT DEPARTURE ..: a report of nfot in decimals.
 
 Prints for each DEPARTURE when it arrives and how long it takes, for each link with a queue from when to when there is one and
-how long the longest wait is (waiting amount by capacity), and the time that all together spend on the way."""
+how long the longest wait is (waiting amount divided by capacity), and the time that all together spend on the way."""
 import sys
 from fractions import Fraction  # reads 3611/35, 4 and 2.5 as they stand
+
+
+def refuse():
+    """Wrong arguments: prints the usage line, and ends with status 2."""
+    print("usage:", __doc__.splitlines()[0], file=sys.stderr)
+    sys.exit(2)
 
 
 def words_of(name):
@@ -41,7 +47,8 @@ def total(supply, label, end):
     return together
 
 
-def main(net, report, *departures):
+def read(net, report):
+    """Capacities, supply and sink of the network, labels and queues of the report."""
     capacity, supply, sink, curves = {}, [], None, {}
     for words in words_of(net):
         if words[0] == "link" and words[5] != "inf":
@@ -53,11 +60,19 @@ def main(net, report, *departures):
     for words in words_of(report):
         if words[0] in ("label", "queue"):
             curves.setdefault((words[0], words[1]), []).append((Fraction(words[2]), Fraction(words[3])))
+    return capacity, supply, sink, curves
+
+
+def main(net, report, *departures):
+    try:
+        (capacity, supply, sink, curves), departures = read(net, report), [Fraction(departure) for departure in departures]
+    except (OSError, ValueError, IndexError, ZeroDivisionError):
+        refuse()
     if ("label", sink) not in curves:
         sys.exit(f"{report} has no label of {sink}: is it a report of this network?")
     label = curves["label", sink]
     end = label[-1][0]
-    for departure in map(Fraction, departures):
+    for departure in departures:
         if not 0 <= departure <= end:
             sys.exit(f"the report has the departures from 0 to {float(end):.2f}")
         arrival = value(label, departure)
@@ -70,4 +85,6 @@ def main(net, report, *departures):
 
 
 if __name__ == "__main__":
+    if len(sys.argv) < 3:
+        refuse()
     main(*sys.argv[1:])
