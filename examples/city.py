@@ -5,8 +5,11 @@ Capacities of siouxfalls.txt are rounded to multiples of UNIT vehicles an hour (
 START on RATE vehicles a minute are supplied, whole numbers or fractions. The file siouxfalls.net is what `city.py 2400 1 20 0:200 30:400 60:200 90:0` prints."""
 import pathlib
 import re
+import signal
 import sys
 from fractions import Fraction
+
+signal.signal(signal.SIGPIPE, signal.SIG_DFL)  # behind `head` it ends without a word, as other commands do
 
 TABLE = pathlib.Path(__file__).with_name("siouxfalls.txt")
 NUMBER = "[0-9]+(/0*[1-9][0-9]*)?"

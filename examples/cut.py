@@ -1,7 +1,10 @@
 #!/usr/bin/env python3
 """nfot quick NET --amount Q | cut.py NET: which links count in the cut, at which capacity, for how long, and the amounts."""
+import signal
 import sys
 from fractions import Fraction
+
+signal.signal(signal.SIGPIPE, signal.SIG_DFL)  # behind `head` it ends without a word, as other commands do
 
 if len(sys.argv) != 2:
     print("usage:", __doc__, file=sys.stderr)

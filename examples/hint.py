@@ -4,8 +4,11 @@
 The states are those of a pattern whose equations give a thin flow at the departure that REPORT has reached, so that the first
 search of `resume` accepts the first pattern that it tries. Nothing is trusted: `resume` checks the report and the pattern itself.
 NET and REPORT are ones that nfot accepts. Statuses: 0 printed; 1 no such pattern found in STEPS steps (nothing printed); 2 wrong arguments."""
+import signal
 import sys
 from fractions import Fraction
+
+signal.signal(signal.SIGPIPE, signal.SIG_DFL)  # behind `head` it ends without a word, as other commands do
 
 STEPS, TIGHT, FULL, ZERO = 2000, "tight", "full", "zero"
 

@@ -4,9 +4,12 @@
 LOADS is a loads file: what enters each link, at which rate from when. REACHED is the last departure that is judged, HORIZON a time by
 which all who left by then have arrived. Queues, outflows and exits are those of `nfot load`; the labels, earliest arrivals over
 these exits, are worked out here. Links that no walk from the source reaches are left out, as the file format wants it."""
+import signal
 import subprocess
 import sys
 from fractions import Fraction
+
+signal.signal(signal.SIGPIPE, signal.SIG_DFL)  # behind `head` it ends without a word, as other commands do
 
 ZERO = (Fraction(0), Fraction(0))
 

@@ -4,8 +4,11 @@
 At the start of each step drivers look at the queues, and all who leave within the step take the road that is quicker then (half
 take each where both are equal). What a report asks for: exact fractions (Fraction prints them as nfot does), curves by their
 corners, also those between two steps, and labels that are the least exit at every departure."""
+import signal
 import sys
 from fractions import Fraction
+
+signal.signal(signal.SIGPIPE, signal.SIG_DFL)  # behind `head` it ends without a word, as other commands do
 
 SUPPLY, ROADS = Fraction(3), {"a": (Fraction(1), Fraction(1)), "b": (Fraction(3), Fraction(1))}  # transit, capacity
 

@@ -3,8 +3,11 @@
 
 Prints for each DEPARTURE when it arrives and how long it takes, for each link with a queue from when to when there is one and
 how long the longest wait is (waiting amount divided by capacity), and the time that all together spend on the way."""
+import signal
 import sys
 from fractions import Fraction  # reads 3611/35, 4 and 2.5 as they stand
+
+signal.signal(signal.SIGPIPE, signal.SIG_DFL)  # behind `head` it ends without a word, as other commands do
 
 
 def refuse():
@@ -48,7 +51,7 @@ def total(supply, label, end):
 
 
 def read(net, report):
-    """Capacities, supply and sink of the network, labels and queues of the report."""
+    """Capacities, supply and sink of the network, the curves of the report: (kind, node or link) to points."""
     capacity, supply, sink, curves = {}, [], None, {}
     for words in words_of(net):
         if words[0] == "link" and words[5] != "inf":
@@ -58,7 +61,7 @@ def read(net, report):
         elif words[0] == "sink":
             sink = words[1]
     for words in words_of(report):
-        if words[0] in ("label", "queue"):
+        if words[0] in ("label", "queue", "inflow", "outflow"):
             curves.setdefault((words[0], words[1]), []).append((Fraction(words[2]), Fraction(words[3])))
     return capacity, supply, sink, curves
 
