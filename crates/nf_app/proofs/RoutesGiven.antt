@@ -11,11 +11,11 @@ use Rattle.nf_load.specs.Loadings.{loaded_of}
 use Rattle.nf_routes_lists.specs.RoutesFile.{RoutesBroken, NamedRoute, routes_in}
 use Rattle.nf_routes_lists.specs.RoutesList.{Routed}
 use Rattle.nf_routes_lists.specs.Meanings.{IsRouted, RoutesArrive}
-use Rattle.nf_route.specs.Kept.{routes_of}
+use Rattle.nf_routes_file.specs.Kept.{routes_of}
 use Rattle.nf_routes.specs.declared.routed.Routed.{Routed as CodeRouted}
 use Rattle.nf_routes.specs.Routed.{routed_of}
-use Rattle.nf_route_reader.specs.declared.fault.RoutesFault.{RoutesFault}
-use Rattle.nf_route_reader.specs.Files.{IfBroken}
+use Rattle.nf_routes_file.specs.declared.fault.RoutesFault.{RoutesFault}
+use Rattle.nf_routes_file.specs.Files.{IfBroken}
 use Rattle.nf_answers.specs.declared.refusal.Refusal.{Refusal}
 use Rattle.nf_outside.specs.Files.{Visit, routes_file}
 use Rattle.nf_words.specs.Requests.{Routes}

@@ -9,7 +9,7 @@ use Rattle.nf_formats.specs.Named.{Named}
 use Rattle.nf_routes_lists.specs.RoutesFile.{RoutesBroken, NamedRoute, routes_in}
 use Rattle.nf_routes_lists.specs.RoutesList.{Routed, routes_list}
 use Rattle.nf_routes_lists.specs.Meanings.{IsRouted, RoutesArrive}
-use Rattle.nf_route.specs.Kept.{routes_of}
+use Rattle.nf_routes_file.specs.Kept.{routes_of}
 use Rattle.nf_outside.specs.Files.{Visit, routes_file}
 use Rattle.nf_app.specs.Fetched.{OfBytes}
 

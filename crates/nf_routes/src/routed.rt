@@ -9,7 +9,7 @@ ghost use Rattle.nf_routes_lists.specs.Routes.{AreRoutes};
 ghost use Rattle.nf_routes_lists.specs.RoutesList.{end_or, loaded_or, but_last, last_entry, routes_list};
 ghost use Rattle.nf_routes_lists.specs.Meanings.{IsRouted, RoutesArrive};
 ghost use Rattle.nf_load.specs.Loadings.{loaded_of};
-ghost use Rattle.nf_route.specs.Kept.{routes_of};
+ghost use Rattle.nf_routes_file.specs.Kept.{routes_of};
 ghost use Rattle.nf_routes.specs.Standing.{AreLoaded, HaveSent};
 ghost use Rattle.nf_routes.specs.Routed.{routed_of};
 
@@ -21,7 +21,7 @@ use nf_curve::Curve;
 use nf_frac::{Halt, Q};
 use nf_load::Loaded;
 use nf_net::Network;
-use nf_route::Routes;
+use nf_routes_file::Routes;
 use std::alloc::{AllocError, Global};
 
 /// What comes of the routes of a network, all by time. `ends` and `links` go by links: up to its end a link is loaded, with its

@@ -13,8 +13,8 @@ use Rattle.nf_routes_lists.specs.Routes.{Route, AreRoutes}
 use Rattle.nf_routes_lists.specs.RoutesFile.{NamedRoute}
 use Rattle.nf_routes_lists.specs.RoutesList.{loaded_or, routes_list}
 use Rattle.nf_routes_laws.proofs.Arriving.{arrive}
-use Rattle.nf_routed_laws.proofs.Routed.{routes_list-is}
-use Rattle.nf_route.specs.Kept.{routes_of}
+use Rattle.nf_routes_laws.proofs.Routed.{routes_list-is}
+use Rattle.nf_routes_file.specs.Kept.{routes_of}
 use Rattle.nf_routes.specs.Beginning.{all_loaded}
 use Rattle.nf_routes.specs.Standing.{seen_so_far}
 use Rattle.nf_routes.specs.Travels.{HaveExits, GoOverAll, travel_along}
