@@ -4,7 +4,7 @@ ghost use Rattle.std.specs.Prelude.{◌≡◌, slice_get};
 ghost use Rattle.nf_check_lists.specs.Curves.{last_value as last_by};
 ghost use Rattle.nf_routes_lists.specs.Routes.{pairs_of, all_pairs};
 ghost use Rattle.nf_routes_lists.specs.RoutesList.{exit_end as exit_end_by, end_by};
-ghost use Rattle.nf_routes_file.specs.Kept.{routes_of};
+ghost use Rattle.nf_routes_lists.specs.RoutesFile.{routes_of};
 
 use crate::so_far::LoadedLink;
 use nf_curve::Curve;

@@ -7,7 +7,7 @@ ghost use Rattle.nf_work.specs.declared.Part.TheVariants.{Load};
 ghost use Rattle.nf_work.specs.Checked.{at_part, Gives};
 ghost use Rattle.nf_routes_lists.specs.Routes.{AreRoutes, HoldCircle};
 ghost use Rattle.nf_routes_lists.specs.RoutesList as lists;
-ghost use Rattle.nf_routes_file.specs.Kept.{routes_of};
+ghost use Rattle.nf_routes_lists.specs.RoutesFile.{routes_of};
 ghost use Rattle.nf_routes.specs.Beginning.{all_loaded};
 ghost use Rattle.nf_routes.specs.Standing.{seen_so_far, MayLoad, IsComplete};
 

@@ -5,11 +5,11 @@ ghost use Rattle.nf_rational.specs.Order.{◌≤ℚ◌};
 ghost use Rattle.nf_work.specs.Passing.{passes_Q};
 ghost use Rattle.nf_work.specs.declared.Part.TheVariants.{Load};
 ghost use Rattle.nf_work.specs.Checked.{at_part, Gives};
-ghost use Rattle.nf_routes_lists.specs.Routes.{AreRoutes};
+ghost use Rattle.nf_routes_lists.specs.Routes.{AreWalks};
 ghost use Rattle.nf_routes_lists.specs.RoutesList.{end_or, loaded_or, but_last, last_entry, routes_list};
 ghost use Rattle.nf_routes_lists.specs.Meanings.{IsRouted, RoutesArrive};
+ghost use Rattle.nf_routes_lists.specs.RoutesFile.{routes_of};
 ghost use Rattle.nf_load.specs.Loadings.{loaded_of};
-ghost use Rattle.nf_routes_file.specs.Kept.{routes_of};
 ghost use Rattle.nf_routes.specs.Standing.{AreLoaded, HaveSent};
 ghost use Rattle.nf_routes.specs.Routed.{routed_of};
 
@@ -83,7 +83,7 @@ pub fn load_routes(
     horizon: Q,
 ) -> Result<Routed, Halt<Q>>
     requires horizon { 0ℚ ≤ℚ horizon }
-    requires routes { AreRoutes net.now.net (routes_of routes.now) }
+    requires walks { AreWalks net.now.net (routes_of routes.now) }
     ensures list { Gives routed_of (λ q. q) result (at_part Load (routes_list passes_Q net.now.net (routes_of routes.now) horizon)) }
     ensures routed { IfOk result (λ r. IsRouted net.now.net (routes_of routes.now) horizon (routed_of r)) }
     ensures arrives { IfOk result (λ r. RoutesArrive net.now.net (routes_of routes.now) horizon (routed_of r)) }

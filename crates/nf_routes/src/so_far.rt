@@ -1,6 +1,6 @@
 // What is loaded so far.
 ghost use Rattle.std.specs.Prelude.{◌≡◌, IfOk};
-ghost use Rattle.nf_routes_file.specs.Kept.{routes_of};
+ghost use Rattle.nf_routes_lists.specs.RoutesFile.{routes_of};
 ghost use Rattle.nf_routes.specs.Beginning.{nothing_loaded, nothing_sent};
 
 use crate::stages::Stages;

@@ -5,5 +5,4 @@ pub mod RouteWords
 pub mod RouteLinks
 pub mod RouteSteps
 pub mod RoutesRead
-pub mod Soundness
-pub mod LastRule
+pub mod Meaning

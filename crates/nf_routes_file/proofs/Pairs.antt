@@ -3,8 +3,7 @@ use Rattle.std.proofs.Common.{◌≡◌, ℕ, zero, suc, ◌+◌, ◌-◌, ◌<�
 use Rattle.std.specs.Prelude.{Some, slice_get}
 use Rattle.std.specs.List.{list_all}
 use Rattle.nf_routes_lists.specs.Routes.{pairs_of, all_pairs, is_taken}
-use Rattle.nf_routes_lists.specs.RoutesFile.{NamedRoute}
-use Rattle.nf_routes_file.specs.Kept.{routes_of}
+use Rattle.nf_routes_lists.specs.RoutesFile.{NamedRoute, routes_of}
 
 pub pairs_at : (links : List ℕ) (i : ℕ) (e f : ℕ) → slice_get links i ≡ Some e → slice_get links (suc i) ≡ Some f → pairs_of (drop i links) ≡ (e, f) ∷ pairs_of (drop (suc i) links)
 pairs_at [] i e f h k = absurd (cc)

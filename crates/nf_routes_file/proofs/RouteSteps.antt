@@ -6,17 +6,12 @@ use Rattle.nf_work.specs.Checked.{◌>>=◌}
 use Rattle.nf_formats.specs.Named.{Named}
 use Rattle.nf_routes_lists.specs.declared.RoutesRule.{RoutesRule}
 use Rattle.nf_routes_lists.specs.declared.RoutesRule.TheVariants.{G4}
-use Rattle.nf_routes_lists.specs.RoutesFile.{NamedRoute, RoutesEntry, RoutesDraft, RouteLine, RateLine, route_names, pieces_of, routes_entry, routes_rule_of, routes_after, unless_rule, add_route_line, with_piece}
+use Rattle.nf_routes_lists.specs.RoutesFile.{NamedRoute, RoutesEntry, RoutesDraft, RouteLine, RateLine, route_names, pieces_of, routes_entry, routes_rule_of, routes_after, unless_rule, add_route_line, with_piece, longer, rule_behind}
 use Rattle.nf_routes_file.specs.declared.fault.LineFault.{LineFault}
 use Rattle.nf_routes_file.specs.Files.{IfRule}
-use Rattle.nf_routes_file.specs.Drafts.{rule_behind}
 
 abbrev draft_of : List NamedRoute → Bool → RoutesDraft
 draft_of routes ended = record { routes = routes; ended = ended }
-
--- the route with one more piece
-abbrev pub longer : NamedRoute → Piece → NamedRoute
-longer route piece = record { name = route.name; route = record { links = route.route.links; pieces = route.route.pieces ++ piece ∷ [] } }
 
 -- ---- a route more
 pub with_route : (routes : List NamedRoute) (ended : Bool) (route : NamedRoute) → route.route.pieces ≡ []

@@ -8,7 +8,7 @@ use Rattle.nf_text.specs.declared.TextFault.{TextFault}
 use Rattle.nf_text.specs.Reading.{Tells}
 use Rattle.nf_formats.specs.Named.{Named}
 use Rattle.nf_routes_lists.specs.declared.RoutesRule.{RoutesRule}
-use Rattle.nf_routes_lists.specs.RoutesFile.{NamedRoute, RoutesDraft, RoutesBroken, add_route_line, in_routes_line, add_route_lines, routes_draft, routes_closed, routes_by_bytes, routes_in}
+use Rattle.nf_routes_lists.specs.RoutesFile.{NamedRoute, RoutesDraft, RoutesBroken, add_route_line, in_routes_line, add_route_lines, routes_draft, routes_ended, routes_by_bytes, routes_of_lines, unless_circle, routes_in}
 use Rattle.nf_routes_file.specs.declared.routes.Routes.{Routes}
 use Rattle.nf_routes_file.specs.declared.fault.RoutesFault.{RoutesFault}
 use Rattle.nf_routes_file.specs.declared.fault.LineFault.{LineFault}
@@ -40,19 +40,19 @@ module _ (n : Named) (draft : RoutesDraft) (lines : List ReadLine) (i : ℕ) (li
 module _ (n : Named) (text : List ℕ) where
   -- a line with a fault
   pub bytes_break : (fault : TextFault) → Tells fault (first_fault text) → IfBroken (fault_of_text fault) (λ broken. routes_in n text ≡ Err broken)
-  unfolding routes_in
-  bytes_break (TextFault.NotAscii line) e = ap (λ (o : Option TextLineFault). routes_by_bytes o (routes_draft n (content_lines (read_lines text)) >>= routes_closed n)) e
-  bytes_break (TextFault.LongLine line) e = ap (λ (o : Option TextLineFault). routes_by_bytes o (routes_draft n (content_lines (read_lines text)) >>= routes_closed n)) e
+  unfolding routes_in routes_of_lines
+  bytes_break (TextFault.NotAscii line) e = ap (λ (o : Option TextLineFault). routes_by_bytes o (routes_draft n (content_lines (read_lines text)) >>= routes_ended) >>= unless_circle n) e
+  bytes_break (TextFault.LongLine line) e = ap (λ (o : Option TextLineFault). routes_by_bytes o (routes_draft n (content_lines (read_lines text)) >>= routes_ended) >>= unless_circle n) e
   bytes_break TextFault.Memory e = tt
 
   -- lines without a fault
   module _ (lines : List ReadLine) (same : lines ≡ content_lines (read_lines text)) (fine : first_fault text ≡ None) where
-    pub by_lines : (read : Result RoutesDraft RoutesBroken) → routes_draft n lines ≡ read → routes_in n text ≡ (read >>= routes_closed n)
-    unfolding routes_in
+    pub by_lines : (read : Result RoutesDraft RoutesBroken) → routes_draft n lines ≡ read → routes_in n text ≡ ((read >>= routes_ended) >>= unless_circle n)
+    unfolding routes_in routes_of_lines
     by_lines read e =
-        ap (λ (o : Option TextLineFault). routes_by_bytes o (routes_draft n (content_lines (read_lines text)) >>= routes_closed n)) fine
-        ∙ ap (λ (ls : List ReadLine). routes_draft n ls >>= routes_closed n) (sym same)
-        ∙ ap (λ (r : Result RoutesDraft RoutesBroken). r >>= routes_closed n) e
+        ap (λ (o : Option TextLineFault). routes_by_bytes o (routes_draft n (content_lines (read_lines text)) >>= routes_ended) >>= unless_circle n) fine
+        ∙ ap (λ (ls : List ReadLine). (routes_draft n ls >>= routes_ended) >>= unless_circle n) (sym same)
+        ∙ ap (λ (r : Result RoutesDraft RoutesBroken). (r >>= routes_ended) >>= unless_circle n) e
 
 -- the same answer of an equal reading
 pub answers : (result : Result Routes RoutesFault) (read other : Result (List NamedRoute) RoutesBroken) → other ≡ read

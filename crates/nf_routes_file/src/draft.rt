@@ -2,9 +2,9 @@
 ghost use Rattle.std.specs.Prelude.{◌≡◌, ◌<◌, false, [], length, None, Ok, Err, IfOk, OnOk, MatchResult, All};
 ghost use Rattle.std.specs.List.{last_or};
 ghost use Rattle.nf_formats.specs.NetLines.{is_not_after};
-ghost use Rattle.nf_routes_lists.specs.RoutesFile.{RouteLine, routes_rule_of, routes_after, add_route_line};
+ghost use Rattle.nf_routes_lists.specs.RoutesFile.{RouteLine, routes_rule_of, routes_after, add_route_line, rule_behind};
 ghost use Rattle.nf_routes_file.specs.Entries.{seen_entry, Fits, HasLinks};
-ghost use Rattle.nf_routes_file.specs.Drafts.{seen_draft, rule_behind};
+ghost use Rattle.nf_routes_file.specs.Drafts.{seen_draft};
 ghost use Rattle.nf_routes_file.specs.Files.{IfRule};
 
 use crate::entry::{Entry, place_of, read_entry};

@@ -3,7 +3,7 @@
 ghost use Rattle.std.specs.Prelude.{◌≡◌, ◌<◌, ◌||◌, ◌==◌, not, IfOk, IfSome};
 ghost use Rattle.std.specs.List.{list_all, range_with_len};
 ghost use Rattle.nf_routes_lists.specs.Routes.{pairs_of, all_pairs, is_taken as is_taken_by, is_free as is_free_by, first_free, loading_order as order_by, takes_all as takes_all_by};
-ghost use Rattle.nf_routes_file.specs.Kept.{routes_of};
+ghost use Rattle.nf_routes_lists.specs.RoutesFile.{routes_of};
 
 use crate::route::Route;
 use nf_graph::LinkId;

@@ -2,11 +2,10 @@
 ghost use Rattle.std.specs.Prelude.{◌≡◌, ◌≤◌, length, Ok, Err, IfOk, IfErr, MatchResult};
 ghost use Rattle.nf_routes_lists.specs.declared.RoutesRule.TheVariants.{G17};
 ghost use Rattle.nf_lines.specs.Faults.{longest_text};
-ghost use Rattle.nf_routes_lists.specs.Routes.{AreRoutes, HoldCircle};
-ghost use Rattle.nf_routes_lists.specs.RoutesFile.{is_routes_1 as is_routes_1_by, add_route_lines, routes_draft, routes_closed, routes_in};
-ghost use Rattle.nf_routes_file.specs.Kept.{routes_of};
-ghost use Rattle.nf_routes_file.specs.Circles.{HoldsCircleIn};
-ghost use Rattle.nf_routes_file.specs.Drafts.{seen_draft, IsSound};
+ghost use Rattle.nf_routes_lists.specs.Routes.{AreWalks};
+ghost use Rattle.nf_routes_lists.specs.RoutesFile.{is_routes_1 as is_routes_1_by, add_route_lines, routes_draft, routes_in, routes_of, HoldsCircleIn, ReadsRoutes};
+ghost use Rattle.nf_routes_lists.specs.Kept.{AreKept, AreSound};
+ghost use Rattle.nf_routes_file.specs.Drafts.{seen_draft, routes_closed};
 ghost use Rattle.nf_routes_file.specs.Files.{IfBroken};
 
 use crate::draft::Draft;
@@ -66,11 +65,9 @@ fn read_draft(alloc: Global, net: &Network, lines: &[ReadLine]) -> Result<Draft,
 
 // The routes, or the first rule of the file as a whole that is broken.
 fn close(alloc: Global, net: &Network, draft: Draft) -> Result<Routes, RoutesFault>
-    requires { IsSound net.now (seen_draft draft) }
-    ensures closes { MatchResult result (λ routes. routes_closed net.now (seen_draft draft) ≡ Ok routes)
+    requires { AreSound net.now.net draft.routes.items }
+    ensures { MatchResult result (λ routes. routes_closed net.now (seen_draft draft) ≡ Ok routes)
         (λ fault. IfBroken fault (λ broken. routes_closed net.now (seen_draft draft) ≡ Err broken)) }
-    ensures routes { IfOk result (λ routes. AreRoutes net.now.net (routes_of routes)) }
-    ensures no_circle { IfOk result (λ routes. ¬ HoldCircle (routes_of routes)) }
 {
     if !draft.ended {
         return Err(RoutesFault::Broken {
@@ -87,12 +84,10 @@ fn close(alloc: Global, net: &Network, draft: Draft) -> Result<Routes, RoutesFau
     Ok(Routes::kept(draft.routes))
 }
 
-// What parse_routes gives, without the meaning of its last rule.
+// What parse_routes gives, by the order of loading.
 fn read_routes(alloc: Global, net: &Network, text: &[u8]) -> Result<Routes, RoutesFault>
     requires { length text.now ≤ longest_text }
-    ensures reads { MatchResult result (λ routes. routes_in net.now text.now ≡ Ok routes) (λ fault. IfBroken fault (λ broken. routes_in net.now text.now ≡ Err broken)) }
-    ensures routes { IfOk result (λ routes. AreRoutes net.now.net (routes_of routes)) }
-    ensures no_circle { IfOk result (λ routes. ¬ HoldCircle (routes_of routes)) }
+    ensures { MatchResult result (λ routes. routes_in net.now text.now ≡ Ok routes) (λ fault. IfBroken fault (λ broken. routes_in net.now text.now ≡ Err broken)) }
 {
     let lines = match contents(alloc, text) {
         Ok(lines) => lines,
@@ -102,16 +97,16 @@ fn read_routes(alloc: Global, net: &Network, text: &[u8]) -> Result<Routes, Rout
     close(alloc, net, draft)
 }
 
-/// The routes of a network that a text of at most 67,108,864 bytes gives; or the first rule that it breaks, and the line. The rules of
-/// all bytes and lines come first, then those of the lines one by one, then those of the file as a whole, with line 0.
+/// The routes of a network that a text of at most 67,108,864 bytes gives, each a walk from source to sink; or the first rule that it
+/// breaks, and the line. The rules of all bytes and lines come first, then those of the lines one by one, then those of the file as a
+/// whole, with line 0. The last rule is broken exactly where some links, each directly before the next on a route, begin and end with
+/// the same link.
 pub fn parse_routes(alloc: Global, net: &Network, text: &[u8]) -> Result<Routes, RoutesFault>
     requires { length text.now ≤ longest_text }
-    ensures reads { MatchResult result (λ routes. routes_in net.now text.now ≡ Ok routes) (λ fault. IfBroken fault (λ broken. routes_in net.now text.now ≡ Err broken)) }
-    ensures routes { IfOk result (λ routes. AreRoutes net.now.net (routes_of routes)) }
-    ensures no_circle { IfOk result (λ routes. ¬ HoldCircle (routes_of routes)) }
-
-    // What the last rule means: that there is no circle is refuted.
-    ensures circle { IfErr result (λ fault. IfBroken fault (λ broken. broken.rule ≡ G17 → ¬ ¬ HoldsCircleIn net.now text.now)) }
+    ensures reads { MatchResult result (λ routes. ReadsRoutes net.now text.now (Ok routes)) (λ fault. IfBroken fault (λ broken. ReadsRoutes net.now text.now (Err broken))) }
+    ensures kept { IfOk result (λ routes. AreKept routes) }
+    ensures walks { IfOk result (λ routes. AreWalks net.now.net (routes_of routes)) }
+    ensures circle { IfErr result (λ fault. IfBroken fault (λ broken. broken.rule ≡ G17 → HoldsCircleIn net.now text.now)) }
 {
     read_routes(alloc, net, text)
 }

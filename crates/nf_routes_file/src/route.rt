@@ -1,5 +1,5 @@
 // One route.
-ghost use Rattle.std.specs.Prelude.{◌≡◌, [], ◌∷◌, ◌++◌, IfOk, OnOk};
+ghost use Rattle.std.specs.Prelude.{◌≡◌, [], ◌∷◌, ◌++◌, IfOk, OnOk, OnErr};
 
 use nf_graph::LinkId;
 use nf_net::Piece;
@@ -29,7 +29,7 @@ impl Model for Route {
 
 impl Route {
     /// The route of this name over these links, along which nothing is sent.
-    pub fn new(alloc: Global, name: &str, links: Vec<LinkId>) -> Result<Route, AllocError>
+    pub(crate) fn new(alloc: Global, name: &str, links: Vec<LinkId>) -> Result<Route, AllocError>
         ensures { IfOk result (λ route. route ≡ record { name = name.now; route = record { links = links.items; pieces = [] } }) }
     {
         let name = String::from_str(alloc, name)?;
@@ -61,12 +61,13 @@ impl Route {
         &self.pieces
     }
 
-    /// One more piece, behind those that are there.
-    pub fn push(&mut self, piece: Piece) -> Result<(), AllocError>
-        ensures { OnOk result (self.new ≡ record {
+    /// One more piece, behind those that are there. Where memory is wanting the route stays as it was.
+    pub(crate) fn push(&mut self, piece: Piece) -> Result<(), AllocError>
+        ensures ok { OnOk result (self.new ≡ record {
           name = self.old.name;
           route = record { links = self.old.route.links; pieces = self.old.route.pieces ++ piece ∷ [] };
         }) }
+        ensures err { OnErr result (self.new ≡ self.old) }
     {
         self.pieces.push(piece)?;
         Ok(())

@@ -1,7 +1,7 @@
 use Rattle.std.proofs.Common.{List, ℕ, ◌+◌, [], sym, ap, subst, ◌∙◌, arith}
 use Rattle.std.specs.List.{range_with_len}
 use Rattle.nf_routes_lists.specs.Routes.{all_pairs, first_free, order_from, loading_order}
-use Rattle.nf_routes_file.specs.Kept.{routes_of}
+use Rattle.nf_routes_lists.specs.RoutesFile.{routes_of}
 use Rattle.nf_routes_file.proofs.Taking.{Ordered, order_ends, order_goes, order_last}
 use Rattle.nf_routes_file.proofs.order.loading_order.Goals as goal
 

@@ -1,6 +1,6 @@
 use Rattle.std.proofs.Common.{[]}
 use Rattle.nf_routes_lists.specs.Routes.{all_pairs, order_from}
-use Rattle.nf_routes_file.specs.Kept.{routes_of}
+use Rattle.nf_routes_lists.specs.RoutesFile.{routes_of}
 use Rattle.nf_routes_file.proofs.Taking.{Ordered}
 use Rattle.nf_routes_file.proofs.order.loading_order.Given as goal
 

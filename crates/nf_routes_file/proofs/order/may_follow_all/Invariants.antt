@@ -1,7 +1,7 @@
 use Rattle.std.proofs.Common.{◌≡◌, ℕ, drop, not, ◌||◌, eqb}
 use Rattle.std.specs.List.{list_all}
 use Rattle.nf_routes_lists.specs.Routes.{all_pairs, is_taken}
-use Rattle.nf_routes_file.specs.Kept.{routes_of}
+use Rattle.nf_routes_lists.specs.RoutesFile.{routes_of}
 use Rattle.nf_routes_file.proofs.order.may_follow_all.Given as goal
 
 abbrev pub invariant-loop-route : goal.invariant-loop-route

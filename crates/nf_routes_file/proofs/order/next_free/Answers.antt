@@ -1,6 +1,6 @@
 use Rattle.std.proofs.Common.{sym, ◌∙◌, arith}
 use Rattle.nf_routes_lists.specs.Routes.{all_pairs}
-use Rattle.nf_routes_file.specs.Kept.{routes_of}
+use Rattle.nf_routes_lists.specs.RoutesFile.{routes_of}
 use Rattle.nf_routes_file.proofs.Taking.{free-on}
 use Rattle.nf_routes_file.proofs.order.next_free.Goals as goal
 

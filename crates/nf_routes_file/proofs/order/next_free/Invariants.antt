@@ -1,7 +1,7 @@
 use Rattle.std.proofs.Common.{◌≡◌, ◌-◌}
 use Rattle.std.specs.List.{range_with_len}
 use Rattle.nf_routes_lists.specs.Routes.{all_pairs, first_free}
-use Rattle.nf_routes_file.specs.Kept.{routes_of}
+use Rattle.nf_routes_lists.specs.RoutesFile.{routes_of}
 use Rattle.nf_routes_file.proofs.order.next_free.Given as goal
 
 abbrev pub invariant-loop-number : goal.invariant-loop-number

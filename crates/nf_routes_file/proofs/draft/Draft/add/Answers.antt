@@ -8,5 +8,5 @@ returns-in_ok-push-in-Rate c =
     let routes = c.args.self.now.routes.items in
     let drafted : List NamedRoute → RoutesDraft = λ routes. record { routes = routes; ended = c.args.self.now.ended } in
     let here = slice_get_read routes _ c.in-Rate.place c.index_mut.result.now refl (rw c.in-Rate.is at c.requires) c.index_mut.ensures.value in
-    rw c.in-Rate.is (ap (λ (r : NamedRoute). drafted (set routes c.in-Rate.place r)) c.in_ok-push-in-Rate.ensures
+    rw c.in-Rate.is (ap (λ (r : NamedRoute). drafted (set routes c.in-Rate.place r)) c.in_ok-push-in-Rate.ensures.ok
     ∙ sym (ap (λ (o : Option NamedRoute). drafted (with_piece c.in-Rate.piece o routes c.in-Rate.place)) here))

@@ -1,8 +1,7 @@
 use Rattle.std.proofs.Common.{List, refl, sym, ap, ◌∙◌}
 use Rattle.std.proofs.lemmas.Option.{slice_get_read}
 use Rattle.nf_model.specs.Network.{Piece}
-use Rattle.nf_routes_lists.specs.RoutesFile.{pieces_of}
-use Rattle.nf_routes_file.specs.Drafts.{rule_behind}
+use Rattle.nf_routes_lists.specs.RoutesFile.{pieces_of, rule_behind}
 use Rattle.nf_routes_file.proofs.draft.Draft.rule.Goals as goal
 
 pub returns-in-Rate : goal.returns-in-Rate
