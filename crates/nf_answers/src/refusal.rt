@@ -11,7 +11,7 @@ use nf_frac::{Halt, PassedAt, Q};
 use nf_load::{LoadRule, LoadsFault};
 use nf_net::{NetFault, NetRule};
 use nf_report::{ReportFault, ReportRule};
-use nf_route_reader::{RoutesFault, RoutesRule};
+use nf_routes_file::{RoutesFault, RoutesRule};
 use std::alloc::AllocError;
 
 /// Why a run has no text for its output.

@@ -17,7 +17,7 @@ use nf_load::LoadRule;
 use nf_net::NetRule;
 use nf_numerals::write_count;
 use nf_report::{ReportRule, write_passed_call, write_stop};
-use nf_route_reader::RoutesRule;
+use nf_routes_file::RoutesRule;
 
 // The usage text: the commands that there are.
 const USAGE: &[u8] = b"nfot: usage

@@ -25,7 +25,8 @@ use Rattle.nf_readings.specs.LoadsFile.{LoadsBroken, loads_in}
 use Rattle.nf_phase.specs.Solution.{bounds_of}
 use Rattle.nf_complete_lists.specs.FlowsFile.{GivenFlows, FlowsBroken, flows_in}
 use Rattle.nf_forever_lists.specs.ForeverRun.{Forever}
-use Rattle.nf_routes_lists.specs.RoutesFile.{RoutesBroken, NamedRoute, routes_in}
+use Rattle.nf_routes_lists.specs.RoutesFile.{RoutesBroken, NamedRoute, ReadsRoutes}
+use Rattle.nf_routes_laws.proofs.FileReading.{only_reading}
 use Rattle.nf_forever_laws.proofs.OneForever.{one_forever}
 use Rattle.nf_answers.specs.declared.status.Status.{Status}
 use Rattle.nf_outside.specs.Files.{Wanted, FetchedTo, HasTooMany, network_file, loads_file, flows_file, routes_file, report_file}
@@ -199,7 +200,9 @@ module _ (call : Call) (no_fault : ¬ Rose call.shelf.faults_before call.shelf.f
   module _ (can : CanBeDistributed call) where
     -- the routes file has one reading
     one_routes : (read : Result (List NamedRoute) RoutesBroken) → RoutesRead call.shelf can.network.net can.routes_name read → Ok can.routes.routes ≡ read
-    one_routes read h = sym can.routes.reads ∙ holds_of_told call.shelf (routes_file can.routes_name) can.routes.tells (λ text. routes_in can.network.net text ≡ read) h
+    one_routes read h =
+        sym (only_reading can.network.net can.routes.tells.text (Ok can.routes.routes) can.routes.reads)
+        ∙ only_reading can.network.net can.routes.tells.text read (holds_of_told call.shelf (routes_file can.routes_name) can.routes.tells (λ text. ReadsRoutes can.network.net text read) h)
 
     routed_well : (answer : Answer) → IsGiven call.shelf can.network.net (Routes can.file can.routes_name can.horizon) answer → EndsWell (status_of answer)
     routed_well answer (inl g) = inl (ap status_of g.2)

@@ -8,14 +8,13 @@ use Rattle.nf_work.specs.Checked.{Stops}
 use Rattle.nf_model.specs.Network.{Network}
 use Rattle.nf_formats.specs.Named.{Named}
 use Rattle.nf_load.specs.Loadings.{loaded_of}
-use Rattle.nf_routes_lists.specs.RoutesFile.{RoutesBroken, NamedRoute, routes_in}
+use Rattle.nf_routes_lists.specs.RoutesFile.{RoutesBroken, NamedRoute, routes_of, ReadsRoutes}
 use Rattle.nf_routes_lists.specs.RoutesList.{Routed}
 use Rattle.nf_routes_lists.specs.Meanings.{IsRouted, RoutesArrive}
-use Rattle.nf_route.specs.Kept.{routes_of}
 use Rattle.nf_routes.specs.declared.routed.Routed.{Routed as CodeRouted}
 use Rattle.nf_routes.specs.Routed.{routed_of}
-use Rattle.nf_route_reader.specs.declared.fault.RoutesFault.{RoutesFault}
-use Rattle.nf_route_reader.specs.Files.{IfBroken}
+use Rattle.nf_routes_file.specs.declared.fault.RoutesFault.{RoutesFault}
+use Rattle.nf_routes_file.specs.Files.{IfBroken}
 use Rattle.nf_answers.specs.declared.refusal.Refusal.{Refusal}
 use Rattle.nf_outside.specs.Files.{Visit, routes_file}
 use Rattle.nf_words.specs.Requests.{Routes}
@@ -27,17 +26,17 @@ use Rattle.nf_outside.specs.Fetching.{IsTold}
 
 module _ (shelf : Visit) (n : Named) (file name : List ℕ) (horizon : ℚ) (text : List ℕ) (told : IsTold shelf (routes_file name) text) where
   -- what was read of the bytes
-  read_so : (read : Result (List NamedRoute) RoutesBroken) → routes_in n text ≡ read → RoutesRead shelf n name read
+  read_so : (read : Result (List NamedRoute) RoutesBroken) → ReadsRoutes n text read → RoutesRead shelf n name read
   read_so read e = record { text = text; told = told; holds = e }
 
   abbrev Answers : Refusal → Type 0
   Answers refusal = (refusal ≡ Refusal.NoMemory) ⊎ IsGiven shelf n (Routes file name horizon) (answer_of refusal)
 
-  pub routes_refused : (fault : RoutesFault) → IfBroken fault (λ broken. routes_in n text ≡ Err broken) → Answers (refusal_of_routes fault)
+  pub routes_refused : (fault : RoutesFault) → IfBroken fault (λ broken. ReadsRoutes n text (Err broken)) → Answers (refusal_of_routes fault)
   routes_refused (RoutesFault.Broken rule line) e = inr (inr (inr (record { rule = rule; line = line }, refl, read_so (Err (record { rule = rule; line = line })) e)))
   routes_refused RoutesFault.Memory e = inl refl
 
-  module _ (routes : List NamedRoute) (read : routes_in n text ≡ Ok routes) where
+  module _ (routes : List NamedRoute) (read : ReadsRoutes n text (Ok routes)) where
     pub distributing_stopped : (halt : Halt ℚ) → Stops (λ (q : ℚ). q) halt (by_route_list n routes horizon) → Answers (refusal_of_halt halt)
     distributing_stopped (Halt.Passed at) e = inr (inr (inl (at, refl, record { routes = routes; read = read_so (Ok routes) read; passes = e })))
     distributing_stopped Halt.Memory e = inl refl

@@ -21,7 +21,7 @@ use Rattle.nf_phase.specs.declared.solution.Budgets.{Budgets}
 use Rattle.nf_phase.specs.Solution.{bounds_of}
 use Rattle.nf_complete_lists.specs.FlowsFile.{GivenFlows, flows_in}
 use Rattle.nf_forever_lists.specs.ForeverRun.{Forever, IsForever}
-use Rattle.nf_routes_lists.specs.RoutesFile.{NamedRoute, routes_in}
+use Rattle.nf_routes_lists.specs.RoutesFile.{NamedRoute, ReadsRoutes}
 use Rattle.nf_routes_lists.specs.RoutesList.{Routed}
 use Rattle.nf_answers.specs.declared.status.Status.{Status}
 use Rattle.nf_outside.specs.Files.{Wanted, Visit, network_file, loads_file, flows_file, routes_file, report_file}
@@ -64,7 +64,7 @@ pub record TellsFlows (shelf : Visit) (n : Named) (file : List ℕ) : Type 0 whe
 pub record TellsRoutes (shelf : Visit) (n : Named) (file : List ℕ) : Type 0 where
   pub tells : Tells shelf (routes_file file)
   pub routes : List NamedRoute
-  pub reads : routes_in n tells.text ≡ Ok routes
+  pub reads : ReadsRoutes n tells.text (Ok routes)
 
 -- they read as a report of a network
 pub record TellsReport (shelf : Visit) (n : Named) (file : List ℕ) : Type 0 where

@@ -36,8 +36,8 @@ use nf_phase::{Budgets, solve};
 use nf_quick::{Augment, Quick, QuickFault, departure, quickest};
 use nf_report::parse_report;
 use nf_resume::{ResumeFault, resume};
-use nf_route_reader::parse_routes;
 use nf_routes::load_routes;
+use nf_routes_file::parse_routes;
 use nf_words::{Request, read_request};
 use std::alloc::{AllocError, Global};
 

@@ -14,7 +14,7 @@ use Rattle.nf_curve.proofs.Exits.{after_err, was_ok, stops_on}
 use Rattle.nf_routes_lists.specs.Routes.{Route, AreRoutes, HoldCircle, all_pairs, loading_order}
 use Rattle.nf_routes_lists.specs.RoutesList.{SoFar, load_here, load_all}
 use Rattle.nf_routes_laws.proofs.Ordering.{takes_all-straight}
-use Rattle.nf_route.proofs.Taking.{IsPlaced, order_placed}
+use Rattle.nf_routes_file.proofs.Taking.{IsPlaced, order_placed}
 use Rattle.nf_routes.specs.Beginning.{nothing_loaded, nothing_sent, all_loaded}
 use Rattle.nf_routes.specs.Standing.{MayLoad, IsComplete}
 use Rattle.nf_routes.proofs.Folds.{drop_at}

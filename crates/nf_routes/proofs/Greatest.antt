@@ -10,10 +10,9 @@ use Rattle.nf_rational_laws.proofs.Tests.{max_ℚ_cases}
 use Rattle.nf_model.specs.Curve.{Point}
 use Rattle.nf_check_lists.specs.Curves.{last_value}
 use Rattle.nf_routes_lists.specs.Routes.{pairs_of, all_pairs}
-use Rattle.nf_routes_lists.specs.RoutesFile.{NamedRoute}
+use Rattle.nf_routes_lists.specs.RoutesFile.{NamedRoute, routes_of}
 use Rattle.nf_routes_lists.specs.RoutesList.{LoadedLink, exit_end, end_by}
-use Rattle.nf_route.specs.Kept.{routes_of}
-use Rattle.nf_route.proofs.Pairs.{pairs_at, pairs_none, all_pairs_at}
+use Rattle.nf_routes_file.proofs.Pairs.{pairs_at, pairs_none, all_pairs_at}
 
 max_left : (x y : ℚ) → x ≤ℚ max_ℚ x y
 max_left x y = ⊎_elim

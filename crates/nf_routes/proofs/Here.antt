@@ -16,8 +16,8 @@ use Rattle.nf_load_lists.specs.Loading.{Loaded, checked_loading}
 use Rattle.nf_curve.proofs.Exits.{after_err, after_ok, was_ok}
 use Rattle.nf_routes_lists.specs.Routes.{Route, all_pairs}
 use Rattle.nf_routes_lists.specs.RoutesList.{SoFar, begins_with, begin_if, end_by, begin_all, sum_from, next_all, load_here}
-use Rattle.nf_share.specs.Amounts.{IsAmount, AreExits}
-use Rattle.nf_share.proofs.Amounts.{no_amount, loaded_exits}
+use Rattle.nf_routes.specs.Amounts.{IsAmount, AreExits}
+use Rattle.nf_routes.proofs.Amounts.{no_amount, loaded_exits}
 use Rattle.nf_routes.specs.Standing.{Along, MayBegin, Sends, MayLoad}
 use Rattle.nf_routes.proofs.Greatest.{end-least}
 use Rattle.nf_routes.proofs.Folds.{Sent, begin_all-is, steps_keep}

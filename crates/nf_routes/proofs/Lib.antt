@@ -1,3 +1,5 @@
+pub mod Amounts
+pub mod Sharing
 pub mod Lists
 pub mod Greatest
 pub mod Folds

@@ -17,11 +17,11 @@ use Rattle.nf_load_laws.proofs.Cumulative.{checked_cumulative-is}
 use Rattle.nf_plain_laws.proofs.Results.{same_Ok}
 use Rattle.nf_routes_lists.specs.Routes.{Route, pairs_of, all_pairs, is_taken}
 use Rattle.nf_routes_lists.specs.RoutesList.{begins_with, goes_over, last_entry, next_entry, begin_if, add_if, sum_from, next_if}
-use Rattle.nf_route.proofs.Pairs.{all-append, test}
-use Rattle.nf_route.proofs.Taking.{taken-push}
-use Rattle.nf_share.specs.Amounts.{IsAmount, AreExits}
-use Rattle.nf_share.proofs.Amounts.{short_amount, summed_amount, supplied_amount}
-use Rattle.nf_share.proofs.Sharing.{next_amount}
+use Rattle.nf_routes_file.proofs.Pairs.{all-append, test}
+use Rattle.nf_routes_file.proofs.Taking.{taken-push}
+use Rattle.nf_routes.specs.Amounts.{IsAmount, AreExits}
+use Rattle.nf_routes.proofs.Amounts.{short_amount, summed_amount, supplied_amount}
+use Rattle.nf_routes.proofs.Sharing.{next_amount}
 use Rattle.nf_routes.specs.Beginning.{nothing_sent, HavePieces}
 use Rattle.nf_routes.specs.Standing.{Along, MayBegin, Sends}
 use Rattle.nf_routes.proofs.Folds.{Sent}

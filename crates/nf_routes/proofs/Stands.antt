@@ -19,9 +19,9 @@ use Rattle.nf_load_lists.specs.Loading.{Loaded, checked_loading}
 use Rattle.nf_plain_laws.proofs.Results.{same_Ok}
 use Rattle.nf_routes_lists.specs.Routes.{Route, AreRoutes, all_pairs, is_taken, loading_order, takes_all}
 use Rattle.nf_routes_lists.specs.RoutesList.{LoadedLink, SoFar, begins_with, goes_over, end_by, begin_if, begin_all, sum_from, next_if, next_all, load_here}
-use Rattle.nf_route.proofs.Taking.{taken-push, IsPlaced}
-use Rattle.nf_share.specs.Amounts.{IsAmount, AreExits}
-use Rattle.nf_share.proofs.Amounts.{no_amount, loaded_exits}
+use Rattle.nf_routes_file.proofs.Taking.{taken-push, IsPlaced}
+use Rattle.nf_routes.specs.Amounts.{IsAmount, AreExits}
+use Rattle.nf_routes.proofs.Amounts.{no_amount, loaded_exits}
 use Rattle.nf_routes.specs.Beginning.{nothing_loaded, nothing_sent}
 use Rattle.nf_routes.specs.Standing.{Along, MayBegin, Sends, MayLoad, IsComplete}
 use Rattle.nf_routes.proofs.Greatest.{end-least}

@@ -26,7 +26,7 @@ use Rattle.nf_curve.proofs.Exits.{after_err, was_ok, stops_on}
 use Rattle.nf_routes_lists.specs.Routes.{Route, AreRoutes}
 use Rattle.nf_routes_lists.specs.RoutesList.{LoadedLink, SoFar, exit_of, loaded_or, travel_on}
 use Rattle.nf_routes_laws.proofs.Arriving.{walk-links}
-use Rattle.nf_share.specs.Amounts.{AreExits}
+use Rattle.nf_routes.specs.Amounts.{AreExits}
 use Rattle.nf_routes.specs.Standing.{IsComplete}
 use Rattle.nf_routes.specs.Travels.{HaveExits, GoOverAll, travel_along}
 use Rattle.nf_routes.proofs.Folds.{drop_at}

@@ -1,3 +1,4 @@
+pub mod Amounts
 pub mod Codes
 pub mod Beginning
 pub mod Standing

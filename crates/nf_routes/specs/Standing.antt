@@ -6,7 +6,7 @@ use Rattle.nf_model.specs.Network.{Network, ArePieces}
 use Rattle.nf_routes_lists.specs.Routes.{Route}
 use Rattle.nf_routes_lists.specs.RoutesList as lists
 use Rattle.nf_routes_lists.specs.RoutesList.{LoadedLink, begins_with, goes_over}
-use Rattle.nf_share.specs.Amounts.{IsAmount, AreExits}
+use Rattle.nf_routes.specs.Amounts.{IsAmount, AreExits}
 use Rattle.nf_routes.specs.declared.so_far.SoFar.{SoFar}
 
 abbrev pub seen_so_far : SoFar → lists.SoFar

@@ -9,7 +9,7 @@ use Rattle.nf_curve_lists.specs.Short.{checked_short}
 use Rattle.nf_load_lists.specs.Loading.{Loaded}
 use Rattle.nf_check_lists.specs.Curves.{loaded_at}
 use Rattle.nf_routes_lists.specs.Routes.{Route}
-use Rattle.nf_share.specs.Amounts.{AreExits}
+use Rattle.nf_routes.specs.Amounts.{AreExits}
 
 -- the exits of these links
 pub record HaveExits (loaded : List Loaded) : Type 0 where

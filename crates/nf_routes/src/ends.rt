@@ -4,13 +4,13 @@ ghost use Rattle.std.specs.Prelude.{◌≡◌, slice_get};
 ghost use Rattle.nf_check_lists.specs.Curves.{last_value as last_by};
 ghost use Rattle.nf_routes_lists.specs.Routes.{pairs_of, all_pairs};
 ghost use Rattle.nf_routes_lists.specs.RoutesList.{exit_end as exit_end_by, end_by};
-ghost use Rattle.nf_route.specs.Kept.{routes_of};
+ghost use Rattle.nf_routes_lists.specs.RoutesFile.{routes_of};
 
 use crate::so_far::LoadedLink;
 use nf_curve::Curve;
 use nf_frac::Q;
 use nf_net::LinkId;
-use nf_route::Route;
+use nf_routes_file::Route;
 
 // The value of the last point.
 fn last_value(curve: &Curve) -> Q

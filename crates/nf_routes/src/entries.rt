@@ -7,18 +7,18 @@ ghost use Rattle.nf_work.specs.declared.Part.TheVariants.{Load};
 ghost use Rattle.nf_work.specs.Checked.{at_part, Gives};
 ghost use Rattle.nf_model.specs.Network.{ArePieces};
 ghost use Rattle.nf_routes_lists.specs.RoutesList as lists;
-ghost use Rattle.nf_route.specs.Kept.{routes_of};
-ghost use Rattle.nf_share.specs.Amounts.{AreExits};
+ghost use Rattle.nf_routes_lists.specs.RoutesFile.{routes_of};
+ghost use Rattle.nf_routes.specs.Amounts.{AreExits};
 ghost use Rattle.nf_routes.specs.Beginning.{first_entry as first_by, HavePieces};
 ghost use Rattle.nf_routes.specs.Standing.{Along, Sends};
 
+use crate::next::next_entry;
 use crate::stages::Stages;
 use nf_curve::Curve;
 use nf_frac::{Halt, Part, Q};
 use nf_load::cumulative;
 use nf_net::{LinkId, Piece};
-use nf_route::Route;
-use nf_share::next_entry;
+use nf_routes_file::Route;
 use std::alloc::Global;
 
 // A route begins with this link.

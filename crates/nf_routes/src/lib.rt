@@ -5,12 +5,12 @@
 mod ends;
 mod entries;
 mod loading;
+mod next;
+mod points;
 mod routed;
 mod so_far;
 mod stages;
 mod travels;
 
-pub use nf_route::{Route, Routes};
-pub use nf_route_reader::{RoutesFault, parse_routes};
-pub use nf_routes_lists::RoutesRule;
+pub use nf_routes_file::{Route, Routes, RoutesFault, RoutesRule, parse_routes};
 pub use routed::{Routed, load_routes};

@@ -7,7 +7,7 @@ ghost use Rattle.nf_work.specs.declared.Part.TheVariants.{Load};
 ghost use Rattle.nf_work.specs.Checked.{at_part, Gives};
 ghost use Rattle.nf_routes_lists.specs.Routes.{AreRoutes, HoldCircle};
 ghost use Rattle.nf_routes_lists.specs.RoutesList as lists;
-ghost use Rattle.nf_route.specs.Kept.{routes_of};
+ghost use Rattle.nf_routes_lists.specs.RoutesFile.{routes_of};
 ghost use Rattle.nf_routes.specs.Beginning.{all_loaded};
 ghost use Rattle.nf_routes.specs.Standing.{seen_so_far, MayLoad, IsComplete};
 
@@ -17,7 +17,7 @@ use crate::so_far::{LoadedLink, SoFar};
 use nf_frac::{Halt, Q};
 use nf_load::load_link;
 use nf_net::{LinkId, Network};
-use nf_route::{Route, loading_order};
+use nf_routes_file::{Route, loading_order};
 use std::alloc::Global;
 
 // The loading of a link up to its end, by what the routes over it send into it.

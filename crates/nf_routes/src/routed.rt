@@ -5,11 +5,11 @@ ghost use Rattle.nf_rational.specs.Order.{◌≤ℚ◌};
 ghost use Rattle.nf_work.specs.Passing.{passes_Q};
 ghost use Rattle.nf_work.specs.declared.Part.TheVariants.{Load};
 ghost use Rattle.nf_work.specs.Checked.{at_part, Gives};
-ghost use Rattle.nf_routes_lists.specs.Routes.{AreRoutes};
+ghost use Rattle.nf_routes_lists.specs.Routes.{AreWalks};
 ghost use Rattle.nf_routes_lists.specs.RoutesList.{end_or, loaded_or, but_last, last_entry, routes_list};
 ghost use Rattle.nf_routes_lists.specs.Meanings.{IsRouted, RoutesArrive};
+ghost use Rattle.nf_routes_lists.specs.RoutesFile.{routes_of};
 ghost use Rattle.nf_load.specs.Loadings.{loaded_of};
-ghost use Rattle.nf_route.specs.Kept.{routes_of};
 ghost use Rattle.nf_routes.specs.Standing.{AreLoaded, HaveSent};
 ghost use Rattle.nf_routes.specs.Routed.{routed_of};
 
@@ -21,7 +21,7 @@ use nf_curve::Curve;
 use nf_frac::{Halt, Q};
 use nf_load::Loaded;
 use nf_net::Network;
-use nf_route::Routes;
+use nf_routes_file::Routes;
 use std::alloc::{AllocError, Global};
 
 /// What comes of the routes of a network, all by time. `ends` and `links` go by links: up to its end a link is loaded, with its
@@ -83,7 +83,7 @@ pub fn load_routes(
     horizon: Q,
 ) -> Result<Routed, Halt<Q>>
     requires horizon { 0ℚ ≤ℚ horizon }
-    requires routes { AreRoutes net.now.net (routes_of routes.now) }
+    requires walks { AreWalks net.now.net (routes_of routes.now) }
     ensures list { Gives routed_of (λ q. q) result (at_part Load (routes_list passes_Q net.now.net (routes_of routes.now) horizon)) }
     ensures routed { IfOk result (λ r. IsRouted net.now.net (routes_of routes.now) horizon (routed_of r)) }
     ensures arrives { IfOk result (λ r. RoutesArrive net.now.net (routes_of routes.now) horizon (routed_of r)) }

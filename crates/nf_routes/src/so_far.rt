@@ -1,13 +1,13 @@
 // What is loaded so far.
 ghost use Rattle.std.specs.Prelude.{◌≡◌, IfOk};
-ghost use Rattle.nf_route.specs.Kept.{routes_of};
+ghost use Rattle.nf_routes_lists.specs.RoutesFile.{routes_of};
 ghost use Rattle.nf_routes.specs.Beginning.{nothing_loaded, nothing_sent};
 
 use crate::stages::Stages;
 use nf_frac::Q;
 use nf_load::Loaded;
 use nf_net::Network;
-use nf_route::Route;
+use nf_routes_file::Route;
 use std::alloc::{AllocError, Global};
 use std::marker::Model;
 

@@ -7,13 +7,13 @@ ghost use Rattle.nf_work.specs.declared.Part.TheVariants.{Load};
 ghost use Rattle.nf_work.specs.Checked.{at_part, each, Gives};
 ghost use Rattle.nf_check_lists.specs.Curves.{departures as departures_by};
 ghost use Rattle.nf_load.specs.Loadings.{loaded_of};
-ghost use Rattle.nf_route.specs.Kept.{routes_of};
+ghost use Rattle.nf_routes_lists.specs.RoutesFile.{routes_of};
 ghost use Rattle.nf_routes.specs.Travels.{travel_along, HaveExits, GoOver, GoOverAll};
 
 use nf_curve::Curve;
 use nf_frac::{Halt, Part, Q};
 use nf_load::Loaded;
-use nf_route::Route;
+use nf_routes_file::Route;
 use std::alloc::{AllocError, Global};
 
 // The departures themselves, up to the horizon.

@@ -1,11 +1,11 @@
--- The order of loading takes each link, exactly where no links stand in a circle.
+-- The order of loading takes each link exactly where no links stand in a circle; where it leaves some out, there is one.
 use Rattle.std.proofs.Common.{◌≡◌, ◌≢◌, ℕ, zero, suc, ◌+◌, ◌<◌, ◌≤◌, List, [], ◌∷◌, ◌++◌, length, ◌⊎◌, inl, inr, ⊎_elim, Bool, true, false, not, ◌&&◌, ◌||◌, eqb, Option, Some, None, slice_get, refl, sym, ap, subst, ◌∙◌, arith}
 use Rattle.std.specs.Prelude.{if◌then◌else◌}
 use Rattle.std.specs.List.{IsDistinct, list_any, list_all, range_with_len}
 use Rattle.std.proofs.lemmas.Map.Steps.{length-le_from_distinct_below}
 use Rattle.std.proofs.lemmas.Bool.Decides.{eqb_tells}
 use Rattle.nf_model.specs.Network.{Network}
-use Rattle.nf_model_laws.proofs.Ways.{way_back, distinct_more}
+use Rattle.nf_model_laws.proofs.Ways.{distinct_more}
 use Rattle.std.proofs.lemmas.Option.{slice_get_within}
 use Rattle.nf_routes_lists.specs.Routes.{Route, AreRoutes, pairs_of, all_pairs, IsBefore, LeadsTo, HoldCircle, is_taken, is_free, first_free, with_next, order_from, loading_order, takes_all}
 use Rattle.nf_routes_laws.proofs.Arriving.{walk-links}
@@ -196,8 +196,8 @@ distinct_none = tt
 link-below : (net : Network) (routes : List Route) → AreRoutes net routes → (e f : ℕ) → IsBefore routes e f → e < length net.links
 link-below net routes are e f b = let l = walk-links net b.route.links net.source net.sink b.place e (are.walks b.number b.route b.is_route) b.here in slice_get_within net.links e l.0 l.1
 
--- ---- without a circle each link is taken
-module _ (net : Network) (routes : List Route) (are : AreRoutes net routes) (straight : HoldCircle routes → ⊥) where
+-- ---- each link is taken, or some stand in a circle
+module _ (net : Network) (routes : List Route) (are : AreRoutes net routes) where
   abbrev many : ℕ
   many = length net.links
 
@@ -205,7 +205,7 @@ module _ (net : Network) (routes : List Route) (are : AreRoutes net routes) (str
   pairs = all_pairs routes
 
   before-below : (e f : ℕ) → IsBefore routes e f → e < many
-  before-below e f b = let l = walk-links net b.route.links net.source net.sink b.place e (are.walks b.number b.route b.is_route) b.here in slice_get_within net.links e l.0 l.1
+  before-below e f b = link-below net routes are e f b
 
   abbrev Way : ℕ → ℕ → Type 0
   Way u v = (u ≡ v) ⊎ ((between : List ℕ) × LeadsTo routes u between v)
@@ -214,9 +214,23 @@ module _ (net : Network) (routes : List Route) (are : AreRoutes net routes) (str
   longer u v w b (inl e) = inr ([], subst (λ (x : ℕ). IsBefore routes u x) e b)
   longer u v w b (inr (between, way)) = inr (v ∷ between, (b, way))
 
-  circle : (u v : ℕ) → IsBefore routes u v → Way v u → ⊥
-  circle u v b (inl e) = straight (u, [], subst (λ (x : ℕ). IsBefore routes u x) e b)
-  circle u v b (inr (between, way)) = straight (u, v ∷ between, (b, way))
+  closed : (u v : ℕ) → IsBefore routes u v → Way v u → HoldCircle routes
+  closed u v b (inl e) = (u, [], subst (λ (x : ℕ). IsBefore routes u x) e b)
+  closed u v b (inr (between, way)) = (u, v ∷ between, (b, way))
+
+  -- from a link a way leads to each of these
+  abbrev Seen : List ℕ → ℕ → Type 0
+  Seen seen v = (q : ℕ) → list_any (eqb q) seen ≡ true → (q < many) × Way v q
+
+  seen_more : (u v : ℕ) (seen : List ℕ) → IsBefore routes u v → Seen seen v → Seen (u ∷ seen) u
+  seen_more u v seen b ways q e = ⊎_elim
+      (λ (w : (eqb q u ≡ true) × (q ≡ u)). (subst (λ (k : ℕ). k < many) (sym w.1) (before-below u v b), inl (sym w.1)))
+      (λ (w : (eqb q u ≡ false) × (q ≢ u)). let s : (q < many) × Way v q = ways q (ap (λ (t : Bool). t || list_any (eqb q) seen) (sym w.0) ∙ e) in (s.0, longer u v q b s.1))
+      (eqb_tells q u)
+
+  -- there is no room for one more
+  full : (u : ℕ) (seen : List ℕ) → many ≤ length seen → IsDistinct eqb (u ∷ seen) → Seen (u ∷ seen) u → ⊥
+  full u seen h d ways = let l : length (u ∷ seen) ≤ many = length-le_from_distinct_below (u ∷ seen) many d (λ q s. (ways q s).0) in omega arith
 
   module _ (taken : List ℕ) (stuck : (e : ℕ) → e < many → is_free pairs taken e ≡ false) where
     abbrev Left : ℕ → Type 0
@@ -240,18 +254,38 @@ module _ (net : Network) (routes : List Route) (are : AreRoutes net routes) (str
         same : (x : ℕ) → eqb x v ≡ true → x ≡ v
         same x h = ⊎_elim (λ (w : (eqb x v ≡ true) × (x ≡ v)). w.1) (λ (w : (eqb x v ≡ false) × (x ≢ v)). absurd (not_both _ h w.0)) (eqb_tells x v)
 
-    none-left : (v : ℕ) → v < many → Left v → ⊥
-    none-left v h left = (way_back many Left (λ _. ⊥) Way (λ v. inl refl)
-        (λ v h left. let u = left-before v h left in inr (u.0, before-below u.0 v u.1, u.2, (λ w way. longer u.0 v w u.1 way), (λ way. circle u.0 v u.1 way)))
-        v h left).1
+    -- going back over links that aren't taken, one comes again
+    meets : (left v : ℕ) (seen : List ℕ) → many ≤ length seen + left → v < many → Left v → IsDistinct eqb seen → Seen seen v → HoldCircle routes
+    meets zero v seen m h out d ways =
+        let b : (u : ℕ) × IsBefore routes u v × Left u = left-before v h out in
+        ⊎_elim
+        (λ (w : list_any (eqb b.0) seen ≡ true). closed b.0 v b.1 (ways b.0 w).1)
+        (λ (w : list_any (eqb b.0) seen ≡ false). absurd (full b.0 seen (omega arith) (distinct_more b.0 seen w d) (seen_more b.0 v seen b.1 ways)))
+        (true_or_false (list_any (eqb b.0) seen))
+    meets (suc left) v seen m h out d ways =
+        let b : (u : ℕ) × IsBefore routes u v × Left u = left-before v h out in
+        ⊎_elim
+        (λ (w : list_any (eqb b.0) seen ≡ true). closed b.0 v b.1 (ways b.0 w).1)
+        (λ (w : list_any (eqb b.0) seen ≡ false).
+        meets left b.0 (b.0 ∷ seen) (one_less (length seen) left m) (before-below b.0 v b.1) b.2 (distinct_more b.0 seen w d) (seen_more b.0 v seen b.1 ways))
+        (true_or_false (list_any (eqb b.0) seen))
+      where
+        one_less : (l k : ℕ) → many ≤ l + suc k → many ≤ suc l + k
+        one_less l k h = omega arith
+
+    circle-back : (v : ℕ) → v < many → Left v → HoldCircle routes
+    circle-back v h out = meets many v [] (let n : many ≤ 0 + many = omega arith in n) h out distinct_none (λ q e. absurd (cc))
 
   record Good (taken : List ℕ) : Type 0 where
     pub distinct : IsDistinct eqb taken
     pub below : (q : ℕ) → list_any (eqb q) taken ≡ true → q < many
 
-  all-taken : (more : ℕ) (taken : List ℕ) → length taken + more ≡ many → Good taken → (e : ℕ) → e < many → (is_taken taken e ≡ true) ⊎ In e (order_from more pairs many taken)
+  abbrev Comes : ℕ → List ℕ → ℕ → Type 0
+  Comes more taken e = (is_taken taken e ≡ true) ⊎ In e (order_from more pairs many taken)
+
+  all-taken : (more : ℕ) (taken : List ℕ) → length taken + more ≡ many → Good taken → (e : ℕ) → e < many → Comes more taken e ⊎ HoldCircle routes
   all-taken zero taken count good e h = ⊎_elim
-      (λ (k : is_taken taken e ≡ true). inl k)
+      (λ (k : is_taken taken e ≡ true). inl (inl k))
       (λ (k : is_taken taken e ≡ false).
       let full : length (e ∷ taken) ≤ many = length-le_from_distinct_below (e ∷ taken) many (distinct_more e taken (not-in taken e k) good.distinct)
       (λ q w. ⊎_elim (λ (v : (eqb q e ≡ true) × (q ≡ e)). subst (λ (x : ℕ). x < many) (sym v.1) h)
@@ -261,11 +295,11 @@ module _ (net : Network) (routes : List Route) (are : AreRoutes net routes) (str
   all-taken (suc more) taken count good e h = by (first_free pairs taken (range_with_len 0 many)) refl
       (λ f next. all-taken more (f ∷ taken) (omega arith) next e h)
     where
-      by : (o : Option ℕ) → first_free pairs taken (range_with_len 0 many) ≡ o → ((f : ℕ) → Good (f ∷ taken) → (is_taken (f ∷ taken) e ≡ true) ⊎ In e (order_from more pairs many (f ∷ taken)))
-          → (is_taken taken e ≡ true) ⊎ In e (with_next o (λ f. order_from more pairs many (f ∷ taken)))
+      by : (o : Option ℕ) → first_free pairs taken (range_with_len 0 many) ≡ o → ((f : ℕ) → Good (f ∷ taken) → Comes more (f ∷ taken) e ⊎ HoldCircle routes)
+          → ((is_taken taken e ≡ true) ⊎ In e (with_next o (λ f. order_from more pairs many (f ∷ taken)))) ⊎ HoldCircle routes
       by None none later = ⊎_elim
-          (λ (k : is_taken taken e ≡ true). inl k)
-          (λ (k : is_taken taken e ≡ false). absurd (none-left taken (λ f i. free-none pairs taken (range_with_len 0 many) f none (in-range 0 many f (omega arith) (let n : f < 0 + many = omega arith in n))) e h k))
+          (λ (k : is_taken taken e ≡ true). inl (inl k))
+          (λ (k : is_taken taken e ≡ false). inr (circle-back taken (λ f i. free-none pairs taken (range_with_len 0 many) f none (in-range 0 many f (omega arith) (let n : f < 0 + many = omega arith in n))) e h k))
           (true_or_false (is_taken taken e))
       by (Some f) some later =
           let w = free-some pairs taken (range_with_len 0 many) f some in
@@ -277,20 +311,39 @@ module _ (net : Network) (routes : List Route) (are : AreRoutes net routes) (str
                 (λ (x : (eqb q f ≡ false) × (q ≢ f)). good.below q (ap (λ (b : Bool). b || list_any (eqb q) taken) (sym x.0) ∙ v)) (eqb_tells q f);
           } in
           ⊎_elim
+          (λ (c : Comes more (f ∷ taken) e). inl (⊎_elim
           (λ (v : is_taken (f ∷ taken) e ≡ true). ⊎_elim
           (λ (x : e ≡ f). inr (inl x))
           (λ (x : In e taken). inl (in-taken taken e x))
           (taken-in (f ∷ taken) e v))
           (λ (v : In e (order_from more pairs many (f ∷ taken))). inr (inr v))
+          c))
+          (λ (c : HoldCircle routes). inr c)
           (later f next)
 
-  pub takes_all-straight : takes_all many routes ≡ true
-  unfolding takes_all loading_order
-  takes_all-straight = all-by (λ e. is_taken (order_from many pairs many []) e) (range_with_len 0 many)
-      (λ e k. ⊎_elim
+  comes-or-circle : (e : ℕ) → e < many → (is_taken (order_from many pairs many []) e ≡ true) ⊎ HoldCircle routes
+  comes-or-circle e h = ⊎_elim
+      (λ (c : Comes many [] e). inl (⊎_elim
       (λ (v : is_taken [] e ≡ true). absurd (cc))
       (λ (v : In e (order_from many pairs many [])). in-taken (order_from many pairs many []) e v)
-      (all-taken many [] (let n : 0 + many ≡ many = omega arith in n) (record { distinct = distinct_none; below = λ q v. absurd (cc) }) e (let r = range-below 0 many e k in omega arith)))
+      c))
+      (λ (c : HoldCircle routes). inr c)
+      (all-taken many [] (let n : 0 + many ≡ many = omega arith in n) (record { distinct = distinct_none; below = λ q v. absurd (cc) }) e h)
+
+  pub circle-found : takes_all many routes ≡ false → HoldCircle routes
+  unfolding takes_all loading_order
+  circle-found h =
+      let r = not-all (λ e. is_taken (order_from many pairs many []) e) (range_with_len 0 many) h in
+      ⊎_elim
+      (λ (t : is_taken (order_from many pairs many []) r.0 ≡ true). absurd (not_both _ t r.2))
+      (λ (c : HoldCircle routes). c)
+      (comes-or-circle r.0 (let b = range-below 0 many r.0 r.1 in omega arith))
+
+  pub takes_all-straight : (HoldCircle routes → ⊥) → takes_all many routes ≡ true
+  takes_all-straight straight = ⊎_elim
+      (λ (k : takes_all many routes ≡ true). k)
+      (λ (k : takes_all many routes ≡ false). absurd (straight (circle-found k)))
+      (true_or_false (takes_all many routes))
 
 -- ---- along a circle no link is taken
 module _ (routes : List Route) (many : ℕ) where

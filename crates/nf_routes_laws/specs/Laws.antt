@@ -1,5 +1,5 @@
 -- What the lists of loading by route give.
-use Rattle.std.specs.Prelude.{◌≡◌, true, List, ◌∷◌, ◌++◌, length, Ok}
+use Rattle.std.specs.Prelude.{◌≡◌, true, false, List, ◌∷◌, ◌++◌, length, Ok}
 use Rattle.nf_rational.specs.Rational.{ℚ}
 use Rattle.nf_rational.specs.Operations.{0ℚ}
 use Rattle.nf_rational.specs.Order.{◌≤ℚ◌}
@@ -43,7 +43,8 @@ abbrev pub LoadedRoutesArrive : Type 0
 LoadedRoutesArrive = (net : Network) (routes : List Route) (horizon : ℚ) (routed : Routed) → IsNetwork net → AreRoutes net routes → 0ℚ ≤ℚ horizon → IsRouted net routes horizon routed
     → RoutesArrive net routes horizon routed
 
--- the order of loading takes each link where no links stand in a circle, and else not
+-- the order of loading takes each link where no links stand in a circle, and else not: where it leaves one out, some stand in a circle
 pub record OrderTakesAll : Type 0 where
   pub straight : (net : Network) (routes : List Route) → AreRoutes net routes → ¬ HoldCircle routes → takes_all (length net.links) routes ≡ true
   pub circle : (net : Network) (routes : List Route) → AreRoutes net routes → takes_all (length net.links) routes ≡ true → ¬ HoldCircle routes
+  pub found : (net : Network) (routes : List Route) → AreRoutes net routes → takes_all (length net.links) routes ≡ false → HoldCircle routes

@@ -1,5 +1,6 @@
 -- Routes files by computation, and the text of what is loaded by route: links p and q from s to u, and z from u to t.
 use Rattle.std.specs.Prelude.{◌≡◌, ℕ, List, [], ◌∷◌, ◌++◌, flat_map, map, Some, None, Result, Ok, Err, codes, pos, refl}
+use Rattle.std.proofs.Common.{inr}
 use Rattle.std.specs.List.{range_with_len}
 use Rattle.nf_rational.specs.Gcd.{gcd}
 use Rattle.nf_rational.specs.Rational.{ratio}
@@ -21,8 +22,8 @@ use Rattle.nf_curve_lists.specs.Composed.{checked_composed}
 use Rattle.nf_curve_lists.specs.Short.{checked_short}
 use Rattle.nf_load_lists.specs.Cumulative.{checked_cumulative}
 use Rattle.nf_load_lists.specs.Loading.{grown, drained, exit_after, checked_loading}
-use Rattle.nf_routes_lists.specs.Routes.{loading_order, takes_all}
-use Rattle.nf_routes_lists.specs.RoutesFile.{RoutesBroken, NamedRoute, routes_in}
+use Rattle.nf_routes_lists.specs.Routes.{HoldCircle, loading_order, takes_all}
+use Rattle.nf_routes_lists.specs.RoutesFile.{RoutesBroken, NamedRoute, routes_of, routes_of_lines, circle_broken, ReadsRoutes, routes_in}
 use Rattle.nf_routes_lists.specs.RoutesList.{Routed, next_entry, routes_list}
 use Rattle.nf_routes_lists.specs.RoutesText.{routed_text}
 use Rattle.nf_routes_lists.specs.RuleWords.{routes_rule_word}
@@ -52,74 +53,74 @@ read lines = seen (routes_in named (text_of lines))
 -- rate lines of several routes may be mixed, and a route may have none
 two : read (codes "routes 1" ∷ codes "route one p z" ∷ codes "rate one 0 1" ∷ codes "route two q z" ∷ codes "rate two 0 2/4" ∷ codes "rate one 2 0" ∷ codes "route none p z" ∷ codes "end" ∷ [])
     ≡ Ok ((codes "one", 0 ∷ 2 ∷ [], (i 0, i 1) ∷ (i 2, i 0) ∷ []) ∷ (codes "two", 1 ∷ 2 ∷ [], (i 0, (pos 1, 2)) ∷ []) ∷ (codes "none", 0 ∷ 2 ∷ [], []) ∷ [])
-unfolding routes_in takes_all loading_order number_of number_parts whole ratio gcd le_ℚ lt_ℚ
+unfolding routes_in routes_of_lines takes_all loading_order number_of number_parts whole ratio gcd le_ℚ lt_ℚ
 two = refl
 
 no_ascii : read (codes "routes 1" ∷ codes "rate a 1" ∷ (127 ∷ []) ∷ []) ≡ Err (codes "G1", 3)
-unfolding routes_in takes_all loading_order number_of number_parts whole ratio gcd le_ℚ lt_ℚ
+unfolding routes_in routes_of_lines takes_all loading_order number_of number_parts whole ratio gcd le_ℚ lt_ℚ
 no_ascii = refl
 
 nothing : read [] ≡ Err (codes "G3", 1)
-unfolding routes_in takes_all loading_order number_of number_parts whole ratio gcd le_ℚ lt_ℚ
+unfolding routes_in routes_of_lines takes_all loading_order number_of number_parts whole ratio gcd le_ℚ lt_ℚ
 nothing = refl
 
 no_version : read (codes "# a comment" ∷ codes "routes 2" ∷ codes "end" ∷ []) ≡ Err (codes "G3", 2)
-unfolding routes_in takes_all loading_order number_of number_parts whole ratio gcd le_ℚ lt_ℚ
+unfolding routes_in routes_of_lines takes_all loading_order number_of number_parts whole ratio gcd le_ℚ lt_ℚ
 no_version = refl
 
 after_end : read (codes "routes 1" ∷ codes "end" ∷ codes "route" ∷ []) ≡ Err (codes "G4", 3)
-unfolding routes_in takes_all loading_order number_of number_parts whole ratio gcd le_ℚ lt_ℚ
+unfolding routes_in routes_of_lines takes_all loading_order number_of number_parts whole ratio gcd le_ℚ lt_ℚ
 after_end = refl
 
 no_keyword : read (codes "routes 1" ∷ codes "inflow 0 1" ∷ codes "end" ∷ []) ≡ Err (codes "G5", 2)
-unfolding routes_in takes_all loading_order number_of number_parts whole ratio gcd le_ℚ lt_ℚ
+unfolding routes_in routes_of_lines takes_all loading_order number_of number_parts whole ratio gcd le_ℚ lt_ℚ
 no_keyword = refl
 
 no_links : read (codes "routes 1" ∷ codes "route one" ∷ codes "end" ∷ []) ≡ Err (codes "G6", 2)
-unfolding routes_in takes_all loading_order number_of number_parts whole ratio gcd le_ℚ lt_ℚ
+unfolding routes_in routes_of_lines takes_all loading_order number_of number_parts whole ratio gcd le_ℚ lt_ℚ
 no_links = refl
 
 no_name : read (codes "routes 1" ∷ codes "route o/e x" ∷ codes "end" ∷ []) ≡ Err (codes "G7", 2)
-unfolding routes_in takes_all loading_order number_of number_parts whole ratio gcd le_ℚ lt_ℚ
+unfolding routes_in routes_of_lines takes_all loading_order number_of number_parts whole ratio gcd le_ℚ lt_ℚ
 no_name = refl
 
 -- idle links aren't there
 idle : read (codes "routes 1" ∷ codes "route one w" ∷ codes "end" ∷ []) ≡ Err (codes "G8", 2)
-unfolding routes_in takes_all loading_order number_of number_parts whole ratio gcd le_ℚ lt_ℚ
+unfolding routes_in routes_of_lines takes_all loading_order number_of number_parts whole ratio gcd le_ℚ lt_ℚ
 idle = refl
 
 -- a rate needs the line of its route above it
 no_route : read (codes "routes 1" ∷ codes "rate one 0 x" ∷ codes "route one p z" ∷ codes "end" ∷ []) ≡ Err (codes "G8", 2)
-unfolding routes_in takes_all loading_order number_of number_parts whole ratio gcd le_ℚ lt_ℚ
+unfolding routes_in routes_of_lines takes_all loading_order number_of number_parts whole ratio gcd le_ℚ lt_ℚ
 no_route = refl
 
 no_number : read (codes "routes 1" ∷ codes "route one p z" ∷ codes "rate one 0 1.5" ∷ codes "end" ∷ []) ≡ Err (codes "G9", 3)
-unfolding routes_in takes_all loading_order number_of number_parts whole ratio gcd le_ℚ lt_ℚ
+unfolding routes_in routes_of_lines takes_all loading_order number_of number_parts whole ratio gcd le_ℚ lt_ℚ
 no_number = refl
 
 -- the second route of a name isn't asked whether it leads from source to sink
 twice : read (codes "routes 1" ∷ codes "route one p z" ∷ codes "route one z p" ∷ codes "end" ∷ []) ≡ Err (codes "G10", 3)
-unfolding routes_in takes_all loading_order number_of number_parts whole ratio gcd le_ℚ lt_ℚ
+unfolding routes_in routes_of_lines takes_all loading_order number_of number_parts whole ratio gcd le_ℚ lt_ℚ
 twice = refl
 
 too_many : read (codes "routes 1" ∷ map (λ k. codes "route r" ++ digits_of k ++ codes " p z") (range_with_len 0 101) ++ codes "end" ∷ []) ≡ Err (codes "G11", 102)
-unfolding routes_in takes_all loading_order number_of number_parts digits_of whole ratio gcd le_ℚ lt_ℚ
+unfolding routes_in routes_of_lines takes_all loading_order number_of number_parts digits_of whole ratio gcd le_ℚ lt_ℚ
 too_many = refl
 
 no_walk : read (codes "routes 1" ∷ codes "route one p q" ∷ codes "end" ∷ []) ≡ Err (codes "G12", 2)
-unfolding routes_in takes_all loading_order number_of number_parts whole ratio gcd le_ℚ lt_ℚ
+unfolding routes_in routes_of_lines takes_all loading_order number_of number_parts whole ratio gcd le_ℚ lt_ℚ
 no_walk = refl
 
 negative : read (codes "routes 1" ∷ codes "route one p z" ∷ codes "rate one 1 0" ∷ codes "rate one 0 -1" ∷ codes "end" ∷ []) ≡ Err (codes "G13", 4)
-unfolding routes_in takes_all loading_order number_of number_parts whole ratio gcd le_ℚ lt_ℚ
+unfolding routes_in routes_of_lines takes_all loading_order number_of number_parts whole ratio gcd le_ℚ lt_ℚ
 negative = refl
 
 not_above : read (codes "routes 1" ∷ codes "route one p z" ∷ codes "route two q z" ∷ codes "rate one 1 0" ∷ codes "rate two 1 2" ∷ codes "rate one 1 2" ∷ codes "end" ∷ []) ≡ Err (codes "G14", 6)
-unfolding routes_in takes_all loading_order number_of number_parts whole ratio gcd le_ℚ lt_ℚ
+unfolding routes_in routes_of_lines takes_all loading_order number_of number_parts whole ratio gcd le_ℚ lt_ℚ
 not_above = refl
 
 no_end : read (codes "routes 1" ∷ codes "route one p z" ∷ []) ≡ Err (codes "G16", 0)
-unfolding routes_in takes_all loading_order number_of number_parts whole ratio gcd le_ℚ lt_ℚ
+unfolding routes_in routes_of_lines takes_all loading_order number_of number_parts whole ratio gcd le_ℚ lt_ℚ
 no_end = refl
 
 -- ---- links b from u to v and c back: one route takes c after b, the other b after c
@@ -140,12 +141,37 @@ crossing = record {
 }
 
 circle : seen (routes_in crossing (text_of (codes "routes 1" ∷ codes "route one a b c e" ∷ codes "route two f c b d" ∷ codes "end" ∷ []))) ≡ Err (codes "G17", 0)
-unfolding routes_in takes_all loading_order number_of number_parts whole ratio gcd le_ℚ lt_ℚ
+unfolding routes_in routes_of_lines takes_all loading_order number_of number_parts whole ratio gcd le_ℚ lt_ℚ
 circle = refl
 
--- the first of them by itself is no circle
+-- the circle: b is directly before c on the first route, and c directly before b on the second
+abbrev crossing_routes : List NamedRoute
+crossing_routes =
+    record { name = codes "one"; route = record { links = 0 ∷ 1 ∷ 2 ∷ 4 ∷ []; pieces = [] } }
+    ∷ record { name = codes "two"; route = record { links = 5 ∷ 2 ∷ 1 ∷ 3 ∷ []; pieces = [] } } ∷ []
+
+they_hold : HoldCircle (routes_of crossing_routes)
+they_hold = (
+  1,
+  2 ∷ [],
+  (
+    record { number = 0; place = 1; route = record { links = 0 ∷ 1 ∷ 2 ∷ 4 ∷ []; pieces = [] }; is_route = refl; here = refl; next = refl },
+    record { number = 1; place = 1; route = record { links = 5 ∷ 2 ∷ 1 ∷ 3 ∷ []; pieces = [] }; is_route = refl; here = refl; next = refl },
+  ),
+)
+
+refused : ReadsRoutes crossing (text_of (codes "routes 1" ∷ codes "route one a b c e" ∷ codes "route two f c b d" ∷ codes "end" ∷ [])) (Err circle_broken)
+unfolding routes_of_lines number_of number_parts whole ratio gcd le_ℚ lt_ℚ
+refused = inr (refl, record { routes = crossing_routes; read = refl; circle = they_hold })
+
+-- one route that goes over a link twice
+again : seen (routes_in crossing (text_of (codes "routes 1" ∷ codes "route one a b c b d" ∷ codes "end" ∷ []))) ≡ Err (codes "G17", 0)
+unfolding routes_in routes_of_lines takes_all loading_order number_of number_parts whole ratio gcd le_ℚ lt_ℚ
+again = refl
+
+-- the first of the two by itself is no circle
 alone : seen (routes_in crossing (text_of (codes "routes 1" ∷ codes "route one a b c e" ∷ codes "end" ∷ []))) ≡ Ok ((codes "one", 0 ∷ 1 ∷ 2 ∷ 4 ∷ [], []) ∷ [])
-unfolding routes_in takes_all loading_order number_of number_parts whole ratio gcd le_ℚ lt_ℚ
+unfolding routes_in routes_of_lines takes_all loading_order number_of number_parts whole ratio gcd le_ℚ lt_ℚ
 alone = refl
 
 -- ---- what is written

@@ -9,7 +9,11 @@ pub record Route : Type 0 where
   pub links : List ℕ
   pub pieces : List Piece
 
--- routes of a network: walks from source to sink
+-- walks of a network from source to sink
+pub record AreWalks (net : Network) (routes : List Route) : Type 0 where
+  pub each : (r : ℕ) (route : Route) → slice_get routes r ≡ Some route → IsWalk (hops net) route.links net.source net.sink
+
+-- routes of a network: walks from source to sink, with the pieces that are sent along them
 pub record AreRoutes (net : Network) (routes : List Route) : Type 0 where
   pub walks : (r : ℕ) (route : Route) → slice_get routes r ≡ Some route → IsWalk (hops net) route.links net.source net.sink
   pub pieces : (r : ℕ) (route : Route) → slice_get routes r ≡ Some route → ArePieces route.pieces
@@ -36,6 +40,7 @@ abbrev pub LeadsTo : List Route → ℕ → List ℕ → ℕ → Type 0
 LeadsTo routes e [] f = IsBefore routes e f
 LeadsTo routes e (g ∷ rest) f = IsBefore routes e g × LeadsTo routes g rest f
 
+-- a circle: links, each directly before the next on some route, that begin and end with the same link
 abbrev pub HoldCircle : List Route → Type 0
 HoldCircle routes = (e : ℕ) × (between : List ℕ) × LeadsTo routes e between e
 
@@ -62,6 +67,6 @@ order_from (suc more) pairs links taken = with_next (first_free pairs taken (ran
 unfoldable pub loading_order : ℕ → List Route → List ℕ
 loading_order links routes = order_from links (all_pairs routes) links []
 
--- each link is taken, unless some stand in a circle
+-- Each link is taken: the test that there is no circle.
 unfoldable pub takes_all : ℕ → List Route → Bool
 takes_all links routes = list_all (λ e. is_taken (loading_order links routes) e) (range_with_len 0 links)

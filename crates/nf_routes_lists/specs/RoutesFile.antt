@@ -1,5 +1,5 @@
 -- The routes file: which routes it gives in a network, or which rule it breaks first, and where.
-use Rattle.std.specs.Prelude.{ℕ, Bool, true, false, not, ◌&&◌, ◌||◌, ◌==◌, nat_le, if◌then◌else◌, List, [], ◌∷◌, ◌++◌, length, map, set, Option, Some, None, Result, Ok, Err, codes, slice_get}
+use Rattle.std.specs.Prelude.{◌≡◌, ◌⊎◌, ℕ, Bool, true, false, not, ◌&&◌, ◌||◌, ◌==◌, nat_le, if◌then◌else◌, List, [], ◌∷◌, ◌++◌, length, map, set, Option, Some, None, Result, Ok, Err, codes, slice_get}
 use Rattle.std.specs.List.{last_or, list_all}
 use Rattle.std.specs.Result.{result_ok}
 use Rattle.std.specs.Str.{bytes_eq}
@@ -15,7 +15,7 @@ use Rattle.nf_formats.specs.NetLines.{is_negative, is_not_after}
 use Rattle.nf_formats.specs.Named.{Named}
 use Rattle.nf_routes_lists.specs.declared.RoutesRule.{RoutesRule}
 use Rattle.nf_routes_lists.specs.declared.RoutesRule.TheVariants.{G1, G2, G3, G4, G5, G6, G7, G8, G9, G10, G11, G12, G13, G14, G15, G16, G17}
-use Rattle.nf_routes_lists.specs.Routes.{Route, takes_all}
+use Rattle.nf_routes_lists.specs.Routes.{Route, HoldCircle, takes_all}
 
 -- the most routes
 abbrev pub most_routes : ℕ
@@ -77,6 +77,17 @@ pub record RoutesDraft : Type 0 where
 abbrev pub route_names : List NamedRoute → List Name
 route_names routes = map (λ r. r.name) routes
 
+-- without their names
+abbrev pub routes_of : List NamedRoute → List Route
+routes_of routes = map (λ r. r.route) routes
+
+abbrev pub links_of : Option NamedRoute → List ℕ
+links_of None = []
+links_of (Some r) = r.route.links
+
+abbrev pub links_at : List NamedRoute → ℕ → List ℕ
+links_at routes r = links_of (slice_get routes r)
+
 abbrev pub pieces_of : Option NamedRoute → List Piece
 pieces_of None = []
 pieces_of (Some r) = r.route.pieces
@@ -101,20 +112,27 @@ abbrev pub first_rule : List (Bool × RoutesRule) → Option RoutesRule
 first_rule [] = None
 first_rule (test ∷ rest) = if test.0 then Some test.1 else first_rule rest
 
+-- the first rule that a piece breaks behind others of its route
+abbrev pub rule_behind : List Piece → Piece → Option RoutesRule
+rule_behind before piece = first_rule (
+    (is_negative piece.start || is_negative piece.rate, G13)
+    ∷ (is_not_after piece.start (last_or None before), G14)
+    ∷ (nat_le most_lines_of_a_route (length before), G15) ∷ [])
+
 abbrev pub routes_rule_of : Network → RoutesDraft → RoutesEntry → Option RoutesRule
 routes_rule_of net draft (RouteLine name links) = first_rule (
     (has_name (route_names draft.routes) name, G10) ∷ (nat_le most_routes (length draft.routes), G11)
     ∷ (not (is_walk net.links links net.source net.sink), G12) ∷ [])
-routes_rule_of net draft (RateLine r piece) = first_rule (
-    (is_negative piece.start || is_negative piece.rate, G13)
-    ∷ (is_not_after piece.start (last_or None (pieces_at draft.routes r)), G14)
-    ∷ (nat_le most_lines_of_a_route (length (pieces_at draft.routes r)), G15) ∷ [])
+routes_rule_of net draft (RateLine r piece) = rule_behind (pieces_at draft.routes r) piece
 routes_rule_of net draft End = None
+
+-- the route with one more piece
+abbrev pub longer : NamedRoute → Piece → NamedRoute
+longer named piece = record { name = named.name; route = record { links = named.route.links; pieces = named.route.pieces ++ piece ∷ [] } }
 
 abbrev pub with_piece : Piece → Option NamedRoute → List NamedRoute → ℕ → List NamedRoute
 with_piece piece None routes r = routes
-with_piece piece (Some named) routes r =
-    set routes r (record { name = named.name; route = record { links = named.route.links; pieces = named.route.pieces ++ piece ∷ [] } })
+with_piece piece (Some named) routes r = set routes r (longer named piece)
 
 abbrev pub routes_after : RoutesDraft → RoutesEntry → RoutesDraft
 routes_after draft (RouteLine name links) = record draft { routes = draft.routes ++ record { name = name; route = record { links = links; pieces = [] } } ∷ [] }
@@ -148,12 +166,8 @@ abbrev pub routes_draft : Named → List ReadLine → Result RoutesDraft RoutesB
 routes_draft n [] = Err (record { rule = G3; line = 1 })
 routes_draft n (line ∷ rest) = if is_routes_1 line.words then add_route_lines n (record { routes = []; ended = false }) rest else Err (record { rule = G3; line = line.number })
 
-abbrev pub is_ordered : Named → List NamedRoute → Bool
-is_ordered n routes = takes_all (length n.net.links) (map (λ r. r.route) routes)
-
-abbrev pub routes_closed : Named → RoutesDraft → Result (List NamedRoute) RoutesBroken
-routes_closed n draft = if not draft.ended then Err (record { rule = G16; line = 0 })
-    else (if is_ordered n draft.routes then Ok draft.routes else Err (record { rule = G17; line = 0 }))
+abbrev pub routes_ended : RoutesDraft → Result (List NamedRoute) RoutesBroken
+routes_ended draft = if draft.ended then Ok draft.routes else Err (record { rule = G16; line = 0 })
 
 abbrev pub as_routes_rule : LineFault → RoutesBroken
 as_routes_rule (NotAscii line) = record { rule = G1; line = line }
@@ -163,6 +177,32 @@ abbrev pub routes_by_bytes : Option LineFault → Result (List NamedRoute) Route
 routes_by_bytes (Some fault) read = Err (as_routes_rule fault)
 routes_by_bytes None read = read
 
--- the routes in the order of their lines; or the first rule that is broken, with its line
+-- the routes in the order of their lines, or the first rule that is broken, of all rules but the last
+unfoldable pub routes_of_lines : Named → List ℕ → Result (List NamedRoute) RoutesBroken
+routes_of_lines n text = routes_by_bytes (first_fault text) (routes_draft n (content_lines (read_lines text)) >>= routes_ended)
+
+-- ---- the last rule
+-- a text that breaks none of the others gives routes that hold a circle
+pub record HoldsCircleIn (n : Named) (text : List ℕ) : Type 0 where
+  pub routes : List NamedRoute
+  pub read : routes_of_lines n text ≡ Ok routes
+  pub circle : HoldCircle (routes_of routes)
+
+abbrev pub circle_broken : RoutesBroken
+circle_broken = record { rule = G17; line = 0 }
+
+-- What a text is read as: routes that hold no circle; or the first rule that it breaks, which is the last one where they hold a circle.
+abbrev pub ReadsRoutes : Named → List ℕ → Result (List NamedRoute) RoutesBroken → Type 0
+ReadsRoutes n text (Ok routes) = (routes_of_lines n text ≡ Ok routes) × ¬ HoldCircle (routes_of routes)
+ReadsRoutes n text (Err broken) = (routes_of_lines n text ≡ Err broken) ⊎ ((broken ≡ circle_broken) × HoldsCircleIn n text)
+
+-- ---- the same, decided
+abbrev pub is_ordered : Named → List NamedRoute → Bool
+is_ordered n routes = takes_all (length n.net.links) (routes_of routes)
+
+abbrev pub unless_circle : Named → List NamedRoute → Result (List NamedRoute) RoutesBroken
+unless_circle n routes = if is_ordered n routes then Ok routes else Err circle_broken
+
+-- the last rule by the order of loading
 unfoldable pub routes_in : Named → List ℕ → Result (List NamedRoute) RoutesBroken
-routes_in n text = routes_by_bytes (first_fault text) (routes_draft n (content_lines (read_lines text)) >>= routes_closed n)
+routes_in n text = routes_of_lines n text >>= unless_circle n

@@ -24,7 +24,7 @@ loop-route-preserved g c =
     let below : i < n = omega arith in
     let routed = routed_of c.args.routed.now in
     let lines = route_lines c.args.routes.now routed in
-    let here = same_route c.args.routes.now routed i _ _ _ (c.as_bytes-name.ensures.value ∙ c.name.ensures)
+    let here = same_route c.args.routes.now routed i _ _ _ (c.as_bytes-name.ensures.value ∙ c.name.ensures.value)
     (points_there c.args.routed.now.arrivals.items i c.index-arrival.result.now c.index-arrival.ensures (omega arith))
     (points_there c.args.routed.now.travels.items i c.index-travel.result.now c.index-travel.ensures (omega arith)) in
     wrote_next (flat_map lines (take i (range_with_len 0 n))) (lines i) (flat_map lines (take (i + 1) (range_with_len 0 n))) (each_next n lines i below) c.loop-route.invariant
@@ -37,7 +37,7 @@ returns-in_err-write_route g c =
     let below : i < n = omega arith in
     let routed = routed_of c.args.routed.now in
     let lines = route_lines c.args.routes.now routed in
-    let here = same_route c.args.routes.now routed i _ _ _ (c.as_bytes-name.ensures.value ∙ c.name.ensures)
+    let here = same_route c.args.routes.now routed i _ _ _ (c.as_bytes-name.ensures.value ∙ c.name.ensures.value)
     (points_there c.args.routed.now.arrivals.items i c.index-arrival.result.now c.index-arrival.ensures (omega arith))
     (points_there c.args.routed.now.travels.items i c.index-travel.result.now c.index-travel.ensures (omega arith)) in
     wrote_then_failed (flat_map lines (take i (range_with_len 0 n))) (lines i) (flat_map lines (drop (suc i) (range_with_len 0 n))) (for_each n lines) _ (each_left n lines i below) c.from_residual.ensures.0

@@ -7,9 +7,8 @@ use Rattle.nf_work.specs.Passing.{passes_Q}
 use Rattle.nf_work.specs.Checked.{Checked, Stops, at_part}
 use Rattle.nf_plain_laws.proofs.Entries.{slice_get-image}
 use Rattle.nf_routes_lists.specs.Routes.{Route}
-use Rattle.nf_routes_lists.specs.RoutesFile.{NamedRoute}
+use Rattle.nf_routes_lists.specs.RoutesFile.{NamedRoute, routes_of}
 use Rattle.nf_routes_lists.specs.RoutesList.{begins_with, begin_if}
-use Rattle.nf_route.specs.Kept.{routes_of}
 use Rattle.nf_routes.proofs.Folds.{Sent, begin_all-is, steps_stop, steps_go}
 use Rattle.nf_routes.proofs.entries.begin_all.Goals as goal
 

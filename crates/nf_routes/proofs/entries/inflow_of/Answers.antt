@@ -9,8 +9,7 @@ use Rattle.nf_work.specs.Checked.{at_part}
 use Rattle.nf_plain_laws.proofs.Entries.{slice_get-image}
 use Rattle.nf_routes_lists.specs.Routes.{Route}
 use Rattle.nf_routes_lists.specs.RoutesList.{sum_from}
-use Rattle.nf_routes_lists.specs.RoutesFile.{NamedRoute}
-use Rattle.nf_route.specs.Kept.{routes_of}
+use Rattle.nf_routes_lists.specs.RoutesFile.{NamedRoute, routes_of}
 use Rattle.nf_routes.specs.Standing.{Sends}
 use Rattle.nf_routes.proofs.Folds.{along_at, along-count, sums_stop, sums_go}
 use Rattle.nf_routes.proofs.entries.inflow_of.Goals as goal

@@ -8,9 +8,8 @@ use Rattle.nf_work.specs.Passing.{passes_Q}
 use Rattle.nf_work.specs.Checked.{Checked, Stops, at_part}
 use Rattle.nf_plain_laws.proofs.Entries.{slice_get-image}
 use Rattle.nf_routes_lists.specs.Routes.{Route}
-use Rattle.nf_routes_lists.specs.RoutesFile.{NamedRoute}
+use Rattle.nf_routes_lists.specs.RoutesFile.{NamedRoute, routes_of}
 use Rattle.nf_routes_lists.specs.RoutesList.{goes_over, next_if}
-use Rattle.nf_route.specs.Kept.{routes_of}
 use Rattle.nf_routes.specs.Standing.{Sends}
 use Rattle.nf_routes.proofs.Folds.{Sent, next_all-is, along_at, along-count, was, steps_stop, steps_go, steps_last}
 use Rattle.nf_routes.proofs.entries.send_all_on.Goals as goal

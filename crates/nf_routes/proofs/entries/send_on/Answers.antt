@@ -6,7 +6,7 @@ use Rattle.nf_work.specs.Checked.{at_part}
 use Rattle.nf_curve.proofs.Exits.{stops_on}
 use Rattle.nf_rational.specs.Rational.{ℚ}
 use Rattle.nf_routes_lists.specs.RoutesList.{goes_over, next_if, next_entry}
-use Rattle.nf_share.specs.Amounts.{IsAmount}
+use Rattle.nf_routes.specs.Amounts.{IsAmount}
 use Rattle.nf_routes.proofs.Passed.{next_passes}
 use Rattle.nf_routes.proofs.Sound.{last_amount}
 use Rattle.nf_routes.proofs.entries.send_on.Goals as goal

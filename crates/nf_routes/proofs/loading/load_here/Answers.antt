@@ -17,9 +17,8 @@ use Rattle.nf_curve.proofs.Exits.{stops_on}
 use Rattle.nf_load_lists.specs.Loading.{Loaded, checked_loading}
 use Rattle.nf_load.specs.Loadings.{loaded_of}
 use Rattle.nf_routes_lists.specs.Routes.{all_pairs}
-use Rattle.nf_routes_lists.specs.RoutesFile.{NamedRoute}
+use Rattle.nf_routes_lists.specs.RoutesFile.{NamedRoute, routes_of}
 use Rattle.nf_routes_lists.specs.RoutesList.{LoadedLink, SoFar, end_by, begin_all, sum_from, next_all, load_here}
-use Rattle.nf_route.specs.Kept.{routes_of}
 use Rattle.nf_routes.specs.Standing.{seen_so_far, Along, MayBegin, Sends}
 use Rattle.nf_routes.proofs.Folds.{Sent, along-count}
 use Rattle.nf_routes.proofs.Sound.{have_pieces}

@@ -9,18 +9,25 @@ use Rattle.nf_curve.proofs.Exits.{stops_on, was_ok}
 use Rattle.nf_curve.specs.Points.{Grown}
 use Rattle.nf_load.specs.Loadings.{loaded_of}
 use Rattle.nf_load.specs.declared.loading.Loaded.{Loaded}
-use Rattle.nf_routes_lists.specs.Routes.{Route, AreRoutes}
-use Rattle.nf_routes_lists.specs.RoutesFile.{NamedRoute}
+use Rattle.nf_routes_lists.specs.Routes.{Route, AreRoutes, HoldCircle}
+use Rattle.nf_routes_lists.specs.RoutesFile.{NamedRoute, routes_of}
 use Rattle.nf_routes_lists.specs.RoutesList.{loaded_or, routes_list}
 use Rattle.nf_routes_laws.proofs.Arriving.{arrive}
-use Rattle.nf_routed_laws.proofs.Routed.{routes_list-is}
-use Rattle.nf_route.specs.Kept.{routes_of}
+use Rattle.nf_routes_laws.proofs.Routed.{routes_list-is}
+use Rattle.nf_routes_laws.proofs.FileKept.{are_routes}
 use Rattle.nf_routes.specs.Beginning.{all_loaded}
 use Rattle.nf_routes.specs.Standing.{seen_so_far}
 use Rattle.nf_routes.specs.Travels.{HaveExits, GoOverAll, travel_along}
 use Rattle.nf_routes.proofs.Travelling.{complete_exits, complete_over}
 use Rattle.nf_routes.proofs.Whole.{load_stops, travel_stops, list_comes, same_parts}
 use Rattle.nf_routes.proofs.routed.load_routes.Goals as goal
+
+pub load_all-requires-clause-routes : goal.load_all-requires-clause-routes
+load_all-requires-clause-routes c =
+    subst (λ (l : List NamedRoute). AreRoutes c.args.net.now.net (routes_of l)) (sym c.as_slice-list.ensures.value) (are_routes c.args.net.now.net c.args.routes.now c.as_slice-list.ensures.kept.form c.requires.walks)
+
+pub load_all-requires-clause-straight : goal.load_all-requires-clause-straight
+load_all-requires-clause-straight c = subst (λ (l : List NamedRoute). HoldCircle (routes_of l) → ⊥) (sym c.as_slice-list.ensures.value) c.as_slice-list.ensures.kept.straight
 
 pub returns-in_err-so_far-clause-list : goal.returns-in_err-so_far-clause-list
 returns-in_err-so_far-clause-list c =
@@ -38,7 +45,7 @@ pub travels-requires-clause-over : goal.travels-requires-clause-over
 travels-requires-clause-over c =
     let same : c.as_slice-list.result.now ≡ c.args.routes.now = c.as_slice-list.ensures.value in
     let links : map loaded_of c.deref.result.now ≡ map (loaded_or passes_Q) c.in_ok-so_far.so_far.links.items = ap (λ (l : List Loaded). map loaded_of l) c.deref.ensures.value ∙ c.in_ok-ends.ensures.loaded in
-    let are : AreRoutes c.args.net.now.net (routes_of c.as_slice-list.result.now) = subst (λ (l : List NamedRoute). AreRoutes c.args.net.now.net (routes_of l)) (sym same) c.requires.routes in
+    let are : AreRoutes c.args.net.now.net (routes_of c.as_slice-list.result.now) = subst (λ (l : List NamedRoute). AreRoutes c.args.net.now.net (routes_of l)) (sym same) (are_routes c.args.net.now.net c.args.routes.now c.as_slice-list.ensures.kept.form c.requires.walks) in
     subst (λ (l : List _). GoOverAll l (routes_of c.as_slice-list.result.now)) (sym links) (complete_over passes_Q c.args.net.now.net (routes_of c.as_slice-list.result.now) (seen_so_far c.in_ok-so_far.so_far) c.in_ok-so_far.ensures.complete are)
 
 pub returns-in_err-travels-clause-list : goal.returns-in_err-travels-clause-list
@@ -59,9 +66,9 @@ returns-clause-list c =
 
 pub returns-clause-routed : goal.returns-clause-routed
 returns-clause-routed c =
-    routes_list-is passes_Q c.args.net.now.net (routes_of c.args.routes.now) c.args.horizon _ c.version.ensures.named.network c.requires.routes c.as_slice-list.ensures.straight c.requires.horizon
+    routes_list-is passes_Q c.args.net.now.net (routes_of c.args.routes.now) c.args.horizon _ c.version.ensures.named.network (are_routes c.args.net.now.net c.args.routes.now c.as_slice-list.ensures.kept.form c.requires.walks) c.as_slice-list.ensures.kept.straight c.requires.horizon
     (was_ok Load (routes_list passes_Q c.args.net.now.net (routes_of c.args.routes.now) c.args.horizon) _ (returns-clause-list c))
 
 pub returns-clause-arrives : goal.returns-clause-arrives
 returns-clause-arrives c =
-    arrive c.args.net.now.net (routes_of c.args.routes.now) c.args.horizon _ c.version.ensures.named.network c.requires.routes c.requires.horizon (returns-clause-routed c)
+    arrive c.args.net.now.net (routes_of c.args.routes.now) c.args.horizon _ c.version.ensures.named.network (are_routes c.args.net.now.net c.args.routes.now c.as_slice-list.ensures.kept.form c.requires.walks) c.requires.horizon (returns-clause-routed c)

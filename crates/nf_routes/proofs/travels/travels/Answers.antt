@@ -13,8 +13,7 @@ use Rattle.nf_curve.specs.Points.{Grown}
 use Rattle.nf_load.specs.Loadings.{loaded_of}
 use Rattle.nf_plain_laws.proofs.Entries.{slice_get-image}
 use Rattle.nf_routes_lists.specs.Routes.{Route}
-use Rattle.nf_routes_lists.specs.RoutesFile.{NamedRoute}
-use Rattle.nf_route.specs.Kept.{routes_of}
+use Rattle.nf_routes_lists.specs.RoutesFile.{NamedRoute, routes_of}
 use Rattle.nf_routes.specs.Travels.{travel_along}
 use Rattle.nf_routes.proofs.Folds.{drop_at}
 use Rattle.nf_routes.proofs.travels.travels.Goals as goal

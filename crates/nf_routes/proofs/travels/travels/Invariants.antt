@@ -4,7 +4,7 @@ use Rattle.nf_work.specs.Checked.{each}
 use Rattle.nf_work.proofs.Each.{with_front}
 use Rattle.nf_check_lists.specs.Curves.{departures}
 use Rattle.nf_load.specs.Loadings.{loaded_of}
-use Rattle.nf_route.specs.Kept.{routes_of}
+use Rattle.nf_routes_lists.specs.RoutesFile.{routes_of}
 use Rattle.nf_routes.specs.Travels.{travel_along}
 use Rattle.nf_routes.proofs.travels.travels.Given as goal
 

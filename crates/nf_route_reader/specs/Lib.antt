@@ -1,4 +1,0 @@
-pub mod Files
-pub mod Entries
-pub mod Drafts
-pub mod Circles

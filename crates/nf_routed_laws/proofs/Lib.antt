@@ -1,9 +1,0 @@
-pub mod Ends
-pub mod Entries
-pub mod Stages
-pub mod Inflow
-pub mod Steps
-pub mod Unrolled
-pub mod Links
-pub mod Travels
-pub mod Routed

@@ -1,0 +1,69 @@
+use Rattle.std.proofs.Common.{◌≡◌, List, ◌∷◌, map, sym, ap, subst, ◌∙◌}
+use Rattle.std.specs.Prelude.{Ok}
+use Rattle.std.proofs.lemmas.Result.{err_from_is_err_and}
+use Rattle.nf_rational.specs.Rational.{ℚ}
+use Rattle.nf_rational.specs.Operations.{0ℚ}
+use Rattle.nf_work.specs.declared.Part.TheVariants.{Load}
+use Rattle.nf_work.specs.Passing.{passes_Q}
+use Rattle.nf_work.specs.Checked.{Stops, at_part, each}
+use Rattle.nf_model.specs.Curve.{Point, IsCurve}
+use Rattle.nf_curve_lists.specs.Short.{checked_short}
+use Rattle.nf_curve_lists.specs.Times.{both_times}
+use Rattle.nf_curve_lists.specs.Sums.{sides_at}
+use Rattle.nf_curve.specs.declared.lines.Sides.{Sides}
+use Rattle.nf_curve.specs.Sides.{sides_of}
+use Rattle.nf_curve.proofs.Exits.{was_ok, stops_on}
+use Rattle.nf_routes_lists.specs.RoutesList.{next_from, next_entry}
+use Rattle.nf_routes_laws.specs.Laws.{IsNext}
+use Rattle.nf_routes_laws.proofs.Next.{next_entry-is}
+use Rattle.nf_routes.specs.Amounts.{IsAmount}
+use Rattle.nf_routes.proofs.Sharing.{points_curve, next_amount, sides_stop, sides_go, gives_ok}
+use Rattle.nf_routes.proofs.next.next_entry.Goals as goal
+
+pub returns-in_err-sides-clause-list : goal.returns-in_err-sides-clause-list
+returns-in_err-sides-clause-list c =
+    let p = err_from_is_err_and c.from_residual-in_err-sides.result c.from_residual-in_err-sides.ensures.1 in
+    let entered : c.deref.result.now ≡ c.args.entry.now.points = c.deref.ensures.value ∙ c.in_ok-entered.ensures.points in
+    let exits : c.deref-2.result.now ≡ c.args.exit.now.points = c.deref-2.ensures.value ∙ c.in_ok-exits.ensures.points in
+    rw (p.1, p.2) (stops_on c.in_err-sides.field-0.0 (at_part Load (each (sides_at passes_Q c.args.entry.now.points c.args.exit.now.points) (both_times c.args.entry.now.points c.args.exit.now.points)))
+    (at_part Load (next_entry passes_Q c.args.exit.now.points c.args.entry.now.points))
+    (sides_stop passes_Q c.args.exit.now.points c.args.entry.now.points c.requires.exits c.requires.amount)
+    (subst (λ (l : List Point). Stops (λ (q : ℚ). q) c.in_err-sides.field-0.0 (at_part Load (each (sides_at passes_Q l c.args.exit.now.points) (both_times l c.args.exit.now.points)))) entered
+    (subst (λ (l : List Point). Stops (λ (q : ℚ). q) c.in_err-sides.field-0.0 (at_part Load (each (sides_at passes_Q c.deref.result.now l) (both_times c.deref.result.now l)))) exits c.in_err-sides.ensures)))
+
+pub curve_of-requires : goal.curve_of-requires
+curve_of-requires c =
+    let entered : c.deref.result.now ≡ c.args.entry.now.points = c.deref.ensures.value ∙ c.in_ok-entered.ensures.points in
+    let exits : c.deref-2.result.now ≡ c.args.exit.now.points = c.deref-2.ensures.value ∙ c.in_ok-exits.ensures.points in
+    let sides : at_part Load (each (sides_at passes_Q c.args.entry.now.points c.args.exit.now.points) (both_times c.args.entry.now.points c.args.exit.now.points)) ≡ Ok (map sides_of c.in_ok-sides.sides.items) =
+    ap (λ (l : List Point). at_part Load (each (sides_at passes_Q l c.args.exit.now.points) (both_times l c.args.exit.now.points))) (sym entered)
+    ∙ ap (λ (l : List Point). at_part Load (each (sides_at passes_Q c.deref.result.now l) (both_times c.deref.result.now l))) (sym exits) ∙ c.in_ok-sides.ensures in
+    let points : c.deref-4.result.now ≡ (0ℚ, 0ℚ) ∷ next_from 0ℚ (map sides_of c.in_ok-sides.sides.items) =
+    c.deref-4.ensures.value ∙ c.in_ok-points.ensures ∙ ap (λ (l : List Sides). (0ℚ, 0ℚ) ∷ next_from 0ℚ (map sides_of l)) c.deref-3.ensures.value in
+    subst (λ (l : List Point). IsCurve l) (sym points)
+    (points_curve passes_Q c.args.exit.now.points c.args.entry.now.points c.requires.exits c.requires.amount (map sides_of c.in_ok-sides.sides.items)
+    (was_ok Load (each (sides_at passes_Q c.args.entry.now.points c.args.exit.now.points) (both_times c.args.entry.now.points c.args.exit.now.points)) (map sides_of c.in_ok-sides.sides.items) sides))
+
+pub returns-clause-list : goal.returns-clause-list
+returns-clause-list c =
+    let entered : c.deref.result.now ≡ c.args.entry.now.points = c.deref.ensures.value ∙ c.in_ok-entered.ensures.points in
+    let exits : c.deref-2.result.now ≡ c.args.exit.now.points = c.deref-2.ensures.value ∙ c.in_ok-exits.ensures.points in
+    let sides : at_part Load (each (sides_at passes_Q c.args.entry.now.points c.args.exit.now.points) (both_times c.args.entry.now.points c.args.exit.now.points)) ≡ Ok (map sides_of c.in_ok-sides.sides.items) =
+    ap (λ (l : List Point). at_part Load (each (sides_at passes_Q l c.args.exit.now.points) (both_times l c.args.exit.now.points))) (sym entered)
+    ∙ ap (λ (l : List Point). at_part Load (each (sides_at passes_Q c.deref.result.now l) (both_times c.deref.result.now l))) (sym exits) ∙ c.in_ok-sides.ensures in
+    let curve : c.in_ok-curve.curve.points ≡ (0ℚ, 0ℚ) ∷ next_from 0ℚ (map sides_of c.in_ok-sides.sides.items) =
+    c.in_ok-curve.ensures ∙ c.deref-4.ensures.value ∙ c.in_ok-points.ensures ∙ ap (λ (l : List Sides). (0ℚ, 0ℚ) ∷ next_from 0ℚ (map sides_of l)) c.deref-3.ensures.value in
+    let whole : at_part Load (next_entry passes_Q c.args.exit.now.points c.args.entry.now.points) ≡ at_part Load (checked_short passes_Q c.in_ok-curve.curve.points) =
+    sides_go passes_Q c.args.exit.now.points c.args.entry.now.points c.requires.exits c.requires.amount (map sides_of c.in_ok-sides.sides.items) sides
+    ∙ ap (λ (l : List Point). at_part Load (checked_short passes_Q l)) (sym curve) in
+    rw whole c.short.ensures.list
+
+pub returns-clause-amount : goal.returns-clause-amount
+returns-clause-amount c =
+    gives_ok (λ c'. c'.points) c.short.result (next_entry passes_Q c.args.exit.now.points c.args.entry.now.points) (λ (l : List Point). IsAmount l) (returns-clause-list c)
+    (next_amount passes_Q c.args.exit.now.points c.args.entry.now.points c.requires.exits c.requires.amount)
+
+pub returns-clause-next : goal.returns-clause-next
+returns-clause-next c = λ last can.
+    gives_ok (λ c'. c'.points) c.short.result (next_entry passes_Q c.args.exit.now.points c.args.entry.now.points) (λ (l : List Point). IsNext c.args.exit.now.points c.args.entry.now.points last l) (returns-clause-list c)
+    (next_entry-is passes_Q c.args.exit.now.points c.args.entry.now.points last can)

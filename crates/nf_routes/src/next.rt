@@ -1,0 +1,71 @@
+// What a route sends on through a link.
+ghost use Rattle.std.specs.Prelude.{◌≡◌, ◌∷◌, map, IfOk};
+ghost use Rattle.nf_rational.specs.Rational.{ℚ};
+ghost use Rattle.nf_rational.specs.Operations.{0ℚ};
+ghost use Rattle.nf_work.specs.Passing.{passes_Q};
+ghost use Rattle.nf_work.specs.declared.Part.TheVariants.{Load};
+ghost use Rattle.nf_work.specs.Checked.{at_part, each, Gives};
+ghost use Rattle.nf_model.specs.Curve.{IsCurve};
+ghost use Rattle.nf_curve_lists.specs.Times.{both_times};
+ghost use Rattle.nf_curve_lists.specs.Sums.{sides_at as sides_by};
+ghost use Rattle.nf_curve.specs.Sides.{sides_of};
+ghost use Rattle.nf_routes_lists.specs.RoutesList.{next_from, next_entry as next_by};
+ghost use Rattle.nf_routes_laws.specs.Laws.{CanShare, IsNext};
+ghost use Rattle.nf_routes.specs.Amounts.{IsAmount, AreExits};
+
+use crate::points::{curve_of, points_of};
+use nf_curve::{Curve, Point, Sides, first_moment, next_moment, sides_at};
+use nf_frac::{Halt, Part, Q};
+use std::alloc::{AllocError, Global};
+
+// Both values at each time of two curves.
+fn all_sides(alloc: Global, left: &[Point], right: &[Point]) -> Result<Vec<Sides>, Halt<Q>>
+    requires left { IsCurve left.now }
+    requires right { IsCurve right.now }
+    ensures { Gives (λ sides. map sides_of sides.items) (λ q. q) result (at_part Load (each (sides_by passes_Q left.now right.now) (both_times left.now right.now))) }
+{
+    let mut all = Vec::new(alloc);
+    let mut now = Some(first_moment(left, right));
+    while let Some(moment) = now {
+        let sides = sides_at(left, right, &moment, Part::Load)?;
+        all.push(sides)?;
+        now = next_moment(left, right, &moment);
+    }
+    Ok(all)
+}
+
+// By each exit what has entered by then: at time 0 nothing, and a point at each exit that isn't the one before.
+fn next_points(alloc: Global, all: &[Sides]) -> Result<Vec<Point>, AllocError>
+    ensures { IfOk result (λ points. points.items ≡ (0ℚ, 0ℚ) ∷ next_from 0ℚ (map sides_of all.now)) }
+{
+    let mut points = Vec::new(alloc);
+    let mut last = Q::zero();
+    points.push((last, Q::zero()))?;
+    for sides in all {
+        if !last.is_same(sides.right) {
+            points.push((sides.right, sides.left))?;
+            last = sides.right;
+        }
+    }
+    Ok(points)
+}
+
+/// What a route sends into its next link, or what of it arrives where there is none, by time and in short form: by the exit of an
+/// entry into a link it has sent on what it had sent into it by the entry. At a link the routes share by first in, first out, so
+/// where exits stand still nothing enters, and the first such entry says the same as the others. `exit` has the exits of the link by
+/// the time of entry, and `entry` what the route has sent into it. Passed comes exactly at the first operation of its list that
+/// passes, and has part Load.
+pub(crate) fn next_entry(alloc: Global, exit: &Curve, entry: &Curve) -> Result<Curve, Halt<Q>>
+    requires exits { AreExits exit.now.points }
+    requires amount { IsAmount entry.now.points }
+    ensures list { Gives (λ c. c.points) (λ q. q) result (at_part Load (next_by passes_Q exit.now.points entry.now.points)) }
+    ensures amount { IfOk result (λ c. IsAmount c.points) }
+    ensures next { (last : ℚ) → CanShare exit.now.points entry.now.points last → IfOk result (λ c. IsNext exit.now.points entry.now.points last c.points) }
+{
+    let exits = points_of(alloc, exit)?;
+    let entered = points_of(alloc, entry)?;
+    let sides = all_sides(alloc, &entered, &exits)?;
+    let points = next_points(alloc, &sides)?;
+    let curve = curve_of(alloc, &points)?;
+    Curve::short(alloc, &curve, Part::Load)
+}

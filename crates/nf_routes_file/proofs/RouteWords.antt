@@ -1,0 +1,127 @@
+-- The words of a line, by their number.
+use Rattle.std.proofs.Common.{◌≡◌, ◌≢◌, ℕ, ◌<◌, ◌≤◌, Bool, true, false, not, cond, List, [], ◌∷◌, length, drop, map, Result, Ok, Err, refl, sym, ◌∙◌, ap, arith, ◌&&◌, bytes_eq, codes}
+use Rattle.std.specs.List.{list_all}
+use Rattle.std.proofs.lemmas.Bool.{cond-true, cond-false}
+use Rattle.std.specs.Result.{result_ok}
+use Rattle.nf_numerals.specs.Numbers.{number_of}
+use Rattle.nf_formats.specs.Names.{Name, is_name, has_name, place_of}
+use Rattle.nf_formats.specs.Numbers.{greatest}
+use Rattle.nf_cursor.specs.Within.{word_at}
+use Rattle.nf_contents.specs.NameAt.{IsNameAt}
+use Rattle.nf_routes_lists.specs.declared.RoutesRule.{RoutesRule}
+use Rattle.nf_routes_lists.specs.declared.RoutesRule.TheVariants.{G6, G7, G8}
+use Rattle.nf_routes_lists.specs.RoutesFile.{RoutesEntry, RouteLine, End, route_line, piece_entry, rate_line, end_line, routes_entry, is_routes_1}
+use Rattle.nf_routes_file.specs.declared.fault.LineFault.{LineFault}
+use Rattle.nf_routes_file.specs.Files.{IfRule}
+use Rattle.nf_routes_file.specs.Entries.{AreLinksOf, NoLinks}
+
+-- ---- `route`
+module _ (names : List Name) where
+  pub route_count_wrong : (words : List (List ℕ)) → 0 < length words → length words < 3 → route_line names (drop 1 words) ≡ Err G6
+  route_count_wrong [] some few = absurd (omega arith)
+  route_count_wrong (key ∷ []) some few = refl
+  route_count_wrong (key ∷ name ∷ []) some few = refl
+  route_count_wrong (key ∷ name ∷ first ∷ rest) some few = absurd (omega arith)
+
+  abbrev by_names : List (List ℕ) → Bool → Bool → Result RoutesEntry RoutesRule
+  by_names words named all = cond (not named) (Err G7) (cond all (Ok (RouteLine (word_at words 1) (map (place_of names) (drop 2 words)))) (Err G8))
+
+  route_is : (words : List (List ℕ)) → 3 ≤ length words → route_line names (drop 1 words) ≡ by_names words (is_name (word_at words 1)) (list_all (has_name names) (drop 2 words))
+  route_is [] n = absurd (omega arith)
+  route_is (key ∷ []) n = absurd (omega arith)
+  route_is (key ∷ name ∷ []) n = absurd (omega arith)
+  route_is (key ∷ name ∷ first ∷ rest) n = refl
+
+  pub route_bad_name : (words : List (List ℕ)) → 3 ≤ length words → is_name (word_at words 1) ≡ false → route_line names (drop 1 words) ≡ Err G7
+  route_bad_name words n e = route_is words n ∙ ap (λ (b : Bool). by_names words b (list_all (has_name names) (drop 2 words))) e
+
+  module _ (words : List (List ℕ)) (n : 3 ≤ length words) (named : is_name (word_at words 1) ≡ true) where
+    by_links : (all : Bool) → list_all (has_name names) (drop 2 words) ≡ all → route_line names (drop 1 words) ≡ by_names words true all
+    by_links all e = route_is words n
+        ∙ ap (λ (b : Bool). by_names words b (list_all (has_name names) (drop 2 words))) named
+        ∙ ap (λ (b : Bool). by_names words true b) e
+
+    pub route_known : (name : Name) (links : List ℕ) → name ≡ word_at words 1 → AreLinksOf names (drop 2 words) links → route_line names (drop 1 words) ≡ Ok (RouteLine name links)
+    route_known name links same are =
+        let name_is = sym same in
+        let links_are = sym are.places in
+        by_links true are.there ∙ λ i. Ok (RouteLine (name_is i) (links_are i))
+
+    pub route_no_links : (fault : LineFault) → NoLinks fault names (drop 2 words) → IfRule fault (λ rule. route_line names (drop 1 words) ≡ Err rule)
+    route_no_links (LineFault.Broken rule) (same, none) = by_links false none ∙ ap (λ (r : RoutesRule). Err r) (sym same)
+    route_no_links LineFault.Memory h = tt
+
+-- ---- `rate`
+module _ (names : List Name) where
+  pub rate_count_wrong : (words : List (List ℕ)) → 0 < length words → length words ≢ 4 → rate_line names (drop 1 words) ≡ Err G6
+  rate_count_wrong [] some n = absurd (omega arith)
+  rate_count_wrong (key ∷ []) some n = refl
+  rate_count_wrong (key ∷ a ∷ []) some n = refl
+  rate_count_wrong (key ∷ a ∷ b ∷ []) some n = refl
+  rate_count_wrong (key ∷ a ∷ b ∷ c ∷ []) some n = absurd (n refl)
+  rate_count_wrong (key ∷ a ∷ b ∷ c ∷ more ∷ rest) some n = refl
+
+  abbrev by_name : List (List ℕ) → Bool → ℕ → Result RoutesEntry RoutesRule
+  by_name words there place = cond there (piece_entry place (result_ok (number_of greatest (word_at words 2))) (result_ok (number_of greatest (word_at words 3)))) (Err G8)
+
+  rate_is : (words : List (List ℕ)) → length words ≡ 4 → rate_line names (drop 1 words) ≡ by_name words (has_name names (word_at words 1)) (place_of names (word_at words 1))
+  rate_is [] n = absurd (omega arith)
+  rate_is (key ∷ []) n = absurd (omega arith)
+  rate_is (key ∷ a ∷ []) n = absurd (omega arith)
+  rate_is (key ∷ a ∷ b ∷ []) n = absurd (omega arith)
+  rate_is (key ∷ a ∷ b ∷ c ∷ []) n = refl
+  rate_is (key ∷ a ∷ b ∷ c ∷ more ∷ rest) n = absurd (omega arith)
+
+  pub rate_unknown : (words : List (List ℕ)) → length words ≡ 4 → has_name names (word_at words 1) ≡ false → rate_line names (drop 1 words) ≡ Err G8
+  rate_unknown words n e = rate_is words n ∙ ap (λ (b : Bool). by_name words b (place_of names (word_at words 1))) e
+
+  pub rate_known : (words : List (List ℕ)) (place : ℕ) → length words ≡ 4 → IsNameAt names (word_at words 1) place
+      → rate_line names (drop 1 words) ≡ piece_entry place (result_ok (number_of greatest (word_at words 2))) (result_ok (number_of greatest (word_at words 3)))
+  rate_known words place n is =
+      rate_is words n
+      ∙ ap (λ (b : Bool). by_name words b (place_of names (word_at words 1))) is.there
+      ∙ ap (λ (k : ℕ). by_name words true k) is.is_place
+
+-- ---- `end`
+pub end_count_wrong : (words : List (List ℕ)) → 0 < length words → length words ≢ 1 → end_line (drop 1 words) ≡ Err G6
+end_count_wrong [] some n = absurd (omega arith)
+end_count_wrong (key ∷ []) some n = absurd (n refl)
+end_count_wrong (key ∷ more ∷ rest) some n = refl
+
+pub end_count_right : (words : List (List ℕ)) → length words ≡ 1 → end_line (drop 1 words) ≡ Ok End
+end_count_right [] n = absurd (omega arith)
+end_count_right (key ∷ []) n = refl
+end_count_right (key ∷ more ∷ rest) n = absurd (omega arith)
+
+-- ---- the head
+pub head_count_wrong : (words : List (List ℕ)) → length words ≢ 2 → is_routes_1 words ≡ false
+head_count_wrong [] n = refl
+head_count_wrong (a ∷ []) n = refl
+head_count_wrong (a ∷ b ∷ []) n = absurd (n refl)
+head_count_wrong (a ∷ b ∷ c ∷ rest) n = refl
+
+pub head_is : (words : List (List ℕ)) → length words ≡ 2 → is_routes_1 words ≡ (bytes_eq (word_at words 0) (codes "routes") && bytes_eq (word_at words 1) (codes "1"))
+head_is [] n = absurd (omega arith)
+head_is (a ∷ []) n = absurd (omega arith)
+head_is (a ∷ b ∷ []) n = refl
+head_is (a ∷ b ∷ c ∷ rest) n = absurd (omega arith)
+
+-- ---- a line by its key
+module _ (links routes : List Name) (words : List (List ℕ)) (key : List ℕ) (some : length words ≡ 0 → ⊥) (is_key : key ≡ word_at words 0) where
+  by_key : routes_entry links routes words ≡ routes_entry links routes (key ∷ drop 1 words)
+  by_key = at words some is_key
+    where
+      at : (words : List (List ℕ)) → (length words ≡ 0 → ⊥) → key ≡ word_at words 0 → routes_entry links routes words ≡ routes_entry links routes (key ∷ drop 1 words)
+      at [] some e = absurd (some refl)
+      at (word ∷ rest) some e = ap (λ (word : List ℕ). routes_entry links routes (word ∷ rest)) (sym e)
+
+  pub route_line_is : bytes_eq key (codes "route") ≡ true → routes_entry links routes words ≡ route_line links (drop 1 words)
+  route_line_is t = by_key ∙ cond-true (bytes_eq key (codes "route")) _ _ t
+
+  module _ (no_route : bytes_eq key (codes "route") ≡ false) where
+    pub rate_line_is : bytes_eq key (codes "rate") ≡ true → routes_entry links routes words ≡ rate_line routes (drop 1 words)
+    rate_line_is t = by_key ∙ cond-false (bytes_eq key (codes "route")) _ _ no_route ∙ cond-true (bytes_eq key (codes "rate")) _ _ t
+
+    pub end_line_is : bytes_eq key (codes "rate") ≡ false → bytes_eq key (codes "end") ≡ true → routes_entry links routes words ≡ end_line (drop 1 words)
+    end_line_is no_rate t =
+        by_key ∙ cond-false (bytes_eq key (codes "route")) _ _ no_route ∙ cond-false (bytes_eq key (codes "rate")) _ _ no_rate ∙ cond-true (bytes_eq key (codes "end")) _ _ t

@@ -1,0 +1,4 @@
+pub mod Codes
+pub mod Files
+pub mod Entries
+pub mod Drafts
