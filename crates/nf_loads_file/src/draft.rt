@@ -79,8 +79,11 @@ impl Draft {
     /// Adds what a line says, or answers the first of L4 to L11 that it breaks.
     pub fn add_line(&mut self, net: &Network, line: &ReadLine) -> Result<(), LoadsFault>
         requires { HasLinks net.now self.old }
-        ensures adds { MatchResult result (λ _. in_load_line line.now.number (add_load net.now.link_names (seen_draft self.old) line.now.words) ≡ Ok (seen_draft self.new))
-            (λ fault. IfBroken fault (λ broken. in_load_line line.now.number (add_load net.now.link_names (seen_draft self.old) line.now.words) ≡ Err broken)) }
+        ensures adds { MatchResult result
+            (λ _. in_load_line line.now.number (add_load net.now.link_names (seen_draft self.old) line.now.words)
+            ≡ Ok (seen_draft self.new))
+            (λ fault. IfBroken fault (λ broken.
+            in_load_line line.now.number (add_load net.now.link_names (seen_draft self.old) line.now.words) ≡ Err broken)) }
         ensures links { OnOk result (HasLinks net.now self.new) }
     {
         let number = line.number();

@@ -57,7 +57,8 @@ fn read_draft(alloc: Global, net: &Network, lines: &[ReadLine]) -> Result<Draft,
 /// rules of all bytes and lines come first, then those of the lines one by one, then that of the file as a whole, with line 0.
 pub fn parse_loads(alloc: Global, net: &Network, text: &[u8]) -> Result<Loads, LoadsFault>
     requires { length text.now ≤ longest_text }
-    ensures reads { MatchResult result (λ loads. loads_in net.now text.now ≡ Ok loads) (λ fault. IfBroken fault (λ broken. loads_in net.now text.now ≡ Err broken)) }
+    ensures reads { MatchResult result (λ loads. loads_in net.now text.now ≡ Ok loads)
+        (λ fault. IfBroken fault (λ broken. loads_in net.now text.now ≡ Err broken)) }
     ensures links { IfOk result (λ loads. length loads ≡ length net.now.net.links) }
 {
     // For the proof: each link has a name.
