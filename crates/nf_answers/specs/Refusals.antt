@@ -4,7 +4,7 @@ use Rattle.nf_edge.specs.declared.FetchFault.TheVariants.{Failed, TooLong, Memor
 use Rattle.nf_rational.specs.Rational.{ℚ}
 use Rattle.nf_work.specs.declared.Halt.{Halt}
 use Rattle.nf_draft.specs.declared.fault.NetFault.{NetFault}
-use Rattle.nf_load.specs.declared.fault.LoadsFault.{LoadsFault}
+use Rattle.nf_loads_file.specs.declared.fault.LoadsFault.{LoadsFault}
 use Rattle.nf_flows.specs.declared.fault.FlowsFault.{FlowsFault}
 use Rattle.nf_routes_file.specs.declared.fault.RoutesFault.{RoutesFault}
 use Rattle.nf_reader.specs.declared.fault.ReportFault.{ReportFault}

@@ -15,8 +15,8 @@ use Rattle.nf_load_lists.specs.Loads.{load_list}
 use Rattle.nf_load_laws.proofs.Loads.{links_loaded}
 use Rattle.nf_curve.proofs.Exits.{was_ok}
 use Rattle.nf_readings.specs.LoadsFile.{LoadsBroken, loads_in, pieces_at}
-use Rattle.nf_load.specs.declared.fault.LoadsFault.{LoadsFault}
-use Rattle.nf_load.specs.Files.{IfBroken}
+use Rattle.nf_loads_file.specs.declared.fault.LoadsFault.{LoadsFault}
+use Rattle.nf_loads_file.specs.Files.{IfBroken}
 use Rattle.nf_answers.specs.declared.refusal.Refusal.{Refusal}
 use Rattle.nf_outside.specs.Files.{Visit, loads_file}
 use Rattle.nf_words.specs.Requests.{Load}

@@ -1,2 +1,3 @@
 pub mod NamesOf
 pub mod ContentLines
+pub mod WordCounts

@@ -1,1 +1,2 @@
 pub mod NameAt
+pub mod PiecesBehind

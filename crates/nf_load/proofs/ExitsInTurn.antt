@@ -1,10 +1,10 @@
 -- The points of the outflow, exit by exit.
 use Rattle.std.proofs.Common.{◌≡◌, ℕ, ◌+◌, ◌<◌, Bool, true, false, List, [], ◌∷◌, ◌++◌, length, get_or, drop, ap, ◌∙◌, sym, append_assoc}
+use Rattle.std.proofs.lemmas.List.{at_drop_more}
 use Rattle.nf_rational.specs.Rational.{ℚ}
 use Rattle.nf_model.specs.Curve.{Point}
 use Rattle.nf_lists.specs.Signs.{is_same}
 use Rattle.nf_load_lists.specs.Loading.{Leaves, outflow_from}
-use Rattle.nf_draft.proofs.Filling.{at_entry}
 
 module _ (all : List Leaves) (i : ℕ) (one : Leaves) (front whole : List Point) (last : ℚ) (below : i < length all) (is : one ≡ get_or all i one)
     (so_far : front ++ outflow_from last (drop i all) ≡ whole) where
@@ -15,7 +15,11 @@ module _ (all : List Leaves) (i : ℕ) (one : Leaves) (front whole : List Point)
   ]
 
   with_test : (b : Bool) → is_same last one.exit ≡ b → front ++ by_test b ≡ whole
-  with_test b e = ap (λ (t : Bool). front ++ by_test t) (sym e) ∙ ap (λ (l : List Leaves). front ++ outflow_from last l) (sym (at_entry all i one below is)) ∙ so_far
+  with_test b e =
+      ap (λ (t : Bool). front ++ by_test t) (sym e)
+      ∙ ap (λ (l : Leaves). front ++ outflow_from last (l ∷ drop (i + 1) all)) is
+      ∙ sym (at_drop_more (λ (l : List Leaves). front ++ outflow_from last l) all i one below)
+      ∙ so_far
 
   -- an exit that is the one before
   pub same_exit : (new : List Point) (next : ℚ) → new ≡ front → next ≡ last → is_same last one.exit ≡ true → new ++ outflow_from next (drop (i + 1) all) ≡ whole

@@ -1,8 +1,3 @@
-pub mod LinkNames
-pub mod LoadWords
-pub mod Emptied
-pub mod Adding
-pub mod LoadsRead
 pub mod Supplying
 pub mod PointByPoint
 pub mod QueueSteps
@@ -11,5 +6,3 @@ pub mod LoadedCurves
 pub mod LoadingSteps
 pub mod ExitsInTurn
 pub mod OverPieces
-mod Pushed
-mod SpanWords

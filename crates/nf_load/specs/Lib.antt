@@ -1,7 +1,3 @@
-pub mod Entries
-pub mod Drafts
-pub mod Files
-pub mod Kept
 pub mod Codes
 pub mod Loadings
 pub mod InSteps

@@ -21,22 +21,19 @@ use std::alloc::{AllocError, Global};
 fn queue_points(alloc: Global, waits: &[Waits]) -> Result<Vec<Point>, AllocError>
     ensures { IfOk result (λ points. points.items ≡ map queue_point waits.now) }
 {
-    let mut points = Vec::new(alloc);
-    for moment in waits {
-        points.push((moment.time, moment.queue))?;
-    }
-    Ok(points)
+    waits
+        .iter()
+        .map(|moment| (moment.time, moment.queue))
+        .collect(alloc)
 }
 
 // The points of the exits.
 fn exit_points(alloc: Global, all: &[Leaves]) -> Result<Vec<Point>, AllocError>
     ensures { IfOk result (λ points. points.items ≡ map exit_point all.now) }
 {
-    let mut points = Vec::new(alloc);
-    for one in all {
-        points.push((one.waits.time, one.exit))?;
-    }
-    Ok(points)
+    all.iter()
+        .map(|one| (one.waits.time, one.exit))
+        .collect(alloc)
 }
 
 // The points of the outflow: at time 0, and at each exit that isn't the one before.

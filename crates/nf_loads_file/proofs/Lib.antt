@@ -1,0 +1,4 @@
+pub mod LoadWords
+pub mod PieceRules
+pub mod LoadsRead
+pub mod Pushed

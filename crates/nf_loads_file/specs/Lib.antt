@@ -1,0 +1,4 @@
+pub mod Entries
+pub mod Drafts
+pub mod Files
+pub mod Kept
