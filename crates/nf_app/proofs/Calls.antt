@@ -13,7 +13,7 @@ use Rattle.nf_answers.specs.declared.refusal.Refusal.{Refusal}
 use Rattle.nf_answers.specs.Answers.{Answer, NoMemory, out_text}
 use Rattle.nf_answers.specs.Refusals.{answer_of}
 use Rattle.nf_outside.specs.Files.{Wanted, Visit, Fits, FetchedNone, FetchedAll, FetchedTo}
-use Rattle.nf_outside.specs.Fetching.{NetworkReads, IsTold, AreRead}
+use Rattle.nf_outside.specs.Fetching.{IsLastText, NetworkReads, AreRead}
 use Rattle.nf_outside.proofs.Networks.{all_reached}
 use Rattle.nf_words.specs.Requests.{Request, request_of}
 use Rattle.nf_app.specs.Requests.{files_of, generated_by}
@@ -73,7 +73,7 @@ module _ (words : List (List ℕ)) (shelf : Visit) (request : Request) (asks : r
       → IsGathered (record { words = words; shelf = shelf }) request (result_map_both (λ got. (got.0, got.1.items)) (λ refusal. refusal) r)
   gathered_one (Ok got) h = (
     read_with words shelf request asks file [] files_are from_file got.0 [] h,
-    subst (λ (l : List Wanted). IfSome (slice_get l 1) (λ other. IsTold shelf other got.1.items)) (sym files_are) tt,
+    subst (λ (l : List Wanted). IfSome (slice_get l 1) (λ other. IsLastText shelf other got.1.items)) (sym files_are) tt,
   )
   gathered_one (Err refusal) h = refused words shelf request asks file [] files_are from_file refusal h
 
@@ -84,7 +84,7 @@ module _ (words : List (List ℕ)) (shelf : Visit) (request : Request) (asks : r
       → IsGathered (record { words = words; shelf = shelf }) request (result_map_both (λ got. (got.0, got.1.items)) (λ refusal. refusal) r)
   gathered_two (Ok got) h = (
     read_with words shelf request asks file (other ∷ []) files_are from_file got.0 (got.1.items ∷ []) h,
-    subst (λ (l : List Wanted). IfSome (slice_get l 1) (λ more. IsTold shelf more got.1.items)) (sym files_are) h.2.0,
+    subst (λ (l : List Wanted). IfSome (slice_get l 1) (λ more. IsLastText shelf more got.1.items)) (sym files_are) h.2,
   )
   gathered_two (Err refusal) h = refused words shelf request asks file (other ∷ []) files_are from_file refusal h
 
@@ -105,7 +105,7 @@ module _ (words : List (List ℕ)) (shelf : Visit) (request : Request) (asks : r
       → IsGathered (record { words = words; shelf = shelf }) request (result_map_both (λ got. (got.0, got.1.items)) (λ refusal. refusal) r)
   gathered_none (Ok got) same refused = (
     subst (λ (m : Named). Read (record { words = words; shelf = shelf }) request (Ok m)) (sym same) generated_read,
-    subst (λ (l : List Wanted). IfSome (slice_get l 1) (λ other. IsTold shelf other got.1.items)) (sym no_files) tt,
+    subst (λ (l : List Wanted). IfSome (slice_get l 1) (λ other. IsLastText shelf other got.1.items)) (sym no_files) tt,
   )
   gathered_none (Err refusal) same refused = subst (λ (r : Refusal). IsAnswer (record { words = words; shelf = shelf }) (answer_of r)) (sym refused) (inl (inl untouched))
 

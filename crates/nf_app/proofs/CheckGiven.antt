@@ -21,20 +21,20 @@ use Rattle.nf_words.specs.Requests.{Check}
 use Rattle.nf_answers.specs.Answers.{Checked}
 use Rattle.nf_answers.specs.Refusals.{answer_of, refusal_of_report, refusal_of_halt}
 use Rattle.nf_app.specs.Given.{IsGiven}
-use Rattle.nf_outside.specs.Fetching.{IsTold}
+use Rattle.nf_outside.specs.Fetching.{IsLastText}
 use Rattle.nf_app.proofs.Reports.{held, none_held}
 
-module _ (shelf : Visit) (n : Named) (named : IsNamed n) (file name text : List ℕ) (told : IsTold shelf (report_file name) text) where
+module _ (shelf : Visit) (n : Named) (named : IsNamed n) (file name text : List ℕ) (last : IsLastText shelf (report_file name) text) where
   abbrev Answers : Refusal → Type 0
   Answers refusal = (refusal ≡ Refusal.NoMemory) ⊎ IsGiven shelf n (Check file name) (answer_of refusal)
 
   pub report_refused : (fault : ReportFault) → IfBroken fault (λ broken. report_in n text ≡ Err broken) → Answers (refusal_of_report fault)
-  report_refused (ReportFault.Broken rule line) e = inr (inr (inr (record { rule = rule; line = line }, refl, none_held shelf n named name text told (record { rule = rule; line = line }) e)))
+  report_refused (ReportFault.Broken rule line) e = inr (inr (inr (record { rule = rule; line = line }, refl, none_held shelf n named name text last (record { rule = rule; line = line }) e)))
   report_refused ReportFault.Memory e = inl refl
 
   module _ (report : Report) (read : report_in n text ≡ Ok report) where
     pub checking_stopped : (halt : Halt ℚ) → Stops (λ (q : ℚ). q) halt (check_list passes_Q n.net report.flow) → Answers (refusal_of_halt halt)
-    checking_stopped (Halt.Passed at) e = inr (inr (inl (at, refl, record { report = report; held = held shelf n named name text told report read; passes = e })))
+    checking_stopped (Halt.Passed at) e = inr (inr (inl (at, refl, record { report = report; held = held shelf n named name text last report read; passes = e })))
     checking_stopped Halt.Memory e = inl refl
 
     pub verdict_given : (verdict : Verdict ℕ ℕ ℚ) → check_list passes_Q n.net report.flow ≡ Ok verdict → Checks n.net report.flow verdict → IsExact n.net report.flow verdict
@@ -42,5 +42,5 @@ module _ (shelf : Visit) (n : Named) (named : IsNamed n) (file name text : List 
     verdict_given verdict e checks exact = inl (
       verdict,
       refl,
-      record { report = report; held = held shelf n named name text told report read; computed = e; checks = checks; exact = exact },
+      record { report = report; held = held shelf n named name text last report read; computed = e; checks = checks; exact = exact },
     )

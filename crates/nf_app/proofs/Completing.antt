@@ -41,7 +41,7 @@ use Rattle.nf_outside.specs.Sinks.{Taken}
 use Rattle.nf_app.specs.Runs.{Call, Asks, Reached, Read, IsRefused, IsAnswer}
 use Rattle.nf_outside.specs.Fetching.{NetworkReads}
 use Rattle.nf_outside.specs.Shown.{IsShown}
-use Rattle.nf_app.proofs.Fetched.{holds_of_told}
+use Rattle.nf_app.proofs.Fetched.{holds_of_told, reads_told}
 use Rattle.nf_app.proofs.Reports.{one_report_in, some_report_in}
 use Rattle.nf_app.proofs.Unstopped.{status_never}
 use Rattle.nf_app.specs.Completeness.{Tells, TellsNetwork, CanBeShown, CanBeSolved, CanBeLoaded, CanBeGenerated, CanGoOn, CanBeDistributed, CanBeJudged, CanBeQuick, CanBeSettled, CanBeResumed, HasAnswer, EndsWell, EndsJudged, EndsQuick, EndsSettled, EndsResumed, IsComplete}
@@ -127,7 +127,7 @@ module _ (call : Call) (no_fault : ¬ Rose call.shelf.faults_before call.shelf.f
         let first : NetworkReads call.shelf None (network_file file ∷ others) read =
         subst (λ (l : List Wanted). NetworkReads call.shelf None l read) files_are
         (subst (λ (o : Option Named). NetworkReads call.shelf o (files_of asked_for) read) from_file here) in
-        let told : Reads network.tells.text read = subst (λ (t : Option (List ℕ)). IfSome t (λ text. Reads text read)) network.tells.told first in
+        let told : Reads network.tells.text read = reads_told call.shelf (network_file file) network.tells.text network.tells.told others read first in
         reads_at_most_once network.tells.text read (Ok network.net) told network.reads
 
     pub answered_well : (Ends : Status → Type 0) → Ends Status.Memory → ((answer : Answer) → IsGiven call.shelf network.net asked_for answer → Ends (status_of answer))
@@ -163,7 +163,7 @@ module _ (call : Call) (no_fault : ¬ Rose call.shelf.faults_before call.shelf.f
   module _ (can : CanBeLoaded call) where
     -- the loads file has one reading
     one_loads : (read : Result (List (List Piece)) LoadsBroken) → LoadsRead call.shelf can.network.net can.loads_name read → Ok can.loads.pieces ≡ read
-    one_loads read h = sym can.loads.reads ∙ holds_of_told call.shelf (loads_file can.loads_name) can.loads.tells (λ text. loads_in can.network.net text ≡ read) h
+    one_loads read h = sym can.loads.reads ∙ holds_of_told call.shelf (loads_file can.loads_name) can.loads.tells.text can.loads.tells.told (λ text. loads_in can.network.net text ≡ read) h
 
     given_well : (answer : Answer) → IsGiven call.shelf can.network.net (Load can.file can.loads_name can.horizon) answer → EndsWell (status_of answer)
     given_well answer (inl g) = inl (ap status_of g.1)
@@ -202,7 +202,8 @@ module _ (call : Call) (no_fault : ¬ Rose call.shelf.faults_before call.shelf.f
     one_routes : (read : Result (List NamedRoute) RoutesBroken) → RoutesRead call.shelf can.network.net can.routes_name read → Ok can.routes.routes ≡ read
     one_routes read h =
         sym (only_reading can.network.net can.routes.tells.text (Ok can.routes.routes) can.routes.reads)
-        ∙ only_reading can.network.net can.routes.tells.text read (holds_of_told call.shelf (routes_file can.routes_name) can.routes.tells (λ text. ReadsRoutes can.network.net text read) h)
+        ∙ only_reading can.network.net can.routes.tells.text read
+        (holds_of_told call.shelf (routes_file can.routes_name) can.routes.tells.text can.routes.tells.told (λ text. ReadsRoutes can.network.net text read) h)
 
     routed_well : (answer : Answer) → IsGiven call.shelf can.network.net (Routes can.file can.routes_name can.horizon) answer → EndsWell (status_of answer)
     routed_well answer (inl g) = inl (ap status_of g.2)
@@ -267,7 +268,7 @@ module _ (call : Call) (no_fault : ¬ Rose call.shelf.faults_before call.shelf.f
 module _ (call : Call) (no_fault : ¬ Rose call.shelf.faults_before call.shelf.faults_now) (can : CanBeSettled call) where
   -- the flows file has one reading
   one_flows : (read : Result GivenFlows FlowsBroken) → FlowsRead call.shelf can.network.net can.flows_name read → Ok can.flows.given ≡ read
-  one_flows read h = sym can.flows.reads ∙ holds_of_told call.shelf (flows_file can.flows_name) can.flows.tells (λ text. flows_in can.network.net text ≡ read) h
+  one_flows read h = sym can.flows.reads ∙ holds_of_told call.shelf (flows_file can.flows_name) can.flows.tells.text can.flows.tells.told (λ text. flows_in can.network.net text ≡ read) h
 
   thin_well : (answer : Answer) → IsGiven call.shelf can.network.net (Settle can.file can.flows_name) answer → EndsSettled (status_of answer)
   thin_well answer (inl g) = inl (ap status_of g.2)

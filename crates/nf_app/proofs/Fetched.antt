@@ -1,14 +1,20 @@
--- The bytes that were fetched of a file are those that the shelf tells.
-use Rattle.std.proofs.Common.{◌≡◌, ℕ, List, subst}
-use Rattle.std.specs.Prelude.{Option, IfSome}
+-- Bytes that a shelf tells of a file are those that were fetched of it.
+use Rattle.std.proofs.Common.{◌≡◌, ℕ, List, [], ◌∷◌, subst}
+use Rattle.std.specs.Prelude.{Option, Some, None, IfSome, Result}
+use Rattle.nf_formats.specs.Named.{Named}
+use Rattle.nf_formats.specs.NetLines.{Broken}
+use Rattle.nf_formats.specs.NetFile.{Reads}
 use Rattle.nf_outside.specs.Files.{Wanted, Visit}
-use Rattle.nf_outside.specs.Fetching.{IsTold}
-use Rattle.nf_app.specs.Fetched.{OfBytes}
-use Rattle.nf_app.specs.Completeness.{Tells}
+use Rattle.nf_outside.specs.Fetching.{IsTold, OfLastBytes, NetworkReads}
 
-module _ (shelf : Visit) (file : Wanted) (tells : Tells shelf file) where
-  pub bytes_are : (text : List ℕ) → IsTold shelf file text → text ≡ tells.text
-  bytes_are text told = subst (λ (t : Option (List ℕ)). IfSome t (λ bytes. text ≡ bytes)) tells.told told
+module _ (shelf : Visit) (file : Wanted) (text : List ℕ) (told : shelf.told file.name ≡ Some text) where
+  pub bytes_are : (bytes : List ℕ) → IsTold shelf file bytes → bytes ≡ text
+  bytes_are bytes is = subst (λ (t : Option (List ℕ)). IfSome t (λ held. bytes ≡ held)) told is
 
-  pub holds_of_told : (Holds : List ℕ → Type 0) → OfBytes shelf file Holds → Holds tells.text
-  holds_of_told Holds h = subst Holds (bytes_are h.text h.told) h.holds
+  pub holds_of_told : (Holds : List ℕ → Type 0) → OfLastBytes shelf file Holds → Holds text
+  holds_of_told Holds h = subst Holds (bytes_are h.text h.is_last.of_file.told) h.holds
+
+  -- the network of the first file is read from them
+  pub reads_told : (others : List Wanted) (read : Result Named Broken) → NetworkReads shelf None (file ∷ others) read → Reads text read
+  reads_told [] read h = holds_of_told (λ (t : List ℕ). Reads t read) h
+  reads_told (next ∷ others) read h = subst (λ (t : List ℕ). Reads t read) (bytes_are h.text h.of_file.told) h.holds

@@ -16,3 +16,7 @@ pub mod ResumeGiven
 pub mod Alike
 pub mod Unstopped
 pub mod Bounded
+pub mod ToldOnce
+pub mod ToldGiven
+pub mod Only
+pub mod Chained

@@ -23,12 +23,12 @@ use Rattle.nf_words.specs.Requests.{Load}
 use Rattle.nf_answers.specs.Answers.{Loaded, MalformedLoads, Passes}
 use Rattle.nf_answers.specs.Refusals.{answer_of, refusal_of_loads, refusal_of_halt}
 use Rattle.nf_app.specs.Given.{LoadsRead, loading_list, IsLoading, IsGiven}
-use Rattle.nf_outside.specs.Fetching.{IsTold}
+use Rattle.nf_outside.specs.Fetching.{IsLastText}
 
-module _ (shelf : Visit) (n : Named) (file name : List ℕ) (horizon : ℚ) (text : List ℕ) (told : IsTold shelf (loads_file name) text) where
+module _ (shelf : Visit) (n : Named) (file name : List ℕ) (horizon : ℚ) (text : List ℕ) (last : IsLastText shelf (loads_file name) text) where
   -- what was read of the bytes
   read_so : (read : Result (List (List Piece)) LoadsBroken) → loads_in n text ≡ read → LoadsRead shelf n name read
-  read_so read e = record { text = text; told = told; holds = e }
+  read_so read e = record { text = text; is_last = last; holds = e }
 
   abbrev Answers : Refusal → Type 0
   Answers refusal = (refusal ≡ Refusal.NoMemory) ⊎ IsGiven shelf n (Load file name horizon) (answer_of refusal)

@@ -28,18 +28,18 @@ use Rattle.nf_answers.specs.Answers.{Solved, Checked, Passes, Earlier}
 use Rattle.nf_answers.specs.Refusals.{answer_of, refusal_of_report}
 use Rattle.nf_app.specs.Reports.{HoldsReport}
 use Rattle.nf_app.specs.Given.{IsGiven}
-use Rattle.nf_outside.specs.Fetching.{IsTold}
+use Rattle.nf_outside.specs.Fetching.{IsLastText}
 use Rattle.nf_app.proofs.Reports.{none_held}
 
 module _ (shelf : Visit) (n : Named) (file name : List ℕ) (horizon : ℚ) (phases patterns : ℕ) where
   abbrev Answers : Refusal → Type 0
   Answers refusal = (refusal ≡ Refusal.NoMemory) ⊎ IsGiven shelf n (Resume file name horizon phases patterns) (answer_of refusal)
 
-  pub old_refused : (named : IsNamed n) (text : List ℕ) → IsTold shelf (report_file name) text → (fault : ReportFault) → IfBroken fault (λ broken. report_in n text ≡ Err broken)
+  pub old_refused : (named : IsNamed n) (text : List ℕ) → IsLastText shelf (report_file name) text → (fault : ReportFault) → IfBroken fault (λ broken. report_in n text ≡ Err broken)
       → Answers (refusal_of_report fault)
-  old_refused named text told (ReportFault.Broken rule line) e =
-      inr (inr (inr (inr (inr (record { rule = rule; line = line }, refl, none_held shelf n named name text told (record { rule = rule; line = line }) e)))))
-  old_refused named text told ReportFault.Memory e = inl refl
+  old_refused named text last (ReportFault.Broken rule line) e =
+      inr (inr (inr (inr (inr (record { rule = rule; line = line }, refl, none_held shelf n named name text last (record { rule = rule; line = line }) e)))))
+  old_refused named text last ReportFault.Memory e = inl refl
 
   module _ (old : Report) (held : HoldsReport shelf n name old) where
     pub gone_on_given : (new : Report) (made : ℕ) → old.flow.reached ≤ℚ horizon → IsResumedReport passes_Q n.net (bounds_of horizon (budgets_of phases patterns)) old made new → IsWellFormed n.net new

@@ -1,6 +1,6 @@
 -- What is written where the report of a run is gone on from: the report of one long run.
 use Rattle.std.proofs.Common.{◌≡◌, ℕ, List, [], ◌∷◌, refl, sym, ap, subst, ◌∙◌, inl, inr}
-use Rattle.std.specs.Prelude.{Option, Some, None, IfSome, Result, Ok}
+use Rattle.std.specs.Prelude.{Option, Some, None, Result, Ok}
 use Rattle.nf_rational.specs.Rational.{ℚ}
 use Rattle.nf_work.specs.Passing.{passes_Q}
 use Rattle.nf_model.specs.Network.{IsNetwork}
@@ -30,12 +30,38 @@ use Rattle.nf_app.specs.Given.{IsGiven}
 use Rattle.nf_app.specs.Runs.{Call, Asks, Read, IsRefused, IsAnswer, Ran}
 use Rattle.nf_app.specs.Completeness.{TellsNetwork}
 use Rattle.nf_app.specs.Resumption.{IsResumption, IsOneRun, ResumesAsOne}
+use Rattle.nf_app.proofs.Fetched.{reads_told}
 use Rattle.nf_app.proofs.Reports.{one_report_in}
 
 same_ok : {A E : Type 0} (r : Result A E) (x y : A) → r ≡ Ok x → r ≡ Ok y → x ≡ y
 same_ok r x y h k = cc
 
 -- ---- a call whose status is 0 gave what its request gives with its network
+pub not_refused : (call : Call) (answer : Answer) → IsRefused call answer → status_of answer ≡ Status.Ok → ⊥
+not_refused call NoMemory h e = cc
+not_refused call NoRequest h e = cc
+not_refused call ShelfFailed h e = cc
+not_refused call ShelfTooLong h e = cc
+not_refused call (Malformed broken) h e = cc
+not_refused call (Solved n report) h e = absurd h
+not_refused call (Shown n) h e = absurd h
+not_refused call (Loaded n horizon loaded) h e = absurd h
+not_refused call (MalformedLoads broken) h e = absurd h
+not_refused call (Checked n verdict) h e = absurd h
+not_refused call (MalformedFlows broken) h e = absurd h
+not_refused call (MalformedRoutes broken) h e = absurd h
+not_refused call (MalformedReport broken) h e = absurd h
+not_refused call (Passes at) h e = absurd h
+not_refused call (Quickest n quick arrival) h e = absurd h
+not_refused call (TooManyWalks n augments walks) h e = absurd h
+not_refused call Unbounded h e = absurd h
+not_refused call (Generated number rungs n made report) h e = absurd h
+not_refused call (SolvedForever n forever) h e = absurd h
+not_refused call (Settled n pattern flows) h e = absurd h
+not_refused call NotThin h e = absurd h
+not_refused call Earlier h e = absurd h
+not_refused call (Distributed n routes horizon routed) h e = absurd h
+
 module _ (call : Call) (request : Request) (asks : Asks call request) (file : List ℕ) (others : List Wanted) (files_are : files_of request ≡ network_file file ∷ others)
     (from_file : generated_by request ≡ None) (network : TellsNetwork call.shelf file) where
   one_request : (other : Request) → Asks call other → other ≡ request
@@ -49,36 +75,11 @@ module _ (call : Call) (request : Request) (asks : Asks call request) (file : Li
       let first : NetworkReads call.shelf None (network_file file ∷ others) read =
       subst (λ (l : List Wanted). NetworkReads call.shelf None l read) files_are
       (subst (λ (o : Option Named). NetworkReads call.shelf o (files_of request) read) from_file here) in
-      let told : Reads network.tells.text read = subst (λ (t : Option (List ℕ)). IfSome t (λ text. Reads text read)) network.tells.told first in
+      let told : Reads network.tells.text read = reads_told call.shelf (network_file file) network.tells.text network.tells.told others read first in
       same_ok read n network.net refl (reads_at_most_once network.tells.text read (Ok network.net) told network.reads)
 
-  not_refused : (answer : Answer) → IsRefused call answer → status_of answer ≡ Status.Ok → ⊥
-  not_refused NoMemory h e = cc
-  not_refused NoRequest h e = cc
-  not_refused ShelfFailed h e = cc
-  not_refused ShelfTooLong h e = cc
-  not_refused (Malformed broken) h e = cc
-  not_refused (Solved n report) h e = absurd h
-  not_refused (Shown n) h e = absurd h
-  not_refused (Loaded n horizon loaded) h e = absurd h
-  not_refused (MalformedLoads broken) h e = absurd h
-  not_refused (Checked n verdict) h e = absurd h
-  not_refused (MalformedFlows broken) h e = absurd h
-  not_refused (MalformedRoutes broken) h e = absurd h
-  not_refused (MalformedReport broken) h e = absurd h
-  not_refused (Passes at) h e = absurd h
-  not_refused (Quickest n quick arrival) h e = absurd h
-  not_refused (TooManyWalks n augments walks) h e = absurd h
-  not_refused Unbounded h e = absurd h
-  not_refused (Generated number rungs n made report) h e = absurd h
-  not_refused (SolvedForever n forever) h e = absurd h
-  not_refused (Settled n pattern flows) h e = absurd h
-  not_refused NotThin h e = absurd h
-  not_refused Earlier h e = absurd h
-  not_refused (Distributed n routes horizon routed) h e = absurd h
-
   pub given_well : (answer : Answer) → IsAnswer call answer → status_of answer ≡ Status.Ok → IsGiven call.shelf network.net request answer
-  given_well answer (inl h) e = absurd (not_refused answer h e)
+  given_well answer (inl h) e = absurd (not_refused call answer h e)
   given_well answer (inr h) e = subst (λ (m : Named). IsGiven call.shelf m request answer) (one_network h.request h.net h.read)
       (subst (λ (q : Request). IsGiven call.shelf h.net q answer) (one_request h.request h.read.asks) h.given)
 

@@ -22,12 +22,12 @@ use Rattle.nf_answers.specs.Answers.{Distributed}
 use Rattle.nf_answers.specs.Refusals.{answer_of, refusal_of_routes, refusal_of_halt}
 use Rattle.nf_app.specs.RoutesGiven.{RoutesRead, by_route_list}
 use Rattle.nf_app.specs.Given.{IsGiven}
-use Rattle.nf_outside.specs.Fetching.{IsTold}
+use Rattle.nf_outside.specs.Fetching.{IsLastText}
 
-module _ (shelf : Visit) (n : Named) (file name : List ℕ) (horizon : ℚ) (text : List ℕ) (told : IsTold shelf (routes_file name) text) where
+module _ (shelf : Visit) (n : Named) (file name : List ℕ) (horizon : ℚ) (text : List ℕ) (last : IsLastText shelf (routes_file name) text) where
   -- what was read of the bytes
   read_so : (read : Result (List NamedRoute) RoutesBroken) → ReadsRoutes n text read → RoutesRead shelf n name read
-  read_so read e = record { text = text; told = told; holds = e }
+  read_so read e = record { text = text; is_last = last; holds = e }
 
   abbrev Answers : Refusal → Type 0
   Answers refusal = (refusal ≡ Refusal.NoMemory) ⊎ IsGiven shelf n (Routes file name horizon) (answer_of refusal)

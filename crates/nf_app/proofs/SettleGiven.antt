@@ -18,12 +18,12 @@ use Rattle.nf_answers.specs.Refusals.{answer_of, refusal_of_flows, refusal_of_ha
 use Rattle.nf_app.specs.SettleGiven.{FlowsRead, AreSettled, AreNotThin, PassesFirst, AtStart}
 use Rattle.nf_app.specs.Settling.{AtStartLabels, SettlesAtStart}
 use Rattle.nf_app.specs.Given.{IsGiven}
-use Rattle.nf_outside.specs.Fetching.{IsTold}
+use Rattle.nf_outside.specs.Fetching.{IsLastText}
 
-module _ (shelf : Visit) (n : Named) (file name : List ℕ) (text : List ℕ) (told : IsTold shelf (flows_file name) text) where
+module _ (shelf : Visit) (n : Named) (file name : List ℕ) (text : List ℕ) (last : IsLastText shelf (flows_file name) text) where
   -- what was read of the bytes
   read_so : (read : Result GivenFlows FlowsBroken) → flows_in n text ≡ read → FlowsRead shelf n name read
-  read_so read e = record { text = text; told = told; holds = e }
+  read_so read e = record { text = text; is_last = last; holds = e }
 
   abbrev Answers : Refusal → Type 0
   Answers refusal = (refusal ≡ Refusal.NoMemory) ⊎ IsGiven shelf n (Settle file name) (answer_of refusal)

@@ -1,5 +1,5 @@
 -- When nothing but want of memory keeps a run of the program from the whole answer of its command.
-use Rattle.std.specs.Prelude.{◌≡◌, ◌⊎◌, ℕ, ◌≤◌, List, length, Option, Some, None, IsSome, Ok}
+use Rattle.std.specs.Prelude.{◌≡◌, ◌⊎◌, ℕ, List, Option, Some, None, IsSome, Ok}
 use Rattle.nf_rational.specs.Rational.{ℚ}
 use Rattle.nf_rational.specs.Order.{◌≤ℚ◌}
 use Rattle.nf_work.specs.Passing.{passes_Q}
@@ -34,13 +34,12 @@ use Rattle.nf_app.specs.SettleGiven.{PassesSettling}
 use Rattle.nf_app.specs.RoutesGiven.{by_route_list}
 use Rattle.nf_app.specs.ResumeGiven.{IsGoneOn, PassesResuming}
 use Rattle.nf_outside.specs.Sinks.{Taken}
+use Rattle.nf_app.specs.Told.{TellsWithin}
 use Rattle.nf_app.specs.Runs.{Call, Asks}
 
 -- the shelf tells the bytes of a file, and they aren't too many
-pub record Tells (shelf : Visit) (file : Wanted) : Type 0 where
-  pub text : List ℕ
-  pub told : shelf.told file.name ≡ Some text
-  pub within : length text ≤ file.limit
+abbrev pub Tells : Visit → Wanted → Type 0
+Tells shelf file = TellsWithin shelf.told file
 
 -- they read as a network
 pub record TellsNetwork (shelf : Visit) (file : List ℕ) : Type 0 where

@@ -26,10 +26,10 @@ use Rattle.nf_routes_lists.specs.RoutesList.{Routed}
 use Rattle.nf_quick_lists.specs.Quick.{Augment, Quick as QuickFlow}
 use Rattle.nf_phase.specs.Solution.{bounds_of, IsSolution}
 use Rattle.nf_outside.specs.Files.{Visit, loads_file}
+use Rattle.nf_outside.specs.Fetching.{OfLastBytes}
 use Rattle.nf_words.specs.Requests.{Request, Solve, SolveForever, Show, Load, Check, Quick, Gen, Settle, Resume, Routes}
 use Rattle.nf_app.specs.Requests.{budgets_of}
 use Rattle.nf_answers.specs.Answers.{Answer, Solved, SolvedForever, Shown, Loaded, Checked, Quickest, TooManyWalks, Generated, Settled, Distributed, MalformedLoads, MalformedFlows, MalformedRoutes, MalformedReport, Passes, Unbounded, NotThin, Earlier}
-use Rattle.nf_app.specs.Fetched.{OfBytes}
 use Rattle.nf_app.specs.Reports.{HoldsNoReport}
 use Rattle.nf_app.specs.CheckGiven.{IsChecked, PassesChecking}
 use Rattle.nf_app.specs.QuickGiven.{IsQuickest, IsOverBudget, PassesQuick, IsUnbounded}
@@ -39,9 +39,9 @@ use Rattle.nf_app.specs.RoutesGiven.{RoutesRead, IsDistributed, PassesRoutes}
 use Rattle.nf_app.specs.ResumeGiven.{IsGoneOn, IsNoStart, PassesResuming, IsBefore}
 use Rattle.nf_answers.specs.declared.arrival.Arrival.{Arrival}
 
--- some bytes, those of the file where the shelf tells them, read as these pieces of the links of the network, or break this rule first
+-- some bytes of the file, as many as the shelf took and those that it tells where it tells them, read as these pieces of the links of the network, or break this rule first
 abbrev pub LoadsRead : Visit → Named → List ℕ → Result (List (List Piece)) LoadsBroken → Type 0
-LoadsRead shelf n file read = OfBytes shelf (loads_file file) (λ text. loads_in n text ≡ read)
+LoadsRead shelf n file read = OfLastBytes shelf (loads_file file) (λ text. loads_in n text ≡ read)
 
 -- the list of operations of `load`
 abbrev pub loading_list : Named → List (List Piece) → ℚ → Result (List Loading) (PassedAt ℚ)

@@ -1,5 +1,4 @@
 pub mod Requests
-pub mod Fetched
 pub mod Reports
 pub mod CheckGiven
 pub mod QuickGiven
@@ -11,8 +10,11 @@ pub mod Resumption
 pub mod Given
 pub mod Runs
 pub mod Gathered
+pub mod Told
 pub mod Completeness
 pub mod Uniqueness
+pub mod Only
+pub mod Chained
 pub mod Outcomes
 pub mod Settling
 pub mod Stops

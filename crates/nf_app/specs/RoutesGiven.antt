@@ -10,12 +10,12 @@ use Rattle.nf_routes_lists.specs.RoutesFile.{RoutesBroken, NamedRoute, routes_of
 use Rattle.nf_routes_lists.specs.RoutesList.{Routed, routes_list}
 use Rattle.nf_routes_lists.specs.Meanings.{IsRouted, RoutesArrive}
 use Rattle.nf_outside.specs.Files.{Visit, routes_file}
-use Rattle.nf_app.specs.Fetched.{OfBytes}
+use Rattle.nf_outside.specs.Fetching.{OfLastBytes}
 
--- Some bytes, those of the file where the shelf tells them, read as these routes of the network, which hold no circle; or break this rule
--- first, the last one exactly where their routes hold a circle.
+-- Some bytes of the file, as many as the shelf took and those that it tells where it tells them, read as these routes of the network, which hold no
+-- circle; or break this rule first, the last one exactly where their routes hold a circle.
 abbrev pub RoutesRead : Visit → Named → List ℕ → Result (List NamedRoute) RoutesBroken → Type 0
-RoutesRead shelf n file read = OfBytes shelf (routes_file file) (λ text. ReadsRoutes n text read)
+RoutesRead shelf n file read = OfLastBytes shelf (routes_file file) (λ text. ReadsRoutes n text read)
 
 -- the list of operations of `routes`
 abbrev pub by_route_list : Named → List NamedRoute → ℚ → Result Routed (PassedAt ℚ)

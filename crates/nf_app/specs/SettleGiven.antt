@@ -18,11 +18,11 @@ use Rattle.nf_complete_lists.specs.SettledPattern.{IsSettledPattern}
 use Rattle.nf_complete_lists.specs.ThinList.{thin_list}
 use Rattle.nf_complete_lists.specs.FlowsFile.{FlowsBroken, GivenFlows, flows_in}
 use Rattle.nf_outside.specs.Files.{Visit, flows_file}
-use Rattle.nf_app.specs.Fetched.{OfBytes}
+use Rattle.nf_outside.specs.Fetching.{OfLastBytes}
 
--- some bytes, those of the file where the shelf tells them, read as these flows and slopes of the network, or break this rule first
+-- some bytes of the file, as many as the shelf took and those that it tells where it tells them, read as these flows and slopes of the network, or break this rule first
 abbrev pub FlowsRead : Visit → Named → List ℕ → Result GivenFlows FlowsBroken → Type 0
-FlowsRead shelf n file read = OfBytes shelf (flows_file file) (λ text. flows_in n text ≡ read)
+FlowsRead shelf n file read = OfLastBytes shelf (flows_file file) (λ text. flows_in n text ≡ read)
 
 -- ---- flows and slopes at labels of departure 0: for the sets of their slacks, and the rate then
 module _ (net : Network) (labels : List ℚ) (given : GivenFlows) where

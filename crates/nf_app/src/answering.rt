@@ -15,9 +15,9 @@ ghost use Rattle.nf_outside.specs.Files.{Visit, visit, report_limit, loads_file,
 ghost use Rattle.nf_words.specs.Requests.{Solve, SolveForever, Show, Load, Check, Gen, Settle, Resume, Routes, CanBeAsked, request_of};
 ghost use Rattle.nf_words.specs.Requests as requests;
 ghost use Rattle.nf_words.specs.Views.{requested};
-ghost use Rattle.nf_outside.specs.Fetching.{IsTold};
+ghost use Rattle.nf_outside.specs.Fetching.{IsLastText};
 ghost use Rattle.nf_app.specs.Reports.{HoldsReport};
-ghost use Rattle.nf_app.specs.Gathered.{OtherFits, OtherIsTold};
+ghost use Rattle.nf_app.specs.Gathered.{OtherFits, OtherIsText};
 ghost use Rattle.nf_app.specs.Outcomes.{IsGiving, IsAnswered, with_net};
 
 use crate::arrival::{find_arrival, last_label};
@@ -99,7 +99,7 @@ fn show(alloc: Global, net: &Network) -> Result<Found, Refusal>
 fn load_to(alloc: Global, net: &Network, loads: &[u8], horizon: Q) -> Result<Found, Refusal>
     requires horizon { 0ℚ ≤ℚ horizon }
     requires within { length loads.now ≤ longest_text }
-    ensures { (shelf : Visit) (file name : List ℕ) → IsTold shelf (loads_file name) loads.now → IsGiving shelf net.now (Load file name horizon) result }
+    ensures { (shelf : Visit) (file name : List ℕ) → IsLastText shelf (loads_file name) loads.now → IsGiving shelf net.now (Load file name horizon) result }
 {
     // For the proof: the network is that of an accepted file.
     let _ = net.version();
@@ -111,7 +111,7 @@ fn load_to(alloc: Global, net: &Network, loads: &[u8], horizon: Q) -> Result<Fou
 // The verdict on the flow of the report that the text is.
 fn check_report(alloc: Global, net: &Network, text: &[u8]) -> Result<Found, Refusal>
     requires { length text.now ≤ report_limit }
-    ensures { (shelf : Visit) (file name : List ℕ) → IsTold shelf (report_file name) text.now → IsGiving shelf net.now (Check file name) result }
+    ensures { (shelf : Visit) (file name : List ℕ) → IsLastText shelf (report_file name) text.now → IsGiving shelf net.now (Check file name) result }
 {
     // For the proof: the network is that of an accepted file.
     let _ = net.version();
@@ -123,7 +123,7 @@ fn check_report(alloc: Global, net: &Network, text: &[u8]) -> Result<Found, Refu
 // What the thin flow is settled to that the text of a flows file gives.
 fn settle_to(alloc: Global, net: &Network, text: &[u8]) -> Result<Found, Refusal>
     requires { length text.now ≤ longest_text }
-    ensures { (shelf : Visit) (file name : List ℕ) → IsTold shelf (flows_file name) text.now → IsGiving shelf net.now (Settle file name) result }
+    ensures { (shelf : Visit) (file name : List ℕ) → IsLastText shelf (flows_file name) text.now → IsGiving shelf net.now (Settle file name) result }
 {
     let flows = parse_flows(alloc, net, text)?;
     match settle_at_start(alloc, net, &flows)? {
@@ -154,7 +154,7 @@ fn resume_to(
     budgets: Budgets,
 ) -> Result<Found, Refusal>
     requires { length text.now ≤ report_limit }
-    ensures { (shelf : Visit) (file name : List ℕ) → IsTold shelf (report_file name) text.now
+    ensures { (shelf : Visit) (file name : List ℕ) → IsLastText shelf (report_file name) text.now
         → IsGiving shelf net.now (Resume file name horizon budgets.phases budgets.patterns) result }
 {
     // For the proof: the network is that of an accepted file, and the parts of the horizon are within the bound.
@@ -172,7 +172,7 @@ fn resume_to(
 fn distribute(alloc: Global, net: &Network, text: &[u8], horizon: Q) -> Result<Found, Refusal>
     requires horizon { 0ℚ ≤ℚ horizon }
     requires within { length text.now ≤ longest_text }
-    ensures { (shelf : Visit) (file name : List ℕ) → IsTold shelf (routes_file name) text.now → IsGiving shelf net.now (Routes file name horizon) result }
+    ensures { (shelf : Visit) (file name : List ℕ) → IsLastText shelf (routes_file name) text.now → IsGiving shelf net.now (Routes file name horizon) result }
 {
     let routes = parse_routes(alloc, net, text)?;
     let routed = load_routes(alloc, net, &routes, horizon)?;
@@ -261,7 +261,7 @@ fn with_net(found: Result<Found, Refusal>, net: Network) -> Result<Outcome, Refu
 fn find(alloc: Global, request: &Request, net: &Network, other: &[u8]) -> Result<Found, Refusal>
     requires asked { CanBeAsked (requested request.now) }
     requires fits { OtherFits (requested request.now) other.now }
-    ensures { (shelf : Visit) → OtherIsTold shelf (requested request.now) other.now → IsGiving shelf net.now (requested request.now) result }
+    ensures { (shelf : Visit) → OtherIsText shelf (requested request.now) other.now → IsGiving shelf net.now (requested request.now) result }
 {
     match *request {
         Request::Solve {
@@ -314,8 +314,10 @@ fn answer_request<S: Shelf>(
     shelf: &mut S,
 ) -> Result<Outcome, Refusal>
     requires { CanBeAsked (requested request.now) }
-    ensures { (words : List (List ℕ)) → request_of words ≡ Some (requested request.now)
+    ensures answered { (words : List (List ℕ)) → request_of words ≡ Some (requested request.now)
         → IsAnswered (record { words = words; shelf = visit S.Shelf shelf.old shelf.new }) result }
+    ensures same { (name : List ℕ) → S.told shelf.new name ≡ S.told shelf.old name }
+    ensures never_falls { S.faults shelf.old ≤ S.faults shelf.new }
 {
     let (net, other) = gather(alloc, request, shelf)?;
     // For the proof: the network is that of an accepted file.
@@ -329,7 +331,9 @@ pub(crate) fn answer<S: Shelf>(
     words: &[String],
     shelf: &mut S,
 ) -> Result<Outcome, Refusal>
-    ensures { IsAnswered (record { words = texts words.now; shelf = visit S.Shelf shelf.old shelf.new }) result }
+    ensures answered { IsAnswered (record { words = texts words.now; shelf = visit S.Shelf shelf.old shelf.new }) result }
+    ensures same { (name : List ℕ) → S.told shelf.new name ≡ S.told shelf.old name }
+    ensures never_falls { S.faults shelf.old ≤ S.faults shelf.new }
 {
     match read_request(alloc, words) {
         Ok(Some(request)) => answer_request(alloc, &request, shelf),

@@ -35,7 +35,9 @@ fn fetch_one<S: Shelf>(
     shelf: &mut S,
     file: &str,
 ) -> Result<(Network, Vec<u8>), Refusal>
-    ensures { AreRead (visit S.Shelf shelf.old shelf.new) (network_file file.now) [] (result_map_both (λ got. (got.0, [])) (λ refusal. refusal) result) }
+    ensures read { AreRead (visit S.Shelf shelf.old shelf.new) (network_file file.now) [] (result_map_both (λ got. (got.0, [])) (λ refusal. refusal) result) }
+    ensures same { (name : List ℕ) → S.told shelf.new name ≡ S.told shelf.old name }
+    ensures never_falls { S.faults shelf.old ≤ S.faults shelf.new }
 {
     let net = fetch_network(alloc, shelf, file)?;
     Ok((net, Vec::new(alloc)))
@@ -64,6 +66,8 @@ pub(crate) fn gather<S: Shelf>(
         → IsGathered (record { words = words; shelf = visit S.Shelf shelf.old shelf.new }) (requested request.now)
         (result_map_both (λ got. (got.0, got.1.items)) (λ refusal. refusal) result) }
     ensures fits { IfOk result (λ got. OtherFits (requested request.now) got.1.items) }
+    ensures same { (name : List ℕ) → S.told shelf.new name ≡ S.told shelf.old name }
+    ensures never_falls { S.faults shelf.old ≤ S.faults shelf.new }
 {
     match request {
         Request::Solve { file, .. } => fetch_one(alloc, shelf, file),

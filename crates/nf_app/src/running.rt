@@ -1,5 +1,5 @@
 // The top call.
-ghost use Rattle.std.specs.Prelude.{◌≡◌};
+ghost use Rattle.std.specs.Prelude.{◌≡◌, ◌≤◌, ℕ, List};
 ghost use Rattle.nf_edge.specs.Names.{texts};
 ghost use Rattle.nf_formats.specs.Report.{report_text};
 ghost use Rattle.nf_answers.specs.declared.status.Status.TheVariants as Status;
@@ -10,6 +10,8 @@ ghost use Rattle.nf_app.specs.Completeness.{IsComplete, EndsByBounds};
 ghost use Rattle.nf_app.specs.Stops.{AlwaysHasPattern};
 ghost use Rattle.nf_app.specs.Resumption.{IsResumption, ResumesAsOne};
 ghost use Rattle.nf_app.specs.Uniqueness.{AnswerIsSameInAll};
+ghost use Rattle.nf_app.specs.Only.{ShowsOnlyThat};
+ghost use Rattle.nf_app.specs.Chained.{SaysYes};
 
 use crate::answering::answer;
 use nf_answers::{Outcome, Status};
@@ -44,6 +46,11 @@ pub fn run<S: Shelf, O: Sink, E: Sink>(
     ensures ran { Ran (record { words = texts words.now; shelf = visit S.Shelf shelf.old shelf.new })
         (taken O.Sink out.old out.new) (taken E.Sink err.old err.new) result }
 
+    // Where the files are told, and neither the shelf nor the output failed, the words have just one answer with what is told, whatever was asked
+    // of the shelf before: that is the one that is shown, with its whole text and its status, or memory was wanting.
+    ensures only { ShowsOnlyThat (record { words = texts words.now; shelf = visit S.Shelf shelf.old shelf.new })
+        (taken O.Sink out.old out.new) (taken E.Sink err.old err.new) result }
+
     // Nothing but want of memory keeps a network from being shown, from being solved where its phase run reaches the horizon or goes on for
     // ever, and from being loaded, by loads or by routes, where no operation passes; a ladder of `gen` from its summary where its phase run reaches
     // the horizon; a report from its verdict, and from being resumed, where no operation passes; a quickest flow from being found where none
@@ -72,6 +79,17 @@ pub fn run<S: Shelf, O: Sink, E: Sink>(
     // `gen` and `resume` ends at the horizon, or in a phase that never ends, or by a bound on the work or on the length of numbers, unless
     // memory is wanting, or the report can't be gone on from.
     ensures bounded { EndsByBounds (record { words = texts words.now; shelf = visit S.Shelf shelf.old shelf.new })
+        (taken O.Sink out.old out.new) result }
+
+    // The shelf tells of each file what it told before, and no count of faults falls: so one call can follow another.
+    ensures same { (name : List ℕ) → S.told shelf.new name ≡ S.told shelf.old name }
+    ensures shelf_never_falls { S.faults shelf.old ≤ S.faults shelf.new }
+    ensures out_never_falls { O.faults out.old ≤ O.faults out.new }
+    ensures err_never_falls { E.faults err.old ≤ E.faults err.new }
+
+    // A text that an earlier call of `solve` with status 0 wrote gets the answer `yes` of `check`, where the network's file is told as then, neither the
+    // shelf nor the output failed, no operation passed and memory wasn't wanting.
+    ensures says_yes { SaysYes (record { words = texts words.now; shelf = visit S.Shelf shelf.old shelf.new })
         (taken O.Sink out.old out.new) result }
 {
     match answer(alloc, words, shelf) {

@@ -12,7 +12,7 @@ use Rattle.nf_edge.specs.declared.FetchFault.TheVariants.{Failed as ShelfFails, 
 use Rattle.nf_answers.specs.declared.refusal.Refusal.{Refusal}
 use Rattle.nf_outside.specs.Files.{Wanted, Visit, names_of, Fits, FetchedNone, FetchedAll, FetchedTo, Failed, HasTooMany}
 use Rattle.nf_answers.specs.Refusals.{refusal_of_fetch}
-use Rattle.nf_outside.specs.Fetching.{IsTold, AreTold, AreMissing, AreFetched}
+use Rattle.nf_outside.specs.Fetching.{IsTold, IsTextOf, IsLastText, AreMissing, AreFetched}
 
 -- ---- one file
 module _ (shelf : Visit) (file : Wanted) where
@@ -26,7 +26,7 @@ module _ (shelf : Visit) (file : Wanted) where
       fit = All-cons (Fits shelf) file [] (IfSome_then (shelf.told file.name) told (λ held same. subst (λ (n : ℕ). n ≤ file.limit) (taken ∙ ap length same) within)) (All-nil (Fits shelf));
       taken = within;
     },
-    (told, tt),
+    record { of_file = record { within = subst (λ (n : ℕ). n ≤ file.limit) taken within; told = told }; taken = sym taken },
   )
 
   one_reached : IsAsked → FetchedTo shelf (file ∷ []) file
@@ -155,12 +155,22 @@ module _ (one other : Visit) (f g : Wanted) (follows : Follows one other) (first
   second_missing Refusal.NotThin h = absurd h
   second_missing Refusal.Earlier h = absurd h
 
-  pub both_fetched : (text more : List ℕ) → IsTold one f text → AreFetched other (g ∷ []) (Ok (more ∷ [])) → AreFetched both (f ∷ g ∷ []) (Ok (text ∷ more ∷ []))
-  both_fetched text more told h = (
+  -- bytes of the first file are still such, and so are those of the last one
+  text_of : (text : List ℕ) → IsTextOf one f text → IsTextOf both f text
+  text_of text h = record { within = h.within; told = h.told }
+
+  last_text : (text : List ℕ) → IsLastText other g text → IsLastText both g text
+  last_text text h = record {
+    of_file = record { within = h.of_file.within; told = subst (λ (o : Option (List ℕ)). IfSome o (λ held. text ≡ held)) (follows.told g.name) h.of_file.told };
+    taken = h.taken;
+  }
+
+  pub both_fetched : (text more : List ℕ) → IsTextOf one f text → AreFetched other (g ∷ []) (Ok (more ∷ [])) → AreFetched both (f ∷ g ∷ []) (Ok (text ∷ more ∷ []))
+  both_fetched text more is h = (
     record {
       asked = asked_more (g.name ∷ []) h.0.asked;
       fit = All-cons (Fits both) f (g ∷ []) first_fits (All-cons (Fits both) g [] (fits g (All-head (Fits other) g [] h.0.fit)) (All-nil (Fits both)));
       taken = h.0.taken;
     },
-    (told, (subst (λ (o : Option (List ℕ)). IfSome o (λ held. more ≡ held)) (follows.told g.name) h.1.0, tt)),
+    (text_of text is, last_text more h.1),
   )

@@ -2,7 +2,6 @@
 use Rattle.std.proofs.Common.{◌≡◌, ℕ, List, [], ◌∷◌, ◌++◌, refl, ap, subst, ◌∙◌, inr}
 use Rattle.std.specs.Prelude.{None, Result, Ok, Err}
 use Rattle.std.specs.List.{All}
-use Rattle.std.proofs.lemmas.Option.{IfSome_then}
 use Rattle.std.proofs.lemmas.List.Elements.{All-cons, All-nil, All-head, All-tail}
 use Rattle.nf_formats.specs.Named.{Named}
 use Rattle.nf_formats.specs.NetLines.{Broken}
@@ -12,7 +11,7 @@ use Rattle.nf_draft.specs.declared.fault.NetFault.{NetFault}
 use Rattle.nf_answers.specs.declared.refusal.Refusal.{Refusal}
 use Rattle.nf_answers.specs.Refusals.{refusal_of_net}
 use Rattle.nf_outside.specs.Files.{Wanted, Visit, names_of, Fits, FetchedAll, FetchedTo}
-use Rattle.nf_outside.specs.Fetching.{NetworkReads, AreMissing, AreFetched, AreRead}
+use Rattle.nf_outside.specs.Fetching.{AreTexts, NetworkReads, AreMissing, AreFetched, AreRead}
 
 -- ---- the last of files that were all fetched was reached
 record EndsIn (x : Wanted) (xs : List Wanted) : Type 0 where
@@ -44,15 +43,23 @@ all_reached shelf file others h =
     )
 
 -- ---- the first file is read as a network
-module _ (shelf : Visit) (file : Wanted) (others : List Wanted) (text : List ℕ) (texts : List (List ℕ)) (fetched : AreFetched shelf (file ∷ others) (Ok (text ∷ texts))) where
-  reads_as : (read : Result Named Broken) → Reads text read → NetworkReads shelf None (file ∷ others) read
-  reads_as read h = IfSome_then (shelf.told file.name) fetched.1.0 (λ held same. subst (λ (t : List ℕ). Reads t read) same h)
+module _ (shelf : Visit) (file : Wanted) (text : List ℕ) where
+  reads_as : (others : List Wanted) (texts : List (List ℕ)) → AreTexts shelf (file ∷ others) (text ∷ texts) → (read : Result Named Broken) → Reads text read → NetworkReads shelf None (file ∷ others) read
+  reads_as [] [] are read h = record { text = text; is_last = are; holds = h }
+  reads_as [] (more ∷ texts) are read h = absurd are
+  reads_as (next ∷ others) texts are read h = record { text = text; of_file = are.0; holds = h }
 
+  others_are : (others : List Wanted) (texts : List (List ℕ)) → AreTexts shelf (file ∷ others) (text ∷ texts) → AreTexts shelf others texts
+  others_are [] [] are = tt
+  others_are [] (more ∷ texts) are = absurd are
+  others_are (next ∷ others) texts are = are.1
+
+module _ (shelf : Visit) (file : Wanted) (others : List Wanted) (text : List ℕ) (texts : List (List ℕ)) (fetched : AreFetched shelf (file ∷ others) (Ok (text ∷ texts))) where
   pub network_read : (n : Named) → Reads text (Ok n) → AreRead shelf file others (Ok (n, texts))
-  network_read n h = (fetched.0, reads_as (Ok n) h, fetched.1.1)
+  network_read n h = (fetched.0, reads_as shelf file text others texts fetched.1 (Ok n) h, others_are shelf file text others texts fetched.1)
 
   pub network_broken : (broken : Broken) → Reads text (Err broken) → AreRead shelf file others (Err (Refusal.Malformed broken.rule broken.line))
-  network_broken broken h = (fetched.0, reads_as (Err broken) h)
+  network_broken broken h = (fetched.0, reads_as shelf file text others texts fetched.1 (Err broken) h)
 
   pub network_wants_memory : AreRead shelf file others (Err Refusal.NoMemory)
   network_wants_memory = inr (all_reached shelf file others fetched.0)

@@ -34,6 +34,8 @@ fn fetch_files<S: Shelf>(
     other: &str,
     limit: u32,
 ) -> Result<(Vec<u8>, Vec<u8>), Refusal>
+    ensures same { (name : List ℕ) → S.told shelf.new name ≡ S.told shelf.old name }
+    ensures never_falls { S.faults shelf.old ≤ S.faults shelf.new }
     ensures fetched { AreFetched (visit S.Shelf shelf.old shelf.new) (network_file file.now ∷ record { name = other.now; limit = limit } ∷ [])
         (result_map_both (λ texts. texts.0.items ∷ texts.1.items ∷ []) (λ refusal. refusal) result) }
     ensures first { IfOk result (λ texts. length texts.0.items ≤ network_limit) }
@@ -45,9 +47,11 @@ fn fetch_files<S: Shelf>(
 }
 
 /// Fetches a file, and reads it as a network. It is refused where the file isn't given, has too many bytes or breaks a rule, or memory is
-/// wanting.
+/// wanting. The shelf tells of each file what it told before, and no count of its faults falls.
 pub fn fetch_network<S: Shelf>(alloc: Global, shelf: &mut S, file: &str) -> Result<Network, Refusal>
-    ensures { AreRead (visit S.Shelf shelf.old shelf.new) (network_file file.now) [] (result_map_both (λ net. (net, [])) (λ refusal. refusal) result) }
+    ensures same { (name : List ℕ) → S.told shelf.new name ≡ S.told shelf.old name }
+    ensures never_falls { S.faults shelf.old ≤ S.faults shelf.new }
+    ensures read { AreRead (visit S.Shelf shelf.old shelf.new) (network_file file.now) [] (result_map_both (λ net. (net, [])) (λ refusal. refusal) result) }
 {
     let text = fetch_file(alloc, shelf, file, LONGEST_FILE)?;
     let net = parse(alloc, &text)?;
@@ -55,7 +59,8 @@ pub fn fetch_network<S: Shelf>(alloc: Global, shelf: &mut S, file: &str) -> Resu
 }
 
 /// Fetches a file and another of at most so many bytes, and reads the first as a network once both are there. It is refused where one of
-/// them isn't given or has too many bytes, the first breaks a rule, or memory is wanting.
+/// them isn't given or has too many bytes, the first breaks a rule, or memory is wanting. The shelf tells of each file what it told before, and
+/// no count of its faults falls.
 pub fn fetch_network_with<S: Shelf>(
     alloc: Global,
     shelf: &mut S,
@@ -63,6 +68,8 @@ pub fn fetch_network_with<S: Shelf>(
     other: &str,
     limit: u32,
 ) -> Result<(Network, Vec<u8>), Refusal>
+    ensures same { (name : List ℕ) → S.told shelf.new name ≡ S.told shelf.old name }
+    ensures never_falls { S.faults shelf.old ≤ S.faults shelf.new }
     ensures read { AreRead (visit S.Shelf shelf.old shelf.new) (network_file file.now) (record { name = other.now; limit = limit } ∷ [])
         (result_map_both (λ read. (read.0, read.1.items ∷ [])) (λ refusal. refusal) result) }
     ensures within { IfOk result (λ read. length read.1.items ≤ limit) }

@@ -1,5 +1,5 @@
 // What the two sinks are given.
-ghost use Rattle.std.specs.Prelude.{◌≡◌, ◌++◌};
+ghost use Rattle.std.specs.Prelude.{◌≡◌, ◌≤◌, ◌++◌};
 ghost use Rattle.std.specs.Option.{option_copied};
 ghost use Rattle.nf_edge.specs.Taken.{Wrote};
 ghost use Rattle.nf_formats.specs.Named.{Named};
@@ -80,6 +80,7 @@ fn status_of_cause(stop: &Stop) -> Status
 fn tell_stop<E: Sink>(stop: Option<&Stop>, err: &mut E) -> Status
     ensures status { result ≡ status_of_stop (option_copied stop.entry) }
     ensures told { TookText (taken E.Sink err.old err.new) (text_of_stop (option_copied stop.entry)) }
+    ensures never_falls { E.faults err.old ≤ E.faults err.new }
 {
     match stop {
         None => Status::Ok,
@@ -94,6 +95,7 @@ fn tell_stop<E: Sink>(stop: Option<&Stop>, err: &mut E) -> Status
 fn tell_forever<E: Sink>(stop: Option<&Stop>, err: &mut E) -> Status
     ensures status { result ≡ status_of_forever (option_copied stop.entry) }
     ensures told { TookText (taken E.Sink err.old err.new) (text_of_stop (option_copied stop.entry)) }
+    ensures never_falls { E.faults err.old ≤ E.faults err.new }
 {
     match tell_stop(stop, err) {
         Status::Phases => Status::Events,
@@ -105,6 +107,7 @@ fn tell_forever<E: Sink>(stop: Option<&Stop>, err: &mut E) -> Status
 fn tell_verdict<E: Sink>(verdict: &Answer, err: &mut E) -> Status
     ensures status { result ≡ status_of_verdict verdict.now }
     ensures told { TookText (taken E.Sink err.old err.new) (text_of_verdict verdict.now) }
+    ensures never_falls { E.faults err.old ≤ E.faults err.new }
 {
     match verdict {
         Answer::Yes => Status::Ok,
@@ -119,6 +122,7 @@ fn tell_verdict<E: Sink>(verdict: &Answer, err: &mut E) -> Status
 fn tell<E: Sink>(found: &Found, err: &mut E) -> Status
     ensures status { (net : Named) → result ≡ status_of (answer_with net found.now) }
     ensures told { (net : Named) → TookText (taken E.Sink err.old err.new) (err_text (answer_with net found.now)) }
+    ensures never_falls { E.faults err.old ≤ E.faults err.new }
 {
     match found {
         Found::SolvedForever { forever, .. } => tell_forever(forever.stopped.as_ref(), err),
@@ -132,10 +136,12 @@ fn tell<E: Sink>(found: &Found, err: &mut E) -> Status
 }
 
 /// Writes the text of an outcome to `out`, says on `err` why it isn't the whole answer, if it isn't, or that `out` failed, and gives the
-/// status with which the run ends. A fault of `err` changes no status.
+/// status with which the run ends. A fault of `err` changes no status. No count of faults falls.
 pub fn give<O: Sink, E: Sink>(outcome: &Outcome, out: &mut O, err: &mut E) -> Status
     requires { HasText outcome.now }
-    ensures { IsShown (answer_in outcome.now) (taken O.Sink out.old out.new) (taken E.Sink err.old err.new) result }
+    ensures shown { IsShown (answer_in outcome.now) (taken O.Sink out.old out.new) (taken E.Sink err.old err.new) result }
+    ensures out_never_falls { O.faults out.old ≤ O.faults out.new }
+    ensures err_never_falls { E.faults err.old ≤ E.faults err.new }
 {
     match write_found(&outcome.net, &outcome.found, out) {
         Ok(()) => tell(&outcome.found, err),
@@ -150,6 +156,7 @@ pub fn give<O: Sink, E: Sink>(outcome: &Outcome, out: &mut O, err: &mut E) -> St
 pub fn refuse<E: Sink>(refusal: &Refusal, err: &mut E) -> Status
     ensures status { result ≡ status_of (answer_of refusal.now) }
     ensures told { TookText (taken E.Sink err.old err.new) (err_text (answer_of refusal.now)) }
+    ensures never_falls { E.faults err.old ≤ E.faults err.new }
 {
     let _ = write_refusal(err, refusal);
     refusal.status()

@@ -6,3 +6,4 @@ pub mod Amounts
 pub mod Rest
 pub mod Together
 pub mod Ends
+pub mod OneResumed

@@ -1,5 +1,5 @@
 -- A resumed run beside the run from the start.
-use Rattle.std.specs.Prelude.{◌≡◌, ℕ, Option, None, Ok}
+use Rattle.std.specs.Prelude.{◌≡◌, ℕ, length, Option, None, Ok}
 use Rattle.nf_work.specs.Passing.{Passing}
 use Rattle.nf_model.specs.Network.{Network, IsNetwork}
 use Rattle.nf_formats.specs.declared.Cause.{Cause}
@@ -35,3 +35,8 @@ ResumedIsSolved = (passes : Passing) (net : Network) (bounds later resumed : Bou
     → (ran : IsRunReport passes net bounds old) → IsRunReport passes net later solved → solved.stop ≡ None
     → IsResumedReport passes net resumed old phases report → report.stop ≡ None → resumed.horizon ≡ later.horizon
     → RestFits passes net resumed ran.last → report ≡ solved
+
+-- A report whose last pattern has an entry for each link is gone on from in one way: with one number of phases, and to one report.
+abbrev pub ResumedRunHasOneReport : Type 0
+ResumedRunHasOneReport = (passes : Passing) (net : Network) (bounds : Bounds) (old : Report) (phases others : ℕ) (report other : Report) → length old.last ≡ length net.links
+    → IsResumedReport passes net bounds old phases report → IsResumedReport passes net bounds old others other → (phases ≡ others) × (report ≡ other)

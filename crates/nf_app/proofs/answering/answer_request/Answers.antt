@@ -2,21 +2,33 @@ use Rattle.std.proofs.Common.{ℕ, List, sym, subst}
 use Rattle.std.proofs.lemmas.Result.{err_from_is_err_and}
 use Rattle.nf_words.specs.Views.{requested}
 use Rattle.nf_outside.specs.Files.{visit}
-use Rattle.nf_app.specs.Gathered.{OtherFits, OtherIsTold}
+use Rattle.nf_app.specs.Gathered.{OtherFits, OtherIsText}
 use Rattle.nf_app.proofs.Calls.{given}
 use Rattle.nf_app.proofs.answering.answer_request.Goals as goal
 
 pub find-requires-clause-fits : goal.find-requires-clause-fits
 find-requires-clause-fits g c = subst (λ (t : List ℕ). OtherFits (requested c.args.request.now) t) (sym c.deref.ensures.value) c.in_ok-net.ensures.fits
 
-pub returns-in_err-net : goal.returns-in_err-net
-returns-in_err-net g c words asks =
+pub returns-in_err-net-clause-answered : goal.returns-in_err-net-clause-answered
+returns-in_err-net-clause-answered g c words asks =
     let p = err_from_is_err_and c.from_residual.result c.from_residual.ensures.1 in
     rw (p.1, p.2) (c.in_err-net.ensures.gathered words asks)
 
-pub returns : goal.returns
-returns g c words asks =
+pub returns-clause-answered : goal.returns-clause-answered
+returns-clause-answered g c words asks =
     let shelf = visit g.S.Shelf c.args.shelf.now c.gather.new.shelf in
     let gathered = c.in_ok-net.ensures.gathered words asks in
     given (record { words = words; shelf = shelf }) (requested c.args.request.now) c.in_ok-net.net c.version.ensures.named gathered.0 c.find.result
-    (c.find.ensures shelf (subst (λ (t : List ℕ). OtherIsTold shelf (requested c.args.request.now) t) (sym c.deref.ensures.value) gathered.1)) c.with_net.result c.with_net.ensures
+    (c.find.ensures shelf (subst (λ (t : List ℕ). OtherIsText shelf (requested c.args.request.now) t) (sym c.deref.ensures.value) gathered.1)) c.with_net.result c.with_net.ensures
+
+pub returns-in_err-net-clause-same : goal.returns-in_err-net-clause-same
+returns-in_err-net-clause-same g c = c.in_err-net.ensures.same
+
+pub returns-clause-same : goal.returns-clause-same
+returns-clause-same g c = c.in_ok-net.ensures.same
+
+pub returns-in_err-net-clause-never_falls : goal.returns-in_err-net-clause-never_falls
+returns-in_err-net-clause-never_falls g c = c.in_err-net.ensures.never_falls
+
+pub returns-clause-never_falls : goal.returns-clause-never_falls
+returns-clause-never_falls g c = c.in_ok-net.ensures.never_falls

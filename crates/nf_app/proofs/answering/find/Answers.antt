@@ -2,7 +2,7 @@ use Rattle.std.proofs.Common.{◌≡◌, ℕ, ◌≤◌, List, length, ap, sym, 
 use Rattle.nf_words.specs.declared.request.Request as code
 use Rattle.nf_words.specs.Requests.{Request, CanBeAsked}
 use Rattle.nf_words.specs.Views.{requested}
-use Rattle.nf_app.specs.Gathered.{OtherFits, OtherIsTold}
+use Rattle.nf_app.specs.Gathered.{OtherFits, OtherIsText}
 use Rattle.nf_app.specs.Outcomes.{IsGiving}
 use Rattle.nf_app.proofs.answering.find.Goals as goal
 
@@ -63,12 +63,12 @@ returns-in-Show c shelf told =
 pub returns-in-Load : goal.returns-in-Load
 returns-in-Load c shelf told =
     subst (λ (r : code.Request). IsGiving shelf c.args.net.now (requested r) c.load_to.result) (sym c.in-Load.is)
-    (c.load_to.ensures shelf c.in-Load.file.now c.in-Load.loads.now (subst (λ (r : code.Request). OtherIsTold shelf (requested r) c.args.other.now) c.in-Load.is told))
+    (c.load_to.ensures shelf c.in-Load.file.now c.in-Load.loads.now (subst (λ (r : code.Request). OtherIsText shelf (requested r) c.args.other.now) c.in-Load.is told))
 
 pub returns-in-Check : goal.returns-in-Check
 returns-in-Check c shelf told =
     subst (λ (r : code.Request). IsGiving shelf c.args.net.now (requested r) c.check_report.result) (sym c.in-Check.is)
-    (c.check_report.ensures shelf c.in-Check.file.now c.in-Check.report.now (subst (λ (r : code.Request). OtherIsTold shelf (requested r) c.args.other.now) c.in-Check.is told))
+    (c.check_report.ensures shelf c.in-Check.file.now c.in-Check.report.now (subst (λ (r : code.Request). OtherIsText shelf (requested r) c.args.other.now) c.in-Check.is told))
 
 pub returns-in-Quick : goal.returns-in-Quick
 returns-in-Quick c shelf told =
@@ -83,14 +83,14 @@ returns-in-Gen c shelf told =
 pub returns-in-Settle : goal.returns-in-Settle
 returns-in-Settle c shelf told =
     subst (λ (r : code.Request). IsGiving shelf c.args.net.now (requested r) c.settle_to.result) (sym c.in-Settle.is)
-    (c.settle_to.ensures shelf c.in-Settle.file.now c.in-Settle.flows.now (subst (λ (r : code.Request). OtherIsTold shelf (requested r) c.args.other.now) c.in-Settle.is told))
+    (c.settle_to.ensures shelf c.in-Settle.file.now c.in-Settle.flows.now (subst (λ (r : code.Request). OtherIsText shelf (requested r) c.args.other.now) c.in-Settle.is told))
 
 pub returns-in-Resume : goal.returns-in-Resume
 returns-in-Resume c shelf told =
     subst (λ (r : code.Request). IsGiving shelf c.args.net.now (requested r) c.resume_to.result) (sym c.in-Resume.is)
-    (c.resume_to.ensures shelf c.in-Resume.file.now c.in-Resume.report.now (subst (λ (r : code.Request). OtherIsTold shelf (requested r) c.args.other.now) c.in-Resume.is told))
+    (c.resume_to.ensures shelf c.in-Resume.file.now c.in-Resume.report.now (subst (λ (r : code.Request). OtherIsText shelf (requested r) c.args.other.now) c.in-Resume.is told))
 
 pub returns-in-Routes : goal.returns-in-Routes
 returns-in-Routes c shelf told =
     subst (λ (r : code.Request). IsGiving shelf c.args.net.now (requested r) c.distribute.result) (sym c.in-Routes.is)
-    (c.distribute.ensures shelf c.in-Routes.file.now c.in-Routes.routes.now (subst (λ (r : code.Request). OtherIsTold shelf (requested r) c.args.other.now) c.in-Routes.is told))
+    (c.distribute.ensures shelf c.in-Routes.file.now c.in-Routes.routes.now (subst (λ (r : code.Request). OtherIsText shelf (requested r) c.args.other.now) c.in-Routes.is told))

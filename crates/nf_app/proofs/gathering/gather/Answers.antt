@@ -20,19 +20,19 @@ pub returns-in-Solve-clause-gathered : goal.returns-in-Solve-clause-gathered
 returns-in-Solve-clause-gathered g c words asks =
     let shelf = visit g.S.Shelf c.args.shelf.now c.fetch_one.new.shelf in
     gathered_one words shelf (requested c.args.request.now) asks (network_file c.in-Solve.file.now) (ap (λ (r : code.Request). files_of (requested r)) c.in-Solve.is) (ap (λ (r : code.Request). generated_by (requested r)) c.in-Solve.is)
-    c.fetch_one.result c.fetch_one.ensures
+    c.fetch_one.result c.fetch_one.ensures.read
 
 pub returns-in-SolveForever-clause-gathered : goal.returns-in-SolveForever-clause-gathered
 returns-in-SolveForever-clause-gathered g c words asks =
     let shelf = visit g.S.Shelf c.args.shelf.now c.fetch_one-in-SolveForever.new.shelf in
     gathered_one words shelf (requested c.args.request.now) asks (network_file c.in-SolveForever.file.now) (ap (λ (r : code.Request). files_of (requested r)) c.in-SolveForever.is) (ap (λ (r : code.Request). generated_by (requested r)) c.in-SolveForever.is)
-    c.fetch_one-in-SolveForever.result c.fetch_one-in-SolveForever.ensures
+    c.fetch_one-in-SolveForever.result c.fetch_one-in-SolveForever.ensures.read
 
 pub returns-in-Show-clause-gathered : goal.returns-in-Show-clause-gathered
 returns-in-Show-clause-gathered g c words asks =
     let shelf = visit g.S.Shelf c.args.shelf.now c.fetch_one-in-Show.new.shelf in
     gathered_one words shelf (requested c.args.request.now) asks (network_file c.in-Show.file.now) (ap (λ (r : code.Request). files_of (requested r)) c.in-Show.is) (ap (λ (r : code.Request). generated_by (requested r)) c.in-Show.is)
-    c.fetch_one-in-Show.result c.fetch_one-in-Show.ensures
+    c.fetch_one-in-Show.result c.fetch_one-in-Show.ensures.read
 
 pub returns-in-Load-clause-gathered : goal.returns-in-Load-clause-gathered
 returns-in-Load-clause-gathered g c words asks =
@@ -50,7 +50,7 @@ pub returns-in-Quick-clause-gathered : goal.returns-in-Quick-clause-gathered
 returns-in-Quick-clause-gathered g c words asks =
     let shelf = visit g.S.Shelf c.args.shelf.now c.fetch_one-in-Quick.new.shelf in
     gathered_one words shelf (requested c.args.request.now) asks (network_file c.in-Quick.file.now) (ap (λ (r : code.Request). files_of (requested r)) c.in-Quick.is) (ap (λ (r : code.Request). generated_by (requested r)) c.in-Quick.is)
-    c.fetch_one-in-Quick.result c.fetch_one-in-Quick.ensures
+    c.fetch_one-in-Quick.result c.fetch_one-in-Quick.ensures.read
 
 pub returns-in-Gen-clause-gathered : goal.returns-in-Gen-clause-gathered
 returns-in-Gen-clause-gathered g c words asks =
@@ -115,3 +115,57 @@ returns-in-Resume-clause-fits g c =
 pub returns-in-Routes-clause-fits : goal.returns-in-Routes-clause-fits
 returns-in-Routes-clause-fits g c =
     subst (λ (r : code.Request). IfOk c.fetch_network_with-in-Routes.result (λ got. OtherFits (requested r) got.1.items)) (sym c.in-Routes.is) c.fetch_network_with-in-Routes.ensures.within
+
+pub returns-in-Solve-clause-same : goal.returns-in-Solve-clause-same
+returns-in-Solve-clause-same g c = c.fetch_one.ensures.same
+
+pub returns-in-SolveForever-clause-same : goal.returns-in-SolveForever-clause-same
+returns-in-SolveForever-clause-same g c = c.fetch_one-in-SolveForever.ensures.same
+
+pub returns-in-Show-clause-same : goal.returns-in-Show-clause-same
+returns-in-Show-clause-same g c = c.fetch_one-in-Show.ensures.same
+
+pub returns-in-Quick-clause-same : goal.returns-in-Quick-clause-same
+returns-in-Quick-clause-same g c = c.fetch_one-in-Quick.ensures.same
+
+pub returns-in-Load-clause-same : goal.returns-in-Load-clause-same
+returns-in-Load-clause-same g c = c.fetch_network_with.ensures.same
+
+pub returns-in-Check-clause-same : goal.returns-in-Check-clause-same
+returns-in-Check-clause-same g c = c.fetch_network_with-in-Check.ensures.same
+
+pub returns-in-Settle-clause-same : goal.returns-in-Settle-clause-same
+returns-in-Settle-clause-same g c = c.fetch_network_with-in-Settle.ensures.same
+
+pub returns-in-Resume-clause-same : goal.returns-in-Resume-clause-same
+returns-in-Resume-clause-same g c = c.fetch_network_with-in-Resume.ensures.same
+
+pub returns-in-Routes-clause-same : goal.returns-in-Routes-clause-same
+returns-in-Routes-clause-same g c = c.fetch_network_with-in-Routes.ensures.same
+
+pub returns-in-Solve-clause-never_falls : goal.returns-in-Solve-clause-never_falls
+returns-in-Solve-clause-never_falls g c = c.fetch_one.ensures.never_falls
+
+pub returns-in-SolveForever-clause-never_falls : goal.returns-in-SolveForever-clause-never_falls
+returns-in-SolveForever-clause-never_falls g c = c.fetch_one-in-SolveForever.ensures.never_falls
+
+pub returns-in-Show-clause-never_falls : goal.returns-in-Show-clause-never_falls
+returns-in-Show-clause-never_falls g c = c.fetch_one-in-Show.ensures.never_falls
+
+pub returns-in-Quick-clause-never_falls : goal.returns-in-Quick-clause-never_falls
+returns-in-Quick-clause-never_falls g c = c.fetch_one-in-Quick.ensures.never_falls
+
+pub returns-in-Load-clause-never_falls : goal.returns-in-Load-clause-never_falls
+returns-in-Load-clause-never_falls g c = c.fetch_network_with.ensures.never_falls
+
+pub returns-in-Check-clause-never_falls : goal.returns-in-Check-clause-never_falls
+returns-in-Check-clause-never_falls g c = c.fetch_network_with-in-Check.ensures.never_falls
+
+pub returns-in-Settle-clause-never_falls : goal.returns-in-Settle-clause-never_falls
+returns-in-Settle-clause-never_falls g c = c.fetch_network_with-in-Settle.ensures.never_falls
+
+pub returns-in-Resume-clause-never_falls : goal.returns-in-Resume-clause-never_falls
+returns-in-Resume-clause-never_falls g c = c.fetch_network_with-in-Resume.ensures.never_falls
+
+pub returns-in-Routes-clause-never_falls : goal.returns-in-Routes-clause-never_falls
+returns-in-Routes-clause-never_falls g c = c.fetch_network_with-in-Routes.ensures.never_falls

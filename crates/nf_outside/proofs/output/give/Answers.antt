@@ -3,8 +3,8 @@ use Rattle.nf_edge.specs.Taken.{with_more, TookFront}
 use Rattle.nf_outside.proofs.Statuses.{writes, text_is, took_text}
 use Rattle.nf_outside.proofs.output.give.Goals as goal
 
-pub returns-in-Ok : goal.returns-in-Ok
-returns-in-Ok g c =
+pub returns-in-Ok-clause-shown : goal.returns-in-Ok-clause-shown
+returns-in-Ok-clause-shown g c =
     let net = c.args.outcome.now.net in
     inl (
       c.tell.ensures.status net,
@@ -12,8 +12,8 @@ returns-in-Ok g c =
       c.tell.ensures.told net,
     )
 
-pub returns-in-Err : goal.returns-in-Err
-returns-in-Err g c =
+pub returns-in-Err-clause-shown : goal.returns-in-Err-clause-shown
+returns-in-Err-clause-shown g c =
     let net = c.args.outcome.now.net in
     let found = c.args.outcome.now.found in
     inr (

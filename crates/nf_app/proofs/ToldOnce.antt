@@ -1,0 +1,250 @@
+-- Words have at most one answer with what is told of files.
+use Rattle.std.proofs.Common.{◌≡◌, ℕ, ◌<◌, List, [], ◌∷◌, length, replicate, refl, sym, ap, subst, ◌∙◌, inl, inr, arith}
+use Rattle.std.specs.Prelude.{Option, Some, None, IsOk, Result, Ok, Err, map}
+use Rattle.std.proofs.lemmas.Option.{none-some}
+use Rattle.nf_rational.specs.Rational.{ℚ}
+use Rattle.nf_rational.specs.Operations.{0ℚ}
+use Rattle.nf_rational.specs.Order.{◌<ℚ◌}
+use Rattle.nf_rational_laws.proofs.Order.{<ℚ_irrefl, not_both_ℚ}
+use Rattle.nf_work.specs.Passing.{passes_Q}
+use Rattle.nf_work.specs.Checked.{placed}
+use Rattle.nf_work.specs.declared.Part.TheVariants.{Slack, Verdict}
+use Rattle.nf_work.specs.declared.Passed.{Passed}
+use Rattle.nf_work.specs.declared.PassedAt.{PassedAt}
+use Rattle.nf_model.specs.Network.{Network, IsNetwork, hops, rate_at}
+use Rattle.nf_model.specs.Equilibrium.{label}
+use Rattle.nf_model.specs.ThinFlow.{sets_at}
+use Rattle.nf_model.specs.Pattern.{Pattern}
+use Rattle.nf_model.specs.Phases.{AreStartLabels}
+use Rattle.nf_formats.specs.Named.{Named}
+use Rattle.nf_formats.specs.NetLines.{Broken}
+use Rattle.nf_formats.specs.Report.{Report}
+use Rattle.nf_formats.specs.WellNamed.{IsNamed}
+use Rattle.nf_formats_laws.proofs.Once.{reads_at_most_once}
+use Rattle.nf_formats_laws.proofs.AcceptedNamed.{accepted_named}
+use Rattle.nf_lists.specs.Slack.{slack_list}
+use Rattle.nf_lists.specs.ReportCurves.{first_label_curve, first_curves}
+use Rattle.nf_lists.specs.PhaseRun.{Standing, Bounds}
+use Rattle.nf_lists_laws.proofs.OneRun.{one_start, one_run, one_report}
+use Rattle.nf_readings.specs.ReportFile.{ReportBroken, report_in}
+use Rattle.nf_readings_laws.proofs.ReportKept.{report_kept}
+use Rattle.nf_quick_lists.specs.Quick.{Quick as QuickFlow, Found, Budget}
+use Rattle.nf_quick_lists.specs.Quick as quick
+use Rattle.nf_quick.specs.Answered.{HasNoWay}
+use Rattle.nf_phase.specs.Solution.{bounds_of}
+use Rattle.nf_complete_lists.specs.Cancelling.{Settles}
+use Rattle.nf_complete_lists.specs.ThinList.{thin_list}
+use Rattle.nf_complete_lists.specs.FlowsFile.{FlowsBroken, GivenFlows, flows_in}
+use Rattle.nf_complete_laws.proofs.OneSettling.{one_settling}
+use Rattle.nf_complete_laws.proofs.OnePattern.{one_pattern}
+use Rattle.nf_forever_laws.proofs.OneForever.{one_forever}
+use Rattle.nf_resume_lists.specs.Resuming.{Refused, Stands, resume_list}
+use Rattle.nf_resume_lists.specs.Resuming as resuming
+use Rattle.nf_resumed_laws.proofs.OneResumed.{one_resumed}
+use Rattle.nf_outside.specs.Files.{Wanted}
+use Rattle.nf_words.specs.Requests.{Request, Solve, SolveForever, Show, Load, Check, Quick, Gen, Settle, Resume, Routes, request_of}
+use Rattle.nf_answers.specs.declared.arrival.Arrival.{Arrival}
+use Rattle.nf_answers.specs.Answers.{Answer, Solved, SolvedForever, Quickest, Generated, Settled, Passes}
+use Rattle.nf_app.specs.Requests.{files_of, generated_by, budgets_of, usual_budgets}
+use Rattle.nf_app.specs.QuickGiven.{flow_list, departs_list, arrival_of, IsUnbounded}
+use Rattle.nf_app.specs.SettleGiven.{AreSettled, AreNotThin, PassesFirst, at_slack, at_test, at_settling}
+use Rattle.nf_app.specs.Told.{Telling, TellsWithin, TellsTooMany, Arrives, DepartsGive, FlowGives, QuickGives, StartGives, SettleGives, RestGives, ResumeGives, Gives, NetworkIn, second_of, ReadGives, TextsGive, FilesGive, RequestGives, IsToldAnswer}
+use Rattle.nf_app.proofs.Starting.{start_sets_good}
+
+same_some : {A : Type 0} (o : Option A) (x y : A) → o ≡ Some x → o ≡ Some y → x ≡ y
+same_some o x y h k = cc
+
+same_ok : {A E : Type 0} (r : Result A E) (x y : A) → r ≡ Ok x → r ≡ Ok y → x ≡ y
+same_ok r x y h k = cc
+
+same_err : {A E : Type 0} (r : Result A E) (x y : E) → r ≡ Err x → r ≡ Err y → x ≡ y
+same_err r x y h k = cc
+
+ok_err : {A E : Type 0} (r : Result A E) (x : A) (e : E) → r ≡ Ok x → r ≡ Err e → ⊥
+ok_err r x e h k = cc
+
+fits_passes : {A E : Type 0} (r : Result A E) (e : E) → IsOk r → r ≡ Err e → ⊥
+fits_passes (Ok x) e h k = cc
+fits_passes (Err d) e h k = cc
+
+-- ---- the arrival beside a quickest flow
+one_arrival : (net : Network) (departs : Option ℚ) (arrival other : Arrival) → Arrives net departs arrival → Arrives net departs other → arrival ≡ other
+one_arrival net None arrival other h k = h ∙ sym k
+one_arrival net (Some departs) arrival other h k =
+    h.2 ∙ ap (λ (r : Report). arrival_of r.stop (label r.flow net.sink departs)) (one_report passes_Q net (bounds_of departs usual_budgets) h.0 k.0 h.1 k.1) ∙ sym k.2
+
+one_departing : (n : Named) (flow : QuickFlow) (r : Result (Option ℚ) (PassedAt ℚ)) (a b : Answer) → DepartsGive n flow r a → DepartsGive n flow r b → a ≡ b
+one_departing n flow (Ok departs) a b g h = g.2 ∙ ap (Quickest n flow) (one_arrival n.net departs g.0 h.0 g.1 h.1) ∙ sym h.2
+one_departing n flow (Err at) a b g h = g ∙ sym h
+
+one_flow : (n : Named) (amount : ℚ) (augments : ℕ) (r : Result quick.Answer (PassedAt ℚ)) (a b : Answer) → FlowGives n amount augments r a → FlowGives n amount augments r b → a ≡ b
+one_flow n amount augments (Ok (Found flow)) a b g h = one_departing n flow (departs_list n.net amount) a b g h
+one_flow n amount augments (Ok (Budget walks)) a b g h = g ∙ sym h
+one_flow n amount augments (Err at) a b g h = g ∙ sym h
+
+unbounded_or_not : (net : Network) (amount : ℚ) → IsUnbounded net amount → HasNoWay net amount → ⊥
+unbounded_or_not net amount unbounded (inl zero) = <ℚ_irrefl 0ℚ (subst (λ (q : ℚ). 0ℚ <ℚ q) zero unbounded.0)
+unbounded_or_not net amount unbounded (inr limited) = limited unbounded.1.0 unbounded.1.1
+
+one_quick : (n : Named) (amount : ℚ) (augments : ℕ) (a b : Answer) → QuickGives n amount augments a → QuickGives n amount augments b → a ≡ b
+one_quick n amount augments a b (inl g) (inl h) = g.1 ∙ sym h.1
+one_quick n amount augments a b (inl g) (inr h) = absurd (unbounded_or_not n.net amount g.0 h.0)
+one_quick n amount augments a b (inr g) (inl h) = absurd (unbounded_or_not n.net amount h.0 g.0)
+one_quick n amount augments a b (inr g) (inr h) = one_flow n amount augments (flow_list n.net amount augments) a b g.1 h.1
+
+-- ---- settled flows
+module _ (net : Network) where
+  -- a run that begins with these labels
+  abbrev beginning : List ℚ → Standing
+  beginning labels = record {
+    time = 0ℚ;
+    labels = labels;
+    label_curves = map first_label_curve labels;
+    link_curves = map (first_curves labels) net.links;
+    made = 0;
+    last = replicate (length net.links) None;
+  }
+
+  one_start_label : (labels others : List ℚ) → AreStartLabels net labels → AreStartLabels net others → labels ≡ others
+  one_start_label labels others h k = ap (λ (s : Standing). s.labels) (one_start net (beginning labels) (beginning others)
+      (record { time = refl; labels = h; label_curves = refl; link_curves = refl; made = refl; last = refl })
+      (record { time = refl; labels = k; label_curves = refl; link_curves = refl; made = refl; last = refl }))
+
+  module _ (labels : List ℚ) (given : GivenFlows) (good : IsNetwork net) where
+    one_settled : (r s : Result (List ℚ) (Passed ℚ)) → Settles passes_Q net (sets_at net labels) given.slopes given.flows r → Settles passes_Q net (sets_at net labels) given.slopes given.flows s → r ≡ s
+    one_settled r s h k = one_settling passes_Q net (sets_at net labels) given.slopes given.flows r s good h k
+
+    settled_or_passes : (pattern : Pattern) (flows : List ℚ) (at : PassedAt ℚ) → AreSettled net labels given pattern flows → PassesFirst net labels given at → ⊥
+    settled_or_passes pattern flows _ s (at_slack p e) = fits_passes (slack_list passes_Q (hops net) labels) p s.slacks e
+    settled_or_passes pattern flows _ s (at_test p fit e) = fits_passes (thin_list passes_Q net (sets_at net labels) (rate_at net 0ℚ) given.flows given.slopes) p s.test e
+    settled_or_passes pattern flows _ s (at_settling p slacks test thin k) = ok_err (Ok flows) flows p refl (one_settled (Ok flows) (Err p) s.computed k)
+
+    not_thin_or_passes : (at : PassedAt ℚ) → AreNotThin net labels given → PassesFirst net labels given at → ⊥
+    not_thin_or_passes _ s (at_slack p e) = fits_passes (slack_list passes_Q (hops net) labels) p s.slacks e
+    not_thin_or_passes _ s (at_test p fit e) = fits_passes (thin_list passes_Q net (sets_at net labels) (rate_at net 0ℚ) given.flows given.slopes) p s.test e
+    not_thin_or_passes _ s (at_settling p slacks test thin k) = s.not_thin thin
+
+    one_passing : (at other : PassedAt ℚ) → PassesFirst net labels given at → PassesFirst net labels given other → at ≡ other
+    one_passing _ _ (at_slack p e) (at_slack q f) = ap (λ (x : Passed ℚ). placed Slack x) (same_err (slack_list passes_Q (hops net) labels) p q e f)
+    one_passing _ _ (at_slack p e) (at_test q fit f) = absurd (fits_passes (slack_list passes_Q (hops net) labels) p fit e)
+    one_passing _ _ (at_slack p e) (at_settling q fit test thin k) = absurd (fits_passes (slack_list passes_Q (hops net) labels) p fit e)
+    one_passing _ _ (at_test p fit e) (at_slack q f) = absurd (fits_passes (slack_list passes_Q (hops net) labels) q fit f)
+    one_passing _ _ (at_test p fit e) (at_test q fit' f) =
+        ap (λ (x : Passed ℚ). placed Verdict x) (same_err (thin_list passes_Q net (sets_at net labels) (rate_at net 0ℚ) given.flows given.slopes) p q e f)
+    one_passing _ _ (at_test p fit e) (at_settling q fit' test thin k) =
+        absurd (fits_passes (thin_list passes_Q net (sets_at net labels) (rate_at net 0ℚ) given.flows given.slopes) p test e)
+    one_passing _ _ (at_settling p fit test thin k) (at_slack q f) = absurd (fits_passes (slack_list passes_Q (hops net) labels) q fit f)
+    one_passing _ _ (at_settling p fit test thin k) (at_test q fit' f) =
+        absurd (fits_passes (thin_list passes_Q net (sets_at net labels) (rate_at net 0ℚ) given.flows given.slopes) q test f)
+    one_passing _ _ (at_settling p fit test thin k) (at_settling q fit' test' thin' l) = ap (λ (x : Passed ℚ). placed Verdict x) (same_err (Err p) p q refl (one_settled (Err p) (Err q) k l))
+
+    module _ (are : AreStartLabels net labels) where
+      one_flows : (pattern other : Pattern) (flows more : List ℚ) → AreSettled net labels given pattern flows → AreSettled net labels given other more → flows ≡ more
+      one_flows pattern other flows more s t = same_ok (Ok flows) flows more refl (one_settled (Ok flows) (Ok more) s.computed t.computed)
+
+      one_settled_pattern : (pattern other : Pattern) (flows : List ℚ) → AreSettled net labels given pattern flows → AreSettled net labels given other flows → pattern ≡ other
+      one_settled_pattern pattern other flows s t =
+          one_pattern net (sets_at net labels) (rate_at net 0ℚ) flows given.slopes (start_sets_good net good labels are) s.still_thin pattern other s.pattern_is t.pattern_is
+
+one_at_start : (n : Named) (labels : List ℚ) (given : GivenFlows) → IsNetwork n.net → AreStartLabels n.net labels → (a b : Answer) → StartGives n labels given a → StartGives n labels given b → a ≡ b
+one_at_start n labels given good are a b (inl g) (inl h) =
+    let flows : g.1 ≡ h.1 = one_flows n.net labels given good are g.0 h.0 g.1 h.1 g.3 h.3 in
+    let pattern : g.0 ≡ h.0 = one_settled_pattern n.net labels given good are g.0 h.0 h.1 (subst (λ (f : List ℚ). AreSettled n.net labels given g.0 f) flows g.3) h.3 in
+    g.2 ∙ ap (λ (p : Pattern). Settled n p g.1) pattern ∙ ap (Settled n h.0) flows ∙ sym h.2
+one_at_start n labels given good are a b (inl g) (inr (inl h)) = absurd (h.1.not_thin g.3.thin)
+one_at_start n labels given good are a b (inl g) (inr (inr h)) = absurd (settled_or_passes n.net labels given good g.0 g.1 h.0 g.3 h.2)
+one_at_start n labels given good are a b (inr (inl g)) (inl h) = absurd (g.1.not_thin h.3.thin)
+one_at_start n labels given good are a b (inr (inl g)) (inr (inl h)) = g.0 ∙ sym h.0
+one_at_start n labels given good are a b (inr (inl g)) (inr (inr h)) = absurd (not_thin_or_passes n.net labels given good h.0 g.1 h.2)
+one_at_start n labels given good are a b (inr (inr g)) (inl h) = absurd (settled_or_passes n.net labels given good h.0 h.1 g.0 h.3 g.2)
+one_at_start n labels given good are a b (inr (inr g)) (inr (inl h)) = absurd (not_thin_or_passes n.net labels given good g.0 h.1 g.2)
+one_at_start n labels given good are a b (inr (inr g)) (inr (inr h)) =
+    g.1 ∙ ap (λ (at : PassedAt ℚ). Passes at) (one_passing n.net labels given good g.0 h.0 g.2 h.2) ∙ sym h.1
+
+one_settle : (n : Named) → IsNetwork n.net → (r : Result GivenFlows FlowsBroken) (a b : Answer) → SettleGives n r a → SettleGives n r b → a ≡ b
+one_settle n good (Ok given) a b g h =
+    let labels : g.0 ≡ h.0 = one_start_label n.net g.0 h.0 g.1 h.1 in
+    one_at_start n h.0 given good h.1 a b (subst (λ (l : List ℚ). StartGives n l given a) labels g.2) h.2
+one_settle n good (Err broken) a b g h = g ∙ sym h
+
+-- ---- a report that is gone on from
+one_rest : (n : Named) (bounds : Bounds) (old : Report) → length old.last ≡ length n.net.links → (r : Result resuming.Outcome (PassedAt ℚ)) (a b : Answer) → RestGives n bounds old r a
+    → RestGives n bounds old r b → a ≡ b
+one_rest n bounds old states (Ok (Stands first)) a b g h = g.3 ∙ ap (Solved n) (one_resumed passes_Q n.net bounds old g.0 h.0 g.1 h.1 states g.2 h.2).1 ∙ sym h.3
+one_rest n bounds old states (Ok (Refused verdict)) a b g h = g ∙ sym h
+one_rest n bounds old states (Err at) a b g h = g ∙ sym h
+
+one_resume : (n : Named) (bounds : Bounds) (text : List ℕ) → IsNamed n → (r : Result Report ReportBroken) → report_in n text ≡ r → (a b : Answer) → ResumeGives n bounds r a
+    → ResumeGives n bounds r b → a ≡ b
+one_resume n bounds text named (Ok old) e a b (inl g) (inl h) = g.1 ∙ sym h.1
+one_resume n bounds text named (Ok old) e a b (inl g) (inr h) = absurd (not_both_ℚ _ _ g.0 h.0)
+one_resume n bounds text named (Ok old) e a b (inr g) (inl h) = absurd (not_both_ℚ _ _ h.0 g.0)
+one_resume n bounds text named (Ok old) e a b (inr g) (inr h) =
+    one_rest n bounds old (report_kept n text old named e).0.states (resume_list passes_Q n.net old) a b g.1 h.1
+one_resume n bounds text named (Err broken) e a b g h = g ∙ sym h
+
+-- ---- what a request gives with its network
+one_given : (n : Named) (text : List ℕ) (request : Request) → (generated_by request ≡ None → IsNamed n) → (a b : Answer) → Gives n text request a → Gives n text request b → a ≡ b
+one_given n text (Solve file horizon phases patterns) named a b g h =
+    g.2 ∙ ap (Solved n) (one_report passes_Q n.net (bounds_of horizon (budgets_of phases patterns)) g.0 h.0 g.1 h.1) ∙ sym h.2
+one_given n text (SolveForever file phases patterns) named a b g h = g.2 ∙ ap (SolvedForever n) (one_forever passes_Q n.net phases patterns g.0 h.0 g.1 h.1) ∙ sym h.2
+one_given n text (Show file) named a b g h = g ∙ sym h
+one_given n text (Load file loads horizon) named a b g h = g ∙ sym h
+one_given n text (Check file report) named a b g h = g ∙ sym h
+one_given n text (Quick file amount augments) named a b g h = one_quick n amount augments a b g h
+one_given n text (Gen number rungs horizon phases patterns) named a b g h =
+    let bounds = bounds_of horizon (budgets_of phases patterns) in
+    g.2 ∙ ap (λ (s : Standing). Generated number rungs n s.made g.0) (one_run passes_Q n.net bounds g.1.last h.1.last g.1.stop h.1.stop g.1.run h.1.run).0
+    ∙ ap (Generated number rungs n h.1.last.made) (one_report passes_Q n.net bounds g.0 h.0 g.1 h.1) ∙ sym h.2
+one_given n text (Settle file flows) named a b g h = one_settle n (named refl).network (flows_in n text) a b g h
+one_given n text (Resume file report horizon phases patterns) named a b g h =
+    one_resume n (bounds_of horizon (budgets_of phases patterns)) text (named refl) (report_in n text) refl a b g h
+one_given n text (Routes file routes horizon) named a b g h = g ∙ sym h
+
+-- ---- with the texts of its files
+one_network : (made : Option Named) (texts : List (List ℕ)) (r s : Result Named Broken) → NetworkIn made texts r → NetworkIn made texts s → r ≡ s
+one_network (Some n) texts r s h k = h ∙ sym k
+one_network None [] r s h k = absurd h
+one_network None (text ∷ others) r s h k = reads_at_most_once text r s h k
+
+named_in : (made : Option Named) (texts : List (List ℕ)) (n : Named) → NetworkIn made texts (Ok n) → made ≡ None → IsNamed n
+named_in (Some m) texts n h e = absurd (none-some m (sym e))
+named_in None [] n h e = absurd h
+named_in None (text ∷ others) n h e = accepted_named text n h
+
+one_read : (request : Request) (text : List ℕ) (r : Result Named Broken) → ((n : Named) → r ≡ Ok n → generated_by request ≡ None → IsNamed n) → (a b : Answer) → ReadGives request text r a
+    → ReadGives request text r b → a ≡ b
+one_read request text (Ok n) named a b g h = one_given n text request (named n refl) a b g h
+one_read request text (Err broken) named a b g h = g ∙ sym h
+
+one_of_texts : (request : Request) (texts : List (List ℕ)) (a b : Answer) → TextsGive request texts a → TextsGive request texts b → a ≡ b
+one_of_texts request texts a b g h =
+    let same : g.0 ≡ h.0 = one_network (generated_by request) texts g.0 h.0 g.1 h.1 in
+    one_read request (second_of texts) h.0 (λ n e. named_in (generated_by request) texts n (subst (λ (r : Result Named Broken). NetworkIn (generated_by request) texts r) e h.1)) a b
+    (subst (λ (r : Result Named Broken). ReadGives request (second_of texts) r a) same g.2) h.2
+
+-- ---- with what is told
+many_or_within : (telling : Telling) (file : Wanted) → TellsTooMany telling file → TellsWithin telling file → ⊥
+many_or_within telling file m w =
+    let same : m.text ≡ w.text = same_some (telling file.name) m.text w.text m.told w.told in
+    let more : file.limit < length w.text = subst (λ (t : List ℕ). file.limit < length t) same m.more in
+    let within = w.within in
+    omega (arith, more, within)
+
+one_of_files : (telling : Telling) (files : List Wanted) (Give : List (List ℕ) → Answer → Type 0) → ((texts : List (List ℕ)) (a b : Answer) → Give texts a → Give texts b → a ≡ b) → (a b : Answer)
+    → FilesGive telling files Give a → FilesGive telling files Give b → a ≡ b
+one_of_files telling [] Give one a b g h = one [] a b g h
+one_of_files telling (file ∷ files) Give one a b (inl g) (inl h) = g.1 ∙ sym h.1
+one_of_files telling (file ∷ files) Give one a b (inl g) (inr h) = absurd (many_or_within telling file g.0 h.0)
+one_of_files telling (file ∷ files) Give one a b (inr g) (inl h) = absurd (many_or_within telling file h.0 g.0)
+one_of_files telling (file ∷ files) Give one a b (inr g) (inr h) =
+    let same : g.0.text ≡ h.0.text = same_some (telling file.name) g.0.text h.0.text g.0.told h.0.told in
+    one_of_files telling files (λ (texts : List (List ℕ)). Give (h.0.text ∷ texts)) (λ texts. one (h.0.text ∷ texts)) a b
+    (subst (λ (text : List ℕ). FilesGive telling files (λ (texts : List (List ℕ)). Give (text ∷ texts)) a) same g.1) h.1
+
+one_asked : (telling : Telling) (o : Option Request) (a b : Answer) → RequestGives telling o a → RequestGives telling o b → a ≡ b
+one_asked telling (Some request) a b g h = one_of_files telling (files_of request) (TextsGive request) (one_of_texts request) a b g h
+one_asked telling None a b g h = g ∙ sym h
+
+pub one_told : (words : List (List ℕ)) (telling : Telling) (a b : Answer) → IsToldAnswer words telling a → IsToldAnswer words telling b → a ≡ b
+one_told words telling a b g h = one_asked telling (request_of words) a b g h
