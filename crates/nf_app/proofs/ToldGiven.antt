@@ -234,9 +234,11 @@ module _ (call : Call) (all : TellsAll call.words call.shelf.told) (no_fault : �
   computed_so : (answer : Answer) → IsComputed call answer → IsTold answer
   computed_so answer h =
       let told = asked_told h.request h.read.asks in
-      asked_gives h.request answer h.read.asks (all_give call.shelf (files_of h.request) (TextsGive h.request) answer told h.read.fetched.fit
-      (Ok h.net, network_so call.shelf (generated_by h.request) (files_of h.request) (Ok h.net) told h.read.reads,
-      given_so call.shelf h.net (second_of (map (text_of call.shelf) (files_of h.request))) answer h.request (other_so call.shelf (files_of h.request) told) h.given))
+      asked_gives h.request answer h.read.asks (all_give call.shelf (files_of h.request) (TextsGive h.request) answer told h.read.fetched.fit (
+        Ok h.net,
+        network_so call.shelf (generated_by h.request) (files_of h.request) (Ok h.net) told h.read.reads,
+        given_so call.shelf h.net (second_of (map (text_of call.shelf) (files_of h.request))) answer h.request (other_so call.shelf (files_of h.request) told) h.given,
+      ))
 
   pub told_or_memory : (answer : Answer) → IsAnswer call answer → IsTold answer ⊎ (answer ≡ NoMemory)
   told_or_memory answer (inl h) = refused_so answer h
