@@ -1,6 +1,7 @@
 -- The earliest assignment, one link after the other.
-use Rattle.std.proofs.Common.{◌≡◌, ℕ, zero, suc, ◌+◌, ◌-◌, ◌<◌, ◌≤◌, Bool, true, false, List, [], ◌∷◌, ◌++◌, length, get_or, take, drop, set, drop-cons, append_assoc, eqb, refl, sym, ap, subst, ◌∙◌, arith}
+use Rattle.std.proofs.Common.{◌≡◌, ℕ, zero, suc, ◌+◌, ◌-◌, ◌<◌, ◌≤◌, Bool, true, false, List, [], ◌∷◌, ◌++◌, length, get_or, take, drop, set, drop-cons, append_assoc, eqb, ⊎_elim, refl, sym, ap, subst, ◌∙◌, arith}
 use Rattle.std.specs.Prelude.{Option, Some, None, if◌then◌else◌}
+use Rattle.std.specs.Option.{is_some}
 use Rattle.std.proofs.Math.ListN.{length-set, drop_of_length-le}
 use Rattle.std.proofs.lemmas.List.{append-nil}
 use Rattle.nf_graph.proofs.Walks.{apart_from_test}
@@ -15,6 +16,10 @@ free_first None base = omega arith
 free_first (Some Tight) base = omega arith
 free_first (Some Full) base = omega arith
 free_first (Some Zero) base = omega arith
+
+pub no_state : (b : Option State) → is_some b ≡ false → b ≡ None
+no_state None e = refl
+no_state (Some s) e = cc
 
 -- some states before the rest
 abbrev pub prefixed : Pattern → Option Pattern → Option Pattern
@@ -99,6 +104,22 @@ module _ (base : Pattern) (us : List Bool) (n : ℕ) (states : Pattern) (i left 
         subst (λ (k : ℕ). AreFilled base us n (set states i s) k rest later_more) (sym at_j)
         (subst (λ (k : ℕ). AreFilled base us n (set states i s) (suc i) k later_more) (sym is_rest)
         (subst (λ (k : ℕ). AreFilled base us n (set states i s) (suc i) (left - change b s) k) (sym is_more) done))
+
+  -- a link that has no state
+  idle_choice : b ≡ None → first_good (fits b left (free (drop (suc i) base))) (choices b u) ≡ Some None
+  idle_choice none = go (first_good (fits b left (free (drop (suc i) base))) (choices b u)) refl
+    where
+      only : (s : Option State) → IsIn (choices b u) s → s ≡ None
+      only s is = ⊎_elim (λ (e : s ≡ None). e) (λ (no : ⊥). absurd no) (subst (λ (x : Option State). IsIn (choices x u) s) none is)
+
+      go : (o : Option (Option State)) → first_good (fits b left (free (drop (suc i) base))) (choices b u) ≡ o → first_good (fits b left (free (drop (suc i) base))) (choices b u) ≡ Some None
+      go None e = absurd (has_choice e)
+      go (Some s) e = e ∙ ap (λ (x : Option State). Some x) (only s (good_some (fits b left (free (drop (suc i) base))) (choices b u) s e).0)
+
+  pub idle_filled : (j : ℕ) → j ≡ suc i → b ≡ None → AreFilled base us n (set states i None) j left more
+  idle_filled j at none = more_filled None (idle_choice none) j left more at
+      (subst (λ (x : Option State). left ≡ left - change x None) (sym none) (let e : change None None ≡ 0 = refl in omega arith))
+      (filled.all_free ∙ (ap free base_from ∙ subst (λ (x : Option State). free (x ∷ drop (suc i) base) ≡ free (drop (suc i) base)) (sym none) refl))
 
 none_left : (us : List Bool) (left : ℕ) → left ≤ 0 → earliest [] us left ≡ Some []
 none_left us left h = go (eqb left 0) refl

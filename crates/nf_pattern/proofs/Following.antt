@@ -7,17 +7,21 @@ use Rattle.nf_pattern.specs.Forest.{NoneCloses}
 use Rattle.nf_pattern.specs.Walking.{Holds}
 use Rattle.nf_pattern.specs.Entered.{EnteredBefore, AreChained, AreEnds, Keeps}
 use Rattle.nf_pattern.specs.Trail.{Follows, IsOnWay}
+use Rattle.nf_pattern.specs.Firm.{AreCalm}
+use Rattle.nf_pattern.proofs.Calming.{calm_fewer}
 use Rattle.nf_plain_laws.proofs.Naturals.{before_or_at}
 
 module _ (source : ℕ) (hops : List Hop) (resetting : List Bool) (p : Pattern) where
   -- one link more
   pub entered_on : {trail after : Trail} → Follows source hops resetting p trail → trail.depth < length hops → after.depth ≡ suc trail.depth
       → Holds hops p (suc trail.depth) after.tight → NoneCloses hops p (suc trail.depth) → length after.tight.last.items ≡ length trail.tight.last.items
-      → after.ends.items ≡ trail.ends.items → after.chain.items ≡ trail.chain.items → Keeps source hops resetting p trail.ends.items trail.depth → Follows source hops resetting p after
-  entered_on {trail} {after} follows more depth tight clear nodes ends chain keeps = record {
+      → after.ends.items ≡ trail.ends.items → after.chain.items ≡ trail.chain.items → Keeps source hops resetting p trail.ends.items trail.depth
+      → AreCalm hops p (suc trail.depth) after.firm → Follows source hops resetting p after
+  entered_on {trail} {after} follows more depth tight clear nodes ends chain keeps calm = record {
     depth = let d = depth in omega arith;
     tight = subst (λ (k : ℕ). Holds hops p k after.tight) (sym depth) tight;
     clear = subst (λ (k : ℕ). NoneCloses hops p k) (sym depth) clear;
+    calm = subst (λ (k : ℕ). AreCalm hops p k after.firm) (sym depth) calm;
     chain = subst (AreChained hops) (sym chain) follows.chain;
     count_chain = ap (λ (cs : List (Option ℕ)). length cs) chain ∙ follows.count_chain;
     count_ends = ap (λ (es : List ℕ). length es) ends ∙ (follows.count_ends ∙ sym nodes);
@@ -35,17 +39,33 @@ module _ (source : ℕ) (hops : List Hop) (resetting : List Bool) (p : Pattern) 
   -- the last link is taken back
   pub left_back : {trail after : Trail} → Follows source hops resetting p trail → trail.depth ≡ suc after.depth
       → Holds hops p after.depth after.tight → length after.tight.last.items ≡ length trail.tight.last.items
-      → after.ends.items ≡ trail.ends.items → after.chain.items ≡ trail.chain.items → Follows source hops resetting p after
-  left_back {trail} {after} follows depth tight nodes ends chain = record {
+      → after.ends.items ≡ trail.ends.items → after.chain.items ≡ trail.chain.items → after.firm ≡ trail.firm → Follows source hops resetting p after
+  left_back {trail} {after} follows depth tight nodes ends chain firm = record {
     depth = let few = follows.depth in omega arith;
     tight = tight;
     clear = λ e less closes. follows.clear e (omega arith) closes;
+    calm = subst (AreCalm hops p after.depth) (sym firm) (calm_fewer hops p trail.depth trail.firm follows.calm after.depth (omega arith));
     chain = subst (AreChained hops) (sym chain) follows.chain;
     count_chain = ap (λ (cs : List (Option ℕ)). length cs) chain ∙ follows.count_chain;
     count_ends = ap (λ (es : List ℕ). length es) ends ∙ (follows.count_ends ∙ sym nodes);
     entered = λ v n other at some few. follows.entered v n other (ap (λ (es : List ℕ). slice_get es v) (sym ends) ∙ at) some (omega arith);
     last = λ v e at. follows.last v e (ap (λ (es : List ℕ). slice_get es v) (sym ends) ∙ at);
   }
+
+  -- so far back that other firm links are told
+  pub calmed : {trail after : Trail} → Follows source hops resetting p trail → after ≡ record { depth = trail.depth; tight = trail.tight; firm = after.firm; chain = trail.chain; ends = trail.ends; lost = trail.lost }
+      → AreCalm hops p trail.depth after.firm → Follows source hops resetting p after
+  calmed {trail} {after} follows same calm = subst (λ (t : Trail). Follows source hops resetting p t) (sym same) (record {
+    depth = follows.depth;
+    tight = follows.tight;
+    clear = follows.clear;
+    calm = calm;
+    chain = follows.chain;
+    count_chain = follows.count_chain;
+    count_ends = follows.count_ends;
+    entered = follows.entered;
+    last = follows.last;
+  })
 
 -- ---- the way of a trail
 pub way_same : (trail : Trail) → IsOnWay trail trail
@@ -57,11 +77,12 @@ way_on a b = record { nodes = b.nodes ∙ a.nodes; ends = b.ends ∙ a.ends; los
 -- ---- no link was looked at
 pub follows_none : (source : ℕ) (hops : List Hop) (resetting : List Bool) (base p : Pattern) (nodes : ℕ) {trail : Trail} → trail.depth ≡ zero → Holds hops p zero trail.tight
     → length trail.tight.last.items ≡ nodes → AreChained hops trail.chain.items → length trail.chain.items ≡ length hops → length trail.ends.items ≡ nodes
-    → AreEnds hops resetting base trail.ends.items → Follows source hops resetting p trail
-follows_none source hops resetting base p nodes {trail} depth tight count chain count_chain count_ends ends = record {
+    → AreEnds hops resetting base trail.ends.items → AreCalm hops p zero trail.firm → Follows source hops resetting p trail
+follows_none source hops resetting base p nodes {trail} depth tight count chain count_chain count_ends ends calm = record {
   depth = omega arith;
   tight = subst (λ (k : ℕ). Holds hops p k trail.tight) (sym depth) tight;
   clear = λ e less closes. absurd (omega arith);
+  calm = subst (λ (k : ℕ). AreCalm hops p k trail.firm) (sym depth) calm;
   chain = chain;
   count_chain = count_chain;
   count_ends = count_ends ∙ sym count;

@@ -1,6 +1,6 @@
 -- What is kept of the Tight links: of none, of a link more, and of patterns that are the same so far.
 use Rattle.std.proofs.Common.{◌≡◌, ◌≢◌, ℕ, zero, suc, ◌<◌, ◌≤◌, ⊎_elim, true, false, ◌&&◌, List, length, replicate, take, Option, Some, None, slice_get, slice_set, refl, sym, ap, subst, ◌∙◌, arith}
-use Rattle.std.specs.Prelude.{if◌then◌else◌}
+use Rattle.std.specs.Prelude.{if◌then◌else◌, MatchBool, Bool}
 use Rattle.std.proofs.Math.ListN.{length-set}
 use Rattle.std.proofs.lemmas.List.{length-replicate}
 use Rattle.std.proofs.lemmas.Option.{slice_get_within}
@@ -10,7 +10,7 @@ use Rattle.nf_model.specs.Walk.{Hop, IsHop}
 use Rattle.nf_model.specs.Pattern.{Pattern, HasState}
 use Rattle.nf_graph.specs.Graph.{AreBelow}
 use Rattle.nf_graph.proofs.Walks.{IsHop-unique}
-use Rattle.nf_pattern.specs.Forest.{AreJoined, TightBefore, Closes, NoneCloses}
+use Rattle.nf_pattern.specs.Forest.{AreJoined, TightBefore, LeadsBack, Closes, NoneCloses}
 use Rattle.nf_pattern.specs.Walking.{last_at, is_tight, ends_by, ends_at, other_end, IsWalkable}
 use Rattle.nf_pattern.proofs.Setting.{set_same, set_other, tell}
 use Rattle.nf_pattern.proofs.Choosing.{same_front_at}
@@ -120,11 +120,17 @@ module _ (hops : List Hop) (p : Pattern) (n : ℕ) where
       (tell e n)
 
   -- between nodes that are joined, or not
-  pub closes_between : (hop : Hop) → IsHop hops n hop → HasState p n Tight → AreJoined hops (TightBefore p n) hop.head hop.tail → Closes hops p n
-  closes_between hop is tight joined = (tight, record { hop = hop; is_hop = is; joined = joined })
-
-  pub closes_none : (hop : Hop) → IsHop hops n hop → (AreJoined hops (TightBefore p n) hop.head hop.tail → ⊥) → Closes hops p n → ⊥
-  closes_none hop is apart closes = apart (subst (λ (h : Hop). AreJoined hops (TightBefore p n) h.head h.tail) (IsHop-unique hops n closes.1.hop hop closes.1.is_hop is) closes.1.joined)
+  pub leads_between : (hop : Hop) → IsHop hops n hop → (from to : ℕ) → from ≡ hop.head → to ≡ hop.tail → (m : ℕ) → m ≡ n → (b : Bool)
+      → MatchBool b (AreJoined hops (TightBefore p m) from to) (AreJoined hops (TightBefore p m) from to → ⊥) → MatchBool b (LeadsBack hops p n) (LeadsBack hops p n → ⊥)
+  leads_between hop is from to head tail m at true joined = record {
+    hop = hop;
+    is_hop = is;
+    joined = subst (λ (k : ℕ). AreJoined hops (TightBefore p n) k hop.tail) head (subst (λ (k : ℕ). AreJoined hops (TightBefore p n) from k) tail (subst (λ (k : ℕ). AreJoined hops (TightBefore p k) from to) at joined));
+  }
+  leads_between hop is from to head tail m at false apart = λ back. apart
+      (subst (λ (k : ℕ). AreJoined hops (TightBefore p k) from to) (sym at)
+      (subst (λ (k : ℕ). AreJoined hops (TightBefore p n) from k) (sym tail) (subst (λ (k : ℕ). AreJoined hops (TightBefore p n) k hop.tail) (sym head)
+      (subst (λ (h : Hop). AreJoined hops (TightBefore p n) h.head h.tail) (IsHop-unique hops n back.hop hop back.is_hop is) back.joined))))
 
 -- ---- patterns that are the same up to a link
 module _ (hops : List Hop) (p r : Pattern) (n : ℕ) (same : take n r ≡ take n p) where

@@ -26,3 +26,4 @@ pub mod Backing
 pub mod Holding
 pub mod Tests
 pub mod Crossing
+pub mod Calming

@@ -15,6 +15,7 @@ use Rattle.nf_pattern.proofs.Choosing.{assigned_length}
 use Rattle.nf_pattern.proofs.Seeking.{valid}
 use Rattle.nf_pattern.proofs.Forests.{is_forest, closing_below}
 use Rattle.nf_pattern.proofs.Holding.{holds_same, clear_same}
+use Rattle.nf_pattern.proofs.Calming.{calm_same}
 use Rattle.nf_pattern.proofs.Barren.{may_carry_too, barren_cycle, barren_stranded, barren_lost, listed_by}
 
 -- ---- a pattern that is the same up to where the trail stands
@@ -27,6 +28,7 @@ module _ (hops : List Hop) (resetting : List Bool) (p r : Pattern) where
     depth = follows.depth;
     tight = holds_same hops p r trail.depth same trail.tight.last.items trail.tight.tails.items trail.tight.heads.items follows.tight;
     clear = clear_same hops p r trail.depth same follows.clear;
+    calm = calm_same hops p r trail.depth trail.firm same follows.calm;
     chain = follows.chain;
     count_chain = follows.count_chain;
     count_ends = follows.count_ends;

@@ -146,6 +146,14 @@ later_after k (b ∷ base) (u ∷ us) (a ∷ states) q (suc i) e =
     subst (λ (m : ℕ). later m (b ∷ base) (u ∷ us) (a ∷ states) ≡ Some (a ∷ (take i states ++ q))) (sym n)
     (ap (λ (o : Option Pattern). or_else (before_all a o) (raised b u base us a (changes (b ∷ base) (a ∷ states)))) (later_after k base us states q i e))
 
+-- a link without a state has no other
+idle_raised : (b a : Option State) (u : Bool) (base : Pattern) (us : List Bool) (n : ℕ) → b ≡ None → a ≡ None → raised b u base us a n ≡ None
+idle_raised b a u base us n none nor =
+    subst (λ (x : Option State). raised x u base us a n ≡ None) (sym none) (subst (λ (x : Option State). raised None u base us x n ≡ None) (sym nor) refl)
+
+idle_change : (b a : Option State) → b ≡ None → a ≡ None → 0 ≡ change b a
+idle_change b a none nor = subst (λ (x : Option State). 0 ≡ change x a) (sym none) (subst (λ (x : Option State). 0 ≡ change None x) (sym nor) refl)
+
 module _ (base : Pattern) (us : List Bool) (states : Pattern) (same i j made more : ℕ) (last : AreLast base us states same j made more) (next : j ≡ suc i)
     (states_count : length states ≡ length base) (us_count : length us ≡ length base) where
   below : i < length base
@@ -207,6 +215,12 @@ module _ (base : Pattern) (us : List Bool) (states : Pattern) (same i j made mor
 
       pub last_kept : raised_at base us states i all ≡ None → i < same → c ≤ 1 → d ≤ 1 → AreLast base us states same i all rest
       last_kept none before small small_free = last_more (later_there before ∙ none) small small_free
+
+  -- a link that has no state
+  pub last_idle : get_or base i None ≡ None → get_or states i None ≡ None → i < same → AreLast base us states same i made more
+  last_idle none nor before = last_kept 0 made (idle_change (get_or base i None) (get_or states i None) none nor) (omega arith)
+      0 more (idle_change None (get_or base i None) refl none) (omega arith)
+      (idle_raised (get_or base i None) (get_or states i None) (get_or us i false) (drop (suc i) base) (drop (suc i) us) made none nor) before (omega arith) (omega arith)
 
 pub last_all : (base : Pattern) (us : List Bool) (states : Pattern) (same i made more : ℕ) → i ≤ 0 → AreLast base us states same i made more → later same base us states ≡ None
 last_all base us states same i made more first last =

@@ -8,3 +8,4 @@ pub mod Trail
 pub mod Stands
 pub mod Front
 pub mod Giving
+pub mod Firm

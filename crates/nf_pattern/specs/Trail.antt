@@ -3,6 +3,7 @@ use Rattle.std.specs.Prelude.{◌≡◌, ◌≢◌, ℕ, suc, ◌<◌, ◌≤◌
 use Rattle.nf_model.specs.Walk.{Hop}
 use Rattle.nf_model.specs.Pattern.{Pattern}
 use Rattle.nf_pattern.specs.Forest.{NoneCloses}
+use Rattle.nf_pattern.specs.Firm.{AreCalm}
 use Rattle.nf_pattern.specs.Walking.{Holds}
 use Rattle.nf_pattern.specs.Entered.{EnteredBefore, AreChained, LeadsTo, AreEnds, IsLost}
 use Rattle.nf_pattern.specs.Given.{Question}
@@ -14,6 +15,7 @@ pub record Follows (source : ℕ) (hops : List Hop) (resetting : List Bool) (pat
   pub depth : trail.depth ≤ length hops
   pub tight : Holds hops pattern trail.depth trail.tight
   pub clear : NoneCloses hops pattern trail.depth
+  pub calm : AreCalm hops pattern trail.depth trail.firm
   pub chain : AreChained hops trail.chain.items
   pub count_chain : length trail.chain.items ≡ length hops
   pub count_ends : length trail.ends.items ≡ length trail.tight.last.items

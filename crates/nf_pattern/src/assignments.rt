@@ -1,5 +1,5 @@
 // Assignments of states to links, in order: by the number of links that differ from a base, and then link by link.
-ghost use Rattle.std.specs.Prelude.{◌≡◌, ◌^◌, ◌<◌, ◌≤◌, ◌++◌, suc, length, take, drop, Some, None, MatchOption};
+ghost use Rattle.std.specs.Prelude.{◌≡◌, ◌^◌, ◌<◌, ◌≤◌, ◌++◌, suc, length, take, drop, Some, None, MatchOption, IsTrue};
 ghost use Rattle.nf_model.specs.Pattern.{changes as changes_of};
 ghost use Rattle.nf_pattern.specs.Successor.{IsAssignment, free, earliest, later, next_assignment, raised_at, RaisesAt, IsSameBefore, IsQuiet};
 
@@ -56,6 +56,10 @@ fn fill(
             };
         }
         let link = base[i];
+        if link.is_none() {
+            states[i] = None;
+            continue;
+        }
         later = later.saturating_sub(change(None, link));
         if let Some(state) = first_choice(link, unbounded[i], left, later) {
             states[i] = state;
@@ -108,6 +112,13 @@ fn raise_at(
     }
 }
 
+// The link has no state, neither in the base nor here.
+fn is_idle(base: Option<State>, state: Option<State>) -> bool
+    ensures { IsTrue result → (base ≡ None) × (state ≡ None) }
+{
+    base.is_none() && state.is_none()
+}
+
 // The next assignment with equally many changes that isn't the same up to this link, from which on there are so many changes and may be
 // so many; None where there is none.
 fn raise_from(
@@ -134,6 +145,9 @@ fn raise_from(
     let mut i = same;
     while i > 0 {
         i -= 1;
+        if is_idle(base[i], states[i]) {
+            continue;
+        }
         changes += change(base[i], states[i]);
         if let Some(quiet) = raise_at(states, base, unbounded, i, changes, more) {
             return Some(Raised { link: i, quiet });

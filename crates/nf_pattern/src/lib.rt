@@ -6,6 +6,8 @@ mod assignments;
 mod bases;
 mod choice;
 mod entered;
+mod firm;
+mod firming;
 mod laws;
 mod pattern;
 mod patterns;

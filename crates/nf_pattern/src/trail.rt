@@ -1,5 +1,7 @@
 // A trail along the links: how far the states of a pattern were looked at. It goes on from what two patterns have in common.
 use crate::entered::{chain, ends, is_lost, strands};
+use crate::firm::FirmLinks;
+use crate::firming::firm_links;
 use crate::walking::TightLinks;
 use nf_graph::{Hop, LinkId, NodeId};
 use nf_model::State;
@@ -12,6 +14,7 @@ use std::alloc::{AllocError, Global};
 pub(crate) struct Trail {
     depth: usize,
     tight: TightLinks,
+    firm: FirmLinks,
     chain: Vec<Option<LinkId>>,
     ends: Vec<usize>,
     lost: bool,
@@ -44,12 +47,14 @@ impl Trail {
         ensures lost { IfOk result (λ trail. IsLost source trail.ends.items trail.lost) }
     {
         let tight = TightLinks::none(alloc, nodes, hops)?;
+        let firm = firm_links(alloc, nodes, hops, base)?;
         let chain = chain(alloc, nodes, hops)?;
         let ends = ends(alloc, nodes, hops, base, resetting)?;
         let lost = is_lost(&ends, source);
         Ok(Trail {
             depth: 0,
             tight,
+            firm,
             chain,
             ends,
             lost,
@@ -100,7 +105,7 @@ impl Trail {
         ) {
             return false;
         }
-        if !self.tight.enter(hops, states, link) {
+        if !self.tight.enter(hops, states, link, &mut self.firm) {
             return false;
         }
         self.depth += 1;
@@ -157,5 +162,6 @@ impl Trail {
         while self.depth > link {
             self.leave(hops);
         }
+        self.firm.retreat(link);
     }
 }

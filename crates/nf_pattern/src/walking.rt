@@ -3,6 +3,7 @@ ghost use Rattle.std.specs.Prelude.{◌<◌, length, MatchBool};
 ghost use Rattle.nf_model.specs.declared.State.TheVariants.{Tight};
 ghost use Rattle.nf_model.specs.Pattern.{HasState};
 
+use crate::firm::FirmLinks;
 use nf_graph::{Hop, LinkId, NodeId};
 use nf_model::State;
 use std::alloc::{AllocError, Global};
@@ -24,7 +25,7 @@ pub(crate) struct Place {
 }
 
 // The link's state is Tight.
-fn is_tight(states: &[Option<State>], link: LinkId) -> bool
+pub(crate) fn is_tight(states: &[Option<State>], link: LinkId) -> bool
     requires { link < length states.now }
     ensures { MatchBool result (HasState states.now link Tight) (HasState states.now link Tight → ⊥) }
 {
@@ -40,7 +41,8 @@ impl TightLinks {
     ghost use Rattle.nf_model.specs.declared.State.TheVariants.{Tight};
     ghost use Rattle.nf_model.specs.Pattern.{Pattern, HasState};
     ghost use Rattle.nf_graph.specs.Graph.{AreBelow};
-    ghost use Rattle.nf_pattern.specs.Forest.{AreJoined, TightBefore, Closes, NoneCloses};
+    ghost use Rattle.nf_pattern.specs.Forest.{AreJoined, TightBefore, LeadsBack, Closes, NoneCloses};
+    ghost use Rattle.nf_pattern.specs.Firm.{AreCalm};
     ghost use Rattle.nf_pattern.specs.Walking.{last_at, ends_at, other_end, Holds, IsPlace, Goes};
 
     // No link was looked at.
@@ -177,23 +179,69 @@ impl TightLinks {
         self.last[head.index()] = Some(link);
     }
 
+    // Whether the links before this one join its ends.
+    fn joins(&self, hops: &[Hop], states: &[Option<State>], link: LinkId) -> bool
+        requires link { link < length hops.now }
+        requires holds { Holds hops.now states.now link self.now }
+        requires clear { NoneCloses hops.now states.now link }
+        ensures { MatchBool result (LeadsBack hops.now states.now link) (LeadsBack hops.now states.now link → ⊥) }
+    {
+        let hop = &hops[link.index()];
+        self.join(hops, states, link.index(), hop.tail, hop.head)
+    }
+
     // One link more was looked at; false where it is Tight and closes a cycle with those before it.
-    pub(crate) fn enter(&mut self, hops: &[Hop], states: &[Option<State>], link: LinkId) -> bool
+    pub(crate) fn enter_by_walk(
+        &mut self,
+        hops: &[Hop],
+        states: &[Option<State>],
+        link: LinkId,
+    ) -> bool
         requires link { link < length hops.now }
         requires states { length states.now ≡ length hops.now }
         requires holds { Holds hops.now states.now link self.old }
         requires clear { NoneCloses hops.now states.now link }
-        ensures entered { MatchBool result (Holds hops.now states.now (suc link) self.new × NoneCloses hops.now states.now (suc link))
+        ensures { MatchBool result (Holds hops.now states.now (suc link) self.new × NoneCloses hops.now states.now (suc link))
             ((self.new ≡ self.old) × Closes hops.now states.now link) }
+    {
+        if !is_tight(states, link) {
+            return true;
+        }
+        if self.joins(hops, states, link) {
+            return false;
+        }
+        self.put(hops, states, link);
+        true
+    }
+
+    // The same, with no walk where it is firm and they are.
+    pub(crate) fn enter(
+        &mut self,
+        hops: &[Hop],
+        states: &[Option<State>],
+        link: LinkId,
+        firm: &mut FirmLinks,
+    ) -> bool
+        requires link { link < length hops.now }
+        requires states { length states.now ≡ length hops.now }
+        requires holds { Holds hops.now states.now link self.old }
+        requires clear { NoneCloses hops.now states.now link }
+        requires calm { AreCalm hops.now states.now link firm.old }
+        ensures entered { MatchBool result (Holds hops.now states.now (suc link) self.new × NoneCloses hops.now states.now (suc link) × AreCalm hops.now states.now (suc link) firm.new)
+            ((self.new ≡ self.old) × (firm.new ≡ firm.old) × Closes hops.now states.now link) }
         ensures nodes { length self.new.last.items ≡ length self.old.last.items }
     {
         if !is_tight(states, link) {
             return true;
         }
-        let hop = &hops[link.index()];
-        if self.join(hops, states, link.index(), hop.tail, hop.head) {
+        if firm.covers(link) {
+            self.put(hops, states, link);
+            return true;
+        }
+        if self.joins(hops, states, link) {
             return false;
         }
+        firm.note(link);
         self.put(hops, states, link);
         true
     }

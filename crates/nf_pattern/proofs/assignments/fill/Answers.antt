@@ -2,7 +2,7 @@ use Rattle.std.proofs.Common.{◌≡◌, ap, refl, sym, ◌∙◌, arith, get_or
 use Rattle.std.specs.Prelude.{Some, None}
 use Rattle.nf_model.specs.Pattern.{Pattern}
 use Rattle.nf_pattern.specs.Successor.{change, fits, choices, first_good, free}
-use Rattle.nf_pattern.proofs.Filling.{none_filled, all_filled, rest_free, has_choice, more_filled, rest_filled}
+use Rattle.nf_pattern.proofs.Filling.{none_filled, all_filled, rest_free, has_choice, more_filled, idle_filled, no_state, rest_filled}
 use Rattle.nf_pattern.proofs.Quiet.{quiet_rest, quiet_end}
 use Rattle.nf_pattern.proofs.assignments.fill.Goals as goal
 use Rattle.nf_pattern.proofs.assignments.fill.Goals.{in-Some, in_default}
@@ -48,3 +48,10 @@ returns-then-left-eq0 c = record {
 
 pub bounds-states-i : goal.bounds-states-i
 bounds-states-i c = subst (λ (n : ℕ). c.loop-i.i < n) (sym c.loop-i.invariant.filled.count) c.loop-i-test.true
+
+pub loop-i-preserved-then-is_none : goal.loop-i-preserved-then-is_none
+loop-i-preserved-then-is_none c = record {
+  filled = idle_filled c.args.base.now c.args.unbounded.now c.args.changes c.loop-i.states c.loop-i.i c.loop-i.left c.loop-i.later _ _ c.loop-i.invariant.filled (omega arith) c.requires.unbounded None refl false refl
+      (c.loop-i.i + 1) (omega arith) (no_state (get_or c.args.base.now c.loop-i.i None) c.if-is_none.ensures);
+  small = c.loop-i.invariant.small;
+}

@@ -3,7 +3,7 @@ use Rattle.nf_model.specs.Pattern.{Pattern}
 use Rattle.nf_pattern.specs.Successor.{change, RaisesAt, raised_at}
 use Rattle.nf_pattern.proofs.Counting.{few_changes}
 use Rattle.nf_pattern.proofs.Quiet.{free_few}
-use Rattle.nf_pattern.proofs.Raising.{last_from, free_behind, raised_later, raised_same, last_kept, last_all}
+use Rattle.nf_pattern.proofs.Raising.{last_from, free_behind, raised_later, raised_same, last_kept, last_idle, last_all}
 use Rattle.nf_pattern.proofs.assignments.raise_from.Goals as goal
 
 pub loop-i-init : goal.loop-i-init
@@ -61,3 +61,13 @@ returns c = (last_all c.args.base.now c.args.unbounded.now c.args.states.now c.a
 
 pub raise_at-requires-clause-unbounded : goal.raise_at-requires-clause-unbounded
 raise_at-requires-clause-unbounded c = c.requires.unbounded
+
+pub loop-i-preserved-then-is_idle : goal.loop-i-preserved-then-is_idle
+loop-i-preserved-then-is_idle c =
+    let told = c.is_idle.ensures c.if-is_idle.true in
+    record {
+      kept = c.loop-i.invariant.kept;
+      below = (let b = c.loop-i.invariant.below in omega arith);
+      last = last_idle c.args.base.now c.args.unbounded.now c.args.states.now c.args.same (c.loop-i.i - 1) c.loop-i.i c.loop-i.changes c.loop-i.more c.loop-i.invariant.last (omega arith)
+          c.requires.states c.requires.unbounded told.0 (subst (λ (x : Pattern). get_or x (c.loop-i.i - 1) None ≡ None) c.loop-i.invariant.kept told.1) (let b = c.loop-i.invariant.below in omega arith);
+    }

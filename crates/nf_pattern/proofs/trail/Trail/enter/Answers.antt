@@ -1,5 +1,6 @@
 use Rattle.std.proofs.Common.{ℕ, List, Option, length, refl, inl, inr, ap, sym, subst, ◌∙◌, add-one, arith}
 use Rattle.nf_graph.specs.Graph.{AreBelow}
+use Rattle.nf_pattern.specs.declared.firm.FirmLinks.{FirmLinks}
 use Rattle.nf_pattern.specs.declared.walking.TightLinks.{TightLinks}
 use Rattle.nf_pattern.specs.Entered.{AreChained, Keeps, Strands}
 use Rattle.nf_pattern.specs.Trail.{Follows}
@@ -7,13 +8,14 @@ use Rattle.nf_pattern.proofs.Following.{entered_on}
 use Rattle.nf_pattern.proofs.trail.Trail.enter.Goals as goal
 
 pub returns-then-not-enter-clause-entered : goal.returns-then-not-enter-clause-entered
-returns-then-not-enter-clause-entered c = (refl, inr c.if-not-enter.ensures.entered.1)
+returns-then-not-enter-clause-entered c = (refl, inr c.if-not-enter.ensures.entered.2)
 
 pub returns-clause-follows : goal.returns-clause-follows
 returns-clause-follows c =
     entered_on c.args.source c.args.hops.now c.args.resetting.now c.args.states.now c.requires.follows c.requires.more (omega arith)
     c.if-not-enter.ensures.entered.0 c.if-not-enter.ensures.entered.1 c.enter.ensures.nodes refl refl
     (subst (λ (es : List ℕ). Keeps c.args.source c.args.hops.now c.args.resetting.now c.args.states.now es c.args.self.now.depth) c.deref-2.ensures.value c.if-strands.ensures)
+    c.if-not-enter.ensures.entered.2
 
 pub strands-requires-clause-link : goal.strands-requires-clause-link
 strands-requires-clause-link c = c.requires.more
@@ -45,14 +47,20 @@ enter-requires-clause-link c = c.requires.more
 pub enter-requires-clause-holds : goal.enter-requires-clause-holds
 enter-requires-clause-holds c = c.requires.follows.tight
 
+pub enter-requires-clause-calm : goal.enter-requires-clause-calm
+enter-requires-clause-calm c = c.requires.follows.calm
+
 pub enter-requires-clause-clear : goal.enter-requires-clause-clear
 enter-requires-clause-clear c = c.requires.follows.clear
 
 pub returns-then-not-enter-clause-follows : goal.returns-then-not-enter-clause-follows
 returns-then-not-enter-clause-follows c =
-    subst (λ (t : TightLinks). Follows c.args.source c.args.hops.now c.args.resetting.now c.args.states.now
-    (record { depth = c.args.self.now.depth; tight = t; chain = c.args.self.now.chain; ends = c.args.self.now.ends; lost = c.args.self.now.lost }))
-    (sym c.if-not-enter.ensures.entered.0) c.requires.follows
+    subst (λ (f : FirmLinks). Follows c.args.source c.args.hops.now c.args.resetting.now c.args.states.now
+    (record { depth = c.args.self.now.depth; tight = c.enter.new.self; firm = f; chain = c.args.self.now.chain; ends = c.args.self.now.ends; lost = c.args.self.now.lost }))
+    (sym c.if-not-enter.ensures.entered.1)
+    (subst (λ (t : TightLinks). Follows c.args.source c.args.hops.now c.args.resetting.now c.args.states.now
+    (record { depth = c.args.self.now.depth; tight = t; firm = c.args.self.now.firm; chain = c.args.self.now.chain; ends = c.args.self.now.ends; lost = c.args.self.now.lost }))
+    (sym c.if-not-enter.ensures.entered.0) c.requires.follows)
 
 pub returns-then-not-enter-clause-way : goal.returns-then-not-enter-clause-way
 returns-then-not-enter-clause-way c = record { nodes = c.enter.ensures.nodes; ends = refl; lost = refl }

@@ -16,4 +16,4 @@ pub returns-clause-kept : goal.returns-clause-kept
 returns-clause-kept c source resetting p follows =
     let some = c.requires.some in
     left_back source c.args.hops.now resetting p follows (omega arith)
-    (c.take_back.ensures.holds p (subst (λ (k : ℕ). Holds c.args.hops.now p k c.args.self.now.tight) (omega arith) follows.tight)) c.take_back.ensures.nodes refl refl
+    (c.take_back.ensures.holds p (subst (λ (k : ℕ). Holds c.args.hops.now p k c.args.self.now.tight) (omega arith) follows.tight)) c.take_back.ensures.nodes refl refl refl

@@ -11,7 +11,7 @@ is_lost-lost-requires c =
 pub returns-clause-follows : goal.returns-clause-follows
 returns-clause-follows c p =
     follows_none c.args.source c.args.hops.now c.args.resetting.now c.args.base.now p c.args.nodes refl (c.in_ok-tight.ensures.holds p) c.in_ok-tight.ensures.nodes
-    c.in_ok-chain.ensures.chain c.in_ok-chain.ensures.count c.in_ok-ends.ensures.count c.in_ok-ends.ensures.ends
+    c.in_ok-chain.ensures.chain c.in_ok-chain.ensures.count c.in_ok-ends.ensures.count c.in_ok-ends.ensures.ends (c.in_ok-firm.ensures p)
 
 pub returns-clause-ends : goal.returns-clause-ends
 returns-clause-ends c = c.in_ok-ends.ensures.ends
@@ -33,3 +33,9 @@ ends-requires-clause-base c = c.requires.base
 
 pub chain-requires-clause-below : goal.chain-requires-clause-below
 chain-requires-clause-below c = c.requires.below
+
+pub firm_links-requires-clause-below : goal.firm_links-requires-clause-below
+firm_links-requires-clause-below c = c.requires.below
+
+pub firm_links-requires-clause-base : goal.firm_links-requires-clause-base
+firm_links-requires-clause-base c = c.requires.base

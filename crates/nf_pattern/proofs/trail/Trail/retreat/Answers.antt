@@ -1,4 +1,5 @@
-use Rattle.nf_pattern.proofs.Following.{way_same, way_on}
+use Rattle.std.proofs.Common.{refl, arith}
+use Rattle.nf_pattern.proofs.Following.{way_same, way_on, calmed}
 use Rattle.nf_pattern.proofs.trail.Trail.retreat.Goals as goal
 
 pub loop-self-init : goal.loop-self-init
@@ -16,7 +17,9 @@ loop-self-preserved c =
     }
 
 pub returns-clause-kept : goal.returns-clause-kept
-returns-clause-kept c = c.loop-self.invariant.kept
+returns-clause-kept c = λ source resetting p follows.
+    let on = c.loop-self.invariant.kept source resetting p follows in
+    calmed source c.args.hops.now resetting p on refl (c.retreat.ensures c.args.hops.now p c.loop-self.self.depth (let end = c.loop-self-test.false in omega arith) on.calm)
 
 pub returns-clause-way : goal.returns-clause-way
-returns-clause-way c = c.loop-self.invariant.way
+returns-clause-way c = let way = c.loop-self.invariant.way in record { nodes = way.nodes; ends = way.ends; lost = way.lost }
