@@ -27,9 +27,11 @@ use Rattle.nf_run_laws.proofs.ShortRun.{run_keeps}
 use Rattle.nf_curve.specs.Flows.{flow_of as flow_in}
 use Rattle.nf_phase.specs.declared.solution.Solution.{Solution}
 use Rattle.nf_phase.specs.Solution.{IsSolution, IsFinished, report_in}
+use Rattle.nf_phase.specs.Restarting.{EndsAtItsLabels}
 use Rattle.nf_phase.specs.Stepping.{Reaches}
 use Rattle.nf_phase.proofs.Reached.{Stands, Stands-reached}
 use Rattle.nf_phase.proofs.ShortReached.{short_reached}
+use Rattle.nf_phase.proofs.Told.{ends_told}
 use Rattle.nf_phase.proofs.Stepped.{equilibrium_reached, reaches_step, begin_step}
 
 -- ---- a phase goes no further than the horizon
@@ -97,6 +99,7 @@ module _ (passes : Passing) (net : Network) (good : IsNetwork net) (bounds : Bou
       well_formed = subst (IsWellFormed net) (sym is) well_formed_run;
       equilibrium = subst (λ (r : Report). Equilibrium net r.flow) (sym is) (equilibrium_reached passes net good last ends.reaches);
       short = subst (λ (r : Report). IsShortFlow net r.flow) (sym is) (short_reached passes net good last ends.reaches);
+      curves_end = subst (λ (r : Report). EndsAtItsLabels net r.flow) (sym is) (ends_told passes net good last ends.reaches);
     }
 
     pub finished : passes ≡ passes_Q → {E : Type 0} (result : Result Solution E)
@@ -131,6 +134,7 @@ module _ (net : Network) (good : IsNetwork net) (bounds : Bounds) where
         ends = λ others sequence many. sequence_ends passes_Q net good bounds f.last f.stop run others sequence many;
         labels = run_keeps passes_Q net good bounds f.last f.stop run;
         short = f.short;
+        curves_end = f.curves_end;
       }
 
   pub solved : (first : Standing) → IsStart net first → {E : Type 0} (result : Result Solution E) → IfOk result (λ s. IsFinished net bounds first s.phases (report_in bounds.horizon s))

@@ -1,14 +1,19 @@
--- A solution is the report of a phase run, which never stops since no pattern is left.
+-- A run never stops since no pattern is left, from wherever it goes on.
+use Rattle.std.proofs.Common.{sym, ap, subst}
 use Rattle.std.specs.Prelude.{Result, Ok, Err, IfOk}
 use Rattle.nf_work.specs.Passing.{passes_Q}
 use Rattle.nf_model.specs.Network.{Network, IsNetwork}
-use Rattle.nf_lists.specs.PhaseRun.{Bounds}
+use Rattle.nf_formats.specs.Report.{Report}
+use Rattle.nf_lists.specs.PhaseRun.{Standing, Bounds}
 use Rattle.nf_unstopped_laws.specs.Stops.{NeverNoPattern}
-use Rattle.nf_unstopped_laws.proofs.Stops.{never_report}
+use Rattle.nf_unstopped_laws.proofs.Stops.{never_on}
 use Rattle.nf_phase.specs.declared.solution.Solution.{Solution}
-use Rattle.nf_phase.specs.Solution.{IsSolution, report_in}
+use Rattle.nf_phase.specs.Solution.{IsFinished, report_in}
+use Rattle.nf_phase.specs.Stepping.{Reaches}
+use Rattle.nf_phase.proofs.Reached.{Stands-reached}
 
-pub never_solved : (net : Network) (bounds : Bounds) → IsNetwork net → {E : Type 0} (result : Result Solution E)
-    → IfOk result (λ s. IsSolution net bounds s.phases (report_in bounds.horizon s)) → IfOk result (λ s. NeverNoPattern s.stopped)
-never_solved net bounds good (Ok s) is = never_report passes_Q net bounds (report_in bounds.horizon s) good is.run
-never_solved net bounds good (Err x) is = tt
+pub never_finished : (net : Network) (bounds : Bounds) → IsNetwork net → (first : Standing) → Reaches passes_Q net first → {E : Type 0} (result : Result Solution E)
+    → IfOk result (λ s. IsFinished net bounds first s.phases (report_in bounds.horizon s)) → IfOk result (λ s. NeverNoPattern s.stopped)
+never_finished net bounds good first reaches (Ok s) is = subst NeverNoPattern (sym (ap (λ (r : Report). r.stop) is.report_is))
+    (never_on passes_Q net bounds first is.last is.stop good (Stands-reached passes_Q net good first reaches).well is.runs)
+never_finished net bounds good first reaches (Err x) is = tt

@@ -11,6 +11,7 @@ use Rattle.nf_lists.specs.PhaseRun.{Standing, Bounds, IsRunReport, IsShortFlow, 
 use Rattle.nf_resume_lists.specs.Open.{RunsOn}
 use Rattle.nf_run_laws.specs.RunLaws.{KeepsLabels, reached_by}
 use Rattle.nf_curve.specs.Flows.{flow_of}
+use Rattle.nf_phase.specs.Restarting.{EndsAtItsLabels}
 use Rattle.nf_thin.specs.declared.fault.SearchFault.TheVariants as SearchFault
 use Rattle.nf_phase.specs.declared.fault.StepFault.{StepFault}
 use Rattle.nf_phase.specs.declared.solution.Budgets.{Budgets}
@@ -43,7 +44,7 @@ EndsAll net horizon last = (phases : List (ℚ × List ℚ)) → IsPhaseSequence
 
 -- The report describes a flow which is an equilibrium up to the time reached, and it is the report of the phase run: so it reaches
 -- the horizon, or it has the cause that stopped the run there. The run made so many phases, and the labels that it keeps are the values of
--- the label curves at the end. The curves are in short form.
+-- the label curves at the end. The curves are in short form, and end at the departure reached or at the labels there.
 pub record IsSolution (net : Network) (bounds : Bounds) (phases : ℕ) (report : Report) : Type 0 where
   pub well_formed : IsWellFormed net report
   pub equilibrium : Equilibrium net report.flow
@@ -52,9 +53,10 @@ pub record IsSolution (net : Network) (bounds : Bounds) (phases : ℕ) (report :
   pub ends : EndsAll net bounds.horizon run.last
   pub labels : KeepsLabels net run.last
   pub short : IsShortFlow net report.flow
+  pub curves_end : EndsAtItsLabels net report.flow
 
 -- From where a run stood it went on to the horizon, or to the cause that stopped it, with so many phases since it was restored. The
--- report describes a flow that is an equilibrium up to the time reached.
+-- report describes a flow that is an equilibrium up to the time reached, with curves in short form that end there or at the labels there.
 pub record IsFinished (net : Network) (bounds : Bounds) (first : Standing) (phases : ℕ) (report : Report) : Type 0 where
   pub last : Standing
   pub stop : Option (Cause ℚ)
@@ -64,3 +66,4 @@ pub record IsFinished (net : Network) (bounds : Bounds) (first : Standing) (phas
   pub well_formed : IsWellFormed net report
   pub equilibrium : Equilibrium net report.flow
   pub short : IsShortFlow net report.flow
+  pub curves_end : EndsAtItsLabels net report.flow

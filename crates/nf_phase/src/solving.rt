@@ -91,7 +91,8 @@ impl Run {
 
     /// The run goes on phase by phase from where it stands, each by the first accepted pattern, until the horizon is reached, as many
     /// phases as allowed were made, or one can't be made. No phase was made yet, since departure 0 or since the run was restored, and
-    /// the horizon isn't before the departure reached. The flow up to there is an equilibrium.
+    /// the horizon isn't before the departure reached. The flow up to there is an equilibrium. Each phase has a thin flow, so one can't be
+    /// made only where an operation passes or more patterns than allowed would have to be tried.
     pub fn finish(
         self,
         alloc: Global,
@@ -102,7 +103,8 @@ impl Run {
         requires reaches { Reaches passes_Q net.now.net self }
         requires fresh { self.made ≡ 0 }
         requires horizon { self.time ≤ℚ horizon }
-        ensures { IfOk result (λ s. IsFinished net.now.net (bounds_of horizon budgets) self s.phases (report_in horizon s)) }
+        ensures finished { IfOk result (λ s. IsFinished net.now.net (bounds_of horizon budgets) self s.phases (report_in horizon s)) }
+        ensures never_no_pattern { IfOk result (λ s. NeverNoPattern s.stopped) }
     {
         // For the proof: the network is that of an accepted file.
         let _ = net.version();

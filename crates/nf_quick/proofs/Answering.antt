@@ -1,6 +1,6 @@
 -- What is answered, out of the pushes and what is made of them.
-use Rattle.std.proofs.Common.{◌≡◌, ℕ, Bool, true, false, inl, inr, List, unwrap_or, sym, ap, ◌∙◌}
-use Rattle.std.specs.Prelude.{Ok, Err}
+use Rattle.std.proofs.Common.{◌≡◌, ℕ, ◌≤◌, Bool, true, false, inl, inr, List, unwrap_or, sym, ap, ◌∙◌}
+use Rattle.std.specs.Prelude.{Result, Ok, Err, IfOk}
 use Rattle.nf_rational.specs.Rational.{ℚ}
 use Rattle.nf_rational.specs.Operations.{0ℚ}
 use Rattle.nf_rational.specs.Order.{◌≤ℚ◌, le_ℚ}
@@ -12,12 +12,12 @@ use Rattle.nf_work.specs.declared.Part.TheVariants as Part
 use Rattle.nf_work.specs.Checked.{Checked, Stops, at_part, ◌>>=◌}
 use Rattle.nf_model.specs.Network.{Network, IsNetwork}
 use Rattle.nf_quick_lists.specs.Steps.{IsLimited}
-use Rattle.nf_quick_lists.specs.Quick.{Quick, Standing, Pushed, Done, OverBudget, Answer, Found, start_of, nothing, push_up_to, finish_list, answer_list, quickest_of, quickest_list}
+use Rattle.nf_quick_lists.specs.Quick.{Quick, Standing, Pushed, Done, OverBudget, Answer, Found, Budget, start_of, nothing, push_up_to, finish_list, answer_list, quickest_of, quickest_list}
 use Rattle.nf_quick_lists.specs.Answers.{IsQuickFlow}
-use Rattle.nf_quick_laws.proofs.Nothing.{IsQuickFlow-list}
+use Rattle.nf_quick_laws.proofs.Nothing.{IsQuickFlow-list, IsMade-list, EndsAtBudget-list}
 use Rattle.nf_residual.proofs.Stopping.{ok_of_part, stopped, goes_on}
 use Rattle.nf_quick.specs.declared.fault.QuickFault.{QuickFault}
-use Rattle.nf_quick.specs.Answered.{of_halt, IsPushed, IsAnswered}
+use Rattle.nf_quick.specs.Answered.{of_halt, IsPushed, IsAnswered, IsInOrder}
 
 module _ (passes : Passing) (net : Network) (amount : ℚ) (augments : ℕ) where
   -- ---- the amount 0
@@ -69,5 +69,17 @@ module _ (passes : Passing) (net : Network) (amount : ℚ) (augments : ℕ) wher
       finish_answered quick e = (inr limited, ap (at_part Part.Quick) (then_finish ∙ goes_on finished found quick e))
 
   -- ---- what is answered is a quickest flow
-  pub answered_is_quick : IsNetwork net → 0ℚ ≤ℚ amount → (quick : Quick) → IsAnswered passes net amount augments (Ok quick) → IsQuickFlow net amount quick
-  answered_is_quick good h quick answered = IsQuickFlow-list net good passes amount augments quick h answered.0 (ok_of_part (quickest_list passes net amount augments) (Found quick) answered.1)
+  pub answered_is_quick : IsNetwork net → 0ℚ ≤ℚ amount → (result : Result Quick QuickFault) → IsAnswered passes net amount augments result → IfOk result (IsQuickFlow net amount)
+  answered_is_quick good h (Ok quick) answered =
+      IsQuickFlow-list net good passes amount augments quick h answered.0 (ok_of_part (quickest_list passes net amount augments) (Found quick) answered.1)
+  answered_is_quick good h (Err fault) answered = tt
+
+  -- ---- and comes of walks that are pushed in order
+  pub answered_in_order : IsNetwork net → 0ℚ ≤ℚ amount → 1 ≤ augments → (result : Result Quick QuickFault) → IsAnswered passes net amount augments result → IsInOrder net amount augments result
+  answered_in_order good h some (Ok quick) answered =
+      (IsMade-list net good passes amount augments quick h answered.0 (ok_of_part (quickest_list passes net amount augments) (Found quick) answered.1)).1
+  answered_in_order good h some (Err (QuickFault.Budget walks)) answered =
+      EndsAtBudget-list net good passes amount augments walks.items some answered.0 (ok_of_part (quickest_list passes net amount augments) (Budget walks.items) answered.1)
+  answered_in_order good h some (Err (QuickFault.Unbounded links)) answered = tt
+  answered_in_order good h some (Err (QuickFault.Passed at)) answered = tt
+  answered_in_order good h some (Err QuickFault.Memory) answered = tt

@@ -1,3 +1,7 @@
+pub mod WalkByWalk
+pub mod SpentLinks
+pub mod NodeByNode
+pub mod OnePush
 pub mod SupplyOn
 pub mod PieceByPiece
 pub mod GrowingWays

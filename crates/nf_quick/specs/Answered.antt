@@ -9,6 +9,7 @@ use Rattle.nf_work.specs.Passing.{Passing}
 use Rattle.nf_work.specs.Checked.{at_part}
 use Rattle.nf_model.specs.Network.{Network}
 use Rattle.nf_quick_lists.specs.Steps.{IsUnboundedWalk, IsLimited}
+use Rattle.nf_quick_lists.specs.InOrder.{ComesOfPushes, EndsAtBudget}
 use Rattle.nf_quick_lists.specs.Quick.{Quick, Standing, Done, OverBudget, Found, Budget, push_up_to, start_of, quickest_list}
 use Rattle.nf_quick.specs.declared.fault.QuickFault.{QuickFault}
 
@@ -36,3 +37,11 @@ IsAnswered passes net amount augments (Err (QuickFault.Budget walks)) = HasNoWay
 IsAnswered passes net amount augments (Err (QuickFault.Unbounded links)) = (0ℚ <ℚ amount) × IsUnboundedWalk net links.items net.source net.sink
 IsAnswered passes net amount augments (Err (QuickFault.Passed at)) = HasNoWay net amount × (at_part Part.Quick (quickest_list passes net amount augments) ≡ Err at)
 IsAnswered passes net amount augments (Err QuickFault.Memory) = Unit {0}
+
+-- A quickest flow comes of walks that are pushed in order; over the budget, as many of them as allowed were pushed.
+abbrev pub IsInOrder : Network → ℚ → ℕ → Result Quick QuickFault → Type 0
+IsInOrder net amount augments (Ok quick) = ComesOfPushes net amount augments quick
+IsInOrder net amount augments (Err (QuickFault.Budget walks)) = EndsAtBudget net amount augments walks.items
+IsInOrder net amount augments (Err (QuickFault.Unbounded links)) = Unit {0}
+IsInOrder net amount augments (Err (QuickFault.Passed at)) = Unit {0}
+IsInOrder net amount augments (Err QuickFault.Memory) = Unit {0}

@@ -1,3 +1,5 @@
 pub mod Codes
+pub mod Spent
+pub mod Refused
 pub mod Ways
 pub mod Answered

@@ -6,9 +6,9 @@ ghost use Rattle.nf_quick_lists.specs.Flows.{IsSound};
 ghost use Rattle.nf_quick.specs.Answered.{IsPushed};
 
 use crate::fault::QuickFault;
+use crate::pushes::Standing;
 use nf_frac::Q;
 use nf_net::Network;
-use nf_quick_parts::Standing;
 use std::alloc::Global;
 
 /// Pushes shortest walks until none is left that is shorter than the time; Budget comes where one is left after so many pushes.

@@ -1,6 +1,6 @@
 // What a quickest flow is told by.
+use crate::rated::Rated;
 use nf_frac::Q;
-use nf_quick_parts::Rated;
 use std::marker::Model;
 
 /// A quickest flow: its time; walks that are fed at their rates from time 0 until the time less their transit sums; and of each

@@ -10,15 +10,16 @@ ghost use Rattle.nf_quick_lists.specs.Steps.{IsLimited};
 ghost use Rattle.nf_quick_lists.specs.Flows.{IsSound};
 ghost use Rattle.nf_quick_lists.specs.Quick.{nothing as nothing_in, finish_list};
 ghost use Rattle.nf_quick_lists.specs.Answers.{IsQuickFlow};
-ghost use Rattle.nf_quick.specs.Answered.{IsAnswered};
+ghost use Rattle.nf_quick.specs.Answered.{IsAnswered, IsInOrder};
 
+use crate::cut::{node_times, value_of};
 use crate::fault::QuickFault;
 use crate::pushing::push_up_to;
 use crate::quick::Quick;
 use crate::unbounded::unbounded_walk;
+use crate::walks::walks_off;
 use nf_frac::{Halt, Q};
 use nf_net::{LinkId, Network};
-use nf_quick_parts::{node_times, value_of, walks_off};
 use nf_residual::Residual;
 use std::alloc::{AllocError, Global};
 
@@ -67,6 +68,23 @@ fn finish(alloc: Global, net: &Network, flow: &Residual, time: Q) -> Result<Quic
     })
 }
 
+// What the list says, unless walks of unbounded links deliver any amount at once.
+fn work_out(alloc: Global, net: &Network, amount: Q, augments: u64) -> Result<Quick, QuickFault>
+    requires { 0ℚ ≤ℚ amount }
+    ensures { IsAnswered passes_Q net.now.net amount augments result }
+{
+    if amount.is_at_most(Q::zero()) {
+        return Ok(nothing(alloc, net)?);
+    }
+    if let Some(links) = unbounded_walk(alloc, net)? {
+        return Err(QuickFault::Unbounded { links });
+    }
+    let standing = push_up_to(alloc, net, amount, augments)?;
+    let time = standing.time.unwrap_or(Q::zero());
+    let quick = finish(alloc, net, &standing.flow, time)?;
+    Ok(quick)
+}
+
 /// The quickest flow of an amount of at least 0 from source to sink: walks that are fed at their rates deliver it by the time,
 /// no feasible flow over time delivers it earlier, and the value of the cut over time is the amount. For the amount 0 the time is
 /// 0, there are no walks, and the cut is 0 everywhere. Else shortest residual walks are pushed with their whole room (after Ford
@@ -79,16 +97,9 @@ pub fn quickest(alloc: Global, net: &Network, amount: Q, augments: u64) -> Resul
     requires augments { 1 ≤ augments }
     ensures answered { IsAnswered passes_Q net.now.net amount augments result }
     ensures quickest { IfOk result (IsQuickFlow net.now.net amount) }
+    ensures pushes { IsInOrder net.now.net amount augments result }
 {
-    let _named = net.version();
-    if amount.is_at_most(Q::zero()) {
-        return Ok(nothing(alloc, net)?);
-    }
-    if let Some(links) = unbounded_walk(alloc, net)? {
-        return Err(QuickFault::Unbounded { links });
-    }
-    let standing = push_up_to(alloc, net, amount, augments)?;
-    let time = standing.time.unwrap_or(Q::zero());
-    let quick = finish(alloc, net, &standing.flow, time)?;
-    Ok(quick)
+    // For the proof: the network is that of an accepted file.
+    let _ = net.version();
+    work_out(alloc, net, amount, augments)
 }

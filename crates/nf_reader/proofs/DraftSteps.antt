@@ -1,5 +1,5 @@
 -- What a draft is seen as when something is added to it.
-use Rattle.std.proofs.Common.{◌≡◌, ◌≢◌, ⊎_elim, ℕ, zero, suc, ◌+◌, ◌<◌, ◌≤◌, Bool, true, false, cond, nat_eq, List, [], ◌∷◌, ◌++◌, length, drop, Option, Some, None, Result, Ok, Err, refl, sym, ap, subst, ◌∙◌, arith, length-append, replicate, set}
+use Rattle.std.proofs.Common.{◌≡◌, ◌≢◌, ◌⊎◌, inl, inr, ⊎_elim, ℕ, zero, suc, ◌+◌, ◌<◌, ◌≤◌, Bool, true, false, ◌&&◌, cond, bytes_eq, nat_eq, List, [], ◌∷◌, ◌++◌, length, drop, Option, Some, None, Result, Ok, Err, refl, sym, ap, subst, ◌∙◌, arith, length-append, replicate, set}
 use Rattle.std.specs.Prelude.{slice_get, unwrap_or}
 use Rattle.nf_rational.specs.Rational.{ℚ}
 use Rattle.nf_rational.specs.Operations.{0ℚ}
@@ -15,14 +15,14 @@ use Rattle.nf_readings.specs.ReportFile.{if_at_end}
 use Rattle.nf_reader.specs.declared.draft.Stage.{Stage}
 use Rattle.nf_reader.specs.declared.draft.Stage.TheVariants as stages
 use Rattle.nf_readings.specs.ReportLines as lines
-use Rattle.nf_readings.specs.ReportLines.{CurveKey, ReadCurve, ReportDraft, Opened, key_of, curve_keys, with_current, with_rate, has_all, is_key, begun, opened}
+use Rattle.nf_readings.specs.ReportLines.{CurveKey, ReadCurve, ReportDraft, Opened, key_of, key_word, curve_keys, with_current, with_rate, has_all, is_key, begun, opened}
 use Rattle.nf_reader.specs.Keys.{key_at, key_of_number, is_some_key}
 use Rattle.nf_reader.specs.declared.draft.Draft.{Draft}
 use Rattle.nf_reader.specs.declared.entry.RatedPoint.{RatedPoint}
 use Rattle.nf_reader.specs.declared.entry.Opening.TheVariants.{GoesOn, Begins}
 use Rattle.nf_reader.specs.declared.entry.Entry.TheVariants.{OfCurve, Never, OfLink}
-use Rattle.nf_reader.specs.Drafts.{seen_stage, seen_curve, seen_done, seen_current, with_open, begun_count, seen_draft, IsWithin}
-use Rattle.nf_reader.specs.Entries.{begun_by, opened_by, closed, drafted}
+use Rattle.nf_reader.specs.Drafts.{seen_stage, seen_curve, seen_done, seen_current, with_open, begun_count, seen_draft, LacksIdleOnly, IsWithin}
+use Rattle.nf_reader.specs.Entries.{begun_by, opened_by, closed, drafted, IsNeverNext}
 use Rattle.nf_cursor.specs.Within.{word_at}
 use Rattle.nf_work.specs.Checked.{◌>>=◌}
 use Rattle.nf_reader.proofs.WordCounts.{one_behind}
@@ -216,8 +216,74 @@ pub nothing_read : (n : Named) (horizon reached : ℚ) (done : List (Option Trac
     } ≡ lines.empty_report n
 nothing_read n horizon reached done states h r d s = rw (h, r, d, s) refl
 
-pub within_by : (n : Named) (d : Draft) (count : ℕ) → d.current ≡ None → length d.done.items ≡ count → count ≤ length (curve_keys n) → length d.states ≡ length n.net.links → IsWithin n d
-within_by n d count none many few states = record { curves = subst (λ (k : ℕ). k ≤ length (curve_keys n)) (sym (ap (with_open (length d.done.items)) none ∙ many)) few; states = states }
+pub within_by : (n : Named) (d : Draft) (count : ℕ) → d.current ≡ None → length d.done.items ≡ count → count ≤ length (curve_keys n) → LacksIdleOnly n d.done.items
+    → length d.states ≡ length n.net.links → IsWithin n d
+within_by n d count none many few idle states =
+    record { curves = subst (λ (k : ℕ). k ≤ length (curve_keys n)) (sym (ap (with_open (length d.done.items)) none ∙ many)) few; idle = idle; states = states }
+
+pub done_few : (n : Named) (d : Draft) → IsWithin n d → length d.done.items ≤ length (curve_keys n)
+done_few n d within = by_current d.current within.curves
+  where
+    by_current : (o : Option Trace) → with_open (length d.done.items) o ≤ length (curve_keys n) → length d.done.items ≤ length (curve_keys n)
+    by_current None h = h
+    by_current (Some trace) h = omega (arith, h)
+
+-- ---- nothing stands just for idle nodes
+none_behind : (curves : List (Option Trace)) (curve : Option Trace) (i : ℕ) → slice_get (curves ++ curve ∷ []) i ≡ Some None → (slice_get curves i ≡ Some None) ⊎ ((i ≡ length curves) × (curve ≡ None))
+none_behind [] curve zero e = inr (refl, same curve e)
+  where
+    same : (c : Option Trace) → ◌≡◌ {A = Option (Option Trace)} (Some c) (Some None) → c ≡ None
+    same None e = refl
+    same (Some trace) e = absurd (cc)
+none_behind [] curve (suc i) e = absurd (cc)
+none_behind (c ∷ curves) curve zero e = inl e
+none_behind (c ∷ curves) curve (suc i) e = ⊎_elim
+    (λ (w : slice_get curves i ≡ Some None). inl w)
+    (λ (w : (i ≡ length curves) × (curve ≡ None)). inr (ap suc w.0, w.1))
+    (none_behind curves curve i e)
+
+pub idle_kept : (n : Named) (curves all : List (Option Trace)) (trace : Trace) → all ≡ curves ++ Some trace ∷ [] → LacksIdleOnly n curves → LacksIdleOnly n all
+idle_kept n curves all trace same h i e = ⊎_elim
+    (λ (w : slice_get curves i ≡ Some None). h i w)
+    (λ (w : (i ≡ length curves) × (Some trace ≡ None)). absurd (some_none w.1))
+    (none_behind curves (Some trace) i (sym (ap (λ (l : List (Option Trace)). slice_get l i) same) ∙ e))
+  where
+    some_none : Some trace ≡ None → ⊥
+    some_none e = cc
+
+pub idle_passed : (n : Named) (curves all : List (Option Trace)) → all ≡ curves ++ None ∷ [] → (key_at n (length curves)).kind ≡ lines.OfNever → LacksIdleOnly n curves → LacksIdleOnly n all
+idle_passed n curves all same is h i e = ⊎_elim
+    (λ (w : slice_get curves i ≡ Some None). h i w)
+    (λ (w : (i ≡ length curves) × (◌≡◌ {A = Option Trace} None None)). subst (λ (k : ℕ). (key_at n k).kind ≡ lines.OfNever) (sym w.0) is)
+    (none_behind curves None i (sym (ap (λ (l : List (Option Trace)). slice_get l i) same) ∙ e))
+
+pub no_curves : (n : Named) (curves : List (Option Trace)) → curves ≡ [] → LacksIdleOnly n curves
+no_curves n curves none i e = absurd (there (sym (ap (λ (l : List (Option Trace)). slice_get l i) none) ∙ e))
+  where
+    there : ◌≡◌ {A = Option (Option Trace)} None (Some None) → ⊥
+    there e = cc
+
+pub never_some : (keys : List CurveKey) → IsNeverNext keys → 0 < length keys
+never_some [] h = absurd h
+never_some (key ∷ keys) h = omega arith
+
+pub never_at : (keys : List CurveKey) (k : ℕ) (other : CurveKey) → IsNeverNext (drop k keys) → (unwrap_or (slice_get keys k) other).kind ≡ lines.OfNever
+never_at [] zero other h = absurd h
+never_at [] (suc k) other h = absurd h
+never_at (key ∷ keys) zero other h = h
+never_at (key ∷ keys) (suc k) other h = never_at keys k other h
+
+never_by_word : (kind : lines.Kind) (b : Bool) → bytes_eq (key_word kind) (key_word lines.OfNever) && b ≡ true → kind ≡ lines.OfNever
+never_by_word lines.OfLabel b e = absurd (cc)
+never_by_word lines.OfNever b e = refl
+never_by_word lines.OfInflow b e = absurd (cc)
+never_by_word lines.OfOutflow b e = absurd (cc)
+never_by_word lines.OfQueue b e = absurd (cc)
+
+pub never_next : (keys : List CurveKey) (k : ℕ) (name : Name) → is_some_key lines.OfNever name (slice_get keys k) ≡ true → IsNeverNext (drop k keys)
+never_next [] k name e = absurd (cc)
+never_next (key ∷ keys) zero name e = never_by_word key.kind (bytes_eq key.name name) e
+never_next (key ∷ keys) (suc k) name e = never_next keys k name e
 
 pub with_state : (n : Named) (d e : Draft) (link next : ℕ) (state : State) (states : List (Option State)) → seen_draft n e ≡ closed (seen_draft n d) → next ≡ suc link → states ≡ set d.states link (Some state)
     → record (seen_draft n e) { next_state = next; states = states } ≡ drafted n (seen_draft n d) (OfLink link state)

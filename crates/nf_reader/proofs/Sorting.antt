@@ -1,8 +1,9 @@
 -- Curves that are put behind the others of their kind.
-use Rattle.std.proofs.Common.{◌≡◌, ℕ, ◌<◌, Bool, true, false, cond, List, [], ◌∷◌, ◌++◌, length, map, Option, Some, option_map, refl, sym, ap, subst, ◌∙◌, arith, append-nil, bytes_eq}
+use Rattle.std.proofs.Common.{◌≡◌, ℕ, ◌<◌, Bool, true, false, cond, List, [], ◌∷◌, ◌++◌, length, map, Option, Some, None, option_map, refl, sym, ap, subst, ◌∙◌, arith, append-nil, bytes_eq}
 use Rattle.std.specs.Prelude.{unwrap_or}
 use Rattle.std.proofs.lemmas.Option.{slice_get_within}
 use Rattle.std.proofs.lemmas.List.{map-append}
+use Rattle.nf_plain_laws.proofs.Entries.{entry}
 use Rattle.nf_curve.specs.Flows.{trace_of}
 use Rattle.nf_curve.specs.declared.flow.Trace.{Trace}
 use Rattle.nf_formats.specs.Named.{Named}
@@ -32,6 +33,16 @@ module _ (n : Named) (index : ℕ) (key : Key) (is : option_map seen_key (Some k
       let d = few_link_names n h in
       let e = length_curve_keys n in
       omega (arith, within, a, b, d, e)
+
+-- each curve of a network has a key
+pub key_there : (n : Named) (index : ℕ) → index < length (curve_keys n) → None ≡ key_of_number n index → ⊥
+key_there n index inside none = by_entry (entry (curve_keys n) index inside)
+  where
+    by_entry : (key : CurveKey) × (key_of_number n index ≡ Some key) → ⊥
+    by_entry w = other w.0 (none ∙ w.1)
+      where
+        other : (key : CurveKey) → None ≡ Some key → ⊥
+        other key e = cc
 
 pub one_more_sorted : (n : Named) (curves : List (Option Trace)) (curve : Option Trace) (index : ℕ) (sorted : Sorted) → index ≡ length curves
     → AreSorted (seen_done n 0 curves ++ seen_curve (key_at n index) curve ∷ []) sorted → AreSorted (seen_done n 0 (curves ++ curve ∷ [])) sorted

@@ -1,5 +1,5 @@
 -- What is read of a report so far, as the definitions have it.
-use Rattle.std.specs.Prelude.{◌≡◌, ℕ, ◌+◌, ◌≤◌, List, [], ◌∷◌, length, drop, Option, Some, None}
+use Rattle.std.specs.Prelude.{◌≡◌, ℕ, ◌+◌, ◌≤◌, List, [], ◌∷◌, length, drop, Option, Some, None, slice_get}
 use Rattle.nf_curve.specs.declared.flow.Trace.{Trace}
 use Rattle.nf_formats.specs.Named.{Named}
 use Rattle.nf_readings.specs.ReportLines as lines
@@ -53,7 +53,12 @@ seen_draft n d = record {
   states = d.states;
 }
 
--- no more curves than the network has, and a state or none for each link
+-- nothing stands just for idle nodes
+abbrev pub LacksIdleOnly : Named → List (Option Trace) → Type 0
+LacksIdleOnly n curves = (i : ℕ) → slice_get curves i ≡ Some None → (key_at n i).kind ≡ lines.OfNever
+
+-- no more curves than the network has, none missing, and a state or none for each link
 pub record IsWithin (n : Named) (draft : Draft) : Type 0 where
   pub curves : begun_count draft ≤ length (curve_keys n)
+  pub idle : LacksIdleOnly n draft.done.items
   pub states : length draft.states ≡ length n.net.links

@@ -53,9 +53,14 @@ drafted n draft (OfLink link state) =
     record (closed draft) { next_state = suc link; states = set draft.states link (Some state) }
 drafted n draft End = record (closed draft) { stage = lines.AtEnd }
 
--- the points of a curve have rising times, and links are of the network
+-- an idle node comes next
+abbrev pub IsNeverNext : List CurveKey → Type 0
+IsNeverNext [] = ⊥
+IsNeverNext (key ∷ keys) = key.kind ≡ lines.OfNever
+
+-- the points of a curve have rising times, an idle node comes where one is passed, and links are of the network
 abbrev pub Fits : Named → ReportDraft → Entry → Type 0
 Fits n draft (OfCurve opening p) = CanOpen draft opening × (comes_after (last_or None (opened_by draft opening).curve.points) p.time ≡ true)
-Fits n draft Never = 0 < length draft.keys
+Fits n draft Never = IsNeverNext draft.keys
 Fits n draft (OfLink link state) = link < length n.net.links
 Fits n draft entry = Unit {0}

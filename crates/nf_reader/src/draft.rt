@@ -3,7 +3,7 @@ ghost use Rattle.std.specs.Prelude.{◌≡◌, true, ◌+◌, ◌<◌, ◌≤◌
 ghost use Rattle.std.specs.List.{last_or};
 ghost use Rattle.nf_formats.specs.Named.{Named};
 ghost use Rattle.nf_readings.specs.ReportLines.{empty_report, curve_keys, with_rate, comes_after, has_all as has_all_by};
-ghost use Rattle.nf_reader.specs.Drafts.{seen_draft, IsWithin, begun_count};
+ghost use Rattle.nf_reader.specs.Drafts.{seen_draft, LacksIdleOnly, IsWithin, begun_count};
 ghost use Rattle.nf_reader.specs.Entries.{drafted, closed, Fits};
 ghost use Rattle.nf_reader.specs.declared.entry.Entry.TheVariants.{OfCurve, Never, OfLink, End};
 ghost use Rattle.nf_reader.specs.declared.entry.Opening.TheVariants.{GoesOn, Begins};
@@ -127,6 +127,7 @@ impl Draft {
         ensures draft { OnOk result ((n : Named) → seen_draft n self.new ≡ closed (seen_draft n self.old)) }
         ensures count { OnOk result (length self.new.done.items ≡ begun_count self.old) }
         ensures shut { OnOk result (self.new.current ≡ None) }
+        ensures idle { OnOk result ((n : Named) → LacksIdleOnly n self.old.done.items → LacksIdleOnly n self.new.done.items) }
         ensures states { self.new.states ≡ self.old.states }
     {
         if let Some(trace) = self.current.take() {
@@ -141,6 +142,7 @@ impl Draft {
         ensures draft { OnOk result ((n : Named) → begun_count self.old < length (curve_keys n)
             → seen_draft n self.new ≡ drafted n (seen_draft n self.old) (OfCurve Begins point.now)) }
         ensures count { OnOk result (begun_count self.new ≡ begun_count self.old + 1) }
+        ensures idle { OnOk result ((n : Named) → LacksIdleOnly n self.old.done.items → LacksIdleOnly n self.new.done.items) }
         ensures states { self.new.states ≡ self.old.states }
     {
         self.close()?;
@@ -154,6 +156,7 @@ impl Draft {
         requires later { IfSome self.old.current (λ trace. comes_after (last_or None trace.curve.points) point.now.time ≡ true) }
         ensures draft { OnOk result ((n : Named) → seen_draft n self.new ≡ drafted n (seen_draft n self.old) (OfCurve GoesOn point.now)) }
         ensures count { OnOk result (begun_count self.new ≡ begun_count self.old) }
+        ensures done { self.new.done.items ≡ self.old.done.items }
         ensures states { self.new.states ≡ self.old.states }
     {
         match &mut self.current {

@@ -1,9 +1,9 @@
 // The report that was read.
-ghost use Rattle.std.specs.Prelude.{◌≡◌, List, [], ◌∷◌, ◌++◌, IfOk, OnOk, MatchResult};
-ghost use Rattle.nf_readings.specs.ReportLines.{CurveKey, ReadCurve};
+ghost use Rattle.std.specs.Prelude.{◌≡◌, ◌≤◌, List, [], ◌∷◌, ◌++◌, length, None, IfOk, OnOk, MatchResult};
+ghost use Rattle.nf_readings.specs.ReportLines.{CurveKey, ReadCurve, OfNever, curve_keys};
 ghost use Rattle.nf_readings.specs.ReportFile.{if_at_end};
 ghost use Rattle.nf_reader.specs.Keys.{seen_kind};
-ghost use Rattle.nf_reader.specs.Drafts.{seen_draft, seen_curve, seen_done};
+ghost use Rattle.nf_reader.specs.Drafts.{seen_draft, seen_curve, seen_done, LacksIdleOnly, IsWithin};
 ghost use Rattle.nf_reader.specs.Files.{IfBroken, report_of};
 ghost use Rattle.nf_reader.specs.Sorted.{AreSorted};
 
@@ -48,8 +48,9 @@ impl Sorted {
         }
     }
 
-    // A curve goes behind the others of its kind. Each node but the idle ones and each link has one, so that it isn't missing.
+    // A curve goes behind the others of its kind. Each node but the idle ones and each link has one.
     fn put(&mut self, kind: Kind, curve: Option<Trace>) -> Result<(), AllocError>
+        requires { curve ≡ None → seen_kind kind ≡ OfNever }
         ensures { OnOk result ((curves : List ReadCurve) → (key : CurveKey) → key.kind ≡ seen_kind kind → AreSorted curves self.old
             → AreSorted (curves ++ seen_curve key curve ∷ []) self.new) }
     {
@@ -65,14 +66,16 @@ impl Sorted {
                 let Trace { curve, rates: _ } = trace;
                 self.queues.push(curve)?;
             }
-            (_, None) => return Err(AllocError),
+            (_, None) => unreachable!(),
         }
         Ok(())
     }
 }
 
-// The curves of a report by what they tell of. There are no more than the network has.
+// The curves of a report by what they tell of.
 fn by_kind(alloc: Global, net: &Network, curves: Vec<Option<Trace>>) -> Result<Sorted, AllocError>
+    requires count { length curves.items ≤ length (curve_keys net.now) }
+    requires idle { LacksIdleOnly net.now curves.items }
     ensures { IfOk result (λ sorted. AreSorted (seen_done net.now 0 curves.items) sorted) }
 {
     // For the proof: a network has few nodes and links.
@@ -82,7 +85,7 @@ fn by_kind(alloc: Global, net: &Network, curves: Vec<Option<Trace>>) -> Result<S
     for curve in curves {
         let kind = match key_at(net, index) {
             Some(key) => key.kind,
-            None => return Err(AllocError),
+            None => unreachable!(),
         };
         sorted.put(kind, curve)?;
         index += 1;
@@ -93,6 +96,7 @@ fn by_kind(alloc: Global, net: &Network, curves: Vec<Option<Trace>>) -> Result<S
 impl Draft {
     /// The report, or P14 where there was no `end`.
     pub fn report(self, alloc: Global, net: &Network) -> Result<Report, ReportFault>
+        requires { IsWithin net.now self }
         ensures { let draft = seen_draft net.now self in
             MatchResult result (λ report. if_at_end draft.stage draft ≡ Ok (report_of report)) (λ fault. IfBroken fault (λ broken. if_at_end draft.stage draft ≡ Err broken)) }
     {

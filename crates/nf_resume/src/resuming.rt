@@ -14,6 +14,7 @@ ghost use Rattle.nf_resume_lists.specs.Meanings.{GoesOnFrom, IsResumedReport};
 ghost use Rattle.nf_unstopped_laws.specs.Stops.{NeverNoPattern};
 ghost use Rattle.nf_curve.specs.Flows.{flow_of};
 ghost use Rattle.nf_reader.specs.Files.{report_of};
+ghost use Rattle.nf_phase.specs.Restarting.{EndsAtItsLabels};
 ghost use Rattle.nf_phase.specs.Stepping.{Reaches};
 ghost use Rattle.nf_phase.specs.Solution.{bounds_of, report_in};
 ghost use Rattle.nf_resume.specs.Faults.{IsCause, IsResumeFault};
@@ -95,6 +96,7 @@ pub fn resume(
     ensures equilibrium { IfOk result (λ s. Equilibrium net.now.net (flow_of s.flow)) }
     ensures goes_on { IfOk result (λ s. GoesOnFrom net.now.net (report_of report.now).flow (flow_of s.flow)) }
     ensures short { IfOk result (λ s. IsShortFlow net.now.net (flow_of s.flow)) }
+    ensures ends { IfOk result (λ s. EndsAtItsLabels net.now.net (flow_of s.flow)) }
     ensures formed { IfOk result (λ s. IsWellFormed net.now.net (report_in horizon s)) }
     ensures never_no_pattern { IfOk result (λ s. NeverNoPattern s.stopped) }
     ensures not_earlier { OnOk result ((report_of report.now).flow.reached ≤ℚ horizon) }

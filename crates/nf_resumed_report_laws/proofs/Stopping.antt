@@ -20,7 +20,7 @@ module _ (passes : Passing) (net : Network) (good : IsNetwork net) (bounds : Bou
   well_step s _ well (continues {t = t} c g) = WellRun-last passes net good bounds s.last t (WellRun-goes passes net good bounds s t g well)
   well_step s t well (begins c g) = WellRun-goes passes net good bounds s t g well
 
-  resumed_ends : (s last : Standing) (stop : Option (Cause ℚ)) → WellRun net s → RunsOn passes net bounds s last stop → EndsForNone net last stop
+  pub resumed_ends : (s last : Standing) (stop : Option (Cause ℚ)) → WellRun net s → RunsOn passes net bounds s last stop → EndsForNone net last stop
   resumed_ends s last stop well (at_horizon h) = horizon_ends passes net good bounds s well
   resumed_ends s last stop well (at_phases below h) = phases_end passes net good bounds s well
   resumed_ends s last stop well (fails {cause = c} may f) = failing_ends passes net good bounds s c well f

@@ -1,5 +1,5 @@
 // The exits of the links into a node, by departure, and the least of them.
-ghost use Rattle.std.specs.Prelude.{◌≡◌, ◌<◌, length, Some, OnOk, option_map};
+ghost use Rattle.std.specs.Prelude.{◌≡◌, ◌<◌, length, Some, option_map};
 ghost use Rattle.nf_rational.specs.Operations.{0ℚ};
 ghost use Rattle.nf_rational.specs.Order.{◌≤ℚ◌};
 ghost use Rattle.nf_work.specs.declared.Part.TheVariants.{Check};
@@ -67,7 +67,7 @@ fn with_exit(
     requires kept { AreKept net.now.net worked.now reached exits.old }
     ensures list { (here : Link) → IsLink net.now.net link here → Gives (λ o. option_map (λ c. c.points) o) (λ q. q) result
         (at_part Check (with_exit_by passes_Q (labels_in worked.now) (loaded_in worked.now) reached node (option_map (λ c. c.points) so_far) (link, here))) }
-    ensures kept { OnOk result (AreKept net.now.net worked.now reached exits.new) }
+    ensures kept { AreKept net.now.net worked.now reached exits.new }
 {
     if net.link(link).head != node {
         return Ok(so_far);
@@ -79,7 +79,7 @@ fn with_exit(
 }
 
 /// The least exit over the links into a node by departure, where there is one, up to a last departure, with the labels and the loadings
-/// that were worked out. Exits are kept. Passed has part Check.
+/// that were worked out. Exits are kept, also of the links before one at which it is refused. Passed has part Check.
 pub fn least_exits(
     alloc: Global,
     net: &Network,
@@ -93,7 +93,7 @@ pub fn least_exits(
     requires kept { AreKept net.now.net worked.now reached exits.old }
     ensures list { Gives (λ o. option_map (λ c. c.points) o) (λ q. q) result
         (at_part Check (least_by passes_Q (labels_in worked.now) (loaded_in worked.now) reached net.now.net.links node)) }
-    ensures kept { OnOk result (AreKept net.now.net worked.now reached exits.new) }
+    ensures kept { AreKept net.now.net worked.now reached exits.new }
 {
     let mut least = None;
     for number in 0..net.link_count() {

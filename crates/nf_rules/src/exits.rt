@@ -1,5 +1,5 @@
 // Exits of links by departure, in short form: the third rule works them out, and the eighth asks for them again.
-ghost use Rattle.std.specs.Prelude.{◌≡◌, ◌<◌, length, replicate, set, slice_get, Some, None, IfOk, OnOk};
+ghost use Rattle.std.specs.Prelude.{◌≡◌, ◌<◌, length, replicate, set, slice_get, Some, None, IfOk, OnOk, OnErr};
 ghost use Rattle.nf_rules.specs.Exits.{Keeps};
 
 use nf_curve::Curve;
@@ -34,7 +34,8 @@ impl Exits {
         self.kept[link.index()] = Some(short);
     }
 
-    /// The exits of a link are kept in short form, unless an operation passes there: then they are worked out when it is their turn.
+    /// The exits of a link are kept in short form, unless an operation passes there: then they are worked out when it is their turn. Where
+    /// memory is wanting all stay as they were.
     pub(crate) fn keep(
         &mut self,
         alloc: Global,
@@ -42,7 +43,8 @@ impl Exits {
         exit: &Curve,
     ) -> Result<(), AllocError>
         requires { link < length self.old.kept.items }
-        ensures { OnOk result (Keeps link exit.now.points self.old self.new) }
+        ensures keeps { OnOk result (Keeps link exit.now.points self.old self.new) }
+        ensures as_it_was { OnErr result (self.new ≡ self.old) }
     {
         match Curve::short(alloc, exit, Part::Check) {
             Ok(short) => {

@@ -87,7 +87,7 @@ fn check_route(
     unless(CheckRule::C8, Subject::Link(link), detour)
 }
 
-/// All links take flow on shortest routes alone. Exits that were kept are taken.
+/// All links take flow on shortest routes alone. Exits that were kept are taken; those that are left, also after a refusal, are the links'.
 pub fn check_routes(
     alloc: Global,
     net: &Network,
@@ -99,8 +99,9 @@ pub fn check_routes(
     requires worked { IsWorked net.now.net worked.now }
     requires reached { 0ℚ ≤ℚ flow.now.reached }
     requires kept { AreKept net.now.net worked.now flow.now.reached exits.old }
-    ensures { Tries (λ _. tt) result
+    ensures tries { Tries (λ _. tt) result
         (done (each (route passes_Q net.now.net (flow_of flow.now) (labels_in worked.now) (loaded_in worked.now)) (enumerate_from 0 net.now.net.links))) }
+    ensures kept { AreKept net.now.net worked.now flow.now.reached exits.new }
 {
     for number in 0..net.link_count() {
         let link = LinkId(number);

@@ -85,7 +85,7 @@ module _ (passes : Passing) (net : Network) (good : IsNetwork net) where
     well_step s _ well (continues {t = t} c g) = WellRun-last passes net good bounds s.last t (WellRun-goes passes net good bounds s t g well)
     well_step s t well (begins c g) = WellRun-goes passes net good bounds s t g well
 
-    well_on : (s last : Standing) (stop : Option (Cause ℚ)) → WellRun net s → RunsOn passes net bounds s last stop → WellRun net last
+    pub well_on : (s last : Standing) (stop : Option (Cause ℚ)) → WellRun net s → RunsOn passes net bounds s last stop → WellRun net last
     well_on s last stop well (on_horizon e) = well
     well_on s last stop well (on_phases below e) = well
     well_on s last stop well (fails_on may f) = well

@@ -9,18 +9,20 @@ use Rattle.nf_model.specs.Equilibrium.{Flow, label, Equilibrium}
 use Rattle.nf_formats.specs.declared.Cause.{Cause}
 use Rattle.nf_formats.specs.Report.{Report, IsWellFormed}
 use Rattle.nf_lists.specs.PhaseRun.{Standing, Bounds, IsPhaseRun, flow_of, report_of, IsRunReport}
+use Rattle.nf_run_laws.proofs.WellRun.{WellRun}
 use Rattle.nf_run_laws.proofs.Run.{Equilibrium-well, report_equilibrium}
 use Rattle.nf_complete_lists.specs.Reached.{labels_reached, StopsForNoThinFlow}
-use Rattle.nf_complete_laws.proofs.Stopped.{stops_for_none}
+use Rattle.nf_complete_laws.proofs.Stopped.{end_stops, stops_for_none}
 use Rattle.nf_forever_lists.specs.ForeverRun.{End, Stops, NeverEnds, Forever, forever_of, IsForever}
 use Rattle.nf_forever_laws.proofs.Run.{Equilibrium-forever}
 use Rattle.nf_forever_laws.proofs.Stopped.{forever_stops_for_none}
+use Rattle.nf_resume_lists.specs.Open.{RunsOn}
 use Rattle.nf_resume_lists.specs.Meanings.{IsResumedReport}
-use Rattle.nf_resumed_report_laws.proofs.Stopping.{resumed_stops_for_none}
+use Rattle.nf_resumed_report_laws.proofs.Stopping.{resumed_ends, resumed_stops_for_none}
 use Rattle.nf_existence_laws.proofs.Numbers.{number_at-numbers}
 use Rattle.nf_unstopped_laws.specs.Stops.{NeverNoPattern}
 use Rattle.nf_unstopped_laws.specs.ThinFlows.{HasThinFlow}
-use Rattle.nf_unstopped_laws.proofs.AtLabels.{thin_in_equilibrium, well_resumed}
+use Rattle.nf_unstopped_laws.proofs.AtLabels.{thin_in_equilibrium, well_on, well_resumed}
 
 thin_reached : (net : Network) (flow : Flow) → IsNetwork net → Equilibrium net flow → HasThinFlow net flow.reached (labels_reached net flow)
 thin_reached net flow good is = thin_in_equilibrium net flow flow.reached (labels_reached net flow) good is (is.reached, ≤ℚ_refl flow.reached)
@@ -39,6 +41,12 @@ never_report passes net bounds report good r = never_of net report.flow report.s
 pub never_run : (passes : Passing) (net : Network) (bounds : Bounds) (last : Standing) (stop : Option (Cause ℚ)) → IsNetwork net → IsPhaseRun passes net bounds last stop → NeverNoPattern stop
 never_run passes net bounds last stop good run =
     never_report passes net bounds (report_of bounds.horizon last stop) good (record { last = last; stop = stop; run = run; report_is = refl })
+
+-- ---- those that go on from where one stands
+pub never_on : (passes : Passing) (net : Network) (bounds : Bounds) (first last : Standing) (stop : Option (Cause ℚ)) → IsNetwork net → WellRun net first → RunsOn passes net bounds first last stop
+    → NeverNoPattern stop
+never_on passes net bounds first last stop good well runs = never_of net (flow_of last) stop good (Equilibrium-well net good last (well_on passes net good bounds first last stop well runs))
+    (end_stops net last stop good (resumed_ends passes net good bounds first last stop well runs))
 
 -- ---- resumed ones
 pub never_resumed : (passes : Passing) (net : Network) (bounds : Bounds) (old : Report) (phases : ℕ) (report : Report) → IsNetwork net → IsWellFormed net old

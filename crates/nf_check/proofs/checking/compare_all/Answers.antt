@@ -50,4 +50,4 @@ returns c =
     (goes_on (arrivals_list passes_Q c.args.net.now.net (flow_of c.args.flow.now) (labels_in c.args.worked.now) (loaded_in c.args.worked.now)) _ tt c.in_ok-check_arrivals.ensures.tries
     ∙ goes_on (told_list passes_Q c.args.net.now.net (flow_of c.args.flow.now) (labels_in c.args.worked.now) (loaded_in c.args.worked.now)) _ tt c.in_ok-check_told.ensures
     ∙ goes_on (balances_list passes_Q c.args.net.now.net (flow_of c.args.flow.now) (labels_in c.args.worked.now) (loaded_in c.args.worked.now)) _ tt c.in_ok-check_balances.ensures)
-    c.check_routes.ensures
+    c.check_routes.ensures.tries

@@ -32,7 +32,7 @@ pub loop-preserved : goal.loop-preserved
 loop-preserved c =
     let inside : c.loop.counter < c.args.augments = omega arith in
     pushes_more passes_Q c.args.net.now.net c.args.amount c.args.augments c.loop.standing c.loop.counter c.loop.invariant inside c.in-Some.walk (c.in_ok-walk.ensures.list c.args.amount ∙ ap Ok c.in-Some.is)
-    c.push_on.new.self c.in_ok-push_on.ensures.list c.in_ok-push_on.ensures.sound c.in_ok-push_on.ensures.rate
+    c.push_on.new.self c.in_ok-push_on.ensures.list c.push_on.ensures.sound c.push_on.ensures.rate
 
 pub returns-in_err-next-clause-pushed : goal.returns-in_err-next-clause-pushed
 returns-in_err-next-clause-pushed c =

@@ -5,7 +5,6 @@ use Rattle.std.proofs.lemmas.Result.{err_from_is_err_and}
 use Rattle.nf_work.specs.Passing.{passes_Q}
 use Rattle.nf_reader.specs.Files.{report_of}
 use Rattle.nf_phase.specs.Solution.{bounds_of, report_in}
-use Rattle.nf_unstopped_laws.proofs.Stops.{never_resumed}
 use Rattle.nf_resume.specs.Faults.{of_halt}
 use Rattle.nf_resume.proofs.Resumed.{in_time, restart_stops, is_resumed, went_on}
 use Rattle.nf_resume.proofs.resuming.resume.Goals as goal
@@ -19,29 +18,28 @@ returns-in_err-run-clause-fault c =
 pub returns-clause-resumed : goal.returns-clause-resumed
 returns-clause-resumed c =
     is_resumed c.args.net.now.net (bounds_of c.args.horizon c.args.budgets) (report_of c.args.report.now) c.in_ok-solution.solution.phases (report_in c.args.horizon c.in_ok-solution.solution)
-    c.in_ok-check_first.ensures.yes c.in_ok-run.run' c.in_ok-run.ensures.list c.in_ok-solution.ensures
+    c.in_ok-check_first.ensures.yes c.in_ok-run.run' c.in_ok-run.ensures.list c.in_ok-solution.ensures.finished
 
 pub returns-clause-goes_on : goal.returns-clause-goes_on
 returns-clause-goes_on c =
     went_on c.args.net.now.net (bounds_of c.args.horizon c.args.budgets) (report_of c.args.report.now) c.in_ok-solution.solution.phases (report_in c.args.horizon c.in_ok-solution.solution)
-    c.in_ok-check_first.ensures.yes c.in_ok-run.run' c.in_ok-run.ensures.list c.in_ok-solution.ensures c.version.ensures.named.network c.in_ok-check_first.ensures.equilibrium
+    c.in_ok-check_first.ensures.yes c.in_ok-run.run' c.in_ok-run.ensures.list c.in_ok-solution.ensures.finished c.version.ensures.named.network c.in_ok-check_first.ensures.equilibrium
 
 pub finish-requires-clause-horizon : goal.finish-requires-clause-horizon
 finish-requires-clause-horizon c =
     let run = c.in_ok-run.ensures {u = tt} in subst (λ (t : ℚ). t ≤ℚ c.args.horizon) (sym run.time) (c.if-is_earlier.ensures {u = tt})
 
 pub returns-clause-formed : goal.returns-clause-formed
-returns-clause-formed c = let finished = c.in_ok-solution.ensures {u = tt} in finished.well_formed
+returns-clause-formed c = let done = c.in_ok-solution.ensures {u = tt} in done.finished.well_formed
 
 pub returns-clause-short : goal.returns-clause-short
-returns-clause-short c = let finished = c.in_ok-solution.ensures {u = tt} in finished.short
+returns-clause-short c = let done = c.in_ok-solution.ensures {u = tt} in done.finished.short
 
 pub returns-clause-equilibrium : goal.returns-clause-equilibrium
-returns-clause-equilibrium c = let finished = c.in_ok-solution.ensures {u = tt} in finished.equilibrium
+returns-clause-equilibrium c = let done = c.in_ok-solution.ensures {u = tt} in done.finished.equilibrium
+
+pub returns-clause-ends : goal.returns-clause-ends
+returns-clause-ends c = let done = c.in_ok-solution.ensures {u = tt} in done.finished.curves_end
 
 pub returns-clause-never_no_pattern : goal.returns-clause-never_no_pattern
-returns-clause-never_no_pattern c =
-    never_resumed passes_Q c.args.net.now.net (bounds_of c.args.horizon c.args.budgets) (report_of c.args.report.now) c.in_ok-solution.solution.phases
-    (report_in c.args.horizon c.in_ok-solution.solution) c.version.ensures.named.network c.requires
-    (is_resumed c.args.net.now.net (bounds_of c.args.horizon c.args.budgets) (report_of c.args.report.now) c.in_ok-solution.solution.phases (report_in c.args.horizon c.in_ok-solution.solution)
-    c.in_ok-check_first.ensures.yes c.in_ok-run.run' c.in_ok-run.ensures.list c.in_ok-solution.ensures)
+returns-clause-never_no_pattern c = let done = c.in_ok-solution.ensures {u = tt} in done.never_no_pattern

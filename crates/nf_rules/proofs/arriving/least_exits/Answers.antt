@@ -1,4 +1,4 @@
-use Rattle.std.proofs.Common.{◌<◌, ◌≤◌, length, None, refl, arith}
+use Rattle.std.proofs.Common.{◌<◌, ◌≤◌, length, None, refl, arith, rules}
 use Rattle.std.proofs.lemmas.Result.{err_from_is_err_and}
 use Rattle.nf_work.specs.Passing.{passes_Q}
 use Rattle.std.specs.Prelude.{option_map}
@@ -29,7 +29,7 @@ loop-number-preserved c =
     let there = link_there c.args.net.now.net.links c.loop-number.number inside in
     record {
       folds = fold_goes (with_exit passes_Q (labels_in c.args.worked.now) (loaded_in c.args.worked.now) c.args.reached c.args.node) c.args.net.now.net.links None (option_map (λ (g : Grown). g.points) c.loop-number.least) c.loop-number.number c.loop-number.invariant.folds there.link there.is (option_map (λ (g : Grown). g.points) c.in_ok-least.least) (c.in_ok-least.ensures.list there.link there.is);
-      kept = c.in_ok-least.ensures.kept;
+      kept = search rules;
     }
 
 pub returns-clause-list : goal.returns-clause-list

@@ -4,6 +4,8 @@ use Rattle.std.proofs.lemmas.Result.{err_from_is_err_and}
 use Rattle.nf_work.specs.Passing.{passes_Q}
 use Rattle.nf_model.specs.Network.{Link}
 use Rattle.nf_curve.specs.Points.{Grown}
+use Rattle.nf_rules.specs.declared.exits.Exits.{Exits}
+use Rattle.nf_rules.specs.Exits.{AreKept}
 use Rattle.nf_rules.specs.Kept.{labels_in, loaded_in}
 use Rattle.nf_rules.proofs.Attaining.{exit_left_out, exit_goes, exit_stops}
 use Rattle.nf_rules.proofs.Keeping.{keep_kept, same_some}
@@ -42,7 +44,7 @@ returns-clause-list c = λ here is.
 
 pub returns-clause-kept : goal.returns-clause-kept
 returns-clause-kept c = keep_kept c.args.net.now.net c.args.worked.now c.args.reached c.args.exits.now c.keep.new.self c.requires.kept c.args.link c.link.result c.link.ensures.link
-    c.in_ok-exit.exit.points (c.in_ok-exit.ensures c.link.result c.link.ensures.link) c.in_ok-keep.ensures
+    c.in_ok-exit.exit.points (c.in_ok-exit.ensures c.link.result c.link.ensures.link) c.in_ok-keep.ensures.keeps
 
 pub exit_along-requires-clause-link : goal.exit_along-requires-clause-link
 exit_along-requires-clause-link c = c.requires.link
@@ -54,7 +56,8 @@ pub keep-requires : goal.keep-requires
 keep-requires c = subst (λ (n : ℕ). c.args.link < n) (sym c.requires.kept.count) c.requires.link
 
 pub returns-in_err-keep-clause-kept : goal.returns-in_err-keep-clause-kept
-returns-in_err-keep-clause-kept c = let p = err_from_is_err_and c.from_residual-in_err-keep.result c.from_residual-in_err-keep.ensures.1 in rw p.1 tt
+returns-in_err-keep-clause-kept c = subst (λ (e : Exits). AreKept c.args.net.now.net c.args.worked.now c.args.reached e) (sym c.in_err-keep.ensures.as_it_was) c.requires.kept
 
 pub returns-in_err-least-clause-kept : goal.returns-in_err-least-clause-kept
-returns-in_err-least-clause-kept c = let p = err_from_is_err_and c.from_residual-in_err-least.result c.from_residual-in_err-least.ensures.1 in rw p.1 tt
+returns-in_err-least-clause-kept c = keep_kept c.args.net.now.net c.args.worked.now c.args.reached c.args.exits.now c.keep.new.self c.requires.kept c.args.link c.link.result c.link.ensures.link
+    c.in_ok-exit.exit.points (c.in_ok-exit.ensures c.link.result c.link.ensures.link) c.in_ok-keep.ensures.keeps

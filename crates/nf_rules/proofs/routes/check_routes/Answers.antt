@@ -20,8 +20,8 @@ check_route-requires-clause-kept c = record {
       c.take-kept.result _ _ c.take-kept.ensures.taken refl refl;
 }
 
-pub returns-in_err-check_route : goal.returns-in_err-check_route
-returns-in_err-check_route c =
+pub returns-in_err-check_route-clause-tries : goal.returns-in_err-check_route-clause-tries
+returns-in_err-check_route-clause-tries c =
     let p = err_from_is_err_and c.from_residual.result c.from_residual.ensures.1 in
     let inside : c.loop-number.number < length c.args.net.now.net.links = omega arith in
     let there = link_there c.args.net.now.net.links c.loop-number.number inside in
@@ -36,7 +36,15 @@ loop-number-preserved c =
       kept = take_kept c.args.net.now.net c.args.worked.now c.args.flow.now.reached c.loop-number.exits c.take-kept.new.self c.loop-number.invariant.kept c.loop-number.number c.take-kept.ensures.gone;
     }
 
-pub returns : goal.returns
-returns c =
+pub returns-clause-tries : goal.returns-clause-tries
+returns-clause-tries c =
     let past : length c.args.net.now.net.links ≤ c.loop-number.number = omega arith in
     links_done (route passes_Q c.args.net.now.net (flow_of c.args.flow.now) (labels_in c.args.worked.now) (loaded_in c.args.worked.now)) c.args.net.now.net.links c.loop-number.number c.loop-number.invariant.left past
+
+-- ---- what is left
+pub returns-in_err-check_route-clause-kept : goal.returns-in_err-check_route-clause-kept
+returns-in_err-check_route-clause-kept c =
+    take_kept c.args.net.now.net c.args.worked.now c.args.flow.now.reached c.loop-number.exits c.take-kept.new.self c.loop-number.invariant.kept c.loop-number.number c.take-kept.ensures.gone
+
+pub returns-clause-kept : goal.returns-clause-kept
+returns-clause-kept c = c.loop-number.invariant.kept

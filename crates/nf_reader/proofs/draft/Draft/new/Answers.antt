@@ -3,7 +3,7 @@ use Rattle.std.proofs.lemmas.List.{length-replicate}
 use Rattle.nf_curve.specs.declared.flow.Trace.{Trace}
 use Rattle.nf_net.proofs.Limits.{as_many_names}
 use Rattle.nf_readings.specs.ReportLines.{curve_keys}
-use Rattle.nf_reader.proofs.DraftSteps.{nothing_read}
+use Rattle.nf_reader.proofs.DraftSteps.{nothing_read, no_curves}
 use Rattle.nf_reader.proofs.draft.Draft.new.Goals as goal
 
 pub returns-clause-draft : goal.returns-clause-draft
@@ -14,5 +14,6 @@ returns-clause-draft c =
 pub returns-clause-within : goal.returns-clause-within
 returns-clause-within c = record {
   curves = subst (λ (done : List (Option Trace)). length done ≤ length (curve_keys c.args.net.now)) (sym c.new.ensures.items) (omega arith);
+  idle = no_curves c.args.net.now c.new.result.items c.new.ensures.items;
   states = ap length c.in_ok-none.ensures ∙ length-replicate c.link_count.result None ∙ c.link_count.ensures;
 }

@@ -3,7 +3,7 @@ use Rattle.nf_readings.specs.ReportLines as lines
 use Rattle.nf_readings.specs.ReportLines.{curve_keys}
 use Rattle.nf_reader.specs.Keys.{key_of_number, is_some_key}
 use Rattle.nf_reader.specs.Drafts.{begun_count}
-use Rattle.nf_reader.proofs.DraftSteps.{some_left, never_there, never_elsewhere}
+use Rattle.nf_reader.proofs.DraftSteps.{never_next, never_there, never_elsewhere}
 use Rattle.nf_reader.proofs.draft.Draft.read_never.Goals as goal
 
 pub returns-then-not-never_comes-clause-says : goal.returns-then-not-never_comes-clause-says
@@ -18,4 +18,4 @@ returns-clause-says c =
 
 pub returns-clause-fits : goal.returns-clause-fits
 returns-clause-fits c =
-    some_left (curve_keys c.args.net.now) (begun_count c.args.self.now) lines.OfNever c.at.result.now (sym c.if-not-never_comes.ensures)
+    never_next (curve_keys c.args.net.now) (begun_count c.args.self.now) c.at.result.now (sym c.if-not-never_comes.ensures)

@@ -4,7 +4,7 @@ use Rattle.nf_readings.specs.ReportFile.{if_at_end}
 use Rattle.nf_reader.specs.declared.draft.Stage.{Stage}
 use Rattle.nf_reader.specs.declared.draft.Stage.TheVariants as stages
 use Rattle.nf_reader.specs.Drafts.{seen_draft, seen_stage}
-use Rattle.nf_reader.proofs.DraftSteps.{not_ended}
+use Rattle.nf_reader.proofs.DraftSteps.{not_ended, done_few}
 use Rattle.nf_reader.proofs.draft.Draft.report.Goals as goal
 use Rattle.nf_reader.proofs.draft.Draft.report.Goals.{in-End, in_default}
 
@@ -34,3 +34,9 @@ returns c =
       stop = c.args.self.stop;
       last = c.args.self.states;
     }))
+
+pub by_kind-requires-clause-count : goal.by_kind-requires-clause-count
+by_kind-requires-clause-count c = done_few c.args.net.now c.args.self c.requires
+
+pub by_kind-requires-clause-idle : goal.by_kind-requires-clause-idle
+by_kind-requires-clause-idle c = c.requires.idle

@@ -1,4 +1,0 @@
-pub mod WalkByWalk
-pub mod SpentLinks
-pub mod NodeByNode
-pub mod OnePush

@@ -1,6 +1,0 @@
-use Rattle.std.proofs.Common.{◌≡◌, None, drop}
-use Rattle.nf_quick_lists.specs.Walks.{least_along}
-use Rattle.nf_quick_parts.proofs.walks.least_along.Given as goal
-
-abbrev pub invariant-loop-link : goal.invariant-loop-link
-invariant-loop-link l = least_along l.flows l.least (drop l.link-index l.way) ≡ least_along l.flows None l.way
