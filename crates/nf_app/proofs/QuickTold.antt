@@ -26,6 +26,7 @@ use Rattle.nf_phase.specs.Solution.{bounds_of, IsSolution}
 use Rattle.nf_answers.specs.declared.arrival.Arrival.{Arrival}
 use Rattle.nf_quick_lists.specs.Quick.{Quick as QuickFlow}
 use Rattle.nf_quick_lists.specs.Answers.{IsQuickFlow}
+use Rattle.nf_quick_lists.specs.InOrder.{ComesOfPushes, EndsAtBudget}
 use Rattle.nf_quick_lists.specs.Departures.{IsDeparture}
 use Rattle.nf_quick_lists.specs.Quick as lists
 use Rattle.nf_quick.specs.Answered.{HasNoWay, IsAnswered}
@@ -148,9 +149,9 @@ no_earlier-is net amount quick (Some departs) arrival flow least arrives time sa
 
 -- ---- what is given, from what `quickest` and `departure` answer
 module _ (shelf : Visit) (n : Named) (file : List ℕ) (amount : ℚ) (augments : ℕ) where
-  pub budget_given : (walks : List lists.Augment) → HasNoWay n.net amount → flow_list n.net amount augments ≡ Ok (lists.Budget walks)
+  pub budget_given : (walks : List lists.Augment) → HasNoWay n.net amount → flow_list n.net amount augments ≡ Ok (lists.Budget walks) → EndsAtBudget n.net amount augments walks
       → IsGiven shelf n (Quick file amount augments) (TooManyWalks n augments walks)
-  budget_given walks none listed = inr (inl (walks, refl, record { no_way = none; computed = listed }))
+  budget_given walks none listed pushed = inr (inl (walks, refl, record { no_way = none; computed = listed; pushed = pushed }))
 
   pub unbounded_given : (links : Vec ℕ Global) → IsAnswered passes_Q n.net amount augments (Err (QuickFault.Unbounded links)) → IsGiven shelf n (Quick file amount augments) Unbounded
   unbounded_given links h = inr (inr (inr (refl, (h.0, (links.items, h.1)))))
@@ -162,9 +163,9 @@ module _ (shelf : Visit) (n : Named) (file : List ℕ) (amount : ℚ) (augments 
     pub departure_passes : (at : PassedAt ℚ) → Err at ≡ departs_list n.net amount → IsGiven shelf n (Quick file amount augments) (Passes at)
     departure_passes at e = inr (inr (inl (at, refl, record { no_way = h.0; passes = inr (quick, h.1, sym e) })))
 
-    pub quickest_given : IsQuickFlow n.net amount quick → (departs : Option ℚ) → Ok departs ≡ departs_list n.net amount → IsDeparture n.net amount departs
+    pub quickest_given : IsQuickFlow n.net amount quick → ComesOfPushes n.net amount augments quick → (departs : Option ℚ) → Ok departs ≡ departs_list n.net amount → IsDeparture n.net amount departs
         → (arrival : Arrival) → IsArrival n.net departs arrival → IsGiven shelf n (Quick file amount augments) (Quickest n quick arrival)
-    quickest_given flow departs e least arrival arrives =
+    quickest_given flow pushes departs e least arrival arrives =
         inl (
           quick,
           arrival,
@@ -173,6 +174,7 @@ module _ (shelf : Visit) (n : Named) (file : List ℕ) (amount : ℚ) (augments 
             no_way = h.0;
             computed = h.1;
             flow = flow;
+            pushes = pushes;
             departs = departs;
             departs_computed = sym e;
             least = least;

@@ -16,6 +16,7 @@ use Rattle.nf_reader.specs.Files.{IfBroken}
 use Rattle.nf_lists.specs.PhaseRun.{IsShortFlow}
 use Rattle.nf_readable_laws.specs.Laws.{ReadsBack}
 use Rattle.nf_complete_lists.specs.Reached.{StopsForNoThinFlow}
+use Rattle.nf_phase.specs.Restarting.{EndsAtItsLabels}
 use Rattle.nf_phase.specs.Solution.{bounds_of}
 use Rattle.nf_resume_lists.specs.Resuming.{resume_list}
 use Rattle.nf_resume_lists.specs.Meanings.{IsResumedReport, GoesOnFrom}
@@ -43,9 +44,9 @@ module _ (shelf : Visit) (n : Named) (file name : List ℕ) (horizon : ℚ) (pha
 
   module _ (old : Report) (held : HoldsReport shelf n name old) where
     pub gone_on_given : (new : Report) (made : ℕ) → old.flow.reached ≤ℚ horizon → IsResumedReport passes_Q n.net (bounds_of horizon (budgets_of phases patterns)) old made new → IsWellFormed n.net new
-        → Equilibrium n.net new.flow → GoesOnFrom n.net old.flow new.flow → IsShortFlow n.net new.flow → ReadsBack n new → StopsForNoThinFlow n.net new.stop new.flow
+        → Equilibrium n.net new.flow → GoesOnFrom n.net old.flow new.flow → IsShortFlow n.net new.flow → EndsAtItsLabels n.net new.flow → ReadsBack n new → StopsForNoThinFlow n.net new.stop new.flow
         → IsGiven shelf n (Resume file name horizon phases patterns) (Solved n new)
-    gone_on_given new made later resumed formed equilibrium on short back none = inl (
+    gone_on_given new made later resumed formed equilibrium on short ends back none = inl (
       new,
       refl,
       record {
@@ -58,6 +59,7 @@ module _ (shelf : Visit) (n : Named) (file name : List ℕ) (horizon : ℚ) (pha
         equilibrium = equilibrium;
         goes_on = on;
         short = short;
+        ends = ends;
         reads_back = back;
         no_thin_flow = none;
       },

@@ -18,6 +18,7 @@ use Rattle.nf_quick_lists.specs.Steps.{IsUnboundedWalk}
 use Rattle.nf_quick_lists.specs.Quick.{Augment, Quick, Found, Budget, quickest_list}
 use Rattle.nf_quick_lists.specs.Quick as lists
 use Rattle.nf_quick_lists.specs.Answers.{IsQuickFlow}
+use Rattle.nf_quick_lists.specs.InOrder.{ComesOfPushes, EndsAtBudget}
 use Rattle.nf_quick_lists.specs.Departures.{IsDeparture, departure_list}
 use Rattle.nf_quick.specs.Answered.{HasNoWay}
 use Rattle.nf_phase.specs.Solution.{bounds_of, IsSolution}
@@ -54,12 +55,13 @@ IsArrival net None arrival = arrival ≡ Arrival.Never
 IsArrival net (Some departs) arrival = ArrivesIn net departs arrival
 
 -- ---- what is given
--- The flow is a quickest one for the amount, and it is what the list computes. The arrival is that of who departs at the least
+-- The flow is a quickest one for the amount, it is what the list computes, and it comes of shortest walks that are pushed in order. The arrival is that of who departs at the least
 -- departure by which the amount is supplied, if there is one, and then it is no earlier than the time of the quickest flow.
 pub record IsQuickest (net : Network) (amount : ℚ) (augments : ℕ) (quick : Quick) (arrival : Arrival) : Type 0 where
   pub no_way : HasNoWay net amount
   pub computed : flow_list net amount augments ≡ Ok (Found quick)
   pub flow : IsQuickFlow net amount quick
+  pub pushes : ComesOfPushes net amount augments quick
   pub departs : Option ℚ
   pub departs_computed : departs_list net amount ≡ Ok departs
   pub least : IsDeparture net amount departs
@@ -70,6 +72,7 @@ pub record IsQuickest (net : Network) (amount : ℚ) (augments : ℕ) (quick : Q
 pub record IsOverBudget (net : Network) (amount : ℚ) (augments : ℕ) (walks : List Augment) : Type 0 where
   pub no_way : HasNoWay net amount
   pub computed : flow_list net amount augments ≡ Ok (Budget walks)
+  pub pushed : EndsAtBudget net amount augments walks
 
 -- this operation passes: of the list of the flow, or else of that of the departure
 pub record PassesQuick (net : Network) (amount : ℚ) (augments : ℕ) (at : PassedAt ℚ) : Type 0 where

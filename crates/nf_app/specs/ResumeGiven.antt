@@ -8,6 +8,7 @@ use Rattle.nf_model.specs.Equilibrium.{Equilibrium}
 use Rattle.nf_formats.specs.Named.{Named}
 use Rattle.nf_formats.specs.Report.{Report, IsWellFormed}
 use Rattle.nf_lists.specs.PhaseRun.{Bounds, IsShortFlow}
+use Rattle.nf_phase.specs.Restarting.{EndsAtItsLabels}
 use Rattle.nf_check_lists.specs.declared.Answer.{Answer as Verdict}
 use Rattle.nf_readable_laws.specs.Laws.{ReadsBack}
 use Rattle.nf_complete_lists.specs.Reached.{StopsForNoThinFlow}
@@ -18,7 +19,7 @@ use Rattle.nf_outside.specs.Files.{Visit}
 use Rattle.nf_app.specs.Reports.{HoldsReport}
 
 -- The report of the run that goes on from the report of the file: from where that one's flow ends, which isn't after the horizon. Its flow
--- is an equilibrium up to the departure reached, in short form, with the values of the other as far as that goes; and it reaches the
+-- is an equilibrium up to the departure reached, in short form, which ends there or at the labels there, with the values of the other as far as that goes; and it reaches the
 -- horizon, or has the cause for which the run stopped. Its text has one reading, and that is the report; and if it stopped since no
 -- pattern was left, it stopped where there is no thin flow.
 pub record IsGoneOn (shelf : Visit) (n : Named) (file : List ℕ) (bounds : Bounds) (report : Report) : Type 0 where
@@ -31,6 +32,7 @@ pub record IsGoneOn (shelf : Visit) (n : Named) (file : List ℕ) (bounds : Boun
   pub equilibrium : Equilibrium n.net report.flow
   pub goes_on : GoesOnFrom n.net old.flow report.flow
   pub short : IsShortFlow n.net report.flow
+  pub ends : EndsAtItsLabels n.net report.flow
   pub reads_back : ReadsBack n report
   pub no_thin_flow : StopsForNoThinFlow n.net report.stop report.flow
 

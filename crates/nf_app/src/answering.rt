@@ -191,7 +191,7 @@ fn end_over_budget(
     walks: Vec<Augment>,
 ) -> Result<Found, Refusal>
     ensures { (shelf : Visit) (file : List ℕ) (amount : ℚ) → answered.IsAnswered passes_Q net.now.net amount augments (Err (QuickFault.Budget walks))
-        → IsGiving shelf net.now (requests.Quick file amount augments) result }
+        → answered.IsInOrder net.now.net amount augments (Err (QuickFault.Budget walks)) → IsGiving shelf net.now (requests.Quick file amount augments) result }
 {
     let text = augments_text(alloc, net, &walks)?;
     Ok(Found::TooManyWalks {
@@ -208,7 +208,8 @@ fn refuse_quick(
     augments: u64,
     fault: QuickFault,
 ) -> Result<Found, Refusal>
-    ensures { (shelf : Visit) (file : List ℕ) (amount : ℚ) → answered.IsAnswered passes_Q net.now.net amount augments (Err fault) → IsGiving shelf net.now (requests.Quick file amount augments) result }
+    ensures { (shelf : Visit) (file : List ℕ) (amount : ℚ) → answered.IsAnswered passes_Q net.now.net amount augments (Err fault)
+        → answered.IsInOrder net.now.net amount augments (Err fault) → IsGiving shelf net.now (requests.Quick file amount augments) result }
 {
     match fault {
         QuickFault::Budget { walks } => end_over_budget(alloc, net, augments, walks),
@@ -223,7 +224,7 @@ fn beside_arrival(alloc: Global, net: &Network, amount: Q, quick: Quick) -> Resu
     requires amount { 0ℚ ≤ℚ amount }
     requires flow { IsQuickFlow net.now.net amount quick }
     ensures { (shelf : Visit) (file : List ℕ) (augments : ℕ) → answered.IsAnswered passes_Q net.now.net amount augments (Ok quick)
-        → IsGiving shelf net.now (requests.Quick file amount augments) result }
+        → answered.IsInOrder net.now.net amount augments (Ok quick) → IsGiving shelf net.now (requests.Quick file amount augments) result }
 {
     let departs = departure(net, amount)?;
     let arrival = find_arrival(alloc, net, departs)?;

@@ -2,22 +2,23 @@ use Rattle.std.proofs.Common.{refl, inl, inr, subst, ap, ◌≡◌}
 use Rattle.std.specs.Prelude.{Result, Ok, Err}
 use Rattle.nf_quick_lists.specs.Quick.{Quick as QuickFlow}
 use Rattle.nf_work.specs.Passing.{passes_Q}
-use Rattle.nf_quick.specs.Answered.{IsAnswered}
+use Rattle.nf_quick.specs.Answered.{IsAnswered, IsInOrder}
 use Rattle.nf_quick.specs.declared.fault.QuickFault.{QuickFault}
 use Rattle.nf_app.proofs.QuickTold.{unbounded_given, passed_given}
 use Rattle.nf_app.proofs.answering.refuse_quick.Goals as goal
 
 pub returns-in-Budget : goal.returns-in-Budget
-returns-in-Budget c shelf file amount h =
+returns-in-Budget c shelf file amount h pushes =
     c.end_over_budget.ensures shelf file amount (subst (λ (f : QuickFault). IsAnswered passes_Q c.args.net.now.net amount c.args.augments (Err f)) c.in-Budget.is h)
+    (subst (λ (f : QuickFault). IsInOrder c.args.net.now.net amount c.args.augments (Err f)) c.in-Budget.is pushes)
 
 pub returns-in-Unbounded : goal.returns-in-Unbounded
-returns-in-Unbounded c shelf file amount h =
+returns-in-Unbounded c shelf file amount h pushes =
     inr (unbounded_given shelf c.args.net.now file amount c.args.augments c.in-Unbounded.links (subst (λ (f : QuickFault). IsAnswered passes_Q c.args.net.now.net amount c.args.augments (Err f)) c.in-Unbounded.is h))
 
 pub returns-in-Passed : goal.returns-in-Passed
-returns-in-Passed c shelf file amount h =
+returns-in-Passed c shelf file amount h pushes =
     inr (passed_given shelf c.args.net.now file amount c.args.augments _ (subst (λ (f : QuickFault). IsAnswered passes_Q c.args.net.now.net amount c.args.augments (Err f)) c.in-Passed.is h))
 
 pub returns : goal.returns
-returns c shelf file amount h = inl refl
+returns c shelf file amount h pushes = inl refl

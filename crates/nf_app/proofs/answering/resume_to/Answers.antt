@@ -27,7 +27,7 @@ returns-in-Ok c shelf file name told =
     let new = report_in c.args.horizon s in (
       gone_on_given shelf c.args.net.now file name c.args.horizon c.args.budgets.phases c.args.budgets.patterns old
           (held shelf c.args.net.now c.version.ensures.named name c.args.text.now told old c.in_ok-report.ensures.reads) new s.phases
-          e.not_earlier e.resumed e.formed e.equilibrium e.goes_on e.short
+          e.not_earlier e.resumed e.formed e.equilibrium e.goes_on e.short e.ends
           (resumed_reads_back c.args.net.now c.version.ensures.named bounds
           (record {
             horizon = fraction_of_parts c.args.horizon c.numer.result c.denom.result c.numer.ensures.value c.numer.ensures.small c.denom.ensures.value c.denom.ensures.small;
