@@ -1,6 +1,6 @@
 -- Words of a line, by their number.
 use Rattle.std.proofs.Common.{◌≡◌, ◌≢◌, ℕ, ◌<◌, List, [], ◌∷◌, length, refl, arith}
-use Rattle.nf_cursor.specs.Within.{word_at}
+use Rattle.nf_text.specs.Within.{word_at}
 
 -- ---- so many words are those at their places
 pub one_word : (words : List (List ℕ)) → length words ≡ 1 → words ≡ word_at words 0 ∷ []

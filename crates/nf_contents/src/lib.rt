@@ -6,7 +6,7 @@ mod pieces;
 mod reading;
 mod words;
 
-pub use nf_cursor::{ReadLine, TextFault, is_word};
+pub use nf_text::{ReadLine, TextFault, is_word};
 pub use pieces::{PieceFault, piece_fault};
 pub use reading::contents;
 pub use words::{is_name, link_of, node_of, number_of};

@@ -4,7 +4,7 @@ ghost use Rattle.nf_lines.specs.Words.{read_lines, content_lines};
 ghost use Rattle.nf_lines.specs.Faults.{first_fault, longest_text};
 ghost use Rattle.nf_text.specs.Reading.{Tells};
 
-use nf_cursor::{Cursor, ReadLine, TextFault};
+use nf_text::{Cursor, ReadLine, TextFault};
 use std::alloc::{AllocError, Global};
 
 // Puts a line behind the others, if it has words.

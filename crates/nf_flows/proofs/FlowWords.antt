@@ -5,7 +5,7 @@ use Rattle.nf_rational.specs.Rational.{ℚ}
 use Rattle.nf_numerals.specs.Numbers.{number_of}
 use Rattle.nf_formats.specs.Names.{Name, has_name}
 use Rattle.nf_formats.specs.Numbers.{greatest}
-use Rattle.nf_cursor.specs.Within.{word_at}
+use Rattle.nf_text.specs.Within.{word_at}
 use Rattle.nf_contents.specs.NameAt.{IsNameAt}
 use Rattle.nf_contents.proofs.NamesOf.{where_named, where_not_named}
 use Rattle.nf_contents.proofs.WordCounts.{one_word, two_words, three_words, unless_one, unless_two, unless_three}

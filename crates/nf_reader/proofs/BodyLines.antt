@@ -11,7 +11,7 @@ use Rattle.nf_readings.specs.declared.ReportRule.{ReportRule}
 use Rattle.nf_readings.specs.declared.ReportRule.TheVariants.{P5, P6, P7, P8, P9, P11, P12, P13}
 use Rattle.nf_readings.specs.ReportCauses.{or_rule, printed_number}
 use Rattle.nf_readings.specs.ReportLines.{Kind, LineKind, ReportDraft, Opened, key_word, opened, comes_after, rate_word, with_rate, with_point, are_alike, begins_with, point_line, trace_line, line_kind, line_of_kind, body_line, has_all, with_current, state_in, state_of_link, state_line, capacity_at}
-use Rattle.nf_cursor.specs.Within.{word_at}
+use Rattle.nf_text.specs.Within.{word_at}
 use Rattle.nf_reader.specs.declared.body.LineKind as code
 use Rattle.nf_reader.specs.Lines.{IsLinkNamed, seen_line_kind, state_read}
 use Rattle.nf_reader.proofs.WordCounts.{first_word}

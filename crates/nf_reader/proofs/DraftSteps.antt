@@ -23,7 +23,7 @@ use Rattle.nf_reader.specs.declared.entry.Opening.TheVariants.{GoesOn, Begins}
 use Rattle.nf_reader.specs.declared.entry.Entry.TheVariants.{OfCurve, Never, OfLink}
 use Rattle.nf_reader.specs.Drafts.{seen_stage, seen_curve, seen_done, seen_current, with_open, begun_count, seen_draft, LacksIdleOnly, IsWithin}
 use Rattle.nf_reader.specs.Entries.{begun_by, opened_by, closed, drafted, IsNeverNext}
-use Rattle.nf_cursor.specs.Within.{word_at}
+use Rattle.nf_text.specs.Within.{word_at}
 use Rattle.nf_work.specs.Checked.{◌>>=◌}
 use Rattle.nf_reader.proofs.WordCounts.{one_behind}
 

@@ -8,7 +8,7 @@ use Rattle.nf_rational.specs.Operations.{0ℚ}
 use Rattle.nf_rational.specs.Order.{lt_ℚ}
 use Rattle.nf_work.specs.Checked.{◌>>=◌}
 use Rattle.nf_lists.specs.Signs.{is_same}
-use Rattle.nf_cursor.specs.Within.{word_at}
+use Rattle.nf_text.specs.Within.{word_at}
 use Rattle.nf_formats.specs.declared.Cause.{Cause}
 use Rattle.nf_readings.specs.declared.ReportRule.{ReportRule}
 use Rattle.nf_readings.specs.declared.ReportRule.TheVariants.{P5, P10}

@@ -1,7 +1,7 @@
 -- The words of a line, by their number.
 use Rattle.std.proofs.Common.{◌≡◌, ℕ, ◌<◌, Bool, true, false, cond, List, [], ◌∷◌, length, drop, Option, Some, None, refl, sym, ◌∙◌, ap, arith, bytes_eq, codes, Err}
 use Rattle.nf_work.specs.Checked.{◌>>=◌}
-use Rattle.nf_cursor.specs.Within.{word_at}
+use Rattle.nf_text.specs.Within.{word_at}
 use Rattle.nf_readings.specs.declared.ReportRule.TheVariants.{P9}
 use Rattle.nf_readings.specs.ReportCauses.{or_rule, CauseKind, IsDone, IsPhases, IsPatterns, IsPassed, IsNoPattern, cause_kind, cause_of_kind, cause_in}
 

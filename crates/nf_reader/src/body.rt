@@ -12,10 +12,10 @@ use crate::draft::Draft;
 use crate::entry::{Entry, RatedPoint};
 use crate::keys::Kind;
 use crate::numbers::{read_number, read_rate};
-use nf_cursor::{ReadLine, is_word};
 use nf_model::State;
 use nf_net::{LinkId, Network};
 use nf_readings::ReportRule;
+use nf_text::{ReadLine, is_word};
 
 /// What a line behind the head tells of.
 #[derive(Clone, Copy)]

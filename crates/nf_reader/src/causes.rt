@@ -4,10 +4,10 @@ ghost use Rattle.nf_readings.specs.declared.ReportRule.TheVariants.{P9};
 ghost use Rattle.nf_readings.specs.ReportCauses.{or_rule, part_of, op_of, done_cause, phases_cause, patterns_cause, passed_cause, nopattern_cause, cause_in};
 
 use crate::numbers::{read_count, read_number, read_place};
-use nf_cursor::{ReadLine, is_word};
 use nf_curve::Stop;
 use nf_frac::{Op, Part, PassedAt};
 use nf_readings::ReportRule;
+use nf_text::{ReadLine, is_word};
 
 fn part_named(word: &[u8]) -> Option<Part>
     ensures { result ≡ part_of word.now }

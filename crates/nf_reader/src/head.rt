@@ -11,12 +11,12 @@ ghost use Rattle.nf_reader.specs.Entries.{said_by};
 use crate::causes::read_cause;
 use crate::draft::Draft;
 use crate::numbers::read_number;
-use nf_cursor::{ReadLine, is_word};
 use nf_curve::Stop;
 use nf_frac::{Q, TextBuf};
 use nf_net::Network;
 use nf_numerals::write_count;
 use nf_readings::ReportRule;
+use nf_text::{ReadLine, is_word};
 
 // A word is the network's version.
 fn is_number(word: &[u8], number: u64) -> bool

@@ -4,8 +4,8 @@ ghost use Rattle.std.specs.Prelude.{◌≡◌, ◌<◌, length, option_map, slic
 ghost use Rattle.nf_readings.specs.ReportLines.{key_word, curve_keys};
 ghost use Rattle.nf_reader.specs.Keys.{seen_kind, seen_key, key_of_number, link_keys, is_some_key, kind_of_three as kind_by_three};
 
-use nf_cursor::is_word;
 use nf_net::{LinkId, Network, NodeId};
+use nf_text::is_word;
 
 /// What a curve tells of; `Never` stands for an idle node, which has none.
 #[derive(Clone, Copy)]

@@ -13,9 +13,9 @@ use crate::draft::{Draft, Stage};
 use crate::entry::Entry;
 use crate::fault::ReportFault;
 use crate::head::{is_version, read_horizon};
-use nf_cursor::ReadLine;
 use nf_net::Network;
 use nf_readings::ReportRule;
+use nf_text::ReadLine;
 use std::alloc::Global;
 
 // `report` with the version, or else P4.

@@ -8,10 +8,10 @@ ghost use Rattle.nf_readings.specs.ReportCauses.{printed_number as number_by, or
 ghost use Rattle.nf_readings.specs.ReportLines.{rate_word};
 
 use crate::plain_numbers::plain_number;
-use nf_cursor::is_word;
 use nf_frac::{Q, TextBuf};
 use nf_numerals::count;
 use nf_readings::ReportRule;
+use nf_text::is_word;
 
 // A word is the printed form of this number.
 fn is_printed(word: &[u8], number: Q) -> bool

@@ -11,9 +11,9 @@ ghost use Rattle.nf_reader.specs.Files.{IfBroken, report_of, closed_by, Shows};
 use crate::draft::Draft;
 use crate::fault::ReportFault;
 use crate::report::Report;
-use nf_cursor::{Cursor, ReadLine, TextFault};
 use nf_net::Network;
 use nf_readings::ReportRule;
+use nf_text::{Cursor, ReadLine, TextFault};
 use std::alloc::Global;
 
 // The next line of a text; or P1 or P2 where it breaks them.

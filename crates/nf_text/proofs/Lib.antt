@@ -4,3 +4,5 @@ pub mod Parts
 pub mod Extents
 pub mod LineWords
 pub mod LineSteps
+pub mod FirstLines
+pub mod CursorSteps

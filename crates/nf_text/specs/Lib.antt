@@ -1,2 +1,4 @@
 pub mod Spans
 pub mod Reading
+pub mod Within
+pub mod Places

@@ -1,4 +1,5 @@
-//! The lines and words of a text file, with their places. The formats stand on it; it is this project's own.
+//! The lines and words of a text file, with their places; of all lines at once, or line by line from the start: a cursor knows the lines
+//! that are still to come, and no list of lines is made. The formats stand on it; it is this project's own.
 #![tactic(auto)]
 
 ghost use Rattle.std.specs.Prelude.{◌≡◌, ◌+◌, ◌≤◌, length, map, All, None, IfOk, IfErr, OnOk};
@@ -8,11 +9,15 @@ ghost use Rattle.nf_text.specs.Reading.{seen_line, spans_of, WordsAreIn, Tells};
 ghost use Rattle.nf_text.specs.Spans.{text_of, Rise};
 ghost use Rattle.nf_text.specs.declared.TextFault.TheVariants as TextFault;
 
+mod cursor;
+mod cursor_line;
 mod places;
 mod reading;
 mod sameness;
 mod words;
 
+pub use cursor::Cursor;
+pub use cursor_line::{ReadLine, is_word};
 pub use reading::read_line;
 pub use sameness::is_same;
 use std::alloc::{AllocError, AllocFailed, Global};

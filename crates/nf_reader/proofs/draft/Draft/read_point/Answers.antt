@@ -1,6 +1,6 @@
 use Rattle.std.proofs.Common.{[], ◌∷◌, Ok, Err, true, false, refl, sym, ◌∙◌, arith}
 use Rattle.std.proofs.lemmas.Result.{err_from_is_err_and}
-use Rattle.nf_cursor.specs.Within.{word_at}
+use Rattle.nf_text.specs.Within.{word_at}
 use Rattle.nf_reader.specs.Keys.{seen_kind}
 use Rattle.nf_reader.specs.Drafts.{seen_draft}
 use Rattle.nf_reader.specs.Entries.{opened_by}

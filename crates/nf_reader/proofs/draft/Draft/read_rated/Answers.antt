@@ -1,7 +1,7 @@
 use Rattle.std.proofs.Common.{[], ◌∷◌, Ok, Err, true, false, sym, refl, ◌∙◌, arith}
 use Rattle.std.specs.Option.{option_copied}
 use Rattle.std.proofs.lemmas.Result.{err_from_is_err_and}
-use Rattle.nf_cursor.specs.Within.{word_at}
+use Rattle.nf_text.specs.Within.{word_at}
 use Rattle.nf_readings.specs.ReportLines.{are_alike}
 use Rattle.nf_reader.specs.Keys.{seen_kind}
 use Rattle.nf_reader.specs.Lines.{words_behind}

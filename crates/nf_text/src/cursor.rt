@@ -5,8 +5,9 @@ ghost use Rattle.nf_lines.specs.Words.{read_line as as_read};
 ghost use Rattle.nf_lines.specs.Faults.{first_fault_of, longest_text};
 ghost use Rattle.nf_text.specs.Reading.{Tells};
 
-use crate::line::ReadLine;
-use nf_text::{TextFault, read_line};
+use crate::TextFault;
+use crate::cursor_line::ReadLine;
+use crate::reading::read_line;
 use std::alloc::Global;
 use std::marker::Model;
 
@@ -22,7 +23,7 @@ impl<'a> Model for Cursor<'a> {
     ghost use Rattle.std.specs.Prelude.{List, drop};
     ghost use Rattle.std.specs.Coded.{coded_list};
     ghost use Rattle.nf_lines.specs.Lines.{TextLine, lines_from};
-    ghost use Rattle.nf_cursor.specs.Places.{IsPlace, coded_text_line};
+    ghost use Rattle.nf_text.specs.Places.{IsPlace, coded_text_line};
 
     ghost Value = { List TextLine };
 

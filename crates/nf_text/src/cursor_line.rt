@@ -2,9 +2,10 @@
 ghost use Rattle.std.specs.Prelude.{◌≡◌, ◌<◌, length, map};
 ghost use Rattle.std.specs.Str.{bytes_eq};
 ghost use Rattle.nf_text.specs.Spans.{text_of};
-ghost use Rattle.nf_cursor.specs.Within.{AreWithin, word_at};
+ghost use Rattle.nf_text.specs.Within.{AreWithin, word_at};
 
-use nf_text::{Span, is_same};
+use crate::Span;
+use crate::sameness::is_same;
 use std::marker::Model;
 
 /// A line of a text: its number, counted from 1, its words, and whether it is plain: its words joined by single spaces and ended by
@@ -21,7 +22,7 @@ impl<'a> Model for ReadLine<'a> {
     ghost use Rattle.std.specs.Prelude.{map};
     ghost use Rattle.nf_lines.specs.Words.{ReadLine as SeenLine};
     ghost use Rattle.nf_text.specs.Spans.{text_of};
-    ghost use Rattle.nf_cursor.specs.Within.{AreWithin};
+    ghost use Rattle.nf_text.specs.Within.{AreWithin};
 
     ghost Value = { SeenLine };
 

@@ -7,7 +7,7 @@ use Rattle.nf_lines.specs.Words.{ReadLine, read_line}
 use Rattle.nf_lines.specs.Faults.{LineFault, line_fault, first_fault_of}
 use Rattle.nf_text.specs.declared.TextFault.{TextFault}
 use Rattle.nf_text.specs.Reading.{whole_len, first_line, Tells}
-use Rattle.nf_cursor.proofs.FirstLines.{lines_first}
+use Rattle.nf_text.proofs.FirstLines.{lines_first}
 
 tells_or : (fault : TextFault) (o p : Option LineFault) → Tells fault o → Tells fault (option_or o p)
 tells_or (TextFault.NotAscii line) o p h = ap (λ o. option_or o p) h

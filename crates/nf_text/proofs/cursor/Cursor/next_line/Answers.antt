@@ -1,6 +1,6 @@
 use Rattle.std.proofs.Common.{arith, ◌∙◌, ◌<◌, length}
-use Rattle.nf_cursor.proofs.Steps.{next_read, next_fine, next_faulty}
-use Rattle.nf_cursor.proofs.cursor.Cursor.next_line.Goals as goal
+use Rattle.nf_text.proofs.CursorSteps.{next_read, next_fine, next_faulty}
+use Rattle.nf_text.proofs.cursor.Cursor.next_line.Goals as goal
 
 pub returns-in-Ok-clause-line : goal.returns-in-Ok-clause-line
 returns-in-Ok-clause-line c =
