@@ -19,3 +19,5 @@ pub mod AcceptedWalks
 pub mod AcceptedNamed
 pub mod NameFacts
 pub mod Once
+pub mod Wholes
+pub mod ReadBack

@@ -4,8 +4,8 @@ use Rattle.std.proofs.Common.{◌≡◌, ◌≢◌, ℕ, ◌+◌, ◌<◌, ◌�
 use Rattle.std.specs.List.{AllByRecursion, list_all, join_with_byte}
 use Rattle.nf_lines.specs.Words.{line_of_words, read_lines, content_lines}
 use Rattle.nf_lines.specs.Faults.{first_fault}
-use Rattle.nf_lines_laws.specs.Laws.{is_word_byte, IsWord, plain_from, AreWords, AreShort}
-use Rattle.nf_lines_laws.proofs.ReadBack.{plain_lines_from, no_fault_from}
+use Rattle.nf_formats_laws.specs.LineLaws.{is_word_byte, IsWord, plain_from, AreWords, AreShort}
+use Rattle.nf_formats_laws.proofs.ReadBack.{plain_lines_from, no_fault_from}
 use Rattle.nf_formats_laws.proofs.LinesBack.{lines_from}
 
 -- ---- bytes of words, words and lines of words

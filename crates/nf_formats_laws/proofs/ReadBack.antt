@@ -11,7 +11,7 @@ use Rattle.std.proofs.lemmas.Bool.{eq-eqb, ne_eqb, leb-true, le-leb, le-ltb, not
 use Rattle.nf_lines.specs.Lines.{TextLine, lines_from, lines_of_parts, ended_line}
 use Rattle.nf_lines.specs.Words.{read_line, is_blank, words, without_comment, parts_with_bytes, line_of_words}
 use Rattle.nf_lines.specs.Faults.{NotAscii, LongLine, is_allowed, line_fault, first_fault_of, longest_line}
-use Rattle.nf_lines_laws.specs.Laws.{is_word_byte, IsWord, plain_from, AreWords, AreShort}
+use Rattle.nf_formats_laws.specs.LineLaws.{is_word_byte, IsWord, plain_from, AreWords, AreShort}
 
 -- ---- tests
 first_so : (a b : Bool) → (a && b) ≡ true → a ≡ true

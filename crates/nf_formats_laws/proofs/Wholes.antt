@@ -6,7 +6,7 @@ use Rattle.std.proofs.lemmas.List.{take_more}
 use Rattle.std.proofs.lemmas.List.Splits.{join_with_byte-slice_split}
 use Rattle.std.proofs.lemmas.Bool.{eqb-true, ne_eqb}
 use Rattle.nf_lines.specs.Lines.{TextLine, lines, lines_of_parts, ended_line}
-use Rattle.nf_lines_laws.specs.Laws.{whole_line, numbers_from}
+use Rattle.nf_formats_laws.specs.LineLaws.{whole_line, numbers_from}
 
 -- ---- one line
 abbrev ends_with_cr : List ℕ → Bool
