@@ -7,11 +7,11 @@ work=$(mktemp -d)
 trap 'rm -rf "$work"' EXIT
 mkdir -p "$work/repo/crates/bench_networks/src" "$work/repo/crates/bench_networks/specs"
 cp "$here/../HANDLES" "$work/repo/"
-for crate in nf_rational nf_rational_laws nf_plain_laws nf_work nf_lines nf_formats_laws nf_numerals nf_model nf_model_laws nf_formats nf_frac nf_edge nf_text nf_graph nf_entry nf_draft nf_net; do
+for crate in nf_rational nf_rational_laws nf_plain_laws nf_work nf_lines nf_formats_laws nf_numerals nf_model nf_model_laws nf_formats nf_frac nf_edge nf_text nf_graph nf_net_file nf_net; do
     cp -r "$here/../crates/$crate" "$work/repo/crates/"
     grep "^$crate:" "$here/../crates.txt" >>"$work/repo/crates.txt"
 done
-echo 'bench_networks: nf_edge nf_entry nf_draft nf_net' >>"$work/repo/crates.txt"
+echo 'bench_networks: nf_edge nf_net_file nf_net' >>"$work/repo/crates.txt"
 cp "$here/networks.main.txt" "$work/repo/crates/bench_networks/src/main.rt"
 touch "$work/repo/crates/bench_networks/specs/Lib.antt"
 program=$work/repo/crates/bench_networks/out/bench_networks

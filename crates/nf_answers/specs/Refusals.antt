@@ -3,7 +3,7 @@ use Rattle.nf_edge.specs.declared.FetchFault.{FetchFault}
 use Rattle.nf_edge.specs.declared.FetchFault.TheVariants.{Failed, TooLong, Memory}
 use Rattle.nf_rational.specs.Rational.{ℚ}
 use Rattle.nf_work.specs.declared.Halt.{Halt}
-use Rattle.nf_draft.specs.declared.fault.NetFault.{NetFault}
+use Rattle.nf_net_file.specs.declared.fault.NetFault.{NetFault}
 use Rattle.nf_loads_file.specs.declared.fault.LoadsFault.{LoadsFault}
 use Rattle.nf_flows.specs.declared.fault.FlowsFault.{FlowsFault}
 use Rattle.nf_routes_file.specs.declared.fault.RoutesFault.{RoutesFault}

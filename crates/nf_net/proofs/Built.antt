@@ -19,10 +19,10 @@ use Rattle.nf_net.specs.declared.building.Tables.{Tables}
 use Rattle.nf_net.specs.declared.building.Parts.{Parts}
 use Rattle.nf_net.specs.Building.{AreSorted, AreNodesOf, AreTablesOf, net_of, ArePartsOf}
 use Rattle.nf_net.specs.Kept.{with_parts}
-use Rattle.nf_draft.specs.Contents.{IsRead}
-use Rattle.nf_draft.specs.Closing.{HasEnds, BreaksNone, flag_at, tail_flags, AreFlags}
+use Rattle.nf_net_file.specs.Contents.{IsRead}
+use Rattle.nf_net_file.specs.Closing.{HasEnds, BreaksNone, flag_at, tail_flags, AreFlags}
 use Rattle.nf_net.proofs.Limits.{few_nodes}
-use Rattle.nf_draft.proofs.FileWalks.{good_of, source_given, sink_given, is_its_name}
+use Rattle.nf_net_file.proofs.FileWalks.{good_of, source_given, sink_given, is_its_name}
 
 -- ---- names put one after the other
 put_two : (s t : Name) → (s ≡ t → ⊥) → with_names [] (s ∷ t ∷ []) ≡ s ∷ t ∷ []

@@ -7,9 +7,9 @@ use Rattle.nf_text.specs.Reading.{seen_line}
 use Rattle.nf_formats.specs.Named.{Named}
 use Rattle.nf_formats.specs.NetLines.{Broken, Draft, draft_from}
 use Rattle.nf_formats.specs.NetFile.{Closes, by_bytes, Reads}
-use Rattle.nf_draft.specs.declared.fault.NetFault.{NetFault}
-use Rattle.nf_draft.specs.Contents.{contents, IfBroken}
-use Rattle.nf_draft.proofs.ContentLines.{broken_more}
+use Rattle.nf_net_file.specs.declared.fault.NetFault.{NetFault}
+use Rattle.nf_net_file.specs.Contents.{contents, IfBroken}
+use Rattle.nf_net_file.proofs.ContentLines.{broken_more}
 
 module _ (text : List ℕ) (lines : List Line) (same : map (seen_line text) lines ≡ read_lines text) (fine : first_fault text ≡ None) where
   by_parts : (d : Result Draft Broken) (r : Result Named Broken) → draft_from (contents text lines) ≡ d → by_bytes None d r → Reads text r

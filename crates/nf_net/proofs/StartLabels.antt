@@ -17,7 +17,7 @@ use Rattle.std.specs.declared.alloc.Global.{Global}
 use Rattle.nf_graph.specs.declared.distance.DistanceFault.{DistanceFault}
 use Rattle.nf_graph.specs.declared.distance.DistanceFault.TheVariants.{Passed, Memory}
 use Rattle.nf_graph.specs.Steps.{ForPassed}
-use Rattle.nf_draft.specs.Closing.{HasFraction}
+use Rattle.nf_net_file.specs.Closing.{HasFraction}
 use Rattle.nf_graph.specs.Graph.{AreBelow}
 use Rattle.nf_graph.specs.Distances.{NoneNegative, AreDistances, PassesAt}
 use Rattle.nf_formats.specs.Numbers.{greatest}

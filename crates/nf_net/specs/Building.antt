@@ -9,7 +9,7 @@ use Rattle.nf_net.specs.declared.building.SortedNodes.{SortedNodes}
 use Rattle.nf_net.specs.declared.building.Tables.{Tables}
 use Rattle.nf_net.specs.declared.building.Parts.{Parts}
 use Rattle.nf_net.specs.Kept.{with_parts, IsKept}
-use Rattle.nf_draft.specs.Closing.{tail_flags}
+use Rattle.nf_net_file.specs.Closing.{tail_flags}
 
 -- the links of a draft, by the flags of their tails
 pub record AreSorted (draft : Draft) (flags : List Bool) (links : SortedLinks) : Type 0 where

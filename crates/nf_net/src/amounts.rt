@@ -7,8 +7,8 @@ ghost use Rattle.nf_model.specs.Network.{supply as supply_of};
 ghost use Rattle.nf_net.specs.Supply.{end_before, with_piece, supplied_after, checked_supply};
 
 use crate::network::Network;
-use nf_entry::Piece;
 use nf_frac::{Passed, Q};
+use nf_net_file::Piece;
 
 // The lesser of the next start and the time.
 fn end_of(later: &[Piece], time: Q) -> Q

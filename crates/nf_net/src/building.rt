@@ -3,16 +3,15 @@ ghost use Rattle.std.specs.Prelude.{◌≡◌, ◌<◌, ◌≤◌, [], ◌∷◌
 ghost use Rattle.nf_formats.specs.Names.{place_of, with_names, without};
 ghost use Rattle.nf_formats.specs.Named.{numbered, ends, names_of};
 ghost use Rattle.nf_formats.specs.NetClosing.{marked, StandsFor};
-ghost use Rattle.nf_draft.specs.Drafts.{seen_draft};
-ghost use Rattle.nf_draft.specs.Contents.{IsRead};
-ghost use Rattle.nf_draft.specs.Closing.{HasEnds, BreaksNone, AreFlags, flag_at, tail_flags};
+ghost use Rattle.nf_net_file.specs.Drafts.{seen_draft};
+ghost use Rattle.nf_net_file.specs.Contents.{IsRead};
+ghost use Rattle.nf_net_file.specs.Closing.{HasEnds, BreaksNone, AreFlags, flag_at, tail_flags};
 ghost use Rattle.nf_net.specs.Building.{AreSorted, AreNodesOf, AreTablesOf, ArePartsOf};
 ghost use Rattle.nf_formats.specs.Limits.{most_nodes};
 
 use crate::network::Network;
-use nf_draft::{Draft, hops_of};
-use nf_entry::{Link, Name, NamedLink, Names};
 use nf_graph::{Hop, NodeId};
+use nf_net_file::{Draft, Link, Name, NamedLink, Names, hops_of};
 use std::alloc::{AllocError, Global};
 
 // The flag of a link's tail.

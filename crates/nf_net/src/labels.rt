@@ -1,12 +1,12 @@
 // The labels of departure 0.
 ghost use Rattle.std.specs.Prelude.{◌≡◌, ℕ, length, map, slice_get, Some, None, IfOk};
 ghost use Rattle.nf_model.specs.Phases.{AreStartLabels};
-ghost use Rattle.nf_draft.specs.Closing.{HasFraction};
+ghost use Rattle.nf_net_file.specs.Closing.{HasFraction};
 
 use crate::network::Network;
-use nf_draft::is_fraction;
 use nf_frac::Q;
 use nf_graph::{DistanceFault, distances};
+use nf_net_file::is_fraction;
 use std::alloc::{AllocError, Global};
 
 // The numbers, of which none is wanting.

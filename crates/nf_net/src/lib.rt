@@ -12,9 +12,10 @@ mod reading;
 pub use amounts::supply;
 pub use labels::start_labels;
 pub use network::Network;
-pub use nf_draft::{LONGEST_FILE, MOST_LINKS, MOST_NODES, MOST_PIECES, NetFault};
-pub use nf_entry::{LONGEST_NAME, Link, Piece};
 pub use nf_formats::NetRule;
 pub use nf_graph::{Hop, LinkId, NodeId};
+pub use nf_net_file::{
+    LONGEST_FILE, LONGEST_NAME, Link, MOST_LINKS, MOST_NODES, MOST_PIECES, NetFault, Piece,
+};
 pub use printing::text;
 pub use reading::parse;

@@ -8,10 +8,9 @@ ghost use Rattle.nf_formats.specs.WellNamed.{IsNamed};
 ghost use Rattle.nf_net.specs.Kept.{with_parts, IsKept};
 ghost use Rattle.nf_formats.specs.Limits.{most_links};
 
-use nf_draft::{rate_of, start_after};
-use nf_entry::{Link, Name, NamedLink, Piece};
 use nf_frac::Q;
 use nf_graph::{Hop, LinkId, NodeId};
+use nf_net_file::{Link, Name, NamedLink, Piece, rate_of, start_after};
 use std::marker::Model;
 
 /// A network with its names: that of an accepted file. Node 0 is the source and node 1 the sink; the other nodes are numbered by

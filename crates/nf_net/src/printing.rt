@@ -12,9 +12,9 @@ ghost use Rattle.nf_formats.specs.NetFile.{Reads};
 ghost use Rattle.nf_net.specs.Printing.{head_text, PushesLink};
 
 use crate::network::Network;
-use nf_entry::{NamedLink, Piece};
 use nf_frac::{Q, TextBuf};
 use nf_graph::{LinkId, NodeId};
+use nf_net_file::{NamedLink, Piece};
 use std::alloc::{AllocError, Global};
 
 fn push_bytes(out: &mut Vec<u8>, bytes: &[u8]) -> Result<(), AllocError>

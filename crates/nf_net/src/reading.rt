@@ -4,19 +4,19 @@ ghost use Rattle.nf_lines.specs.Words.{read_lines};
 ghost use Rattle.nf_lines.specs.Faults.{first_fault, longest_text};
 ghost use Rattle.nf_text.specs.Reading.{seen_line};
 ghost use Rattle.nf_formats.specs.NetFile.{Closes, Reads};
-ghost use Rattle.nf_draft.specs.Drafts.{seen_draft};
-ghost use Rattle.nf_draft.specs.Contents.{AreLinesWithin, IfBroken, IsRead};
-ghost use Rattle.nf_draft.specs.Closing.{IsWhole};
+ghost use Rattle.nf_net_file.specs.Drafts.{seen_draft};
+ghost use Rattle.nf_net_file.specs.Contents.{AreLinesWithin, IfBroken, IsRead};
+ghost use Rattle.nf_net_file.specs.Closing.{IsWhole};
 
 use crate::building::{network_of, parts_of};
 use crate::network::Network;
-use nf_draft::{Draft, NetFault, flags_of, hops_of, names_rule, read_draft, walk_rule};
 use nf_formats::NetRule;
+use nf_net_file::{Draft, NetFault, flags_of, hops_of, names_rule, read_draft, walk_rule};
 use nf_text::{Line, TextFault, lines};
 use std::alloc::Global;
 
 // The lines of the text, or the first line that has a fault.
-#[tactic(auto, using(nf_draft::proofs::ContentLines::lines_within))]
+#[tactic(auto, using(nf_net_file::proofs::ContentLines::lines_within))]
 fn lines_of(alloc: Global, text: &[u8]) -> Result<Vec<Line>, NetFault>
     requires { length text.now ≤ longest_text }
     ensures ok { IfOk result (λ read. map (seen_line text.now) read.items ≡ read_lines text.now) }

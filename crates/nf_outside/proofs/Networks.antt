@@ -6,8 +6,8 @@ use Rattle.std.proofs.lemmas.List.Elements.{All-cons, All-nil, All-head, All-tai
 use Rattle.nf_formats.specs.Named.{Named}
 use Rattle.nf_formats.specs.NetLines.{Broken}
 use Rattle.nf_formats.specs.NetFile.{Reads}
-use Rattle.nf_draft.specs.Contents.{IfBroken}
-use Rattle.nf_draft.specs.declared.fault.NetFault.{NetFault}
+use Rattle.nf_net_file.specs.Contents.{IfBroken}
+use Rattle.nf_net_file.specs.declared.fault.NetFault.{NetFault}
 use Rattle.nf_answers.specs.declared.refusal.Refusal.{Refusal}
 use Rattle.nf_answers.specs.Refusals.{refusal_of_net}
 use Rattle.nf_outside.specs.Files.{Wanted, Visit, names_of, Fits, FetchedAll, FetchedTo}

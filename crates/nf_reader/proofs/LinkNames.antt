@@ -7,7 +7,7 @@ use Rattle.nf_formats.specs.Named.{Named, names_of}
 use Rattle.nf_formats.specs.WellNamed.{IsNamed}
 use Rattle.nf_formats_laws.proofs.NameFacts.{has_at, place_at}
 use Rattle.nf_formats_laws.proofs.LinkFacts.{distinct_left}
-use Rattle.nf_entry.proofs.NameText.{name_is_text}
+use Rattle.nf_net_file.proofs.NameText.{name_is_text}
 use Rattle.nf_net.proofs.Limits.{named_links, not_there}
 use Rattle.nf_reader.specs.Lines.{IsLinkNamed}
 

@@ -24,7 +24,7 @@ pub enum Entry {
 }
 
 // The name that a word is.
-#[tactic(auto, using(nf_entry::proofs::NameText::name_is_text, crate::proofs::RouteNames::no_name_text))]
+#[tactic(auto, using(nf_net_file::proofs::NameText::name_is_text, crate::proofs::RouteNames::no_name_text))]
 fn name_of(word: &[u8]) -> Option<&str>
     ensures { MatchOption result (names.is_name word.now ≡ false) (λ name. (name.now ≡ word.now) × (names.is_name word.now ≡ true)) }
 {

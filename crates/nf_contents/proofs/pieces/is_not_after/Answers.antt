@@ -2,7 +2,7 @@ use Rattle.std.proofs.Common.{◌<◌, ◌∙◌, ap, length, arith}
 use Rattle.std.proofs.lemmas.Bool.Decides.{nat_tests}
 use Rattle.nf_rational.specs.Order.{le_ℚ}
 use Rattle.nf_model.specs.Network.{Piece}
-use Rattle.nf_draft.proofs.LastPiece.{late_by_last}
+use Rattle.nf_net_file.proofs.LastPiece.{late_by_last}
 use Rattle.nf_contents.proofs.pieces.is_not_after.Goals as goal
 
 pub returns : goal.returns

@@ -1,7 +1,7 @@
 use Rattle.std.proofs.Common.{◌+◌, ◌++◌, Bool, cond, List, [], ◌∷◌, drop, refl, sym, ◌∙◌, ap, append-nil}
 use Rattle.nf_formats.specs.Names.{Name, without}
-use Rattle.nf_draft.proofs.Filling.{filled}
-use Rattle.nf_draft.proofs.Marks.{kept_with}
+use Rattle.nf_net_file.proofs.Filling.{filled}
+use Rattle.nf_net_file.proofs.Marks.{kept_with}
 use Rattle.nf_net.proofs.Ended.{all_filled}
 use Rattle.nf_net.proofs.building.names_without.Goals as goal
 use Rattle.nf_net.proofs.building.names_without.Goals.{then-not-has+in_ok-push, else-not-has}

@@ -1,7 +1,7 @@
 use Rattle.std.proofs.Common.{◌++◌, List, [], ◌∷◌, map, Option, Some, refl, sym, ◌∙◌, ap}
 use Rattle.std.proofs.lemmas.List.{map-append}
 use Rattle.nf_rational.specs.Rational.{ℚ}
-use Rattle.nf_draft.proofs.Filling.{filled}
+use Rattle.nf_net_file.proofs.Filling.{filled}
 use Rattle.nf_net.proofs.Ended.{all_filled}
 use Rattle.nf_net.proofs.labels.given_sums.Goals as goal
 

@@ -3,7 +3,7 @@ use Rattle.std.specs.List.{flat_map}
 use Rattle.nf_lines.specs.Words.{line_of_words}
 use Rattle.nf_formats.specs.Named.{NamedLink}
 use Rattle.nf_formats.specs.NetText.{link_words}
-use Rattle.nf_draft.proofs.Filling.{filled}
+use Rattle.nf_net_file.proofs.Filling.{filled}
 use Rattle.nf_net.proofs.Ended.{all_filled}
 use Rattle.nf_net.proofs.printing.push_idle.Goals as goal
 

@@ -2,9 +2,9 @@ use Rattle.std.proofs.Common.{List, sym, ◌∙◌, ap, subst}
 use Rattle.std.proofs.lemmas.Result.{err_from_is_err_and}
 use Rattle.nf_text.specs.declared.Line.{Line}
 use Rattle.nf_formats.specs.NetLines.{draft_from}
-use Rattle.nf_draft.specs.Drafts.{seen_draft}
-use Rattle.nf_draft.specs.Contents.{contents, AreLinesWithin}
-use Rattle.nf_draft.proofs.ContentLines.{broken_more}
+use Rattle.nf_net_file.specs.Drafts.{seen_draft}
+use Rattle.nf_net_file.specs.Contents.{contents, AreLinesWithin}
+use Rattle.nf_net_file.proofs.ContentLines.{broken_more}
 use Rattle.nf_net.proofs.Closes.{reads_broken, reads_all}
 use Rattle.nf_net.proofs.reading.parse.Goals as goal
 

@@ -2,7 +2,7 @@ use Rattle.std.proofs.Common.{ℕ, ◌≤◌, List, [], ◌∷◌, length, sym, 
 use Rattle.std.specs.Prelude.{Ok, Err}
 use Rattle.std.proofs.lemmas.Result.{err_from_is_err_and}
 use Rattle.nf_formats.specs.NetFile.{Reads}
-use Rattle.nf_draft.specs.Contents.{IfBroken}
+use Rattle.nf_net_file.specs.Contents.{IfBroken}
 use Rattle.nf_outside.specs.Files.{visit, network_file}
 use Rattle.nf_outside.proofs.Networks.{network_read, network_refused, network_missing}
 use Rattle.nf_outside.proofs.fetching.fetch_network.Goals as goal

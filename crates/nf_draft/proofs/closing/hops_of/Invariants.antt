@@ -1,6 +1,0 @@
-use Rattle.std.proofs.Common.{◌≡◌, ◌++◌, drop}
-use Rattle.nf_formats.specs.Named.{hops_among}
-use Rattle.nf_draft.proofs.closing.hops_of.Given as goal
-
-abbrev pub invariant-loop-link : goal.invariant-loop-link
-invariant-loop-link l = l.hops.items ++ hops_among l.nodes (drop l.link-index l.links) ≡ hops_among l.nodes l.links

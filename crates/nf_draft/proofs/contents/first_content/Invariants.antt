@@ -1,6 +1,0 @@
-use Rattle.std.proofs.Common.{◌≡◌, drop}
-use Rattle.nf_draft.specs.Contents.{contents}
-use Rattle.nf_draft.proofs.contents.first_content.Given as goal
-
-abbrev pub invariant-loop-index : goal.invariant-loop-index
-invariant-loop-index l = contents l.text l.lines ≡ contents l.text (drop l.index l.lines)

@@ -1,7 +1,0 @@
-use Rattle.std.proofs.Common.{◌≡◌, drop}
-use Rattle.nf_formats.specs.Names.{has_name}
-use Rattle.nf_formats.specs.Named.{names_of}
-use Rattle.nf_draft.proofs.draft.has_link.Given as goal
-
-abbrev pub invariant-loop-link : goal.invariant-loop-link
-invariant-loop-link l = has_name (names_of (drop l.link-index l.links)) l.name ≡ has_name (names_of l.links) l.name

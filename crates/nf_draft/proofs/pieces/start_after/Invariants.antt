@@ -1,6 +1,0 @@
-use Rattle.std.proofs.Common.{◌≡◌, drop}
-use Rattle.nf_model.specs.Network.{first_start}
-use Rattle.nf_draft.proofs.pieces.start_after.Given as goal
-
-abbrev pub invariant-loop-piece : goal.invariant-loop-piece
-invariant-loop-piece l = first_start (drop l.piece-index l.pieces) l.time ≡ first_start l.pieces l.time

@@ -1,3 +1,0 @@
-pub mod NameText
-pub mod LineWords
-pub mod SpanWords

@@ -1,0 +1,13 @@
+pub mod NameText
+pub mod LineWords
+pub mod SpanWords
+pub mod NodeCounts
+pub mod LastPiece
+pub mod HeadLine
+pub mod ContentLines
+pub mod FirstRule
+pub mod Marks
+pub mod Filling
+pub mod FileWalks
+pub mod Rates
+pub mod LinkNames

@@ -1,0 +1,6 @@
+pub mod Names
+pub mod Words
+pub mod Reading
+pub mod Drafts
+pub mod Contents
+pub mod Closing

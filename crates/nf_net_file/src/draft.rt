@@ -1,0 +1,251 @@
+// What the lines of a network file say so far.
+ghost use Rattle.std.specs.Prelude.{◌≡◌, ◌<◌, ◌≤◌, ◌+◌, ◌||◌, [], ◌∷◌, length, nat_lt, None, Ok, Err, OnOk, MatchResult};
+ghost use Rattle.std.specs.List.{last_or};
+ghost use Rattle.std.specs.Str.{bytes_eq};
+ghost use Rattle.nf_formats.specs.declared.NetRule.TheVariants.{N9, N10};
+ghost use Rattle.nf_formats.specs.Names.{has_name, with_name, with_names};
+ghost use Rattle.nf_formats.specs.Named.{names_of};
+ghost use Rattle.nf_formats.specs.NetLines.{LinkLine, InflowLine, empty_draft, after, first_rule, too_many_nodes, is_no_capacity, is_not_after, broken_rule, add_line};
+ghost use Rattle.nf_net_file.specs.declared.draft.LineFault.TheVariants as LineFault;
+ghost use Rattle.nf_net_file.specs.Reading.{seen_entry};
+ghost use Rattle.nf_net_file.specs.Drafts.{seen_draft, IfRule, one_unless};
+ghost use Rattle.nf_formats.specs.Limits.{most_nodes};
+
+use crate::entry::{Entry, read_entry};
+use crate::link::{NamedLink, Piece};
+use crate::name::Name;
+use crate::names::Names;
+use crate::sizes::{MOST_LINKS, MOST_NODES, MOST_PIECES};
+use crate::words::Words;
+use nf_formats::NetRule;
+use nf_frac::Q;
+use std::alloc::{AllocError, AllocFailed, Global};
+
+/// What the lines so far say: the source and the sink, the nodes that they name, in the order of first appearance, the links,
+/// the pieces, and whether there was an `end` line.
+#[derive(Drop)]
+pub struct Draft {
+    pub version: u32,
+    pub source: Option<Name>,
+    pub sink: Option<Name>,
+    pub nodes: Names,
+    pub links: Vec<NamedLink>,
+    pub pieces: Vec<Piece>,
+    pub ended: bool,
+}
+
+/// Why a line is not added.
+#[derive(Drop)]
+pub enum LineFault {
+    Broken(NetRule),
+    Memory,
+}
+
+impl From<AllocError> for LineFault {
+    ghost from_gives = { λ _ fault. fault ≡ LineFault.Memory };
+
+    fn from(_: AllocError) -> Self {
+        LineFault::Memory
+    }
+}
+
+// How many names more there are with a name that is known, or isn't.
+fn count_new(known: bool) -> usize
+    ensures { result ≡ one_unless known }
+{
+    if known { 0 } else { 1 }
+}
+
+fn is_known(nodes: &Names, name: &Name, other: &Name) -> bool
+    ensures { result ≡ (has_name nodes.now name.now || bytes_eq name.now other.now) }
+{
+    nodes.has(name) || name == other
+}
+
+// How many of two names are new.
+#[tactic(auto, using(crate::proofs::NodeCounts::length_with_two))]
+fn new_names(nodes: &Names, first: &Name, second: &Name) -> usize
+    ensures count { length (with_names nodes.now (first.now ∷ second.now ∷ [])) ≡ length nodes.now + result }
+    ensures small { result ≤ 2 }
+{
+    count_new(nodes.has(first)) + count_new(is_known(nodes, second, first))
+}
+
+// With this name there are more than 64 nodes.
+#[tactic(auto, using(crate::proofs::NodeCounts::length_with_one))]
+fn is_too_many(nodes: &Names, name: &Name) -> bool
+    ensures { result ≡ nat_lt most_nodes (length (with_name nodes.now name.now)) }
+{
+    let more = count_new(nodes.has(name));
+    nodes.len() > MOST_NODES - more
+}
+
+// With these names there are more than 64 nodes.
+fn are_too_many(nodes: &Names, first: &Name, second: &Name) -> bool
+    ensures { result ≡ nat_lt most_nodes (length (with_names nodes.now (first.now ∷ second.now ∷ []))) }
+{
+    let more = new_names(nodes, first, second);
+    nodes.len() > MOST_NODES - more
+}
+
+// Whether a link has this name.
+fn has_link(links: &[NamedLink], name: &Name) -> bool
+    ensures { result ≡ has_name (names_of links.now) name.now }
+{
+    for link in links {
+        if *name == link.name {
+            return true;
+        }
+    }
+    false
+}
+
+// A capacity that is a number isn't above 0.
+fn is_empty_capacity(capacity: Option<Q>) -> bool
+    ensures { result ≡ is_no_capacity capacity }
+{
+    match capacity {
+        Some(capacity) => capacity.is_at_most(Q::zero()),
+        None => false,
+    }
+}
+
+// A start isn't above that of the piece before.
+fn is_late(pieces: &[Piece], start: Q) -> bool
+    ensures { result ≡ is_not_after start (last_or None pieces.now) }
+{
+    if pieces.is_empty() {
+        return false;
+    }
+    let last = &pieces[pieces.len() - 1];
+    start.is_at_most(last.start)
+}
+
+impl Draft {
+    // What no lines say, in a file of this version.
+    pub(crate) fn new(alloc: Global, version: u32) -> Draft
+        ensures { seen_draft result ≡ empty_draft version }
+    {
+        Draft {
+            version,
+            source: None,
+            sink: None,
+            nodes: Names::new(alloc),
+            links: Vec::new(alloc),
+            pieces: Vec::new(alloc),
+            ended: false,
+        }
+    }
+
+    fn node_rule(&self, taken: bool, name: &Name) -> Option<NetRule>
+        ensures { result ≡ first_rule ((taken, N9) ∷ (too_many_nodes (seen_draft self.now) (name.now ∷ []), N10) ∷ []) }
+    {
+        if taken {
+            return Some(NetRule::N9);
+        }
+        if is_too_many(&self.nodes, name) {
+            return Some(NetRule::N10);
+        }
+        None
+    }
+
+    fn link_rule(&self, link: &NamedLink) -> Option<NetRule>
+        ensures { result ≡ broken_rule (seen_draft self.now) (LinkLine link.now) }
+    {
+        if has_link(&self.links, &link.name) {
+            return Some(NetRule::N9);
+        }
+        if are_too_many(&self.nodes, &link.tail, &link.head) {
+            return Some(NetRule::N10);
+        }
+        if self.links.len() >= MOST_LINKS {
+            return Some(NetRule::N11);
+        }
+        if link.transit.is_below(Q::zero()) {
+            return Some(NetRule::N13);
+        }
+        if is_empty_capacity(link.capacity) {
+            return Some(NetRule::N14);
+        }
+        None
+    }
+
+    fn piece_rule(&self, piece: &Piece) -> Option<NetRule>
+        ensures { result ≡ broken_rule (seen_draft self.now) (InflowLine piece.now) }
+    {
+        if self.pieces.len() >= MOST_PIECES {
+            return Some(NetRule::N12);
+        }
+        if piece.start.is_below(Q::zero()) {
+            return Some(NetRule::N15);
+        }
+        if piece.rate.is_below(Q::zero()) {
+            return Some(NetRule::N15);
+        }
+        if is_late(&self.pieces, piece.start) {
+            return Some(NetRule::N16);
+        }
+        None
+    }
+
+    // The first of N9 to N16 that the line breaks because of the lines before it.
+    fn rule(&self, entry: &Entry) -> Option<NetRule>
+        ensures { result ≡ broken_rule (seen_draft self.now) (seen_entry entry.now) }
+    {
+        match entry {
+            Entry::Source(name) => self.node_rule(self.source.is_some(), name),
+            Entry::Sink(name) => self.node_rule(self.sink.is_some(), name),
+            Entry::Link(link) => self.link_rule(link),
+            Entry::Inflow(piece) => self.piece_rule(piece),
+            Entry::End => None,
+        }
+    }
+
+    fn add_link(&mut self, link: NamedLink) -> Result<(), AllocError>
+        ensures { OnOk result (seen_draft self.new ≡ after (seen_draft self.old) (LinkLine link)) }
+    {
+        self.nodes.put(link.tail.copy())?;
+        self.nodes.put(link.head.copy())?;
+        self.links.push(link)?;
+        Ok(())
+    }
+
+    fn add(&mut self, entry: Entry) -> Result<(), AllocError>
+        ensures { OnOk result (seen_draft self.new ≡ after (seen_draft self.old) (seen_entry entry)) }
+    {
+        match entry {
+            Entry::Source(name) => {
+                self.nodes.put(name.copy())?;
+                self.source = Some(name);
+            }
+            Entry::Sink(name) => {
+                self.nodes.put(name.copy())?;
+                self.sink = Some(name);
+            }
+            Entry::Link(link) => self.add_link(link)?,
+            Entry::Inflow(piece) => self.pieces.push(piece)?,
+            Entry::End => self.ended = true,
+        }
+        Ok(())
+    }
+
+    // Adds what a line says, or answers the first of N4 to N16 that it breaks.
+    pub(crate) fn add_line(&mut self, words: &Words) -> Result<(), LineFault>
+        requires { 0 < length words.now }
+        ensures { MatchResult result (λ _. add_line (seen_draft self.old) words.now ≡ Ok (seen_draft self.new))
+            (λ fault. IfRule fault (λ rule. add_line (seen_draft self.old) words.now ≡ Err rule)) }
+    {
+        if self.ended {
+            return Err(LineFault::Broken(NetRule::N4));
+        }
+        let entry = match read_entry(self.version, words) {
+            Ok(entry) => entry,
+            Err(rule) => return Err(LineFault::Broken(rule)),
+        };
+        if let Some(rule) = self.rule(&entry) {
+            return Err(LineFault::Broken(rule));
+        }
+        self.add(entry)?;
+        Ok(())
+    }
+}

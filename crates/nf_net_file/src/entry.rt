@@ -1,0 +1,154 @@
+// One line of a network file by itself.
+ghost use Rattle.std.specs.Prelude.{◌≡◌, ◌<◌, true, false, length, drop, map, MatchResult};
+ghost use Rattle.nf_formats.specs.declared.NetRule.TheVariants.{N7};
+ghost use Rattle.nf_formats.specs.Names.{is_name};
+ghost use Rattle.nf_formats.specs.Numbers.{number_in, capacity_in};
+ghost use Rattle.nf_formats.specs.NetLines as lines;
+ghost use Rattle.nf_formats.specs.NetLines.{node_line, link_line, inflow_line, end_line, entry_of};
+ghost use Rattle.nf_net_file.specs.Words.{word_at};
+ghost use Rattle.nf_net_file.specs.Reading.{seen_entry, said_by};
+
+use crate::link::{NamedLink, Piece};
+use crate::name::Name;
+use crate::words::{Words, is_word};
+use nf_formats::NetRule;
+use nf_frac::Q;
+
+/// What a line says.
+#[derive(Drop)]
+pub enum Entry {
+    Source(Name),
+    Sink(Name),
+    Link(NamedLink),
+    Inflow(Piece),
+    End,
+}
+
+// A word that is to be a name.
+fn read_name(word: &[u8]) -> Result<Name, NetRule>
+    ensures { MatchResult result (λ name. (name ≡ word.now) × (is_name word.now ≡ true)) (λ rule. (rule ≡ N7) × (is_name word.now ≡ false)) }
+{
+    match Name::read(word) {
+        Some(name) => Ok(name),
+        None => Err(NetRule::N7),
+    }
+}
+
+// The number that a word writes: version 2 has decimals too.
+fn read_number(version: u32, word: &[u8]) -> Option<Q>
+    ensures { result ≡ number_in version word.now }
+{
+    if version == 1 {
+        Q::read(word).ok()
+    } else {
+        Q::read_decimal(word).ok()
+    }
+}
+
+// The capacity that a word writes: in version 2 an unbounded link has the word `inf`.
+fn read_capacity(version: u32, word: &[u8]) -> Option<Option<Q>>
+    ensures { result ≡ capacity_in version word.now }
+{
+    if version != 1 && is_word(word, b"inf") {
+        return Some(None);
+    }
+    match read_number(version, word) {
+        Some(capacity) => Some(Some(capacity)),
+        None => None,
+    }
+}
+
+// `source NODE`, `sink NODE`
+#[tactic(auto, using(crate::proofs::LineWords::node_count_wrong, crate::proofs::LineWords::node_is, crate::proofs::LineWords::node_bad))]
+fn read_node(words: &Words) -> Result<Name, NetRule>
+    requires { 0 < length words.now }
+    ensures source { node_line (λ name. lines.Source name) (drop 1 words.now) ≡ said_by (λ name. lines.Source name) result }
+    ensures sink { node_line (λ name. lines.Sink name) (drop 1 words.now) ≡ said_by (λ name. lines.Sink name) result }
+{
+    if words.len() != 2 {
+        return Err(NetRule::N6);
+    }
+    read_name(words.at(1))
+}
+
+// `link NAME TAIL HEAD TRANSIT CAPACITY`
+#[tactic(auto, using(crate::proofs::LineWords::link_count_wrong, crate::proofs::LineWords::link_is, crate::proofs::LineWords::link_bad_name, crate::proofs::LineWords::link_bad_tail, crate::proofs::LineWords::link_bad_head))]
+fn read_link(version: u32, words: &Words) -> Result<NamedLink, NetRule>
+    requires { 0 < length words.now }
+    ensures { link_line version (drop 1 words.now) ≡ said_by (λ l. lines.LinkLine l) result }
+{
+    if words.len() != 6 {
+        return Err(NetRule::N6);
+    }
+    let name = read_name(words.at(1))?;
+    let tail = read_name(words.at(2))?;
+    let head = read_name(words.at(3))?;
+    let Some(transit) = read_number(version, words.at(4)) else {
+        return Err(NetRule::N8);
+    };
+    let Some(capacity) = read_capacity(version, words.at(5)) else {
+        return Err(NetRule::N8);
+    };
+    Ok(NamedLink {
+        name,
+        tail,
+        head,
+        transit,
+        capacity,
+    })
+}
+
+// `inflow START RATE`
+#[tactic(auto, using(crate::proofs::LineWords::inflow_count_wrong, crate::proofs::LineWords::inflow_count_right))]
+fn read_inflow(version: u32, words: &Words) -> Result<Piece, NetRule>
+    requires { 0 < length words.now }
+    ensures { inflow_line version (drop 1 words.now) ≡ said_by (λ piece. lines.InflowLine piece) result }
+{
+    if words.len() != 3 {
+        return Err(NetRule::N6);
+    }
+    let Some(start) = read_number(version, words.at(1)) else {
+        return Err(NetRule::N8);
+    };
+    let Some(rate) = read_number(version, words.at(2)) else {
+        return Err(NetRule::N8);
+    };
+    Ok(Piece { start, rate })
+}
+
+// `end`
+#[tactic(auto, using(crate::proofs::LineWords::end_count_wrong, crate::proofs::LineWords::end_count_right))]
+fn read_end(words: &Words) -> Result<(), NetRule>
+    requires { 0 < length words.now }
+    ensures { end_line (drop 1 words.now) ≡ said_by (λ _. lines.End) result }
+{
+    if words.len() != 1 {
+        return Err(NetRule::N6);
+    }
+    Ok(())
+}
+
+/// What the words of a line say in a file of this version, or the first of N5 to N8 that they break.
+pub fn read_entry(version: u32, words: &Words) -> Result<Entry, NetRule>
+    requires { 0 < length words.now }
+    ensures { entry_of version words.now ≡ said_by seen_entry result }
+{
+    let key = words.at(0);
+    if is_word(key, b"source") {
+        return Ok(Entry::Source(read_node(words)?));
+    }
+    if is_word(key, b"sink") {
+        return Ok(Entry::Sink(read_node(words)?));
+    }
+    if is_word(key, b"link") {
+        return Ok(Entry::Link(read_link(version, words)?));
+    }
+    if is_word(key, b"inflow") {
+        return Ok(Entry::Inflow(read_inflow(version, words)?));
+    }
+    if is_word(key, b"end") {
+        read_end(words)?;
+        return Ok(Entry::End);
+    }
+    Err(NetRule::N5)
+}

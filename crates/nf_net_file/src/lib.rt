@@ -1,0 +1,25 @@
+//! What the lines of a network file say: names, links and pieces of the supply by one line, a draft by one line after the other, and the
+//! first rule that a line or the file as a whole breaks. Times, amounts and rates are exact fractions.
+#![tactic(auto)]
+
+mod closing;
+mod contents;
+mod draft;
+mod entry;
+mod fault;
+mod link;
+mod name;
+mod names;
+mod pieces;
+mod sizes;
+mod words;
+
+pub use closing::{flags_of, hops_of, is_fraction, names_rule, walk_rule};
+pub use contents::read_draft;
+pub use draft::Draft;
+pub use fault::NetFault;
+pub use link::{Link, NamedLink, Piece};
+pub use name::{LONGEST_NAME, Name};
+pub use names::Names;
+pub use pieces::{rate_of, start_after};
+pub use sizes::{LONGEST_FILE, MOST_LINKS, MOST_NODES, MOST_PIECES};

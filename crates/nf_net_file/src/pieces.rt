@@ -1,0 +1,33 @@
+// The rate of the supply, and when it changes.
+ghost use Rattle.std.specs.Prelude.{◌≡◌};
+ghost use Rattle.nf_rational.specs.Operations.{0ℚ};
+ghost use Rattle.nf_model.specs.Network.{rate_from, first_start};
+
+use crate::link::Piece;
+use nf_frac::Q;
+
+/// The rate of the last of the pieces that starts at or before the time, 0 where none does.
+pub fn rate_of(pieces: &[Piece], time: Q) -> Q
+    ensures { result ≡ rate_from 0ℚ pieces.now time }
+{
+    let mut rate = Q::zero();
+    for piece in pieces {
+        if !piece.start.is_at_most(time) {
+            return rate;
+        }
+        rate = piece.rate;
+    }
+    rate
+}
+
+/// The first start of a piece after the time; None exactly where there is none.
+pub fn start_after(pieces: &[Piece], time: Q) -> Option<Q>
+    ensures { result ≡ first_start pieces.now time }
+{
+    for piece in pieces {
+        if time.is_below(piece.start) {
+            return Some(piece.start);
+        }
+    }
+    None
+}
