@@ -14,7 +14,7 @@ use Rattle.nf_readings.specs.ReportFile.{report_in}
 use Rattle.nf_reader.specs.declared.fault.ReportFault.{ReportFault}
 use Rattle.nf_reader.specs.Files.{IfBroken}
 use Rattle.nf_lists.specs.PhaseRun.{IsShortFlow}
-use Rattle.nf_readable_laws.specs.Laws.{ReadsBack}
+use Rattle.nf_run_text_laws.specs.ReadableLaws.{ReadsBack}
 use Rattle.nf_complete_lists.specs.Reached.{StopsForNoThinFlow}
 use Rattle.nf_phase.specs.Restarting.{EndsAtItsLabels}
 use Rattle.nf_phase.specs.Solution.{bounds_of}

@@ -16,7 +16,7 @@ use Rattle.nf_load_lists.specs.Meanings.{AreLoaded}
 use Rattle.nf_check_lists.specs.declared.Answer.{Answer as Verdict}
 use Rattle.nf_readings.specs.LoadsFile.{LoadsBroken, loads_in}
 use Rattle.nf_readings.specs.ReportFile.{ReportBroken}
-use Rattle.nf_readable_laws.specs.Laws.{ReadsBack}
+use Rattle.nf_run_text_laws.specs.ReadableLaws.{ReadsBack}
 use Rattle.nf_model.specs.Pattern.{Pattern}
 use Rattle.nf_complete_lists.specs.FlowsFile.{FlowsBroken}
 use Rattle.nf_complete_lists.specs.Reached.{StopsForNoThinFlow}

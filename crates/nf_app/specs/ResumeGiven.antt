@@ -10,7 +10,7 @@ use Rattle.nf_formats.specs.Report.{Report, IsWellFormed}
 use Rattle.nf_lists.specs.PhaseRun.{Bounds, IsShortFlow}
 use Rattle.nf_phase.specs.Restarting.{EndsAtItsLabels}
 use Rattle.nf_check_lists.specs.declared.Answer.{Answer as Verdict}
-use Rattle.nf_readable_laws.specs.Laws.{ReadsBack}
+use Rattle.nf_run_text_laws.specs.ReadableLaws.{ReadsBack}
 use Rattle.nf_complete_lists.specs.Reached.{StopsForNoThinFlow}
 use Rattle.nf_resume_lists.specs.Resuming.{resume_list}
 use Rattle.nf_resume_lists.specs.Meanings.{IsResumedReport, GoesOnFrom}

@@ -22,10 +22,10 @@ use Rattle.nf_curve_lists.specs.Values.{points_before, value_from, checked_value
 use Rattle.nf_curve_lists.specs.Short.{turning, short_points, checked_slopes, checked_short}
 use Rattle.nf_readings_laws.specs.Readable.{IsFractionOrNone, IsFractionPoint, AreFractionPoints, IsFractionTrace}
 use Rattle.nf_readings_laws.proofs.KeysBack.{all-append}
-use Rattle.nf_readable_laws.proofs.Lists.{entry_or, all_image}
-use Rattle.nf_readable_laws.proofs.Fractions.{AreFractions, either, zero_fraction}
-use Rattle.nf_readable_laws.proofs.Fits.{Fits, AreOperands, ok_fits, then_fits, each_fits, one}
-use Rattle.nf_readable_laws.proofs.Running.{IsFractionCurve, AreFractionCurves, last_fraction}
+use Rattle.nf_run_text_laws.proofs.Lists.{entry_or, all_image}
+use Rattle.nf_run_text_laws.proofs.Fractions.{AreFractions, either, zero_fraction}
+use Rattle.nf_run_text_laws.proofs.Fits.{Fits, AreOperands, ok_fits, then_fits, each_fits, one}
+use Rattle.nf_run_text_laws.proofs.Running.{IsFractionCurve, AreFractionCurves, last_fraction}
 use Rattle.nf_resume_lists.specs.Restoring.{value_at_end, link_curves_of, standing_of, last_slope, growing, restore_list}
 use Rattle.nf_resume_lists.specs.Resuming.{OfLink, links_with, CutLink, cut_short, cut_trace, cut_link, cut_flow_of, cut_flow, restart_list}
 

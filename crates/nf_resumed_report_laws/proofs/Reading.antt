@@ -12,9 +12,9 @@ use Rattle.nf_lists.specs.PhaseRun.{Standing, Bounds}
 use Rattle.nf_readings.specs.ReportFile.{report_in}
 use Rattle.nf_readings_laws.specs.Readable.{IsCount, IsReadable}
 use Rattle.nf_readings_laws.proofs.ReportKept.{report_kept}
-use Rattle.nf_readable_laws.specs.Laws.{AreReadable, ReadsBack}
-use Rattle.nf_readable_laws.proofs.Running.{StandsFit, EndsFit, end_readable, StandsFit-after, cause_readable}
-use Rattle.nf_readable_laws.proofs.ReadingBack.{readable_reads_back}
+use Rattle.nf_run_text_laws.specs.ReadableLaws.{AreReadable, ReadsBack}
+use Rattle.nf_run_text_laws.proofs.Running.{StandsFit, EndsFit, end_readable, StandsFit-after, cause_readable}
+use Rattle.nf_run_text_laws.proofs.ReadingBack.{readable_reads_back}
 use Rattle.nf_resume_lists.specs.Open.{with_last, Steps, continues, begins, RunsOn, at_horizon, at_phases, fails, steps}
 use Rattle.nf_resume_lists.specs.Resuming.{Stands, resume_list}
 use Rattle.nf_resume_lists.specs.Meanings.{IsResumedReport}

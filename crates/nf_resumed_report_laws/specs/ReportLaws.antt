@@ -8,7 +8,7 @@ use Rattle.nf_formats.specs.Report.{Report, IsWellFormed}
 use Rattle.nf_lists.specs.PhaseRun.{Bounds}
 use Rattle.nf_readings.specs.ReportFile.{report_in}
 use Rattle.nf_readings_laws.specs.Readable.{IsReadable}
-use Rattle.nf_readable_laws.specs.Laws.{AreReadable, ReadsBack}
+use Rattle.nf_run_text_laws.specs.ReadableLaws.{AreReadable, ReadsBack}
 use Rattle.nf_complete_lists.specs.Reached.{StopsForNoThinFlow}
 use Rattle.nf_resume_lists.specs.Meanings.{IsResumedReport}
 

@@ -1,7 +1,7 @@
 use Rattle.std.proofs.Common.{refl, arith}
 use Rattle.nf_phase.specs.Solution.{bounds_of, report_in}
-use Rattle.nf_readable_laws.proofs.Fractions.{fraction_of_parts}
-use Rattle.nf_readable_laws.proofs.ReadingBack.{reads_back}
+use Rattle.nf_run_text_laws.proofs.Fractions.{fraction_of_parts}
+use Rattle.nf_run_text_laws.proofs.ReadingBack.{reads_back}
 use Rattle.nf_work.specs.Passing.{passes_Q}
 use Rattle.nf_complete_laws.proofs.Stopped.{stops_for_none}
 use Rattle.nf_app.proofs.answering.solve_to.Goals as goal

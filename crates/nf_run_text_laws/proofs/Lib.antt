@@ -1,0 +1,14 @@
+pub mod Lists
+pub mod Fractions
+pub mod Fits
+pub mod TableFits
+pub mod PatternFits
+pub mod PhaseFits
+pub mod Starting
+pub mod Running
+pub mod ReadingBack
+pub mod Leaving
+pub mod After
+pub mod Totals
+pub mod Carried
+pub mod Verdicts

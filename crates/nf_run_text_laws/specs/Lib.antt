@@ -1,0 +1,2 @@
+pub mod ReadableLaws
+pub mod VerdictLaws

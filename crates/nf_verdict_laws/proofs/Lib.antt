@@ -1,5 +1,0 @@
-pub mod Leaving
-pub mod After
-pub mod Totals
-pub mod Carried
-pub mod Verdicts
