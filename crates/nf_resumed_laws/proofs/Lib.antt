@@ -7,3 +7,7 @@ pub mod Rest
 pub mod Together
 pub mod Ends
 pub mod OneResumed
+pub mod CutFits
+pub mod Restarting
+pub mod Reading
+pub mod Stopping

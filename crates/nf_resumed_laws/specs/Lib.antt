@@ -1,1 +1,2 @@
 pub mod ResumedLaws
+pub mod ReportLaws

@@ -31,7 +31,7 @@ use Rattle.nf_resume_lists.specs.Open.{Steps, continues, begins, RunsOn, at_hori
 use Rattle.nf_resume_lists.specs.Meanings.{IsResumed}
 use Rattle.nf_resume_laws.proofs.Invariant.{HoldsUpTo-equilibrium}
 use Rattle.nf_resume_laws.proofs.Stepping.{WellRun-last}
-use Rattle.nf_resumed_report_laws.proofs.Restarting.{well_restarted}
+use Rattle.nf_resumed_laws.proofs.Restarting.{well_restarted}
 use Rattle.nf_existence_laws.specs.Oversupply.{ResetsAreBounded}
 use Rattle.nf_existence_laws.proofs.Supplied.{IsOversupply-some}
 use Rattle.nf_existence_laws.proofs.Exists.{thin_exists}

@@ -18,7 +18,7 @@ use Rattle.nf_forever_laws.proofs.Run.{Equilibrium-forever}
 use Rattle.nf_forever_laws.proofs.Stopped.{forever_stops_for_none}
 use Rattle.nf_resume_lists.specs.Open.{RunsOn}
 use Rattle.nf_resume_lists.specs.Meanings.{IsResumedReport}
-use Rattle.nf_resumed_report_laws.proofs.Stopping.{resumed_ends, resumed_stops_for_none}
+use Rattle.nf_resumed_laws.proofs.Stopping.{resumed_ends, resumed_stops_for_none}
 use Rattle.nf_existence_laws.proofs.Numbers.{number_at-numbers}
 use Rattle.nf_unstopped_laws.specs.Stops.{NeverNoPattern}
 use Rattle.nf_unstopped_laws.specs.ThinFlows.{HasThinFlow}

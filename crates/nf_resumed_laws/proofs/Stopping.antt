@@ -13,7 +13,7 @@ use Rattle.nf_complete_laws.proofs.Stopped.{EndsForNone, horizon_ends, phases_en
 use Rattle.nf_resume_lists.specs.Open.{Steps, continues, begins, RunsOn, at_horizon, at_phases, fails, steps}
 use Rattle.nf_resume_lists.specs.Meanings.{IsResumedReport}
 use Rattle.nf_resume_laws.proofs.Stepping.{WellRun-last}
-use Rattle.nf_resumed_report_laws.proofs.Restarting.{well_restarted}
+use Rattle.nf_resumed_laws.proofs.Restarting.{well_restarted}
 
 module _ (passes : Passing) (net : Network) (good : IsNetwork net) (bounds : Bounds) where
   well_step : (s t : Standing) → WellRun net s → Steps passes net bounds.horizon bounds.patterns s t → WellRun net t

@@ -19,8 +19,8 @@ use Rattle.nf_resume_lists.specs.Open.{with_last, Steps, continues, begins, Runs
 use Rattle.nf_resume_lists.specs.Resuming.{Stands, resume_list}
 use Rattle.nf_resume_lists.specs.Meanings.{IsResumedReport}
 use Rattle.nf_resume_laws.proofs.Stepping.{WellRun-last}
-use Rattle.nf_resumed_report_laws.proofs.CutFits.{IsFractionFlow, HoldsFractions, restart_fits}
-use Rattle.nf_resumed_report_laws.proofs.Restarting.{restarts, well_restarted}
+use Rattle.nf_resumed_laws.proofs.CutFits.{IsFractionFlow, HoldsFractions, restart_fits}
+use Rattle.nf_resumed_laws.proofs.Restarting.{restarts, well_restarted}
 
 module _ (n : Named) (named : IsNamed n) (bounds : Bounds) (within : AreReadable bounds) where
   -- ---- from where the run is restored

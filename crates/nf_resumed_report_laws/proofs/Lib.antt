@@ -1,4 +1,0 @@
-pub mod CutFits
-pub mod Restarting
-pub mod Reading
-pub mod Stopping
