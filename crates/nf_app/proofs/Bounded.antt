@@ -13,7 +13,7 @@ use Rattle.nf_answers.specs.Answers.{Answer, status_of, status_of_stop, status_o
 use Rattle.nf_outside.specs.Files.{network_file, report_file}
 use Rattle.nf_outside.specs.Sinks.{Taken}
 use Rattle.nf_outside.specs.Shown.{IsShown}
-use Rattle.nf_words.specs.Requests.{Solve, SolveForever, Gen, Resume}
+use Rattle.nf_command_line.specs.Requests.{Solve, SolveForever, Gen, Resume}
 use Rattle.nf_app.specs.Runs.{Call, IsAnswer}
 use Rattle.nf_app.specs.Given.{IsGiven}
 use Rattle.nf_app.specs.Completeness.{Tells, AsksToSolve, AsksToGenerate, AsksForever, AsksToResume, EndsRun, EndsForever, EndsRest, EndsByBounds}

@@ -15,7 +15,7 @@ use Rattle.nf_answers.specs.Refusals.{answer_of}
 use Rattle.nf_outside.specs.Files.{Wanted, Visit, Fits, FetchedNone, FetchedAll, FetchedTo}
 use Rattle.nf_outside.specs.Fetching.{IsLastText, NetworkReads, AreRead}
 use Rattle.nf_outside.proofs.Networks.{all_reached}
-use Rattle.nf_words.specs.Requests.{Request, request_of}
+use Rattle.nf_command_line.specs.Requests.{Request, request_of}
 use Rattle.nf_app.specs.Requests.{files_of, generated_by}
 use Rattle.nf_app.specs.Given.{IsGiven}
 use Rattle.nf_app.specs.Runs.{Call, Reached, Read, IsRefused, IsAnswer}

@@ -21,7 +21,7 @@ use Rattle.nf_outside.specs.Files.{network_file, report_file}
 use Rattle.nf_outside.specs.Fetching.{NetworkReads}
 use Rattle.nf_outside.specs.Sinks.{Taken, TookAll}
 use Rattle.nf_outside.specs.Shown.{IsShown, IsShownWhole}
-use Rattle.nf_words.specs.Requests.{Request, Solve, Check, request_of}
+use Rattle.nf_command_line.specs.Requests.{Request, Solve, Check, request_of}
 use Rattle.nf_app.specs.Requests.{files_of, generated_by}
 use Rattle.nf_app.specs.Given.{IsGiven}
 use Rattle.nf_app.specs.Runs.{Call, IsComputed, IsAnswer, Ran}

@@ -17,7 +17,7 @@ use Rattle.nf_reader.specs.declared.fault.ReportFault.{ReportFault}
 use Rattle.nf_reader.specs.Files.{IfBroken}
 use Rattle.nf_answers.specs.declared.refusal.Refusal.{Refusal}
 use Rattle.nf_outside.specs.Files.{Visit, report_file}
-use Rattle.nf_words.specs.Requests.{Check}
+use Rattle.nf_command_line.specs.Requests.{Check}
 use Rattle.nf_answers.specs.Answers.{Checked}
 use Rattle.nf_answers.specs.Refusals.{answer_of, refusal_of_report, refusal_of_halt}
 use Rattle.nf_app.specs.Given.{IsGiven}

@@ -30,7 +30,7 @@ use Rattle.nf_routes_laws.proofs.FileReading.{only_reading}
 use Rattle.nf_forever_laws.proofs.OneForever.{one_forever}
 use Rattle.nf_answers.specs.declared.status.Status.{Status}
 use Rattle.nf_outside.specs.Files.{Wanted, FetchedTo, HasTooMany, network_file, loads_file, flows_file, routes_file, report_file}
-use Rattle.nf_words.specs.Requests.{Request, Solve, SolveForever, Show, Load, Check, Quick, Gen, Settle, Resume, Routes, request_of}
+use Rattle.nf_command_line.specs.Requests.{Request, Solve, SolveForever, Show, Load, Check, Quick, Gen, Settle, Resume, Routes, request_of}
 use Rattle.nf_gen.specs.Ladder.{ladder}
 use Rattle.nf_app.specs.Requests.{budgets_of, files_of, generated_by}
 use Rattle.nf_answers.specs.Answers.{Answer, Solved, SolvedForever, Shown, Loaded, Checked, Quickest, TooManyWalks, Generated, Settled, Distributed, NoMemory, NoRequest, ShelfFailed, ShelfTooLong, Malformed, MalformedLoads, MalformedFlows, MalformedRoutes, MalformedReport, Passes, Unbounded, NotThin, Earlier, status_of, status_of_stop, status_of_forever, status_of_verdict}

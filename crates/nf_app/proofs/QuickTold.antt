@@ -34,7 +34,7 @@ use Rattle.nf_quick.specs.declared.fault.QuickFault.{QuickFault}
 use Rattle.nf_curve.specs.Flows.{flow_of as shown_flow}
 use Rattle.nf_curve.specs.declared.flow.Flow.{Flow as CodeFlow}
 use Rattle.nf_outside.specs.Files.{Visit}
-use Rattle.nf_words.specs.Requests.{Quick}
+use Rattle.nf_command_line.specs.Requests.{Quick}
 use Rattle.nf_price_laws.proofs.Feasible.{quickest-le}
 use Rattle.nf_app.specs.Requests.{usual_budgets}
 use Rattle.nf_answers.specs.Answers.{Quickest, TooManyWalks, Passes, Unbounded}

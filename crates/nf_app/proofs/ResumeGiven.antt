@@ -23,7 +23,7 @@ use Rattle.nf_resume_lists.specs.Meanings.{IsResumedReport, GoesOnFrom}
 use Rattle.nf_resume.specs.Faults.{IsRefused}
 use Rattle.nf_answers.specs.declared.refusal.Refusal.{Refusal}
 use Rattle.nf_outside.specs.Files.{Visit, report_file}
-use Rattle.nf_words.specs.Requests.{Resume}
+use Rattle.nf_command_line.specs.Requests.{Resume}
 use Rattle.nf_app.specs.Requests.{budgets_of}
 use Rattle.nf_answers.specs.Answers.{Solved, Checked, Passes, Earlier}
 use Rattle.nf_answers.specs.Refusals.{answer_of, refusal_of_report}

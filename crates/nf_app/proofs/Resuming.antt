@@ -16,7 +16,7 @@ use Rattle.nf_run_laws.proofs.Run.{report_equilibrium}
 use Rattle.nf_resume_lists.specs.Meanings.{IsResumedReport}
 use Rattle.nf_resumed_laws.proofs.Ends.{resumed-solved}
 use Rattle.nf_phase.specs.Solution.{bounds_of}
-use Rattle.nf_words.specs.Requests.{Request, Resume, request_of}
+use Rattle.nf_command_line.specs.Requests.{Request, Resume, request_of}
 use Rattle.nf_answers.specs.declared.status.Status.{Status}
 use Rattle.nf_answers.specs.Answers.{Answer, Solved, SolvedForever, Shown, Loaded, Checked, Quickest, TooManyWalks, Generated, Settled, Distributed, NoMemory, NoRequest, ShelfFailed, ShelfTooLong, Malformed, MalformedLoads, MalformedFlows, MalformedRoutes, MalformedReport, Passes, Unbounded, NotThin, Earlier, status_of, status_of_stop, out_text}
 use Rattle.nf_outside.specs.Files.{Wanted, network_file, report_file}

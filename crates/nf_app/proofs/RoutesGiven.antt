@@ -17,7 +17,7 @@ use Rattle.nf_routes_file.specs.declared.fault.RoutesFault.{RoutesFault}
 use Rattle.nf_routes_file.specs.Files.{IfBroken}
 use Rattle.nf_answers.specs.declared.refusal.Refusal.{Refusal}
 use Rattle.nf_outside.specs.Files.{Visit, routes_file}
-use Rattle.nf_words.specs.Requests.{Routes}
+use Rattle.nf_command_line.specs.Requests.{Routes}
 use Rattle.nf_answers.specs.Answers.{Distributed}
 use Rattle.nf_answers.specs.Refusals.{answer_of, refusal_of_routes, refusal_of_halt}
 use Rattle.nf_app.specs.RoutesGiven.{RoutesRead, by_route_list}

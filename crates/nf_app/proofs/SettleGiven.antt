@@ -12,7 +12,7 @@ use Rattle.nf_flows.specs.declared.fault.FlowsFault.{FlowsFault}
 use Rattle.nf_flows.specs.Files.{IfBroken}
 use Rattle.nf_answers.specs.declared.refusal.Refusal.{Refusal}
 use Rattle.nf_outside.specs.Files.{Visit, flows_file}
-use Rattle.nf_words.specs.Requests.{Settle}
+use Rattle.nf_command_line.specs.Requests.{Settle}
 use Rattle.nf_answers.specs.Answers.{Settled, NotThin}
 use Rattle.nf_answers.specs.Refusals.{answer_of, refusal_of_flows, refusal_of_halt}
 use Rattle.nf_app.specs.SettleGiven.{FlowsRead, AreSettled, AreNotThin, PassesFirst, AtStart}

@@ -22,7 +22,7 @@ use Rattle.nf_routes_laws.proofs.FileReading.{only_reading}
 use Rattle.nf_resume_lists.specs.Resuming as resuming
 use Rattle.nf_outside.specs.Files.{Wanted, Visit, Fits, FetchedTo, HasTooMany, loads_file, flows_file, routes_file}
 use Rattle.nf_outside.specs.Fetching.{NetworkReads}
-use Rattle.nf_words.specs.Requests.{Request, Solve, SolveForever, Show, Load, Check, Quick, Gen, Settle, Resume, Routes, request_of}
+use Rattle.nf_command_line.specs.Requests.{Request, Solve, SolveForever, Show, Load, Check, Quick, Gen, Settle, Resume, Routes, request_of}
 use Rattle.nf_answers.specs.declared.arrival.Arrival.{Arrival}
 use Rattle.nf_answers.specs.Answers.{Answer, Solved, SolvedForever, Shown, Loaded, Checked, Quickest, TooManyWalks, Generated, Settled, Distributed, NoMemory, NoRequest, ShelfFailed, ShelfTooLong, Malformed, MalformedLoads, MalformedFlows, MalformedRoutes, MalformedReport, Passes, Unbounded, NotThin, Earlier}
 use Rattle.nf_app.specs.Requests.{files_of, generated_by, budgets_of}

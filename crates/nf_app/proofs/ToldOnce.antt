@@ -42,7 +42,7 @@ use Rattle.nf_resume_lists.specs.Resuming.{Refused, Stands, resume_list}
 use Rattle.nf_resume_lists.specs.Resuming as resuming
 use Rattle.nf_resumed_laws.proofs.OneResumed.{one_resumed}
 use Rattle.nf_outside.specs.Files.{Wanted}
-use Rattle.nf_words.specs.Requests.{Request, Solve, SolveForever, Show, Load, Check, Quick, Gen, Settle, Resume, Routes, request_of}
+use Rattle.nf_command_line.specs.Requests.{Request, Solve, SolveForever, Show, Load, Check, Quick, Gen, Settle, Resume, Routes, request_of}
 use Rattle.nf_answers.specs.declared.arrival.Arrival.{Arrival}
 use Rattle.nf_answers.specs.Answers.{Answer, Solved, SolvedForever, Quickest, Generated, Settled, Passes}
 use Rattle.nf_app.specs.Requests.{files_of, generated_by, budgets_of, usual_budgets}

@@ -18,7 +18,7 @@ use Rattle.nf_answers.specs.Answers.{Answer, Solved, SolvedForever, Shown, Loade
 use Rattle.nf_outside.specs.Files.{Visit}
 use Rattle.nf_outside.specs.Sinks.{Taken}
 use Rattle.nf_outside.specs.Shown.{IsShown}
-use Rattle.nf_words.specs.Requests.{Request, Solve, SolveForever, Show, Load, Check, Quick, Gen, Settle, Resume, Routes}
+use Rattle.nf_command_line.specs.Requests.{Request, Solve, SolveForever, Show, Load, Check, Quick, Gen, Settle, Resume, Routes}
 use Rattle.nf_app.specs.Requests.{usual_budgets}
 use Rattle.nf_app.specs.QuickGiven.{arrival_of, IsArrival}
 use Rattle.nf_app.specs.Given.{IsGiven}

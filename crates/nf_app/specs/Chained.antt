@@ -6,7 +6,7 @@ use Rattle.nf_lines.specs.Words.{line_of_words}
 use Rattle.nf_answers.specs.declared.status.Status.{Status}
 use Rattle.nf_outside.specs.Files.{Visit, network_file, report_file}
 use Rattle.nf_outside.specs.Sinks.{Taken, TookAll}
-use Rattle.nf_words.specs.Requests.{Solve, Check}
+use Rattle.nf_command_line.specs.Requests.{Solve, Check}
 use Rattle.nf_app.specs.Runs.{Call, Asks, Ran}
 use Rattle.nf_app.specs.Completeness.{Tells}
 

@@ -25,7 +25,7 @@ use Rattle.nf_routes_lists.specs.RoutesFile.{NamedRoute, ReadsRoutes}
 use Rattle.nf_routes_lists.specs.RoutesList.{Routed}
 use Rattle.nf_answers.specs.declared.status.Status.{Status}
 use Rattle.nf_outside.specs.Files.{Wanted, Visit, network_file, loads_file, flows_file, routes_file, report_file}
-use Rattle.nf_words.specs.Requests.{Solve, SolveForever, Show, Load, Check, Quick, Gen, Settle, Resume, Routes}
+use Rattle.nf_command_line.specs.Requests.{Solve, SolveForever, Show, Load, Check, Quick, Gen, Settle, Resume, Routes}
 use Rattle.nf_gen.specs.Ladder.{ladder}
 use Rattle.nf_app.specs.Requests.{budgets_of}
 use Rattle.nf_app.specs.Given.{loading_list}

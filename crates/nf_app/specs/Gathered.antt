@@ -5,7 +5,7 @@ use Rattle.nf_answers.specs.declared.refusal.Refusal.{Refusal}
 use Rattle.nf_answers.specs.Refusals.{answer_of}
 use Rattle.nf_outside.specs.Files.{Wanted, Visit}
 use Rattle.nf_outside.specs.Fetching.{IsLastText}
-use Rattle.nf_words.specs.Requests.{Request}
+use Rattle.nf_command_line.specs.Requests.{Request}
 use Rattle.nf_app.specs.Requests.{files_of}
 use Rattle.nf_app.specs.Runs.{Call, Read, IsAnswer}
 

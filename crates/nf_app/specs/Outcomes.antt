@@ -7,7 +7,7 @@ use Rattle.nf_answers.specs.declared.refusal.Refusal.{Refusal}
 use Rattle.nf_answers.specs.Refusals.{answer_of}
 use Rattle.nf_answers.specs.Outcomes.{answer_with, HasTextWith, answer_in, HasText}
 use Rattle.nf_outside.specs.Files.{Visit}
-use Rattle.nf_words.specs.Requests.{Request}
+use Rattle.nf_command_line.specs.Requests.{Request}
 use Rattle.nf_app.specs.Given.{IsGiven}
 use Rattle.nf_app.specs.Runs.{Call, IsAnswer}
 

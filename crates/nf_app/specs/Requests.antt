@@ -3,8 +3,8 @@ use Rattle.std.specs.Prelude.{ℕ, List, [], ◌∷◌, Option, Some, None}
 use Rattle.nf_formats.specs.Named.{Named}
 use Rattle.nf_gen.specs.Ladder.{ladder}
 use Rattle.nf_phase.specs.declared.solution.Budgets.{Budgets}
-use Rattle.nf_words.specs.Numbers.{usual_phases, usual_patterns}
-use Rattle.nf_words.specs.Requests.{Request, Solve, SolveForever, Show, Load, Check, Quick, Gen, Settle, Resume, Routes}
+use Rattle.nf_command_line.specs.Numbers.{usual_phases, usual_patterns}
+use Rattle.nf_command_line.specs.Requests.{Request, Solve, SolveForever, Show, Load, Check, Quick, Gen, Settle, Resume, Routes}
 use Rattle.nf_outside.specs.Files.{Wanted, network_file, loads_file, flows_file, routes_file, report_file}
 
 -- the files that are wanted, in the order in which they are fetched; the first is the network's

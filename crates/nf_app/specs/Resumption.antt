@@ -8,7 +8,7 @@ use Rattle.nf_lists.specs.PhaseRun.{Bounds, IsRunReport}
 use Rattle.nf_resumed_laws.specs.ResumedLaws.{RestFits}
 use Rattle.nf_phase.specs.declared.solution.Budgets.{Budgets}
 use Rattle.nf_phase.specs.Solution.{bounds_of}
-use Rattle.nf_words.specs.Requests.{Resume}
+use Rattle.nf_command_line.specs.Requests.{Resume}
 use Rattle.nf_answers.specs.Answers.{Answer, Solved}
 use Rattle.nf_app.specs.Requests.{budgets_of}
 use Rattle.nf_app.specs.Reports.{HoldsReport}

@@ -9,7 +9,7 @@ use Rattle.nf_outside.specs.Files.{Wanted, Visit, FetchedNone, FetchedAll, Fetch
 use Rattle.nf_outside.specs.Fetching.{NetworkReads}
 use Rattle.nf_outside.specs.Sinks.{Taken}
 use Rattle.nf_outside.specs.Shown.{IsShown}
-use Rattle.nf_words.specs.Requests.{Request, request_of}
+use Rattle.nf_command_line.specs.Requests.{Request, request_of}
 use Rattle.nf_app.specs.Requests.{files_of, generated_by}
 use Rattle.nf_app.specs.Given.{IsGiven}
 

@@ -28,7 +28,7 @@ use Rattle.nf_resume_lists.specs.Resuming.{Refused, Stands, resume_list}
 use Rattle.nf_resume_lists.specs.Resuming as resuming
 use Rattle.nf_resume_lists.specs.Meanings.{IsResumedReport}
 use Rattle.nf_outside.specs.Files.{Wanted}
-use Rattle.nf_words.specs.Requests.{Request, Solve, SolveForever, Show, Load, Check, Quick, Gen, Settle, Resume, Routes, request_of}
+use Rattle.nf_command_line.specs.Requests.{Request, Solve, SolveForever, Show, Load, Check, Quick, Gen, Settle, Resume, Routes, request_of}
 use Rattle.nf_answers.specs.declared.arrival.Arrival.{Arrival}
 use Rattle.nf_answers.specs.Answers.{Answer, Solved, SolvedForever, Shown, Loaded, Checked, Quickest, TooManyWalks, Generated, Settled, Distributed, NoRequest, ShelfTooLong, Malformed, MalformedLoads, MalformedFlows, MalformedRoutes, MalformedReport, Passes, Unbounded, NotThin, Earlier}
 use Rattle.nf_app.specs.Requests.{files_of, generated_by, budgets_of, usual_budgets}

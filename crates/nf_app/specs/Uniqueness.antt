@@ -13,7 +13,7 @@ use Rattle.nf_forever_lists.specs.ForeverRun.{Forever}
 use Rattle.nf_forever_lists.specs.Extended.{flow_until}
 use Rattle.nf_quick_lists.specs.Departures.{IsDeparture}
 use Rattle.nf_unique_laws.specs.UniqueLaws.{SameInAll}
-use Rattle.nf_words.specs.Requests.{Check, Quick}
+use Rattle.nf_command_line.specs.Requests.{Check, Quick}
 use Rattle.nf_answers.specs.Answers.{Answer, Solved, SolvedForever, Checked, Quickest, Generated}
 use Rattle.nf_answers.specs.declared.arrival.Arrival.{Arrival}
 use Rattle.nf_app.specs.Reports.{HoldsReport}

@@ -12,9 +12,9 @@ ghost use Rattle.nf_rational.specs.Rational.{ℚ};
 ghost use Rattle.nf_formats.specs.Report.{Report};
 ghost use Rattle.nf_resume.specs.Faults.{IsResumeFault};
 ghost use Rattle.nf_outside.specs.Files.{Visit, visit, report_limit, loads_file, flows_file, routes_file, report_file};
-ghost use Rattle.nf_words.specs.Requests.{Solve, SolveForever, Show, Load, Check, Gen, Settle, Resume, Routes, CanBeAsked, request_of};
-ghost use Rattle.nf_words.specs.Requests as requests;
-ghost use Rattle.nf_words.specs.Views.{requested};
+ghost use Rattle.nf_command_line.specs.Requests.{Solve, SolveForever, Show, Load, Check, Gen, Settle, Resume, Routes, CanBeAsked, request_of};
+ghost use Rattle.nf_command_line.specs.Requests as requests;
+ghost use Rattle.nf_command_line.specs.RequestViews.{requested};
 ghost use Rattle.nf_outside.specs.Fetching.{IsLastText};
 ghost use Rattle.nf_app.specs.Reports.{HoldsReport};
 ghost use Rattle.nf_app.specs.Gathered.{OtherFits, OtherIsText};
@@ -26,6 +26,7 @@ use crate::loading::load_links;
 use crate::settling::settle_at_start;
 use nf_answers::{Found, Ladder, Outcome, Refusal, augments_text, flow_text};
 use nf_check::check;
+use nf_command_line::{Request, read_request};
 use nf_edge::Shelf;
 use nf_flows::parse_flows;
 use nf_forever::solve_forever;
@@ -38,7 +39,6 @@ use nf_report::parse_report;
 use nf_resume::{ResumeFault, resume};
 use nf_routes::load_routes;
 use nf_routes_file::parse_routes;
-use nf_words::{Request, read_request};
 use std::alloc::{AllocError, Global};
 
 // What solving the network to a horizon gives.

@@ -8,11 +8,11 @@ ghost use Rattle.nf_app.specs.Requests.{usual_budgets};
 ghost use Rattle.nf_app.specs.QuickGiven.{IsArrival, ArrivesIn};
 
 use nf_answers::Arrival;
+use nf_command_line::{USUAL_PATTERNS, USUAL_PHASES};
 use nf_curve::{Curve, Flow};
 use nf_frac::Q;
 use nf_net::{Network, NodeId};
 use nf_phase::{Budgets, solve};
-use nf_words::{USUAL_PATTERNS, USUAL_PHASES};
 use std::alloc::{AllocError, Global};
 
 // The last point of a curve.

@@ -5,16 +5,16 @@ ghost use Rattle.nf_answers.specs.declared.refusal.Refusal.TheVariants as Refusa
 ghost use Rattle.nf_outside.specs.Files.{visit, network_file};
 ghost use Rattle.nf_outside.specs.Fetching.{AreRead};
 ghost use Rattle.nf_gen.specs.Ladder.{most_rungs, ladder};
-ghost use Rattle.nf_words.specs.Requests.{CanBeAsked, request_of};
-ghost use Rattle.nf_words.specs.Views.{requested};
+ghost use Rattle.nf_command_line.specs.Requests.{CanBeAsked, request_of};
+ghost use Rattle.nf_command_line.specs.RequestViews.{requested};
 ghost use Rattle.nf_app.specs.Gathered.{OtherFits, IsGathered};
 
 use nf_answers::Refusal;
+use nf_command_line::Request;
 use nf_edge::Shelf;
 use nf_gen::generated;
 use nf_net::Network;
 use nf_outside::{fetch_network, fetch_network_with};
-use nf_words::Request;
 use std::alloc::Global;
 
 /// The most bytes that a loads file may have.

@@ -1,6 +1,6 @@
 use Rattle.std.proofs.Common.{ℕ, List, sym, subst}
 use Rattle.std.proofs.lemmas.Result.{err_from_is_err_and}
-use Rattle.nf_words.specs.Views.{requested}
+use Rattle.nf_command_line.specs.RequestViews.{requested}
 use Rattle.nf_outside.specs.Files.{visit}
 use Rattle.nf_app.specs.Gathered.{OtherFits, OtherIsText}
 use Rattle.nf_app.proofs.Calls.{given}

@@ -1,7 +1,7 @@
 use Rattle.std.proofs.Common.{◌≡◌, ℕ, ◌≤◌, List, length, ap, sym, subst, arith}
-use Rattle.nf_words.specs.declared.request.Request as code
-use Rattle.nf_words.specs.Requests.{Request, CanBeAsked}
-use Rattle.nf_words.specs.Views.{requested}
+use Rattle.nf_command_line.specs.declared.request.Request as code
+use Rattle.nf_command_line.specs.Requests.{Request, CanBeAsked}
+use Rattle.nf_command_line.specs.RequestViews.{requested}
 use Rattle.nf_app.specs.Gathered.{OtherFits, OtherIsText}
 use Rattle.nf_app.specs.Outcomes.{IsGiving}
 use Rattle.nf_app.proofs.answering.find.Goals as goal

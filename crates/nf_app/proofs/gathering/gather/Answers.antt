@@ -1,8 +1,8 @@
 use Rattle.std.proofs.Common.{◌≡◌, ap, sym, subst, refl}
 use Rattle.std.specs.Prelude.{IfOk}
-use Rattle.nf_words.specs.declared.request.Request as code
-use Rattle.nf_words.specs.Requests.{Request, CanBeAsked}
-use Rattle.nf_words.specs.Views.{requested}
+use Rattle.nf_command_line.specs.declared.request.Request as code
+use Rattle.nf_command_line.specs.Requests.{Request, CanBeAsked}
+use Rattle.nf_command_line.specs.RequestViews.{requested}
 use Rattle.nf_gen.specs.Ladder.{ladder}
 use Rattle.nf_outside.specs.Files.{visit, network_file, loads_file, flows_file, routes_file, report_file}
 use Rattle.nf_app.specs.Requests.{files_of, generated_by}

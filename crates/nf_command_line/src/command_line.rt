@@ -1,0 +1,88 @@
+// The words of the command line as clap reads them.
+ghost use Rattle.std.specs.Prelude.{◌≡◌, IfOk, map, option_map};
+ghost use Rattle.clap.specs.Simple.{with_rule};
+ghost use Rattle.nf_edge.specs.Names.{texts};
+ghost use Rattle.nf_command_line.specs.CommandLine.{bare, nfot, command_rule, files_rule, flag_rule, with_options, matches_on};
+ghost use Rattle.nf_command_line.specs.MatchViews.{app_in, rows_in};
+
+use clap::error::ErrorKind;
+use clap::{Arg, ArgAction, ArgMatches, Command};
+use std::alloc::{AllocError, Global};
+
+// The options of one value: those of a run, of a quickest flow, and of a ladder.
+static OPTIONS: [&str; 7] = [
+    "horizon", "phases", "patterns", "amount", "augments", "number", "rungs",
+];
+
+// The command with its positional COMMAND, which is required.
+fn start_command<'w>(alloc: Global) -> Result<Command<'w>, AllocError>
+    ensures { IfOk result (λ command. app_in command ≡ with_rule bare command_rule) }
+{
+    let command = Arg::new(alloc, "command").required(true);
+    Command::new(alloc, "nfot")
+        .disable_help_flag(true)
+        .arg(command)
+}
+
+// The command with more options of one value, each `--name`.
+fn with_options<'w>(
+    alloc: Global,
+    mut command: Command<'w>,
+    names: &[&'static str],
+) -> Result<Command<'w>, AllocError>
+    ensures { IfOk result (λ more. app_in more ≡ with_options (map (λ name. name.now) names.now) (app_in command.entry)) }
+{
+    for name in names {
+        let option = Arg::new(alloc, name).long(name);
+        command = command.arg(option)?;
+    }
+    Ok(command)
+}
+
+// The command with one more flag without a value, `--name`.
+fn with_flag<'w>(
+    alloc: Global,
+    command: Command<'w>,
+    name: &'static str,
+) -> Result<Command<'w>, AllocError>
+    ensures { IfOk result (λ more. app_in more ≡ with_rule (app_in command.entry) (flag_rule name.now)) }
+{
+    let flag = Arg::new(alloc, name).long(name).action(ArgAction::SetTrue);
+    command.arg(flag)
+}
+
+// The command with its last positional FILES, of any number of values.
+fn with_files<'w>(alloc: Global, command: Command<'w>) -> Result<Command<'w>, AllocError>
+    ensures { IfOk result (λ more. app_in more ≡ with_rule (app_in command.entry) files_rule) }
+{
+    let files = Arg::new(alloc, "files").num_args(0..);
+    command.arg(files)
+}
+
+// The command `nfot`, with its arguments.
+fn command_line<'w>(alloc: Global) -> Result<Command<'w>, AllocError>
+    ensures { IfOk result (λ command. app_in command ≡ nfot) }
+{
+    let command = start_command(alloc)?;
+    let command = with_options(alloc, command, OPTIONS.as_slice())?;
+    let command = with_flag(alloc, command, "forever")?;
+    with_files(alloc, command)
+}
+
+/// What clap makes of the words, of which the first is the program's name; None where it doesn't take them. It is refused where
+/// memory is wanting.
+pub fn match_words<'w>(
+    alloc: Global,
+    words: &'w [String],
+) -> Result<Option<ArgMatches<'w>>, AllocError>
+    ensures { IfOk result (λ matches. matches_on (texts words.now) ≡ option_map rows_in matches) }
+{
+    let command = command_line(alloc)?;
+    match command.try_get_matches_from(words) {
+        Ok(matches) => Ok(Some(matches)),
+        Err(error) => match error.kind() {
+            ErrorKind::OutOfMemory => Err(AllocError),
+            _ => Ok(None),
+        },
+    }
+}

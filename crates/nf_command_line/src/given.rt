@@ -1,0 +1,71 @@
+// What the matches of clap give: words and files, by the names of arguments.
+ghost use Rattle.std.specs.Prelude.{◌≡◌, length, slice_get};
+ghost use Rattle.nf_command_line.specs.CommandLine.{word_in, files_in, file_in};
+ghost use Rattle.nf_command_line.specs.Commands.{is_there, is_flagged, is_named};
+ghost use Rattle.nf_command_line.specs.MatchViews.{rows_in, text_in};
+
+use clap::ArgMatches;
+
+/// The word that an argument has, where it is there.
+pub fn word_of<'w>(matches: &ArgMatches<'w>, name: &str) -> Option<&'w str>
+    ensures { text_in result ≡ word_in name.now (rows_in matches.now) }
+{
+    matches.get_str(name)
+}
+
+/// Whether the words give an option.
+pub(crate) fn is_there(matches: &ArgMatches, name: &str) -> bool
+    ensures { result ≡ is_there name.now (rows_in matches.now) }
+{
+    word_of(matches, name).is_some()
+}
+
+/// Whether the words give a flag.
+pub(crate) fn is_flagged(matches: &ArgMatches, name: &str) -> bool
+    ensures { result ≡ is_flagged name.now (rows_in matches.now) }
+{
+    match word_of(matches, name) {
+        Some(word) => word == "true",
+        None => false,
+    }
+}
+
+/// Whether the word COMMAND is this name.
+pub(crate) fn is_named(matches: &ArgMatches, name: &str) -> bool
+    ensures { result ≡ is_named name.now (rows_in matches.now) }
+{
+    match word_of(matches, "command") {
+        Some(word) => word == name,
+        None => false,
+    }
+}
+
+/// How many files the words give.
+pub(crate) fn count_files(matches: &ArgMatches) -> usize
+    ensures { result ≡ length (files_in (rows_in matches.now)) }
+{
+    match matches.get_strs("files") {
+        Some(files) => files.len(),
+        None => 0,
+    }
+}
+
+// The element at a place, where there is one.
+fn file_at<'w>(files: &[&'w str], place: usize) -> Option<&'w str>
+    ensures { text_in result ≡ text_in (slice_get files.now place) }
+{
+    match files.get(place) {
+        Some(file) => Some(*file),
+        None => None,
+    }
+}
+
+/// The file at a place, from 0.
+pub fn file_of<'w>(matches: &ArgMatches<'w>, place: usize) -> Option<&'w str>
+    ensures { text_in result ≡ file_in place (rows_in matches.now) }
+{
+    match matches.get_strs("files") {
+        Some(files) => file_at(files, place),
+        None => None,
+    }
+}

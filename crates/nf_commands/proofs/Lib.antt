@@ -1,4 +1,0 @@
-pub mod Faultless
-pub mod Taken
-pub mod Table
-pub mod Files

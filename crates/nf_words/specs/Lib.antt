@@ -1,4 +1,0 @@
-pub mod Numbers
-pub mod Requests
-pub mod Views
-pub mod Examples
