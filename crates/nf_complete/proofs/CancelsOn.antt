@@ -29,7 +29,7 @@ use Rattle.nf_complete.specs.Settling.{ComesTo}
 use Rattle.nf_complete.specs.InteriorFlags.{interior_flags}
 use Rattle.nf_complete.proofs.Cycling.{forest-weaker}
 use Rattle.nf_complete.proofs.Interiors.{set_count, fewer_set, flags_are}
-use Rattle.nf_link_flows.proofs.Telling.{value_of}
+use Rattle.nf_complete.proofs.Telling.{value_of}
 
 -- ---- the first cycle of links that are chosen by flags is the next one, where the flags are those of interior links
 module _ (net : Network) (sets : Sets) (slopes flows : List ℚ) (flags : List Bool) (are : (e : ℕ) → Has flags e ↔ IsInterior net sets slopes flows e) where

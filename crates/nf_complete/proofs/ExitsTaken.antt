@@ -14,7 +14,7 @@ use Rattle.nf_model_laws.proofs.Affine.{quotient-times, le_from_times}
 use Rattle.nf_thin_laws.proofs.ExitSlopes.{exit_resetting, exit_full, exit_tight, exit_zero}
 use Rattle.nf_thin_laws.proofs.LinkLaws.{LinkLaw}
 use Rattle.nf_complete_laws.proofs.Deciding.{some_or_none}
-use Rattle.nf_link_flows.specs.ThinParts.{filling, KeepsSlopes}
+use Rattle.nf_complete.specs.ThinParts.{filling, KeepsSlopes}
 
 max_second : (s q : ℚ) → q ≤ℚ max_ℚ s q
 max_second s q = ⊎_elim

@@ -18,11 +18,11 @@ use Rattle.nf_plain_laws.proofs.Entries.{entry, slice_get-image}
 use Rattle.nf_thin_laws.proofs.Flags.{flag, flag-cases}
 use Rattle.nf_complete_lists.specs.Interior.{IsInterior}
 use Rattle.nf_complete_lists.specs.Cancelling.{fulls_list}
-use Rattle.nf_link_flows.specs.ThinParts.{filling}
+use Rattle.nf_complete.specs.ThinParts.{filling}
 use Rattle.nf_complete.specs.InteriorFlags.{between, interior_test, interior_flags}
-use Rattle.nf_link_flows.proofs.Deciding.{Decides-less}
-use Rattle.nf_link_flows.proofs.Filling.{fulls_at}
-use Rattle.nf_link_flows.proofs.Telling.{range_at}
+use Rattle.nf_complete.proofs.Deciding.{Decides-less}
+use Rattle.nf_complete.proofs.Filling.{fulls_at}
+use Rattle.nf_complete.proofs.Telling.{range_at}
 
 Decides-flag : (flags : List Bool) (e : ℕ) → Decides (flag flags e) (Has flags e)
 Decides-flag flags e = ⊎_elim

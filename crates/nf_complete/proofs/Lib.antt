@@ -8,3 +8,11 @@ pub mod ThinAnswers
 pub mod Interiors
 pub mod CancelsOn
 pub mod Hops
+pub mod Folds
+pub mod Deciding
+pub mod Telling
+pub mod LinkByLink
+pub mod Balancing
+pub mod Filling
+pub mod LinkAnswers
+pub mod Stating

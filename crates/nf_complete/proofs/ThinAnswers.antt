@@ -13,10 +13,10 @@ use Rattle.nf_thin_laws.specs.ActiveLinks.{NoneEntersSource}
 use Rattle.nf_complete_lists.specs.Cancelling.{fulls_list}
 use Rattle.nf_complete_lists.specs.ThinList.{Sums, sums_at, thin_list}
 use Rattle.nf_complete_laws.specs.SettleLaws.{AreGoodSets}
-use Rattle.nf_link_flows.specs.Testing.{Tells}
-use Rattle.nf_link_flows.specs.ThinParts.{IsProper}
-use Rattle.nf_link_flows.proofs.Deciding.{says_like, says_both}
-use Rattle.nf_link_flows.proofs.Telling.{first_passes}
+use Rattle.nf_complete.specs.Testing.{Tells}
+use Rattle.nf_complete.specs.ThinParts.{IsProper}
+use Rattle.nf_complete.proofs.Deciding.{says_like, says_both}
+use Rattle.nf_complete.proofs.Telling.{first_passes}
 use Rattle.nf_complete.proofs.ThinFlows.{Balanced, Kept, IsThinFlow-made, balanced-thin, kept-thin, proper-thin}
 
 module _ (passes : Passing) (net : Network) (sets : Sets) (rate : ℚ) (flows slopes : List ℚ) where

@@ -19,7 +19,7 @@ use Rattle.nf_thin_laws.proofs.Totals.{IsThinFlow-sink}
 use Rattle.nf_complete_laws.specs.SettleLaws.{AreGoodSets}
 use Rattle.nf_complete_laws.proofs.Bare.{flagged, same_node}
 use Rattle.nf_complete_laws.proofs.Deciding.{same_or_not}
-use Rattle.nf_link_flows.specs.ThinParts.{active_flow, brought, taken_away, IsBalanced, KeepsAt, IsLevelAt, Brings, Takes, CarriesOnActive, IsProper}
+use Rattle.nf_complete.specs.ThinParts.{active_flow, brought, taken_away, IsBalanced, KeepsAt, IsLevelAt, Brings, Takes, CarriesOnActive, IsProper}
 use Rattle.nf_complete.proofs.ExitsTaken.{exit_empty, keeps-used, keeps-least, keeps-taken, law-keeps}
 
 pub if_same : {A : Type 0} (v w : ℕ) (a b : A) → v ≡ w → (if eqb v w then a else b) ≡ a

@@ -3,3 +3,6 @@ pub mod Cycles
 pub mod InteriorFlags
 pub mod Settling
 pub mod NextCycles
+pub mod Testing
+pub mod ThinParts
+pub mod States

@@ -6,9 +6,9 @@ ghost use Rattle.nf_model.specs.Pattern.{IsForest};
 ghost use Rattle.nf_graph.specs.Graph.{AreBelow};
 ghost use Rattle.nf_complete.specs.Cycles.{IsClosed, IsFirstCycle, Closes, round_onto, lower as lower_of, lowest_from};
 
+use crate::step::Step;
 use crate::way::way;
 use nf_graph::{Hop, LinkId};
-use nf_link_flows::Step;
 use std::alloc::{AllocError, Global};
 
 // The same step the other way round.

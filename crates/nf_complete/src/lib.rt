@@ -1,14 +1,20 @@
-//! Thin flows (Koch and Skutella 2011; Cominetti, Correa and Larré 2015) that are given: whether flows and slopes are one, and how one is
-//! settled into a listed pattern.
+//! Thin flows (Koch and Skutella 2011; Cominetti, Correa and Larré 2015) that are given: whether flows and slopes are one, how flows change
+//! where a cycle is cancelled, and how a thin flow is settled into a listed pattern. Flows and slopes are exact fractions.
 #![tactic(auto)]
 
+mod cancelling;
 mod cycle;
 mod fulls;
 mod interior;
+mod leading;
+mod node_sums;
+mod numbers;
 mod proper;
 mod settled;
 mod settling;
 mod slopes;
+mod states;
+mod step;
 mod taken;
 mod thin;
 mod way;

@@ -3,12 +3,12 @@ ghost use Rattle.std.specs.Prelude.{◌≡◌, ◌<◌, not, length, MatchBool};
 ghost use Rattle.nf_rational.specs.Operations.{0ℚ, 1ℚ};
 ghost use Rattle.nf_rational.specs.Order.{le_ℚ};
 ghost use Rattle.nf_model.specs.Entries.{number_at};
-ghost use Rattle.nf_link_flows.specs.ThinParts.{NoneNegative, CarriesIfActive, CarriesOnActive, IsProper};
+ghost use Rattle.nf_complete.specs.ThinParts.{NoneNegative, CarriesIfActive, CarriesOnActive, IsProper};
 
+use crate::numbers::{flow_of, slope_of};
 use crate::taken::each_is_taken;
 use nf_frac::Q;
 use nf_graph::{LinkId, LinkSets};
-use nf_link_flows::{flow_of, slope_of};
 use nf_net::Network;
 
 // The number at a place is below 0.

@@ -13,13 +13,14 @@ ghost use Rattle.nf_complete_laws.specs.SettleLaws.{AreGoodSets};
 ghost use Rattle.nf_complete.specs.Settling.{ComesTo, SettlesTo};
 ghost use Rattle.nf_complete.specs.NextCycles.{AreForestBelow, ClosesNext};
 
+use crate::cancelling::cancel;
 use crate::cycle::{Cycle, first_cycle};
 use crate::fulls::fulls;
 use crate::interior::interior;
 use crate::settled::Settled;
+use crate::states::settled_pattern;
 use nf_frac::{Halt, Q};
 use nf_graph::LinkSets;
-use nf_link_flows::{cancel, settled_pattern};
 use nf_net::Network;
 use std::alloc::{AllocError, Global};
 

@@ -3,13 +3,13 @@ ghost use Rattle.std.specs.Prelude.{◌≡◌, ◌<◌, ◌||◌, ℕ, Bool, fal
 ghost use Rattle.nf_work.specs.Passing.{passes_Q};
 ghost use Rattle.nf_model.specs.Network.{Link as SeenLink, IsLink};
 ghost use Rattle.nf_complete_lists.specs.Cancelling.{full_at as full_at_by, fulls_list};
-ghost use Rattle.nf_link_flows.specs.Testing.{Tells};
-ghost use Rattle.nf_link_flows.specs.ThinParts.{keeps_test, KeepsAt};
+ghost use Rattle.nf_complete.specs.Testing.{Tells};
+ghost use Rattle.nf_complete.specs.ThinParts.{keeps_test, KeepsAt};
 
 use crate::fulls::full_at;
+use crate::numbers::{both, flow_of, slope_of};
 use nf_frac::{PassedAt, Q};
 use nf_graph::{LinkId, LinkSets};
-use nf_link_flows::{both, flow_of, slope_of};
 use nf_net::Network;
 
 // Of a link without a capacity.

@@ -1,10 +1,10 @@
 // Whether each node has an active link into it of which it takes its slope.
 ghost use Rattle.std.specs.Prelude.{◌≡◌, ◌<◌, ℕ, length, MatchBool};
-ghost use Rattle.nf_link_flows.specs.ThinParts.{Takes, EachIsTaken};
+ghost use Rattle.nf_complete.specs.ThinParts.{Takes, EachIsTaken};
 
+use crate::leading::{brings, is_level, leads_into};
 use nf_frac::Q;
 use nf_graph::{LinkId, LinkSets, NodeId};
-use nf_link_flows::{brings, is_level, leads_into};
 use nf_net::Network;
 
 // A node takes its slope of the link.

@@ -6,11 +6,12 @@ ghost use Rattle.nf_thin_laws.specs.ActiveLinks.{NoneEntersSource};
 ghost use Rattle.nf_complete_laws.specs.SettleLaws.{AreGoodSets};
 ghost use Rattle.nf_complete.specs.Settling.{Passes};
 
+use crate::node_sums::balances;
+use crate::numbers::both;
 use crate::proper::is_proper;
 use crate::slopes::keep_slopes;
 use nf_frac::{PassedAt, Q};
 use nf_graph::LinkSets;
-use nf_link_flows::{balances, both};
 use nf_net::Network;
 
 /// Whether flows of the links, amounts per unit of time, and slopes of the nodes are a thin flow with resetting (Cominetti, Correa and

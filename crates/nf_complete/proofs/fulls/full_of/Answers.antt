@@ -4,7 +4,7 @@ use Rattle.nf_work.specs.Passing.{passes_Q}
 use Rattle.nf_work.specs.declared.Part.TheVariants.{Verdict}
 use Rattle.nf_work.specs.Checked.{at_part}
 use Rattle.nf_complete_lists.specs.Cancelling.{full_on}
-use Rattle.nf_link_flows.proofs.Filling.{full_none}
+use Rattle.nf_complete.proofs.Filling.{full_none}
 use Rattle.nf_complete.proofs.fulls.full_of.Goals as goal
 
 pub returns-in-None : goal.returns-in-None

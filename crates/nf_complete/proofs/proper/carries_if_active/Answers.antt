@@ -1,9 +1,9 @@
 use Rattle.std.proofs.Common.{ap, ◌∙◌}
 use Rattle.nf_rational.specs.Rational.{ℚ}
 use Rattle.nf_model.specs.Entries.{number_at}
-use Rattle.nf_link_flows.specs.Testing.{same_test}
-use Rattle.nf_link_flows.proofs.Deciding.{not_set_by}
-use Rattle.nf_link_flows.proofs.LinkAnswers.{carries_told}
+use Rattle.nf_complete.specs.Testing.{same_test}
+use Rattle.nf_complete.proofs.Deciding.{not_set_by}
+use Rattle.nf_complete.proofs.LinkAnswers.{carries_told}
 use Rattle.nf_complete.proofs.proper.carries_if_active.Goals as goal
 
 pub returns : goal.returns

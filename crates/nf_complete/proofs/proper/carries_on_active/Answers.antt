@@ -3,7 +3,7 @@ use Rattle.std.proofs.lemmas.Bool.{cases_lt}
 use Rattle.nf_rational.specs.Rational.{ℚ}
 use Rattle.nf_thin_laws.proofs.Flags.{number_at-beyond}
 use Rattle.nf_model.specs.ThinFlow.{Sets}
-use Rattle.nf_link_flows.specs.ThinParts.{CarriesIfActive, CarriesOnActive}
+use Rattle.nf_complete.specs.ThinParts.{CarriesIfActive, CarriesOnActive}
 use Rattle.nf_complete.proofs.proper.carries_on_active.Goals as goal
 
 pub returns-then-not-carries_if_active : goal.returns-then-not-carries_if_active

@@ -2,8 +2,8 @@ use Rattle.std.proofs.Common.{ap, ◌∙◌}
 use Rattle.nf_rational.specs.Rational.{ℚ}
 use Rattle.nf_rational.specs.Operations.{1ℚ}
 use Rattle.nf_model.specs.Entries.{number_at}
-use Rattle.nf_link_flows.specs.Testing.{same_test}
-use Rattle.nf_link_flows.proofs.Deciding.{says_by, Decides-same}
+use Rattle.nf_complete.specs.Testing.{same_test}
+use Rattle.nf_complete.proofs.Deciding.{says_by, Decides-same}
 use Rattle.nf_complete.proofs.proper.starts.Goals as goal
 
 pub returns : goal.returns

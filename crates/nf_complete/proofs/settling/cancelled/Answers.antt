@@ -7,8 +7,8 @@ use Rattle.nf_work.specs.Passing.{passes_Q}
 use Rattle.nf_complete_lists.specs.Cancelling.{cancel_list, Cancels}
 use Rattle.nf_complete_lists.specs.Interior.{IsNextCycle}
 use Rattle.nf_complete.specs.NextCycles.{AreForestBelow, ClosesNext}
-use Rattle.nf_link_flows.proofs.Filling.{fulls_count}
-use Rattle.nf_link_flows.proofs.Telling.{value_of}
+use Rattle.nf_complete.proofs.Filling.{fulls_count}
+use Rattle.nf_complete.proofs.Telling.{value_of}
 use Rattle.nf_complete.proofs.CancelsOn.{closes_at, none_at, known_first, known_on, list_at, halts_of, cancels_first, cancels_more, cancels_end, cancels_stop, fewer_interior}
 use Rattle.nf_complete.proofs.settling.cancelled.Goals as goal
 

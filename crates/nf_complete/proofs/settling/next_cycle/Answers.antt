@@ -7,7 +7,7 @@ use Rattle.nf_model.specs.Network.{hops}
 use Rattle.nf_model.specs.Pattern.{IsForest}
 use Rattle.nf_complete.specs.Cycles.{Closes}
 use Rattle.nf_complete.specs.InteriorFlags.{interior_flags}
-use Rattle.nf_link_flows.proofs.Filling.{fulls_count}
+use Rattle.nf_complete.proofs.Filling.{fulls_count}
 use Rattle.nf_complete.proofs.Hops.{hops_count, hops_below, few_hops}
 use Rattle.nf_complete.proofs.Interiors.{flags_count, flags_are}
 use Rattle.nf_complete.proofs.CancelsOn.{found_of, known_of}

@@ -8,8 +8,8 @@ use Rattle.nf_work.specs.Checked.{each}
 use Rattle.nf_model.specs.Network.{Link}
 use Rattle.nf_plain_laws.proofs.Entries.{entry}
 use Rattle.nf_complete_lists.specs.Cancelling.{full_at, fulls_list}
-use Rattle.nf_link_flows.specs.ThinParts.{KeepsAt}
-use Rattle.nf_link_flows.proofs.Telling.{link_at, each_link, link_each, tells_like, told_more, told_stops, told_all}
+use Rattle.nf_complete.specs.ThinParts.{KeepsAt}
+use Rattle.nf_complete.proofs.Telling.{link_at, each_link, link_each, tells_like, told_more, told_stops, told_all}
 use Rattle.nf_complete.proofs.slopes.keep_slopes.Goals as goal
 
 pub returns-in_err-here : goal.returns-in_err-here

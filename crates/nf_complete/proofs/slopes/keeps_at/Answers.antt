@@ -4,8 +4,8 @@ use Rattle.nf_work.specs.Passing.{passes_Q}
 use Rattle.nf_model.specs.Entries.{number_at}
 use Rattle.nf_model.specs.Network.{Link}
 use Rattle.nf_model_laws.proofs.Networks.{IsLink-unique}
-use Rattle.nf_link_flows.specs.ThinParts.{keeps_test}
-use Rattle.nf_link_flows.proofs.Filling.{keeps_told}
+use Rattle.nf_complete.specs.ThinParts.{keeps_test}
+use Rattle.nf_complete.proofs.Filling.{keeps_told}
 use Rattle.nf_complete.proofs.slopes.keeps_at.Goals as goal
 
 pub slope_of-requires : goal.slope_of-requires

@@ -1,6 +1,6 @@
 use Rattle.std.proofs.Common.{Option, sym, ap, ◌∙◌}
 use Rattle.nf_rational.specs.Rational.{ℚ}
-use Rattle.nf_link_flows.specs.ThinParts.{keeps_test}
+use Rattle.nf_complete.specs.ThinParts.{keeps_test}
 use Rattle.nf_complete.proofs.slopes.keeps_slopes.Goals as goal
 
 pub returns-in-None : goal.returns-in-None

@@ -1,6 +1,6 @@
 use Rattle.std.proofs.Common.{◌≢◌, ℕ, below_more, arith}
 use Rattle.std.proofs.lemmas.Bool.Decides.{nat_tests}
-use Rattle.nf_link_flows.specs.ThinParts.{Takes}
+use Rattle.nf_complete.specs.ThinParts.{Takes}
 use Rattle.nf_complete.proofs.taken.each_is_taken.Goals.{then-ne+else-not-is_taken, else-ne}
 use Rattle.nf_complete.proofs.taken.each_is_taken.Goals as goal
 

@@ -1,6 +1,6 @@
 use Rattle.std.proofs.Common.{ℕ, ◌<◌, length, below_more, arith}
 use Rattle.std.proofs.lemmas.Option.{slice_get_within}
-use Rattle.nf_link_flows.specs.ThinParts.{Takes}
+use Rattle.nf_complete.specs.ThinParts.{Takes}
 use Rattle.nf_complete.proofs.taken.is_taken.Goals as goal
 
 pub takes-requires-clause-sets : goal.takes-requires-clause-sets

@@ -1,5 +1,5 @@
 use Rattle.std.proofs.Common.{ℕ, ◌<◌}
-use Rattle.nf_link_flows.specs.ThinParts.{Takes}
+use Rattle.nf_complete.specs.ThinParts.{Takes}
 use Rattle.nf_complete.proofs.taken.is_taken.Given as goal
 
 -- not of the links so far

@@ -1,6 +1,6 @@
 use Rattle.std.proofs.Common.{inl, sym, ◌∙◌, arith}
-use Rattle.nf_link_flows.specs.ThinParts.{LeadsInto, IsLevelAt, Brings}
-use Rattle.nf_link_flows.proofs.Deciding.{third_decides}
+use Rattle.nf_complete.specs.ThinParts.{LeadsInto, IsLevelAt, Brings}
+use Rattle.nf_complete.proofs.Deciding.{third_decides}
 use Rattle.nf_complete.proofs.taken.takes.Goals as goal
 
 pub leads_into-requires-clause-link : goal.leads_into-requires-clause-link

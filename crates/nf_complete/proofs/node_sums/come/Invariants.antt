@@ -1,0 +1,10 @@
+use Rattle.nf_rational.specs.Rational.{ℚ}
+use Rattle.nf_rational.specs.Operations.{0ℚ}
+use Rattle.nf_work.specs.Passing.{passes_Q}
+use Rattle.nf_complete_lists.specs.ThinList.{in_more}
+use Rattle.nf_complete.proofs.LinkByLink.{SoFar}
+use Rattle.nf_complete.proofs.node_sums.come.Given as goal
+
+-- what comes by the links so far goes on over the links that are left
+abbrev pub invariant-loop-e : goal.invariant-loop-e
+invariant-loop-e l = (rate : ℚ) → SoFar (in_more passes_Q l.net.net l.sets rate l.flows l.node) l.net.net 0ℚ l.so_far l.e

@@ -1,0 +1,42 @@
+-- The state of one link in the pattern of settled flows.
+use Rattle.std.specs.Prelude.{◌≡◌, ◌≢◌, ◌⊎◌, ℕ, ◌<◌, Bool, false, List, Option, Some, None}
+use Rattle.nf_rational.specs.Rational.{ℚ}
+use Rattle.nf_rational.specs.Operations.{0ℚ}
+use Rattle.nf_model.specs.declared.State.{State}
+use Rattle.nf_model.specs.declared.State.TheVariants.{Tight, Full, Zero}
+use Rattle.nf_model.specs.Entries.{number_at}
+use Rattle.nf_model.specs.Network.{Link, Network, IsLink}
+use Rattle.nf_model.specs.ThinFlow.{Sets}
+use Rattle.nf_model.specs.Pattern.{NeedsState, Fills}
+use Rattle.nf_complete_lists.specs.SettledPattern.{LeadsToBare}
+use Rattle.nf_complete.specs.Testing.{same_test}
+use Rattle.nf_complete.specs.ThinParts.{LeadsInto, IsLevelAt, Brings}
+
+-- an active link into node v is resetting or carries something
+abbrev pub BringsInto : Network → Sets → List ℚ → ℕ → ℕ → Type 0
+BringsInto net sets flows v e = LeadsInto net sets v e × Brings sets flows e
+
+-- an active link into node v has equal slopes at its ends
+abbrev pub LevelInto : Network → Sets → List ℚ → ℕ → ℕ → Type 0
+LevelInto net sets slopes v e = LeadsInto net sets v e × IsLevelAt net slopes e
+
+abbrev pub NoneLevelBefore : Network → Sets → List ℚ → ℕ → ℕ → Type 0
+NoneLevelBefore net sets slopes v e = (k : ℕ) → k < e → LevelInto net sets slopes v k → ⊥
+
+-- a flow is what fills the link
+abbrev pub full_test : Option ℚ → ℚ → Bool
+full_test None flow = false
+full_test (Some full) flow = same_test flow full
+
+-- a link that needs no state has none; else it is Tight if a bare node is led to by it, and where it carries something that doesn't fill
+-- it, Full where that fills it, and Zero where it carries nothing
+abbrev pub FitsState : Network → Sets → List ℚ → List ℚ → ℕ → Link → Option State → Type 0
+FitsState net sets flows slopes e link None = NeedsState sets e → ⊥
+FitsState net sets flows slopes e link (Some Tight) = NeedsState sets e
+    × (LeadsToBare net sets flows slopes e link ⊎ ((number_at flows e ≢ 0ℚ) × (Fills link.capacity (number_at flows e) (number_at slopes link.head) → ⊥)))
+FitsState net sets flows slopes e link (Some Full) = NeedsState sets e × ((number_at flows e ≢ 0ℚ) × Fills link.capacity (number_at flows e) (number_at slopes link.head))
+FitsState net sets flows slopes e link (Some Zero) = NeedsState sets e × ((number_at flows e ≡ 0ℚ) × (LeadsToBare net sets flows slopes e link → ⊥))
+
+-- the state of link e
+abbrev pub IsStateAt : Network → Sets → List ℚ → List ℚ → ℕ → Option State → Type 0
+IsStateAt net sets flows slopes e state = (link : Link) → IsLink net e link → FitsState net sets flows slopes e link state

@@ -1,3 +1,0 @@
-pub mod Testing
-pub mod ThinParts
-pub mod States
