@@ -6,12 +6,12 @@ ghost use Rattle.nf_equation_laws.specs.Equations.{IsPatternIn};
 ghost use Rattle.nf_trial.specs.Trying.{AreValuesOf};
 ghost use Rattle.nf_guess.specs.Guessing.{IsSolved};
 
+use crate::by_parts::part_values;
 use crate::repairs::repair;
 use crate::reverting::reverted;
 use nf_frac::{Halt, Q};
 use nf_graph::LinkSets;
 use nf_net::Network;
-use nf_part_values::part_values;
 use nf_pattern::Pattern;
 use nf_trial::pattern_values;
 use std::alloc::{AllocError, Global};

@@ -4,11 +4,13 @@ ghost use Rattle.std.specs.Prelude.{◌≡◌, ◌<◌, length, IsTrue, IsSome};
 ghost use Rattle.nf_model.specs.declared.State.TheVariants.{Full};
 ghost use Rattle.nf_equation_laws.specs.Equations.{IsPatternIn};
 
+use crate::forest::Forest;
+use crate::node_parts::tight_forest;
+use crate::numbers::number_or_zero;
 use nf_frac::Q;
 use nf_graph::{LinkId, LinkSets};
 use nf_model::State;
 use nf_net::Network;
-use nf_part_values::{Forest, number_or_zero, tight_forest};
 use nf_pattern::Pattern;
 use nf_trial::{full_flow, may_carry};
 use std::alloc::{AllocError, Global};

@@ -4,12 +4,15 @@
 ghost use Rattle.std.specs.Prelude.{◌≡◌, ◌<◌, length, IfOk};
 ghost use Rattle.nf_equation_laws.specs.Equations.{IsPatternIn};
 
+use crate::by_parts::part_values;
+use crate::forest::Forest;
+use crate::node_parts::tight_forest;
+use crate::numbers::number_or_zero;
 use crate::repairs::{change, repair};
 use nf_frac::Q;
 use nf_graph::{LinkId, LinkSets};
 use nf_model::State;
 use nf_net::{Link, Network};
-use nf_part_values::{Forest, number_or_zero, part_values, tight_forest};
 use nf_pattern::Pattern;
 use nf_trial::{each_is_led, full_flow, is_one_pattern};
 use std::alloc::{AllocError, Global};

@@ -1,4 +1,4 @@
-use Rattle.nf_part_values.proofs.part_slopes.fill_row.Goals as goal
+use Rattle.nf_guess.proofs.part_slopes.fill_row.Goals as goal
 
 pub set_row-requires-clause-size : goal.set_row-requires-clause-size
 set_row-requires-clause-size c = c.requires.size

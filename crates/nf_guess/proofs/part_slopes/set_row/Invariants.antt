@@ -1,5 +1,5 @@
 use Rattle.std.proofs.Common.{◌≡◌, length}
-use Rattle.nf_part_values.proofs.part_slopes.set_row.Given as goal
+use Rattle.nf_guess.proofs.part_slopes.set_row.Given as goal
 
 -- the table keeps its size
 abbrev pub invariant-loop-column : goal.invariant-loop-column
