@@ -5,9 +5,9 @@ use Rattle.nf_rational.specs.Rational.{ℚ}
 use Rattle.nf_work.specs.declared.Halt.{Halt}
 use Rattle.nf_net_file.specs.declared.fault.NetFault.{NetFault}
 use Rattle.nf_loads_file.specs.declared.fault.LoadsFault.{LoadsFault}
-use Rattle.nf_flows.specs.declared.fault.FlowsFault.{FlowsFault}
+use Rattle.nf_flows_file.specs.declared.fault.FlowsFault.{FlowsFault}
 use Rattle.nf_routes_file.specs.declared.fault.RoutesFault.{RoutesFault}
-use Rattle.nf_reader.specs.declared.fault.ReportFault.{ReportFault}
+use Rattle.nf_report_file.specs.declared.fault.ReportFault.{ReportFault}
 use Rattle.nf_answers.specs.declared.refusal.Refusal.{Refusal}
 use Rattle.nf_answers.specs.Answers.{Answer, NoMemory, NoRequest, ShelfFailed, ShelfTooLong, Malformed, MalformedLoads, MalformedFlows, MalformedRoutes, MalformedReport, Passes, Unbounded, NotThin, Earlier}
 

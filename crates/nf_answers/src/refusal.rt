@@ -6,7 +6,7 @@ ghost use Rattle.nf_answers.specs.declared.refusal.Refusal.TheVariants as Refusa
 
 use crate::status::Status;
 use nf_edge::FetchFault;
-use nf_flows::{FlowsFault, FlowsRule};
+use nf_flows_file::{FlowsFault, FlowsRule};
 use nf_frac::{Halt, PassedAt, Q};
 use nf_load::{LoadRule, LoadsFault};
 use nf_net::{NetFault, NetRule};

@@ -11,7 +11,7 @@ ghost use Rattle.nf_answers.specs.Refusals.{answer_of};
 use crate::refusal::Refusal;
 use nf_curve::Stop;
 use nf_edge::{Sink, SinkFault, write_text};
-use nf_flows::FlowsRule;
+use nf_flows_file::FlowsRule;
 use nf_frac::{PassedAt, Q, TextBuf};
 use nf_load::LoadRule;
 use nf_net::NetRule;

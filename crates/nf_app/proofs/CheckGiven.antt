@@ -13,8 +13,8 @@ use Rattle.nf_check_lists.specs.Rules.{Checks}
 use Rattle.nf_check_lists.specs.CheckList.{check_list}
 use Rattle.nf_check.specs.Answers.{IsExact}
 use Rattle.nf_readings.specs.ReportFile.{report_in}
-use Rattle.nf_reader.specs.declared.fault.ReportFault.{ReportFault}
-use Rattle.nf_reader.specs.Files.{IfBroken}
+use Rattle.nf_report_file.specs.declared.fault.ReportFault.{ReportFault}
+use Rattle.nf_report_file.specs.Files.{IfBroken}
 use Rattle.nf_answers.specs.declared.refusal.Refusal.{Refusal}
 use Rattle.nf_outside.specs.Files.{Visit, report_file}
 use Rattle.nf_command_line.specs.Requests.{Check}

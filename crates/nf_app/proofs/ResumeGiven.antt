@@ -11,8 +11,8 @@ use Rattle.nf_formats.specs.WellNamed.{IsNamed}
 use Rattle.nf_formats.specs.Report.{Report, IsWellFormed}
 use Rattle.nf_check_lists.specs.declared.Answer.{Answer as Verdict}
 use Rattle.nf_readings.specs.ReportFile.{report_in}
-use Rattle.nf_reader.specs.declared.fault.ReportFault.{ReportFault}
-use Rattle.nf_reader.specs.Files.{IfBroken}
+use Rattle.nf_report_file.specs.declared.fault.ReportFault.{ReportFault}
+use Rattle.nf_report_file.specs.Files.{IfBroken}
 use Rattle.nf_lists.specs.PhaseRun.{IsShortFlow}
 use Rattle.nf_run_text_laws.specs.ReadableLaws.{ReadsBack}
 use Rattle.nf_complete_lists.specs.Reached.{StopsForNoThinFlow}

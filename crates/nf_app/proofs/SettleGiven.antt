@@ -8,8 +8,8 @@ use Rattle.nf_formats.specs.Named.{Named}
 use Rattle.nf_thin_laws.proofs.ActiveLinks.{AreSets-sets_at}
 use Rattle.nf_complete_lists.specs.FlowsFile.{FlowsBroken, GivenFlows, flows_in}
 use Rattle.nf_complete.specs.declared.settled.Settled.{Settled as CodeSettled}
-use Rattle.nf_flows.specs.declared.fault.FlowsFault.{FlowsFault}
-use Rattle.nf_flows.specs.Files.{IfBroken}
+use Rattle.nf_flows_file.specs.declared.fault.FlowsFault.{FlowsFault}
+use Rattle.nf_flows_file.specs.Files.{IfBroken}
 use Rattle.nf_answers.specs.declared.refusal.Refusal.{Refusal}
 use Rattle.nf_outside.specs.Files.{Visit, flows_file}
 use Rattle.nf_command_line.specs.Requests.{Settle}

@@ -28,7 +28,7 @@ use nf_answers::{Found, Ladder, Outcome, Refusal, augments_text, flow_text};
 use nf_check::check;
 use nf_command_line::{Request, read_request};
 use nf_edge::Shelf;
-use nf_flows::parse_flows;
+use nf_flows_file::parse_flows;
 use nf_forever::solve_forever;
 use nf_frac::Q;
 use nf_load::parse_loads;

@@ -29,8 +29,8 @@ use Rattle.nf_curve.specs.declared.flow.Flow as code
 use Rattle.nf_curve.specs.declared.flow.Trace as code_trace
 use Rattle.nf_check.specs.Answers.{IsExact}
 use Rattle.nf_check.specs.Given.{IsGiven}
-use Rattle.nf_rules.specs.Kept.{curves_of}
-use Rattle.nf_rules.specs.Trials.{done}
+use Rattle.nf_check_rules.specs.Kept.{curves_of}
+use Rattle.nf_check_rules.specs.Trials.{done}
 
 answer_done : {A : Type 0} (r : Trial A) → answer_of (done r) ≡ answer_of r
 answer_done (Ok x) = refl

@@ -3,13 +3,13 @@ ghost use Rattle.std.specs.Prelude.{◌≡◌};
 ghost use Rattle.nf_work.specs.Checked.{Gives};
 ghost use Rattle.nf_check_lists.specs.declared.Answer.TheVariants.{No};
 ghost use Rattle.nf_check_lists.specs.Trial.{Trial, answer_of as answer_by};
-ghost use Rattle.nf_rules.specs.Trials.{Tries};
+ghost use Rattle.nf_check_rules.specs.Trials.{Tries};
 
 use nf_check_lists::CheckRule;
+use nf_check_rules::{Ended, Subject};
 use nf_curve::Difference;
 use nf_frac::{Halt, Q};
 use nf_graph::{LinkId, NodeId};
-use nf_rules::{Ended, Subject};
 
 /// The flow is an equilibrium, or the first rule that it breaks: with the node or link, the time, and the two values that differ
 /// there.

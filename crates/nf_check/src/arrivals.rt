@@ -8,17 +8,17 @@ ghost use Rattle.nf_check_lists.specs.Rules.{nodes_but};
 ghost use Rattle.nf_check_lists.specs.Curves.{departures as departures_by};
 ghost use Rattle.nf_check_lists.specs.CheckList.{arrivals};
 ghost use Rattle.nf_curve.specs.Flows.{flow_of};
-ghost use Rattle.nf_rules.specs.Exits.{AreKept};
-ghost use Rattle.nf_rules.specs.Kept.{IsWorked, labels_in, loaded_in};
-ghost use Rattle.nf_rules.specs.Steps.{arrivals_list};
-ghost use Rattle.nf_rules.specs.Trials.{Tries, done};
+ghost use Rattle.nf_check_rules.specs.Exits.{AreKept};
+ghost use Rattle.nf_check_rules.specs.Kept.{IsWorked, labels_in, loaded_in};
+ghost use Rattle.nf_check_rules.specs.Steps.{arrivals_list};
+ghost use Rattle.nf_check_rules.specs.Trials.{Tries, done};
 
 use nf_check_lists::CheckRule;
+use nf_check_rules::{Ended, Exits, Subject, Worked, compare, curve_at, least_exits};
 use nf_curve::{Curve, Flow};
 use nf_frac::Q;
 use nf_graph::NodeId;
 use nf_net::Network;
-use nf_rules::{Ended, Exits, Subject, Worked, compare, curve_at, least_exits};
 use std::alloc::{AllocError, Global};
 
 // The departures themselves, up to a last one.

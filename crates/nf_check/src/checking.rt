@@ -12,24 +12,24 @@ ghost use Rattle.nf_check_lists.specs.CheckList.{trial, check_list};
 ghost use Rattle.nf_curve.specs.Flows.{trace_of, flow_of};
 ghost use Rattle.nf_check.specs.Answers.{IsExact};
 ghost use Rattle.nf_check.specs.Given.{IsGiven};
-ghost use Rattle.nf_rules.specs.Kept.{IsWorked, curves_of, labels_in, loaded_in};
-ghost use Rattle.nf_rules.specs.Steps.{worked_list, told_list, compared_list};
-ghost use Rattle.nf_rules.specs.Trials.{Tries, done};
+ghost use Rattle.nf_check_rules.specs.Kept.{IsWorked, curves_of, labels_in, loaded_in};
+ghost use Rattle.nf_check_rules.specs.Steps.{worked_list, told_list, compared_list};
+ghost use Rattle.nf_check_rules.specs.Trials.{Tries, done};
 
 use crate::answer::{Answer, answer_of};
 use crate::arrivals::check_arrivals;
 use crate::labels::cut_labels;
-use nf_curve::{Curve, Flow, Trace};
-use nf_frac::{Halt, Q};
-use nf_net::Network;
-use nf_rules::{
+use nf_check_rules::{
     Ended, Exits, Worked, check_balances, check_inflows, check_outflows, check_queues, check_rates,
     check_routes, load_links,
 };
+use nf_curve::{Curve, Flow, Trace};
+use nf_frac::{Halt, Q};
+use nf_net::Network;
 use std::alloc::Global;
 
 // The labels up to the departure reached and the loadings of the links, once the rules hold that look at points alone.
-#[tactic(auto, unfolding(nf_rules::specs::Steps::worked_list))]
+#[tactic(auto, unfolding(nf_check_rules::specs::Steps::worked_list))]
 fn work_out(alloc: Global, net: &Network, flow: &Flow) -> Result<Worked, Ended>
     requires { IsGiven net.now.net flow.now }
     ensures list { Tries (λ worked. (labels_in worked, loaded_in worked)) result (worked_list passes_Q net.now.net (flow_of flow.now)) }
@@ -43,7 +43,7 @@ fn work_out(alloc: Global, net: &Network, flow: &Flow) -> Result<Worked, Ended>
 }
 
 // The outflows of all links, and then their queues.
-#[tactic(auto, unfolding(nf_rules::specs::Steps::told_list))]
+#[tactic(auto, unfolding(nf_check_rules::specs::Steps::told_list))]
 fn check_told(net: &Network, flow: &Flow, worked: &Worked) -> Result<(), Ended>
     requires outflows { length flow.now.outflows.items ≡ length net.now.net.links }
     requires queues { length flow.now.queues.items ≡ length net.now.net.links }
@@ -55,7 +55,7 @@ fn check_told(net: &Network, flow: &Flow, worked: &Worked) -> Result<(), Ended>
 }
 
 // The rules that compare curves.
-#[tactic(auto, unfolding(nf_rules::specs::Steps::compared_list), using(nf_rules::proofs::Keeping::none_kept))]
+#[tactic(auto, unfolding(nf_check_rules::specs::Steps::compared_list), using(nf_check_rules::proofs::Keeping::none_kept))]
 fn compare_all(alloc: Global, net: &Network, flow: &Flow, worked: &Worked) -> Result<(), Ended>
     requires given { IsGiven net.now.net flow.now }
     requires worked { IsWorked net.now.net worked.now }

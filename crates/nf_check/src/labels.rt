@@ -9,15 +9,15 @@ ghost use Rattle.nf_check_lists.specs.Rules.{all_nodes};
 ghost use Rattle.nf_check_lists.specs.CheckList.{label_cut};
 ghost use Rattle.nf_curve.specs.Differences.{difference_of};
 ghost use Rattle.nf_curve.specs.Flows.{flow_of};
-ghost use Rattle.nf_rules.specs.Kept.{curves_of};
-ghost use Rattle.nf_rules.specs.Trials.{Tries};
+ghost use Rattle.nf_check_rules.specs.Kept.{curves_of};
+ghost use Rattle.nf_check_rules.specs.Trials.{Tries};
 
 use nf_check_lists::CheckRule;
+use nf_check_rules::{Ended, Subject, curve_at, unless};
 use nf_curve::{Curve, Difference, Flow};
 use nf_frac::{Part, Q};
 use nf_graph::NodeId;
 use nf_net::Network;
-use nf_rules::{Ended, Subject, curve_at, unless};
 use std::alloc::Global;
 
 // The first point with a negative value, beside 0.

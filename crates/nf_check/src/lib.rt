@@ -10,4 +10,4 @@ mod labels;
 pub use answer::Answer;
 pub use checking::check;
 pub use nf_check_lists::CheckRule;
-pub use nf_rules::Subject;
+pub use nf_check_rules::Subject;

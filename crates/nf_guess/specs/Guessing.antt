@@ -5,7 +5,7 @@ use Rattle.nf_model.specs.Network.{Network}
 use Rattle.nf_model.specs.ThinFlow.{Sets}
 use Rattle.nf_equation_laws.specs.Equations.{IsPatternIn}
 use Rattle.nf_guess.specs.declared.guessing.SolvedPattern.{SolvedPattern}
-use Rattle.nf_trial.specs.Trying.{AreValuesOf}
+use Rattle.nf_one_pattern.specs.Trying.{AreValuesOf}
 
 -- a pattern with the values that solve its table
 pub record IsSolved (passes : Passing) (net : Network) (sets : Sets) (rate : ℚ) (solved : SolvedPattern) : Type 0 where

@@ -3,7 +3,7 @@
 ghost use Rattle.std.specs.Prelude.{IfOk, IfSome};
 ghost use Rattle.nf_work.specs.Passing.{passes_Q};
 ghost use Rattle.nf_equation_laws.specs.Equations.{IsPatternIn};
-ghost use Rattle.nf_trial.specs.Trying.{AreValuesOf};
+ghost use Rattle.nf_one_pattern.specs.Trying.{AreValuesOf};
 ghost use Rattle.nf_guess.specs.Guessing.{IsSolved};
 
 use crate::by_parts::part_values;
@@ -12,8 +12,8 @@ use crate::reverting::reverted;
 use nf_frac::{Halt, Q};
 use nf_graph::LinkSets;
 use nf_net::Network;
+use nf_one_pattern::pattern_values;
 use nf_pattern::Pattern;
-use nf_trial::pattern_values;
 use std::alloc::{AllocError, Global};
 
 /// A pattern, and the values that solve its table: the slopes of the nodes, in node order, and the flows of the active links, in link

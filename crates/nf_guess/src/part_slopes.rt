@@ -9,8 +9,8 @@ use nf_graph::{LinkId, LinkSets, NodeId};
 use nf_linear::Table;
 use nf_model::State;
 use nf_net::Network;
+use nf_one_pattern::solved;
 use nf_pattern::Pattern;
-use nf_trial::solved;
 use std::alloc::{AllocError, Global};
 
 // The most unknowns that a table may have.

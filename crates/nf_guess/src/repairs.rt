@@ -11,8 +11,8 @@ use nf_frac::Q;
 use nf_graph::{LinkId, LinkSets};
 use nf_model::State;
 use nf_net::Network;
+use nf_one_pattern::{full_flow, may_carry};
 use nf_pattern::Pattern;
-use nf_trial::{full_flow, may_carry};
 use std::alloc::{AllocError, Global};
 
 // A flow is more than a link of this capacity carries at this slope of its head.

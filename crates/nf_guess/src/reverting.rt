@@ -13,8 +13,8 @@ use nf_frac::Q;
 use nf_graph::{LinkId, LinkSets};
 use nf_model::State;
 use nf_net::{Link, Network};
+use nf_one_pattern::{each_is_led, full_flow, is_one_pattern};
 use nf_pattern::Pattern;
-use nf_trial::{each_is_led, full_flow, is_one_pattern};
 use std::alloc::{AllocError, Global};
 
 // The slopes of a link's ends and its flow suit a state.

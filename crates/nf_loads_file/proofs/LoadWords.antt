@@ -5,9 +5,9 @@ use Rattle.nf_numerals.specs.Numbers.{number_of}
 use Rattle.nf_formats.specs.Names.{Name, has_name}
 use Rattle.nf_formats.specs.Numbers.{greatest}
 use Rattle.nf_text.specs.Within.{word_at}
-use Rattle.nf_contents.specs.NameAt.{IsNameAt}
-use Rattle.nf_contents.proofs.NamesOf.{where_named, where_not_named}
-use Rattle.nf_contents.proofs.WordCounts.{one_word, two_words, four_words, unless_one, unless_two, unless_four}
+use Rattle.nf_side_files.specs.NameAt.{IsNameAt}
+use Rattle.nf_side_files.proofs.NamesOf.{where_named, where_not_named}
+use Rattle.nf_side_files.proofs.WordCounts.{one_word, two_words, four_words, unless_one, unless_two, unless_four}
 use Rattle.nf_readings.specs.declared.LoadRule.{LoadRule}
 use Rattle.nf_readings.specs.declared.LoadRule.TheVariants.{L6, L7}
 use Rattle.nf_readings.specs.LoadsFile.{LoadEntry, End, piece_entry, rate_line, end_line, is_loads_1}

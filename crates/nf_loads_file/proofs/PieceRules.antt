@@ -5,9 +5,9 @@ use Rattle.std.specs.List.{last_or}
 use Rattle.std.specs.Option.{option_map}
 use Rattle.nf_model.specs.Network.{Piece}
 use Rattle.nf_formats.specs.NetLines.{is_negative, is_not_after}
-use Rattle.nf_contents.specs.declared.pieces.PieceFault.{PieceFault}
-use Rattle.nf_contents.specs.declared.pieces.PieceFault.TheVariants.{Negative, NotAfter, TooMany}
-use Rattle.nf_contents.specs.PiecesBehind.{fault_behind}
+use Rattle.nf_side_files.specs.declared.pieces.PieceFault.{PieceFault}
+use Rattle.nf_side_files.specs.declared.pieces.PieceFault.TheVariants.{Negative, NotAfter, TooMany}
+use Rattle.nf_side_files.specs.PiecesBehind.{fault_behind}
 use Rattle.nf_readings.specs.declared.LoadRule.{LoadRule}
 use Rattle.nf_readings.specs.declared.LoadRule.TheVariants.{L9, L10, L11}
 use Rattle.nf_readings.specs.LoadsFile.{most_lines_of_a_link, first_load_rule}

@@ -8,9 +8,9 @@ ghost use Rattle.nf_loads_file.specs.Files.{IfBroken};
 use crate::entry::{Entry, read_entry};
 use crate::fault::LoadsFault;
 use crate::loads::Pieces;
-use nf_contents::{PieceFault, ReadLine, piece_fault};
 use nf_net::{Network, Piece};
 use nf_readings::LoadRule;
+use nf_side_files::{PieceFault, ReadLine, piece_fault};
 use std::alloc::{AllocError, Global};
 
 /// The most lines of a link.

@@ -4,9 +4,9 @@ ghost use Rattle.nf_readings.specs.LoadsFile as file;
 ghost use Rattle.nf_readings.specs.LoadsFile.{rate_line, end_line, load_entry};
 ghost use Rattle.nf_loads_file.specs.Entries.{HasLink, seen_entry, said_by};
 
-use nf_contents::{ReadLine, is_word, link_of, number_of};
 use nf_net::{LinkId, Network, Piece};
 use nf_readings::LoadRule;
+use nf_side_files::{ReadLine, is_word, link_of, number_of};
 
 /// What a line says: a piece of a link, or the end.
 #[derive(Clone, Copy)]

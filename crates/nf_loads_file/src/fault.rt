@@ -3,8 +3,8 @@ ghost use Rattle.std.specs.Prelude.{◌≡◌};
 ghost use Rattle.nf_loads_file.specs.Files.{fault_of_text};
 ghost use Rattle.nf_loads_file.specs.declared.fault.LoadsFault.TheVariants as LoadsFault;
 
-use nf_contents::TextFault;
 use nf_readings::LoadRule;
+use nf_side_files::TextFault;
 use std::alloc::AllocError;
 use thiserror::Error;
 

@@ -8,9 +8,9 @@ ghost use Rattle.nf_loads_file.specs.Files.{IfBroken};
 use crate::draft::Draft;
 use crate::fault::LoadsFault;
 use crate::loads::Loads;
-use nf_contents::{ReadLine, contents, is_word};
 use nf_net::Network;
 use nf_readings::LoadRule;
+use nf_side_files::{ReadLine, contents, is_word};
 use std::alloc::Global;
 
 // `loads 1`

@@ -29,7 +29,7 @@ use Rattle.nf_resume_laws.proofs.CutFlow.{each_length, entry_of, IsCutFlow, cut_
 use Rattle.nf_resume_laws.proofs.Restored.{each_back, links-queue, growing-points, flow-same, WellRun-restored}
 use Rattle.nf_plain_laws.proofs.Results.{same_Ok}
 use Rattle.nf_phase.specs.Restarting.{EndsAtItsLabels, IsRestored}
-use Rattle.nf_growth.proofs.Corners.{end-append}
+use Rattle.nf_growing_curves.proofs.Corners.{end-append}
 
 -- ---- the last point of a curve
 point_is : (p : Point) (t y : ℚ) → p.0 ≡ t → p.1 ≡ y → p ≡ (t, y)

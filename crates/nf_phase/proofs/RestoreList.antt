@@ -18,7 +18,7 @@ use Rattle.nf_curve.specs.Points.{Grown}
 use Rattle.nf_curve.specs.Flows.{trace_of, flow_of as flow_in}
 use Rattle.nf_curve.specs.declared.flow.Flow as code
 use Rattle.nf_curve.proofs.Exits.{after_err, after_ok, err_before, ok_before}
-use Rattle.nf_growth.specs.Restoring.{of_links}
+use Rattle.nf_growing_curves.specs.Restoring.{of_links}
 
 -- ---- the whole list
 module _ (passes : Passing) (flow : Flow) (last : Pattern) where

@@ -28,7 +28,7 @@ use Rattle.nf_phase.specs.declared.phase.Phase.{Phase}
 use Rattle.nf_phase.specs.Restarting.{after_rest}
 use Rattle.nf_phase.specs.Stepping.{Reaches, goes_on, keeps_on, LeadsOnlyTo}
 use Rattle.nf_phase.specs.Finding.{step_in, after_phase, LeadsOn}
-use Rattle.nf_growth.specs.LinkGrowth.{AllLinksEndBefore}
+use Rattle.nf_growing_curves.specs.LinkGrowth.{AllLinksEndBefore}
 use Rattle.nf_phase.proofs.Reached.{Stands, Stands-reached}
 
 -- ---- wherever a run comes to

@@ -6,7 +6,7 @@ use Rattle.nf_model.specs.Pattern.{Pattern}
 use Rattle.nf_model.specs.Codes.{coded_pattern}
 use Rattle.nf_lists.specs.ReportCurves.{GrowingCurve, LinkCurves}
 use Rattle.nf_lists.specs.PhaseRun.{Standing}
-use Rattle.nf_growth.specs.Growing.{coded_growing, coded_curves}
+use Rattle.nf_growing_curves.specs.Growing.{coded_growing, coded_curves}
 
 abbrev pub coded_standing : Coded Standing
 coded_standing = code_by (ℚ × (List ℚ × (List GrowingCurve × (List LinkCurves × (ℕ × Pattern)))))

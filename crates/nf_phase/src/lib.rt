@@ -14,7 +14,7 @@ mod solving;
 mod stops;
 
 pub use fault::StepFault;
-pub use nf_advance::extension;
+pub use nf_phase_length::extension;
 pub use run::Run;
 pub use solution::{Budgets, Solution};
 pub use solving::solve;

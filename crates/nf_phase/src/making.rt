@@ -10,7 +10,7 @@ ghost use Rattle.nf_phase.specs.Restarting.{after_rest};
 use crate::phase::Phase;
 use crate::run::Run;
 use nf_frac::Q;
-use nf_growth::{labels_go_on, links_go_on, reserve_labels, reserve_links};
+use nf_growing_curves::{labels_go_on, links_go_on, reserve_labels, reserve_links};
 use nf_net::Network;
 use std::alloc::{AllocError, Global};
 

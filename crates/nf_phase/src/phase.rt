@@ -14,11 +14,11 @@ ghost use Rattle.nf_phase.specs.Finding.{IsFound, ListsPass, LeadsOn};
 use crate::fault::StepFault;
 use crate::finding::Found;
 use crate::run::Run;
-use nf_advance::{Advanced, advance, extension};
 use nf_frac::Q;
-use nf_growth::{LinkStep, amounts, link_steps};
+use nf_growing_curves::{LinkStep, amounts, link_steps};
 use nf_net::Network;
 use nf_pattern::Pattern;
+use nf_phase_length::{Advanced, advance, extension};
 use nf_thin::ThinFlow;
 use std::alloc::Global;
 

@@ -15,7 +15,7 @@ ghost use Rattle.nf_phase.specs.Stepping.{Reaches};
 use crate::run::Run;
 use nf_curve::{Curve, Flow};
 use nf_frac::{Halt, Q};
-use nf_growth::{restore_labels, restore_links};
+use nf_growing_curves::{restore_labels, restore_links};
 use nf_net::Network;
 use nf_pattern::Pattern;
 use std::alloc::{AllocError, Global};

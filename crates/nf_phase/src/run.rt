@@ -14,12 +14,14 @@ ghost use Rattle.nf_phase.specs.Stepping.{Reaches, IsCause, IsCauseOn, LeadsOnly
 use crate::fault::StepFault;
 use crate::finding::Found;
 use crate::phase::NextPhase;
-use nf_advance::end_of;
 use nf_curve::Flow;
 use nf_frac::Q;
-use nf_growth::{GrowingCurve, LinkCurves, copy_labels, copy_links, first_labels, first_links};
+use nf_growing_curves::{
+    GrowingCurve, LinkCurves, copy_labels, copy_links, first_labels, first_links,
+};
 use nf_net::{Network, start_labels};
 use nf_pattern::Pattern;
+use nf_phase_length::end_of;
 use nf_thin::ThinFlow;
 use std::alloc::{AllocError, Global};
 use std::marker::Model;
@@ -38,7 +40,7 @@ pub struct Run {
 
 impl Model for Run {
     ghost use Rattle.nf_lists.specs.PhaseRun.{Standing};
-    ghost use Rattle.nf_growth.specs.Growing.{all_grown};
+    ghost use Rattle.nf_growing_curves.specs.Growing.{all_grown};
     ghost use Rattle.nf_phase.specs.StandingCode.{coded_standing};
 
     ghost Value = { Standing };

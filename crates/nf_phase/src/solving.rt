@@ -16,7 +16,7 @@ use crate::solution::{Budgets, Solution};
 use crate::stops::ended_by;
 use nf_curve::Stop;
 use nf_frac::Q;
-use nf_growth::{finish_labels, finish_links};
+use nf_growing_curves::{finish_labels, finish_links};
 use nf_net::Network;
 use std::alloc::{AllocError, Global};
 

@@ -12,6 +12,6 @@ mod report;
 pub use causes::{put_cause, put_number, write_passed_call, write_stop};
 pub use curves::write_curve;
 pub use line::{put_line, write_line};
-pub use nf_reader::{Report, ReportFault, ReportRule, parse_report};
+pub use nf_report_file::{Report, ReportFault, ReportRule, parse_report};
 pub use pages::Page;
 pub use report::{put_idle, put_labels, put_links, put_states, write_report};

@@ -13,7 +13,7 @@ ghost use Rattle.nf_resume_lists.specs.Resuming.{restart_list};
 ghost use Rattle.nf_resume_lists.specs.Meanings.{GoesOnFrom, IsResumedReport};
 ghost use Rattle.nf_unstopped_laws.specs.Stops.{NeverNoPattern};
 ghost use Rattle.nf_curve.specs.Flows.{flow_of};
-ghost use Rattle.nf_reader.specs.Files.{report_of};
+ghost use Rattle.nf_report_file.specs.Files.{report_of};
 ghost use Rattle.nf_phase.specs.Restarting.{EndsAtItsLabels};
 ghost use Rattle.nf_phase.specs.Stepping.{Reaches};
 ghost use Rattle.nf_phase.specs.Solution.{bounds_of, report_in};
@@ -26,7 +26,7 @@ use nf_check::{Answer, check};
 use nf_frac::{Halt, Q};
 use nf_net::Network;
 use nf_phase::{Budgets, Run, Solution};
-use nf_reader::Report;
+use nf_report_file::Report;
 use std::alloc::Global;
 
 // A horizon is before the departure that was reached.

@@ -7,7 +7,7 @@ use Rattle.std.proofs.lemmas.Option.{unwrap_or-slice_get}
 use Rattle.nf_model.specs.Network.{Link}
 use Rattle.nf_formats.specs.Names.{Name, has_name, place_of}
 use Rattle.nf_text.specs.Within.{word_at}
-use Rattle.nf_contents.specs.NameAt.{IsNameAt}
+use Rattle.nf_side_files.specs.NameAt.{IsNameAt}
 use Rattle.nf_routes_lists.specs.RoutesFile.{is_walk, tail_is, head_of}
 use Rattle.nf_routes_file.specs.Entries.{AreLinksOf}
 

@@ -10,7 +10,7 @@ use Rattle.nf_plain_laws.proofs.Entries.{slice_get-image}
 use Rattle.nf_formats.specs.Names.{Name, is_name, has_name, place_of, name_at}
 use Rattle.nf_formats_laws.proofs.NameFacts.{same_names, has_at}
 use Rattle.nf_net_file.proofs.NameText.{name_is_text}
-use Rattle.nf_contents.specs.NameAt.{IsNameAt}
+use Rattle.nf_side_files.specs.NameAt.{IsNameAt}
 use Rattle.nf_routes_lists.specs.RoutesFile.{NamedRoute, route_names}
 
 -- what isn't text is no name

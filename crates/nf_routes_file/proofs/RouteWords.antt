@@ -7,7 +7,7 @@ use Rattle.nf_numerals.specs.Numbers.{number_of}
 use Rattle.nf_formats.specs.Names.{Name, is_name, has_name, place_of}
 use Rattle.nf_formats.specs.Numbers.{greatest}
 use Rattle.nf_text.specs.Within.{word_at}
-use Rattle.nf_contents.specs.NameAt.{IsNameAt}
+use Rattle.nf_side_files.specs.NameAt.{IsNameAt}
 use Rattle.nf_routes_lists.specs.declared.RoutesRule.{RoutesRule}
 use Rattle.nf_routes_lists.specs.declared.RoutesRule.TheVariants.{G6, G7, G8}
 use Rattle.nf_routes_lists.specs.RoutesFile.{RoutesEntry, RouteLine, End, route_line, piece_entry, rate_line, end_line, routes_entry, is_routes_1}

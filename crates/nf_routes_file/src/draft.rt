@@ -11,10 +11,10 @@ use crate::entry::{Entry, place_of, read_entry};
 use crate::fault::LineFault;
 use crate::route::Route;
 use crate::walk::is_walk;
-use nf_contents::ReadLine;
 use nf_frac::Q;
 use nf_net::{Network, Piece};
 use nf_routes_lists::RoutesRule;
+use nf_side_files::ReadLine;
 use std::alloc::{AllocError, Global};
 
 /// The most routes.

@@ -3,16 +3,16 @@ ghost use Rattle.std.specs.Prelude.{◌≡◌, ℕ, ◌<◌, ◌≤◌, true, fa
 ghost use Rattle.std.specs.Str.{bytes_eq};
 ghost use Rattle.nf_formats.specs.Names as names;
 ghost use Rattle.nf_formats.specs.Names.{has_name};
-ghost use Rattle.nf_contents.specs.NameAt.{IsNameAt};
+ghost use Rattle.nf_side_files.specs.NameAt.{IsNameAt};
 ghost use Rattle.nf_routes_lists.specs.declared.RoutesRule.TheVariants.{G8};
 ghost use Rattle.nf_routes_lists.specs.RoutesFile.{route_names, route_line, rate_line, end_line, routes_entry};
 ghost use Rattle.nf_routes_file.specs.Entries.{AreLinksOf, NoLinks, Says, Fits, HasLinks};
 
 use crate::fault::LineFault;
 use crate::route::Route;
-use nf_contents::{ReadLine, is_name, is_word, link_of, number_of};
 use nf_net::{LinkId, Network, Piece};
 use nf_routes_lists::RoutesRule;
+use nf_side_files::{ReadLine, is_name, is_word, link_of, number_of};
 use std::alloc::Global;
 
 /// What a line says: a route, along which nothing is sent; a piece of the route at a place; or the end.

@@ -4,8 +4,8 @@ ghost use Rattle.nf_routes_file.specs.Files.{fault_of_text, fault_in_line};
 ghost use Rattle.nf_routes_file.specs.declared.fault.LineFault.TheVariants as LineFault;
 ghost use Rattle.nf_routes_file.specs.declared.fault.RoutesFault.TheVariants as RoutesFault;
 
-use nf_contents::TextFault;
 use nf_routes_lists::RoutesRule;
+use nf_side_files::TextFault;
 use std::alloc::{AllocError, AllocFailed};
 use thiserror::Error;
 

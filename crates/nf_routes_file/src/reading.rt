@@ -12,9 +12,9 @@ use crate::draft::Draft;
 use crate::fault::RoutesFault;
 use crate::order::takes_all;
 use crate::routes::Routes;
-use nf_contents::{ReadLine, contents, is_word};
 use nf_net::Network;
 use nf_routes_lists::RoutesRule;
+use nf_side_files::{ReadLine, contents, is_word};
 use std::alloc::Global;
 
 // `routes 1`

@@ -22,7 +22,7 @@ use Rattle.nf_thin.specs.declared.ranges.Range.{Range}
 use Rattle.nf_thin.specs.Ranges.{IsWithin, MeetsState}
 use Rattle.nf_thin_laws.proofs.Totals.{sink_takes}
 use Rattle.nf_thin.proofs.Within.{checked_is}
-use Rattle.nf_trial.specs.Fulls.{full_of}
+use Rattle.nf_one_pattern.specs.Fulls.{full_of}
 use Rattle.nf_thin.specs.Conserving.{full_by, CanFlow, surplus_of_first, BoundsFirst, needed_at}
 
 -- ---- one link more

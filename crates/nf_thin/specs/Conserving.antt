@@ -7,7 +7,7 @@ use Rattle.nf_model.specs.Entries.{number_at}
 use Rattle.nf_model.specs.Network.{Link, Network, sum_in, sum_out}
 use Rattle.nf_model.specs.ThinFlow.{Sets}
 use Rattle.nf_model.specs.Pattern.{Pattern, Solves, Meets}
-use Rattle.nf_trial.specs.Fulls.{full_of}
+use Rattle.nf_one_pattern.specs.Fulls.{full_of}
 use Rattle.nf_thin.specs.declared.ranges.Range.{Range}
 use Rattle.nf_thin.specs.Ranges.{IsWithin}
 

@@ -15,8 +15,8 @@ use nf_frac::{Halt, Q};
 use nf_graph::LinkSets;
 use nf_guess::SolvedPattern;
 use nf_net::Network;
+use nf_one_pattern::{Outcome, each_is_led, is_one_pattern, judge_values};
 use nf_pattern::Pattern;
-use nf_trial::{Outcome, each_is_led, is_one_pattern, judge_values};
 use std::alloc::{AllocError, Global};
 
 /// A pattern that is accepted, with its flows and slopes.

@@ -13,8 +13,8 @@ use crate::ranges::{Range, flow_range};
 use nf_frac::Q;
 use nf_graph::{LinkId, LinkSets, NodeId};
 use nf_net::Network;
+use nf_one_pattern::{full_flow, surplus};
 use nf_pattern::Pattern;
-use nf_trial::{full_flow, surplus};
 use std::alloc::{AllocError, Global};
 
 /// The flow that fills each link, by these slopes of the nodes, in link order. None where it is unbounded, or its product passes.

@@ -10,8 +10,8 @@ use crate::vain::Vain;
 use nf_frac::{Halt, Q};
 use nf_graph::LinkSets;
 use nf_net::Network;
+use nf_one_pattern::{Outcome, try_one};
 use nf_pattern::Pattern;
-use nf_trial::{Outcome, try_one};
 use std::alloc::Global;
 
 /// The next pattern is tried: its thin flow, or none.

@@ -4,7 +4,7 @@ use Rattle.nf_work.specs.Passing.{passes_Q}
 use Rattle.nf_run_text_laws.proofs.Fractions.{fraction_of_parts}
 use Rattle.nf_resumed_laws.proofs.Reading.{resumed_reads_back}
 use Rattle.nf_resumed_laws.proofs.Stopping.{resumed_stops_for_none}
-use Rattle.nf_reader.specs.Files.{report_of}
+use Rattle.nf_report_file.specs.Files.{report_of}
 use Rattle.nf_phase.specs.Solution.{bounds_of, report_in}
 use Rattle.nf_app.proofs.Reports.{held}
 use Rattle.nf_app.proofs.ResumeGiven.{old_refused, gone_on_given}

@@ -11,9 +11,9 @@ use Rattle.nf_check_lists.specs.declared.CheckRule.TheVariants.{C3}
 use Rattle.nf_check_lists.specs.declared.Subject.TheVariants.{Node}
 use Rattle.nf_check_lists.specs.Curves.{least_exits}
 use Rattle.nf_check_lists.specs.CheckList.{arrivals}
-use Rattle.nf_rules.specs.Kept.{curves_of, labels_in, loaded_in}
-use Rattle.nf_rules.specs.Steps.{compared_by}
-use Rattle.nf_rules.proofs.Trying.{part_goes, part_stops, tries_as}
+use Rattle.nf_check_rules.specs.Kept.{curves_of, labels_in, loaded_in}
+use Rattle.nf_check_rules.specs.Steps.{compared_by}
+use Rattle.nf_check_rules.proofs.Trying.{part_goes, part_stops, tries_as}
 use Rattle.nf_check.proofs.arrivals.check_arrival.Goals as goal
 
 pub least_exits-requires-clause-worked : goal.least_exits-requires-clause-worked

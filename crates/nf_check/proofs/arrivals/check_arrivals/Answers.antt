@@ -6,10 +6,10 @@ use Rattle.nf_curve.specs.Flows.{flow_of}
 use Rattle.nf_curve.specs.Points.{Grown}
 use Rattle.nf_check_lists.specs.declared.CheckRule.TheVariants.{C3}
 use Rattle.nf_check_lists.specs.declared.Subject.TheVariants.{Node}
-use Rattle.nf_rules.specs.Kept.{curves_of, labels_in, loaded_in}
-use Rattle.nf_rules.specs.Steps.{compared_by, arrivals_list}
-use Rattle.nf_rules.proofs.Trying.{ends, ends_as, goes_on, tries_as}
-use Rattle.nf_rules.proofs.Testing.{arrivals-is}
+use Rattle.nf_check_rules.specs.Kept.{curves_of, labels_in, loaded_in}
+use Rattle.nf_check_rules.specs.Steps.{compared_by, arrivals_list}
+use Rattle.nf_check_rules.proofs.Trying.{ends, ends_as, goes_on, tries_as}
+use Rattle.nf_check_rules.proofs.Testing.{arrivals-is}
 use Rattle.nf_check.proofs.arrivals.check_arrivals.Goals as goal
 
 pub returns-in_err-compare-clause-tries : goal.returns-in_err-compare-clause-tries

@@ -1,9 +1,9 @@
 use Rattle.nf_work.specs.Passing.{passes_Q}
 use Rattle.nf_check_lists.specs.CheckList.{arrivals}
 use Rattle.nf_curve.specs.Flows.{flow_of}
-use Rattle.nf_rules.specs.Exits.{AreKept}
-use Rattle.nf_rules.specs.Kept.{labels_in, loaded_in}
-use Rattle.nf_rules.proofs.Looping.{LeftBut}
+use Rattle.nf_check_rules.specs.Exits.{AreKept}
+use Rattle.nf_check_rules.specs.Kept.{labels_in, loaded_in}
+use Rattle.nf_check_rules.proofs.Looping.{LeftBut}
 use Rattle.nf_check.proofs.arrivals.check_arrivals_at.Given as goal
 
 abbrev pub invariant-loop-number : goal.invariant-loop-number

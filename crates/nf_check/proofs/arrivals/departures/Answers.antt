@@ -3,7 +3,7 @@ use Rattle.std.specs.Prelude.{IsTrue}
 use Rattle.nf_rational.specs.Rational.{ℚ}
 use Rattle.nf_rational.specs.Order.{◌<ℚ◌}
 use Rattle.nf_curve.specs.Points.{last_time}
-use Rattle.nf_rules.proofs.PointByPoint.{positive}
+use Rattle.nf_check_rules.proofs.PointByPoint.{positive}
 use Rattle.nf_check.proofs.arrivals.departures.Goals as goal
 
 pub push-requires : goal.push-requires

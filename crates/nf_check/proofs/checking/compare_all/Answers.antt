@@ -2,10 +2,10 @@ use Rattle.std.proofs.lemmas.Result.{err_from_is_err_and}
 use Rattle.std.proofs.Common.{◌∙◌, rules}
 use Rattle.nf_work.specs.Passing.{passes_Q}
 use Rattle.nf_curve.specs.Flows.{flow_of}
-use Rattle.nf_rules.specs.Kept.{labels_in, loaded_in}
-use Rattle.nf_rules.specs.Steps.{arrivals_list, told_list, balances_list, compared_list}
-use Rattle.nf_rules.proofs.Keeping.{none_kept}
-use Rattle.nf_rules.proofs.Trying.{goes_on, ends, ends_as, tries_as}
+use Rattle.nf_check_rules.specs.Kept.{labels_in, loaded_in}
+use Rattle.nf_check_rules.specs.Steps.{arrivals_list, told_list, balances_list, compared_list}
+use Rattle.nf_check_rules.proofs.Keeping.{none_kept}
+use Rattle.nf_check_rules.proofs.Trying.{goes_on, ends, ends_as, tries_as}
 use Rattle.nf_check.proofs.checking.compare_all.Goals as goal
 
 pub check_arrivals-requires-clause-worked : goal.check_arrivals-requires-clause-worked

@@ -1,4 +1,4 @@
-use Rattle.nf_rules.proofs.ByNumber.{next_curve}
+use Rattle.nf_check_rules.proofs.ByNumber.{next_curve}
 use Rattle.nf_check.proofs.checking.know_curves.Goals as goal
 
 pub loop-curve-preserved : goal.loop-curve-preserved

@@ -3,11 +3,11 @@ use Rattle.std.proofs.Common.{◌∙◌}
 use Rattle.nf_work.specs.Passing.{passes_Q}
 use Rattle.nf_curve.specs.Flows.{flow_of}
 use Rattle.nf_check_lists.specs.CheckList.{trial}
-use Rattle.nf_rules.specs.Kept.{labels_in, loaded_in}
-use Rattle.nf_rules.specs.Steps.{worked_list, tested_list}
-use Rattle.nf_rules.specs.Trials.{done}
-use Rattle.nf_rules.proofs.Trying.{goes_on, ends, ends_as, tries_as}
-use Rattle.nf_rules.proofs.Testing.{tested-is}
+use Rattle.nf_check_rules.specs.Kept.{labels_in, loaded_in}
+use Rattle.nf_check_rules.specs.Steps.{worked_list, tested_list}
+use Rattle.nf_check_rules.specs.Trials.{done}
+use Rattle.nf_check_rules.proofs.Trying.{goes_on, ends, ends_as, tries_as}
+use Rattle.nf_check_rules.proofs.Testing.{tested-is}
 use Rattle.nf_check.proofs.checking.test_all.Goals as goal
 
 pub returns-in_err-worked : goal.returns-in_err-worked

@@ -6,11 +6,11 @@ use Rattle.nf_work.specs.Checked.{each}
 use Rattle.nf_curve.specs.Flows.{flow_of}
 use Rattle.nf_check_lists.specs.Rules.{all_nodes, all_links}
 use Rattle.nf_check_lists.specs.CheckList.{label_cut, inflow_rule, link_rates, loading}
-use Rattle.nf_rules.specs.Kept.{curves_of, loadings_of}
-use Rattle.nf_rules.specs.Steps.{worked_list}
-use Rattle.nf_rules.specs.Trials.{done}
-use Rattle.nf_rules.proofs.Trying.{goes_on, ends, ends_as}
-use Rattle.nf_rules.proofs.Known.{labels_in_number, inflows_known, worked_known}
+use Rattle.nf_check_rules.specs.Kept.{curves_of, loadings_of}
+use Rattle.nf_check_rules.specs.Steps.{worked_list}
+use Rattle.nf_check_rules.specs.Trials.{done}
+use Rattle.nf_check_rules.proofs.Trying.{goes_on, ends, ends_as}
+use Rattle.nf_check_rules.proofs.Known.{labels_in_number, inflows_known, worked_known}
 use Rattle.nf_check.proofs.checking.work_out.Goals as goal
 
 pub load_links-requires-clause-labels : goal.load_links-requires-clause-labels

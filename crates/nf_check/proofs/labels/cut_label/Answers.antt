@@ -11,8 +11,8 @@ use Rattle.nf_check_lists.specs.declared.Subject.TheVariants.{Node}
 use Rattle.nf_check_lists.specs.PointRules.{negative_point}
 use Rattle.nf_check_lists.specs.Trial.{unless}
 use Rattle.nf_check_lists.specs.CheckList.{label_cut}
-use Rattle.nf_rules.specs.Kept.{curves_of}
-use Rattle.nf_rules.proofs.Trying.{goes_on, ends, ends_as, part_goes, part_stops}
+use Rattle.nf_check_rules.specs.Kept.{curves_of}
+use Rattle.nf_check_rules.proofs.Trying.{goes_on, ends, ends_as, part_goes, part_stops}
 use Rattle.nf_check.proofs.labels.cut_label.Goals as goal
 
 pub returns-in_err-cut : goal.returns-in_err-cut

@@ -5,8 +5,8 @@ use Rattle.nf_work.specs.Passing.{passes_Q}
 use Rattle.nf_check_lists.specs.CheckList.{label_cut}
 use Rattle.nf_curve.specs.Points.{Grown}
 use Rattle.nf_curve.specs.Flows.{flow_of}
-use Rattle.nf_rules.specs.Kept.{curves_of}
-use Rattle.nf_rules.proofs.Looping.{kept_first, kept_ends, kept_goes, kept_last}
+use Rattle.nf_check_rules.specs.Kept.{curves_of}
+use Rattle.nf_check_rules.proofs.Looping.{kept_first, kept_ends, kept_goes, kept_last}
 use Rattle.nf_check.proofs.labels.cut_labels.Goals as goal
 
 pub loop-number-init : goal.loop-number-init

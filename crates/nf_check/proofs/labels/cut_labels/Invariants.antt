@@ -1,8 +1,8 @@
 use Rattle.nf_work.specs.Passing.{passes_Q}
 use Rattle.nf_check_lists.specs.CheckList.{label_cut}
 use Rattle.nf_curve.specs.Flows.{flow_of}
-use Rattle.nf_rules.specs.Kept.{curves_of}
-use Rattle.nf_rules.proofs.Looping.{FrontBelow}
+use Rattle.nf_check_rules.specs.Kept.{curves_of}
+use Rattle.nf_check_rules.proofs.Looping.{FrontBelow}
 use Rattle.nf_check.proofs.labels.cut_labels.Given as goal
 
 abbrev pub invariant-loop-number : goal.invariant-loop-number

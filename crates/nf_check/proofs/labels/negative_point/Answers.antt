@@ -4,7 +4,7 @@ use Rattle.nf_rational.specs.Rational.{ℚ}
 use Rattle.nf_rational.specs.Operations.{0ℚ}
 use Rattle.nf_rational.specs.Order.{lt_ℚ}
 use Rattle.nf_check_lists.specs.PointRules.{negative_point}
-use Rattle.nf_rules.proofs.PointByPoint.{is_negative, not_negative}
+use Rattle.nf_check_rules.proofs.PointByPoint.{is_negative, not_negative}
 use Rattle.nf_check.proofs.labels.negative_point.Goals as goal
 
 pub loop-i-init : goal.loop-i-init

@@ -1,7 +1,7 @@
 use Rattle.std.specs.Prelude.{IfSome}
 use Rattle.std.proofs.Common.{subst}
 use Rattle.nf_work.specs.Passing.{passes_Q}
-use Rattle.nf_trial.specs.Trying.{AreValuesOf}
+use Rattle.nf_one_pattern.specs.Trying.{AreValuesOf}
 use Rattle.nf_guess.proofs.guessing.solved_pattern.Goals as goal
 
 pub returns-in-Some : goal.returns-in-Some

@@ -14,7 +14,7 @@ use Rattle.nf_curve.proofs.Exits.{was_ok}
 use Rattle.nf_resume_lists.specs.Resuming.{cut_flow}
 use Rattle.nf_resume_laws.proofs.CutFlow.{cut_flow-is}
 use Rattle.nf_resume_laws.proofs.Restarted.{Equilibrium-cut_flow, IsShortFlow-cut_flow}
-use Rattle.nf_reader.specs.Files.{report_of}
+use Rattle.nf_report_file.specs.Files.{report_of}
 use Rattle.nf_phase.specs.Restarting.{NoneFull}
 use Rattle.nf_phase.proofs.Restarting.{EndsAtItsLabels-cut}
 use Rattle.nf_resume.proofs.Resumed.{cut_stops, restored}

@@ -1,6 +1,6 @@
 use Rattle.std.proofs.Common.{◌<◌, ◌≤◌, ◌+◌, ℕ, List, length, refl, sym, ap, subst, ◌∙◌, arith}
 use Rattle.nf_formats.specs.Names.{has_name}
-use Rattle.nf_contents.specs.NameAt.{IsNameAt}
+use Rattle.nf_side_files.specs.NameAt.{IsNameAt}
 use Rattle.nf_routes_file.proofs.RouteLinks.{AreRead, all_read, none_there, one_more}
 use Rattle.nf_routes_file.proofs.entry.read_links.Goals as goal
 

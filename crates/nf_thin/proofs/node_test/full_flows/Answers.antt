@@ -8,7 +8,7 @@ use Rattle.nf_work.specs.Passing.{passes_Q}
 use Rattle.nf_model.specs.Network.{Link}
 use Rattle.nf_pattern.proofs.Each.{take_pushed}
 use Rattle.nf_thin.specs.Conserving.{full_by}
-use Rattle.nf_trial.specs.Fulls.{full_of}
+use Rattle.nf_one_pattern.specs.Fulls.{full_of}
 use Rattle.nf_narrow.proofs.Reading.{number_read}
 use Rattle.nf_thin.proofs.Conserving.{full_there}
 use Rattle.nf_thin.proofs.node_test.full_flows.Goals as goal

@@ -3,7 +3,7 @@ use Rattle.nf_curve.specs.Points.{Grown}
 use Rattle.nf_curve.specs.Flows.{trace_of}
 use Rattle.nf_lists.specs.ReportCurves.{GrowingCurve, LinkCurves}
 use Rattle.nf_lists.specs.PhaseRun.{Standing, flow_of}
-use Rattle.nf_growth.specs.Growing.{Roomy, all_grown}
+use Rattle.nf_growing_curves.specs.Growing.{Roomy, all_grown}
 use Rattle.nf_phase.proofs.run.Run.flow.Goals as goal
 
 pub returns : goal.returns

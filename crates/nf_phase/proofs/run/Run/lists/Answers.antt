@@ -7,7 +7,7 @@ use Rattle.nf_model.specs.ThinFlow.{Sets, slacks_of}
 use Rattle.nf_model.specs.Phases.{IsPhaseLength}
 use Rattle.nf_lists.specs.Advance.{Advanced}
 use Rattle.nf_lists.specs.PhaseRun.{Standing, phase_lists}
-use Rattle.nf_growth.specs.Growing.{all_grown}
+use Rattle.nf_growing_curves.specs.Growing.{all_grown}
 use Rattle.nf_phase.specs.declared.fault.StepFault.{StepFault}
 use Rattle.nf_phase.proofs.Found.{by_fault}
 use Rattle.nf_phase.proofs.Reached.{active_count, resetting_count}

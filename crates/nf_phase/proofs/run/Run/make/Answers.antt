@@ -8,9 +8,9 @@ use Rattle.nf_lists.specs.CurveList.{LinkStep}
 use Rattle.nf_lists.specs.ReportCurves.{GrowingCurve, LinkCurves}
 use Rattle.nf_lists.specs.PhaseRun.{Standing}
 use Rattle.nf_phase.specs.contracts.run.Run.{the_view}
-use Rattle.nf_growth.proofs.Places.{nothing_given, holds_anyway}
+use Rattle.nf_growing_curves.proofs.Places.{nothing_given, holds_anyway}
 use Rattle.nf_phase.proofs.Standings.{same_standing}
-use Rattle.nf_growth.specs.Growing.{Roomy, all_grown}
+use Rattle.nf_growing_curves.specs.Growing.{Roomy, all_grown}
 use Rattle.nf_phase.proofs.Stepped.{curve_count, link_count, new_label_count, slope_count, step_count, source_next, labels_later, links_later, new_standing}
 use Rattle.nf_phase.proofs.run.Run.make.Goals as goal
 

@@ -11,8 +11,8 @@ use Rattle.nf_curve.specs.Points.{Grown}
 use Rattle.nf_curve.specs.Flows.{trace_of, flow_of as flow_in}
 use Rattle.nf_curve.specs.declared.flow.Trace as code
 use Rattle.nf_curve.proofs.Exits.{was_ok, stops_on}
-use Rattle.nf_growth.specs.Growing.{all_grown}
-use Rattle.nf_growth.specs.Restoring.{of_links}
+use Rattle.nf_growing_curves.specs.Growing.{all_grown}
+use Rattle.nf_growing_curves.specs.Restoring.{of_links}
 use Rattle.nf_phase.specs.Stepping.{restored}
 use Rattle.nf_phase.proofs.Restarting.{flow_restored}
 use Rattle.nf_phase.proofs.RestoreList.{labels_pass, links_pass, list_made, ends_same, flow_counts}

@@ -8,7 +8,7 @@ use Rattle.nf_rational.specs.Order.{◌<ℚ◌}
 use Rattle.nf_work.specs.Passing.{passes_Q}
 use Rattle.nf_lists.specs.PhaseRun.{Standing}
 use Rattle.nf_forever_lists.specs.ForeverRun.{GoesToEnd}
-use Rattle.nf_growth.proofs.Places.{holds_anyway}
+use Rattle.nf_growing_curves.proofs.Places.{holds_anyway}
 use Rattle.nf_phase.specs.Stepping.{Reaches, goes_on}
 use Rattle.nf_phase.specs.declared.fault.StepFault.{StepFault}
 use Rattle.nf_phase.proofs.Found.{by_fault}

@@ -1,4 +1,0 @@
-use Rattle.nf_advance.proofs.advancing.cut.Goals as goal
-
-pub returns-in-Some : goal.returns-in-Some
-returns-in-Some c = rw c.in-Some.is c.lesser.ensures

@@ -1,8 +1,0 @@
-use Rattle.nf_work.specs.Passing.{passes_Q}
-use Rattle.nf_lists.specs.Advance.{label_after}
-use Rattle.nf_lists_laws.proofs.Numbered.{SoFar}
-use Rattle.nf_advance.proofs.advancing.labels_after.Given as goal
-
--- the labels so far stand before what comes of the other nodes
-abbrev pub invariant-loop-v : goal.invariant-loop-v
-invariant-loop-v l = SoFar (label_after passes_Q l.length l.slopes) l.labels l.moved.items l.v

@@ -1,0 +1,54 @@
+-- Curves by their numbers.
+use Rattle.std.proofs.Common.{◌≡◌, ◌≢◌, ℕ, ◌+◌, ◌<◌, List, [], length, map, get_or, Some, Option, slice_get, unwrap_or, option_map, ⊎_elim, true, false, eqb, refl, sym, ap, subst, ◌∙◌, arith}
+use Rattle.std.proofs.lemmas.Bool.Decides.{eqb_tells}
+use Rattle.std.proofs.lemmas.Option.{slice_get_read, slice_get-map}
+use Rattle.nf_model.specs.Curve.{Point, IsCurve}
+use Rattle.nf_model.specs.Equilibrium as model
+use Rattle.nf_model.specs.Equilibrium.{points_at, points_of}
+use Rattle.nf_load_lists.specs.Loading as lists
+use Rattle.nf_check_lists.specs.Curves.{loaded_at}
+use Rattle.nf_check_lists.specs.CheckList as lists_of_check
+use Rattle.nf_curve.specs.Points.{Grown}
+use Rattle.nf_curve.specs.Flows.{trace_of}
+use Rattle.nf_curve.specs.declared.flow.Trace.{Trace}
+use Rattle.nf_load.specs.Loadings.{loaded_of}
+use Rattle.nf_load.specs.declared.loading.Loaded.{Loaded}
+use Rattle.nf_check_rules.specs.Kept.{curves_of, loadings_of}
+
+pub get_map : {A B : Type 0} (f : A → B) (xs : List A) (k : ℕ) (x : A) → slice_get xs k ≡ Some x → slice_get (map f xs) k ≡ Some (f x)
+get_map {A} {B} f xs k x e = slice_get-map f xs k ∙ ap (option_map f) e
+
+module _ (curves : List Grown) (k : ℕ) (curve : Grown) (is : slice_get curves k ≡ Some curve) where
+  pub curve_there : curve.points ≡ points_at (curves_of curves) k
+  curve_there = sym (ap (λ (o : Option (List Point)). unwrap_or o []) (get_map (λ (c : Grown). c.points) curves k curve is))
+
+module _ (traces : List Trace) (k : ℕ) (trace : Trace) (is : slice_get traces k ≡ Some trace) where
+  pub trace_there : slice_get (map trace_of traces) k ≡ Some (trace_of trace)
+  trace_there = get_map trace_of traces k trace is
+
+  pub trace_same : trace_of trace ≡ lists_of_check.trace_of (map trace_of traces) k
+  trace_same = sym (ap (λ (o : Option model.Trace). unwrap_or o (record { points = []; rates = [] })) trace_there)
+
+  pub trace_points : trace.curve.points ≡ points_at (points_of (map trace_of traces)) k
+  trace_points = sym (ap (λ (o : Option (List Point)). unwrap_or o []) (get_map (λ (t : model.Trace). t.points) (map trace_of traces) k (trace_of trace) trace_there))
+
+module _ (loaded : List Loaded) (k : ℕ) (one : Loaded) (is : slice_get loaded k ≡ Some one) where
+  pub loaded_there : loaded_of one ≡ loaded_at (loadings_of loaded) k
+  loaded_there = sym (ap (λ (o : Option lists.Loaded). unwrap_or o (record { queue = []; outflow = []; exit = [] })) (get_map loaded_of loaded k one is))
+
+-- ---- one more of the first ones
+one_more : (P : ℕ → Type 0) (i : ℕ) → ((k : ℕ) → k < i → P k) → P i → (k : ℕ) → k < i + 1 → P k
+one_more P i all here k h = ⊎_elim
+    (λ (w : (eqb k i ≡ true) × (k ≡ i)). subst P (sym w.1) here)
+    (λ (w : (eqb k i ≡ false) × (k ≢ i)). all k (let n = w.1 in omega arith))
+    (eqb_tells k i)
+
+pub next_curve : (curves : List Grown) (i : ℕ) (curve : Grown) → i < length curves → curve ≡ get_or curves i curve → IsCurve curve.points → ((k : ℕ) → k < i → IsCurve (points_at (curves_of curves) k))
+    → (k : ℕ) → k < i + 1 → IsCurve (points_at (curves_of curves) k)
+next_curve curves i curve h is c all = one_more (λ k. IsCurve (points_at (curves_of curves) k)) i all
+    (subst (λ (l : List Point). IsCurve l) (curve_there curves i curve (slice_get_read curves _ i curve refl h is)) c)
+
+pub next_trace : (traces : List Trace) (i : ℕ) (trace : Trace) → i < length traces → trace ≡ get_or traces i trace → IsCurve trace.curve.points → ((k : ℕ) → k < i → IsCurve (points_at (points_of (map trace_of traces)) k))
+    → (k : ℕ) → k < i + 1 → IsCurve (points_at (points_of (map trace_of traces)) k)
+next_trace traces i trace h is c all = one_more (λ k. IsCurve (points_at (points_of (map trace_of traces)) k)) i all
+    (subst (λ (l : List Point). IsCurve l) (trace_points traces i trace (slice_get_read traces _ i trace refl h is)) c)

@@ -1,0 +1,162 @@
+-- What is known of the labels and inflows once the first rules hold.
+use Rattle.std.proofs.Common.{◌≡◌, ℕ, zero, suc, ◌+◌, ◌<◌, List, [], ◌∷◌, length, Option, Some, None, slice_get, unwrap_or, refl, sym, ap, subst, ◌∙◌, arith}
+use Rattle.std.proofs.lemmas.List.{length-map}
+use Rattle.std.specs.Prelude.{Result, Ok, Err}
+use Rattle.std.specs.List.{enumerate_from, range_with_len}
+use Rattle.nf_rational.specs.Rational.{ℚ}
+use Rattle.nf_rational.specs.Operations.{0ℚ}
+use Rattle.nf_rational.specs.Order.{◌≤ℚ◌}
+use Rattle.nf_work.specs.Passing.{Passing}
+use Rattle.nf_work.specs.Checked.{Checked, each, ◌>>=◌}
+use Rattle.nf_work.specs.declared.Part.TheVariants.{Check}
+use Rattle.nf_model.specs.Curve.{Point, value, IsCurve}
+use Rattle.nf_model.specs.Network.{Network}
+use Rattle.nf_model.specs.Equilibrium.{Flow, points_at, points_of}
+use Rattle.nf_curve_lists.specs.Lines.{Sides}
+use Rattle.nf_curve_lists.specs.Values.{checked_cut}
+use Rattle.nf_curve_laws.proofs.Values.{checked_cut-exact}
+use Rattle.nf_check_lists.specs.declared.CheckRule.{CheckRule}
+use Rattle.nf_check_lists.specs.declared.CheckRule.TheVariants.{C1}
+use Rattle.nf_check_lists.specs.declared.Subject.{Subject}
+use Rattle.nf_check_lists.specs.declared.Subject.TheVariants.{Node, Link as OfLink}
+use Rattle.nf_check_lists.specs.Rules.{Inflow, Holds, all_nodes, all_links}
+use Rattle.nf_check_lists.specs.Trial.{Trial, in_part, unless}
+use Rattle.nf_check_lists.specs.PointRules.{negative_point, inflow_fault}
+use Rattle.nf_check_lists.specs.CheckList.{label_cut, inflow_rule, loading}
+use Rattle.nf_check_laws.specs.Laws.{CanBeChecked}
+use Rattle.nf_check_laws.proofs.Points.{IsLabel, cut_of, label-cut, negative-none, decides-inflow, value_from_all}
+use Rattle.nf_curve.specs.Points.{Grown}
+use Rattle.nf_load.specs.Loadings.{loaded_of}
+use Rattle.nf_check_rules.specs.declared.worked.Worked.{Worked}
+use Rattle.nf_check_rules.specs.Kept.{IsFromZero, IsWorked, curves_of, labels_in, loaded_in}
+use Rattle.nf_check_rules.specs.Trials.{done}
+use Rattle.nf_check_rules.proofs.Trying.{Came, done_came}
+
+-- ---- parts of what went through
+record Both {A B : Type 0} (r : Trial A) (f : A → Trial B) (y : B) : Type 0 where
+  first : A
+  came : r ≡ Ok first
+  next : f first ≡ Ok y
+
+both_came : {A B : Type 0} (r : Trial A) (f : A → Trial B) (y : B) → (r >>= f) ≡ Ok y → Both r f y
+both_came (Ok x) f y e = record { first = x; came = refl; next = e }
+both_came (Err p) f y e = absurd (cc)
+
+part_came : {A : Type 0} (r : Checked A) (x : A) → in_part Check r ≡ Ok x → r ≡ Ok x
+part_came (Ok y) x e = cc
+part_came (Err p) x e = absurd (cc)
+
+unless_came : (rule : CheckRule) (subject : Subject ℕ ℕ) (o : Option Sides) (x : Unit {0}) → unless rule subject o ≡ Ok x → o ≡ None
+unless_came rule subject None x e = refl
+unless_came rule subject (Some sides) x e = absurd (cc)
+
+ok_same : {A E : Type 0} (x y : A) → ◌≡◌ {A = Result A E} (Ok x) (Ok y) → x ≡ y
+ok_same x y e = cc
+
+-- one of some numbers in order
+each_came : {A : Type 0} (f : ℕ → Trial A) (n i k : ℕ) (ys : List A) → each f (range_with_len i n) ≡ Ok ys → k < n → Came (f (i + k))
+each_came f zero i k ys e h = absurd (omega arith)
+each_came f (suc n) i zero ys e h =
+    let w = both_came (f i) _ ys e in
+    let same : i ≡ i + 0 = omega arith in
+    subst (λ (j : ℕ). Came (f j)) same (record { value = w.first; is = w.came })
+each_came f (suc n) i (suc k) ys e h =
+    let w = both_came (f i) _ ys e in
+    let v = both_came (each f (range_with_len (i + 1) n)) _ ys w.next in
+    let same : (i + 1) + k ≡ i + suc k = omega arith in
+    subst (λ (j : ℕ). Came (f j)) same (each_came f n (i + 1) k v.first v.came (omega arith))
+
+-- and what it came to stands at its place
+each_at : {A : Type 0} (f : ℕ → Trial A) (d : A) (n i k : ℕ) (ys : List A) → each f (range_with_len i n) ≡ Ok ys → k < n → f (i + k) ≡ Ok (unwrap_or (slice_get ys k) d)
+each_at f d zero i k ys e h = absurd (omega arith)
+each_at {A} f d (suc n) i zero ys e h =
+    let w = both_came (f i) _ ys e in
+    let v = both_came (each f (range_with_len (i + 1) n)) _ ys w.next in
+    let is : w.first ∷ v.first ≡ ys = ok_same _ _ v.next in
+    let same : i ≡ i + 0 = omega arith in
+    subst (λ (j : ℕ). f j ≡ Ok (unwrap_or (slice_get ys 0) d)) same (w.came ∙ ap (λ (l : List A). Ok (unwrap_or (slice_get l 0) d)) is)
+each_at {A} f d (suc n) i (suc k) ys e h =
+    let w = both_came (f i) _ ys e in
+    let v = both_came (each f (range_with_len (i + 1) n)) _ ys w.next in
+    let is : w.first ∷ v.first ≡ ys = ok_same _ _ v.next in
+    let same : (i + 1) + k ≡ i + suc k = omega arith in
+    subst (λ (j : ℕ). f j ≡ Ok (unwrap_or (slice_get ys (suc k)) d)) same
+    (each_at f d n (i + 1) k v.first v.came (omega arith) ∙ ap (λ (l : List A). Ok (unwrap_or (slice_get l (suc k)) d)) is)
+
+each_many : {A : Type 0} (f : ℕ → Trial A) (n i : ℕ) (ys : List A) → each f (range_with_len i n) ≡ Ok ys → length ys ≡ n
+each_many f zero i ys e = let is : [] ≡ ys = ok_same _ _ e in sym (ap length is)
+each_many f (suc n) i ys e =
+    let w = both_came (f i) _ ys e in
+    let v = both_came (each f (range_with_len (i + 1) n)) _ ys w.next in
+    let is : w.first ∷ v.first ≡ ys = ok_same _ _ v.next in
+    sym (ap length is) ∙ ap suc (each_many f n (i + 1) v.first v.came)
+
+links_many : {A X : Type 0} (f : ℕ × X → Trial A) (links : List X) (i : ℕ) (ys : List A) → each f (enumerate_from i links) ≡ Ok ys → length ys ≡ length links
+links_many f [] i ys e = let is : [] ≡ ys = ok_same _ _ e in sym (ap length is)
+links_many f (x ∷ links) i ys e =
+    let w = both_came (f (i, x)) _ ys e in
+    let v = both_came (each f (enumerate_from (i + 1) links)) _ ys w.next in
+    let is : w.first ∷ v.first ≡ ys = ok_same _ _ v.next in
+    sym (ap length is) ∙ ap suc (links_many f links (i + 1) v.first v.came)
+
+from_0 : (k : ℕ) → 0 + k ≡ k
+from_0 k = omega arith
+
+module _ (passes : Passing) (net : Network) (flow : Flow) (given : CanBeChecked net flow) where
+  -- ---- the labels
+  cut_came : (v : ℕ) (cut : List Point) → v < net.nodes → label_cut passes net flow v ≡ Ok cut → IsFromZero cut
+  cut_came v cut h e =
+      let w = both_came (in_part Check (checked_cut passes (points_at flow.labels v) flow.reached)) _ cut e in
+      let u = both_came (unless C1 (Node v) (negative_point w.first)) _ cut w.next in
+      let none : negative_point w.first ≡ None = unless_came C1 (Node v) (negative_point w.first) u.first u.came in
+      let exact : w.first ≡ cut_of net flow given v = checked_cut-exact passes (points_at flow.labels v) flow.reached w.first (given.shape.labels.each v h) given.reached (part_came _ w.first w.came) in
+      let is : w.first ≡ cut = ok_same _ _ u.next in
+      let l : IsLabel net flow given v (cut_of net flow given v) = label-cut net flow given v h (subst (λ (c : List Point). negative_point c ≡ None) exact none) in
+      subst (λ (c : List Point). IsFromZero c) is (record { curve = subst (λ (c : List Point). IsCurve c) (sym exact) l.curve; none_negative = negative-none w.first none })
+
+  pub labels_known : (labels : List (List Point)) → each (label_cut passes net flow) (all_nodes net) ≡ Ok labels → (v : ℕ) → v < net.nodes → IsFromZero (points_at labels v)
+  labels_known labels e v h = cut_came v (points_at labels v) h
+      (subst (λ (j : ℕ). label_cut passes net flow j ≡ Ok (points_at labels v)) (from_0 v) (each_at (label_cut passes net flow) [] net.nodes 0 v labels e h))
+
+  pub labels_many : (labels : List (List Point)) → each (label_cut passes net flow) (all_nodes net) ≡ Ok labels → length labels ≡ net.nodes
+  labels_many labels e = each_many (label_cut passes net flow) net.nodes 0 labels e
+
+  -- ---- the inflows
+  pub inflows_known : done (each (inflow_rule passes net flow) (all_links net)) ≡ Ok tt → (e : ℕ) → e < length net.links → Holds net flow (Inflow e)
+  inflows_known d e h =
+      let w = done_came (each (inflow_rule passes net flow) (all_links net)) d in
+      let v : Came (inflow_rule passes net flow e) = subst (λ (j : ℕ). Came (inflow_rule passes net flow j)) (from_0 e) (each_came (inflow_rule passes net flow) (length net.links) 0 e w.value w.is h) in
+      (decides-inflow net flow given e h).holds (unless_came C1 (OfLink e) (inflow_fault (points_at (points_of flow.inflows) e)) v.value v.is)
+
+pub loaded_many : {A X : Type 0} (f : ℕ × X → Trial A) (links : List X) (ys : List A) → each f (enumerate_from 0 links) ≡ Ok ys → length ys ≡ length links
+loaded_many f links ys e = links_many f links 0 ys e
+
+-- ---- a label that has no negative point is never negative
+pub never_negative : (points : List Point) → IsFromZero points → (t : ℚ) → 0ℚ ≤ℚ t → 0ℚ ≤ℚ value points t
+never_negative [] k t h = absurd k.curve
+never_negative (p ∷ rest) k t h = value_from_all 0ℚ p rest t k.curve.1 k.none_negative (subst (λ (z : ℚ). z ≤ℚ t) (sym k.curve.0) h)
+
+-- ---- what was worked out
+pub worked_known : (passes : Passing) (net : Network) (flow : Flow) → CanBeChecked net flow → (w : Worked) → each (label_cut passes net flow) (all_nodes net) ≡ Ok (labels_in w)
+    → (ls : List (List Point)) → each (loading passes net flow ls) (enumerate_from 0 net.links) ≡ Ok (loaded_in w) → IsWorked net w
+worked_known passes net flow given w e ls f = record {
+  nodes = sym (length-map w.labels.items (λ (c : Grown). c.points)) ∙ labels_many passes net flow given (labels_in w) e;
+  links = sym (length-map w.loaded.items loaded_of) ∙ loaded_many (loading passes net flow ls) net.links (loaded_in w) f;
+  labels = labels_known passes net flow given (labels_in w) e;
+}
+
+-- ---- the label of a node
+pub label_known : (w : Worked) (curves : List Grown) (k v : ℕ) (points : List Point) → IsFromZero (points_at (labels_in w) v) → curves ≡ w.labels.items → k ≡ v → points ≡ points_at (curves_of curves) k
+    → IsFromZero points
+label_known w curves k v points known e f g =
+    subst (λ (l : List Point). IsFromZero l) (sym (g ∙ ap (λ (l : List Grown). points_at (curves_of l) k) e ∙ ap (λ (j : ℕ). points_at (labels_in w) j) f)) known
+
+pub labels_in_number : (passes : Passing) (net : Network) (flow : Flow) → CanBeChecked net flow → (all labels : List Grown) → all ≡ labels → each (label_cut passes net flow) (all_nodes net) ≡ Ok (curves_of labels) → length all ≡ net.nodes
+labels_in_number passes net flow given all labels same e = ap length same ∙ sym (length-map labels (λ (c : Grown). c.points)) ∙ labels_many passes net flow given (curves_of labels) e
+
+-- where a label of a node, or a curve of a link, is looked for there is one
+pub label_there : (net : Network) (w : Worked) → IsWorked net w → (curves : List Grown) (k v : ℕ) → curves ≡ w.labels.items → k ≡ v → v < net.nodes → k < length curves
+label_there net w h curves k v e f g = subst (λ (n : ℕ). k < n) (sym (ap length e ∙ h.nodes)) (subst (λ (n : ℕ). n < net.nodes) (sym f) g)
+
+pub one_there : {A : Type 0} (xs ys : List A) (k n : ℕ) → xs ≡ ys → length ys ≡ n → k < n → k < length xs
+one_there xs ys k n e f g = subst (λ (m : ℕ). k < m) (sym (ap length e ∙ f)) g

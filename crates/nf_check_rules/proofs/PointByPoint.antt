@@ -1,0 +1,162 @@
+-- Rules that go from point to point, from each point on.
+use Rattle.std.proofs.Common.{◌≡◌, ℕ, zero, suc, ◌+◌, ◌-◌, ◌<◌, ◌≤◌, List, [], ◌∷◌, length, drop, Bool, true, false, Some, None, slice_get, ⊎_elim, refl, sym, ap, subst, ◌∙◌, arith}
+use Rattle.std.specs.Prelude.{Ok, Err, if◌then◌else◌}
+use Rattle.std.specs.List.{AllByRecursion}
+use Rattle.nf_rational.specs.Rational.{ℚ}
+use Rattle.nf_rational.specs.Operations.{0ℚ}
+use Rattle.nf_rational.specs.Order.{◌≤ℚ◌, ◌<ℚ◌, lt_ℚ, max_ℚ}
+use Rattle.nf_rational_laws.proofs.Order.{≤ℚ_antisymm}
+use Rattle.nf_rational_laws.proofs.Tests.{lt_ℚ_cases}
+use Rattle.nf_work.specs.Passing.{Passing}
+use Rattle.nf_work.specs.Checked.{at_part, ◌>>=◌}
+use Rattle.nf_work.specs.declared.Part.TheVariants.{Check}
+use Rattle.nf_work.specs.declared.PassedAt.{PassedAt}
+use Rattle.nf_model.specs.Curve.{Point, IsCurve}
+use Rattle.nf_curve_lists.specs.Lines.{checked_slope}
+use Rattle.nf_curve.proofs.Placing.{rise-pairs, curve-rises}
+use Rattle.nf_curve.proofs.Shortening.{drop-at}
+use Rattle.nf_check_lists.specs.declared.CheckRule.TheVariants.{C2}
+use Rattle.nf_check_lists.specs.declared.Subject.{Subject}
+use Rattle.nf_check_lists.specs.Trial.{Passes, in_part, unless}
+use Rattle.nf_check_lists.specs.PointRules.{negative_point, falling_from, if_other, rates_from, rates_list}
+use Rattle.nf_check_lists.specs.Curves.{greatest_value, last_value}
+use Rattle.nf_model.specs.Network.{Network}
+use Rattle.nf_model.specs.Equilibrium.{Flow}
+use Rattle.nf_check_lists.specs.CheckList as lists_of_check
+use Rattle.nf_check_rules.specs.declared.ended.Ended.{Ended}
+use Rattle.nf_check_rules.specs.Points.{first_fall, first_value}
+use Rattle.nf_check_rules.specs.Trials.{EndsAs}
+use Rattle.nf_check_rules.proofs.Trying.{ends, ends_as, goes_on, part_ok, part_passes}
+
+pub drop_one : {A : Type 0} (xs : List A) (i : ℕ) (x : A) → slice_get xs i ≡ Some x → drop i xs ≡ x ∷ drop (i + 1) xs
+drop_one {A} xs i x e = drop-at xs i x e ∙ ap (λ (k : ℕ). x ∷ drop k xs) (let same : suc i ≡ i + 1 = omega arith in same)
+
+pub drop_none : {A : Type 0} (xs : List A) (i : ℕ) → length xs ≤ i → drop i xs ≡ []
+drop_none [] zero h = refl
+drop_none [] (suc i) h = refl
+drop_none (x ∷ xs) zero h = absurd (omega arith)
+drop_none (x ∷ xs) (suc i) h = drop_none xs i (omega arith)
+
+-- ---- the first negative point
+module _ (points : List Point) (i : ℕ) (so_far : negative_point (drop i points) ≡ negative_point points) where
+  pub none_negative : length points ≤ i → negative_point points ≡ None
+  none_negative h = sym so_far ∙ ap negative_point (drop_none points i h)
+
+  module _ (p : Point) (at : slice_get points i ≡ Some p) where
+    by_first : (if lt_ℚ p.1 0ℚ then Some (record { time = p.0; left = p.1; right = 0ℚ }) else negative_point (drop (i + 1) points)) ≡ negative_point points
+    by_first = sym (ap negative_point (drop_one points i p at)) ∙ so_far
+
+    pub is_negative : lt_ℚ p.1 0ℚ ≡ true → negative_point points ≡ Some (record { time = p.0; left = p.1; right = 0ℚ })
+    is_negative t = sym (sym (ap (λ (b : Bool). if b then Some (record { time = p.0; left = p.1; right = 0ℚ }) else negative_point (drop (i + 1) points)) t) ∙ by_first)
+
+    pub not_negative : lt_ℚ p.1 0ℚ ≡ false → negative_point (drop (i + 1) points) ≡ negative_point points
+    not_negative t = sym (ap (λ (b : Bool). if b then Some (record { time = p.0; left = p.1; right = 0ℚ }) else negative_point (drop (i + 1) points)) t) ∙ by_first
+
+-- ---- the first fall, where i is the number of the point after the one looked at
+module _ (points : List Point) (i : ℕ) (some : 0 < i) (so_far : first_fall (drop (i - 1) points) ≡ first_fall points) where
+  pub no_fall : length points ≤ i → first_fall points ≡ None
+  no_fall h = sym so_far ∙ alone (drop (i - 1) points) (short points (i - 1) (omega arith))
+    where
+      short : (xs : List Point) (k : ℕ) → length xs ≤ k + 1 → length (drop k xs) ≤ 1
+      short [] zero h = omega arith
+      short [] (suc k) h = omega arith
+      short (x ∷ xs) zero h = omega arith
+      short (x ∷ xs) (suc k) h = short xs k (omega arith)
+
+      alone : (xs : List Point) → length xs ≤ 1 → first_fall xs ≡ None
+      alone [] h = refl
+      alone (x ∷ []) h = refl
+      alone (x ∷ y ∷ xs) h = absurd (omega arith)
+
+  module _ (p q : Point) (at : slice_get points (i - 1) ≡ Some p) (next : slice_get points i ≡ Some q) where
+    from_q : drop i points ≡ q ∷ drop (i + 1) points
+    from_q = drop_one points i q next
+
+    both : drop (i - 1) points ≡ p ∷ q ∷ drop (i + 1) points
+    both = drop_one points (i - 1) p at ∙ ap (λ (l : List Point). p ∷ l) (ap (λ (k : ℕ). drop k points) (let same : (i - 1) + 1 ≡ i = omega arith in same) ∙ from_q)
+
+    by_pair : (if lt_ℚ q.1 p.1 then Some (record { time = p.0; left = p.1; right = q.1 }) else falling_from q (drop (i + 1) points)) ≡ first_fall points
+    by_pair = sym (ap first_fall both) ∙ so_far
+
+    pub falls : lt_ℚ q.1 p.1 ≡ true → first_fall points ≡ Some (record { time = p.0; left = p.1; right = q.1 })
+    falls t = sym (sym (ap (λ (b : Bool). if b then Some (record { time = p.0; left = p.1; right = q.1 }) else falling_from q (drop (i + 1) points)) t) ∙ by_pair)
+
+    pub rises : lt_ℚ q.1 p.1 ≡ false → first_fall (drop ((i + 1) - 1) points) ≡ first_fall points
+    rises t =
+        ap first_fall (ap (λ (k : ℕ). drop k points) (let same : (i + 1) - 1 ≡ i = omega arith in same) ∙ from_q)
+        ∙ sym (ap (λ (b : Bool). if b then Some (record { time = p.0; left = p.1; right = q.1 }) else falling_from q (drop (i + 1) points)) t) ∙ by_pair
+
+-- ---- rates
+module _ (passes : Passing) (subject : Subject ℕ ℕ) (points : List Point) (rates : List ℚ) (i : ℕ)
+    (so_far : rates_list passes subject (drop i points) (drop i rates) ≡ rates_list passes subject points rates) where
+  pub rates_end : length rates ≤ i → rates_list passes subject points rates ≡ Ok tt
+  rates_end h = sym so_far ∙ ap (rates_list passes subject (drop i points)) (drop_none rates i h) ∙ no_rate (drop i points)
+    where
+      no_rate : (xs : List Point) → rates_list passes subject xs [] ≡ Ok tt
+      no_rate [] = refl
+      no_rate (x ∷ []) = refl
+      no_rate (x ∷ y ∷ xs) = refl
+
+  module _ (p q : Point) (rate : ℚ) (at : slice_get points i ≡ Some p) (next : slice_get points (i + 1) ≡ Some q) (here : slice_get rates i ≡ Some rate) where
+    abbrev rest_points : List Point
+    rest_points = drop (i + 1) points
+
+    from_next : drop (i + 1) points ≡ q ∷ drop ((i + 1) + 1) points
+    from_next = drop_one points (i + 1) q next
+
+    by_rate : (in_part Check (checked_slope passes p q) >>= λ k. unless C2 subject (if_other p.0 rate k) >>= λ _. rates_from passes subject q (drop ((i + 1) + 1) points) (drop (i + 1) rates)) ≡ rates_list passes subject points rates
+    by_rate =
+        sym (ap (λ (l : List Point). rates_list passes subject l (drop i rates)) (drop_one points i p at ∙ ap (λ (l : List Point). p ∷ l) from_next)
+        ∙ ap (rates_list passes subject (p ∷ q ∷ drop ((i + 1) + 1) points)) (drop_one rates i rate here))
+        ∙ so_far
+
+    pub slope_ends : (passed : PassedAt ℚ) → at_part Check (checked_slope passes p q) ≡ Err passed → rates_list passes subject points rates ≡ Err (Passes passed)
+    slope_ends passed e = sym by_rate ∙ ends (Ended.Passed passed) (in_part Check (checked_slope passes p q)) _ (part_passes Check (checked_slope passes p q) passed e)
+
+    module _ (slope : ℚ) (slope_is : at_part Check (checked_slope passes p q) ≡ Ok slope) where
+      by_slope : (unless C2 subject (if_other p.0 rate slope) >>= λ _. rates_from passes subject q (drop ((i + 1) + 1) points) (drop (i + 1) rates)) ≡ rates_list passes subject points rates
+      by_slope = sym (goes_on (in_part Check (checked_slope passes p q)) _ slope (part_ok Check (checked_slope passes p q) slope slope_is)) ∙ by_rate
+
+      pub other_ends : (e : Ended) → EndsAs e (unless C2 subject (if_other p.0 rate slope)) → EndsAs e (rates_list passes subject points rates)
+      other_ends e h = ends_as e (rates_list passes subject points rates) _ (sym by_slope) (ends e (unless C2 subject (if_other p.0 rate slope)) _ h)
+
+      pub rate_fits : unless C2 subject (if_other p.0 rate slope) ≡ Ok tt → rates_list passes subject (drop (i + 1) points) (drop (i + 1) rates) ≡ rates_list passes subject points rates
+      rate_fits h = ap (λ (l : List Point). rates_list passes subject l (drop (i + 1) rates)) from_next
+          ∙ sym (goes_on (unless C2 subject (if_other p.0 rate slope)) _ tt h) ∙ by_slope
+
+-- neighbouring points
+pub times_apart : (points : List Point) (i : ℕ) (p q : Point) → IsCurve points → slice_get points i ≡ Some p → slice_get points (i + 1) ≡ Some q → p.0 <ℚ q.0
+times_apart points i p q c e f = rise-pairs points i (i + 1) p q (curve-rises points c) e f (omega arith)
+
+-- ---- values
+pub greater_before : (points : List Point) (left next : ℕ) (p : Point) (greatest : ℚ) → left ≡ next + 1 → slice_get points next ≡ Some p → greatest ≡ greatest_value (drop left points)
+    → max_ℚ p.1 greatest ≡ greatest_value (drop next points)
+greater_before points left next p greatest n e g =
+    ap (max_ℚ p.1) (g ∙ ap (λ (k : ℕ). greatest_value (drop k points)) n) ∙ sym (ap greatest_value (drop_one points next p e))
+
+pub first_is : (points : List Point) (p : Point) → slice_get points 0 ≡ Some p → p.1 ≡ first_value points
+first_is [] p e = absurd (cc)
+first_is (x ∷ rest) p e = let same : p ≡ x = cc in ap (λ (q : Point). q.1) same
+
+pub first_same : (passes : Passing) (net : Network) (flow : Flow) (points : List Point) → first_value points ≡ lists_of_check.first_value passes net flow points
+first_same passes net flow [] = refl
+first_same passes net flow (p ∷ rest) = refl
+
+pub last_is : (points : List Point) (k : ℕ) (p : Point) → slice_get points k ≡ Some p → k + 1 ≡ length points → p.1 ≡ last_value points
+last_is [] k p e n = absurd (cc)
+last_is (x ∷ []) zero p e n = let same : p ≡ x = cc in ap (λ (q : Point). q.1) same
+last_is (x ∷ []) (suc k) p e n = absurd (omega arith)
+last_is (x ∷ y ∷ rest) zero p e n = absurd (omega arith)
+last_is (x ∷ y ∷ rest) (suc k) p e n = last_is (y ∷ rest) k p e (omega arith)
+
+pub all_from_0 : (points : List Point) (k : ℕ) (p : Point) → slice_get points k ≡ Some p → AllByRecursion (λ (q : Point). 0ℚ ≤ℚ q.1) points → 0ℚ ≤ℚ p.1
+all_from_0 [] k p e a = absurd (cc)
+all_from_0 (x ∷ rest) zero p e a = let same : x ≡ p = cc in subst (λ (q : Point). 0ℚ ≤ℚ q.1) same a.0
+all_from_0 (x ∷ rest) (suc k) p e a = all_from_0 rest k p e a.1
+
+-- what is at least 0 and isn't 0 is above it
+pub positive : (x : ℚ) → 0ℚ ≤ℚ x → ¬ (x ≡ 0ℚ) → 0ℚ <ℚ x
+positive x h n = ⊎_elim
+    (λ (w : (lt_ℚ 0ℚ x ≡ true) × (0ℚ <ℚ x)). w.1)
+    (λ (w : (lt_ℚ 0ℚ x ≡ false) × (x ≤ℚ 0ℚ)). absurd (n (≤ℚ_antisymm x 0ℚ w.1 h)))
+    (lt_ℚ_cases 0ℚ x)

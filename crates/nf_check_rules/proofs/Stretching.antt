@@ -1,0 +1,208 @@
+-- Stretches of departures, one after the other.
+use Rattle.std.proofs.Common.{◌≡◌, Bool, ℕ, zero, suc, ◌+◌, ◌-◌, ◌<◌, ◌≤◌, List, [], ◌∷◌, length, drop, Option, Some, None, slice_get, refl, sym, ap, subst, ◌∙◌, arith}
+use Rattle.std.specs.Prelude.{Result, Ok, Err, pos, nat_abs, SomeIff, unwrap_or, OnOk}
+use Rattle.nf_rational.specs.Gcd.{gcd}
+use Rattle.nf_rational.specs.Rational.{ℚ, ratio}
+use Rattle.nf_rational.specs.Operations.{0ℚ, whole, ◌+ℚ◌, ◌*ℚ◌, ◌/ℚ◌}
+use Rattle.nf_rational.specs.Order.{◌≤ℚ◌, lt_ℚ}
+use Rattle.nf_rational_laws.proofs.Polynomial.{reading_of}
+use Rattle.nf_rational_laws.proofs.Linear.{le, eq, linear_le, linear_eq, linear_false}
+use Rattle.nf_rational_laws.proofs.Quotient.{/ℚ-times}
+use Rattle.nf_frac.specs.Parts.{IsWithin, IsMade}
+use Rattle.nf_work.specs.Passing.{bound_of}
+use Rattle.nf_curve_laws.proofs.Operations.{checked-is, then_ok}
+use Rattle.nf_work.specs.Passing.{Passing, passes_Q}
+use Rattle.nf_work.specs.Checked.{Checked, checked, at_part, ◌>>=◌}
+use Rattle.nf_work.specs.declared.Op.TheVariants.{Sum, Quotient}
+use Rattle.nf_work.specs.declared.Part.TheVariants.{Check}
+use Rattle.nf_work.specs.declared.PassedAt.{PassedAt}
+use Rattle.nf_model.specs.Curve.{Point}
+use Rattle.nf_curve_lists.specs.Lines.{Sides}
+use Rattle.nf_curve_lists.specs.Values.{checked_value}
+use Rattle.nf_curve_lists.specs.Sums.{sides_at}
+use Rattle.nf_curve_lists.specs.Short.{checked_short}
+use Rattle.nf_curve_lists.specs.Composed.{checked_composed}
+use Rattle.nf_curve.proofs.Exits.{after_err, after_ok, was_ok}
+use Rattle.nf_check_lists.specs.Routes.{three_times, checked_middle, on_rising, on_stretch, or_later, stretches_from, all_stretches, detour_list}
+use Rattle.nf_curve.specs.Differences.{difference_of}
+use Rattle.nf_curve.specs.declared.curve.Difference.{Difference}
+use Rattle.nf_check_rules.specs.Sent.{sent_list}
+use Rattle.nf_check_rules.specs.Departures.{IsDeparture}
+use Rattle.nf_check_rules.specs.declared.sent.Sent.{Sent}
+use Rattle.nf_check_rules.specs.declared.stretches.Departure.{Departure}
+use Rattle.nf_check_rules.proofs.PointByPoint.{drop_one}
+
+module _ (passes : Passing) (taken exits labels : List Point) (times : List ℚ) (i : ℕ) (some : 0 < i)
+    (so_far : all_stretches passes taken exits labels (drop (i - 1) times) ≡ all_stretches passes taken exits labels times) where
+  pub no_stretch : length times ≤ i → all_stretches passes taken exits labels times ≡ Ok None
+  no_stretch h = sym so_far ∙ alone (drop (i - 1) times) (short times (i - 1) (omega arith))
+    where
+      short : (xs : List ℚ) (k : ℕ) → length xs ≤ k + 1 → length (drop k xs) ≤ 1
+      short [] zero h = omega arith
+      short [] (suc k) h = omega arith
+      short (x ∷ xs) zero h = omega arith
+      short (x ∷ xs) (suc k) h = short xs k (omega arith)
+
+      alone : (xs : List ℚ) → length xs ≤ 1 → all_stretches passes taken exits labels xs ≡ Ok None
+      alone [] h = refl
+      alone (x ∷ []) h = refl
+      alone (x ∷ y ∷ xs) h = absurd (omega arith)
+
+  module _ (first next : ℚ) (at : slice_get times (i - 1) ≡ Some first) (there : slice_get times i ≡ Some next) where
+    from_next : drop i times ≡ next ∷ drop (i + 1) times
+    from_next = drop_one times i next there
+
+    both : drop (i - 1) times ≡ first ∷ next ∷ drop (i + 1) times
+    both = drop_one times (i - 1) first at ∙ ap (λ (l : List ℚ). first ∷ l) (ap (λ (k : ℕ). drop k times) (let same : (i - 1) + 1 ≡ i = omega arith in same) ∙ from_next)
+
+    by_stretch : (on_stretch passes taken exits labels first next >>= λ here. or_later passes here (stretches_from passes taken exits labels next (drop (i + 1) times))) ≡ all_stretches passes taken exits labels times
+    by_stretch = sym (ap (all_stretches passes taken exits labels) both) ∙ so_far
+
+    pub stretch_stops : (p : PassedAt ℚ) → at_part Check (on_stretch passes taken exits labels first next) ≡ Err p → at_part Check (all_stretches passes taken exits labels times) ≡ Err p
+    stretch_stops p e = ap (at_part Check) (sym by_stretch) ∙ after_err Check (on_stretch passes taken exits labels first next) _ p e
+
+    pub stretch_found : (sides : Sides) → at_part Check (on_stretch passes taken exits labels first next) ≡ Ok (Some sides) → at_part Check (all_stretches passes taken exits labels times) ≡ Ok (Some sides)
+    stretch_found sides e = ap (at_part Check) (sym by_stretch) ∙ after_ok Check (on_stretch passes taken exits labels first next) _ (Some sides) e
+
+    pub stretch_goes : at_part Check (on_stretch passes taken exits labels first next) ≡ Ok None → all_stretches passes taken exits labels (drop ((i + 1) - 1) times) ≡ all_stretches passes taken exits labels times
+    stretch_goes e =
+        ap (all_stretches passes taken exits labels) (ap (λ (k : ℕ). drop k times) (let same : (i + 1) - 1 ≡ i = omega arith in same) ∙ from_next)
+        ∙ sym (ap (λ (r : Checked (Option Sides)). r >>= λ here. or_later passes here (stretches_from passes taken exits labels next (drop (i + 1) times))) (was_ok Check (on_stretch passes taken exits labels first next) None e))
+        ∙ by_stretch
+
+-- ---- one stretch, where what has been sent by a departure is known
+module _ (passes : Passing) (taken exits labels : List Point) (first next : ℚ) where
+  pub next_passes : (before : ℚ) → checked_value passes taken first ≡ Ok before → (p : PassedAt ℚ) → at_part Check (checked_value passes taken next) ≡ Err p → at_part Check (on_stretch passes taken exits labels first next) ≡ Err p
+  next_passes before b p e =
+      ap (λ (r : Checked ℚ). at_part Check (r >>= λ before. checked_value passes taken next >>= λ after. on_rising passes (lt_ℚ before after) exits labels first next)) b
+      ∙ after_err Check (checked_value passes taken next) _ p e
+
+  pub both_known : (before after : ℚ) → checked_value passes taken first ≡ Ok before → checked_value passes taken next ≡ Ok after → (rises : Bool) → rises ≡ lt_ℚ before after
+      → on_rising passes rises exits labels first next ≡ on_stretch passes taken exits labels first next
+  both_known before after b a rises r =
+      ap (λ (t : Bool). on_rising passes t exits labels first next) r
+      ∙ sym (ap (λ (r : Checked ℚ). r >>= λ before. checked_value passes taken next >>= λ after. on_rising passes (lt_ℚ before after) exits labels first next) b
+      ∙ ap (λ (r : Checked ℚ). r >>= λ after. on_rising passes (lt_ℚ before after) exits labels first next) a)
+
+module _ (passes : Passing) (taken exits labels : List Point) where
+  pub few_times : (times : List ℚ) → length times < 2 → all_stretches passes taken exits labels times ≡ Ok None
+  few_times [] h = refl
+  few_times (x ∷ []) h = refl
+  few_times (x ∷ y ∷ times) h = absurd (omega arith)
+
+  pub first_passes : (times : List ℚ) → 2 ≤ length times → (first : ℚ) → slice_get times 0 ≡ Some first → (p : PassedAt ℚ) → at_part Check (checked_value passes taken first) ≡ Err p
+      → at_part Check (all_stretches passes taken exits labels times) ≡ Err p
+  first_passes [] h first at p e = absurd (omega arith)
+  first_passes (x ∷ []) h first at p e = absurd (omega arith)
+  first_passes (x ∷ y ∷ times) h first at p e =
+      after_err Check (on_stretch passes taken exits labels x y) _ p (after_err Check (checked_value passes taken x) _ p (ap (λ (z : ℚ). at_part Check (checked_value passes taken z)) (same x first at) ∙ e))
+    where
+      same : (x y : ℚ) → Some x ≡ Some y → x ≡ y
+      same x y e = cc
+
+-- ---- the three curves of a link come first
+abbrev together : {Y E : Type 0} → Y → Y → Result Y E → Result (Y × Y × Y) E
+together a b (Ok c) = Ok (a, b, c)
+together a b (Err p) = Err p
+
+three_first : {X Y Z E : Type 0} (a b : Result X E) (c d : X → Result Y E) (e : Result Y E) (f : Y → Y → Y → Result Z E) (all : Result (Y × Y × Y) E)
+    → all ≡ (a >>= λ t. b >>= λ x. c t >>= λ st. d x >>= λ sx. together st sx e)
+    → (a >>= λ t. b >>= λ x. c t >>= λ st. d x >>= λ sx. e >>= λ sl. f st sx sl) ≡ (all >>= λ s. f s.0 s.1 s.2)
+three_first {X} {Y} {Z} {E} a b c d e f all is = by_parts a b ∙ sym (ap (λ (r : Result (Y × Y × Y) E). r >>= λ s. f s.0 s.1 s.2) is)
+  where
+    last : (st sx : Y) (u : Result Y E) → (u >>= λ sl. f st sx sl) ≡ (together st sx u >>= λ s. f s.0 s.1 s.2)
+    last st sx (Ok sl) = refl
+    last st sx (Err p) = refl
+
+    inner : (r s : Result Y E) → (r >>= λ st. s >>= λ sx. e >>= λ sl. f st sx sl) ≡ ((r >>= λ st. s >>= λ sx. together st sx e) >>= λ s. f s.0 s.1 s.2)
+    inner (Ok st) (Ok sx) = last st sx e
+    inner (Ok st) (Err p) = refl
+    inner (Err p) s = refl
+
+    by_parts : (r s : Result X E) → (r >>= λ t. s >>= λ x. c t >>= λ st. d x >>= λ sx. e >>= λ sl. f st sx sl) ≡ ((r >>= λ t. s >>= λ x. c t >>= λ st. d x >>= λ sx. together st sx e) >>= λ s. f s.0 s.1 s.2)
+    by_parts (Ok t) (Ok x) = inner (c t) (d x)
+    by_parts (Ok t) (Err p) = refl
+    by_parts (Err p) s = refl
+
+pub detour-is : (passes : Passing) (inflow exit tail_label head_label : List Point) (last : ℚ) → detour_list passes inflow exit tail_label head_label last
+    ≡ (sent_list passes inflow exit tail_label head_label last >>= λ s. all_stretches passes s.0 s.1 s.2 (three_times s.0 s.1 s.2))
+unfolding detour_list sent_list
+detour-is passes inflow exit tail_label head_label last = three_first (checked_composed passes inflow tail_label last) (checked_composed passes exit tail_label last)
+    (λ t. checked_short passes t) (λ x. checked_short passes x) (checked_short passes head_label) (λ a b c. all_stretches passes a b c (three_times a b c)) (sent_list passes inflow exit tail_label head_label last) (all_is (checked_composed passes inflow tail_label last) (checked_composed passes exit tail_label last))
+  where
+    one : (a b : List Point) (r : Checked (List Point)) → (r >>= λ c. let all : List Point × List Point × List Point = (a, b, c) in Ok all) ≡ together a b r
+    one a b (Ok c) = refl
+    one a b (Err p) = refl
+
+    two : (r s : Checked (List Point)) → (r >>= λ a. s >>= λ b. checked_short passes head_label >>= λ c. let all : List Point × List Point × List Point = (a, b, c) in Ok all) ≡ (r >>= λ a. s >>= λ b. together a b (checked_short passes head_label))
+    two (Ok a) (Ok b) = one a b (checked_short passes head_label)
+    two (Ok a) (Err p) = refl
+    two (Err p) s = refl
+
+    all_is : (r s : Checked (List Point)) → (r >>= λ t. s >>= λ x. checked_short passes t >>= λ a. checked_short passes x >>= λ b. checked_short passes head_label >>= λ c. let all : List Point × List Point × List Point = (a, b, c) in Ok all)
+        ≡ (r >>= λ t. s >>= λ x. checked_short passes t >>= λ a. checked_short passes x >>= λ b. together a b (checked_short passes head_label))
+    all_is (Ok t) (Ok x) = two (checked_short passes t) (checked_short passes x)
+    all_is (Ok t) (Err p) = refl
+    all_is (Err p) s = refl
+
+-- ---- the middle of a stretch
+two_apart : whole (pos 2) ≡ 0ℚ → ⊥
+two_apart e = linear_false [] (eq e ∷ []) (search reading_of depth 12) tt
+
+pub apart_by_two : (two : ℚ) → two ≡ whole (pos 2) → two ≡ 0ℚ → ⊥
+apart_by_two two is e = two_apart (sym is ∙ e)
+
+one_apart : whole (pos 1) ≡ 0ℚ → ⊥
+one_apart e = linear_false [] (eq e ∷ []) (search reading_of depth 12) tt
+
+two_by_one : whole (pos 2) /ℚ whole (pos 1) ≡ whole (pos 2)
+two_by_one = times_one (whole (pos 2) /ℚ whole (pos 1)) (/ℚ-times (whole (pos 2)) (whole (pos 1)) one_apart)
+  where
+    times_one : (q : ℚ) → q *ℚ whole (pos 1) ≡ whole (pos 2) → q ≡ whole (pos 2)
+    times_one q e = linear_eq (q ∷ []) (eq e ∷ []) (search reading_of depth 12) tt tt
+
+two_within : IsWithin (bound_of 127) (whole (pos 2))
+unfolding whole ratio gcd
+two_within =
+    let n : nat_abs (whole (pos 2)).num ≡ 2 = refl in
+    let d : (whole (pos 2)).den ≡ 1 = refl in
+    let b : bound_of 127 ≡ 170141183460469231731687303715884105727 = refl in
+    record { small = omega (arith, n, b); small_den = omega (arith, d, b) }
+
+pub two_made : (o : Option ℚ) (one : ℚ) → SomeIff o (IsMade (bound_of 127) (pos 2) (pos 1)) (whole (pos 2) /ℚ whole (pos 1)) → unwrap_or o one ≡ whole (pos 2)
+two_made None one w = absurd (w (record { some = λ e. absurd (cc); fits = subst (λ (q : ℚ). IsWithin (bound_of 127) q) (sym two_by_one) two_within }))
+two_made (Some q) one w = w.1 ∙ two_by_one
+
+pub middle_from : (passes : Passing) (first next time : ℚ) → 0ℚ ≤ℚ first → 0ℚ ≤ℚ next → at_part Check (checked_middle passes first next) ≡ Ok time → 0ℚ ≤ℚ time
+unfolding checked_middle
+middle_from passes first next time h k e =
+    let w = then_ok (checked passes Sum first next) (λ a. checked passes Quotient a (whole (pos 2))) time (was_ok Check _ time e) in
+    let sum : w.between ≡ first +ℚ next = checked-is passes Sum first next w.between w.first in
+    let half : time ≡ w.between /ℚ whole (pos 2) = checked-is passes Quotient w.between (whole (pos 2)) time w.next in
+    let back : time *ℚ whole (pos 2) ≡ w.between = ap (λ (q : ℚ). q *ℚ whole (pos 2)) half ∙ /ℚ-times w.between (whole (pos 2)) two_apart in
+    over first next time w.between h k sum back
+  where
+    over : (first next time sum : ℚ) → 0ℚ ≤ℚ first → 0ℚ ≤ℚ next → sum ≡ first +ℚ next → time *ℚ whole (pos 2) ≡ sum → 0ℚ ≤ℚ time
+    over first next time sum h k e f = linear_le (first ∷ next ∷ time ∷ sum ∷ []) (le h ∷ le k ∷ eq e ∷ eq f ∷ []) (search reading_of depth 12) tt
+
+-- ---- a departure whose sides are known then
+pub with_sides : (sent : Sent) (there now : Departure) → IsDeparture sent there → (sides : Difference) → at_part Check (sides_at passes_Q sent.exits.points sent.labels.points there.time) ≡ Ok (difference_of sides)
+    → now ≡ record there { sides = Some sides } → IsDeparture sent now
+with_sides sent there now known sides e is = subst (λ (d : Departure). IsDeparture sent d) (sym is) (record {
+  from_zero = known.from_zero;
+  places = known.places;
+  within = known.within;
+  taken = known.taken;
+  sides = λ other same. was_ok Check (sides_at passes_Q sent.exits.points sent.labels.points there.time) (difference_of sides) e ∙ ap (λ (d : Difference). Ok (difference_of d)) (one sides other same);
+})
+  where
+    one : (a b : Difference) → Some a ≡ Some b → a ≡ b
+    one a b e = cc
+
+-- what holds anyway holds of an Ok
+pub on_any : {X E P : Type 0} (r : Result X E) → P → OnOk r P
+on_any (Ok x) p = p
+on_any (Err e) p = tt
+
+pub no_sides : {P : Type 0} (sides : Difference) → None ≡ Some sides → P
+no_sides sides e = absurd (cc)

@@ -1,0 +1,33 @@
+use Rattle.std.proofs.lemmas.Result.{err_from_is_err_and}
+use Rattle.std.proofs.Common.{List, sym, ap, subst, ◌∙◌}
+use Rattle.nf_rational.specs.Rational.{ℚ}
+use Rattle.nf_work.specs.Passing.{passes_Q}
+use Rattle.nf_work.specs.declared.Part.TheVariants.{Check}
+use Rattle.nf_work.specs.Checked.{at_part}
+use Rattle.nf_check_lists.specs.Routes.{all_stretches, detour_list}
+use Rattle.nf_curve.proofs.Exits.{after_ok, after_err, stops_on}
+use Rattle.nf_check_rules.specs.Sent.{points_in, sent_list}
+use Rattle.nf_check_rules.proofs.Merging.{FromZero, three_from}
+use Rattle.nf_check_rules.proofs.Stretching.{detour-is}
+use Rattle.nf_check_rules.proofs.routes.detour.Goals as goal
+
+pub returns-in_err-sent : goal.returns-in_err-sent
+returns-in_err-sent c =
+    let p = err_from_is_err_and c.from_residual.result c.from_residual.ensures.1 in
+    rw (p.1, p.2) (stops_on c.in_err-sent.field-0.0 (at_part Check (sent_list passes_Q c.args.inflow.now.points c.args.exit.now.points c.args.tail_label.now.points c.args.head_label.now.points c.args.last)) (at_part Check (detour_list passes_Q c.args.inflow.now.points c.args.exit.now.points c.args.tail_label.now.points c.args.head_label.now.points c.args.last))
+    (λ q e. ap (at_part Check) (detour-is passes_Q c.args.inflow.now.points c.args.exit.now.points c.args.tail_label.now.points c.args.head_label.now.points c.args.last) ∙ after_err Check (sent_list passes_Q c.args.inflow.now.points c.args.exit.now.points c.args.tail_label.now.points c.args.head_label.now.points c.args.last) _ q e) c.in_err-sent.ensures.list)
+
+pub first_detour-requires : goal.first_detour-requires
+first_detour-requires c = subst (λ (l : List ℚ). FromZero l) (sym (c.deref.ensures.value ∙ c.in_ok-times.ensures))
+    (three_from c.in_ok-sent.sent.taken.points c.in_ok-sent.sent.exits.points c.in_ok-sent.sent.labels.points c.in_ok-sent.ensures.curves.taken c.in_ok-sent.ensures.curves.exits c.in_ok-sent.ensures.curves.labels)
+
+pub returns-in_err-detour : goal.returns-in_err-detour
+returns-in_err-detour c =
+    let p = err_from_is_err_and c.from_residual-in_err-detour.result c.from_residual-in_err-detour.ensures.1 in
+    rw (p.1, p.2) (ap (at_part Check) (detour-is passes_Q c.args.inflow.now.points c.args.exit.now.points c.args.tail_label.now.points c.args.head_label.now.points c.args.last) ∙ after_ok Check (sent_list passes_Q c.args.inflow.now.points c.args.exit.now.points c.args.tail_label.now.points c.args.head_label.now.points c.args.last) _ (points_in c.in_ok-sent.sent) c.in_ok-sent.ensures.list
+    ∙ sym (ap (λ (l : List ℚ). at_part Check (all_stretches passes_Q c.in_ok-sent.sent.taken.points c.in_ok-sent.sent.exits.points c.in_ok-sent.sent.labels.points l)) (c.deref.ensures.value ∙ c.in_ok-times.ensures)) ∙ sym c.in_err-detour.ensures)
+
+pub returns : goal.returns
+returns c =
+    ap (at_part Check) (detour-is passes_Q c.args.inflow.now.points c.args.exit.now.points c.args.tail_label.now.points c.args.head_label.now.points c.args.last) ∙ after_ok Check (sent_list passes_Q c.args.inflow.now.points c.args.exit.now.points c.args.tail_label.now.points c.args.head_label.now.points c.args.last) _ (points_in c.in_ok-sent.sent) c.in_ok-sent.ensures.list
+    ∙ sym (ap (λ (l : List ℚ). at_part Check (all_stretches passes_Q c.in_ok-sent.sent.taken.points c.in_ok-sent.sent.exits.points c.in_ok-sent.sent.labels.points l)) (c.deref.ensures.value ∙ c.in_ok-times.ensures)) ∙ sym c.in_ok-detour.ensures

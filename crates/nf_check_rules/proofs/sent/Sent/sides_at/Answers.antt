@@ -1,0 +1,23 @@
+use Rattle.std.proofs.lemmas.Result.{err_from_is_err_and}
+use Rattle.std.proofs.Common.{sym, ◌∙◌}
+use Rattle.nf_work.specs.Passing.{passes_Q}
+use Rattle.nf_work.specs.declared.Part.TheVariants.{Check}
+use Rattle.nf_curve_lists.specs.Values.{checked_value}
+use Rattle.nf_curve.proofs.Exits.{after_err, after_ok}
+use Rattle.nf_check_rules.proofs.sent.Sent.sides_at.Goals as goal
+
+pub returns-in_err-left : goal.returns-in_err-left
+returns-in_err-left c =
+    let p = err_from_is_err_and c.from_residual.result c.from_residual.ensures.1 in
+    rw (p.1, p.2) (sym (after_err Check (checked_value passes_Q c.args.self.now.exits.points c.args.time) _ c.in_err-left.field-0.0 (sym c.in_err-left.ensures)))
+
+pub returns-in_err-right : goal.returns-in_err-right
+returns-in_err-right c =
+    let p = err_from_is_err_and c.from_residual-in_err-right.result c.from_residual-in_err-right.ensures.1 in
+    rw (p.1, p.2) (sym (after_ok Check (checked_value passes_Q c.args.self.now.exits.points c.args.time) _ c.in_ok-left.left (sym c.in_ok-left.ensures)
+    ∙ after_err Check (checked_value passes_Q c.args.self.now.labels.points c.args.time) _ c.in_err-right.field-0.0 (sym c.in_err-right.ensures)))
+
+pub returns : goal.returns
+returns c =
+    sym (after_ok Check (checked_value passes_Q c.args.self.now.exits.points c.args.time) _ c.in_ok-left.left (sym c.in_ok-left.ensures)
+    ∙ after_ok Check (checked_value passes_Q c.args.self.now.labels.points c.args.time) _ c.in_ok-right.right (sym c.in_ok-right.ensures))

@@ -1,0 +1,51 @@
+use Rattle.nf_check_rules.proofs.Stretching.{with_sides, on_any}
+use Rattle.std.proofs.lemmas.Result.{err_from_is_err_and}
+use Rattle.std.proofs.Common.{Bool, sym, ap, ◌∙◌, refl}
+use Rattle.nf_work.specs.Passing.{passes_Q}
+use Rattle.nf_work.specs.Checked.{at_part}
+use Rattle.nf_work.specs.declared.Part.TheVariants.{Check}
+use Rattle.nf_curve_lists.specs.Sums.{sides_at}
+use Rattle.nf_curve.specs.Differences.{difference_of}
+use Rattle.nf_curve.proofs.Exits.{after_err, after_ok}
+use Rattle.nf_check_lists.specs.Routes.{at_middle, at_end}
+use Rattle.nf_check_rules.proofs.stretches.on_rising.Goals as goal
+
+pub returns-in_err-sides-clause-list : goal.returns-in_err-sides-clause-list
+returns-in_err-sides-clause-list c =
+    let p = err_from_is_err_and c.from_residual.result c.from_residual.ensures.1 in
+    rw (p.1, p.2) (sym (after_err Check (sides_at passes_Q c.args.sent.now.exits.points c.args.sent.now.labels.points c.args.here.now.time) _ c.in_err-sides.field-0.0 (sym c.in_err-sides.ensures)))
+
+pub returns-then-do_differ-clause-list : goal.returns-then-do_differ-clause-list
+returns-then-do_differ-clause-list c =
+    sym (after_ok Check (sides_at passes_Q c.args.sent.now.exits.points c.args.sent.now.labels.points c.args.here.now.time) _ (difference_of c.in_ok-sides.sides) (sym c.in_ok-sides.ensures)
+    ∙ ap (λ (b : Bool). at_part Check (at_end passes_Q b (difference_of c.in_ok-sides.sides) c.args.sent.now.exits.points c.args.sent.now.labels.points c.args.here.now.time c.args.there.now.time)) (sym c.do_differ.ensures ∙ c.if-do_differ.true))
+
+pub returns-in_err-end-clause-list : goal.returns-in_err-end-clause-list
+returns-in_err-end-clause-list c =
+    let p = err_from_is_err_and c.from_residual-in_err-end.result c.from_residual-in_err-end.ensures.1 in
+    rw (p.1, p.2) (sym (after_ok Check (sides_at passes_Q c.args.sent.now.exits.points c.args.sent.now.labels.points c.args.here.now.time) _ (difference_of c.in_ok-sides.sides) (sym c.in_ok-sides.ensures)
+    ∙ ap (λ (b : Bool). at_part Check (at_end passes_Q b (difference_of c.in_ok-sides.sides) c.args.sent.now.exits.points c.args.sent.now.labels.points c.args.here.now.time c.args.there.now.time)) (sym c.do_differ.ensures ∙ c.if-do_differ.false)
+    ∙ after_err Check (sides_at passes_Q c.args.sent.now.exits.points c.args.sent.now.labels.points c.args.there.now.time) _ c.in_err-end.field-0.0 (sym c.in_err-end.ensures)))
+
+pub returns-then-do_differ-2-clause-list : goal.returns-then-do_differ-2-clause-list
+returns-then-do_differ-2-clause-list c =
+    c.at_middle.ensures ∙ sym (after_ok Check (sides_at passes_Q c.args.sent.now.exits.points c.args.sent.now.labels.points c.args.here.now.time) _ (difference_of c.in_ok-sides.sides) (sym c.in_ok-sides.ensures)
+    ∙ ap (λ (b : Bool). at_part Check (at_end passes_Q b (difference_of c.in_ok-sides.sides) c.args.sent.now.exits.points c.args.sent.now.labels.points c.args.here.now.time c.args.there.now.time)) (sym c.do_differ.ensures ∙ c.if-do_differ.false)
+    ∙ after_ok Check (sides_at passes_Q c.args.sent.now.exits.points c.args.sent.now.labels.points c.args.there.now.time) _ (difference_of c.in_ok-end.end) (sym c.in_ok-end.ensures)
+    ∙ ap (λ (b : Bool). at_part Check (at_middle passes_Q b c.args.sent.now.exits.points c.args.sent.now.labels.points c.args.here.now.time c.args.there.now.time)) (sym c.do_differ-2.ensures ∙ c.if-do_differ-2.true))
+
+pub returns-else-do_differ-2-clause-list : goal.returns-else-do_differ-2-clause-list
+returns-else-do_differ-2-clause-list c =
+    sym (after_ok Check (sides_at passes_Q c.args.sent.now.exits.points c.args.sent.now.labels.points c.args.here.now.time) _ (difference_of c.in_ok-sides.sides) (sym c.in_ok-sides.ensures)
+    ∙ ap (λ (b : Bool). at_part Check (at_end passes_Q b (difference_of c.in_ok-sides.sides) c.args.sent.now.exits.points c.args.sent.now.labels.points c.args.here.now.time c.args.there.now.time)) (sym c.do_differ.ensures ∙ c.if-do_differ.false)
+    ∙ after_ok Check (sides_at passes_Q c.args.sent.now.exits.points c.args.sent.now.labels.points c.args.there.now.time) _ (difference_of c.in_ok-end.end) (sym c.in_ok-end.ensures)
+    ∙ ap (λ (b : Bool). at_part Check (at_middle passes_Q b c.args.sent.now.exits.points c.args.sent.now.labels.points c.args.here.now.time c.args.there.now.time)) (sym c.do_differ-2.ensures ∙ c.if-do_differ-2.false))
+
+pub returns-then-do_differ-2-clause-there : goal.returns-then-do_differ-2-clause-there
+returns-then-do_differ-2-clause-there c = on_any c.at_middle.result (with_sides c.args.sent.now c.args.there.now _ c.requires.there c.in_ok-end.end (sym c.in_ok-end.ensures) refl)
+
+pub returns-then-do_differ-2-clause-time : goal.returns-then-do_differ-2-clause-time
+returns-then-do_differ-2-clause-time c = on_any c.at_middle.result refl
+
+pub returns-else-do_differ-2-clause-there : goal.returns-else-do_differ-2-clause-there
+returns-else-do_differ-2-clause-there c = with_sides c.args.sent.now c.args.there.now _ c.requires.there c.in_ok-end.end (sym c.in_ok-end.ensures) refl

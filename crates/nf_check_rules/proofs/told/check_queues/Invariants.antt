@@ -1,0 +1,9 @@
+use Rattle.nf_work.specs.Passing.{passes_Q}
+use Rattle.nf_check_lists.specs.CheckList.{queue_rule}
+use Rattle.nf_curve.specs.Flows.{flow_of}
+use Rattle.nf_check_rules.specs.Kept.{labels_in, loaded_in}
+use Rattle.nf_check_rules.proofs.Looping.{LeftLinks}
+use Rattle.nf_check_rules.proofs.told.check_queues.Given as goal
+
+abbrev pub invariant-loop-number : goal.invariant-loop-number
+invariant-loop-number l = LeftLinks (queue_rule passes_Q l.net.net (flow_of l.flow) (labels_in l.worked) (loaded_in l.worked)) l.net.net.links l.number

@@ -1,0 +1,20 @@
+-- A departure that was looked at.
+use Rattle.std.specs.Prelude.{◌≡◌, Some, Ok}
+use Rattle.nf_rational.specs.Operations.{0ℚ}
+use Rattle.nf_rational.specs.Order.{◌≤ℚ◌}
+use Rattle.nf_work.specs.Passing.{passes_Q}
+use Rattle.nf_curve_lists.specs.Values.{checked_value}
+use Rattle.nf_curve_lists.specs.Sums.{sides_at}
+use Rattle.nf_curve.specs.Differences.{difference_of}
+use Rattle.nf_curve.specs.declared.curve.Difference.{Difference}
+use Rattle.nf_check_rules.specs.Sent.{ArePlaces, AreWithin}
+use Rattle.nf_check_rules.specs.declared.sent.Sent.{Sent}
+use Rattle.nf_check_rules.specs.declared.stretches.Departure.{Departure}
+
+-- its places, what has been sent by then, and exit and label there if they are known
+pub record IsDeparture (sent : Sent) (departure : Departure) : Type 0 where
+  pub from_zero : 0ℚ ≤ℚ departure.time
+  pub places : ArePlaces sent departure.time departure.places
+  pub within : AreWithin sent departure.places
+  pub taken : checked_value passes_Q sent.taken.points departure.time ≡ Ok departure.taken
+  pub sides : (sides : Difference) → departure.sides ≡ Some sides → sides_at passes_Q sent.exits.points sent.labels.points departure.time ≡ Ok (difference_of sides)

@@ -1,0 +1,84 @@
+-- The list of a check, part by part as the code does it.
+use Rattle.std.specs.Prelude.{ℕ, ◌==◌, if◌then◌else◌, List, Ok}
+use Rattle.std.specs.List.{enumerate_from}
+use Rattle.nf_rational.specs.Rational.{ℚ}
+use Rattle.nf_work.specs.Passing.{Passing}
+use Rattle.nf_work.specs.Checked.{Checked, each, ◌>>=◌}
+use Rattle.nf_work.specs.declared.Part.TheVariants.{Load, Check}
+use Rattle.nf_model.specs.Curve.{Point}
+use Rattle.nf_model.specs.Network.{Network}
+use Rattle.nf_model.specs.Equilibrium.{Flow, points_at}
+use Rattle.nf_curve_lists.specs.Sums.{checked_sum}
+use Rattle.nf_curve_lists.specs.Composed.{checked_composed}
+use Rattle.nf_curve_lists.specs.Differences.{checked_difference}
+use Rattle.nf_load_lists.specs.Cumulative.{checked_cumulative}
+use Rattle.nf_load_lists.specs.Loading.{Loaded}
+use Rattle.nf_check_lists.specs.declared.CheckRule.{CheckRule}
+use Rattle.nf_check_lists.specs.declared.CheckRule.TheVariants.{C3, C7}
+use Rattle.nf_check_lists.specs.declared.Subject.{Subject}
+use Rattle.nf_check_lists.specs.declared.Subject.TheVariants.{Node}
+use Rattle.nf_check_lists.specs.Rules.{all_nodes, all_links, nodes_but}
+use Rattle.nf_check_lists.specs.Trial.{Trial, in_part, unless}
+use Rattle.nf_check_lists.specs.Curves.{departures}
+use Rattle.nf_check_lists.specs.CheckList.{compared, label_cut, inflow_rule, link_rates, loading, arrivals, outflow_rule, queue_rule, balance, sink_rules, route}
+use Rattle.nf_check_rules.specs.Trials.{done}
+
+-- two curves up to a last time
+abbrev pub compared_by : Passing → CheckRule → Subject ℕ ℕ → List Point → List Point → ℚ → Trial (Unit {0})
+compared_by passes rule subject left right last = do
+  difference ← in_part Check (checked_difference passes left right last)
+  unless rule subject difference
+
+-- what comes into a node, with the supply at the source
+abbrev pub with_supply_by : Passing → Network → List Point → ℕ → List Point → Checked (List Point)
+with_supply_by passes net supplied v total = if v == net.source then checked_sum passes total supplied else Ok total
+
+-- what stays at the sink by an arrival, and what was supplied by its departure
+abbrev pub stays_by : Passing → ℕ → List Point → List Point → List Point → List Point → ℚ → Trial (Unit {0})
+stays_by passes sink label comes goes supplied reached = do
+  come ← in_part Check (checked_composed passes comes label reached)
+  gone ← in_part Check (checked_composed passes goes label reached)
+  total ← in_part Check (checked_sum passes gone supplied)
+  compared_by passes C7 (Node sink) come total reached
+
+module _ (passes : Passing) (net : Network) (flow : Flow) where
+  -- the labels up to the departure reached, and the loadings; first come the rules that need only the points
+  unfoldable pub worked_list : Trial (List (List Point) × List Loaded)
+  worked_list = do
+    labels ← each (label_cut passes net flow) (all_nodes net)
+    _ ← done (each (inflow_rule passes net flow) (all_links net))
+    _ ← done (each (link_rates passes net flow) (all_links net))
+    loaded ← each (loading passes net flow labels) (enumerate_from 0 net.links)
+    Ok (labels, loaded)
+
+  module _ (labels : List (List Point)) (loaded : List Loaded) where
+    -- labels at the source and elsewhere
+    unfoldable pub arrivals_list : Trial (Unit {0})
+    arrivals_list = do
+      _ ← compared passes net flow C3 (Node net.source) (points_at labels net.source) (departures flow.reached) flow.reached
+      done (each (arrivals passes net flow labels loaded) (nodes_but net.source net))
+
+    -- what is told of links
+    unfoldable pub told_list : Trial (Unit {0})
+    told_list = do
+      _ ← done (each (outflow_rule passes net flow labels loaded) (enumerate_from 0 net.links))
+      done (each (queue_rule passes net flow labels loaded) (enumerate_from 0 net.links))
+
+    -- what comes and goes at nodes
+    unfoldable pub balances_list : Trial (Unit {0})
+    balances_list = do
+      supplied ← in_part Load (checked_cumulative passes net.pieces flow.reached)
+      _ ← done (each (balance passes net flow labels loaded supplied) (nodes_but net.sink net))
+      sink_rules passes net flow labels loaded supplied
+
+    unfoldable pub compared_list : Trial (Unit {0})
+    compared_list = do
+      _ ← arrivals_list
+      _ ← told_list
+      _ ← balances_list
+      done (each (route passes net flow labels loaded) (enumerate_from 0 net.links))
+
+  unfoldable pub tested_list : Trial (Unit {0})
+  tested_list = do
+    worked ← worked_list
+    compared_list worked.0 worked.1

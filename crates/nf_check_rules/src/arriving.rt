@@ -1,0 +1,104 @@
+// The exits of the links into a node, by departure, and the least of them.
+ghost use Rattle.std.specs.Prelude.{◌≡◌, ◌<◌, length, Some, option_map};
+ghost use Rattle.nf_rational.specs.Operations.{0ℚ};
+ghost use Rattle.nf_rational.specs.Order.{◌≤ℚ◌};
+ghost use Rattle.nf_work.specs.declared.Part.TheVariants.{Check};
+ghost use Rattle.nf_work.specs.Passing.{passes_Q};
+ghost use Rattle.nf_work.specs.Checked.{at_part, Gives};
+ghost use Rattle.nf_model.specs.Network.{Link, IsLink};
+ghost use Rattle.nf_model.specs.Equilibrium.{points_at};
+ghost use Rattle.nf_curve_lists.specs.Composed.{checked_composed};
+ghost use Rattle.nf_check_lists.specs.Curves.{loaded_at as loaded_by, least_so_far as lesser_by, with_exit as with_exit_by, least_exits as least_by};
+ghost use Rattle.nf_check_rules.specs.Exits.{AreKept};
+ghost use Rattle.nf_check_rules.specs.Kept.{IsWorked, labels_in, loaded_in};
+
+use crate::exits::Exits;
+use crate::worked::{Worked, curve_at, loaded_at};
+use nf_curve::Curve;
+use nf_frac::{Halt, Part, Q};
+use nf_graph::{LinkId, NodeId};
+use nf_net::Network;
+use std::alloc::Global;
+
+// The exit of a link, for who comes to its tail at the label there.
+fn exit_along(
+    alloc: Global,
+    net: &Network,
+    worked: &Worked,
+    reached: Q,
+    link: LinkId,
+) -> Result<Curve, Halt<Q>>
+    requires link { link < length net.now.net.links }
+    requires worked { IsWorked net.now.net worked.now }
+    requires reached { 0ℚ ≤ℚ reached }
+    ensures { (here : Link) → IsLink net.now.net link here → Gives (λ c. c.points) (λ q. q) result
+        (at_part Check (checked_composed passes_Q (loaded_by (loaded_in worked.now) link).exit (points_at (labels_in worked.now) here.tail) reached)) }
+{
+    let tail = net.link(link).tail;
+    let exit = &loaded_at(&worked.loaded, link).exit;
+    let label = curve_at(&worked.labels, tail.index());
+    Curve::compose(alloc, exit, label, reached, Part::Check)
+}
+
+// The lesser of a curve and one more, if there is one so far.
+fn lesser(alloc: Global, so_far: Option<Curve>, curve: Curve) -> Result<Curve, Halt<Q>>
+    ensures { Gives (λ c. Some c.points) (λ q. q) result (at_part Check (lesser_by passes_Q (option_map (λ c. c.points) so_far) curve.points)) }
+{
+    match so_far {
+        None => Ok(curve),
+        Some(so_far) => Curve::least(alloc, &so_far, &curve, Part::Check),
+    }
+}
+
+// The least exit so far, with that of a link if it leads to the node; then the exit is kept.
+fn with_exit(
+    alloc: Global,
+    net: &Network,
+    worked: &Worked,
+    reached: Q,
+    node: NodeId,
+    so_far: Option<Curve>,
+    link: LinkId,
+    exits: &mut Exits,
+) -> Result<Option<Curve>, Halt<Q>>
+    requires link { link < length net.now.net.links }
+    requires worked { IsWorked net.now.net worked.now }
+    requires reached { 0ℚ ≤ℚ reached }
+    requires kept { AreKept net.now.net worked.now reached exits.old }
+    ensures list { (here : Link) → IsLink net.now.net link here → Gives (λ o. option_map (λ c. c.points) o) (λ q. q) result
+        (at_part Check (with_exit_by passes_Q (labels_in worked.now) (loaded_in worked.now) reached node (option_map (λ c. c.points) so_far) (link, here))) }
+    ensures kept { AreKept net.now.net worked.now reached exits.new }
+{
+    if net.link(link).head != node {
+        return Ok(so_far);
+    }
+    let exit = exit_along(alloc, net, worked, reached, link)?;
+    exits.keep(alloc, link, &exit)?;
+    let least = lesser(alloc, so_far, exit)?;
+    Ok(Some(least))
+}
+
+/// The least exit over the links into a node by departure, where there is one, up to a last departure, with the labels and the loadings
+/// that were worked out. Exits are kept, also of the links before one at which it is refused. Passed has part Check.
+pub fn least_exits(
+    alloc: Global,
+    net: &Network,
+    worked: &Worked,
+    reached: Q,
+    node: NodeId,
+    exits: &mut Exits,
+) -> Result<Option<Curve>, Halt<Q>>
+    requires worked { IsWorked net.now.net worked.now }
+    requires reached { 0ℚ ≤ℚ reached }
+    requires kept { AreKept net.now.net worked.now reached exits.old }
+    ensures list { Gives (λ o. option_map (λ c. c.points) o) (λ q. q) result
+        (at_part Check (least_by passes_Q (labels_in worked.now) (loaded_in worked.now) reached net.now.net.links node)) }
+    ensures kept { AreKept net.now.net worked.now reached exits.new }
+{
+    let mut least = None;
+    for number in 0..net.link_count() {
+        let link = LinkId(number);
+        least = with_exit(alloc, net, worked, reached, node, least, link, exits)?;
+    }
+    Ok(least)
+}

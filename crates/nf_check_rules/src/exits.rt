@@ -1,0 +1,67 @@
+// Exits of links by departure, in short form: the third rule works them out, and the eighth asks for them again.
+ghost use Rattle.std.specs.Prelude.{◌≡◌, ◌<◌, length, replicate, set, slice_get, Some, None, IfOk, OnOk, OnErr};
+ghost use Rattle.nf_check_rules.specs.Exits.{Keeps};
+
+use nf_curve::Curve;
+use nf_frac::{Halt, Part};
+use nf_graph::LinkId;
+use nf_net::Network;
+use std::alloc::{AllocError, Global};
+
+/// Of each link its exits, for who comes to its tail at the label there, if they are kept.
+#[derive(Drop)]
+pub struct Exits {
+    pub kept: Vec<Option<Curve>>,
+}
+
+impl Exits {
+    /// None are kept yet.
+    pub fn none(alloc: Global, net: &Network) -> Result<Exits, AllocError>
+        ensures { IfOk result (λ exits. exits.kept.items ≡ replicate (length net.now.net.links) None) }
+    {
+        let mut kept = Vec::with_capacity(alloc, net.link_count() as usize)?;
+        for _ in 0..net.link_count() {
+            kept.push(None)?;
+        }
+        Ok(Exits { kept })
+    }
+
+    // The exits of a link are these.
+    fn put(&mut self, link: LinkId, short: Curve)
+        requires { link < length self.old.kept.items }
+        ensures { self.new.kept.items ≡ set self.old.kept.items link (Some short) }
+    {
+        self.kept[link.index()] = Some(short);
+    }
+
+    /// The exits of a link are kept in short form, unless an operation passes there: then they are worked out when it is their turn. Where
+    /// memory is wanting all stay as they were.
+    pub(crate) fn keep(
+        &mut self,
+        alloc: Global,
+        link: LinkId,
+        exit: &Curve,
+    ) -> Result<(), AllocError>
+        requires { link < length self.old.kept.items }
+        ensures keeps { OnOk result (Keeps link exit.now.points self.old self.new) }
+        ensures as_it_was { OnErr result (self.new ≡ self.old) }
+    {
+        match Curve::short(alloc, exit, Part::Check) {
+            Ok(short) => {
+                self.put(link, short);
+                Ok(())
+            }
+            Err(Halt::Passed(_)) => Ok(()),
+            Err(Halt::Memory) => Err(AllocError),
+        }
+    }
+
+    /// The exits of a link, if they are kept; from then on they aren't.
+    pub(crate) fn take(&mut self, link: LinkId) -> Option<Curve>
+        requires { link < length self.old.kept.items }
+        ensures taken { slice_get self.old.kept.items link ≡ Some result }
+        ensures gone { self.new.kept.items ≡ set self.old.kept.items link None }
+    {
+        self.kept[link.index()].take()
+    }
+}

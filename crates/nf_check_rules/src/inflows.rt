@@ -1,0 +1,80 @@
+// The first rule, of the inflows: each is 0 at time 0 and never falls.
+ghost use Rattle.std.specs.Prelude.{◌≡◌, ◌<◌, length, option_map};
+ghost use Rattle.nf_work.specs.Passing.{passes_Q};
+ghost use Rattle.nf_work.specs.Checked.{each};
+ghost use Rattle.nf_check_lists.specs.PointRules.{inflow_fault as fault_by};
+ghost use Rattle.nf_check_lists.specs.Rules.{all_links};
+ghost use Rattle.nf_check_lists.specs.CheckList.{inflow_rule};
+ghost use Rattle.nf_curve.specs.Differences.{difference_of};
+ghost use Rattle.nf_curve.specs.Flows.{flow_of};
+ghost use Rattle.nf_check_rules.specs.Points.{first_fall as first_fall_by};
+ghost use Rattle.nf_check_rules.specs.Trials.{Tries, done};
+
+use crate::ended::{Ended, unless};
+use crate::subject::Subject;
+use crate::worked::trace_at;
+use nf_check_lists::CheckRule;
+use nf_curve::{Curve, Difference, Flow};
+use nf_frac::Q;
+use nf_graph::LinkId;
+use nf_net::Network;
+
+// The first point whose value is above that of the next, beside it.
+fn first_fall(curve: &Curve) -> Option<Difference>
+    ensures { option_map difference_of result ≡ first_fall_by curve.now.points }
+{
+    for i in 1..curve.len() {
+        let (time, value) = curve.point(i - 1);
+        let (_, next) = curve.point(i);
+        if next.is_below(value) {
+            return Some(Difference {
+                time,
+                left: value,
+                right: next,
+            });
+        }
+    }
+    None
+}
+
+// The amount at time 0, if it isn't 0, beside 0; or else the first point from which the amount falls.
+fn inflow_fault(curve: &Curve) -> Option<Difference>
+    ensures { option_map difference_of result ≡ fault_by curve.now.points }
+{
+    // For the proof: there is a point.
+    let _ = curve.len();
+    let (_, first) = curve.point(0);
+    if first.is_zero() {
+        first_fall(curve)
+    } else {
+        Some(Difference {
+            time: Q::zero(),
+            left: first,
+            right: Q::zero(),
+        })
+    }
+}
+
+// The inflow of a link.
+fn check_inflow(net: &Network, flow: &Flow, link: LinkId) -> Result<(), Ended>
+    requires { link < length flow.now.inflows.items }
+    ensures { Tries (λ _. tt) result (inflow_rule passes_Q net.now.net (flow_of flow.now) link) }
+{
+    let inflow = trace_at(&flow.inflows, link);
+    unless(
+        CheckRule::C1,
+        Subject::Link(link),
+        inflow_fault(&inflow.curve),
+    )
+}
+
+/// The inflows of all links.
+pub fn check_inflows(net: &Network, flow: &Flow) -> Result<(), Ended>
+    requires { length flow.now.inflows.items ≡ length net.now.net.links }
+    ensures { Tries (λ _. tt) result (done (each (inflow_rule passes_Q net.now.net (flow_of flow.now)) (all_links net.now.net))) }
+{
+    for number in 0..net.link_count() {
+        check_inflow(net, flow, LinkId(number))?;
+    }
+    Ok(())
+}

@@ -1,0 +1,82 @@
+// The second rule: each printed rate is the slope to the next point.
+ghost use Rattle.std.specs.Prelude.{◌≡◌, ◌<◌, suc, length, option_map};
+ghost use Rattle.nf_work.specs.Passing.{passes_Q};
+ghost use Rattle.nf_work.specs.Checked.{each};
+ghost use Rattle.nf_formats.specs.Report.{HaveRates};
+ghost use Rattle.nf_check_lists.specs.declared.Subject.TheVariants.{Link as OfLink};
+ghost use Rattle.nf_check_lists.specs.PointRules.{if_other, rates_list};
+ghost use Rattle.nf_check_lists.specs.Rules.{all_links};
+ghost use Rattle.nf_check_lists.specs.CheckList.{link_rates};
+ghost use Rattle.nf_curve.specs.Differences.{difference_of};
+ghost use Rattle.nf_curve.specs.Flows.{flow_of};
+ghost use Rattle.nf_check_rules.specs.Trials.{Tries, done};
+
+use crate::ended::{Ended, unless};
+use crate::subject::Subject;
+use crate::worked::trace_at;
+use nf_check_lists::CheckRule;
+use nf_curve::{Difference, Flow, Trace, slope};
+use nf_frac::{Part, Q};
+use nf_graph::LinkId;
+use nf_net::Network;
+
+// The printed rate from a time on, beside the slope, if they differ.
+fn other_rate(time: Q, rate: Q, slope: Q) -> Option<Difference>
+    ensures { option_map difference_of result ≡ if_other time rate slope }
+{
+    if rate.is_same(slope) {
+        None
+    } else {
+        Some(Difference {
+            time,
+            left: rate,
+            right: slope,
+        })
+    }
+}
+
+// The rates of a trace of a link.
+fn check_trace(link: LinkId, trace: &Trace) -> Result<(), Ended>
+    requires { length trace.now.curve.points ≡ suc (length trace.now.rates.items) }
+    ensures { Tries (λ _. tt) result (rates_list passes_Q (OfLink link) trace.now.curve.points trace.now.rates.items) }
+{
+    // For the proof: times rise.
+    let _ = trace.curve.len();
+    for (i, rate) in trace.rates.iter().enumerate() {
+        let point = trace.curve.point(i);
+        let next = trace.curve.point(i + 1);
+        let slope = slope(&point, &next, Part::Check)?;
+        unless(
+            CheckRule::C2,
+            Subject::Link(link),
+            other_rate(point.0, *rate, slope),
+        )?;
+    }
+    Ok(())
+}
+
+// The rates of a link's inflow, and then of its outflow.
+fn check_link_rates(net: &Network, flow: &Flow, link: LinkId) -> Result<(), Ended>
+    requires inflow { link < length flow.now.inflows.items }
+    requires outflow { link < length flow.now.outflows.items }
+    requires inflow_rates { HaveRates (flow_of flow.now).inflows }
+    requires outflow_rates { HaveRates (flow_of flow.now).outflows }
+    ensures { Tries (λ _. tt) result (link_rates passes_Q net.now.net (flow_of flow.now) link) }
+{
+    check_trace(link, trace_at(&flow.inflows, link))?;
+    check_trace(link, trace_at(&flow.outflows, link))
+}
+
+/// The rates of all links.
+pub fn check_rates(net: &Network, flow: &Flow) -> Result<(), Ended>
+    requires inflows { length flow.now.inflows.items ≡ length net.now.net.links }
+    requires outflows { length flow.now.outflows.items ≡ length net.now.net.links }
+    requires inflow_rates { HaveRates (flow_of flow.now).inflows }
+    requires outflow_rates { HaveRates (flow_of flow.now).outflows }
+    ensures { Tries (λ _. tt) result (done (each (link_rates passes_Q net.now.net (flow_of flow.now)) (all_links net.now.net))) }
+{
+    for number in 0..net.link_count() {
+        check_link_rates(net, flow, LinkId(number))?;
+    }
+    Ok(())
+}

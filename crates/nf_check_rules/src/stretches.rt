@@ -1,0 +1,172 @@
+// Stretches of departures between neighbouring times of three curves: on which flow is sent off the shortest routes.
+ghost use Rattle.std.specs.Prelude.{◌≡◌, true, pos, option_map, IfOk, OnOk};
+ghost use Rattle.std.specs.List.{AllByRecursion};
+ghost use Rattle.nf_rational.specs.Operations.{0ℚ, whole};
+ghost use Rattle.nf_rational.specs.Order.{◌≤ℚ◌};
+ghost use Rattle.nf_work.specs.declared.Part.TheVariants.{Check};
+ghost use Rattle.nf_work.specs.Passing.{passes_Q};
+ghost use Rattle.nf_work.specs.Checked.{at_part, seen_at};
+ghost use Rattle.nf_curve_lists.specs.Values.{checked_value};
+ghost use Rattle.nf_curve_lists.specs.Sums.{sides_at as sides_by};
+ghost use Rattle.nf_curve_lists.specs.Differences.{do_differ as do_differ_by};
+ghost use Rattle.nf_check_lists.specs.Routes.{checked_middle, at_middle as at_middle_by, on_rising as on_rising_by, on_stretch as on_stretch_by, all_stretches};
+ghost use Rattle.nf_curve.specs.Differences.{difference_of};
+ghost use Rattle.nf_check_rules.specs.Departures.{IsDeparture};
+ghost use Rattle.nf_check_rules.specs.Sent.{AreWithin};
+
+use crate::places::value_at;
+use crate::sent::{Places, Sent};
+use nf_curve::Difference;
+use nf_frac::{Part, PassedAt, Q, at};
+
+// The values differ.
+fn do_differ(sides: &Difference) -> bool
+    ensures { result ≡ do_differ_by (difference_of sides.now) }
+{
+    !sides.left.is_same(sides.right)
+}
+
+// 2.
+fn two() -> Q
+    ensures { result ≡ whole (pos 2) }
+{
+    Q::make(2, 1).unwrap_or(Q::one())
+}
+
+// The departure in the middle of a stretch.
+#[tactic(auto, unfolding(nf_check_lists::specs::Routes::checked_middle), using(crate::proofs::Stretching::apart_by_two))]
+fn middle(first: Q, next: Q) -> Result<Q, PassedAt<Q>>
+    ensures { result ≡ at_part Check (checked_middle passes_Q first next) }
+{
+    let sum = at!(Part::Check, first.sum(next));
+    let middle = at!(Part::Check, sum.quotient(two()));
+    Ok(middle)
+}
+
+// A departure: its places on the three curves, what has been sent by then, and exit and label there, once they have been looked at.
+#[derive(Clone, Copy)]
+struct Departure {
+    time: Q,
+    places: Places,
+    taken: Q,
+    sides: Option<Difference>,
+}
+
+// What has been sent by a departure, by the places of another.
+fn departure_at(sent: &Sent, near: &Places, time: Q) -> Result<Departure, PassedAt<Q>>
+    requires time { 0ℚ ≤ℚ time }
+    requires within { AreWithin sent.now near.now }
+    ensures taken { seen_at (λ d. d.taken) (λ q. q) result ≡ at_part Check (checked_value passes_Q sent.now.taken.points time) }
+    ensures there { IfOk result (IsDeparture sent.now) }
+    ensures time { IfOk result (λ d. d.time ≡ time) }
+{
+    let places = sent.places_near(near, time);
+    let taken = value_at(&sent.taken, places.taken, time)?;
+    Ok(Departure {
+        time,
+        places,
+        taken,
+        sides: None,
+    })
+}
+
+// Exit and label at a departure.
+fn sides_of(sent: &Sent, here: &Departure) -> Result<Difference, PassedAt<Q>>
+    requires { IsDeparture sent.now here.now }
+    ensures { seen_at difference_of (λ q. q) result ≡ at_part Check (sides_by passes_Q sent.now.exits.points sent.now.labels.points here.now.time) }
+{
+    match here.sides {
+        Some(sides) => Ok(sides),
+        None => sent.sides_at(&here.places, here.time),
+    }
+}
+
+// Exit and label in the middle of a stretch.
+fn at_middle(
+    sent: &Sent,
+    places: &Places,
+    first: Q,
+    next: Q,
+) -> Result<Option<Difference>, PassedAt<Q>>
+    requires first { 0ℚ ≤ℚ first }
+    requires next { 0ℚ ≤ℚ next }
+    requires within { AreWithin sent.now places.now }
+    ensures { seen_at (option_map difference_of) (λ q. q) result ≡
+        at_part Check (at_middle_by passes_Q true sent.now.exits.points sent.now.labels.points first next) }
+{
+    let time = middle(first, next)?;
+    let sides = sent.sides_at(&sent.places_near(places, time), time)?;
+    Ok(Some(sides))
+}
+
+// Where exit and label differ on a stretch on which flow is sent: at its beginning, or else in its middle if they differ at its end.
+fn on_rising(
+    sent: &Sent,
+    here: &Departure,
+    there: &mut Departure,
+) -> Result<Option<Difference>, PassedAt<Q>>
+    requires here { IsDeparture sent.now here.now }
+    requires there { IsDeparture sent.now there.old }
+    ensures list { seen_at (option_map difference_of) (λ q. q) result ≡
+        at_part Check (on_rising_by passes_Q true sent.now.exits.points sent.now.labels.points here.now.time there.old.time) }
+    ensures there { OnOk result (IsDeparture sent.now there.new) }
+    ensures time { OnOk result (there.new.time ≡ there.old.time) }
+{
+    let sides = sides_of(sent, here)?;
+    if do_differ(&sides) {
+        return Ok(Some(sides));
+    }
+    let end = sent.sides_at(&there.places, there.time)?;
+    there.sides = Some(end);
+    if do_differ(&end) {
+        at_middle(sent, &here.places, here.time, there.time)
+    } else {
+        Ok(None)
+    }
+}
+
+// Where exit and label differ on a stretch, if flow is sent on it.
+fn on_stretch(
+    sent: &Sent,
+    here: &Departure,
+    there: &mut Departure,
+) -> Result<Option<Difference>, PassedAt<Q>>
+    requires here { IsDeparture sent.now here.now }
+    requires there { IsDeparture sent.now there.old }
+    ensures list { seen_at (option_map difference_of) (λ q. q) result ≡
+        at_part Check (on_stretch_by passes_Q sent.now.taken.points sent.now.exits.points sent.now.labels.points here.now.time there.old.time) }
+    ensures there { OnOk result (IsDeparture sent.now there.new) }
+    ensures time { OnOk result (there.new.time ≡ there.old.time) }
+{
+    if here.taken.is_below(there.taken) {
+        on_rising(sent, here, there)
+    } else {
+        Ok(None)
+    }
+}
+
+/// The first departure, on the stretches between these times, from which on flow is sent while exit and label differ. What was
+/// looked at at the end of a stretch isn't looked at again at the beginning of the next.
+pub(crate) fn first_detour(sent: &Sent, times: &[Q]) -> Result<Option<Difference>, PassedAt<Q>>
+    requires { AllByRecursion (λ time. 0ℚ ≤ℚ time) times.now }
+    ensures { seen_at (option_map difference_of) (λ q. q) result ≡
+        at_part Check (all_stretches passes_Q sent.now.taken.points sent.now.exits.points sent.now.labels.points times.now) }
+{
+    if times.len() < 2 {
+        return Ok(None);
+    }
+    let start = Places {
+        taken: 0,
+        exits: 0,
+        labels: 0,
+    };
+    let mut here = departure_at(sent, &start, times[0])?;
+    for i in 1..times.len() {
+        let mut there = departure_at(sent, &here.places, times[i])?;
+        if let Some(sides) = on_stretch(sent, &here, &mut there)? {
+            return Ok(Some(sides));
+        }
+        here = there;
+    }
+    Ok(None)
+}

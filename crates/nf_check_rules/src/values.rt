@@ -1,0 +1,45 @@
+// Values of curves: the greatest, the first and the last.
+ghost use Rattle.std.specs.Prelude.{◌≡◌};
+ghost use Rattle.std.specs.List.{AllByRecursion};
+ghost use Rattle.nf_rational.specs.Operations.{0ℚ};
+ghost use Rattle.nf_rational.specs.Order.{◌≤ℚ◌};
+ghost use Rattle.nf_check_lists.specs.Curves.{greatest_value as greatest_by, last_value as last_by};
+ghost use Rattle.nf_check_rules.specs.Points.{first_value as first_by};
+
+use nf_curve::Curve;
+use nf_frac::Q;
+
+/// The greatest value of a curve that has no negative one.
+pub(crate) fn greatest_value(curve: &Curve) -> Q
+    ensures value { result ≡ greatest_by curve.now.points }
+    ensures nonnegative { 0ℚ ≤ℚ result }
+{
+    let mut greatest = Q::zero();
+    let mut left = curve.len();
+    while left > 0 {
+        left -= 1;
+        let (_, value) = curve.point(left);
+        greatest = value.greater(greatest);
+    }
+    greatest
+}
+
+/// The value at time 0.
+pub(crate) fn first_value(curve: &Curve) -> Q
+    ensures value { result ≡ first_by curve.now.points }
+    ensures nonnegative { AllByRecursion (λ q. 0ℚ ≤ℚ q.1) curve.now.points → 0ℚ ≤ℚ result }
+{
+    // For the proof: there is a point.
+    let _ = curve.len();
+    let (_, value) = curve.point(0);
+    value
+}
+
+/// The value from the last point on.
+pub(crate) fn last_value(curve: &Curve) -> Q
+    ensures value { result ≡ last_by curve.now.points }
+    ensures nonnegative { AllByRecursion (λ q. 0ℚ ≤ℚ q.1) curve.now.points → 0ℚ ≤ℚ result }
+{
+    let (_, value) = curve.point(curve.len() - 1);
+    value
+}

@@ -1,0 +1,20 @@
+-- What a flows file gives, and rules that it breaks.
+use Rattle.nf_text.specs.declared.TextFault.{TextFault}
+use Rattle.nf_complete_lists.specs.declared.FlowsRule.TheVariants.{S1, S2}
+use Rattle.nf_complete_lists.specs.FlowsFile.{FlowsBroken, GivenFlows}
+use Rattle.nf_flows_file.specs.declared.flows.Flows.{Flows}
+use Rattle.nf_flows_file.specs.declared.fault.FlowsFault.{FlowsFault}
+
+abbrev pub given_of : Flows → GivenFlows
+given_of f = record { flows = f.flows.items; slopes = f.slopes.items }
+
+-- of a rule that is broken in a line, unless memory is wanting
+abbrev pub IfBroken : FlowsFault → (FlowsBroken → Type 0) → Type 0
+IfBroken (FlowsFault.Broken rule line) P = P (record { rule = rule; line = line })
+IfBroken FlowsFault.Memory P = Unit {0}
+
+-- the rule that a line with a fault breaks
+abbrev pub fault_of_text : TextFault → FlowsFault
+fault_of_text (TextFault.NotAscii line) = FlowsFault.Broken S1 line
+fault_of_text (TextFault.LongLine line) = FlowsFault.Broken S2 line
+fault_of_text TextFault.Memory = FlowsFault.Memory

@@ -1,0 +1,79 @@
+// The reading of a flows file.
+ghost use Rattle.std.specs.Prelude.{◌≡◌, ◌≤◌, length, Ok, Err, IfOk, MatchResult};
+ghost use Rattle.nf_lines.specs.Faults.{longest_text};
+ghost use Rattle.nf_complete_lists.specs.FlowsFile.{is_flows_1 as is_flows_1_by, add_flows_lines, flows_draft, flows_in};
+ghost use Rattle.nf_flows_file.specs.Drafts.{seen_draft, HasPlaces};
+ghost use Rattle.nf_flows_file.specs.Files.{given_of, IfBroken};
+
+use crate::draft::Draft;
+use crate::fault::FlowsFault;
+use crate::flows::Flows;
+use nf_complete_lists::FlowsRule;
+use nf_net::Network;
+use nf_side_files::{ReadLine, contents, is_word};
+use std::alloc::Global;
+
+// `flows 1`
+#[tactic(auto, using(crate::proofs::FlowWords::head_count_wrong, crate::proofs::FlowWords::head_is))]
+fn is_flows_1(line: &ReadLine) -> bool
+    ensures { result ≡ is_flows_1_by line.now.words }
+{
+    line.len() == 2 && is_word(line.at(0), b"flows") && is_word(line.at(1), b"1")
+}
+
+// What a draft comes to with more lines, up to the first that breaks a rule.
+fn add_lines(net: &Network, mut draft: Draft, lines: &[ReadLine]) -> Result<Draft, FlowsFault>
+    requires { HasPlaces net.now draft }
+    ensures adds { MatchResult result (λ next. add_flows_lines net.now (seen_draft draft) lines.now ≡ Ok (seen_draft next))
+        (λ fault. IfBroken fault (λ broken. add_flows_lines net.now (seen_draft draft) lines.now ≡ Err broken)) }
+    ensures places { IfOk result (λ next. HasPlaces net.now next) }
+{
+    for line in lines {
+        if let Err(rule) = draft.add_line(net, line) {
+            return Err(FlowsFault::Broken {
+                rule,
+                line: line.number(),
+            });
+        }
+    }
+    Ok(draft)
+}
+
+// What the lines that have words say.
+fn read_draft(alloc: Global, net: &Network, lines: &[ReadLine]) -> Result<Draft, FlowsFault>
+    ensures reads { MatchResult result (λ draft. flows_draft net.now lines.now ≡ Ok (seen_draft draft))
+        (λ fault. IfBroken fault (λ broken. flows_draft net.now lines.now ≡ Err broken)) }
+    ensures places { IfOk result (λ draft. HasPlaces net.now draft) }
+{
+    let [head, rest @ ..] = lines else {
+        return Err(FlowsFault::Broken {
+            rule: FlowsRule::S3,
+            line: 1,
+        });
+    };
+    if !is_flows_1(head) {
+        return Err(FlowsFault::Broken {
+            rule: FlowsRule::S3,
+            line: head.number(),
+        });
+    }
+    add_lines(net, Draft::new(alloc, net)?, rest)
+}
+
+/// The flows and slopes of a network that a text of at most 67,108,864 bytes gives; or the first rule that it breaks, and the line. The
+/// rules of all bytes and lines come first, then those of the lines one by one, then that of the file as a whole, with line 0.
+pub fn parse_flows(alloc: Global, net: &Network, text: &[u8]) -> Result<Flows, FlowsFault>
+    requires { length text.now ≤ longest_text }
+    ensures reads { MatchResult result (λ flows. flows_in net.now text.now ≡ Ok (given_of flows)) (λ fault. IfBroken fault (λ broken. flows_in net.now text.now ≡ Err broken)) }
+    ensures links { IfOk result (λ flows. length flows.flows.items ≡ length net.now.net.links) }
+    ensures nodes { IfOk result (λ flows. length flows.slopes.items ≡ net.now.net.nodes) }
+{
+    // For the proof: each link and each node has a name.
+    let _ = net.version();
+    let lines = match contents(alloc, text) {
+        Ok(lines) => lines,
+        Err(fault) => return Err(FlowsFault::from(fault)),
+    };
+    let draft = read_draft(alloc, net, &lines)?;
+    draft.close(alloc)
+}

@@ -1,0 +1,194 @@
+// The curves of all nodes and links, as they grow.
+ghost use Rattle.std.specs.Prelude.{◌≡◌, [], ◌∷◌, ◌++◌, length, map, IfOk, OnOk};
+ghost use Rattle.nf_work.specs.declared.Part.TheVariants.{Curve as CurvePart};
+ghost use Rattle.nf_work.specs.Passing.{passes_Q};
+ghost use Rattle.nf_work.specs.Checked.{at_part, each, Gives};
+ghost use Rattle.nf_curve.specs.Flows.{trace_of};
+ghost use Rattle.nf_lists.specs.ReportCurves.{first_label_curve, label_curves_after};
+ghost use Rattle.nf_resume_lists.specs.Restoring.{growing};
+ghost use Rattle.nf_growing_curves.specs.Growing.{all_grown, AllHaveRoom, AllEndBefore};
+
+use crate::growing::GrowingCurve;
+use crate::link_curves::LinkCurves;
+use nf_curve::{Curve, Flow, Trace};
+use nf_frac::{Halt, Q};
+use std::alloc::{AllocError, Global};
+
+/// The curves of the nodes before the first phase, with these labels of departure 0, which are times. Refused only where memory is
+/// wanting.
+pub fn first_labels(alloc: Global, labels: &[Q]) -> Result<Vec<GrowingCurve>, AllocError>
+    ensures { IfOk result (λ curves. all_grown curves.items ≡ map first_label_curve labels.now) }
+{
+    let mut curves = Vec::new(alloc);
+    for label in labels {
+        curves.push(GrowingCurve::start(alloc, *label)?)?;
+    }
+    Ok(curves)
+}
+
+/// Curves that go on where these end. Passed comes exactly at the first operation of their list that passes, and has part Curve.
+pub fn restore_labels(alloc: Global, curves: &[Curve]) -> Result<Vec<GrowingCurve>, Halt<Q>>
+    ensures { Gives (λ grown. all_grown grown.items) (λ q. q) result (at_part CurvePart (each (growing passes_Q) (map (λ c. c.points) curves.now))) }
+{
+    let mut grown = Vec::new(alloc);
+    for curve in curves {
+        let next = GrowingCurve::of(alloc, curve)?;
+        grown.push(next)?;
+    }
+    Ok(grown)
+}
+
+/// Afterwards there is room for one more corner of each curve. The curves stay, also where memory is wanting.
+pub fn reserve_labels(curves: &mut [GrowingCurve]) -> Result<(), AllocError>
+    ensures same { all_grown curves.new ≡ all_grown curves.old }
+    ensures room { OnOk result (AllHaveRoom curves.new) }
+{
+    for i in 0..curves.len() {
+        curves[i].reserve()?;
+    }
+    Ok(())
+}
+
+/// The same of the curves of links.
+pub fn reserve_links(curves: &mut [LinkCurves]) -> Result<(), AllocError>
+    ensures same { all_grown curves.new ≡ all_grown curves.old }
+    ensures room { OnOk result (AllHaveRoom curves.new) }
+{
+    for i in 0..curves.len() {
+        curves[i].reserve()?;
+    }
+    Ok(())
+}
+
+/// The label curves go on until a departure, to these labels there, with these slopes.
+pub fn labels_go_on(curves: &mut [GrowingCurve], time: Q, labels: &[Q], slopes: &[Q])
+    requires labels { length labels.now ≡ length curves.old }
+    requires slopes { length slopes.now ≡ length curves.old }
+    requires room { AllHaveRoom curves.old }
+    requires later { AllEndBefore time (all_grown curves.old) }
+    ensures { all_grown curves.new ≡ label_curves_after time labels.now slopes.now (all_grown curves.old) }
+{
+    for v in 0..curves.len() {
+        curves[v].go_on(time, labels[v], slopes[v]);
+    }
+}
+
+/// The label curves at the end of a run. Refused only where memory is wanting.
+pub fn finish_labels(alloc: Global, growing: Vec<GrowingCurve>) -> Result<Vec<Curve>, AllocError>
+    ensures { IfOk result (λ curves. map (λ c. c.points) curves.items ≡ map (λ c. c.points) (all_grown growing.items)) }
+{
+    let mut curves = Vec::new(alloc);
+    for curve in growing {
+        curves.push(curve.finish()?)?;
+    }
+    Ok(curves)
+}
+
+/// The curves of the links at the end of a run.
+#[derive(Drop)]
+pub struct FinishedLinks {
+    pub inflows: Vec<Trace>,
+    pub outflows: Vec<Trace>,
+    pub queues: Vec<Curve>,
+}
+
+impl FinishedLinks {
+    // No link yet.
+    fn none(alloc: Global) -> FinishedLinks
+        ensures inflows { result.inflows.items ≡ [] }
+        ensures outflows { result.outflows.items ≡ [] }
+        ensures queues { result.queues.items ≡ [] }
+    {
+        FinishedLinks {
+            inflows: Vec::new(alloc),
+            outflows: Vec::new(alloc),
+            queues: Vec::new(alloc),
+        }
+    }
+
+    /// The flow up to a departure, with these curves of the nodes.
+    pub fn flow(self, reached: Q, labels: Vec<Curve>) -> Flow
+        ensures reached { result.reached ≡ reached }
+        ensures labels { result.labels.items ≡ labels.items }
+        ensures inflows { result.inflows.items ≡ self.inflows.items }
+        ensures outflows { result.outflows.items ≡ self.outflows.items }
+        ensures queues { result.queues.items ≡ self.queues.items }
+    {
+        Flow {
+            reached,
+            labels,
+            inflows: self.inflows,
+            outflows: self.outflows,
+            queues: self.queues,
+        }
+    }
+
+    // One more link.
+    fn add(&mut self, inflow: Trace, outflow: Trace, queue: Curve) -> Result<(), AllocError>
+        ensures inflows { OnOk result (map trace_of self.new.inflows.items ≡ map trace_of self.old.inflows.items ++ trace_of inflow ∷ []) }
+        ensures outflows { OnOk result (map trace_of self.new.outflows.items ≡ map trace_of self.old.outflows.items ++ trace_of outflow ∷ []) }
+        ensures queues { OnOk result (map (λ c. c.points) self.new.queues.items ≡ map (λ c. c.points) self.old.queues.items ++ queue.points ∷ []) }
+    {
+        self.inflows.push(inflow)?;
+        self.outflows.push(outflow)?;
+        self.queues.push(queue)?;
+        Ok(())
+    }
+
+    // One more link, whose curves end here.
+    fn push(&mut self, link: LinkCurves) -> Result<(), AllocError>
+        ensures inflows { OnOk result (map trace_of self.new.inflows.items ≡ map trace_of self.old.inflows.items ++ link.grown.inflow ∷ []) }
+        ensures outflows { OnOk result (map trace_of self.new.outflows.items ≡ map trace_of self.old.outflows.items ++ link.grown.outflow ∷ []) }
+        ensures queues { OnOk result (map (λ c. c.points) self.new.queues.items ≡ map (λ c. c.points) self.old.queues.items ++ link.grown.queue.points ∷ []) }
+    {
+        let (inflow, outflow, queue) = link.finish()?;
+        self.add(inflow, outflow, queue)
+    }
+
+    // One more link, whose curves may go on.
+    fn push_copy(&mut self, alloc: Global, link: &LinkCurves) -> Result<(), AllocError>
+        ensures inflows { OnOk result (map trace_of self.new.inflows.items ≡ map trace_of self.old.inflows.items ++ link.now.grown.inflow ∷ []) }
+        ensures outflows { OnOk result (map trace_of self.new.outflows.items ≡ map trace_of self.old.outflows.items ++ link.now.grown.outflow ∷ []) }
+        ensures queues { OnOk result (map (λ c. c.points) self.new.queues.items ≡ map (λ c. c.points) self.old.queues.items ++ link.now.grown.queue.points ∷ []) }
+    {
+        let (inflow, outflow, queue) = link.copy(alloc)?;
+        self.add(inflow, outflow, queue)
+    }
+}
+
+/// Those of all links. Refused only where memory is wanting.
+pub fn finish_links(alloc: Global, growing: Vec<LinkCurves>) -> Result<FinishedLinks, AllocError>
+    ensures inflows { IfOk result (λ links. map trace_of links.inflows.items ≡ map (λ c. c.inflow) (all_grown growing.items)) }
+    ensures outflows { IfOk result (λ links. map trace_of links.outflows.items ≡ map (λ c. c.outflow) (all_grown growing.items)) }
+    ensures queues { IfOk result (λ links. map (λ c. c.points) links.queues.items ≡ map (λ c. c.queue.points) (all_grown growing.items)) }
+{
+    let mut links = FinishedLinks::none(alloc);
+    for curves in growing {
+        links.push(curves)?;
+    }
+    Ok(links)
+}
+
+/// Copies of the label curves, as they are now. Refused only where memory is wanting.
+pub fn copy_labels(alloc: Global, growing: &[GrowingCurve]) -> Result<Vec<Curve>, AllocError>
+    ensures { IfOk result (λ curves. map (λ c. c.points) curves.items ≡ map (λ c. c.points) (all_grown growing.now)) }
+{
+    let mut curves = Vec::new(alloc);
+    for curve in growing {
+        curves.push(curve.copy(alloc)?)?;
+    }
+    Ok(curves)
+}
+
+/// Copies of those of all links. Refused only where memory is wanting.
+pub fn copy_links(alloc: Global, growing: &[LinkCurves]) -> Result<FinishedLinks, AllocError>
+    ensures inflows { IfOk result (λ links. map trace_of links.inflows.items ≡ map (λ c. c.inflow) (all_grown growing.now)) }
+    ensures outflows { IfOk result (λ links. map trace_of links.outflows.items ≡ map (λ c. c.outflow) (all_grown growing.now)) }
+    ensures queues { IfOk result (λ links. map (λ c. c.points) links.queues.items ≡ map (λ c. c.queue.points) (all_grown growing.now)) }
+{
+    let mut links = FinishedLinks::none(alloc);
+    for curves in growing {
+        links.push_copy(alloc, curves)?;
+    }
+    Ok(links)
+}

@@ -1,0 +1,157 @@
+// The three curves of a link, as they grow.
+ghost use Rattle.std.specs.Prelude.{◌≡◌, ◌≤◌, IfOk, OnOk, IsSome};
+ghost use Rattle.nf_rational.specs.Order.{◌<ℚ◌};
+ghost use Rattle.nf_work.specs.declared.Part.TheVariants.{Curve as CurvePart};
+ghost use Rattle.nf_work.specs.Passing.{passes_Q};
+ghost use Rattle.nf_work.specs.Checked.{at_part, Gives};
+ghost use Rattle.nf_model.specs.Curve.{AreSlopes};
+ghost use Rattle.nf_curve.specs.Flows.{trace_of};
+ghost use Rattle.nf_lists.specs.Signs.{is_positive};
+ghost use Rattle.nf_lists.specs.Ends.{end_of};
+ghost use Rattle.nf_lists.specs.ReportCurves.{trace_after, queue_after, first_trace, first_queue, amount_so_far};
+ghost use Rattle.nf_growing_curves.specs.Growing.{HasRoom, step_of};
+ghost use Rattle.nf_growing_curves.specs.Restoring.{of_link};
+
+use crate::growing::GrowingCurve;
+use crate::traces::GrowingTrace;
+use nf_curve::{Curve, Trace};
+use nf_frac::{Halt, Q};
+use std::alloc::{AllocError, Global};
+use std::marker::Model;
+
+/// What has entered a link and what waits in it, by the time at its tail, and what has left it, by the time at its head.
+#[derive(Drop)]
+pub struct LinkCurves {
+    inflow: GrowingTrace,
+    outflow: GrowingTrace,
+    queue: GrowingCurve,
+}
+
+impl Model for LinkCurves {
+    ghost use Rattle.std.specs.Prelude.{min};
+    ghost use Rattle.nf_lists.specs.ReportCurves.{LinkCurves as SeenCurves};
+    ghost use Rattle.nf_growing_curves.specs.Growing.{Roomy, coded_roomy, coded_curves};
+
+    ghost Value = { Roomy SeenCurves };
+
+    ghost coded = { coded_roomy coded_curves };
+
+    ghost view = { λ a. record {
+      grown = record { inflow = a.inflow.grown; outflow = a.outflow.grown; queue = a.queue.grown };
+      spare = min a.inflow.spare (min a.outflow.spare a.queue.spare);
+    } };
+}
+
+impl LinkCurves {
+    /// Before the first phase, with these labels of departure 0 at the ends of the link.
+    pub(crate) fn first(
+        alloc: Global,
+        tail_label: Q,
+        head_label: Q,
+    ) -> Result<LinkCurves, AllocError>
+        ensures { IfOk result (λ c. c.grown ≡ record {
+          inflow = first_trace (is_positive tail_label) tail_label;
+          outflow = first_trace (is_positive head_label) head_label;
+          queue = first_queue (is_positive tail_label) tail_label;
+        }) }
+    {
+        let inflow = GrowingTrace::first(alloc, tail_label)?;
+        let outflow = GrowingTrace::first(alloc, head_label)?;
+        let queue = GrowingCurve::first_queue(alloc, tail_label)?;
+        Ok(LinkCurves {
+            inflow,
+            outflow,
+            queue,
+        })
+    }
+
+    /// Those that go on where others end. Passed comes exactly at the first operation of the list of the queue that passes, and has part
+    /// Curve.
+    pub(crate) fn of(
+        alloc: Global,
+        inflow: &Trace,
+        outflow: &Trace,
+        queue: &Curve,
+    ) -> Result<LinkCurves, Halt<Q>>
+        requires inflow { AreSlopes (trace_of inflow.now).points (trace_of inflow.now).rates }
+        requires outflow { AreSlopes (trace_of outflow.now).points (trace_of outflow.now).rates }
+        ensures { Gives (λ c. c.grown) (λ q. q) result (at_part CurvePart (of_link passes_Q (trace_of inflow.now) (trace_of outflow.now) queue.now.points)) }
+    {
+        let inflow = GrowingTrace::of(alloc, inflow)?;
+        let outflow = GrowingTrace::of(alloc, outflow)?;
+        let queue = GrowingCurve::of(alloc, queue)?;
+        Ok(LinkCurves {
+            inflow,
+            outflow,
+            queue,
+        })
+    }
+
+    /// Afterwards there is room for one more corner of each. The curves stay, also where memory is wanting.
+    pub(crate) fn reserve(&mut self) -> Result<(), AllocError>
+        ensures same { self.new.grown ≡ self.old.grown }
+        ensures room { OnOk result (HasRoom self.new) }
+        ensures kept { self.old.spare ≤ self.new.spare }
+    {
+        self.inflow.reserve()?;
+        self.outflow.reserve()?;
+        self.queue.reserve()
+    }
+
+    /// What has entered the link so far.
+    pub(crate) fn amount(&self) -> Q
+        ensures { result ≡ amount_so_far self.now.grown }
+    {
+        self.inflow.amount()
+    }
+
+    /// They go on until the labels of the link's ends. No rate and no step: there the label stands still.
+    pub(crate) fn go_on(
+        &mut self,
+        tail_label: Q,
+        head_label: Q,
+        amount: Q,
+        inflow_rate: Option<Q>,
+        outflow_rate: Option<Q>,
+        queue: Option<(Q, Q)>,
+    )
+        requires room { HasRoom self.old }
+        requires inflow { IsSome inflow_rate → end_of self.old.grown.inflow.points <ℚ tail_label }
+        requires outflow { IsSome outflow_rate → end_of self.old.grown.outflow.points <ℚ head_label }
+        requires queue { IsSome queue → end_of self.old.grown.queue.points <ℚ tail_label }
+        ensures inflow { self.new.grown.inflow ≡ trace_after self.old.grown.inflow tail_label amount inflow_rate }
+        ensures outflow { self.new.grown.outflow ≡ trace_after self.old.grown.outflow head_label amount outflow_rate }
+        ensures queue { self.new.grown.queue ≡ queue_after self.old.grown.queue tail_label (step_of queue) }
+    {
+        self.inflow.pass(tail_label, amount, inflow_rate);
+        self.outflow.pass(head_label, amount, outflow_rate);
+        self.queue.wait(tail_label, queue);
+    }
+
+    /// The curves as they are now: inflow, outflow, and queue.
+    pub(crate) fn finish(self) -> Result<(Trace, Trace, Curve), AllocError>
+        ensures inflow { IfOk result (λ c. trace_of c.0 ≡ self.grown.inflow) }
+        ensures outflow { IfOk result (λ c. trace_of c.1 ≡ self.grown.outflow) }
+        ensures queue { IfOk result (λ c. c.2.points ≡ self.grown.queue.points) }
+    {
+        let LinkCurves {
+            inflow,
+            outflow,
+            queue,
+        } = self;
+        Ok((inflow.finish()?, outflow.finish()?, queue.finish()?))
+    }
+
+    /// A copy of the curves as they are now: inflow, outflow, and queue.
+    pub(crate) fn copy(&self, alloc: Global) -> Result<(Trace, Trace, Curve), AllocError>
+        ensures inflow { IfOk result (λ c. trace_of c.0 ≡ self.now.grown.inflow) }
+        ensures outflow { IfOk result (λ c. trace_of c.1 ≡ self.now.grown.outflow) }
+        ensures queue { IfOk result (λ c. c.2.points ≡ self.now.grown.queue.points) }
+    {
+        Ok((
+            self.inflow.copy(alloc)?,
+            self.outflow.copy(alloc)?,
+            self.queue.copy(alloc)?,
+        ))
+    }
+}

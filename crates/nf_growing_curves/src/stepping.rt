@@ -1,0 +1,206 @@
+// How the curves of links go on in a phase.
+ghost use Rattle.std.specs.Prelude.{◌≡◌, ◌≢◌, ◌<◌, length as count_of, true};
+ghost use Rattle.nf_rational.specs.Operations.{0ℚ};
+ghost use Rattle.nf_work.specs.declared.Part.TheVariants.{Curve};
+ghost use Rattle.nf_work.specs.Passing.{passes_Q};
+ghost use Rattle.nf_work.specs.Checked.{at_part, Gives};
+ghost use Rattle.nf_model.specs.Entries.{number_at};
+ghost use Rattle.nf_model.specs.Network.{Link as SeenLink, IsLink};
+ghost use Rattle.nf_lists.specs.Signs.{is_positive as is_positive_by};
+ghost use Rattle.nf_lists.specs.CurveList.{rate_over as rate_over_by, size_at as size_at_by, slope_at as slope_at_by, queue_step as queue_step_by, link_step as link_step_by, link_phase as link_phase_of, curve_list};
+
+use nf_frac::{Halt, Part, PassedAt, Q, at};
+use nf_graph::{LinkId, LinkSets};
+use nf_net::Network;
+use nf_pattern::Pattern;
+use nf_phase_length::{LinkPhase, link_phase};
+use std::alloc::Global;
+use std::marker::Model;
+
+/// How a queue goes on: what is in it at the phase's end, and its slope until then, by the time at the tail.
+#[derive(Clone, Copy)]
+pub struct QueueStep {
+    pub size: Q,
+    pub slope: Q,
+}
+
+impl Model for QueueStep {
+    ghost use Rattle.nf_lists.specs.CurveList.{QueueStep as SeenStep};
+    ghost use Rattle.nf_growing_curves.specs.StepCodes.{coded_queue_step};
+
+    ghost Value = { SeenStep };
+
+    ghost coded = { coded_queue_step };
+
+    ghost view = { λ a. record { size = a.size; slope = a.slope } };
+
+    ghost inverse = { λ s. record { size = s.size; slope = s.slope } };
+}
+
+/// How a link goes on in a phase: what has entered it by the phase's end; the rates at which flow enters it, by the time at its
+/// tail, and leaves it, by the time at its head; and its queue. Where the label of the tail stands still there is no inflow rate
+/// and no step of the queue, and where that of the head does, no outflow rate.
+#[derive(Clone, Copy)]
+pub struct LinkStep {
+    pub amount: Q,
+    pub inflow_rate: Option<Q>,
+    pub outflow_rate: Option<Q>,
+    pub queue: Option<QueueStep>,
+}
+
+impl Model for LinkStep {
+    ghost use Rattle.nf_lists.specs.CurveList.{LinkStep as SeenStep};
+    ghost use Rattle.nf_growing_curves.specs.StepCodes.{coded_link_step};
+
+    ghost Value = { SeenStep };
+
+    ghost coded = { coded_link_step };
+
+    ghost view = { λ a. record { amount = a.amount; inflow_rate = a.inflow_rate; outflow_rate = a.outflow_rate; queue = a.queue } };
+
+    ghost inverse = { λ s. record { amount = s.amount; inflow_rate = s.inflow_rate; outflow_rate = s.outflow_rate; queue = s.queue } };
+}
+
+fn is_positive(number: Q) -> bool
+    ensures { result ≡ is_positive_by number }
+{
+    Q::zero().is_below(number)
+}
+
+// The flow over a slope that is above 0.
+fn rate_over(above: bool, flow: Q, slope: Q) -> Result<Option<Q>, PassedAt<Q>>
+    requires { above ≡ true → slope ≢ 0ℚ }
+    ensures { result ≡ at_part Curve (rate_over_by passes_Q above flow slope) }
+{
+    if !above {
+        return Ok(None);
+    }
+    let rate = at!(Part::Curve, flow.quotient(slope));
+    Ok(Some(rate))
+}
+
+// What is in the queue of a link with this slack: nothing, where the link is unbounded or the slack not above 0.
+fn size_at(above: bool, capacity: Option<Q>, slack: Q) -> Result<Q, PassedAt<Q>>
+    ensures { result ≡ at_part Curve (size_at_by passes_Q above capacity slack) }
+{
+    if !above {
+        return Ok(Q::zero());
+    }
+    match capacity {
+        None => Ok(Q::zero()),
+        Some(capacity) => {
+            let size = at!(Part::Curve, capacity.product(slack));
+            Ok(size)
+        }
+    }
+}
+
+// The slope of a queue into which flow enters at this rate.
+fn slope_at(filled: bool, capacity: Option<Q>, rate: Q) -> Result<Q, PassedAt<Q>>
+    ensures { result ≡ at_part Curve (slope_at_by passes_Q filled capacity rate) }
+{
+    if !filled {
+        return Ok(Q::zero());
+    }
+    match capacity {
+        None => Ok(Q::zero()),
+        Some(capacity) => {
+            let slope = at!(Part::Curve, rate.difference(capacity));
+            Ok(slope)
+        }
+    }
+}
+
+// How the queue of a link goes on, where there is an inflow rate.
+fn queue_step(link: &LinkPhase, rate: Option<Q>) -> Result<Option<QueueStep>, PassedAt<Q>>
+    ensures { result ≡ at_part Curve (queue_step_by passes_Q link.now rate) }
+{
+    match rate {
+        None => Ok(None),
+        Some(rate) => {
+            let arrival = at!(Part::Curve, link.tail_label.sum(link.transit));
+            let slack = at!(Part::Curve, link.head_label.difference(arrival));
+            let size = size_at(is_positive(slack), link.capacity, slack)?;
+            let slope = slope_at(link.filled, link.capacity, rate)?;
+            Ok(Some(QueueStep { size, slope }))
+        }
+    }
+}
+
+// How a link goes on in a phase of this length, into which so much had entered at its beginning.
+fn link_step(length: Q, so_far: Q, link: &LinkPhase) -> Result<LinkStep, PassedAt<Q>>
+    ensures { result ≡ at_part Curve (link_step_by passes_Q length so_far link.now) }
+{
+    let flowed = at!(Part::Curve, length.product(link.flow));
+    let amount = at!(Part::Curve, so_far.sum(flowed));
+    let inflow_rate = rate_over(is_positive(link.tail_slope), link.flow, link.tail_slope)?;
+    let outflow_rate = rate_over(is_positive(link.head_slope), link.flow, link.head_slope)?;
+    Ok(LinkStep {
+        amount,
+        inflow_rate,
+        outflow_rate,
+        queue: queue_step(link, inflow_rate)?,
+    })
+}
+
+// The same of the link of a number.
+fn step_of(
+    net: &Network,
+    sets: &LinkSets,
+    pattern: &Pattern,
+    length: Q,
+    flows: &[Q],
+    slopes: &[Q],
+    labels: &[Q],
+    amounts: &[Q],
+    link: LinkId,
+) -> Result<LinkStep, PassedAt<Q>>
+    requires link { link < count_of net.now.net.links }
+    requires active { count_of sets.now.active ≡ count_of net.now.net.links }
+    requires resetting { count_of sets.now.resetting ≡ count_of net.now.net.links }
+    requires states { count_of pattern.now ≡ count_of net.now.net.links }
+    requires flows { count_of flows.now ≡ count_of net.now.net.links }
+    requires slopes { count_of slopes.now ≡ net.now.net.nodes }
+    requires labels { count_of labels.now ≡ net.now.net.nodes }
+    requires amounts { count_of amounts.now ≡ count_of net.now.net.links }
+    ensures { (here : SeenLink) → IsLink net.now.net link here
+        → result ≡ at_part Curve (link_step_by passes_Q length (number_at amounts.now link) (link_phase_of sets.now pattern.now flows.now slopes.now labels.now (link, here))) }
+{
+    let here = link_phase(net, sets, pattern, flows, slopes, labels, link);
+    link_step(length, amounts[link.index()], &here)
+}
+
+/// Link by link, how the curves go on in a phase of this length: with these flows of the links and slopes of the nodes, the labels
+/// at the phase's end, and what had entered each link at its beginning. Passed comes exactly at the first operation of the curve
+/// list that passes, and has part Curve.
+pub fn link_steps(
+    alloc: Global,
+    net: &Network,
+    sets: &LinkSets,
+    pattern: &Pattern,
+    length: Q,
+    flows: &[Q],
+    slopes: &[Q],
+    labels: &[Q],
+    amounts: &[Q],
+) -> Result<Vec<LinkStep>, Halt<Q>>
+    requires active { count_of sets.now.active ≡ count_of net.now.net.links }
+    requires resetting { count_of sets.now.resetting ≡ count_of net.now.net.links }
+    requires states { count_of pattern.now ≡ count_of net.now.net.links }
+    requires flows { count_of flows.now ≡ count_of net.now.net.links }
+    requires slopes { count_of slopes.now ≡ net.now.net.nodes }
+    requires labels { count_of labels.now ≡ net.now.net.nodes }
+    requires amounts { count_of amounts.now ≡ count_of net.now.net.links }
+    ensures { Gives (λ steps. steps.items) (λ q. q) result
+        (at_part Curve (curve_list passes_Q net.now.net sets.now pattern.now length flows.now slopes.now labels.now amounts.now)) }
+{
+    let mut steps = Vec::new(alloc);
+    for e in 0..net.link_count() {
+        let link = LinkId(e);
+        let next = step_of(
+            net, sets, pattern, length, flows, slopes, labels, amounts, link,
+        )?;
+        steps.push(next)?;
+    }
+    Ok(steps)
+}

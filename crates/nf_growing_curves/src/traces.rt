@@ -1,0 +1,152 @@
+// A trace that grows: a curve with its rates.
+ghost use Rattle.std.specs.Prelude.{◌≡◌, ◌<◌, ◌≤◌, ◌++◌, IfOk, OnOk, IsSome, vec_len, vec_capacity};
+ghost use Rattle.std.specs.Option.{option_to_list};
+ghost use Rattle.nf_rational.specs.Order.{◌<ℚ◌};
+ghost use Rattle.nf_model.specs.Curve.{AreSlopes};
+ghost use Rattle.nf_curve.specs.Flows.{trace_of};
+ghost use Rattle.nf_lists.specs.Signs.{is_positive};
+ghost use Rattle.nf_lists.specs.Ends.{end_of};
+ghost use Rattle.nf_lists.specs.ReportCurves.{trace_with, trace_after, first_trace};
+ghost use Rattle.nf_growing_curves.specs.Growing.{HasRoom, rates_by, end_value};
+
+use crate::growing::GrowingCurve;
+use nf_curve::Trace;
+use nf_frac::Q;
+use std::alloc::{AllocError, Global};
+use std::marker::Model;
+
+/// A trace that grows, in short form: its curve, and the rates of the pieces between its corners. The rate of the last piece is
+/// the slope of the curve's end.
+#[derive(Drop)]
+pub(crate) struct GrowingTrace {
+    curve: GrowingCurve,
+    rates: Vec<Q>,
+}
+
+impl Model for GrowingTrace {
+    ghost use Rattle.std.specs.Prelude.{◌-◌, ◌++◌, min, vec_capacity, vec_len};
+    ghost use Rattle.std.specs.Option.{option_to_list};
+    ghost use Rattle.nf_model.specs.Equilibrium.{Trace as SeenTrace};
+    ghost use Rattle.nf_growing_curves.specs.Growing.{Roomy, coded_roomy, coded_trace, AreBefore};
+
+    ghost Value = { Roomy SeenTrace };
+
+    ghost coded = { coded_roomy coded_trace };
+
+    ghost view = { λ a. record {
+      grown = record { points = a.curve.grown.points; rates = a.rates.items ++ option_to_list a.curve.grown.slope };
+      spare = min a.curve.spare (vec_capacity a.rates - vec_len a.rates);
+    } };
+
+    ghost invariant = { λ a. AreBefore a.rates.items a.curve.grown.slope };
+}
+
+// The rate of the last piece becomes that of a piece between corners, unless the curve goes on with it.
+fn close_unless(goes: bool, rates: &mut Vec<Q>, last: Option<Q>)
+    requires { vec_len rates.old < vec_capacity rates.old }
+    ensures { rates.new.items ≡ rates_by goes rates.old.items last }
+{
+    if goes {
+        return;
+    }
+    if let Some(rate) = last {
+        match rates.push(rate) {
+            Ok(()) => {}
+            Err(_) => unreachable!(),
+        }
+    }
+}
+
+// The rates with that of the last piece, if there is one.
+fn with_last(mut rates: Vec<Q>, last: Option<Q>) -> Result<Vec<Q>, AllocError>
+    ensures { IfOk result (λ all. all.items ≡ rates.items ++ option_to_list last) }
+{
+    let Some(rate) = last else {
+        return Ok(rates);
+    };
+    rates.push(rate)?;
+    Ok(rates)
+}
+
+impl GrowingTrace {
+    /// A trace at the node of which this is the label of departure 0: nothing moves before.
+    pub(crate) fn first(alloc: Global, label: Q) -> Result<GrowingTrace, AllocError>
+        ensures { IfOk result (λ t. t.grown ≡ first_trace (is_positive label) label) }
+    {
+        Ok(GrowingTrace {
+            curve: GrowingCurve::first_queue(alloc, label)?,
+            rates: Vec::new(alloc),
+        })
+    }
+
+    /// A trace that goes on where another one ends.
+    pub(crate) fn of(alloc: Global, trace: &Trace) -> Result<GrowingTrace, AllocError>
+        requires { AreSlopes (trace_of trace.now).points (trace_of trace.now).rates }
+        ensures { IfOk result (λ t. t.grown ≡ trace_of trace.now) }
+    {
+        let mut rates = trace.rates.as_slice().to_vec(alloc)?;
+        let last = rates.pop();
+        let curve = GrowingCurve::ended(alloc, &trace.curve, last)?;
+        Ok(GrowingTrace { curve, rates })
+    }
+
+    /// Afterwards there is room for one more corner. The trace stays, also where memory is wanting.
+    pub(crate) fn reserve(&mut self) -> Result<(), AllocError>
+        ensures same { self.new.grown ≡ self.old.grown }
+        ensures room { OnOk result (HasRoom self.new) }
+        ensures kept { self.old.spare ≤ self.new.spare }
+    {
+        self.curve.reserve()?;
+        self.rates.reserve(1)
+    }
+
+    /// The amount at its last point.
+    pub(crate) fn amount(&self) -> Q
+        ensures { result ≡ end_value self.now.grown.points }
+    {
+        self.curve.value()
+    }
+
+    /// It goes on to a point, at this rate.
+    pub(crate) fn go_on(&mut self, time: Q, amount: Q, rate: Q)
+        requires room { HasRoom self.old }
+        requires later { end_of self.old.grown.points <ℚ time }
+        ensures { self.new.grown ≡ trace_with self.old.grown (time, amount) rate }
+    {
+        let goes = self.curve.goes_on(rate);
+        let last = self.curve.slope();
+        close_unless(goes, &mut self.rates, last);
+        self.curve.go_on(time, amount, rate);
+    }
+
+    /// It goes on until the label of its node: to this amount, at this rate. No rate: the label stands still.
+    pub(crate) fn pass(&mut self, label: Q, amount: Q, rate: Option<Q>)
+        requires room { HasRoom self.old }
+        requires later { IsSome rate → end_of self.old.grown.points <ℚ label }
+        ensures { self.new.grown ≡ trace_after self.old.grown label amount rate }
+    {
+        if let Some(rate) = rate {
+            self.go_on(label, amount, rate);
+        }
+    }
+
+    /// The trace as it is now.
+    pub(crate) fn finish(self) -> Result<Trace, AllocError>
+        ensures { IfOk result (λ t. trace_of t ≡ self.grown) }
+    {
+        let GrowingTrace { curve, rates } = self;
+        let rates = with_last(rates, curve.slope())?;
+        let curve = curve.finish()?;
+        Ok(Trace { curve, rates })
+    }
+
+    /// A copy of the trace as it is now.
+    pub(crate) fn copy(&self, alloc: Global) -> Result<Trace, AllocError>
+        ensures { IfOk result (λ t. trace_of t ≡ self.now.grown) }
+    {
+        let rates = self.rates.as_slice().to_vec(alloc)?;
+        let rates = with_last(rates, self.curve.slope())?;
+        let curve = self.curve.copy(alloc)?;
+        Ok(Trace { curve, rates })
+    }
+}

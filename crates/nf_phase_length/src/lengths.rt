@@ -1,0 +1,169 @@
+// How long a phase may last.
+ghost use Rattle.std.specs.Prelude.{◌≡◌, ◌≢◌, ◌<◌, length, true, MatchOption, IfOk, IfSome};
+ghost use Rattle.nf_rational.specs.Operations.{0ℚ};
+ghost use Rattle.nf_rational.specs.Order.{◌<ℚ◌};
+ghost use Rattle.nf_work.specs.declared.Part.TheVariants.{Extend};
+ghost use Rattle.nf_work.specs.Passing.{passes_Q};
+ghost use Rattle.nf_work.specs.Checked.{at_part};
+ghost use Rattle.nf_model.specs.Network.{Link as SeenLink, IsLink, ArePieces, next_change as change_of};
+ghost use Rattle.nf_model.specs.Phases.{IsExtension, IsUnending};
+ghost use Rattle.nf_lists.specs.Signs.{is_zero as is_zero_by, are_opposite as are_opposite_by};
+ghost use Rattle.nf_lists.specs.Extend.{lesser as lesser_of, to_zero as to_zero_by, after_link as after_link_by, least_after, until_change as until_change_by, extend_list};
+ghost use Rattle.nf_forever_lists.specs.ForeverRun.{end_after as end_after_by, end_list};
+ghost use Rattle.nf_phase_length.specs.Lengths.{after_all};
+
+use nf_frac::{Part, PassedAt, Q, at};
+use nf_graph::LinkId;
+use nf_net::Network;
+
+// One is above 0 and the other below.
+fn are_opposite(x: Q, y: Q) -> bool
+    ensures { result ≡ are_opposite_by x y }
+{
+    x.is_below(Q::zero()) && Q::zero().is_below(y) || Q::zero().is_below(x) && y.is_below(Q::zero())
+}
+
+// The lesser of the lengths so far and one more.
+fn lesser(least: Option<Q>, length: Q) -> Option<Q>
+    ensures { result ≡ lesser_of least length }
+{
+    match least {
+        Some(least) => Some(least.lesser(length)),
+        None => Some(length),
+    }
+}
+
+// How long a slack takes to become 0, if it goes towards it.
+fn to_zero(goes: bool, least: Option<Q>, slack: Q, change: Q) -> Result<Option<Q>, PassedAt<Q>>
+    requires { goes ≡ true → change ≢ 0ℚ }
+    ensures { result ≡ at_part Extend (to_zero_by passes_Q goes least slack change) }
+{
+    if !goes {
+        return Ok(least);
+    }
+    let less = at!(Part::Extend, Q::zero().difference(slack));
+    let length = at!(Part::Extend, less.quotient(change));
+    Ok(lesser(least, length))
+}
+
+// After how long a link changes sides, with these slopes of its ends.
+#[tactic(auto, using(crate::proofs::Signs::opposite_apart))]
+fn after_link(
+    least: Option<Q>,
+    slack: Q,
+    tail_slope: Q,
+    head_slope: Q,
+) -> Result<Option<Q>, PassedAt<Q>>
+    ensures { result ≡ at_part Extend (after_link_by passes_Q (is_zero_by slack) least slack tail_slope head_slope) }
+{
+    if slack.is_zero() {
+        return Ok(least);
+    }
+    let change = at!(Part::Extend, head_slope.difference(tail_slope));
+    to_zero(are_opposite(slack, change), least, slack, change)
+}
+
+// The same of the link of a number.
+fn after(
+    net: &Network,
+    slacks: &[Q],
+    slopes: &[Q],
+    least: Option<Q>,
+    link: LinkId,
+) -> Result<Option<Q>, PassedAt<Q>>
+    requires link { link < length net.now.net.links }
+    requires slacks { length slacks.now ≡ length net.now.net.links }
+    requires slopes { length slopes.now ≡ net.now.net.nodes }
+    ensures { (here : SeenLink) → IsLink net.now.net link here → result ≡ at_part Extend (least_after passes_Q slacks.now slopes.now least (link, here)) }
+{
+    let here = net.link(link);
+    after_link(
+        least,
+        slacks[link.index()],
+        slopes[here.tail.index()],
+        slopes[here.head.index()],
+    )
+}
+
+// The least length after which a link changes sides.
+fn after_links(net: &Network, slacks: &[Q], slopes: &[Q]) -> Result<Option<Q>, PassedAt<Q>>
+    requires slacks { length slacks.now ≡ length net.now.net.links }
+    requires slopes { length slopes.now ≡ net.now.net.nodes }
+    ensures { result ≡ at_part Extend (after_all passes_Q net.now.net slacks.now slopes.now) }
+{
+    let mut least = None;
+    for e in 0..net.link_count() {
+        least = after(net, slacks, slopes, least, LinkId(e))?;
+    }
+    Ok(least)
+}
+
+// And until the next inflow change, if there is one.
+fn until_change(least: Option<Q>, time: Q, change: Option<Q>) -> Result<Option<Q>, PassedAt<Q>>
+    ensures { result ≡ at_part Extend (until_change_by passes_Q least time change) }
+{
+    match change {
+        None => Ok(least),
+        Some(change) => {
+            let length = at!(Part::Extend, change.difference(time));
+            Ok(lesser(least, length))
+        }
+    }
+}
+
+// The next inflow change after a time; the pieces of a network are in order.
+fn next_change(net: &Network, time: Q) -> Option<Q>
+    ensures change { result ≡ change_of net.now.net time }
+    ensures pieces { ArePieces net.now.net.pieces }
+{
+    // For the proof: the network is that of an accepted file, so its pieces are in order.
+    let _ = net.pieces();
+    net.next_change(time)
+}
+
+/// The extension length of a phase that begins at this time, with these slacks of the links and slopes of the nodes: the greatest
+/// length for which each inactive link keeps a slack of at most 0 and each resetting one a slack of at least 0, and no inflow
+/// change comes before the end. None exactly where no length is too long. Passed comes exactly at the first operation of the
+/// extend list that passes, and has part Extend. Takes no memory (Koch and Skutella 2011).
+#[tactic(auto, unfolding(nf_lists::specs::Extend::extend_list))]
+pub fn extension(
+    net: &Network,
+    slacks: &[Q],
+    slopes: &[Q],
+    time: Q,
+) -> Result<Option<Q>, PassedAt<Q>>
+    requires slacks { length slacks.now ≡ length net.now.net.links }
+    requires slopes { length slopes.now ≡ net.now.net.nodes }
+    ensures list { result ≡ at_part Extend (extend_list passes_Q net.now.net slacks.now slopes.now time) }
+    ensures length { IfOk result (λ length. MatchOption length (IsUnending net.now.net slacks.now slopes.now time) (IsExtension net.now.net slacks.now slopes.now time)) }
+{
+    let least = after_links(net, slacks, slopes)?;
+    until_change(least, time, next_change(net, time))
+}
+
+// The departure after so long a time, where there is an end to it.
+fn end_after(time: Q, length: Option<Q>) -> Result<Option<Q>, PassedAt<Q>>
+    ensures { result ≡ at_part Extend (end_after_by passes_Q time length) }
+{
+    match length {
+        None => Ok(None),
+        Some(length) => {
+            let end = at!(Part::Extend, time.sum(length));
+            Ok(Some(end))
+        }
+    }
+}
+
+/// The departure at which a phase ends that begins at this time, with these slacks of the links and slopes of the nodes, and lasts
+/// as long as it may. None exactly where no length is too long. Passed comes exactly at the first operation that passes of the
+/// extend list of a run without a horizon, and has part Extend. Takes no memory.
+#[tactic(auto, unfolding(nf_forever_lists::specs::ForeverRun::end_list))]
+pub fn end_of(net: &Network, slacks: &[Q], slopes: &[Q], time: Q) -> Result<Option<Q>, PassedAt<Q>>
+    requires slacks { length slacks.now ≡ length net.now.net.links }
+    requires slopes { length slopes.now ≡ net.now.net.nodes }
+    ensures list { result ≡ at_part Extend (end_list passes_Q net.now.net slacks.now slopes.now time) }
+    ensures later { IfOk result (λ end. IfSome end (λ departure. time <ℚ departure)) }
+{
+    let length = extension(net, slacks, slopes, time)?;
+    end_after(time, length)
+}

@@ -1,0 +1,36 @@
+-- What lines of a report tell of.
+use Rattle.std.specs.Prelude.{◌≡◌, ℕ, ◌<◌, true, List, length, Option, Some, None, Result}
+use Rattle.nf_rational.specs.Rational.{ℚ}
+use Rattle.nf_work.specs.Checked.{◌>>=◌}
+use Rattle.nf_lines.specs.Words.{ReadLine}
+use Rattle.nf_formats.specs.Names.{Name, has_name, place_of}
+use Rattle.nf_model.specs.declared.State.{State}
+use Rattle.nf_readings.specs.declared.ReportRule.{ReportRule}
+use Rattle.nf_readings.specs.declared.ReportRule.TheVariants.{P9}
+use Rattle.nf_readings.specs.ReportCauses.{or_rule}
+use Rattle.nf_readings.specs.ReportLines as lines
+use Rattle.nf_report_file.specs.declared.body.LineKind.{LineKind}
+
+abbrev pub seen_line_kind : LineKind → lines.LineKind
+seen_line_kind LineKind.Label = lines.OfCurve lines.OfLabel
+seen_line_kind LineKind.Inflow = lines.OfCurve lines.OfInflow
+seen_line_kind LineKind.Outflow = lines.OfCurve lines.OfOutflow
+seen_line_kind LineKind.Queue = lines.OfCurve lines.OfQueue
+seen_line_kind LineKind.Never = lines.OfCurve lines.OfNever
+seen_line_kind LineKind.State = lines.OfState
+seen_line_kind LineKind.End = lines.OfEnd
+
+-- the words of the line that comes next, if there is one
+abbrev pub words_behind : Option ReadLine → Option (List (List ℕ))
+words_behind None = None
+words_behind (Some line) = Some line.words
+
+-- the state of a link with this capacity
+abbrev pub state_read : Option ℚ → List ℕ → Result State ReportRule
+state_read capacity word = or_rule P9 (lines.state_in word) >>= lines.state_of_link capacity
+
+-- a name is there, at this place
+pub record IsLinkNamed (names : List Name) (name : Name) (link : ℕ) : Type 0 where
+  pub there : has_name names name ≡ true
+  pub place : place_of names name ≡ link
+  pub within : link < length names

@@ -1,0 +1,259 @@
+// What is read of a report so far.
+ghost use Rattle.std.specs.Prelude.{◌≡◌, true, ◌+◌, ◌<◌, ◌≤◌, [], ◌∷◌, ◌++◌, length, IfOk, OnOk, IsSome, IfSome};
+ghost use Rattle.std.specs.List.{last_or};
+ghost use Rattle.nf_formats.specs.Named.{Named};
+ghost use Rattle.nf_readings.specs.ReportLines.{empty_report, curve_keys, with_rate, comes_after, has_all as has_all_by};
+ghost use Rattle.nf_report_file.specs.Drafts.{seen_draft, LacksIdleOnly, IsWithin, begun_count};
+ghost use Rattle.nf_report_file.specs.Entries.{drafted, closed, Fits};
+ghost use Rattle.nf_report_file.specs.declared.entry.Entry.TheVariants.{OfCurve, Never, OfLink, End};
+ghost use Rattle.nf_report_file.specs.declared.entry.Opening.TheVariants.{GoesOn, Begins};
+
+use crate::entry::{Entry, Opening, RatedPoint};
+use crate::keys::curve_count;
+use nf_curve::{Curve, Stop, Trace};
+use nf_frac::Q;
+use nf_model::State;
+use nf_net::{LinkId, Network};
+use nf_pattern::Pattern;
+use std::alloc::{AllocError, Global};
+
+/// The line that comes next: one of the head, one behind it, or one behind `end`.
+#[derive(Clone, Copy)]
+pub enum Stage {
+    Version,
+    Horizon,
+    Reached,
+    Cause,
+    Body,
+    End,
+}
+
+/// What the lines so far say: the head, the curves by their numbers, with nothing for an idle node, the curve that is being read, and
+/// the states of the links.
+#[derive(Drop)]
+pub struct Draft {
+    pub stage: Stage,
+    pub horizon: Q,
+    pub reached: Q,
+    pub stop: Option<Stop>,
+    pub done: Vec<Option<Trace>>,
+    pub current: Option<Trace>,
+    pub next_state: u32,
+    pub states: Pattern,
+}
+
+// The rates with one more, if it is there.
+fn push_rate(rates: &mut Vec<Q>, rate: Option<Q>) -> Result<(), AllocError>
+    ensures { OnOk result (rates.new.items ≡ with_rate rates.old.items rate) }
+{
+    if let Some(rate) = rate {
+        rates.push(rate)?;
+    }
+    Ok(())
+}
+
+// A curve that begins with a point at time 0.
+fn begun(alloc: Global, point: &RatedPoint) -> Result<Trace, AllocError>
+    requires { comes_after None point.now.time ≡ true }
+    ensures points { IfOk result (λ trace. trace.curve.points ≡ (point.now.time, point.now.value) ∷ []) }
+    ensures rates { IfOk result (λ trace. trace.rates.items ≡ with_rate [] point.now.rate) }
+{
+    let mut rates = Vec::new(alloc);
+    push_rate(&mut rates, point.rate)?;
+    let curve = Curve::start(alloc, point.value)?;
+    Ok(Trace { curve, rates })
+}
+
+// A point goes behind the others of a curve.
+fn put_behind(trace: &mut Trace, point: &RatedPoint) -> Result<(), AllocError>
+    requires { comes_after (last_or None trace.old.curve.points) point.now.time ≡ true }
+    ensures points { OnOk result (trace.new.curve.points ≡ trace.old.curve.points ++ (point.now.time, point.now.value) ∷ []) }
+    ensures rates { OnOk result (trace.new.rates.items ≡ with_rate trace.old.rates.items point.now.rate) }
+{
+    // For the proof: a curve has a point.
+    let _ = trace.curve.len();
+    push_rate(&mut trace.rates, point.rate)?;
+    trace.curve.push(point.time, point.value)
+}
+
+impl Draft {
+    /// Nothing is read.
+    pub fn new(alloc: Global, net: &Network) -> Result<Draft, AllocError>
+        ensures draft { IfOk result (λ draft. seen_draft net.now draft ≡ empty_report net.now) }
+        ensures within { IfOk result (λ draft. IsWithin net.now draft) }
+    {
+        // For the proof: each link has a name.
+        let _ = net.version();
+        Ok(Draft {
+            stage: Stage::Version,
+            horizon: Q::zero(),
+            reached: Q::zero(),
+            stop: None,
+            done: Vec::new(alloc),
+            current: None,
+            next_state: 0,
+            states: Pattern::none(alloc, net.link_count())?,
+        })
+    }
+
+    /// How many curves were read, without the one that is being read.
+    pub fn done_count(&self) -> usize
+        ensures { result ≡ length self.now.done.items }
+    {
+        self.done.len()
+    }
+
+    /// How many curves have begun.
+    pub fn begun_count(&self) -> usize
+        requires { begun_count self.now < 18446744073709551616 }
+        ensures { result ≡ begun_count self.now }
+    {
+        match &self.current {
+            None => self.done.len(),
+            Some(_) => self.done.len() + 1,
+        }
+    }
+
+    /// Every curve of the network has begun.
+    pub fn has_all(&self, net: &Network) -> bool
+        requires { IsWithin net.now self.now }
+        ensures { result ≡ has_all_by (seen_draft net.now self.now).keys }
+    {
+        self.begun_count() == curve_count(net)
+    }
+
+    // The curve that is being read is one of those that were read.
+    fn close(&mut self) -> Result<(), AllocError>
+        ensures draft { OnOk result ((n : Named) → seen_draft n self.new ≡ closed (seen_draft n self.old)) }
+        ensures count { OnOk result (length self.new.done.items ≡ begun_count self.old) }
+        ensures shut { OnOk result (self.new.current ≡ None) }
+        ensures idle { OnOk result ((n : Named) → LacksIdleOnly n self.old.done.items → LacksIdleOnly n self.new.done.items) }
+        ensures states { self.new.states ≡ self.old.states }
+    {
+        if let Some(trace) = self.current.take() {
+            self.done.push(Some(trace))?;
+        }
+        Ok(())
+    }
+
+    // A curve begins with a point, behind the others.
+    fn begin(&mut self, alloc: Global, point: &RatedPoint) -> Result<(), AllocError>
+        requires { comes_after None point.now.time ≡ true }
+        ensures draft { OnOk result ((n : Named) → begun_count self.old < length (curve_keys n)
+            → seen_draft n self.new ≡ drafted n (seen_draft n self.old) (OfCurve Begins point.now)) }
+        ensures count { OnOk result (begun_count self.new ≡ begun_count self.old + 1) }
+        ensures idle { OnOk result ((n : Named) → LacksIdleOnly n self.old.done.items → LacksIdleOnly n self.new.done.items) }
+        ensures states { self.new.states ≡ self.old.states }
+    {
+        self.close()?;
+        self.current = Some(begun(alloc, point)?);
+        Ok(())
+    }
+
+    // The curve that is being read goes on with a point.
+    fn go_on(&mut self, point: &RatedPoint) -> Result<(), AllocError>
+        requires some { IsSome self.old.current }
+        requires later { IfSome self.old.current (λ trace. comes_after (last_or None trace.curve.points) point.now.time ≡ true) }
+        ensures draft { OnOk result ((n : Named) → seen_draft n self.new ≡ drafted n (seen_draft n self.old) (OfCurve GoesOn point.now)) }
+        ensures count { OnOk result (begun_count self.new ≡ begun_count self.old) }
+        ensures done { self.new.done.items ≡ self.old.done.items }
+        ensures states { self.new.states ≡ self.old.states }
+    {
+        match &mut self.current {
+            Some(trace) => put_behind(trace, point),
+            None => Ok(()),
+        }
+    }
+
+    // A point of the curve that is being read, or of the next one.
+    fn add_point(
+        &mut self,
+        alloc: Global,
+        net: &Network,
+        opening: Opening,
+        point: &RatedPoint,
+    ) -> Result<(), AllocError>
+        requires within { IsWithin net.now self.old }
+        requires fits { Fits net.now (seen_draft net.now self.old) (OfCurve opening point.now) }
+        ensures draft { OnOk result (seen_draft net.now self.new ≡ drafted net.now (seen_draft net.now self.old) (OfCurve opening point.now)) }
+        ensures within { OnOk result (IsWithin net.now self.new) }
+    {
+        // For the proof: the clauses speak of the network's curves.
+        let _ = net;
+        match opening {
+            Opening::Begins => self.begin(alloc, point),
+            Opening::GoesOn => self.go_on(point),
+        }
+    }
+
+    // An idle node is passed.
+    fn add_never(&mut self, net: &Network) -> Result<(), AllocError>
+        requires within { IsWithin net.now self.old }
+        requires fits { Fits net.now (seen_draft net.now self.old) Never }
+        ensures draft { OnOk result (seen_draft net.now self.new ≡ drafted net.now (seen_draft net.now self.old) Never) }
+        ensures within { OnOk result (IsWithin net.now self.new) }
+    {
+        // For the proof: the clauses speak of the network's curves.
+        let _ = net;
+        self.close()?;
+        self.done.push(None)?;
+        Ok(())
+    }
+
+    // A link has a state.
+    fn add_state(&mut self, net: &Network, link: LinkId, state: State) -> Result<(), AllocError>
+        requires within { IsWithin net.now self.old }
+        requires fits { Fits net.now (seen_draft net.now self.old) (OfLink link state) }
+        ensures draft { OnOk result (seen_draft net.now self.new ≡ drafted net.now (seen_draft net.now self.old) (OfLink link state)) }
+        ensures within { OnOk result (IsWithin net.now self.new) }
+    {
+        // For the proof: links are few.
+        let _ = net.version();
+        self.close()?;
+        self.next_state = link.0 + 1;
+        self.states.set(link, Some(state));
+        Ok(())
+    }
+
+    // The last line is read.
+    fn add_end(&mut self, net: &Network) -> Result<(), AllocError>
+        requires { IsWithin net.now self.old }
+        ensures draft { OnOk result (seen_draft net.now self.new ≡ drafted net.now (seen_draft net.now self.old) End) }
+        ensures within { OnOk result (IsWithin net.now self.new) }
+    {
+        // For the proof: the clauses speak of the network's curves.
+        let _ = net;
+        self.close()?;
+        self.stage = Stage::End;
+        Ok(())
+    }
+
+    /// Adds what a line says.
+    pub fn add(&mut self, alloc: Global, net: &Network, entry: &Entry) -> Result<(), AllocError>
+        requires within { IsWithin net.now self.old }
+        requires fits { Fits net.now (seen_draft net.now self.old) entry.now }
+        ensures draft { OnOk result (seen_draft net.now self.new ≡ drafted net.now (seen_draft net.now self.old) entry.now) }
+        ensures within { OnOk result (IsWithin net.now self.new) }
+    {
+        match entry {
+            Entry::Version => self.stage = Stage::Horizon,
+            Entry::Horizon(horizon) => {
+                self.horizon = *horizon;
+                self.stage = Stage::Reached;
+            }
+            Entry::Reached(reached) => {
+                self.reached = *reached;
+                self.stage = Stage::Cause;
+            }
+            Entry::Cause(stop) => {
+                self.stop = *stop;
+                self.stage = Stage::Body;
+            }
+            Entry::OfCurve(opening, point) => return self.add_point(alloc, net, *opening, point),
+            Entry::Never => return self.add_never(net),
+            Entry::OfLink(link, state) => return self.add_state(net, *link, *state),
+            Entry::End => return self.add_end(net),
+        }
+        Ok(())
+    }
+}

@@ -1,0 +1,34 @@
+// Why a report is refused.
+ghost use Rattle.std.specs.Prelude.{◌≡◌};
+ghost use Rattle.nf_report_file.specs.declared.fault.ReportFault.TheVariants as ReportFault;
+
+use nf_readings::ReportRule;
+use std::alloc::{AllocError, AllocFailed};
+use thiserror::Error;
+
+/// Why a text is no report.
+#[derive(Clone, Copy, Debug, PartialEq, Eq, Error)]
+pub enum ReportFault {
+    /// This rule is the first that is broken, seen in this line; 0 stands for the file as a whole.
+    #[error("line {line} breaks {rule:?}")]
+    Broken { rule: ReportRule, line: u32 },
+    /// Memory is wanting.
+    #[error("memory is wanting")]
+    Memory,
+}
+
+impl From<AllocError> for ReportFault {
+    ghost from_gives = { λ _ fault. fault ≡ ReportFault.Memory };
+
+    fn from(_: AllocError) -> Self {
+        ReportFault::Memory
+    }
+}
+
+impl<T: Drop> From<AllocFailed<T>> for ReportFault {
+    ghost from_gives = { λ _ fault. fault ≡ ReportFault.Memory };
+
+    fn from(_: AllocFailed<T>) -> Self {
+        ReportFault::Memory
+    }
+}

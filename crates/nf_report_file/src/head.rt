@@ -1,0 +1,97 @@
+// The lines of a report's head.
+ghost use Rattle.std.specs.Prelude.{◌≡◌, ◌<◌, length, drop};
+ghost use Rattle.std.specs.Str.{bytes_eq};
+ghost use Rattle.nf_numerals.specs.Digits.{digits_of};
+ghost use Rattle.nf_formats.specs.Named.{Named};
+ghost use Rattle.nf_readings.specs.ReportLines as lines;
+ghost use Rattle.nf_readings.specs.ReportLines.{ReportDraft, is_version as is_version_by, number_alone, horizon_line, reached_line, cause_line};
+ghost use Rattle.nf_report_file.specs.Drafts.{seen_draft};
+ghost use Rattle.nf_report_file.specs.Entries.{said_by};
+
+use crate::causes::read_cause;
+use crate::draft::Draft;
+use crate::numbers::read_number;
+use nf_curve::Stop;
+use nf_frac::{Q, TextBuf};
+use nf_net::Network;
+use nf_numerals::write_count;
+use nf_readings::ReportRule;
+use nf_text::{ReadLine, is_word};
+
+// A word is the network's version.
+fn is_number(word: &[u8], number: u64) -> bool
+    ensures { result ≡ bytes_eq word.now (digits_of number) }
+{
+    let mut text = TextBuf::new();
+    write_count(number, &mut text);
+    is_word(word, text.text())
+}
+
+/// Whether a line is `report`, with the version of the network.
+pub fn is_version(net: &Network, line: &ReadLine) -> bool
+    ensures { result ≡ is_version_by net.now line.now.words }
+{
+    line.len() == 2
+        && is_word(line.at(0), b"report")
+        && is_number(line.at(1), u64::from(net.version()))
+}
+
+// The number of a line of two words.
+fn second_number(line: &ReadLine) -> Result<Q, ReportRule>
+    requires { 0 < length line.now.words }
+    ensures { result ≡ number_alone (drop 1 line.now.words) }
+{
+    if line.len() != 2 {
+        return Err(ReportRule::P6);
+    }
+    read_number(line.at(1))
+}
+
+/// The number of the line `horizon`; or P5, P6, P8 or P10, the first in this order.
+pub fn read_horizon(line: &ReadLine) -> Result<Q, ReportRule>
+    requires { 0 < length line.now.words }
+    ensures { (draft : ReportDraft) → horizon_line draft line.now.words ≡ said_by (λ horizon. record draft { stage = lines.AtReached; horizon = horizon }) result }
+{
+    if !is_word(line.at(0), b"horizon") {
+        return Err(ReportRule::P5);
+    }
+    let horizon = second_number(line)?;
+    if horizon.is_below(Q::zero()) {
+        return Err(ReportRule::P10);
+    }
+    Ok(horizon)
+}
+
+impl Draft {
+    /// The number of the line `reached`; or P5, P6, P8 or P10, the first in this order.
+    pub fn read_reached(&self, line: &ReadLine) -> Result<Q, ReportRule>
+        requires { 0 < length line.now.words }
+        ensures { (n : Named) → reached_line (seen_draft n self.now) line.now.words
+            ≡ said_by (λ reached. record (seen_draft n self.now) { stage = lines.AtCause; reached = reached }) result }
+    {
+        if !is_word(line.at(0), b"reached") {
+            return Err(ReportRule::P5);
+        }
+        let reached = second_number(line)?;
+        if reached.is_below(Q::zero()) || self.horizon.is_below(reached) {
+            return Err(ReportRule::P10);
+        }
+        Ok(reached)
+    }
+
+    /// Why the run stopped, by the line `cause`; or P5, P6, P8, P9 or P10, the first in this order.
+    pub fn read_stop(&self, line: &ReadLine) -> Result<Option<Stop>, ReportRule>
+        requires { 0 < length line.now.words }
+        ensures { (n : Named) → cause_line (seen_draft n self.now) line.now.words
+            ≡ said_by (λ stop. record (seen_draft n self.now) { stage = lines.InBody; stop = stop }) result }
+    {
+        if !is_word(line.at(0), b"cause") {
+            return Err(ReportRule::P5);
+        }
+        let stop = read_cause(line)?;
+        if stop.is_none() != self.reached.is_same(self.horizon) {
+            return Err(ReportRule::P10);
+        }
+        Ok(stop)
+    }
+}

@@ -1,9 +1,0 @@
-use Rattle.std.proofs.Common.{length}
-use Rattle.nf_work.specs.Passing.{passes_Q}
-use Rattle.nf_check_lists.specs.CheckList.{inflow_rule}
-use Rattle.nf_curve.specs.Flows.{flow_of}
-use Rattle.nf_rules.proofs.Looping.{LeftBelow}
-use Rattle.nf_rules.proofs.inflows.check_inflows.Given as goal
-
-abbrev pub invariant-loop-number : goal.invariant-loop-number
-invariant-loop-number l = LeftBelow (inflow_rule passes_Q l.net.net (flow_of l.flow)) (length l.net.net.links) l.number

@@ -1,9 +1,0 @@
-use Rattle.nf_work.specs.Passing.{passes_Q}
-use Rattle.nf_check_lists.specs.CheckList.{loading}
-use Rattle.nf_curve.specs.Flows.{flow_of}
-use Rattle.nf_rules.specs.Kept.{curves_of, loadings_of}
-use Rattle.nf_rules.proofs.Looping.{FrontLinks}
-use Rattle.nf_rules.proofs.loads.load_links.Given as goal
-
-abbrev pub invariant-loop-number : goal.invariant-loop-number
-invariant-loop-number l = FrontLinks (loading passes_Q l.net.net (flow_of l.flow) (curves_of l.labels)) l.net.net.links l.number (loadings_of l.loaded.items)
