@@ -64,7 +64,7 @@ impl Sent {
         })
     }
 
-    // The same, where the exits by departure are known in short form.
+    // What is compared, where the exits by departure are known in short form.
     #[tactic(auto, unfolding(crate::specs::Sent::known_list))]
     fn by_exits(
         alloc: Global,

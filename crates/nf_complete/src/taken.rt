@@ -31,7 +31,7 @@ fn takes(
     is_level(net, slopes, link)
 }
 
-// It takes its slope of some link.
+// The node takes its slope of some link.
 fn is_taken(net: &Network, sets: &LinkSets, flows: &[Q], slopes: &[Q], node: NodeId) -> bool
     requires sets { length sets.now.active ≡ length net.now.net.links }
     requires flows { length flows.now ≡ length net.now.net.links }

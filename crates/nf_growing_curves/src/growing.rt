@@ -181,14 +181,14 @@ impl GrowingCurve {
         }
     }
 
-    /// It goes on with the slope with which it came to its last point.
+    /// Whether the curve would go on with the slope with which it came to its last point.
     pub(crate) fn goes_on(&self, slope: Q) -> bool
         ensures { result ≡ goes_on_by self.now.grown.slope slope }
     {
         goes_on_from(self.slope(), slope)
     }
 
-    /// It goes on to a point, with this slope.
+    /// The curve goes on to a point, with this slope.
     pub(crate) fn go_on(&mut self, time: Q, value: Q, slope: Q)
         requires room { HasRoom self.old }
         requires later { end_of self.old.grown.points <ℚ time }

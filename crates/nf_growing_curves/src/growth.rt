@@ -49,7 +49,7 @@ pub fn reserve_labels(curves: &mut [GrowingCurve]) -> Result<(), AllocError>
     Ok(())
 }
 
-/// The same of the curves of links.
+/// Afterwards there is room for one more corner of each curve of each link. The curves stay, also where memory is wanting.
 pub fn reserve_links(curves: &mut [LinkCurves]) -> Result<(), AllocError>
     ensures same { all_grown curves.new ≡ all_grown curves.old }
     ensures room { OnOk result (AllHaveRoom curves.new) }
@@ -156,7 +156,7 @@ impl FinishedLinks {
     }
 }
 
-/// Those of all links. Refused only where memory is wanting.
+/// The finished curves of all links. Refused only where memory is wanting.
 pub fn finish_links(alloc: Global, growing: Vec<LinkCurves>) -> Result<FinishedLinks, AllocError>
     ensures inflows { IfOk result (λ links. map trace_of links.inflows.items ≡ map (λ c. c.inflow) (all_grown growing.items)) }
     ensures outflows { IfOk result (λ links. map trace_of links.outflows.items ≡ map (λ c. c.outflow) (all_grown growing.items)) }

@@ -28,7 +28,7 @@ pub fn amounts(alloc: Global, curves: &[LinkCurves]) -> Result<Vec<Q>, AllocErro
     Ok(amounts)
 }
 
-// Those of one link, with these labels of departure 0.
+// The first curves of one link, with these labels of departure 0.
 fn first_of(alloc: Global, link: &Link, labels: &[Q]) -> Result<LinkCurves, AllocError>
     requires tail { link.now.tail < length labels.now }
     requires head { link.now.head < length labels.now }

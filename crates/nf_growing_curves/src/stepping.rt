@@ -143,7 +143,7 @@ fn link_step(length: Q, so_far: Q, link: &LinkPhase) -> Result<LinkStep, PassedA
     })
 }
 
-// The same of the link of a number.
+// One phase more of the link of a number.
 fn step_of(
     net: &Network,
     sets: &LinkSets,

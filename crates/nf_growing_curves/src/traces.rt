@@ -107,7 +107,7 @@ impl GrowingTrace {
         self.curve.value()
     }
 
-    /// It goes on to a point, at this rate.
+    /// The trace goes on to a point, at this rate.
     pub(crate) fn go_on(&mut self, time: Q, amount: Q, rate: Q)
         requires room { HasRoom self.old }
         requires later { end_of self.old.grown.points <ℚ time }
@@ -119,7 +119,7 @@ impl GrowingTrace {
         self.curve.go_on(time, amount, rate);
     }
 
-    /// It goes on until the label of its node: to this amount, at this rate. No rate: the label stands still.
+    /// The trace goes on until the label of its node: to this amount, at this rate. No rate: the label stands still.
     pub(crate) fn pass(&mut self, label: Q, amount: Q, rate: Option<Q>)
         requires room { HasRoom self.old }
         requires later { IsSome rate → end_of self.old.grown.points <ℚ label }

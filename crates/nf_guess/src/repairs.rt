@@ -108,7 +108,7 @@ fn loosen_link(
     change(net, sets, pattern, link, State::Full)
 }
 
-// The same of all Tight links; whether one changes.
+// Repairs each Tight link that breaks its inequalities; whether one changes.
 fn loosen(net: &Network, sets: &LinkSets, values: &[Q], pattern: &mut Pattern) -> bool
     requires { IsPatternIn net.now.net sets.now pattern.old }
     ensures { IsPatternIn net.now.net sets.now pattern.new }

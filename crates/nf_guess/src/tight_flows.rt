@@ -162,7 +162,7 @@ fn put_flow(
     Ok(())
 }
 
-// The same of all active links, in link order.
+// Puts the flow of each active link, in link order.
 fn put_flows(
     net: &Network,
     sets: &LinkSets,

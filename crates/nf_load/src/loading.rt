@@ -60,7 +60,7 @@ fn short_curves(
     })
 }
 
-// The same, with the outflow up to one transit time after the time `until`.
+// The curves of a loaded link, with the outflow up to one transit time after the time `until`.
 fn curves_until(
     alloc: Global,
     transit: Q,

@@ -106,7 +106,7 @@ fn active_left(
     Ok(flags)
 }
 
-// Those that are resetting, or as if.
+// The links that are resetting, or are taken as resetting since their state is forced to be Full.
 fn resetting_left(
     alloc: Global,
     forced: &Pattern,

@@ -50,7 +50,7 @@ fn unit(leaves: bool, enters: bool) -> Q
     }
 }
 
-// The same at a node for the ends of a link.
+// 1 where the link leaves the node, -1 where it enters it, else (and for both) 0.
 fn leaves_less_enters(link: Link, node: NodeId) -> Q
     ensures { result ≡ leaves_less_enters_of (Some link) node }
 {

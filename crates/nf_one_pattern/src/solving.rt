@@ -18,7 +18,7 @@ use nf_pattern::Pattern;
 /// The most unknowns of a table that is solved without memory.
 pub const MOST_UNKNOWNS: u32 = 32;
 
-// The same on a grid of this size. Not inlined, so that no call makes room for a larger grid than it uses.
+// Solves the table on a grid of this size. Not inlined, so that no call makes room for a larger grid than it uses.
 #[inline(never)]
 fn solve_on<const N: usize>(
     count: u32,

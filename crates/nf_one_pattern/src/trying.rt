@@ -26,18 +26,18 @@ use std::alloc::{AllocError, Global};
 /// What comes of a pattern, where its flows and labels are written into slices.
 #[derive(Clone, Copy, Debug, PartialEq, Eq)]
 pub enum Tried {
-    /// It is accepted, with the flows and labels in the slices.
+    /// The pattern is accepted, with the flows and labels in the slices.
     Accepted,
-    /// It is not solvable.
+    /// The pattern is not solvable.
     NotSolvable,
 }
 
 /// What comes of a pattern, with its flows and slopes.
 #[derive(Drop)]
 pub enum Outcome {
-    /// It is accepted: flows of the links, and slopes of the nodes.
+    /// The pattern is accepted: flows of the links, and slopes of the nodes.
     Accepted { flows: Vec<Q>, slopes: Vec<Q> },
-    /// It is not solvable.
+    /// The pattern is not solvable.
     Refused,
 }
 

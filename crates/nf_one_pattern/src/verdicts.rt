@@ -95,7 +95,7 @@ fn judge_link(
     Ok(is_not_negative(flow) && keeps_state(state, bound, flow, tail_slope, head_slope))
 }
 
-// The same of the link of a number.
+// Whether the link of a number keeps its inequalities.
 fn judge(
     net: &Network,
     pattern: &Pattern,

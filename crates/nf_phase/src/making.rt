@@ -55,7 +55,7 @@ impl Run {
         Ok(())
     }
 
-    // The same, where the phase may be the rest of one that was cut short: then the last pattern stays.
+    // The run goes on by a phase that may be the rest of one that was cut short: then the last pattern stays.
     pub(crate) fn go_on_by(
         &mut self,
         alloc: Global,

@@ -63,7 +63,7 @@ fn after_link(
     to_zero(are_opposite(slack, change), least, slack, change)
 }
 
-// The same of the link of a number.
+// After how long the link of a number changes sides, if that is before the least length so far.
 fn after(
     net: &Network,
     slacks: &[Q],

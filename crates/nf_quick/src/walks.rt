@@ -63,7 +63,7 @@ fn put_spent(spent: &mut Vec<u32>, node: NodeId, count: u32)
     spent[node.index()] = count;
 }
 
-// The same, where it is kept of each node how many of the first links are spent.
+// The first link with flow out of a node, where it is kept of each node how many of the first links are spent.
 fn next_out(net: &Network, node: NodeId, flows: &[Q], spent: &mut Vec<u32>) -> Option<LinkId>
     requires flows { length flows.now ≡ length net.now.net.links }
     requires node { node < length spent.old.items }

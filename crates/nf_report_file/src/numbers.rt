@@ -32,7 +32,7 @@ fn any_number(word: &[u8]) -> Option<Q>
     }
 }
 
-// The same, where nearly all words take a shorter way: their parts have at most 64 bits.
+// The number that a word is the printed form of, where nearly all words take a shorter way: their parts have at most 64 bits.
 fn printed_number(word: &[u8]) -> Option<Q>
     ensures { result ≡ number_by word.now }
 {

@@ -86,7 +86,7 @@ fn is_some(flow: &Q) -> bool
     0 < flow.numer()
 }
 
-// It can be gone, with this flow on the link.
+// The step can be gone, with this flow on the link.
 #[tactic(auto, using(crate::proofs::Signs::less_by_order))]
 pub(crate) fn can_go(forward: bool, capacity: &Option<Q>, flow: &Q) -> bool
     ensures { result ≡ can_go_by forward capacity.now flow.now }

@@ -163,7 +163,7 @@ impl Ways {
         are_before
     }
 
-    // It has fewer steps, or comes before the other.
+    // A way with this step more has fewer steps than the other, or as many and comes before it.
     fn are_fewer_or_before(&self, way: usize, step: Step, other: usize) -> bool
         requires way { way < length self.now }
         requires other { other < length self.now }
@@ -178,7 +178,7 @@ impl Ways {
         }
     }
 
-    // It comes before the other, with this length.
+    // A way with this step more, of this length, comes before the other.
     fn is_better(&self, way: usize, step: Step, distance: &Length, other: usize) -> bool
         requires way { way < length self.now }
         requires other { other < length self.now }

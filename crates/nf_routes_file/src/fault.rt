@@ -54,7 +54,7 @@ pub enum LineFault {
 }
 
 impl LineFault {
-    /// The same, in the line of this number.
+    /// Why the file is refused, in the line of this number.
     pub fn in_line(self, line: u32) -> RoutesFault
         ensures { result ≡ fault_in_line line self }
     {

@@ -28,7 +28,7 @@ fn may_follow(links: &[LinkId], taken: &[LinkId], link: LinkId) -> bool
     true
 }
 
-// The same, on all routes.
+// Wherever the link stands on one of the routes, the one right before it was taken.
 fn may_follow_all(routes: &[Route], taken: &[LinkId], link: LinkId) -> bool
     ensures { result ≡ list_all (λ p. not (p.1 == link) || is_taken_by taken.now p.0) (all_pairs (routes_of routes.now)) }
 {

@@ -21,7 +21,7 @@ pub fn equilibrium_is_answered_yes()
     ensures { EquilibriumIsAnsweredYes }
 {}
 
-/// It answers yes for the report of a phase run of the network.
+/// A checker answers yes for the report of a phase run of the network.
 pub fn run_is_answered_yes()
     ensures { RunIsAnsweredYes }
 {}

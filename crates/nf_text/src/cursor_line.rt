@@ -52,7 +52,7 @@ impl<'a> ReadLine<'a> {
         self.line_number
     }
 
-    /// It is its words joined by single spaces and ended by LF.
+    /// Whether the line is its words joined by single spaces and ended by LF.
     pub fn is_plain(&self) -> bool
         ensures { result ≡ self.now.plain }
     {

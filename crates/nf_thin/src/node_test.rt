@@ -76,7 +76,7 @@ fn with_link(
     }
 }
 
-// The same of all links.
+// What all links send out of a node beyond what they bring to it lies in this range.
 fn surplus_range(
     net: &Network,
     sets: &LinkSets,
