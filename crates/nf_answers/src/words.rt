@@ -38,7 +38,7 @@ pub(crate) fn link_word(net: &Network, link: LinkId) -> &[u8]
     ensures { result.now ≡ name_at net.now.link_names link }
 {
     // For the proof: a network's names are those of its links.
-    let _named = net.version();
+    net.recall();
     if link.0 < net.link_count() {
         net.link_name(link).as_bytes()
     } else {
@@ -51,7 +51,7 @@ pub(crate) fn node_word(net: &Network, node: NodeId) -> &[u8]
     ensures { result.now ≡ name_at net.now.node_names node }
 {
     // For the proof: a network's names are those of its nodes.
-    let _named = net.version();
+    net.recall();
     if node.0 < net.node_count() {
         net.node_name(node).as_bytes()
     } else {

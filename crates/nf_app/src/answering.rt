@@ -47,7 +47,7 @@ fn solve_to(alloc: Global, net: &Network, horizon: Q, budgets: Budgets) -> Resul
     ensures { (shelf : Visit) (file : List ℕ) → IsGiving shelf net.now (Solve file horizon budgets.phases budgets.patterns) result }
 {
     // For the proof: the network is that of an accepted file, and the parts of the horizon are within the bound.
-    let _ = net.version();
+    net.recall();
     let _ = horizon.numer();
     let _ = horizon.denom();
     let solution = solve(alloc, net, horizon, budgets)?;
@@ -59,7 +59,7 @@ fn solve_on(alloc: Global, net: &Network, budgets: Budgets) -> Result<Found, Ref
     ensures { (shelf : Visit) (file : List ℕ) → IsGiving shelf net.now (SolveForever file budgets.phases budgets.patterns) result }
 {
     // For the proof: the network is that of an accepted file.
-    let _ = net.version();
+    net.recall();
     let forever = solve_forever(alloc, net, budgets)?;
     Ok(Found::SolvedForever { forever })
 }
@@ -76,7 +76,7 @@ fn sum_up(
     ensures { (shelf : Visit) → IsGiving shelf net.now (Gen ladder.number ladder.rungs horizon budgets.phases budgets.patterns) result }
 {
     // For the proof: the network is that of an accepted file.
-    let _ = net.version();
+    net.recall();
     let solution = solve(alloc, net, horizon, budgets)?;
     let (_, arrival) = last_label(&solution.flow, net.sink());
     Ok(Found::Generated {
@@ -102,7 +102,7 @@ fn load_to(alloc: Global, net: &Network, loads: &[u8], horizon: Q) -> Result<Fou
     ensures { (shelf : Visit) (file name : List ℕ) → IsLastText shelf (loads_file name) loads.now → IsGiving shelf net.now (Load file name horizon) result }
 {
     // For the proof: the network is that of an accepted file.
-    let _ = net.version();
+    net.recall();
     let loads = parse_loads(alloc, net, loads)?;
     let links = load_links(alloc, net, &loads, horizon)?;
     Ok(Found::Loaded { horizon, links })
@@ -114,7 +114,7 @@ fn check_report(alloc: Global, net: &Network, text: &[u8]) -> Result<Found, Refu
     ensures { (shelf : Visit) (file name : List ℕ) → IsLastText shelf (report_file name) text.now → IsGiving shelf net.now (Check file name) result }
 {
     // For the proof: the network is that of an accepted file.
-    let _ = net.version();
+    net.recall();
     let report = parse_report(alloc, net, text)?;
     let verdict = check(alloc, net, &report.flow)?;
     Ok(Found::Checked { verdict })
@@ -158,7 +158,7 @@ fn resume_to(
         → IsGiving shelf net.now (Resume file name horizon budgets.phases budgets.patterns) result }
 {
     // For the proof: the network is that of an accepted file, and the parts of the horizon are within the bound.
-    let _ = net.version();
+    net.recall();
     let _ = horizon.numer();
     let _ = horizon.denom();
     let report = parse_report(alloc, net, text)?;
@@ -322,7 +322,7 @@ fn answer_request<S: Shelf>(
 {
     let (net, other) = gather(alloc, request, shelf)?;
     // For the proof: the network is that of an accepted file.
-    let _ = net.version();
+    net.recall();
     with_net(find(alloc, request, &net, &other), net)
 }
 

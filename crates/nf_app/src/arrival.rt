@@ -48,7 +48,7 @@ fn arrival_at(alloc: Global, net: &Network, departs: Q) -> Result<Arrival, Alloc
     ensures { IfOk result (ArrivesIn net.now.net departs) }
 {
     // For the proof: a network has its source among its nodes.
-    let _named = net.version();
+    net.recall();
     let budgets = usual_budgets();
     let solution = solve(alloc, net, departs, budgets)?;
     match solution.stopped.as_ref() {

@@ -33,7 +33,7 @@ pub(crate) fn settle_at_start(
     ensures { SettlesAtStart net.now.net (given_of flows.now) result }
 {
     // For the proof: the network is that of an accepted file.
-    let _ = net.version();
+    net.recall();
     let sets = start_sets(alloc, net)?;
     let rate = net.rate_at(Q::zero());
     if !is_thin(net, &sets, rate, &flows.flows, &flows.slopes)? {

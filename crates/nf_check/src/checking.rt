@@ -114,7 +114,7 @@ pub fn check(alloc: Global, net: &Network, flow: &Flow) -> Result<Answer, Halt<Q
     ensures exact { IfOk result (λ answer. IsExact net.now.net (flow_of flow.now) answer) }
 {
     // For the proof: the network is a good one, and the points of the flow make curves.
-    let _ = net.version();
+    net.recall();
     know_curves(&flow.labels);
     know_traces(&flow.inflows);
     know_traces(&flow.outflows);

@@ -53,7 +53,7 @@ impl Draft {
         ensures places { IfOk result (λ draft. HasPlaces net.now draft) }
     {
         // For the proof: each link and each node has a name.
-        let _ = net.version();
+        net.recall();
         Ok(Draft {
             flows: vec![in alloc; None; net.link_count() as usize]?,
             slopes: vec![in alloc; None; net.node_count() as usize]?,

@@ -69,7 +69,7 @@ pub fn parse_flows(alloc: Global, net: &Network, text: &[u8]) -> Result<Flows, F
     ensures nodes { IfOk result (λ flows. length flows.slopes.items ≡ net.now.net.nodes) }
 {
     // For the proof: each link and each node has a name.
-    let _ = net.version();
+    net.recall();
     let lines = match contents(alloc, text) {
         Ok(lines) => lines,
         Err(fault) => return Err(FlowsFault::from(fault)),

@@ -115,7 +115,7 @@ pub fn solve_forever(alloc: Global, net: &Network, budgets: Budgets) -> Result<F
     ensures never_no_pattern { IfOk result (λ f. NeverNoPattern f.stopped) }
 {
     // For the proof: the network is that of an accepted file.
-    let _ = net.version();
+    net.recall();
     let mut run = Run::start(alloc, net)?;
     let end = go(&mut run, alloc, net, budgets)?;
     outcome(alloc, &run, end)

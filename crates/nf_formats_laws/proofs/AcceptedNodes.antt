@@ -82,9 +82,6 @@ module _ (draft : Draft) (g : IsGoodDraft draft) (fine : AllByRecursion (λ rule
   abbrev t : Name
   t = sink_name draft
 
-  abbrev active : List NamedLink
-  active = marked flags draft.links
-
   -- its tail is reached
   abbrev Reached : NamedLink → Type 0
   Reached l = IsReached draft (place_of draft.nodes l.tail)

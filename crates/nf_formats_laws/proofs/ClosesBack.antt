@@ -65,16 +65,10 @@ module _ (n : Named) (h : IsNamed n) where
   sink_is = place_again n.node_names n.idle_nodes h.node_names.distinct 1 sink_below ∙ sym h.numbered.sink
 
   -- ---- the hops of the network are the first of all
-  idle_hops : List Hop
-  idle_hops = hops_among (all_nodes n) n.idle_links
-
   split_hops : all_hops n ≡ hops n.net ++ hops_among (all_nodes n) n.idle_links
   split_hops = map-append (λ l. hop_of (numbered (all_nodes n) l)) (active_links n) n.idle_links
       ∙ ap (λ first. first ++ hops_among (all_nodes n) n.idle_links)
       (map_numbered n.node_names n.idle_nodes h.node_names.distinct hop_of n.link_names n.net.links h.numbered.links below)
-
-  joined_hops : List Hop
-  joined_hops = hops n.net ++ hops_among (all_nodes n) n.idle_links
 
   -- a walk of the network is one along all hops
   to_all : (e : ℕ) (hop : Hop) → IsHop (hops n.net) e hop → Unit {0} → Corresponds (all_hops n) (λ v. v) (λ v. Unit {0}) hop
@@ -99,11 +93,6 @@ module _ (n : Named) (h : IsNamed n) where
   head_below e hop is =
       let c : CameFrom hop_of n.net.links e hop = came_from hop_of n.net.links e hop is in
       subst (λ (x : Hop). x.head < n.net.nodes) c.is_image (h.network.heads e c.entry c.is_entry)
-
-  tail_below : (e : ℕ) (hop : Hop) → IsHop (hops n.net) e hop → hop.tail < n.net.nodes
-  tail_below e hop is =
-      let c : CameFrom hop_of n.net.links e hop = came_from hop_of n.net.links e hop is in
-      subst (λ (x : Hop). x.tail < n.net.nodes) c.is_image (h.network.tails e c.entry c.is_entry)
 
   -- a hop that leaves a node of the network is one of the network
   own_hop : (e : ℕ) (hop : Hop) → IsIn (hops n.net) (hops_among (all_nodes n) n.idle_links) e hop → hop.tail < n.net.nodes → IsHop (hops n.net) e hop

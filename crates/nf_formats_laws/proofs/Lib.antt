@@ -2,7 +2,6 @@ pub mod RuleExamples
 pub mod Reaching
 pub mod Settling
 pub mod SomeReading
-pub mod HopFacts
 pub mod ReportFacts
 pub mod WalkFacts
 pub mod LinkFacts

@@ -1,7 +1,7 @@
 -- What the comparisons of fractions in code say: `<`, `<=`, `>`, `>=` and `==`, at fractions and at any type that is ordered by what its values mean.
 use Rattle.std.proofs.Common.{◌≡◌, ◌≢◌, Bool, true, false, not, cond, ◌&&◌, refl, sym, ◌∙◌, ap}
 use Rattle.std.specs.Prelude.{Option, Some}
-use Rattle.std.specs.Ordering.{is_eq, is_lt, is_le, is_gt, is_ge, is_some_and, MatchOrdering, partial_lt, partial_le, partial_gt, partial_ge}
+use Rattle.std.specs.Ordering.{is_eq, is_lt, is_le, is_gt, is_ge, is_some_and, MatchOrdering, partial_lt, partial_le}
 use Rattle.std.specs.declared.cmp.Ordering.{Ordering}
 use Rattle.std.specs.declared.cmp.Ordering.TheVariants.{Less, Equal, Greater}
 use mathlib.Core.Path.{ap₂}
@@ -88,15 +88,6 @@ module _ {K : Type 0} (means : K → ℚ) (partial : K → K → Option Ordering
 
   pub less_by_meaning : (x y : K) → partial_lt partial x y ≡ lt_ℚ (means x) (means y)
   less_by_meaning x y = ap (is_some_and is_lt) (known x y) ∙ lt-cmp (means x) (means y)
-
-  pub at_most_by_meaning : (x y : K) → partial_le partial x y ≡ le_ℚ (means x) (means y)
-  at_most_by_meaning x y = ap (is_some_and is_le) (known x y) ∙ le-cmp (means x) (means y)
-
-  pub more_by_meaning : (x y : K) → partial_gt partial x y ≡ lt_ℚ (means y) (means x)
-  more_by_meaning x y = ap (is_some_and is_gt) (known x y) ∙ gt-cmp (means x) (means y)
-
-  pub at_least_by_meaning : (x y : K) → partial_ge partial x y ≡ le_ℚ (means y) (means x)
-  at_least_by_meaning x y = ap (is_some_and is_ge) (known x y) ∙ ge-cmp (means x) (means y)
 
 -- the lesser of two
 pub lesser_is_second : (x y : ℚ) → lt_ℚ y x ≡ true → y ≡ min_ℚ x y

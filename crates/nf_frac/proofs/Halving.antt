@@ -25,9 +25,6 @@ module _ (n : ℕ) (some : 0 < n) (fits : n < 18446744073709551616) where
   lowest_place : (trailing_zeros w64 n < 64) × (bit_at n (trailing_zeros w64 n) ≡ 1) × ((i : ℕ) → i < trailing_zeros w64 n → bit_at n i ≡ 0)
   lowest_place = bit_at-trailing_zeros w64 n some fits
 
-  pub few_zeros : trailing_zeros w64 n < 64
-  few_zeros = lowest_place.0
-
   pub odd_rest : n / 2 ^ trailing_zeros w64 n % 2 ≡ 1
   odd_rest = lowest_place.1
 

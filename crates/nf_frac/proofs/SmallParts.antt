@@ -48,9 +48,6 @@ narrowed_fits z h = subst (SFits w64) (sym (plain z (within_wide z h))) (fits_64
 pub widened_within : (z : ℤ) → nat_abs z ≤ short → nat_abs (bits_of (bits_64 z)) ≤ greatest
 widened_within z h = subst (λ (y : ℤ). nat_abs y ≤ greatest) (sym (plain_widened z h)) (within_wide z h)
 
-pub wider : {n : ℤ} {d : ℕ} → IsShort n d → InForm n d
-wider {n} {d} h = record { positive = h.positive; small = omega (arith, h.small); small_den = omega (arith, h.small_den); lowest = h.lowest }
-
 pub short_parts : {x : ℚ} {n : ℤ} {d : ℕ} → IsShort n d → ratio n d ≡ x → Parts x n d
 short_parts {x} {n} {d} h e = record {
   num = ap (λ (z : ℚ). z.num) (sym e) ∙ (short_back n d h).0;

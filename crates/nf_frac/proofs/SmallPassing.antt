@@ -28,8 +28,6 @@ module _ (b : ℕ) (x y : ℚ) (pair : ℚ × ℚ) (h : AreSmall b x y pair) whe
   )
 
   module _ (some : y ≢ 0ℚ) where
-    pub small_apart : pair.1 ≢ 0ℚ
-    small_apart e = some (sym h.right ∙ e)
 
     pub small_quotient : (q n : ℚ) → q ≡ pair.0 *ℚ n → n ≡ inv_ℚ pair.1 → IsWithin b (x *ℚ inv_ℚ y) × (q ≡ x *ℚ inv_ℚ y)
     small_quotient q n e f = (

@@ -6,7 +6,7 @@ use lib.Signed.{quot_z}
 use borrow.Author.Differences.{ints}
 use mir.Syntax.{w128}
 use mir.Val.{SFits}
-use native.Mathlib.Nat.{mul-pos, dvd_trans, div-mul_cancel, mul-div_cancel', eq_of_mul-eq-mul_left, mul_comm}
+use native.Mathlib.Nat.{mul-pos, dvd_trans, mul-div_cancel', eq_of_mul-eq-mul_left}
 use Rattle.std.proofs.lemmas.Nat.{mul-le}
 use Rattle.nf_rational.specs.Gcd.{gcd, IsGcd-gcd}
 use Rattle.nf_rational.specs.Rational.{ℚ, ratio, gcd_pos, part_pos}
@@ -99,8 +99,6 @@ module _ (x y : ℚ) (xw : IsWithin short x) (yw : IsWithin short y) (d e g l r 
 
   module _ (s rest f den : ℕ) (q : ℤ) (size : s ≡ nat_abs (bits_of (bits_of a +ℤ bits_of b))) (over : rest ≡ gcd s g)
       (above : q ≡ quot_z (bits_of (bits_of a +ℤ bits_of b)) (pos rest)) (part : f ≡ d / rest) (below : den ≡ f * l) where
-    lcm : ℕ
-    lcm = x.den * left_over x y
 
     size_is : s ≡ nat_abs (sum_over x y)
     size_is = size ∙ ap nat_abs total_plain

@@ -61,9 +61,6 @@ module _ (bits : ℤ → ℤ) (top : ℕ) (plain : (z : ℤ) → nat_abs z ≤ t
         pub n_plain : bits n ≡ n
         n_plain = plain n (omega (arith, n_small))
 
-        pub den_small : den ≤ limit
-        den_small = omega (arith, s.0, s.1)
-
         pub fits : SumFits limit x y
         fits = record {
           denominator = subst (λ (k : ℕ). k ≤ limit) den_is s.0;

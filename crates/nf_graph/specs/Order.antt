@@ -23,9 +23,6 @@ pub record IsCycle (hops : List Hop) (Allowed : ℕ → Type 0) (walk : List ℕ
   pub closed : IsWalk hops walk node node
   pub allowed : (i e : ℕ) → slice_get walk i ≡ Some e → Allowed e
 
-abbrev pub HoldsNoCycle : List Hop → (ℕ → Type 0) → Type 0
-HoldsNoCycle hops Allowed = (walk : List ℕ) → IsCycle hops Allowed walk → ⊥
-
 -- a cycle along chosen links
 abbrev pub IsChosenCycle : List Hop → List Bool → List ℕ → Type 0
 IsChosenCycle hops chosen walk = IsCycle hops (Has chosen) walk

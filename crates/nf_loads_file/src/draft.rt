@@ -43,7 +43,7 @@ impl Draft {
         ensures links { IfOk result (λ draft. HasLinks net.now draft) }
     {
         // For the proof: each link has a name.
-        let _ = net.version();
+        net.recall();
         let mut pieces = Vec::new(alloc);
         for _ in 0..net.link_count() {
             pieces.push(Pieces::new(alloc))?;

@@ -62,7 +62,7 @@ pub fn parse_loads(alloc: Global, net: &Network, text: &[u8]) -> Result<Loads, L
     ensures links { IfOk result (λ loads. length loads ≡ length net.now.net.links) }
 {
     // For the proof: each link has a name.
-    let _ = net.version();
+    net.recall();
     let lines = match contents(alloc, text) {
         Ok(lines) => lines,
         Err(fault) => return Err(LoadsFault::from(fault)),

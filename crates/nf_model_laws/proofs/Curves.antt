@@ -53,11 +53,6 @@ TimesRise-rest [] p rest r = r
 TimesRise-rest (x ∷ []) p rest r = r.1
 TimesRise-rest (x ∷ y ∷ front) p rest r = TimesRise-rest (y ∷ front) p rest r.1
 
-pub TimesRise-front : (front : List (ℚ × ℚ)) (p : ℚ × ℚ) (rest : List (ℚ × ℚ)) → TimesRise (front ++ p ∷ rest) → TimesRise (front ++ p ∷ [])
-TimesRise-front [] p rest r = tt
-TimesRise-front (x ∷ []) p rest r = (r.0, tt)
-TimesRise-front (x ∷ y ∷ front) p rest r = (r.0, TimesRise-front (y ∷ front) p rest r.1)
-
 first_before : (x : ℚ × ℚ) (front : List (ℚ × ℚ)) (p : ℚ × ℚ) (rest : List (ℚ × ℚ)) → TimesRise (x ∷ front ++ p ∷ rest) → x.0 <ℚ p.0
 first_before x [] p rest r = r.0
 first_before x (y ∷ front) p rest r = linear_lt (x.0 ∷ y.0 ∷ p.0 ∷ []) (lt r.0 ∷ lt (first_before y front p rest r.1) ∷ []) (search reading_of depth 12) tt
@@ -110,11 +105,6 @@ pub value-push_piece : (front : List (ℚ × ℚ)) (p q : ℚ × ℚ) (t : ℚ) 
     → value ((front ++ p ∷ []) ++ q ∷ []) t ≡ p.1 +ℚ slope p q *ℚ (t -ℚ p.0)
 value-push_piece front p q t r h k l =
     ap (λ (l : List (ℚ × ℚ)). value l t) (append_one front p q) ∙ value-piece front p q [] t (TimesRise-push front p q r h) k l
-
-pub value-push_after : (front : List (ℚ × ℚ)) (p q : ℚ × ℚ) (t : ℚ) → TimesRise (front ++ p ∷ []) → p.0 <ℚ q.0 → q.0 ≤ℚ t
-    → value ((front ++ p ∷ []) ++ q ∷ []) t ≡ q.1
-value-push_after front p q t r h k =
-    ap (λ (l : List (ℚ × ℚ)). value l t) (append_one front p q) ∙ value-rest front p (q ∷ []) t (TimesRise-push front p q r h) (≤ℚ_trans _ _ _ (≤ℚ_of_lt _ _ h) k) ∙ value-after p q [] t k
 
 -- a point on the line between its neighbours may go
 joined : (p0 p1 q0 q1 r0 r1 n : ℚ) → n *ℚ (q0 -ℚ p0) ≡ q1 -ℚ p1 → n *ℚ (r0 -ℚ q0) ≡ r1 -ℚ q1 → n *ℚ (r0 -ℚ p0) ≡ r1 -ℚ p1
@@ -178,9 +168,6 @@ NeverFalls-value (p ∷ rest) c v s t h k = value-rises p rest s t c.1 v (subst 
 -- the time at which a line through v at s with the slope n, not 0, takes the value y
 line_at : (s v n y q : ℚ) → q *ℚ n ≡ y -ℚ v → v +ℚ n *ℚ ((s +ℚ q) -ℚ s) ≡ y
 line_at s v n y q e = linear_eq (s ∷ v ∷ n ∷ y ∷ q ∷ []) (eq e ∷ []) (search reading_of depth 12) tt tt
-
-line_after : (s t v n y z q : ℚ) → 0ℚ <ℚ n → v ≤ℚ y → q *ℚ n ≡ y -ℚ v → 0ℚ *ℚ n ≤ℚ q *ℚ n
-line_after s t v n y z q h k e = linear_le (v ∷ n ∷ y ∷ q ∷ []) (le k ∷ eq e ∷ []) (search reading_of depth 12) tt
 
 flat_line : (s t v n y z : ℚ) → s ≤ℚ t → n ≤ℚ 0ℚ → z ≡ v +ℚ n *ℚ (t -ℚ s) → y ≤ℚ z → v ≤ℚ y → v ≡ y
 flat_line s t v n y z h k e l m =

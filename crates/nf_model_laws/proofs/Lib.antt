@@ -11,7 +11,6 @@ pub mod EarliestWalks
 pub mod Earliest
 pub mod EarliestTransits
 pub mod Exists
-pub mod Pushed
 pub mod Supply
 pub mod Slacks
 pub mod Sums

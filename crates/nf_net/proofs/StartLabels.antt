@@ -1,12 +1,10 @@
 -- The labels of departure 0.
-use Rattle.std.proofs.Common.{◌≡◌, ℕ, zero, suc, ◌<◌, false, true, List, [], ◌∷◌, length, map, slice_get, Option, Some, None, refl, sym, ◌∙◌, ap, subst, arith}
+use Rattle.std.proofs.Common.{◌≡◌, ℕ, zero, suc, ◌<◌, List, [], ◌∷◌, length, map, slice_get, Option, Some, None, refl, sym, ◌∙◌, ap, subst, arith}
 use Rattle.std.proofs.lemmas.List.{length-map}
 use Rattle.std.proofs.lemmas.Option.{slice_get_within}
 use Rattle.nf_rational.specs.Rational.{ℚ}
 use Rattle.nf_rational.specs.Operations.{0ℚ}
 use Rattle.nf_rational.specs.Order.{◌≤ℚ◌}
-use Rattle.nf_work.specs.Passing.{is_wide, passes_Q}
-use Rattle.nf_work.specs.declared.Op.TheVariants.{Sum}
 use Rattle.nf_model.specs.Entries.{number_at}
 use Rattle.nf_model.specs.Walk.{Hop, IsHop, IsWalk, IsLeastTransit}
 use Rattle.nf_model.specs.Network.{hop_of, hops}
@@ -14,13 +12,8 @@ use Rattle.nf_model.specs.Phases.{AreStartLabels}
 use Rattle.std.specs.Prelude.{Result, Ok, Err, IfOk, Vec}
 use Rattle.std.specs.declared.alloc.AllocError.{AllocError}
 use Rattle.std.specs.declared.alloc.Global.{Global}
-use Rattle.nf_graph.specs.declared.distance.DistanceFault.{DistanceFault}
-use Rattle.nf_graph.specs.declared.distance.DistanceFault.TheVariants.{Passed, Memory}
-use Rattle.nf_graph.specs.Steps.{ForPassed}
-use Rattle.nf_net_file.specs.Closing.{HasFraction}
 use Rattle.nf_graph.specs.Graph.{AreBelow}
-use Rattle.nf_graph.specs.Distances.{NoneNegative, AreDistances, PassesAt}
-use Rattle.nf_formats.specs.Numbers.{greatest}
+use Rattle.nf_graph.specs.Distances.{NoneNegative, AreDistances}
 use Rattle.nf_formats.specs.Named.{Named}
 use Rattle.nf_formats.specs.WellNamed.{IsNamed}
 use Rattle.nf_formats_laws.proofs.WalkFacts.{CameFrom, came_from}
@@ -53,13 +46,6 @@ module _ (n : Named) (h : IsNamed n) (kept : List Hop) (are : kept ≡ hops n.ne
       let walk = h.network.reached v (omega (arith, d.count)) in
       d.none v e walk.0 (subst (λ (hs : List Hop). IsWalk hs walk.0 n.net.source v) (sym are) walk.1)
 
-  pub never_passes : (e : ℕ) (left right : ℚ) → PassesAt kept n.net.source e left right → is_wide greatest left ≡ false → ⊥
-  never_passes e left right given fraction =
-      let p : PassesAt (hops n.net) n.net.source e left right = subst (λ (hs : List Hop). PassesAt hs n.net.source e left right) are given in
-      let fits : passes_Q Sum left p.hop.transit ≡ false = h.sums_fit e p.hop left p.is_hop p.least fraction in
-      let over : passes_Q Sum left p.hop.transit ≡ true = ap (λ (t : ℚ). passes_Q Sum left t) p.transit ∙ p.passes in
-      cc
-
   pub labels_are : (sums : List (Option ℚ)) (labels : List ℚ) → AreDistances n.net.nodes kept n.net.source sums → map (λ q. Some q) labels ≡ sums → AreStartLabels n.net labels
   labels_are sums labels d e = record {
     count = counted;
@@ -74,10 +60,6 @@ module _ (n : Named) (h : IsNamed n) (kept : List Hop) (are : kept ≡ hops n.ne
       at_label [] v lt = absurd (omega arith)
       at_label (x ∷ xs) zero lt = refl
       at_label (x ∷ xs) (suc v) lt = at_label xs v (omega arith)
-
-  pub none_passing : (fault : DistanceFault) → ForPassed (PassesAt kept n.net.source) fault → HasFraction fault → ⊥
-  none_passing (Passed link left right) p fraction = never_passes link left right p fraction
-  none_passing Memory p fraction = fraction
 
   pub labels_by_sums : (sums : List (Option ℚ)) (r : Result (Vec ℚ Global) AllocError) → AreDistances n.net.nodes kept n.net.source sums
       → IfOk r (λ numbers. map (λ q. Some q) numbers.items ≡ sums) → IfOk r (λ labels. AreStartLabels n.net labels.items)

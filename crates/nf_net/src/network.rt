@@ -94,10 +94,16 @@ impl Network {
 
     /// 1 or 2: the version of its file's format.
     pub fn version(&self) -> u32
-        ensures value { result ≡ self.now.version }
-        ensures named { IsNamed self.now }
+        ensures { result ≡ self.now.version }
     {
         self.version
+    }
+
+    /// What holds of every network, for proofs: it is named as that of an accepted file is. The call does nothing.
+    pub fn recall(&self)
+        ensures { IsNamed self.now }
+    {
+        let _ = &self.version;
     }
 
     /// How many nodes it has, without idle ones.

@@ -19,9 +19,6 @@ use Rattle.nf_formats.specs.NetLines.{Broken, Draft, empty_draft, add_line, add_
 use Rattle.nf_net_file.specs.declared.fault.NetFault.{NetFault}
 use Rattle.nf_net_file.specs.Contents.{contents, AddsContent, AreLinesWithin, IfBroken, IsFirstContent}
 
-then_lines : Result Draft Broken → List ReadLine → Result Draft Broken
-then_lines r rest = r >>= λ next. add_lines next rest
-
 -- lines are added in two parts
 pub add_lines-append : (draft : Draft) (xs ys : List ReadLine) → add_lines draft (xs ++ ys) ≡ (add_lines draft xs >>= λ next. add_lines next ys)
 add_lines-append draft [] ys = refl
@@ -58,12 +55,7 @@ module _ (text : List ℕ) (draft : Draft) (lines : List Line) (i : ℕ) (line :
   pub line_breaks : (broken : Broken) → AddsContent text line draft (Err broken) → add_lines draft (contents text (drop i lines)) ≡ Err broken
   line_breaks broken h = from_line ∙ cons_step text draft line (drop (i + 1) lines) (Err broken) h
 
--- a line without words, and one with words
-pub no_words : (text : List ℕ) (draft : Draft) (line : Line) → length line.words.items ≡ 0 → AddsContent text line draft (Ok draft)
-no_words text draft line e =
-    ap (λ (b : Bool). add_lines draft (cond (not b) (seen_line text line ∷ []) []))
-    (ap (λ (n : ℕ). eqb n 0) (length-map line.words.items (text_of text) ∙ e))
-
+-- a line with words
 not_none : (n : ℕ) → 0 < n → eqb n 0 ≡ false
 not_none n lt = grind (arith, nat_tests)
 

@@ -7,7 +7,7 @@ use Rattle.nf_formats.specs.declared.NetRule.{NetRule}
 use Rattle.nf_formats.specs.declared.NetRule.TheVariants.{N5, N6, N7, N8}
 use Rattle.nf_formats.specs.Names.{Name, is_name}
 use Rattle.nf_formats.specs.Numbers.{number_in, capacity_in}
-use Rattle.nf_formats.specs.NetLines.{Entry, node_line, link_entry, link_line, inflow_entry, inflow_line, end_line, entry_of, Source, Sink, End}
+use Rattle.nf_formats.specs.NetLines.{Entry, node_line, link_entry, link_line, inflow_entry, inflow_line, end_line, entry_of, Sink, End}
 use Rattle.nf_net_file.specs.Reading.{said_by}
 use Rattle.nf_net_file.specs.Words.{word_at}
 
@@ -155,9 +155,6 @@ module _ (version : ℕ) (words : List (List ℕ)) (key : List ℕ) (some : 0 < 
       first : (words : List (List ℕ)) → 0 < length words → key ≡ word_at words 0 → entry_of version words ≡ entry_of version (key ∷ drop 1 words)
       first [] some e = absurd (omega arith)
       first (word ∷ rest) some e = ap (λ (word : List ℕ). entry_of version (word ∷ rest)) (sym e)
-
-  pub source_line : bytes_eq key (codes "source") ≡ true → entry_of version words ≡ node_line (λ name. Source name) (drop 1 words)
-  source_line t = by_key ∙ cond-true (bytes_eq key (codes "source")) _ _ t
 
   module _ (no_source : bytes_eq key (codes "source") ≡ false) where
     pub sink_line : bytes_eq key (codes "sink") ≡ true → entry_of version words ≡ node_line (λ name. Sink name) (drop 1 words)

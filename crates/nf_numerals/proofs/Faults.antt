@@ -3,7 +3,7 @@ use Rattle.std.proofs.Math.Nat.{one-le-pow}
 use Rattle.std.proofs.Common.{subst, ◌≡◌, ℕ, zero, suc, ◌+◌, ◌*◌, ◌^◌, ◌<◌, ◌≤◌, Bool, true, false, not, ◌||◌, ◌&&◌, cond, List, length, ℤ, pos, refl, sym, ap, ◌∙◌, arith}
 use Rattle.std.specs.Prelude.{◌==◌, nat_lt, nat_abs, neg_ℤ, Ok, Err, Result, IfOk, IfErr}
 use Rattle.std.specs.Str.Parse.{starts_with_minus}
-use Rattle.std.proofs.lemmas.Bool.{or_parts, eqb-false, ltb-false, and_from, or_from, or_left, or_right, ne_eqb, eq-eqb, le-ltb, lt-ltb, not_from_true, cond-true, cond-false}
+use Rattle.std.proofs.lemmas.Bool.{or_parts, eqb-false, ltb-false, and_from, or_from, ne_eqb, le-ltb, not_from_true, cond-true, cond-false}
 use Rattle.nf_numerals.specs.declared.NumberFault.{NumberFault}
 use Rattle.nf_numerals.specs.declared.NumberFault.TheVariants.{Empty, BadDigit, TooWide, ZeroDenominator}
 use Rattle.nf_numerals.specs.Digits.{are_digits, value_of}
@@ -25,17 +25,6 @@ module _ (bound : ℕ) (a b : List ℕ) (n : ℤ) (d : ℕ) (are : AreFields a b
   past_digits =
       cond-false _ _ _ (or_from _ _ (not_zero (length a) are.some_left) (not_zero (length b) are.some_right))
       ∙ cond-false _ _ _ (not_from_true _ (and_from _ _ are.left are.right))
-
-  pub wide_left : (nat_abs n ≤ bound → ⊥) → parts_or_fault bound a b n d ≡ Err TooWide
-  wide_left h = let wide : bound < nat_abs n = omega arith in past_digits ∙ cond-true _ _ _ (or_left _ _ (lt-ltb bound (nat_abs n) wide))
-
-  pub wide_right : (d ≤ bound → ⊥) → parts_or_fault bound a b n d ≡ Err TooWide
-  wide_right h = let wide : bound < d = omega arith in past_digits ∙ cond-true _ _ _ (or_right _ _ (lt-ltb bound d wide))
-
-  pub zero_right : nat_abs n ≤ bound → d ≡ 0 → parts_or_fault bound a b n d ≡ Err ZeroDenominator
-  zero_right fits e =
-      let small : d ≤ bound = omega arith in
-      past_digits ∙ cond-false _ _ _ (or_from _ _ (le-ltb _ _ fits) (le-ltb _ _ small)) ∙ cond-true _ _ _ (eq-eqb d 0 e)
 
   pub parts_read : nat_abs n ≤ bound → d ≤ bound → 0 < d → parts_or_fault bound a b n d ≡ Ok (n, d)
   parts_read fits_n fits_d some = past_digits ∙ cond-false _ _ _ (or_from _ _ (le-ltb _ _ fits_n) (le-ltb _ _ fits_d)) ∙ cond-false _ _ _ (not_zero d some)

@@ -52,7 +52,7 @@ impl Run {
         ensures last { IfOk result (λ run. run.last ≡ last) }
     {
         // For the proof: the network is that of an accepted file.
-        let _ = net.version();
+        net.recall();
         let labels = end_values(alloc, &flow.labels)?;
         let label_curves = restore_labels(alloc, &flow.labels)?;
         let link_curves = restore_links(alloc, &flow.inflows, &flow.outflows, &flow.queues)?;

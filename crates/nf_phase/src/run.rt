@@ -68,7 +68,7 @@ impl Run {
         ensures short { IfOk result (λ run. IsShortFlow net.now.net (flow_of run)) }
     {
         // For the proof: the network is that of an accepted file.
-        let _ = net.version();
+        net.recall();
         let labels = start_labels(alloc, net)?;
         let label_curves = first_labels(alloc, &labels)?;
         let link_curves = first_links(alloc, net, &labels)?;

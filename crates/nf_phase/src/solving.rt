@@ -107,7 +107,7 @@ impl Run {
         ensures never_no_pattern { IfOk result (λ s. NeverNoPattern s.stopped) }
     {
         // For the proof: the network is that of an accepted file.
-        let _ = net.version();
+        net.recall();
         let mut run = self;
         let stopped = run.go(alloc, net, horizon, budgets)?;
         run.solution(alloc, stopped)
@@ -129,7 +129,7 @@ pub fn solve(
     ensures never_no_pattern { IfOk result (λ s. NeverNoPattern s.stopped) }
 {
     // For the proof: the network is that of an accepted file.
-    let _ = net.version();
+    net.recall();
     let run = Run::start(alloc, net)?;
     run.finish(alloc, net, horizon, budgets)
 }

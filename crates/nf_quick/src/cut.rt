@@ -111,7 +111,7 @@ pub fn value_of(net: &Network, cut: &[Q]) -> Result<Q, PassedAt<Q>>
     requires { length cut.now ≡ net.now.net.nodes }
     ensures { result ≡ at_part Quick (value_list passes_Q net.now.net.links cut.now) }
 {
-    let _named = net.version();
+    net.recall();
     let mut value = Q::zero();
     for number in 0..net.link_count() {
         let here = net.link(LinkId(number));

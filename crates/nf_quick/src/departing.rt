@@ -84,7 +84,7 @@ pub fn departure(net: &Network, amount: Q) -> Result<Option<Q>, PassedAt<Q>>
     ensures list { result ≡ at_part Quick (departure_list passes_Q (checked_supply passes_Q net.now.net) amount net.now.net.pieces) }
     ensures least { IfOk result (IsDeparture net.now.net amount) }
 {
-    let _named = net.version();
+    net.recall();
     if amount.is_at_most(Q::zero()) {
         return Ok(Some(Q::zero()));
     }

@@ -47,7 +47,7 @@ fn next_link(net: &Network, ways: &[Option<Way>]) -> Option<LinkId>
     requires { length ways.now ≡ net.now.net.nodes }
     ensures { MatchOption result (NoneLeadsOn net.now.net ways.now) (λ e. LeadsOn net.now.net ways.now e) }
 {
-    let _named = net.version();
+    net.recall();
     for number in 0..net.link_count() {
         let link = LinkId(number);
         if leads_on(ways, net.link(link)) {
@@ -101,7 +101,7 @@ fn put(ways: &mut Vec<Option<Way>>, node: NodeId, way: Way)
 fn all_ways(alloc: Global, net: &Network) -> Result<Vec<Option<Way>>, AllocError>
     ensures { IfOk result (λ ways. AreAllWays net.now.net ways.items) }
 {
-    let _named = net.version();
+    net.recall();
     let mut ways = first_ways(alloc, net)?;
     while let Some(link) = next_link(net, &ways) {
         let here = net.link(link);

@@ -100,6 +100,6 @@ pub fn quickest(alloc: Global, net: &Network, amount: Q, augments: u64) -> Resul
     ensures pushes { IsInOrder net.now.net amount augments result }
 {
     // For the proof: the network is that of an accepted file.
-    let _ = net.version();
+    net.recall();
     work_out(alloc, net, amount, augments)
 }

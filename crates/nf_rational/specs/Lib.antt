@@ -2,4 +2,3 @@ pub mod Gcd
 pub mod Rational
 pub mod Operations
 pub mod Order
-pub mod Sums

@@ -1,5 +1,5 @@
 -- The order of the rational numbers, by products crosswise, and the tests that decide it.
-use Rattle.std.specs.Prelude.{Bool, not, if◌then◌else◌, ℤ, pos, ◌*ℤ◌, ◌≤ℤ◌, ◌<ℤ◌, int_le}
+use Rattle.std.specs.Prelude.{Bool, not, if◌then◌else◌, pos, ◌*ℤ◌, ◌≤ℤ◌, ◌<ℤ◌, int_le}
 use Rattle.std.specs.Ordering.{int_cmp}
 use Rattle.std.specs.declared.cmp.Ordering.{Ordering}
 use Rattle.nf_rational.specs.Rational.{ℚ}

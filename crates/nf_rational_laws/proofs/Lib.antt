@@ -11,5 +11,4 @@ pub mod Linear
 pub mod Chains
 pub mod Quotient
 pub mod Tests
-pub mod Slopes
 pub mod Samples

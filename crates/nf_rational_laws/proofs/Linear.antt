@@ -179,14 +179,6 @@ pub data Found : Type 0 where
   nothing : Found
   found : List ℕ → Found
 
-abbrev pub first_in : Poly → Found → Found
-first_in none o = o
-first_in (term c m p) o = cond (is_one m || is_nil c) (first_in p o) (found m)
-
-abbrev pub first_of_lines : List Line → Found
-first_of_lines [] = nothing
-first_of_lines (line k p ms ∷ ls) = first_in p (first_of_lines ls)
-
 abbrev pub times_all : ℤ → List ℤ → List ℤ
 times_all a [] = []
 times_all a (m ∷ ms) = (a *ℤ m) ∷ times_all a ms
@@ -308,10 +300,6 @@ answer_of (line k_eq p ms) o = cond (above (const_of p)) (times_all (negsuc 0) m
 abbrev pub answer : List Line → List ℤ
 answer [] = []
 answer (l ∷ ls) = answer_of l (answer ls)
-
-abbrev pub zeros : List Row → List ℤ
-zeros [] = []
-zeros (r ∷ rs) = pos 0 ∷ zeros rs
 
 abbrev pub starts : List ℤ → List Row → List Line
 starts before [] = []

@@ -1,22 +1,14 @@
 -- Ratios whose common factor is taken out, and sums over the least common denominator.
-use Rattle.std.proofs.Common.{◌≡◌, ℕ, zero, suc, ◌*◌, ◌/◌, ◌<◌, ◌≤◌, sym, ap, arith}
-use lib.IntN.{ℤ, pos, ◌+ℤ◌, ◌*ℤ◌, neg_ℤ, nat_abs}
-use lib.Signed.{quot_z}
+use Rattle.std.proofs.Common.{◌≡◌, ℕ, ◌*◌, ◌/◌, ◌<◌, ◌≤◌, sym, ap}
+use lib.IntN.{ℤ, pos, ◌+ℤ◌, ◌*ℤ◌, neg_ℤ}
 use native.Mathlib.Nat.{le_of_dvd, mul-pos, div-mul_cancel}
 use Rattle.std.proofs.Common.{[], ◌∷◌}
 use Rattle.nf_rational_laws.proofs.Polynomial.{combine, using, done, reading}
 use Rattle.nf_rational_laws.proofs.IntegerRing.{ints_ring}
 use Rattle.nf_rational.specs.Operations.{◌+ℚ◌}
 use Rattle.nf_rational_laws.proofs.Ratio.{Is-self, Is-same, Is-plus, Is-ratio}
-use Rattle.nf_rational.proofs.Lowest.{parts_ratio}
 use Rattle.nf_rational.specs.Gcd.{gcd, IsGcd-gcd}
 use Rattle.nf_rational.specs.Rational.{ℚ, ratio, part_pos}
-
--- the ratio with the common factor taken out is the same
-pub shrunk : (n : ℤ) (d : ℕ) → 0 < d → ratio (quot_z n (pos (gcd (nat_abs n) d))) (d / gcd (nat_abs n) d) ≡ ratio n d
-unfolding ratio
-shrunk n zero some = absurd (omega arith)
-shrunk n (suc e) some = parts_ratio (ratio n (suc e))
 
 pub gcd-le : (a d : ℕ) → 0 < d → gcd a d ≤ d
 gcd-le a d some = le_of_dvd some (IsGcd-gcd a d).1

@@ -1,5 +1,5 @@
 -- The order of the rational numbers.
-use Rattle.std.proofs.Common.{◌≡◌, ℕ, suc, [], ◌∷◌, ◌⊎◌, inl, inr, ⊎_elim, refl, sym, subst, arith}
+use Rattle.std.proofs.Common.{◌≡◌, ℕ, suc, [], ◌∷◌, ◌⊎◌, inl, inr, ⊎_elim, refl, subst, arith}
 use lib.IntN.{ℤ, pos, negsuc, ◌+ℤ◌, ◌-ℤ◌, ◌*ℤ◌, neg_ℤ, zero-*ℤ}
 use lib.Signed.{◌≤ℤ◌, ◌<ℤ◌, clash_ℤ}
 use borrow.Author.Differences.{ints}
@@ -77,14 +77,8 @@ ps_in {x} n d p h =
 shifted_le : (a b : ℤ) → a ≤ℤ b → pos 0 ≤ℤ (b -ℤ a)
 shifted_le a b h = omega (arith, ints)
 
-back_le : (a b : ℤ) → pos 0 ≤ℤ (b -ℤ a) → a ≤ℤ b
-back_le a b h = omega (arith, ints)
-
 shifted_lt : (a b : ℤ) → a <ℤ b → pos 0 <ℤ (b -ℤ a)
 shifted_lt a b h = omega (arith, ints)
-
-back_lt : (a b : ℤ) → pos 0 <ℤ (b -ℤ a) → a <ℤ b
-back_lt a b h = omega (arith, ints)
 
 difference : (n d m e : ℤ) → m *ℤ d -ℤ n *ℤ e ≡ m *ℤ d +ℤ neg_ℤ n *ℤ e
 difference n d m e = ring ints_ring (n ∷ d ∷ m ∷ e ∷ []) (search reading depth 30) tt
@@ -92,14 +86,8 @@ difference n d m e = ring ints_ring (n ∷ d ∷ m ∷ e ∷ []) (search reading
 pub less_nn : (x y : ℚ) → x ≤ℚ y → 0ℚ ≤ℚ y -ℚ x
 less_nn x y h = nn_in _ _ (Is-less _ _ _ _ (Is-self y) (Is-self x)) (subst (λ (k : ℤ). pos 0 ≤ℤ k) (difference x.num (pos x.den) y.num (pos y.den)) (shifted_le _ _ h.le))
 
-pub nn_less : (x y : ℚ) → 0ℚ ≤ℚ y -ℚ x → x ≤ℚ y
-nn_less x y h = record { le = back_le _ _ (subst (λ (k : ℤ). pos 0 ≤ℤ k) (sym (difference x.num (pos x.den) y.num (pos y.den))) (nn_out _ _ (Is-less _ _ _ _ (Is-self y) (Is-self x)) h)) }
-
 pub less_ps : (x y : ℚ) → x <ℚ y → 0ℚ <ℚ y -ℚ x
 less_ps x y h = ps_in _ _ (Is-less _ _ _ _ (Is-self y) (Is-self x)) (subst (λ (k : ℤ). pos 0 <ℤ k) (difference x.num (pos x.den) y.num (pos y.den)) (shifted_lt _ _ h.lt))
-
-pub ps_less : (x y : ℚ) → 0ℚ <ℚ y -ℚ x → x <ℚ y
-ps_less x y h = record { lt = back_lt _ _ (subst (λ (k : ℤ). pos 0 <ℤ k) (sym (difference x.num (pos x.den) y.num (pos y.den))) (ps_out _ _ (Is-less _ _ _ _ (Is-self y) (Is-self x)) h)) }
 
 -- ---- what sums and products keep
 nn-sum : (a b : ℤ) → pos 0 ≤ℤ a → pos 0 ≤ℤ b → pos 0 ≤ℤ (a +ℤ b)

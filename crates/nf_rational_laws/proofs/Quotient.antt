@@ -7,11 +7,11 @@ use Rattle.nf_rational_laws.proofs.Polynomial.{ring, combine, using, done, readi
 use Rattle.nf_rational_laws.proofs.IntegerRing.{ints_ring}
 use Rattle.nf_rational.specs.Rational.{ℚ}
 use Rattle.nf_rational.specs.Operations.{0ℚ, 1ℚ, ◌*ℚ◌, ◌/ℚ◌, neg_ℚ, inv_ℚ, signed_as}
-use Rattle.nf_rational.specs.Order.{◌≤ℚ◌, ◌<ℚ◌}
+use Rattle.nf_rational.specs.Order.{◌<ℚ◌}
 use Rattle.nf_rational_laws.proofs.Ratio.{Is-self, Is-same, Is-times, Is-whole, Is-ratio}
 use Rattle.nf_rational_laws.proofs.Field.{rationals}
-use Rattle.nf_rational_laws.proofs.Order.{nn_times, ps_in, ps_out, <ℚ_irrefl, ≤ℚ_of_lt}
-use Rattle.nf_rational_laws.proofs.Linear.{le, lt, le_times, eq_times, linear_le, linear_lt}
+use Rattle.nf_rational_laws.proofs.Order.{ps_in, ps_out, <ℚ_irrefl}
+use Rattle.nf_rational_laws.proofs.Linear.{lt}
 
 -- ---- one over x
 pub abs_positive : (n : ℤ) → n ≢ pos 0 → 0 < nat_abs n
@@ -70,14 +70,5 @@ from_product x y q v e f = combine rationals (x ∷ y ∷ q ∷ v ∷ []) (using
 
 pub /ℚ-unique : (x y q : ℚ) → y ≢ 0ℚ → q *ℚ y ≡ x → q ≡ x /ℚ y
 /ℚ-unique x y q h e = from_product x y q (inv_ℚ y) e (times_inv y h) ∙ sym (/ℚ_is x y)
-
-inv_le' : (x y u v : ℚ) → x ≤ℚ y → 0ℚ ≤ℚ u *ℚ v → x *ℚ u ≡ 1ℚ → y *ℚ v ≡ 1ℚ → v ≤ℚ u
-inv_le' x y u v h n e f = linear_le (x ∷ y ∷ u ∷ v ∷ []) (le_times n h ∷ eq_times v e ∷ eq_times u f ∷ []) (search reading_of depth 30) tt
-
--- one over x falls
-pub inv-le : (x y : ℚ) → 0ℚ <ℚ x → x ≤ℚ y → inv_ℚ y ≤ℚ inv_ℚ x
-inv-le x y h k =
-    let p : 0ℚ <ℚ y = linear_lt (x ∷ y ∷ []) (lt h ∷ le k ∷ []) (search reading_of depth 30) tt in
-    inv_le' x y (inv_ℚ x) (inv_ℚ y) k (nn_times _ _ (≤ℚ_of_lt _ _ (ps_inv x h)) (≤ℚ_of_lt _ _ (ps_inv y p))) (ps_times_inv x h) (ps_times_inv y p)
 
 -- ---- tests, the lesser and the greater

@@ -72,7 +72,7 @@ fn link_of(net: &Network, word: &[u8]) -> Option<LinkId>
     ensures { MatchOption result (has_name net.now.link_names word.now ≡ false) (λ link. IsLinkNamed net.now.link_names word.now link) }
 {
     // For the proof: names of links differ.
-    let _ = net.version();
+    net.recall();
     match std::str::from_utf8(word) {
         Ok(name) => net.link_named(name),
         Err(_) => None,
@@ -201,7 +201,7 @@ impl Draft {
             return Err(ReportRule::P6);
         }
         // For the proof: each link has a name.
-        let _ = net.version();
+        net.recall();
         let link = match link_of(net, line.at(1)) {
             Some(link) if link.0 >= self.next_state => link,
             _ => return Err(ReportRule::P7),

@@ -83,7 +83,7 @@ impl Draft {
         ensures within { IfOk result (λ draft. IsWithin net.now draft) }
     {
         // For the proof: each link has a name.
-        let _ = net.version();
+        net.recall();
         Ok(Draft {
             stage: Stage::Version,
             horizon: Q::zero(),
@@ -208,7 +208,7 @@ impl Draft {
         ensures within { OnOk result (IsWithin net.now self.new) }
     {
         // For the proof: links are few.
-        let _ = net.version();
+        net.recall();
         self.close()?;
         self.next_state = link.0 + 1;
         self.states.set(link, Some(state));

@@ -44,7 +44,7 @@ pub fn curve_count(net: &Network) -> usize
     ensures { result ≡ length (curve_keys net.now) }
 {
     // For the proof: each node and each link has a name.
-    let _ = net.version();
+    net.recall();
     net.node_count() as usize + net.idle_count() as usize + 3 * net.link_count() as usize
 }
 
@@ -64,7 +64,7 @@ fn link_key(net: &Network, index: usize) -> Option<Key<'_>>
     ensures { option_map seen_key result ≡ slice_get (link_keys net.now.link_names) index }
 {
     // For the proof: each link has a name.
-    let _ = net.version();
+    net.recall();
     let link = index / 3;
     if link >= net.link_count() as usize {
         return None;
@@ -79,7 +79,7 @@ pub fn key_at(net: &Network, index: usize) -> Option<Key<'_>>
     ensures { option_map seen_key result ≡ key_of_number net.now index }
 {
     // For the proof: each node has a name.
-    let _ = net.version();
+    net.recall();
     let nodes = net.node_count() as usize;
     if index < nodes {
         let name = net.node_name(NodeId(index as u32)).as_bytes();

@@ -141,6 +141,6 @@ pub fn parse_report(alloc: Global, net: &Network, text: &[u8]) -> Result<Report,
     ensures all { (report : SeenReport) → IsWellFormed net.now.net report → IsReadable report → text.now ≡ report_text net.now report → Shows report result }
 {
     // For the proof: the network is one of an accepted file.
-    let _ = net.version();
+    net.recall();
     read_report(alloc, net, text)
 }

@@ -79,7 +79,7 @@ fn by_kind(alloc: Global, net: &Network, curves: Vec<Option<Trace>>) -> Result<S
     ensures { IfOk result (λ sorted. AreSorted (seen_done net.now 0 curves.items) sorted) }
 {
     // For the proof: a network has few nodes and links.
-    let _ = net.version();
+    net.recall();
     let mut sorted = Sorted::new(alloc);
     let mut index = 0;
     for curve in curves {

@@ -49,7 +49,7 @@ pub(crate) fn legs_of(alloc: Global, net: &Network, flows: &[Q]) -> Result<Vec<L
     ensures legs { IfOk result (λ legs. legs.items ≡ legs_from 0 net.now.net.links flows.now) }
     ensures within { IfOk result (λ legs. AreLegs net.now.net.nodes legs.items) }
 {
-    let _named = net.version();
+    net.recall();
     let mut legs = Vec::with_capacity(alloc, net.link_count() as usize)?;
     for e in 0..net.link_count() {
         let number = LinkId(e);

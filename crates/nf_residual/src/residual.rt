@@ -91,7 +91,7 @@ impl Residual {
         ensures empty { IfOk result (λ r. r ≡ replicate (length net.now.net.links) 0ℚ) }
         ensures sound { IfOk result (λ r. IsSound net.now.net r) }
     {
-        let _named = net.version();
+        net.recall();
         let count = net.link_count() as usize;
         let flows = vec![in alloc; Q::zero(); count]?;
         let next = vec![in alloc; Q::zero(); count]?;
@@ -116,7 +116,7 @@ impl Residual {
         ensures list { Gives (λ found. found) (λ q. q) result (at_part Quick (shortest_list passes_Q net.now.net self.now)) }
         ensures first { IfOk result (λ found. IsShortest net.now.net self.now found) }
     {
-        let _named = net.version();
+        net.recall();
         let flows = self.flows.as_slice();
         let known = reaches(alloc, net, flows, net.source())?;
         let way = known.way_to(alloc, net.sink())?;
@@ -137,7 +137,7 @@ impl Residual {
         ensures list { Gives (λ v. v.items) (λ q. q) result (at_part Quick (distances_list passes_Q net.now.net self.now from)) }
         ensures least { IfOk result (λ v. AreLeastLengths net.now.net self.now from v.items) }
     {
-        let _named = net.version();
+        net.recall();
         let flows = self.flows.as_slice();
         let known = reaches(alloc, net, flows, from)?;
         let distances = known.distances(alloc)?;
@@ -156,7 +156,7 @@ impl Residual {
         ensures as_it_was { OnErr result (self.new ≡ self.old) }
         ensures sound { OnOk result (IsSound net.now.net self.new) }
     {
-        let _named = net.version();
+        net.recall();
         self.next.copy_from_slice(&self.flows);
         move_along(&mut self.next, &walk.steps, amount)?;
         std::mem::swap(&mut self.flows, &mut self.next);

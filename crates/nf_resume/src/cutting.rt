@@ -75,7 +75,7 @@ pub(crate) fn cut_flow(alloc: Global, net: &Network, flow: &Flow) -> Result<Flow
     ensures { Gives flow_of (λ q. q) result (at_part OfCurve (cut_flow_by passes_Q net.now.net (flow_of flow.now))) }
 {
     // For the proof: the network is a good one.
-    let _ = net.version();
+    net.recall();
     let labels = cut_labels(alloc, &flow.labels, flow.reached)?;
     let cuts = cut_links(alloc, net, flow, &labels)?;
     let links = in_lists(alloc, cuts)?;

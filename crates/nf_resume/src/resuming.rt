@@ -69,7 +69,7 @@ fn restart(alloc: Global, net: &Network, report: &Report) -> Result<Run, Halt<Q>
     ensures fresh { IfOk result (λ run. run.made ≡ 0) }
 {
     // For the proof: the network is that of an accepted file.
-    let _ = net.version();
+    net.recall();
     let flow = cut_flow(alloc, net, &report.flow)?;
     let last = report.last.copy(alloc)?;
     let run = Run::restore(alloc, net, flow, last)?;
@@ -103,7 +103,7 @@ pub fn resume(
     ensures fault { IfErr result (IsResumeFault passes_Q net.now.net (report_of report.now) horizon) }
 {
     // For the proof: the network is that of an accepted file.
-    let _ = net.version();
+    net.recall();
     let reached = report.flow.reached;
     if is_earlier(horizon, reached) {
         return Err(ResumeFault::Earlier { reached });

@@ -59,7 +59,7 @@ pub(crate) fn load_all(
     ensures complete { IfOk result (λ so_far. IsComplete net.now.net (routes_of routes.now) (seen_so_far so_far)) }
 {
     // For the proof: transit times and capacities are those of a network.
-    let _ = net.version();
+    net.recall();
     let order = loading_order(alloc, net.link_count(), routes)?;
     let mut so_far = SoFar::new(alloc, net, routes)?;
     for link in &order {

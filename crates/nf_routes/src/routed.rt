@@ -89,7 +89,7 @@ pub fn load_routes(
     ensures arrives { IfOk result (λ r. RoutesArrive net.now.net (routes_of routes.now) horizon (routed_of r)) }
 {
     // For the proof: transit times and capacities are those of a network.
-    let _ = net.version();
+    net.recall();
     let list = routes.as_slice();
     let so_far = load_all(alloc, net, list, horizon)?;
     let (ends, links) = ended(alloc, so_far.links)?;

@@ -17,7 +17,7 @@ pub fn link_of(net: &Network, word: &[u8]) -> Option<LinkId>
     ensures { MatchOption result (has_name net.now.link_names word.now ≡ false) (λ link. IsNameAt net.now.link_names word.now link) }
 {
     // For the proof: names of links differ.
-    let _ = net.version();
+    net.recall();
     match std::str::from_utf8(word) {
         Ok(name) => net.link_named(name),
         Err(_) => None,
@@ -30,7 +30,7 @@ pub fn node_of(net: &Network, word: &[u8]) -> Option<NodeId>
     ensures { MatchOption result (has_name net.now.node_names word.now ≡ false) (λ node. IsNameAt net.now.node_names word.now node) }
 {
     // For the proof: names of nodes differ.
-    let _ = net.version();
+    net.recall();
     match std::str::from_utf8(word) {
         Ok(name) => net.node_named(name),
         Err(_) => None,

@@ -1,5 +1,5 @@
 -- A line compared with its words.
-use Rattle.std.specs.Prelude.{◌≡◌, ℕ, ◌+◌, ◌-◌, ◌<◌, ◌≤◌, Bool, true, false, ◌&&◌, nat_eq, nat_lt, List, [], ◌∷◌, ◌++◌, length, take, drop, Option, None, Some, refl}
+use Rattle.std.specs.Prelude.{◌≡◌, ℕ, ◌+◌, ◌-◌, ◌<◌, ◌≤◌, Bool, true, false, ◌&&◌, nat_eq, nat_lt, List, [], ◌∷◌, ◌++◌, length, take, drop, None, Some, refl}
 use Rattle.std.proofs.Common.{arith, zero, suc, ◌∙◌, sym, ap, append_assoc, append-nil, add-one, get_or, take_all, length-drop, length-take}
 use Rattle.std.specs.Borrow.{Bor}
 use Rattle.std.specs.List.{join_with_byte, flat_map}
@@ -29,15 +29,6 @@ begins line front h tail = bytes_eq-append line front tail ∙ ap (λ b. b && by
 -- or not
 pub begins_not : (line front : List ℕ) → bytes_eq (take (length front) line) front ≡ false → (tail : List ℕ) → bytes_eq line (front ++ tail) ≡ false
 begins_not line front h tail = bytes_eq-append line front tail ∙ ap (λ b. b && bytes_eq (drop (length front) line) tail) h
-
--- after a space, a word
-pub goes_on_spaced : (line word : List ℕ) (next : Bor (List ℕ)) (rest : Option (Bor (List ℕ)))
-    → GoesOn line (32 ∷ []) (Some next) → GoesOn next.now word rest → GoesOn line (32 ∷ word) rest
-goes_on_spaced line word next None h k tail = h (word ++ tail) ∙ k tail
-goes_on_spaced line word next (Some r) h k tail = h (word ++ tail) ∙ k tail
-
-pub no_space : (line word : List ℕ) → GoesOn line (32 ∷ []) None → GoesOn line (32 ∷ word) None
-no_space line word h tail = h (word ++ tail)
 
 -- ---- the words from one of them on, with a space before each but the first of all
 abbrev pub words_left : List (List ℕ) → ℕ → List ℕ

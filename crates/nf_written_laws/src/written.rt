@@ -30,7 +30,7 @@ pub fn written_reads_back(
         (record { horizon = horizon; flow = flow_of flow.now; stop = option_copied stopped.entry; last = last.now }) }
 {
     // For the proof: the network is that of an accepted file.
-    let _ = net.version();
+    net.recall();
     is_fraction(horizon);
     is_fraction(flow.reached);
     know_cause(stopped);

@@ -18,7 +18,7 @@ pub returns-clause-answered : goal.returns-clause-answered
 returns-clause-answered g c words asks =
     let shelf = visit g.S.Shelf c.args.shelf.now c.gather.new.shelf in
     let gathered = c.in_ok-net.ensures.gathered words asks in
-    given (record { words = words; shelf = shelf }) (requested c.args.request.now) c.in_ok-net.net c.version.ensures.named gathered.0 c.find.result
+    given (record { words = words; shelf = shelf }) (requested c.args.request.now) c.in_ok-net.net c.recall.ensures gathered.0 c.find.result
     (c.find.ensures shelf (subst (λ (t : List ℕ). OtherIsText shelf (requested c.args.request.now) t) (sym c.deref.ensures.value) gathered.1)) c.with_net.result c.with_net.ensures
 
 pub returns-in_err-net-clause-same : goal.returns-in_err-net-clause-same

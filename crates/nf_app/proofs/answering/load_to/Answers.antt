@@ -20,7 +20,7 @@ returns-in_err-links c shelf file name told =
 pub returns : goal.returns
 returns c shelf file name told = (
   loading_given shelf c.args.net.now file name c.args.horizon c.args.loads.now told c.in_ok-loads.loads c.in_ok-loads.ensures.reads (map loaded_of c.in_ok-links.links.items) c.in_ok-links.ensures.list
-      c.version.ensures.named.network c.in_ok-loads.ensures.links c.requires.horizon
+      c.recall.ensures.network c.in_ok-loads.ensures.links c.requires.horizon
       (λ e. subst (λ (l : List (List Piece)). ArePieces (pieces_at l e)) c.loads.view_is (c.loads.invariant.each e)),
   c.in_ok-links.ensures.many,
 )

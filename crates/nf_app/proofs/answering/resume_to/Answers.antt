@@ -16,7 +16,7 @@ resume-requires c = c.in_ok-report.ensures.formed
 pub returns-in_err-report : goal.returns-in_err-report
 returns-in_err-report c shelf file name told =
     let p = err_from_is_err_and c.from_residual.result c.from_residual.ensures.1 in
-    rw (p.1, p.2) (old_refused shelf c.args.net.now file name c.args.horizon c.args.budgets.phases c.args.budgets.patterns c.version.ensures.named c.args.text.now told c.in_err-report.field-0.0 c.in_err-report.ensures.reads)
+    rw (p.1, p.2) (old_refused shelf c.args.net.now file name c.args.horizon c.args.budgets.phases c.args.budgets.patterns c.recall.ensures c.args.text.now told c.in_err-report.field-0.0 c.in_err-report.ensures.reads)
 
 pub returns-in-Ok : goal.returns-in-Ok
 returns-in-Ok c shelf file name told =
@@ -26,16 +26,16 @@ returns-in-Ok c shelf file name told =
     let old = report_of c.in_ok-report.report in
     let new = report_in c.args.horizon s in (
       gone_on_given shelf c.args.net.now file name c.args.horizon c.args.budgets.phases c.args.budgets.patterns old
-          (held shelf c.args.net.now c.version.ensures.named name c.args.text.now told old c.in_ok-report.ensures.reads) new s.phases
+          (held shelf c.args.net.now c.recall.ensures name c.args.text.now told old c.in_ok-report.ensures.reads) new s.phases
           e.not_earlier e.resumed e.formed e.equilibrium e.goes_on e.short e.ends
-          (resumed_reads_back c.args.net.now c.version.ensures.named bounds
+          (resumed_reads_back c.args.net.now c.recall.ensures bounds
           (record {
             horizon = fraction_of_parts c.args.horizon c.numer.result c.denom.result c.numer.ensures.value c.numer.ensures.small c.denom.ensures.value c.denom.ensures.small;
             phases = omega arith;
             patterns = omega arith;
           })
           old s.phases new c.args.text.now c.in_ok-report.ensures.reads e.formed e.resumed)
-          (resumed_stops_for_none passes_Q c.args.net.now.net bounds old s.phases new c.version.ensures.named.network c.in_ok-report.ensures.formed e.resumed),
+          (resumed_stops_for_none passes_Q c.args.net.now.net bounds old s.phases new c.recall.ensures.network c.in_ok-report.ensures.formed e.resumed),
       e.formed,
     )
 
@@ -43,4 +43,4 @@ pub returns : goal.returns
 returns c shelf file name told =
     let old = report_of c.in_ok-report.report in
     c.refuse_resume.ensures shelf file name c.args.horizon c.args.budgets.phases c.args.budgets.patterns old
-    (held shelf c.args.net.now c.version.ensures.named name c.args.text.now told old c.in_ok-report.ensures.reads) c.in-Err.ensures.fault
+    (held shelf c.args.net.now c.recall.ensures name c.args.text.now told old c.in_ok-report.ensures.reads) c.in-Err.ensures.fault

@@ -27,11 +27,11 @@ returns c shelf file =
         record {
           run = e.run;
           equilibrium = e.equilibrium;
-          short = forever_short passes_Q c.args.net.now.net c.version.ensures.named.network c.args.budgets.phases c.args.budgets.patterns f e.run;
-          ends = forever_ends passes_Q c.args.net.now.net c.version.ensures.named.network c.args.budgets.phases c.args.budgets.patterns f e.run;
+          short = forever_short passes_Q c.args.net.now.net c.recall.ensures.network c.args.budgets.phases c.args.budgets.patterns f e.run;
+          ends = forever_ends passes_Q c.args.net.now.net c.recall.ensures.network c.args.budgets.phases c.args.budgets.patterns f e.run;
           stop = stop_seen c.in_ok-forever.forever.tail (f.stop ≡ None) e.stop;
           goes_on = tail_seen (λ tail. (until : ℚ) → 0ℚ ≤ℚ until → Equilibrium c.args.net.now.net (flow_until c.args.net.now.net f.flow tail until)) c.in_ok-forever.forever.tail e.tail;
-          no_thin_flow = forever_stops_for_none passes_Q c.args.net.now.net c.args.budgets.phases c.args.budgets.patterns f c.version.ensures.named.network e.run;
+          no_thin_flow = forever_stops_for_none passes_Q c.args.net.now.net c.args.budgets.phases c.args.budgets.patterns f c.recall.ensures.network e.run;
         },
       ),
       e.form,

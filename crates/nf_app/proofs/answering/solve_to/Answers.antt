@@ -14,14 +14,14 @@ returns c shelf file =
         report,
         refl,
         (s.phases, c.in_ok-solution.ensures.solution),
-        reads_back c.args.net.now (bounds_of c.args.horizon c.args.budgets) report c.version.ensures.named
+        reads_back c.args.net.now (bounds_of c.args.horizon c.args.budgets) report c.recall.ensures
             (record {
               horizon = fraction_of_parts c.args.horizon c.numer.result c.denom.result c.numer.ensures.value c.numer.ensures.small c.denom.ensures.value c.denom.ensures.small;
               phases = omega arith;
               patterns = omega arith;
             })
             c.in_ok-solution.ensures.solution.well_formed c.in_ok-solution.ensures.solution.run,
-        stops_for_none passes_Q c.args.net.now.net (bounds_of c.args.horizon c.args.budgets) report c.version.ensures.named.network c.in_ok-solution.ensures.solution.run,
+        stops_for_none passes_Q c.args.net.now.net (bounds_of c.args.horizon c.args.budgets) report c.recall.ensures.network c.in_ok-solution.ensures.solution.run,
       ),
       c.in_ok-solution.ensures.solution.well_formed,
     )

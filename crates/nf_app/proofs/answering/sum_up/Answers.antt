@@ -14,7 +14,7 @@ returns c shelf =
     let s = c.in_ok-solution.solution in
     let report = report_in c.args.horizon s in
     let net = c.args.net.now.net in
-    let is = last_is_label net c.version.ensures.named.network (bounds_of c.args.horizon c.args.budgets) report s.phases c.in_ok-solution.ensures.solution
+    let is = last_is_label net c.recall.ensures.network (bounds_of c.args.horizon c.args.budgets) report s.phases c.in_ok-solution.ensures.solution
     (subst (λ (v : ℕ). v < net.nodes) c.sink.ensures.value c.sink.ensures.node) c.last_label-arrival.result
     (at_sink s.flow c.sink.result net.sink c.last_label-arrival.result c.sink.ensures.value c.last_label-arrival.ensures) in (
       (
@@ -22,7 +22,7 @@ returns c shelf =
         s.phases,
         refl,
         c.in_ok-solution.ensures.solution,
-        stops_for_none passes_Q net (bounds_of c.args.horizon c.args.budgets) report c.version.ensures.named.network c.in_ok-solution.ensures.solution.run,
+        stops_for_none passes_Q net (bounds_of c.args.horizon c.args.budgets) report c.recall.ensures.network c.in_ok-solution.ensures.solution.run,
       ),
       sym is,
     )

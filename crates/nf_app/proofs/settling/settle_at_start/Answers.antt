@@ -19,7 +19,7 @@ is_thin-requires-clause-sets c =
       flows_same = sym c.deref.ensures.value;
       slopes_same = sym c.deref-2.ensures.value;
     } in
-    sets_good c.args.net.now.net (given_of c.args.flows.now) sets.0 sets.1 c.in_ok-sets.sets c.rate_at-rate.result c.deref.result.now c.deref-2.result.now called c.version.ensures.named.network
+    sets_good c.args.net.now.net (given_of c.args.flows.now) sets.0 sets.1 c.in_ok-sets.sets c.rate_at-rate.result c.deref.result.now c.deref-2.result.now called c.recall.ensures.network
 
 pub is_thin-requires-clause-source : goal.is_thin-requires-clause-source
 is_thin-requires-clause-source c =
@@ -30,7 +30,7 @@ is_thin-requires-clause-source c =
       flows_same = sym c.deref.ensures.value;
       slopes_same = sym c.deref-2.ensures.value;
     } in
-    sets_source c.args.net.now.net (given_of c.args.flows.now) sets.0 sets.1 c.in_ok-sets.sets c.rate_at-rate.result c.deref.result.now c.deref-2.result.now called c.version.ensures.named.network
+    sets_source c.args.net.now.net (given_of c.args.flows.now) sets.0 sets.1 c.in_ok-sets.sets c.rate_at-rate.result c.deref.result.now c.deref-2.result.now called c.recall.ensures.network
 
 pub is_thin-requires-clause-flows : goal.is_thin-requires-clause-flows
 is_thin-requires-clause-flows c = ap length c.deref.ensures.value ∙ c.requires.flows
@@ -70,7 +70,7 @@ settle-requires-clause-sets c =
       flows_same = sym c.deref-3.ensures.value;
       slopes_same = sym c.deref-4.ensures.value;
     } in
-    sets_good c.args.net.now.net (given_of c.args.flows.now) sets.0 sets.1 c.in_ok-sets.sets c.rate_at-rate.result c.deref-3.result.now c.deref-4.result.now again c.version.ensures.named.network
+    sets_good c.args.net.now.net (given_of c.args.flows.now) sets.0 sets.1 c.in_ok-sets.sets c.rate_at-rate.result c.deref-3.result.now c.deref-4.result.now again c.recall.ensures.network
 
 pub settle-requires-clause-rate : goal.settle-requires-clause-rate
 settle-requires-clause-rate c =
@@ -81,7 +81,7 @@ settle-requires-clause-rate c =
       flows_same = sym c.deref-3.ensures.value;
       slopes_same = sym c.deref-4.ensures.value;
     } in
-    sets_rate c.args.net.now.net (given_of c.args.flows.now) sets.0 sets.1 c.in_ok-sets.sets c.rate_at-rate.result c.deref-3.result.now c.deref-4.result.now again c.version.ensures.named.network
+    sets_rate c.args.net.now.net (given_of c.args.flows.now) sets.0 sets.1 c.in_ok-sets.sets c.rate_at-rate.result c.deref-3.result.now c.deref-4.result.now again c.recall.ensures.network
 
 pub settle-requires-clause-thin : goal.settle-requires-clause-thin
 settle-requires-clause-thin c =

@@ -31,9 +31,9 @@ returns-clause-reads c =
 pub returns-clause-links : goal.returns-clause-links
 returns-clause-links c =
     IfOk-weaker c.close.result _ (λ flows. length flows.flows.items ≡ length c.args.net.now.net.links)
-    (λ flows e. e ∙ (c.in_ok-draft.ensures.places.links ∙ c.version.ensures.named.numbered.links)) c.close.ensures.flows
+    (λ flows e. e ∙ (c.in_ok-draft.ensures.places.links ∙ c.recall.ensures.numbered.links)) c.close.ensures.flows
 
 pub returns-clause-nodes : goal.returns-clause-nodes
 returns-clause-nodes c =
     IfOk-weaker c.close.result _ (λ flows. length flows.slopes.items ≡ c.args.net.now.net.nodes)
-    (λ flows e. e ∙ (c.in_ok-draft.ensures.places.nodes ∙ c.version.ensures.named.numbered.nodes)) c.close.ensures.slopes
+    (λ flows e. e ∙ (c.in_ok-draft.ensures.places.nodes ∙ c.recall.ensures.numbered.nodes)) c.close.ensures.slopes

@@ -6,31 +6,31 @@ use Rattle.nf_forever.proofs.solving.solve_forever.Goals as goal
 
 pub returns-clause-run : goal.returns-clause-run
 returns-clause-run c =
-    run_answered passes_Q c.args.net.now.net c.version.ensures.named.network c.args.budgets.phases c.args.budgets.patterns c.go.new.run (end_in c.in_ok-end.end) c.in_ok-end.ensures
+    run_answered passes_Q c.args.net.now.net c.recall.ensures.network c.args.budgets.phases c.args.budgets.patterns c.go.new.run (end_in c.in_ok-end.end) c.in_ok-end.ensures
     c.outcome.result c.outcome.ensures
 
 pub returns-clause-form : goal.returns-clause-form
 returns-clause-form c =
-    form_answered passes_Q c.args.net.now.net c.version.ensures.named.network c.args.budgets.phases c.args.budgets.patterns c.go.new.run (end_in c.in_ok-end.end) c.in_ok-end.ensures
+    form_answered passes_Q c.args.net.now.net c.recall.ensures.network c.args.budgets.phases c.args.budgets.patterns c.go.new.run (end_in c.in_ok-end.end) c.in_ok-end.ensures
     c.outcome.result c.outcome.ensures
 
 pub returns-clause-equilibrium : goal.returns-clause-equilibrium
 returns-clause-equilibrium c =
-    equilibrium_answered passes_Q c.args.net.now.net c.version.ensures.named.network c.args.budgets.phases c.args.budgets.patterns c.go.new.run (end_in c.in_ok-end.end) c.in_ok-end.ensures
+    equilibrium_answered passes_Q c.args.net.now.net c.recall.ensures.network c.args.budgets.phases c.args.budgets.patterns c.go.new.run (end_in c.in_ok-end.end) c.in_ok-end.ensures
     c.outcome.result c.outcome.ensures
 
 pub returns-clause-tail : goal.returns-clause-tail
 returns-clause-tail c =
-    tail_answered passes_Q c.args.net.now.net c.version.ensures.named.network c.args.budgets.phases c.args.budgets.patterns c.go.new.run (end_in c.in_ok-end.end) c.in_ok-end.ensures
+    tail_answered passes_Q c.args.net.now.net c.recall.ensures.network c.args.budgets.phases c.args.budgets.patterns c.go.new.run (end_in c.in_ok-end.end) c.in_ok-end.ensures
     c.outcome.result c.outcome.ensures
 
 pub returns-clause-stop : goal.returns-clause-stop
 returns-clause-stop c =
-    stop_answered passes_Q c.args.net.now.net c.version.ensures.named.network c.args.budgets.phases c.args.budgets.patterns c.go.new.run (end_in c.in_ok-end.end) c.in_ok-end.ensures
+    stop_answered passes_Q c.args.net.now.net c.recall.ensures.network c.args.budgets.phases c.args.budgets.patterns c.go.new.run (end_in c.in_ok-end.end) c.in_ok-end.ensures
     c.outcome.result c.outcome.ensures
 
 pub returns-clause-never_no_pattern : goal.returns-clause-never_no_pattern
 returns-clause-never_no_pattern c =
-    never_answered c.args.net.now.net c.args.budgets.phases c.args.budgets.patterns c.version.ensures.named.network c.outcome.result
-    (run_answered passes_Q c.args.net.now.net c.version.ensures.named.network c.args.budgets.phases c.args.budgets.patterns c.go.new.run (end_in c.in_ok-end.end) c.in_ok-end.ensures
+    never_answered c.args.net.now.net c.args.budgets.phases c.args.budgets.patterns c.recall.ensures.network c.outcome.result
+    (run_answered passes_Q c.args.net.now.net c.recall.ensures.network c.args.budgets.phases c.args.budgets.patterns c.go.new.run (end_in c.in_ok-end.end) c.in_ok-end.ensures
     c.outcome.result c.outcome.ensures)

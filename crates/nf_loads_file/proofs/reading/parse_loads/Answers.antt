@@ -48,4 +48,4 @@ returns-clause-links c =
     (seen_draft c.in_ok-draft.draft) (Ok c.in_ok-links.links.items) c.in_ok-draft.ensures c.in_ok-links.ensures in
     ap (λ (l : List (List Piece)). length l) c.kept.ensures
     ∙ (loads-pieces c.args.net.now c.args.text.now c.in_ok-links.links.items read).0
-    ∙ as_many_names c.args.net.now c.version.ensures.named
+    ∙ as_many_names c.args.net.now c.recall.ensures

@@ -1,4 +1,4 @@
-use Rattle.std.proofs.Common.{List, ℕ, map, refl}
+use Rattle.std.proofs.Common.{List, map, refl}
 use Rattle.std.specs.List.{flat_map}
 use Rattle.nf_lines.specs.Words.{line_of_words}
 use Rattle.nf_model.specs.Network.{Piece}

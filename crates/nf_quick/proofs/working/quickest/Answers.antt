@@ -10,8 +10,8 @@ returns-clause-answered c = c.work_out.ensures
 
 pub returns-clause-quickest : goal.returns-clause-quickest
 returns-clause-quickest c =
-    answered_is_quick passes_Q c.args.net.now.net c.args.amount c.args.augments c.version.ensures.named.network c.requires.amount c.work_out.result c.work_out.ensures
+    answered_is_quick passes_Q c.args.net.now.net c.args.amount c.args.augments c.recall.ensures.network c.requires.amount c.work_out.result c.work_out.ensures
 
 pub returns-clause-pushes : goal.returns-clause-pushes
 returns-clause-pushes c =
-    answered_in_order passes_Q c.args.net.now.net c.args.amount c.args.augments c.version.ensures.named.network c.requires.amount c.requires.augments c.work_out.result c.work_out.ensures
+    answered_in_order passes_Q c.args.net.now.net c.args.amount c.args.augments c.recall.ensures.network c.requires.amount c.requires.augments c.work_out.result c.work_out.ensures

@@ -9,7 +9,7 @@ use Rattle.nf_report.proofs.Gathering.{gathered_next, gathered_failed}
 use Rattle.nf_report.proofs.report.put_head.Goals as goal
 
 pub returns-in_err-put_version : goal.returns-in_err-put_version
-returns-in_err-put_version g c = gathered_failed ((codes "report" ∷ digits_of c.version.result ∷ []) ∷ []) ((codes "horizon" ∷ printed c.args.horizon ∷ []) ∷ (codes "reached" ∷ printed c.args.flow.now.reached ∷ []) ∷ (codes "cause" ∷ cause_words (option_copied c.args.stopped)) ∷ []) (head_lines c.args.net.now.version c.args.horizon c.args.flow.now.reached (option_copied c.args.stopped)) c.from_residual.result (ap (λ (v : ℕ). head_lines v c.args.horizon c.args.flow.now.reached (option_copied c.args.stopped)) c.version.ensures.value) c.from_residual.ensures.0 c.in_err-put_version.ensures
+returns-in_err-put_version g c = gathered_failed ((codes "report" ∷ digits_of c.version.result ∷ []) ∷ []) ((codes "horizon" ∷ printed c.args.horizon ∷ []) ∷ (codes "reached" ∷ printed c.args.flow.now.reached ∷ []) ∷ (codes "cause" ∷ cause_words (option_copied c.args.stopped)) ∷ []) (head_lines c.args.net.now.version c.args.horizon c.args.flow.now.reached (option_copied c.args.stopped)) c.from_residual.result (ap (λ (v : ℕ). head_lines v c.args.horizon c.args.flow.now.reached (option_copied c.args.stopped)) c.version.ensures) c.from_residual.ensures.0 c.in_err-put_version.ensures
 
 pub returns : goal.returns
-returns g c = gathered_next ((codes "report" ∷ digits_of c.version.result ∷ []) ∷ []) ((codes "horizon" ∷ printed c.args.horizon ∷ []) ∷ (codes "reached" ∷ printed c.args.flow.now.reached ∷ []) ∷ (codes "cause" ∷ cause_words (option_copied c.args.stopped)) ∷ []) (head_lines c.args.net.now.version c.args.horizon c.args.flow.now.reached (option_copied c.args.stopped)) (ap (λ (v : ℕ). head_lines v c.args.horizon c.args.flow.now.reached (option_copied c.args.stopped)) c.version.ensures.value) c.in_ok-put_version.ensures c.put_end_of_run.ensures
+returns g c = gathered_next ((codes "report" ∷ digits_of c.version.result ∷ []) ∷ []) ((codes "horizon" ∷ printed c.args.horizon ∷ []) ∷ (codes "reached" ∷ printed c.args.flow.now.reached ∷ []) ∷ (codes "cause" ∷ cause_words (option_copied c.args.stopped)) ∷ []) (head_lines c.args.net.now.version c.args.horizon c.args.flow.now.reached (option_copied c.args.stopped)) (ap (λ (v : ℕ). head_lines v c.args.horizon c.args.flow.now.reached (option_copied c.args.stopped)) c.version.ensures) c.in_ok-put_version.ensures c.put_end_of_run.ensures

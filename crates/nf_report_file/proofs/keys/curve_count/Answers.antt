@@ -4,5 +4,5 @@ use Rattle.nf_report_file.proofs.keys.curve_count.Goals as goal
 
 pub returns : goal.returns
 returns c =
-    let k = curves_counted c.args.net.now c.version.ensures.named in
+    let k = curves_counted c.args.net.now c.recall.ensures in
     omega (arith, k, c.node_count.ensures, c.idle_count.ensures, c.link_count.ensures)

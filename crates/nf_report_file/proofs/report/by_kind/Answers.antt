@@ -19,7 +19,7 @@ loop-curve-preserved c =
 
 pub overflow_add-index : goal.overflow_add-index
 overflow_add-index c =
-    let few = few_here c.args.net.now c.loop-curve.index c.in-Some-key_at.key c.in-Some-key_at.ensures c.version.ensures.named in omega (arith, few)
+    let few = few_here c.args.net.now c.loop-curve.index c.in-Some-key_at.key c.in-Some-key_at.ensures c.recall.ensures in omega (arith, few)
 
 pub put-requires : goal.put-requires
 put-requires c =

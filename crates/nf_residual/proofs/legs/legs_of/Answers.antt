@@ -10,7 +10,7 @@ loop-e-preserved c = legs_more c.args.net.now.net.links c.args.flows.now c.loop-
 pub returns-clause-within : goal.returns-clause-within
 returns-clause-within c =
     let past : length c.args.net.now.net.links ≤ c.loop-e.e = omega arith in
-    all_led c.args.net.now.net c.args.flows.now c.loop-e.legs.items c.version-named.ensures.named.network (legs_all c.args.net.now.net.links c.args.flows.now c.loop-e.legs.items c.loop-e.e c.loop-e.invariant past)
+    all_led c.args.net.now.net c.args.flows.now c.loop-e.legs.items c.recall.ensures.network (legs_all c.args.net.now.net.links c.args.flows.now c.loop-e.legs.items c.loop-e.e c.loop-e.invariant past)
 
 pub returns-in_err-legs : goal.returns-in_err-legs
 returns-in_err-legs c = record { legs = IfOk-from_err c.from_residual.result _ c.from_residual.ensures.0; within = IfOk-from_err c.from_residual.result _ c.from_residual.ensures.0 }

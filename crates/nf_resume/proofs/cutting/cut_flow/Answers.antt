@@ -43,7 +43,7 @@ pub cut_links-requires-clause-ends : goal.cut_links-requires-clause-ends
 cut_links-requires-clause-ends c = λ v h.
     let by_labels = rw c.deref.ensures.value at c.in_ok-labels.ensures in
     subst (λ (l : List Grown). 0ℚ ≤ℚ value_at_end (points_at (curves_of l) v)) (sym c.deref-2.ensures.value)
-    (labels_end passes_Q OfCurve c.args.net.now.net (flow_of c.args.flow.now) (curves_of c.in_ok-labels.labels.items) by_labels c.version.ensures.named.network c.requires v h)
+    (labels_end passes_Q OfCurve c.args.net.now.net (flow_of c.args.flow.now) (curves_of c.in_ok-labels.labels.items) by_labels c.recall.ensures.network c.requires v h)
 
 pub returns-in_err-cuts : goal.returns-in_err-cuts
 returns-in_err-cuts c =

@@ -27,17 +27,17 @@ returns-in_err-flow-clause-list c =
 
 pub restore-requires-clause-equilibrium : goal.restore-requires-clause-equilibrium
 restore-requires-clause-equilibrium c =
-    Equilibrium-cut_flow passes_Q c.args.net.now.net (flow_of c.args.report.now.flow) (flow_of c.in_ok-flow.flow) c.version.ensures.named.network c.requires.equilibrium
+    Equilibrium-cut_flow passes_Q c.args.net.now.net (flow_of c.args.report.now.flow) (flow_of c.in_ok-flow.flow) c.recall.ensures.network c.requires.equilibrium
     (was_ok OfCurve (cut_flow passes_Q c.args.net.now.net (flow_of c.args.report.now.flow)) (flow_of c.in_ok-flow.flow) c.in_ok-flow.ensures)
 
 pub restore-requires-clause-ends : goal.restore-requires-clause-ends
 restore-requires-clause-ends c =
-    EndsAtItsLabels-cut passes_Q c.args.net.now.net (flow_of c.args.report.now.flow) (flow_of c.in_ok-flow.flow) c.version.ensures.named.network c.requires.equilibrium
+    EndsAtItsLabels-cut passes_Q c.args.net.now.net (flow_of c.args.report.now.flow) (flow_of c.in_ok-flow.flow) c.recall.ensures.network c.requires.equilibrium
     (was_ok OfCurve (cut_flow passes_Q c.args.net.now.net (flow_of c.args.report.now.flow)) (flow_of c.in_ok-flow.flow) c.in_ok-flow.ensures)
 
 pub restore-requires-clause-short : goal.restore-requires-clause-short
 restore-requires-clause-short c =
-    IsShortFlow-cut_flow passes_Q c.args.net.now.net (flow_of c.args.report.now.flow) (flow_of c.in_ok-flow.flow) c.version.ensures.named.network c.requires.equilibrium
+    IsShortFlow-cut_flow passes_Q c.args.net.now.net (flow_of c.args.report.now.flow) (flow_of c.in_ok-flow.flow) c.recall.ensures.network c.requires.equilibrium
     (was_ok OfCurve (cut_flow passes_Q c.args.net.now.net (flow_of c.args.report.now.flow)) (flow_of c.in_ok-flow.flow) c.in_ok-flow.ensures)
 
 pub restore-requires-clause-states : goal.restore-requires-clause-states
@@ -59,5 +59,5 @@ returns-clause-list c =
 pub returns-clause-time : goal.returns-clause-time
 returns-clause-time c =
     ap (λ (f : Flow). f.reached) c.in_ok-run.ensures.flow
-    ∙ (cut_flow-is passes_Q c.args.net.now.net (flow_of c.args.report.now.flow) (flow_of c.in_ok-flow.flow) c.version.ensures.named.network c.requires.equilibrium
+    ∙ (cut_flow-is passes_Q c.args.net.now.net (flow_of c.args.report.now.flow) (flow_of c.in_ok-flow.flow) c.recall.ensures.network c.requires.equilibrium
     (was_ok OfCurve (cut_flow passes_Q c.args.net.now.net (flow_of c.args.report.now.flow)) (flow_of c.in_ok-flow.flow) c.in_ok-flow.ensures)).reached

@@ -43,14 +43,14 @@ loop-link-preserved c =
     c.deref-link-items.ensures.value ∙ c.in_ok-order.ensures ∙ ap (λ (n : ℕ). loading_order n (routes_of c.args.routes.now)) c.link_count.ensures in
     let at = slice_get_read c.deref-link-items.result.now _ c.loop-link.link-index c.link-item.result refl c.loop-link-test.true c.link-item.is in
     let one = entry c.args.net.now.net.links c.link-item.result (placed_at passes_Q c.args.net.now.net (routes_of c.args.routes.now) c.args.horizon c.deref-link-items.result.now order c.requires.routes (seen_so_far c.loop-link.so_far) c.loop-link.link-index c.loop-link.invariant c.link-item.result at).below in
-    loads_go passes_Q c.args.net.now.net (routes_of c.args.routes.now) c.args.horizon c.deref-link-items.result.now order c.requires.routes (seen_so_far c.loop-link.so_far) c.loop-link.link-index c.loop-link.invariant c.link-item.result at one.0 (seen_so_far c.load_here.new.so_far) one.1 c.requires.horizon c.version.ensures.named.network c.in_ok-load_here.ensures
+    loads_go passes_Q c.args.net.now.net (routes_of c.args.routes.now) c.args.horizon c.deref-link-items.result.now order c.requires.routes (seen_so_far c.loop-link.so_far) c.loop-link.link-index c.loop-link.invariant c.link-item.result at one.0 (seen_so_far c.load_here.new.so_far) one.1 c.requires.horizon c.recall.ensures.network c.in_ok-load_here.ensures
 
 pub returns-clause-complete : goal.returns-clause-complete
 returns-clause-complete c =
     let order : c.deref-link-items.result.now ≡ loading_order (length c.args.net.now.net.links) (routes_of c.args.routes.now) =
     c.deref-link-items.ensures.value ∙ c.in_ok-order.ensures ∙ ap (λ (n : ℕ). loading_order n (routes_of c.args.routes.now)) c.link_count.ensures in
     let past : length c.deref-link-items.result.now ≤ c.loop-link.link-index = omega arith in
-    loads_complete passes_Q c.args.net.now.net (routes_of c.args.routes.now) c.args.horizon c.deref-link-items.result.now order c.requires.routes (seen_so_far c.loop-link.so_far) c.loop-link.link-index c.loop-link.invariant past c.version.ensures.named.network c.requires.straight
+    loads_complete passes_Q c.args.net.now.net (routes_of c.args.routes.now) c.args.horizon c.deref-link-items.result.now order c.requires.routes (seen_so_far c.loop-link.so_far) c.loop-link.link-index c.loop-link.invariant past c.recall.ensures.network c.requires.straight
 
 pub load_here-requires-clause-horizon : goal.load_here-requires-clause-horizon
 load_here-requires-clause-horizon c = c.requires.horizon

@@ -66,9 +66,9 @@ returns-clause-list c =
 
 pub returns-clause-routed : goal.returns-clause-routed
 returns-clause-routed c =
-    routes_list-is passes_Q c.args.net.now.net (routes_of c.args.routes.now) c.args.horizon _ c.version.ensures.named.network (are_routes c.args.net.now.net c.args.routes.now c.as_slice-list.ensures.kept.form c.requires.walks) c.as_slice-list.ensures.kept.straight c.requires.horizon
+    routes_list-is passes_Q c.args.net.now.net (routes_of c.args.routes.now) c.args.horizon _ c.recall.ensures.network (are_routes c.args.net.now.net c.args.routes.now c.as_slice-list.ensures.kept.form c.requires.walks) c.as_slice-list.ensures.kept.straight c.requires.horizon
     (was_ok Load (routes_list passes_Q c.args.net.now.net (routes_of c.args.routes.now) c.args.horizon) _ (returns-clause-list c))
 
 pub returns-clause-arrives : goal.returns-clause-arrives
 returns-clause-arrives c =
-    arrive c.args.net.now.net (routes_of c.args.routes.now) c.args.horizon _ c.version.ensures.named.network (are_routes c.args.net.now.net c.args.routes.now c.as_slice-list.ensures.kept.form c.requires.walks) c.requires.horizon (returns-clause-routed c)
+    arrive c.args.net.now.net (routes_of c.args.routes.now) c.args.horizon _ c.recall.ensures.network (are_routes c.args.net.now.net c.args.routes.now c.as_slice-list.ensures.kept.form c.requires.walks) c.requires.horizon (returns-clause-routed c)

@@ -28,4 +28,4 @@ returns-clause-readable c = record {
 pub returns-clause-reads_back : goal.returns-clause-reads_back
 returns-clause-reads_back c =
     readable_reads_back c.args.net.now (record { horizon = c.args.horizon; flow = flow_of c.args.flow.now; stop = option_copied c.args.stopped; last = c.args.last.now })
-    c.version.ensures.named c.requires (returns-clause-readable c)
+    c.recall.ensures c.requires (returns-clause-readable c)

@@ -5,6 +5,6 @@ use Rattle.nf_flows_file.proofs.draft.Draft.new.Goals as goal
 
 pub returns-clause-nothing : goal.returns-clause-nothing
 returns-clause-nothing c =
-    nothing_given c.args.net.now c.in_ok-vec.field-0.items c.in_ok-vec-2.field-0.items c.version.ensures.named
+    nothing_given c.args.net.now c.in_ok-vec.field-0.items c.in_ok-vec-2.field-0.items c.recall.ensures
     (c.in_ok-vec.ensures.items_if_clones_equal (λ y e. search rules) ∙ ap (λ (k : ℕ). replicate {A = Option ℚ} k None) c.link_count.ensures)
     (c.in_ok-vec-2.ensures.items_if_clones_equal (λ y e. search rules) ∙ ap (λ (k : ℕ). replicate {A = Option ℚ} k None) c.node_count.ensures)

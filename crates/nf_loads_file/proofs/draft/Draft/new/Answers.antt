@@ -21,10 +21,10 @@ loop-preserved c =
 
 pub returns-clause-nothing : goal.returns-clause-nothing
 returns-clause-nothing c =
-    let all : length c.args.net.now.link_names ≡ c.loop.counter = omega (arith, as_many_names c.args.net.now c.version.ensures.named) in
+    let all : length c.args.net.now.link_names ≡ c.loop.counter = omega (arith, as_many_names c.args.net.now c.recall.ensures) in
     ap made (c.loop.invariant ∙ splat_is_map c.args.net.now.link_names c.loop.counter [] all)
 
 pub returns-clause-links : goal.returns-clause-links
 returns-clause-links c =
-    let all : c.loop.counter ≡ length c.args.net.now.link_names = omega (arith, as_many_names c.args.net.now c.version.ensures.named) in
+    let all : c.loop.counter ≡ length c.args.net.now.link_names = omega (arith, as_many_names c.args.net.now c.recall.ensures) in
     record { many = ap (λ (l : List (List Piece)). length l) c.loop.invariant ∙ length-replicate c.loop.counter [] ∙ all }

@@ -73,13 +73,13 @@ returns-clause-reaches c = restored (record {
 })
 
 pub returns-clause-ends : goal.returns-clause-ends
-returns-clause-ends c = ends_reached passes_Q c.args.net.now.net c.version.ensures.named.network _ (returns-clause-reaches c)
+returns-clause-ends c = ends_reached passes_Q c.args.net.now.net c.recall.ensures.network _ (returns-clause-reaches c)
 
 pub returns-clause-labels : goal.returns-clause-labels
-returns-clause-labels c = keeps_reached passes_Q c.args.net.now.net c.version.ensures.named.network _ (returns-clause-reaches c)
+returns-clause-labels c = keeps_reached passes_Q c.args.net.now.net c.recall.ensures.network _ (returns-clause-reaches c)
 
 pub returns-clause-flow : goal.returns-clause-flow
-returns-clause-flow c = flow_restored passes_Q c.args.net.now.net c.version.ensures.named.network _ (record {
+returns-clause-flow c = flow_restored passes_Q c.args.net.now.net c.recall.ensures.network _ (record {
   flow = (flow_in c.args.flow);
   last = c.args.last;
   equilibrium = c.requires.equilibrium;

@@ -22,13 +22,13 @@ pub returns-clause-reaches : goal.returns-clause-reaches
 returns-clause-reaches c = starts (returns-clause-starts c)
 
 pub returns-clause-equilibrium : goal.returns-clause-equilibrium
-returns-clause-equilibrium c = equilibrium_reached passes_Q c.args.net.now.net c.version.ensures.named.network _ (returns-clause-reaches c)
+returns-clause-equilibrium c = equilibrium_reached passes_Q c.args.net.now.net c.recall.ensures.network _ (returns-clause-reaches c)
 
 pub returns-clause-ends : goal.returns-clause-ends
-returns-clause-ends c = ends_reached passes_Q c.args.net.now.net c.version.ensures.named.network _ (returns-clause-reaches c)
+returns-clause-ends c = ends_reached passes_Q c.args.net.now.net c.recall.ensures.network _ (returns-clause-reaches c)
 
 pub returns-clause-labels : goal.returns-clause-labels
-returns-clause-labels c = keeps_reached passes_Q c.args.net.now.net c.version.ensures.named.network _ (returns-clause-reaches c)
+returns-clause-labels c = keeps_reached passes_Q c.args.net.now.net c.recall.ensures.network _ (returns-clause-reaches c)
 
 pub returns-clause-short : goal.returns-clause-short
-returns-clause-short c = short_reached passes_Q c.args.net.now.net c.version.ensures.named.network _ (returns-clause-reaches c)
+returns-clause-short c = short_reached passes_Q c.args.net.now.net c.recall.ensures.network _ (returns-clause-reaches c)

@@ -9,7 +9,7 @@ use Rattle.nf_report_file.proofs.draft.Draft.new.Goals as goal
 pub returns-clause-draft : goal.returns-clause-draft
 returns-clause-draft c =
     nothing_read c.args.net.now c.zero.result c.zero-2.result c.new.result.items c.in_ok-none.field-0 c.zero.ensures c.zero-2.ensures c.new.ensures.items
-    (c.in_ok-none.ensures ∙ ap (λ k. replicate k None) (c.link_count.ensures ∙ sym (as_many_names c.args.net.now c.version.ensures.named)))
+    (c.in_ok-none.ensures ∙ ap (λ k. replicate k None) (c.link_count.ensures ∙ sym (as_many_names c.args.net.now c.recall.ensures)))
 
 pub returns-clause-within : goal.returns-clause-within
 returns-clause-within c = record {

@@ -19,7 +19,7 @@ returns-clause-list c = distances_listed passes_Q c.args.net.now.net c.args.self
 pub returns-clause-least : goal.returns-clause-least
 returns-clause-least c = distances_least passes_Q c.args.net.now.net c.args.self.now c.as_slice-flows.result.now (c.as_slice-flows.ensures.value ∙ c.self.view_is) c.args.from
     c.in_ok-known.known c.in_ok-known.ensures.list c.in_ok-distances.distances.items
-    c.in_ok-distances.ensures c.version-named.ensures.named.network c.requires.sound c.requires.from
+    c.in_ok-distances.ensures c.recall.ensures.network c.requires.sound c.requires.from
 
 pub reaches-requires-clause-flows : goal.reaches-requires-clause-flows
 reaches-requires-clause-flows c = ap (length {A = ℚ}) (c.as_slice-flows.ensures.value ∙ c.self.view_is) ∙ c.requires.sound.flow.count

@@ -27,7 +27,7 @@ returns-in_err-move_along-clause-sound c =
 
 pub returns-clause-sound : goal.returns-clause-sound
 returns-clause-sound c = pushed_sound passes_Q c.args.net.now.net c.args.self.now c.swap.new.x.items c.copy_from_slice.new.self.items c.args.walk.now c.deref-2.result.now c.args.amount
-    c.version-named.ensures.named.network c.requires.sound c.requires.walk c.requires.some c.requires.room
+    c.recall.ensures.network c.requires.sound c.requires.walk c.requires.some c.requires.room
     (c.copy_from_slice.ensures.items ∙ c.deref.ensures.value ∙ c.self.view_is)
     (c.deref-2.ensures.value ∙ ap (λ (w : Walk). w.steps) c.walk.view_is)
     (subst (λ (l : List ℚ). Ok l ≡ at_part Part.Quick (fold_checked (push_step passes_Q c.args.amount) c.copy_from_slice.new.self.items c.deref-2.result.now)) (ap (λ (v : Vec ℚ Global). v.items) (sym c.swap.ensures.x_after)) c.in_ok-move_along.ensures.moved)

@@ -13,7 +13,7 @@ returns-in_err-known-clause-list c =
 
 pub with_room-requires-clause-steps : goal.with_room-requires-clause-steps
 with_room-requires-clause-steps c = steps_within passes_Q c.args.net.now.net c.args.self.now c.as_slice-flows.result.now (c.as_slice-flows.ensures.value ∙ c.self.view_is) c.source.result c.source.ensures.value
-    c.in_ok-known.known c.in_ok-known.ensures.list c.in_ok-way.way c.sink.result c.sink.ensures.value c.in_ok-way.ensures c.version-named.ensures.named.network c.requires.sound
+    c.in_ok-known.known c.in_ok-known.ensures.list c.in_ok-way.way c.sink.result c.sink.ensures.value c.in_ok-way.ensures c.recall.ensures.network c.requires.sound
 
 pub returns-in_err-walk-clause-list : goal.returns-in_err-walk-clause-list
 returns-in_err-walk-clause-list c =
@@ -27,7 +27,7 @@ returns-clause-list c = walk_listed passes_Q c.args.net.now.net c.args.self.now 
 
 pub returns-clause-first : goal.returns-clause-first
 returns-clause-first c = walk_first passes_Q c.args.net.now.net c.args.self.now c.as_slice-flows.result.now (c.as_slice-flows.ensures.value ∙ c.self.view_is) c.source.result c.source.ensures.value
-    c.in_ok-known.known c.in_ok-known.ensures.list c.in_ok-way.way c.sink.result c.sink.ensures.value c.in_ok-way.ensures c.version-named.ensures.named.network c.requires.sound c.requires.limited
+    c.in_ok-known.known c.in_ok-known.ensures.list c.in_ok-way.way c.sink.result c.sink.ensures.value c.in_ok-way.ensures c.recall.ensures.network c.requires.sound c.requires.limited
     c.in_ok-walk.walk c.in_ok-walk.ensures
 
 pub with_room-requires-clause-flows : goal.with_room-requires-clause-flows
