@@ -13,3 +13,4 @@ pub mod Quotient
 pub mod Tests
 pub mod Slopes
 pub mod Samples
+pub mod Extremes
