@@ -1,14 +1,14 @@
 -- Equilibria of networks that differ in their supply after a departure alone: up to that departure the one is an equilibrium of the other's
 -- network.
-use Rattle.std.proofs.Common.{◌≡◌, ℕ, suc, ◌<◌, List, [], ◌∷◌, ◌++◌, ⊎_elim, sym, ap, subst, refl, ◌∙◌}
+use Rattle.std.proofs.Common.{◌≡◌, ℕ, suc, ◌<◌, List, [], ◌∷◌, ◌++◌, sym, ap, subst, refl, ◌∙◌}
 use Rattle.nf_rational.specs.Rational.{ℚ}
 use Rattle.nf_rational.specs.Operations.{0ℚ, ◌+ℚ◌, ◌-ℚ◌, ◌*ℚ◌}
-use Rattle.nf_rational.specs.Order.{◌≤ℚ◌, ◌<ℚ◌, min_ℚ, max_ℚ}
+use Rattle.nf_rational.specs.Order.{◌≤ℚ◌, min_ℚ, max_ℚ}
 use Rattle.nf_rational_laws.proofs.Polynomial.{reading_of}
-use Rattle.nf_rational_laws.proofs.Order.{not_both_ℚ}
-use Rattle.nf_rational_laws.proofs.Tests.{min_ℚ_cases, max0_none}
+use Rattle.nf_rational_laws.proofs.Tests.{max0_none}
 use Rattle.nf_rational_laws.proofs.Linear.{le, eq, eq_times, linear_le, linear_eq}
 use Rattle.nf_rational_laws.proofs.Chains.{≤ℚ_refl, ≤ℚ_trans}
+use Rattle.nf_rational_laws.proofs.Extremes.{min_is_left}
 use Rattle.nf_model.specs.Curve.{Within}
 use Rattle.nf_model.specs.Network.{Link, Piece, Network, IsNetwork, ArePieces, IsLink, time_in, supplied, supply}
 use Rattle.nf_model.specs.Equilibrium.{Flow, Balances, label, inflow, queue, Equilibrium}
@@ -85,19 +85,16 @@ module _ (net : Network) (pieces : List Piece) (until : ℚ) (one other : Flow) 
       (subst (λ (z : ℚ). Within 0ℚ (label one link.tail z) time) (sym (min_same departure)) k)
     where
       min_same : (z : ℚ) → min_ℚ z z ≡ z
-      min_same z = ⊎_elim (λ (m : (min_ℚ z z ≡ z) × (z ≤ℚ z)). m.0) (λ (m : (min_ℚ z z ≡ z) × (z <ℚ z)). m.0) (min_ℚ_cases z z)
+      min_same z = min_is_left z z (≤ℚ_refl z)
 
 -- ---- pieces that start later supply nothing before
-min_first : (x y : ℚ) → x ≤ℚ y → min_ℚ x y ≡ x
-min_first x y h = ⊎_elim (λ (w : (min_ℚ x y ≡ x) × (x ≤ℚ y)). w.0) (λ (w : (min_ℚ x y ≡ y) × (y <ℚ x)). absurd (not_both_ℚ _ _ w.1 h)) (min_ℚ_cases x y)
-
 rest-from : (piece : Piece) (rest : List Piece) (until : ℚ) → StartFrom (piece ∷ rest) until → StartFrom rest until
 rest-from piece rest until h i next p = h (suc i) next p
 
 -- how long a piece is the latest one, before pieces that start later than the time
 time_in-later : (start : ℚ) (pieces : List Piece) (time : ℚ) → StartFrom pieces time → time_in start pieces time ≡ max_ℚ 0ℚ (time -ℚ start)
 time_in-later start [] time h = refl
-time_in-later start (next ∷ rest) time h = ap (λ (t : ℚ). max_ℚ 0ℚ (t -ℚ start)) (min_first time next.start (h 0 next refl))
+time_in-later start (next ∷ rest) time h = ap (λ (t : ℚ). max_ℚ 0ℚ (t -ℚ start)) (min_is_left time next.start (h 0 next refl))
 
 gap_none : (s t : ℚ) → t ≤ℚ s → t -ℚ s ≤ℚ 0ℚ
 gap_none s t h = linear_le (s ∷ t ∷ []) (le h ∷ []) (search reading_of depth 12) tt

@@ -10,11 +10,11 @@ use Rattle.nf_rational.specs.Order.{◌≤ℚ◌, ◌<ℚ◌, cmp_ℚ, lt_ℚ, m
 use Rattle.nf_rational_laws.proofs.Order.{≤ℚ_of_lt, ≤ℚ_of_same, not_both_ℚ}
 use Rattle.nf_rational_laws.proofs.Tests.{lt_ℚ_cases}
 use Rattle.nf_rational_laws.proofs.Chains.{≤ℚ_trans}
+use Rattle.nf_rational_laws.proofs.Extremes.{min_is_left, min_is_right}
 use Rattle.nf_frac.proofs.Comparisons.{lt-cmp, gt-cmp, lesser_is_first, lesser_is_second}
 use Rattle.nf_model.specs.Curve.{Point, TimesRise, IsCurve}
 use Rattle.nf_curve_lists.specs.Times.{merged, merged_from, times_of}
 use Rattle.nf_curve_laws.proofs.Times.{merged_from-cases}
-use Rattle.nf_curve_laws.proofs.Least.{min-left, min-right}
 use Rattle.nf_check_lists.specs.Routes.{three_times}
 use Rattle.nf_check_rules.specs.Sent.{moved_on}
 use Rattle.nf_check_rules.proofs.PointByPoint.{drop_one, drop_none}
@@ -44,11 +44,11 @@ module _ (left right : List ℚ) (i j : ℕ) (s t : ℚ) (at : slice_get left i 
   next_time =
       ap (λ (l : List ℚ). merged l (drop j right)) (drop_one left i s at) ∙ ap (merged (s ∷ drop (i + 1) left)) (drop_one right j t there)
       ∙ merged_from-cases Next s (merged (drop (i + 1) left)) t (drop (j + 1) right)
-      (λ h. from_places (i + 1) j s (s ∷ merged (drop (i + 1) left) (t ∷ drop (j + 1) right)) (min-left s t (≤ℚ_of_lt _ _ h)) (moves i s t (≤ℚ_of_lt _ _ h)) (stays j t s h)
+      (λ h. from_places (i + 1) j s (s ∷ merged (drop (i + 1) left) (t ∷ drop (j + 1) right)) (min_is_left s t (≤ℚ_of_lt _ _ h)) (moves i s t (≤ℚ_of_lt _ _ h)) (stays j t s h)
       (ap (λ (l : List ℚ). s ∷ merged (drop (i + 1) left) l) (sym (drop_one right j t there))))
-      (λ h. from_places i (j + 1) t (t ∷ merged (s ∷ drop (i + 1) left) (drop (j + 1) right)) (min-right s t (≤ℚ_of_lt _ _ h)) (stays i s t h) (moves j t s (≤ℚ_of_lt _ _ h))
+      (λ h. from_places i (j + 1) t (t ∷ merged (s ∷ drop (i + 1) left) (drop (j + 1) right)) (min_is_right s t (≤ℚ_of_lt _ _ h)) (stays i s t h) (moves j t s (≤ℚ_of_lt _ _ h))
       (ap (λ (l : List ℚ). t ∷ merged l (drop (j + 1) right)) (sym (drop_one left i s at))))
-      (λ h. from_places (i + 1) (j + 1) s (s ∷ merged (drop (i + 1) left) (drop (j + 1) right)) (min-left s t (≤ℚ_of_same _ _ h)) (moves i s t (≤ℚ_of_same _ _ h)) (moves j t s (≤ℚ_of_same _ _ (sym h))) refl)
+      (λ h. from_places (i + 1) (j + 1) s (s ∷ merged (drop (i + 1) left) (drop (j + 1) right)) (min_is_left s t (≤ℚ_of_same _ _ h)) (moves i s t (≤ℚ_of_same _ _ h)) (moves j t s (≤ℚ_of_same _ _ (sym h))) refl)
 
   module _ (front all : List ℚ) (so_far : front ++ merged (drop i left) (drop j right) ≡ all) where
     pub times_go : (next : List ℚ) (a b : ℕ) (u : ℚ) → u ≡ min_ℚ s t → next ≡ front ++ u ∷ [] → a ≡ moved_on i s t → b ≡ moved_on j t s → next ++ merged (drop a left) (drop b right) ≡ all

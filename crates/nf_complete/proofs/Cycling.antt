@@ -16,7 +16,7 @@ use Rattle.nf_complete_laws.proofs.ForestMore.{forest-more}
 use Rattle.nf_complete_laws.proofs.OneCycle.{weaker}
 use Rattle.nf_complete.specs.Trees.{IsWay, AreApart}
 use Rattle.nf_complete.specs.Cycles.{IsClosed, IsFirstCycle, round_onto, lower, lowest_from}
-use Rattle.nf_complete.proofs.Contained.{contains_cases}
+use Rattle.nf_model_laws.proofs.Contained.{contains_cases}
 use Rattle.nf_complete.proofs.Rounding.{round-trail, round-contains, contains-round, round-differ, round-turn, turn-same, turn-other}
 
 -- ---- forests

@@ -6,8 +6,8 @@ use Rattle.nf_rational.specs.Order.{◌≤ℚ◌, ◌<ℚ◌, max_ℚ}
 use Rattle.nf_rational_laws.proofs.Polynomial.{reading_of}
 use Rattle.nf_rational_laws.proofs.Order.{≤ℚ_of_same, ≤ℚ_of_lt, ≤ℚ_antisymm, lt_or_le_ℚ, not_both_ℚ, nn_times}
 use Rattle.nf_rational_laws.proofs.Linear.{le, eq, linear_le}
-use Rattle.nf_rational_laws.proofs.Chains.{≤ℚ_refl, ≤ℚ_trans}
-use Rattle.nf_rational_laws.proofs.Tests.{max_ℚ_cases}
+use Rattle.nf_rational_laws.proofs.Chains.{≤ℚ_trans}
+use Rattle.nf_rational_laws.proofs.Extremes.{max_right}
 use Rattle.nf_model.specs.ThinFlow.{exit_slope}
 use Rattle.nf_model_laws.specs.Capacity.{IsPositive}
 use Rattle.nf_model_laws.proofs.Affine.{quotient-times, le_from_times}
@@ -15,12 +15,6 @@ use Rattle.nf_thin_laws.proofs.ExitSlopes.{exit_resetting, exit_full, exit_tight
 use Rattle.nf_thin_laws.proofs.LinkLaws.{LinkLaw}
 use Rattle.nf_complete_laws.proofs.Deciding.{some_or_none}
 use Rattle.nf_complete.specs.ThinParts.{filling, KeepsSlopes}
-
-max_second : (s q : ℚ) → q ≤ℚ max_ℚ s q
-max_second s q = ⊎_elim
-    (λ (w : (max_ℚ s q ≡ q) × (s ≤ℚ q)). subst (λ (z : ℚ). q ≤ℚ z) (sym w.0) (≤ℚ_refl q))
-    (λ (w : (max_ℚ s q ≡ s) × (q <ℚ s)). subst (λ (z : ℚ). q ≤ℚ z) (sym w.0) (≤ℚ_of_lt q s w.1))
-    (max_ℚ_cases s q)
 
 quotient_above : (x c t : ℚ) → 0ℚ <ℚ c → c *ℚ t ≤ℚ x → t ≤ℚ x /ℚ c
 quotient_above x c t h k = le_from_times c t (x /ℚ c) h (linear_le (x ∷ c ∷ t ∷ (x /ℚ c) ∷ []) (eq (quotient-times x c h) ∷ le k ∷ []) (search reading_of depth 12) tt)
@@ -53,7 +47,7 @@ keeps-least resets None x s t p k = k.0
 keeps-least true (Some c) x s t p k = ≤ℚ_of_same t _ (sym (exit_resetting (Some c) x s t p (c, refl, k)))
 keeps-least false (Some c) x s t p k = ⊎_elim
     (λ (l : t ≤ℚ s). exit_zero (Some c) x s t l)
-    (λ (l : c *ℚ t ≤ℚ x). ≤ℚ_trans t (x /ℚ c) (max_ℚ s (x /ℚ c)) (quotient_above x c t (p c refl) l) (max_second s (x /ℚ c)))
+    (λ (l : c *ℚ t ≤ℚ x). ≤ℚ_trans t (x /ℚ c) (max_ℚ s (x /ℚ c)) (quotient_above x c t (p c refl) l) (max_right s (x /ℚ c)))
     k.0
 
 -- a node takes its slope of a link that is resetting, carries something, or has equal slopes at its ends

@@ -1,4 +1,3 @@
-pub mod Contained
 pub mod Growing
 pub mod Rounding
 pub mod Cycling

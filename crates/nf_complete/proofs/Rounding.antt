@@ -7,7 +7,7 @@ use Rattle.nf_model.specs.Pattern.{IsTrail, AllDiffer}
 use Rattle.nf_complete_lists.specs.Interior.{links_of, turn_of}
 use Rattle.nf_complete_laws.proofs.Trails.{contains_more, contains_first}
 use Rattle.nf_complete.specs.Cycles.{round_onto, lower, lowest_from}
-use Rattle.nf_complete.proofs.Contained.{contains_cases}
+use Rattle.nf_model_laws.proofs.Contained.{contains_cases}
 
 -- one step more is turned
 pub round_more : (steps done next : List (ℕ × Bool)) (i : ℕ) (step turned : ℕ × Bool) → i < length steps → step ≡ get_or steps i step → turned ≡ (step.0, not step.1) → next ≡ turned ∷ done

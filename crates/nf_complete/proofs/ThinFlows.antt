@@ -15,7 +15,7 @@ use Rattle.nf_model_laws.proofs.Sums.{sum_in-same, sum_out-same, sum_in-none}
 use Rattle.nf_thin_laws.specs.ActiveLinks.{NoneEntersSource}
 use Rattle.nf_thin_laws.proofs.Flags.{flag, flag-cases}
 use Rattle.nf_thin_laws.proofs.Slopes.{link_law}
-use Rattle.nf_thin_laws.proofs.Totals.{IsThinFlow-sink}
+use Rattle.nf_model_laws.proofs.Totals.{IsThinFlow-sink}
 use Rattle.nf_complete_laws.specs.SettleLaws.{AreGoodSets}
 use Rattle.nf_complete_laws.proofs.Bare.{flagged, same_node}
 use Rattle.nf_complete_laws.proofs.Deciding.{same_or_not}

@@ -4,22 +4,10 @@ use Rattle.std.specs.Prelude.{Option, Some, None, slice_get}
 use Rattle.std.proofs.lemmas.Option.{none-some, same_Some}
 use Rattle.nf_rational.specs.Rational.{ℚ}
 use Rattle.nf_rational.specs.Order.{◌≤ℚ◌, ◌<ℚ◌, min_ℚ}
-use Rattle.nf_rational_laws.proofs.Order.{≤ℚ_of_lt}
 use Rattle.nf_rational_laws.proofs.Tests.{min_ℚ_cases}
 use Rattle.nf_rational_laws.proofs.Chains.{≤ℚ_refl, ≤ℚ_trans}
+use Rattle.nf_rational_laws.proofs.Extremes.{min_left, min_right}
 use Rattle.nf_complete_lists.specs.Cancelling.{lesser_room, least_room}
-
-min_left : (x y : ℚ) → min_ℚ x y ≤ℚ x
-min_left x y = ⊎_elim
-    (λ (w : (min_ℚ x y ≡ x) × (x ≤ℚ y)). subst (λ (z : ℚ). z ≤ℚ x) (sym w.0) (≤ℚ_refl x))
-    (λ (w : (min_ℚ x y ≡ y) × (y <ℚ x)). subst (λ (z : ℚ). z ≤ℚ x) (sym w.0) (≤ℚ_of_lt _ _ w.1))
-    (min_ℚ_cases x y)
-
-min_right : (x y : ℚ) → min_ℚ x y ≤ℚ y
-min_right x y = ⊎_elim
-    (λ (w : (min_ℚ x y ≡ x) × (x ≤ℚ y)). subst (λ (z : ℚ). z ≤ℚ y) (sym w.0) w.1)
-    (λ (w : (min_ℚ x y ≡ y) × (y <ℚ x)). subst (λ (z : ℚ). z ≤ℚ y) (sym w.0) (≤ℚ_refl y))
-    (min_ℚ_cases x y)
 
 -- it is at most each of them
 first_least : (x a : ℚ) (rest : Option ℚ) → lesser_room (Some x) rest ≡ Some a → a ≤ℚ x

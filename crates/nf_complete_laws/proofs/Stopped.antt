@@ -60,19 +60,20 @@ pub record EndsForNone (net : Network) (last : Standing) (stop : Option (Cause �
   pub well : WellRun net last
   pub none : (phase : ℕ) → stop ≡ Some (Cause.NoPattern phase) → NoneGoesOn net last
 
+-- ---- other causes
+abbrev pub Wants : Cause ℚ → ℕ → Type 0
+Wants c phase = c ≡ Cause.NoPattern phase
+
+pub over_other : (p t phase : ℕ) → Wants (Cause.Patterns p t) phase → ⊥
+over_other p t phase h = cc
+
+pub passed_other : (p : ℕ) (o : Option ℕ) (at : PassedAt ℚ) (phase : ℕ) → Wants (Cause.Passed p o at) phase → ⊥
+passed_other p o at phase h = cc
+
+pub phases_other : (m phase : ℕ) → Wants (Cause.Phases m) phase → ⊥
+phases_other m phase h = cc
+
 module _ (passes : Passing) (net : Network) (good : IsNetwork net) (bounds : Bounds) where
-  abbrev Wants : Cause ℚ → ℕ → Type 0
-  Wants c phase = c ≡ Cause.NoPattern phase
-
-  over_other : (p t phase : ℕ) → Wants (Cause.Patterns p t) phase → ⊥
-  over_other p t phase h = cc
-
-  passed_other : (p : ℕ) (o : Option ℕ) (at : PassedAt ℚ) (phase : ℕ) → Wants (Cause.Passed p o at) phase → ⊥
-  passed_other p o at phase h = cc
-
-  phases_other : (m phase : ℕ) → Wants (Cause.Phases m) phase → ⊥
-  phases_other m phase h = cc
-
   no_answer : (s : Standing) (phase : ℕ) (a : Answer) → Seeks passes net bounds.horizon bounds.patterns s a → cause_of_search (suc s.made) bounds.patterns a ≡ Some (Cause.NoPattern phase) → WellRun net s
       → NoneGoesOn net s
   no_answer s phase (Found place pattern f l) k h well flows slopes thin = none-some _ h

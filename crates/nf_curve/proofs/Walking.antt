@@ -9,12 +9,12 @@ use Rattle.nf_rational_laws.proofs.Tests.{lt_ℚ_cases}
 use Rattle.nf_model.specs.Curve.{Point, TimesRise, IsCurve}
 use Rattle.nf_curve_lists.specs.Times.{merged, times_of, both_times}
 use Rattle.nf_curve_laws.proofs.Times.{merged_from-cases}
-use Rattle.nf_curve_laws.proofs.Least.{min-left, min-right}
 use Rattle.nf_curve.specs.Places.{place_of, later, times_after, earlier_of, ComesNext}
 use Rattle.nf_curve.specs.Moments.{IsMoment, times_left}
 use Rattle.nf_curve.specs.declared.walk.Moment.{Moment}
 use Rattle.nf_curve.proofs.Placing.{rises-rest, curve-rises}
 use Rattle.nf_rational_laws.proofs.Chains.{≤ℚ_refl, ≤ℚ_trans}
+use Rattle.nf_rational_laws.proofs.Extremes.{min_is_left, min_is_right}
 
 -- ---- the points after a time
 later-behind : (time : ℚ) (p : Point) (rest : List Point) → time <ℚ p.0 → later time (p ∷ rest) ≡ p ∷ rest
@@ -106,11 +106,11 @@ module _ (time : ℚ) (left right : List Point) (r : TimesRise left) (s : TimesR
       subst (λ (l : List ℚ). (time <ℚ min_ℚ p.0 q.0) × (l ≡ min_ℚ p.0 q.0 ∷ times_after (min_ℚ p.0 q.0) left right))
       (sym (ap (λ (l : List Point). merged (times_of l) (times_of (later time right))) e ∙ ap (λ (l : List Point). merged (times_of (p ∷ ls)) (times_of l)) f))
       (merged_from-cases (λ (l : List ℚ). (time <ℚ min_ℚ p.0 q.0) × (l ≡ min_ℚ p.0 q.0 ∷ times_after (min_ℚ p.0 q.0) left right)) p.0 (merged (times_of ls)) q.0 (times_of rs)
-      (λ h. on p.0 (p.0 ∷ merged (times_of ls) (times_of (q ∷ rs))) (min-left p.0 q.0 (≤ℚ_of_lt _ _ h)) v.after
+      (λ h. on p.0 (p.0 ∷ merged (times_of ls) (times_of (q ∷ rs))) (min_is_left p.0 q.0 (≤ℚ_of_lt _ _ h)) v.after
       (ap (λ (l : List Point). p.0 ∷ merged (times_of l) (times_of (later p.0 right))) v.next ∙ ap (λ (l : List Point). p.0 ∷ merged (times_of ls) (times_of l)) (w.stays p.0 (≤ℚ_of_lt _ _ v.after) h)))
-      (λ h. on q.0 (q.0 ∷ merged (times_of (p ∷ ls)) (times_of rs)) (min-right p.0 q.0 (≤ℚ_of_lt _ _ h)) w.after
+      (λ h. on q.0 (q.0 ∷ merged (times_of (p ∷ ls)) (times_of rs)) (min_is_right p.0 q.0 (≤ℚ_of_lt _ _ h)) w.after
       (ap (λ (l : List Point). q.0 ∷ merged (times_of l) (times_of (later q.0 right))) (v.stays q.0 (≤ℚ_of_lt _ _ w.after) h) ∙ ap (λ (l : List Point). q.0 ∷ merged (times_of (p ∷ ls)) (times_of l)) w.next))
-      (λ h. on p.0 (p.0 ∷ merged (times_of ls) (times_of rs)) (min-left p.0 q.0 (≤ℚ_of_same _ _ h)) v.after
+      (λ h. on p.0 (p.0 ∷ merged (times_of ls) (times_of rs)) (min_is_left p.0 q.0 (≤ℚ_of_same _ _ h)) v.after
       (ap (λ (l : List Point). p.0 ∷ merged (times_of l) (times_of (later p.0 right))) v.next
       ∙ ap (λ (l : List Point). p.0 ∷ merged (times_of ls) (times_of l)) (ap (λ (t : ℚ). later t right) h ∙ w.next))))
     where

@@ -21,7 +21,7 @@ use crate::composed::composed_until;
 use crate::cut::cut_points;
 use crate::differences::difference_until;
 use crate::least::least_points;
-use crate::lines::Sides;
+use crate::lines::{Point, Sides};
 use crate::places::{place_up, value_at};
 use crate::short::short_points;
 use crate::sums::sum_points;
@@ -60,6 +60,14 @@ impl Curve {
         Ok(Curve { points })
     }
 
+    /// The curve of these points.
+    pub fn of_points(points: Vec<Point>) -> Curve
+        requires { IsCurve points.items }
+        ensures { result.points ≡ points.items }
+    {
+        Curve { points }
+    }
+
     /// Afterwards so many pushes can't be refused. The points stay, also where memory is wanting.
     pub fn reserve(&mut self, more: usize) -> Result<(), AllocError>
         ensures points { self.new.points ≡ self.old.points }
@@ -90,6 +98,14 @@ impl Curve {
         ensures curve { IsCurve self.now.points }
     {
         self.points.len()
+    }
+
+    /// Its points, in order.
+    pub fn as_points(&self) -> &[Point]
+        ensures points { result.now ≡ self.now.points }
+        ensures curve { IsCurve result.now }
+    {
+        &self.points
     }
 
     /// The point of this number, its time and its value.

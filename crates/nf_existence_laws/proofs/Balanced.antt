@@ -19,7 +19,7 @@ use Rattle.nf_thin_laws.specs.ActiveLinks.{AreSets}
 use Rattle.nf_thin_laws.proofs.Flags.{entry_beyond, flag, flag-cases}
 use Rattle.nf_thin_laws.proofs.ExitSlopes.{exit_resetting}
 use Rattle.nf_thin_laws.proofs.Cuts.{EndsBelow-net}
-use Rattle.nf_thin_laws.proofs.Totals.{all_zero, two_cancel}
+use Rattle.nf_model_laws.proofs.Totals.{all_zero, two_cancel}
 use Rattle.nf_existence_laws.specs.Oversupply.{Fits, demand, IsOversupply}
 use Rattle.nf_existence_laws.proofs.Fitting.{fits_exit, fits_least, fits_used}
 use Rattle.nf_existence_laws.proofs.Numbers.{numbers, length-numbers, number_at-numbers, number_at-past}

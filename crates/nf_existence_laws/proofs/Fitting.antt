@@ -8,13 +8,13 @@ use Rattle.nf_rational_laws.proofs.Polynomial.{reading_of}
 use Rattle.nf_rational_laws.proofs.Order.{≤ℚ_of_same, ≤ℚ_of_lt, ≤ℚ_antisymm, lt_or_le_ℚ, not_both_ℚ, nn_times}
 use Rattle.nf_rational_laws.proofs.Chains.{≤ℚ_refl, ≤ℚ_trans}
 use Rattle.nf_rational_laws.proofs.Linear.{le, eq, le_times, linear_le}
+use Rattle.nf_rational_laws.proofs.Extremes.{min_left, min_right, min_keeps}
 use Rattle.nf_model.specs.ThinFlow.{exit_slope}
 use Rattle.nf_model.specs.Pattern.{Fills}
 use Rattle.nf_model_laws.specs.Capacity.{IsPositive}
 use Rattle.nf_thin_laws.proofs.ExitSlopes.{exit_full, exit_tight, exit_zero}
 use Rattle.nf_existence_laws.specs.Oversupply.{Fits}
 use Rattle.nf_complete_laws.proofs.Deciding.{Decided}
-use Rattle.nf_existence_laws.proofs.Small.{min_left, min_right, min_keeps}
 
 -- ---- no more than fills the link; just that; less
 abbrev pub IsAtMost : Option ℚ → ℚ → ℚ → Type 0

@@ -8,6 +8,7 @@ use Rattle.nf_rational_laws.proofs.Polynomial.{reading_of}
 use Rattle.nf_rational_laws.proofs.Order.{≤ℚ_of_lt}
 use Rattle.nf_rational_laws.proofs.Quotient.{/ℚ-times, ps_apart}
 use Rattle.nf_rational_laws.proofs.Linear.{le, lt, eq, linear_le, linear_lt, linear_eq, linear_false}
+use Rattle.nf_rational_laws.proofs.Extremes.{min_left, min_right, min_keeps}
 use Rattle.nf_model.specs.Entries.{Has}
 use Rattle.nf_model.specs.Network.{Link, Network, IsLink, IsNetwork, sum_out}
 use Rattle.nf_model.specs.ThinFlow.{Sets}
@@ -18,7 +19,6 @@ use Rattle.nf_existence_laws.specs.Oversupply.{IsOversupply}
 use Rattle.nf_complete_laws.proofs.Deciding.{Decided, both, same_or_not, NoLink}
 use Rattle.nf_complete_laws.proofs.Bare.{flagged, same_node}
 use Rattle.nf_existence_laws.proofs.Deciding.{not_so, less_or_not, SomeLink, some_link}
-use Rattle.nf_existence_laws.proofs.Small.{min_left, min_right, min_keeps}
 use Rattle.nf_existence_laws.proofs.Fitting.{IsAtMost, HasRoom, room_or_not}
 use Rattle.nf_existence_laws.proofs.Spare.{spare, HasSpare, spare_or_not, spare_of_enough}
 use Rattle.nf_existence_laws.proofs.Lowering.{IsClosed}

@@ -15,7 +15,7 @@ use Rattle.nf_model.specs.ThinFlow.{Sets, Enters}
 use Rattle.nf_model.specs.Pattern.{NeedsState, Fills}
 use Rattle.nf_model_laws.specs.Capacity.{IsPositive}
 use Rattle.nf_model_laws.proofs.Earliest.{IsPositive-link}
-use Rattle.nf_model_laws.proofs.Sums.{sum_in-same, sum_in-line, sum_in-order, sum_out-order}
+use Rattle.nf_model_laws.proofs.Sums.{sum_in-same, sum_in-line, sum_in-order, sum_out-order, HasIn}
 use Rattle.nf_model_laws.proofs.Potential.{sum_to}
 use Rattle.nf_thin_laws.specs.ActiveLinks.{AreSets, HoldNoCycle}
 use Rattle.nf_thin_laws.proofs.ActiveLinks.{none_first}
@@ -23,7 +23,7 @@ use Rattle.nf_plain_laws.proofs.Naturals.{before_or_at}
 use Rattle.nf_existence_laws.specs.Oversupply.{Fits, demand, IsOversupply, ResetsAreBounded}
 use Rattle.nf_complete_laws.proofs.Deciding.{Decided}
 use Rattle.nf_existence_laws.proofs.Small.{Small, Small-map, Small-both, Small-when, Small-at_most, Small-apart, Small-times, Small-to, Small-links}
-use Rattle.nf_existence_laws.proofs.LinkSums.{Brings, sum_in-not_negative}
+use Rattle.nf_existence_laws.proofs.LinkSums.{sum_in-not_negative}
 use Rattle.nf_existence_laws.proofs.Fitting.{IsAtMost, IsFilled, HasRoom, filled_or_room, capped, capped-le, capped-same, capped-none, capped-near, capped-fills, Fits-capped, fits_used, ordered-low}
 use Rattle.nf_existence_laws.proofs.Spare.{spare, HasSpare, spare_or_not, kind_of, at_most, spare-brings}
 
@@ -154,7 +154,7 @@ module _ (net : Network) (sets : Sets) (rate : ℚ) (flows slopes : ℕ → ℚ)
   flat_back : (v : ℕ) → v < net.nodes → Flat v → (e : ℕ) × (link : Link) × Enters net sets v e link × Flat link.tail
   flat_back v h f = from (spare-brings net sets rate flows slopes good over rate_nn v f.0.1)
     where
-      from : Brings net.links flows v → (e : ℕ) × (link : Link) × Enters net sets v e link × Flat link.tail
+      from : HasIn net.links flows v → (e : ℕ) × (link : Link) × Enters net sets v e link × Flat link.tail
       from b = let w : Has sets.active b.0 × Flat b.1.tail = flat_link b.0 b.1 b.2 b.4 (subst Flat (sym b.3) f) in
           (b.0, b.1, record { is_link = b.2; active = w.0; head = b.3 }, w.1)
 
@@ -303,7 +303,7 @@ module _ (net : Network) (sets : Sets) (rate : ℚ) (flows slopes : ℕ → ℚ)
     abbrev Led : ℕ → Type 0
     Led v = (e : ℕ) × (link : Link) × Enters net sets v e link × (Has sets.resetting e ⊎ (lowered link.tail ≤ℚ lowered link.head))
 
-    led_by : (v : ℕ) → Brings net.links flows v → Led v
+    led_by : (v : ℕ) → HasIn net.links flows v → Led v
     led_by v b = ⊎_elim
         (λ (r : Has sets.resetting b.0). (b.0, b.1, record { is_link = b.2; active = are.resetting b.0 r; head = b.3 }, inl r))
         (λ (o : NeedsState sets b.0 ⊎ (Has sets.active b.0 → ⊥)). ⊎_elim

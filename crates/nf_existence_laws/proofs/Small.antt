@@ -5,36 +5,16 @@ use Rattle.nf_rational.specs.Rational.{ℚ}
 use Rattle.nf_rational.specs.Operations.{0ℚ, 1ℚ, ◌+ℚ◌, ◌-ℚ◌, ◌*ℚ◌, ◌/ℚ◌}
 use Rattle.nf_rational.specs.Order.{◌≤ℚ◌, ◌<ℚ◌, min_ℚ}
 use Rattle.nf_rational_laws.proofs.Polynomial.{reading_of}
-use Rattle.nf_rational_laws.proofs.Order.{≤ℚ_of_lt, ps_times}
-use Rattle.nf_rational_laws.proofs.Chains.{≤ℚ_refl, ≤ℚ_trans}
+use Rattle.nf_rational_laws.proofs.Order.{ps_times}
+use Rattle.nf_rational_laws.proofs.Chains.{≤ℚ_trans}
 use Rattle.nf_rational_laws.proofs.Quotient.{/ℚ_is, /ℚ-times, ps_apart, ps_inv}
-use Rattle.nf_rational_laws.proofs.Tests.{min_ℚ_cases}
 use Rattle.nf_rational_laws.proofs.Linear.{le, lt, eq, le_times, linear_le, linear_lt}
+use Rattle.nf_rational_laws.proofs.Extremes.{min_left, min_right, min_keeps}
 use Rattle.nf_model.specs.Network.{Link}
 use Rattle.nf_plain_laws.proofs.Naturals.{before_or_at}
 use Rattle.nf_existence_laws.proofs.LeastLinks.{each_of}
 use Rattle.nf_complete_laws.proofs.Deciding.{Decided}
 use Rattle.nf_existence_laws.proofs.Deciding.{less_or_not}
-
--- ---- the lesser of two
-pub min_left : (x y : ℚ) → min_ℚ x y ≤ℚ x
-min_left x y = ⊎_elim
-    (λ (w : (min_ℚ x y ≡ x) × (x ≤ℚ y)). subst (λ (z : ℚ). z ≤ℚ x) (sym w.0) (≤ℚ_refl x))
-    (λ (w : (min_ℚ x y ≡ y) × (y <ℚ x)). subst (λ (z : ℚ). z ≤ℚ x) (sym w.0) (≤ℚ_of_lt _ _ w.1))
-    (min_ℚ_cases x y)
-
-pub min_right : (x y : ℚ) → min_ℚ x y ≤ℚ y
-min_right x y = ⊎_elim
-    (λ (w : (min_ℚ x y ≡ x) × (x ≤ℚ y)). subst (λ (z : ℚ). z ≤ℚ y) (sym w.0) w.1)
-    (λ (w : (min_ℚ x y ≡ y) × (y <ℚ x)). subst (λ (z : ℚ). z ≤ℚ y) (sym w.0) (≤ℚ_refl y))
-    (min_ℚ_cases x y)
-
--- what holds of both, holds of the lesser
-pub min_keeps : (P : ℚ → Type 0) (x y : ℚ) → P x → P y → P (min_ℚ x y)
-min_keeps P x y p q = ⊎_elim
-    (λ (w : (min_ℚ x y ≡ x) × (x ≤ℚ y)). subst P (sym w.0) p)
-    (λ (w : (min_ℚ x y ≡ y) × (y <ℚ x)). subst P (sym w.0) q)
-    (min_ℚ_cases x y)
 
 -- ---- small enough
 pub record Small (P : ℚ → Type 0) : Type 0 where

@@ -12,11 +12,12 @@ use Rattle.nf_model.specs.Network.{Link, Network, IsLink, IsNetwork, sum_in, sum
 use Rattle.nf_model.specs.ThinFlow.{Sets}
 use Rattle.nf_model.specs.Pattern.{NeedsState}
 use Rattle.nf_model_laws.proofs.Earliest.{IsPositive-link}
+use Rattle.nf_model_laws.proofs.Sums.{HasIn, sum_in-some}
 use Rattle.nf_existence_laws.specs.Oversupply.{demand, IsOversupply}
 use Rattle.nf_complete_laws.proofs.Deciding.{Decided, both}
 use Rattle.nf_complete_laws.proofs.Bare.{flagged, same_node}
 use Rattle.nf_existence_laws.proofs.Deciding.{not_so, less_or_not}
-use Rattle.nf_existence_laws.proofs.LinkSums.{Brings, sum_in-brings, sum_out-not_negative}
+use Rattle.nf_existence_laws.proofs.LinkSums.{sum_out-not_negative}
 use Rattle.nf_existence_laws.proofs.Fitting.{IsAtMost, IsAtMost-fills, IsAtMost-none, not_negative-fills}
 
 abbrev pub spare : Network → ℚ → (ℕ → ℚ) → ℕ → ℚ
@@ -72,8 +73,8 @@ module _ (net : Network) (sets : Sets) (rate : ℚ) (flows slopes : ℕ → ℚ)
       (kind_of sets e)
 
   -- something comes into a node with something to spare
-  pub spare-brings : 0ℚ ≤ℚ rate → (v : ℕ) → 0ℚ <ℚ spare net rate flows v → Brings net.links flows v
-  spare-brings n v h = sum_in-brings net.links flows v (some _ _ _ (sum_out-not_negative net.links flows v not_negative) (demand-not_negative net rate v n) h)
+  pub spare-brings : 0ℚ ≤ℚ rate → (v : ℕ) → 0ℚ <ℚ spare net rate flows v → HasIn net.links flows v
+  spare-brings n v h = sum_in-some net.links flows v (some _ _ _ (sum_out-not_negative net.links flows v not_negative) (demand-not_negative net rate v n) h)
     where
       some : (i o d : ℚ) → 0ℚ ≤ℚ o → 0ℚ ≤ℚ d → 0ℚ <ℚ i -ℚ (o +ℚ d) → 0ℚ <ℚ i
       some i o d p q r = linear_lt (i ∷ o ∷ d ∷ []) (le p ∷ le q ∷ lt r ∷ []) (search reading_of depth 12) tt

@@ -21,7 +21,7 @@ use Rattle.nf_forever_lists.specs.Tails.{Tail}
 use Rattle.nf_forever_lists.specs.ForeverRun.{GoesForever, End, Stops, NeverEnds, RunsForever, at_phases, fails, never_ends, goes, IsForeverRun, Forever, forever_of, IsForever}
 use Rattle.nf_forever_lists.specs.Extended.{flow_until}
 use Rattle.nf_forever_lists.specs.ForeverText.{HasForm}
-use Rattle.nf_forever_laws.proofs.Outcomes.{goes_knows, start_knows}
+use Rattle.nf_lists_laws.proofs.OneRun.{goes_knows, start_knows}
 use Rattle.nf_forever_laws.proofs.Run.{well_forever, Equilibrium-forever, Equilibrium-until}
 use Rattle.nf_forever.specs.declared.forever.Tail as code
 use Rattle.nf_forever.specs.declared.forever.Forever as told
@@ -44,7 +44,7 @@ module _ (passes : Passing) (net : Network) (phases patterns : ℕ) where
   counts_on s last end knows (at_phases e) = knows
   counts_on s last end knows (fails may f) = knows
   counts_on s last end knows (never_ends {pattern = p} {tail = t} may g) = tail_counts s p t g
-  counts_on s last end knows (goes {new = t} may g rest) = counts_on t last end (goes_knows passes net patterns s t g) rest
+  counts_on s last end knows (goes {new = t} may g rest) = counts_on t last end (goes_knows passes net g.end patterns s t g.goes) rest
 
 -- ---- what is told, by how the run ends
 module _ (net : Network) (good : IsNetwork net) (last : Standing) (well : WellRun net last) where

@@ -2,22 +2,18 @@
 ghost use Rattle.std.specs.Prelude.{◌≡◌, [], ◌∷◌, ◌++◌, length, codes, IfSome};
 ghost use Rattle.std.specs.Option.{option_copied};
 ghost use Rattle.nf_edge.specs.Taken.{Wrote};
-ghost use Rattle.nf_model.specs.Equilibrium.{HasShape};
-ghost use Rattle.nf_curve.specs.Flows.{flow_of};
 ghost use Rattle.nf_report.specs.Pages.{GatheredLines};
 ghost use Rattle.nf_forever_lists.specs.ForeverText.{HasForm, tail_lines, forever_lines, forever_text};
 ghost use Rattle.nf_forever.specs.Seen.{forever_in};
-ghost use Rattle.nf_forever.specs.Parts.{head_lines, flow_lines, end_lines};
+ghost use Rattle.nf_forever.specs.Parts.{head_lines, end_lines};
 
 use crate::forever::Forever;
 use crate::tail_lines::put_tail;
-use nf_curve::{Flow, Stop};
+use nf_curve::Stop;
 use nf_edge::{Sink, SinkFault, write_text};
 use nf_frac::Q;
 use nf_net::Network;
-use nf_report::{
-    Page, put_cause, put_idle, put_labels, put_line, put_links, put_number, put_states,
-};
+use nf_report::{Page, put_cause, put_flow, put_line, put_number, put_states};
 
 // How far the run went, and why it stopped.
 fn put_head<O: Sink>(
@@ -32,22 +28,6 @@ fn put_head<O: Sink>(
     put_line(out, page, b"forever", &[b"1"])?;
     put_number(out, page, b"reached", reached)?;
     put_cause(out, page, stopped)
-}
-
-// The curves of the nodes and links, and the idle nodes.
-fn put_curves<O: Sink>(
-    out: &mut O,
-    page: &mut Page,
-    net: &Network,
-    flow: &Flow,
-) -> Result<(), SinkFault>
-    requires { HasShape net.now.net (flow_of flow.now) }
-    ensures { GatheredLines (O.took out.old) (O.took out.new) (O.faults out.old) (O.faults out.new) page.old.items page.new.items
-        (flow_lines net.now (flow_of flow.now)) result }
-{
-    put_labels(out, page, net, flow)?;
-    put_idle(out, page, net)?;
-    put_links(out, page, net, flow)
 }
 
 // The tail, where there is one.
@@ -95,7 +75,7 @@ fn put_forever<O: Sink>(
         (forever_lines net.now (forever_in forever.now)) result }
 {
     put_head(out, page, forever.flow.reached, forever.stopped.as_ref())?;
-    put_curves(out, page, net, &forever.flow)?;
+    put_flow(out, page, net, &forever.flow)?;
     put_end(out, page, net, forever)
 }
 

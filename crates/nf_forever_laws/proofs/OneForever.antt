@@ -15,13 +15,13 @@ use Rattle.nf_model.specs.Pattern.{Pattern}
 use Rattle.nf_formats.specs.declared.Cause.{Cause}
 use Rattle.nf_lists.specs.Extend.{extend_list}
 use Rattle.nf_lists.specs.PhaseRun.{Standing}
-use Rattle.nf_lists_laws.proofs.OneRun.{one_start}
+use Rattle.nf_lists_laws.proofs.OneRun.{one_start, goes_knows, start_knows}
 use Rattle.nf_curve_laws.proofs.Operations.{checked-is}
 use Rattle.nf_phase_laws.proofs.Length.{IsExtension-some}
 use Rattle.nf_run_laws.proofs.Extension.{extension_is}
 use Rattle.nf_forever_lists.specs.Tails.{Tail}
 use Rattle.nf_forever_lists.specs.ForeverRun.{end_after, end_list, End, Stops, NeverEnds, RunsForever, at_phases, fails, never_ends, goes, IsForeverRun, Forever, forever_of, IsForever}
-use Rattle.nf_forever_laws.proofs.Outcomes.{Moves, Ends, Fault, one_outcome, fails-comes, goes-comes, ends-comes, goes_knows, start_knows}
+use Rattle.nf_forever_laws.proofs.Outcomes.{Moves, Ends, Fault, one_outcome, fails-comes, goes-comes, ends-comes}
 
 -- ---- the end of a phase is later than its beginning
 same_end : (x y : ℚ) → ◌≡◌ {A = Checked (Option ℚ)} (Ok (Some x)) (Ok (Some y)) → x ≡ y
@@ -87,7 +87,7 @@ module _ (passes : Passing) (net : Network) (phases patterns : ℕ) where
   one_end s l m o r knows (goes may g rest) (never_ends may' h) = absurd (moves_not_ends _ _ _ (one_outcome passes net patterns s knows _ _ (goes-comes passes net patterns s _ g) (ends-comes passes net patterns s _ _ h)))
   one_end s l m o r knows (goes {new = t} may g rest) (goes {new = u} may' h other) =
       let same : t ≡ u = same_moves t u (one_outcome passes net patterns s knows _ _ (goes-comes passes net patterns s _ g) (goes-comes passes net patterns s _ h)) in
-      one_end t l m o r (goes_knows passes net patterns s t g) rest (subst (λ (w : Standing). RunsForever passes net phases patterns w m r) (sym same) other)
+      one_end t l m o r (goes_knows passes net g.end patterns s t g.goes) rest (subst (λ (w : Standing). RunsForever passes net phases patterns w m r) (sym same) other)
 
   one_run : (l m : Standing) (o r : End) → IsForeverRun passes net phases patterns l o → IsForeverRun passes net phases patterns m r → Same l m o r
   one_run l m o r h k =

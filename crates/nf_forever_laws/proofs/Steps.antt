@@ -13,19 +13,12 @@ use Rattle.nf_phase_laws.specs.CurveSteps.{LastPoint, GoesOnTo}
 use Rattle.nf_phase_laws.proofs.CurveSteps.{GoesOnTo-appended}
 use Rattle.nf_run_laws.proofs.StepValues.{positive_of, none_of}
 use Rattle.nf_run_laws.proofs.Traces.{later_by, same_point, TraceStep}
+use Rattle.nf_run_laws.proofs.Points.{AreSlopes-appended}
 use Rattle.nf_forever_lists.specs.Extended.{last_point, with_end, trace_with_end}
 use Rattle.nf_plain_laws.proofs.Entries.{last-append}
 
 pub last_point-is : (points : List Point) (last : Point) → LastPoint points last → last_point points ≡ last
 last_point-is points last l = ap last_point l.same ∙ ap (λ (o : Option Point). option_map_or (λ (p : Point). p) o (0ℚ, 0ℚ)) (last-append None l.front last)
-
-AreSlopes-appended : (front : List Point) (last new : Point) (rates : List ℚ) (r : ℚ) → AreSlopes (front ++ last ∷ []) rates → r ≡ slope last new → AreSlopes ((front ++ last ∷ []) ++ new ∷ []) (rates ++ r ∷ [])
-AreSlopes-appended [] last new [] r h e = (e, tt)
-AreSlopes-appended [] last new (x ∷ rates) r h e = absurd h
-AreSlopes-appended (p ∷ []) last new [] r h e = absurd h
-AreSlopes-appended (p ∷ []) last new (x ∷ rates) r h e = (h.0, AreSlopes-appended [] last new rates r h.1 e)
-AreSlopes-appended (p ∷ q ∷ front) last new [] r h e = absurd h
-AreSlopes-appended (p ∷ q ∷ front) last new (x ∷ rates) r h e = (h.0, AreSlopes-appended (q ∷ front) last new rates r h.1 e)
 
 pub AreSlopes-more : (points : List Point) (rates : List ℚ) (last new : Point) → LastPoint points last → AreSlopes points rates → AreSlopes (points ++ new ∷ []) (rates ++ slope (last_point points) new ∷ [])
 AreSlopes-more points rates last new l are = subst (λ (ps : List Point). AreSlopes (ps ++ new ∷ []) (rates ++ slope (last_point points) new ∷ [])) (sym l.same)

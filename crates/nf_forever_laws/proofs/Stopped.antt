@@ -1,10 +1,9 @@
 -- A run without a horizon that stopped since no pattern was left, stopped where there is no thin flow.
 use Rattle.std.proofs.Common.{◌≡◌, ℕ, suc, List, refl, sym, ap, subst, ◌∙◌}
-use Rattle.std.specs.Prelude.{Option, Some}
+use Rattle.std.specs.Prelude.{Some}
 use Rattle.std.proofs.lemmas.Option.{none-some, same_Some}
 use Rattle.nf_rational.specs.Rational.{ℚ}
 use Rattle.nf_work.specs.Passing.{Passing}
-use Rattle.nf_work.specs.declared.PassedAt.{PassedAt}
 use Rattle.nf_model.specs.Network.{Network, IsNetwork, rate_at}
 use Rattle.nf_model.specs.ThinFlow.{sets_at, IsThinFlow}
 use Rattle.nf_model.specs.Pattern.{Pattern}
@@ -16,24 +15,12 @@ use Rattle.nf_lists.specs.PhaseRun.{Standing, cause_of_search, flow_of}
 use Rattle.nf_run_laws.proofs.WellRun.{WellRun}
 use Rattle.nf_complete_lists.specs.Reached.{labels_reached, StopsForNoThinFlow}
 use Rattle.nf_complete_laws.proofs.Settled.{none-search}
-use Rattle.nf_complete_laws.proofs.Stopped.{AreGoodSets-well, labels_are}
+use Rattle.nf_complete_laws.proofs.Stopped.{AreGoodSets-well, labels_are, Wants, over_other, passed_other, phases_other}
 use Rattle.nf_forever_lists.specs.Tails.{Tail}
 use Rattle.nf_forever_lists.specs.ForeverRun.{SeeksOn, FailsOn, at_slack, at_search, at_extend, at_lists, End, Stops, NeverEnds, RunsForever, at_phases, fails, never_ends, goes, Forever, forever_of, IsForever}
 use Rattle.nf_forever_laws.proofs.Run.{well_forever}
 
 module _ (passes : Passing) (net : Network) (good : IsNetwork net) (phases patterns : ℕ) (flows slopes : List ℚ) where
-  abbrev Wants : Cause ℚ → ℕ → Type 0
-  Wants c phase = c ≡ Cause.NoPattern phase
-
-  over_other : (p t phase : ℕ) → Wants (Cause.Patterns p t) phase → ⊥
-  over_other p t phase h = cc
-
-  passed_other : (p : ℕ) (o : Option ℕ) (at : PassedAt ℚ) (phase : ℕ) → Wants (Cause.Passed p o at) phase → ⊥
-  passed_other p o at phase h = cc
-
-  phases_other : (m phase : ℕ) → Wants (Cause.Phases m) phase → ⊥
-  phases_other m phase h = cc
-
   abbrev NoneAt : Standing → Type 0
   NoneAt s = IsThinFlow net (sets_at net s.labels) (rate_at net s.time) flows slopes → ⊥
 

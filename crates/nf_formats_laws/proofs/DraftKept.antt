@@ -240,47 +240,42 @@ module _ (draft : Draft) (h : IsGoodDraft draft) where
   ends_kept : (more : List Name) → list_all (has_name (with_names draft.nodes more)) (ends draft.links) ≡ true
   ends_kept more = all_weakened (has_name draft.nodes) (has_name (with_names draft.nodes more)) (λ name e. still_there draft.nodes more name e) (ends draft.links) h.ends_there
 
+  -- with a node named as the source or the sink
+  end_named : (name : Name) (source sink : Option Name) → is_name name ≡ true → too_many_nodes draft (name ∷ []) ≡ false
+      → ((other : Name) → source ≡ Some other → has_name (with_names draft.nodes (name ∷ [])) other ≡ true)
+      → ((other : Name) → sink ≡ Some other → has_name (with_names draft.nodes (name ∷ [])) other ≡ true)
+      → IsGoodDraft (record draft { source = source; sink = sink; nodes = with_names draft.nodes (name ∷ []) })
+  end_named name source sink good few to from = record {
+    version = h.version;
+    source = to;
+    sink = from;
+    names = all_with_names is_name draft.nodes (name ∷ []) h.names (λ i. good i && true);
+    distinct = distinct_with_names draft.nodes (name ∷ []) h.distinct;
+    few_nodes = few_names draft (name ∷ []) few;
+    links = h.links;
+    ends_there = ends_kept (name ∷ []);
+    link_names = h.link_names;
+    few_links = h.few_links;
+    pieces = h.pieces;
+    few_pieces = h.few_pieces;
+    not_negative = h.not_negative;
+    rise = h.rise;
+  }
+
+  named : (name other : Name) → Some name ≡ Some other → has_name (with_names draft.nodes (name ∷ [])) other ≡ true
+  named name other is = subst (λ x. has_name (with_names draft.nodes (name ∷ [])) x ≡ true) (same_Some name other is) (one_there draft.nodes name)
+
   source_kept : (name : Name) → is_name name ≡ true → broken_rule draft (Source name) ≡ None → IsGoodDraft (after draft (Source name))
   source_kept name good e =
       let a = first_says_no (is_some draft.source) N9 ((too_many_nodes draft (name ∷ []), N10) ∷ []) e in
       let b = first_says_no (too_many_nodes draft (name ∷ [])) N10 [] a.1 in
-      record {
-        version = h.version;
-        source = λ other is. subst (λ x. has_name (with_names draft.nodes (name ∷ [])) x ≡ true) (same_Some name other is) (one_there draft.nodes name);
-        sink = λ other is. still_there draft.nodes (name ∷ []) other (h.sink other is);
-        names = all_with_names is_name draft.nodes (name ∷ []) h.names (λ i. good i && true);
-        distinct = distinct_with_names draft.nodes (name ∷ []) h.distinct;
-        few_nodes = few_names draft (name ∷ []) b.0;
-        links = h.links;
-        ends_there = ends_kept (name ∷ []);
-        link_names = h.link_names;
-        few_links = h.few_links;
-        pieces = h.pieces;
-        few_pieces = h.few_pieces;
-        not_negative = h.not_negative;
-        rise = h.rise;
-      }
+      end_named name (Some name) draft.sink good b.0 (named name) (λ other is. still_there draft.nodes (name ∷ []) other (h.sink other is))
 
   sink_kept : (name : Name) → is_name name ≡ true → broken_rule draft (Sink name) ≡ None → IsGoodDraft (after draft (Sink name))
   sink_kept name good e =
       let a = first_says_no (is_some draft.sink) N9 ((too_many_nodes draft (name ∷ []), N10) ∷ []) e in
       let b = first_says_no (too_many_nodes draft (name ∷ [])) N10 [] a.1 in
-      record {
-        version = h.version;
-        source = λ other is. still_there draft.nodes (name ∷ []) other (h.source other is);
-        sink = λ other is. subst (λ x. has_name (with_names draft.nodes (name ∷ [])) x ≡ true) (same_Some name other is) (one_there draft.nodes name);
-        names = all_with_names is_name draft.nodes (name ∷ []) h.names (λ i. good i && true);
-        distinct = distinct_with_names draft.nodes (name ∷ []) h.distinct;
-        few_nodes = few_names draft (name ∷ []) b.0;
-        links = h.links;
-        ends_there = ends_kept (name ∷ []);
-        link_names = h.link_names;
-        few_links = h.few_links;
-        pieces = h.pieces;
-        few_pieces = h.few_pieces;
-        not_negative = h.not_negative;
-        rise = h.rise;
-      }
+      end_named name draft.source (Some name) good b.0 (λ other is. still_there draft.nodes (name ∷ []) other (h.source other is)) (named name)
 
   link_kept : (l : NamedLink) → IsReadLink draft.version l → broken_rule draft (LinkLine l) ≡ None → IsGoodDraft (after draft (LinkLine l))
   link_kept l good e =

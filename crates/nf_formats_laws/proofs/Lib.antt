@@ -9,6 +9,7 @@ pub mod ClosesBack
 pub mod LinesBack
 pub mod NumbersKept
 pub mod TextBack
+pub mod ShortWords
 pub mod PlainCanonical
 pub mod CanonicalBack
 pub mod DraftKept

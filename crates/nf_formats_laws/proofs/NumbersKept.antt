@@ -50,12 +50,12 @@ decimal_parts_fit bound word p e =
     decimal_cases bound word (unsigned a) b (signed_by a (value_of (unsigned a) * 10 ^ length b + value_of b)) (10 ^ length b) p (is_decimal word) e
 
 -- ---- in lowest terms parts don't grow
-lowest_num : (n : ℤ) (d : ℕ) → nat_abs (ratio n d).num ≤ nat_abs n
+pub lowest_num : (n : ℤ) (d : ℕ) → nat_abs (ratio n d).num ≤ nat_abs n
 unfolding ratio
 lowest_num n zero = omega arith
 lowest_num n (suc d) = subst (λ k. k ≤ nat_abs n) (sym (abs_quot n (gcd (nat_abs n) (suc d)))) (div-le_self (nat_abs n) (gcd (nat_abs n) (suc d)))
 
-lowest_den : (n : ℤ) (d : ℕ) (bound : ℕ) → 1 ≤ bound → d ≤ bound → (ratio n d).den ≤ bound
+pub lowest_den : (n : ℤ) (d : ℕ) (bound : ℕ) → 1 ≤ bound → d ≤ bound → (ratio n d).den ≤ bound
 unfolding ratio
 lowest_den n zero bound one h = one
 lowest_den n (suc d) bound one h = let less : suc d / gcd (nat_abs n) (suc d) ≤ suc d = div-le_self (suc d) (gcd (nat_abs n) (suc d)) in omega arith

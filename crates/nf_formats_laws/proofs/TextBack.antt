@@ -1,42 +1,23 @@
 -- The lines and words of a text that is made of plain words, each line of which has one at least: what is read of it is what was
 -- written (by the laws of lines).
-use Rattle.std.proofs.Common.{◌≡◌, ◌≢◌, ℕ, ◌+◌, ◌<◌, ◌≤◌, ◌&&◌, Bool, true, not, cond, List, [], ◌∷◌, length, flat_map, refl, ◌∙◌, ap, arith, None, le-leb, ne_eqb}
-use Rattle.std.specs.List.{AllByRecursion, list_all, join_with_byte}
+use Rattle.std.proofs.Common.{◌≡◌, ℕ, ◌+◌, ◌<◌, ◌≤◌, Bool, true, not, cond, List, [], ◌∷◌, length, flat_map, refl, ◌∙◌, ap, arith, None, ne_eqb}
+use Rattle.std.specs.List.{AllByRecursion, join_with_byte}
 use Rattle.nf_lines.specs.Words.{line_of_words, read_lines, content_lines}
 use Rattle.nf_lines.specs.Faults.{first_fault}
-use Rattle.nf_formats_laws.specs.LineLaws.{is_word_byte, IsWord, plain_from, AreWords, AreShort}
+use Rattle.nf_formats_laws.specs.LineLaws.{IsWord, plain_from, AreWords, AreShort}
 use Rattle.nf_formats_laws.proofs.ReadBack.{plain_lines_from, no_fault_from}
 use Rattle.nf_formats_laws.proofs.LinesBack.{lines_from}
 
--- ---- bytes of words, words and lines of words
-pub record IsWordByte (b : ℕ) : Type 0 where
-  pub above : 33 ≤ b
-  pub below : b ≤ 126
-  pub no_comment : b ≢ 35
-
-abbrev pub IsPlainWord : List ℕ → Type 0
-IsPlainWord word = (0 < length word) × AllByRecursion IsWordByte word
-
+-- ---- lines of words
 pub record IsPlainLine (ws : List (List ℕ)) : Type 0 where
   pub some : 0 < length ws
-  pub plain : AllByRecursion IsPlainWord ws
+  pub plain : AllByRecursion IsWord ws
   pub short : length (join_with_byte 32 ws) ≤ 1000
 
 -- ---- the same, as the laws of lines ask for it
-byte_test : (b : ℕ) → IsWordByte b → is_word_byte b ≡ true
-byte_test b h = λ i. le-leb 33 b h.above i && (le-leb b 126 h.below i && not (ne_eqb b 35 h.no_comment i))
-
-word_test : (word : List ℕ) → AllByRecursion IsWordByte word → list_all is_word_byte word ≡ true
-word_test [] h = refl
-word_test (b ∷ word) h = λ i. byte_test b h.0 i && word_test word h.1 i
-
-words_are : (ws : List (List ℕ)) → AllByRecursion IsPlainWord ws → AllByRecursion IsWord ws
-words_are [] h = tt
-words_are (w ∷ ws) h = ((h.0.0, word_test w h.0.1), words_are ws h.1)
-
 lines_are : (all : List (List (List ℕ))) → AllByRecursion IsPlainLine all → AreWords all
 lines_are [] h = tt
-lines_are (ws ∷ all) h = (words_are ws h.0.plain, lines_are all h.1)
+lines_are (ws ∷ all) h = (h.0.plain, lines_are all h.1)
 
 short_are : (all : List (List (List ℕ))) → AllByRecursion IsPlainLine all → AreShort all
 short_are [] h = tt

@@ -9,7 +9,7 @@ use Rattle.nf_numerals.proofs.Digits.{digits_injective, are_digits-digits_of}
 use Rattle.nf_formats.specs.Names.{Name, is_name_byte, is_name, has_name}
 use Rattle.nf_formats_laws.proofs.NameFacts.{same_names, bytes_eq-self, has_none}
 use Rattle.nf_formats_laws.proofs.LinkFacts.{map-append}
-use Rattle.nf_formats_laws.proofs.PlainCanonical.{length_digits}
+use Rattle.nf_formats_laws.proofs.ShortWords.{length_digits}
 use Rattle.nf_gen.specs.Ladder.{upper, lower, rung, Ends, rails_on, rung_at, links_in, links_along, links_down, links_out, ladder_ends, rung_nodes}
 use Rattle.nf_gen.proofs.Ranges.{all_append, all_flat, all_map}
 

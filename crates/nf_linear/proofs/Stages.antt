@@ -14,7 +14,7 @@ use Rattle.nf_lists_laws.proofs.Exact.{rows_as}
 use Rattle.nf_linear_laws.specs.Solution.{IsSquare}
 use Rattle.nf_linear_laws.proofs.Pivots.{IsPivot, is_pivot, some_tested}
 use Rattle.nf_linear_laws.proofs.Rows.{rows_after, rows_exact}
-use Rattle.nf_linear_laws.proofs.Elimination.{IsCleared, next_cleared}
+use Rattle.nf_linear_laws.proofs.Elimination.{IsCleared, next_cleared, first_cleared}
 use Rattle.nf_linear.specs.Pivots.{eliminated, HasPivots}
 use Rattle.nf_linear.proofs.Fronts.{stops}
 use Rattle.nf_linear.proofs.Taken.{ok_of_part}
@@ -80,17 +80,7 @@ pub record Stage (passes : Passing) (before rows : List Row) (pivots : List ℕ)
 
 pub first_stage : (passes : Passing) (before : List Row) → IsSquare before → Stage passes before before [] 0
 first_stage passes before square = record {
-  cleared = record {
-    count = refl;
-    square = square;
-    steps = refl;
-    reduced = record {
-      within = λ d b. absurd (omega arith);
-      apart = λ d f b. absurd (omega arith);
-      pivot = λ d b. absurd (omega arith);
-      cleared = λ d i b. absurd (omega arith);
-    };
-  };
+  cleared = first_cleared before square;
   same = ap (λ (more : ℕ). eliminate_from passes more 0 (eliminated before [])) (let e : length before - 0 ≡ length before = omega arith in e);
 }
 

@@ -18,6 +18,7 @@ use Rattle.nf_linear_laws.proofs.Steps.{Table, Meets, IsStep, meets_after, meets
 use Rattle.nf_linear_laws.proofs.Columns.{Reduced, one_more, solution, forced, met, free, free-at, homogeneous}
 use Rattle.nf_linear_laws.proofs.Pivots.{zero_tested, some_tested, pivot_row_of, none_is, none_any, no_pivot, IsPivot, is_pivot, different, every_one}
 use Rattle.nf_linear_laws.proofs.Rows.{bind_ok, rows_after, rows_exact, kept_or_less, kept_or_less-at, kept_or_less-clear, kept_or_less-length, rows_after-length, rows_after-at}
+use Rattle.nf_linear_laws.specs.Solution.{IsSquare}
 
 abbrev pub numbers : List Row → Table
 numbers rows i j = number_at (row_at rows i) j
@@ -192,19 +193,23 @@ eliminated zero n c same done s values e =
 eliminated (suc more) n c same done s values e =
     by_pivot n c more done s (omega arith) values (λ next t f. eliminated more n (suc c) (omega arith) next t values f) (pivot_of done.rows done.pivots c) refl e
 
+-- before the first column
+pub first_cleared : (rows : List Row) → IsSquare rows → IsCleared (length rows) 0 rows []
+first_cleared rows square = record {
+  count = refl;
+  square = square;
+  steps = refl;
+  reduced = record {
+    within = λ d b. absurd (omega arith);
+    apart = λ d f b. absurd (omega arith);
+    pivot = λ d b. absurd (omega arith);
+    cleared = λ d i b. absurd (omega arith);
+  };
+}
+
 pub table_says : (rows : List Row) → ((i : ℕ) → i < length rows → length (row_at rows i) ≡ suc (length rows)) → (values : Option (List ℚ))
     → table_list never rows ≡ Ok values → Says (length rows) (numbers rows) values
 unfolding table_list
 table_says rows square values e =
     eliminated (length rows) (length rows) 0 (omega arith) (record { rows = rows; pivots = [] })
-    (record {
-      count = refl;
-      square = square;
-      steps = refl;
-      reduced = record {
-        within = λ d b. absurd (omega arith);
-        apart = λ d f b. absurd (omega arith);
-        pivot = λ d b. absurd (omega arith);
-        cleared = λ d i b. absurd (omega arith);
-      };
-    }) values e
+    (first_cleared rows square) values e

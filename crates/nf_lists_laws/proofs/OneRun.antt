@@ -1,5 +1,5 @@
 -- A phase run has one end: each phase, and each cause for which none is made, follows from where the run stands.
-use Rattle.std.proofs.Common.{◌≡◌, ℕ, zero, suc, ◌<◌, List, [], ◌∷◌, length, refl, sym, ap, ◌∙◌, subst, arith}
+use Rattle.std.proofs.Common.{◌≡◌, ℕ, suc, ◌<◌, List, length, refl, sym, ap, ◌∙◌, subst, arith}
 use Rattle.std.specs.Prelude.{Option, Some, None, Result, Ok, Err, map}
 use Rattle.std.proofs.lemmas.Option.{none-some, same_Some}
 use Rattle.std.proofs.lemmas.List.{length-map, length-replicate}
@@ -12,7 +12,6 @@ use Rattle.nf_work.specs.Checked.{placed}
 use Rattle.nf_work.specs.declared.Part.TheVariants.{Slack}
 use Rattle.nf_work.specs.declared.Passed.{Passed}
 use Rattle.nf_work.specs.declared.PassedAt.{PassedAt}
-use Rattle.nf_model.specs.Entries.{number_at}
 use Rattle.nf_model.specs.Walk.{IsLeastTransit}
 use Rattle.nf_model.specs.Network.{Network, hop_of, hops, rate_at}
 use Rattle.nf_model.specs.ThinFlow.{slack, slacks_of, sets_at}
@@ -25,18 +24,9 @@ use Rattle.nf_lists.specs.ReportCurves.{first_label_curve, first_curves}
 use Rattle.nf_lists.specs.PhaseRun.{Standing, Bounds, PhaseStep, IsStart, standing_after, cause_of_search, Seeks, phase_lists, Goes, Fails, at_slack, at_search, at_lists, Runs, at_horizon, at_phases, fails, goes, IsPhaseRun, report_of, IsRunReport}
 use Rattle.nf_lists_laws.proofs.Bases.{one_base}
 use Rattle.nf_lists_laws.proofs.Searches.{one_answer}
+use Rattle.nf_plain_laws.proofs.Entries.{same_entries}
 
 -- ---- the start
-same_numbers : (n : ℕ) (xs ys : List ℚ) → length xs ≡ n → length ys ≡ n → ((v : ℕ) → v < n → number_at xs v ≡ number_at ys v) → xs ≡ ys
-same_numbers n [] [] h k same = refl
-same_numbers n [] (y ∷ ys) h k same = absurd (omega arith)
-same_numbers n (x ∷ xs) [] h k same = absurd (omega arith)
-same_numbers zero (x ∷ xs) (y ∷ ys) h k same = absurd (omega arith)
-same_numbers (suc n) (x ∷ xs) (y ∷ ys) h k same =
-    let rest : xs ≡ ys = same_numbers n xs ys (omega arith) (omega arith) (λ v below. same (suc v) (omega arith)) in
-    let first : x ≡ y = same 0 (omega arith) in
-    ap (λ (w : ℚ). w ∷ xs) first ∙ ap (λ (ws : List ℚ). y ∷ ws) rest
-
 module _ (net : Network) where
   same_least : (v w : ℕ) (a b : ℚ) → IsLeastTransit (hops net) v w a → IsLeastTransit (hops net) v w b → a ≡ b
   same_least v w a b h k = ≤ℚ_antisymm a b
@@ -44,7 +34,8 @@ module _ (net : Network) where
       (subst (λ (t : ℚ). b ≤ℚ t) h.taken.2 (k.bound h.taken.0 h.taken.1))
 
   one_start_label : (labels others : List ℚ) → AreStartLabels net labels → AreStartLabels net others → labels ≡ others
-  one_start_label labels others h k = same_numbers net.nodes labels others h.count k.count (λ v below. same_least net.source v _ _ (h.each v below) (k.each v below))
+  one_start_label labels others h k = same_entries 0ℚ labels others (h.count ∙ sym k.count)
+      (λ v i. let below : v < net.nodes = subst (λ (n : ℕ). v < n) h.count i in same_least net.source v _ _ (h.each v below) (k.each v below))
 
   same_standing : (s t : Standing) → s.time ≡ t.time → s.labels ≡ t.labels → s.label_curves ≡ t.label_curves → s.link_curves ≡ t.link_curves → s.made ≡ t.made → s.last ≡ t.last → s ≡ t
   same_standing s t a b c d e f = λ i. record { time = a i; labels = b i; label_curves = c i; link_curves = d i; made = e i; last = f i }
@@ -61,10 +52,7 @@ module _ (net : Network) where
   pub length-sets : (labels : List ℚ) → length (sets_at net labels).active ≡ length net.links
   length-sets labels = length-map (slacks_of (hops net) labels) (le_ℚ 0ℚ) ∙ (length-map (hops net) (slack labels) ∙ length-map net.links hop_of)
 
-  abbrev KnowsLinks : Standing → Type 0
-  KnowsLinks s = length s.last ≡ length net.links
-
-  start_knows : (s : Standing) → IsStart net s → KnowsLinks s
+  pub start_knows : (s : Standing) → IsStart net s → length s.last ≡ length net.links
   start_knows s h = ap length h.last ∙ length-replicate (length net.links) None
 
 -- ---- one phase
@@ -90,7 +78,7 @@ module _ (passes : Passing) (net : Network) (horizon : ℚ) (patterns : ℕ) whe
     same_after a b k l x y p q r =
         ap (λ (w : Pattern). standing_after net s w k x) p ∙ (ap (λ (w : List ℚ). standing_after net s b w x) q ∙ ap (standing_after net s b l) r)
 
-    one_phase : (t u : Standing) → Goes passes net horizon patterns s t → Goes passes net horizon patterns s u → t ≡ u
+    pub one_phase : (t u : Standing) → Goes passes net horizon patterns s t → Goes passes net horizon patterns s u → t ≡ u
     one_phase t u h k =
         let e = one_search (Found h.place h.pattern h.flows h.slopes) (Found k.place k.pattern k.flows k.slopes) h.finds k.finds in
         let pattern : h.pattern ≡ k.pattern = cc in
@@ -106,7 +94,7 @@ module _ (passes : Passing) (net : Network) (horizon : ℚ) (patterns : ℕ) whe
         → Seeks passes net horizon patterns s (Found p b f k) → ⊥
     search_finds a c p b f k h e i = none-some c (ap (cause_of_search (suc s.made) patterns) (sym (one_search a (Found p b f k) h i)) ∙ e)
 
-    one_cause : (c d : Cause ℚ) → Fails passes net horizon patterns s c → Fails passes net horizon patterns s d → c ≡ d
+    pub one_cause : (c d : Cause ℚ) → Fails passes net horizon patterns s c → Fails passes net horizon patterns s d → c ≡ d
     one_cause c d (at_slack p below e) (at_slack q below' f) =
         ap (λ (w : Passed ℚ). Cause.Passed (suc s.made) None (placed Slack w)) (same_error _ p q e f)
     one_cause c d (at_slack p below e) (at_search b d' k f) = absurd (ok_is_not_err _ _ p k.slacks e)
@@ -124,7 +112,7 @@ module _ (passes : Passing) (net : Network) (horizon : ℚ) (patterns : ℕ) whe
         let slopes : k ≡ l = cc in
         ap (λ (w : PassedAt ℚ). Cause.Passed (suc s.made) None w) (same_error (phase_lists passes net horizon s b g l) r t (sym (same_lists a b f g k l pattern flows slopes) ∙ e) j)
 
-    goes_or_fails : (t : Standing) (c : Cause ℚ) → Goes passes net horizon patterns s t → Fails passes net horizon patterns s c → ⊥
+    pub goes_or_fails : (t : Standing) (c : Cause ℚ) → Goes passes net horizon patterns s t → Fails passes net horizon patterns s c → ⊥
     goes_or_fails t c h (at_slack q below f) = ok_is_not_err _ _ q h.finds.slacks f
     goes_or_fails t c h (at_search b c' k f) = search_finds b c h.place h.pattern h.flows h.slopes k f h.finds
     goes_or_fails t c h (at_lists q b g l r k f) =
@@ -134,12 +122,12 @@ module _ (passes : Passing) (net : Network) (horizon : ℚ) (patterns : ℕ) whe
         let slopes : h.slopes ≡ l = cc in
         ok_is_not_err (phase_lists passes net horizon s b g l) h.step r (sym (same_lists h.pattern b h.flows g h.slopes l pattern flows slopes) ∙ h.lists) f
 
-  fails_below : (s : Standing) (c : Cause ℚ) → Fails passes net horizon patterns s c → s.time <ℚ horizon
+  pub fails_below : (s : Standing) (c : Cause ℚ) → Fails passes net horizon patterns s c → s.time <ℚ horizon
   fails_below s c (at_slack q below f) = below
   fails_below s c (at_search b d k f) = k.below
   fails_below s c (at_lists q b g l r k f) = k.below
 
-  goes_knows : (s t : Standing) → Goes passes net horizon patterns s t → length t.last ≡ length net.links
+  pub goes_knows : (s t : Standing) → Goes passes net horizon patterns s t → length t.last ≡ length net.links
   goes_knows s t h =
       let search = h.finds.search.is_search in
       let listed : IsListedIn net (sets_at net s.labels) h.pattern = search.is_listing.listed h.place h.pattern search.answers.has_place in

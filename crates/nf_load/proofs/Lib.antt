@@ -1,5 +1,4 @@
 pub mod Supplying
-pub mod PointByPoint
 pub mod QueueSteps
 pub mod ExitSteps
 pub mod LoadedCurves

@@ -10,8 +10,7 @@ ghost use Rattle.nf_load_lists.specs.Cumulative as lists;
 ghost use Rattle.nf_load_lists.specs.Cumulative.{point_if_after_0, checked_cumulative};
 ghost use Rattle.nf_load_lists.specs.Meanings.{IsCumulative};
 
-use crate::points::{Point, curve_of};
-use nf_curve::Curve;
+use nf_curve::{Curve, Point};
 use nf_frac::{Halt, Part, PassedAt, Q, at};
 use nf_net::Piece;
 use std::alloc::{AllocError, Global};
@@ -83,6 +82,5 @@ pub fn cumulative(alloc: Global, pieces: &[Piece], until: Q) -> Result<Curve, Ha
     ensures amount { IfOk result (λ c. IsCumulative pieces.now until c.points) }
 {
     let points = cumulative_points(alloc, pieces, until)?;
-    let curve = curve_of(alloc, &points)?;
-    Ok(curve)
+    Ok(Curve::of_points(points))
 }

@@ -11,9 +11,8 @@ ghost use Rattle.nf_curve_lists.specs.Short.{checked_short};
 ghost use Rattle.nf_load_lists.specs.Loading as lists;
 ghost use Rattle.nf_load_lists.specs.Loading.{queue_point, exit_point};
 
-use crate::points::{Point, curve_of};
 use crate::waits::{Leaves, Waits};
-use nf_curve::Curve;
+use nf_curve::{Curve, Point};
 use nf_frac::{Halt, Part, Q};
 use std::alloc::{AllocError, Global};
 
@@ -53,11 +52,11 @@ fn outflow_points(alloc: Global, all: &[Leaves]) -> Result<Vec<Point>, AllocErro
 }
 
 // The curve of these points, in short form.
-fn short_curve(alloc: Global, points: &[Point]) -> Result<Curve, Halt<Q>>
-    requires { IsCurve points.now }
-    ensures { Gives (λ c. c.points) (λ q. q) result (at_part Load (checked_short passes_Q points.now)) }
+fn short_curve(alloc: Global, points: Vec<Point>) -> Result<Curve, Halt<Q>>
+    requires { IsCurve points.items }
+    ensures { Gives (λ c. c.points) (λ q. q) result (at_part Load (checked_short passes_Q points.items)) }
 {
-    let curve = curve_of(alloc, points)?;
+    let curve = Curve::of_points(points);
     Curve::short(alloc, &curve, Part::Load)
 }
 
@@ -67,7 +66,7 @@ pub(crate) fn queue_curve(alloc: Global, waits: &[Waits]) -> Result<Curve, Halt<
     ensures { Gives (λ c. c.points) (λ q. q) result (at_part Load (checked_short passes_Q (map queue_point waits.now))) }
 {
     let points = queue_points(alloc, waits)?;
-    short_curve(alloc, &points)
+    short_curve(alloc, points)
 }
 
 /// The exit by the time of entry, in short form.
@@ -76,7 +75,7 @@ pub(crate) fn exit_curve(alloc: Global, all: &[Leaves]) -> Result<Curve, Halt<Q>
     ensures { Gives (λ c. c.points) (λ q. q) result (at_part Load (checked_short passes_Q (map exit_point all.now))) }
 {
     let points = exit_points(alloc, all)?;
-    short_curve(alloc, &points)
+    short_curve(alloc, points)
 }
 
 /// The outflow by time, up to the time `end`.
@@ -86,6 +85,6 @@ pub(crate) fn outflow_until(alloc: Global, all: &[Leaves], end: Q) -> Result<Cur
     ensures { Gives (λ c. c.points) (λ q. q) result (at_part Load (checked_cut passes_Q (lists.outflow_points all.now) end)) }
 {
     let points = outflow_points(alloc, all)?;
-    let curve = curve_of(alloc, &points)?;
+    let curve = Curve::of_points(points);
     curve.cut(alloc, end, Part::Load)
 }

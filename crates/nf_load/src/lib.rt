@@ -7,7 +7,6 @@ mod amounts;
 mod curves;
 mod leaving;
 mod loading;
-mod points;
 mod waiting;
 mod waits;
 

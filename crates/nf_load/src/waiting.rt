@@ -11,9 +11,8 @@ ghost use Rattle.nf_curve_lists.specs.Lines.{checked_slope, checked_line};
 ghost use Rattle.nf_load_lists.specs.Loading as lists;
 ghost use Rattle.nf_load.specs.Loadings.{over_list};
 
-use crate::points::Point;
 use crate::waits::Waits;
-use nf_curve::Curve;
+use nf_curve::{Curve, Point};
 use nf_frac::{Halt, Part, PassedAt, Q, at};
 use std::alloc::{AllocError, Global};
 

@@ -7,7 +7,7 @@ use Rattle.nf_rational.specs.Order.{◌≤ℚ◌, ◌<ℚ◌, lt_ℚ, min_ℚ, m
 use Rattle.nf_rational_laws.proofs.Polynomial.{reading_of}
 use Rattle.nf_rational_laws.proofs.Linear.{le, lt, eq, eq_times, linear_lt, linear_eq}
 use Rattle.nf_rational_laws.proofs.Order.{≤ℚ_of_lt, ≤ℚ_of_same, ≤ℚ_antisymm, lt_or_le_ℚ, not_both_ℚ, less_nn}
-use Rattle.nf_rational_laws.proofs.Tests.{lt_ℚ_cases, min_ℚ_cases, max0_of}
+use Rattle.nf_rational_laws.proofs.Tests.{lt_ℚ_cases, max0_of}
 use Rattle.nf_work.specs.Passing.{Passing}
 use Rattle.nf_work.specs.Checked.{checked, ◌>>=◌}
 use Rattle.nf_work.specs.declared.Op.TheVariants.{Sum, Difference, Product}
@@ -22,9 +22,9 @@ use Rattle.nf_load_lists.specs.Cumulative.{end_of, point_after_0, point_if_after
 use Rattle.nf_load_lists.specs.Meanings.{IsCumulative}
 use Rattle.nf_curve_laws.proofs.Operations.{then_ok, is_same_cases, checked-is}
 use Rattle.nf_curve_laws.proofs.Following.{FollowsFrom, ends, goes, follows-point, value-follows_past}
-use Rattle.nf_curve_laws.proofs.Least.{min-left, min-right}
 use Rattle.nf_curve_laws.proofs.Values.{follows-curve, follows-values}
 use Rattle.nf_rational_laws.proofs.Chains.{≤ℚ_refl, ≤ℚ_trans}
+use Rattle.nf_rational_laws.proofs.Extremes.{min_is_left, min_is_right, min_left, min_right, min_keeps}
 use Rattle.nf_plain_laws.proofs.Results.{same_Ok}
 
 -- ---- points after time 0
@@ -44,10 +44,10 @@ at_0 t y e = ⊎_elim
 
 time_in-up_to : (start : ℚ) (later : List Piece) (t : ℚ) → start ≤ℚ t → NextFrom later t → time_in start later t ≡ t -ℚ start
 time_in-up_to start [] t h n = max0_of _ (less_nn start t h)
-time_in-up_to start (next ∷ later) t h n = ap (λ (x : ℚ). max_ℚ 0ℚ (x -ℚ start)) (min-left t next.start n) ∙ max0_of _ (less_nn start t h)
+time_in-up_to start (next ∷ later) t h n = ap (λ (x : ℚ). max_ℚ 0ℚ (x -ℚ start)) (min_is_left t next.start n) ∙ max0_of _ (less_nn start t h)
 
 time_in-after : (start : ℚ) (next : Piece) (later : List Piece) (t : ℚ) → start ≤ℚ next.start → next.start ≤ℚ t → time_in start (next ∷ later) t ≡ next.start -ℚ start
-time_in-after start next later t h k = ap (λ (x : ℚ). max_ℚ 0ℚ (x -ℚ start)) (min-right t next.start k) ∙ max0_of _ (less_nn start next.start h)
+time_in-after start next later t h k = ap (λ (x : ℚ). max_ℚ 0ℚ (x -ℚ start)) (min_is_right t next.start k) ∙ max0_of _ (less_nn start next.start h)
 
 rise_rest : (p : Piece) (rest : List Piece) → StartsRise (p ∷ rest) → StartsRise rest
 rise_rest p [] s = tt
@@ -56,24 +56,15 @@ rise_rest p (q ∷ rest) s = s.1
 -- ---- the end of a piece
 end_up_to : (later : List Piece) (last : ℚ) → end_of later last ≤ℚ last
 end_up_to [] last = ≤ℚ_refl last
-end_up_to (next ∷ later) last = ⊎_elim
-    (λ (w : (min_ℚ next.start last ≡ next.start) × (next.start ≤ℚ last)). subst (λ (x : ℚ). x ≤ℚ last) (sym w.0) w.1)
-    (λ (w : (min_ℚ next.start last ≡ last) × (last <ℚ next.start)). ≤ℚ_of_same _ _ w.0)
-    (min_ℚ_cases next.start last)
+end_up_to (next ∷ later) last = min_right next.start last
 
 end_next : (later : List Piece) (last : ℚ) → NextFrom later (end_of later last)
 end_next [] last = tt
-end_next (next ∷ later) last = ⊎_elim
-    (λ (w : (min_ℚ next.start last ≡ next.start) × (next.start ≤ℚ last)). ≤ℚ_of_same _ _ w.0)
-    (λ (w : (min_ℚ next.start last ≡ last) × (last <ℚ next.start)). subst (λ (x : ℚ). x ≤ℚ next.start) (sym w.0) (≤ℚ_of_lt _ _ w.1))
-    (min_ℚ_cases next.start last)
+end_next (next ∷ later) last = min_left next.start last
 
 end_after : (start : ℚ) (later : List Piece) (last : ℚ) → start <ℚ last → ((next : Piece) (rest : List Piece) → later ≡ next ∷ rest → start <ℚ next.start) → start <ℚ end_of later last
 end_after start [] last h k = h
-end_after start (next ∷ later) last h k = ⊎_elim
-    (λ (w : (min_ℚ next.start last ≡ next.start) × (next.start ≤ℚ last)). subst (λ (x : ℚ). start <ℚ x) (sym w.0) (k next later refl))
-    (λ (w : (min_ℚ next.start last ≡ last) × (last <ℚ next.start)). subst (λ (x : ℚ). start <ℚ x) (sym w.0) h)
-    (min_ℚ_cases next.start last)
+end_after start (next ∷ later) last h k = min_keeps (λ (x : ℚ). start <ℚ x) next.start last (k next later refl) h
 
 next_up_to : (later : List Piece) (s t : ℚ) → s ≤ℚ t → NextFrom later t → NextFrom later s
 next_up_to [] s t h n = tt
@@ -111,7 +102,7 @@ module _ (passes : Passing) (f : ℚ → ℚ) (last : ℚ) where
   next_goes_on so_far sum piece [] s on h e k = tt
   next_goes_on so_far sum piece (next ∷ rest) s on h e k = λ t i.
       so_on so_far piece.rate _ _ (f t) next.start piece.start sum (time_in-after piece.start next rest t (≤ℚ_of_lt _ _ s.0) i)
-      (e ∙ ap (λ (x : ℚ). so_far +ℚ piece.rate *ℚ (x -ℚ piece.start)) (min-left next.start last (k next rest refl))) (on t (≤ℚ_trans _ _ _ (≤ℚ_of_lt _ _ s.0) i))
+      (e ∙ ap (λ (x : ℚ). so_far +ℚ piece.rate *ℚ (x -ℚ piece.start)) (min_is_left next.start last (k next rest refl))) (on t (≤ℚ_trans _ _ _ (≤ℚ_of_lt _ _ s.0) i))
 
   -- only a piece that starts before the last time asks for it
   abbrev Goes : ℚ → List Piece → Type 0
@@ -134,7 +125,7 @@ module _ (passes : Passing) (f : ℚ → ℚ) (last : ℚ) where
       zero_lt x y h k = linear_lt (x ∷ y ∷ []) (le h ∷ lt k ∷ []) (search reading_of depth 12) tt
   from_point p k so_far (piece ∷ later) points at n h line e s on g = ⊎_elim
       (λ (w : (lt_ℚ piece.start last ≡ true) × (piece.start <ℚ last)).
-      let here : end_of (piece ∷ later) last ≡ piece.start = min-left piece.start last (≤ℚ_of_lt _ _ w.1) in
+      let here : end_of (piece ∷ later) last ≡ piece.start = min_is_left piece.start last (≤ℚ_of_lt _ _ w.1) in
       let goes_on : GoesOn so_far (piece ∷ later) = on (λ next rest q. subst (λ (x : ℚ). x ≤ℚ last) (first_of piece later next rest q) (≤ℚ_of_lt _ _ w.1)) in
       let g' = sym (ap (λ (b : Bool). elim b [
         | true ↦ with_piece passes so_far piece (end_of later last) >>= λ sum. cumulative_from passes sum later last >>= λ rest. Ok (point_if_after_0 piece.start so_far ++ rest)
@@ -156,7 +147,7 @@ module _ (passes : Passing) (f : ℚ → ℚ) (last : ℚ) where
       (over_piece so_far piece later s goes_on (end_of later last) (≤ℚ_of_lt _ _ end_later) (≤ℚ_refl _) ∙ sym sum_is) (rise_rest piece later s)
       (λ q. next_goes_on so_far sum.between piece later s goes_on (≤ℚ_of_lt _ _ w.1) sum_is q) rest.first)))
       (λ (w : (lt_ℚ piece.start last ≡ false) × (last ≤ℚ piece.start)).
-      let here : end_of (piece ∷ later) last ≡ last = min-right piece.start last w.1 in
+      let here : end_of (piece ∷ later) last ≡ last = min_is_right piece.start last w.1 in
       let g' = sym (ap (λ (b : Bool). elim b [
         | true ↦ with_piece passes so_far piece (end_of later last) >>= λ sum. cumulative_from passes sum later last >>= λ rest. Ok (point_if_after_0 piece.start so_far ++ rest)
         | false ↦ Ok (point_if_after_0 last so_far)
@@ -248,10 +239,7 @@ module _ (passes : Passing) (pieces : List Piece) (last : ℚ) (good : ArePieces
       (lt_or_le_ℚ 0ℚ piece.start)
     where
       both : (x y : ℚ) → 0ℚ <ℚ x → 0ℚ <ℚ y → 0ℚ <ℚ min_ℚ x y
-      both x y h k = ⊎_elim
-          (λ (w : (min_ℚ x y ≡ x) × (x ≤ℚ y)). subst (λ (z : ℚ). 0ℚ <ℚ z) (sym w.0) h)
-          (λ (w : (min_ℚ x y ≡ y) × (y <ℚ x)). subst (λ (z : ℚ). 0ℚ <ℚ z) (sym w.0) k)
-          (min_ℚ_cases x y)
+      both x y h k = min_keeps (λ (z : ℚ). 0ℚ <ℚ z) x y h k
 
   -- with nothing to look at, there is the one point
   at_once : (l : List Piece) (points : List Point) → l ≡ pieces → last ≡ 0ℚ → cumulative_from passes 0ℚ l last ≡ Ok points → FollowsFrom (λ t. supplied pieces t) last (0ℚ, 0ℚ) points

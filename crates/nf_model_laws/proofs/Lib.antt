@@ -6,6 +6,7 @@ pub mod Step
 pub mod Exits
 pub mod OneValue
 pub mod Ways
+pub mod Contained
 pub mod Networks
 pub mod EarliestWalks
 pub mod Earliest
@@ -15,6 +16,7 @@ pub mod Supply
 pub mod Slacks
 pub mod Sums
 pub mod Potential
+pub mod Totals
 pub mod MemberLink
 pub mod MemberSteady
 pub mod MemberPoints

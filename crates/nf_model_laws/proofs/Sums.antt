@@ -1,13 +1,14 @@
 -- Sums over the links into a node and out of it.
-use Rattle.std.proofs.Common.{◌≡◌, ℕ, zero, suc, List, [], ◌∷◌, Bool, true, false, if◌then◌else◌, eqb, Some, slice_get, ap, refl, ◌∙◌}
+use Rattle.std.proofs.Common.{◌≡◌, ℕ, zero, suc, List, [], ◌∷◌, Bool, true, false, if◌then◌else◌, eqb, Some, slice_get, ap, refl, ◌∙◌, ◌⊎◌, inl, inr, ⊎_elim}
 use Rattle.std.proofs.lemmas.Bool.{eqb-true, eq-eqb}
 use Rattle.nf_rational.specs.Rational.{ℚ}
 use Rattle.nf_rational.specs.Operations.{0ℚ, ◌+ℚ◌, ◌*ℚ◌}
-use Rattle.nf_rational.specs.Order.{◌≤ℚ◌}
+use Rattle.nf_rational.specs.Order.{◌≤ℚ◌, ◌<ℚ◌}
 use Rattle.nf_rational_laws.proofs.Polynomial.{reading_of}
-use Rattle.nf_rational_laws.proofs.Linear.{le, eq, linear_le, linear_eq}
+use Rattle.nf_rational_laws.proofs.Linear.{le, eq, linear_le, linear_eq, lt, linear_lt}
 use Rattle.nf_model.specs.Network.{Link, sum_in, sum_out}
 use Rattle.nf_rational_laws.proofs.Chains.{≤ℚ_refl}
+use Rattle.nf_rational_laws.proofs.Order.{lt_or_le_ℚ, <ℚ_irrefl}
 use Rattle.std.proofs.lemmas.Option.{same_Some}
 
 -- ---- the same terms
@@ -92,3 +93,32 @@ pub sum_out-each : (links : List Link) (f : ℕ → ℚ) (v : ℕ) → ((e : ℕ
 sum_out-each [] f v n e link p at = absurd (cc)
 sum_out-each (l ∷ links) f v n zero link p at = if_first (eqb l.tail v) (f 0) _ (eq-eqb l.tail v (ap (λ (k : Link). k.tail) (same_Some l link p) ∙ at)) (sum_out-nn links (λ e. f (suc e)) v (λ e. n (suc e)))
 sum_out-each (l ∷ links) f v n (suc e) link p at = if_rest (eqb l.tail v) (f 0) _ _ (n 0) (sum_out-each links (λ e. f (suc e)) v (λ e. n (suc e)) e link p at)
+
+-- ---- where the sum is above 0, one of its terms is
+if_some : (b : Bool) (a s : ℚ) → 0ℚ <ℚ (if b then a +ℚ s else s) → ((b ≡ true) × (0ℚ <ℚ a)) ⊎ (0ℚ <ℚ s)
+if_some true a s h = ⊎_elim
+    (λ (k : 0ℚ <ℚ a). inl (refl, k))
+    (λ (k : a ≤ℚ 0ℚ). inr (linear_lt (a ∷ s ∷ []) (lt h ∷ le k ∷ []) (search reading_of depth 12) tt))
+    (lt_or_le_ℚ 0ℚ a)
+if_some false a s h = inr h
+
+-- some link into the node, or out of it, with its number
+abbrev pub HasIn : List Link → (ℕ → ℚ) → ℕ → Type 0
+HasIn links f v = (e : ℕ) × (link : Link) × (slice_get links e ≡ Some link) × (link.head ≡ v) × (0ℚ <ℚ f e)
+
+abbrev pub HasOut : List Link → (ℕ → ℚ) → ℕ → Type 0
+HasOut links f v = (e : ℕ) × (link : Link) × (slice_get links e ≡ Some link) × (link.tail ≡ v) × (0ℚ <ℚ f e)
+
+pub sum_in-some : (links : List Link) (f : ℕ → ℚ) (v : ℕ) → 0ℚ <ℚ sum_in links f v → HasIn links f v
+sum_in-some [] f v h = absurd (<ℚ_irrefl 0ℚ h)
+sum_in-some (link ∷ links) f v h = ⊎_elim
+    (λ (w : (eqb link.head v ≡ true) × (0ℚ <ℚ f 0)). (0, link, refl, eqb-true link.head v w.0, w.1))
+    (λ (w : 0ℚ <ℚ sum_in links (λ e. f (suc e)) v). let r : HasIn links (λ e. f (suc e)) v = sum_in-some links (λ e. f (suc e)) v w in (suc r.0, r.1, r.2, r.3, r.4))
+    (if_some (eqb link.head v) (f 0) _ h)
+
+pub sum_out-some : (links : List Link) (f : ℕ → ℚ) (v : ℕ) → 0ℚ <ℚ sum_out links f v → HasOut links f v
+sum_out-some [] f v h = absurd (<ℚ_irrefl 0ℚ h)
+sum_out-some (link ∷ links) f v h = ⊎_elim
+    (λ (w : (eqb link.tail v ≡ true) × (0ℚ <ℚ f 0)). (0, link, refl, eqb-true link.tail v w.0, w.1))
+    (λ (w : 0ℚ <ℚ sum_out links (λ e. f (suc e)) v). let r : HasOut links (λ e. f (suc e)) v = sum_out-some links (λ e. f (suc e)) v w in (suc r.0, r.1, r.2, r.3, r.4))
+    (if_some (eqb link.tail v) (f 0) _ h)

@@ -1,22 +1,17 @@
 -- What the source is supplied with grows by the rate as long as no piece starts.
-use Rattle.std.proofs.Common.{◌≡◌, suc, List, [], ◌∷◌, ◌⊎◌, inl, inr, ⊎_elim, Bool, true, false, if◌then◌else◌, sym, ap, subst, refl, ◌∙◌}
+use Rattle.std.proofs.Common.{◌≡◌, suc, List, [], ◌∷◌, ◌⊎◌, inl, inr, ⊎_elim, Bool, true, false, if◌then◌else◌, sym, ap, refl, ◌∙◌}
 use Rattle.nf_rational.specs.Rational.{ℚ}
 use Rattle.nf_rational.specs.Operations.{◌+ℚ◌, ◌-ℚ◌, ◌*ℚ◌, 0ℚ}
 use Rattle.nf_rational.specs.Order.{◌≤ℚ◌, ◌<ℚ◌, le_ℚ, min_ℚ, max_ℚ}
 use Rattle.nf_rational_laws.proofs.Polynomial.{reading_of}
-use Rattle.nf_rational_laws.proofs.Order.{≤ℚ_of_lt, ≤ℚ_of_same, ≤ℚ_antisymm, lt_or_le_ℚ, not_both_ℚ, less_nn}
-use Rattle.nf_rational_laws.proofs.Tests.{le_ℚ_cases, min_ℚ_cases, max_ℚ_cases, max0_none, max0_of}
+use Rattle.nf_rational_laws.proofs.Order.{≤ℚ_of_lt, ≤ℚ_antisymm, lt_or_le_ℚ, not_both_ℚ, less_nn}
+use Rattle.nf_rational_laws.proofs.Tests.{le_ℚ_cases, max0_none, max0_of}
 use Rattle.nf_rational_laws.proofs.Linear.{le, lt, eq, le_times, eq_times, linear_le, linear_eq, linear_false}
 use Rattle.nf_model.specs.Curve.{NeverFalls}
 use Rattle.nf_model.specs.Network.{Piece, ArePieces, time_in, supplied, rate_from}
 use Rattle.nf_model_laws.specs.SupplyLaws.{NoStartBetween}
 use Rattle.nf_rational_laws.proofs.Chains.{≤ℚ_refl, ≤ℚ_trans}
-
-min_left : (x y : ℚ) → x ≤ℚ y → min_ℚ x y ≡ x
-min_left x y h = ⊎_elim (λ (w : (min_ℚ x y ≡ x) × (x ≤ℚ y)). w.0) (λ (w : (min_ℚ x y ≡ y) × (y <ℚ x)). absurd (not_both_ℚ _ _ w.1 h)) (min_ℚ_cases x y)
-
-min_right : (x y : ℚ) → y ≤ℚ x → min_ℚ x y ≡ y
-min_right x y h = ⊎_elim (λ (w : (min_ℚ x y ≡ x) × (x ≤ℚ y)). w.0 ∙ ≤ℚ_antisymm _ _ w.1 h) (λ (w : (min_ℚ x y ≡ y) × (y <ℚ x)). w.0) (min_ℚ_cases x y)
+use Rattle.nf_rational_laws.proofs.Extremes.{min_left, max_left, min_is_left, min_is_right, max_keeps, min_right, max_right, min_keeps}
 
 -- each piece starts later than the one before
 abbrev pub StartsRise : List Piece → Type 0
@@ -38,7 +33,7 @@ NextFrom (q ∷ rest) time = time ≤ℚ q.start
 
 time_in-before : (start : ℚ) (rest : List Piece) (time : ℚ) → NextFrom rest time → time_in start rest time ≡ max_ℚ 0ℚ (time -ℚ start)
 time_in-before start [] time n = refl
-time_in-before start (q ∷ rest) time n = ap (λ (t : ℚ). max_ℚ 0ℚ (t -ℚ start)) (min_left time q.start n)
+time_in-before start (q ∷ rest) time n = ap (λ (t : ℚ). max_ℚ 0ℚ (t -ℚ start)) (min_is_left time q.start n)
 
 gap_none : (s t : ℚ) → t ≤ℚ s → t -ℚ s ≤ℚ 0ℚ
 gap_none s t h = linear_le (s ∷ t ∷ []) (le h ∷ []) (search reading_of depth 12) tt
@@ -104,7 +99,7 @@ module _ (time later : ℚ) (h : time <ℚ later) where
   step before p [] s k n = last before p [] s k tt
   step before p (q ∷ rest) s k (inl l, n) =
       full_piece p.rate _ _ _ _ _ _ (later -ℚ time)
-      (ap (λ (t : ℚ). max_ℚ 0ℚ (t -ℚ p.start)) (min_right time q.start l ∙ sym (min_right later q.start (≤ℚ_trans _ _ _ l (≤ℚ_of_lt _ _ h)))))
+      (ap (λ (t : ℚ). max_ℚ 0ℚ (t -ℚ p.start)) (min_is_right time q.start l ∙ sym (min_is_right later q.start (≤ℚ_trans _ _ _ l (≤ℚ_of_lt _ _ h)))))
       (step p.rate q rest s.1 l n) (rate_from-after before p (q ∷ rest) time k)
   step before p (q ∷ rest) s k (inr l, n) = last before p (q ∷ rest) s k l
 
@@ -154,22 +149,10 @@ rate_from-not_negative pieces time a = rate_from-nn 0ℚ pieces time (≤ℚ_ref
 
 -- ---- the supply never falls
 max0_order : (x y : ℚ) → x ≤ℚ y → max_ℚ 0ℚ x ≤ℚ max_ℚ 0ℚ y
-max0_order x y h = ⊎_elim
-    (λ (v : (max_ℚ 0ℚ x ≡ x) × (0ℚ ≤ℚ x)). subst (λ (z : ℚ). z ≤ℚ max_ℚ 0ℚ y) (sym v.0) (subst (λ (z : ℚ). x ≤ℚ z) (sym (max0_of y (≤ℚ_trans _ _ _ v.1 h))) h))
-    (λ (v : (max_ℚ 0ℚ x ≡ 0ℚ) × (x <ℚ 0ℚ)). subst (λ (z : ℚ). z ≤ℚ max_ℚ 0ℚ y) (sym v.0) (⊎_elim
-    (λ (w : (max_ℚ 0ℚ y ≡ y) × (0ℚ ≤ℚ y)). subst (λ (z : ℚ). 0ℚ ≤ℚ z) (sym w.0) w.1)
-    (λ (w : (max_ℚ 0ℚ y ≡ 0ℚ) × (y <ℚ 0ℚ)). ≤ℚ_of_same _ _ (sym w.0))
-    (max_ℚ_cases 0ℚ y)))
-    (max_ℚ_cases 0ℚ x)
+max0_order x y h = max_keeps (λ (z : ℚ). z ≤ℚ max_ℚ 0ℚ y) 0ℚ x (max_left 0ℚ y) (≤ℚ_trans _ _ _ h (max_right 0ℚ y))
 
 min_order : (x y z : ℚ) → x ≤ℚ y → min_ℚ x z ≤ℚ min_ℚ y z
-min_order x y z h = ⊎_elim
-    (λ (w : (min_ℚ y z ≡ y) × (y ≤ℚ z)). subst (λ (u : ℚ). min_ℚ x z ≤ℚ u) (sym w.0) (subst (λ (u : ℚ). u ≤ℚ y) (sym (min_left x z (≤ℚ_trans _ _ _ h w.1))) h))
-    (λ (w : (min_ℚ y z ≡ z) × (z <ℚ y)). subst (λ (u : ℚ). min_ℚ x z ≤ℚ u) (sym w.0) (⊎_elim
-    (λ (v : (min_ℚ x z ≡ x) × (x ≤ℚ z)). subst (λ (u : ℚ). u ≤ℚ z) (sym v.0) v.1)
-    (λ (v : (min_ℚ x z ≡ z) × (z <ℚ x)). ≤ℚ_of_same _ _ v.0)
-    (min_ℚ_cases x z)))
-    (min_ℚ_cases y z)
+min_order x y z h = min_keeps (λ (u : ℚ). min_ℚ x z ≤ℚ u) y z (≤ℚ_trans _ _ _ (min_left x z) h) (min_right x z)
 
 less_order : (x y s : ℚ) → x ≤ℚ y → x -ℚ s ≤ℚ y -ℚ s
 less_order x y s h = linear_le (x ∷ y ∷ s ∷ []) (le h ∷ []) (search reading_of depth 12) tt

@@ -1,13 +1,15 @@
 -- The computed supply is that of the model.
-use Rattle.std.proofs.Common.{◌≡◌, ℕ, suc, ◌⊎◌, ⊎_elim, Bool, true, false, cond, List, [], ◌∷◌, Some, slice_get, Ok, Err, refl, sym, ◌∙◌, ap, subst}
+use Rattle.std.proofs.Common.{◌≡◌, ℕ, suc, ◌⊎◌, ⊎_elim, Bool, true, false, cond, List, [], ◌∷◌, Some, slice_get, Ok, Err, refl, sym, ◌∙◌, ap}
 use Rattle.std.specs.Prelude.{IfOk}
 use Rattle.nf_rational.specs.Rational.{ℚ}
 use Rattle.nf_rational.specs.Operations.{0ℚ, ◌+ℚ◌, ◌-ℚ◌, ◌*ℚ◌}
-use Rattle.nf_rational.specs.Order.{◌≤ℚ◌, ◌<ℚ◌, lt_ℚ, min_ℚ, max_ℚ}
+use Rattle.nf_rational.specs.Order.{◌≤ℚ◌, ◌<ℚ◌, lt_ℚ, min_ℚ}
 use Rattle.nf_rational_laws.proofs.Polynomial.{reading_of}
-use Rattle.nf_rational_laws.proofs.Linear.{le, lt, eq, linear_le, linear_eq}
-use Rattle.nf_rational_laws.proofs.Order.{not_both_ℚ, less_ps}
-use Rattle.nf_rational_laws.proofs.Tests.{lt_ℚ_cases, min_ℚ_cases, max_ℚ_cases, max0_none}
+use Rattle.nf_rational_laws.proofs.Linear.{le, eq, linear_le, linear_eq}
+use Rattle.nf_rational_laws.proofs.Order.{less_ps, ≤ℚ_of_lt}
+use Rattle.nf_rational_laws.proofs.Tests.{lt_ℚ_cases, max0_none, max0_of}
+use Rattle.nf_rational_laws.proofs.Extremes.{min_left, min_keeps}
+use Rattle.nf_rational_laws.proofs.Chains.{≤ℚ_trans}
 use Rattle.nf_work.specs.declared.Op.{Op}
 use Rattle.nf_work.specs.declared.Op.TheVariants.{Sum, Difference, Product}
 use Rattle.nf_work.specs.declared.Passed.{Passed}
@@ -38,32 +40,20 @@ with_piece_is passes so_far piece end sum e =
     ∙ ap (λ (x : ℚ). piece.rate *ℚ x) (checked_is passes Difference end piece.start first.0 first.1))
 
 -- ---- how long a piece is the latest one started
-longer : (d : ℚ) → 0ℚ <ℚ d → max_ℚ 0ℚ d ≡ d
-longer d h = ⊎_elim (λ (w : (max_ℚ 0ℚ d ≡ d) × (0ℚ ≤ℚ d)). w.0) (λ (w : (max_ℚ 0ℚ d ≡ 0ℚ) × (d <ℚ 0ℚ)). absurd (<ℚ_both w.1)) (max_ℚ_cases 0ℚ d)
-  where
-    <ℚ_both : d <ℚ 0ℚ → ⊥
-    <ℚ_both k = not_both_ℚ 0ℚ d h (linear_le (d ∷ []) (lt k ∷ []) (search reading_of depth 12) tt)
-
 not_above : (s m : ℚ) → m ≤ℚ s → m -ℚ s ≤ℚ 0ℚ
 not_above s m h = linear_le (s ∷ m ∷ []) (le h ∷ []) (search reading_of depth 12) tt
-
-below_both : (s t n : ℚ) → s <ℚ t → s <ℚ n → s <ℚ min_ℚ t n
-below_both s t n h k = ⊎_elim (λ (w : (min_ℚ t n ≡ t) × (t ≤ℚ n)). subst (λ (m : ℚ). s <ℚ m) (sym w.0) h) (λ (w : (min_ℚ t n ≡ n) × (n <ℚ t)). subst (λ (m : ℚ). s <ℚ m) (sym w.0) k) (min_ℚ_cases t n)
-
-at_most : (s t n : ℚ) → t ≤ℚ s → min_ℚ t n ≤ℚ s
-at_most s t n h = ⊎_elim (λ (w : (min_ℚ t n ≡ t) × (t ≤ℚ n)). subst (λ (m : ℚ). m ≤ℚ s) (sym w.0) h) (λ (w : (min_ℚ t n ≡ n) × (n <ℚ t)). subst (λ (m : ℚ). m ≤ℚ s) (sym w.0) (linear_le (s ∷ t ∷ n ∷ []) (le h ∷ lt w.1 ∷ []) (search reading_of depth 12) tt)) (min_ℚ_cases t n)
 
 abbrev pub RisesFrom : ℚ → List Piece → Type 0
 RisesFrom start [] = Unit {0}
 RisesFrom start (next ∷ later) = start <ℚ next.start
 
 time_when : (start : ℚ) (later : List Piece) (time : ℚ) → RisesFrom start later → start <ℚ time → time_in start later time ≡ end_before later time -ℚ start
-time_when start [] time r h = longer (time -ℚ start) (less_ps start time h)
-time_when start (next ∷ later) time r h = longer (min_ℚ time next.start -ℚ start) (less_ps start (min_ℚ time next.start) (below_both start time next.start h r))
+time_when start [] time r h = max0_of (time -ℚ start) (≤ℚ_of_lt _ _ (less_ps start time h))
+time_when start (next ∷ later) time r h = max0_of (min_ℚ time next.start -ℚ start) (≤ℚ_of_lt _ _ (less_ps start (min_ℚ time next.start) (min_keeps (λ (m : ℚ). start <ℚ m) time next.start h r)))
 
 time_unless : (start : ℚ) (later : List Piece) (time : ℚ) → time ≤ℚ start → time_in start later time ≡ 0ℚ
 time_unless start [] time h = max0_none (time -ℚ start) (not_above start time h)
-time_unless start (next ∷ later) time h = max0_none (min_ℚ time next.start -ℚ start) (not_above start (min_ℚ time next.start) (at_most start time next.start h))
+time_unless start (next ∷ later) time h = max0_none (min_ℚ time next.start -ℚ start) (not_above start (min_ℚ time next.start) (≤ℚ_trans _ _ _ (min_left time next.start) h))
 
 -- ---- the sums
 joined : (v x s r e t y : ℚ) → v ≡ x +ℚ y → x ≡ s +ℚ r *ℚ (e -ℚ t) → v ≡ s +ℚ (r *ℚ (e -ℚ t) +ℚ y)

@@ -1,24 +1,19 @@
 -- What a run that has ended is.
-use Rattle.std.proofs.Common.{◌≡◌, ℕ, suc, inl, inr, ⊎_elim, ◌↔◌, List, [], ◌∷◌, length, sym, ap, subst, refl, ◌∙◌, arith}
+use Rattle.std.proofs.Common.{◌≡◌, ℕ, suc, ◌↔◌, length, sym, ap, subst, refl, ◌∙◌, arith}
 use Rattle.std.specs.Prelude.{Option, Some, None, is_none, Result, Ok, Err, IfOk}
 use Rattle.std.specs.Option.{option_map}
 use Rattle.std.proofs.lemmas.Option.{none-some, slice_get-map}
 use Rattle.nf_rational.specs.Rational.{ℚ}
-use Rattle.nf_rational.specs.Operations.{◌+ℚ◌, ◌-ℚ◌}
-use Rattle.nf_rational.specs.Order.{◌≤ℚ◌, ◌<ℚ◌, min_ℚ}
-use Rattle.nf_rational_laws.proofs.Polynomial.{reading_of}
-use Rattle.nf_rational_laws.proofs.Order.{≤ℚ_of_same, <ℚ_irrefl}
-use Rattle.nf_rational_laws.proofs.Tests.{min_ℚ_cases}
-use Rattle.nf_rational_laws.proofs.Linear.{le, lt, eq, linear_le}
+use Rattle.nf_rational.specs.Order.{◌≤ℚ◌, ◌<ℚ◌}
+use Rattle.nf_rational_laws.proofs.Order.{<ℚ_irrefl}
 use Rattle.nf_work.specs.Passing.{Passing, passes_Q}
 use Rattle.nf_model.specs.Network.{Link, Network, IsNetwork, hops}
 use Rattle.nf_model.specs.ThinFlow.{slacks_of}
-use Rattle.nf_model.specs.Phases.{IsPhaseLength}
 use Rattle.nf_model.specs.Equilibrium.{Equilibrium}
 use Rattle.nf_formats.specs.declared.Cause.{Cause}
 use Rattle.nf_formats.specs.Report.{Report, IsWellFormed}
 use Rattle.nf_formats_laws.proofs.ReportFacts.{well_formed}
-use Rattle.nf_lists.specs.PhaseRun.{Standing, Bounds, IsStart, Goes, Fails, at_slack, at_search, at_lists, IsPhaseRun, IsShortFlow, flow_of, report_of}
+use Rattle.nf_lists.specs.PhaseRun.{Standing, Bounds, IsStart, Goes, IsPhaseRun, IsShortFlow, flow_of, report_of}
 use Rattle.nf_lists.specs.PhaseRun.{Runs, at_horizon as at_horizon_of_run, at_phases as at_phases_of_run, fails as fails_of_run, goes as goes_of_run}
 use Rattle.nf_resume_lists.specs.Open.{Continues, Steps, continues, begins, RunsOn, at_horizon, at_phases, fails, steps}
 use Rattle.nf_resume_laws.proofs.FirstPlace.{closed-at_start}
@@ -33,29 +28,13 @@ use Rattle.nf_phase.proofs.Reached.{Stands, Stands-reached}
 use Rattle.nf_phase.proofs.ShortReached.{short_reached}
 use Rattle.nf_phase.proofs.Told.{ends_told}
 use Rattle.nf_phase.proofs.Stepped.{equilibrium_reached, reaches_step, begin_step}
+use Rattle.nf_phase_laws.proofs.Phases.{IsPhaseLength-within}
+use Rattle.nf_lists_laws.proofs.OneRun.{fails_below}
 
--- ---- a phase goes no further than the horizon
-no_further : (time horizon left length : ℚ) → left ≡ horizon -ℚ time → length ≤ℚ left → time +ℚ length ≤ℚ horizon
-no_further time horizon left length e h = linear_le (time ∷ horizon ∷ left ∷ length ∷ []) (eq e ∷ le h ∷ []) (search reading_of depth 12) tt
-
-pub length_within : (net : Network) (slacks slopes : List ℚ) (time horizon length : ℚ) → IsPhaseLength net slacks slopes time horizon length → time +ℚ length ≤ℚ horizon
-length_within net slacks slopes time horizon length (inl (x, _, e)) = ⊎_elim
-    (λ (w : (min_ℚ (horizon -ℚ time) x ≡ horizon -ℚ time) × (horizon -ℚ time ≤ℚ x)). no_further time horizon (horizon -ℚ time) length refl (≤ℚ_of_same _ _ (e ∙ w.0)))
-    (λ (w : (min_ℚ (horizon -ℚ time) x ≡ x) × (x <ℚ horizon -ℚ time)). no_further time horizon (horizon -ℚ time) length refl (below _ _ _ (e ∙ w.0) w.1))
-    (min_ℚ_cases (horizon -ℚ time) x)
-  where
-    below : (l x y : ℚ) → l ≡ x → x <ℚ y → l ≤ℚ y
-    below l x y e h = linear_le (l ∷ x ∷ y ∷ []) (eq e ∷ lt h ∷ []) (search reading_of depth 12) tt
-length_within net slacks slopes time horizon length (inr (_, e)) = no_further time horizon (horizon -ℚ time) length refl (≤ℚ_of_same _ _ e)
-
+-- ---- no phase goes beyond the horizon
 module _ (passes : Passing) (net : Network) where
   pub goes_within : (horizon : ℚ) (patterns : ℕ) (s t : Standing) → Goes passes net horizon patterns s t → t.time ≤ℚ horizon
-  goes_within horizon patterns s t g = subst (λ (n : Standing). n.time ≤ℚ horizon) (sym g.new_is) (length_within net (slacks_of (hops net) s.labels) g.slopes s.time horizon g.step.length g.is_length)
-
-  pub fails_below : (horizon : ℚ) (patterns : ℕ) (s : Standing) (cause : Cause ℚ) → Fails passes net horizon patterns s cause → s.time <ℚ horizon
-  fails_below horizon patterns s cause (at_slack p below list) = below
-  fails_below horizon patterns s cause (at_search answer c seeks is) = seeks.below
-  fails_below horizon patterns s cause (at_lists place pattern flows slopes p seeks lists) = seeks.below
+  goes_within horizon patterns s t g = subst (λ (n : Standing). n.time ≤ℚ horizon) (sym g.new_is) (IsPhaseLength-within net (slacks_of (hops net) s.labels) g.slopes s.time horizon g.step.length g.is_length)
 
 -- ---- where a run ends
 pub record EndsWell (passes : Passing) (net : Network) (horizon : ℚ) (last : Standing) (stop : Option (Cause ℚ)) : Type 0 where

@@ -6,14 +6,14 @@ use Rattle.nf_rational.specs.Order.{◌≤ℚ◌, ◌<ℚ◌, min_ℚ}
 use Rattle.nf_rational_laws.proofs.Polynomial.{reading_of}
 use Rattle.nf_rational_laws.proofs.Order.{≤ℚ_of_lt, ps_times, lt_or_le_ℚ, not_both_ℚ, less_ps}
 use Rattle.nf_rational_laws.proofs.Quotient.{/ℚ_is, ps_inv}
-use Rattle.nf_rational_laws.proofs.Tests.{min_ℚ_cases}
 use Rattle.nf_rational_laws.proofs.Linear.{le, lt, eq, le_times, linear_le, linear_lt}
 use Rattle.nf_model.specs.Entries.{number_at}
 use Rattle.nf_model.specs.Curve.{Within}
 use Rattle.nf_model.specs.Network.{Link, Piece, Network}
 use Rattle.nf_model.specs.Phases.{Lasts, IsExtension, IsPhaseLength, IsPhase}
 use Rattle.nf_model_laws.proofs.Affine.{<_≤_trans, quotient-times}
-use Rattle.nf_rational_laws.proofs.Chains.{≤ℚ_refl, ≤ℚ_trans}
+use Rattle.nf_rational_laws.proofs.Chains.{≤ℚ_trans}
+use Rattle.nf_rational_laws.proofs.Extremes.{min_left, min_right, min_keeps}
 
 -- ---- some time that fits each entry of a list fits all of them
 pub record Fitting {A : Type 0} (xs : List A) (Fits : ℕ → A → ℚ → Type 0) : Type 0 where
@@ -22,10 +22,7 @@ pub record Fitting {A : Type 0} (xs : List A) (Fits : ℕ → A → ℚ → Type
   pub fits : (i : ℕ) (x : A) → slice_get xs i ≡ Some x → Fits i x time
 
 lesser : (a b : ℚ) → 0ℚ <ℚ a → 0ℚ <ℚ b → (0ℚ <ℚ min_ℚ a b) × ((min_ℚ a b ≤ℚ a) × (min_ℚ a b ≤ℚ b))
-lesser a b h k = ⊎_elim
-    (λ (w : (min_ℚ a b ≡ a) × (a ≤ℚ b)). subst (λ (z : ℚ). (0ℚ <ℚ z) × ((z ≤ℚ a) × (z ≤ℚ b))) (sym w.0) (h, (≤ℚ_refl a, w.1)))
-    (λ (w : (min_ℚ a b ≡ b) × (b <ℚ a)). subst (λ (z : ℚ). (0ℚ <ℚ z) × ((z ≤ℚ a) × (z ≤ℚ b))) (sym w.0) (k, (≤ℚ_of_lt _ _ w.1, ≤ℚ_refl b)))
-    (min_ℚ_cases a b)
+lesser a b h k = (min_keeps (λ (z : ℚ). 0ℚ <ℚ z) a b h k, (min_left a b, min_right a b))
 
 one_ps : 0ℚ <ℚ 1ℚ
 one_ps = linear_lt [] [] (search reading_of depth 12) tt

@@ -18,6 +18,7 @@ use Rattle.nf_phase_laws.proofs.Holds.{IsNashFlow-from_HoldsUpTo}
 use Rattle.nf_phase_laws.proofs.Start.{HoldsUpTo-start}
 use Rattle.nf_phase_laws.proofs.Lasting.{HoldsUpTo-lasts}
 use Rattle.nf_rational_laws.proofs.Chains.{≤ℚ_refl, ≤ℚ_trans}
+use Rattle.nf_rational_laws.proofs.Extremes.{min_left}
 
 -- what may last for a length may last for less
 pub Lasts-shorter : (net : Network) (slacks slopes : List ℚ) (time long short : ℚ) → Lasts net slacks slopes time long → 0ℚ ≤ℚ short → short ≤ℚ long → Lasts net slacks slopes time short
@@ -37,6 +38,15 @@ Lasts-phase net slacks slopes time horizon length b (inl (x, x_is, e)) = ⊎_eli
     (λ (w : (min_ℚ (horizon -ℚ time) x ≡ x) × (x <ℚ horizon -ℚ time)). subst (λ (z : ℚ). Lasts net slacks slopes time z) (sym (e ∙ w.0)) x_is.lasts)
     (min_ℚ_cases (horizon -ℚ time) x)
 Lasts-phase net slacks slopes time horizon length b (inr (u, e)) = u length (linear_le (time ∷ horizon ∷ length ∷ []) (eq e ∷ lt b ∷ []) (search reading_of depth 12) tt)
+
+-- no phase goes beyond its horizon
+pub IsPhaseLength-within : (net : Network) (slacks slopes : List ℚ) (time horizon length : ℚ) → IsPhaseLength net slacks slopes time horizon length → time +ℚ length ≤ℚ horizon
+IsPhaseLength-within net slacks slopes time horizon length (inl (x, _, e)) =
+    up_to time horizon (min_ℚ (horizon -ℚ time) x) length e (min_left (horizon -ℚ time) x)
+  where
+    up_to : (t h m l : ℚ) → l ≡ m → m ≤ℚ h -ℚ t → t +ℚ l ≤ℚ h
+    up_to t h m l e k = linear_le (t ∷ h ∷ m ∷ l ∷ []) (eq e ∷ le k ∷ []) (search reading_of depth 12) tt
+IsPhaseLength-within net slacks slopes time horizon length (inr (_, e)) = linear_le (time ∷ horizon ∷ length ∷ []) (eq e ∷ []) (search reading_of depth 12) tt
 
 -- ---- what is known of a flow that goes by phases
 pub record Stands (net : Network) (until : ℚ) (labels : List ℚ) (amount label : ℕ → ℚ → ℚ) : Type 0 where

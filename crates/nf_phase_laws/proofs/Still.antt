@@ -1,9 +1,7 @@
 -- In a thin flow a node whose label stands still is passed by no flow. Else flow would come in, and on an unbounded link alone, whose
 -- tail's label stands still too; and so back without end along active links, which close no circle.
-use Rattle.std.proofs.Common.{◌≡◌, ◌≢◌, ℕ, suc, ◌<◌, List, [], ◌∷◌, ◌⊎◌, inl, inr, ⊎_elim, Bool, true, false, eqb, Option, Some, None, slice_get, sym, ap, subst, refl, ◌∙◌}
-use Rattle.std.specs.Prelude.{if◌then◌else◌}
+use Rattle.std.proofs.Common.{◌≡◌, ◌≢◌, ℕ, ◌<◌, List, [], ◌∷◌, ◌⊎◌, inr, ⊎_elim, Bool, true, false, eqb, Option, Some, None, slice_get, sym, ap, subst, refl, ◌∙◌}
 use Rattle.std.proofs.lemmas.Bool.Decides.{eqb_tells}
-use Rattle.std.proofs.lemmas.Bool.{eqb-true}
 use Rattle.nf_rational.specs.Rational.{ℚ}
 use Rattle.nf_rational.specs.Operations.{0ℚ, 1ℚ, ◌+ℚ◌, ◌-ℚ◌, ◌*ℚ◌, ◌/ℚ◌}
 use Rattle.nf_rational.specs.Order.{◌≤ℚ◌, ◌<ℚ◌, max_ℚ}
@@ -21,26 +19,9 @@ use Rattle.nf_model_laws.proofs.Ways.{way_back}
 use Rattle.nf_model_laws.proofs.Networks.{IsWalk-link, transit_of-is}
 use Rattle.nf_model_laws.proofs.Earliest.{IsPositive-link}
 use Rattle.nf_model_laws.proofs.Slacks.{slack_of_active}
-use Rattle.nf_model_laws.proofs.Sums.{sum_out-each}
-use Rattle.nf_phase_laws.proofs.Thin.{surplus-sink}
-use Rattle.nf_rational_laws.proofs.Chains.{≤ℚ_refl, ≤ℚ_trans}
-
--- ---- where the sum is above 0, one of its terms is
-if_some : (b : Bool) (a s : ℚ) → 0ℚ <ℚ (if b then a +ℚ s else s) → ((b ≡ true) × (0ℚ <ℚ a)) ⊎ (0ℚ <ℚ s)
-if_some true a s h = ⊎_elim
-    (λ (k : 0ℚ <ℚ a). inl (refl, k))
-    (λ (k : a ≤ℚ 0ℚ). inr (linear_lt (a ∷ s ∷ []) (lt h ∷ le k ∷ []) (search reading_of depth 12) tt))
-    (lt_or_le_ℚ 0ℚ a)
-if_some false a s h = inr h
-
-pub sum_in-some : (links : List Link) (f : ℕ → ℚ) (v : ℕ) → 0ℚ <ℚ sum_in links f v → (e : ℕ) × (link : Link) × (slice_get links e ≡ Some link) × (link.head ≡ v) × (0ℚ <ℚ f e)
-sum_in-some [] f v h = absurd (not_both_ℚ _ _ h (≤ℚ_refl 0ℚ))
-sum_in-some (link ∷ links) f v h = ⊎_elim
-    (λ (w : (eqb link.head v ≡ true) × (0ℚ <ℚ f 0)). (0, link, refl, eqb-true link.head v w.0, w.1))
-    (λ (w : 0ℚ <ℚ sum_in links (λ e. f (suc e)) v).
-    let r : (e : ℕ) × (link : Link) × (slice_get links e ≡ Some link) × (link.head ≡ v) × (0ℚ <ℚ f (suc e)) = sum_in-some links (λ e. f (suc e)) v w in
-    (suc r.0, r.1, r.2, r.3, r.4))
-    (if_some (eqb link.head v) (f 0) _ h)
+use Rattle.nf_model_laws.proofs.Sums.{sum_out-each, sum_in-some}
+use Rattle.nf_model_laws.proofs.Totals.{IsThinFlow-sink}
+use Rattle.nf_rational_laws.proofs.Chains.{≤ℚ_trans}
 
 -- ---- a link with flow whose exit stands still is unbounded, and its tail stands still
 no_quotient : (x c q : ℚ) → 0ℚ <ℚ c → 0ℚ <ℚ x → q *ℚ c ≡ x → q ≤ℚ 0ℚ → ⊥
@@ -93,7 +74,7 @@ module _ (net : Network) (labels : List ℚ) (rate : ℚ) (flows slopes : List �
   comes_in : (v : ℕ) → v < net.nodes → Sends v → 0ℚ <ℚ sum_in net.links (number_at flows) v
   comes_in v h (still, (e, link, p, at, f)) = ⊎_elim
       (λ (s : (eqb v net.sink ≡ true) × (v ≡ net.sink)). subst (λ (k : ℕ). 0ℚ <ℚ sum_in net.links (number_at flows) k) (sym s.1)
-      (sink_some _ _ _ rate (surplus-sink net (sets_at net labels) rate flows slopes good thin) not_negative (subst (λ (k : ℕ). number_at flows e ≤ℚ sum_out net.links (number_at flows) k) s.1 most) f))
+      (sink_some _ _ _ rate (IsThinFlow-sink net good (sets_at net labels) rate flows slopes thin) not_negative (subst (λ (k : ℕ). number_at flows e ≤ℚ sum_out net.links (number_at flows) k) s.1 most) f))
       (λ (s : (eqb v net.sink ≡ false) × (v ≢ net.sink)). inner_some _ _ _ (thin.inner v h (moves_on v still) s.1) most f)
       (eqb_tells v net.sink)
     where

@@ -1,7 +1,6 @@
 -- A thin flow for the sets of the slacks, link by link, in the form that a phase takes.
-use Rattle.std.proofs.Common.{◌≡◌, ◌≢◌, ℕ, suc, ◌<◌, List, [], ◌∷◌, ◌⊎◌, inl, inr, ⊎_elim, Bool, true, false, eqb, Option, Some, None, slice_get, sym, ap, subst, refl, ◌∙◌}
+use Rattle.std.proofs.Common.{◌≡◌, ◌≢◌, ℕ, ◌<◌, List, [], ◌∷◌, ◌⊎◌, inl, inr, ⊎_elim, Bool, true, false, Option, Some, None, slice_get, sym, ap, subst, refl, ◌∙◌}
 use Rattle.std.specs.Prelude.{unwrap_or}
-use Rattle.std.proofs.lemmas.Bool.Decides.{eqb_tells}
 use Rattle.nf_rational.specs.Rational.{ℚ}
 use Rattle.nf_rational.specs.Operations.{0ℚ, 1ℚ, ◌+ℚ◌, ◌-ℚ◌, ◌*ℚ◌, ◌/ℚ◌}
 use Rattle.nf_rational.specs.Order.{◌≤ℚ◌, ◌<ℚ◌, max_ℚ}
@@ -14,17 +13,18 @@ use Rattle.nf_model.specs.Curve.{Within}
 use Rattle.nf_model.specs.Walk.{IsWalk, transit_sum}
 use Rattle.nf_model.specs.Network.{Link, Network, IsNetwork, IsLink, hop_of, hops, sum_in, sum_out}
 use Rattle.nf_model.specs.Earliest.{Arrives, IsEarliest}
-use Rattle.nf_model.specs.ThinFlow.{Sets, slack, sets_at, exit_slope, exit_slope_at, surplus, Enters, IsThinFlow}
+use Rattle.nf_model.specs.ThinFlow.{slack, sets_at, exit_slope, exit_slope_at, Enters, IsThinFlow}
 use Rattle.nf_model_laws.specs.Capacity.{IsPositive}
 use Rattle.nf_model_laws.proofs.Affine.{quotient-times}
 use Rattle.nf_model_laws.proofs.Queues.{IsExit-after}
 use Rattle.nf_model_laws.proofs.Networks.{IsWalk-link, transit_of-is}
 use Rattle.nf_model_laws.proofs.Earliest.{IsPositive-link}
 use Rattle.nf_model_laws.proofs.Slacks.{active_of_slack, slack_of_active, resetting_of_slack, slack_of_resetting}
-use Rattle.nf_model_laws.proofs.Potential.{sum_to, sum_to-same, sum_to-plus, sum_to-only, only_at, only_at-here, only_at-else, carried, carried-is, EndsBelow, out_less_in}
+use Rattle.nf_model_laws.proofs.Totals.{IsThinFlow-sink}
 use Rattle.nf_phase_laws.specs.Invariant.{link_slack, HoldsUpTo}
 use Rattle.nf_phase_laws.proofs.Holds.{labels_earliest}
 use Rattle.nf_rational_laws.proofs.Chains.{≤ℚ_refl}
+use Rattle.nf_rational_laws.proofs.Extremes.{max_left}
 use Rattle.std.proofs.lemmas.Option.{same_Some}
 
 -- ---- an active link: s is its slack, x its flow, l and m the slopes at its tail and its head
@@ -89,10 +89,7 @@ LinkLaw-of resets (Some c) s x l m h n i above_0 none low u = LinkLaw-bounded re
 -- on a link that is not resetting the exit slope is at least that of the tail
 pub exit_slope-tail : (capacity : Option ℚ) (x l : ℚ) → l ≤ℚ exit_slope false capacity x l
 exit_slope-tail None x l = ≤ℚ_refl l
-exit_slope-tail (Some c) x l = ⊎_elim
-    (λ (w : (max_ℚ l (x /ℚ c) ≡ x /ℚ c) × (l ≤ℚ x /ℚ c)). subst (λ (z : ℚ). l ≤ℚ z) (sym w.0) w.1)
-    (λ (w : (max_ℚ l (x /ℚ c) ≡ l) × (x /ℚ c <ℚ l)). ≤ℚ_of_same _ _ (sym w.0))
-    (max_ℚ_cases l (x /ℚ c))
+exit_slope-tail (Some c) x l = max_left l (x /ℚ c)
 
 -- ---- a thin flow for the slacks of the links: x the flows of the links, slope those of the labels of the nodes
 pub record IsThinBy (net : Network) (slack : Link → ℚ) (rate : ℚ) (x slope : ℕ → ℚ) : Type 0 where
@@ -106,52 +103,6 @@ pub record IsThinBy (net : Network) (slack : Link → ℚ) (rate : ℚ) (x slope
   pub inner : (v : ℕ) → v < net.nodes → v ≢ net.source → v ≢ net.sink → sum_in net.links x v ≡ sum_out net.links x v
   pub supplied : sum_in net.links x net.source +ℚ rate ≡ sum_out net.links x net.source
   pub drained : sum_in net.links x net.sink ≡ sum_out net.links x net.sink +ℚ rate
-
--- ---- what all nodes send out beyond what comes in is 0 in all
-carried-level : (links : List Link) (x : ℕ → ℚ) → carried (λ _. 1ℚ) links x ≡ 0ℚ
-carried-level [] x = refl
-carried-level (link ∷ links) x = level (x 0) _ (carried-level links (λ e. x (suc e)))
-  where
-    level : (x p : ℚ) → p ≡ 0ℚ → x *ℚ (1ℚ -ℚ 1ℚ) +ℚ p ≡ 0ℚ
-    level x p e = linear_eq (x ∷ p ∷ []) (eq e ∷ []) (search reading_of depth 12) tt tt
-
-all_zero : (n : ℕ) (links : List Link) (x : ℕ → ℚ) → EndsBelow n links → sum_to n (out_less_in links x) ≡ 0ℚ
-all_zero n links x b = sum_to-same n (out_less_in links x) (λ v. 1ℚ *ℚ out_less_in links x v) (λ v _. one (out_less_in links x v)) ∙ sym (carried-is n (λ _. 1ℚ) links x b) ∙ carried-level links x
-  where
-    one : (y : ℚ) → y ≡ 1ℚ *ℚ y
-    one y = linear_eq (y ∷ []) [] (search reading_of depth 12) tt tt
-
--- so where only two nodes have any, these two cancel
-two_cancel : (n s t : ℕ) (f : ℕ → ℚ) → s < n → t < n → s ≢ t → ((v : ℕ) → v < n → v ≢ s → v ≢ t → f v ≡ 0ℚ) → sum_to n f ≡ 0ℚ → f s +ℚ f t ≡ 0ℚ
-two_cancel n s t f h k other none e =
-    total (f s) (f t) _ _ (sum_to-only n s (f s) h) (sum_to-only n t (f t) k)
-    (sym (sum_to-plus n (λ v. only_at s (f s) v +ℚ only_at t (f t) v) (only_at s (f s)) (only_at t (f t)) (λ v. refl)) ∙ sym (sum_to-same n f (λ v. only_at s (f s) v +ℚ only_at t (f t) v) at) ∙ e)
-  where
-    total : (a b p q : ℚ) → p ≡ a → q ≡ b → p +ℚ q ≡ 0ℚ → a +ℚ b ≡ 0ℚ
-    total a b p q e f g = linear_eq (a ∷ b ∷ p ∷ q ∷ []) (eq e ∷ eq f ∷ eq g ∷ []) (search reading_of depth 12) tt tt
-
-    sum_of : (y p q : ℚ) → (c d : ℚ) → p ≡ c → q ≡ d → y ≡ c +ℚ d → y ≡ p +ℚ q
-    sum_of y p q c d e f g = linear_eq (y ∷ p ∷ q ∷ c ∷ d ∷ []) (eq e ∷ eq f ∷ eq g ∷ []) (search reading_of depth 12) tt tt
-
-    at : (v : ℕ) → v < n → f v ≡ only_at s (f s) v +ℚ only_at t (f t) v
-    at v l = ⊎_elim
-        (λ (a : (eqb v s ≡ true) × (v ≡ s)). subst (λ (k : ℕ). f k ≡ only_at s (f s) k +ℚ only_at t (f t) k) (sym a.1)
-        (sum_of (f s) _ _ (f s) 0ℚ (only_at-here s (f s)) (only_at-else t (f t) s (λ e. other (sym e))) (linear_eq (f s ∷ []) [] (search reading_of depth 12) tt tt)))
-        (λ (a : (eqb v s ≡ false) × (v ≢ s)). ⊎_elim
-        (λ (b : (eqb v t ≡ true) × (v ≡ t)). subst (λ (k : ℕ). f k ≡ only_at s (f s) k +ℚ only_at t (f t) k) (sym b.1)
-        (sum_of (f t) _ _ 0ℚ (f t) (only_at-else s (f s) t other) (only_at-here t (f t)) (linear_eq (f t ∷ []) [] (search reading_of depth 12) tt tt)))
-        (λ (b : (eqb v t ≡ false) × (v ≢ t)). sum_of (f v) _ _ 0ℚ 0ℚ (only_at-else s (f s) v (λ e. a.1 (sym e))) (only_at-else t (f t) v (λ e. b.1 (sym e)))
-        (none v l a.1 b.1 ∙ linear_eq [] [] (search reading_of depth 12) tt tt))
-        (eqb_tells v t))
-        (eqb_tells v s)
-
--- so what comes to the sink is what the source sends
-pub surplus-sink : (net : Network) (sets : Sets) (rate : ℚ) (flows slopes : List ℚ) → IsNetwork net → IsThinFlow net sets rate flows slopes → surplus net flows net.sink ≡ 0ℚ -ℚ rate
-surplus-sink net sets rate flows slopes good thin = rest _ _ rate thin.source
-    (two_cancel net.nodes net.source net.sink (out_less_in net.links (number_at flows)) good.source good.sink good.apart thin.inner (all_zero net.nodes net.links (number_at flows) (λ e link p. (good.tails e link p, good.heads e link p))))
-  where
-    rest : (a b r : ℚ) → a ≡ r → a +ℚ b ≡ 0ℚ → b ≡ 0ℚ -ℚ r
-    rest a b r e f = linear_eq (a ∷ b ∷ r ∷ []) (eq e ∷ eq f ∷ []) (search reading_of depth 12) tt tt
 
 -- ---- who walks takes the transit times at least
 Arrives-after : (net : Network) (amount : ℕ → ℚ → ℚ) → IsNetwork net → (walk : List ℕ) (time arrival : ℚ) → Arrives net amount walk time arrival → time +ℚ transit_sum (hops net) walk ≤ℚ arrival
@@ -245,5 +196,5 @@ module _ (net : Network) (amount label : ℕ → ℚ → ℚ) (until : ℚ) (lab
       entered = λ v h other. by_entry v (thin.taken v h other);
       inner = λ v h a b. inner_sum _ _ (thin.inner v h a b);
       supplied = source_sum _ _ rate thin.source;
-      drained = sink_sum _ _ rate (surplus-sink net (sets_at net labels) rate flows slopes good thin);
+      drained = sink_sum _ _ rate (IsThinFlow-sink net good (sets_at net labels) rate flows slopes thin);
     }

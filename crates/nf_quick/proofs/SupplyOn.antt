@@ -3,12 +3,13 @@ use Rattle.std.proofs.Common.{◌≡◌, ℕ, zero, suc, Bool, true, false, if�
 use Rattle.std.specs.Prelude.{Ok, Err}
 use Rattle.nf_rational.specs.Rational.{ℚ}
 use Rattle.nf_rational.specs.Operations.{0ℚ}
-use Rattle.nf_rational.specs.Order.{◌≤ℚ◌, ◌<ℚ◌, lt_ℚ, min_ℚ}
-use Rattle.nf_rational_laws.proofs.Tests.{lt_ℚ_cases, min_ℚ_cases, test_of_less}
-use Rattle.nf_rational_laws.proofs.Order.{≤ℚ_of_lt, not_both_ℚ, ≤ℚ_antisymm}
+use Rattle.nf_rational.specs.Order.{◌≤ℚ◌, ◌<ℚ◌, lt_ℚ}
+use Rattle.nf_rational_laws.proofs.Tests.{lt_ℚ_cases, test_of_less}
+use Rattle.nf_rational_laws.proofs.Order.{≤ℚ_of_lt, not_both_ℚ}
 use Rattle.nf_rational_laws.proofs.Polynomial.{reading_of}
 use Rattle.nf_rational_laws.proofs.Linear.{le, lt, linear_lt}
 use Rattle.nf_rational_laws.proofs.Chains.{≤ℚ_refl, ≤ℚ_trans}
+use Rattle.nf_rational_laws.proofs.Extremes.{min_is_right}
 use Rattle.nf_work.specs.Passing.{Passing}
 use Rattle.nf_work.specs.Checked.{Checked, ◌>>=◌}
 use Rattle.nf_model.specs.Network.{Piece}
@@ -18,9 +19,6 @@ use Rattle.nf_residual.proofs.LegByLeg.{bind_more, bind_same}
 
 not_less : (x y : ℚ) → y ≤ℚ x → lt_ℚ x y ≡ false
 not_less x y h = ⊎_elim (λ (w : (lt_ℚ x y ≡ true) × (x <ℚ y)). absurd (not_both_ℚ x y w.1 h)) (λ (w : (lt_ℚ x y ≡ false) × (y ≤ℚ x)). w.0) (lt_ℚ_cases x y)
-
-least_is : (x y : ℚ) → y ≤ℚ x → min_ℚ x y ≡ y
-least_is x y h = ⊎_elim (λ (w : (min_ℚ x y ≡ x) × (x ≤ℚ y)). w.0 ∙ ≤ℚ_antisymm x y w.1 h) (λ (w : (min_ℚ x y ≡ y) × (y <ℚ x)). w.0) (min_ℚ_cases x y)
 
 bind_end : {A : Type 0} (r : Checked A) → (r >>= λ x. Ok x) ≡ r
 bind_end (Ok x) = refl
@@ -51,7 +49,7 @@ module _ (passes : Passing) where
       → supplied_after passes so_far (p ∷ q ∷ later) time ≡ (with_piece passes so_far p q.start >>= λ sum. supplied_after passes sum (q ∷ later) time)
   whole_piece p q later time so_far h k =
       ap (λ (b : Bool). from_piece b so_far p (q ∷ later) time) (test_of_less p.start time h)
-      ∙ ap (λ (end : ℚ). with_piece passes so_far p end >>= λ sum. supplied_after passes sum (q ∷ later) time) (least_is time q.start k)
+      ∙ ap (λ (end : ℚ). with_piece passes so_far p end >>= λ sum. supplied_after passes sum (q ∷ later) time) (min_is_right time q.start k)
 
   pub supply_goes_on : (pieces : List Piece) (k : ℕ) (piece next : Piece) (so_far : ℚ) → StartsRise pieces → slice_get pieces k ≡ Some piece → slice_get pieces (suc k) ≡ Some next
       → supplied_after passes so_far pieces next.start ≡ (supplied_after passes so_far pieces piece.start >>= λ known. with_piece passes known piece next.start)

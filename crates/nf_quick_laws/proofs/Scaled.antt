@@ -8,15 +8,14 @@ use Rattle.nf_rational.specs.Order.{◌≤ℚ◌, ◌<ℚ◌, max_ℚ}
 use Rattle.nf_rational_laws.proofs.Polynomial.{reading_of}
 use Rattle.nf_rational_laws.proofs.Order.{≤ℚ_of_same, ≤ℚ_of_lt, lt_or_le_ℚ, not_both_ℚ, ps_times, less_ps}
 use Rattle.nf_rational_laws.proofs.Linear.{le, lt, eq, le_times, linear_le, linear_lt, linear_eq, linear_false}
-use Rattle.nf_rational_laws.proofs.Tests.{max_ℚ_cases}
 use Rattle.nf_model.specs.Entries.{number_at}
 use Rattle.nf_model.specs.Network.{Link, Network, IsNetwork}
 use Rattle.nf_model.specs.Quickest.{Delivers, IsQuickest, IsCut, let_through, cut_sum, cut_value}
 use Rattle.nf_model_laws.proofs.Affine.{nn-quotient, quotient-times}
 use Rattle.nf_quick_laws.specs.DualityLaws.{scaled}
-use Rattle.nf_quick_laws.proofs.Amounts.{max-nn, max-above}
 use Rattle.nf_quick_laws.proofs.Bound.{delivered-le}
 use Rattle.nf_rational_laws.proofs.Chains.{≤ℚ_trans}
+use Rattle.nf_rational_laws.proofs.Extremes.{max_left, max_right, max_keeps}
 
 times_none : (c : ℚ) → 0ℚ ≡ c *ℚ 0ℚ
 times_none c = linear_eq (c ∷ []) [] (search reading_of depth 12) tt tt
@@ -40,9 +39,7 @@ times_nn : (c m : ℚ) → 0ℚ ≤ℚ c → 0ℚ ≤ℚ m → 0ℚ ≤ℚ c *�
 times_nn c m h k = linear_le (c ∷ m ∷ []) (le_times h k ∷ []) (search reading_of depth 12) tt
 
 most : (x y : ℚ) → 0ℚ ≤ℚ y → x ≤ℚ y → max_ℚ 0ℚ x ≤ℚ y
-most x y h k = ⊎_elim
-    (λ (w : (max_ℚ 0ℚ x ≡ x) × (0ℚ ≤ℚ x)). subst (λ (z : ℚ). z ≤ℚ y) (sym w.0) k)
-    (λ (w : (max_ℚ 0ℚ x ≡ 0ℚ) × (x <ℚ 0ℚ)). subst (λ (z : ℚ). z ≤ℚ y) (sym w.0) h) (max_ℚ_cases 0ℚ x)
+most x y h k = max_keeps (λ (z : ℚ). z ≤ℚ y) 0ℚ x h k
 
 times_rate : (q c m a : ℚ) → 0ℚ ≤ℚ q → a ≤ℚ c *ℚ m → q *ℚ a ≤ℚ c *ℚ (q *ℚ m)
 times_rate q c m a n h = linear_le (q ∷ c ∷ m ∷ a ∷ []) (le_times n h ∷ []) (search reading_of depth 12) tt
@@ -52,7 +49,7 @@ let_through-scaled : (capacity : Option ℚ) (c r s t x y : ℚ) → ((rate : �
 let_through-scaled None c r s t x y some n m h e f = ≤ℚ_of_same _ _ (times_none c)
 let_through-scaled (Some rate) c r s t x y some n m h e f =
     times_rate rate c (max_ℚ 0ℚ (t -ℚ r -ℚ s)) (max_ℚ 0ℚ (y -ℚ r -ℚ x)) (≤ℚ_of_lt _ _ (some rate (cc)))
-    (most _ _ (times_nn c _ n (max-nn _)) (gap_below c s t r x y _ n m h e f (max-above _)))
+    (most _ _ (times_nn c _ n (max_left 0ℚ _)) (gap_below c s t r x y _ n m h e f (max_right 0ℚ _)))
 
 add_scaled : (c a b p q : ℚ) → a ≤ℚ c *ℚ p → b ≤ℚ c *ℚ q → a +ℚ b ≤ℚ c *ℚ (p +ℚ q)
 add_scaled c a b p q h k = linear_le (c ∷ a ∷ b ∷ p ∷ q ∷ []) (le h ∷ le k ∷ []) (search reading_of depth 12) tt

@@ -12,3 +12,4 @@ pub mod Chains
 pub mod Quotient
 pub mod Tests
 pub mod Samples
+pub mod Extremes

@@ -126,6 +126,10 @@ pub gathered_then_failed : {E F G : Type 0} {old before now : Option (List ℕ)}
     → GatheredLines before now g h middle end next (Err e) → GatheredLines old now f h page end lines r
 gathered_then_failed first next rest lines r s fails v w = gathered_failed (first ++ next) rest lines r s fails (gathered_next first next (first ++ next) refl v w)
 
+-- three parts, the last two of them first
+pub right_first : {A : Type 0} (first second third : List A) → first ++ (second ++ third) ≡ first ++ second ++ third
+right_first first second third = sym (append_assoc first second third)
+
 -- ---- the last page
 -- it was written, or refused
 pub gathered_written : {E F : Type 0} {old now end : Option (List ℕ)} {f g h : ℕ} {u : Unit {0}} {r : Result (Unit {0}) E} (start page text bytes : List ℕ) → start ≡ [] → bytes ≡ page

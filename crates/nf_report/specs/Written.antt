@@ -1,6 +1,7 @@
 -- What a sink took of the lines of a report.
-use Rattle.std.specs.Prelude.{ℕ, List, [], ◌∷◌, flat_map, map, Option, Some, None, Result, codes}
+use Rattle.std.specs.Prelude.{ℕ, List, [], ◌∷◌, flat_map, map, Option, Some, None, Result, codes, ◌++◌, length}
 use Rattle.nf_rational.specs.Rational.{ℚ}
+use Rattle.nf_model.specs.Equilibrium.{Flow}
 use Rattle.nf_numerals.specs.Digits.{digits_of}
 use Rattle.nf_numerals.specs.Printed.{printed}
 use Rattle.nf_edge.specs.Taken.{Wrote}
@@ -8,6 +9,8 @@ use Rattle.nf_lines.specs.Words.{line_of_words}
 use Rattle.nf_formats.specs.Names.{Name}
 use Rattle.nf_formats.specs.declared.Cause.{Cause}
 use Rattle.nf_formats.specs.Causes.{cause_words}
+use Rattle.nf_formats.specs.Named.{Named}
+use Rattle.nf_formats.specs.Report.{for_each, label_lines, link_lines}
 
 -- the words of a line
 abbrev pub Line : Type 0
@@ -34,7 +37,7 @@ rate_word (Some rate) = printed rate
 abbrev pub trace_line : List ℕ → Name → ℚ × ℚ → Option ℚ → Line
 trace_line key name p rate = key ∷ name ∷ printed p.0 ∷ printed p.1 ∷ rate_word rate ∷ []
 
--- ---- the head of a report, and its idle nodes
+-- ---- the head of a report, its idle nodes, and its flow
 abbrev pub head_lines : ℕ → ℚ → ℚ → Option (Cause ℚ) → List Line
 head_lines version horizon reached stop = (codes "report" ∷ digits_of version ∷ [])
     ∷ (codes "horizon" ∷ printed horizon ∷ [])
@@ -44,3 +47,7 @@ head_lines version horizon reached stop = (codes "report" ∷ digits_of version 
 
 abbrev pub never_lines : List Name → List Line
 never_lines names = map (λ name. codes "never" ∷ name ∷ []) names
+
+-- the labels of the nodes, the idle nodes, and the curves of the links
+abbrev pub flow_lines : Named → Flow → List Line
+flow_lines n flow = for_each n.net.nodes (label_lines n flow) ++ never_lines n.idle_nodes ++ for_each (length n.net.links) (link_lines n flow)

@@ -14,4 +14,4 @@ pub use curves::write_curve;
 pub use line::{put_line, write_line};
 pub use nf_report_file::{Report, ReportFault, ReportRule, parse_report};
 pub use pages::Page;
-pub use report::{put_idle, put_labels, put_links, put_states, write_report};
+pub use report::{put_flow, put_states, write_report};

@@ -1,15 +1,14 @@
 // The parts of a report by the nodes and links of a network.
-ghost use Rattle.std.specs.Prelude.{◌≡◌, ◌<◌, [], ◌∷◌, ◌++◌, length, codes};
+ghost use Rattle.std.specs.Prelude.{◌≡◌, ◌<◌, [], ◌∷◌, length, codes};
 ghost use Rattle.std.specs.Option.{option_copied};
 ghost use Rattle.nf_numerals.specs.Digits.{digits_of};
-ghost use Rattle.nf_numerals.specs.Printed.{printed};
 ghost use Rattle.nf_edge.specs.Taken.{Wrote};
-ghost use Rattle.nf_formats.specs.Causes.{cause_words};
+ghost use Rattle.nf_model.specs.Equilibrium.{HasShape};
 ghost use Rattle.nf_formats.specs.Report.{IsWellFormed, report_lines, report_text};
 ghost use Rattle.nf_formats.specs.Names.{name_at};
 ghost use Rattle.nf_formats.specs.Report.{for_each, label_lines, link_lines, state_lines};
 ghost use Rattle.nf_curve.specs.Flows.{flow_of};
-ghost use Rattle.nf_report.specs.Written.{never_lines, head_lines};
+ghost use Rattle.nf_report.specs.Written.{never_lines, flow_lines, head_lines};
 ghost use Rattle.nf_report.specs.Pages.{GatheredLines};
 
 use crate::causes::{put_cause, put_number, put_state};
@@ -41,8 +40,8 @@ fn put_label<O: Sink>(
     put_curve(out, page, b"label", name, label)
 }
 
-/// Puts the lines of the labels of all nodes on the page: a flow has a label curve for each.
-pub fn put_labels<O: Sink>(
+// The labels of all nodes: a flow has a label curve for each.
+fn put_labels<O: Sink>(
     out: &mut O,
     page: &mut Page,
     net: &Network,
@@ -80,8 +79,8 @@ fn put_curves<O: Sink>(
     put_link(out, page, name, inflow, outflow, queue)
 }
 
-/// Puts the lines of the curves of all links on the page: a flow has an inflow, an outflow and a queue for each.
-pub fn put_links<O: Sink>(
+// The curves of all links: a flow has an inflow, an outflow and a queue for each.
+fn put_links<O: Sink>(
     out: &mut O,
     page: &mut Page,
     net: &Network,
@@ -149,8 +148,8 @@ fn put_never<O: Sink>(
     put_line(out, page, b"never", &[name])
 }
 
-/// Puts the lines of the idle nodes of a network on the page.
-pub fn put_idle<O: Sink>(out: &mut O, page: &mut Page, net: &Network) -> Result<(), SinkFault>
+// The idle nodes.
+fn put_idle<O: Sink>(out: &mut O, page: &mut Page, net: &Network) -> Result<(), SinkFault>
     ensures { GatheredLines (O.took out.old) (O.took out.new) (O.faults out.old) (O.faults out.new) page.old.items page.new.items
         (never_lines net.now.idle_nodes) result }
 {
@@ -158,6 +157,22 @@ pub fn put_idle<O: Sink>(out: &mut O, page: &mut Page, net: &Network) -> Result<
         put_never(out, page, net, node)?;
     }
     Ok(())
+}
+
+/// Puts the lines of a flow on the page: the labels of all nodes, the idle nodes, and the curves of all links.
+pub fn put_flow<O: Sink>(
+    out: &mut O,
+    page: &mut Page,
+    net: &Network,
+    flow: &Flow,
+) -> Result<(), SinkFault>
+    requires { HasShape net.now.net (flow_of flow.now) }
+    ensures { GatheredLines (O.took out.old) (O.took out.new) (O.faults out.old) (O.faults out.new) page.old.items page.new.items
+        (flow_lines net.now (flow_of flow.now)) result }
+{
+    put_labels(out, page, net, flow)?;
+    put_idle(out, page, net)?;
+    put_links(out, page, net, flow)
 }
 
 // The first line, which has the version.
@@ -170,32 +185,7 @@ fn put_version<O: Sink>(out: &mut O, page: &mut Page, version: u32) -> Result<()
     put_line(out, page, b"report", &[text.text()])
 }
 
-// How far the run was to go, and how far it went.
-fn put_times<O: Sink>(out: &mut O, page: &mut Page, horizon: Q, reached: Q) -> Result<(), SinkFault>
-    ensures { GatheredLines (O.took out.old) (O.took out.new) (O.faults out.old) (O.faults out.new) page.old.items page.new.items
-        ((codes "horizon" ∷ printed horizon ∷ []) ∷ (codes "reached" ∷ printed reached ∷ []) ∷ []) result }
-{
-    put_number(out, page, b"horizon", horizon)?;
-    put_number(out, page, b"reached", reached)
-}
-
-// The times, and why the run stopped.
-fn put_end_of_run<O: Sink>(
-    out: &mut O,
-    page: &mut Page,
-    horizon: Q,
-    reached: Q,
-    stopped: Option<&Stop>,
-) -> Result<(), SinkFault>
-    ensures { GatheredLines (O.took out.old) (O.took out.new) (O.faults out.old) (O.faults out.new) page.old.items page.new.items
-        ((codes "horizon" ∷ printed horizon ∷ []) ∷ (codes "reached" ∷ printed reached ∷ [])
-        ∷ (codes "cause" ∷ cause_words (option_copied stopped.entry)) ∷ []) result }
-{
-    put_times(out, page, horizon, reached)?;
-    put_cause(out, page, stopped)
-}
-
-// The head of the report.
+// The head of the report: its version, how far the run was to go, how far it went, and why it stopped.
 fn put_head<O: Sink>(
     out: &mut O,
     page: &mut Page,
@@ -208,90 +198,9 @@ fn put_head<O: Sink>(
         (head_lines net.now.version horizon flow.now.reached (option_copied stopped.entry)) result }
 {
     put_version(out, page, net.version())?;
-    put_end_of_run(out, page, horizon, flow.reached, stopped)
-}
-
-// The report as far as the labels.
-fn put_to_labels<O: Sink>(
-    out: &mut O,
-    page: &mut Page,
-    net: &Network,
-    horizon: Q,
-    flow: &Flow,
-    stopped: Option<&Stop>,
-) -> Result<(), SinkFault>
-    requires { length flow.now.labels.items ≡ net.now.net.nodes }
-    ensures { GatheredLines (O.took out.old) (O.took out.new) (O.faults out.old) (O.faults out.new) page.old.items page.new.items
-        (head_lines net.now.version horizon flow.now.reached (option_copied stopped.entry) ++ for_each net.now.net.nodes (label_lines net.now (flow_of flow.now))) result }
-{
-    put_head(out, page, net, horizon, flow, stopped)?;
-    put_labels(out, page, net, flow)
-}
-
-// The report as far as the idle nodes.
-fn put_to_idle<O: Sink>(
-    out: &mut O,
-    page: &mut Page,
-    net: &Network,
-    horizon: Q,
-    flow: &Flow,
-    stopped: Option<&Stop>,
-) -> Result<(), SinkFault>
-    requires { length flow.now.labels.items ≡ net.now.net.nodes }
-    ensures { GatheredLines (O.took out.old) (O.took out.new) (O.faults out.old) (O.faults out.new) page.old.items page.new.items
-        (head_lines net.now.version horizon flow.now.reached (option_copied stopped.entry) ++ for_each net.now.net.nodes (label_lines net.now (flow_of flow.now))
-        ++ never_lines net.now.idle_nodes) result }
-{
-    put_to_labels(out, page, net, horizon, flow, stopped)?;
-    put_idle(out, page, net)
-}
-
-// The report as far as the curves of the links.
-fn put_to_links<O: Sink>(
-    out: &mut O,
-    page: &mut Page,
-    net: &Network,
-    horizon: Q,
-    flow: &Flow,
-    stopped: Option<&Stop>,
-) -> Result<(), SinkFault>
-    requires labels { length flow.now.labels.items ≡ net.now.net.nodes }
-    requires inflows { length flow.now.inflows.items ≡ length net.now.net.links }
-    requires outflows { length flow.now.outflows.items ≡ length net.now.net.links }
-    requires queues { length flow.now.queues.items ≡ length net.now.net.links }
-    ensures { GatheredLines (O.took out.old) (O.took out.new) (O.faults out.old) (O.faults out.new) page.old.items page.new.items
-        (head_lines net.now.version horizon flow.now.reached (option_copied stopped.entry) ++ for_each net.now.net.nodes (label_lines net.now (flow_of flow.now))
-        ++ never_lines net.now.idle_nodes
-        ++ for_each (length net.now.net.links) (link_lines net.now (flow_of flow.now))) result }
-{
-    put_to_idle(out, page, net, horizon, flow, stopped)?;
-    put_links(out, page, net, flow)
-}
-
-// The report as far as the states.
-fn put_to_states<O: Sink>(
-    out: &mut O,
-    page: &mut Page,
-    net: &Network,
-    horizon: Q,
-    flow: &Flow,
-    stopped: Option<&Stop>,
-    last: &Pattern,
-) -> Result<(), SinkFault>
-    requires labels { length flow.now.labels.items ≡ net.now.net.nodes }
-    requires inflows { length flow.now.inflows.items ≡ length net.now.net.links }
-    requires outflows { length flow.now.outflows.items ≡ length net.now.net.links }
-    requires queues { length flow.now.queues.items ≡ length net.now.net.links }
-    requires states { length last.now ≡ length net.now.net.links }
-    ensures { GatheredLines (O.took out.old) (O.took out.new) (O.faults out.old) (O.faults out.new) page.old.items page.new.items
-        (head_lines net.now.version horizon flow.now.reached (option_copied stopped.entry)
-        ++ for_each net.now.net.nodes (label_lines net.now (flow_of flow.now))
-        ++ never_lines net.now.idle_nodes
-        ++ for_each (length net.now.net.links) (link_lines net.now (flow_of flow.now))
-        ++ for_each (length net.now.net.links) (state_lines net.now last.now)) result }
-{
-    put_to_links(out, page, net, horizon, flow, stopped)?;
-    put_states(out, page, net, last)
+    put_number(out, page, b"horizon", horizon)?;
+    put_number(out, page, b"reached", flow.reached)?;
+    put_cause(out, page, stopped)
 }
 
 // The whole report.
@@ -308,7 +217,9 @@ fn put_report<O: Sink>(
     ensures { GatheredLines (O.took out.old) (O.took out.new) (O.faults out.old) (O.faults out.new) page.old.items page.new.items
         (report_lines net.now (record { horizon = horizon; flow = flow_of flow.now; stop = option_copied stopped.entry; last = last.now })) result }
 {
-    put_to_states(out, page, net, horizon, flow, stopped, last)?;
+    put_head(out, page, net, horizon, flow, stopped)?;
+    put_flow(out, page, net, flow)?;
+    put_states(out, page, net, last)?;
     put_line(out, page, b"end", &[])
 }
 

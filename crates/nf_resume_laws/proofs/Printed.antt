@@ -8,7 +8,7 @@ use Rattle.nf_rational.specs.Rational.{ℚ}
 use Rattle.nf_rational.specs.Operations.{0ℚ, ◌+ℚ◌, ◌-ℚ◌}
 use Rattle.nf_rational.specs.Order.{◌≤ℚ◌, ◌<ℚ◌, min_ℚ}
 use Rattle.nf_rational_laws.proofs.Polynomial.{reading_of}
-use Rattle.nf_rational_laws.proofs.Order.{≤ℚ_of_lt, ≤ℚ_of_same, ≤ℚ_antisymm, lt_or_le_ℚ, not_both_ℚ}
+use Rattle.nf_rational_laws.proofs.Order.{≤ℚ_of_same, ≤ℚ_antisymm, lt_or_le_ℚ, not_both_ℚ}
 use Rattle.nf_rational_laws.proofs.Tests.{min_ℚ_cases}
 use Rattle.nf_rational_laws.proofs.Linear.{le, lt, eq, linear_le, linear_lt}
 use Rattle.nf_model.specs.Curve.{Within, NeverFalls}
@@ -22,15 +22,15 @@ use Rattle.nf_model_laws.proofs.Queues.{IsExit-after}
 use Rattle.nf_model_laws.proofs.Earliest.{IsPositive-link, AreLabels-report, IsEarliest-forward}
 use Rattle.nf_model_laws.proofs.Networks.{IsWalk-link, transit_of-is}
 use Rattle.nf_model_laws.proofs.Potential.{only_at, only_at-here, only_at-else}
-use Rattle.nf_model_laws.proofs.Sums.{sum_out-each, sum_out-same}
+use Rattle.nf_model_laws.proofs.Sums.{sum_out-each, sum_out-same, sum_in-some}
 use Rattle.nf_model_laws.proofs.Supply.{supplied-begins}
 use Rattle.nf_model_laws.proofs.Ways.{way_back}
-use Rattle.nf_phase_laws.proofs.Still.{sum_in-some}
 use Rattle.nf_check_laws.proofs.Rising.{label-rises}
 use Rattle.nf_resume_laws.proofs.Served.{amount-nn, outflow-entered}
 use Rattle.nf_resume_laws.proofs.Sent.{BalancedAt, into, into-is, out-balances, out-is_into, comes_out}
 use Rattle.nf_resume_laws.proofs.Repeating.{Repeats, none_by_repeating}
 use Rattle.nf_rational_laws.proofs.Chains.{≤ℚ_refl, ≤ℚ_trans}
+use Rattle.nf_rational_laws.proofs.Extremes.{min_left, min_right, min_is_left, min_keeps}
 
 -- the node that the link of a number leads to
 abbrev pub head_or : Option Link → ℕ
@@ -157,41 +157,29 @@ module _ (net : Network) (flow : Flow) (good : IsNetwork net) (is : Equilibrium 
   abbrev soon : ℚ → ℕ → ℚ
   soon time v = min_ℚ time (l v 0ℚ)
 
-  min-left : (x y : ℚ) → min_ℚ x y ≤ℚ x
-  min-left x y = ⊎_elim (λ (w : (min_ℚ x y ≡ x) × (x ≤ℚ y)). ≤ℚ_of_same _ _ w.0) (λ (w : (min_ℚ x y ≡ y) × (y <ℚ x)). subst (λ (z : ℚ). z ≤ℚ x) (sym w.0) (≤ℚ_of_lt _ _ w.1)) (min_ℚ_cases x y)
-
-  min-right : (x y : ℚ) → min_ℚ x y ≤ℚ y
-  min-right x y = ⊎_elim (λ (w : (min_ℚ x y ≡ x) × (x ≤ℚ y)). subst (λ (z : ℚ). z ≤ℚ y) (sym w.0) w.1) (λ (w : (min_ℚ x y ≡ y) × (y <ℚ x)). ≤ℚ_of_same _ _ w.0) (min_ℚ_cases x y)
-
-  min-low : (x y : ℚ) → x ≤ℚ y → min_ℚ x y ≡ x
-  min-low x y h = ⊎_elim (λ (w : (min_ℚ x y ≡ x) × (x ≤ℚ y)). w.0) (λ (w : (min_ℚ x y ≡ y) × (y <ℚ x)). absurd (not_both_ℚ _ _ w.1 h)) (min_ℚ_cases x y)
-
-  min-nn : (x y : ℚ) → 0ℚ ≤ℚ x → 0ℚ ≤ℚ y → 0ℚ ≤ℚ min_ℚ x y
-  min-nn x y h k = ⊎_elim (λ (w : (min_ℚ x y ≡ x) × (x ≤ℚ y)). subst (λ (z : ℚ). 0ℚ ≤ℚ z) (sym w.0) h) (λ (w : (min_ℚ x y ≡ y) × (y <ℚ x)). subst (λ (z : ℚ). 0ℚ ≤ℚ z) (sym w.0) k) (min_ℚ_cases x y)
-
   first-nn : (v : ℕ) → v < net.nodes → 0ℚ ≤ℚ l v 0ℚ
   first-nn v h = label-nn v 0ℚ h first
 
   module _ (time : ℚ) (from_0 : 0ℚ ≤ℚ time) where
     soon-nn : (v : ℕ) → v < net.nodes → 0ℚ ≤ℚ soon time v
-    soon-nn v h = min-nn time (l v 0ℚ) from_0 (first-nn v h)
+    soon-nn v h = min_keeps (λ (z : ℚ). 0ℚ ≤ℚ z) time (l v 0ℚ) from_0 (first-nn v h)
 
     soon-in : (v : ℕ) → v < net.nodes → Within 0ℚ (l v flow.reached) (soon time v)
-    soon-in v h = (soon-nn v h, ≤ℚ_trans _ _ _ (min-right time (l v 0ℚ)) (label-order v 0ℚ flow.reached h (≤ℚ_refl 0ℚ) is.reached (≤ℚ_refl flow.reached)))
+    soon-in v h = (soon-nn v h, ≤ℚ_trans _ _ _ (min_right time (l v 0ℚ)) (label-order v 0ℚ flow.reached h (≤ℚ_refl 0ℚ) is.reached (≤ℚ_refl flow.reached)))
 
     source-soon : soon time net.source ≡ 0ℚ
-    source-soon = ≤ℚ_antisymm _ _ (subst (λ (z : ℚ). soon time net.source ≤ℚ z) (source-at 0ℚ first) (min-right time (l net.source 0ℚ))) (soon-nn net.source good.source)
+    source-soon = ≤ℚ_antisymm _ _ (subst (λ (z : ℚ). soon time net.source ≤ℚ z) (source-at 0ℚ first) (min_right time (l net.source 0ℚ))) (soon-nn net.source good.source)
 
     not_before-soon : (e : ℕ) (link : Link) → IsLink net e link → (exit : ℚ) × IsExit link.transit link.capacity (F e) (soon time link.tail) exit × (soon time link.head ≤ℚ exit)
     not_before-soon e link p = ⊎_elim
         (λ (w : (min_ℚ time (l link.tail 0ℚ) ≡ time) × (time ≤ℚ l link.tail 0ℚ)).
         let x : (exit : ℚ) × IsExit link.transit link.capacity (F e) time exit = exit-at e link time p from_0 in
         subst (λ (t : ℚ). (exit : ℚ) × IsExit link.transit link.capacity (F e) t exit × (soon time link.head ≤ℚ exit)) (sym w.0)
-        (x.0, x.1, ≤ℚ_trans _ _ _ (min-left time (l link.head 0ℚ)) (exit-forward e link time x.0 p x.1)))
+        (x.0, x.1, ≤ℚ_trans _ _ _ (min_left time (l link.head 0ℚ)) (exit-forward e link time x.0 p x.1)))
         (λ (w : (min_ℚ time (l link.tail 0ℚ) ≡ l link.tail 0ℚ) × (l link.tail 0ℚ <ℚ time)).
         let x : (exit : ℚ) × IsExit link.transit link.capacity (F e) (l link.tail 0ℚ) exit × (l link.head 0ℚ ≤ℚ exit) = not_undercut e link 0ℚ p first in
         subst (λ (t : ℚ). (exit : ℚ) × IsExit link.transit link.capacity (F e) t exit × (soon time link.head ≤ℚ exit)) (sym w.0)
-        (x.0, x.1, ≤ℚ_trans _ _ _ (min-right time (l link.head 0ℚ)) x.2))
+        (x.0, x.1, ≤ℚ_trans _ _ _ (min_right time (l link.head 0ℚ)) x.2))
         (min_ℚ_cases time (l link.tail 0ℚ))
 
     none_supplied : supply net 0ℚ ≡ 0ℚ
@@ -206,7 +194,7 @@ module _ (net : Network) (flow : Flow) (good : IsNetwork net) (is : Equilibrium 
       not_before = not_before-soon;
       balances = by_node (λ v a b. Balances net F v (soon time v) a b) 0ℚ
           (subst (λ (z : ℚ). Balances net F net.source z 0ℚ 0ℚ) (sym source-soon) (subst (λ (u : ℚ). Balances net F net.source 0ℚ u 0ℚ) none_supplied (is.nash.conserves.source 0ℚ first)))
-          (is.nash.conserves.sink_early (soon time net.sink) (soon-nn net.sink good.sink, min-right time (l net.sink 0ℚ)))
+          (is.nash.conserves.sink_early (soon time net.sink) (soon-nn net.sink good.sink, min_right time (l net.sink 0ℚ)))
           (λ v h a b. is.nash.conserves.inner v (soon time v) h a b (soon-in v h));
     }
 
@@ -217,14 +205,14 @@ module _ (net : Network) (flow : Flow) (good : IsNetwork net) (is : Equilibrium 
   repeats : (e : ℕ) (link : Link) → IsLink net e link → Repeats (F e) link.transit (l link.tail 0ℚ)
   repeats e link p time w =
       let out : IsOutflow link.transit link.capacity (F e) (soon time link.head) (F e time) =
-      subst (λ (z : ℚ). IsOutflow link.transit link.capacity (F e) (soon time link.head) (F e z)) (min-low time (l link.tail 0ℚ) w.1) (comes_out-soon time w.0 e link p) in
+      subst (λ (z : ℚ). IsOutflow link.transit link.capacity (F e) (soon time link.head) (F e z)) (min_is_left time (l link.tail 0ℚ) w.1) (comes_out-soon time w.0 e link p) in
       ⊎_elim
       (λ (k : soon time link.head <ℚ link.transit). inl (out.early k))
       (λ (k : link.transit ≤ℚ soon time link.head). inr (
-        ≤ℚ_trans _ _ _ k (min-left time (l link.head 0ℚ)),
+        ≤ℚ_trans _ _ _ k (min_left time (l link.head 0ℚ)),
         ≤ℚ_trans _ _ _ (outflow-entered link.transit link.capacity (F e) (IsPositive-link net e link good p) (rises-link e link p) (starts-link e link p) (soon time link.head) (F e time) k out)
             (rises-link e link p (soon time link.head -ℚ link.transit) (time -ℚ link.transit) (linear_le (soon time link.head ∷ link.transit ∷ []) (le k ∷ []) (search reading_of depth 12) tt)
-            (linear_le (soon time link.head ∷ time ∷ link.transit ∷ []) (le (min-left time (l link.head 0ℚ)) ∷ []) (search reading_of depth 12) tt)),
+            (linear_le (soon time link.head ∷ time ∷ link.transit ∷ []) (le (min_left time (l link.head 0ℚ)) ∷ []) (search reading_of depth 12) tt)),
       ))
       (lt_or_le_ℚ (soon time link.head) link.transit)
 
@@ -261,7 +249,7 @@ module _ (net : Network) (flow : Flow) (good : IsNetwork net) (is : Equilibrium 
     -- a link into which something has been sent has no transit time
     prompt : (e : ℕ) (link : Link) → IsLink net e link → 0ℚ <ℚ F e (soon time link.tail) → link.transit ≤ℚ 0ℚ
     prompt e link p some = ⊎_elim
-        (λ (k : 0ℚ <ℚ link.transit). absurd (not_both_ℚ _ _ some (≤ℚ_of_same _ _ (none-slow e link (soon time link.tail) p k (soon-nn time from_0 link.tail (good.tails e link p), min-right time (l link.tail 0ℚ))))))
+        (λ (k : 0ℚ <ℚ link.transit). absurd (not_both_ℚ _ _ some (≤ℚ_of_same _ _ (none-slow e link (soon time link.tail) p k (soon-nn time from_0 link.tail (good.tails e link p), min_right time (l link.tail 0ℚ))))))
         (λ (k : link.transit ≤ℚ 0ℚ). k)
         (lt_or_le_ℚ 0ℚ link.transit)
 
@@ -316,4 +304,4 @@ module _ (net : Network) (flow : Flow) (good : IsNetwork net) (is : Equilibrium 
 
   -- before the first departure arrives at its tail nothing has entered a link
   pub none-before : (e : ℕ) (link : Link) → IsLink net e link → F e (l link.tail 0ℚ) ≡ 0ℚ
-  none-before e link p = ap (F e) (sym (min-low (l link.tail 0ℚ) (l link.tail 0ℚ) (≤ℚ_refl _))) ∙ none-soon (l link.tail 0ℚ) (first-nn link.tail (good.tails e link p)) e link p
+  none-before e link p = ap (F e) (sym (min_is_left (l link.tail 0ℚ) (l link.tail 0ℚ) (≤ℚ_refl _))) ∙ none-soon (l link.tail 0ℚ) (first-nn link.tail (good.tails e link p)) e link p

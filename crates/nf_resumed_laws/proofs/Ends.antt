@@ -1,7 +1,6 @@
 -- The resumed run and the run from the start end in the same way.
 use Rattle.std.proofs.Common.{◌≡◌, ℕ, suc, List, [], ◌∷◌, length, ◌⊎◌, inl, inr, ⊎_elim, Option, None, sym, ap, subst, refl, ◌∙◌}
 use Rattle.std.specs.Prelude.{Ok}
-use Rattle.std.proofs.lemmas.List.{length-replicate}
 use Rattle.nf_rational.specs.Rational.{ℚ}
 use Rattle.nf_rational.specs.Operations.{◌+ℚ◌}
 use Rattle.nf_rational.specs.Order.{◌≤ℚ◌, ◌<ℚ◌}
@@ -16,8 +15,8 @@ use Rattle.nf_model.specs.Equilibrium.{Flow}
 use Rattle.nf_model_laws.proofs.Affine.{<_≤_trans}
 use Rattle.nf_formats.specs.declared.Cause.{Cause}
 use Rattle.nf_formats.specs.Report.{Report}
-use Rattle.nf_lists.specs.PhaseRun.{Standing, Bounds, IsStart, Goes, phase_lists, Runs, at_horizon, at_phases, fails, goes, IsPhaseRun, IsRunReport, flow_of, report_of}
-use Rattle.nf_lists_laws.proofs.OneRun.{one_start}
+use Rattle.nf_lists.specs.PhaseRun.{Standing, Bounds, Goes, phase_lists, Runs, at_horizon, at_phases, fails, goes, IsPhaseRun, IsRunReport, flow_of, report_of}
+use Rattle.nf_lists_laws.proofs.OneRun.{one_start, goes_knows, start_knows}
 use Rattle.nf_curve_laws.proofs.Operations.{then_ok}
 use Rattle.nf_run_laws.proofs.WellRun.{WellRun, WellRun-start}
 use Rattle.nf_run_laws.proofs.Run.{WellRun-goes}
@@ -32,7 +31,8 @@ use Rattle.nf_resumed_laws.specs.ResumedLaws.{with_made, NonePassesNext, RestFit
 use Rattle.nf_resumed_laws.proofs.Back.{flow-back, standing-back}
 use Rattle.nf_resumed_laws.proofs.Once.{same_phase, other_length}
 use Rattle.nf_resumed_laws.proofs.Rest.{restored, opened, rest-whole}
-use Rattle.nf_resumed_laws.proofs.Together.{length-within, some_cause, Knows, knows-goes, Comes, CutShort, meets}
+use Rattle.nf_resumed_laws.proofs.Together.{some_cause, Knows, Comes, CutShort, meets}
+use Rattle.nf_phase_laws.proofs.Phases.{IsPhaseLength-within}
 
 -- ---- standings that differ in the number of phases made
 made_again : (s t : Standing) (n : ℕ) → t ≡ with_made n s → t ≡ with_made t.made s
@@ -96,7 +96,7 @@ module _ (passes : Passing) (net : Network) where
     together s end t last o v n well knows e closed (goes {new = u} may g rest) x (steps {new = w} may' (begins c k) rest') y =
         let alone : Goes passes net r.horizon r.patterns s (with_made (suc s.made) w) = unmade r.horizon r.patterns n s w (subst (λ (z : Standing). Goes passes net r.horizon r.patterns z w) e k) in
         let same : u ≡ with_made (suc s.made) w = same_phase passes net good b r s u (with_made (suc s.made) w) well knows g alone (sym to) in
-        together u end w last o v w.made (WellRun-goes passes net good b s u g well) (knows-goes passes net good b s u g) (ap (with_made w.made) (sym same))
+        together u end w last o v w.made (WellRun-goes passes net good b s u g well) (goes_knows passes net b.horizon b.patterns s u g) (ap (with_made w.made) (sym same))
         (inl (λ d. none_left t.made (sym (ap (λ (z : Standing). z.made) k.new_is) ∙ d.0))) rest x rest' y
 
     -- a run that is resumed within a phase makes the rest of it
@@ -109,7 +109,7 @@ module _ (passes : Passing) (net : Network) where
 
       not_there : standing.time ≡ r.horizon → ⊥
       not_there e = not_both_ℚ _ _ (<_≤_trans _ _ _ (sooner c.before.time c.goes.step.length c.whole.step.length c.short)
-          (length-within net (slacks_of (hops net) c.before.labels) c.goes.slopes c.before.time b.horizon c.whole.step.length (other_length passes net good a b c.before last c.after c.well c.knows c.goes c.whole)))
+          (IsPhaseLength-within net (slacks_of (hops net) c.before.labels) c.goes.slopes c.before.time b.horizon c.whole.step.length (other_length passes net good a b c.before last c.after c.well c.knows c.goes c.whole)))
           (≤ℚ_of_same _ _ (sym (e ∙ to)))
 
       within : (final : Standing) (v : Option (Cause ℚ)) → RunsOn passes net r standing final v → v ≡ None → NonePassesNext passes net r standing → final ≡ with_made final.made end
@@ -118,7 +118,7 @@ module _ (passes : Passing) (net : Network) where
       within final v (fails_on may e) y none = absurd (some_cause _ _ refl y)
       within final v (steps may (begins d k) rest) y none = absurd (d (refl, opened passes net good a b c.before last c.after c.well c.knows c.goes c.whole c.short))
       within final v (steps may (continues {t = w} d k) rest) y none =
-          together c.after end (with_last standing.last w) final None v 1 (WellRun-goes passes net good b c.before c.after c.whole c.well) (knows-goes passes net good b c.before c.after c.whole)
+          together c.after end (with_last standing.last w) final None v 1 (WellRun-goes passes net good b c.before c.after c.whole c.well) (goes_knows passes net b.horizon b.patterns c.before c.after c.whole)
           (rest-whole passes net good a b c.before last c.after c.well c.knows c.goes c.whole c.short r w k (none w k) to)
           (inl (λ f. none_left 0 (sym (ap (λ (z : Standing). z.made) k.new_is) ∙ f.0))) c.runs refl rest y
 
@@ -138,9 +138,6 @@ module _ (passes : Passing) (net : Network) (good : IsNetwork net) where
       let k = then_ok (cut_flow passes net (flow_of last)) _ first e in
       let flow : k.between ≡ flow_of last = flow-back passes net good last w.0 w.1 k.between k.first in
       standing-back passes net good last w.0 w.1 first (ap (λ (f : Flow). restore_list passes f last.last) (sym flow) ∙ k.next)
-
-  start_knows : (s : Standing) → IsStart net s → Knows passes net good s
-  start_knows s h = ap length h.last ∙ length-replicate (length net.links) None
 
   reaches : (r : Bounds) (t last : Standing) (v : Option (Cause ℚ)) → RunsOn passes net r t last v → v ≡ None → t.time ≤ℚ r.horizon
   reaches r t last v (ends_on e) y = ≤ℚ_of_same _ _ e
@@ -166,7 +163,7 @@ module _ (passes : Passing) (net : Network) (good : IsNetwork net) where
         let here : first ≡ restored passes net good bounds later c.before old_last c.after c.well c.knows c.goes c.whole c.short = is ∙ ap (with_made 0) c.goes.new_is in
         within passes net good later resumed to bounds old_last end c final v (subst (λ (z : Standing). RunsOn passes net resumed z final v) here runs) y
         (subst (λ (z : Standing). RestFits passes net resumed z) here fits (opened passes net good bounds later c.before old_last c.after c.well c.knows c.goes c.whole c.short)))
-        (meets passes net good bounds later run.first old_last end stop o inside (WellRun-start net good run.first run.start) (start_knows run.first run.start)
+        (meets passes net good bounds later run.first old_last end stop o inside (WellRun-start net good run.first run.start) (start_knows net run.first run.start)
         (inl (λ d. closed-at_start net run.first good run.start (run.start.made, d))) run.runs (subst (λ (z : Standing). Runs passes net later z end o) (sym start) whole.runs) x)
 
   pub resumed-solved : (bounds later resumed : Bounds) (old solved report : Report) (phases : ℕ) → (ran : IsRunReport passes net bounds old) → IsRunReport passes net later solved → solved.stop ≡ None

@@ -1,27 +1,17 @@
 -- A resumed run has one end: each phase, and each cause for which none is made, follows from where the run stands.
-use Rattle.std.proofs.Common.{◌≡◌, ◌⊎◌, ℕ, suc, List, length, refl, sym, ap, ◌∙◌, subst, inl, inr, arith}
-use Rattle.std.specs.Prelude.{Option, Some, None, Result, Ok, Err}
-use Rattle.std.proofs.lemmas.Option.{none-some, same_Some}
+use Rattle.std.proofs.Common.{◌≡◌, ℕ, length, refl, sym, ap, ◌∙◌, subst, arith}
+use Rattle.std.specs.Prelude.{Option, Some, Ok}
 use Rattle.nf_rational.specs.Rational.{ℚ}
 use Rattle.nf_rational.specs.Order.{◌<ℚ◌}
 use Rattle.nf_rational_laws.proofs.Order.{<ℚ_irrefl}
 use Rattle.nf_work.specs.Passing.{Passing}
-use Rattle.nf_work.specs.Checked.{each, placed}
-use Rattle.nf_work.specs.declared.Part.TheVariants.{Slack}
-use Rattle.nf_work.specs.declared.Passed.{Passed}
-use Rattle.nf_work.specs.declared.PassedAt.{PassedAt}
-use Rattle.nf_model.specs.Network.{Network, hops, rate_at}
-use Rattle.nf_model.specs.ThinFlow.{sets_at}
-use Rattle.nf_model.specs.Pattern.{Pattern, IsListedIn}
+use Rattle.nf_work.specs.Checked.{each}
+use Rattle.nf_model.specs.Network.{Network}
 use Rattle.nf_formats.specs.declared.Cause.{Cause}
 use Rattle.nf_formats.specs.Report.{Report}
-use Rattle.nf_lists.specs.Slack.{slack_list}
-use Rattle.nf_lists.specs.Search.{Answer, Found, OverBudget, PassesAt, NoPattern, IsSearch}
-use Rattle.nf_lists.specs.PhaseRun.{Standing, Bounds, PhaseStep, standing_after, cause_of_search, Seeks, phase_lists, Goes, Fails, at_slack, at_search, at_lists, report_of}
-use Rattle.nf_lists_laws.proofs.Bases.{one_base}
-use Rattle.nf_lists_laws.proofs.Searches.{one_answer}
-use Rattle.nf_lists_laws.proofs.OneRun.{length-sets}
-use Rattle.nf_plain_laws.proofs.Results.{same_Ok, same_Err}
+use Rattle.nf_lists.specs.PhaseRun.{Standing, Bounds, Fails, report_of}
+use Rattle.nf_lists_laws.proofs.OneRun.{one_phase, one_cause, goes_or_fails, fails_below, goes_knows}
+use Rattle.nf_plain_laws.proofs.Results.{same_Ok}
 use Rattle.nf_curve_laws.proofs.Operations.{then_ok}
 use Rattle.nf_resume_lists.specs.Restoring.{growing, restore_list}
 use Rattle.nf_resume_lists.specs.Resuming.{Stands, cut_flow, restart_list}
@@ -29,103 +19,27 @@ use Rattle.nf_resume_lists.specs.Open.{with_last, Steps, continues, begins, Runs
 use Rattle.nf_resume_lists.specs.Meanings.{IsResumedReport}
 use Rattle.nf_resume_laws.proofs.Stepping.{list-stands}
 
-ok_err : {A E : Type 0} (r : Result A E) (x : A) (e : E) → r ≡ Ok x → r ≡ Err e → ⊥
-ok_err r x e h k = cc
-
--- ---- what comes of a standing: a phase, or a cause for which there is none
-data Comes : Type 0 where
-  Moves : Standing → Comes
-  Stays : Cause ℚ → Comes
-
-moves_or_stays : (t : Standing) (c : Cause ℚ) → Moves t ≡ Stays c → ⊥
-moves_or_stays t c e = cc
-
-same_moves : (t u : Standing) → Moves t ≡ Moves u → t ≡ u
-same_moves t u e = cc
-
-same_stays : (c d : Cause ℚ) → Stays c ≡ Stays d → c ≡ d
-same_stays c d e = cc
-
+-- ---- one phase more
 module _ (passes : Passing) (net : Network) (horizon : ℚ) (patterns : ℕ) (s : Standing) where
-  -- by what the lists of a phase come to
-  abbrev after_lists : Pattern → List ℚ → Result PhaseStep (PassedAt ℚ) → Comes
-  after_lists pattern slopes (Ok step) = Moves (standing_after net s pattern slopes step)
-  after_lists pattern slopes (Err p) = Stays (Cause.Passed (suc s.made) None p)
-
-  -- by what its search answers
-  abbrev after_search : Answer → Comes
-  after_search (Found place pattern flows slopes) = after_lists pattern slopes (phase_lists passes net horizon s pattern flows slopes)
-  after_search OverBudget = Stays (Cause.Patterns (suc s.made) patterns)
-  after_search (PassesAt place at) = Stays (Cause.Passed (suc s.made) (Some place) at)
-  after_search NoPattern = Stays (Cause.NoPattern (suc s.made))
-
-  -- an operation of the slack list passes, or the search answers
-  abbrev ComesTo : Comes → Type 0
-  ComesTo c = ((p : Passed ℚ) × (slack_list passes (hops net) s.labels ≡ Err p) × (c ≡ Stays (Cause.Passed (suc s.made) None (placed Slack p))))
-      ⊎ ((answer : Answer) × Seeks passes net horizon patterns s answer × (after_search answer ≡ c))
-
-  goes_comes : (t : Standing) → Goes passes net horizon patterns s t → ComesTo (Moves t)
-  goes_comes t g = inr (Found g.place g.pattern g.flows g.slopes, g.finds, ap (after_lists g.pattern g.slopes) g.lists ∙ ap Moves (sym g.new_is))
-
-  cause_comes : (answer : Answer) (c : Cause ℚ) → cause_of_search (suc s.made) patterns answer ≡ Some c → after_search answer ≡ Stays c
-  cause_comes (Found place pattern flows slopes) c e = absurd (none-some c e)
-  cause_comes OverBudget c e = ap Stays (same_Some _ c e)
-  cause_comes (PassesAt place at) c e = ap Stays (same_Some _ c e)
-  cause_comes NoPattern c e = ap Stays (same_Some _ c e)
-
-  fails_comes : (c : Cause ℚ) → Fails passes net horizon patterns s c → ComesTo (Stays c)
-  fails_comes _ (at_slack p below e) = inl (p, e, refl)
-  fails_comes c (at_search answer _ k e) = inr (answer, k, cause_comes answer c e)
-  fails_comes _ (at_lists place pattern flows slopes p k e) = inr (Found place pattern flows slopes, k, ap (after_lists pattern slopes) e)
-
   module _ (knows : length s.last ≡ length net.links) where
-    one_search : (a b : Answer) → Seeks passes net horizon patterns s a → Seeks passes net horizon patterns s b → a ≡ b
-    one_search a b h k =
-        let bases : h.search.base ≡ k.search.base = one_base (hops net) (sets_at net s.labels) s.last (knows ∙ sym (length-sets net s.labels)) _ _ h.search.is_base k.search.is_base in
-        one_answer passes net (sets_at net s.labels) (rate_at net s.time) k.search.base patterns a b
-        (subst (λ (base : Pattern). IsSearch passes net (sets_at net s.labels) (rate_at net s.time) base patterns a) bases h.search.is_search)
-        k.search.is_search
-
-    one_comes : (c d : Comes) → ComesTo c → ComesTo d → c ≡ d
-    one_comes c d (inl x) (inl y) =
-        x.2 ∙ ap (λ (p : Passed ℚ). Stays (Cause.Passed (suc s.made) None (placed Slack p))) (same_Err _ _ (sym x.1 ∙ y.1)) ∙ sym y.2
-    one_comes c d (inl x) (inr y) = absurd (ok_err _ _ x.0 y.1.slacks x.1)
-    one_comes c d (inr x) (inl y) = absurd (ok_err _ _ y.0 x.1.slacks y.1)
-    one_comes c d (inr x) (inr y) = sym x.2 ∙ ap after_search (one_search x.0 y.0 x.1 y.1) ∙ y.2
-
-    one_phase : (t u : Standing) → Goes passes net horizon patterns s t → Goes passes net horizon patterns s u → t ≡ u
-    one_phase t u g h = same_moves t u (one_comes (Moves t) (Moves u) (goes_comes t g) (goes_comes u h))
-
-    -- ---- one phase more of a resumed run
     one_step : (t u : Standing) → Steps passes net horizon patterns s t → Steps passes net horizon patterns s u → t ≡ u
-    one_step _ _ (continues {t = t} c g) (continues {t = u} d h) = ap (with_last s.last) (one_phase t u g h)
+    one_step _ _ (continues {t = t} c g) (continues {t = u} d h) = ap (with_last s.last) (one_phase passes net horizon patterns s knows t u g h)
     one_step _ _ (continues c g) (begins d h) = absurd (d c)
     one_step _ _ (begins c g) (continues d h) = absurd (c d)
-    one_step t u (begins c g) (begins d h) = one_phase t u g h
+    one_step t u (begins c g) (begins d h) = one_phase passes net horizon patterns s knows t u g h
 
     steps_or_fails : (t : Standing) (c : Cause ℚ) → Steps passes net horizon patterns s t → Fails passes net horizon patterns s c → ⊥
-    steps_or_fails _ c (continues {t = t} d g) f = moves_or_stays t c (one_comes (Moves t) (Stays c) (goes_comes t g) (fails_comes c f))
-    steps_or_fails t c (begins d g) f = moves_or_stays t c (one_comes (Moves t) (Stays c) (goes_comes t g) (fails_comes c f))
-
-    one_cause : (c d : Cause ℚ) → Fails passes net horizon patterns s c → Fails passes net horizon patterns s d → c ≡ d
-    one_cause c d f g = same_stays c d (one_comes (Stays c) (Stays d) (fails_comes c f) (fails_comes d g))
+    steps_or_fails _ c (continues {t = t} d g) f = goes_or_fails passes net horizon patterns s knows t c g f
+    steps_or_fails t c (begins d g) f = goes_or_fails passes net horizon patterns s knows t c g f
 
     -- the last pattern has an entry for each link still
     step_knows : (t : Standing) → Steps passes net horizon patterns s t → length t.last ≡ length net.links
     step_knows _ (continues c g) = knows
-    step_knows t (begins c g) =
-        let search = g.finds.search.is_search in
-        let listed : IsListedIn net (sets_at net s.labels) g.pattern = search.is_listing.listed g.place g.pattern search.answers.has_place in
-        ap (λ (w : Standing). length w.last) g.new_is ∙ (listed.states.count ∙ length-sets net s.labels)
+    step_knows t (begins c g) = goes_knows passes net horizon patterns s t g
 
   step_below : (t : Standing) → Steps passes net horizon patterns s t → s.time <ℚ horizon
   step_below _ (continues c g) = g.finds.below
   step_below t (begins c g) = g.finds.below
-
-  fails_below : (c : Cause ℚ) → Fails passes net horizon patterns s c → s.time <ℚ horizon
-  fails_below _ (at_slack p below e) = below
-  fails_below c (at_search answer _ k e) = k.below
-  fails_below _ (at_lists place pattern flows slopes p k e) = k.below
 
 -- ---- one end
 module _ (passes : Passing) (net : Network) (bounds : Bounds) where

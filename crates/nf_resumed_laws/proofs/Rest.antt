@@ -9,6 +9,7 @@ use Rattle.nf_rational_laws.proofs.Order.{≤ℚ_of_lt}
 use Rattle.nf_rational_laws.proofs.Tests.{min_ℚ_cases}
 use Rattle.nf_rational_laws.proofs.Polynomial.{reading_of}
 use Rattle.nf_rational_laws.proofs.Linear.{le, lt, eq, linear_le, linear_lt, linear_eq, linear_false}
+use Rattle.nf_rational_laws.proofs.Extremes.{min_right}
 use Rattle.nf_work.specs.Passing.{Passing}
 use Rattle.nf_model.specs.declared.State.{State}
 use Rattle.nf_model.specs.Entries.{number_at}
@@ -17,6 +18,7 @@ use Rattle.nf_model.specs.ThinFlow.{slack, slacks_of, sets_at}
 use Rattle.nf_model.specs.Pattern.{Pattern, IsListedIn, IsBase, IsSolution}
 use Rattle.nf_model.specs.Phases.{moved, Lasts, IsExtension, IsUnending, IsPhaseLength}
 use Rattle.nf_model_laws.proofs.OneValue.{IsPhaseLength-unique}
+use Rattle.nf_model_laws.proofs.Affine.{<_≤_trans}
 use Rattle.nf_lists.specs.Accepted.{IsAccepted}
 use Rattle.nf_lists.specs.Listing.{IsListingIn}
 use Rattle.nf_lists.specs.CurveList.{is_filled, curve_list}
@@ -68,13 +70,7 @@ min-left H t l x = ⊎_elim
     later h k = linear_false (H ∷ t ∷ l ∷ x ∷ []) (lt h ∷ le k ∷ []) (search reading_of depth 12) tt
 
 below_min : (l a x m : ℚ) → l <ℚ m → m ≡ min_ℚ a x → l <ℚ x
-below_min l a x m h e = ⊎_elim
-    (λ (w : (min_ℚ a x ≡ a) × (a ≤ℚ x)). under l m a x h (e ∙ w.0) w.1)
-    (λ (w : (min_ℚ a x ≡ x) × (x <ℚ a)). subst (λ (z : ℚ). l <ℚ z) (e ∙ w.0) h)
-    (min_ℚ_cases a x)
-  where
-    under : (l m a x : ℚ) → l <ℚ m → m ≡ a → a ≤ℚ x → l <ℚ x
-    under l m a x h e k = linear_lt (l ∷ m ∷ a ∷ x ∷ []) (lt h ∷ eq e ∷ le k ∷ []) (search reading_of depth 12) tt
+below_min l a x m h e = <_≤_trans _ _ _ (subst (λ (z : ℚ). l <ℚ z) e h) (min_right a x)
 
 -- ---- where one phase was cut, and another one from the same standing goes on
 module _ (passes : Passing) (net : Network) (good : IsNetwork net) (a b : Bounds) (s t u : Standing) (well : WellRun net s) (knows : length s.last ≡ length net.links)

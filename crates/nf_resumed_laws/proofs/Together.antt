@@ -9,20 +9,20 @@ use Rattle.nf_rational_laws.proofs.Order.{≤ℚ_of_lt, ≤ℚ_of_same, ≤ℚ_a
 use Rattle.nf_rational_laws.proofs.Tests.{min_ℚ_cases}
 use Rattle.nf_rational_laws.proofs.Chains.{≤ℚ_refl, ≤ℚ_trans}
 use Rattle.nf_rational_laws.proofs.Polynomial.{reading_of}
-use Rattle.nf_rational_laws.proofs.Linear.{le, lt, eq, linear_le, linear_lt, linear_eq}
+use Rattle.nf_rational_laws.proofs.Linear.{lt, eq, linear_lt, linear_eq}
+use Rattle.nf_rational_laws.proofs.Extremes.{min_right}
 use Rattle.nf_work.specs.Passing.{Passing}
 use Rattle.nf_model.specs.Network.{Network, IsNetwork, hops}
-use Rattle.nf_model.specs.ThinFlow.{slacks_of, sets_at}
-use Rattle.nf_model.specs.Pattern.{IsListedIn}
+use Rattle.nf_model.specs.ThinFlow.{slacks_of}
 use Rattle.nf_model.specs.Phases.{IsExtension, IsUnending, IsPhaseLength}
 use Rattle.nf_model_laws.proofs.OneValue.{IsExtension-unique, IsExtension-ends}
 use Rattle.nf_model_laws.proofs.Affine.{<_≤_trans}
 use Rattle.nf_formats.specs.declared.Cause.{Cause}
-use Rattle.nf_lists.specs.PhaseRun.{Standing, Bounds, Goes, Fails, at_slack, at_search, at_lists, Runs, at_horizon, at_phases, fails, goes, standing_after}
+use Rattle.nf_lists.specs.PhaseRun.{Standing, Bounds, Goes, Runs, at_horizon, at_phases, fails, goes, standing_after}
 use Rattle.nf_phase_laws.proofs.Length.{IsPhase-some, IsPhaseLength-some}
 use Rattle.nf_run_laws.proofs.WellRun.{WellRun}
 use Rattle.nf_run_laws.proofs.Run.{WellRun-goes, IsPhase-goes}
-use Rattle.nf_lists_laws.proofs.OneRun.{length-sets}
+use Rattle.nf_lists_laws.proofs.OneRun.{goes_knows}
 use Rattle.nf_resume_lists.specs.Open.{IsOpen}
 use Rattle.nf_resume_laws.proofs.CutPhase.{closed-at_extension}
 use Rattle.nf_resumed_laws.proofs.Once.{first_parts, other_length, same_end}
@@ -36,29 +36,12 @@ cut-ends net slacks slopes time a b l m (inl p) (inl q) h = ⊎_elim
     (min_ℚ_cases (a -ℚ time) p.0)
   where
     at_most : (x y m : ℚ) → m ≡ min_ℚ x y → m ≤ℚ y
-    at_most x y m e = ⊎_elim
-        (λ (w : (min_ℚ x y ≡ x) × (x ≤ℚ y)). subst (λ (z : ℚ). z ≤ℚ y) (sym (e ∙ w.0)) w.1)
-        (λ (w : (min_ℚ x y ≡ y) × (y <ℚ x)). ≤ℚ_of_same _ _ (e ∙ w.0))
-        (min_ℚ_cases x y)
+    at_most x y m e = subst (λ (z : ℚ). z ≤ℚ y) (sym e) (min_right x y)
 
     beyond : l ≡ q.0 → m ≤ℚ q.0 → ⊥
     beyond e k = not_both_ℚ _ _ (subst (λ (z : ℚ). z <ℚ m) e h) k
 cut-ends net slacks slopes time a b l m (inl p) (inr q) h = absurd (IsExtension-ends net slacks slopes time p.0 p.1 q.0)
 cut-ends net slacks slopes time a b l m (inr p) q h = p.1
-
--- no phase goes beyond its horizon
-pub length-within : (net : Network) (slacks slopes : List ℚ) (time a l : ℚ) → IsPhaseLength net slacks slopes time a l → time +ℚ l ≤ℚ a
-length-within net slacks slopes time a l (inl p) = ⊎_elim
-    (λ (w : (min_ℚ (a -ℚ time) p.0 ≡ a -ℚ time) × (a -ℚ time ≤ℚ p.0)). up_to time a l (≤ℚ_of_same _ _ (p.2 ∙ w.0)))
-    (λ (w : (min_ℚ (a -ℚ time) p.0 ≡ p.0) × (p.0 <ℚ a -ℚ time)). up_to time a l (subst (λ (z : ℚ). z ≤ℚ a -ℚ time) (sym (p.2 ∙ w.0)) (≤ℚ_of_lt _ _ w.1)))
-    (min_ℚ_cases (a -ℚ time) p.0)
-  where
-    up_to : (t a l : ℚ) → l ≤ℚ a -ℚ t → t +ℚ l ≤ℚ a
-    up_to t a l h = linear_le (t ∷ a ∷ l ∷ []) (le h ∷ []) (search reading_of depth 12) tt
-length-within net slacks slopes time a l (inr p) = up_to time a l p.1
-  where
-    up_to : (t a l : ℚ) → l ≡ a -ℚ t → t +ℚ l ≤ℚ a
-    up_to t a l e = linear_le (t ∷ a ∷ l ∷ []) (eq e ∷ []) (search reading_of depth 12) tt
 
 ends_there : (t a l : ℚ) → l ≡ a -ℚ t → t +ℚ l ≡ a
 ends_there t a l e = linear_eq (t ∷ a ∷ l ∷ []) (eq e ∷ []) (search reading_of depth 12) tt tt
@@ -72,17 +55,6 @@ some_cause c o e f = none-some c (sym f ∙ e)
 module _ (passes : Passing) (net : Network) (good : IsNetwork net) where
   abbrev pub Knows : Standing → Type 0
   Knows s = length s.last ≡ length net.links
-
-  pub knows-goes : (a : Bounds) (s t : Standing) → Goes passes net a.horizon a.patterns s t → Knows t
-  knows-goes a s t g =
-      let is = g.finds.search.is_search in
-      let listed : IsListedIn net (sets_at net s.labels) g.pattern = is.is_listing.listed g.place g.pattern is.answers.has_place in
-      ap (λ (w : Standing). length w.last) g.new_is ∙ listed.states.count ∙ length-sets net s.labels
-
-  pub fails-below : (a : Bounds) (s : Standing) (c : Cause ℚ) → Fails passes net a.horizon a.patterns s c → s.time <ℚ a.horizon
-  fails-below a s c (at_slack p below e) = below
-  fails-below a s c (at_search x d k e) = k.below
-  fails-below a s c (at_lists q p f l r k e) = k.below
 
   pub later-goes : (a : Bounds) (s t : Standing) → Goes passes net a.horizon a.patterns s t → WellRun net s → s.time <ℚ t.time
   later-goes a s t g well = IsPhase-some net a.horizon (s.time, s.labels) (t.time, t.labels) (IsPhase-goes passes net good a s t g well)
@@ -187,7 +159,7 @@ module _ (passes : Passing) (net : Network) (good : IsNetwork net) where
       (λ (l : h.step.length <ℚ g.step.length). absurd (not_longer a b last end within s t u stop well knows g h rest others l))
       (λ (l : g.step.length ≤ℚ h.step.length).
       let e : g.step.length ≡ h.step.length = ≤ℚ_antisymm _ _ l k in
-      meets a b t last end stop o within (WellRun-goes passes net good a s t g well) (knows-goes a s t g) (closed_after a b last end within s t u stop well knows g h rest others e) rest
+      meets a b t last end stop o within (WellRun-goes passes net good a s t g well) (goes_knows passes net a.horizon a.patterns s t g) (closed_after a b last end within s t u stop well knows g h rest others e) rest
       (subst (λ (x : Standing). Runs passes net b x end o) (sym (same_end passes net good a b s t u well knows g h e)) rest') f)
       (lt_or_le_ℚ h.step.length g.step.length))
       (lt_or_le_ℚ g.step.length h.step.length)

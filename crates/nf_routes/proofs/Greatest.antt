@@ -1,12 +1,12 @@
 -- The end of a link, worked out pair by pair.
-use Rattle.std.proofs.Common.{◌≡◌, ℕ, zero, suc, ◌+◌, ◌-◌, ◌<◌, ◌≤◌, List, [], ◌∷◌, ◌++◌, length, drop, ⊎_elim, Bool, true, false, eqb, refl, sym, ap, subst, ◌∙◌, arith}
+use Rattle.std.proofs.Common.{◌≡◌, ℕ, zero, suc, ◌+◌, ◌-◌, ◌<◌, ◌≤◌, List, [], ◌∷◌, ◌++◌, length, drop, Bool, true, false, eqb, refl, sym, ap, ◌∙◌, arith}
 use Rattle.std.specs.Prelude.{Option, Some, if◌then◌else◌, slice_get}
 use Rattle.std.proofs.lemmas.Option.{none-some, same_Some}
 use Rattle.nf_rational.specs.Rational.{ℚ}
-use Rattle.nf_rational.specs.Order.{◌≤ℚ◌, ◌<ℚ◌, max_ℚ}
-use Rattle.nf_rational_laws.proofs.Order.{≤ℚ_of_lt, ≤ℚ_of_same, ≤ℚ_antisymm}
+use Rattle.nf_rational.specs.Order.{◌≤ℚ◌, max_ℚ}
+use Rattle.nf_rational_laws.proofs.Order.{≤ℚ_antisymm}
 use Rattle.nf_rational_laws.proofs.Chains.{≤ℚ_refl, ≤ℚ_trans}
-use Rattle.nf_rational_laws.proofs.Tests.{max_ℚ_cases}
+use Rattle.nf_rational_laws.proofs.Extremes.{max_left, max_right, max_keeps}
 use Rattle.nf_model.specs.Curve.{Point}
 use Rattle.nf_check_lists.specs.Curves.{last_value}
 use Rattle.nf_routes_lists.specs.Routes.{pairs_of, all_pairs}
@@ -14,23 +14,8 @@ use Rattle.nf_routes_lists.specs.RoutesFile.{NamedRoute, routes_of}
 use Rattle.nf_routes_lists.specs.RoutesList.{LoadedLink, exit_end, end_by}
 use Rattle.nf_routes_file.proofs.Pairs.{pairs_at, pairs_none, all_pairs_at}
 
-max_left : (x y : ℚ) → x ≤ℚ max_ℚ x y
-max_left x y = ⊎_elim
-    (λ (w : (max_ℚ x y ≡ y) × (x ≤ℚ y)). subst (λ (z : ℚ). x ≤ℚ z) (sym w.0) w.1)
-    (λ (w : (max_ℚ x y ≡ x) × (y <ℚ x)). ≤ℚ_of_same _ _ (sym w.0))
-    (max_ℚ_cases x y)
-
-max_right : (x y : ℚ) → y ≤ℚ max_ℚ x y
-max_right x y = ⊎_elim
-    (λ (w : (max_ℚ x y ≡ y) × (x ≤ℚ y)). ≤ℚ_of_same _ _ (sym w.0))
-    (λ (w : (max_ℚ x y ≡ x) × (y <ℚ x)). subst (λ (z : ℚ). y ≤ℚ z) (sym w.0) (≤ℚ_of_lt _ _ w.1))
-    (max_ℚ_cases x y)
-
 max_least : (x y z : ℚ) → x ≤ℚ z → y ≤ℚ z → max_ℚ x y ≤ℚ z
-max_least x y z h k = ⊎_elim
-    (λ (w : (max_ℚ x y ≡ y) × (x ≤ℚ y)). subst (λ (a : ℚ). a ≤ℚ z) (sym w.0) k)
-    (λ (w : (max_ℚ x y ≡ x) × (y <ℚ x)). subst (λ (a : ℚ). a ≤ℚ z) (sym w.0) h)
-    (max_ℚ_cases x y)
+max_least x y z h k = max_keeps (λ (a : ℚ). a ≤ℚ z) x y h k
 
 max_below : (x y z : ℚ) → max_ℚ x (max_ℚ y z) ≤ℚ max_ℚ y (max_ℚ x z)
 max_below x y z = max_least x (max_ℚ y z) (max_ℚ y (max_ℚ x z)) (≤ℚ_trans _ _ _ (max_left x z) (max_right y (max_ℚ x z)))

@@ -6,7 +6,6 @@ mod ends;
 mod entries;
 mod loading;
 mod next;
-mod points;
 mod routed;
 mod so_far;
 mod stages;

@@ -13,7 +13,6 @@ ghost use Rattle.nf_routes_lists.specs.RoutesList.{next_from, next_entry as next
 ghost use Rattle.nf_routes_laws.specs.Laws.{CanShare, IsNext};
 ghost use Rattle.nf_routes.specs.Amounts.{IsAmount, AreExits};
 
-use crate::points::{curve_of, points_of};
 use nf_curve::{Curve, Point, Sides, first_moment, next_moment, sides_at};
 use nf_frac::{Halt, Part, Q};
 use std::alloc::{AllocError, Global};
@@ -62,10 +61,8 @@ pub(crate) fn next_entry(alloc: Global, exit: &Curve, entry: &Curve) -> Result<C
     ensures amount { IfOk result (λ c. IsAmount c.points) }
     ensures next { (last : ℚ) → CanShare exit.now.points entry.now.points last → IfOk result (λ c. IsNext exit.now.points entry.now.points last c.points) }
 {
-    let exits = points_of(alloc, exit)?;
-    let entered = points_of(alloc, entry)?;
-    let sides = all_sides(alloc, &entered, &exits)?;
+    let sides = all_sides(alloc, entry.as_points(), exit.as_points())?;
     let points = next_points(alloc, &sides)?;
-    let curve = curve_of(alloc, &points)?;
+    let curve = Curve::of_points(points);
     Curve::short(alloc, &curve, Part::Load)
 }

@@ -152,7 +152,7 @@ LastSlope-rates (p ∷ []) (x ∷ rates) h = absurd h
 LastSlope-rates (p ∷ q ∷ rest) [] h = absurd h
 LastSlope-rates (p ∷ q ∷ rest) (x ∷ rates) h = last_rate p q rest x rates h.0 h.1
 
-AreSlopes-appended : (front : List Point) (last new : Point) (rates : List ℚ) (r : ℚ) → AreSlopes (front ++ last ∷ []) rates → r ≡ slope last new → AreSlopes ((front ++ last ∷ []) ++ new ∷ []) (rates ++ r ∷ [])
+pub AreSlopes-appended : (front : List Point) (last new : Point) (rates : List ℚ) (r : ℚ) → AreSlopes (front ++ last ∷ []) rates → r ≡ slope last new → AreSlopes ((front ++ last ∷ []) ++ new ∷ []) (rates ++ r ∷ [])
 AreSlopes-appended [] last new [] r h e = (e, tt)
 AreSlopes-appended [] last new (x ∷ rates) r h e = absurd h
 AreSlopes-appended (p ∷ []) last new [] r h e = absurd h

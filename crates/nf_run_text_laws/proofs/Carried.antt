@@ -30,7 +30,7 @@ use Rattle.nf_check_laws.proofs.Rising.{label-rises}
 use Rattle.nf_run_text_laws.specs.VerdictLaws.{AllButRoutesHold}
 use Rattle.nf_run_text_laws.proofs.Leaving.{IsOutflow-rises}
 use Rattle.nf_run_text_laws.proofs.After.{Stays, stays}
-use Rattle.nf_run_text_laws.proofs.Totals.{total, total_in, total_out, total-each}
+use Rattle.nf_model_laws.proofs.Totals.{total, total_in, total_out, total-each}
 
 -- the ends of the link of this number
 abbrev tail_of : List Link → ℕ → ℕ

@@ -1,10 +1,10 @@
 -- Which numbers are fractions of a file: 0 and 1, the results of operations that don't pass, and the numbers of a network.
-use Rattle.std.proofs.Common.{◌≡◌, ℕ, zero, suc, ◌*◌, ◌/◌, ◌≤◌, ◌||◌, Bool, true, false, if◌then◌else◌, List, [], ◌∷◌, nat_lt, nat_abs, ℤ, pos, negsuc, ◌+ℤ◌, ◌*ℤ◌, ◌≤ℤ◌, neg_ℤ, refl, sym, subst, arith, div-le_self, Option, Some, None, unwrap_or, lit≤}
+use Rattle.std.proofs.Common.{◌≡◌, ℕ, zero, suc, ◌*◌, ◌/◌, ◌≤◌, ◌||◌, Bool, true, false, if◌then◌else◌, List, [], ◌∷◌, nat_lt, nat_abs, ℤ, pos, negsuc, ◌+ℤ◌, ◌*ℤ◌, ◌≤ℤ◌, neg_ℤ, refl, sym, subst, arith, Option, Some, None, unwrap_or, lit≤}
 use borrow.Author.Differences.{ints}
 use Rattle.std.specs.List.{AllByRecursion}
 use Rattle.std.proofs.lemmas.Bool.{le-ltb, ltb-false, or_parts, or_from}
 use Rattle.nf_rational.specs.Gcd.{gcd}
-use Rattle.nf_rational.specs.Rational.{ℚ, ratio, abs_quot}
+use Rattle.nf_rational.specs.Rational.{ℚ, ratio}
 use Rattle.nf_rational.specs.Operations.{whole, 0ℚ, 1ℚ, neg_ℚ, ◌+ℚ◌, ◌-ℚ◌}
 use Rattle.nf_rational.specs.Order.{le_ℚ, lt_ℚ, min_ℚ}
 use Rattle.nf_rational_laws.proofs.Lowest.{plus_over_lcm}
@@ -17,6 +17,7 @@ use Rattle.nf_model.specs.Network.{Link, Piece, Network, hop_of, hops, rate_from
 use Rattle.nf_formats.specs.Numbers.{greatest}
 use Rattle.nf_formats.specs.WellNamed.{IsFraction, IsFractionPiece}
 use Rattle.nf_formats_laws.proofs.LinesBack.{within}
+use Rattle.nf_formats_laws.proofs.NumbersKept.{lowest_num, lowest_den}
 use Rattle.nf_lists.specs.Equations.{one_if}
 use Rattle.nf_readings_laws.specs.Readable.{IsFractionOrNone}
 use Rattle.nf_run_text_laws.proofs.Lists.{entry_or, all_image}
@@ -30,16 +31,6 @@ either P true x y h k = h
 either P false x y h k = k
 
 -- ---- in lowest terms parts don't grow
-lowest_num : (n : ℤ) (d : ℕ) → nat_abs (ratio n d).num ≤ nat_abs n
-unfolding ratio
-lowest_num n zero = omega arith
-lowest_num n (suc d) = subst (λ k. k ≤ nat_abs n) (sym (abs_quot n (gcd (nat_abs n) (suc d)))) (div-le_self (nat_abs n) (gcd (nat_abs n) (suc d)))
-
-lowest_den : (n : ℤ) (d : ℕ) (bound : ℕ) → 1 ≤ bound → d ≤ bound → (ratio n d).den ≤ bound
-unfolding ratio
-lowest_den n zero bound one h = one
-lowest_den n (suc d) bound one h = let less : suc d / gcd (nat_abs n) (suc d) ≤ suc d = div-le_self (suc d) (gcd (nat_abs n) (suc d)) in omega arith
-
 ratio_fraction : (n : ℤ) (d : ℕ) → nat_abs n ≤ greatest → d ≤ greatest → IsFraction (ratio n d)
 ratio_fraction n d h k =
     let small : nat_abs (ratio n d).num ≤ nat_abs n = lowest_num n d in

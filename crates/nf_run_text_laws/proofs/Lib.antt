@@ -9,6 +9,5 @@ pub mod Running
 pub mod ReadingBack
 pub mod Leaving
 pub mod After
-pub mod Totals
 pub mod Carried
 pub mod Verdicts

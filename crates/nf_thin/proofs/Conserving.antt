@@ -20,7 +20,7 @@ use Rattle.nf_model.specs.ThinFlow.{Sets, surplus}
 use Rattle.nf_model.specs.Pattern.{Pattern, Fills, Equation}
 use Rattle.nf_thin.specs.declared.ranges.Range.{Range}
 use Rattle.nf_thin.specs.Ranges.{IsWithin, MeetsState}
-use Rattle.nf_thin_laws.proofs.Totals.{sink_takes}
+use Rattle.nf_model_laws.proofs.Totals.{sink_takes}
 use Rattle.nf_thin.proofs.Within.{checked_is}
 use Rattle.nf_one_pattern.specs.Fulls.{full_of}
 use Rattle.nf_thin.specs.Conserving.{full_by, CanFlow, surplus_of_first, BoundsFirst, needed_at}

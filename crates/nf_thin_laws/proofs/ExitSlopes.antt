@@ -9,8 +9,8 @@ use Rattle.nf_model.specs.ThinFlow.{exit_slope}
 use Rattle.nf_model.specs.Pattern.{Fills}
 use Rattle.nf_model_laws.specs.Capacity.{IsPositive}
 use Rattle.nf_model_laws.proofs.Affine.{quotient-times, le_from_times, same_from_times}
-use Rattle.nf_thin_laws.proofs.Greater.{max_same, max_first, max_at_least}
 use Rattle.nf_rational_laws.proofs.Chains.{≤ℚ_trans}
+use Rattle.nf_rational_laws.proofs.Extremes.{max_is_right, max_is_left, max_left}
 
 swapped : (x c q : ℚ) → q *ℚ c ≡ x → c *ℚ q ≡ x
 swapped x c q e = linear_eq (x ∷ c ∷ q ∷ []) (eq e ∷ []) (search reading_of depth 12) tt tt
@@ -36,14 +36,14 @@ exit_full None x s t positive f h = absurd (none f.0 f.1)
     none c e = cc
 exit_full (Some c) x s t positive f h =
     let q : x /ℚ c ≡ t = exit_resetting (Some c) x s t positive f in
-    ap (max_ℚ s) q ∙ max_same s t h
+    ap (max_ℚ s) q ∙ max_is_right s t h
 
 -- a link whose ends move alike
 pub exit_tight : (capacity : Option ℚ) (x s t : ℚ) → IsPositive capacity → t ≡ s → ((rate : ℚ) → capacity ≡ Some rate → x ≤ℚ rate *ℚ t) → exit_slope false capacity x s ≡ t
 exit_tight None x s t positive e h = sym e
-exit_tight (Some c) x s t positive e h = max_first s (x /ℚ c) (subst (λ (z : ℚ). x /ℚ c ≤ℚ z) e (quotient_below x c t (positive c refl) (h c refl))) ∙ sym e
+exit_tight (Some c) x s t positive e h = max_is_left s (x /ℚ c) (subst (λ (z : ℚ). x /ℚ c ≤ℚ z) e (quotient_below x c t (positive c refl) (h c refl))) ∙ sym e
 
 -- one that carries nothing
 pub exit_zero : (capacity : Option ℚ) (x s t : ℚ) → t ≤ℚ s → t ≤ℚ exit_slope false capacity x s
 exit_zero None x s t h = h
-exit_zero (Some c) x s t h = ≤ℚ_trans _ _ _ h (max_at_least s (x /ℚ c))
+exit_zero (Some c) x s t h = ≤ℚ_trans _ _ _ h (max_left s (x /ℚ c))

@@ -4,9 +4,7 @@ use Rattle.std.proofs.Common.{◌≡◌, ◌≢◌, ℕ, zero, suc, ◌+◌, ◌
 use Rattle.std.specs.Prelude.{Contains}
 use Rattle.std.specs.List.{IsDistinct, list_any}
 use Rattle.std.proofs.lemmas.Bool.Decides.{eqb_tells}
-use Rattle.std.proofs.lemmas.Bool.{eqb-true}
 use Rattle.std.proofs.lemmas.Map.Steps.{length-le_from_distinct_below}
-use Rattle.std.proofs.lemmas.Map.Views.{Contains-from_any}
 use Rattle.std.proofs.lemmas.Option.{slice_get_within}
 use Rattle.std.proofs.lemmas.List.{length-map}
 use Rattle.nf_rational.specs.Rational.{ℚ}
@@ -15,38 +13,21 @@ use Rattle.nf_rational.specs.Order.{◌≤ℚ◌, ◌<ℚ◌, max_ℚ}
 use Rattle.nf_rational_laws.proofs.Polynomial.{reading_of}
 use Rattle.nf_rational_laws.proofs.Order.{≤ℚ_antisymm, ≤ℚ_of_lt, lt_or_le_ℚ, not_both_ℚ}
 use Rattle.nf_rational_laws.proofs.Linear.{le, lt, eq, linear_le, linear_eq, linear_false}
+use Rattle.nf_rational_laws.proofs.Extremes.{max_is_right, max_left}
 use Rattle.nf_model.specs.Network.{Link, Network, IsLink, IsNetwork, hop_of, hops, sum_in, sum_out}
 use Rattle.nf_model.specs.Pattern.{IsTrail, AllDiffer, IsForest}
 use Rattle.nf_model_laws.proofs.Networks.{hop_at, IsLink-unique}
 use Rattle.nf_model_laws.proofs.Sums.{sum_in-same, sum_out-same, sum_in-none, sum_out-none, sum_in-line, sum_in-order, sum_out-order, sum_in-each, sum_out-each}
 use Rattle.nf_model_laws.proofs.Potential.{out_less_in}
-use Rattle.nf_model_laws.proofs.Ways.{distinct_more}
-use Rattle.nf_thin_laws.proofs.Greater.{max_same, max_at_least}
+use Rattle.nf_model_laws.proofs.Ways.{distinct_more, distinct_none}
+use Rattle.nf_model_laws.proofs.Contained.{contains_none, contains_cases, not_any}
 
 -- ---- elements of lists
-contains_none : (x : ℕ) → Contains [] x → ⊥
-contains_none x c = absurd (omega arith)
-
-contains_cases : (y : ℕ) (ys : List ℕ) (x : ℕ) → Contains (y ∷ ys) x → (y ≡ x) ⊎ Contains ys x
-contains_cases y ys x (zero, h, e) = inl e
-contains_cases y ys x (suc k, h, e) = inr (k, omega arith, e)
-
 contains_more : (y : ℕ) (ys : List ℕ) (x : ℕ) → Contains ys x → Contains (y ∷ ys) x
 contains_more y ys x (k, h, e) = (suc k, omega arith, e)
 
 contains_first : (y : ℕ) (ys : List ℕ) (x : ℕ) → y ≡ x → Contains (y ∷ ys) x
 contains_first y ys x e = (zero, omega arith, e)
-
-not_any : (x : ℕ) (xs : List ℕ) → (Contains xs x → ⊥) → list_any (eqb x) xs ≡ false
-not_any x xs n = go (list_any (eqb x) xs) refl
-  where
-    go : (b : Bool) → list_any (eqb x) xs ≡ b → b ≡ false
-    go true e = absurd (n (Contains-from_any eqb-true x xs e))
-    go false e = refl
-
-distinct_none : IsDistinct eqb []
-unfolding IsDistinct
-distinct_none = tt
 
 IsDistinct-differ : (xs : List ℕ) → AllDiffer xs → IsDistinct eqb xs
 IsDistinct-differ [] a = distinct_none
@@ -70,9 +51,9 @@ module _ (links : List Link) (d : ℕ → ℚ) (v : ℕ) (balanced : out_less_in
 
   none_leaves_forward : (e : ℕ) (link : Link) → slice_get links e ≡ Some link → link.tail ≡ v → 0ℚ <ℚ d e → ⊥
   none_leaves_forward e link p at h = forth _ _ _ balanced in_none h
-      (subst (λ (z : ℚ). d e ≤ℚ z) (sym (sum_out-same links d (λ k. max_ℚ 0ℚ (d k)) v (λ k l q a. sym (max_same 0ℚ (d k) (none_back k l q a)))))
-      (subst (λ (z : ℚ). z ≤ℚ sum_out links (λ k. max_ℚ 0ℚ (d k)) v) (max_same 0ℚ (d e) (≤ℚ_of_lt _ _ h))
-      (sum_out-each links (λ k. max_ℚ 0ℚ (d k)) v (λ k. max_at_least 0ℚ (d k)) e link p at)))
+      (subst (λ (z : ℚ). d e ≤ℚ z) (sym (sum_out-same links d (λ k. max_ℚ 0ℚ (d k)) v (λ k l q a. sym (max_is_right 0ℚ (d k) (none_back k l q a)))))
+      (subst (λ (z : ℚ). z ≤ℚ sum_out links (λ k. max_ℚ 0ℚ (d k)) v) (max_is_right 0ℚ (d e) (≤ℚ_of_lt _ _ h))
+      (sum_out-each links (λ k. max_ℚ 0ℚ (d k)) v (λ k. max_left 0ℚ (d k)) e link p at)))
 
   backward : ℕ → ℚ
   backward k = 0ℚ +ℚ d k *ℚ (0ℚ -ℚ 1ℚ)
@@ -87,9 +68,9 @@ module _ (links : List Link) (d : ℕ → ℚ) (v : ℕ) (balanced : out_less_in
   unfolding backward
   none_leaves_backward e link p at h = back_sum (sum_out links d v) (sum_in links d v) (sum_in links (λ _. 0ℚ) v) (d e) (sum_in links backward v) balanced out_some h
       (sum_in-none links v) (sum_in-line links (λ _. 0ℚ) d (0ℚ -ℚ 1ℚ) v)
-      (subst (λ (z : ℚ). backward e ≤ℚ z) (sym (sum_in-same links backward (λ k. max_ℚ 0ℚ (backward k)) v (λ k l q a. sym (max_same 0ℚ (backward k) (backward_nn (d k) (none_in k l q a))))))
-      (subst (λ (z : ℚ). z ≤ℚ sum_in links (λ k. max_ℚ 0ℚ (backward k)) v) (max_same 0ℚ (backward e) (backward_nn (d e) (≤ℚ_of_lt _ _ h)))
-      (sum_in-each links (λ k. max_ℚ 0ℚ (backward k)) v (λ k. max_at_least 0ℚ (backward k)) e link p at)))
+      (subst (λ (z : ℚ). backward e ≤ℚ z) (sym (sum_in-same links backward (λ k. max_ℚ 0ℚ (backward k)) v (λ k l q a. sym (max_is_right 0ℚ (backward k) (backward_nn (d k) (none_in k l q a))))))
+      (subst (λ (z : ℚ). z ≤ℚ sum_in links (λ k. max_ℚ 0ℚ (backward k)) v) (max_is_right 0ℚ (backward e) (backward_nn (d e) (≤ℚ_of_lt _ _ h)))
+      (sum_in-each links (λ k. max_ℚ 0ℚ (backward k)) v (λ k. max_left 0ℚ (backward k)) e link p at)))
 
 -- a property of some link or of none
 find_link : (links : List Link) (P : ℕ → Link → Type 0) → ((e : ℕ) (link : Link) → P e link ⊎ (P e link → ⊥))

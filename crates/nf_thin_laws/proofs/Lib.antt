@@ -1,5 +1,4 @@
 pub mod Flags
-pub mod Greater
 pub mod ExitSlopes
 pub mod ActiveLinks
 pub mod Patterns
@@ -9,7 +8,6 @@ pub mod Cuts
 pub mod Slopes
 pub mod Agree
 pub mod States
-pub mod Totals
 pub mod Forests
 pub mod Singular
 pub mod OneLink

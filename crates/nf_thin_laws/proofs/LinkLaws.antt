@@ -10,8 +10,8 @@ use Rattle.nf_rational_laws.proofs.Linear.{le, lt, eq, le_times, eq_times, linea
 use Rattle.nf_model.specs.ThinFlow.{exit_slope}
 use Rattle.nf_model_laws.specs.Capacity.{IsPositive}
 use Rattle.nf_model_laws.proofs.Affine.{quotient-times, le_from_times}
-use Rattle.nf_thin_laws.proofs.Greater.{max_at_least}
 use Rattle.nf_rational_laws.proofs.Chains.{≤ℚ_trans}
+use Rattle.nf_rational_laws.proofs.Extremes.{max_left}
 
 -- x is the flow of the link, c its capacity, s and t the slopes at its tail and its head
 pub record BoundedLaw (resets : Bool) (x c s t : ℚ) : Type 0 where
@@ -145,4 +145,4 @@ pub stuck : (resets : Bool) (capacity : Option ℚ) (x y s t u v : ℚ) → IsPo
     → s ≤ℚ u → v <ℚ t → x ≡ y → exit_slope resets capacity y u ≡ v → ⊥
 stuck resets None x y s t u v h m n p q i j e r = stuck_unbounded x s t u v p i j r
 stuck true (Some c) x y s t u v h m n p q i j e r = not_both_ℚ _ _ (into_resetting x y c s t u v (h c refl) p q j) (≤ℚ_of_same _ _ e)
-stuck false (Some c) x y s t u v h m n p q i j e r = stuck_bounded x y c s t u v (h c refl) m n p q i j e (subst (λ (z : ℚ). u ≤ℚ z) r (max_at_least u (y /ℚ c)))
+stuck false (Some c) x y s t u v h m n p q i j e r = stuck_bounded x y c s t u v (h c refl) m n p q i j e (subst (λ (z : ℚ). u ≤ℚ z) r (max_left u (y /ℚ c)))

@@ -27,7 +27,7 @@ use Rattle.nf_thin_laws.specs.PatternLaws.{SolvesHomogeneous}
 use Rattle.nf_thin_laws.proofs.Flags.{flag, entry_beyond, number_at-beyond}
 use Rattle.nf_thin_laws.proofs.Patterns.{FillBoth, FillBoth-of, Stands, with_state, resets, inactive, stands, Leads, by_tight, by_full, by_reset, led}
 use Rattle.nf_thin_laws.proofs.Cuts.{fall_none, fall_into, fall_out, fall_same, into_equal, same_carried}
-use Rattle.nf_thin_laws.proofs.Totals.{sink_takes}
+use Rattle.nf_model_laws.proofs.Totals.{sink_takes}
 use Rattle.nf_thin_laws.proofs.Forests.{Dart, Carries, forest-none}
 use Rattle.nf_thin_laws.proofs.ActiveLinks.{none_first}
 use Rattle.nf_plain_laws.proofs.Entries.{entry, same_entries}

@@ -1,9 +1,9 @@
 -- Who enters a link in two equilibria leaves it at the same time, and waits as long.
-use Rattle.std.proofs.Common.{◌≡◌, ℕ, ⊎_elim, sym, ap, subst, ◌∙◌}
+use Rattle.std.proofs.Common.{◌≡◌, ℕ, sym, ap, ◌∙◌}
 use Rattle.nf_rational.specs.Rational.{ℚ}
 use Rattle.nf_rational.specs.Operations.{0ℚ, ◌+ℚ◌}
-use Rattle.nf_rational.specs.Order.{◌≤ℚ◌, ◌<ℚ◌, min_ℚ}
-use Rattle.nf_rational_laws.proofs.Tests.{min_ℚ_cases}
+use Rattle.nf_rational.specs.Order.{◌≤ℚ◌, min_ℚ}
+use Rattle.nf_rational_laws.proofs.Extremes.{min_keeps}
 use Rattle.nf_model.specs.Curve.{Within}
 use Rattle.nf_model.specs.Network.{Link, Network, IsNetwork, IsLink}
 use Rattle.nf_model.specs.Queue.{IsExit, waiting}
@@ -16,10 +16,7 @@ use Rattle.nf_unique_laws.proofs.Queues.{m_one, in_one, in_other, queues-same}
 
 -- what is at most two numbers is at most the lesser of them
 under_both : (x y z : ℚ) → z ≤ℚ x → z ≤ℚ y → z ≤ℚ min_ℚ x y
-under_both x y z h k = ⊎_elim
-    (λ (w : (min_ℚ x y ≡ x) × (x ≤ℚ y)). subst (λ (u : ℚ). z ≤ℚ u) (sym w.0) h)
-    (λ (w : (min_ℚ x y ≡ y) × (y <ℚ x)). subst (λ (u : ℚ). z ≤ℚ u) (sym w.0) k)
-    (min_ℚ_cases x y)
+under_both x y z h k = min_keeps (λ (u : ℚ). z ≤ℚ u) x y h k
 
 module _ (net : Network) (good : IsNetwork net) (one other : Flow) (is_one : Equilibrium net one) (is_other : Equilibrium net other) where
   module _ (e : ℕ) (link : Link) (p : IsLink net e link) where

@@ -8,13 +8,13 @@ use Rattle.nf_rational.specs.Order.{◌≤ℚ◌, ◌<ℚ◌}
 use Rattle.nf_rational_laws.proofs.Polynomial.{reading_of}
 use Rattle.nf_rational_laws.proofs.Order.{lt_or_le_ℚ, ≤ℚ_antisymm}
 use Rattle.nf_rational_laws.proofs.Linear.{le, eq, linear_le}
+use Rattle.nf_rational_laws.proofs.Extremes.{min_left}
 use Rattle.nf_model.specs.Walk.{Hop, IsHop, IsLeastTransit}
 use Rattle.nf_model.specs.Network.{Network, IsNetwork, hop_of, hops}
 use Rattle.nf_model.specs.ThinFlow.{slacks_of}
 use Rattle.nf_model.specs.Phases.{AreStartLabels, moved, IsPhaseLength, IsPhase, PhasesFrom, IsPhaseSequence}
 use Rattle.nf_formats_laws.proofs.Settling.{least_exists}
 use Rattle.nf_lists_laws.proofs.Ending.{from_map}
-use Rattle.nf_existence_laws.proofs.Small.{min_left}
 use Rattle.nf_existence_laws.proofs.Numbers.{numbers, length-numbers, number_at-numbers}
 use Rattle.nf_unstopped_laws.specs.ThinFlows.{HasThinFlow}
 use Rattle.nf_unstopped_laws.specs.Sequences.{ComesTo, PhaseSequencesGoOn}

@@ -2,22 +2,22 @@ use Rattle.std.proofs.Common.{◌≡◌, List, [], ◌∷◌, ◌++◌, length, 
 use Rattle.std.specs.Prelude.{codes}
 use Rattle.std.specs.Option.{option_copied}
 use Rattle.nf_formats.specs.Named.{Named}
-use Rattle.nf_report.specs.Written.{Line}
-use Rattle.nf_report.proofs.Gathering.{gathered_next, gathered_failed, gathered_then_failed, same_gathered}
+use Rattle.nf_report.specs.Written.{Line, flow_lines}
+use Rattle.nf_report.proofs.Gathering.{gathered_next, gathered_failed, gathered_then_failed, same_gathered, right_first}
 use Rattle.nf_forever_lists.specs.ForeverRun.{Forever}
 use Rattle.nf_forever_lists.specs.ForeverText.{tail_lines, forever_lines}
 use Rattle.nf_formats.specs.Report.{for_each, state_lines}
 use Rattle.nf_forever.specs.Seen.{forever_in}
-use Rattle.nf_forever.specs.Parts.{head_lines, flow_lines, end_lines}
-use Rattle.nf_forever.proofs.Joined.{right_first, one_by_one}
+use Rattle.nf_forever.specs.Parts.{head_lines, end_lines}
+use Rattle.nf_forever.proofs.Joined.{one_by_one}
 use Rattle.nf_forever.proofs.text.put_forever.Goals as goal
 
 -- the parts are the whole text
 whole : (n : Named) (f : Forever) → head_lines f.flow.reached f.stop ++ flow_lines n f.flow ++ end_lines n f ≡ forever_lines n f
 whole n f = one_by_one (head_lines f.flow.reached f.stop) (flow_lines n f.flow) (for_each (length n.net.links) (state_lines n f.last)) (tail_lines n f.tail) ((codes "end" ∷ []) ∷ [])
 
-pub put_curves-requires : goal.put_curves-requires
-put_curves-requires g c = c.requires.shape
+pub put_flow-requires : goal.put_flow-requires
+put_flow-requires g c = c.requires.shape
 
 pub returns-in_err-put_head : goal.returns-in_err-put_head
 returns-in_err-put_head g c =
@@ -31,8 +31,8 @@ returns-in_err-put_head g c =
     gathered_failed first (second ++ third) (forever_lines c.args.net.now told) _ (right_first first second third ∙ whole c.args.net.now told) c.from_residual.ensures.0
     (same_gathered (head_lines f.flow.reached (option_copied c.as_ref.result)) first same c.in_err-put_head.ensures)
 
-pub returns-in_err-put_curves : goal.returns-in_err-put_curves
-returns-in_err-put_curves g c =
+pub returns-in_err-put_flow : goal.returns-in_err-put_flow
+returns-in_err-put_flow g c =
     let f = c.args.forever.now in
     let told = forever_in f in
     let first : List Line = head_lines f.flow.reached f.stopped in
@@ -40,8 +40,8 @@ returns-in_err-put_curves g c =
     let third : List Line = end_lines c.args.net.now told in
     let stop : option_copied c.as_ref.result ≡ f.stopped = cc (c.as_ref.ensures.value) in
     let same : head_lines f.flow.reached (option_copied c.as_ref.result) ≡ first = ap (head_lines f.flow.reached) stop in
-    gathered_then_failed first second third (forever_lines c.args.net.now told) _ (whole c.args.net.now told) c.from_residual-in_err-put_curves.ensures.0
-    (same_gathered (head_lines f.flow.reached (option_copied c.as_ref.result)) first same c.in_ok-put_head.ensures) c.in_err-put_curves.ensures
+    gathered_then_failed first second third (forever_lines c.args.net.now told) _ (whole c.args.net.now told) c.from_residual-in_err-put_flow.ensures.0
+    (same_gathered (head_lines f.flow.reached (option_copied c.as_ref.result)) first same c.in_ok-put_head.ensures) c.in_err-put_flow.ensures
 
 pub returns : goal.returns
 returns g c =
@@ -53,4 +53,4 @@ returns g c =
     let stop : option_copied c.as_ref.result ≡ f.stopped = cc (c.as_ref.ensures.value) in
     let same : head_lines f.flow.reached (option_copied c.as_ref.result) ≡ first = ap (head_lines f.flow.reached) stop in
     gathered_next (first ++ second) third (forever_lines c.args.net.now told) (whole c.args.net.now told)
-    (gathered_next first second (first ++ second) refl (same_gathered (head_lines f.flow.reached (option_copied c.as_ref.result)) first same c.in_ok-put_head.ensures) c.in_ok-put_curves.ensures) c.put_end.ensures
+    (gathered_next first second (first ++ second) refl (same_gathered (head_lines f.flow.reached (option_copied c.as_ref.result)) first same c.in_ok-put_head.ensures) c.in_ok-put_flow.ensures) c.put_end.ensures

@@ -1,22 +1,20 @@
-use Rattle.std.proofs.Common.{List, sym, subst, ◌∙◌}
+use Rattle.std.proofs.Common.{List, sym, subst}
 use Rattle.nf_rational.specs.Rational.{ℚ}
 use Rattle.nf_work.specs.declared.Part.TheVariants.{Load}
 use Rattle.nf_work.specs.Passing.{passes_Q}
-use Rattle.nf_model.specs.Curve.{IsCurve}
 use Rattle.nf_load_lists.specs.Cumulative.{checked_cumulative}
 use Rattle.nf_load_lists.specs.Meanings.{IsCumulative}
 use Rattle.nf_load_laws.proofs.Cumulative.{checked_cumulative-is}
 use Rattle.nf_curve.proofs.Exits.{was_ok}
 use Rattle.nf_load.proofs.amounts.cumulative.Goals as goal
 
-pub curve_of-requires : goal.curve_of-requires
-curve_of-requires c =
-    subst (λ (l : List (ℚ × ℚ)). IsCurve l) (sym c.deref.ensures.value)
+pub of_points-requires : goal.of_points-requires
+of_points-requires c =
     (checked_cumulative-is passes_Q c.args.pieces.now c.args.until c.requires.pieces c.requires.until c.in_ok-points.points.items
     (was_ok Load (checked_cumulative passes_Q c.args.pieces.now c.args.until) c.in_ok-points.points.items c.in_ok-points.ensures)).curve
 
 pub returns-clause-amount : goal.returns-clause-amount
 returns-clause-amount c =
-    subst (λ (l : List (ℚ × ℚ)). IsCumulative c.args.pieces.now c.args.until l) (sym (c.in_ok-curve.ensures ∙ c.deref.ensures.value))
+    subst (λ (l : List (ℚ × ℚ)). IsCumulative c.args.pieces.now c.args.until l) (sym c.of_points.ensures)
     (checked_cumulative-is passes_Q c.args.pieces.now c.args.until c.requires.pieces c.requires.until c.in_ok-points.points.items
     (was_ok Load (checked_cumulative passes_Q c.args.pieces.now c.args.until) c.in_ok-points.points.items c.in_ok-points.ensures))

@@ -23,37 +23,37 @@ use Rattle.nf_routes.proofs.next.next_entry.Goals as goal
 pub returns-in_err-sides-clause-list : goal.returns-in_err-sides-clause-list
 returns-in_err-sides-clause-list c =
     let p = err_from_is_err_and c.from_residual-in_err-sides.result c.from_residual-in_err-sides.ensures.1 in
-    let entered : c.deref.result.now ≡ c.args.entry.now.points = c.deref.ensures.value ∙ c.in_ok-entered.ensures.points in
-    let exits : c.deref-2.result.now ≡ c.args.exit.now.points = c.deref-2.ensures.value ∙ c.in_ok-exits.ensures.points in
+    let entered : c.as_points.result.now ≡ c.args.entry.now.points = c.as_points.ensures.points in
+    let exits : c.as_points-2.result.now ≡ c.args.exit.now.points = c.as_points-2.ensures.points in
     rw (p.1, p.2) (stops_on c.in_err-sides.field-0.0 (at_part Load (each (sides_at passes_Q c.args.entry.now.points c.args.exit.now.points) (both_times c.args.entry.now.points c.args.exit.now.points)))
     (at_part Load (next_entry passes_Q c.args.exit.now.points c.args.entry.now.points))
     (sides_stop passes_Q c.args.exit.now.points c.args.entry.now.points c.requires.exits c.requires.amount)
     (subst (λ (l : List Point). Stops (λ (q : ℚ). q) c.in_err-sides.field-0.0 (at_part Load (each (sides_at passes_Q l c.args.exit.now.points) (both_times l c.args.exit.now.points)))) entered
-    (subst (λ (l : List Point). Stops (λ (q : ℚ). q) c.in_err-sides.field-0.0 (at_part Load (each (sides_at passes_Q c.deref.result.now l) (both_times c.deref.result.now l)))) exits c.in_err-sides.ensures)))
+    (subst (λ (l : List Point). Stops (λ (q : ℚ). q) c.in_err-sides.field-0.0 (at_part Load (each (sides_at passes_Q c.as_points.result.now l) (both_times c.as_points.result.now l)))) exits c.in_err-sides.ensures)))
 
-pub curve_of-requires : goal.curve_of-requires
-curve_of-requires c =
-    let entered : c.deref.result.now ≡ c.args.entry.now.points = c.deref.ensures.value ∙ c.in_ok-entered.ensures.points in
-    let exits : c.deref-2.result.now ≡ c.args.exit.now.points = c.deref-2.ensures.value ∙ c.in_ok-exits.ensures.points in
+pub of_points-requires : goal.of_points-requires
+of_points-requires c =
+    let entered : c.as_points.result.now ≡ c.args.entry.now.points = c.as_points.ensures.points in
+    let exits : c.as_points-2.result.now ≡ c.args.exit.now.points = c.as_points-2.ensures.points in
     let sides : at_part Load (each (sides_at passes_Q c.args.entry.now.points c.args.exit.now.points) (both_times c.args.entry.now.points c.args.exit.now.points)) ≡ Ok (map sides_of c.in_ok-sides.sides.items) =
     ap (λ (l : List Point). at_part Load (each (sides_at passes_Q l c.args.exit.now.points) (both_times l c.args.exit.now.points))) (sym entered)
-    ∙ ap (λ (l : List Point). at_part Load (each (sides_at passes_Q c.deref.result.now l) (both_times c.deref.result.now l))) (sym exits) ∙ c.in_ok-sides.ensures in
-    let points : c.deref-4.result.now ≡ (0ℚ, 0ℚ) ∷ next_from 0ℚ (map sides_of c.in_ok-sides.sides.items) =
-    c.deref-4.ensures.value ∙ c.in_ok-points.ensures ∙ ap (λ (l : List Sides). (0ℚ, 0ℚ) ∷ next_from 0ℚ (map sides_of l)) c.deref-3.ensures.value in
+    ∙ ap (λ (l : List Point). at_part Load (each (sides_at passes_Q c.as_points.result.now l) (both_times c.as_points.result.now l))) (sym exits) ∙ c.in_ok-sides.ensures in
+    let points : c.in_ok-points.points.items ≡ (0ℚ, 0ℚ) ∷ next_from 0ℚ (map sides_of c.in_ok-sides.sides.items) =
+    c.in_ok-points.ensures ∙ ap (λ (l : List Sides). (0ℚ, 0ℚ) ∷ next_from 0ℚ (map sides_of l)) c.deref.ensures.value in
     subst (λ (l : List Point). IsCurve l) (sym points)
     (points_curve passes_Q c.args.exit.now.points c.args.entry.now.points c.requires.exits c.requires.amount (map sides_of c.in_ok-sides.sides.items)
     (was_ok Load (each (sides_at passes_Q c.args.entry.now.points c.args.exit.now.points) (both_times c.args.entry.now.points c.args.exit.now.points)) (map sides_of c.in_ok-sides.sides.items) sides))
 
 pub returns-clause-list : goal.returns-clause-list
 returns-clause-list c =
-    let entered : c.deref.result.now ≡ c.args.entry.now.points = c.deref.ensures.value ∙ c.in_ok-entered.ensures.points in
-    let exits : c.deref-2.result.now ≡ c.args.exit.now.points = c.deref-2.ensures.value ∙ c.in_ok-exits.ensures.points in
+    let entered : c.as_points.result.now ≡ c.args.entry.now.points = c.as_points.ensures.points in
+    let exits : c.as_points-2.result.now ≡ c.args.exit.now.points = c.as_points-2.ensures.points in
     let sides : at_part Load (each (sides_at passes_Q c.args.entry.now.points c.args.exit.now.points) (both_times c.args.entry.now.points c.args.exit.now.points)) ≡ Ok (map sides_of c.in_ok-sides.sides.items) =
     ap (λ (l : List Point). at_part Load (each (sides_at passes_Q l c.args.exit.now.points) (both_times l c.args.exit.now.points))) (sym entered)
-    ∙ ap (λ (l : List Point). at_part Load (each (sides_at passes_Q c.deref.result.now l) (both_times c.deref.result.now l))) (sym exits) ∙ c.in_ok-sides.ensures in
-    let curve : c.in_ok-curve.curve.points ≡ (0ℚ, 0ℚ) ∷ next_from 0ℚ (map sides_of c.in_ok-sides.sides.items) =
-    c.in_ok-curve.ensures ∙ c.deref-4.ensures.value ∙ c.in_ok-points.ensures ∙ ap (λ (l : List Sides). (0ℚ, 0ℚ) ∷ next_from 0ℚ (map sides_of l)) c.deref-3.ensures.value in
-    let whole : at_part Load (next_entry passes_Q c.args.exit.now.points c.args.entry.now.points) ≡ at_part Load (checked_short passes_Q c.in_ok-curve.curve.points) =
+    ∙ ap (λ (l : List Point). at_part Load (each (sides_at passes_Q c.as_points.result.now l) (both_times c.as_points.result.now l))) (sym exits) ∙ c.in_ok-sides.ensures in
+    let curve : c.of_points-curve.result.points ≡ (0ℚ, 0ℚ) ∷ next_from 0ℚ (map sides_of c.in_ok-sides.sides.items) =
+    c.of_points-curve.ensures ∙ c.in_ok-points.ensures ∙ ap (λ (l : List Sides). (0ℚ, 0ℚ) ∷ next_from 0ℚ (map sides_of l)) c.deref.ensures.value in
+    let whole : at_part Load (next_entry passes_Q c.args.exit.now.points c.args.entry.now.points) ≡ at_part Load (checked_short passes_Q c.of_points-curve.result.points) =
     sides_go passes_Q c.args.exit.now.points c.args.entry.now.points c.requires.exits c.requires.amount (map sides_of c.in_ok-sides.sides.items) sides
     ∙ ap (λ (l : List Point). at_part Load (checked_short passes_Q l)) (sym curve) in
     rw whole c.short.ensures.list

@@ -3,9 +3,8 @@ use Rattle.std.proofs.lemmas.List.{length-map}
 use Rattle.nf_formats.specs.Report.{for_each, label_lines, link_lines}
 use Rattle.nf_curve.specs.Flows.{flow_of, trace_of}
 use Rattle.nf_report.specs.Written.{Line, never_lines}
-use Rattle.nf_report.proofs.Gathering.{gathered_next, gathered_failed, gathered_then_failed}
-use Rattle.nf_forever.proofs.Joined.{right_first}
-use Rattle.nf_forever.proofs.text.put_curves.Goals as goal
+use Rattle.nf_report.proofs.Gathering.{gathered_next, gathered_failed, gathered_then_failed, right_first}
+use Rattle.nf_report.proofs.report.put_flow.Goals as goal
 
 pub put_labels-requires : goal.put_labels-requires
 put_labels-requires g c = sym (length-map c.args.flow.now.labels.items _) ∙ c.requires.labels.count
