@@ -21,7 +21,8 @@ use Rattle.nf_frac.specs.Order.{same_ℚ}
 pub ranks_ℚ : (x y : ℚ) → MatchOrdering (cmp_ℚ x y) (x <ℚ y) (x ≡ y) (y <ℚ x)
 ranks_ℚ x y = go (cmp_ℚ x y) (int_ranks (x.num *ℤ pos y.den) (y.num *ℤ pos x.den))
   where
-    go : (r : Ordering) → MatchOrdering r ((x.num *ℤ pos y.den) <ℤ (y.num *ℤ pos x.den)) (x.num *ℤ pos y.den ≡ y.num *ℤ pos x.den) ((y.num *ℤ pos x.den) <ℤ (x.num *ℤ pos y.den))
+    go : (r : Ordering) → MatchOrdering r ((x.num *ℤ pos y.den) <ℤ (y.num *ℤ pos x.den)) (x.num *ℤ pos y.den ≡ y.num *ℤ pos x.den)
+        ((y.num *ℤ pos x.den) <ℤ (x.num *ℤ pos y.den))
         → MatchOrdering r (x <ℚ y) (x ≡ y) (y <ℚ x)
     go Less h = record { lt = h }
     go Equal h = same_cross x y h
@@ -40,8 +41,10 @@ both_true false b e = cc
 
 pub same_decides : (x y : ℚ) → Decides (same_ℚ x y) (x ≡ y)
 same_decides x y = (
-  λ e. let h = both_true (int_eq x.num y.num) (eqb x.den y.den) e in same_parts x y ((signed_Decides x.num y.num).0 h.0) ((unsigned_Decides x.den y.den).0 h.1),
-  λ e. ap₂ (λ (a b : Bool). a && b) ((signed_Decides x.num y.num).1 (ap (λ (q : ℚ). q.num) e)) ((unsigned_Decides x.den y.den).1 (ap (λ (q : ℚ). q.den) e)),
+  λ e. let h = both_true (int_eq x.num y.num) (eqb x.den y.den) e in
+      same_parts x y ((signed_Decides x.num y.num).0 h.0) ((unsigned_Decides x.den y.den).0 h.1),
+  λ e. ap₂ (λ (a b : Bool). a && b) ((signed_Decides x.num y.num).1 (ap (λ (q : ℚ). q.num) e))
+      ((unsigned_Decides x.den y.den).1 (ap (λ (q : ℚ). q.den) e)),
 )
 
 level_decides : (x y : ℚ) → Decides (is_eq (cmp_ℚ x y)) (x ≡ y)
@@ -96,7 +99,8 @@ same_small_input x y e = ap (λ (q : ℚ). fed.i64 q.num ++ fed.u64 q.den) e
 pub cmp_is : (x y : ℚ) (r : Ordering) → MatchOrdering r (x <ℚ y) (x ≡ y) (y <ℚ x) → r ≡ cmp_ℚ x y
 cmp_is x y r h = one_rank ◌<ℚ◌ <ℚ_irrefl <ℚ_chain x y r (cmp_ℚ x y) h (ranks_ℚ x y)
 
-keeps : (x y s t : ℚ) (r : Ordering) → MatchOrdering r (x <ℚ y) (x ≡ y) (y <ℚ x) → (x <ℚ y → s <ℚ t) → (x ≡ y → s ≡ t) → (y <ℚ x → t <ℚ s) → MatchOrdering r (s <ℚ t) (s ≡ t) (t <ℚ s)
+keeps : (x y s t : ℚ) (r : Ordering) → MatchOrdering r (x <ℚ y) (x ≡ y) (y <ℚ x) → (x <ℚ y → s <ℚ t) → (x ≡ y → s ≡ t) → (y <ℚ x → t <ℚ s)
+    → MatchOrdering r (s <ℚ t) (s ≡ t) (t <ℚ s)
 keeps x y s t Less h f g k = f h
 keeps x y s t Equal h f g k = g h
 keeps x y s t Greater h f g k = k h
@@ -106,7 +110,8 @@ sum_up x y z s t e f h = linear_lt (x ∷ y ∷ z ∷ s ∷ t ∷ []) (lt h ∷ 
 
 pub sum_keeps_cmp : (x y z s t : ℚ) → s ≡ x +ℚ z → t ≡ y +ℚ z → cmp_ℚ s t ≡ cmp_ℚ x y
 sum_keeps_cmp x y z s t e f =
-    sym (cmp_is s t (cmp_ℚ x y) (keeps x y s t (cmp_ℚ x y) (ranks_ℚ x y) (sum_up x y z s t e f) (λ h. e ∙ ap (λ (q : ℚ). q +ℚ z) h ∙ sym f) (sum_up y x z t s f e)))
+    sym (cmp_is s t (cmp_ℚ x y)
+        (keeps x y s t (cmp_ℚ x y) (ranks_ℚ x y) (sum_up x y z s t e f) (λ h. e ∙ ap (λ (q : ℚ). q +ℚ z) h ∙ sym f) (sum_up y x z t s f e)))
 
 product_up : (x y k s t : ℚ) → 0ℚ <ℚ k → s ≡ x *ℚ k → t ≡ y *ℚ k → x <ℚ y → s <ℚ t
 product_up x y k s t p e f h =
@@ -115,4 +120,5 @@ product_up x y k s t p e f h =
 
 pub product_keeps_cmp : (x y k s t : ℚ) → 0ℚ <ℚ k → s ≡ x *ℚ k → t ≡ y *ℚ k → cmp_ℚ s t ≡ cmp_ℚ x y
 product_keeps_cmp x y k s t p e f =
-    sym (cmp_is s t (cmp_ℚ x y) (keeps x y s t (cmp_ℚ x y) (ranks_ℚ x y) (product_up x y k s t p e f) (λ h. e ∙ ap (λ (q : ℚ). q *ℚ k) h ∙ sym f) (product_up y x k t s p f e)))
+    sym (cmp_is s t (cmp_ℚ x y) (keeps x y s t (cmp_ℚ x y) (ranks_ℚ x y) (product_up x y k s t p e f)
+        (λ h. e ∙ ap (λ (q : ℚ). q *ℚ k) h ∙ sym f) (product_up y x k t s p f e)))

@@ -56,9 +56,11 @@ pub trait Scalar: Copy + Eq + Ord + Hash {
     ghost ordered_by_meaning: { (x y : Self) → Self.cmp x y ≡ cmp_ℚ (means x) (means y) };
 
     // A sum keeps the order, and so does a product with a positive value.
-    ghost sums_keep_order: { (x y z s t : Self) → means s ≡ means x +ℚ means z → means t ≡ means y +ℚ means z → Self.cmp s t ≡ Self.cmp x y };
+    ghost sums_keep_order: { (x y z s t : Self) → means s ≡ means x +ℚ means z → means t ≡ means y +ℚ means z
+        → Self.cmp s t ≡ Self.cmp x y };
 
-    ghost products_keep_order: { (x y k s t : Self) → 0ℚ <ℚ means k → means s ≡ means x *ℚ means k → means t ≡ means y *ℚ means k → Self.cmp s t ≡ Self.cmp x y };
+    ghost products_keep_order: { (x y k s t : Self) → 0ℚ <ℚ means k → means s ≡ means x *ℚ means k → means t ≡ means y *ℚ means k
+        → Self.cmp s t ≡ Self.cmp x y };
 
     // Equal values hash equally.
     ghost equal_hash: { (x y : Self) → means x ≡ means y → Self.hash_input x ≡ Self.hash_input y };

@@ -31,7 +31,8 @@ pub gcd_pos : (a d : ℕ) → 0 < d → 0 < gcd a d
 gcd_pos a d some = pos_of_dvd_of_pos (IsGcd-gcd a d).1 some
 
 pub part_pos : (a d : ℕ) → 0 < d → 0 < d / gcd a d
-part_pos a d some = pos_of_dvd_of_pos {m = d / gcd a d} {n = d} (subst (λ (k : ℕ). d / gcd a d ∣ k) (div-mul_cancel (gcd a d) (IsGcd-gcd a d).1) (dvd-mul_right (d / gcd a d) (gcd a d))) some
+part_pos a d some = pos_of_dvd_of_pos {m = d / gcd a d} {n = d}
+    (subst (λ (k : ℕ). d / gcd a d ∣ k) (div-mul_cancel (gcd a d) (IsGcd-gcd a d).1) (dvd-mul_right (d / gcd a d) (gcd a d))) some
 
 abs_neg : (k : ℕ) → nat_abs (neg_ℤ (pos k)) ≡ k
 abs_neg zero = refl
@@ -48,7 +49,8 @@ parts_reduced a d some =
     (subst (λ (m : ℕ). IsGcd a m (gcd a d)) (sym (mul-div_cancel' (gcd a d) (IsGcd-gcd a d).1)) (IsGcd-gcd a d)))
 
 pub ratio_reduced : (n : ℤ) (d : ℕ) → 0 < d → gcd (nat_abs (quot_z n (pos (gcd (nat_abs n) d)))) (d / gcd (nat_abs n) d) ≡ 1
-ratio_reduced n d some = subst (λ (m : ℕ). gcd m (d / gcd (nat_abs n) d) ≡ 1) (sym (abs_quot n (gcd (nat_abs n) d))) (parts_reduced (nat_abs n) d some)
+ratio_reduced n d some = subst (λ (m : ℕ). gcd m (d / gcd (nat_abs n) d) ≡ 1) (sym (abs_quot n (gcd (nat_abs n) d)))
+    (parts_reduced (nat_abs n) d some)
 
 pub suc_pos : (e : ℕ) → 0 < suc e
 suc_pos e = omega arith

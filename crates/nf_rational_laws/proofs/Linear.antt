@@ -175,9 +175,9 @@ is_one [] = true
 is_one (i ∷ m) = false
 
 -- the first product of atoms that stands in a line
-pub data Found : Type 0 where
-  nothing : Found
-  found : List ℕ → Found
+pub data FoundProduct : Type 0 where
+  nothing : FoundProduct
+  found : List ℕ → FoundProduct
 
 abbrev pub times_all : ℤ → List ℤ → List ℤ
 times_all a [] = []
@@ -278,11 +278,11 @@ has_eq m (l ∷ ls) = is_eq_with m l || has_eq m ls
 abbrev pub score : List Line → List ℕ → ℕ
 score ls m = cond (has_eq m ls) 0 (count_above m ls * count_below m ls)
 
-abbrev pub best : List Line → List (List ℕ) → ℕ → Found → Found
+abbrev pub best : List Line → List (List ℕ) → ℕ → FoundProduct → FoundProduct
 best ls [] k o = o
 best ls (m ∷ ms) k o = let s = score ls m in cond (ltb s k) (best ls ms s (found m)) (best ls ms k o)
 
-abbrev pub chosen : List Line → Found
+abbrev pub chosen : List Line → FoundProduct
 chosen ls = best ls (collect ls []) 1000000 nothing
 
 abbrev pub eliminate : ℕ → List Line → List Line

@@ -15,4 +15,5 @@ pub record ReadingsAgree : Type 0 where
 
 pub record FirstPassingIsAnswered : Type 0 where
   pub passed : (passes : Passing) (w : Work ℚ) (p : Passed ℚ) → (outcome passes w ≡ Err p) ↔ IsFirstPassing passes w.operations p
-  pub value : (passes : Passing) (w : Work ℚ) (x : ℚ) → (outcome passes w ≡ Ok x) ↔ (AllByRecursion (λ q. does_pass passes q ≡ false) w.operations × (x ≡ w.value))
+  pub value : (passes : Passing) (w : Work ℚ) (x : ℚ)
+      → (outcome passes w ≡ Ok x) ↔ (AllByRecursion (λ q. does_pass passes q ≡ false) w.operations × (x ≡ w.value))
