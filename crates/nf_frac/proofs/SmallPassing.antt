@@ -28,7 +28,6 @@ module _ (b : ℕ) (x y : ℚ) (pair : ℚ × ℚ) (h : AreSmall b x y pair) whe
   )
 
   module _ (some : y ≢ 0ℚ) where
-
     pub small_quotient : (q n : ℚ) → q ≡ pair.0 *ℚ n → n ≡ inv_ℚ pair.1 → IsWithin b (x *ℚ inv_ℚ y) × (q ≡ x *ℚ inv_ℚ y)
     small_quotient q n e f = (
       subst (λ (k : ℕ). IsWithin k (x *ℚ inv_ℚ y)) (sym h.widest) (product_fits x (inv_ℚ y) h.left_small (inv_within short y some h.right_small)),

@@ -99,7 +99,6 @@ module _ (x y : ℚ) (xw : IsWithin short x) (yw : IsWithin short y) (d e g l r 
 
   module _ (s rest f den : ℕ) (q : ℤ) (size : s ≡ nat_abs (bits_of (bits_of a +ℤ bits_of b))) (over : rest ≡ gcd s g)
       (above : q ≡ quot_z (bits_of (bits_of a +ℤ bits_of b)) (pos rest)) (part : f ≡ d / rest) (below : den ≡ f * l) where
-
     size_is : s ≡ nat_abs (sum_over x y)
     size_is = size ∙ ap nat_abs total_plain
 

@@ -111,7 +111,7 @@ sum_up x y z s t e f h = linear_lt (x ∷ y ∷ z ∷ s ∷ t ∷ []) (lt h ∷ 
 pub sum_keeps_cmp : (x y z s t : ℚ) → s ≡ x +ℚ z → t ≡ y +ℚ z → cmp_ℚ s t ≡ cmp_ℚ x y
 sum_keeps_cmp x y z s t e f =
     sym (cmp_is s t (cmp_ℚ x y)
-        (keeps x y s t (cmp_ℚ x y) (ranks_ℚ x y) (sum_up x y z s t e f) (λ h. e ∙ ap (λ (q : ℚ). q +ℚ z) h ∙ sym f) (sum_up y x z t s f e)))
+    (keeps x y s t (cmp_ℚ x y) (ranks_ℚ x y) (sum_up x y z s t e f) (λ h. e ∙ ap (λ (q : ℚ). q +ℚ z) h ∙ sym f) (sum_up y x z t s f e)))
 
 product_up : (x y k s t : ℚ) → 0ℚ <ℚ k → s ≡ x *ℚ k → t ≡ y *ℚ k → x <ℚ y → s <ℚ t
 product_up x y k s t p e f h =
@@ -121,4 +121,4 @@ product_up x y k s t p e f h =
 pub product_keeps_cmp : (x y k s t : ℚ) → 0ℚ <ℚ k → s ≡ x *ℚ k → t ≡ y *ℚ k → cmp_ℚ s t ≡ cmp_ℚ x y
 product_keeps_cmp x y k s t p e f =
     sym (cmp_is s t (cmp_ℚ x y) (keeps x y s t (cmp_ℚ x y) (ranks_ℚ x y) (product_up x y k s t p e f)
-        (λ h. e ∙ ap (λ (q : ℚ). q *ℚ k) h ∙ sym f) (product_up y x k t s p f e)))
+    (λ h. e ∙ ap (λ (q : ℚ). q *ℚ k) h ∙ sym f) (product_up y x k t s p f e)))

@@ -32,7 +32,7 @@ sum_is_wide bound x y =
     let left = x.num *ℤ pos (y.den / common) in
     let right = y.num *ℤ pos (x.den / common) in
     nat_lt bound (x.den * (y.den / common))
-        || (nat_lt bound (nat_abs left) || (nat_lt bound (nat_abs right) || nat_lt bound (nat_abs (left +ℤ right))))
+    || (nat_lt bound (nat_abs left) || (nat_lt bound (nat_abs right) || nat_lt bound (nat_abs (left +ℤ right))))
 
 -- opaque, so that proofs above speak of it by its name
 unfoldable pub beyond : ℕ → Op → ℚ → ℚ → Bool
