@@ -54,13 +54,6 @@ rise_rest p [] s = tt
 rise_rest p (q ∷ rest) s = s.1
 
 -- ---- the end of a piece
-end_up_to : (later : List Piece) (last : ℚ) → end_of later last ≤ℚ last
-end_up_to [] last = ≤ℚ_refl last
-end_up_to (next ∷ later) last = ⊎_elim
-    (λ (w : (min_ℚ next.start last ≡ next.start) × (next.start ≤ℚ last)). subst (λ (x : ℚ). x ≤ℚ last) (sym w.0) w.1)
-    (λ (w : (min_ℚ next.start last ≡ last) × (last <ℚ next.start)). ≤ℚ_of_same _ _ w.0)
-    (min_ℚ_cases next.start last)
-
 end_next : (later : List Piece) (last : ℚ) → NextFrom later (end_of later last)
 end_next [] last = tt
 end_next (next ∷ later) last = ⊎_elim
@@ -181,9 +174,6 @@ follows-values_rise f last p (q ∷ rest) n rises (goes k e h line later) = (
 )
 
 module _ (passes : Passing) (pieces : List Piece) (last : ℚ) (good : ArePieces pieces) (from_0 : 0ℚ ≤ℚ last) where
-  amount : ℚ → ℚ
-  amount t = supplied pieces t
-
   begins_0 : supplied pieces 0ℚ ≡ 0ℚ
   begins_0 = supplied-begins pieces good
 

@@ -18,7 +18,7 @@ use Rattle.nf_model.specs.Phases.{IsExtension, IsUnending, IsPhaseLength}
 use Rattle.nf_model_laws.proofs.OneValue.{IsExtension-unique, IsExtension-ends}
 use Rattle.nf_model_laws.proofs.Affine.{<_≤_trans}
 use Rattle.nf_formats.specs.declared.Cause.{Cause}
-use Rattle.nf_lists.specs.PhaseRun.{Standing, Bounds, Goes, Fails, at_slack, at_search, at_lists, Runs, at_horizon, at_phases, fails, goes, standing_after}
+use Rattle.nf_lists.specs.PhaseRun.{Standing, Bounds, Goes, Runs, at_horizon, at_phases, fails, goes, standing_after}
 use Rattle.nf_phase_laws.proofs.Length.{IsPhase-some, IsPhaseLength-some}
 use Rattle.nf_run_laws.proofs.WellRun.{WellRun}
 use Rattle.nf_run_laws.proofs.Run.{WellRun-goes, IsPhase-goes}
@@ -78,11 +78,6 @@ module _ (passes : Passing) (net : Network) (good : IsNetwork net) where
       let is = g.finds.search.is_search in
       let listed : IsListedIn net (sets_at net s.labels) g.pattern = is.is_listing.listed g.place g.pattern is.answers.has_place in
       ap (λ (w : Standing). length w.last) g.new_is ∙ listed.states.count ∙ length-sets net s.labels
-
-  pub fails-below : (a : Bounds) (s : Standing) (c : Cause ℚ) → Fails passes net a.horizon a.patterns s c → s.time <ℚ a.horizon
-  fails-below a s c (at_slack p below e) = below
-  fails-below a s c (at_search x d k e) = k.below
-  fails-below a s c (at_lists q p f l r k e) = k.below
 
   pub later-goes : (a : Bounds) (s t : Standing) → Goes passes net a.horizon a.patterns s t → WellRun net s → s.time <ℚ t.time
   later-goes a s t g well = IsPhase-some net a.horizon (s.time, s.labels) (t.time, t.labels) (IsPhase-goes passes net good a s t g well)
