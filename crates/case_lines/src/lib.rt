@@ -15,6 +15,6 @@ mod words;
 
 pub use case::{Case, read_cases};
 pub use line::add_line;
-pub use network::{link_name, network_of};
+pub use network::network_of;
 pub use shown::{Shown, as_text, op_word, tell_passed};
 pub use words::{not_negative, numbers};

@@ -3,7 +3,7 @@ ghost use Rattle.std.specs.Prelude.{◌≤◌, length};
 ghost use Rattle.nf_lines.specs.Faults.{longest_text};
 
 use crate::case::Case;
-use nf_net::{LONGEST_FILE, LinkId, NetFault, Network, parse};
+use nf_net::{LONGEST_FILE, NetFault, Network, parse};
 use std::io;
 
 /// Prints the title of a case, and gives the network of its file; where there is none, prints why.
@@ -19,13 +19,4 @@ pub fn network_of<R: Print + AllocGlobal>(rt: &R, case: &Case) -> io::Result<Opt
         Err(NetFault::Memory) => println!(rt; "memory is wanting")?,
     }
     Ok(None)
-}
-
-/// The name of a link; `?` where there is none of this number.
-pub fn link_name(net: &Network, link: LinkId) -> &str {
-    if link.0 < net.link_count() {
-        net.link_name(link)
-    } else {
-        "?"
-    }
 }

@@ -11,11 +11,10 @@ use Rattle.nf_work.specs.Checked.{at_part}
 use Rattle.nf_work.specs.declared.Part.TheVariants.{Slack}
 use Rattle.nf_model.specs.Entries.{Has}
 use Rattle.nf_model.specs.Walk.{Hop}
-use Rattle.nf_model.specs.Network.{Link, Network, IsLink, IsNetwork, hops, unbounded}
-use Rattle.nf_model.specs.ThinFlow.{Sets, sets_of, sets_at, slacks_of, Enters}
+use Rattle.nf_model.specs.Network.{Link, Network, IsNetwork, hops, unbounded}
+use Rattle.nf_model.specs.ThinFlow.{Sets, sets_of, sets_at, slacks_of}
 use Rattle.nf_lists.specs.Slack.{slack_list}
 use Rattle.nf_lists_laws.proofs.Exact.{slacks_exact}
-use Rattle.nf_model_laws.proofs.Networks.{IsLink-unique}
 use Rattle.nf_plain_laws.proofs.Entries.{slice_get-image}
 use Rattle.nf_thin_laws.specs.ActiveLinks.{HoldNoCycle, AreSets}
 use Rattle.nf_thin_laws.proofs.ActiveLinks.{AreSets-sets_at, HoldNoCycle-sets_at}
@@ -27,10 +26,6 @@ use Rattle.nf_lists_laws.proofs.Numbered.{part_ok}
 -- a link is one of those before the end
 pub is_among : (net : Network) (e : ℕ) → Has (unbounded net) e → e < length net.links
 is_among net e u = let w = slice_get_within (unbounded net) e true u in let n = length-map net.links (λ (l : Link). is_none l.capacity) in omega arith
-
--- what leads into the source is no link that doesn't
-pub not_into : (net : Network) (sets : Sets) (e : ℕ) (link here : Link) → IsLink net e link → Enters net sets net.source e here → link.head ≡ net.source
-not_into net sets e link here p n = ap (λ (l : Link). l.head) (IsLink-unique net e link here p n.is_link) ∙ n.head
 
 pub sets_are : (net : Network) (given : List Hop) (labels slacks read : List ℚ) (sets : Sets) → given ≡ hops net → at_part Slack (slack_list passes_Q given labels) ≡ Ok slacks → read ≡ slacks → sets ≡ sets_of read
     → sets ≡ sets_at net labels

@@ -20,7 +20,7 @@ pub struct Fields<'a> {
 }
 
 impl<'a> Fields<'a> {
-    /// Those of a line.
+    /// The fields of a line.
     pub fn of(line: &'a str) -> Fields<'a> {
         let mut fields = line.split('|');
         let asked = fields.next().unwrap_or("");

@@ -69,7 +69,7 @@ fn made_sets(alloc: Global, net: &Network, labels: &[Q]) -> Option<LinkSets>
     }
 }
 
-/// The same, where they are as the test of a thin flow asks.
+/// The sets of the slacks at these labels, where they are as the test of a thin flow asks.
 pub fn fit_sets(alloc: Global, net: &Network, labels: &[Q]) -> Option<LinkSets>
     ensures good { IfSome result (λ sets. AreGoodSets net.now.net sets) }
     ensures source { IfSome result (λ sets. NoneEntersSource net.now.net sets) }

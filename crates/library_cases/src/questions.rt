@@ -173,7 +173,7 @@ fn tell_conserves_at(
     print!(rt; "{}", can_conserve(net, sets, rate, &full, pattern))
 }
 
-/// The same, with the slopes of these words.
+/// Prints whether flow can be conserved at the nodes, with the slopes of these words.
 pub fn tell_conserves(
     rt: &HostRuntime,
     net: &Network,

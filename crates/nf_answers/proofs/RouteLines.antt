@@ -8,7 +8,6 @@ use Rattle.nf_load_lists.specs.Loading.{Loaded}
 use Rattle.nf_load.specs.declared.loading.Loaded.{Loaded as CodeLoaded}
 use Rattle.nf_load.specs.Loadings.{loaded_of}
 use Rattle.nf_readings.specs.Texts.{loaded_lines}
-use Rattle.nf_report.specs.Written.{Line}
 use Rattle.nf_routes_lists.specs.RoutesList.{Routed}
 use Rattle.nf_routes_lists.specs.Meanings.{link_loaded}
 use Rattle.nf_routes_lists.specs.RoutesText.{link_curve_lines}

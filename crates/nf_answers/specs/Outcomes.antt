@@ -78,6 +78,3 @@ answer_in outcome = answer_with outcome.net outcome.found
 
 abbrev pub HasText : Outcome → Type 0
 HasText outcome = HasTextWith outcome.net outcome.found
-
-abbrev pub text_in : Outcome → List ℕ
-text_in outcome = text_with outcome.net outcome.found

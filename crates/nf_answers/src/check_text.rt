@@ -86,7 +86,7 @@ fn write_broken_rule<O: Sink>(
 }
 
 /// Writes the line of a verdict: `yes`, or `no` with the first rule that is broken, by which node or link, the time, and the two
-/// values that differ there. Where the sink fails, it has taken the first bytes. It takes no memory.
+/// values that differ there. Where the sink fails, it has taken the first bytes, and not all of them. It takes no memory.
 pub fn write_verdict<O: Sink>(out: &mut O, net: &Network, verdict: &Answer) -> Result<(), SinkFault>
     ensures { Wrote (O.took out.old) (O.took out.new) (O.faults out.old) (O.faults out.new) (answer_text net.now verdict.now) result }
 {

@@ -93,7 +93,7 @@ fn write_end<O: Sink>(out: &mut O, stop: Option<&Stop>, arrival: Q) -> Result<()
 
 /// Writes the summary of a run in a ladder: its number and its rungs, how large the network is, how many phases were made,
 /// the departure that was reached, why the run ended, and the arrival at the sink of who departs last, a time. Where the sink fails, it has
-/// taken the first bytes. It takes no memory.
+/// taken the first bytes, and not all of them. It takes no memory.
 pub fn write_summary<O: Sink>(
     out: &mut O,
     net: &Network,

@@ -60,7 +60,7 @@ pub(crate) fn write_links<O: Sink>(
 }
 
 /// Writes the loadings of the links of a network up to a horizon, a time: of each link its queue, its outflow and its exits. Where the sink
-/// fails, it has taken the first bytes. It takes no memory.
+/// fails, it has taken the first bytes, and not all of them. It takes no memory.
 pub fn write_loads<O: Sink>(
     out: &mut O,
     net: &Network,

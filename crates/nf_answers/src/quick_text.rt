@@ -95,7 +95,7 @@ pub fn flow_text(alloc: Global, net: &Network, quick: &Quick) -> Result<Vec<u8>,
     Ok(text)
 }
 
-/// Writes the line of the arrival. Where the sink fails, it has taken the first bytes. It takes no memory.
+/// Writes the line of the arrival. Where the sink fails, it has taken the first bytes, and not all of them. It takes no memory.
 pub fn write_arrival<O: Sink>(out: &mut O, arrival: &Arrival) -> Result<(), SinkFault>
     ensures { Wrote (O.took out.old) (O.took out.new) (O.faults out.old) (O.faults out.new) (arrival_text arrival.now) result }
 {

@@ -45,7 +45,7 @@ fn write_routes<O: Sink>(out: &mut O, routes: &Routes, routed: &Routed) -> Resul
 }
 
 /// Writes what is loaded by route up to a horizon, a time: of each link its queue, its outflow and its exits, of each route its arrivals and
-/// its travels. Where the sink fails, it has taken the first bytes. It takes no memory.
+/// its travels. Where the sink fails, it has taken the first bytes, and not all of them. It takes no memory.
 pub fn write_routed<O: Sink>(
     out: &mut O,
     net: &Network,

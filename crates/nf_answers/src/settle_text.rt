@@ -66,7 +66,7 @@ fn put_settled<O: Sink>(
 }
 
 /// Writes what a thin flow is settled to: the states of the links that have one, and the flows of all links, which are rates. Where the sink
-/// fails, it has taken the first bytes. It takes no memory.
+/// fails, it has taken the first bytes, and not all of them. It takes no memory.
 pub fn write_settled<O: Sink>(
     out: &mut O,
     net: &Network,

@@ -185,7 +185,8 @@ fn write_passed<E: Sink>(err: &mut E, at: &PassedAt<Q>) -> Result<(), SinkFault>
     write_passed_call(err, b"stopped:", at)
 }
 
-/// Writes why there is nothing on the output. Where the sink fails, it has taken the first bytes. It takes no memory.
+/// Writes why there is nothing on the output. Where the sink fails, it has taken the first bytes, and not all of them.
+/// It takes no memory.
 pub fn write_refusal<E: Sink>(err: &mut E, refusal: &Refusal) -> Result<(), SinkFault>
     ensures { Wrote (E.took err.old) (E.took err.new) (E.faults err.old) (E.faults err.new)
         (err_text (answer_of refusal.now)) result }
@@ -217,7 +218,7 @@ pub fn write_refusal<E: Sink>(err: &mut E, refusal: &Refusal) -> Result<(), Sink
     }
 }
 
-/// Writes why a run stopped. Where the sink fails, it has taken the first bytes. It takes no memory.
+/// Writes why a run stopped. Where the sink fails, it has taken the first bytes, and not all of them. It takes no memory.
 pub fn write_stopped<E: Sink>(err: &mut E, stop: &Stop) -> Result<(), SinkFault>
     ensures { Wrote (E.took err.old) (E.took err.new) (E.faults err.old) (E.faults err.new)
         (stopped_line stop.now) result }
@@ -226,7 +227,8 @@ pub fn write_stopped<E: Sink>(err: &mut E, stop: &Stop) -> Result<(), SinkFault>
     write_stop(err, b"stopped:", stop)
 }
 
-/// Writes how many walks were pushed, as many as allowed. Where the sink fails, it has taken the first bytes. It takes no memory.
+/// Writes how many walks were pushed, as many as allowed. Where the sink fails, it has taken the first bytes, and not all of them.
+/// It takes no memory.
 pub fn write_over_budget<E: Sink>(err: &mut E, augments: u64) -> Result<(), SinkFault>
     ensures { Wrote (E.took err.old) (E.took err.new) (E.faults err.old) (E.faults err.new)
         (augments_line augments) result }

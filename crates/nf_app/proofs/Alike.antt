@@ -26,7 +26,7 @@ use Rattle.nf_app.specs.CheckGiven.{IsChecked}
 use Rattle.nf_app.specs.QuickGiven.{arrival_of, ArrivesIn, IsArrival}
 use Rattle.nf_app.specs.ForeverGiven.{IsUnending}
 use Rattle.nf_app.specs.Given.{IsGiven}
-use Rattle.nf_app.specs.Runs.{Call, Asks, IsRefused, IsAnswer}
+use Rattle.nf_app.specs.Runs.{Call, Asks, IsRefused}
 use Rattle.nf_app.specs.Uniqueness.{SameForever, SameIfYes, SameArrival, IsSameInAll, AnswerIsSameInAll}
 
 -- ---- a run without a horizon

@@ -20,9 +20,9 @@ use Rattle.nf_loads_file.specs.Files.{IfBroken}
 use Rattle.nf_answers.specs.declared.refusal.Refusal.{Refusal}
 use Rattle.nf_outside.specs.Files.{Visit, loads_file}
 use Rattle.nf_command_line.specs.Requests.{Load}
-use Rattle.nf_answers.specs.Answers.{Loaded, MalformedLoads, Passes}
+use Rattle.nf_answers.specs.Answers.{Loaded}
 use Rattle.nf_answers.specs.Refusals.{answer_of, refusal_of_loads, refusal_of_halt}
-use Rattle.nf_app.specs.Given.{LoadsRead, loading_list, IsLoading, IsGiven}
+use Rattle.nf_app.specs.Given.{LoadsRead, loading_list, IsGiven}
 use Rattle.nf_outside.specs.Fetching.{IsLastText}
 
 module _ (shelf : Visit) (n : Named) (file name : List ℕ) (horizon : ℚ) (text : List ℕ) (last : IsLastText shelf (loads_file name) text) where

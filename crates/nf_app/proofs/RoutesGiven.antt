@@ -1,6 +1,6 @@
 -- What a request to load a network by route gives, from what was read of its routes file and what its list computes.
 use Rattle.std.proofs.Common.{◌≡◌, ◌⊎◌, ℕ, List, length, refl, sym, ◌∙◌, inl, inr}
-use Rattle.std.specs.Prelude.{Result, Ok, Err, map}
+use Rattle.std.specs.Prelude.{Result, Ok, Err}
 use Rattle.std.proofs.lemmas.List.{length-map}
 use Rattle.nf_rational.specs.Rational.{ℚ}
 use Rattle.nf_work.specs.declared.Halt.{Halt}

@@ -1,6 +1,6 @@
 -- What settling at departure 0 answers, from what its calls answer.
-use Rattle.std.proofs.Common.{◌≡◌, ℕ, List, Bool, true, false, refl, sym, ap, subst, ◌∙◌}
-use Rattle.std.specs.Prelude.{Option, Some, None, Result, Ok, Err, IsOk, is_ok, MatchBool}
+use Rattle.std.proofs.Common.{◌≡◌, List, Bool, true, false, refl, sym, ap, subst, ◌∙◌}
+use Rattle.std.specs.Prelude.{Some, None, Result, Ok, Err, IsOk, is_ok, MatchBool}
 use Rattle.nf_rational.specs.Rational.{ℚ}
 use Rattle.nf_rational.specs.Operations.{0ℚ}
 use Rattle.nf_rational.specs.Order.{◌≤ℚ◌}
@@ -22,12 +22,12 @@ use Rattle.nf_curve.proofs.Exits.{was_ok}
 use Rattle.nf_thin_laws.specs.ActiveLinks.{NoneEntersSource}
 use Rattle.nf_complete_lists.specs.Cancelling.{Settles}
 use Rattle.nf_complete_lists.specs.SettledPattern.{IsSettledPattern}
-use Rattle.nf_complete_lists.specs.ThinList.{Sums, thin_list}
+use Rattle.nf_complete_lists.specs.ThinList.{thin_list}
 use Rattle.nf_complete_lists.specs.FlowsFile.{GivenFlows}
 use Rattle.nf_complete_laws.specs.SettleLaws.{AreGoodSets}
 use Rattle.nf_complete.specs.declared.settled.Settled.{Settled}
 use Rattle.nf_complete.specs.Settling.{SettlesTo}
-use Rattle.nf_app.specs.SettleGiven.{SlacksFit, TestFits, AreThin, AreSettled, AreNotThin, PassesFirst, at_slack, at_test, at_settling}
+use Rattle.nf_app.specs.SettleGiven.{SlacksFit, TestFits, AreThin, PassesFirst, at_slack, at_test, at_settling}
 use Rattle.nf_app.specs.Settling.{AreStartSets, SettlesAtStart}
 use Rattle.nf_app.proofs.Starting.{start_sets_good, start_source, start_rate}
 

@@ -1,5 +1,5 @@
 -- The labels at departure 0, and the sets of their slacks.
-use Rattle.std.proofs.Common.{◌≡◌, ◌≢◌, ℕ, ◌<◌, List, length, map, replicate, None, refl, sym, ap, subst, ◌∙◌}
+use Rattle.std.proofs.Common.{◌≡◌, ℕ, ◌<◌, List, length, map, replicate, None, refl, sym, subst}
 use Rattle.nf_rational.specs.Rational.{ℚ}
 use Rattle.nf_rational.specs.Operations.{0ℚ}
 use Rattle.nf_rational.specs.Order.{◌≤ℚ◌}
@@ -7,7 +7,7 @@ use Rattle.nf_rational_laws.proofs.Chains.{≤ℚ_refl}
 use Rattle.nf_model.specs.Curve.{Within}
 use Rattle.nf_model.specs.Walk.{Hop}
 use Rattle.nf_model.specs.Network.{Link, Network, IsNetwork, IsLink, hop_of, hops, rate_at}
-use Rattle.nf_model.specs.ThinFlow.{Sets, Enters, sets_at}
+use Rattle.nf_model.specs.ThinFlow.{sets_at}
 use Rattle.nf_model.specs.Phases.{AreStartLabels}
 use Rattle.nf_model_laws.proofs.Slacks.{active_of_slack}
 use Rattle.nf_model_laws.proofs.Supply.{rate_from-not_negative}

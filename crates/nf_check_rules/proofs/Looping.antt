@@ -179,13 +179,7 @@ pub record LeftBut {B : Type 0} (f : ℕ → Trial B) (v n k : ℕ) : Type 0 whe
   pub same : done (each f (numbers_but v (range_with_len k (n - k)))) ≡ done (each f (numbers_but v (range_with_len 0 n)))
 
 module _ {B : Type 0} (f : ℕ → Trial B) (v n : ℕ) where
-  pub but_first : LeftBut f v n 0
-  but_first = record { same = ap (λ (ks : List ℕ). done (each f (numbers_but v ks))) (range_first n) }
-
   module _ (k : ℕ) (left : LeftBut f v n k) where
-    pub but_last : n ≤ k → done (each f (numbers_but v (range_with_len 0 n))) ≡ Ok tt
-    but_last h = sym left.same ∙ ap (λ (ks : List ℕ). done (each f (numbers_but v ks))) (range_last n k h)
-
     module _ (h : k < n) where
       but_here : done (each f (numbers_but v (k ∷ range_with_len (k + 1) (n - (k + 1))))) ≡ done (each f (numbers_but v (range_with_len 0 n)))
       but_here = sym (ap (λ (ks : List ℕ). done (each f (numbers_but v ks))) (range_next n k h)) ∙ left.same

@@ -39,9 +39,6 @@ drop_none (x ∷ xs) (suc i) h = drop_none xs i (omega arith)
 
 -- ---- the first negative point
 module _ (points : List Point) (i : ℕ) (so_far : negative_point (drop i points) ≡ negative_point points) where
-  pub none_negative : length points ≤ i → negative_point points ≡ None
-  none_negative h = sym so_far ∙ ap negative_point (drop_none points i h)
-
   module _ (p : Point) (at : slice_get points i ≡ Some p) where
     by_first : (if lt_ℚ p.1 0ℚ then Some (record { time = p.0; left = p.1; right = 0ℚ }) else negative_point (drop (i + 1) points)) ≡ negative_point points
     by_first = sym (ap negative_point (drop_one points i p at)) ∙ so_far
@@ -98,9 +95,6 @@ module _ (passes : Passing) (subject : Subject ℕ ℕ) (points : List Point) (r
       no_rate (x ∷ y ∷ xs) = refl
 
   module _ (p q : Point) (rate : ℚ) (at : slice_get points i ≡ Some p) (next : slice_get points (i + 1) ≡ Some q) (here : slice_get rates i ≡ Some rate) where
-    abbrev rest_points : List Point
-    rest_points = drop (i + 1) points
-
     from_next : drop (i + 1) points ≡ q ∷ drop ((i + 1) + 1) points
     from_next = drop_one points (i + 1) q next
 
@@ -133,10 +127,6 @@ pub greater_before : (points : List Point) (left next : ℕ) (p : Point) (greate
     → max_ℚ p.1 greatest ≡ greatest_value (drop next points)
 greater_before points left next p greatest n e g =
     ap (max_ℚ p.1) (g ∙ ap (λ (k : ℕ). greatest_value (drop k points)) n) ∙ sym (ap greatest_value (drop_one points next p e))
-
-pub first_is : (points : List Point) (p : Point) → slice_get points 0 ≡ Some p → p.1 ≡ first_value points
-first_is [] p e = absurd (cc)
-first_is (x ∷ rest) p e = let same : p ≡ x = cc in ap (λ (q : Point). q.1) same
 
 pub first_same : (passes : Passing) (net : Network) (flow : Flow) (points : List Point) → first_value points ≡ lists_of_check.first_value passes net flow points
 first_same passes net flow [] = refl

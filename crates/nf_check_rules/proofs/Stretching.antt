@@ -1,5 +1,5 @@
 -- Stretches of departures, one after the other.
-use Rattle.std.proofs.Common.{◌≡◌, Bool, ℕ, zero, suc, ◌+◌, ◌-◌, ◌<◌, ◌≤◌, List, [], ◌∷◌, length, drop, Option, Some, None, slice_get, refl, sym, ap, subst, ◌∙◌, arith}
+use Rattle.std.proofs.Common.{◌≡◌, ℕ, zero, suc, ◌+◌, ◌-◌, ◌<◌, ◌≤◌, List, [], ◌∷◌, length, drop, Option, Some, None, slice_get, refl, sym, ap, subst, ◌∙◌, arith}
 use Rattle.std.specs.Prelude.{Result, Ok, Err, pos, nat_abs, SomeIff, unwrap_or, OnOk}
 use Rattle.nf_rational.specs.Gcd.{gcd}
 use Rattle.nf_rational.specs.Rational.{ℚ, ratio}
@@ -77,19 +77,7 @@ module _ (passes : Passing) (taken exits labels : List Point) (first next : ℚ)
       ap (λ (r : Checked ℚ). at_part Check (r >>= λ before. checked_value passes taken next >>= λ after. on_rising passes (lt_ℚ before after) exits labels first next)) b
       ∙ after_err Check (checked_value passes taken next) _ p e
 
-  pub both_known : (before after : ℚ) → checked_value passes taken first ≡ Ok before → checked_value passes taken next ≡ Ok after → (rises : Bool) → rises ≡ lt_ℚ before after
-      → on_rising passes rises exits labels first next ≡ on_stretch passes taken exits labels first next
-  both_known before after b a rises r =
-      ap (λ (t : Bool). on_rising passes t exits labels first next) r
-      ∙ sym (ap (λ (r : Checked ℚ). r >>= λ before. checked_value passes taken next >>= λ after. on_rising passes (lt_ℚ before after) exits labels first next) b
-      ∙ ap (λ (r : Checked ℚ). r >>= λ after. on_rising passes (lt_ℚ before after) exits labels first next) a)
-
 module _ (passes : Passing) (taken exits labels : List Point) where
-  pub few_times : (times : List ℚ) → length times < 2 → all_stretches passes taken exits labels times ≡ Ok None
-  few_times [] h = refl
-  few_times (x ∷ []) h = refl
-  few_times (x ∷ y ∷ times) h = absurd (omega arith)
-
   pub first_passes : (times : List ℚ) → 2 ≤ length times → (first : ℚ) → slice_get times 0 ≡ Some first → (p : PassedAt ℚ) → at_part Check (checked_value passes taken first) ≡ Err p
       → at_part Check (all_stretches passes taken exits labels times) ≡ Err p
   first_passes [] h first at p e = absurd (omega arith)

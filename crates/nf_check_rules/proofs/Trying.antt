@@ -50,14 +50,6 @@ done_ends (Ended.Breaks rule subject sides) r h = ap done h
 done_ends (Ended.Passed p) r h = ap done h
 done_ends Ended.Memory r h = tt
 
-pub done_then : {A B : Type 0} (r : Trial A) (next : Trial B) → (done r >>= λ _. next) ≡ (r >>= λ _. next)
-done_then (Ok x) next = refl
-done_then (Err e) next = refl
-
-pub done_last : {A : Type 0} (r : Trial A) → (r >>= λ _. Ok tt) ≡ done r
-done_last (Ok x) = refl
-done_last (Err e) = refl
-
 -- what goes through came to something
 pub record Came {A : Type 0} (r : Trial A) : Type 0 where
   pub value : A
@@ -68,14 +60,6 @@ done_came (Ok x) e = record { value = x; is = refl }
 done_came (Err p) e = absurd (cc)
 
 -- ---- one after the other
-pub assoc : {A B C : Type 0} (r : Trial A) (f : A → Trial B) (g : B → Trial C) → ((r >>= f) >>= g) ≡ (r >>= λ x. f x >>= g)
-assoc (Ok x) f g = refl
-assoc (Err e) f g = refl
-
-pub done_assoc : {A B : Type 0} (r : Trial A) (f : A → Trial B) → done (r >>= f) ≡ (r >>= λ x. done (f x))
-done_assoc (Ok x) f = refl
-done_assoc (Err e) f = refl
-
 -- of equal trials
 pub tries_as : {X A : Type 0} (value : X → A) (result : Result X Ended) (r s : Trial A) → r ≡ s → Tries value result s → Tries value result r
 tries_as {X} {A} value result r s same h = subst (λ (w : Trial A). Tries value result w) (sym same) h

@@ -65,9 +65,6 @@ module _ (least most : ℕ) (word : List ℕ) where
         let wide : most < value_of word = elim (cases_lt (value_of word) (2 ^ 64)) [ inl low ↦ absurd (never (facts.some, low)) | inr high ↦ omega arith ] in
         sym (cond-false _ _ _ (and_right (is_whole word) _ (and_right _ _ (lt-leb (value_of word) most wide))))
 
-pub within : (least most n : ℕ) → is_between least most n ≡ true → n ≤ most
-within least most n e = leb-true _ _ (and_parts _ _ e).1
-
 -- a count is within its limits
 some_within : (least most n : ℕ) (whole between : Bool) → is_between least most n ≡ between → IfSome (cond (whole && between) (Some n) None) (λ m. (least ≤ m) × (m ≤ most))
 some_within least most n true true e = let p = and_parts _ _ e in (leb-true _ _ p.0, leb-true _ _ p.1)

@@ -100,13 +100,7 @@ module _ (passes : Passing) (net : Network) (sets : Sets) (rate : ℚ) (flows : 
     abbrev rest : ℚ → Checked Sums
     rest come = goes >>= λ go. stays go >>= λ stay. Ok (record { in_sum = come; out_sum = stay })
 
-    pub come_passes : (p : PassedAt ℚ) → Err p ≡ at_part Verdict comes → at_part Verdict (sums_at passes net sets rate flows v) ≡ Err p
-    come_passes p e = first_passes comes rest p (sym e)
-
     module _ (come : ℚ) (come_ok : Ok come ≡ at_part Verdict comes) where
-      pub go_passes : (p : PassedAt ℚ) → Err p ≡ at_part Verdict goes → at_part Verdict (sums_at passes net sets rate flows v) ≡ Err p
-      go_passes p e = then_passes comes come rest p (value_of comes come come_ok) (first_passes goes (λ go. stays go >>= λ stay. Ok (record { in_sum = come; out_sum = stay })) p (sym e))
-
       module _ (go : ℚ) (go_ok : Ok go ≡ at_part Verdict goes) where
         pub stay_passes : (p : PassedAt ℚ) → Err p ≡ at_part Verdict (stays go) → at_part Verdict (sums_at passes net sets rate flows v) ≡ Err p
         stay_passes p e = then_passes comes come rest p (value_of comes come come_ok)

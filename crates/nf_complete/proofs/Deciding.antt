@@ -25,10 +25,6 @@ pub says_by : {P : Type 0} (b t : Bool) → b ≡ t → Decides t P → MatchBoo
 says_by true t e d = d.0 (sym e)
 says_by false t e d = λ p. false_true (e ∙ d.1 p)
 
-pub decided : {P : Type 0} (b : Bool) → MatchBool b P (P → ⊥) → Decides b P
-decided true p = (λ _. p, λ _. refl)
-decided false n = (λ e. absurd (false_true e), λ p. absurd (n p))
-
 -- an answer to one question is one to another that says the same
 pub says_like : {P Q : Type 0} (b : Bool) → (P → Q) → (Q → P) → MatchBool b P (P → ⊥) → MatchBool b Q (Q → ⊥)
 says_like true f g p = f p

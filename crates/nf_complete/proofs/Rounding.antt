@@ -63,13 +63,6 @@ round-differ (s ∷ steps) done d f n = round-differ steps ((s.0, not s.1) ∷ d
     (λ e c k. ⊎_elim (λ (q : s.0 ≡ e). d.0 (subst (λ (i : ℕ). Contains (links_of steps) i) (sym q) c)) (λ (q : Contains (links_of done) e). n e (contains_more s.0 (links_of steps) e c) q) (contains_cases s.0 (links_of done) e k))
 
 -- ---- each link is taken the other way
-turn-there : (steps : List (ℕ × Bool)) (e : ℕ) (b : Bool) → turn_of steps e ≡ Some b → Contains (links_of steps) e
-turn-there [] e b h = absurd (cc)
-turn-there ((f, c) ∷ steps) e b h = ⊎_elim
-    (λ (w : (eqb f e ≡ true) × (f ≡ e)). contains_first f (links_of steps) e w.1)
-    (λ (w : (eqb f e ≡ false) × (f ≢ e)). contains_more f (links_of steps) e (turn-there steps e b (sym (ap (λ (t : Bool). if t then Some c else turn_of steps e) w.0) ∙ h)))
-    (eqb_tells f e)
-
 pub turn-same : (f : ℕ) (b : Bool) (steps : List (ℕ × Bool)) (e : ℕ) → f ≡ e → turn_of ((f, b) ∷ steps) e ≡ Some b
 turn-same f b steps e q = ⊎_elim
     (λ (w : (eqb f e ≡ true) × (f ≡ e)). ap (λ (t : Bool). if t then Some b else turn_of steps e) w.0)

@@ -80,9 +80,6 @@ module _ {A B : Type 0} (f : A → Checked B) where
       pub none_passes : (k : ℕ) (x : A) → k < n → slice_get xs k ≡ Some x → IsOk (f x)
       pub says : MatchBool answer (Below n) (Below n → ⊥)
 
-    pub told_first : ToldBelow 0 true
-    told_first = record { none_passes = λ k x h. absurd (omega arith); says = λ k x h. absurd (omega arith) }
-
     module _ (n : ℕ) (x : A) (at : slice_get xs n ≡ Some x) (answer : Bool) (so : ToldBelow n answer) where
       here : (P : A → Type 0) → P x → (y : A) (k : ℕ) → k ≡ n → slice_get xs k ≡ Some y → P y
       here P h y k e s = subst P (same_Some x y (sym at ∙ (subst (λ (j : ℕ). slice_get xs j ≡ Some y) e s))) h

@@ -132,15 +132,6 @@ module _ (net : Network) (sets : Sets) (rate : ℚ) (flows slopes : List ℚ) (p
       by (full h k f) = (Full, h, (k, f))
       by (between h i) = (Tight, h, interior-level net sets rate flows slopes good.network good.acyclic thin e i link p)
 
-  needs_or_not : (e : ℕ) → Decided (NeedsState sets e)
-  needs_or_not e = ⊎_elim
-      (λ (a : Has sets.active e). ⊎_elim
-      (λ (r : Has sets.resetting e). inr (λ n. n.1 r))
-      (λ (r : Has sets.resetting e → ⊥). inl (a, r))
-      (flagged sets.resetting e))
-      (λ (a : Has sets.active e → ⊥). inr (λ n. a n.0))
-      (flagged sets.active e)
-
   same_state : (e : ℕ) (a b : State) → HasState pattern e a → HasState pattern e b → a ≡ b
   same_state e a b h k = cc
 

@@ -1,5 +1,5 @@
 -- A point after the last one.
-use Rattle.std.proofs.Common.{◌≡◌, ℕ, zero, suc, ◌+◌, ◌-◌, ◌<◌, true, List, [], ◌∷◌, ◌++◌, length, refl, sym, ap, subst, ◌∙◌, arith}
+use Rattle.std.proofs.Common.{◌≡◌, ℕ, zero, suc, ◌+◌, ◌-◌, ◌<◌, true, List, [], ◌∷◌, ◌++◌, length, sym, ap, subst, ◌∙◌, arith}
 use Rattle.std.specs.Prelude.{Some, slice_get}
 use Rattle.std.proofs.lemmas.Option.{none-some, same_Some}
 use Rattle.std.specs.Ordering.{MatchOrdering, is_lt}
@@ -10,11 +10,6 @@ use Rattle.nf_rational.specs.Rational.{ℚ}
 use Rattle.nf_rational.specs.Order.{◌<ℚ◌, cmp_ℚ}
 use Rattle.nf_model.specs.Curve.{TimesRise, IsCurve}
 use Rattle.nf_curve.specs.Points.{Grown, last_time}
-
-pub last_time-append : (points : List (ℚ × ℚ)) (p : ℚ × ℚ) → last_time (points ++ p ∷ []) ≡ p.0
-last_time-append [] p = refl
-last_time-append (x ∷ []) p = refl
-last_time-append (x ∷ y ∷ rest) p = last_time-append (y ∷ rest) p
 
 TimesRise-append : (x : ℚ × ℚ) (rest : List (ℚ × ℚ)) (p : ℚ × ℚ) → TimesRise (x ∷ rest) → last_time (x ∷ rest) <ℚ p.0 → TimesRise (x ∷ rest ++ p ∷ [])
 TimesRise-append x [] p rise later = (later, tt)

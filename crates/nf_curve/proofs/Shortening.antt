@@ -1,5 +1,5 @@
 -- A curve in short form, point by point.
-use Rattle.std.proofs.Common.{◌≡◌, ℕ, zero, suc, ◌+◌, ◌<◌, List, [], ◌∷◌, ◌++◌, length, drop, Bool, true, false, refl, sym, ap, subst, ◌∙◌}
+use Rattle.std.proofs.Common.{◌≡◌, ℕ, zero, suc, List, [], ◌∷◌, ◌++◌, length, drop, Bool, true, false, refl, sym, ap, ◌∙◌}
 use Rattle.std.specs.Prelude.{Some, slice_get, Ok, Err, if◌then◌else◌}
 use Rattle.nf_rational.specs.Rational.{ℚ}
 use Rattle.nf_work.specs.Passing.{Passing}

@@ -180,7 +180,7 @@ impl Curve {
         Ok(Curve { points })
     }
 
-    /// The same values in short form. Passed comes exactly at the first operation of its list that passes, and has this part.
+    /// A curve in short form with the values of this one. Passed comes exactly at the first operation of its list that passes, and has this part.
     pub fn short(alloc: Global, curve: &Curve, part: Part) -> Result<Curve, Halt<Q>>
         ensures list { Gives (λ c. c.points) (λ q. q) result
             (at_part part (checked_short passes_Q curve.now.points)) }

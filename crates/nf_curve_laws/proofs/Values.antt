@@ -9,7 +9,6 @@ use Rattle.nf_rational_laws.proofs.Linear.{eq, linear_eq}
 use Rattle.nf_rational_laws.proofs.Order.{≤ℚ_of_lt, ≤ℚ_antisymm}
 use Rattle.nf_rational_laws.proofs.Tests.{lt_ℚ_cases}
 use Rattle.nf_work.specs.Passing.{Passing}
-use Rattle.nf_work.specs.Checked.{Checked}
 use Rattle.nf_model.specs.Curve.{Point, value, slope, TimesRise, IsCurve}
 use Rattle.nf_model_laws.specs.Affine.{IsAffine}
 use Rattle.nf_model_laws.proofs.Curves.{value-before, value-after, value-first, value-line}
@@ -23,10 +22,6 @@ use Rattle.nf_rational_laws.proofs.Chains.{≤ℚ_refl, ≤ℚ_trans}
 use Rattle.nf_plain_laws.proofs.Results.{same_Ok}
 
 module _ (passes : Passing) where
-  by_same : (b : Bool) (x y : ℚ) (other : Checked ℚ) → b ≡ true → (if b then Ok x else other) ≡ Ok y → y ≡ x
-  by_same true x y other t e = sym (same_Ok x y e)
-  by_same false x y other t e = absurd (cc)
-
   -- the two tests of a piece
   piece_cases : {P : Type 0} (p q : Point) (rest : List Point) (time y : ℚ) → value_from passes p (q ∷ rest) time ≡ Ok y
       → (time ≡ p.0 → y ≡ p.1 → P) → (time <ℚ q.0 → checked_line passes p q time ≡ Ok y → P) → (q.0 ≤ℚ time → value_from passes q rest time ≡ Ok y → P) → P

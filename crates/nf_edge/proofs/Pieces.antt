@@ -1,6 +1,6 @@
 -- What a sink took, piece after piece.
-use Rattle.std.specs.Prelude.{◌≡◌, ℕ, ◌+◌, ◌-◌, ◌<◌, ◌≤◌, List, [], ◌++◌, length, take, drop, Option, Some, None, Result, Ok, Err, refl}
-use Rattle.std.proofs.Common.{arith, sym, ap, ◌∙◌, append_assoc, append-nil, length-drop, length-append, inl, inr}
+use Rattle.std.specs.Prelude.{◌≡◌, ℕ, ◌+◌, ◌-◌, ◌<◌, ◌≤◌, List, ◌++◌, length, take, drop, Option, Some, None, Result, Ok, Err, refl}
+use Rattle.std.proofs.Common.{arith, sym, ap, ◌∙◌, append_assoc, length-drop, length-append, inl, inr}
 use Rattle.std.proofs.lemmas.List.{take-append-le}
 use native.Mathlib.Decide.{dec_lt}
 use Rattle.std.proofs.Math.Seq.{take-add, take-length, take-append-add}
@@ -38,14 +38,6 @@ rose_later first before now a b (inr full) = at (dec_lt first before)
     at : Dec (first < before) → Rose first now
     at (yes less) = inl (omega (arith, less, b))
     at (no same) = inr (omega (arith, same, a, full))
-
--- nothing is written yet
-pub Wrote-nil : {E : Type 0} (took : Option (List ℕ)) (faults : ℕ) → Wrote {E = E} took took faults faults [] (Ok tt)
-Wrote-nil took faults = record { whole = at took; front = tt; cause = tt; never_falls = omega arith }
-  where
-    at : (took : Option (List ℕ)) → took ≡ with_more took []
-    at None = refl
-    at (Some bytes) = ap Some (sym (append-nil bytes))
 
 -- a text that was written whole, and then the next one
 pub Wrote-append : {E F : Type 0} (old before now : Option (List ℕ)) (first_faults faults_before faults_now : ℕ) (first next : List ℕ) (r : Result (Unit {0}) E)

@@ -81,7 +81,7 @@ fn put_forever<O: Sink>(
 
 /// Writes the text of a run without a horizon: its flow up to the departure reached, with the cause for which it stopped, if it did, the
 /// states of the links, and the tail by which the flow goes on, if there is one. Where the sink fails, it has taken the text's first
-/// bytes. It takes no memory.
+/// bytes, and not all of them. It takes no memory.
 pub fn write_forever<O: Sink>(
     net: &Network,
     forever: &Forever,

@@ -38,9 +38,6 @@ text_of links = flat_map line_of_words (map link_words links)
 text-append : (xs ys : List NamedLink) → text_of (xs ++ ys) ≡ text_of xs ++ text_of ys
 text-append xs ys = ap (flat_map line_of_words) (map-append link_words xs ys) ∙ flat_map-append line_of_words (map link_words xs) (map link_words ys)
 
-pub writes_none : (text : List ℕ) (x : ℕ) → WritesLinks [] text text x x
-writes_none text x = record { text = sym (append-nil text); value = refl }
-
 pub writes_more : (xs ys : List Ends) (old middle new : List ℕ) (x y z : ℕ) → WritesLinks xs old middle x y → WritesLinks ys middle new y z → WritesLinks (xs ++ ys) old new x z
 writes_more xs ys old middle new x y z h k = record {
   text = k.text ∙ (λ i. h.text i ++ text_of (links_after (h.value i) ys))

@@ -65,8 +65,8 @@ impl LinkCurves {
         })
     }
 
-    /// Those that go on where others end. Passed comes exactly at the first operation of the list of the queue that passes, and has part
-    /// Curve.
+    /// Curves of a link that go on where these end. Passed comes exactly at the first operation of the list of the queue that passes, and
+    /// has part Curve.
     pub(crate) fn of(
         alloc: Global,
         inflow: &Trace,

@@ -56,8 +56,8 @@ pub fn first_links(
     Ok(curves)
 }
 
-/// Those that go on where these end, link by link. Passed comes exactly at the first operation of the list of the queues that passes, and
-/// has part Curve.
+/// Curves that go on where these end, link by link. Passed comes exactly at the first operation of the list of the queues that passes,
+/// and has part Curve.
 pub fn restore_links(
     alloc: Global,
     inflows: &[Trace],

@@ -6,16 +6,6 @@ use Rattle.nf_model.specs.Entries.{number_at}
 use Rattle.nf_lists.specs.Signs.{is_zero}
 use Rattle.nf_lists.specs.Table.{Row, row_at, pivot_from}
 
-pub candidate_none : (a b : Bool) → b ≡ true → false ≡ (not a && not b)
-candidate_none true b e = refl
-candidate_none false true e = refl
-candidate_none false false e = absurd (cc)
-
-pub candidate_any : (a b : Bool) → b ≡ false → not a ≡ (not a && not b)
-candidate_any true b e = refl
-candidate_any false false e = refl
-candidate_any false true e = absurd (cc)
-
 pub drop_row : (rows : List Row) (i : ℕ) → i < length rows → drop i rows ≡ row_at rows i ∷ drop (suc i) rows
 drop_row [] i b = absurd (omega arith)
 drop_row (x ∷ rows) zero b = refl

@@ -28,9 +28,6 @@ times_less a k b x = ring rationals (a ∷ k ∷ b ∷ x ∷ []) (search reading
 restored : (s r k : ℚ) → s ≡ (s -ℚ k *ℚ r) +ℚ k *ℚ r
 restored s r k = ring rationals (s ∷ r ∷ k ∷ []) (search reading depth 30) tt
 
-joined : (a k b t : ℚ) → (a -ℚ k *ℚ b) *ℚ t +ℚ k *ℚ (b *ℚ t) ≡ a *ℚ t
-joined a k b t = ring rationals (a ∷ k ∷ b ∷ t ∷ []) (search reading depth 30) tt
-
 nothing_less : (a k b : ℚ) → k ≡ 0ℚ → a -ℚ k *ℚ b ≡ a
 nothing_less a k b e = linear_eq (a ∷ k ∷ b ∷ []) (eq_times b e ∷ []) (search reading_of depth 12) tt tt
 

@@ -7,25 +7,19 @@ use Rattle.nf_rational.specs.Rational.{ℚ}
 use Rattle.nf_rational.specs.Operations.{0ℚ, ◌+ℚ◌, ◌-ℚ◌, ◌*ℚ◌}
 use Rattle.nf_work.specs.declared.Op.{Op}
 use Rattle.nf_work.specs.declared.Op.TheVariants.{Sum, Difference, Product, Quotient}
-use Rattle.nf_work.specs.declared.Part.{Part}
-use Rattle.nf_work.specs.declared.Part.TheVariants.{Table, Verdict, Extend, Advance, Curve}
 use Rattle.nf_work.specs.declared.Passed.{Passed}
 use Rattle.nf_work.specs.Passing.{Passing, result_of}
-use Rattle.nf_work.specs.Checked.{Checked, checked, each, fold_checked, at_part, ◌>>=◌}
+use Rattle.nf_work.specs.Checked.{Checked, checked, each, fold_checked, ◌>>=◌}
 use Rattle.nf_model.specs.declared.State.{State}
 use Rattle.nf_model.specs.declared.State.TheVariants.{Tight, Full, Zero}
 use Rattle.nf_model.specs.Entries.{number_at}
 use Rattle.nf_model.specs.Walk.{Hop}
 use Rattle.nf_model.specs.Network.{Link, Network, hops, next_change}
-use Rattle.nf_model.specs.ThinFlow.{Sets, slack, slacks_of, sets_at}
+use Rattle.nf_model.specs.ThinFlow.{Sets, slack, slacks_of}
 use Rattle.nf_model.specs.Phases.{moved}
 use Rattle.nf_model.specs.Pattern.{Pattern}
 use Rattle.nf_lists.specs.Signs.{is_zero, is_positive, are_opposite}
 use Rattle.nf_lists_laws.specs.Laws.{never}
-use Rattle.nf_lists.specs.Equations.{equations, slopes_in}
-use Rattle.nf_lists.specs.Accepted.{after_table, pattern_lists}
-use Rattle.nf_lists.specs.ReportCurves.{amount_so_far}
-use Rattle.nf_lists.specs.PhaseRun.{Standing, phase_lists}
 use Rattle.nf_lists.specs.Slack.{slack_of, slack_list}
 use Rattle.nf_lists.specs.Table.{Row, Eliminated, row_at, pivot_of, less_unless, entries_less, cleared_row, clear_unless, clear_rows, eliminate_at, if_some, eliminate_from, solution_from, solution_of, table_list}
 use Rattle.nf_lists.specs.Verdict.{bound_on, bound_of, verdict_list}
@@ -50,10 +44,6 @@ module _ {A B E : Type 0} where
   fold_as : (f g : B → A → Result B E) → ((b : B) (x : A) → GivesAs (f b x) (g b x)) → (b : B) (xs : List A) → GivesAs (fold_checked f b xs) (fold_checked g b xs)
   fold_as f g h b [] y e = e
   fold_as f g h b (x ∷ xs) y e = bind (f b x) (g b x) _ _ (h b x) (λ c. fold_as f g h c xs) y e
-
-part_as : {A : Type 0} (part : Part) (r s : Checked A) → GivesAs r s → GivesAs (at_part part r) (at_part part s)
-part_as part (Ok a) s h y e = ap (at_part part) (h a refl) ∙ e
-part_as part (Err p) s h y e = cc
 
 same : {A E : Type 0} (r : Result A E) → GivesAs r r
 same r x e = e
@@ -210,24 +200,6 @@ module _ (passes fewer : Passing) (none_more : PassesFewer passes fewer) where
   unfolding curve_list
   curve_list_under net sets pattern length flows slopes labels amounts =
       each_as _ _ (λ (numbered : ℕ × Link). step_as length (number_at amounts numbered.0) (link_phase sets pattern flows slopes labels numbered)) (enumerate_from 0 net.links)
-
-  -- ---- of a pattern, and of a phase
-  pattern_as : (net : Network) (sets : Sets) (rate : ℚ) (pattern : Pattern) → GivesAs (pattern_lists passes net sets rate pattern) (pattern_lists fewer net sets rate pattern)
-  unfolding pattern_lists
-  pattern_as net sets rate pattern = bind _ _ _ _ (part_as Table _ _ (table_list_under (equations net sets rate pattern))) after
-    where
-      after : (values : Option (List ℚ)) → GivesAs (after_table passes net sets rate pattern values) (after_table fewer net sets rate pattern values)
-      after None = same (Ok None)
-      after (Some values) = bind _ _ _ _ (part_as Verdict _ _ (verdict_list_under net pattern (slopes_in net.nodes values))) (λ bounds. same _)
-
-  phase_as : (net : Network) (horizon : ℚ) (s : Standing) (pattern : Pattern) (flows slopes : List ℚ)
-      → GivesAs (phase_lists passes net horizon s pattern flows slopes) (phase_lists fewer net horizon s pattern flows slopes)
-  unfolding phase_lists
-  phase_as net horizon s pattern flows slopes =
-      bind _ _ _ _ (part_as Extend _ _ (extend_list_under net (slacks_of (hops net) s.labels) slopes s.time))
-      (λ extension. bind _ _ _ _ (part_as Advance _ _ (advance_list_under horizon s.time extension s.labels slopes))
-      (λ advanced. bind _ _ _ _ (part_as Curve _ _ (curve_list_under net (sets_at net s.labels) pattern advanced.length flows slopes advanced.labels (map amount_so_far s.link_curves)))
-      (λ links. same _)))
 
 -- ---- where none can pass
 none_passes : (passes : Passing) → PassesFewer passes never

@@ -24,7 +24,7 @@ use Rattle.nf_curve_laws.proofs.Operations.{then_ok, is_same_cases, checked-is}
 use Rattle.nf_curve_laws.proofs.Following.{FollowsFrom, ends, goes, follows-point, value-follows_past}
 use Rattle.nf_curve_laws.proofs.Values.{follows-curve, follows-values}
 use Rattle.nf_rational_laws.proofs.Chains.{≤ℚ_refl, ≤ℚ_trans}
-use Rattle.nf_rational_laws.proofs.Extremes.{min_is_left, min_is_right, min_left, min_right, min_keeps}
+use Rattle.nf_rational_laws.proofs.Extremes.{min_is_left, min_is_right, min_left, min_keeps}
 use Rattle.nf_plain_laws.proofs.Results.{same_Ok}
 
 -- ---- points after time 0
@@ -54,10 +54,6 @@ rise_rest p [] s = tt
 rise_rest p (q ∷ rest) s = s.1
 
 -- ---- the end of a piece
-end_up_to : (later : List Piece) (last : ℚ) → end_of later last ≤ℚ last
-end_up_to [] last = ≤ℚ_refl last
-end_up_to (next ∷ later) last = min_right next.start last
-
 end_next : (later : List Piece) (last : ℚ) → NextFrom later (end_of later last)
 end_next [] last = tt
 end_next (next ∷ later) last = min_left next.start last
@@ -172,9 +168,6 @@ follows-values_rise f last p (q ∷ rest) n rises (goes k e h line later) = (
 )
 
 module _ (passes : Passing) (pieces : List Piece) (last : ℚ) (good : ArePieces pieces) (from_0 : 0ℚ ≤ℚ last) where
-  amount : ℚ → ℚ
-  amount t = supplied pieces t
-
   begins_0 : supplied pieces 0ℚ ≡ 0ℚ
   begins_0 = supplied-begins pieces good
 

@@ -94,9 +94,6 @@ module _ (net : Network) (sets : Sets) (v : ℕ) where
   }
 
   module _ (old now : List Row) (i e column : ℕ) (h : IsFillingNode old now i e column) where
-    pub row_inside : i < length now
-    row_inside = let c = h.changes.count in let w = h.within in omega arith
-
     pub column_inside : Has sets.active e → column < length now
     column_inside active =
         let a = before_within sets.active 0 e active in let b = unknowns-length net sets in let c = h.changes.count in let n = h.next in let s = h.size in omega arith

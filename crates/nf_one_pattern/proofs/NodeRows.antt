@@ -45,9 +45,6 @@ module _ (net : Network) (sets : Sets) (rate : ℚ) where
     pub to_sink : v ≤ net.sink → next ≡ v + 1
     pub past_sink : net.sink < v → next ≡ v
 
-  pub nodes_first : (table : List Row) → ((pattern : Pattern) → IsFilledTo (equations net sets rate pattern) table 1) → HasNodesTo table 0 1
-  nodes_first table h = record { filled = h; to_sink = λ b. omega arith; past_sink = λ b. absurd (omega arith) }
-
   module _ (table : List Row) (v next : ℕ) (h : HasNodesTo table v next) where
     pub sink_skipped : v ≡ net.sink → HasNodesTo table (v + 1) next
     sink_skipped same = record {

@@ -1,8 +1,6 @@
 -- The flows of all links, taken link by link from the values of the unknowns.
-use Rattle.std.proofs.Common.{◌≡◌, ℕ, suc, ◌+◌, ◌<◌, ◌≤◌, List, [], ◌∷◌, ◌++◌, length, drop, append_assoc, Bool, true, false, refl, sym, ap, ◌∙◌, arith}
+use Rattle.std.proofs.Common.{◌≡◌, ℕ, suc, ◌+◌, ◌<◌, List, [], ◌∷◌, ◌++◌, length, drop, append_assoc, Bool, true, false, refl, sym, ap, ◌∙◌, arith}
 use Rattle.std.specs.Prelude.{Some, slice_get}
-use Rattle.std.proofs.Math.ListN.{drop_of_length-le}
-use Rattle.std.proofs.lemmas.List.{append-nil}
 use Rattle.nf_rational.specs.Rational.{ℚ}
 use Rattle.nf_rational.specs.Operations.{0ℚ}
 use Rattle.nf_lists.specs.Equations.{active_from, onto_links, flows_in}
@@ -19,9 +17,6 @@ same_count (true ∷ active) j k = ap suc (same_count active (suc j) (suc k))
 same_count (false ∷ active) j k = same_count active (suc j) (suc k)
 
 module _ (active : List Bool) (values : List ℚ) (nodes : ℕ) where
-  pub none_yet : length values ≡ nodes + length (active_from 0 active) → AreFlows active values nodes [] 0 nodes
-  none_yet count = record { said = refl; left = sym count }
-
   module _ (flows : List ℚ) (e next : ℕ) (so : AreFlows active values nodes flows e next) where
     pub has_value : slice_get active e ≡ Some true → next < length values
     has_value at =
@@ -70,6 +65,3 @@ module _ (active : List Bool) (values : List ℚ) (nodes : ℕ) where
             let d : length (active_from 1 (drop (suc e) active)) ≡ length (active_from 0 (drop i active)) =
             same_count (drop (suc e) active) 1 0 ∙ ap (λ (k : ℕ). length (active_from 0 (drop k active))) (let s : suc e ≡ i = omega arith in s) in
             omega arith
-
-    pub all_flows : length active ≤ e → flows ≡ flows_in nodes active values
-    all_flows end = sym (append-nil flows) ∙ ap (λ (a : List Bool). flows ++ onto_links a (drop next values)) (sym (drop_of_length-le active end)) ∙ so.said

@@ -1,33 +1,22 @@
 -- Files that a shelf gave, one after the other.
-use Rattle.std.proofs.Common.{◌≡◌, ◌⊎◌, ℕ, ◌<◌, ◌≤◌, List, [], ◌∷◌, ◌++◌, length, refl, sym, ap, subst, ◌∙◌, inl, inr, append_assoc, arith}
+use Rattle.std.proofs.Common.{◌≡◌, ◌⊎◌, ℕ, ◌<◌, ◌≤◌, List, [], ◌∷◌, ◌++◌, length, refl, ap, subst, ◌∙◌, inl, inr, append_assoc, arith}
 use native.Mathlib.Decide.{dec_lt}
-use Rattle.std.specs.Prelude.{Option, None, Some, IfSome, Result, Ok, Err}
-use Rattle.std.specs.List.{All}
+use Rattle.std.specs.Prelude.{Option, IfSome, Ok, Err}
 use Rattle.std.specs.Result.{IsErrOf}
 use Rattle.std.proofs.lemmas.Option.{IfSome_then}
 use Rattle.std.proofs.lemmas.List.Elements.{All-cons, All-nil, All-head}
-use Rattle.nf_edge.specs.Faults.{Rose, greatest}
+use Rattle.nf_edge.specs.Faults.{Rose}
 use Rattle.nf_edge.specs.declared.FetchFault.{FetchFault}
 use Rattle.nf_edge.specs.declared.FetchFault.TheVariants.{Failed as ShelfFails, TooLong, Memory}
 use Rattle.nf_answers.specs.declared.refusal.Refusal.{Refusal}
-use Rattle.nf_outside.specs.Files.{Wanted, Visit, names_of, Fits, FetchedNone, FetchedAll, FetchedTo, Failed, HasTooMany}
+use Rattle.nf_outside.specs.Files.{Wanted, Visit, names_of, Fits, FetchedNone, FetchedAll, FetchedTo}
 use Rattle.nf_answers.specs.Refusals.{refusal_of_fetch}
-use Rattle.nf_outside.specs.Fetching.{IsTold, IsTextOf, IsLastText, AreMissing, AreFetched}
+use Rattle.nf_outside.specs.Fetching.{IsTextOf, IsLastText, AreMissing, AreFetched}
 
 -- ---- one file
 module _ (shelf : Visit) (file : Wanted) where
   abbrev IsAsked : Type 0
   IsAsked = shelf.asked_now ≡ shelf.asked_before ++ file.name ∷ []
-
-  pub one_fetched : (text : List ℕ) → IsAsked → IsTold shelf file text → shelf.taken ≡ length text → shelf.taken ≤ file.limit → AreFetched shelf (file ∷ []) (Ok (text ∷ []))
-  one_fetched text asked told taken within = (
-    record {
-      asked = asked;
-      fit = All-cons (Fits shelf) file [] (IfSome_then (shelf.told file.name) told (λ held same. subst (λ (n : ℕ). n ≤ file.limit) (taken ∙ ap length same) within)) (All-nil (Fits shelf));
-      taken = within;
-    },
-    record { of_file = record { within = subst (λ (n : ℕ). n ≤ file.limit) taken within; told = told }; taken = sym taken },
-  )
 
   one_reached : IsAsked → FetchedTo shelf (file ∷ []) file
   one_reached asked = record { first = []; behind = []; files_are = refl; asked = asked; fit = All-nil (Fits shelf) }

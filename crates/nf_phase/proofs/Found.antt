@@ -67,10 +67,6 @@ stands_as C D phase (StepFault.Search SearchFault.Memory) f h = h
 stands_as C D phase (StepFault.Passed at) f h = f _ h
 stands_as C D phase StepFault.Memory f h = tt
 
-pub fault_as : {A : Type 0} (C D : Cause ℚ → Type 0) (phase : ℕ) (r : Result A StepFault) → ((cause : Cause ℚ) → C cause → D cause) → IfErr r (StandsFor C phase) → IfErr r (StandsFor D phase)
-fault_as C D phase (Ok x) f h = tt
-fault_as C D phase (Err fault) f h = stands_as C D phase fault f h
-
 -- ---- the search
 module _ (passes : Passing) (net : Network) (patterns : ℕ) (s : Standing) where
   abbrev Unfound : StepFault → Type 0

@@ -12,15 +12,14 @@ use Rattle.nf_model.specs.Entries.{Has}
 use Rattle.nf_model.specs.Network.{Link, Network, IsNetwork, IsLink, hop_of, hops, unbounded}
 use Rattle.nf_model.specs.ThinFlow.{slack, slacks_of, sets_at}
 use Rattle.nf_model.specs.Pattern.{Pattern, HasState, IsPattern, IsListedIn, IsBase}
-use Rattle.nf_model.specs.Equilibrium.{HasShape, HasSlopes}
 use Rattle.nf_model_laws.proofs.Slacks.{slack_of_resetting}
-use Rattle.nf_lists.specs.PhaseRun.{Standing, IsStart, Goes, flow_of}
+use Rattle.nf_lists.specs.PhaseRun.{Standing, IsStart, Goes}
 use Rattle.nf_lists_laws.proofs.Ending.{from_map}
 use Rattle.nf_pattern.proofs.FirstPatterns.{base_is_pattern, none_full}
 use Rattle.nf_thin.specs.Searching.{NoneResetsUnbounded, AreSetsOf}
 use Rattle.nf_thin_laws.proofs.ActiveLinks.{AreSets-sets_at}
 use Rattle.nf_run_laws.proofs.WellRun.{WellRun, WellRun-start}
-use Rattle.nf_run_laws.proofs.Run.{HasShape-well, HasSlopes-well, WellRun-goes}
+use Rattle.nf_run_laws.proofs.Run.{WellRun-goes}
 use Rattle.nf_run_laws.proofs.Standing.{unbounded_slack_at}
 use Rattle.nf_resume_lists.specs.Open.{with_last}
 use Rattle.nf_resume_laws.proofs.Stepping.{WellRun-last}
@@ -91,13 +90,6 @@ module _ (passes : Passing) (net : Network) (good : IsNetwork net) where
   Stands-reached _ (keeps_on horizon patterns {s = before} {new = t} earlier c g) =
       let there : Stands net before = Stands-reached before earlier in
       Stands-last horizon patterns before t there (Stands-goes horizon patterns before t g there)
-
-  -- its flow has a curve of each kind for each node or link, and its rates are the slopes
-  pub shape_reached : (s : Standing) → Reaches passes net s → HasShape net (flow_of s)
-  shape_reached s reaches = HasShape-well net good s (Stands-reached s reaches).well
-
-  pub slopes_reached : (s : Standing) → Reaches passes net s → HasSlopes (flow_of s).inflows × HasSlopes (flow_of s).outflows
-  slopes_reached s reaches = HasSlopes-well net good s (Stands-reached s reaches).well
 
 -- ---- what the search needs
 module _ (net : Network) (good : IsNetwork net) (s : Standing) (stands : Stands net s) where

@@ -152,9 +152,6 @@ module _ (passes : Passing) (net : Network) (good : IsNetwork net) (s : Standing
   pub last_restored : s.last ≡ r.last
   last_restored = subst (λ (n : Standing). n.last ≡ r.last) parts.is refl
 
-  pub made_restored : s.made ≡ 0
-  made_restored = subst (λ (n : Standing). n.made ≡ 0) parts.is refl
-
   -- ---- its curves are in short form
   inside_labels : (v : ℕ) (c : GrowingCurve) → slice_get s.label_curves v ≡ Some c → v < net.nodes
   inside_labels v c h = let b = slice_get_within s.label_curves v c h in let n = well_restored.label_count in omega arith

@@ -61,11 +61,6 @@ pub begin_step : (passes : Passing) (net : Network) (horizon : ℚ) (patterns : 
 begin_step passes net horizon patterns s _ apart (continues c g) = absurd (apart c)
 begin_step passes net horizon patterns s t apart (begins c g) = g
 
--- curves that are the same make the same standing
-pub same_standing : (s t : Standing) (label_curves : List GrowingCurve) (link_curves : List LinkCurves) → s ≡ t → label_curves ≡ s.label_curves → link_curves ≡ s.link_curves
-    → record { time = s.time; labels = s.labels; label_curves = label_curves; link_curves = link_curves; made = s.made; last = s.last } ≡ t
-same_standing s t label_curves link_curves e f g = (λ i. record { time = s.time; labels = s.labels; label_curves = f i; link_curves = g i; made = s.made; last = s.last }) ∙ e
-
 -- ---- a phase that is found
 module _ (passes : Passing) (net : Network) (good : IsNetwork net) (horizon : ℚ) (patterns : ℕ) (s : Standing) (reaches : Reaches passes net s) (phase : Phase)
     (leads : LeadsOn passes net horizon patterns s phase) where

@@ -1,9 +1,7 @@
 -- The flow of a run may be given out, and a run restored from it. (That its curves are in short form is `short_reached`.)
-use Rattle.std.proofs.Common.{◌≡◌, ℕ, ◌<◌, length, ap, ◌∙◌, arith}
-use Rattle.std.specs.Prelude.{Option, Some, is_none, slice_get}
-use Rattle.std.specs.Option.{option_map}
-use Rattle.std.proofs.lemmas.Option.{slice_get-map, slice_get_within}
-use Rattle.nf_rational.specs.Rational.{ℚ}
+use Rattle.std.proofs.Common.{◌≡◌, ℕ, ◌<◌, ap, ◌∙◌, arith}
+use Rattle.std.specs.Prelude.{Some, slice_get}
+use Rattle.std.proofs.lemmas.Option.{slice_get_within}
 use Rattle.nf_work.specs.Passing.{Passing}
 use Rattle.nf_model.specs.Entries.{number_at}
 use Rattle.nf_model.specs.Network.{Link, Network, IsNetwork, IsLink}
@@ -13,7 +11,7 @@ use Rattle.nf_lists.specs.PhaseRun.{Standing, flow_of}
 use Rattle.nf_lists.specs.Ends.{end_of, EndsAtLabels}
 use Rattle.nf_run_laws.proofs.WellRun.{label_points, inflow_points, outflow_points, queue_points}
 use Rattle.nf_plain_laws.proofs.Entries.{entry}
-use Rattle.nf_phase.specs.Restarting.{EndsAtItsLabels, NoneFull}
+use Rattle.nf_phase.specs.Restarting.{EndsAtItsLabels}
 use Rattle.nf_phase.specs.Stepping.{Reaches}
 use Rattle.nf_phase.proofs.Reached.{Stands, Stands-reached}
 use Rattle.nf_phase.proofs.Stepped.{ends_reached}
@@ -39,10 +37,3 @@ module _ (passes : Passing) (net : Network) (good : IsNetwork net) (s : Standing
     outflows = λ e link p. (let c = curves_at e link p in ap end_of (outflow_points s e c.0 c.1) ∙ ends.outflows e link c.0 p c.1 ∙ kept link.head (good.heads e link p));
     queues = λ e link p. (let c = curves_at e link p in ap end_of (queue_points s e c.0 c.1) ∙ ends.queues e link c.0 p c.1 ∙ kept link.tail (good.tails e link p));
   }
-
-  pub states_told : length s.last ≡ length net.links
-  states_told = stands.last_count
-
-  pub no_full_told : NoneFull net s.last
-  no_full_told e link p none full = stands.no_full e
-      (slice_get-map (λ (l : Link). is_none l.capacity) net.links e ∙ ap (option_map (λ (l : Link). is_none l.capacity)) p ∙ ap (λ (c : Option ℚ). Some (is_none c)) none) full

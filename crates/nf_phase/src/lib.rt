@@ -18,4 +18,4 @@ pub use nf_phase_length::extension;
 pub use run::Run;
 pub use solution::{Budgets, Solution};
 pub use solving::solve;
-pub use stops::{ended_by, stop_by};
+pub use stops::stop_by;

@@ -5,7 +5,7 @@ use Rattle.std.proofs.lemmas.List.{length-set, length-replicate}
 use Rattle.std.proofs.lemmas.Bool.Decides.{eqb_tells}
 use Rattle.nf_rational.specs.Rational.{ℚ}
 use Rattle.nf_model.specs.Network.{Link, Network, IsLink, IsNetwork}
-use Rattle.nf_quick_lists.specs.Steps.{IsUnboundedWalk, IsLimited}
+use Rattle.nf_quick_lists.specs.Steps.{IsUnboundedWalk}
 use Rattle.nf_quick.specs.Ways.{Ways, way_at, leads_on, LeadsOn, NoneLeadsOn, AreWays, AreAllWays}
 
 -- ---- how many nodes have no way
@@ -105,9 +105,6 @@ module _ (net : Network) (good : IsNetwork net) where
     pub head_below : link.head < length ways
     head_below = subst (λ (n : ℕ). link.head < n) (sym are.count) (good.heads e link is)
 
-    pub tail_below : link.tail < length ways
-    tail_below = subst (λ (n : ℕ). link.tail < n) (sym are.count) (good.tails e link is)
-
     module _ (longer : List ℕ) (long : (way : List ℕ) → way_at ways link.tail ≡ Some way → longer ≡ way ++ e ∷ []) (at : ℕ) (at_head : at ≡ link.head) where
       is_longer : IsUnboundedWalk net longer net.source link.head
       is_longer = subst (λ (w : List ℕ). IsUnboundedWalk net w net.source link.head) (sym (long leading.way leading.tail))
@@ -149,6 +146,3 @@ module _ (net : Network) (good : IsNetwork net) where
     pub all_known : AreWays net ways → AreAllWays net ways
     all_known are = record { each = are; all = λ walk v p. reached walk net.source v are.source.0 are.source.1 p }
 
-  -- ---- what is known of the sink
-  pub limited : (ways : Ways) → AreAllWays net ways → way_at ways net.sink ≡ None → IsLimited net
-  limited ways are none walk p = let w : (way : List ℕ) × (way_at ways net.sink ≡ Some way) = are.all walk net.sink p in no_some _ w.0 none w.1

@@ -1,7 +1,7 @@
 -- The least departure, looked for piece by piece.
-use Rattle.std.proofs.Common.{◌≡◌, ℕ, zero, suc, ◌+◌, ◌≤◌, List, [], ◌∷◌, length, drop, Bool, true, false, Option, Some, None, slice_get, option_map, refl, sym, ap, subst, ◌∙◌, add-one}
+use Rattle.std.proofs.Common.{◌≡◌, ℕ, zero, suc, ◌+◌, List, [], ◌∷◌, drop, Bool, true, false, Option, Some, None, slice_get, option_map, refl, sym, ap, subst, ◌∙◌, add-one}
 use Rattle.std.specs.Prelude.{Result, Ok, Err, IfOk}
-use Rattle.std.proofs.lemmas.List.{drop_more, drop_all}
+use Rattle.std.proofs.lemmas.List.{drop_more}
 use Rattle.std.proofs.lemmas.Option.{slice_get_within, get_or_from_slice_get}
 use Rattle.nf_rational.specs.Rational.{ℚ}
 use Rattle.nf_rational.specs.Operations.{0ℚ}
@@ -42,9 +42,6 @@ module _ (passes : Passing) (net : Network) (amount : ℚ) (good : ArePieces net
   }
 
   module _ (known : ℚ) (k : ℕ) (comes : Comes passes net amount known k) where
-    pub none_left : length net.pieces ≤ k → at_part Part.Quick (departs passes supply_at amount 0ℚ net.pieces) ≡ Ok None
-    none_left b = ap (at_part Part.Quick) (sym comes.same ∙ ap (λ (l : List Piece). departs passes supply_at amount known l) (drop_all k net.pieces b))
-
     module _ (piece : Piece) (is : slice_get net.pieces k ≡ Some piece) where
       rest : drop k net.pieces ≡ piece ∷ drop (k + 1) net.pieces
       rest = drop_more net.pieces k piece (slice_get_within net.pieces k piece is) ∙ ap (λ (p : Piece). p ∷ drop (k + 1) net.pieces) (get_or_from_slice_get net.pieces k piece piece is)

@@ -78,9 +78,6 @@ module _ (passes : Passing) (net : Network) (amount : ℚ) (augments : ℕ) wher
       pub last_stops : (h : Halt ℚ) → Stops (λ (q : ℚ). q) h (at_part Part.Quick next) → Stops (λ (q : ℚ). q) h (at_part Part.Quick all)
       last_stops h e = stops_as all (next >>= last) h at_end (stops next last h e)
 
-      pub last_done : at_part Part.Quick next ≡ Ok None → at_part Part.Quick all ≡ Ok (Done s)
-      last_done e = ap (at_part Part.Quick) (at_end ∙ goes_on next last None e)
-
       pub last_none : at_part Part.Quick next ≡ Ok None → at_part Part.Quick all ≡ Ok (Done s)
       last_none e = ap (at_part Part.Quick) (at_end ∙ goes_on next last None e)
 

@@ -2,7 +2,7 @@
 use Rattle.std.proofs.Common.{◌≡◌, ℕ, suc, ◌+◌, ◌-◌, ◌<◌, ◌≤◌, ◌==◌, List, [], ◌∷◌, ◌++◌, length, drop, take, get_or, Bool, true, false, ⊎_elim, eqb, ◌≢◌, Option, Some, None, slice_get, unwrap_or, option_map, refl, sym, ap, subst, ◌∙◌, append_assoc, append-nil, add-one, arith}
 use Rattle.std.specs.Prelude.{Ok, Err, if◌then◌else◌}
 use Rattle.std.specs.List.{AllByRecursion}
-use Rattle.std.proofs.lemmas.List.{drop_more, drop_all, take_more}
+use Rattle.std.proofs.lemmas.List.{drop_more, take_more}
 use Rattle.std.proofs.lemmas.Option.{slice_get_within, get_or_from_slice_get, unwrap_or-slice_get}
 use Rattle.std.proofs.lemmas.Bool.Decides.{eqb_tells}
 use Rattle.nf_rational.specs.Rational.{ℚ}
@@ -33,9 +33,6 @@ module _ (links : List Link) (v : ℕ) (flows : List ℚ) where
   looks_first = record { same = refl }
 
   module _ (k : ℕ) (on : LooksOn links v flows k) where
-    pub none_out : length links ≤ k → first_out 0 links v flows ≡ None
-    none_out b = sym on.same ∙ ap (λ (l : List Link). first_out k l v flows) (drop_all k links b)
-
     module _ (link : Link) (is : slice_get links k ≡ Some link) where
       rest : drop k links ≡ link ∷ drop (k + 1) links
       rest = drop_more links k link (slice_get_within links k link is) ∙ ap (λ (l : Link). l ∷ drop (k + 1) links) (get_or_from_slice_get links k link link is)
@@ -62,12 +59,6 @@ all_with P [] x a p = (p, tt)
 all_with P (y ∷ xs) x a p = (a.0, all_with P xs x a.1 p)
 
 module _ (net : Network) (flows : List ℚ) where
-  pub leads_first : (way : List ℕ) (node : ℕ) → way ≡ [] → node ≡ net.source → LeadsOut net flows way node 0
-  leads_first way node none at = subst (λ (w : List ℕ). LeadsOut net flows w node 0) (sym none) (record {
-    same = let all : net.nodes - 0 ≡ net.nodes = omega arith in ap (λ (i : ℕ). way_from i net flows node) all ∙ ap (λ (v : ℕ). way_from net.nodes net flows v) at;
-    within = tt;
-  })
-
   module _ (way : List ℕ) (node k : ℕ) (leads : LeadsOut net flows way node k) where
     pub way_ends : net.nodes ≤ k → way ≡ way_out net flows
     way_ends b = let none : net.nodes - k ≡ 0 = omega arith in sym (append-nil way) ∙ sym (ap (λ (i : ℕ). way ++ way_from i net flows node) none) ∙ leads.same

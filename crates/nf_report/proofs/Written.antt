@@ -21,10 +21,6 @@ wrote_front rest text (Ok u) s fails w = cc
 wrote_front {E} {F} {old} {now} {f} {g} {first} {e} rest text (Err d) s fails w =
     subst (λ (t : List ℕ). Wrote {E = F} old now f g t (Err d)) s (Wrote-longer old now f g first rest e d w)
 
--- the same text
-pub same_text : {E : Type 0} {old now : Option (List ℕ)} {f g : ℕ} {r : Result (Unit {0}) E} (first text : List ℕ) → first ≡ text → Wrote old now f g first r → Wrote old now f g text r
-same_text {E} {old} {now} {f} {g} {r} first text e w = subst (λ (t : List ℕ). Wrote old now f g t r) e w
-
 -- ---- lines
 module _ {E F : Type 0} {old before now : Option (List ℕ)} {f g h : ℕ} where
   pub wrote_next : {u : Unit {0}} {r : Result (Unit {0}) E} (first next lines : List Line) → first ++ next ≡ lines

@@ -170,7 +170,7 @@ fn put_passed<O: Sink>(
 }
 
 /// Writes the line that says which operation passes in a command of one call, behind a first word. There is no phase and no place.
-/// Where the sink fails, it has taken the first bytes. It takes no memory.
+/// Where the sink fails, it has taken the first bytes, and not all of them. It takes no memory.
 pub fn write_passed_call<O: Sink>(
     out: &mut O,
     key: &[u8],
@@ -199,8 +199,8 @@ fn put_stop<O: Sink>(out: &mut O, page: &mut Page, key: &[u8], stop: &Stop) -> R
     }
 }
 
-/// Writes the line that says why a run stopped, behind a first word. Where the sink fails, it has taken the first bytes. It takes no
-/// memory.
+/// Writes the line that says why a run stopped, behind a first word. Where the sink fails, it has taken the first bytes,
+/// and not all of them. It takes no memory.
 pub fn write_stop<O: Sink>(out: &mut O, key: &[u8], stop: &Stop) -> Result<(), SinkFault>
     ensures { WroteLines (O.took out.old) (O.took out.new) (O.faults out.old) (O.faults out.new)
         ((key.now ∷ cause_words (Some stop.now)) ∷ []) result }

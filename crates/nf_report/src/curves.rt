@@ -47,7 +47,7 @@ pub(crate) fn put_curve<O: Sink>(
 }
 
 /// Writes the points of a curve, each in a line with this word and this name first: its time and its value. Where the sink fails, it has
-/// taken the first bytes. It takes no memory.
+/// taken the first bytes, and not all of them. It takes no memory.
 pub fn write_curve<O: Sink>(
     out: &mut O,
     key: &[u8],

@@ -25,8 +25,8 @@ fn put_words<O: Sink>(out: &mut O, page: &mut Page, words: &[&[u8]]) -> Result<(
     Ok(())
 }
 
-/// Puts the line of these words on the page. Where the sink fails, it has taken the first bytes of the page and the line. It takes no
-/// memory, nor does any other call that puts lines.
+/// Puts the line of these words on the page. Where the sink fails, it has taken the first bytes of the page and the line,
+/// and not all of them. It takes no memory, nor does any other call that puts lines.
 pub fn put_line<O: Sink>(
     out: &mut O,
     page: &mut Page,
@@ -41,8 +41,8 @@ pub fn put_line<O: Sink>(
     put(out, page, b"\n")
 }
 
-/// Writes the line of these words, in one piece where it isn't very long. Where the sink fails, it has taken the first bytes. It takes no
-/// memory.
+/// Writes the line of these words, in one piece where it isn't very long. Where the sink fails, it has taken the first bytes,
+/// and not all of them. It takes no memory.
 pub fn write_line<O: Sink>(out: &mut O, first: &[u8], words: &[&[u8]]) -> Result<(), SinkFault>
     ensures { WroteLines (O.took out.old) (O.took out.new) (O.faults out.old) (O.faults out.new)
         ((first.now ∷ map (λ w. w.now) words.now) ∷ []) result }

@@ -224,7 +224,8 @@ fn put_report<O: Sink>(
 }
 
 /// Writes the text of a report: of the flow of a run to a horizon, with the cause for which it stopped, if it did, and the
-/// states of the links in its last phase. Where the sink fails, it has taken the text's first bytes. It takes no memory.
+/// states of the links in its last phase. Where the sink fails, it has taken the text's first bytes, and not all of them. It takes no
+/// memory.
 pub fn write_report<O: Sink>(
     net: &Network,
     horizon: Q,

@@ -19,7 +19,7 @@ use Rattle.nf_readings.specs.ReportLines.{CurveKey, ReadCurve, ReportDraft, Open
 use Rattle.nf_report_file.specs.Keys.{key_at, key_of_number, is_some_key}
 use Rattle.nf_report_file.specs.declared.draft.Draft.{Draft}
 use Rattle.nf_report_file.specs.declared.entry.RatedPoint.{RatedPoint}
-use Rattle.nf_report_file.specs.declared.entry.Opening.TheVariants.{GoesOn, Begins}
+use Rattle.nf_report_file.specs.declared.entry.Opening.TheVariants.{Begins}
 use Rattle.nf_report_file.specs.declared.entry.Entry.TheVariants.{OfCurve, Never, OfLink}
 use Rattle.nf_report_file.specs.Drafts.{seen_stage, seen_curve, seen_done, seen_current, with_open, begun_count, seen_draft, LacksIdleOnly, IsWithin}
 use Rattle.nf_report_file.specs.Entries.{begun_by, opened_by, closed, drafted, IsNeverNext}
@@ -165,9 +165,6 @@ module _ (n : Named) (d : Draft) (within : IsWithin n d) (kind : lines.Kind) (na
 
     by_key : (b : Bool) → is_some_key kind name (key_of_number n (length d.done.items)) ≡ b → opens n d kind name (Some trace) ≡ by_test b
     by_key b e = ap by_test (same_test (curve_keys n) (length d.done.items) (key_of lines.OfNever []) kind name fewer ∙ e)
-
-    pub goes_on_there : is_some_key kind name (key_of_number n (length d.done.items)) ≡ true → opened (seen_draft n d) kind name (seen_draft n d).current ≡ Ok (opened_by (seen_draft n d) GoesOn)
-    goes_on_there e = subst (λ (o : Option Trace). opens n d kind name o ≡ Ok (opened_by (seen_with n d d.done.items o) GoesOn)) (sym some) (by_key true e)
 
     module _ (not_this : is_some_key kind name (key_of_number n (length d.done.items)) ≡ false) where
       next_test : (b : Bool) → is_some_key kind name (key_of_number n (length d.done.items + 1)) ≡ b

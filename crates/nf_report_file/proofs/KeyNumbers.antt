@@ -1,5 +1,5 @@
 -- The keys of a report's curves by their numbers.
-use Rattle.std.proofs.Common.{◌≡◌, ℕ, zero, suc, ◌+◌, ◌*◌, ◌/◌, ◌%◌, ◌<◌, ◌≤◌, List, [], ◌∷◌, ◌++◌, length, map, Some, None, refl, sym, ap, ◌∙◌, arith, length-append}
+use Rattle.std.proofs.Common.{◌≡◌, ℕ, zero, suc, ◌+◌, ◌*◌, ◌/◌, ◌%◌, ◌<◌, ◌≤◌, List, [], ◌∷◌, ◌++◌, length, map, Some, None, refl, ap, ◌∙◌, arith, length-append}
 use Rattle.std.proofs.Math.Nat.{div-add-mod, mod-lt}
 use Rattle.std.specs.Prelude.{slice_get}
 use Rattle.std.proofs.lemmas.List.{length-map}
@@ -7,7 +7,6 @@ use Rattle.std.proofs.lemmas.Option.{slice_get_past}
 use Rattle.nf_formats.specs.Names.{Name, name_at}
 use Rattle.nf_formats.specs.Named.{Named}
 use Rattle.nf_formats.specs.WellNamed.{IsNamed}
-use Rattle.nf_formats_laws.proofs.WalkFacts.{slice_get-left, slice_get-right}
 use Rattle.nf_net.proofs.Limits.{as_many_names}
 use Rattle.nf_readings.specs.ReportLines as lines
 use Rattle.nf_readings.specs.ReportLines.{CurveKey, key_of, curve_keys}
@@ -34,11 +33,6 @@ pub curves_counted : (n : Named) → IsNamed n → n.net.nodes + length n.idle_n
 curves_counted n h = let a = length_curve_keys n in let b = h.numbered.nodes in let d = as_many_names n h in omega (arith, a, b, d)
 
 -- ---- by their numbers
-named_at : (kind : lines.Kind) (names : List Name) (i : ℕ) → i < length names → slice_get (map (key_of kind) names) i ≡ Some (key_of kind (name_at names i))
-named_at kind [] i lt = absurd (omega arith)
-named_at kind (name ∷ names) zero lt = refl
-named_at kind (name ∷ names) (suc i) lt = named_at kind names i (omega arith)
-
 of_three : (name : Name) (rest : List CurveKey) (r : ℕ) → r < 3
     → slice_get (key_of lines.OfInflow name ∷ key_of lines.OfOutflow name ∷ key_of lines.OfQueue name ∷ rest) r ≡ Some (key_of (kind_of_three r) name)
 of_three name rest zero lt = refl
@@ -65,30 +59,3 @@ pub link_key_past : (names : List Name) (i e : ℕ) → e ≡ i / 3 → length n
 link_key_past names i e is le =
     let d = div-add-mod i 3 in
     slice_get_past (link_keys names) i (omega (arith, length_link_keys names, d, is, le))
-
-module _ (n : Named) (h : IsNamed n) where
-  pub label_key : (i : ℕ) → i < n.net.nodes → slice_get (curve_keys n) i ≡ Some (key_of lines.OfLabel (name_at n.node_names i))
-  label_key i lt =
-      let b = h.numbered.nodes in
-      slice_get-left (before_links n) (link_keys n.link_names) i (key_of lines.OfLabel (name_at n.node_names i))
-      (slice_get-left (map (key_of lines.OfLabel) n.node_names) (map (key_of lines.OfNever) n.idle_nodes) i (key_of lines.OfLabel (name_at n.node_names i))
-      (named_at lines.OfLabel n.node_names i (omega (arith, b, lt))))
-
-  pub never_key : (i k : ℕ) → i ≡ n.net.nodes + k → k < length n.idle_nodes → slice_get (curve_keys n) i ≡ Some (key_of lines.OfNever (name_at n.idle_nodes k))
-  never_key i k is lt =
-      let b = h.numbered.nodes in
-      let d : length (map (key_of lines.OfLabel) n.node_names) ≡ length n.node_names = length-map n.node_names (key_of lines.OfLabel) in
-      let at : i ≡ length (map (key_of lines.OfLabel) n.node_names) + k = omega (arith, b, d, is) in
-      slice_get-left (before_links n) (link_keys n.link_names) i (key_of lines.OfNever (name_at n.idle_nodes k))
-      (ap (slice_get (before_links n)) at
-      ∙ slice_get-right (map (key_of lines.OfLabel) n.node_names) (map (key_of lines.OfNever) n.idle_nodes) k
-      ∙ named_at lines.OfNever n.idle_nodes k lt)
-
-  pub behind_nodes : (i k : ℕ) → i ≡ n.net.nodes + length n.idle_nodes + k → slice_get (link_keys n.link_names) k ≡ slice_get (curve_keys n) i
-  behind_nodes i k is =
-      let b = h.numbered.nodes in
-      let d : length (map (key_of lines.OfLabel) n.node_names) ≡ length n.node_names = length-map n.node_names (key_of lines.OfLabel) in
-      let e : length (map (key_of lines.OfNever) n.idle_nodes) ≡ length n.idle_nodes = length-map n.idle_nodes (key_of lines.OfNever) in
-      let f : length (before_links n) ≡ length (map (key_of lines.OfLabel) n.node_names) + length (map (key_of lines.OfNever) n.idle_nodes) = length-append (map (key_of lines.OfLabel) n.node_names) (map (key_of lines.OfNever) n.idle_nodes) in
-      let at : i ≡ length (before_links n) + k = omega (arith, b, d, e, f, is) in
-      sym (ap (slice_get (curve_keys n)) at ∙ slice_get-right (before_links n) (link_keys n.link_names) k)

@@ -1,5 +1,5 @@
 -- Lines that are read one after the other, with the line behind each.
-use Rattle.std.proofs.Common.{◌≡◌, ℕ, suc, List, [], ◌∷◌, length, map, Option, Some, None, option_map, Result, Ok, Err, MatchOption, MatchResult, sym, ap, subst, ◌∙◌, arith}
+use Rattle.std.proofs.Common.{◌≡◌, ℕ, suc, List, [], ◌∷◌, length, map, Option, Some, None, option_map, Result, Ok, Err, MatchOption, sym, ap, subst, ◌∙◌, arith}
 use Rattle.std.proofs.lemmas.List.{length-map}
 use Rattle.nf_work.specs.Checked.{◌>>=◌}
 use Rattle.nf_lines.specs.Lines.{TextLine, lines}
@@ -15,7 +15,7 @@ use Rattle.nf_report_file.specs.declared.report.Report.{Report}
 use Rattle.nf_report_file.specs.declared.draft.Draft.{Draft}
 use Rattle.nf_report_file.specs.Drafts.{seen_draft, seen_stage}
 use Rattle.nf_report_file.specs.Lines.{words_behind}
-use Rattle.nf_report_file.specs.Files.{IfBroken, closed_by, report_of}
+use Rattle.nf_report_file.specs.Files.{IfBroken, closed_by}
 
 -- of a rule that is broken, what follows
 pub broken_more : (fault : ReportFault) (P Q : ReportBroken → Type 0) → ((broken : ReportBroken) → P broken → Q broken) → IfBroken fault P → IfBroken fault Q
@@ -109,12 +109,6 @@ module _ (n : Named) (text : List ℕ) where
     pub text_breaks : (faults : Option LineFault) (broken : ReportBroken) → first_fault text ≡ faults → report_by_bytes faults (closed_by (report_lines_from n (empty_report n) (first ∷ rest))) ≡ Err broken → report_in n text ≡ Err broken
     text_breaks faults broken same e =
         by_lines ∙ ap (λ (o : Option LineFault). report_by_bytes o (closed_by (report_lines_from n (empty_report n) (first ∷ rest)))) same ∙ e
-
--- the same answer of an equal reading
-pub answers : (result : Result Report ReportFault) (read other : Result formats.Report ReportBroken) → other ≡ read
-    → MatchResult result (λ report. read ≡ Ok (report_of report)) (λ fault. IfBroken fault (λ broken. read ≡ Err broken))
-    → MatchResult result (λ report. other ≡ Ok (report_of report)) (λ fault. IfBroken fault (λ broken. other ≡ Err broken))
-answers result read other e h = subst (λ (r : Result formats.Report ReportBroken). MatchResult result (λ report. r ≡ Ok (report_of report)) (λ fault. IfBroken fault (λ broken. r ≡ Err broken))) (sym e) h
 
 -- ---- the end of the lines
 pub loop_ends : (n : Named) (draft : ReportDraft) (line : Option ReadLine) (rest : List TextLine) → line ≡ None → EndsThere line rest

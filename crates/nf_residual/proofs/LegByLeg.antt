@@ -18,11 +18,6 @@ pub bind_more : {A B C : Type 0} (r : Checked A) (f : A → Checked B) (g : B �
 bind_more (Ok x) f g both e = e x
 bind_more (Err p) f g both e = refl
 
-pub fold_append : {A B : Type 0} (f : B → A → Checked B) (before : B) (xs ys : List A) → fold_checked f before (xs ++ ys) ≡ (fold_checked f before xs >>= λ next. fold_checked f next ys)
-fold_append f before [] ys = refl
-fold_append f before (x ∷ xs) ys =
-    bind_more (f before x) (λ next. fold_checked f next xs) (λ next. fold_checked f next ys) (λ next. fold_checked f next (xs ++ ys)) (λ next. fold_append f next xs ys)
-
 pub bind_same : {A B : Type 0} (r : Checked A) (f g : A → Checked B) → ((x : A) → f x ≡ g x) → (r >>= f) ≡ (r >>= g)
 bind_same (Ok x) f g e = e x
 bind_same (Err p) f g e = refl

@@ -112,10 +112,6 @@ IsTree-pushed tree new way n step distance good h e made =
     let count : n + 1 ≡ suc (twig_at tree way).count = omega arith in
     subst (λ (t : List Twig). IsTree t) (sym (made ∙ ap (λ (k : ℕ). tree ++ record { distance = distance; count = k; last = step; before = way } ∷ []) count)) (IsTree-added tree good way step distance h)
 
--- so there is room for one step more
-pub count_below : (tree : List Twig) (way : ℕ) → IsTree tree → way < length tree → (twig_at tree way).count < length tree
-count_below tree way good h = let few : (twig_at tree way).count ≤ way = good.few way in omega arith
-
 pub before_within : (tree : List Twig) (way : ℕ) → IsTree tree → way < length tree → (twig_at tree way).before < length tree
 before_within tree way good h = let earlier : (twig_at tree way).before ≤ way = good.earlier way in omega arith
 

@@ -43,14 +43,8 @@ all_waits c q w m e f = linear_eq (c ∷ q ∷ w ∷ m ∷ []) (eq e ∷ eq_time
 no_wait : (c w q : ℚ) → w *ℚ c ≡ q → q ≡ 0ℚ → c *ℚ w ≡ c *ℚ 0ℚ
 no_wait c w q e f = linear_eq (c ∷ w ∷ q ∷ []) (eq e ∷ eq f ∷ []) (search reading_of depth 12) tt tt
 
-nn_wait : (c w q : ℚ) → w *ℚ c ≡ q → 0ℚ ≤ℚ q → c *ℚ 0ℚ ≤ℚ c *ℚ w
-nn_wait c w q e h = linear_le (c ∷ w ∷ q ∷ []) (eq e ∷ le h ∷ []) (search reading_of depth 12) tt
-
 in_time : (a b r : ℚ) → b -ℚ (a +ℚ r) ≤ℚ 0ℚ → b -ℚ r ≤ℚ a
 in_time a b r h = linear_le (a ∷ b ∷ r ∷ []) (le h ∷ []) (search reading_of depth 12) tt
-
-since : (r t : ℚ) → 0ℚ ≤ℚ t -ℚ r → r ≤ℚ t
-since r t h = linear_le (r ∷ t ∷ []) (le h ∷ []) (search reading_of depth 12) tt
 
 since' : (r t : ℚ) → r ≤ℚ t → 0ℚ ≤ℚ t -ℚ r
 since' r t h = linear_le (r ∷ t ∷ []) (le h ∷ []) (search reading_of depth 12) tt

@@ -129,9 +129,6 @@ module _ (net : Network) (flow : Flow) (good : IsNetwork net) (is : Equilibrium 
       → IsOutflow link.transit link.capacity (F e) (at link.head) (out_by at e)
   printed-out at e link p w = subst (λ (y : ℚ). IsOutflow link.transit link.capacity (F e) (at link.head) y) (sym (out_by-is at e link p)) (is.outflows e link (at link.head) p w)
 
-  now : Within 0ℚ flow.reached flow.reached
-  now = (is.reached, ≤ℚ_refl flow.reached)
-
   up_to_now : (v : ℕ) (departure : ℚ) → v < net.nodes → Within 0ℚ flow.reached departure → Within 0ℚ (l v flow.reached) (l v departure)
   up_to_now v departure h w = (label-nn v departure h w, label-order v departure flow.reached h w.0 w.1 (≤ℚ_refl flow.reached))
 
@@ -252,10 +249,6 @@ module _ (net : Network) (flow : Flow) (good : IsNetwork net) (is : Equilibrium 
         (λ (k : 0ℚ <ℚ link.transit). absurd (not_both_ℚ _ _ some (≤ℚ_of_same _ _ (none-slow e link (soon time link.tail) p k (soon-nn time from_0 link.tail (good.tails e link p), min_right time (l link.tail 0ℚ))))))
         (λ (k : link.transit ≤ℚ 0ℚ). k)
         (lt_or_le_ℚ 0ℚ link.transit)
-
-    not_source : (v : ℕ) → Sends v → v ≢ net.source
-    not_source v (e, link, p, at, some) here = not_both_ℚ _ _ some (≤ℚ_of_same _ _
-        (ap (λ (k : ℕ). F e (soon time k)) (at ∙ here) ∙ ap (F e) (source-soon time from_0) ∙ starts-link e link p))
 
     further : (q r s : ℚ) → q ≡ r → r ≤ℚ 0ℚ → s ≤ℚ 0ℚ → q +ℚ s ≤ℚ 0ℚ
     further q r s e h k = linear_le (q ∷ r ∷ s ∷ []) (eq e ∷ le h ∷ le k ∷ []) (search reading_of depth 12) tt

@@ -8,7 +8,7 @@ use Rattle.nf_work.specs.Passing.{Passing}
 use Rattle.nf_work.specs.Checked.{each}
 use Rattle.nf_model.specs.Curve.{Point, slope, IsShort}
 use Rattle.nf_model.specs.Network.{Link, Network, IsNetwork, IsLink}
-use Rattle.nf_model.specs.Equilibrium.{Trace, Flow, points_at, points_of, label}
+use Rattle.nf_model.specs.Equilibrium.{Flow, points_at, label}
 use Rattle.nf_lists.specs.ReportCurves.{GrowingCurve, LinkCurves}
 use Rattle.nf_lists.specs.PhaseRun.{Standing, flow_of}
 use Rattle.nf_lists_laws.proofs.Bases.{same_entries}

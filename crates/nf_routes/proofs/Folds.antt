@@ -64,13 +64,6 @@ pub record Steps (f : Route → Sent → Checked Sent) (routes : List Route) (ol
   pub count : length now ≡ length old
 
 module _ (f : Route → Sent → Checked Sent) (routes : List Route) (old : List Sent) where
-  all_there : (r : Checked (List Sent)) → with_front [] r ≡ r
-  all_there (Ok ys) = refl
-  all_there (Err p) = refl
-
-  pub steps_first : (now : List Sent) → now ≡ old → Steps f routes old now 0
-  steps_first now e = record { same = all_there (step_all f routes old); rest = e; count = ap length e }
-
   module _ (now : List Sent) (i : ℕ) (so_far : Steps f routes old now i) where
     -- at the end all are made
     pub steps_last : length routes ≤ i → length old ≤ i → at_part Load (step_all f routes old) ≡ Ok now
@@ -158,13 +151,7 @@ pub record Sums (passes : Passing) (e : ℕ) (first : List Point) (routes : List
   pub same : sum_from passes e total (drop i routes) (drop i entries) ≡ sum_from passes e first routes entries
 
 module _ (passes : Passing) (e : ℕ) (first : List Point) (routes : List Route) (entries : List Sent) where
-  pub sums_first : (total : List Point) → total ≡ first → Sums passes e first routes entries total 0
-  sums_first total h = record { same = ap (λ (t : List Point). sum_from passes e t routes entries) h }
-
   module _ (total : List Point) (i : ℕ) (so_far : Sums passes e first routes entries total i) where
-    pub sums_last : length routes ≤ i → at_part Load (sum_from passes e first routes entries) ≡ Ok total
-    sums_last h = ap (at_part Load) (sym so_far.same ∙ ap (λ (l : List Route). sum_from passes e total l (drop i entries)) (drop_all i routes h))
-
     module _ (route : Route) (sent : Sent) (at : slice_get routes i ≡ Some route) (is : slice_get entries i ≡ Some sent) where
       sum_here : (add_if passes (goes_over route.links e) total (last_entry sent) >>= λ next. sum_from passes e next (drop (i + 1) routes) (drop (i + 1) entries)) ≡ sum_from passes e first routes entries
       sum_here = sym (ap (λ (l : List Route). sum_from passes e total l (drop i entries)) (drop_at routes i route at)

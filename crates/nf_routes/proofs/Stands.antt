@@ -11,7 +11,7 @@ use Rattle.nf_rational.specs.Order.{◌≤ℚ◌}
 use Rattle.nf_rational_laws.proofs.Chains.{≤ℚ_trans}
 use Rattle.nf_work.specs.Passing.{Passing}
 use Rattle.nf_model.specs.Curve.{Point}
-use Rattle.nf_model.specs.Network.{Link, Network, IsLink, IsNetwork, ArePieces, hops}
+use Rattle.nf_model.specs.Network.{Link, Network, IsLink, IsNetwork, hops}
 use Rattle.nf_model.specs.Walk.{IsWalk}
 use Rattle.nf_model_laws.proofs.Earliest.{IsPositive-link}
 use Rattle.nf_curve_laws.proofs.Operations.{then_ok}

@@ -15,10 +15,6 @@ and_true : (a b : Bool) → (a && b) ≡ true → (a ≡ true) × (b ≡ true)
 and_true true b h = (refl, h)
 and_true false b h = absurd (cc)
 
-both_true : (a b : Bool) → a ≡ true → b ≡ true → (a && b) ≡ true
-both_true true b h k = k
-both_true false b h k = absurd (cc)
-
 true_or_false : (a : Bool) → (a ≡ true) ⊎ (a ≡ false)
 true_or_false true = inl refl
 true_or_false false = inr refl
@@ -49,10 +45,6 @@ pub all-at : {A : Type 0} (t : A → Bool) (xs : List A) (x : A) → list_all t 
 all-at t [] x h k = absurd k
 all-at t (y ∷ xs) x h (inl e) = ap t e ∙ (and_true (t y) _ h).0
 all-at t (y ∷ xs) x h (inr k) = all-at t xs x (and_true (t y) _ h).1 k
-
-all-by : {A : Type 0} (t : A → Bool) (xs : List A) → ((x : A) → In x xs → t x ≡ true) → list_all t xs ≡ true
-all-by t [] h = refl
-all-by t (y ∷ xs) h = both_true (t y) _ (h y (inl refl)) (all-by t xs (λ x k. h x (inr k)))
 
 not-all : {A : Type 0} (t : A → Bool) (xs : List A) → list_all t xs ≡ false → (x : A) × In x xs × (t x ≡ false)
 not-all t [] h = absurd (cc)
@@ -100,13 +92,6 @@ not-in taken e h = ⊎_elim
         (λ (w : (eqb e f ≡ true) × (e ≡ f)). inl w.1)
         (λ (w : (eqb e f ≡ false) × (e ≢ f)). inr (taken-in taken e (turned taken (ap (λ (b : Bool). b || list_any (eqb e) taken) (sym w.0) ∙ k))))
         (eqb_tells e f))
-
-any-in : (taken : List ℕ) (q : ℕ) → list_any (eqb q) taken ≡ true → In q taken
-any-in [] q h = absurd (cc)
-any-in (f ∷ taken) q h = ⊎_elim
-    (λ (w : (eqb q f ≡ true) × (q ≡ f)). inl w.1)
-    (λ (w : (eqb q f ≡ false) × (q ≢ f)). inr (any-in taken q (ap (λ (b : Bool). b || list_any (eqb q) taken) (sym w.0) ∙ h)))
-    (eqb_tells q f)
 
 -- ---- pairs and routes
 pair-places : (links : List ℕ) (p : ℕ × ℕ) → In p (pairs_of links) → (place : ℕ) × (slice_get links place ≡ Some p.0) × (slice_get links (suc place) ≡ Some p.1)

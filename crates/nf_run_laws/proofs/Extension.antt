@@ -7,7 +7,7 @@ use Rattle.nf_rational.specs.Rational.{ℚ}
 use Rattle.nf_rational.specs.Operations.{0ℚ, ◌+ℚ◌, ◌-ℚ◌}
 use Rattle.nf_rational.specs.Order.{◌≤ℚ◌, ◌<ℚ◌, lt_ℚ}
 use Rattle.nf_rational_laws.proofs.Polynomial.{reading_of}
-use Rattle.nf_rational_laws.proofs.Linear.{le, lt, linear_le, linear_lt, linear_false}
+use Rattle.nf_rational_laws.proofs.Linear.{le, lt, linear_le, linear_false}
 use Rattle.nf_rational_laws.proofs.Order.{≤ℚ_of_lt, ≤ℚ_of_same, less_ps}
 use Rattle.nf_work.specs.Passing.{Passing}
 use Rattle.nf_work.specs.Checked.{checked, fold_checked}

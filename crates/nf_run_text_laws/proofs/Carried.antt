@@ -40,9 +40,6 @@ abbrev head_of : List Link → ℕ → ℕ
 head_of links e = option_map_or (λ (link : Link). link.head) (slice_get links e) 0
 
 -- ---- over plain numbers
-not_negative_by : (departure x : ℚ) → 0ℚ ≤ℚ departure → departure ≤ℚ x → 0ℚ ≤ℚ x
-not_negative_by departure x h k = ≤ℚ_trans _ _ _ h k
-
 no_sooner : (departure at transit exit : ℚ) → departure ≤ℚ at → 0ℚ ≤ℚ transit → at +ℚ transit ≤ℚ exit → departure ≤ℚ exit
 no_sooner departure at transit exit h k l = linear_le (departure ∷ at ∷ transit ∷ exit ∷ []) (le h ∷ le k ∷ le l ∷ []) (search reading_of depth 12) tt
 
@@ -53,9 +50,6 @@ same_rest a b c d u v e f g h = linear_le (a ∷ b ∷ c ∷ d ∷ u ∷ v ∷ [
 module _ (net : Network) (flow : Flow) (given : CanBeChecked net flow) (all : AllButRoutesHold net flow) where
   good : IsNetwork net
   good = given.network
-
-  reached_within : Within 0ℚ flow.reached flow.reached
-  reached_within = (given.reached, ≤ℚ_refl flow.reached)
 
   -- ---- labels are the earliest arrivals
   inflows_rise : InflowsRise net (inflow flow)

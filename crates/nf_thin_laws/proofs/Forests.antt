@@ -12,7 +12,7 @@ use Rattle.nf_rational.specs.Operations.{0ℚ, 1ℚ, ◌+ℚ◌, ◌-ℚ◌, ◌
 use Rattle.nf_rational.specs.Order.{◌≤ℚ◌, ◌<ℚ◌, max_ℚ}
 use Rattle.nf_rational_laws.proofs.Polynomial.{reading_of}
 use Rattle.nf_rational_laws.proofs.Order.{≤ℚ_antisymm, ≤ℚ_of_lt, lt_or_le_ℚ, not_both_ℚ}
-use Rattle.nf_rational_laws.proofs.Linear.{le, lt, eq, linear_le, linear_eq, linear_false}
+use Rattle.nf_rational_laws.proofs.Linear.{le, lt, eq, linear_le, linear_false}
 use Rattle.nf_rational_laws.proofs.Extremes.{max_is_right, max_left}
 use Rattle.nf_model.specs.Network.{Link, Network, IsLink, IsNetwork, hop_of, hops, sum_in, sum_out}
 use Rattle.nf_model.specs.Pattern.{IsTrail, AllDiffer, IsForest}
@@ -34,9 +34,6 @@ IsDistinct-differ [] a = distinct_none
 IsDistinct-differ (x ∷ xs) a = distinct_more x xs (not_any x xs a.0) (IsDistinct-differ xs a.1)
 
 -- ---- a node that something leaves is one that something enters: d is what each link carries forward
-negated : (x : ℚ) → 0ℚ +ℚ x *ℚ (0ℚ -ℚ 1ℚ) ≡ 0ℚ -ℚ x
-negated x = linear_eq (x ∷ []) [] (search reading_of depth 12) tt tt
-
 module _ (links : List Link) (d : ℕ → ℚ) (v : ℕ) (balanced : out_less_in links d v ≡ 0ℚ)
     (none_in : (e : ℕ) (link : Link) → slice_get links e ≡ Some link → link.head ≡ v → d e ≤ℚ 0ℚ)
     (none_back : (e : ℕ) (link : Link) → slice_get links e ≡ Some link → link.tail ≡ v → 0ℚ ≤ℚ d e) where

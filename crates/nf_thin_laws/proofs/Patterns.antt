@@ -14,7 +14,7 @@ use Rattle.nf_model.specs.ThinFlow.{Sets, Enters}
 use Rattle.nf_model.specs.Pattern.{Pattern, HasState, NeedsState, IsPattern, Fills}
 use Rattle.nf_model_laws.specs.Capacity.{IsPositive}
 use Rattle.nf_model_laws.proofs.Networks.{link_at}
-use Rattle.nf_thin_laws.specs.ActiveLinks.{AreSets, EachIsEntered}
+use Rattle.nf_thin_laws.specs.ActiveLinks.{AreSets}
 use Rattle.nf_thin_laws.specs.PatternLaws.{EachIsLed}
 use Rattle.nf_thin_laws.proofs.Flags.{flag, flag-cases}
 use Rattle.nf_plain_laws.proofs.Entries.{entry}
@@ -94,6 +94,3 @@ module _ (net : Network) (sets : Sets) (pattern : Pattern) (are : AreSets net se
       go (e, hop, p, at, inl r) = led_by v e hop p at (are.resetting e r) (λ link q. by_reset (without_state e link q (λ n. n.1 r)) (ap (λ (o : Option Bool). unwrap_or o false) r))
       go (e, hop, p, at, inr (inl s)) = led_by v e hop p at ((is_pattern.states e).1 (Tight, s)).0 (λ link q. by_tight s (not_reset e Tight s))
       go (e, hop, p, at, inr (inr s)) = led_by v e hop p at ((is_pattern.states e).1 (Full, s)).0 (λ link q. by_full s (not_reset e Full s))
-
-  pub EachIsEntered-led : EachIsLed net sets pattern → EachIsEntered net sets
-  EachIsEntered-led leads v h other = let l : Led v = led leads v h other in (l.0, l.1, l.2)

@@ -1,4 +1,4 @@
-use Rattle.std.proofs.Common.{◌≡◌, List, [], ◌∷◌, ◌++◌, length, ap, refl, sym, append_assoc}
+use Rattle.std.proofs.Common.{List, [], ◌∷◌, ◌++◌, length, ap, refl, sym, append_assoc}
 use Rattle.std.specs.Prelude.{codes}
 use Rattle.nf_rational.specs.Rational.{ℚ}
 use Rattle.nf_formats.specs.Report.{for_each, state_lines}

@@ -1,8 +1,7 @@
-use Rattle.std.proofs.Common.{ℕ, List, sym, ◌∙◌}
-use Rattle.std.specs.Prelude.{Ok, Err, map, length}
+use Rattle.std.proofs.Common.{sym, ◌∙◌}
+use Rattle.std.specs.Prelude.{map}
 use Rattle.std.proofs.lemmas.List.{length-map}
 use Rattle.std.proofs.lemmas.Result.{err_from_is_err_and}
-use Rattle.nf_model.specs.Equilibrium.{points_of}
 use Rattle.nf_curve.specs.Flows.{trace_of}
 use Rattle.nf_report_file.specs.Files.{report_of}
 use Rattle.nf_app.proofs.CheckGiven.{report_refused, checking_stopped, verdict_given}

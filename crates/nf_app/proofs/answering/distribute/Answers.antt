@@ -1,4 +1,3 @@
-use Rattle.std.proofs.Common.{◌≡◌}
 use Rattle.std.proofs.lemmas.Result.{err_from_is_err_and}
 use Rattle.nf_routes.specs.Routed.{routed_of}
 use Rattle.nf_app.proofs.RoutesGiven.{routes_refused, distributing_stopped, distributed_given, routed_counts}

@@ -1,4 +1,4 @@
-use Rattle.std.proofs.Common.{refl, inl, inr, ap, ◌∙◌}
+use Rattle.std.proofs.Common.{refl, inl, ap, ◌∙◌}
 use Rattle.std.proofs.lemmas.Result.{err_from_is_err_and}
 use Rattle.nf_quick_lists.specs.Quick as lists
 use Rattle.std.specs.Prelude.{List}

@@ -1,4 +1,4 @@
-use Rattle.std.proofs.Common.{◌≡◌, ℕ, ◌≤◌, List, length, ap, sym, subst, arith}
+use Rattle.std.proofs.Common.{◌≤◌, length, ap, sym, subst, arith}
 use Rattle.nf_command_line.specs.declared.request.Request as code
 use Rattle.nf_command_line.specs.Requests.{Request, CanBeAsked}
 use Rattle.nf_command_line.specs.RequestViews.{requested}

@@ -1,5 +1,5 @@
-use Rattle.std.proofs.Common.{◌≡◌, ℕ, List, subst}
-use Rattle.std.specs.Prelude.{Ok, Err, map}
+use Rattle.std.proofs.Common.{List, subst}
+use Rattle.std.specs.Prelude.{map}
 use Rattle.std.proofs.lemmas.Result.{err_from_is_err_and}
 use Rattle.nf_model.specs.Network.{Piece, ArePieces}
 use Rattle.nf_readings.specs.LoadsFile.{pieces_at}

@@ -1,6 +1,5 @@
-use Rattle.std.proofs.Common.{refl, inl, inr, subst, ap, ◌≡◌}
-use Rattle.std.specs.Prelude.{Result, Ok, Err}
-use Rattle.nf_quick_lists.specs.Quick.{Quick as QuickFlow}
+use Rattle.std.proofs.Common.{refl, inl, inr, subst}
+use Rattle.std.specs.Prelude.{Err}
 use Rattle.nf_work.specs.Passing.{passes_Q}
 use Rattle.nf_quick.specs.Answered.{IsAnswered, IsInOrder}
 use Rattle.nf_quick.specs.declared.fault.QuickFault.{QuickFault}

@@ -1,11 +1,8 @@
-use Rattle.std.proofs.Common.{◌≡◌, ℕ, ◌<◌, List, length, ap, sym, subst, ◌∙◌}
-use Rattle.std.specs.Prelude.{Some, None, map}
+use Rattle.std.proofs.Common.{◌≡◌, ℕ, ◌<◌, ap, sym, subst, ◌∙◌}
+use Rattle.std.specs.Prelude.{Some, None}
 use Rattle.std.specs.Option.{option_copied}
-use Rattle.std.proofs.lemmas.List.{length-map}
 use Rattle.nf_phase.specs.Solution.{bounds_of, report_in, IsSolution}
 use Rattle.nf_phase.specs.declared.solution.Budgets.{Budgets}
-use Rattle.nf_app.specs.QuickGiven.{ArrivesIn}
-use Rattle.nf_answers.specs.declared.arrival.Arrival.{Arrival}
 use Rattle.nf_app.proofs.QuickTold.{sink_in, at_sink, stopped_arrives, reached_arrives}
 use Rattle.nf_app.proofs.arrival.arrival_at.Goals as goal
 

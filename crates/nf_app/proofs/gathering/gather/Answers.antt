@@ -1,4 +1,4 @@
-use Rattle.std.proofs.Common.{◌≡◌, ap, sym, subst, refl}
+use Rattle.std.proofs.Common.{ap, sym, subst, refl}
 use Rattle.std.specs.Prelude.{IfOk}
 use Rattle.nf_command_line.specs.declared.request.Request as code
 use Rattle.nf_command_line.specs.Requests.{Request, CanBeAsked}

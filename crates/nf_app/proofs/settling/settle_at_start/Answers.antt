@@ -1,4 +1,4 @@
-use Rattle.std.proofs.Common.{◌≡◌, ◌∙◌, sym, ap, length}
+use Rattle.std.proofs.Common.{◌∙◌, sym, ap, length}
 use Rattle.std.proofs.lemmas.Result.{err_from_is_err_and}
 use Rattle.nf_work.specs.declared.Halt.{Halt}
 use Rattle.nf_flows_file.specs.Files.{given_of}

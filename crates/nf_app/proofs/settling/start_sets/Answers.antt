@@ -1,4 +1,3 @@
-use Rattle.std.proofs.Common.{◌≡◌, ◌∙◌}
 use Rattle.std.proofs.lemmas.Result.{err_from_is_err_and}
 use Rattle.nf_app.proofs.Starting.{hops_inside}
 use Rattle.nf_app.proofs.SettleCalls.{slacks_stopped, sets_there}

@@ -1,4 +1,4 @@
-use Rattle.std.proofs.Common.{◌≡◌, ap, sym, ◌∙◌}
+use Rattle.std.proofs.Common.{ap, sym, ◌∙◌}
 use Rattle.nf_answers.specs.Answers.{err_text, status_of_stop, text_of_stop}
 use Rattle.nf_answers.specs.Outcomes.{answer_with}
 use Rattle.nf_answers.specs.declared.outcome.Found.{Found}

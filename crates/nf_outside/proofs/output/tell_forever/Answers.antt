@@ -1,4 +1,4 @@
-use Rattle.std.proofs.Common.{◌≡◌, ◌∙◌, sym}
+use Rattle.std.proofs.Common.{◌∙◌, sym}
 use Rattle.std.specs.Option.{option_copied}
 use Rattle.nf_outside.proofs.Statuses.{events, no_events}
 use Rattle.nf_outside.proofs.output.tell_forever.Goals as goal
