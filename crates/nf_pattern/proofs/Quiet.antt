@@ -1,5 +1,5 @@
 -- From which link on nothing differs from the base.
-use Rattle.std.proofs.Common.{◌≡◌, ℕ, ◌+◌, ◌≤◌, List, [], ◌∷◌, ◌++◌, length, length-drop, take, drop, refl, sym, ap, subst, ◌∙◌, arith}
+use Rattle.std.proofs.Common.{◌≡◌, ℕ, zero, suc, ◌+◌, ◌-◌, ◌≤◌, List, [], ◌∷◌, ◌++◌, length, length-drop, take, drop, refl, sym, ap, subst, ◌∙◌, arith}
 use Rattle.std.specs.Prelude.{Option, Some, None, MatchOption, Bool}
 use Rattle.std.proofs.Math.Seq.{drop-append-add, drop-append_seam}
 use Rattle.std.proofs.lemmas.List.{drop-drop, length-take-le}
@@ -8,6 +8,7 @@ use Rattle.nf_pattern.specs.declared.assignments.Quiet.{Quiet}
 use Rattle.nf_pattern.specs.declared.assignments.Raised.{Raised}
 use Rattle.nf_pattern.specs.Successor.{IsSameBefore, IsQuiet, free, later}
 use Rattle.nf_pattern.proofs.Successors.{changes_first, no_change}
+use Rattle.nf_pattern.proofs.Filling.{free_first}
 use Rattle.nf_pattern.proofs.Counting.{changes_end, free_end}
 use Rattle.nf_pattern.proofs.Raising.{later_up_to}
 
@@ -47,6 +48,37 @@ quiet_behind base states rest after i quiet behind within count is is_quiet link
           ∙ (ap (changes (drop (i + n) base)) same ∙ (ap (λ (x : Pattern). changes x (drop n rest)) (sym (drop-drop n i base)) ∙ is_quiet.unchanged));
       free_is = free_is ∙ (is_quiet.free_is ∙ ap free from);
     }
+
+-- ---- up to where nothing differs
+changes_parts : (k : ℕ) (base states : Pattern) → length states ≡ length base → changes base states ≡ changes (take k base) (take k states) + changes (drop k base) (drop k states)
+changes_parts zero base states count = let z : changes (take zero base) (take zero states) ≡ 0 = refl in omega arith
+changes_parts (suc k) [] states count = omega arith
+changes_parts (suc k) (b ∷ base) [] count = absurd (omega arith)
+changes_parts (suc k) (b ∷ base) (a ∷ states) count =
+    let all = changes_first b a base states in
+    let front = changes_first b a (take k base) (take k states) in
+    let rest = changes_parts k base states (omega arith) in omega arith
+
+free_parts : (k : ℕ) (base : Pattern) → free base ≡ free (take k base) + free (drop k base)
+free_parts zero base = let z : free (take zero base) ≡ 0 = refl in omega arith
+free_parts (suc k) [] = omega arith
+free_parts (suc k) (b ∷ base) = let all = free_first b base in let front = free_first b (take k base) in let rest = free_parts k base in omega arith
+
+module _ (base states : Pattern) (quiet : Quiet) (is : IsQuiet base quiet states) (i : ℕ) (few : i ≤ quiet.link) where
+  abbrev to_quiet : Pattern → Pattern
+  to_quiet xs = take (quiet.link - i) (drop i xs)
+
+  behind : (xs : Pattern) → drop (quiet.link - i) (drop i xs) ≡ drop quiet.link xs
+  behind xs = drop-drop (quiet.link - i) i xs ∙ ap (λ (k : ℕ). drop k xs) (let whole : i + (quiet.link - i) ≡ quiet.link = omega arith in whole)
+
+  pub changes_to_quiet : length states ≡ length base → changes (to_quiet base) (to_quiet states) ≡ changes (drop i base) (drop i states)
+  changes_to_quiet count =
+      let front = length-drop i base in let all = length-drop i states in
+      let parts = changes_parts (quiet.link - i) (drop i base) (drop i states) (omega arith) in
+      let none : changes (drop (quiet.link - i) (drop i base)) (drop (quiet.link - i) (drop i states)) ≡ 0 = (λ j. changes (behind base j) (behind states j)) ∙ is.unchanged in omega arith
+
+  pub free_to_quiet : free (to_quiet base) + quiet.free ≡ free (drop i base)
+  free_to_quiet = ap (λ (n : ℕ). free (to_quiet base) + n) (is.free_is ∙ sym (ap free (behind base))) ∙ sym (free_parts (quiet.link - i) (drop i base))
 
 -- so many links at most may differ
 pub free_few : (base : Pattern) → free base ≤ length base

@@ -179,8 +179,8 @@ fn raise(
     if quiet.link <= same {
         raise_from(states, base, unbounded, quiet.link, 0, quiet.free)
     } else {
-        let changes = count_changes(&base[same..], &states[same..]);
-        let more = count_free(&base[same..]);
+        let changes = count_changes(&base[same..quiet.link], &states[same..quiet.link]);
+        let more = count_free(&base[same..quiet.link]) + quiet.free;
         raise_from(states, base, unbounded, same, changes, more)
     }
 }

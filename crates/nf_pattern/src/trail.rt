@@ -2,7 +2,7 @@
 use crate::entered::{chain, ends, is_lost, strands};
 use crate::firm::FirmLinks;
 use crate::firming::firm_links;
-use crate::walking::TightLinks;
+use crate::walking::{TightLinks, is_tight};
 use nf_graph::{Hop, LinkId, NodeId};
 use nf_model::State;
 use std::alloc::{AllocError, Global};
@@ -94,6 +94,13 @@ impl Trail {
             ((self.new.depth ≡ self.old.depth) × (Strands source hops.now resetting.now states.now self.new.ends.items self.new.depth ⊎ Closes hops.now states.now self.new.depth)) }
     {
         let link = LinkId(self.depth as u32);
+        if is_tight(states, link) {
+            if !self.tight.enter(hops, states, link, &mut self.firm) {
+                return false;
+            }
+            self.depth += 1;
+            return true;
+        }
         if strands(
             hops,
             states,
@@ -103,9 +110,6 @@ impl Trail {
             &self.chain,
             &self.ends,
         ) {
-            return false;
-        }
-        if !self.tight.enter(hops, states, link, &mut self.firm) {
             return false;
         }
         self.depth += 1;

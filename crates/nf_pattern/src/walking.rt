@@ -214,7 +214,7 @@ impl TightLinks {
         true
     }
 
-    // The same, with no walk where it is firm and they are.
+    // One Tight link more was looked at; false where it closes a cycle with those before it. No walk where it is firm and they are.
     pub(crate) fn enter(
         &mut self,
         hops: &[Hop],
@@ -223,7 +223,7 @@ impl TightLinks {
         firm: &mut FirmLinks,
     ) -> bool
         requires link { link < length hops.now }
-        requires states { length states.now ≡ length hops.now }
+        requires tight { HasState states.now link Tight }
         requires holds { Holds hops.now states.now link self.old }
         requires clear { NoneCloses hops.now states.now link }
         requires calm { AreCalm hops.now states.now link firm.old }
@@ -231,9 +231,6 @@ impl TightLinks {
             ((self.new ≡ self.old) × (firm.new ≡ firm.old) × Closes hops.now states.now link) }
         ensures nodes { length self.new.last.items ≡ length self.old.last.items }
     {
-        if !is_tight(states, link) {
-            return true;
-        }
         if firm.covers(link) {
             self.put(hops, states, link);
             return true;

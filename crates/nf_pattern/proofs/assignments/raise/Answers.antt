@@ -1,8 +1,5 @@
-use Rattle.std.proofs.Common.{◌∙◌, ap}
-use Rattle.nf_model.specs.Pattern.{changes}
-use Rattle.nf_pattern.specs.Successor.{free}
-use Rattle.nf_pattern.proofs.Raising.{from_here}
-use Rattle.nf_pattern.proofs.Quiet.{raised_up_to}
+use Rattle.std.proofs.Common.{◌∙◌, drop, length-drop, arith}
+use Rattle.nf_pattern.proofs.Quiet.{changes_to_quiet, free_to_quiet, free_few, raised_up_to}
 use Rattle.nf_pattern.proofs.assignments.raise.Goals as goal
 
 pub returns-then-quiet-same : goal.returns-then-quiet-same
@@ -11,10 +8,20 @@ returns-then-quiet-same c = raised_up_to c.args.base.now c.args.unbounded.now c.
 
 pub raise_from-requires-else-quiet-same-clause-counted : goal.raise_from-requires-else-quiet-same-clause-counted
 raise_from-requires-else-quiet-same-clause-counted c =
-    c.count_changes-changes.ensures.changes ∙ (λ i. changes (from_here c.args.base.now c.args.same i) (from_here c.args.states.now c.args.same i))
+    c.count_changes-changes.ensures.changes ∙ changes_to_quiet c.args.base.now c.args.states.now c.args.quiet c.requires.quiet c.args.same (let past = c.if-quiet-same.false in omega arith) c.requires.states
 
 pub raise_from-requires-else-quiet-same-clause-free : goal.raise_from-requires-else-quiet-same-clause-free
-raise_from-requires-else-quiet-same-clause-free c = c.count_free-more.ensures.free ∙ ap free (from_here c.args.base.now c.args.same)
+raise_from-requires-else-quiet-same-clause-free c =
+    let counted = c.count_free.ensures.free in
+    let all = free_to_quiet c.args.base.now c.args.states.now c.args.quiet c.requires.quiet c.args.same (let past = c.if-quiet-same.false in omega arith) in omega arith
+
+pub overflow_add-more : goal.overflow_add-more
+overflow_add-more c =
+    let counted = c.count_free.ensures.free in
+    let all = free_to_quiet c.args.base.now c.args.states.now c.args.quiet c.requires.quiet c.args.same (let past = c.if-quiet-same.false in omega arith) in
+    let few = free_few (drop c.args.same c.args.base.now) in
+    let count = length-drop c.args.same c.args.base.now in
+    let fewer = c.requires.fewer in omega arith
 
 pub raise_from-requires-else-quiet-same-clause-states : goal.raise_from-requires-else-quiet-same-clause-states
 raise_from-requires-else-quiet-same-clause-states c = c.requires.states

@@ -4,18 +4,36 @@ use Rattle.nf_pattern.specs.declared.firm.FirmLinks.{FirmLinks}
 use Rattle.nf_pattern.specs.declared.walking.TightLinks.{TightLinks}
 use Rattle.nf_pattern.specs.Entered.{AreChained, Keeps, Strands}
 use Rattle.nf_pattern.specs.Trail.{Follows}
+use Rattle.nf_pattern.proofs.Entries.{carries_keeps}
+use Rattle.nf_pattern.proofs.Holding.{holds_loose, clear_more}
+use Rattle.nf_pattern.proofs.Calming.{calm_loose}
 use Rattle.nf_pattern.proofs.Following.{entered_on}
 use Rattle.nf_pattern.proofs.trail.Trail.enter.Goals as goal
 
 pub returns-then-not-enter-clause-entered : goal.returns-then-not-enter-clause-entered
 returns-then-not-enter-clause-entered c = (refl, inr c.if-not-enter.ensures.entered.2)
 
+pub returns-then-is_tight-clause-follows : goal.returns-then-is_tight-clause-follows
+returns-then-is_tight-clause-follows c =
+    entered_on c.args.source c.args.hops.now c.args.resetting.now c.args.states.now c.requires.follows c.requires.more (omega arith)
+    c.if-not-enter.ensures.entered.0 c.if-not-enter.ensures.entered.1 c.enter.ensures.nodes refl refl
+    (carries_keeps c.args.hops.now c.args.resetting.now c.args.states.now c.args.source c.args.self.now.ends.items c.args.self.now.depth (inr (inl c.if-is_tight.ensures)))
+    c.if-not-enter.ensures.entered.2
+
+pub returns-then-is_tight-clause-way : goal.returns-then-is_tight-clause-way
+returns-then-is_tight-clause-way c = record { nodes = c.enter.ensures.nodes; ends = refl; lost = refl }
+
+pub returns-then-is_tight-clause-entered : goal.returns-then-is_tight-clause-entered
+returns-then-is_tight-clause-entered c = add-one c.args.self.now.depth
+
 pub returns-clause-follows : goal.returns-clause-follows
 returns-clause-follows c =
     entered_on c.args.source c.args.hops.now c.args.resetting.now c.args.states.now c.requires.follows c.requires.more (omega arith)
-    c.if-not-enter.ensures.entered.0 c.if-not-enter.ensures.entered.1 c.enter.ensures.nodes refl refl
+    (holds_loose c.args.hops.now c.args.states.now c.args.self.now.depth c.args.self.now.tight.last.items c.args.self.now.tight.tails.items c.args.self.now.tight.heads.items
+    c.requires.follows.tight c.if-is_tight.ensures)
+    (clear_more c.args.hops.now c.args.states.now c.args.self.now.depth c.requires.follows.clear (λ closes. c.if-is_tight.ensures closes.0)) refl refl refl
     (subst (λ (es : List ℕ). Keeps c.args.source c.args.hops.now c.args.resetting.now c.args.states.now es c.args.self.now.depth) c.deref-2.ensures.value c.if-strands.ensures)
-    c.if-not-enter.ensures.entered.2
+    (calm_loose c.args.hops.now c.args.states.now c.args.self.now.depth c.args.self.now.firm c.requires.follows.calm c.if-is_tight.ensures)
 
 pub strands-requires-clause-link : goal.strands-requires-clause-link
 strands-requires-clause-link c = c.requires.more
@@ -66,13 +84,13 @@ pub returns-then-not-enter-clause-way : goal.returns-then-not-enter-clause-way
 returns-then-not-enter-clause-way c = record { nodes = c.enter.ensures.nodes; ends = refl; lost = refl }
 
 pub returns-clause-way : goal.returns-clause-way
-returns-clause-way c = record { nodes = c.enter.ensures.nodes; ends = refl; lost = refl }
+returns-clause-way c = record { nodes = refl; ends = refl; lost = refl }
 
 pub returns-clause-entered : goal.returns-clause-entered
 returns-clause-entered c = add-one c.args.self.now.depth
 
-pub enter-requires-clause-states : goal.enter-requires-clause-states
-enter-requires-clause-states c = c.requires.states
+pub enter-requires-clause-tight : goal.enter-requires-clause-tight
+enter-requires-clause-tight c = c.if-is_tight.ensures
 
 pub strands-requires-clause-resetting : goal.strands-requires-clause-resetting
 strands-requires-clause-resetting c = c.requires.resetting

@@ -1,14 +1,7 @@
 use Rattle.std.proofs.Common.{refl, arith}
-use Rattle.nf_pattern.proofs.Holding.{holds_loose, clear_more}
-use Rattle.nf_pattern.proofs.Calming.{calm_loose, calm_firm, calm_clear}
+use Rattle.nf_pattern.proofs.Holding.{clear_more}
+use Rattle.nf_pattern.proofs.Calming.{calm_firm, calm_clear}
 use Rattle.nf_pattern.proofs.walking.TightLinks.enter.Goals as goal
-
-pub returns-then-not-is_tight-clause-entered : goal.returns-then-not-is_tight-clause-entered
-returns-then-not-is_tight-clause-entered c = (
-  holds_loose c.args.hops.now c.args.states.now c.args.link c.args.self.now.last.items c.args.self.now.tails.items c.args.self.now.heads.items c.requires.holds c.if-not-is_tight.ensures,
-  clear_more c.args.hops.now c.args.states.now c.args.link c.requires.clear (λ closes. c.if-not-is_tight.ensures closes.0),
-  calm_loose c.args.hops.now c.args.states.now c.args.link c.args.firm.now c.requires.calm c.if-not-is_tight.ensures,
-)
 
 pub returns-then-covers-clause-entered : goal.returns-then-covers-clause-entered
 returns-then-covers-clause-entered c =
@@ -20,7 +13,7 @@ returns-then-covers-clause-entered c =
     )
 
 pub returns-then-joins-clause-entered : goal.returns-then-joins-clause-entered
-returns-then-joins-clause-entered c = (refl, refl, (c.if-not-is_tight.ensures, c.if-joins.ensures))
+returns-then-joins-clause-entered c = (refl, refl, (c.requires.tight, c.if-joins.ensures))
 
 pub returns-clause-entered : goal.returns-clause-entered
 returns-clause-entered c = (
