@@ -1,5 +1,5 @@
 // What a network file is read as.
-use crate::shown::{Found, OrWord};
+use crate::shown::{FoundNumber, OrWord};
 use case_lines::{Shown, op_word};
 use nf_frac::Q;
 use nf_graph::topological;
@@ -86,8 +86,8 @@ fn tell_time(rt: &HostRuntime, net: &Network, time: Q) -> io::Result<()> {
 }
 
 fn tell_name(rt: &HostRuntime, net: &Network, name: &str) -> io::Result<()> {
-    let node = Found(net.node_named(name).map(|node| node.0));
-    let link = Found(net.link_named(name).map(|link| link.0));
+    let node = FoundNumber(net.node_named(name).map(|node| node.0));
+    let link = FoundNumber(net.link_named(name).map(|link| link.0));
     println!(rt; "name {name} node {node} link {link}")
 }
 

@@ -116,7 +116,7 @@ pub fn tell_by_slopes(
     match find_by_slopes(rt.alloc(), net, sets, rate, base, budget) {
         Ok(Some(found)) => {
             tell_place(rt, net, sets, base, &found.pattern, budget)?;
-            tell_flows(rt, &found.flows, &found.labels)
+            tell_flows(rt, &found.flows, &found.slopes)
         }
         Ok(None) => print!(rt; "no end"),
         Err(fault) => tell_fault(rt, &fault),
@@ -138,11 +138,11 @@ pub fn tell_tried(
         return tell_none(rt);
     }
     let mut flows = vec![in rt.alloc(); Q::zero(); net.link_count() as usize]?;
-    let mut labels = vec![in rt.alloc(); Q::zero(); net.node_count() as usize]?;
-    match try_pattern(net, sets, rate, pattern, &mut flows, &mut labels) {
+    let mut slopes = vec![in rt.alloc(); Q::zero(); net.node_count() as usize]?;
+    match try_pattern(net, sets, rate, pattern, &mut flows, &mut slopes) {
         Ok(Tried::Accepted) => {
             print!(rt; "accepted")?;
-            tell_flows(rt, &flows, &labels)
+            tell_flows(rt, &flows, &slopes)
         }
         Ok(Tried::NotSolvable) => print!(rt; "not solvable"),
         Err(at) => tell_passed(rt, &at),

@@ -18,9 +18,9 @@ impl fmt::Display for OrWord {
 
 /// A number of a node or link, `-` for none.
 #[derive(Drop)]
-pub struct Found(pub Option<u32>);
+pub struct FoundNumber(pub Option<u32>);
 
-impl fmt::Display for Found {
+impl fmt::Display for FoundNumber {
     fn fmt<W: fmt::Write>(&self, f: &mut fmt::Formatter<W>) -> fmt::Result {
         match self.0 {
             Some(number) => write!(f, "{number}"),

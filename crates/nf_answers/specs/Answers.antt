@@ -35,30 +35,30 @@ use Rattle.nf_answers.specs.declared.status.Status.{Status}
 -- `Earlier`: the horizon is before the departure that the report's flow has reached.
 -- `Unbounded`: there is no quickest flow, since a walk of unbounded links leads to the sink. `Passes`: an operation of the command's
 -- list passes the bound.
-pub data Answer : Type 0 where
-  Solved : Named → Report → Answer
-  SolvedForever : Named → Forever → Answer
-  Shown : Named → Answer
-  Loaded : Named → ℚ → List Loading → Answer
-  Checked : Named → Verdict ℕ ℕ ℚ → Answer
-  Quickest : Named → Quick → Arrival → Answer
-  TooManyWalks : Named → ℕ → List Augment → Answer
-  Generated : ℕ → ℕ → Named → ℕ → Report → Answer
-  Settled : Named → Pattern → List ℚ → Answer
-  Distributed : Named → List NamedRoute → ℚ → Routed → Answer
-  NoMemory : Answer
-  NoRequest : Answer
-  ShelfFailed : Answer
-  ShelfTooLong : Answer
-  Malformed : Broken → Answer
-  MalformedLoads : LoadsBroken → Answer
-  MalformedFlows : FlowsBroken → Answer
-  MalformedRoutes : RoutesBroken → Answer
-  MalformedReport : ReportBroken → Answer
-  Passes : PassedAt ℚ → Answer
-  Unbounded : Answer
-  NotThin : Answer
-  Earlier : Answer
+pub data ProgramAnswer : Type 0 where
+  Solved : Named → Report → ProgramAnswer
+  SolvedForever : Named → Forever → ProgramAnswer
+  Shown : Named → ProgramAnswer
+  Loaded : Named → ℚ → List Loading → ProgramAnswer
+  Checked : Named → Verdict ℕ ℕ ℚ → ProgramAnswer
+  Quickest : Named → Quick → Arrival → ProgramAnswer
+  TooManyWalks : Named → ℕ → List Augment → ProgramAnswer
+  Generated : ℕ → ℕ → Named → ℕ → Report → ProgramAnswer
+  Settled : Named → Pattern → List ℚ → ProgramAnswer
+  Distributed : Named → List NamedRoute → ℚ → Routed → ProgramAnswer
+  NoMemory : ProgramAnswer
+  NoRequest : ProgramAnswer
+  ShelfFailed : ProgramAnswer
+  ShelfTooLong : ProgramAnswer
+  Malformed : Broken → ProgramAnswer
+  MalformedLoads : LoadsBroken → ProgramAnswer
+  MalformedFlows : FlowsBroken → ProgramAnswer
+  MalformedRoutes : RoutesBroken → ProgramAnswer
+  MalformedReport : ReportBroken → ProgramAnswer
+  Passes : PassedAt ℚ → ProgramAnswer
+  Unbounded : ProgramAnswer
+  NotThin : ProgramAnswer
+  Earlier : ProgramAnswer
 
 -- ---- the status
 abbrev pub number_of : Status → ℕ
@@ -98,7 +98,7 @@ abbrev pub status_of_verdict : Verdict ℕ ℕ ℚ → Status
 status_of_verdict Yes = Status.Ok
 status_of_verdict (No rule subject time left right) = Status.NotEquilibrium
 
-abbrev pub status_of : Answer → Status
+abbrev pub status_of : ProgramAnswer → Status
 status_of (Solved n report) = status_of_stop report.stop
 status_of (SolvedForever n forever) = status_of_forever forever.stop
 status_of (Shown n) = Status.Ok
@@ -124,7 +124,7 @@ status_of NotThin = Status.NotThin
 status_of Earlier = Status.Earlier
 
 -- ---- what is written
-abbrev pub out_text : Answer → List ℕ
+abbrev pub out_text : ProgramAnswer → List ℕ
 out_text (Solved n report) = report_text n report
 out_text (SolvedForever n forever) = forever_text n forever
 out_text (Shown n) = canonical n
@@ -138,7 +138,7 @@ out_text (Distributed n routes horizon routed) = routed_text n routes horizon ro
 out_text answer = []
 
 -- the answers that have a text for the output, all but the refusals
-abbrev pub HasOutput : Answer → Type 0
+abbrev pub HasOutput : ProgramAnswer → Type 0
 HasOutput NoMemory = ⊥
 HasOutput NoRequest = ⊥
 HasOutput ShelfFailed = ⊥
@@ -162,7 +162,7 @@ abbrev pub text_of_verdict : Verdict ℕ ℕ ℚ → List ℕ
 text_of_verdict Yes = []
 text_of_verdict (No rule subject time left right) = no_equilibrium_line
 
-abbrev pub err_text : Answer → List ℕ
+abbrev pub err_text : ProgramAnswer → List ℕ
 err_text (Solved n report) = text_of_stop report.stop
 err_text (SolvedForever n forever) = text_of_stop forever.stop
 err_text (Shown n) = []

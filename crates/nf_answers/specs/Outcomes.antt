@@ -13,67 +13,67 @@ use Rattle.nf_forever_lists.specs.ForeverText.{HasForm, forever_text}
 use Rattle.nf_routes_lists.specs.RoutesText.{routed_text}
 use Rattle.nf_routes.specs.Routed.{routed_of}
 use Rattle.nf_forever.specs.Seen.{forever_in}
-use Rattle.nf_answers.specs.declared.outcome.Found.{Found}
+use Rattle.nf_answers.specs.declared.outcome.Computed.{Computed}
 use Rattle.nf_answers.specs.declared.outcome.Outcome.{Outcome}
-use Rattle.nf_answers.specs.Answers.{Answer, Solved, SolvedForever, Shown, Loaded, Checked, Quickest, TooManyWalks, Generated, Settled, Distributed}
+use Rattle.nf_answers.specs.Answers.{ProgramAnswer, Solved, SolvedForever, Shown, Loaded, Checked, Quickest, TooManyWalks, Generated, Settled, Distributed}
 use Rattle.nf_answers.specs.QuickText.{flow_text, quick_text, augments_text}
 use Rattle.nf_answers.specs.GenText.{last_arrival, gen_text}
 
-abbrev pub answer_with : Named → Found → Answer
-answer_with net (Found.Solved horizon s) = Solved net (report_in horizon s)
-answer_with net (Found.SolvedForever forever) = SolvedForever net (forever_in forever)
-answer_with net (Found.Shown text) = Shown net
-answer_with net (Found.Loaded horizon links) = Loaded net horizon (map loaded_of links.items)
-answer_with net (Found.Checked verdict) = Checked net verdict
-answer_with net (Found.Quickest quick arrival text) = Quickest net quick arrival
-answer_with net (Found.TooManyWalks augments walks text) = TooManyWalks net augments walks.items
-answer_with net (Found.Generated ladder horizon s arrival) = Generated ladder.number ladder.rungs net s.phases (report_in horizon s)
-answer_with net (Found.Settled settled) = Settled net settled.pattern settled.flows.items
-answer_with net (Found.Distributed routes horizon routed) = Distributed net routes horizon (routed_of routed)
+abbrev pub answer_with : Named → Computed → ProgramAnswer
+answer_with net (Computed.Solved horizon s) = Solved net (report_in horizon s)
+answer_with net (Computed.SolvedForever forever) = SolvedForever net (forever_in forever)
+answer_with net (Computed.Shown text) = Shown net
+answer_with net (Computed.Loaded horizon links) = Loaded net horizon (map loaded_of links.items)
+answer_with net (Computed.Checked verdict) = Checked net verdict
+answer_with net (Computed.Quickest quick arrival text) = Quickest net quick arrival
+answer_with net (Computed.TooManyWalks augments walks text) = TooManyWalks net augments walks.items
+answer_with net (Computed.Generated ladder horizon s arrival) = Generated ladder.number ladder.rungs net s.phases (report_in horizon s)
+answer_with net (Computed.Settled settled) = Settled net settled.pattern settled.flows.items
+answer_with net (Computed.Distributed routes horizon routed) = Distributed net routes horizon (routed_of routed)
 
 -- A report is well formed, so that it has a text; so is a run without a horizon. The canonical text is that of the network. Each loading is that of a link.
 -- The text of a quickest flow is that of all but the arrival. The arrival of a generated run is that of who departs last. Settled flows
 -- have an entry for each link, and so has their pattern. What is loaded by route has curves for each link and for each route.
-abbrev pub HasTextWith : Named → Found → Type 0
-HasTextWith net (Found.Solved horizon s) = IsWellFormed net.net (report_in horizon s)
-HasTextWith net (Found.SolvedForever forever) = HasForm net.net (forever_in forever)
-HasTextWith net (Found.Shown text) = text.items ≡ canonical net
-HasTextWith net (Found.Loaded horizon links) = length links.items ≡ length net.net.links
-HasTextWith net (Found.Checked verdict) = Unit {0}
-HasTextWith net (Found.Quickest quick arrival text) = text.items ≡ flow_text net quick
-HasTextWith net (Found.TooManyWalks augments walks text) = text.items ≡ augments_text net walks.items
-HasTextWith net (Found.Generated ladder horizon s arrival) = arrival ≡ last_arrival net (report_in horizon s)
-HasTextWith net (Found.Settled settled) = (length settled.flows.items ≡ length net.net.links) × (length settled.pattern ≡ length net.net.links)
-HasTextWith net (Found.Distributed routes horizon routed) =
+abbrev pub HasTextWith : Named → Computed → Type 0
+HasTextWith net (Computed.Solved horizon s) = IsWellFormed net.net (report_in horizon s)
+HasTextWith net (Computed.SolvedForever forever) = HasForm net.net (forever_in forever)
+HasTextWith net (Computed.Shown text) = text.items ≡ canonical net
+HasTextWith net (Computed.Loaded horizon links) = length links.items ≡ length net.net.links
+HasTextWith net (Computed.Checked verdict) = Unit {0}
+HasTextWith net (Computed.Quickest quick arrival text) = text.items ≡ flow_text net quick
+HasTextWith net (Computed.TooManyWalks augments walks text) = text.items ≡ augments_text net walks.items
+HasTextWith net (Computed.Generated ladder horizon s arrival) = arrival ≡ last_arrival net (report_in horizon s)
+HasTextWith net (Computed.Settled settled) = (length settled.flows.items ≡ length net.net.links) × (length settled.pattern ≡ length net.net.links)
+HasTextWith net (Computed.Distributed routes horizon routed) =
     (length routed.links.items ≡ length net.net.links) × (length routed.arrivals.items ≡ length routes) × (length routed.travels.items ≡ length routes)
 
-abbrev pub text_with : Named → Found → List ℕ
-text_with net (Found.Solved horizon s) = report_text net (report_in horizon s)
-text_with net (Found.SolvedForever forever) = forever_text net (forever_in forever)
-text_with net (Found.Shown text) = text.items
-text_with net (Found.Loaded horizon links) = load_text net horizon (map loaded_of links.items)
-text_with net (Found.Checked verdict) = answer_text net verdict
-text_with net (Found.Quickest quick arrival text) = quick_text net quick arrival
-text_with net (Found.TooManyWalks augments walks text) = text.items
-text_with net (Found.Generated ladder horizon s arrival) = gen_text ladder.number ladder.rungs net s.phases (report_in horizon s)
-text_with net (Found.Settled settled) = settled_text net settled.pattern settled.flows.items
-text_with net (Found.Distributed routes horizon routed) = routed_text net routes horizon (routed_of routed)
+abbrev pub text_with : Named → Computed → List ℕ
+text_with net (Computed.Solved horizon s) = report_text net (report_in horizon s)
+text_with net (Computed.SolvedForever forever) = forever_text net (forever_in forever)
+text_with net (Computed.Shown text) = text.items
+text_with net (Computed.Loaded horizon links) = load_text net horizon (map loaded_of links.items)
+text_with net (Computed.Checked verdict) = answer_text net verdict
+text_with net (Computed.Quickest quick arrival text) = quick_text net quick arrival
+text_with net (Computed.TooManyWalks augments walks text) = text.items
+text_with net (Computed.Generated ladder horizon s arrival) = gen_text ladder.number ladder.rungs net s.phases (report_in horizon s)
+text_with net (Computed.Settled settled) = settled_text net settled.pattern settled.flows.items
+text_with net (Computed.Distributed routes horizon routed) = routed_text net routes horizon (routed_of routed)
 
 -- why the run stopped that it tells of
-abbrev pub stop_of : Found → Option (Cause ℚ)
-stop_of (Found.Solved horizon s) = s.stopped
-stop_of (Found.SolvedForever forever) = forever.stopped
-stop_of (Found.Shown text) = None
-stop_of (Found.Loaded horizon links) = None
-stop_of (Found.Checked verdict) = None
-stop_of (Found.Quickest quick arrival text) = None
-stop_of (Found.TooManyWalks augments walks text) = None
-stop_of (Found.Generated ladder horizon s arrival) = s.stopped
-stop_of (Found.Settled settled) = None
-stop_of (Found.Distributed routes horizon routed) = None
+abbrev pub stop_of : Computed → Option (Cause ℚ)
+stop_of (Computed.Solved horizon s) = s.stopped
+stop_of (Computed.SolvedForever forever) = forever.stopped
+stop_of (Computed.Shown text) = None
+stop_of (Computed.Loaded horizon links) = None
+stop_of (Computed.Checked verdict) = None
+stop_of (Computed.Quickest quick arrival text) = None
+stop_of (Computed.TooManyWalks augments walks text) = None
+stop_of (Computed.Generated ladder horizon s arrival) = s.stopped
+stop_of (Computed.Settled settled) = None
+stop_of (Computed.Distributed routes horizon routed) = None
 
 -- ---- the same of an outcome
-abbrev pub answer_in : Outcome → Answer
+abbrev pub answer_in : Outcome → ProgramAnswer
 answer_in outcome = answer_with outcome.net outcome.found
 
 abbrev pub HasText : Outcome → Type 0

@@ -9,9 +9,9 @@ use Rattle.nf_flows_file.specs.declared.fault.FlowsFault.{FlowsFault}
 use Rattle.nf_routes_file.specs.declared.fault.RoutesFault.{RoutesFault}
 use Rattle.nf_report_file.specs.declared.fault.ReportFault.{ReportFault}
 use Rattle.nf_answers.specs.declared.refusal.Refusal.{Refusal}
-use Rattle.nf_answers.specs.Answers.{Answer, NoMemory, NoRequest, ShelfFailed, ShelfTooLong, Malformed, MalformedLoads, MalformedFlows, MalformedRoutes, MalformedReport, Passes, Unbounded, NotThin, Earlier}
+use Rattle.nf_answers.specs.Answers.{ProgramAnswer, NoMemory, NoRequest, ShelfFailed, ShelfTooLong, Malformed, MalformedLoads, MalformedFlows, MalformedRoutes, MalformedReport, Passes, Unbounded, NotThin, Earlier}
 
-abbrev pub answer_of : Refusal → Answer
+abbrev pub answer_of : Refusal → ProgramAnswer
 answer_of Refusal.NoMemory = NoMemory
 answer_of Refusal.NoRequest = NoRequest
 answer_of Refusal.ShelfFailed = ShelfFailed

@@ -21,7 +21,7 @@ pub use arrival::Arrival;
 pub use check_text::write_verdict;
 pub use gen_text::{Ladder, write_summary};
 pub use load_text::write_loads;
-pub use outcome::{Found, Outcome};
+pub use outcome::{Computed, Outcome};
 pub use quick_text::{flow_text, write_arrival};
 pub use refusal::Refusal;
 pub use routes_text::write_routed;

@@ -18,7 +18,7 @@ use nf_routes::{Routed, Routes};
 
 /// What a request gives with its network.
 #[derive(Drop)]
-pub enum Found {
+pub enum Computed {
     /// What solving the network to a horizon gave.
     Solved {
         horizon: Q,
@@ -72,22 +72,22 @@ pub enum Found {
     },
 }
 
-impl Found {
+impl Computed {
     /// Why the run stopped that it tells of, if it did.
     pub fn stop(&self) -> Option<&Stop>
         ensures { option_copied result ≡ stop_of self.now }
     {
         match self {
-            Found::Solved { solution, .. } => solution.stopped.as_ref(),
-            Found::SolvedForever { forever, .. } => forever.stopped.as_ref(),
-            Found::Shown { .. } => None,
-            Found::Loaded { .. } => None,
-            Found::Checked { .. } => None,
-            Found::Quickest { .. } => None,
-            Found::TooManyWalks { .. } => None,
-            Found::Generated { solution, .. } => solution.stopped.as_ref(),
-            Found::Settled { .. } => None,
-            Found::Distributed { .. } => None,
+            Computed::Solved { solution, .. } => solution.stopped.as_ref(),
+            Computed::SolvedForever { forever, .. } => forever.stopped.as_ref(),
+            Computed::Shown { .. } => None,
+            Computed::Loaded { .. } => None,
+            Computed::Checked { .. } => None,
+            Computed::Quickest { .. } => None,
+            Computed::TooManyWalks { .. } => None,
+            Computed::Generated { solution, .. } => solution.stopped.as_ref(),
+            Computed::Settled { .. } => None,
+            Computed::Distributed { .. } => None,
         }
     }
 }
@@ -96,5 +96,5 @@ impl Found {
 #[derive(Drop)]
 pub struct Outcome {
     pub net: Network,
-    pub found: Found,
+    pub found: Computed,
 }

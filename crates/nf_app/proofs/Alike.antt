@@ -20,7 +20,7 @@ use Rattle.nf_unique_laws.specs.UniqueLaws.{SameInAll}
 use Rattle.nf_unique_laws.proofs.Exits.{SameInAll-equilibrium}
 use Rattle.nf_command_line.specs.Requests.{Request, Solve, SolveForever, Show, Load, Check, Quick, Gen, Settle, Resume, Routes, request_of}
 use Rattle.nf_answers.specs.declared.arrival.Arrival.{Arrival}
-use Rattle.nf_answers.specs.Answers.{Answer, Solved, SolvedForever, Shown, Loaded, Checked, Quickest, TooManyWalks, Generated, Settled, Distributed, NoMemory, NoRequest, ShelfFailed, ShelfTooLong, Malformed, MalformedLoads, MalformedFlows, MalformedRoutes, MalformedReport, Passes, Unbounded, NotThin, Earlier}
+use Rattle.nf_answers.specs.Answers.{ProgramAnswer, Solved, SolvedForever, Shown, Loaded, Checked, Quickest, TooManyWalks, Generated, Settled, Distributed, NoMemory, NoRequest, ShelfFailed, ShelfTooLong, Malformed, MalformedLoads, MalformedFlows, MalformedRoutes, MalformedReport, Passes, Unbounded, NotThin, Earlier}
 use Rattle.nf_app.specs.Reports.{HoldsReport}
 use Rattle.nf_app.specs.CheckGiven.{IsChecked}
 use Rattle.nf_app.specs.QuickGiven.{arrival_of, ArrivesIn, IsArrival}
@@ -76,10 +76,10 @@ same_arrival net amount None arrival good least never = subst (SameArrival net a
 same_arrival net amount (Some departs) arrival good least arrives = same_at net good amount departs least arrival arrives arrives.report.stop refl
 
 -- ---- what a request gives
-module _ (call : Call) (n : Named) (good : IsNetwork n.net) (answer : Answer) where
+module _ (call : Call) (n : Named) (good : IsNetwork n.net) (answer : ProgramAnswer) where
   -- it is this answer
-  of_this : (other : Answer) → answer ≡ other → IsSameInAll call other → IsSameInAll call answer
-  of_this other e h = subst (λ (a : Answer). IsSameInAll call a) (sym e) h
+  of_this : (other : ProgramAnswer) → answer ≡ other → IsSameInAll call other → IsSameInAll call answer
+  of_this other e h = subst (λ (a : ProgramAnswer). IsSameInAll call a) (sym e) h
 
   given_same : (request : Request) → Asks call request → IsGiven call.shelf n request answer → IsSameInAll call answer
   given_same (Solve file horizon phases patterns) asks g = of_this (Solved n g.0) g.1 (SameInAll-equilibrium n.net g.0.flow good g.2.1.equilibrium)
@@ -116,7 +116,7 @@ module _ (call : Call) (n : Named) (good : IsNetwork n.net) (answer : Answer) wh
   given_same (Routes file routes horizon) asks (inr (inr g)) = of_this (MalformedRoutes g.0) g.1 tt
 
 -- ---- an answer that comes
-refused_same : (call : Call) (answer : Answer) → IsRefused call answer → IsSameInAll call answer
+refused_same : (call : Call) (answer : ProgramAnswer) → IsRefused call answer → IsSameInAll call answer
 refused_same call NoMemory h = tt
 refused_same call NoRequest h = tt
 refused_same call ShelfFailed h = tt

@@ -7,10 +7,10 @@ use Rattle.nf_edge.specs.Taken.{with_more}
 use Rattle.nf_formats.specs.Named.{Named}
 use Rattle.nf_formats.specs.NetLines.{Broken}
 use Rattle.nf_formats.specs.WellNamed.{IsNamed}
-use Rattle.nf_answers.specs.declared.outcome.Found.{Found}
+use Rattle.nf_answers.specs.declared.outcome.Computed.{Computed}
 use Rattle.nf_answers.specs.declared.outcome.Outcome.{Outcome}
 use Rattle.nf_answers.specs.declared.refusal.Refusal.{Refusal}
-use Rattle.nf_answers.specs.Answers.{Answer, NoMemory, out_text}
+use Rattle.nf_answers.specs.Answers.{ProgramAnswer, NoMemory, out_text}
 use Rattle.nf_answers.specs.Refusals.{answer_of}
 use Rattle.nf_outside.specs.Files.{Wanted, Visit, Fits, FetchedNone, FetchedAll, FetchedTo}
 use Rattle.nf_outside.specs.Fetching.{IsLastText, NetworkReads, AreRead}
@@ -111,7 +111,7 @@ module _ (words : List (List ℕ)) (shelf : Visit) (request : Request) (asks : r
 
 -- ---- what a request gives with its network
 module _ (call : Call) (request : Request) (n : Named) (named : IsNamed n) (read : Read call request (Ok n)) where
-  computed : (answer : Answer) → IsGiven call.shelf n request answer → IsAnswer call answer
+  computed : (answer : ProgramAnswer) → IsGiven call.shelf n request answer → IsAnswer call answer
   computed answer g = inr (record { request = request; net = n; read = read; named = named; given = g })
 
   -- memory may be wanting behind the last file
@@ -124,12 +124,12 @@ module _ (call : Call) (request : Request) (n : Named) (named : IsNamed n) (read
           let last = all_reached call.shelf file others h in
           inr (last.0, record { request = request; asks = read.asks; fetched = subst (λ (l : List Wanted). FetchedTo call.shelf l last.0) (sym e) last.1 })
 
-  given_with : (r : Result Found Refusal) → IsGiving call.shelf n request r → IsAnswered call (with_net n r)
+  given_with : (r : Result Computed Refusal) → IsGiving call.shelf n request r → IsAnswered call (with_net n r)
   given_with (Ok found) g = (computed _ g.0, g.1)
   given_with (Err refusal) (inl none) = subst (λ (r : Refusal). IsAnswer call (answer_of r)) (sym none) wants_memory
   given_with (Err refusal) (inr g) = computed (answer_of refusal) g
 
-  pub given : (r : Result Found Refusal) → IsGiving call.shelf n request r → (out : Result Outcome Refusal) → out ≡ with_net n r → IsAnswered call out
+  pub given : (r : Result Computed Refusal) → IsGiving call.shelf n request r → (out : Result Outcome Refusal) → out ≡ with_net n r → IsAnswered call out
   given r g out e = subst (λ (o : Result Outcome Refusal). IsAnswered call o) (sym e) (given_with r g)
 
 -- ---- where there is no text, a sink takes nothing

@@ -16,7 +16,7 @@ use Rattle.nf_check_lists.specs.declared.Answer.TheVariants.{Yes, No}
 use Rattle.nf_check.specs.Answers.{IsExact}
 use Rattle.nf_readings.specs.ReportFile.{report_in}
 use Rattle.nf_answers.specs.declared.status.Status.{Status}
-use Rattle.nf_answers.specs.Answers.{Answer, Checked, status_of, out_text}
+use Rattle.nf_answers.specs.Answers.{ProgramAnswer, Checked, status_of, out_text}
 use Rattle.nf_outside.specs.Files.{network_file, report_file}
 use Rattle.nf_outside.specs.Fetching.{NetworkReads}
 use Rattle.nf_outside.specs.Sinks.{Taken, TookAll}
@@ -97,7 +97,7 @@ module _ (call : Call) (c : ChecksSolved call) (no_fault : ¬ Rose call.shelf.fa
   is_yes Yes h = refl
   is_yes (No rule subject time left right) h = absurd (h.1 (solved call c.file c.report.text c.solved).2.1.equilibrium)
 
-  yes_given : (answer : Answer) → IsGiven call.shelf n (Check c.file c.report_name) answer → (answer ≡ Checked n Yes) ⊎ (status_of answer ≡ Status.Passed)
+  yes_given : (answer : ProgramAnswer) → IsGiven call.shelf n (Check c.file c.report_name) answer → (answer ≡ Checked n Yes) ⊎ (status_of answer ≡ Status.Passed)
   unfolding tells_report
   yes_given answer (inl g) =
       let same : report ≡ g.2.report = one_report_in call.shelf n c.report_name tells_report g.2.report g.2.held in
@@ -108,26 +108,26 @@ module _ (call : Call) (c : ChecksSolved call) (no_fault : ¬ Rose call.shelf.fa
   abbrev Ends : Status → Type 0
   Ends status = (status ≡ Status.Ok) ⊎ (status ≡ Status.Passed) ⊎ (status ≡ Status.Memory)
 
-  ends_so : (answer : Answer) → (answer ≡ Checked n Yes) ⊎ (status_of answer ≡ Status.Passed) → Ends (status_of answer)
+  ends_so : (answer : ProgramAnswer) → (answer ≡ Checked n Yes) ⊎ (status_of answer ≡ Status.Passed) → Ends (status_of answer)
   ends_so answer (inl e) = inl (ap status_of e)
   ends_so answer (inr e) = inr (inl e)
 
-  ends : (answer : Answer) → IsAnswer call answer → Ends (status_of answer)
+  ends : (answer : ProgramAnswer) → IsAnswer call answer → Ends (status_of answer)
   unfolding network
   ends = answered_well call no_fault (Check c.file c.report_name) c.asks
       (All-cons (Tells call.shelf) (network_file c.file) (report_file c.report_name ∷ []) c.network (All-cons (Tells call.shelf) (report_file c.report_name) [] c.report (All-nil (Tells call.shelf))))
       c.file (report_file c.report_name ∷ []) refl refl network Ends (inr (inr refl)) (λ answer g. ends_so answer (yes_given answer g))
 
-  yes_text : (answer : Answer) → (answer ≡ Checked n Yes) ⊎ (status_of answer ≡ Status.Passed) → status_of answer ≡ Status.Ok → out_text answer ≡ line_of_words (codes "yes" ∷ [])
+  yes_text : (answer : ProgramAnswer) → (answer ≡ Checked n Yes) ⊎ (status_of answer ≡ Status.Passed) → status_of answer ≡ Status.Ok → out_text answer ≡ line_of_words (codes "yes" ∷ [])
   yes_text answer (inl e) ok = ap out_text e
   yes_text answer (inr e) ok = absurd (passed_or_ok (status_of answer) e ok)
 
-  text_so : (answer : Answer) → IsAnswer call answer → status_of answer ≡ Status.Ok → out_text answer ≡ line_of_words (codes "yes" ∷ [])
+  text_so : (answer : ProgramAnswer) → IsAnswer call answer → status_of answer ≡ Status.Ok → out_text answer ≡ line_of_words (codes "yes" ∷ [])
   unfolding network
   text_so answer comes ok = yes_text answer
       (yes_given answer (given_well call (Check c.file c.report_name) c.asks c.file (report_file c.report_name ∷ []) refl refl network answer comes ok)) ok
 
-  said : (answer : Answer) (out err : Taken) (status : Status) → IsAnswer call answer → IsShownWhole answer out err status → Ends (status_of answer)
+  said : (answer : ProgramAnswer) (out err : Taken) (status : Status) → IsAnswer call answer → IsShownWhole answer out err status → Ends (status_of answer)
       → ((status ≡ Status.Ok) × TookAll out (line_of_words (codes "yes" ∷ []))) ⊎ (status ≡ Status.Passed) ⊎ (status ≡ Status.Memory)
   said answer out err status comes shown (inl ok) = inl (shown.0 ∙ ok, subst (λ (t : List ℕ). TookAll out t) (text_so answer comes ok) shown.1)
   said answer out err status comes shown (inr (inl e)) = inr (inl (shown.0 ∙ e))

@@ -33,7 +33,7 @@ use Rattle.nf_outside.specs.Files.{Wanted, FetchedTo, HasTooMany, network_file, 
 use Rattle.nf_command_line.specs.Requests.{Request, Solve, SolveForever, Show, Load, Check, Quick, Gen, Settle, Resume, Routes, request_of}
 use Rattle.nf_gen.specs.Ladder.{ladder}
 use Rattle.nf_app.specs.Requests.{budgets_of, files_of, generated_by}
-use Rattle.nf_answers.specs.Answers.{Answer, Solved, SolvedForever, Shown, Loaded, Checked, Quickest, TooManyWalks, Generated, Settled, Distributed, NoMemory, NoRequest, ShelfFailed, ShelfTooLong, Malformed, MalformedLoads, MalformedFlows, MalformedRoutes, MalformedReport, Passes, Unbounded, NotThin, Earlier, status_of, status_of_stop, status_of_forever, status_of_verdict}
+use Rattle.nf_answers.specs.Answers.{ProgramAnswer, Solved, SolvedForever, Shown, Loaded, Checked, Quickest, TooManyWalks, Generated, Settled, Distributed, NoMemory, NoRequest, ShelfFailed, ShelfTooLong, Malformed, MalformedLoads, MalformedFlows, MalformedRoutes, MalformedReport, Passes, Unbounded, NotThin, Earlier, status_of, status_of_stop, status_of_forever, status_of_verdict}
 use Rattle.nf_app.specs.SettleGiven.{FlowsRead}
 use Rattle.nf_app.specs.RoutesGiven.{RoutesRead, by_route_list}
 use Rattle.nf_app.specs.Given.{LoadsRead, loading_list, IsGiven}
@@ -81,7 +81,7 @@ module _ (call : Call) (no_fault : ¬ Rose call.shelf.faults_before call.shelf.f
 
   -- the request has one network
   module _ (n : Named) (one_reading : (request : Request) (read : Result Named Broken) → Read call request read → read ≡ Ok n) (Ends : Status → Type 0) (memory : Ends Status.Memory) where
-    refused_well : (answer : Answer) → IsRefused call answer → Ends (status_of answer)
+    refused_well : (answer : ProgramAnswer) → IsRefused call answer → Ends (status_of answer)
     refused_well NoMemory h = memory
     refused_well NoRequest h =
         absurd (some_none (request_of call.words) asked_for asks h.0)
@@ -109,7 +109,7 @@ module _ (call : Call) (no_fault : ¬ Rose call.shelf.faults_before call.shelf.f
     refused_well (Distributed n routes horizon routed) h = absurd h
 
     -- what is computed is computed for this request and this network
-    pub ended_well : ((answer : Answer) → IsGiven call.shelf n asked_for answer → Ends (status_of answer)) → (answer : Answer) → IsAnswer call answer → Ends (status_of answer)
+    pub ended_well : ((answer : ProgramAnswer) → IsGiven call.shelf n asked_for answer → Ends (status_of answer)) → (answer : ProgramAnswer) → IsAnswer call answer → Ends (status_of answer)
     ended_well ends answer (inl h) = refused_well answer h
     ended_well ends answer (inr h) =
         let same : Ok h.net ≡ Ok n = one_reading h.request (Ok h.net) h.read in
@@ -130,8 +130,8 @@ module _ (call : Call) (no_fault : ¬ Rose call.shelf.faults_before call.shelf.f
         let told : Reads network.tells.text read = reads_told call.shelf (network_file file) network.tells.text network.tells.told others read first in
         reads_at_most_once network.tells.text read (Ok network.net) told network.reads
 
-    pub answered_well : (Ends : Status → Type 0) → Ends Status.Memory → ((answer : Answer) → IsGiven call.shelf network.net asked_for answer → Ends (status_of answer))
-        → (answer : Answer) → IsAnswer call answer → Ends (status_of answer)
+    pub answered_well : (Ends : Status → Type 0) → Ends Status.Memory → ((answer : ProgramAnswer) → IsGiven call.shelf network.net asked_for answer → Ends (status_of answer))
+        → (answer : ProgramAnswer) → IsAnswer call answer → Ends (status_of answer)
     answered_well Ends memory ends = ended_well network.net read_once Ends memory ends
 
   -- or the one that is generated
@@ -142,17 +142,17 @@ module _ (call : Call) (no_fault : ¬ Rose call.shelf.faults_before call.shelf.f
         subst (λ (q : Request). NetworkReads call.shelf (generated_by q) (files_of q) read) (one_request request r.asks) r.reads in
         subst (λ (o : Option Named). NetworkReads call.shelf o (files_of asked_for) read) made here
 
-    pub generated_well : (Ends : Status → Type 0) → Ends Status.Memory → ((answer : Answer) → IsGiven call.shelf n asked_for answer → Ends (status_of answer))
-        → (answer : Answer) → IsAnswer call answer → Ends (status_of answer)
+    pub generated_well : (Ends : Status → Type 0) → Ends Status.Memory → ((answer : ProgramAnswer) → IsGiven call.shelf n asked_for answer → Ends (status_of answer))
+        → (answer : ProgramAnswer) → IsAnswer call answer → Ends (status_of answer)
     generated_well Ends memory ends = ended_well n made_once Ends memory ends
 
 -- ---- the commands
 module _ (call : Call) (no_fault : ¬ Rose call.shelf.faults_before call.shelf.faults_now) where
-  shown_well : CanBeShown call → (answer : Answer) → IsAnswer call answer → EndsWell (status_of answer)
+  shown_well : CanBeShown call → (answer : ProgramAnswer) → IsAnswer call answer → EndsWell (status_of answer)
   shown_well can = answered_well call no_fault (Show can.file) can.asks (All-cons (Tells call.shelf) (network_file can.file) [] can.network.tells (All-nil (Tells call.shelf)))
       can.file [] refl refl can.network EndsWell (inr refl) (λ answer is. inl (ap status_of is.0))
 
-  solved_well : CanBeSolved call → (answer : Answer) → IsAnswer call answer → EndsWell (status_of answer)
+  solved_well : CanBeSolved call → (answer : ProgramAnswer) → IsAnswer call answer → EndsWell (status_of answer)
   solved_well can = answered_well call no_fault (Solve can.file can.horizon can.phases can.patterns) can.asks
       (All-cons (Tells call.shelf) (network_file can.file) [] can.network.tells (All-nil (Tells call.shelf))) can.file [] refl refl can.network EndsWell (inr refl)
       (λ answer g.
@@ -165,7 +165,7 @@ module _ (call : Call) (no_fault : ¬ Rose call.shelf.faults_before call.shelf.f
     one_loads : (read : Result (List (List Piece)) LoadsBroken) → LoadsRead call.shelf can.network.net can.loads_name read → Ok can.loads.pieces ≡ read
     one_loads read h = sym can.loads.reads ∙ holds_of_told call.shelf (loads_file can.loads_name) can.loads.tells.text can.loads.tells.told (λ text. loads_in can.network.net text ≡ read) h
 
-    given_well : (answer : Answer) → IsGiven call.shelf can.network.net (Load can.file can.loads_name can.horizon) answer → EndsWell (status_of answer)
+    given_well : (answer : ProgramAnswer) → IsGiven call.shelf can.network.net (Load can.file can.loads_name can.horizon) answer → EndsWell (status_of answer)
     given_well answer (inl g) = inl (ap status_of g.1)
     given_well answer (inr (inl g)) =
         let same : Ok can.loads.pieces ≡ Ok g.2.pieces = one_loads (Ok g.2.pieces) g.2.read in
@@ -176,13 +176,13 @@ module _ (call : Call) (no_fault : ¬ Rose call.shelf.faults_before call.shelf.f
     given_well answer (inr (inr g)) =
         absurd (ok_err (Ok can.loads.pieces) can.loads.pieces g.0 refl (one_loads (Err g.0) g.2))
 
-    loaded_well : (answer : Answer) → IsAnswer call answer → EndsWell (status_of answer)
+    loaded_well : (answer : ProgramAnswer) → IsAnswer call answer → EndsWell (status_of answer)
     loaded_well = answered_well call no_fault (Load can.file can.loads_name can.horizon) can.asks
         (All-cons (Tells call.shelf) (network_file can.file) (loads_file can.loads_name ∷ []) can.network.tells
         (All-cons (Tells call.shelf) (loads_file can.loads_name) [] can.loads.tells (All-nil (Tells call.shelf))))
         can.file (loads_file can.loads_name ∷ []) refl refl can.network EndsWell (inr refl) given_well
 
-  generated_ends_well : CanBeGenerated call → (answer : Answer) → IsAnswer call answer → EndsWell (status_of answer)
+  generated_ends_well : CanBeGenerated call → (answer : ProgramAnswer) → IsAnswer call answer → EndsWell (status_of answer)
   generated_ends_well can = generated_well call no_fault (Gen can.number can.rungs can.horizon can.phases can.patterns) can.asks (All-nil (Tells call.shelf))
       (ladder can.number can.rungs) refl EndsWell (inr refl)
       (λ answer g.
@@ -190,7 +190,7 @@ module _ (call : Call) (no_fault : ¬ Rose call.shelf.faults_before call.shelf.f
       one_report passes_Q (ladder can.number can.rungs).net (bounds_of can.horizon (budgets_of can.phases can.patterns)) g.0 can.reaches.report g.3.run can.reaches.is_report in
       inl (ap status_of g.2 ∙ ap (λ (r : Report). status_of_stop r.stop) same ∙ ap status_of_stop can.reaches.no_stop))
 
-  goes_on_well : CanGoOn call → (answer : Answer) → IsAnswer call answer → EndsWell (status_of answer)
+  goes_on_well : CanGoOn call → (answer : ProgramAnswer) → IsAnswer call answer → EndsWell (status_of answer)
   goes_on_well can = answered_well call no_fault (SolveForever can.file can.phases can.patterns) can.asks
       (All-cons (Tells call.shelf) (network_file can.file) [] can.network.tells (All-nil (Tells call.shelf))) can.file [] refl refl can.network EndsWell (inr refl)
       (λ answer g.
@@ -205,7 +205,7 @@ module _ (call : Call) (no_fault : ¬ Rose call.shelf.faults_before call.shelf.f
         ∙ only_reading can.network.net can.routes.tells.text read
         (holds_of_told call.shelf (routes_file can.routes_name) can.routes.tells.text can.routes.tells.told (λ text. ReadsRoutes can.network.net text read) h)
 
-    routed_well : (answer : Answer) → IsGiven call.shelf can.network.net (Routes can.file can.routes_name can.horizon) answer → EndsWell (status_of answer)
+    routed_well : (answer : ProgramAnswer) → IsGiven call.shelf can.network.net (Routes can.file can.routes_name can.horizon) answer → EndsWell (status_of answer)
     routed_well answer (inl g) = inl (ap status_of g.2)
     routed_well answer (inr (inl g)) =
         let same : Ok can.routes.routes ≡ Ok g.2.routes = one_routes (Ok g.2.routes) g.2.read in
@@ -216,13 +216,13 @@ module _ (call : Call) (no_fault : ¬ Rose call.shelf.faults_before call.shelf.f
     routed_well answer (inr (inr g)) =
         absurd (ok_err (Ok can.routes.routes) can.routes.routes g.0 refl (one_routes (Err g.0) g.2))
 
-    distributed_well : (answer : Answer) → IsAnswer call answer → EndsWell (status_of answer)
+    distributed_well : (answer : ProgramAnswer) → IsAnswer call answer → EndsWell (status_of answer)
     distributed_well = answered_well call no_fault (Routes can.file can.routes_name can.horizon) can.asks
         (All-cons (Tells call.shelf) (network_file can.file) (routes_file can.routes_name ∷ []) can.network.tells
         (All-cons (Tells call.shelf) (routes_file can.routes_name) [] can.routes.tells (All-nil (Tells call.shelf))))
         can.file (routes_file can.routes_name ∷ []) refl refl can.network EndsWell (inr refl) routed_well
 
-  ends_well : HasAnswer call → (answer : Answer) → IsAnswer call answer → EndsWell (status_of answer)
+  ends_well : HasAnswer call → (answer : ProgramAnswer) → IsAnswer call answer → EndsWell (status_of answer)
   ends_well (inl can) = shown_well can
   ends_well (inr (inl can)) = solved_well can
   ends_well (inr (inr (inl can))) = loaded_well can
@@ -236,7 +236,7 @@ judged_well Yes = inl refl
 judged_well (No rule subject time left right) = inr (inl refl)
 
 module _ (call : Call) (no_fault : ¬ Rose call.shelf.faults_before call.shelf.faults_now) (can : CanBeJudged call) where
-  verdict_well : (answer : Answer) → IsGiven call.shelf can.network.net (Check can.file can.report_name) answer → EndsJudged (status_of answer)
+  verdict_well : (answer : ProgramAnswer) → IsGiven call.shelf can.network.net (Check can.file can.report_name) answer → EndsJudged (status_of answer)
   verdict_well answer (inl g) = subst (λ (s : Status). EndsJudged s) (sym (ap status_of g.1)) (judged_well g.0)
   verdict_well answer (inr (inl g)) =
       let report : can.report.report ≡ g.2.report = one_report_in call.shelf can.network.net can.report_name can.report g.2.report g.2.held in
@@ -246,7 +246,7 @@ module _ (call : Call) (no_fault : ¬ Rose call.shelf.faults_before call.shelf.f
   verdict_well answer (inr (inr g)) =
       absurd (some_report_in call.shelf can.network.net can.report_name can.report g.0 g.2)
 
-  checked_well : (answer : Answer) → IsAnswer call answer → EndsJudged (status_of answer)
+  checked_well : (answer : ProgramAnswer) → IsAnswer call answer → EndsJudged (status_of answer)
   checked_well = answered_well call no_fault (Check can.file can.report_name) can.asks
       (All-cons (Tells call.shelf) (network_file can.file) (report_file can.report_name ∷ []) can.network.tells
       (All-cons (Tells call.shelf) (report_file can.report_name) [] can.report.tells (All-nil (Tells call.shelf))))
@@ -254,13 +254,13 @@ module _ (call : Call) (no_fault : ¬ Rose call.shelf.faults_before call.shelf.f
 
 -- a quickest flow
 module _ (call : Call) (no_fault : ¬ Rose call.shelf.faults_before call.shelf.faults_now) (can : CanBeQuick call) where
-  found_well : (answer : Answer) → IsGiven call.shelf can.network.net (Quick can.file can.amount can.augments) answer → EndsQuick (status_of answer)
+  found_well : (answer : ProgramAnswer) → IsGiven call.shelf can.network.net (Quick can.file can.amount can.augments) answer → EndsQuick (status_of answer)
   found_well answer (inl g) = inl (ap status_of g.2)
   found_well answer (inr (inl g)) = inr (inl (ap status_of g.1))
   found_well answer (inr (inr (inl g))) = absurd (can.fits g.0 g.2)
   found_well answer (inr (inr (inr g))) = inr (inr (inl (ap status_of g.0)))
 
-  quick_well : (answer : Answer) → IsAnswer call answer → EndsQuick (status_of answer)
+  quick_well : (answer : ProgramAnswer) → IsAnswer call answer → EndsQuick (status_of answer)
   quick_well = answered_well call no_fault (Quick can.file can.amount can.augments) can.asks
       (All-cons (Tells call.shelf) (network_file can.file) [] can.network.tells (All-nil (Tells call.shelf))) can.file [] refl refl can.network EndsQuick (inr (inr (inr refl))) found_well
 
@@ -270,14 +270,14 @@ module _ (call : Call) (no_fault : ¬ Rose call.shelf.faults_before call.shelf.f
   one_flows : (read : Result GivenFlows FlowsBroken) → FlowsRead call.shelf can.network.net can.flows_name read → Ok can.flows.given ≡ read
   one_flows read h = sym can.flows.reads ∙ holds_of_told call.shelf (flows_file can.flows_name) can.flows.tells.text can.flows.tells.told (λ text. flows_in can.network.net text ≡ read) h
 
-  thin_well : (answer : Answer) → IsGiven call.shelf can.network.net (Settle can.file can.flows_name) answer → EndsSettled (status_of answer)
+  thin_well : (answer : ProgramAnswer) → IsGiven call.shelf can.network.net (Settle can.file can.flows_name) answer → EndsSettled (status_of answer)
   thin_well answer (inl g) = inl (ap status_of g.2)
   thin_well answer (inr (inl g)) = inr (inl (ap status_of g.0))
   thin_well answer (inr (inr (inl g))) = absurd (can.fits g.0 g.2)
   thin_well answer (inr (inr (inr g))) =
       absurd (ok_err (Ok can.flows.given) can.flows.given g.0 refl (one_flows (Err g.0) g.2))
 
-  settled_well : (answer : Answer) → IsAnswer call answer → EndsSettled (status_of answer)
+  settled_well : (answer : ProgramAnswer) → IsAnswer call answer → EndsSettled (status_of answer)
   settled_well = answered_well call no_fault (Settle can.file can.flows_name) can.asks
       (All-cons (Tells call.shelf) (network_file can.file) (flows_file can.flows_name ∷ []) can.network.tells
       (All-cons (Tells call.shelf) (flows_file can.flows_name) [] can.flows.tells (All-nil (Tells call.shelf))))
@@ -287,7 +287,7 @@ module _ (call : Call) (no_fault : ¬ Rose call.shelf.faults_before call.shelf.f
 abbrev pub OrNoPattern : (Status → Type 0) → Status → Type 0
 OrNoPattern Ends status = Ends status ⊎ (status ≡ Status.NoPattern)
 
-pub with_pattern : (Ends : Status → Type 0) (call : Call) (answer : Answer) → IsAnswer call answer → OrNoPattern Ends (status_of answer) → Ends (status_of answer)
+pub with_pattern : (Ends : Status → Type 0) (call : Call) (answer : ProgramAnswer) → IsAnswer call answer → OrNoPattern Ends (status_of answer) → Ends (status_of answer)
 with_pattern Ends call answer comes (inl ends) = ends
 with_pattern Ends call answer comes (inr none) = absurd (status_never call answer comes none)
 
@@ -300,7 +300,7 @@ stop_well (Some (Cause.Passed phase place at)) never = absurd (never phase place
 stop_well (Some (Cause.NoPattern phase)) never = inr refl
 
 module _ (call : Call) (no_fault : ¬ Rose call.shelf.faults_before call.shelf.faults_now) (can : CanBeResumed call) where
-  gone_well : (answer : Answer) → IsGiven call.shelf can.network.net (Resume can.file can.report_name can.horizon can.phases can.patterns) answer → OrNoPattern EndsResumed (status_of answer)
+  gone_well : (answer : ProgramAnswer) → IsGiven call.shelf can.network.net (Resume can.file can.report_name can.horizon can.phases can.patterns) answer → OrNoPattern EndsResumed (status_of answer)
   gone_well answer (inl g) = subst (λ (s : Status). OrNoPattern EndsResumed s) (sym (ap status_of g.1)) (stop_well g.0.stop (λ phase place at e. can.goes g.0 phase place at g.2 e))
   gone_well answer (inr (inl g)) =
       let old : can.report.report ≡ g.2.old = one_report_in call.shelf can.network.net can.report_name can.report g.2.old g.2.held in
@@ -312,19 +312,19 @@ module _ (call : Call) (no_fault : ¬ Rose call.shelf.faults_before call.shelf.f
   gone_well answer (inr (inr (inr (inr g)))) =
       absurd (some_report_in call.shelf can.network.net can.report_name can.report g.0 g.2)
 
-  resumed_well : (answer : Answer) → IsAnswer call answer → EndsResumed (status_of answer)
+  resumed_well : (answer : ProgramAnswer) → IsAnswer call answer → EndsResumed (status_of answer)
   resumed_well answer comes = with_pattern EndsResumed call answer comes (answered_well call no_fault (Resume can.file can.report_name can.horizon can.phases can.patterns) can.asks
       (All-cons (Tells call.shelf) (network_file can.file) (report_file can.report_name ∷ []) can.network.tells
       (All-cons (Tells call.shelf) (report_file can.report_name) [] can.report.tells (All-nil (Tells call.shelf))))
       can.file (report_file can.report_name ∷ []) refl refl can.network (OrNoPattern EndsResumed) (inl (inr (inr (inr refl)))) gone_well answer comes)
 
-pub taken_well : (Ends : Status → Type 0) (out : Taken) → ¬ Rose out.faults_before out.faults_now → (answer : Answer) (err : Taken) (status : Status) → Ends (status_of answer)
+pub taken_well : (Ends : Status → Type 0) (out : Taken) → ¬ Rose out.faults_before out.faults_now → (answer : ProgramAnswer) (err : Taken) (status : Status) → Ends (status_of answer)
     → IsShown answer out err status → Ends status
 taken_well Ends out takes answer err status well (inl h) = subst (λ (s : Status). Ends s) (sym h.0) well
 taken_well Ends out takes answer err status well (inr h) = absurd (takes h.2.cause)
 
 -- an answer with a text was given
-pub complete_by_text : (call : Call) (out err : Taken) (status : Status) (answer : Answer) → IsAnswer call answer → IsShown answer out err status → IsComplete call out status
+pub complete_by_text : (call : Call) (out err : Taken) (status : Status) (answer : ProgramAnswer) → IsAnswer call answer → IsShown answer out err status → IsComplete call out status
 complete_by_text call out err status answer comes shown no_fault takes = (
   (λ can. taken_well EndsWell out takes answer err status (ends_well call no_fault can answer comes) shown),
   (λ can. taken_well EndsJudged out takes answer err status (checked_well call no_fault can answer comes) shown),
@@ -334,7 +334,7 @@ complete_by_text call out err status answer comes shown no_fault takes = (
 )
 
 -- there is no text
-pub complete_by_refusal : (call : Call) (out : Taken) (status : Status) (answer : Answer) → IsAnswer call answer → status ≡ status_of answer → IsComplete call out status
+pub complete_by_refusal : (call : Call) (out : Taken) (status : Status) (answer : ProgramAnswer) → IsAnswer call answer → status ≡ status_of answer → IsComplete call out status
 complete_by_refusal call out status answer comes is no_fault takes = (
   (λ can. subst (λ (s : Status). EndsWell s) (sym is) (ends_well call no_fault can answer comes)),
   (λ can. subst (λ (s : Status). EndsJudged s) (sym is) (checked_well call no_fault can answer comes)),

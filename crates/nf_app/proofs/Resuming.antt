@@ -18,7 +18,7 @@ use Rattle.nf_resumed_laws.proofs.Ends.{resumed-solved}
 use Rattle.nf_phase.specs.Solution.{bounds_of}
 use Rattle.nf_command_line.specs.Requests.{Request, Resume, request_of}
 use Rattle.nf_answers.specs.declared.status.Status.{Status}
-use Rattle.nf_answers.specs.Answers.{Answer, Solved, SolvedForever, Shown, Loaded, Checked, Quickest, TooManyWalks, Generated, Settled, Distributed, NoMemory, NoRequest, ShelfFailed, ShelfTooLong, Malformed, MalformedLoads, MalformedFlows, MalformedRoutes, MalformedReport, Passes, Unbounded, NotThin, Earlier, status_of, status_of_stop, out_text}
+use Rattle.nf_answers.specs.Answers.{ProgramAnswer, Solved, SolvedForever, Shown, Loaded, Checked, Quickest, TooManyWalks, Generated, Settled, Distributed, NoMemory, NoRequest, ShelfFailed, ShelfTooLong, Malformed, MalformedLoads, MalformedFlows, MalformedRoutes, MalformedReport, Passes, Unbounded, NotThin, Earlier, status_of, status_of_stop, out_text}
 use Rattle.nf_outside.specs.Files.{Wanted, network_file, report_file}
 use Rattle.nf_outside.specs.Fetching.{NetworkReads}
 use Rattle.nf_outside.specs.Sinks.{Taken, TookAll}
@@ -37,7 +37,7 @@ same_ok : {A E : Type 0} (r : Result A E) (x y : A) → r ≡ Ok x → r ≡ Ok 
 same_ok r x y h k = cc
 
 -- ---- a call whose status is 0 gave what its request gives with its network
-pub not_refused : (call : Call) (answer : Answer) → IsRefused call answer → status_of answer ≡ Status.Ok → ⊥
+pub not_refused : (call : Call) (answer : ProgramAnswer) → IsRefused call answer → status_of answer ≡ Status.Ok → ⊥
 not_refused call NoMemory h e = cc
 not_refused call NoRequest h e = cc
 not_refused call ShelfFailed h e = cc
@@ -78,7 +78,7 @@ module _ (call : Call) (request : Request) (asks : Asks call request) (file : Li
       let told : Reads network.tells.text read = reads_told call.shelf (network_file file) network.tells.text network.tells.told others read first in
       same_ok read n network.net refl (reads_at_most_once network.tells.text read (Ok network.net) told network.reads)
 
-  pub given_well : (answer : Answer) → IsAnswer call answer → status_of answer ≡ Status.Ok → IsGiven call.shelf network.net request answer
+  pub given_well : (answer : ProgramAnswer) → IsAnswer call answer → status_of answer ≡ Status.Ok → IsGiven call.shelf network.net request answer
   given_well answer (inl h) e = absurd (not_refused call answer h e)
   given_well answer (inr h) e = subst (λ (m : Named). IsGiven call.shelf m request answer) (one_network h.request h.net h.read)
       (subst (λ (q : Request). IsGiven call.shelf h.net q answer) (one_request h.request h.read.asks) h.given)
@@ -103,7 +103,7 @@ module _ (call : Call) (r : IsResumption call) where
   one_report : (old : Report) → HoldsReport call.shelf n r.report_name old → old ≡ r.report.report
   one_report old h = sym (one_report_in call.shelf n r.report_name r.report old h)
 
-  whole_text : (answer : Answer) → IsGiven call.shelf n (Resume r.file r.report_name r.horizon r.phases r.patterns) answer → status_of answer ≡ Status.Ok
+  whole_text : (answer : ProgramAnswer) → IsGiven call.shelf n (Resume r.file r.report_name r.horizon r.phases r.patterns) answer → status_of answer ≡ Status.Ok
       → out_text answer ≡ report_text n r.later.report
   whole_text answer (inl g) e =
       let on : IsResumedReport passes_Q n.net (bounds_of r.horizon (budgets_of r.phases r.patterns)) r.report.report g.2.made g.0 =
@@ -127,7 +127,7 @@ module _ (call : Call) (r : IsResumption call) where
       other : status_of answer ≡ Status.Malformed → status_of answer ≡ Status.Ok → ⊥
       other h k = cc
 
-  taken_whole : (answer : Answer) (out err : Taken) (status : Status) → IsAnswer call answer → IsShown answer out err status → status ≡ Status.Ok → TookAll out (report_text n r.later.report)
+  taken_whole : (answer : ProgramAnswer) (out err : Taken) (status : Status) → IsAnswer call answer → IsShown answer out err status → status ≡ Status.Ok → TookAll out (report_text n r.later.report)
   taken_whole answer out err status comes (inl h) e =
       let well : status_of answer ≡ Status.Ok = sym h.0 ∙ e in
       subst (λ (text : List ℕ). TookAll out text)

@@ -24,7 +24,7 @@ use Rattle.nf_outside.specs.Files.{Wanted, Visit, Fits, FetchedTo, HasTooMany, l
 use Rattle.nf_outside.specs.Fetching.{NetworkReads}
 use Rattle.nf_command_line.specs.Requests.{Request, Solve, SolveForever, Show, Load, Check, Quick, Gen, Settle, Resume, Routes, request_of}
 use Rattle.nf_answers.specs.declared.arrival.Arrival.{Arrival}
-use Rattle.nf_answers.specs.Answers.{Answer, Solved, SolvedForever, Shown, Loaded, Checked, Quickest, TooManyWalks, Generated, Settled, Distributed, NoMemory, NoRequest, ShelfFailed, ShelfTooLong, Malformed, MalformedLoads, MalformedFlows, MalformedRoutes, MalformedReport, Passes, Unbounded, NotThin, Earlier}
+use Rattle.nf_answers.specs.Answers.{ProgramAnswer, Solved, SolvedForever, Shown, Loaded, Checked, Quickest, TooManyWalks, Generated, Settled, Distributed, NoMemory, NoRequest, ShelfFailed, ShelfTooLong, Malformed, MalformedLoads, MalformedFlows, MalformedRoutes, MalformedReport, Passes, Unbounded, NotThin, Earlier}
 use Rattle.nf_app.specs.Requests.{files_of, generated_by, budgets_of}
 use Rattle.nf_app.specs.Gathered.{other_of}
 use Rattle.nf_app.specs.Given.{IsGiven}
@@ -40,7 +40,7 @@ arrives_so : (net : Network) (departs : Option ℚ) (arrival : Arrival) → IsAr
 arrives_so net None arrival is = is
 arrives_so net (Some departs) arrival is = (is.report, is.solution.run, is.arrival_is)
 
-module _ (shelf : Visit) (n : Named) (text : List ℕ) (answer : Answer) where
+module _ (shelf : Visit) (n : Named) (text : List ℕ) (answer : ProgramAnswer) where
   -- its other file, if it wants one, is told
   abbrev OtherTold : Request → Type 0
   OtherTold request = IfSome (other_of request) (λ file. shelf.told file.name ≡ Some text)
@@ -48,16 +48,16 @@ module _ (shelf : Visit) (n : Named) (text : List ℕ) (answer : Answer) where
   quick_so : (file : List ℕ) (amount : ℚ) (augments : ℕ) → IsGiven shelf n (Quick file amount augments) answer → Gives n text (Quick file amount augments) answer
   quick_so file amount augments (inl g) = inr (
     g.3.no_way,
-    subst (λ (r : Result quick.Answer (PassedAt ℚ)). FlowGives n amount augments r answer) (sym g.3.computed)
+    subst (λ (r : Result quick.QuickAnswer (PassedAt ℚ)). FlowGives n amount augments r answer) (sym g.3.computed)
         (subst (λ (r : Result (Option ℚ) (PassedAt ℚ)). DepartsGive n g.0 r answer) (sym g.3.departs_computed) (g.1, arrives_so n.net g.3.departs g.1 g.3.arrives, g.2)),
   )
-  quick_so file amount augments (inr (inl g)) = inr (g.2.no_way, subst (λ (r : Result quick.Answer (PassedAt ℚ)). FlowGives n amount augments r answer) (sym g.2.computed) g.1)
+  quick_so file amount augments (inr (inl g)) = inr (g.2.no_way, subst (λ (r : Result quick.QuickAnswer (PassedAt ℚ)). FlowGives n amount augments r answer) (sym g.2.computed) g.1)
   quick_so file amount augments (inr (inr (inl g))) = inr (g.2.no_way, by g.2.passes)
     where
-      by : ((flow_list n.net amount augments ≡ Err g.0) ⊎ ((flow : QuickFlow) × (flow_list n.net amount augments ≡ Ok (quick.Found flow)) × (departs_list n.net amount ≡ Err g.0)))
+      by : ((flow_list n.net amount augments ≡ Err g.0) ⊎ ((flow : QuickFlow) × (flow_list n.net amount augments ≡ Ok (quick.FoundQuick flow)) × (departs_list n.net amount ≡ Err g.0)))
           → FlowGives n amount augments (flow_list n.net amount augments) answer
-      by (inl e) = subst (λ (r : Result quick.Answer (PassedAt ℚ)). FlowGives n amount augments r answer) (sym e) g.1
-      by (inr h) = subst (λ (r : Result quick.Answer (PassedAt ℚ)). FlowGives n amount augments r answer) (sym h.1)
+      by (inl e) = subst (λ (r : Result quick.QuickAnswer (PassedAt ℚ)). FlowGives n amount augments r answer) (sym e) g.1
+      by (inr h) = subst (λ (r : Result quick.QuickAnswer (PassedAt ℚ)). FlowGives n amount augments r answer) (sym h.1)
           (subst (λ (r : Result (Option ℚ) (PassedAt ℚ)). DepartsGive n h.0 r answer) (sym h.2) g.1)
   quick_so file amount augments (inr (inr (inr g))) = inl (g.1, g.0)
 
@@ -151,7 +151,7 @@ module _ (shelf : Visit) where
   told_within file some fits = record { text = text_of file; told = is_text (shelf.told file.name) some; within = is_within (shelf.told file.name) file.limit some fits }
 
   -- where none is too long, their texts give the answer
-  all_give : (files : List Wanted) (Give : List (List ℕ) → Answer → Type 0) (answer : Answer) → Told files → All (Fits shelf) files → Give (map text_of files) answer → FilesGive shelf.told files Give answer
+  all_give : (files : List Wanted) (Give : List (List ℕ) → ProgramAnswer → Type 0) (answer : ProgramAnswer) → Told files → All (Fits shelf) files → Give (map text_of files) answer → FilesGive shelf.told files Give answer
   unfolding told_within
   all_give [] Give answer told fit g = g
   all_give (file ∷ files) Give answer told fit g = inr (
@@ -160,7 +160,7 @@ module _ (shelf : Visit) where
   )
 
   -- one that is too long is refused, behind those that aren't
-  too_long_gives : (first : List Wanted) (last : Wanted) (behind : List Wanted) (Give : List (List ℕ) → Answer → Type 0) → Told (first ++ last ∷ behind) → All (Fits shelf) first
+  too_long_gives : (first : List Wanted) (last : Wanted) (behind : List Wanted) (Give : List (List ℕ) → ProgramAnswer → Type 0) → Told (first ++ last ∷ behind) → All (Fits shelf) first
       → ¬ Rose shelf.faults_before shelf.faults_now → HasTooMany shelf last → FilesGive shelf.told (first ++ last ∷ behind) Give ShelfTooLong
   unfolding told_within
   too_long_gives [] last behind Give told fit no_fault many =
@@ -188,13 +188,13 @@ module _ (shelf : Visit) where
 
 -- ---- an answer that comes
 module _ (call : Call) (all : TellsAll call.words call.shelf.told) (no_fault : ¬ Rose call.shelf.faults_before call.shelf.faults_now) where
-  abbrev IsTold : Answer → Type 0
+  abbrev IsTold : ProgramAnswer → Type 0
   IsTold answer = IsToldAnswer call.words call.shelf.told answer
 
   asked_told : (request : Request) → request_of call.words ≡ Some request → AllTold call.shelf.told (files_of request)
   asked_told request asks = subst (λ (o : Option Request). IfSome o (λ r. AllTold call.shelf.told (files_of r))) asks all
 
-  asked_gives : (request : Request) (answer : Answer) → request_of call.words ≡ Some request → RequestGives call.shelf.told (Some request) answer → IsTold answer
+  asked_gives : (request : Request) (answer : ProgramAnswer) → request_of call.words ≡ Some request → RequestGives call.shelf.told (Some request) answer → IsTold answer
   asked_gives request answer asks g = subst (λ (o : Option Request). RequestGives call.shelf.told o answer) (sym asks) g
 
   too_long_so : (request : Request) (last : Wanted) → request_of call.words ≡ Some request → FetchedTo call.shelf (files_of request) last → HasTooMany call.shelf last → IsTold ShelfTooLong
@@ -202,7 +202,7 @@ module _ (call : Call) (all : TellsAll call.words call.shelf.told) (no_fault : �
       (subst (λ (l : List Wanted). FilesGive call.shelf.told l (TextsGive request) ShelfTooLong) (sym to.files_are)
       (too_long_gives call.shelf to.first last to.behind (TextsGive request) (subst (λ (l : List Wanted). AllTold call.shelf.told l) to.files_are (asked_told request asks)) to.fit no_fault many))
 
-  refused_so : (answer : Answer) → IsRefused call answer → IsTold answer ⊎ (answer ≡ NoMemory)
+  refused_so : (answer : ProgramAnswer) → IsRefused call answer → IsTold answer ⊎ (answer ≡ NoMemory)
   refused_so NoMemory h = inr refl
   refused_so NoRequest h = inl (subst (λ (o : Option Request). RequestGives call.shelf.told o NoRequest) (sym h.0) refl)
   refused_so ShelfFailed h = absurd (no_fault h.2.1)
@@ -231,7 +231,7 @@ module _ (call : Call) (all : TellsAll call.words call.shelf.told) (no_fault : �
   refused_so NotThin h = absurd h
   refused_so Earlier h = absurd h
 
-  computed_so : (answer : Answer) → IsComputed call answer → IsTold answer
+  computed_so : (answer : ProgramAnswer) → IsComputed call answer → IsTold answer
   computed_so answer h =
       let told = asked_told h.request h.read.asks in
       asked_gives h.request answer h.read.asks (all_give call.shelf (files_of h.request) (TextsGive h.request) answer told h.read.fetched.fit (
@@ -240,6 +240,6 @@ module _ (call : Call) (all : TellsAll call.words call.shelf.told) (no_fault : �
         given_so call.shelf h.net (second_of (map (text_of call.shelf) (files_of h.request))) answer h.request (other_so call.shelf (files_of h.request) told) h.given,
       ))
 
-  pub told_or_memory : (answer : Answer) → IsAnswer call answer → IsTold answer ⊎ (answer ≡ NoMemory)
+  pub told_or_memory : (answer : ProgramAnswer) → IsAnswer call answer → IsTold answer ⊎ (answer ≡ NoMemory)
   told_or_memory answer (inl h) = refused_so answer h
   told_or_memory answer (inr h) = inl (computed_so answer h)

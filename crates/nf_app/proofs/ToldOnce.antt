@@ -28,7 +28,7 @@ use Rattle.nf_lists.specs.PhaseRun.{Standing, Bounds}
 use Rattle.nf_lists_laws.proofs.OneRun.{one_start, one_run, one_report}
 use Rattle.nf_readings.specs.ReportFile.{ReportBroken, report_in}
 use Rattle.nf_readings_laws.proofs.ReportKept.{report_kept}
-use Rattle.nf_quick_lists.specs.Quick.{Quick as QuickFlow, Found, Budget}
+use Rattle.nf_quick_lists.specs.Quick.{Quick as QuickFlow, FoundQuick, Budget}
 use Rattle.nf_quick_lists.specs.Quick as quick
 use Rattle.nf_quick.specs.Answered.{HasNoWay}
 use Rattle.nf_phase.specs.Solution.{bounds_of}
@@ -44,7 +44,7 @@ use Rattle.nf_resumed_laws.proofs.OneResumed.{one_resumed}
 use Rattle.nf_outside.specs.Files.{Wanted}
 use Rattle.nf_command_line.specs.Requests.{Request, Solve, SolveForever, Show, Load, Check, Quick, Gen, Settle, Resume, Routes, request_of}
 use Rattle.nf_answers.specs.declared.arrival.Arrival.{Arrival}
-use Rattle.nf_answers.specs.Answers.{Answer, Solved, SolvedForever, Quickest, Generated, Settled, Passes}
+use Rattle.nf_answers.specs.Answers.{ProgramAnswer, Solved, SolvedForever, Quickest, Generated, Settled, Passes}
 use Rattle.nf_app.specs.Requests.{files_of, generated_by, budgets_of, usual_budgets}
 use Rattle.nf_app.specs.QuickGiven.{flow_list, departs_list, arrival_of, IsUnbounded}
 use Rattle.nf_app.specs.SettleGiven.{AreSettled, AreNotThin, PassesFirst, at_slack, at_test, at_settling}
@@ -73,12 +73,12 @@ one_arrival net None arrival other h k = h ∙ sym k
 one_arrival net (Some departs) arrival other h k =
     h.2 ∙ ap (λ (r : Report). arrival_of r.stop (label r.flow net.sink departs)) (one_report passes_Q net (bounds_of departs usual_budgets) h.0 k.0 h.1 k.1) ∙ sym k.2
 
-one_departing : (n : Named) (flow : QuickFlow) (r : Result (Option ℚ) (PassedAt ℚ)) (a b : Answer) → DepartsGive n flow r a → DepartsGive n flow r b → a ≡ b
+one_departing : (n : Named) (flow : QuickFlow) (r : Result (Option ℚ) (PassedAt ℚ)) (a b : ProgramAnswer) → DepartsGive n flow r a → DepartsGive n flow r b → a ≡ b
 one_departing n flow (Ok departs) a b g h = g.2 ∙ ap (Quickest n flow) (one_arrival n.net departs g.0 h.0 g.1 h.1) ∙ sym h.2
 one_departing n flow (Err at) a b g h = g ∙ sym h
 
-one_flow : (n : Named) (amount : ℚ) (augments : ℕ) (r : Result quick.Answer (PassedAt ℚ)) (a b : Answer) → FlowGives n amount augments r a → FlowGives n amount augments r b → a ≡ b
-one_flow n amount augments (Ok (Found flow)) a b g h = one_departing n flow (departs_list n.net amount) a b g h
+one_flow : (n : Named) (amount : ℚ) (augments : ℕ) (r : Result quick.QuickAnswer (PassedAt ℚ)) (a b : ProgramAnswer) → FlowGives n amount augments r a → FlowGives n amount augments r b → a ≡ b
+one_flow n amount augments (Ok (FoundQuick flow)) a b g h = one_departing n flow (departs_list n.net amount) a b g h
 one_flow n amount augments (Ok (Budget walks)) a b g h = g ∙ sym h
 one_flow n amount augments (Err at) a b g h = g ∙ sym h
 
@@ -86,7 +86,7 @@ unbounded_or_not : (net : Network) (amount : ℚ) → IsUnbounded net amount →
 unbounded_or_not net amount unbounded (inl zero) = <ℚ_irrefl 0ℚ (subst (λ (q : ℚ). 0ℚ <ℚ q) zero unbounded.0)
 unbounded_or_not net amount unbounded (inr limited) = limited unbounded.1.0 unbounded.1.1
 
-one_quick : (n : Named) (amount : ℚ) (augments : ℕ) (a b : Answer) → QuickGives n amount augments a → QuickGives n amount augments b → a ≡ b
+one_quick : (n : Named) (amount : ℚ) (augments : ℕ) (a b : ProgramAnswer) → QuickGives n amount augments a → QuickGives n amount augments b → a ≡ b
 one_quick n amount augments a b (inl g) (inl h) = g.1 ∙ sym h.1
 one_quick n amount augments a b (inl g) (inr h) = absurd (unbounded_or_not n.net amount g.0 h.0)
 one_quick n amount augments a b (inr g) (inl h) = absurd (unbounded_or_not n.net amount h.0 g.0)
@@ -146,7 +146,7 @@ module _ (net : Network) where
       one_settled_pattern pattern other flows s t =
           one_pattern net (sets_at net labels) (rate_at net 0ℚ) flows given.slopes (start_sets_good net good labels are) s.still_thin pattern other s.pattern_is t.pattern_is
 
-one_at_start : (n : Named) (labels : List ℚ) (given : GivenFlows) → IsNetwork n.net → AreStartLabels n.net labels → (a b : Answer) → StartGives n labels given a → StartGives n labels given b → a ≡ b
+one_at_start : (n : Named) (labels : List ℚ) (given : GivenFlows) → IsNetwork n.net → AreStartLabels n.net labels → (a b : ProgramAnswer) → StartGives n labels given a → StartGives n labels given b → a ≡ b
 one_at_start n labels given good are a b (inl g) (inl h) =
     let flows : g.1 ≡ h.1 = one_flows n.net labels given good are g.0 h.0 g.1 h.1 g.3 h.3 in
     let pattern : g.0 ≡ h.0 = one_settled_pattern n.net labels given good are g.0 h.0 h.1 (subst (λ (f : List ℚ). AreSettled n.net labels given g.0 f) flows g.3) h.3 in
@@ -161,20 +161,20 @@ one_at_start n labels given good are a b (inr (inr g)) (inr (inl h)) = absurd (n
 one_at_start n labels given good are a b (inr (inr g)) (inr (inr h)) =
     g.1 ∙ ap (λ (at : PassedAt ℚ). Passes at) (one_passing n.net labels given good g.0 h.0 g.2 h.2) ∙ sym h.1
 
-one_settle : (n : Named) → IsNetwork n.net → (r : Result GivenFlows FlowsBroken) (a b : Answer) → SettleGives n r a → SettleGives n r b → a ≡ b
+one_settle : (n : Named) → IsNetwork n.net → (r : Result GivenFlows FlowsBroken) (a b : ProgramAnswer) → SettleGives n r a → SettleGives n r b → a ≡ b
 one_settle n good (Ok given) a b g h =
     let labels : g.0 ≡ h.0 = one_start_label n.net g.0 h.0 g.1 h.1 in
     one_at_start n h.0 given good h.1 a b (subst (λ (l : List ℚ). StartGives n l given a) labels g.2) h.2
 one_settle n good (Err broken) a b g h = g ∙ sym h
 
 -- ---- a report that is gone on from
-one_rest : (n : Named) (bounds : Bounds) (old : Report) → length old.last ≡ length n.net.links → (r : Result resuming.Outcome (PassedAt ℚ)) (a b : Answer) → RestGives n bounds old r a
+one_rest : (n : Named) (bounds : Bounds) (old : Report) → length old.last ≡ length n.net.links → (r : Result resuming.Outcome (PassedAt ℚ)) (a b : ProgramAnswer) → RestGives n bounds old r a
     → RestGives n bounds old r b → a ≡ b
 one_rest n bounds old states (Ok (Stands first)) a b g h = g.3 ∙ ap (Solved n) (one_resumed passes_Q n.net bounds old g.0 h.0 g.1 h.1 states g.2 h.2).1 ∙ sym h.3
 one_rest n bounds old states (Ok (Refused verdict)) a b g h = g ∙ sym h
 one_rest n bounds old states (Err at) a b g h = g ∙ sym h
 
-one_resume : (n : Named) (bounds : Bounds) (text : List ℕ) → IsNamed n → (r : Result Report ReportBroken) → report_in n text ≡ r → (a b : Answer) → ResumeGives n bounds r a
+one_resume : (n : Named) (bounds : Bounds) (text : List ℕ) → IsNamed n → (r : Result Report ReportBroken) → report_in n text ≡ r → (a b : ProgramAnswer) → ResumeGives n bounds r a
     → ResumeGives n bounds r b → a ≡ b
 one_resume n bounds text named (Ok old) e a b (inl g) (inl h) = g.1 ∙ sym h.1
 one_resume n bounds text named (Ok old) e a b (inl g) (inr h) = absurd (not_both_ℚ _ _ g.0 h.0)
@@ -184,7 +184,7 @@ one_resume n bounds text named (Ok old) e a b (inr g) (inr h) =
 one_resume n bounds text named (Err broken) e a b g h = g ∙ sym h
 
 -- ---- what a request gives with its network
-one_given : (n : Named) (text : List ℕ) (request : Request) → (generated_by request ≡ None → IsNamed n) → (a b : Answer) → Gives n text request a → Gives n text request b → a ≡ b
+one_given : (n : Named) (text : List ℕ) (request : Request) → (generated_by request ≡ None → IsNamed n) → (a b : ProgramAnswer) → Gives n text request a → Gives n text request b → a ≡ b
 one_given n text (Solve file horizon phases patterns) named a b g h =
     g.2 ∙ ap (Solved n) (one_report passes_Q n.net (bounds_of horizon (budgets_of phases patterns)) g.0 h.0 g.1 h.1) ∙ sym h.2
 one_given n text (SolveForever file phases patterns) named a b g h = g.2 ∙ ap (SolvedForever n) (one_forever passes_Q n.net phases patterns g.0 h.0 g.1 h.1) ∙ sym h.2
@@ -212,12 +212,12 @@ named_in (Some m) texts n h e = absurd (none-some m (sym e))
 named_in None [] n h e = absurd h
 named_in None (text ∷ others) n h e = accepted_named text n h
 
-one_read : (request : Request) (text : List ℕ) (r : Result Named Broken) → ((n : Named) → r ≡ Ok n → generated_by request ≡ None → IsNamed n) → (a b : Answer) → ReadGives request text r a
+one_read : (request : Request) (text : List ℕ) (r : Result Named Broken) → ((n : Named) → r ≡ Ok n → generated_by request ≡ None → IsNamed n) → (a b : ProgramAnswer) → ReadGives request text r a
     → ReadGives request text r b → a ≡ b
 one_read request text (Ok n) named a b g h = one_given n text request (named n refl) a b g h
 one_read request text (Err broken) named a b g h = g ∙ sym h
 
-one_of_texts : (request : Request) (texts : List (List ℕ)) (a b : Answer) → TextsGive request texts a → TextsGive request texts b → a ≡ b
+one_of_texts : (request : Request) (texts : List (List ℕ)) (a b : ProgramAnswer) → TextsGive request texts a → TextsGive request texts b → a ≡ b
 one_of_texts request texts a b g h =
     let same : g.0 ≡ h.0 = one_network (generated_by request) texts g.0 h.0 g.1 h.1 in
     one_read request (second_of texts) h.0 (λ n e. named_in (generated_by request) texts n (subst (λ (r : Result Named Broken). NetworkIn (generated_by request) texts r) e h.1)) a b
@@ -231,7 +231,7 @@ many_or_within telling file m w =
     let within = w.within in
     omega (arith, more, within)
 
-one_of_files : (telling : Telling) (files : List Wanted) (Give : List (List ℕ) → Answer → Type 0) → ((texts : List (List ℕ)) (a b : Answer) → Give texts a → Give texts b → a ≡ b) → (a b : Answer)
+one_of_files : (telling : Telling) (files : List Wanted) (Give : List (List ℕ) → ProgramAnswer → Type 0) → ((texts : List (List ℕ)) (a b : ProgramAnswer) → Give texts a → Give texts b → a ≡ b) → (a b : ProgramAnswer)
     → FilesGive telling files Give a → FilesGive telling files Give b → a ≡ b
 one_of_files telling [] Give one a b g h = one [] a b g h
 one_of_files telling (file ∷ files) Give one a b (inl g) (inl h) = g.1 ∙ sym h.1
@@ -242,9 +242,9 @@ one_of_files telling (file ∷ files) Give one a b (inr g) (inr h) =
     one_of_files telling files (λ (texts : List (List ℕ)). Give (h.0.text ∷ texts)) (λ texts. one (h.0.text ∷ texts)) a b
     (subst (λ (text : List ℕ). FilesGive telling files (λ (texts : List (List ℕ)). Give (text ∷ texts)) a) same g.1) h.1
 
-one_asked : (telling : Telling) (o : Option Request) (a b : Answer) → RequestGives telling o a → RequestGives telling o b → a ≡ b
+one_asked : (telling : Telling) (o : Option Request) (a b : ProgramAnswer) → RequestGives telling o a → RequestGives telling o b → a ≡ b
 one_asked telling (Some request) a b g h = one_of_files telling (files_of request) (TextsGive request) (one_of_texts request) a b g h
 one_asked telling None a b g h = g ∙ sym h
 
-pub one_told : (words : List (List ℕ)) (telling : Telling) (a b : Answer) → IsToldAnswer words telling a → IsToldAnswer words telling b → a ≡ b
+pub one_told : (words : List (List ℕ)) (telling : Telling) (a b : ProgramAnswer) → IsToldAnswer words telling a → IsToldAnswer words telling b → a ≡ b
 one_told words telling a b g h = one_asked telling (request_of words) a b g h

@@ -14,7 +14,7 @@ use Rattle.nf_unstopped_laws.specs.Stops.{NeverNoPattern}
 use Rattle.nf_unstopped_laws.proofs.Stops.{never_of, never_report}
 use Rattle.nf_answers.specs.declared.arrival.Arrival.{Arrival}
 use Rattle.nf_answers.specs.declared.status.Status.{Status}
-use Rattle.nf_answers.specs.Answers.{Answer, Solved, SolvedForever, Shown, Loaded, Checked, Quickest, TooManyWalks, Generated, Settled, Distributed, NoMemory, NoRequest, ShelfFailed, ShelfTooLong, Malformed, MalformedLoads, MalformedFlows, MalformedRoutes, MalformedReport, Passes, Unbounded, NotThin, Earlier, status_of, status_of_stop, status_of_forever, status_of_verdict}
+use Rattle.nf_answers.specs.Answers.{ProgramAnswer, Solved, SolvedForever, Shown, Loaded, Checked, Quickest, TooManyWalks, Generated, Settled, Distributed, NoMemory, NoRequest, ShelfFailed, ShelfTooLong, Malformed, MalformedLoads, MalformedFlows, MalformedRoutes, MalformedReport, Passes, Unbounded, NotThin, Earlier, status_of, status_of_stop, status_of_forever, status_of_verdict}
 use Rattle.nf_outside.specs.Files.{Visit}
 use Rattle.nf_outside.specs.Sinks.{Taken}
 use Rattle.nf_outside.specs.Shown.{IsShown}
@@ -29,13 +29,13 @@ use Rattle.nf_app.specs.Stops.{stop_of_arrival, stop_in, AlwaysHasPattern}
 none_never : (stop : Option (Cause ℚ)) → stop ≡ None → NeverNoPattern stop
 none_never stop none phase e = none-some (Cause.NoPattern phase) (sym none ∙ e)
 
-no_run : (answer other : Answer) → answer ≡ other → stop_in other ≡ None → NeverNoPattern (stop_in answer)
+no_run : (answer other : ProgramAnswer) → answer ≡ other → stop_in other ≡ None → NeverNoPattern (stop_in answer)
 no_run answer other e none = none_never (stop_in answer) (ap stop_in e ∙ none)
 
-with_stop : (answer other : Answer) → answer ≡ other → NeverNoPattern (stop_in other) → NeverNoPattern (stop_in answer)
-with_stop answer other e never = subst (λ (a : Answer). NeverNoPattern (stop_in a)) (sym e) never
+with_stop : (answer other : ProgramAnswer) → answer ≡ other → NeverNoPattern (stop_in other) → NeverNoPattern (stop_in answer)
+with_stop answer other e never = subst (λ (a : ProgramAnswer). NeverNoPattern (stop_in a)) (sym e) never
 
-refused_never : (call : Call) (answer : Answer) → IsRefused call answer → NeverNoPattern (stop_in answer)
+refused_never : (call : Call) (answer : ProgramAnswer) → IsRefused call answer → NeverNoPattern (stop_in answer)
 refused_never call (Solved n report) h = absurd h
 refused_never call (SolvedForever n forever) h = absurd h
 refused_never call (Generated number rungs n made report) h = absurd h
@@ -53,7 +53,7 @@ arrival_never net (Some departs) arrival good is = subst NeverNoPattern (sym (ap
     (never_report passes_Q net (bounds_of departs usual_budgets) is.report good is.solution.run)
 
 -- ---- what a request gives with its network
-given_never : (shelf : Visit) (n : Named) (request : Request) (answer : Answer) → IsNetwork n.net → IsGiven shelf n request answer → NeverNoPattern (stop_in answer)
+given_never : (shelf : Visit) (n : Named) (request : Request) (answer : ProgramAnswer) → IsNetwork n.net → IsGiven shelf n request answer → NeverNoPattern (stop_in answer)
 given_never shelf n (Solve file horizon phases patterns) answer good g =
     with_stop answer (Solved n g.0) g.1 (never_of n.net g.0.flow g.0.stop good g.2.1.equilibrium g.4)
 given_never shelf n (SolveForever file phases patterns) answer good g =
@@ -85,7 +85,7 @@ given_never shelf n (Routes file routes horizon) answer good (inl g) = no_run an
 given_never shelf n (Routes file routes horizon) answer good (inr (inl g)) = no_run answer (Passes g.0) g.1 refl
 given_never shelf n (Routes file routes horizon) answer good (inr (inr g)) = no_run answer (MalformedRoutes g.0) g.1 refl
 
-pub answer_never : (call : Call) (answer : Answer) → IsAnswer call answer → NeverNoPattern (stop_in answer)
+pub answer_never : (call : Call) (answer : ProgramAnswer) → IsAnswer call answer → NeverNoPattern (stop_in answer)
 answer_never call answer (inl h) = refused_never call answer h
 answer_never call answer (inr h) = given_never call.shelf h.net h.request answer h.named.network h.given
 
@@ -108,7 +108,7 @@ by_verdict : (verdict : Verdict ℕ ℕ ℚ) → status_of_verdict verdict ≡ S
 by_verdict Yes e = absurd (cc)
 by_verdict (No rule subject time left right) e = absurd (cc)
 
-by_answer : (answer : Answer) → NeverNoPattern (stop_in answer) → status_of answer ≡ Status.NoPattern → ⊥
+by_answer : (answer : ProgramAnswer) → NeverNoPattern (stop_in answer) → status_of answer ≡ Status.NoPattern → ⊥
 by_answer (Solved n report) never e = by_stop report.stop never e
 by_answer (SolvedForever n forever) never e = by_forever forever.stop never e
 by_answer (Generated number rungs n made report) never e = by_stop report.stop never e
@@ -133,16 +133,16 @@ by_answer Unbounded never e = absurd (cc)
 by_answer NotThin never e = absurd (cc)
 by_answer Earlier never e = absurd (cc)
 
-pub status_never : (call : Call) (answer : Answer) → IsAnswer call answer → status_of answer ≡ Status.NoPattern → ⊥
+pub status_never : (call : Call) (answer : ProgramAnswer) → IsAnswer call answer → status_of answer ≡ Status.NoPattern → ⊥
 status_never call answer comes = by_answer answer (answer_never call answer comes)
 
 output_other : (status : Status) → status ≡ Status.Output → status ≡ Status.NoPattern → ⊥
 output_other status o e = absurd (cc)
 
 -- ---- a whole run
-pub never_by_refusal : (call : Call) (status : Status) (answer : Answer) → IsAnswer call answer → status ≡ status_of answer → AlwaysHasPattern call status
+pub never_by_refusal : (call : Call) (status : Status) (answer : ProgramAnswer) → IsAnswer call answer → status ≡ status_of answer → AlwaysHasPattern call status
 never_by_refusal call status answer comes is = record { stops = answer_never call; not_status = λ e. status_never call answer comes (sym is ∙ e) }
 
-pub never_by_text : (call : Call) (out err : Taken) (status : Status) (answer : Answer) → IsAnswer call answer → IsShown answer out err status → AlwaysHasPattern call status
+pub never_by_text : (call : Call) (out err : Taken) (status : Status) (answer : ProgramAnswer) → IsAnswer call answer → IsShown answer out err status → AlwaysHasPattern call status
 never_by_text call out err status answer comes (inl h) = never_by_refusal call status answer comes h.0
 never_by_text call out err status answer comes (inr h) = record { stops = answer_never call; not_status = output_other status h.0 }

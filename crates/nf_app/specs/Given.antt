@@ -29,7 +29,7 @@ use Rattle.nf_outside.specs.Files.{Visit, loads_file}
 use Rattle.nf_outside.specs.Fetching.{OfLastBytes}
 use Rattle.nf_command_line.specs.Requests.{Request, Solve, SolveForever, Show, Load, Check, Quick, Gen, Settle, Resume, Routes}
 use Rattle.nf_app.specs.Requests.{budgets_of}
-use Rattle.nf_answers.specs.Answers.{Answer, Solved, SolvedForever, Shown, Loaded, Checked, Quickest, TooManyWalks, Generated, Settled, Distributed, MalformedLoads, MalformedFlows, MalformedRoutes, MalformedReport, Passes, Unbounded, NotThin, Earlier}
+use Rattle.nf_answers.specs.Answers.{ProgramAnswer, Solved, SolvedForever, Shown, Loaded, Checked, Quickest, TooManyWalks, Generated, Settled, Distributed, MalformedLoads, MalformedFlows, MalformedRoutes, MalformedReport, Passes, Unbounded, NotThin, Earlier}
 use Rattle.nf_app.specs.Reports.{HoldsNoReport}
 use Rattle.nf_app.specs.CheckGiven.{IsChecked, PassesChecking}
 use Rattle.nf_app.specs.QuickGiven.{IsQuickest, IsOverBudget, PassesQuick, IsUnbounded}
@@ -62,7 +62,7 @@ pub record PassesLoading (shelf : Visit) (n : Named) (file : List ℕ) (horizon 
 
 -- The answers of each request that has its network. The canonical text that is shown reads as the same network. The text of a report has
 -- one reading, and that is the report. A run that stops since no pattern was left stops where there is no thin flow.
-abbrev pub IsGiven : Visit → Named → Request → Answer → Type 0
+abbrev pub IsGiven : Visit → Named → Request → ProgramAnswer → Type 0
 IsGiven shelf n (Solve file horizon phases patterns) answer =
     (report : Report) × (answer ≡ Solved n report) × ((made : ℕ) × IsSolution n.net (bounds_of horizon (budgets_of phases patterns)) made report) × ReadsBack n report
     × StopsForNoThinFlow n.net report.stop report.flow

@@ -1,7 +1,7 @@
 -- When an outcome of a request, or a refusal, comes.
 use Rattle.std.specs.Prelude.{◌≡◌, ◌⊎◌, Result, Ok, Err}
 use Rattle.nf_formats.specs.Named.{Named}
-use Rattle.nf_answers.specs.declared.outcome.Found.{Found}
+use Rattle.nf_answers.specs.declared.outcome.Computed.{Computed}
 use Rattle.nf_answers.specs.declared.outcome.Outcome.{Outcome}
 use Rattle.nf_answers.specs.declared.refusal.Refusal.{Refusal}
 use Rattle.nf_answers.specs.Refusals.{answer_of}
@@ -12,12 +12,12 @@ use Rattle.nf_app.specs.Given.{IsGiven}
 use Rattle.nf_app.specs.Runs.{Call, IsAnswer}
 
 -- what a request gives with its network, or why it gives nothing
-abbrev pub IsGiving : Visit → Named → Request → Result Found Refusal → Type 0
+abbrev pub IsGiving : Visit → Named → Request → Result Computed Refusal → Type 0
 IsGiving shelf n request (Ok found) = IsGiven shelf n request (answer_with n found) × HasTextWith n found
 IsGiving shelf n request (Err refusal) = (refusal ≡ Refusal.NoMemory) ⊎ IsGiven shelf n request (answer_of refusal)
 
 -- what was found, with its network
-abbrev pub with_net : Named → Result Found Refusal → Result Outcome Refusal
+abbrev pub with_net : Named → Result Computed Refusal → Result Outcome Refusal
 with_net n (Ok found) = Ok (record { net = n; found = found })
 with_net n (Err refusal) = Err refusal
 

@@ -15,7 +15,7 @@ use Rattle.nf_formats.specs.declared.Cause.{Cause}
 use Rattle.nf_formats.specs.Report.{Report}
 use Rattle.nf_net.specs.Supply.{checked_supply}
 use Rattle.nf_quick_lists.specs.Steps.{IsUnboundedWalk}
-use Rattle.nf_quick_lists.specs.Quick.{Augment, Quick, Found, Budget, quickest_list}
+use Rattle.nf_quick_lists.specs.Quick.{Augment, Quick, FoundQuick, Budget, quickest_list}
 use Rattle.nf_quick_lists.specs.Quick as lists
 use Rattle.nf_quick_lists.specs.Answers.{IsQuickFlow}
 use Rattle.nf_quick_lists.specs.InOrder.{ComesOfPushes, EndsAtBudget}
@@ -26,7 +26,7 @@ use Rattle.nf_answers.specs.declared.arrival.Arrival.{Arrival}
 use Rattle.nf_app.specs.Requests.{usual_budgets}
 
 -- ---- the lists of operations
-abbrev pub flow_list : Network → ℚ → ℕ → Result lists.Answer (PassedAt ℚ)
+abbrev pub flow_list : Network → ℚ → ℕ → Result lists.QuickAnswer (PassedAt ℚ)
 flow_list net amount augments = at_part QuickPart (quickest_list passes_Q net amount augments)
 
 abbrev pub departs_list : Network → ℚ → Result (Option ℚ) (PassedAt ℚ)
@@ -59,7 +59,7 @@ IsArrival net (Some departs) arrival = ArrivesIn net departs arrival
 -- departure by which the amount is supplied, if there is one, and then it is no earlier than the time of the quickest flow.
 pub record IsQuickest (net : Network) (amount : ℚ) (augments : ℕ) (quick : Quick) (arrival : Arrival) : Type 0 where
   pub no_way : HasNoWay net amount
-  pub computed : flow_list net amount augments ≡ Ok (Found quick)
+  pub computed : flow_list net amount augments ≡ Ok (FoundQuick quick)
   pub flow : IsQuickFlow net amount quick
   pub pushes : ComesOfPushes net amount augments quick
   pub departs : Option ℚ
@@ -78,7 +78,7 @@ pub record IsOverBudget (net : Network) (amount : ℚ) (augments : ℕ) (walks :
 pub record PassesQuick (net : Network) (amount : ℚ) (augments : ℕ) (at : PassedAt ℚ) : Type 0 where
   pub no_way : HasNoWay net amount
   pub passes : (flow_list net amount augments ≡ Err at)
-      ⊎ ((quick : Quick) × (flow_list net amount augments ≡ Ok (Found quick)) × (departs_list net amount ≡ Err at))
+      ⊎ ((quick : Quick) × (flow_list net amount augments ≡ Ok (FoundQuick quick)) × (departs_list net amount ≡ Err at))
 
 -- the amount is above 0, and a walk of unbounded links leads from source to sink
 abbrev pub IsUnbounded : Network → ℚ → Type 0

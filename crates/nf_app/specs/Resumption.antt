@@ -9,7 +9,7 @@ use Rattle.nf_resumed_laws.specs.ResumedLaws.{RestFits}
 use Rattle.nf_phase.specs.declared.solution.Budgets.{Budgets}
 use Rattle.nf_phase.specs.Solution.{bounds_of}
 use Rattle.nf_command_line.specs.Requests.{Resume}
-use Rattle.nf_answers.specs.Answers.{Answer, Solved}
+use Rattle.nf_answers.specs.Answers.{ProgramAnswer, Solved}
 use Rattle.nf_app.specs.Requests.{budgets_of}
 use Rattle.nf_app.specs.Reports.{HoldsReport}
 use Rattle.nf_app.specs.Runs.{Call, Asks, IsAnswer}
@@ -43,11 +43,11 @@ pub record IsOneRun (call : Call) (n : Named) (report_name : List ℕ) (horizon 
       → RestFits passes_Q n.net (bounds_of horizon (budgets_of phases patterns)) first.last → new.stop ≡ None → new ≡ later.report
 
 -- of an answer; others than those of `resume` aren't gone on from a report
-abbrev pub IsResumedAsOne : Call → Answer → Type 0
+abbrev pub IsResumedAsOne : Call → ProgramAnswer → Type 0
 IsResumedAsOne call (Solved n new) = (file report_name : List ℕ) (horizon : ℚ) (phases patterns : ℕ) → Asks call (Resume file report_name horizon phases patterns)
     → IsOneRun call n report_name horizon phases patterns new
 IsResumedAsOne call answer = Unit {0}
 
 -- whichever answer comes
 abbrev pub ResumesAsOne : Call → Type 0
-ResumesAsOne call = (answer : Answer) → IsAnswer call answer → IsResumedAsOne call answer
+ResumesAsOne call = (answer : ProgramAnswer) → IsAnswer call answer → IsResumedAsOne call answer

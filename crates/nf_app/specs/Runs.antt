@@ -4,7 +4,7 @@ use Rattle.nf_formats.specs.Named.{Named}
 use Rattle.nf_formats.specs.NetLines.{Broken}
 use Rattle.nf_formats.specs.WellNamed.{IsNamed}
 use Rattle.nf_answers.specs.declared.status.Status.{Status}
-use Rattle.nf_answers.specs.Answers.{Answer, NoMemory, NoRequest, ShelfFailed, ShelfTooLong, Malformed}
+use Rattle.nf_answers.specs.Answers.{ProgramAnswer, NoMemory, NoRequest, ShelfFailed, ShelfTooLong, Malformed}
 use Rattle.nf_outside.specs.Files.{Wanted, Visit, FetchedNone, FetchedAll, FetchedTo, Failed, HasTooMany}
 use Rattle.nf_outside.specs.Fetching.{NetworkReads}
 use Rattle.nf_outside.specs.Sinks.{Taken}
@@ -34,7 +34,7 @@ pub record Read (call : Call) (request : Request) (read : Result Named Broken) :
   pub reads : NetworkReads call.shelf (generated_by request) (files_of request) read
 
 -- when nothing is computed; memory may be wanting before any file was fetched, and after each
-abbrev pub IsRefused : Call → Answer → Type 0
+abbrev pub IsRefused : Call → ProgramAnswer → Type 0
 IsRefused call NoMemory = FetchedNone call.shelf ⊎ ((last : Wanted) × Reached call last)
 IsRefused call NoRequest = (request_of call.words ≡ None) × FetchedNone call.shelf
 IsRefused call ShelfFailed = (last : Wanted) × Reached call last × Failed call.shelf last
@@ -43,7 +43,7 @@ IsRefused call (Malformed broken) = (request : Request) × Read call request (Er
 IsRefused call answer = ⊥
 
 -- the request has its network, which is one that a file can give, and gives this
-pub record IsComputed (call : Call) (answer : Answer) : Type 0 where
+pub record IsComputed (call : Call) (answer : ProgramAnswer) : Type 0 where
   pub request : Request
   pub net : Named
   pub read : Read call request (Ok net)
@@ -51,11 +51,11 @@ pub record IsComputed (call : Call) (answer : Answer) : Type 0 where
   pub given : IsGiven call.shelf net request answer
 
 -- when which answer is given
-abbrev pub IsAnswer : Call → Answer → Type 0
+abbrev pub IsAnswer : Call → ProgramAnswer → Type 0
 IsAnswer call answer = IsRefused call answer ⊎ IsComputed call answer
 
 -- ---- a whole run: it gave an answer where that comes, and its status and its sinks show it
 pub record Ran (call : Call) (out err : Taken) (status : Status) : Type 0 where
-  pub answer : Answer
+  pub answer : ProgramAnswer
   pub comes : IsAnswer call answer
   pub shown : IsShown answer out err status

@@ -5,7 +5,7 @@ use Rattle.nf_formats.specs.declared.Cause.{Cause}
 use Rattle.nf_unstopped_laws.specs.Stops.{NeverNoPattern}
 use Rattle.nf_answers.specs.declared.arrival.Arrival.{Arrival}
 use Rattle.nf_answers.specs.declared.status.Status.{Status}
-use Rattle.nf_answers.specs.Answers.{Answer, Solved, SolvedForever, Quickest, Generated}
+use Rattle.nf_answers.specs.Answers.{ProgramAnswer, Solved, SolvedForever, Quickest, Generated}
 use Rattle.nf_app.specs.Runs.{Call, IsAnswer}
 
 -- why the run to the departure was stopped
@@ -16,7 +16,7 @@ stop_of_arrival (Arrival.Stopped cause) = Some cause
 
 -- why the run was stopped that an answer tells of, if it tells of one: a report, a run without a horizon, a summary, or the arrival
 -- beside a quickest flow
-abbrev pub stop_in : Answer → Option (Cause ℚ)
+abbrev pub stop_in : ProgramAnswer → Option (Cause ℚ)
 stop_in (Solved n report) = report.stop
 stop_in (SolvedForever n forever) = forever.stop
 stop_in (Generated number rungs n made report) = report.stop
@@ -25,5 +25,5 @@ stop_in answer = None
 
 -- whichever answer comes, and so the status
 pub record AlwaysHasPattern (call : Call) (status : Status) : Type 0 where
-  pub stops : (answer : Answer) → IsAnswer call answer → NeverNoPattern (stop_in answer)
+  pub stops : (answer : ProgramAnswer) → IsAnswer call answer → NeverNoPattern (stop_in answer)
   pub not_status : status ≡ Status.NoPattern → ⊥

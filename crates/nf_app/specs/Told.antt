@@ -17,7 +17,7 @@ use Rattle.nf_lists.specs.PhaseRun.{Bounds, IsRunReport}
 use Rattle.nf_check_lists.specs.CheckList.{check_list}
 use Rattle.nf_readings.specs.LoadsFile.{LoadsBroken, loads_in}
 use Rattle.nf_readings.specs.ReportFile.{ReportBroken, report_in}
-use Rattle.nf_quick_lists.specs.Quick.{Quick as QuickFlow, Found, Budget}
+use Rattle.nf_quick_lists.specs.Quick.{Quick as QuickFlow, FoundQuick, Budget}
 use Rattle.nf_quick_lists.specs.Quick as quick
 use Rattle.nf_quick.specs.Answered.{HasNoWay}
 use Rattle.nf_phase.specs.Solution.{bounds_of}
@@ -30,7 +30,7 @@ use Rattle.nf_resume_lists.specs.Meanings.{IsResumedReport}
 use Rattle.nf_outside.specs.Files.{Wanted}
 use Rattle.nf_command_line.specs.Requests.{Request, Solve, SolveForever, Show, Load, Check, Quick, Gen, Settle, Resume, Routes, request_of}
 use Rattle.nf_answers.specs.declared.arrival.Arrival.{Arrival}
-use Rattle.nf_answers.specs.Answers.{Answer, Solved, SolvedForever, Shown, Loaded, Checked, Quickest, TooManyWalks, Generated, Settled, Distributed, NoRequest, ShelfTooLong, Malformed, MalformedLoads, MalformedFlows, MalformedRoutes, MalformedReport, Passes, Unbounded, NotThin, Earlier}
+use Rattle.nf_answers.specs.Answers.{ProgramAnswer, Solved, SolvedForever, Shown, Loaded, Checked, Quickest, TooManyWalks, Generated, Settled, Distributed, NoRequest, ShelfTooLong, Malformed, MalformedLoads, MalformedFlows, MalformedRoutes, MalformedReport, Passes, Unbounded, NotThin, Earlier}
 use Rattle.nf_app.specs.Requests.{files_of, generated_by, budgets_of, usual_budgets}
 use Rattle.nf_app.specs.Given.{loading_list}
 use Rattle.nf_app.specs.QuickGiven.{flow_list, departs_list, arrival_of, IsUnbounded}
@@ -55,22 +55,22 @@ pub record TellsTooMany (telling : Telling) (file : Wanted) : Type 0 where
 
 -- ---- what a request gives with its network, and with the text of the other file that it wants
 -- what a list computes, or the operation of it that passes
-abbrev pub or_passes : {A : Type 0} → (A → Answer) → Result A (PassedAt ℚ) → Answer
+abbrev pub or_passes : {A : Type 0} → (A → ProgramAnswer) → Result A (PassedAt ℚ) → ProgramAnswer
 or_passes make (Ok value) = make value
 or_passes make (Err at) = Passes at
 
 -- `load`: by what was read as pieces of the links
-abbrev pub load_answer : Named → ℚ → Result (List (List Piece)) LoadsBroken → Answer
+abbrev pub load_answer : Named → ℚ → Result (List (List Piece)) LoadsBroken → ProgramAnswer
 load_answer n horizon (Ok pieces) = or_passes (λ loaded. Loaded n horizon loaded) (loading_list n pieces horizon)
 load_answer n horizon (Err broken) = MalformedLoads broken
 
 -- `check`: by what was read as a report
-abbrev pub check_answer : Named → Result Report ReportBroken → Answer
+abbrev pub check_answer : Named → Result Report ReportBroken → ProgramAnswer
 check_answer n (Ok report) = or_passes (λ verdict. Checked n verdict) (check_list passes_Q n.net report.flow)
 check_answer n (Err broken) = MalformedReport broken
 
 -- `routes`: by what was read as routes
-abbrev pub routes_answer : Named → ℚ → Result (List NamedRoute) RoutesBroken → Answer
+abbrev pub routes_answer : Named → ℚ → Result (List NamedRoute) RoutesBroken → ProgramAnswer
 routes_answer n horizon (Ok routes) = or_passes (λ routed. Distributed n routes horizon routed) (by_route_list n routes horizon)
 routes_answer n horizon (Err broken) = MalformedRoutes broken
 
@@ -80,43 +80,43 @@ Arrives net None arrival = arrival ≡ Arrival.Never
 Arrives net (Some departs) arrival =
     (report : Report) × IsRunReport passes_Q net (bounds_of departs usual_budgets) report × (arrival ≡ arrival_of report.stop (label report.flow net.sink departs))
 
-abbrev pub DepartsGive : Named → QuickFlow → Result (Option ℚ) (PassedAt ℚ) → Answer → Type 0
+abbrev pub DepartsGive : Named → QuickFlow → Result (Option ℚ) (PassedAt ℚ) → ProgramAnswer → Type 0
 DepartsGive n flow (Ok departs) answer = (arrival : Arrival) × Arrives n.net departs arrival × (answer ≡ Quickest n flow arrival)
 DepartsGive n flow (Err at) answer = answer ≡ Passes at
 
-abbrev pub FlowGives : Named → ℚ → ℕ → Result quick.Answer (PassedAt ℚ) → Answer → Type 0
-FlowGives n amount augments (Ok (Found flow)) answer = DepartsGive n flow (departs_list n.net amount) answer
+abbrev pub FlowGives : Named → ℚ → ℕ → Result quick.QuickAnswer (PassedAt ℚ) → ProgramAnswer → Type 0
+FlowGives n amount augments (Ok (FoundQuick flow)) answer = DepartsGive n flow (departs_list n.net amount) answer
 FlowGives n amount augments (Ok (Budget walks)) answer = answer ≡ TooManyWalks n augments walks
 FlowGives n amount augments (Err at) answer = answer ≡ Passes at
 
-abbrev pub QuickGives : Named → ℚ → ℕ → Answer → Type 0
+abbrev pub QuickGives : Named → ℚ → ℕ → ProgramAnswer → Type 0
 QuickGives n amount augments answer =
     (IsUnbounded n.net amount × (answer ≡ Unbounded)) ⊎ (HasNoWay n.net amount × FlowGives n amount augments (flow_list n.net amount augments) answer)
 
 -- `settle`: at the labels of departure 0
-abbrev pub StartGives : Named → List ℚ → GivenFlows → Answer → Type 0
+abbrev pub StartGives : Named → List ℚ → GivenFlows → ProgramAnswer → Type 0
 StartGives n labels given answer =
     ((pattern : Pattern) × (flows : List ℚ) × (answer ≡ Settled n pattern flows) × AreSettled n.net labels given pattern flows)
     ⊎ ((answer ≡ NotThin) × AreNotThin n.net labels given)
     ⊎ ((at : PassedAt ℚ) × (answer ≡ Passes at) × PassesFirst n.net labels given at)
 
-abbrev pub SettleGives : Named → Result GivenFlows FlowsBroken → Answer → Type 0
+abbrev pub SettleGives : Named → Result GivenFlows FlowsBroken → ProgramAnswer → Type 0
 SettleGives n (Ok given) answer = (labels : List ℚ) × AreStartLabels n.net labels × StartGives n labels given answer
 SettleGives n (Err broken) answer = answer ≡ MalformedFlows broken
 
 -- `resume`: the horizon comes first, then the list of resuming, then the run that goes on
-abbrev pub RestGives : Named → Bounds → Report → Result resuming.Outcome (PassedAt ℚ) → Answer → Type 0
+abbrev pub RestGives : Named → Bounds → Report → Result resuming.Outcome (PassedAt ℚ) → ProgramAnswer → Type 0
 RestGives n bounds old (Ok (Stands first)) answer = (made : ℕ) × (report : Report) × IsResumedReport passes_Q n.net bounds old made report × (answer ≡ Solved n report)
 RestGives n bounds old (Ok (Refused verdict)) answer = answer ≡ Checked n verdict
 RestGives n bounds old (Err at) answer = answer ≡ Passes at
 
-abbrev pub ResumeGives : Named → Bounds → Result Report ReportBroken → Answer → Type 0
+abbrev pub ResumeGives : Named → Bounds → Result Report ReportBroken → ProgramAnswer → Type 0
 ResumeGives n bounds (Ok old) answer =
     ((bounds.horizon <ℚ old.flow.reached) × (answer ≡ Earlier))
     ⊎ ((old.flow.reached ≤ℚ bounds.horizon) × RestGives n bounds old (resume_list passes_Q n.net old) answer)
 ResumeGives n bounds (Err broken) answer = answer ≡ MalformedReport broken
 
-abbrev pub Gives : Named → List ℕ → Request → Answer → Type 0
+abbrev pub Gives : Named → List ℕ → Request → ProgramAnswer → Type 0
 Gives n text (Solve file horizon phases patterns) answer =
     (report : Report) × IsRunReport passes_Q n.net (bounds_of horizon (budgets_of phases patterns)) report × (answer ≡ Solved n report)
 Gives n text (SolveForever file phases patterns) answer = (forever : Forever) × IsForever passes_Q n.net phases patterns forever × (answer ≡ SolvedForever n forever)
@@ -141,26 +141,26 @@ NetworkIn None (text ∷ others) read = Reads text read
 abbrev pub second_of : List (List ℕ) → List ℕ
 second_of texts = unwrap_or (slice_get texts 1) []
 
-abbrev pub ReadGives : Request → List ℕ → Result Named Broken → Answer → Type 0
+abbrev pub ReadGives : Request → List ℕ → Result Named Broken → ProgramAnswer → Type 0
 ReadGives request text (Ok n) answer = Gives n text request answer
 ReadGives request text (Err broken) answer = answer ≡ Malformed broken
 
-abbrev pub TextsGive : Request → List (List ℕ) → Answer → Type 0
+abbrev pub TextsGive : Request → List (List ℕ) → ProgramAnswer → Type 0
 TextsGive request texts answer = (read : Result Named Broken) × NetworkIn (generated_by request) texts read × ReadGives request (second_of texts) read answer
 
 -- ---- what words give with what is told
 -- file by file: one of too many bytes is refused, whatever the next ones are; where none has too many, their texts give the answer
-abbrev pub FilesGive : Telling → List Wanted → (List (List ℕ) → Answer → Type 0) → Answer → Type 0
+abbrev pub FilesGive : Telling → List Wanted → (List (List ℕ) → ProgramAnswer → Type 0) → ProgramAnswer → Type 0
 FilesGive telling [] Give answer = Give [] answer
 FilesGive telling (file ∷ files) Give answer =
     (TellsTooMany telling file × (answer ≡ ShelfTooLong))
     ⊎ ((tells : TellsWithin telling file) × FilesGive telling files (λ texts. Give (tells.text ∷ texts)) answer)
 
-abbrev pub RequestGives : Telling → Option Request → Answer → Type 0
+abbrev pub RequestGives : Telling → Option Request → ProgramAnswer → Type 0
 RequestGives telling (Some request) answer = FilesGive telling (files_of request) (TextsGive request) answer
 RequestGives telling None answer = answer ≡ NoRequest
 
-abbrev pub IsToldAnswer : List (List ℕ) → Telling → Answer → Type 0
+abbrev pub IsToldAnswer : List (List ℕ) → Telling → ProgramAnswer → Type 0
 IsToldAnswer words telling answer = RequestGives telling (request_of words) answer
 
 -- each file that the words ask for is told

@@ -14,7 +14,7 @@ use Rattle.nf_forever_lists.specs.Extended.{flow_until}
 use Rattle.nf_quick_lists.specs.Departures.{IsDeparture}
 use Rattle.nf_unique_laws.specs.UniqueLaws.{SameInAll}
 use Rattle.nf_command_line.specs.Requests.{Check, Quick}
-use Rattle.nf_answers.specs.Answers.{Answer, Solved, SolvedForever, Checked, Quickest, Generated}
+use Rattle.nf_answers.specs.Answers.{ProgramAnswer, Solved, SolvedForever, Checked, Quickest, Generated}
 use Rattle.nf_answers.specs.declared.arrival.Arrival.{Arrival}
 use Rattle.nf_app.specs.Reports.{HoldsReport}
 use Rattle.nf_app.specs.Runs.{Call, Asks, IsAnswer}
@@ -37,7 +37,7 @@ SameArrival net amount (Arrival.At time) = (departs : ℚ) × IsDeparture net am
 SameArrival net amount arrival = Unit {0}
 
 -- Of an answer: of the flow of a report, of a run without a horizon, of a verdict, and of the line of `quick`. Other answers tell of no equilibrium.
-abbrev pub IsSameInAll : Call → Answer → Type 0
+abbrev pub IsSameInAll : Call → ProgramAnswer → Type 0
 IsSameInAll call (Solved n report) = SameInAll n.net report.flow
 IsSameInAll call (Generated number rungs n made report) = SameInAll n.net report.flow
 IsSameInAll call (SolvedForever n forever) = SameForever n.net forever
@@ -47,4 +47,4 @@ IsSameInAll call answer = Unit {0}
 
 -- whichever answer comes: whatever a run stopped for, the labels, queues and exits of its report are those of every equilibrium
 abbrev pub AnswerIsSameInAll : Call → Type 0
-AnswerIsSameInAll call = (answer : Answer) → IsAnswer call answer → IsSameInAll call answer
+AnswerIsSameInAll call = (answer : ProgramAnswer) → IsAnswer call answer → IsSameInAll call answer

@@ -24,7 +24,7 @@ use crate::arrival::{find_arrival, last_label};
 use crate::gathering::gather;
 use crate::loading::load_links;
 use crate::settling::settle_at_start;
-use nf_answers::{Found, Ladder, Outcome, Refusal, augments_text, flow_text};
+use nf_answers::{Computed, Ladder, Outcome, Refusal, augments_text, flow_text};
 use nf_check::check;
 use nf_command_line::{Request, read_request};
 use nf_edge::Shelf;
@@ -42,7 +42,7 @@ use nf_routes_file::parse_routes;
 use std::alloc::{AllocError, Global};
 
 // What solving the network to a horizon gives.
-fn solve_to(alloc: Global, net: &Network, horizon: Q, budgets: Budgets) -> Result<Found, Refusal>
+fn solve_to(alloc: Global, net: &Network, horizon: Q, budgets: Budgets) -> Result<Computed, Refusal>
     requires { 0ℚ ≤ℚ horizon }
     ensures { (shelf : Visit) (file : List ℕ) → IsGiving shelf net.now (Solve file horizon budgets.phases budgets.patterns) result }
 {
@@ -51,17 +51,17 @@ fn solve_to(alloc: Global, net: &Network, horizon: Q, budgets: Budgets) -> Resul
     let _ = horizon.numer();
     let _ = horizon.denom();
     let solution = solve(alloc, net, horizon, budgets)?;
-    Ok(Found::Solved { horizon, solution })
+    Ok(Computed::Solved { horizon, solution })
 }
 
 // What solving the network without a horizon gives.
-fn solve_on(alloc: Global, net: &Network, budgets: Budgets) -> Result<Found, Refusal>
+fn solve_on(alloc: Global, net: &Network, budgets: Budgets) -> Result<Computed, Refusal>
     ensures { (shelf : Visit) (file : List ℕ) → IsGiving shelf net.now (SolveForever file budgets.phases budgets.patterns) result }
 {
     // For the proof: the network is that of an accepted file.
     net.recall();
     let forever = solve_forever(alloc, net, budgets)?;
-    Ok(Found::SolvedForever { forever })
+    Ok(Computed::SolvedForever { forever })
 }
 
 // What solving the ladder of a number to a horizon gives.
@@ -71,7 +71,7 @@ fn sum_up(
     ladder: Ladder,
     horizon: Q,
     budgets: Budgets,
-) -> Result<Found, Refusal>
+) -> Result<Computed, Refusal>
     requires { 0ℚ ≤ℚ horizon }
     ensures { (shelf : Visit) → IsGiving shelf net.now (Gen ladder.number ladder.rungs horizon budgets.phases budgets.patterns) result }
 {
@@ -79,7 +79,7 @@ fn sum_up(
     net.recall();
     let solution = solve(alloc, net, horizon, budgets)?;
     let (_, arrival) = last_label(&solution.flow, net.sink());
-    Ok(Found::Generated {
+    Ok(Computed::Generated {
         ladder,
         horizon,
         solution,
@@ -88,15 +88,15 @@ fn sum_up(
 }
 
 // The text of the network.
-fn show(alloc: Global, net: &Network) -> Result<Found, Refusal>
+fn show(alloc: Global, net: &Network) -> Result<Computed, Refusal>
     ensures { (shelf : Visit) (file : List ℕ) → IsGiving shelf net.now (Show file) result }
 {
     let text = text(alloc, net)?;
-    Ok(Found::Shown { text })
+    Ok(Computed::Shown { text })
 }
 
 // The loading of each link by the pieces that the text of a loads file gives it.
-fn load_to(alloc: Global, net: &Network, loads: &[u8], horizon: Q) -> Result<Found, Refusal>
+fn load_to(alloc: Global, net: &Network, loads: &[u8], horizon: Q) -> Result<Computed, Refusal>
     requires horizon { 0ℚ ≤ℚ horizon }
     requires within { length loads.now ≤ longest_text }
     ensures { (shelf : Visit) (file name : List ℕ) → IsLastText shelf (loads_file name) loads.now → IsGiving shelf net.now (Load file name horizon) result }
@@ -105,11 +105,11 @@ fn load_to(alloc: Global, net: &Network, loads: &[u8], horizon: Q) -> Result<Fou
     net.recall();
     let loads = parse_loads(alloc, net, loads)?;
     let links = load_links(alloc, net, &loads, horizon)?;
-    Ok(Found::Loaded { horizon, links })
+    Ok(Computed::Loaded { horizon, links })
 }
 
 // The verdict on the flow of the report that the text is.
-fn check_report(alloc: Global, net: &Network, text: &[u8]) -> Result<Found, Refusal>
+fn check_report(alloc: Global, net: &Network, text: &[u8]) -> Result<Computed, Refusal>
     requires { length text.now ≤ report_limit }
     ensures { (shelf : Visit) (file name : List ℕ) → IsLastText shelf (report_file name) text.now → IsGiving shelf net.now (Check file name) result }
 {
@@ -117,29 +117,29 @@ fn check_report(alloc: Global, net: &Network, text: &[u8]) -> Result<Found, Refu
     net.recall();
     let report = parse_report(alloc, net, text)?;
     let verdict = check(alloc, net, &report.flow)?;
-    Ok(Found::Checked { verdict })
+    Ok(Computed::Checked { verdict })
 }
 
 // What the thin flow is settled to that the text of a flows file gives.
-fn settle_to(alloc: Global, net: &Network, text: &[u8]) -> Result<Found, Refusal>
+fn settle_to(alloc: Global, net: &Network, text: &[u8]) -> Result<Computed, Refusal>
     requires { length text.now ≤ longest_text }
     ensures { (shelf : Visit) (file name : List ℕ) → IsLastText shelf (flows_file name) text.now → IsGiving shelf net.now (Settle file name) result }
 {
     let flows = parse_flows(alloc, net, text)?;
     match settle_at_start(alloc, net, &flows)? {
-        Some(settled) => Ok(Found::Settled { settled }),
+        Some(settled) => Ok(Computed::Settled { settled }),
         None => Err(Refusal::NotThin),
     }
 }
 
 // Why a report isn't resumed; where its flow is no equilibrium, what the check answers.
-fn refuse_resume(net: &Network, fault: ResumeFault) -> Result<Found, Refusal>
+fn refuse_resume(net: &Network, fault: ResumeFault) -> Result<Computed, Refusal>
     ensures { (shelf : Visit) (file name : List ℕ) (horizon : ℚ) (phases patterns : ℕ) (old : Report) → HoldsReport shelf net.now name old
         → IsResumeFault passes_Q net.now.net old horizon fault → IsGiving shelf net.now (Resume file name horizon phases patterns) result }
 {
     match fault {
         ResumeFault::Earlier { .. } => Err(Refusal::Earlier),
-        ResumeFault::No(verdict) => Ok(Found::Checked { verdict }),
+        ResumeFault::No(verdict) => Ok(Computed::Checked { verdict }),
         ResumeFault::Passed(at) => Err(Refusal::Passes(at)),
         ResumeFault::Memory => Err(Refusal::NoMemory),
     }
@@ -152,7 +152,7 @@ fn resume_to(
     text: &[u8],
     horizon: Q,
     budgets: Budgets,
-) -> Result<Found, Refusal>
+) -> Result<Computed, Refusal>
     requires { length text.now ≤ report_limit }
     ensures { (shelf : Visit) (file name : List ℕ) → IsLastText shelf (report_file name) text.now
         → IsGiving shelf net.now (Resume file name horizon budgets.phases budgets.patterns) result }
@@ -163,20 +163,20 @@ fn resume_to(
     let _ = horizon.denom();
     let report = parse_report(alloc, net, text)?;
     match resume(alloc, net, &report, horizon, budgets) {
-        Ok(solution) => Ok(Found::Solved { horizon, solution }),
+        Ok(solution) => Ok(Computed::Solved { horizon, solution }),
         Err(fault) => refuse_resume(net, fault),
     }
 }
 
 // What becomes of the inflow that the text of a routes file gives along its routes, up to a horizon.
-fn distribute(alloc: Global, net: &Network, text: &[u8], horizon: Q) -> Result<Found, Refusal>
+fn distribute(alloc: Global, net: &Network, text: &[u8], horizon: Q) -> Result<Computed, Refusal>
     requires horizon { 0ℚ ≤ℚ horizon }
     requires within { length text.now ≤ longest_text }
     ensures { (shelf : Visit) (file name : List ℕ) → IsLastText shelf (routes_file name) text.now → IsGiving shelf net.now (Routes file name horizon) result }
 {
     let routes = parse_routes(alloc, net, text)?;
     let routed = load_routes(alloc, net, &routes, horizon)?;
-    Ok(Found::Distributed {
+    Ok(Computed::Distributed {
         routes,
         horizon,
         routed,
@@ -189,12 +189,12 @@ fn end_over_budget(
     net: &Network,
     augments: u64,
     walks: Vec<Augment>,
-) -> Result<Found, Refusal>
+) -> Result<Computed, Refusal>
     ensures { (shelf : Visit) (file : List ℕ) (amount : ℚ) → answered.IsAnswered passes_Q net.now.net amount augments (Err (QuickFault.Budget walks))
         → answered.IsInOrder net.now.net amount augments (Err (QuickFault.Budget walks)) → IsGiving shelf net.now (requests.Quick file amount augments) result }
 {
     let text = augments_text(alloc, net, &walks)?;
-    Ok(Found::TooManyWalks {
+    Ok(Computed::TooManyWalks {
         augments,
         walks,
         text,
@@ -207,7 +207,7 @@ fn refuse_quick(
     net: &Network,
     augments: u64,
     fault: QuickFault,
-) -> Result<Found, Refusal>
+) -> Result<Computed, Refusal>
     ensures { (shelf : Visit) (file : List ℕ) (amount : ℚ) → answered.IsAnswered passes_Q net.now.net amount augments (Err fault)
         → answered.IsInOrder net.now.net amount augments (Err fault) → IsGiving shelf net.now (requests.Quick file amount augments) result }
 {
@@ -220,7 +220,7 @@ fn refuse_quick(
 }
 
 // A quickest flow of an amount, beside the arrival in an equilibrium of who departs when the amount is supplied.
-fn beside_arrival(alloc: Global, net: &Network, amount: Q, quick: Quick) -> Result<Found, Refusal>
+fn beside_arrival(alloc: Global, net: &Network, amount: Q, quick: Quick) -> Result<Computed, Refusal>
     requires amount { 0ℚ ≤ℚ amount }
     requires flow { IsQuickFlow net.now.net amount quick }
     ensures { (shelf : Visit) (file : List ℕ) (augments : ℕ) → answered.IsAnswered passes_Q net.now.net amount augments (Ok quick)
@@ -229,7 +229,7 @@ fn beside_arrival(alloc: Global, net: &Network, amount: Q, quick: Quick) -> Resu
     let departs = departure(net, amount)?;
     let arrival = find_arrival(alloc, net, departs)?;
     let text = flow_text(alloc, net, &quick)?;
-    Ok(Found::Quickest {
+    Ok(Computed::Quickest {
         quick,
         arrival,
         text,
@@ -237,7 +237,7 @@ fn beside_arrival(alloc: Global, net: &Network, amount: Q, quick: Quick) -> Resu
 }
 
 // The quickest flow of an amount in the network, and the arrival in an equilibrium of who departs when the amount is supplied.
-fn quick_to(alloc: Global, net: &Network, amount: Q, augments: u64) -> Result<Found, Refusal>
+fn quick_to(alloc: Global, net: &Network, amount: Q, augments: u64) -> Result<Computed, Refusal>
     requires amount { 0ℚ ≤ℚ amount }
     requires augments { 1 ≤ augments }
     ensures { (shelf : Visit) (file : List ℕ) → IsGiving shelf net.now (requests.Quick file amount augments) result }
@@ -249,7 +249,7 @@ fn quick_to(alloc: Global, net: &Network, amount: Q, augments: u64) -> Result<Fo
 }
 
 // What was found, with its network.
-fn with_net(found: Result<Found, Refusal>, net: Network) -> Result<Outcome, Refusal>
+fn with_net(found: Result<Computed, Refusal>, net: Network) -> Result<Outcome, Refusal>
     ensures { result ≡ with_net net found }
 {
     match found {
@@ -259,7 +259,7 @@ fn with_net(found: Result<Found, Refusal>, net: Network) -> Result<Outcome, Refu
 }
 
 // What a request gives with its network, and with the bytes of the other file that it wants.
-fn find(alloc: Global, request: &Request, net: &Network, other: &[u8]) -> Result<Found, Refusal>
+fn find(alloc: Global, request: &Request, net: &Network, other: &[u8]) -> Result<Computed, Refusal>
     requires asked { CanBeAsked (requested request.now) }
     requires fits { OtherFits (requested request.now) other.now }
     ensures { (shelf : Visit) → OtherIsText shelf (requested request.now) other.now → IsGiving shelf net.now (requested request.now) result }

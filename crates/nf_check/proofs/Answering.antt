@@ -28,7 +28,7 @@ use Rattle.nf_curve.specs.Flows.{trace_of, flow_of}
 use Rattle.nf_curve.specs.declared.flow.Flow as code
 use Rattle.nf_curve.specs.declared.flow.Trace as code_trace
 use Rattle.nf_check.specs.Answers.{IsExact}
-use Rattle.nf_check.specs.Given.{IsGiven}
+use Rattle.nf_check.specs.Given.{IsGivenFlow}
 use Rattle.nf_check_rules.specs.Kept.{curves_of}
 use Rattle.nf_check_rules.specs.Trials.{done}
 
@@ -77,7 +77,7 @@ pub given_by : (net : Network) (flow : code.Flow) → IsNetwork net → (labels 
     (outflows : length flow.outflows.items ≡ length net.links) (queues : length flow.queues.items ≡ length net.links) → HaveRates (flow_of flow).inflows → HaveRates (flow_of flow).outflows → 0ℚ ≤ℚ flow.reached
     → (ls qs : List Grown) (is os : List code_trace.Trace) → ls ≡ flow.labels.items → is ≡ flow.inflows.items → os ≡ flow.outflows.items → qs ≡ flow.queues.items
     → ((i : ℕ) → i < length ls → IsCurve (points_at (curves_of ls) i)) → ((i : ℕ) → i < length is → IsCurve (points_at (points_of (map trace_of is)) i))
-    → ((i : ℕ) → i < length os → IsCurve (points_at (points_of (map trace_of os)) i)) → ((i : ℕ) → i < length qs → IsCurve (points_at (curves_of qs) i)) → IsGiven net flow
+    → ((i : ℕ) → i < length os → IsCurve (points_at (points_of (map trace_of os)) i)) → ((i : ℕ) → i < length qs → IsCurve (points_at (curves_of qs) i)) → IsGivenFlow net flow
 given_by net flow good labels inflows outflows queues in_rates out_rates reached ls qs is os e f g h a b c d = record {
   labels = labels;
   inflows = inflows;

@@ -6,7 +6,7 @@ use Rattle.nf_curve.specs.Flows.{flow_of}
 use Rattle.nf_curve.specs.declared.flow.Flow.{Flow}
 
 -- so many curves of each kind as there are nodes or links, and all that the rules ask for
-pub record IsGiven (net : Network) (flow : Flow) : Type 0 where
+pub record IsGivenFlow (net : Network) (flow : Flow) : Type 0 where
   pub labels : length flow.labels.items ≡ net.nodes
   pub inflows : length flow.inflows.items ≡ length net.links
   pub outflows : length flow.outflows.items ≡ length net.links

@@ -11,7 +11,7 @@ ghost use Rattle.nf_check_lists.specs.Rules.{Checks};
 ghost use Rattle.nf_check_lists.specs.CheckList.{trial, check_list};
 ghost use Rattle.nf_curve.specs.Flows.{trace_of, flow_of};
 ghost use Rattle.nf_check.specs.Answers.{IsExact};
-ghost use Rattle.nf_check.specs.Given.{IsGiven};
+ghost use Rattle.nf_check.specs.Given.{IsGivenFlow};
 ghost use Rattle.nf_check_rules.specs.Kept.{IsWorked, curves_of, labels_in, loaded_in};
 ghost use Rattle.nf_check_rules.specs.Steps.{worked_list, told_list, compared_list};
 ghost use Rattle.nf_check_rules.specs.Trials.{Tries, done};
@@ -31,7 +31,7 @@ use std::alloc::Global;
 // The labels up to the departure reached and the loadings of the links, once the rules hold that look at points alone.
 #[tactic(auto, unfolding(nf_check_rules::specs::Steps::worked_list))]
 fn work_out(alloc: Global, net: &Network, flow: &Flow) -> Result<Worked, Ended>
-    requires { IsGiven net.now.net flow.now }
+    requires { IsGivenFlow net.now.net flow.now }
     ensures list { Tries (λ worked. (labels_in worked, loaded_in worked)) result (worked_list passes_Q net.now.net (flow_of flow.now)) }
     ensures worked { IfOk result (IsWorked net.now.net) }
 {
@@ -57,7 +57,7 @@ fn check_told(net: &Network, flow: &Flow, worked: &Worked) -> Result<(), Ended>
 // The rules that compare curves.
 #[tactic(auto, unfolding(nf_check_rules::specs::Steps::compared_list), using(nf_check_rules::proofs::Keeping::none_kept))]
 fn compare_all(alloc: Global, net: &Network, flow: &Flow, worked: &Worked) -> Result<(), Ended>
-    requires given { IsGiven net.now.net flow.now }
+    requires given { IsGivenFlow net.now.net flow.now }
     requires worked { IsWorked net.now.net worked.now }
     ensures { Tries (λ _. tt) result (compared_list passes_Q net.now.net (flow_of flow.now) (labels_in worked.now) (loaded_in worked.now)) }
 {
@@ -70,7 +70,7 @@ fn compare_all(alloc: Global, net: &Network, flow: &Flow, worked: &Worked) -> Re
 
 // All rules.
 fn test_all(alloc: Global, net: &Network, flow: &Flow) -> Result<(), Ended>
-    requires { IsGiven net.now.net flow.now }
+    requires { IsGivenFlow net.now.net flow.now }
     ensures { Tries (λ _. tt) result (done (trial passes_Q net.now.net (flow_of flow.now))) }
 {
     let worked = work_out(alloc, net, flow)?;

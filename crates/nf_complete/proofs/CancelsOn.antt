@@ -64,11 +64,11 @@ module _ (net : Network) (sets : Sets) (slopes flows : List ℚ) (flags : List B
   pub known_of : (known : ℕ) → AreForestBelow net sets slopes flows known → IsForest (hops net) (λ e. (e < known) × Has flags e)
   known_of known f = forest-weaker (hops net) (λ e. (e < known) × IsInterior net sets slopes flows e) (λ e. (e < known) × Has flags e) (λ e w. (w.0, (are e).0 w.1)) f
 
-  abbrev Found : {X : Type 0} → (X → ℕ) → (X → List (ℕ × Bool)) → Option X → Type 0
-  Found last_of steps_of found = MatchOption found (IsForest (hops net) (IsInterior net sets slopes flows)) (λ x. ClosesNext net sets slopes flows (last_of x) (steps_of x))
+  abbrev ForestOrCloses : {X : Type 0} → (X → ℕ) → (X → List (ℕ × Bool)) → Option X → Type 0
+  ForestOrCloses last_of steps_of found = MatchOption found (IsForest (hops net) (IsInterior net sets slopes flows)) (λ x. ClosesNext net sets slopes flows (last_of x) (steps_of x))
 
   pub found_of : {X E : Type 0} (last_of : X → ℕ) (steps_of : X → List (ℕ × Bool)) (result : Result (Option X) E)
-      → IfOk result (λ found. MatchOption found (IsForest (hops net) (Has flags)) (λ x. Closes (hops net) flags (last_of x) (steps_of x))) → IfOk result (Found last_of steps_of)
+      → IfOk result (λ found. MatchOption found (IsForest (hops net) (Has flags)) (λ x. Closes (hops net) flags (last_of x) (steps_of x))) → IfOk result (ForestOrCloses last_of steps_of)
   found_of last_of steps_of (Ok (Some x)) h = closes_of (last_of x) (steps_of x) h
   found_of last_of steps_of (Ok None) h = forest_of h
   found_of last_of steps_of (Err e) h = tt

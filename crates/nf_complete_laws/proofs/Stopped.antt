@@ -13,7 +13,7 @@ use Rattle.nf_model.specs.ThinFlow.{sets_at, IsThinFlow}
 use Rattle.nf_model.specs.Equilibrium.{label}
 use Rattle.nf_formats.specs.declared.Cause.{Cause}
 use Rattle.nf_formats.specs.Report.{Report}
-use Rattle.nf_lists.specs.Search.{Answer, Found, OverBudget, PassesAt, NoPattern}
+use Rattle.nf_lists.specs.Search.{SearchAnswer, Found, OverBudget, PassesAt, NoPattern}
 use Rattle.nf_lists.specs.PhaseRun.{Standing, Bounds, Seeks, cause_of_search, Fails, at_slack, at_search, at_lists, Runs, at_horizon, at_phases, fails, goes, IsRunReport, flow_of}
 use Rattle.nf_model_laws.proofs.Slacks.{slack_of_resetting}
 use Rattle.nf_model_laws.proofs.Supply.{rate_from-not_negative}
@@ -74,7 +74,7 @@ pub phases_other : (m phase : ℕ) → Wants (Cause.Phases m) phase → ⊥
 phases_other m phase h = cc
 
 module _ (passes : Passing) (net : Network) (good : IsNetwork net) (bounds : Bounds) where
-  no_answer : (s : Standing) (phase : ℕ) (a : Answer) → Seeks passes net bounds.horizon bounds.patterns s a → cause_of_search (suc s.made) bounds.patterns a ≡ Some (Cause.NoPattern phase) → WellRun net s
+  no_answer : (s : Standing) (phase : ℕ) (a : SearchAnswer) → Seeks passes net bounds.horizon bounds.patterns s a → cause_of_search (suc s.made) bounds.patterns a ≡ Some (Cause.NoPattern phase) → WellRun net s
       → NoneGoesOn net s
   no_answer s phase (Found place pattern f l) k h well flows slopes thin = none-some _ h
   no_answer s phase OverBudget k h well flows slopes thin = over_other (suc s.made) bounds.patterns phase (same_cause _ _ h)

@@ -78,7 +78,7 @@ fn endless(alloc: Global, run: &Run, thin: ThinFlow) -> Result<Forever, AllocErr
     let phases = run.phases();
     let ThinFlow {
         flows,
-        labels: slopes,
+        slopes,
         pattern,
     } = thin;
     Ok(Forever {

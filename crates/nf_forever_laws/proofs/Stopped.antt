@@ -10,7 +10,7 @@ use Rattle.nf_model.specs.Pattern.{Pattern}
 use Rattle.nf_model.specs.Equilibrium.{Flow}
 use Rattle.nf_model_laws.proofs.Supply.{rate_from-not_negative}
 use Rattle.nf_formats.specs.declared.Cause.{Cause}
-use Rattle.nf_lists.specs.Search.{Answer, Found, OverBudget, PassesAt, NoPattern}
+use Rattle.nf_lists.specs.Search.{SearchAnswer, Found, OverBudget, PassesAt, NoPattern}
 use Rattle.nf_lists.specs.PhaseRun.{Standing, cause_of_search, flow_of}
 use Rattle.nf_run_laws.proofs.WellRun.{WellRun}
 use Rattle.nf_complete_lists.specs.Reached.{labels_reached, StopsForNoThinFlow}
@@ -24,7 +24,7 @@ module _ (passes : Passing) (net : Network) (good : IsNetwork net) (phases patte
   abbrev NoneAt : Standing → Type 0
   NoneAt s = IsThinFlow net (sets_at net s.labels) (rate_at net s.time) flows slopes → ⊥
 
-  no_answer : (s : Standing) (phase : ℕ) (a : Answer) → SeeksOn passes net patterns s a → cause_of_search (suc s.made) patterns a ≡ Some (Cause.NoPattern phase) → WellRun net s → NoneAt s
+  no_answer : (s : Standing) (phase : ℕ) (a : SearchAnswer) → SeeksOn passes net patterns s a → cause_of_search (suc s.made) patterns a ≡ Some (Cause.NoPattern phase) → WellRun net s → NoneAt s
   no_answer s phase (Found place pattern f l) k h well thin = none-some _ h
   no_answer s phase OverBudget k h well thin = over_other (suc s.made) patterns phase (same_Some _ _ h)
   no_answer s phase (PassesAt place at) k h well thin = passed_other (suc s.made) (Some place) at phase (same_Some _ _ h)

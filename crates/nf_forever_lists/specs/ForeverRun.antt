@@ -15,7 +15,7 @@ use Rattle.nf_model.specs.Equilibrium.{Flow}
 use Rattle.nf_formats.specs.declared.Cause.{Cause}
 use Rattle.nf_lists.specs.Slack.{slack_list}
 use Rattle.nf_lists.specs.Extend.{extend_list}
-use Rattle.nf_lists.specs.Search.{Answer, Found, IsSearch}
+use Rattle.nf_lists.specs.Search.{SearchAnswer, Found, IsSearch}
 use Rattle.nf_lists.specs.PhaseRun.{Standing, IsStart, Goes, cause_of_search, phase_lists, flow_of}
 use Rattle.nf_forever_lists.specs.Tails.{Tail}
 
@@ -36,7 +36,7 @@ module _ (passes : Passing) where
 -- ---- one phase
 module _ (passes : Passing) (net : Network) (patterns : ℕ) where
   -- no operation of the slack list passes, so a pattern is sought: by the sets of the slacks and the rate
-  pub record SeeksOn (s : Standing) (answer : Answer) : Type 0 where
+  pub record SeeksOn (s : Standing) (answer : SearchAnswer) : Type 0 where
     pub slacks : slack_list passes (hops net) s.labels ≡ Ok (slacks_of (hops net) s.labels)
     pub base : Pattern
     pub is_base : IsBase (hops net) (sets_at net s.labels) s.last base
@@ -57,7 +57,7 @@ module _ (passes : Passing) (net : Network) (patterns : ℕ) where
   -- the first cause for which no phase can be made, as with a horizon
   pub data FailsOn (s : Standing) : Cause ℚ → Type 0 where
     at_slack : (p : Passed ℚ) → slack_list passes (hops net) s.labels ≡ Err p → FailsOn s (Cause.Passed (suc s.made) None (placed Slack p))
-    at_search : (answer : Answer) (cause : Cause ℚ) → SeeksOn s answer → cause_of_search (suc s.made) patterns answer ≡ Some cause → FailsOn s cause
+    at_search : (answer : SearchAnswer) (cause : Cause ℚ) → SeeksOn s answer → cause_of_search (suc s.made) patterns answer ≡ Some cause → FailsOn s cause
     at_extend : (place : ℕ) (pattern : Pattern) (flows slopes : List ℚ) (p : Passed ℚ) → SeeksOn s (Found place pattern flows slopes)
         → end_list passes net (slacks_of (hops net) s.labels) slopes s.time ≡ Err p → FailsOn s (Cause.Passed (suc s.made) None (placed Extend p))
     at_lists : (place : ℕ) (pattern : Pattern) (flows slopes : List ℚ) (end : ℚ) (p : PassedAt ℚ) → SeeksOn s (Found place pattern flows slopes)

@@ -9,17 +9,17 @@ use Rattle.nf_formats_laws.proofs.WalkFacts.{walk_push, entry_all}
 use Rattle.nf_formats_laws.proofs.DraftKept.{or_left, or_right}
 
 -- an entry that passes a test
-pub record Found {X : Type 0} (test : X → Bool) (xs : List X) : Type 0 where
+pub record FoundEntry {X : Type 0} (test : X → Bool) (xs : List X) : Type 0 where
   pub place : ℕ
   pub entry : X
   pub is_entry : slice_get xs place ≡ Some entry
   pub passes : test entry ≡ true
 
-pub found : {X : Type 0} (test : X → Bool) (xs : List X) → list_any test xs ≡ true → Found test xs
+pub found : {X : Type 0} (test : X → Bool) (xs : List X) → list_any test xs ≡ true → FoundEntry test xs
 found test [] h = absurd (cc)
 found test (x ∷ xs) h = elim (or_cases (test x) (list_any test xs) h) [
   | inl e ↦ record { place = 0; entry = x; is_entry = refl; passes = e }
-  | inr e ↦ let r : Found test xs = found test xs e in record { place = suc r.place; entry = r.entry; is_entry = r.is_entry; passes = r.passes }
+  | inr e ↦ let r : FoundEntry test xs = found test xs e in record { place = suc r.place; entry = r.entry; is_entry = r.is_entry; passes = r.passes }
 ]
 
 pub any_there : {X : Type 0} (test : X → Bool) (xs : List X) (e : ℕ) (x : X) → slice_get xs e ≡ Some x → test x ≡ true → list_any test xs ≡ true
@@ -96,7 +96,7 @@ module _ (hops : List Hop) (u : ℕ) where
     walks = λ v e. elim (or_cases (S v) (list_any (leads S v) hops) e) [
       | inl here ↦ h.walks v here
       | inr there ↦ (
-          let r : Found (leads S v) hops = found (leads S v) hops there in
+          let r : FoundEntry (leads S v) hops = found (leads S v) hops there in
           let p = and_parts (S r.entry.tail) (r.entry.head == v) r.passes in
           let w = h.walks r.entry.tail p.0 in
           (w.0 ++ r.place ∷ [], subst (λ x. IsWalk hops (w.0 ++ r.place ∷ []) u x) (eqb-true r.entry.head v p.1) (walk_push hops w.0 u r.entry.tail r.place r.entry w.1 r.is_entry refl)))

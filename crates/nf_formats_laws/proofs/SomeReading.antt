@@ -27,7 +27,7 @@ use Rattle.nf_formats_laws.proofs.WalkFacts.{CameFrom, came_from, entry_all}
 use Rattle.nf_formats_laws.proofs.DraftKept.{IsGoodDraft, draft_kept}
 use Rattle.nf_formats_laws.proofs.AcceptedNodes.{ends_of_each}
 use Rattle.nf_formats_laws.proofs.AcceptedWalks.{file_transits}
-use Rattle.nf_formats_laws.proofs.Reaching.{Found, found, any_there, stays_closed, closure, reaching}
+use Rattle.nf_formats_laws.proofs.Reaching.{FoundEntry, found, any_there, stays_closed, closure, reaching}
 use Rattle.nf_formats_laws.proofs.Settling.{AllSettled, all_settled}
 use Rattle.nf_plain_laws.proofs.Entries.{slice_get-image}
 use Rattle.nf_model_laws.proofs.Networks.{transit_of-hop}
@@ -121,7 +121,7 @@ module _ (draft : Draft) (g : IsGoodDraft draft) where
   unfolding sum_test
   decide_22 = elim (decided (list_any sum_test (draft_hops draft))) [
     | inl e ↦ inl (
-        let r : Found sum_test (draft_hops draft) = found sum_test (draft_hops draft) e in
+        let r : FoundEntry sum_test (draft_hops draft) = found sum_test (draft_hops draft) e in
         let p = and_parts (settled.settled.set r.entry.tail) (not (is_wide greatest (settled.settled.label r.entry.tail)) && passes_Q Sum (settled.settled.label r.entry.tail) r.entry.transit) r.passes in
         let q = and_parts (not (is_wide greatest (settled.settled.label r.entry.tail))) (passes_Q Sum (settled.settled.label r.entry.tail) r.entry.transit) p.1 in
         record {
@@ -205,7 +205,7 @@ module _ (draft : Draft) (g : IsGoodDraft draft) where
   unfolding cycle_test
   decide_21 = elim (decided (list_any cycle_test (draft_hops draft))) [
     | inl e ↦ inl (
-        let r : Found cycle_test (draft_hops draft) = found cycle_test (draft_hops draft) e in
+        let r : FoundEntry cycle_test (draft_hops draft) = found cycle_test (draft_hops draft) e in
         let p = and_parts (is_zero r.entry) ((closure zero_hops r.entry.head).set r.entry.tail) r.passes in
         let w = (reaching zero_hops r.entry.head r.entry.tail).0 p.1 in
         let back = walk_out w.0 r.entry.head r.entry.tail (head_there r.place r.entry r.is_entry) w.1 in

@@ -1,10 +1,10 @@
 -- What a search for an order finds.
 use Rattle.std.specs.Prelude.{ℕ, Bool, List}
 use Rattle.nf_model.specs.Walk.{Hop}
-use Rattle.nf_graph.specs.declared.order.Found.{Found}
-use Rattle.nf_graph.specs.declared.order.Found.TheVariants.{Order, Cycle}
+use Rattle.nf_graph.specs.declared.order.OrderOrCycle.{OrderOrCycle}
+use Rattle.nf_graph.specs.declared.order.OrderOrCycle.TheVariants.{Order, Cycle}
 use Rattle.nf_graph.specs.Order.{IsOrder, IsChosenCycle}
 
-abbrev pub IsFound : ℕ → List Hop → List Bool → Found → Type 0
+abbrev pub IsFound : ℕ → List Hop → List Bool → OrderOrCycle → Type 0
 IsFound nodes hops chosen (Order order) = IsOrder nodes hops chosen order.items
 IsFound nodes hops chosen (Cycle cycle) = IsChosenCycle hops chosen cycle.items

@@ -160,7 +160,7 @@ fn cycle_back(
 
 // An order of the nodes, or a cycle.
 #[derive(Drop)]
-enum Found {
+enum OrderOrCycle {
     Order(Vec<NodeId>),
     Cycle(Vec<LinkId>),
 }
@@ -171,7 +171,7 @@ fn order_or_cycle(
     nodes: u32,
     hops: &[Hop],
     chosen: &[bool],
-) -> Result<Found, AllocError>
+) -> Result<OrderOrCycle, AllocError>
     requires ends { AreBelow nodes hops.now }
     requires count { length chosen.now ≡ length hops.now }
     requires fewer { length hops.now < 2 ^ 32 }
@@ -184,10 +184,10 @@ fn order_or_cycle(
         order.push(node)?;
     }
     match unplaced(&placed) {
-        None => Ok(Found::Order(order)),
+        None => Ok(OrderOrCycle::Order(order)),
         Some(start) => {
             let cycle = cycle_back(alloc, hops, chosen, &placed, start)?;
-            Ok(Found::Cycle(cycle))
+            Ok(OrderOrCycle::Cycle(cycle))
         }
     }
 }
@@ -207,8 +207,8 @@ pub fn topological(
     ensures none { IfOk result (λ found. IsNone found ↔ ((cycle : List ℕ) × IsChosenCycle hops.now chosen.now cycle)) }
 {
     match order_or_cycle(alloc, nodes, hops, chosen)? {
-        Found::Order(order) => Ok(Some(order)),
-        Found::Cycle(_) => Ok(None),
+        OrderOrCycle::Order(order) => Ok(Some(order)),
+        OrderOrCycle::Cycle(_) => Ok(None),
     }
 }
 
@@ -235,7 +235,7 @@ pub fn zero_cycle(
 {
     let chosen = zero_links(alloc, hops)?;
     match order_or_cycle(alloc, nodes, hops, &chosen)? {
-        Found::Order(_) => Ok(None),
-        Found::Cycle(cycle) => Ok(Some(cycle)),
+        OrderOrCycle::Order(_) => Ok(None),
+        OrderOrCycle::Cycle(cycle) => Ok(Some(cycle)),
     }
 }

@@ -21,7 +21,7 @@ use Rattle.nf_lists.specs.Slack.{slack_list}
 use Rattle.nf_lists.specs.Extend.{extend_list}
 use Rattle.nf_lists.specs.Advance.{advance_list}
 use Rattle.nf_lists.specs.CurveList.{LinkStep, curve_list}
-use Rattle.nf_lists.specs.Search.{Answer, Found, OverBudget, PassesAt, NoPattern, IsSearch}
+use Rattle.nf_lists.specs.Search.{SearchAnswer, Found, OverBudget, PassesAt, NoPattern, IsSearch}
 use Rattle.nf_lists.specs.ReportCurves.{GrowingCurve, LinkCurves, first_label_curve, first_curves, label_curves_after, link_curves_after, amount_so_far}
 
 -- where a run stands: the departure that it has reached, with the labels of the nodes; the curves up to there; and how many
@@ -67,7 +67,7 @@ standing_after net s pattern slopes step = record {
 }
 
 -- why a search in a phase has no thin flow
-abbrev pub cause_of_search : ℕ → ℕ → Answer → Option (Cause ℚ)
+abbrev pub cause_of_search : ℕ → ℕ → SearchAnswer → Option (Cause ℚ)
 cause_of_search phase budget (Found place pattern flows slopes) = None
 cause_of_search phase budget OverBudget = Some (Cause.Patterns phase budget)
 cause_of_search phase budget (PassesAt place at) = Some (Cause.Passed phase (Some place) at)
@@ -85,13 +85,13 @@ module _ (passes : Passing) (net : Network) (horizon : ℚ) where
 
 module _ (passes : Passing) (net : Network) (horizon : ℚ) (patterns : ℕ) where
   -- the search of the phase that begins here, by the sets of the slacks and the rate
-  pub record IsSearchHere (s : Standing) (answer : Answer) : Type 0 where
+  pub record IsSearchHere (s : Standing) (answer : SearchAnswer) : Type 0 where
     pub base : Pattern
     pub is_base : IsBase (hops net) (sets_at net s.labels) s.last base
     pub is_search : IsSearch passes net (sets_at net s.labels) (rate_at net s.time) base patterns answer
 
   -- the run is below the horizon and no operation of the slack list passes, so a pattern is sought
-  pub record Seeks (s : Standing) (answer : Answer) : Type 0 where
+  pub record Seeks (s : Standing) (answer : SearchAnswer) : Type 0 where
     pub below : s.time <ℚ horizon
     pub slacks : slack_list passes (hops net) s.labels ≡ Ok (slacks_of (hops net) s.labels)
     pub search : IsSearchHere s answer
@@ -113,7 +113,7 @@ module _ (passes : Passing) (net : Network) (horizon : ℚ) (patterns : ℕ) whe
   -- operation of the phase's lists passes.
   pub data Fails (s : Standing) : Cause ℚ → Type 0 where
     at_slack : (p : Passed ℚ) → s.time <ℚ horizon → slack_list passes (hops net) s.labels ≡ Err p → Fails s (Cause.Passed (suc s.made) None (placed Slack p))
-    at_search : (answer : Answer) (cause : Cause ℚ) → Seeks s answer → cause_of_search (suc s.made) patterns answer ≡ Some cause → Fails s cause
+    at_search : (answer : SearchAnswer) (cause : Cause ℚ) → Seeks s answer → cause_of_search (suc s.made) patterns answer ≡ Some cause → Fails s cause
     at_lists : (place : ℕ) (pattern : Pattern) (flows slopes : List ℚ) (p : PassedAt ℚ) → Seeks s (Found place pattern flows slopes)
         → phase_lists passes net horizon s pattern flows slopes ≡ Err p → Fails s (Cause.Passed (suc s.made) None p)
 

@@ -10,14 +10,14 @@ use Rattle.nf_lists.specs.Accepted.{pattern_lists, IsAccepted}
 use Rattle.nf_lists.specs.Listing.{HasPlace, IsListingIn}
 
 -- what a search answers
-pub data Answer : Type 0 where
+pub data SearchAnswer : Type 0 where
   -- the first accepted pattern, with its place and its thin flow: flows of the links and slopes of the nodes
-  Found : (place : ℕ) (pattern : Pattern) (flows slopes : List ℚ) → Answer
+  Found : (place : ℕ) (pattern : Pattern) (flows slopes : List ℚ) → SearchAnswer
   -- the listing is longer than the budget
-  OverBudget : Answer
+  OverBudget : SearchAnswer
   -- at this place an operation passes at first
-  PassesAt : (place : ℕ) (at : PassedAt ℚ) → Answer
-  NoPattern : Answer
+  PassesAt : (place : ℕ) (at : PassedAt ℚ) → SearchAnswer
+  NoPattern : SearchAnswer
 
 module _ (passes : Passing) (net : Network) (sets : Sets) (rate : ℚ) (listing : List Pattern) where
   -- no pattern before this place is accepted
@@ -54,14 +54,14 @@ module _ (passes : Passing) (net : Network) (sets : Sets) (rate : ℚ) (listing 
   abbrev pub NonePasses : Type 0
   NonePasses = (other : ℕ) (pattern : Pattern) → HasPlace listing other pattern → IsOk (pattern_lists passes net sets rate pattern)
 
-  abbrev pub Answers : ℕ → Answer → Type 0
+  abbrev pub Answers : ℕ → SearchAnswer → Type 0
   Answers budget (Found place pattern flows slopes) = IsFirstAccepted budget place pattern flows slopes
   Answers budget OverBudget = IsOverBudget budget
   Answers budget (PassesAt place at) = IsInVain budget × IsFirstPassing place at
   Answers budget NoPattern = IsInVain budget × NonePasses
 
 -- the answer of the search that begins with this base pattern and tries no more patterns than the budget
-pub record IsSearch (passes : Passing) (net : Network) (sets : Sets) (rate : ℚ) (base : Pattern) (budget : ℕ) (answer : Answer) : Type 0 where
+pub record IsSearch (passes : Passing) (net : Network) (sets : Sets) (rate : ℚ) (base : Pattern) (budget : ℕ) (answer : SearchAnswer) : Type 0 where
   pub listing : List Pattern
   pub is_listing : IsListingIn net sets base listing
   pub answers : Answers passes net sets rate listing budget answer

@@ -19,7 +19,7 @@ use Rattle.nf_model.specs.Pattern.{Pattern, IsListedIn}
 use Rattle.nf_model.specs.Phases.{AreStartLabels}
 use Rattle.nf_formats.specs.declared.Cause.{Cause}
 use Rattle.nf_formats.specs.Report.{Report}
-use Rattle.nf_lists.specs.Search.{Answer, Found, IsSearch}
+use Rattle.nf_lists.specs.Search.{SearchAnswer, Found, IsSearch}
 use Rattle.nf_lists.specs.ReportCurves.{first_label_curve, first_curves}
 use Rattle.nf_lists.specs.PhaseRun.{Standing, Bounds, PhaseStep, IsStart, standing_after, cause_of_search, Seeks, phase_lists, Goes, Fails, at_slack, at_search, at_lists, Runs, at_horizon, at_phases, fails, goes, IsPhaseRun, report_of, IsRunReport}
 use Rattle.nf_lists_laws.proofs.Bases.{one_base}
@@ -64,7 +64,7 @@ same_error r d e h k = cc
 
 module _ (passes : Passing) (net : Network) (horizon : ℚ) (patterns : ℕ) where
   module _ (s : Standing) (knows : length s.last ≡ length net.links) where
-    one_search : (a b : Answer) → Seeks passes net horizon patterns s a → Seeks passes net horizon patterns s b → a ≡ b
+    one_search : (a b : SearchAnswer) → Seeks passes net horizon patterns s a → Seeks passes net horizon patterns s b → a ≡ b
     one_search a b h k =
         let bases : h.search.base ≡ k.search.base = one_base (hops net) (sets_at net s.labels) s.last (knows ∙ sym (length-sets net s.labels)) _ _ h.search.is_base k.search.is_base in
         one_answer passes net (sets_at net s.labels) (rate_at net s.time) k.search.base patterns a b
@@ -90,7 +90,7 @@ module _ (passes : Passing) (net : Network) (horizon : ℚ) (patterns : ℕ) whe
         h.new_is ∙ (same_after h.pattern k.pattern h.slopes k.slopes h.step k.step pattern slopes step ∙ sym k.new_is)
 
     -- ---- one cause
-    search_finds : (a : Answer) (c : Cause ℚ) (p : ℕ) (b : Pattern) (f k : List ℚ) → Seeks passes net horizon patterns s a → cause_of_search (suc s.made) patterns a ≡ Some c
+    search_finds : (a : SearchAnswer) (c : Cause ℚ) (p : ℕ) (b : Pattern) (f k : List ℚ) → Seeks passes net horizon patterns s a → cause_of_search (suc s.made) patterns a ≡ Some c
         → Seeks passes net horizon patterns s (Found p b f k) → ⊥
     search_finds a c p b f k h e i = none-some c (ap (cause_of_search (suc s.made) patterns) (sym (one_search a (Found p b f k) h i)) ∙ e)
 

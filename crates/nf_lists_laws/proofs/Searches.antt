@@ -10,7 +10,7 @@ use Rattle.nf_model.specs.ThinFlow.{Sets}
 use Rattle.nf_model.specs.Pattern.{Pattern, Solves}
 use Rattle.nf_lists.specs.Accepted.{pattern_lists}
 use Rattle.nf_lists.specs.Listing.{HasPlace}
-use Rattle.nf_lists.specs.Search.{Answer, Found, OverBudget, PassesAt, NoPattern, IsFirstAccepted, IsOverBudget, IsInVain, IsFirstPassing, NonePasses, Answers, IsSearch}
+use Rattle.nf_lists.specs.Search.{SearchAnswer, Found, OverBudget, PassesAt, NoPattern, IsFirstAccepted, IsOverBudget, IsInVain, IsFirstPassing, NonePasses, Answers, IsSearch}
 use Rattle.nf_lists_laws.proofs.Listings.{same_pattern, one_listing}
 
 -- two places neither of which comes before the other are one
@@ -56,7 +56,7 @@ module _ (passes : Passing) (net : Network) (sets : Sets) (rate : ℚ) (listing 
   none_not_passing : (q : ℕ) (b : PassedAt ℚ) → NonePasses passes net sets rate listing → IsFirstPassing passes net sets rate listing q b → ⊥
   none_not_passing q b h i = ok_or_err (pattern_lists passes net sets rate i.pattern) b (h q i.pattern i.has_place) i.passed
 
-  same_answer : (budget : ℕ) (a b : Answer) → Answers passes net sets rate listing budget a → Answers passes net sets rate listing budget b → a ≡ b
+  same_answer : (budget : ℕ) (a b : SearchAnswer) → Answers passes net sets rate listing budget a → Answers passes net sets rate listing budget b → a ≡ b
   same_answer budget (Found p a f k) (Found q b g l) h i = same_found budget p q a b f g k l h i
   same_answer budget (Found p a f k) OverBudget h i = absurd (over_not_found budget p a f k i h)
   same_answer budget (Found p a f k) (PassesAt q b) h i = absurd (in_vain_not_found budget p a f k i.0 h)
@@ -74,7 +74,7 @@ module _ (passes : Passing) (net : Network) (sets : Sets) (rate : ℚ) (listing 
   same_answer budget NoPattern (PassesAt q b) h i = absurd (none_not_passing q b h.1 i.1)
   same_answer budget NoPattern NoPattern h i = refl
 
-pub one_answer : (passes : Passing) (net : Network) (sets : Sets) (rate : ℚ) (base : Pattern) (budget : ℕ) (a b : Answer)
+pub one_answer : (passes : Passing) (net : Network) (sets : Sets) (rate : ℚ) (base : Pattern) (budget : ℕ) (a b : SearchAnswer)
     → IsSearch passes net sets rate base budget a → IsSearch passes net sets rate base budget b → a ≡ b
 one_answer passes net sets rate base budget a b h i =
     let listings : h.listing ≡ i.listing = one_listing net.nodes net.source (hops net) sets (unbounded net) base h.listing i.listing h.is_listing i.is_listing in

@@ -18,7 +18,7 @@ use Rattle.nf_lists.specs.Extend.{extend_list}
 use Rattle.nf_lists.specs.Advance.{Advanced, cut_at, advance_list}
 use Rattle.nf_lists.specs.CurveList.{LinkStep, curve_list}
 use Rattle.nf_lists.specs.Listing.{IsListing}
-use Rattle.nf_lists.specs.Search.{Answer, IsSearch}
+use Rattle.nf_lists.specs.Search.{SearchAnswer, IsSearch}
 use Rattle.nf_lists.specs.PhaseRun.{Standing, Bounds, IsPhaseRun, IsRunReport}
 use Rattle.nf_lists.specs.Ends.{EndsAtLabels}
 
@@ -27,7 +27,7 @@ ListingIsUnique = (nodes source : ℕ) (hops : List Hop) (sets : Sets) (unbounde
     → IsListing nodes source hops sets unbounded base listing → IsListing nodes source hops sets unbounded base other → listing ≡ other
 
 abbrev pub SearchHasOneAnswer : Type 0
-SearchHasOneAnswer = (passes : Passing) (net : Network) (sets : Sets) (rate : ℚ) (base : Pattern) (budget : ℕ) (answer other : Answer)
+SearchHasOneAnswer = (passes : Passing) (net : Network) (sets : Sets) (rate : ℚ) (base : Pattern) (budget : ℕ) (answer other : SearchAnswer)
     → IsSearch passes net sets rate base budget answer → IsSearch passes net sets rate base budget other → answer ≡ other
 
 abbrev pub RunHasOneReport : Type 0

@@ -3,14 +3,14 @@ use Rattle.std.specs.Prelude.{ℕ, Bool, if◌then◌else◌}
 use Rattle.nf_formats.specs.declared.NetRule.{NetRule}
 use Rattle.nf_formats.specs.NetLines as lines
 use Rattle.nf_net_file.specs.declared.draft.Draft.{Draft}
-use Rattle.nf_net_file.specs.declared.draft.LineFault.{LineFault}
-use Rattle.nf_net_file.specs.declared.draft.LineFault.TheVariants.{Broken, Memory}
+use Rattle.nf_net_file.specs.declared.draft.NetLineFault.{NetLineFault}
+use Rattle.nf_net_file.specs.declared.draft.NetLineFault.TheVariants.{Broken, Memory}
 
 abbrev pub seen_draft : Draft → lines.Draft
 seen_draft d = record { version = d.version; source = d.source; sink = d.sink; nodes = d.nodes; links = d.links.items; pieces = d.pieces.items; ended = d.ended }
 
 -- of a rule that is broken, unless memory is wanting
-abbrev pub IfRule : LineFault → (NetRule → Type 0) → Type 0
+abbrev pub IfRule : NetLineFault → (NetRule → Type 0) → Type 0
 IfRule (Broken rule) P = P rule
 IfRule Memory P = Unit {0}
 

@@ -5,7 +5,7 @@ ghost use Rattle.nf_net_file.specs.Words.{AreWithin, word_at};
 ghost use Rattle.nf_net_file.specs.Drafts.{seen_draft};
 ghost use Rattle.nf_net_file.specs.Contents.{contents, AddsContent, AreLinesWithin, IfBroken, IsFirstContent};
 
-use crate::draft::{Draft, LineFault};
+use crate::draft::{Draft, NetLineFault};
 use crate::fault::NetFault;
 use crate::words::{Words, is_word};
 use nf_formats::NetRule;
@@ -59,11 +59,11 @@ fn add_content(draft: &mut Draft, text: &[u8], line: &Line) -> Result<(), NetFau
     }
     match draft.add_line(&words) {
         Ok(()) => Ok(()),
-        Err(LineFault::Broken(rule)) => Err(NetFault::Broken {
+        Err(NetLineFault::Broken(rule)) => Err(NetFault::Broken {
             rule,
             line: line.number,
         }),
-        Err(LineFault::Memory) => Err(NetFault::Memory),
+        Err(NetLineFault::Memory) => Err(NetFault::Memory),
     }
 }
 

@@ -6,7 +6,7 @@ ghost use Rattle.nf_formats.specs.declared.NetRule.TheVariants.{N9, N10};
 ghost use Rattle.nf_formats.specs.Names.{has_name, with_name, with_names};
 ghost use Rattle.nf_formats.specs.Named.{names_of};
 ghost use Rattle.nf_formats.specs.NetLines.{LinkLine, InflowLine, empty_draft, after, first_rule, too_many_nodes, is_no_capacity, is_not_after, broken_rule, add_line};
-ghost use Rattle.nf_net_file.specs.declared.draft.LineFault.TheVariants as LineFault;
+ghost use Rattle.nf_net_file.specs.declared.draft.NetLineFault.TheVariants as NetLineFault;
 ghost use Rattle.nf_net_file.specs.Reading.{seen_entry};
 ghost use Rattle.nf_net_file.specs.Drafts.{seen_draft, IfRule, one_unless};
 ghost use Rattle.nf_formats.specs.Limits.{most_nodes};
@@ -36,16 +36,16 @@ pub struct Draft {
 
 /// Why a line is not added.
 #[derive(Drop)]
-pub enum LineFault {
+pub enum NetLineFault {
     Broken(NetRule),
     Memory,
 }
 
-impl From<AllocError> for LineFault {
-    ghost from_gives = { λ _ fault. fault ≡ LineFault.Memory };
+impl From<AllocError> for NetLineFault {
+    ghost from_gives = { λ _ fault. fault ≡ NetLineFault.Memory };
 
     fn from(_: AllocError) -> Self {
-        LineFault::Memory
+        NetLineFault::Memory
     }
 }
 
@@ -111,7 +111,7 @@ fn is_empty_capacity(capacity: Option<Q>) -> bool
 }
 
 // A start isn't above that of the piece before.
-fn is_late(pieces: &[Piece], start: Q) -> bool
+fn is_too_early(pieces: &[Piece], start: Q) -> bool
     ensures { result ≡ is_not_after start (last_or None pieces.now) }
 {
     if pieces.is_empty() {
@@ -182,7 +182,7 @@ impl Draft {
         if piece.rate.is_below(Q::zero()) {
             return Some(NetRule::N15);
         }
-        if is_late(&self.pieces, piece.start) {
+        if is_too_early(&self.pieces, piece.start) {
             return Some(NetRule::N16);
         }
         None
@@ -230,20 +230,20 @@ impl Draft {
     }
 
     // Adds what a line says, or answers the first of N4 to N16 that it breaks.
-    pub(crate) fn add_line(&mut self, words: &Words) -> Result<(), LineFault>
+    pub(crate) fn add_line(&mut self, words: &Words) -> Result<(), NetLineFault>
         requires { 0 < length words.now }
         ensures { MatchResult result (λ _. add_line (seen_draft self.old) words.now ≡ Ok (seen_draft self.new))
             (λ fault. IfRule fault (λ rule. add_line (seen_draft self.old) words.now ≡ Err rule)) }
     {
         if self.ended {
-            return Err(LineFault::Broken(NetRule::N4));
+            return Err(NetLineFault::Broken(NetRule::N4));
         }
         let entry = match read_entry(self.version, words) {
             Ok(entry) => entry,
-            Err(rule) => return Err(LineFault::Broken(rule)),
+            Err(rule) => return Err(NetLineFault::Broken(rule)),
         };
         if let Some(rule) = self.rule(&entry) {
-            return Err(LineFault::Broken(rule));
+            return Err(NetLineFault::Broken(rule));
         }
         self.add(entry)?;
         Ok(())

@@ -23,10 +23,10 @@ use nf_net::Network;
 use nf_pattern::Pattern;
 use std::alloc::{AllocError, Global};
 
-/// What comes of a pattern, where its flows and labels are written into slices.
+/// What comes of a pattern, where its flows and slopes are written into slices.
 #[derive(Clone, Copy, Debug, PartialEq, Eq)]
 pub enum Tried {
-    /// The pattern is accepted, with the flows and labels in the slices.
+    /// The pattern is accepted, with the flows and slopes in the slices.
     Accepted,
     /// The pattern is not solvable.
     NotSolvable,
@@ -202,7 +202,7 @@ pub fn pattern_values(
 // ---- the whole of a pattern
 
 /// Whether a pattern is accepted at a rate of supply, an amount per unit of time, and with which flows of the links, amounts per unit
-/// of time, and labels of the nodes, slopes over time: Accepted comes exactly where it is, and the slices then hold them. Passed comes
+/// of time, and slopes of the nodes' labels over time: Accepted comes exactly where it is, and the slices then hold them. Passed comes
 /// exactly where an operation of its table or then of its verdict passes, with the first one, and NotSolvable where it is not solvable
 /// and none passes; the slices hold any numbers then. For at most 32 unknowns: the nodes, and the active links. Takes no memory.
 pub fn try_pattern(
@@ -211,19 +211,19 @@ pub fn try_pattern(
     rate: Q,
     pattern: &Pattern,
     flows: &mut [Q],
-    labels: &mut [Q],
+    slopes: &mut [Q],
 ) -> Result<Tried, PassedAt<Q>>
     requires pattern { IsPatternIn net.now.net sets.now pattern.now }
     requires few { length (unknowns net.now.net sets.now) ≤ 32 }
     requires flows { length flows.old ≡ length net.now.net.links }
-    requires labels { length labels.old ≡ net.now.net.nodes }
-    ensures { TriesInto passes_Q net.now.net sets.now rate pattern.now flows.new labels.new result }
+    requires slopes { length slopes.old ≡ net.now.net.nodes }
+    ensures { TriesInto passes_Q net.now.net sets.now rate pattern.now flows.new slopes.new result }
 {
     let count = unknown_count(net, sets);
     let mut room = [Q::zero(); 32];
     let values = &mut room[..count as usize];
     match solve_pattern(count, net, sets, rate, pattern, values)? {
-        Eliminated::One => judge_into(net, sets, pattern, values, flows, labels),
+        Eliminated::One => judge_into(net, sets, pattern, values, flows, slopes),
         Eliminated::NotOne => Ok(Tried::NotSolvable),
     }
 }

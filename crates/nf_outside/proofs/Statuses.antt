@@ -8,7 +8,7 @@ use Rattle.nf_quick_lists.specs.Quick.{Augment}
 use Rattle.nf_forever.specs.declared.forever.Forever.{Forever}
 use Rattle.nf_answers.specs.declared.status.Status.{Status}
 use Rattle.nf_formats.specs.Named.{Named}
-use Rattle.nf_answers.specs.declared.outcome.Found.{Found}
+use Rattle.nf_answers.specs.declared.outcome.Computed.{Computed}
 use Rattle.nf_answers.specs.declared.outcome.Outcome.{Outcome}
 use Rattle.nf_answers.specs.Answers.{HasOutput, out_text, err_text, text_of_stop, status_of, status_of_stop, status_of_forever}
 use Rattle.nf_edge.specs.Taken.{Wrote}
@@ -33,62 +33,62 @@ no_events (Some (Cause.NoPattern phase)) status e other = e
 
 -- ---- what was found and is no run without a horizon, no verdict and no walks ends as its stop says
 module _ (net : Named) where
-  pub stop_status : (found : Found) → ((forever : Forever) → found ≡ Found.SolvedForever forever → ⊥) → ((verdict : Verdict ℕ ℕ ℚ) → found ≡ Found.Checked verdict → ⊥)
-      → ((augments : ℕ) (walks : Vec Augment Global) (text : Vec ℕ Global) → found ≡ Found.TooManyWalks augments walks text → ⊥)
+  pub stop_status : (found : Computed) → ((forever : Forever) → found ≡ Computed.SolvedForever forever → ⊥) → ((verdict : Verdict ℕ ℕ ℚ) → found ≡ Computed.Checked verdict → ⊥)
+      → ((augments : ℕ) (walks : Vec Augment Global) (text : Vec ℕ Global) → found ≡ Computed.TooManyWalks augments walks text → ⊥)
       → status_of_stop (stop_of found) ≡ status_of (answer_with net found)
-  stop_status (Found.Solved horizon s) a b w = refl
-  stop_status (Found.SolvedForever forever) a b w = absurd (a forever refl)
-  stop_status (Found.Shown text) a b w = refl
-  stop_status (Found.Loaded horizon links) a b w = refl
-  stop_status (Found.Checked verdict) a b w = absurd (b verdict refl)
-  stop_status (Found.Quickest quick arrival text) a b w = refl
-  stop_status (Found.TooManyWalks augments walks text) a b w = absurd (w augments walks text refl)
-  stop_status (Found.Generated ladder horizon s arrival) a b w = refl
-  stop_status (Found.Settled settled) a b w = refl
-  stop_status (Found.Distributed routes horizon routed) a b w = refl
+  stop_status (Computed.Solved horizon s) a b w = refl
+  stop_status (Computed.SolvedForever forever) a b w = absurd (a forever refl)
+  stop_status (Computed.Shown text) a b w = refl
+  stop_status (Computed.Loaded horizon links) a b w = refl
+  stop_status (Computed.Checked verdict) a b w = absurd (b verdict refl)
+  stop_status (Computed.Quickest quick arrival text) a b w = refl
+  stop_status (Computed.TooManyWalks augments walks text) a b w = absurd (w augments walks text refl)
+  stop_status (Computed.Generated ladder horizon s arrival) a b w = refl
+  stop_status (Computed.Settled settled) a b w = refl
+  stop_status (Computed.Distributed routes horizon routed) a b w = refl
 
-  pub stop_text : (found : Found) → ((verdict : Verdict ℕ ℕ ℚ) → found ≡ Found.Checked verdict → ⊥)
-      → ((augments : ℕ) (walks : Vec Augment Global) (text : Vec ℕ Global) → found ≡ Found.TooManyWalks augments walks text → ⊥)
+  pub stop_text : (found : Computed) → ((verdict : Verdict ℕ ℕ ℚ) → found ≡ Computed.Checked verdict → ⊥)
+      → ((augments : ℕ) (walks : Vec Augment Global) (text : Vec ℕ Global) → found ≡ Computed.TooManyWalks augments walks text → ⊥)
       → text_of_stop (stop_of found) ≡ err_text (answer_with net found)
-  stop_text (Found.Solved horizon s) b w = refl
-  stop_text (Found.SolvedForever forever) b w = refl
-  stop_text (Found.Shown text) b w = refl
-  stop_text (Found.Loaded horizon links) b w = refl
-  stop_text (Found.Checked verdict) b w = absurd (b verdict refl)
-  stop_text (Found.Quickest quick arrival text) b w = refl
-  stop_text (Found.TooManyWalks augments walks text) b w = absurd (w augments walks text refl)
-  stop_text (Found.Generated ladder horizon s arrival) b w = refl
-  stop_text (Found.Settled settled) b w = refl
-  stop_text (Found.Distributed routes horizon routed) b w = refl
+  stop_text (Computed.Solved horizon s) b w = refl
+  stop_text (Computed.SolvedForever forever) b w = refl
+  stop_text (Computed.Shown text) b w = refl
+  stop_text (Computed.Loaded horizon links) b w = refl
+  stop_text (Computed.Checked verdict) b w = absurd (b verdict refl)
+  stop_text (Computed.Quickest quick arrival text) b w = refl
+  stop_text (Computed.TooManyWalks augments walks text) b w = absurd (w augments walks text refl)
+  stop_text (Computed.Generated ladder horizon s arrival) b w = refl
+  stop_text (Computed.Settled settled) b w = refl
+  stop_text (Computed.Distributed routes horizon routed) b w = refl
 
 -- an outcome has a text
-writes_with : (net : Named) (found : Found) → HasOutput (answer_with net found)
-writes_with net (Found.Solved horizon s) = tt
-writes_with net (Found.SolvedForever forever) = tt
-writes_with net (Found.Shown text) = tt
-writes_with net (Found.Loaded horizon links) = tt
-writes_with net (Found.Checked verdict) = tt
-writes_with net (Found.Quickest quick arrival text) = tt
-writes_with net (Found.TooManyWalks augments walks text) = tt
-writes_with net (Found.Generated ladder horizon s arrival) = tt
-writes_with net (Found.Settled settled) = tt
-writes_with net (Found.Distributed routes horizon routed) = tt
+writes_with : (net : Named) (found : Computed) → HasOutput (answer_with net found)
+writes_with net (Computed.Solved horizon s) = tt
+writes_with net (Computed.SolvedForever forever) = tt
+writes_with net (Computed.Shown text) = tt
+writes_with net (Computed.Loaded horizon links) = tt
+writes_with net (Computed.Checked verdict) = tt
+writes_with net (Computed.Quickest quick arrival text) = tt
+writes_with net (Computed.TooManyWalks augments walks text) = tt
+writes_with net (Computed.Generated ladder horizon s arrival) = tt
+writes_with net (Computed.Settled settled) = tt
+writes_with net (Computed.Distributed routes horizon routed) = tt
 
 pub writes : (outcome : Outcome) → HasOutput (answer_in outcome)
 writes outcome = writes_with outcome.net outcome.found
 
 -- ---- its text
-pub text_is : (net : Named) (found : Found) → HasTextWith net found → text_with net found ≡ out_text (answer_with net found)
-text_is net (Found.Solved horizon s) h = refl
-text_is net (Found.SolvedForever forever) h = refl
-text_is net (Found.Shown text) h = h
-text_is net (Found.Loaded horizon links) h = refl
-text_is net (Found.Checked verdict) h = refl
-text_is net (Found.Quickest quick arrival text) h = refl
-text_is net (Found.TooManyWalks augments walks text) h = h
-text_is net (Found.Generated ladder horizon s arrival) h = refl
-text_is net (Found.Settled settled) h = refl
-text_is net (Found.Distributed routes horizon routed) h = refl
+pub text_is : (net : Named) (found : Computed) → HasTextWith net found → text_with net found ≡ out_text (answer_with net found)
+text_is net (Computed.Solved horizon s) h = refl
+text_is net (Computed.SolvedForever forever) h = refl
+text_is net (Computed.Shown text) h = h
+text_is net (Computed.Loaded horizon links) h = refl
+text_is net (Computed.Checked verdict) h = refl
+text_is net (Computed.Quickest quick arrival text) h = refl
+text_is net (Computed.TooManyWalks augments walks text) h = h
+text_is net (Computed.Generated ladder horizon s arrival) h = refl
+text_is net (Computed.Settled settled) h = refl
+text_is net (Computed.Distributed routes horizon routed) h = refl
 
 -- ---- what a sink took of a text that was written to it
 pub took_same : (sink : Taken) (first text : List ℕ) → first ≡ text → TookText sink first → TookText sink text

@@ -11,7 +11,7 @@ ghost use Rattle.nf_outside.specs.Sinks.{taken, TookText};
 ghost use Rattle.nf_outside.specs.Shown.{IsShown};
 
 use nf_answers::{
-    Arrival, Found, Outcome, Refusal, Status, write_arrival, write_loads, write_over_budget,
+    Arrival, Computed, Outcome, Refusal, Status, write_arrival, write_loads, write_over_budget,
     write_refusal, write_routed, write_settled, write_stopped, write_summary, write_verdict,
 };
 use nf_check::Answer;
@@ -30,12 +30,12 @@ fn write_quick<O: Sink>(text: &[u8], arrival: &Arrival, out: &mut O) -> Result<(
 }
 
 // The text of what was found.
-fn write_found<O: Sink>(net: &Network, found: &Found, out: &mut O) -> Result<(), SinkFault>
+fn write_found<O: Sink>(net: &Network, found: &Computed, out: &mut O) -> Result<(), SinkFault>
     requires { HasTextWith net.now found.now }
     ensures { Wrote (O.took out.old) (O.took out.new) (O.faults out.old) (O.faults out.new) (text_with net.now found.now) result }
 {
     match found {
-        Found::Solved { horizon, solution } => write_report(
+        Computed::Solved { horizon, solution } => write_report(
             net,
             *horizon,
             &solution.flow,
@@ -43,20 +43,20 @@ fn write_found<O: Sink>(net: &Network, found: &Found, out: &mut O) -> Result<(),
             &solution.last,
             out,
         ),
-        Found::SolvedForever { forever } => write_forever(net, forever, out),
-        Found::Shown { text } => write_text(out, text),
-        Found::Loaded { horizon, links } => write_loads(out, net, *horizon, links),
-        Found::Checked { verdict } => write_verdict(out, net, verdict),
-        Found::Quickest { arrival, text, .. } => write_quick(text, arrival, out),
-        Found::TooManyWalks { text, .. } => write_text(out, text),
-        Found::Generated {
+        Computed::SolvedForever { forever } => write_forever(net, forever, out),
+        Computed::Shown { text } => write_text(out, text),
+        Computed::Loaded { horizon, links } => write_loads(out, net, *horizon, links),
+        Computed::Checked { verdict } => write_verdict(out, net, verdict),
+        Computed::Quickest { arrival, text, .. } => write_quick(text, arrival, out),
+        Computed::TooManyWalks { text, .. } => write_text(out, text),
+        Computed::Generated {
             ladder,
             solution,
             arrival,
             ..
         } => write_summary(out, net, *ladder, solution, *arrival),
-        Found::Settled { settled } => write_settled(out, net, settled),
-        Found::Distributed {
+        Computed::Settled { settled } => write_settled(out, net, settled),
+        Computed::Distributed {
             routes,
             horizon,
             routed,
@@ -119,15 +119,15 @@ fn tell_verdict<E: Sink>(verdict: &Answer, err: &mut E) -> Status
 }
 
 // Says why what was found isn't the whole answer, if it isn't.
-fn tell<E: Sink>(found: &Found, err: &mut E) -> Status
+fn tell<E: Sink>(found: &Computed, err: &mut E) -> Status
     ensures status { (net : Named) → result ≡ status_of (answer_with net found.now) }
     ensures told { (net : Named) → TookText (taken E.Sink err.old err.new) (err_text (answer_with net found.now)) }
     ensures never_falls { E.faults err.old ≤ E.faults err.new }
 {
     match found {
-        Found::SolvedForever { forever, .. } => tell_forever(forever.stopped.as_ref(), err),
-        Found::Checked { verdict, .. } => tell_verdict(verdict, err),
-        Found::TooManyWalks { augments, .. } => {
+        Computed::SolvedForever { forever, .. } => tell_forever(forever.stopped.as_ref(), err),
+        Computed::Checked { verdict, .. } => tell_verdict(verdict, err),
+        Computed::TooManyWalks { augments, .. } => {
             let _ = write_over_budget(err, *augments);
             Status::Augments
         }

@@ -23,7 +23,7 @@ use Rattle.nf_lists.specs.Extend.{extend_list}
 use Rattle.nf_lists.specs.Advance.{Advanced, cut_at, advance_list}
 use Rattle.nf_lists.specs.CurveList.{LinkStep, curve_list}
 use Rattle.nf_lists.specs.ReportCurves.{amount_so_far}
-use Rattle.nf_lists.specs.Search.{Answer, Found, OverBudget, PassesAt, NoPattern}
+use Rattle.nf_lists.specs.Search.{SearchAnswer, Found, OverBudget, PassesAt, NoPattern}
 use Rattle.nf_lists.specs.PhaseRun.{Standing, PhaseStep, Seeks, IsSearchHere, phase_lists}
 use Rattle.nf_lists.specs.PhaseRun.{Fails, at_slack as at_slack_below, at_search as at_search_below, at_lists as at_lists_below}
 use Rattle.nf_forever_lists.specs.ForeverRun.{end_list, SeeksOn}
@@ -91,7 +91,7 @@ module _ (passes : Passing) (net : Network) (patterns : ℕ) (s : Standing) wher
 
   -- ---- the patterns
   module _ (slacks : slack_list passes (hops net) s.labels ≡ Ok (slacks_of (hops net) s.labels)) (horizon : ℚ) where
-    pub seeks_here : (a : Answer) → IsSearchHere passes net horizon patterns s a → SeeksOn passes net patterns s a
+    pub seeks_here : (a : SearchAnswer) → IsSearchHere passes net horizon patterns s a → SeeksOn passes net patterns s a
     seeks_here a h = record { slacks = slacks; base = h.base; is_base = h.is_base; is_search = h.is_search }
 
     pub search_cause : (fault : SearchFault) → Searches (IsSearchHere passes net horizon patterns s) patterns (Err fault) → Unfound (of_search fault)
@@ -101,7 +101,7 @@ module _ (passes : Passing) (net : Network) (patterns : ℕ) (s : Standing) wher
     search_cause SearchFault.Memory h = tt
 
   -- ---- to a horizon, and without one
-  pub seeks_below : (horizon : ℚ) (a : Answer) → s.time <ℚ horizon → SeeksOn passes net patterns s a → Seeks passes net horizon patterns s a
+  pub seeks_below : (horizon : ℚ) (a : SearchAnswer) → s.time <ℚ horizon → SeeksOn passes net patterns s a → Seeks passes net horizon patterns s a
   seeks_below horizon a below h = record { below = below; slacks = h.slacks; search = record { base = h.base; is_base = h.is_base; is_search = h.is_search } }
 
   pub none_below : (horizon : ℚ) → s.time <ℚ horizon → (cause : Cause ℚ) → FindsNone passes net patterns s cause → Fails passes net horizon patterns s cause

@@ -18,14 +18,14 @@ use Rattle.nf_lists.specs.Extend.{extend_list}
 use Rattle.nf_lists.specs.Advance.{Advanced, advance_list}
 use Rattle.nf_lists.specs.CurveList.{LinkStep, curve_list}
 use Rattle.nf_lists.specs.ReportCurves.{LinkCurves, amount_so_far}
-use Rattle.nf_lists.specs.Search.{Found as FoundAt}
+use Rattle.nf_lists.specs.Search.{Found}
 use Rattle.nf_lists.specs.PhaseRun.{Standing, PhaseStep, IsSearchHere, phase_lists}
 use Rattle.nf_lists_laws.proofs.Exact.{advanced_exact}
 use Rattle.nf_lists_laws.proofs.Ending.{length-moved}
 use Rattle.nf_run_laws.proofs.Standing.{label_count_at}
 use Rattle.nf_lists_laws.proofs.Numbered.{part_ok}
 use Rattle.nf_phase.specs.declared.fault.StepFault.{StepFault}
-use Rattle.nf_phase.specs.declared.finding.Found.{Found}
+use Rattle.nf_phase.specs.declared.finding.PhaseStart.{PhaseStart}
 use Rattle.nf_phase.specs.declared.phase.Phase.{Phase}
 use Rattle.nf_phase.specs.Faults.{of_halt}
 use Rattle.nf_phase.specs.Stepping.{Reaches, StandsFor}
@@ -34,27 +34,27 @@ use Rattle.nf_phase.proofs.Reached.{Stands, Stands-reached, active_count}
 use Rattle.nf_phase.proofs.Found.{by_fault, seeks_here, seeks_below, extend_cause, advance_cause, curve_cause, lists_made, phase_length}
 
 -- ---- the search
-pub found_here : (passes : Passing) (net : Network) (patterns : ℕ) (s : Standing) → slack_list passes (hops net) s.labels ≡ Ok (slacks_of (hops net) s.labels) → (horizon : ℚ) (found : Found)
+pub found_here : (passes : Passing) (net : Network) (patterns : ℕ) (s : Standing) → slack_list passes (hops net) s.labels ≡ Ok (slacks_of (hops net) s.labels) → (horizon : ℚ) (found : PhaseStart)
     → found.slacks.items ≡ slacks_of (hops net) s.labels → found.sets ≡ sets_at net s.labels
-    → ((place : ℕ) × IsSearchHere passes net horizon patterns s (FoundAt place found.thin.pattern found.thin.flows.items found.thin.labels.items)) → IsFound passes net patterns s found
+    → ((place : ℕ) × IsSearchHere passes net horizon patterns s (Found place found.thin.pattern found.thin.flows.items found.thin.slopes.items)) → IsFound passes net patterns s found
 found_here passes net patterns s list horizon found slacks sets h = record { slacks = slacks; sets = sets; seeks = (h.0, seeks_here passes net patterns s list horizon _ h.1) }
 
 -- ---- how many there are
-module _ (passes : Passing) (net : Network) (patterns : ℕ) (s : Standing) (found : Found) (is : IsFound passes net patterns s found) where
+module _ (passes : Passing) (net : Network) (patterns : ℕ) (s : Standing) (found : PhaseStart) (is : IsFound passes net patterns s found) where
   pub slack_count : (slacks : List ℚ) → slacks ≡ found.slacks.items → length slacks ≡ length net.links
   slack_count slacks e = ap (λ (l : List ℚ). length l) (e ∙ is.slacks) ∙ length-map (hops net) (slack s.labels) ∙ length-map net.links hop_of
 
-  pub thin_slope_count : (slopes : List ℚ) → slopes ≡ found.thin.labels.items → length slopes ≡ net.nodes
+  pub thin_slope_count : (slopes : List ℚ) → slopes ≡ found.thin.slopes.items → length slopes ≡ net.nodes
   thin_slope_count slopes e = ap (λ (l : List ℚ). length l) e ∙ is.seeks.1.is_search.answers.solution.solves.slope_count
 
   pub thin_flow_count : (flows : List ℚ) → flows ≡ found.thin.flows.items → length flows ≡ length net.links
   thin_flow_count flows e = ap (λ (l : List ℚ). length l) e ∙ is.seeks.1.is_search.answers.solution.solves.flow_count
 
 -- ---- the lists
-module _ (passes : Passing) (net : Network) (good : IsNetwork net) (horizon : ℚ) (patterns : ℕ) (s : Standing) (reaches : Reaches passes net s) (found : Found)
+module _ (passes : Passing) (net : Network) (good : IsNetwork net) (horizon : ℚ) (patterns : ℕ) (s : Standing) (reaches : Reaches passes net s) (found : PhaseStart)
     (is : IsFound passes net patterns s found) where
   abbrev thin_slopes : List ℚ
-  thin_slopes = found.thin.labels.items
+  thin_slopes = found.thin.slopes.items
 
   abbrev stands : Stands net s
   stands = Stands-reached passes net good s reaches

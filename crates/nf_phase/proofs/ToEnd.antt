@@ -14,7 +14,7 @@ use Rattle.nf_lists.specs.PhaseRun.{Standing}
 use Rattle.nf_forever_lists.specs.ForeverRun.{end_list, GoesToEnd, GoesForever, FailsOn}
 use Rattle.nf_lists_laws.proofs.Numbered.{part_ok}
 use Rattle.nf_phase.specs.declared.fault.StepFault.{StepFault}
-use Rattle.nf_phase.specs.declared.finding.Found.{Found}
+use Rattle.nf_phase.specs.declared.finding.PhaseStart.{PhaseStart}
 use Rattle.nf_phase.specs.declared.phase.Phase.{Phase}
 use Rattle.nf_phase.specs.Stepping.{StandsFor, IsCauseOn, tail_of}
 use Rattle.nf_phase.specs.Finding.{step_in, after_phase, IsFound, FindsNone, ListsPass, LeadsOn}
@@ -27,12 +27,12 @@ found_none_on passes net patterns s result fault e h =
     by_fault result fault (IsCauseOn passes net patterns s) e (stands_as (FindsNone passes net patterns s) (FailsOn passes net patterns s) (suc s.made) fault (none_on passes net patterns s) h)
 
 -- ---- by a thin flow
-module _ (passes : Passing) (net : Network) (patterns : ℕ) (s : Standing) (found : Found) (is : IsFound passes net patterns s found)
-    (slacks slopes : List ℚ) (time : ℚ) (same_slacks : slacks ≡ found.slacks.items) (same_slopes : slopes ≡ found.thin.labels.items) (same_time : time ≡ s.time) where
+module _ (passes : Passing) (net : Network) (patterns : ℕ) (s : Standing) (found : PhaseStart) (is : IsFound passes net patterns s found)
+    (slacks slopes : List ℚ) (time : ℚ) (same_slacks : slacks ≡ found.slacks.items) (same_slopes : slopes ≡ found.thin.slopes.items) (same_time : time ≡ s.time) where
   abbrev ends : List ℚ → Checked (Option ℚ)
   ends slopes = end_list passes net (slacks_of (hops net) s.labels) slopes s.time
 
-  ends_is : ends found.thin.labels.items ≡ end_list passes net slacks slopes time
+  ends_is : ends found.thin.slopes.items ≡ end_list passes net slacks slopes time
   ends_is = rw (same_slacks ∙ is.slacks, same_slopes, same_time) refl
 
   pub end_passes : (at : PassedAt ℚ) → Err at ≡ at_part Extend (end_list passes net slacks slopes time) → {A : Type 0} (result : Result A StepFault) → IsErrAnd result (λ f. f ≡ StepFault.Passed at)
@@ -41,7 +41,7 @@ module _ (passes : Passing) (net : Network) (patterns : ℕ) (s : Standing) (fou
       let p = part_err Extend (end_list passes net slacks slopes time) at (sym h) in
       by_fault result (StepFault.Passed at) (IsCauseOn passes net patterns s) e
       (subst (λ (at : PassedAt ℚ). FailsOn passes net patterns s (Cause.Passed (suc s.made) None at)) p.2
-      (extend_on passes net patterns s is.seeks.0 found.thin.pattern found.thin.flows.items found.thin.labels.items is.seeks.1 p.0 (ends_is ∙ p.1)))
+      (extend_on passes net patterns s is.seeks.0 found.thin.pattern found.thin.flows.items found.thin.slopes.items is.seeks.1 p.0 (ends_is ∙ p.1)))
 
   -- there is no end
   pub goes_forever : Ok None ≡ at_part Extend (end_list passes net slacks slopes time) → GoesForever passes net patterns s found.thin.pattern (tail_of found.thin)
@@ -49,17 +49,17 @@ module _ (passes : Passing) (net : Network) (patterns : ℕ) (s : Standing) (fou
 
   -- this is the end
   module _ (end : ℚ) (ended : Ok (Some end) ≡ at_part Extend (end_list passes net slacks slopes time)) where
-    end_is : ends found.thin.labels.items ≡ Ok (Some end)
+    end_is : ends found.thin.slopes.items ≡ Ok (Some end)
     end_is = ends_is ∙ part_ok Extend (end_list passes net slacks slopes time) (Some end) ended
 
     pub lists_pass : {A : Type 0} (result : Result A StepFault) (fault : StepFault) → IsErrAnd result (λ f. f ≡ fault)
-        → StandsFor (ListsPass passes net end s found.thin.pattern found.thin.flows.items found.thin.labels.items) (suc s.made) fault → IfErr result (IsCauseOn passes net patterns s)
+        → StandsFor (ListsPass passes net end s found.thin.pattern found.thin.flows.items found.thin.slopes.items) (suc s.made) fault → IfErr result (IsCauseOn passes net patterns s)
     lists_pass result fault e h =
         by_fault result fault (IsCauseOn passes net patterns s) e
-        (stands_as (ListsPass passes net end s found.thin.pattern found.thin.flows.items found.thin.labels.items) (FailsOn passes net patterns s) (suc s.made) fault
-        (lists_on passes net patterns s is.seeks.0 found.thin.pattern found.thin.flows.items found.thin.labels.items is.seeks.1 end end_is) h)
+        (stands_as (ListsPass passes net end s found.thin.pattern found.thin.flows.items found.thin.slopes.items) (FailsOn passes net patterns s) (suc s.made) fault
+        (lists_on passes net patterns s is.seeks.0 found.thin.pattern found.thin.flows.items found.thin.slopes.items is.seeks.1 end end_is) h)
 
-    pub goes_to_end : (phase : Phase) → LeadsOn passes net end patterns s phase → phase.slopes.items ≡ found.thin.labels.items → (t : Standing) → t ≡ after_phase net s phase
+    pub goes_to_end : (phase : Phase) → LeadsOn passes net end patterns s phase → phase.slopes.items ≡ found.thin.slopes.items → (t : Standing) → t ≡ after_phase net s phase
         → GoesToEnd passes net patterns s t
     goes_to_end phase leads same t e = record {
       end = end;

@@ -12,10 +12,10 @@ use Rattle.nf_model.specs.Pattern.{Pattern}
 use Rattle.nf_model.specs.Phases.{IsPhaseLength}
 use Rattle.nf_formats.specs.declared.Cause.{Cause}
 use Rattle.nf_lists.specs.Slack.{slack_list}
-use Rattle.nf_lists.specs.Search.{Answer, Found}
+use Rattle.nf_lists.specs.Search.{SearchAnswer, Found}
 use Rattle.nf_lists.specs.PhaseRun.{Standing, PhaseStep, Seeks, cause_of_search, phase_lists, standing_after}
 use Rattle.nf_forever_lists.specs.ForeverRun.{SeeksOn}
-use Rattle.nf_phase.specs.declared.finding.Found as code
+use Rattle.nf_phase.specs.declared.finding.PhaseStart as code
 use Rattle.nf_phase.specs.declared.phase.Phase.{Phase}
 
 abbrev pub step_in : Phase → PhaseStep
@@ -28,15 +28,15 @@ after_phase net s phase = standing_after net s phase.pattern phase.slopes.items 
 -- ---- the search, which asks for no horizon
 module _ (passes : Passing) (net : Network) (patterns : ℕ) (s : Standing) where
   -- the slacks and their sets, and the thin flow that is found, by a pattern that stands at some place
-  pub record IsFound (found : code.Found) : Type 0 where
+  pub record IsFound (found : code.PhaseStart) : Type 0 where
     pub slacks : found.slacks.items ≡ slacks_of (hops net) s.labels
     pub sets : found.sets ≡ sets_at net s.labels
-    pub seeks : (place : ℕ) × SeeksOn passes net patterns s (Found place found.thin.pattern found.thin.flows.items found.thin.labels.items)
+    pub seeks : (place : ℕ) × SeeksOn passes net patterns s (Found place found.thin.pattern found.thin.flows.items found.thin.slopes.items)
 
   -- why there is none: an operation of the slack list passes, or no pattern is found
   pub data FindsNone : Cause ℚ → Type 0 where
     at_slack : (p : Passed ℚ) → slack_list passes (hops net) s.labels ≡ Err p → FindsNone (Cause.Passed (suc s.made) None (placed Slack p))
-    at_search : (answer : Answer) (cause : Cause ℚ) → SeeksOn passes net patterns s answer → cause_of_search (suc s.made) patterns answer ≡ Some cause → FindsNone cause
+    at_search : (answer : SearchAnswer) (cause : Cause ℚ) → SeeksOn passes net patterns s answer → cause_of_search (suc s.made) patterns answer ≡ Some cause → FindsNone cause
 
 -- ---- the lists of a phase
 -- an operation of theirs passes, this one first

@@ -41,7 +41,7 @@ IsCauseOn passes net patterns s = StandsFor (FailsOn passes net patterns s) (suc
 
 -- how labels and flows go on by a thin flow
 abbrev pub tail_of : ThinFlow → Tail
-tail_of thin = record { slopes = thin.labels.items; flows = thin.flows.items }
+tail_of thin = record { slopes = thin.slopes.items; flows = thin.flows.items }
 
 -- one phase leads from a departure with its labels to this one with its own, and to no other
 pub record LeadsOnlyTo (net : Network) (horizon : ℚ) (old new : ℚ × List ℚ) : Type 0 where

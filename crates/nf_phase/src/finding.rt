@@ -23,7 +23,7 @@ use std::alloc::Global;
 
 // What a phase begins with: the slacks of the links, which of them are active and resetting, and a thin flow for these.
 #[derive(Drop)]
-pub(crate) struct Found {
+pub(crate) struct PhaseStart {
     pub(crate) slacks: Vec<Q>,
     pub(crate) sets: LinkSets,
     pub(crate) thin: ThinFlow,
@@ -64,7 +64,7 @@ impl Run {
         alloc: Global,
         net: &Network,
         patterns: u64,
-    ) -> Result<Found, StepFault>
+    ) -> Result<PhaseStart, StepFault>
         requires reaches { Reaches passes_Q net.now.net self.now }
         ensures named { IsNamed net.now }
         ensures found { IfOk result (IsFound passes_Q net.now.net patterns self.now) }
@@ -73,6 +73,6 @@ impl Run {
         let slacks = self.slacks(alloc, net, patterns)?;
         let sets = sets(alloc, &slacks)?;
         let thin = self.thin(alloc, net, &sets, patterns)?;
-        Ok(Found { slacks, sets, thin })
+        Ok(PhaseStart { slacks, sets, thin })
     }
 }

@@ -12,7 +12,7 @@ ghost use Rattle.nf_phase.specs.Stepping.{Reaches, StandsFor, IsCause};
 ghost use Rattle.nf_phase.specs.Finding.{IsFound, ListsPass, LeadsOn};
 
 use crate::fault::StepFault;
-use crate::finding::Found;
+use crate::finding::PhaseStart;
 use crate::run::Run;
 use nf_frac::Q;
 use nf_growing_curves::{LinkStep, amounts, link_steps};
@@ -48,17 +48,17 @@ impl Run {
         net: &Network,
         horizon: Q,
         patterns: u64,
-        found: &Found,
+        found: &PhaseStart,
     ) -> Result<(Advanced, Vec<LinkStep>), StepFault>
         requires reaches { Reaches passes_Q net.now.net self.now }
         requires named { IsNamed net.now }
         requires found { IsFound passes_Q net.now.net patterns self.now found.now }
-        ensures lists { IfOk result (λ parts. phase_lists passes_Q net.now.net horizon self.now found.now.thin.pattern found.now.thin.flows.items found.now.thin.labels.items
+        ensures lists { IfOk result (λ parts. phase_lists passes_Q net.now.net horizon self.now found.now.thin.pattern found.now.thin.flows.items found.now.thin.slopes.items
             ≡ Ok (record { length = parts.0.length; labels = parts.0.labels; links = parts.1.items })) }
-        ensures length { IfOk result (λ parts. IsPhaseLength net.now.net (slacks_of (hops_of net.now.net) self.now.labels) found.now.thin.labels.items self.now.time horizon parts.0.length) }
-        ensures cause { IfErr result (StandsFor (ListsPass passes_Q net.now.net horizon self.now found.now.thin.pattern found.now.thin.flows.items found.now.thin.labels.items) (suc self.now.made)) }
+        ensures length { IfOk result (λ parts. IsPhaseLength net.now.net (slacks_of (hops_of net.now.net) self.now.labels) found.now.thin.slopes.items self.now.time horizon parts.0.length) }
+        ensures cause { IfErr result (StandsFor (ListsPass passes_Q net.now.net horizon self.now found.now.thin.pattern found.now.thin.flows.items found.now.thin.slopes.items) (suc self.now.made)) }
     {
-        let slopes = &found.thin.labels;
+        let slopes = &found.thin.slopes;
         let extension = extension(net, &found.slacks, slopes, self.reached)?;
         let end = advance(
             alloc,
@@ -90,18 +90,18 @@ impl Run {
         net: &Network,
         horizon: Q,
         patterns: u64,
-        found: Found,
+        found: PhaseStart,
     ) -> Result<Phase, StepFault>
         requires reaches { Reaches passes_Q net.now.net self.now }
         requires named { IsNamed net.now }
         requires below { self.now.time <ℚ horizon }
         requires found { IsFound passes_Q net.now.net patterns self.now found }
         ensures leads { IfOk result (LeadsOn passes_Q net.now.net horizon patterns self.now) }
-        ensures slopes { IfOk result (λ phase. phase.slopes.items ≡ found.thin.labels.items) }
-        ensures cause { IfErr result (StandsFor (ListsPass passes_Q net.now.net horizon self.now found.thin.pattern found.thin.flows.items found.thin.labels.items) (suc self.now.made)) }
+        ensures slopes { IfOk result (λ phase. phase.slopes.items ≡ found.thin.slopes.items) }
+        ensures cause { IfErr result (StandsFor (ListsPass passes_Q net.now.net horizon self.now found.thin.pattern found.thin.flows.items found.thin.slopes.items) (suc self.now.made)) }
     {
         let (end, steps) = self.lists(alloc, net, horizon, patterns, &found)?;
-        let Found {
+        let PhaseStart {
             slacks: _,
             sets: _,
             thin,

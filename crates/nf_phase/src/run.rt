@@ -12,7 +12,7 @@ ghost use Rattle.nf_curve.specs.Flows.{flow_of as flow_in};
 ghost use Rattle.nf_phase.specs.Stepping.{Reaches, IsCause, IsCauseOn, LeadsOnlyTo, tail_of};
 
 use crate::fault::StepFault;
-use crate::finding::Found;
+use crate::finding::PhaseStart;
 use crate::phase::NextPhase;
 use nf_curve::Flow;
 use nf_frac::Q;
@@ -138,8 +138,8 @@ impl Run {
         ensures cause { IfErr result (IsCauseOn passes_Q net.now.net patterns self.old) }
     {
         let found = self.find(alloc, net, patterns)?;
-        let Some(end) = end_of(net, &found.slacks, &found.thin.labels, self.reached)? else {
-            let Found {
+        let Some(end) = end_of(net, &found.slacks, &found.thin.slopes, self.reached)? else {
+            let PhaseStart {
                 slacks: _,
                 sets: _,
                 thin,

@@ -12,7 +12,7 @@ use Rattle.nf_work.specs.declared.Part.TheVariants as Part
 use Rattle.nf_work.specs.Checked.{Checked, Stops, at_part, ◌>>=◌}
 use Rattle.nf_model.specs.Network.{Network, IsNetwork}
 use Rattle.nf_quick_lists.specs.Steps.{IsLimited}
-use Rattle.nf_quick_lists.specs.Quick.{Quick, Standing, Pushed, Done, OverBudget, Answer, Found, Budget, start_of, nothing, push_up_to, finish_list, answer_list, quickest_of, quickest_list}
+use Rattle.nf_quick_lists.specs.Quick.{Quick, QuickStanding, Pushed, Done, OverBudget, QuickAnswer, FoundQuick, Budget, start_of, nothing, push_up_to, finish_list, answer_list, quickest_of, quickest_list}
 use Rattle.nf_quick_lists.specs.Answers.{IsQuickFlow}
 use Rattle.nf_quick_laws.proofs.Nothing.{IsQuickFlow-list, IsMade-list, EndsAtBudget-list}
 use Rattle.nf_residual.proofs.Stopping.{ok_of_part, stopped, goes_on}
@@ -25,7 +25,7 @@ module _ (passes : Passing) (net : Network) (amount : ℚ) (augments : ℕ) wher
   unfolding quickest_list
   nothing_answered quick h t e = (
     inl (≤ℚ_antisymm amount 0ℚ (le_of_test amount 0ℚ t) h),
-    ap (λ (b : Bool). at_part Part.Quick (quickest_of passes net amount b augments)) t ∙ ap (λ (q : Quick). Ok (Found q)) (sym e),
+    ap (λ (b : Bool). at_part Part.Quick (quickest_of passes net amount b augments)) t ∙ ap (λ (q : Quick). Ok (FoundQuick q)) (sym e),
   )
 
   -- ---- another one, where each walk from source to sink has a link with a capacity
@@ -33,10 +33,10 @@ module _ (passes : Passing) (net : Network) (amount : ℚ) (augments : ℕ) wher
     abbrev pushes : Checked Pushed
     pushes = push_up_to passes net amount augments (start_of net)
 
-    abbrev whole : Checked Answer
+    abbrev whole : Checked QuickAnswer
     whole = quickest_list passes net amount augments
 
-    abbrev answer : Pushed → Checked Answer
+    abbrev answer : Pushed → Checked QuickAnswer
     answer pushed = answer_list passes net amount pushed
 
     opened : whole ≡ (pushes >>= answer)
@@ -50,12 +50,12 @@ module _ (passes : Passing) (net : Network) (amount : ℚ) (augments : ℕ) wher
     pushes_stop QuickFault.Memory e = tt
 
     -- what the pushes came to is finished
-    module _ (s : Standing) (came : at_part Part.Quick pushes ≡ Ok (Done s)) (flows : List ℚ) (time : ℚ) (flows_are : flows ≡ s.flows) (time_is : time ≡ unwrap_or s.time 0ℚ) where
+    module _ (s : QuickStanding) (came : at_part Part.Quick pushes ≡ Ok (Done s)) (flows : List ℚ) (time : ℚ) (flows_are : flows ≡ s.flows) (time_is : time ≡ unwrap_or s.time 0ℚ) where
       abbrev finished : Checked Quick
       finished = finish_list passes net amount flows time
 
-      abbrev found : Quick → Checked Answer
-      found quick = Ok (Found quick)
+      abbrev found : Quick → Checked QuickAnswer
+      found quick = Ok (FoundQuick quick)
 
       then_finish : whole ≡ (finished >>= found)
       then_finish = opened ∙ goes_on pushes answer (Done s) came
@@ -71,13 +71,13 @@ module _ (passes : Passing) (net : Network) (amount : ℚ) (augments : ℕ) wher
   -- ---- what is answered is a quickest flow
   pub answered_is_quick : IsNetwork net → 0ℚ ≤ℚ amount → (result : Result Quick QuickFault) → IsAnswered passes net amount augments result → IfOk result (IsQuickFlow net amount)
   answered_is_quick good h (Ok quick) answered =
-      IsQuickFlow-list net good passes amount augments quick h answered.0 (ok_of_part (quickest_list passes net amount augments) (Found quick) answered.1)
+      IsQuickFlow-list net good passes amount augments quick h answered.0 (ok_of_part (quickest_list passes net amount augments) (FoundQuick quick) answered.1)
   answered_is_quick good h (Err fault) answered = tt
 
   -- ---- and comes of walks that are pushed in order
   pub answered_in_order : IsNetwork net → 0ℚ ≤ℚ amount → 1 ≤ augments → (result : Result Quick QuickFault) → IsAnswered passes net amount augments result → IsInOrder net amount augments result
   answered_in_order good h some (Ok quick) answered =
-      (IsMade-list net good passes amount augments quick h answered.0 (ok_of_part (quickest_list passes net amount augments) (Found quick) answered.1)).1
+      (IsMade-list net good passes amount augments quick h answered.0 (ok_of_part (quickest_list passes net amount augments) (FoundQuick quick) answered.1)).1
   answered_in_order good h some (Err (QuickFault.Budget walks)) answered =
       EndsAtBudget-list net good passes amount augments walks.items some answered.0 (ok_of_part (quickest_list passes net amount augments) (Budget walks.items) answered.1)
   answered_in_order good h some (Err (QuickFault.Unbounded links)) answered = tt

@@ -14,7 +14,7 @@ use Rattle.nf_model.specs.Network.{Network}
 use Rattle.nf_quick_lists.specs.Rounds.{Walk, shortest_list}
 use Rattle.nf_quick_lists.specs.Answers.{IsShortestWalk, IsShortest}
 use Rattle.nf_quick_lists.specs.Pushes.{Times, push_list, time_list}
-use Rattle.nf_quick_lists.specs.Quick.{Augment, Standing, is_early, push_on, next_of, next_list}
+use Rattle.nf_quick_lists.specs.Quick.{Augment, QuickStanding, is_early, push_on, next_of, next_list}
 use Rattle.nf_residual_laws.proofs.Offers.{checked-ok}
 use Rattle.nf_residual.proofs.Stopping.{ok_of_part, stopped, goes_on}
 
@@ -24,7 +24,7 @@ some_sum passes so_far rate all h k e =
     subst (λ (x : ℚ). 0ℚ <ℚ x) (sym (checked-ok passes Sum so_far rate all (ok_of_part (checked passes Sum so_far rate) all (sym e)))) (nn_plus_ps so_far rate h k)
 
 -- ---- the next walk, out of the shortest one
-module _ (passes : Passing) (net : Network) (amount : ℚ) (s : Standing) (flows : List ℚ) (flows_are : flows ≡ s.flows) (found next : Option Walk) (is : next ≡ next_of passes net amount s found) where
+module _ (passes : Passing) (net : Network) (amount : ℚ) (s : QuickStanding) (flows : List ℚ) (flows_are : flows ≡ s.flows) (found next : Option Walk) (is : next ≡ next_of passes net amount s found) where
   pub next_listed : at_part Part.Quick (shortest_list passes net flows) ≡ Ok found → at_part Part.Quick (next_list passes net amount s) ≡ Ok next
   next_listed e = ap (at_part Part.Quick)
       (goes_on (shortest_list passes net s.flows) (λ o. Ok (next_of passes net amount s o)) found (ap (λ (l : List ℚ). at_part Part.Quick (shortest_list passes net l)) (sym flows_are) ∙ e)) ∙ ap Ok (sym is)
@@ -41,18 +41,18 @@ module _ (passes : Passing) (net : Network) (amount : ℚ) (s : Standing) (flows
   next_shortest h = subst (λ (l : List ℚ). IfSome next (IsShortestWalk net l)) flows_are (subst (λ (o : Option Walk). IfSome o (IsShortestWalk net flows)) (sym is) (of_found found h))
 
 -- ---- one push, where it stops
-module _ (passes : Passing) (net : Network) (amount : ℚ) (s t : Standing) (w v : Walk) (same : s ≡ t) (walk_is : w ≡ v) where
+module _ (passes : Passing) (net : Network) (amount : ℚ) (s t : QuickStanding) (w v : Walk) (same : s ≡ t) (walk_is : w ≡ v) where
   abbrev moved : Checked (List ℚ)
   moved = push_list passes v.steps w.room s.flows
 
   abbrev timed : Checked Times
   timed = time_list passes amount s.rate s.cost w.room w.length
 
-  abbrev made : List ℚ → Times → Standing
+  abbrev made : List ℚ → Times → QuickStanding
   made flows times = record { flows = flows; pushed = s.pushed ++ record { walk = v; amount = w.room } ∷ []; rate = times.rate; cost = times.cost; time = Some times.time }
 
   opened : push_on passes net amount t v ≡ (moved >>= λ flows. timed >>= λ times. Ok (made flows times))
-  opened = sym (ap (λ (u : Standing). push_on passes net amount u v) same)
+  opened = sym (ap (λ (u : QuickStanding). push_on passes net amount u v) same)
       ∙ ap (λ (u : Walk). push_list passes v.steps u.room s.flows >>= λ flows. time_list passes amount s.rate s.cost u.room u.length >>= λ times.
       Ok (record { flows = flows; pushed = s.pushed ++ record { walk = v; amount = u.room } ∷ []; rate = times.rate; cost = times.cost; time = Some times.time })) (sym walk_is)
 

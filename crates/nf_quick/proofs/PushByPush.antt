@@ -12,12 +12,12 @@ use Rattle.nf_work.specs.Checked.{Checked, Stops, at_part, ◌>>=◌}
 use Rattle.nf_model.specs.Network.{Network}
 use Rattle.nf_quick_lists.specs.Flows.{IsSound}
 use Rattle.nf_quick_lists.specs.Rounds.{Walk}
-use Rattle.nf_quick_lists.specs.Quick.{Standing, Pushed, Done, OverBudget, start_of, push_on, next_list, ended, push_and, push_up_to}
+use Rattle.nf_quick_lists.specs.Quick.{QuickStanding, Pushed, Done, OverBudget, start_of, push_on, next_list, ended, push_and, push_up_to}
 use Rattle.nf_quick.specs.Answered.{of_halt, IsPushed}
 use Rattle.nf_residual.proofs.Stopping.{stops, goes_on, stops_as}
 
 -- what is left to be pushed gives what all pushes give
-pub record PushesOn (passes : Passing) (net : Network) (amount : ℚ) (augments : ℕ) (s : Standing) (k : ℕ) : Type 0 where
+pub record PushesOn (passes : Passing) (net : Network) (amount : ℚ) (augments : ℕ) (s : QuickStanding) (k : ℕ) : Type 0 where
   pub same : push_up_to passes net amount (augments - k) s ≡ push_up_to passes net amount augments (start_of net)
   pub sound : IsSound net s.flows
   pub rate : 0ℚ ≤ℚ s.rate
@@ -26,14 +26,14 @@ module _ (passes : Passing) (net : Network) (amount : ℚ) (augments : ℕ) wher
   abbrev all : Checked Pushed
   all = push_up_to passes net amount augments (start_of net)
 
-  pub pushes_first : (s : Standing) → s ≡ start_of net → IsSound net s.flows → PushesOn passes net amount augments s 0
+  pub pushes_first : (s : QuickStanding) → s ≡ start_of net → IsSound net s.flows → PushesOn passes net amount augments s 0
   pushes_first s e sound = record {
-    same = let left : augments - 0 ≡ augments = omega arith in ap (λ (i : ℕ). push_up_to passes net amount i s) left ∙ ap (λ (t : Standing). push_up_to passes net amount augments t) e;
+    same = let left : augments - 0 ≡ augments = omega arith in ap (λ (i : ℕ). push_up_to passes net amount i s) left ∙ ap (λ (t : QuickStanding). push_up_to passes net amount augments t) e;
     sound = sound;
-    rate = subst (λ (t : Standing). 0ℚ ≤ℚ t.rate) (sym e) (≤ℚ_refl 0ℚ);
+    rate = subst (λ (t : QuickStanding). 0ℚ ≤ℚ t.rate) (sym e) (≤ℚ_refl 0ℚ);
   }
 
-  module _ (s : Standing) (k : ℕ) (on : PushesOn passes net amount augments s k) where
+  module _ (s : QuickStanding) (k : ℕ) (on : PushesOn passes net amount augments s k) where
     abbrev next : Checked (Option Walk)
     next = next_list passes net amount s
 
@@ -52,10 +52,10 @@ module _ (passes : Passing) (net : Network) (amount : ℚ) (augments : ℕ) wher
       none_next e = ap (at_part Part.Quick) (split ∙ goes_on next onward None e)
 
       module _ (walk : Walk) (came : at_part Part.Quick next ≡ Ok (Some walk)) where
-        abbrev pushed : Checked Standing
+        abbrev pushed : Checked QuickStanding
         pushed = push_on passes net amount s walk
 
-        abbrev later : Standing → Checked Pushed
+        abbrev later : QuickStanding → Checked Pushed
         later new = push_up_to passes net amount (augments - (k + 1)) new
 
         one : all ≡ (pushed >>= later)
@@ -64,7 +64,7 @@ module _ (passes : Passing) (net : Network) (amount : ℚ) (augments : ℕ) wher
         pub push_stops : (h : Halt ℚ) → Stops (λ (q : ℚ). q) h (at_part Part.Quick pushed) → Stops (λ (q : ℚ). q) h (at_part Part.Quick all)
         push_stops h e = stops_as all (pushed >>= later) h one (stops pushed later h e)
 
-        pub pushes_more : (new : Standing) → at_part Part.Quick pushed ≡ Ok new → IsSound net new.flows → 0ℚ ≤ℚ new.rate → PushesOn passes net amount augments new (k + 1)
+        pub pushes_more : (new : QuickStanding) → at_part Part.Quick pushed ≡ Ok new → IsSound net new.flows → 0ℚ ≤ℚ new.rate → PushesOn passes net amount augments new (k + 1)
         pushes_more new e sound rate = record { same = sym (one ∙ goes_on pushed later new e); sound = sound; rate = rate }
 
     -- ---- after as many as allowed

@@ -10,7 +10,7 @@ use Rattle.nf_work.specs.Checked.{at_part}
 use Rattle.nf_model.specs.Network.{Network}
 use Rattle.nf_quick_lists.specs.Steps.{IsUnboundedWalk, IsLimited}
 use Rattle.nf_quick_lists.specs.InOrder.{ComesOfPushes, EndsAtBudget}
-use Rattle.nf_quick_lists.specs.Quick.{Quick, Standing, Done, OverBudget, Found, Budget, push_up_to, start_of, quickest_list}
+use Rattle.nf_quick_lists.specs.Quick.{Quick, QuickStanding, Done, OverBudget, FoundQuick, Budget, push_up_to, start_of, quickest_list}
 use Rattle.nf_quick.specs.declared.fault.QuickFault.{QuickFault}
 
 abbrev pub of_halt : Halt ℚ → QuickFault
@@ -22,7 +22,7 @@ abbrev pub HasNoWay : Network → ℚ → Type 0
 HasNoWay net amount = (amount ≡ 0ℚ) ⊎ IsLimited net
 
 -- where the walks that were pushed end: with no walk left to be pushed, over the budget, or with an operation that passes
-abbrev pub IsPushed : Passing → Network → ℚ → ℕ → Result Standing QuickFault → Type 0
+abbrev pub IsPushed : Passing → Network → ℚ → ℕ → Result QuickStanding QuickFault → Type 0
 IsPushed passes net amount augments (Ok s) = at_part Part.Quick (push_up_to passes net amount augments (start_of net)) ≡ Ok (Done s)
 IsPushed passes net amount augments (Err (QuickFault.Budget walks)) = at_part Part.Quick (push_up_to passes net amount augments (start_of net)) ≡ Ok (OverBudget walks.items)
 IsPushed passes net amount augments (Err (QuickFault.Unbounded links)) = ⊥
@@ -32,7 +32,7 @@ IsPushed passes net amount augments (Err QuickFault.Memory) = Unit {0}
 -- Unbounded comes exactly where the amount is above 0 and a walk of unbounded links leads from source to sink, with such a walk; else
 -- what comes is what the list says, unless memory is wanting.
 abbrev pub IsAnswered : Passing → Network → ℚ → ℕ → Result Quick QuickFault → Type 0
-IsAnswered passes net amount augments (Ok quick) = HasNoWay net amount × (at_part Part.Quick (quickest_list passes net amount augments) ≡ Ok (Found quick))
+IsAnswered passes net amount augments (Ok quick) = HasNoWay net amount × (at_part Part.Quick (quickest_list passes net amount augments) ≡ Ok (FoundQuick quick))
 IsAnswered passes net amount augments (Err (QuickFault.Budget walks)) = HasNoWay net amount × (at_part Part.Quick (quickest_list passes net amount augments) ≡ Ok (Budget walks.items))
 IsAnswered passes net amount augments (Err (QuickFault.Unbounded links)) = (0ℚ <ℚ amount) × IsUnboundedWalk net links.items net.source net.sink
 IsAnswered passes net amount augments (Err (QuickFault.Passed at)) = HasNoWay net amount × (at_part Part.Quick (quickest_list passes net amount augments) ≡ Err at)

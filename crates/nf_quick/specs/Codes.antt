@@ -6,7 +6,7 @@ use Rattle.nf_model.specs.Quickest.{Fed}
 use Rattle.nf_quick_lists.specs.Rounds.{Walk}
 use Rattle.nf_quick_lists.specs.Pushes.{Times}
 use Rattle.nf_quick_lists.specs.Codes.{coded_walk}
-use Rattle.nf_quick_lists.specs.Quick.{Augment, Standing, Quick}
+use Rattle.nf_quick_lists.specs.Quick.{Augment, QuickStanding, Quick}
 
 abbrev pub coded_fed : Coded Fed
 coded_fed = code_by (ℚ × List ℕ) (coded× coded_ℚ (coded_list coded_ℕ)) (λ f. (f.rate, f.walk)) (λ p. record { rate = p.0; walk = p.1 }) (λ _. refl)
@@ -17,7 +17,7 @@ coded_augment = code_by (Walk × ℚ) (coded× coded_walk coded_ℚ) (λ a. (a.w
 abbrev pub coded_times : Coded Times
 coded_times = code_by (ℚ × (ℚ × ℚ)) (coded× coded_ℚ (coded× coded_ℚ coded_ℚ)) (λ t. (t.rate, (t.cost, t.time))) (λ p. record { rate = p.0; cost = p.1.0; time = p.1.1 }) (λ _. refl)
 
-abbrev pub coded_standing : Coded Standing
+abbrev pub coded_standing : Coded QuickStanding
 coded_standing = code_by (List ℚ × (List Augment × (ℚ × (ℚ × Option ℚ))))
     (coded× (coded_list coded_ℚ) (coded× (coded_list coded_augment) (coded× coded_ℚ (coded× coded_ℚ (coded_option coded_ℚ)))))
     (λ s. (s.flows, (s.pushed, (s.rate, (s.cost, s.time)))))

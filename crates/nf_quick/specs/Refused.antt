@@ -1,9 +1,9 @@
 -- What a push that is refused leaves.
 use Rattle.std.specs.Prelude.{◌≡◌}
-use Rattle.nf_quick_lists.specs.Quick.{Standing}
+use Rattle.nf_quick_lists.specs.Quick.{QuickStanding}
 
 -- nothing but the flow may be another
-pub record DiffersByFlow (old new : Standing) : Type 0 where
+pub record DiffersByFlow (old new : QuickStanding) : Type 0 where
   pub pushed : new.pushed ≡ old.pushed
   pub rate : new.rate ≡ old.rate
   pub cost : new.cost ≡ old.cost

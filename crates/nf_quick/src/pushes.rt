@@ -86,7 +86,7 @@ fn is_early(length: Q, time: Option<Q>) -> bool
 /// How far the pushes have come: the flow, the walks that were pushed, the sum of their rates, the sum of rate times length, and
 /// the time that they take for the amount, if there is a walk.
 #[derive(Drop)]
-pub struct Standing {
+pub struct QuickStanding {
     pub flow: Residual,
     pub pushed: Vec<Augment>,
     pub rate: Q,
@@ -94,8 +94,8 @@ pub struct Standing {
     pub time: Option<Q>,
 }
 
-impl Model for Standing {
-    ghost use Rattle.nf_quick_lists.specs.Quick.{Standing as SeenStanding};
+impl Model for QuickStanding {
+    ghost use Rattle.nf_quick_lists.specs.Quick.{QuickStanding as SeenStanding};
     ghost use Rattle.nf_quick.specs.Codes.{coded_standing};
 
     ghost Value = { SeenStanding };
@@ -105,14 +105,14 @@ impl Model for Standing {
     ghost view = { λ s. record { flows = s.flow; pushed = s.pushed.items; rate = s.rate; cost = s.cost; time = s.time } };
 }
 
-impl Standing {
+impl QuickStanding {
     /// Before the first walk. Refused only where memory is wanting.
-    pub fn start(alloc: Global, net: &Network) -> Result<Standing, AllocError>
+    pub fn start(alloc: Global, net: &Network) -> Result<QuickStanding, AllocError>
         ensures start { IfOk result (λ s. s ≡ start_of net.now.net) }
         ensures sound { IfOk result (λ s. IsSound net.now.net s.flows) }
     {
         let flow = Residual::new(alloc, net)?;
-        Ok(Standing {
+        Ok(QuickStanding {
             flow,
             pushed: Vec::new(alloc),
             rate: Q::zero(),

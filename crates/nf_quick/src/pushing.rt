@@ -6,7 +6,7 @@ ghost use Rattle.nf_quick_lists.specs.Flows.{IsSound};
 ghost use Rattle.nf_quick.specs.Answered.{IsPushed};
 
 use crate::fault::QuickFault;
-use crate::pushes::Standing;
+use crate::pushes::QuickStanding;
 use nf_frac::Q;
 use nf_net::Network;
 use std::alloc::Global;
@@ -17,12 +17,12 @@ pub(crate) fn push_up_to(
     net: &Network,
     amount: Q,
     augments: u64,
-) -> Result<Standing, QuickFault>
+) -> Result<QuickStanding, QuickFault>
     requires { IsLimited net.now.net }
     ensures pushed { IsPushed passes_Q net.now.net amount augments result }
     ensures sound { IfOk result (λ s. IsSound net.now.net s.flows) }
 {
-    let mut standing = Standing::start(alloc, net)?;
+    let mut standing = QuickStanding::start(alloc, net)?;
     for _ in 0..augments {
         let Some(walk) = standing.next(alloc, net)? else {
             return Ok(standing);

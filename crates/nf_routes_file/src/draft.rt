@@ -31,7 +31,7 @@ pub struct Draft {
 }
 
 // A start isn't above that of the piece before.
-fn is_late(pieces: &[Piece], start: Q) -> bool
+fn is_too_early(pieces: &[Piece], start: Q) -> bool
     ensures { result ≡ is_not_after start (last_or None pieces.now) }
 {
     if pieces.is_empty() {
@@ -48,7 +48,7 @@ fn piece_rule(before: &[Piece], piece: &Piece) -> Option<RoutesRule>
     if piece.start.is_below(Q::zero()) || piece.rate.is_below(Q::zero()) {
         return Some(RoutesRule::G13);
     }
-    if is_late(before, piece.start) {
+    if is_too_early(before, piece.start) {
         return Some(RoutesRule::G14);
     }
     if before.len() >= MOST_RATES {

@@ -81,13 +81,13 @@ module _ (routes : List Route) (front : List ℕ) (e : ℕ) (new : In e front �
 -- ---- the entries of a route in the step of a link
 module _ (passes : Passing) where
   -- an entry is what these pieces supply, in short form
-  abbrev pub IsGiven : List Piece → ℚ → List Point → Type 0
-  IsGiven pieces horizon entry = (amounts : List Point) × (checked_cumulative passes pieces horizon ≡ Ok amounts) × (checked_short passes amounts ≡ Ok entry)
+  abbrev pub IsEntryOf : List Piece → ℚ → List Point → Type 0
+  IsEntryOf pieces horizon entry = (amounts : List Point) × (checked_cumulative passes pieces horizon ≡ Ok amounts) × (checked_short passes amounts ≡ Ok entry)
 
   -- before the link is loaded: as many entries as the place of the link tells, and one more
   pub record Begun (horizon : ℚ) (route : Route) (n : ℕ) (xs begun : List (List Point)) : Type 0 where
     pub count : length begun ≡ suc n
-    pub first : n ≡ 0 → IsGiven route.pieces horizon (last_entry begun)
+    pub first : n ≡ 0 → IsEntryOf route.pieces horizon (last_entry begun)
     pub more : List (List Point)
     pub grown : begun ≡ xs ++ more
 

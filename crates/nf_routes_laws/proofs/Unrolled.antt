@@ -22,7 +22,7 @@ use Rattle.nf_routes_lists.specs.Meanings.{link_loaded, stages_at, arrival_at, e
 use Rattle.nf_curve_laws.proofs.Operations.{then_ok}
 use Rattle.nf_routes_laws.proofs.Ordering.{In, in-front, in-back, range-below, free-some, before-pair, before-of, placed}
 use Rattle.nf_routes_laws.proofs.Stages.{none_more, get-front, get-next, set-same, set-other, get-last, at-stage, exit_end-is, begun-count, begun-at, next-count, next-at, over-at, over-place}
-use Rattle.nf_routes_laws.proofs.Steps.{Stands, stage, stands-none, place-is, stands-over, stands-past, IsGiven, Over, over-is, past-is}
+use Rattle.nf_routes_laws.proofs.Steps.{Stands, stage, stands-none, place-is, stands-over, stands-past, IsEntryOf, Over, over-is, past-is}
 use Rattle.nf_rational_laws.proofs.Chains.{≤ℚ_refl, ≤ℚ_trans}
 use Rattle.nf_plain_laws.proofs.Entries.{entry, slice_get-image}
 use Rattle.nf_plain_laws.proofs.Results.{same_Ok, not_both}
@@ -116,7 +116,7 @@ module _ (passes : Passing) (net : Network) (routes : List Route) (horizon : ℚ
     pub here : slice_get s.entries r ≡ Some entries
     pub count : length entries ≡ stage n
 
-  pub record Standing (front : List ℕ) (s : SoFar) : Type 0 where
+  pub record RoutesStanding (front : List ℕ) (s : SoFar) : Type 0 where
     pub link_count : length s.links ≡ many
     pub entry_count : length s.entries ≡ length routes
     pub at : (r : ℕ) (route : Route) → slice_get routes r ≡ Some route → RouteStands front s r route
@@ -158,7 +158,7 @@ module _ (passes : Passing) (net : Network) (routes : List Route) (horizon : ℚ
     pub after_here : slice_get next.entries r ≡ Some after
     pub case : Over passes e horizon route was.entries begun d.loaded.exit was.n after ⊎ (((place : ℕ) → slice_get route.links place ≡ Some e → ⊥) × (after ≡ was.entries))
 
-  module _ (front : List ℕ) (s : SoFar) (e : ℕ) (link : Link) (next : SoFar) (d : LinkDone s e link next) (standing : Standing front s) (new : In e front → ⊥) (led : (f : ℕ) → IsBefore routes f e → In f front) where
+  module _ (front : List ℕ) (s : SoFar) (e : ℕ) (link : Link) (next : SoFar) (d : LinkDone s e link next) (standing : RoutesStanding front s) (new : In e front → ⊥) (led : (f : ℕ) → IsBefore routes f e → In f front) where
     route-done : (r : ℕ) (route : Route) → slice_get routes r ≡ Some route → RouteDone front s e link next d r route
     route-done r route here =
         let was : RouteStands front s r route = standing.at r route here in
@@ -212,7 +212,7 @@ module _ (passes : Passing) (net : Network) (routes : List Route) (horizon : ℚ
             })
             rd.case
 
-    step-standing : Standing (front ++ e ∷ []) next
+    step-standing : RoutesStanding (front ++ e ∷ []) next
     step-standing = record {
       link_count = ap length d.links_are ∙ length-set s.links e (Some (record { end = end_by horizon (all_pairs routes) s.links e; loaded = d.loaded })) ∙ standing.link_count;
       entry_count = next-count passes e d.loaded.exit routes d.begun next.entries d.sends (begun-count passes horizon e routes s.entries d.begun d.begins standing.entry_count);
@@ -267,7 +267,7 @@ module _ (passes : Passing) (net : Network) (routes : List Route) (horizon : ℚ
       pub last : last_entry entries ≡ entry_at routed r place
       pub once : (other : ℕ) → slice_get route.links other ≡ Some e → other ≡ place
       pub sends : next_entry passes (link_loaded routed e).exit (entry_at routed r place) ≡ Ok (entry_at routed r (suc place))
-      pub first : place ≡ 0 → IsGiven passes route.pieces horizon (entry_at routed r place)
+      pub first : place ≡ 0 → IsEntryOf passes route.pieces horizon (entry_at routed r place)
 
     pub record LinkStep (e : ℕ) : Type 0 where
       pub link : Link
@@ -280,7 +280,7 @@ module _ (passes : Passing) (net : Network) (routes : List Route) (horizon : ℚ
       pub ends : EndsBy routes horizon e (λ f. last_value (link_loaded routed f).exit) (number_at routed.ends e)
       pub over : (r place : ℕ) (route : Route) → slice_get routes r ≡ Some route → slice_get route.links place ≡ Some e → RouteOver e r place route begun
 
-    module _ (front : List ℕ) (s : SoFar) (e : ℕ) (link : Link) (next : SoFar) (d : LinkDone s e link next) (standing : Standing front s) (new : In e front → ⊥) (led : (f : ℕ) → IsBefore routes f e → In f front)
+    module _ (front : List ℕ) (s : SoFar) (e : ℕ) (link : Link) (next : SoFar) (d : LinkDone s e link next) (standing : RoutesStanding front s) (new : In e front → ⊥) (led : (f : ℕ) → IsBefore routes f e → In f front)
         (is_link : IsLink net e link) (grows : Grows (front ++ e ∷ []) next) where
       below : e < length s.links
       below = let b = slice_get_within net.links e link is_link in let c = standing.link_count in omega arith
@@ -325,7 +325,7 @@ module _ (passes : Passing) (net : Network) (routes : List Route) (horizon : ℚ
                 last = sym entry_n;
                 once = place-is routes front e new led r route h rd.was.n rd.was.stands;
                 sends = sent_same (link_loaded routed e).exit d.loaded.exit _ _ _ _ (ap (λ (l : Loaded). l.exit) loaded_same) entry_n entry_next o.sends;
-                first = λ z. subst (λ (l : List Point). IsGiven passes route.pieces horizon l) (sym entry_n) (o.begins.first z);
+                first = λ z. subst (λ (l : List Point). IsEntryOf passes route.pieces horizon l) (sym entry_n) (o.begins.first z);
               })
             where
               sent_same : (exit exit' entry entry' after after' : List Point) → exit ≡ exit' → entry ≡ entry' → after ≡ after' → next_entry passes exit' entry' ≡ Ok after' → next_entry passes exit entry ≡ Ok after
@@ -355,15 +355,15 @@ module _ (passes : Passing) (net : Network) (routes : List Route) (horizon : ℚ
     -- ---- all of them
     pub record Unrolled (front : List ℕ) (s : SoFar) (back : List ℕ) : Type 0 where
       pub grows : Grows front s
-      pub stands : Standing order final
+      pub stands : RoutesStanding order final
       pub steps : (e : ℕ) → In e back → LinkStep e
 
-    pub unroll : (back front : List ℕ) (s : SoFar) → order ≡ front ++ back → Standing front s → load_all passes net routes horizon back s ≡ Ok final → Unrolled front s back
+    pub unroll : (back front : List ℕ) (s : SoFar) → order ≡ front ++ back → RoutesStanding front s → load_all passes net routes horizon back s ≡ Ok final → Unrolled front s back
     unroll [] front s same standing h =
         let done : s ≡ final = same_Ok _ _ h in
         record {
           grows = record { links = λ f w. ap (λ (z : SoFar). slice_get z.links f) (sym done); entries = λ r xs k. (xs, [], ap (λ (z : SoFar). slice_get z.entries r) (sym done) ∙ k, sym (none_more xs)) };
-          stands = subst (λ (l : List ℕ). Standing l final) (sym (same ∙ none_more front)) (subst (λ (z : SoFar). Standing front z) done standing);
+          stands = subst (λ (l : List ℕ). RoutesStanding l final) (sym (same ∙ none_more front)) (subst (λ (z : SoFar). RoutesStanding front z) done standing);
           steps = λ e w. absurd w;
         }
     unroll (e ∷ back) front s same standing h =

@@ -22,7 +22,7 @@ use Rattle.nf_formats.specs.Report.{Report}
 use Rattle.nf_lists.specs.Signs.{is_positive}
 use Rattle.nf_lists.specs.CurveList.{QueueStep, LinkStep}
 use Rattle.nf_lists.specs.ReportCurves.{GrowingCurve, LinkCurves, goes_on, with_point, with_rate, first_label_curve, first_trace, first_queue, first_curves, label_curves_after, trace_after, queue_after, link_curves_after, amount_so_far}
-use Rattle.nf_lists.specs.Search.{Answer, Found, OverBudget, PassesAt, NoPattern}
+use Rattle.nf_lists.specs.Search.{SearchAnswer, Found, OverBudget, PassesAt, NoPattern}
 use Rattle.nf_lists.specs.PhaseRun.{Standing, Bounds, IsStart, standing_after, cause_of_search, Seeks, phase_lists, Goes, Fails, at_slack, at_search, at_lists, Runs, at_horizon, at_phases, fails, goes, report_of, IsRunReport}
 use Rattle.nf_lists_laws.proofs.Ending.{from_map}
 use Rattle.nf_thin_laws.proofs.ActiveLinks.{AreSets-sets_at}
@@ -178,7 +178,7 @@ module _ (n : Named) (named : IsNamed n) (bounds : Bounds) (within : AreReadable
     amounts : AreFractions (map amount_so_far s.link_curves)
     amounts = amount_fractions s.link_curves fit.link_curves
 
-    module _ (answer : Answer) (seeks : Seeks passes_Q net bounds.horizon bounds.patterns s answer) where
+    module _ (answer : SearchAnswer) (seeks : Seeks passes_Q net bounds.horizon bounds.patterns s answer) where
       slacks : AreFractions (slacks_of (hops net) s.labels)
       slacks = (slack_list_fits net has s.labels fit.labels).value (slacks_of (hops net) s.labels) seeks.slacks
 
@@ -213,7 +213,7 @@ module _ (n : Named) (named : IsNamed n) (bounds : Bounds) (within : AreReadable
         }
 
     -- ---- why none is made
-    search_cause : (phase : ℕ) (answer : Answer) (cause : Cause ℚ) → IsCount phase → Seeks passes_Q net bounds.horizon bounds.patterns s answer → cause_of_search phase bounds.patterns answer ≡ Some cause
+    search_cause : (phase : ℕ) (answer : SearchAnswer) (cause : Cause ℚ) → IsCount phase → Seeks passes_Q net bounds.horizon bounds.patterns s answer → cause_of_search phase bounds.patterns answer ≡ Some cause
         → IsReadableCause (Some cause)
     search_cause phase (Found place pattern flows slopes) cause h seeks e = absurd (cc)
     search_cause phase OverBudget cause h seeks e = subst IsReadableCause e (h, within.patterns)

@@ -39,12 +39,12 @@ module _ (passes : Passing) (net : Network) (sets : Sets) (rate : ℚ) (base : P
   result_is_only (Err fault) s = tt
 
   -- at whatever place it is found
-  pub flow_is_thin : (result : Result ThinFlow SearchFault) → Finds (IsSearch passes net sets rate base budget) budget result → IfOk result (λ found. IsThinFlow net sets rate found.flows.items found.labels.items)
-  flow_is_thin (Ok found) s = found_is_thin s.0 found.pattern found.flows.items found.labels.items s.1
+  pub flow_is_thin : (result : Result ThinFlow SearchFault) → Finds (IsSearch passes net sets rate base budget) budget result → IfOk result (λ found. IsThinFlow net sets rate found.flows.items found.slopes.items)
+  flow_is_thin (Ok found) s = found_is_thin s.0 found.pattern found.flows.items found.slopes.items s.1
   flow_is_thin (Err fault) s = tt
 
-  pub flow_is_only : (result : Result ThinFlow SearchFault) → Finds (IsSearch passes net sets rate base budget) budget result → IfOk result (λ found. SlopesAreOnly net sets rate found.labels.items)
-  flow_is_only (Ok found) s = found_is_only s.0 found.pattern found.flows.items found.labels.items s.1
+  pub flow_is_only : (result : Result ThinFlow SearchFault) → Finds (IsSearch passes net sets rate base budget) budget result → IfOk result (λ found. SlopesAreOnly net sets rate found.slopes.items)
+  flow_is_only (Ok found) s = found_is_only s.0 found.pattern found.flows.items found.slopes.items s.1
   flow_is_only (Err fault) s = tt
 
 -- the known pattern, where it is the next one

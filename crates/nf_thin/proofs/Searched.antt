@@ -10,7 +10,7 @@ use Rattle.nf_model.specs.ThinFlow.{Sets}
 use Rattle.nf_model.specs.Pattern.{Pattern, IsSolution}
 use Rattle.nf_lists.specs.Accepted.{pattern_lists, IsAccepted}
 use Rattle.nf_lists.specs.Listing.{HasPlace, IsListingIn}
-use Rattle.nf_lists.specs.Search.{Answer, Found, OverBudget, PassesAt, NoPattern, NoneAcceptedBefore, IsOverBudget, IsInVain, IsFirstPassing, Answers, IsSearch}
+use Rattle.nf_lists.specs.Search.{SearchAnswer, Found, OverBudget, PassesAt, NoPattern, NoneAcceptedBefore, IsOverBudget, IsInVain, IsFirstPassing, Answers, IsSearch}
 use Rattle.nf_pattern.specs.Given.{Question, Last, AtStart, UpTo, IsNext, NoneLeft}
 use Rattle.nf_thin.specs.declared.thin.Thin.{Thin}
 use Rattle.nf_thin.specs.declared.vain.Vain.{Vain}
@@ -132,7 +132,7 @@ module _ (passes : Passing) (net : Network) (sets : Sets) (rate : ℚ) (q : Ques
   listing_in : IsListingIn net sets q.base listing
   listing_in = subst (λ (x : Question). IsListingOf x listing) asked is
 
-  searched : (answer : Answer) → Answers passes net sets rate listing budget answer → IsSearch passes net sets rate q.base budget answer
+  searched : (answer : SearchAnswer) → Answers passes net sets rate listing budget answer → IsSearch passes net sets rate q.base budget answer
   searched answer a = record { listing = listing; is_listing = listing_in; answers = a }
 
   pub all_searched : (result : Result Thin SearchFault) → Searches (Answers passes net sets rate listing budget) budget result → Searches (IsSearch passes net sets rate q.base budget) budget result

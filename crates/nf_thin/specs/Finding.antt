@@ -7,7 +7,7 @@ use Rattle.nf_model.specs.ThinFlow.{Sets}
 use Rattle.nf_model.specs.Pattern.{Pattern, IsSolution}
 use Rattle.nf_lists.specs.Accepted.{IsAccepted}
 use Rattle.nf_lists.specs.Listing.{HasPlace}
-use Rattle.nf_lists.specs.Search.{Answer, Found}
+use Rattle.nf_lists.specs.Search.{SearchAnswer, Found}
 use Rattle.nf_listing_laws.specs.Forcing.{filled}
 use Rattle.nf_listing_laws.specs.Laws.{Narrows, NoneFilledBefore}
 use Rattle.nf_thin.specs.declared.thin.Thin.{Thin}
@@ -51,15 +51,15 @@ NarrowFinds passes net sets rate base forced budget result =
 
 -- a thin flow without its place
 abbrev pub flow_of : Thin → ThinFlow
-flow_of thin = record { flows = thin.flows; labels = thin.labels; pattern = thin.pattern }
+flow_of thin = record { flows = thin.flows; slopes = thin.labels; pattern = thin.pattern }
 
 -- the answer of the definition, unless memory is wanting
-abbrev pub Finds : (Answer → Type 0) → ℕ → Result ThinFlow SearchFault → Type 0
-Finds Answers budget (Ok found) = (place : ℕ) × Answers (Found place found.pattern found.flows.items found.labels.items)
+abbrev pub Finds : (SearchAnswer → Type 0) → ℕ → Result ThinFlow SearchFault → Type 0
+Finds Answers budget (Ok found) = (place : ℕ) × Answers (Found place found.pattern found.flows.items found.slopes.items)
 Finds Answers budget (Err fault) = Searches Answers budget (Err fault)
 
 -- the answer of the definition, if the search by slopes has one
-abbrev pub FindsBy : (Answer → Type 0) → ℕ → Result (Option ThinFlow) SearchFault → Type 0
+abbrev pub FindsBy : (SearchAnswer → Type 0) → ℕ → Result (Option ThinFlow) SearchFault → Type 0
 FindsBy Answers budget (Ok (Some found)) = Finds Answers budget (Ok found)
 FindsBy Answers budget (Ok None) = Unit {0}
 FindsBy Answers budget (Err fault) = Finds Answers budget (Err fault)

@@ -8,7 +8,7 @@ use Rattle.nf_model.specs.Network.{Network, hops, unbounded}
 use Rattle.nf_model.specs.ThinFlow.{Sets, IsThinFlow}
 use Rattle.nf_model.specs.Pattern.{Pattern, IsSolution}
 use Rattle.nf_lists.specs.Accepted.{pattern_lists, IsAccepted}
-use Rattle.nf_lists.specs.Search.{Answer, Found, OverBudget, PassesAt, NoPattern}
+use Rattle.nf_lists.specs.Search.{SearchAnswer, Found, OverBudget, PassesAt, NoPattern}
 use Rattle.nf_pattern.specs.Given.{Question, IsQuestion, Given, AtStart}
 use Rattle.nf_thin_laws.specs.ActiveLinks.{AreSets, HoldNoCycle}
 use Rattle.nf_thin.specs.declared.thin.Thin.{Thin}
@@ -17,7 +17,7 @@ use Rattle.nf_thin.specs.declared.fault.SearchFault.{SearchFault}
 use Rattle.nf_thin.specs.FirstPassing.{or_first}
 
 -- the answer of the definition that is given, unless memory is wanting
-abbrev pub Searches : (Answer → Type 0) → ℕ → Result Thin SearchFault → Type 0
+abbrev pub Searches : (SearchAnswer → Type 0) → ℕ → Result Thin SearchFault → Type 0
 Searches Answers budget (Ok thin) = Answers (Found thin.place thin.pattern thin.flows.items thin.labels.items)
 Searches Answers budget (Err (SearchFault.Budget tried)) = (tried ≡ budget) × Answers OverBudget
 Searches Answers budget (Err (SearchFault.Passed place at)) = Answers (PassesAt place at)

@@ -104,8 +104,8 @@ pub fn find_thin(
     requires sets { AreSetsOf net.now.net sets.now }
     requires base { IsPattern sets.now (unbounded_of net.now.net) base.now }
     ensures finds { Finds (IsSearch passes_Q net.now.net sets.now rate base.now budget) budget result }
-    ensures thin { IfOk result (λ found. IsThinFlow net.now.net sets.now rate found.flows.items found.labels.items) }
-    ensures only { IfOk result (λ found. SlopesAreOnly net.now.net sets.now rate found.labels.items) }
+    ensures thin { IfOk result (λ found. IsThinFlow net.now.net sets.now rate found.flows.items found.slopes.items) }
+    ensures only { IfOk result (λ found. SlopesAreOnly net.now.net sets.now rate found.slopes.items) }
 {
     // For the proof: the network is well formed.
     let _ = net.hops();

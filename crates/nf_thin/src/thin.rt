@@ -16,7 +16,7 @@ pub struct Thin {
 #[derive(Drop)]
 pub struct ThinFlow {
     pub flows: Vec<Q>,
-    pub labels: Vec<Q>,
+    pub slopes: Vec<Q>,
     pub pattern: Pattern,
 }
 
@@ -36,7 +36,7 @@ impl Thin {
         } = self;
         ThinFlow {
             flows,
-            labels,
+            slopes: labels,
             pattern,
         }
     }

@@ -6,7 +6,7 @@ use std::alloc::Global;
 
 /// What a call answers.
 #[derive(Drop)]
-pub enum Answer {
+pub enum CurveAnswer {
     Value(Q),
     Curve(Curve),
     Difference(Option<Difference>),
@@ -17,42 +17,42 @@ fn split(operands: &str) -> Result<(&str, &str), Fault> {
     operands.split_once('|').ok_or(Fault::NoCase)
 }
 
-fn points(alloc: Global, operands: &str) -> Result<Answer, Fault> {
-    Ok(Answer::Curve(curve(alloc, operands)?))
+fn points(alloc: Global, operands: &str) -> Result<CurveAnswer, Fault> {
+    Ok(CurveAnswer::Curve(curve(alloc, operands)?))
 }
 
-fn short(alloc: Global, operands: &str) -> Result<Answer, Fault> {
+fn short(alloc: Global, operands: &str) -> Result<CurveAnswer, Fault> {
     let short = Curve::short(alloc, &curve(alloc, operands)?, Part::Curve)?;
-    Ok(Answer::Curve(short))
+    Ok(CurveAnswer::Curve(short))
 }
 
 // What a call on a curve and a time answers.
-fn at_time(alloc: Global, call: &str, curve: &Curve, at: &str) -> Result<Answer, Fault> {
+fn at_time(alloc: Global, call: &str, curve: &Curve, at: &str) -> Result<CurveAnswer, Fault> {
     let at = time(at)?;
     match call {
-        "value" => Ok(Answer::Value(curve.value(at, Part::Curve)?)),
-        _ => Ok(Answer::Curve(curve.cut(alloc, at, Part::Curve)?)),
+        "value" => Ok(CurveAnswer::Value(curve.value(at, Part::Curve)?)),
+        _ => Ok(CurveAnswer::Curve(curve.cut(alloc, at, Part::Curve)?)),
     }
 }
 
 // The same of a curve that is written so.
-fn of_one(alloc: Global, call: &str, operands: &str) -> Result<Answer, Fault> {
+fn of_one(alloc: Global, call: &str, operands: &str) -> Result<CurveAnswer, Fault> {
     let (points, at) = split(operands)?;
     let curve = curve(alloc, points)?;
     at_time(alloc, call, &curve, at)
 }
 
-fn composed(alloc: Global, outer: &Curve, inner: &Curve, until: &str) -> Result<Answer, Fault> {
+fn composed(alloc: Global, outer: &Curve, inner: &Curve, until: &str) -> Result<CurveAnswer, Fault> {
     if !is_never_negative(inner) {
         return Err(Fault::NoCase);
     }
     let composed = Curve::compose(alloc, outer, inner, time(until)?, Part::Curve)?;
-    Ok(Answer::Curve(composed))
+    Ok(CurveAnswer::Curve(composed))
 }
 
-fn difference(left: &Curve, right: &Curve, until: &str) -> Result<Answer, Fault> {
+fn difference(left: &Curve, right: &Curve, until: &str) -> Result<CurveAnswer, Fault> {
     let found = Curve::first_difference(left, right, time(until)?, Part::Curve)?;
-    Ok(Answer::Difference(found))
+    Ok(CurveAnswer::Difference(found))
 }
 
 // What a call on two curves answers.
@@ -62,10 +62,10 @@ fn of_curves(
     left: &Curve,
     right: &Curve,
     until: &str,
-) -> Result<Answer, Fault> {
+) -> Result<CurveAnswer, Fault> {
     match call {
-        "sum" => Ok(Answer::Curve(Curve::sum(alloc, left, right, Part::Curve)?)),
-        "least" => Ok(Answer::Curve(Curve::least(alloc, left, right, Part::Curve)?)),
+        "sum" => Ok(CurveAnswer::Curve(Curve::sum(alloc, left, right, Part::Curve)?)),
+        "least" => Ok(CurveAnswer::Curve(Curve::least(alloc, left, right, Part::Curve)?)),
         "compose" => composed(alloc, left, right, until),
         _ => difference(left, right, until),
     }
@@ -78,27 +78,27 @@ fn of_two(
     left: &str,
     right: &str,
     until: &str,
-) -> Result<Answer, Fault> {
+) -> Result<CurveAnswer, Fault> {
     let left = curve(alloc, left)?;
     let right = curve(alloc, right)?;
     of_curves(alloc, call, &left, &right, until)
 }
 
 // A call on two curves.
-fn of_pair(alloc: Global, call: &str, operands: &str) -> Result<Answer, Fault> {
+fn of_pair(alloc: Global, call: &str, operands: &str) -> Result<CurveAnswer, Fault> {
     let (left, right) = split(operands)?;
     of_two(alloc, call, left, right, "")
 }
 
 // A call on two curves and a time.
-fn of_three(alloc: Global, call: &str, operands: &str) -> Result<Answer, Fault> {
+fn of_three(alloc: Global, call: &str, operands: &str) -> Result<CurveAnswer, Fault> {
     let (left, operands) = split(operands)?;
     let (right, until) = split(operands)?;
     of_two(alloc, call, left, right, until)
 }
 
 /// What the call of this case answers.
-pub fn answer_to(alloc: Global, line: &str) -> Result<Answer, Fault> {
+pub fn answer_to(alloc: Global, line: &str) -> Result<CurveAnswer, Fault> {
     let (call, operands) = line.split_once(' ').ok_or(Fault::NoCase)?;
     match call {
         "points" => points(alloc, operands),

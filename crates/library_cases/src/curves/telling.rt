@@ -1,5 +1,5 @@
 // Answers as lines of the output.
-use crate::curves::answers::Answer;
+use crate::curves::answers::CurveAnswer;
 use crate::curves::reading::Fault;
 use case_lines::{Shown, tell_passed};
 use nf_curve::{Curve, Difference};
@@ -27,11 +27,11 @@ fn tell_difference(rt: &HostRuntime, found: Option<Difference>) -> io::Result<()
 }
 
 /// Prints what a case comes to.
-pub fn tell(rt: &HostRuntime, answer: &Result<Answer, Fault>) -> io::Result<()> {
+pub fn tell(rt: &HostRuntime, answer: &Result<CurveAnswer, Fault>) -> io::Result<()> {
     match answer {
-        Ok(Answer::Value(value)) => println!(rt; "{}", Shown(*value)),
-        Ok(Answer::Curve(curve)) => tell_points(rt, curve),
-        Ok(Answer::Difference(found)) => tell_difference(rt, *found),
+        Ok(CurveAnswer::Value(value)) => println!(rt; "{}", Shown(*value)),
+        Ok(CurveAnswer::Curve(curve)) => tell_points(rt, curve),
+        Ok(CurveAnswer::Difference(found)) => tell_difference(rt, *found),
         Err(Fault::NoCase) => println!(rt; "no case"),
         Err(Fault::Passed(at)) => tell_passed(rt, at),
         Err(Fault::Memory) => Err(io::Error::from(AllocError)),

@@ -28,7 +28,7 @@ pub judge_into-requires-clause-flows : goal.judge_into-requires-clause-flows
 judge_into-requires-clause-flows c = c.requires.flows
 
 pub judge_into-requires-clause-slopes : goal.judge_into-requires-clause-slopes
-judge_into-requires-clause-slopes c = c.requires.labels
+judge_into-requires-clause-slopes c = c.requires.slopes
 
 pub judge_into-requires-clause-pattern : goal.judge_into-requires-clause-pattern
 judge_into-requires-clause-pattern c = c.requires.pattern

@@ -1,12 +1,12 @@
 use Rattle.std.proofs.Common.{ap, sym, ◌∙◌}
 use Rattle.nf_answers.specs.Answers.{err_text, status_of_stop, text_of_stop}
 use Rattle.nf_answers.specs.Outcomes.{answer_with}
-use Rattle.nf_answers.specs.declared.outcome.Found.{Found}
+use Rattle.nf_answers.specs.declared.outcome.Computed.{Computed}
 use Rattle.nf_outside.proofs.Statuses.{stop_status, stop_text, took_same, took_text}
 use Rattle.nf_outside.proofs.output.tell.Goals as goal
 
 pub returns-in-TooManyWalks-clause-told : goal.returns-in-TooManyWalks-clause-told
-returns-in-TooManyWalks-clause-told g c net = took_same _ _ _ (sym (ap (λ (f : Found). err_text (answer_with net f)) c.in-TooManyWalks.is))
+returns-in-TooManyWalks-clause-told g c net = took_same _ _ _ (sym (ap (λ (f : Computed). err_text (answer_with net f)) c.in-TooManyWalks.is))
     (took_text _ _ _ _ _ c.write_over_budget.result c.write_over_budget.ensures)
 
 pub returns-in_default-clause-status : goal.returns-in_default-clause-status

@@ -12,7 +12,7 @@ use Rattle.nf_forever_lists.specs.ForeverText.{forever_text}
 use Rattle.nf_forever.specs.Seen.{forever_in}
 use Rattle.nf_routes_lists.specs.RoutesText.{routed_text}
 use Rattle.nf_routes.specs.Routed.{routed_of}
-use Rattle.nf_answers.specs.declared.outcome.Found.{Found}
+use Rattle.nf_answers.specs.declared.outcome.Computed.{Computed}
 use Rattle.nf_answers.specs.QuickText.{arrival_text}
 use Rattle.nf_answers.specs.GenText.{gen_text}
 use Rattle.nf_answers.specs.Outcomes.{text_with, HasTextWith}
@@ -20,7 +20,7 @@ use Rattle.nf_answers.proofs.ErrorTexts.{same_text}
 use Rattle.nf_outside.proofs.output.write_found.Goals as goal
 
 pub write_forever-requires : goal.write_forever-requires
-write_forever-requires g c = subst (λ (f : Found). HasTextWith c.args.net.now f) c.in-SolvedForever.is c.requires
+write_forever-requires g c = subst (λ (f : Computed). HasTextWith c.args.net.now f) c.in-SolvedForever.is c.requires
 
 pub returns-in-Solved : goal.returns-in-Solved
 returns-in-Solved g c =
@@ -39,7 +39,7 @@ returns-in-Loaded g c =
 pub returns-in-Quickest : goal.returns-in-Quickest
 returns-in-Quickest g c =
     same_text (c.deref-in-Quickest.result.now ++ arrival_text c.in-Quickest.arrival) (text_with c.args.net.now c.args.found.now)
-    (ap (λ (l : List ℕ). l ++ arrival_text c.in-Quickest.arrival) (c.deref-in-Quickest.ensures.value ∙ subst (λ (f : Found). HasTextWith c.args.net.now f) c.in-Quickest.is c.requires)
+    (ap (λ (l : List ℕ). l ++ arrival_text c.in-Quickest.arrival) (c.deref-in-Quickest.ensures.value ∙ subst (λ (f : Computed). HasTextWith c.args.net.now f) c.in-Quickest.is c.requires)
     ∙ sym (ap (text_with c.args.net.now) c.in-Quickest.is)) c.write_quick.ensures
 
 pub returns-in-Generated : goal.returns-in-Generated
@@ -48,7 +48,7 @@ returns-in-Generated g c =
     let s = c.in-Generated.solution in
     same_text (gen_text ladder.number ladder.rungs c.args.net.now s.phases (report_in c.in-Generated.horizon s)) (text_with c.args.net.now c.args.found.now)
     (sym (ap (text_with c.args.net.now) c.in-Generated.is))
-    (c.write_summary.ensures.text c.in-Generated.horizon (subst (λ (f : Found). HasTextWith c.args.net.now f) c.in-Generated.is c.requires))
+    (c.write_summary.ensures.text c.in-Generated.horizon (subst (λ (f : Computed). HasTextWith c.args.net.now f) c.in-Generated.is c.requires))
 
 pub returns-in-Settled : goal.returns-in-Settled
 returns-in-Settled g c =

@@ -4,7 +4,7 @@ use Rattle.std.proofs.lemmas.Result.{err_from_is_err_and, IfOk-from_err}
 use Rattle.nf_work.specs.Passing.{passes_Q}
 use Rattle.nf_quick_lists.specs.Rounds.{Walk}
 use Rattle.nf_quick_lists.specs.Answers.{IsShortestWalk}
-use Rattle.nf_quick_lists.specs.Quick.{Standing, OverBudget}
+use Rattle.nf_quick_lists.specs.Quick.{QuickStanding, OverBudget}
 use Rattle.nf_quick.proofs.PushByPush.{pushes_first, next_stops, none_next, push_stops, pushes_more, last_stops, last_none, over_budget, halted}
 use Rattle.nf_quick.proofs.pushing.push_up_to.Goals as goal
 
@@ -44,7 +44,7 @@ pub returns-in-Some-2-clause-pushed : goal.returns-in-Some-2-clause-pushed
 returns-in-Some-2-clause-pushed c =
     let past : c.args.augments ≤ c.loop.counter = omega arith in
     over_budget passes_Q c.args.net.now.net c.args.amount c.args.augments c.loop.standing c.loop.counter c.loop.invariant past c.in-Some-2.field-0 (c.in_ok-next.ensures.list c.args.amount ∙ ap Ok c.in-Some-2.is)
-    ∙ ap (λ (s : Standing). Ok (OverBudget s.pushed)) (sym c.standing-2.view_is)
+    ∙ ap (λ (s : QuickStanding). Ok (OverBudget s.pushed)) (sym c.standing-2.view_is)
 
 pub next-requires-clause-limited : goal.next-requires-clause-limited
 next-requires-clause-limited c = c.requires

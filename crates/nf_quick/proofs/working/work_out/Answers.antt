@@ -8,7 +8,7 @@ use Rattle.nf_work.specs.Passing.{passes_Q}
 use Rattle.nf_rational_laws.proofs.Tests.{lt_of_test}
 use Rattle.nf_quick_lists.specs.Steps.{IsUnboundedWalk, IsLimited}
 use Rattle.nf_quick_lists.specs.Flows.{IsSound}
-use Rattle.nf_quick_lists.specs.Quick.{Standing}
+use Rattle.nf_quick_lists.specs.Quick.{QuickStanding}
 use Rattle.nf_quick.proofs.Answering.{nothing_answered, pushes_stop, finish_stops, finish_answered}
 use Rattle.nf_quick.proofs.working.work_out.Goals as goal
 
@@ -35,8 +35,8 @@ returns-in_err-quick c =
     let limited = MatchOption-at_none (IsLimited c.args.net.now.net) (λ (links : Vec ℕ Global). IsUnboundedWalk c.args.net.now.net links.items c.args.net.now.net.source c.args.net.now.net.sink) c.in_default.is c.in_ok-links.ensures in
     let p = err_from_is_err_and c.from_residual-in_err-quick.result c.from_residual-in_err-quick.ensures.1 in
     rw (p.1, p.2) (finish_stops passes_Q c.args.net.now.net c.args.amount c.args.augments some limited c.in_ok-standing.standing c.in_ok-standing.ensures.pushed c.standing.inside.flow c.unwrap_or-time.result
-    (ap (λ (s : Standing). s.flows) c.standing.view_is)
-    (c.unwrap_or-time.ensures ∙ ap (λ (s : Standing). unwrap_or s.time c.zero-2.result) c.standing.view_is ∙ ap (λ (z : ℚ). unwrap_or c.in_ok-standing.standing.time z) c.zero-2.ensures)
+    (ap (λ (s : QuickStanding). s.flows) c.standing.view_is)
+    (c.unwrap_or-time.ensures ∙ ap (λ (s : QuickStanding). unwrap_or s.time c.zero-2.result) c.standing.view_is ∙ ap (λ (z : ℚ). unwrap_or c.in_ok-standing.standing.time z) c.zero-2.ensures)
     c.in_err-quick.field-0.0 (c.in_err-quick.ensures c.args.amount))
 
 pub returns : goal.returns
@@ -44,12 +44,12 @@ returns c =
     let some : le_ℚ c.args.amount 0ℚ ≡ false = sym (c.is_at_most.ensures ∙ ap (λ (z : ℚ). le_ℚ c.args.amount z) c.zero.ensures) ∙ c.if-is_at_most.false in
     let limited = MatchOption-at_none (IsLimited c.args.net.now.net) (λ (links : Vec ℕ Global). IsUnboundedWalk c.args.net.now.net links.items c.args.net.now.net.source c.args.net.now.net.sink) c.in_default.is c.in_ok-links.ensures in
     finish_answered passes_Q c.args.net.now.net c.args.amount c.args.augments some limited c.in_ok-standing.standing c.in_ok-standing.ensures.pushed c.standing.inside.flow c.unwrap_or-time.result
-    (ap (λ (s : Standing). s.flows) c.standing.view_is)
-    (c.unwrap_or-time.ensures ∙ ap (λ (s : Standing). unwrap_or s.time c.zero-2.result) c.standing.view_is ∙ ap (λ (z : ℚ). unwrap_or c.in_ok-standing.standing.time z) c.zero-2.ensures)
+    (ap (λ (s : QuickStanding). s.flows) c.standing.view_is)
+    (c.unwrap_or-time.ensures ∙ ap (λ (s : QuickStanding). unwrap_or s.time c.zero-2.result) c.standing.view_is ∙ ap (λ (z : ℚ). unwrap_or c.in_ok-standing.standing.time z) c.zero-2.ensures)
     c.in_ok-quick.quick (c.in_ok-quick.ensures c.args.amount)
 
 pub push_up_to-requires : goal.push_up_to-requires
 push_up_to-requires c = MatchOption-at_none _ (λ links. IsUnboundedWalk c.args.net.now.net links.items c.args.net.now.net.source c.args.net.now.net.sink) c.in_default.is c.in_ok-links.ensures
 
 pub finish-requires : goal.finish-requires
-finish-requires c = subst (λ (s : Standing). IsSound c.args.net.now.net s.flows) (sym c.standing.view_is) c.in_ok-standing.ensures.sound
+finish-requires c = subst (λ (s : QuickStanding). IsSound c.args.net.now.net s.flows) (sym c.standing.view_is) c.in_ok-standing.ensures.sound

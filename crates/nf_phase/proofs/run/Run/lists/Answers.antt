@@ -75,7 +75,7 @@ returns-in_err-steps-clause-cause c =
 
 pub returns-clause-lists : goal.returns-clause-lists
 returns-clause-lists c =
-    subst (λ (a : Advanced). phase_lists passes_Q c.args.net.now.net c.args.horizon c.args.self.now c.args.found.now.thin.pattern c.args.found.now.thin.flows.items c.args.found.now.thin.labels.items
+    subst (λ (a : Advanced). phase_lists passes_Q c.args.net.now.net c.args.horizon c.args.self.now c.args.found.now.thin.pattern c.args.found.now.thin.flows.items c.args.found.now.thin.slopes.items
     ≡ Ok (record { length = a.length; labels = a.labels; links = c.in_ok-steps.steps.items })) c.end.view_is
     (lists_go passes_Q c.args.net.now.net c.requires.named.network c.args.horizon c.args.patterns c.args.self.now c.requires.reaches c.args.found.now c.requires.found
     c.deref.result.now c.deref-2.result.now c.self.inside.reached c.deref.ensures.value c.deref-2.ensures.value (ap (λ (s : Standing). s.time) c.self.view_is) c.in_ok-extension.extension c.in_ok-extension.ensures.list
@@ -86,7 +86,7 @@ returns-clause-lists c =
 
 pub returns-clause-length : goal.returns-clause-length
 returns-clause-length c =
-    subst (λ (a : Advanced). IsPhaseLength c.args.net.now.net (slacks_of (hops c.args.net.now.net) c.args.self.now.labels) c.args.found.now.thin.labels.items c.args.self.now.time c.args.horizon a.length) c.end.view_is
+    subst (λ (a : Advanced). IsPhaseLength c.args.net.now.net (slacks_of (hops c.args.net.now.net) c.args.self.now.labels) c.args.found.now.thin.slopes.items c.args.self.now.time c.args.horizon a.length) c.end.view_is
     (lasts passes_Q c.args.net.now.net c.requires.named.network c.args.horizon c.args.patterns c.args.self.now c.requires.reaches c.args.found.now c.requires.found
     c.deref.result.now c.deref-2.result.now c.self.inside.reached c.deref.ensures.value c.deref-2.ensures.value (ap (λ (s : Standing). s.time) c.self.view_is) c.in_ok-extension.extension c.in_ok-extension.ensures.list
     c.deref-3.result.now c.deref-4.result.now (c.deref-3.ensures.value ∙ ap (λ (s : Standing). s.labels) c.self.view_is) c.deref-4.ensures.value
