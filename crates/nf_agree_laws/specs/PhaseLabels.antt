@@ -12,8 +12,12 @@ use Rattle.nf_phase_laws.specs.Invariant.{LabelsAre}
 -- An equilibrium whose labels are those at which a phase begins goes by that phase, as far as both go: each label moves at its slope. So at
 -- each time of a phase sequence that it describes it has the labels of the sequence.
 pub record LabelsFollowPhases : Type 0 where
-  pub phase : (net : Network) (horizon : ℚ) (old new : ℚ × List ℚ) (phase : IsPhase net horizon old new) (flow : Flow) (departure : ℚ) → IsNetwork net → Equilibrium net flow
-      → 0ℚ ≤ℚ old.0 → length old.1 ≡ net.nodes → LabelsAre net (label flow) old.0 old.1 → Within old.0 new.0 departure → departure ≤ℚ flow.reached
+  pub phase : (net : Network) (horizon : ℚ) (old new : ℚ × List ℚ) (phase : IsPhase net horizon old new) (flow : Flow) (departure : ℚ)
+      → IsNetwork net → Equilibrium net flow
+      → 0ℚ ≤ℚ old.0 → length old.1 ≡ net.nodes → LabelsAre net (label flow) old.0 old.1 → Within old.0 new.0 departure
+      → departure ≤ℚ flow.reached
       → LabelsAre net (label flow) departure (moved old.1 phase.slopes (departure -ℚ old.0))
-  pub sequence : (net : Network) (horizon : ℚ) (phases : List (ℚ × List ℚ)) (flow : Flow) (i : ℕ) (time : ℚ) (labels : List ℚ) → IsNetwork net → Equilibrium net flow
-      → IsPhaseSequence net horizon phases → slice_get phases i ≡ Some (time, labels) → time ≤ℚ flow.reached → LabelsAre net (label flow) time labels
+  pub sequence : (net : Network) (horizon : ℚ) (phases : List (ℚ × List ℚ)) (flow : Flow) (i : ℕ) (time : ℚ) (labels : List ℚ)
+      → IsNetwork net → Equilibrium net flow
+      → IsPhaseSequence net horizon phases → slice_get phases i ≡ Some (time, labels) → time ≤ℚ flow.reached
+      → LabelsAre net (label flow) time labels

@@ -22,11 +22,16 @@ StartFrom pieces until = (i : ℕ) (piece : Piece) → IsPiece pieces i piece �
 -- What is supplied after a departure moves no label of it or before, and no queue up to its arrival at the link's tail. So it is where the
 -- networks differ only in pieces that start at the departure or later.
 pub record LaterSupplyIsUnfelt : Type 0 where
-  pub labels : (net : Network) (pieces : List Piece) (until : ℚ) (one other : Flow) → IsNetwork net → ArePieces pieces → SupplyAlike net.pieces pieces until
+  pub labels : (net : Network) (pieces : List Piece) (until : ℚ) (one other : Flow) → IsNetwork net → ArePieces pieces
+      → SupplyAlike net.pieces pieces until
       → Equilibrium net one → Equilibrium (supplied_by net pieces) other → (v : ℕ) (departure : ℚ) → v < net.nodes
-      → Within 0ℚ until departure → Within 0ℚ one.reached departure → Within 0ℚ other.reached departure → label one v departure ≡ label other v departure
-  pub queues : (net : Network) (pieces : List Piece) (until : ℚ) (one other : Flow) → IsNetwork net → ArePieces pieces → SupplyAlike net.pieces pieces until
+      → Within 0ℚ until departure → Within 0ℚ one.reached departure → Within 0ℚ other.reached departure
+      → label one v departure ≡ label other v departure
+  pub queues : (net : Network) (pieces : List Piece) (until : ℚ) (one other : Flow) → IsNetwork net → ArePieces pieces
+      → SupplyAlike net.pieces pieces until
       → Equilibrium net one → Equilibrium (supplied_by net pieces) other → (e : ℕ) (link : Link) (departure time : ℚ) → IsLink net e link
-      → Within 0ℚ until departure → Within 0ℚ one.reached departure → Within 0ℚ other.reached departure → Within 0ℚ (label one link.tail departure) time
+      → Within 0ℚ until departure → Within 0ℚ one.reached departure → Within 0ℚ other.reached departure
+      → Within 0ℚ (label one link.tail departure) time
       → queue one e time ≡ queue other e time
-  pub pieces : (front back others : List Piece) (until : ℚ) → StartFrom back until → StartFrom others until → SupplyAlike (front ++ back) (front ++ others) until
+  pub pieces : (front back others : List Piece) (until : ℚ) → StartFrom back until → StartFrom others until
+      → SupplyAlike (front ++ back) (front ++ others) until

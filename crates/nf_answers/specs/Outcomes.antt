@@ -43,9 +43,11 @@ HasTextWith net (Computed.Checked verdict) = Unit {0}
 HasTextWith net (Computed.Quickest quick arrival text) = text.items ≡ flow_text net quick
 HasTextWith net (Computed.TooManyWalks augments walks text) = text.items ≡ augments_text net walks.items
 HasTextWith net (Computed.Generated ladder horizon s arrival) = arrival ≡ last_arrival net (report_in horizon s)
-HasTextWith net (Computed.Settled settled) = (length settled.flows.items ≡ length net.net.links) × (length settled.pattern ≡ length net.net.links)
+HasTextWith net (Computed.Settled settled) = (length settled.flows.items ≡ length net.net.links)
+    × (length settled.pattern ≡ length net.net.links)
 HasTextWith net (Computed.Distributed routes horizon routed) =
-    (length routed.links.items ≡ length net.net.links) × (length routed.arrivals.items ≡ length routes) × (length routed.travels.items ≡ length routes)
+    (length routed.links.items ≡ length net.net.links) × (length routed.arrivals.items ≡ length routes)
+    × (length routed.travels.items ≡ length routes)
 
 abbrev pub text_with : Named → Computed → List ℕ
 text_with net (Computed.Solved horizon s) = report_text net (report_in horizon s)

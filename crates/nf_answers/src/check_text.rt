@@ -70,7 +70,8 @@ fn write_broken_rule<O: Sink>(
     sides: (Q, Q, Q),
 ) -> Result<(), SinkFault>
     ensures { Wrote (O.took out.old) (O.took out.new) (O.faults out.old) (O.faults out.new)
-        (line_of_words (codes "no" ∷ check_rule_word rule ∷ subject_word net.now subject ∷ printed sides.0 ∷ printed sides.1 ∷ printed sides.2 ∷ [])) result }
+        (line_of_words (codes "no" ∷ check_rule_word rule ∷ subject_word net.now subject ∷ printed sides.0 ∷ printed sides.1
+        ∷ printed sides.2 ∷ [])) result }
 {
     let time = number_text(sides.0);
     let left = number_text(sides.1);

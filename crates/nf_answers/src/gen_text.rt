@@ -47,7 +47,8 @@ fn write_number<O: Sink>(out: &mut O, name: &[u8], number: Q) -> Result<(), Sink
 
 // The number of a ladder, and how many rungs it has.
 fn write_ladder<O: Sink>(out: &mut O, ladder: Ladder) -> Result<(), SinkFault>
-    ensures { WroteLines (O.took out.old) (O.took out.new) (O.faults out.old) (O.faults out.new) (ladder_lines ladder.number ladder.rungs) result }
+    ensures { WroteLines (O.took out.old) (O.took out.new) (O.faults out.old) (O.faults out.new)
+        (ladder_lines ladder.number ladder.rungs) result }
 {
     let mut first = TextBuf::new();
     let mut second = TextBuf::new();
@@ -85,7 +86,8 @@ fn write_cause<O: Sink>(out: &mut O, stop: Option<&Stop>) -> Result<(), SinkFaul
 
 // Why the run ended, and when who departs last arrives.
 fn write_end<O: Sink>(out: &mut O, stop: Option<&Stop>, arrival: Q) -> Result<(), SinkFault>
-    ensures { WroteLines (O.took out.old) (O.took out.new) (O.faults out.old) (O.faults out.new) (end_lines (option_copied stop.entry) arrival) result }
+    ensures { WroteLines (O.took out.old) (O.took out.new) (O.faults out.old) (O.faults out.new)
+        (end_lines (option_copied stop.entry) arrival) result }
 {
     write_cause(out, stop)?;
     write_number(out, b"arrival", arrival)

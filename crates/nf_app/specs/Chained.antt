@@ -39,5 +39,6 @@ pub record ChecksSolved (call : Call) : Type 0 where
 
 -- Where neither the shelf nor the output failed in the call, the answer is `yes`, unless an operation passed or memory was wanting.
 abbrev pub SaysYes : Call → Taken → Status → Type 0
-SaysYes call out status = ChecksSolved call → ¬ Rose call.shelf.faults_before call.shelf.faults_now → ¬ Rose out.faults_before out.faults_now
+SaysYes call out status = ChecksSolved call → ¬ Rose call.shelf.faults_before call.shelf.faults_now
+    → ¬ Rose out.faults_before out.faults_now
     → ((status ≡ Status.Ok) × TookAll out (line_of_words (codes "yes" ∷ []))) ⊎ (status ≡ Status.Passed) ⊎ (status ≡ Status.Memory)

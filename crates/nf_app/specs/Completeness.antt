@@ -186,7 +186,8 @@ pub record CanBeResumed (call : Call) : Type 0 where
   pub not_earlier : report.report.flow.reached ≤ℚ horizon
   pub equilibrium : Equilibrium network.net.net report.report.flow
   pub fits : (at : PassedAt ℚ) → ¬ PassesResuming call.shelf network.net report_name horizon at
-  pub goes : (new : Report) (phase : ℕ) (place : Option ℕ) (at : PassedAt ℚ) → IsGoneOn call.shelf network.net report_name (bounds_of horizon (budgets_of phases patterns)) new
+  pub goes : (new : Report) (phase : ℕ) (place : Option ℕ) (at : PassedAt ℚ)
+      → IsGoneOn call.shelf network.net report_name (bounds_of horizon (budgets_of phases patterns)) new
       → new.stop ≡ Some (Cause.Passed phase place at) → ⊥
 
 -- ---- how a run then ends
@@ -214,7 +215,8 @@ EndsResumed status = (status ≡ Status.Ok) ⊎ (status ≡ Status.Phases) ⊎ (
 -- horizon, or memory was wanting.
 abbrev pub IsComplete : Call → Taken → Status → Type 0
 IsComplete call out status = ¬ Rose call.shelf.faults_before call.shelf.faults_now → ¬ Rose out.faults_before out.faults_now
-    → (HasAnswer call → EndsWell status) × (CanBeJudged call → EndsJudged status) × (CanBeQuick call → EndsQuick status) × (CanBeSettled call → EndsSettled status)
+    → (HasAnswer call → EndsWell status) × (CanBeJudged call → EndsJudged status) × (CanBeQuick call → EndsQuick status)
+    × (CanBeSettled call → EndsSettled status)
     × (CanBeResumed call → EndsResumed status)
 
 -- ---- runs, whether or not they reach the horizon
@@ -257,12 +259,14 @@ pub record AsksToResume (call : Call) : Type 0 where
 
 -- how a run may end: at the horizon, by a budget, where an operation passes, or for want of memory
 abbrev pub EndsRun : Status → Type 0
-EndsRun status = (status ≡ Status.Ok) ⊎ (status ≡ Status.Phases) ⊎ (status ≡ Status.Patterns) ⊎ (status ≡ Status.Passed) ⊎ (status ≡ Status.Memory)
+EndsRun status = (status ≡ Status.Ok) ⊎ (status ≡ Status.Phases) ⊎ (status ≡ Status.Patterns) ⊎ (status ≡ Status.Passed)
+    ⊎ (status ≡ Status.Memory)
 
 -- how a run without a horizon may end: in a phase that never ends, by a budget, of which that of phases has a status of its own, where an
 -- operation passes, or for want of memory
 abbrev pub EndsForever : Status → Type 0
-EndsForever status = (status ≡ Status.Ok) ⊎ (status ≡ Status.Events) ⊎ (status ≡ Status.Patterns) ⊎ (status ≡ Status.Passed) ⊎ (status ≡ Status.Memory)
+EndsForever status = (status ≡ Status.Ok) ⊎ (status ≡ Status.Events) ⊎ (status ≡ Status.Patterns) ⊎ (status ≡ Status.Passed)
+    ⊎ (status ≡ Status.Memory)
 
 -- how `resume` may end, whether or not it reaches the horizon: as a run, or since the flow of the report is no equilibrium, or reaches beyond
 -- the horizon
@@ -272,4 +276,5 @@ EndsRest status = EndsRun status ⊎ (status ≡ Status.NotEquilibrium) ⊎ (sta
 -- Where neither the shelf nor the output failed in the call, a run ends so.
 abbrev pub EndsByBounds : Call → Taken → Status → Type 0
 EndsByBounds call out status = ¬ Rose call.shelf.faults_before call.shelf.faults_now → ¬ Rose out.faults_before out.faults_now
-    → (AsksToSolve call ⊎ AsksToGenerate call → EndsRun status) × (AsksForever call → EndsForever status) × (AsksToResume call → EndsRest status)
+    → (AsksToSolve call ⊎ AsksToGenerate call → EndsRun status) × (AsksForever call → EndsForever status)
+    × (AsksToResume call → EndsRest status)

@@ -64,9 +64,11 @@ pub record PassesLoading (shelf : Visit) (n : Named) (file : List ℕ) (horizon 
 -- one reading, and that is the report. A run that stops since no pattern was left stops where there is no thin flow.
 abbrev pub IsGiven : Visit → Named → Request → ProgramAnswer → Type 0
 IsGiven shelf n (Solve file horizon phases patterns) answer =
-    (report : Report) × (answer ≡ Solved n report) × ((made : ℕ) × IsSolution n.net (bounds_of horizon (budgets_of phases patterns)) made report) × ReadsBack n report
+    (report : Report) × (answer ≡ Solved n report)
+    × ((made : ℕ) × IsSolution n.net (bounds_of horizon (budgets_of phases patterns)) made report) × ReadsBack n report
     × StopsForNoThinFlow n.net report.stop report.flow
-IsGiven shelf n (SolveForever file phases patterns) answer = (forever : Forever) × (answer ≡ SolvedForever n forever) × IsUnending n.net phases patterns forever
+IsGiven shelf n (SolveForever file phases patterns) answer = (forever : Forever) × (answer ≡ SolvedForever n forever)
+    × IsUnending n.net phases patterns forever
 IsGiven shelf n (Show file) answer = (answer ≡ Shown n) × Reads (canonical n) (Ok n)
 IsGiven shelf n (Load file loads horizon) answer =
     ((loaded : List Loading) × (answer ≡ Loaded n horizon loaded) × IsLoading shelf n loads horizon loaded)
@@ -82,7 +84,8 @@ IsGiven shelf n (Quick file amount augments) answer =
     ⊎ ((at : PassedAt ℚ) × (answer ≡ Passes at) × PassesQuick n.net amount augments at)
     ⊎ ((answer ≡ Unbounded) × IsUnbounded n.net amount)
 IsGiven shelf n (Gen number rungs horizon phases patterns) answer =
-    (report : Report) × (made : ℕ) × (answer ≡ Generated number rungs n made report) × IsSolution n.net (bounds_of horizon (budgets_of phases patterns)) made report
+    (report : Report) × (made : ℕ) × (answer ≡ Generated number rungs n made report)
+    × IsSolution n.net (bounds_of horizon (budgets_of phases patterns)) made report
     × StopsForNoThinFlow n.net report.stop report.flow
 IsGiven shelf n (Settle file flows) answer =
     ((pattern : Pattern) × (settled : List ℚ) × (answer ≡ Settled n pattern settled) × IsSettled shelf n flows pattern settled)
@@ -96,6 +99,7 @@ IsGiven shelf n (Resume file report horizon phases patterns) answer =
     ⊎ ((answer ≡ Earlier) × IsBefore shelf n report horizon)
     ⊎ ((broken : ReportBroken) × (answer ≡ MalformedReport broken) × HoldsNoReport shelf n report broken)
 IsGiven shelf n (Routes file routes horizon) answer =
-    ((sent : List NamedRoute) × (routed : Routed) × (answer ≡ Distributed n sent horizon routed) × IsDistributed shelf n routes sent horizon routed)
+    ((sent : List NamedRoute) × (routed : Routed) × (answer ≡ Distributed n sent horizon routed)
+    × IsDistributed shelf n routes sent horizon routed)
     ⊎ ((at : PassedAt ℚ) × (answer ≡ Passes at) × PassesRoutes shelf n routes horizon at)
     ⊎ ((broken : RoutesBroken) × (answer ≡ MalformedRoutes broken) × RoutesRead shelf n routes (Err broken))

@@ -18,5 +18,6 @@ pub record ShowsToldAnswer (call : Call) (out err : Taken) (status : Status) : T
 
 -- Where each file that the words ask for is told, and neither the shelf nor the output failed in the call: that, or memory was wanting.
 abbrev pub ShowsOnlyThat : Call → Taken → Taken → Status → Type 0
-ShowsOnlyThat call out err status = TellsAll call.words call.shelf.told → ¬ Rose call.shelf.faults_before call.shelf.faults_now → ¬ Rose out.faults_before out.faults_now
+ShowsOnlyThat call out err status = TellsAll call.words call.shelf.told → ¬ Rose call.shelf.faults_before call.shelf.faults_now
+    → ¬ Rose out.faults_before out.faults_now
     → ShowsToldAnswer call out err status ⊎ IsShownWhole NoMemory out err status

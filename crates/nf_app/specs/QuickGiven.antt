@@ -47,7 +47,8 @@ pub record ArrivesIn (net : Network) (departs : ℚ) (arrival : Arrival) : Type 
   pub solution : IsSolution net (bounds_of departs usual_budgets) phases report
   pub arrival_is : arrival ≡ arrival_of report.stop (label report.flow net.sink departs)
   pub earliest : (time : ℚ) → arrival ≡ Arrival.At time → IsEarliest net (inflow report.flow) net.sink departs time
-  pub no_quicker : (time amount least : ℚ) → arrival ≡ Arrival.At time → amount ≤ℚ supply net departs → times.IsQuickest net amount least → least ≤ℚ time
+  pub no_quicker : (time amount least : ℚ) → arrival ≡ Arrival.At time → amount ≤ℚ supply net departs → times.IsQuickest net amount least
+      → least ≤ℚ time
 
 -- of who departs at this time, if ever
 abbrev pub IsArrival : Network → Option ℚ → Arrival → Type 0

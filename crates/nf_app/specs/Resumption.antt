@@ -39,12 +39,14 @@ pub record IsResumption (call : Call) : Type 0 where
 pub record IsOneRun (call : Call) (n : Named) (report_name : List ℕ) (horizon : ℚ) (phases patterns : ℕ) (new : Report) : Type 0 where
   pub old : Report
   pub held : HoldsReport call.shelf n report_name old
-  pub is_later : (first_bounds : Bounds) (first : IsRunReport passes_Q n.net first_bounds old) (later_budgets : Budgets) (later : ReachesHorizon n horizon later_budgets)
+  pub is_later : (first_bounds : Bounds) (first : IsRunReport passes_Q n.net first_bounds old) (later_budgets : Budgets)
+      (later : ReachesHorizon n horizon later_budgets)
       → RestFits passes_Q n.net (bounds_of horizon (budgets_of phases patterns)) first.last → new.stop ≡ None → new ≡ later.report
 
 -- of an answer; others than those of `resume` aren't gone on from a report
 abbrev pub IsResumedAsOne : Call → ProgramAnswer → Type 0
-IsResumedAsOne call (Solved n new) = (file report_name : List ℕ) (horizon : ℚ) (phases patterns : ℕ) → Asks call (Resume file report_name horizon phases patterns)
+IsResumedAsOne call (Solved n new) = (file report_name : List ℕ) (horizon : ℚ) (phases patterns : ℕ)
+    → Asks call (Resume file report_name horizon phases patterns)
     → IsOneRun call n report_name horizon phases patterns new
 IsResumedAsOne call answer = Unit {0}
 

@@ -23,7 +23,8 @@ by_route_list n routes horizon = at_part LoadPart (routes_list passes_Q n.net (r
 
 -- What the list computes of the routes of the file. It is the loading by route at every time; and all that was sent arrives, shared at
 -- each link by first in, first out.
-pub record IsDistributed (shelf : Visit) (n : Named) (file : List ℕ) (routes : List NamedRoute) (horizon : ℚ) (routed : Routed) : Type 0 where
+pub record IsDistributed (shelf : Visit) (n : Named) (file : List ℕ) (routes : List NamedRoute) (horizon : ℚ)
+    (routed : Routed) : Type 0 where
   pub read : RoutesRead shelf n file (Ok routes)
   pub computed : by_route_list n routes horizon ≡ Ok routed
   pub is_routed : IsRouted n.net (routes_of routes) horizon routed

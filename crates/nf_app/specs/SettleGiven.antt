@@ -59,8 +59,10 @@ module _ (net : Network) (labels : List ℚ) (given : GivenFlows) where
   -- this operation passes: the first of the slack list; or else of the test; or else, of a thin flow, of the settling
   pub data PassesFirst : PassedAt ℚ → Type 0 where
     at_slack : (p : Passed ℚ) → slack_list passes_Q (hops net) labels ≡ Err p → PassesFirst (placed Slack p)
-    at_test : (p : Passed ℚ) → SlacksFit → thin_list passes_Q net (sets_at net labels) (rate_at net 0ℚ) given.flows given.slopes ≡ Err p → PassesFirst (placed Verdict p)
-    at_settling : (p : Passed ℚ) → SlacksFit → TestFits → AreThin → Settles passes_Q net (sets_at net labels) given.slopes given.flows (Err p) → PassesFirst (placed Verdict p)
+    at_test : (p : Passed ℚ) → SlacksFit → thin_list passes_Q net (sets_at net labels) (rate_at net 0ℚ) given.flows given.slopes ≡ Err p
+        → PassesFirst (placed Verdict p)
+    at_settling : (p : Passed ℚ) → SlacksFit → TestFits → AreThin
+        → Settles passes_Q net (sets_at net labels) given.slopes given.flows (Err p) → PassesFirst (placed Verdict p)
 
 -- ---- what holds of the flows and slopes of a file at the labels of departure 0, the least transit sums from the source
 pub record AtStart (shelf : Visit) (n : Named) (file : List ℕ) (Holds : List ℚ → GivenFlows → Type 0) : Type 0 where

@@ -78,7 +78,8 @@ routes_answer n horizon (Err broken) = MalformedRoutes broken
 abbrev pub Arrives : Network → Option ℚ → Arrival → Type 0
 Arrives net None arrival = arrival ≡ Arrival.Never
 Arrives net (Some departs) arrival =
-    (report : Report) × IsRunReport passes_Q net (bounds_of departs usual_budgets) report × (arrival ≡ arrival_of report.stop (label report.flow net.sink departs))
+    (report : Report) × IsRunReport passes_Q net (bounds_of departs usual_budgets) report
+    × (arrival ≡ arrival_of report.stop (label report.flow net.sink departs))
 
 abbrev pub DepartsGive : Named → QuickFlow → Result (Option ℚ) (PassedAt ℚ) → ProgramAnswer → Type 0
 DepartsGive n flow (Ok departs) answer = (arrival : Arrival) × Arrives n.net departs arrival × (answer ≡ Quickest n flow arrival)
@@ -91,7 +92,8 @@ FlowGives n amount augments (Err at) answer = answer ≡ Passes at
 
 abbrev pub QuickGives : Named → ℚ → ℕ → ProgramAnswer → Type 0
 QuickGives n amount augments answer =
-    (IsUnbounded n.net amount × (answer ≡ Unbounded)) ⊎ (HasNoWay n.net amount × FlowGives n amount augments (flow_list n.net amount augments) answer)
+    (IsUnbounded n.net amount × (answer ≡ Unbounded))
+    ⊎ (HasNoWay n.net amount × FlowGives n amount augments (flow_list n.net amount augments) answer)
 
 -- `settle`: at the labels of departure 0
 abbrev pub StartGives : Named → List ℚ → GivenFlows → ProgramAnswer → Type 0
@@ -106,7 +108,8 @@ SettleGives n (Err broken) answer = answer ≡ MalformedFlows broken
 
 -- `resume`: the horizon comes first, then the list of resuming, then the run that goes on
 abbrev pub RestGives : Named → Bounds → Report → Result resuming.Outcome (PassedAt ℚ) → ProgramAnswer → Type 0
-RestGives n bounds old (Ok (Stands first)) answer = (made : ℕ) × (report : Report) × IsResumedReport passes_Q n.net bounds old made report × (answer ≡ Solved n report)
+RestGives n bounds old (Ok (Stands first)) answer = (made : ℕ) × (report : Report) × IsResumedReport passes_Q n.net bounds old made report
+    × (answer ≡ Solved n report)
 RestGives n bounds old (Ok (Refused verdict)) answer = answer ≡ Checked n verdict
 RestGives n bounds old (Err at) answer = answer ≡ Passes at
 
@@ -119,15 +122,18 @@ ResumeGives n bounds (Err broken) answer = answer ≡ MalformedReport broken
 abbrev pub Gives : Named → List ℕ → Request → ProgramAnswer → Type 0
 Gives n text (Solve file horizon phases patterns) answer =
     (report : Report) × IsRunReport passes_Q n.net (bounds_of horizon (budgets_of phases patterns)) report × (answer ≡ Solved n report)
-Gives n text (SolveForever file phases patterns) answer = (forever : Forever) × IsForever passes_Q n.net phases patterns forever × (answer ≡ SolvedForever n forever)
+Gives n text (SolveForever file phases patterns) answer = (forever : Forever) × IsForever passes_Q n.net phases patterns forever
+    × (answer ≡ SolvedForever n forever)
 Gives n text (Show file) answer = answer ≡ Shown n
 Gives n text (Load file loads horizon) answer = answer ≡ load_answer n horizon (loads_in n text)
 Gives n text (Check file report) answer = answer ≡ check_answer n (report_in n text)
 Gives n text (Quick file amount augments) answer = QuickGives n amount augments answer
 Gives n text (Gen number rungs horizon phases patterns) answer =
-    (report : Report) × (run : IsRunReport passes_Q n.net (bounds_of horizon (budgets_of phases patterns)) report) × (answer ≡ Generated number rungs n run.last.made report)
+    (report : Report) × (run : IsRunReport passes_Q n.net (bounds_of horizon (budgets_of phases patterns)) report)
+    × (answer ≡ Generated number rungs n run.last.made report)
 Gives n text (Settle file flows) answer = SettleGives n (flows_in n text) answer
-Gives n text (Resume file report horizon phases patterns) answer = ResumeGives n (bounds_of horizon (budgets_of phases patterns)) (report_in n text) answer
+Gives n text (Resume file report horizon phases patterns) answer =
+    ResumeGives n (bounds_of horizon (budgets_of phases patterns)) (report_in n text) answer
 Gives n text (Routes file routes horizon) answer = answer ≡ routes_answer n horizon (routes_in n text)
 
 -- ---- what it gives with the texts of its files
@@ -146,7 +152,8 @@ ReadGives request text (Ok n) answer = Gives n text request answer
 ReadGives request text (Err broken) answer = answer ≡ Malformed broken
 
 abbrev pub TextsGive : Request → List (List ℕ) → ProgramAnswer → Type 0
-TextsGive request texts answer = (read : Result Named Broken) × NetworkIn (generated_by request) texts read × ReadGives request (second_of texts) read answer
+TextsGive request texts answer = (read : Result Named Broken) × NetworkIn (generated_by request) texts read
+    × ReadGives request (second_of texts) read answer
 
 -- ---- what words give with what is told
 -- file by file: one of too many bytes is refused, whatever the next ones are; where none has too many, their texts give the answer

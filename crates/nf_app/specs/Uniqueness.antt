@@ -26,7 +26,8 @@ SameForever net forever = SameInAll net forever.flow
 
 -- Of a report that `check` answers yes: of the flow that the file describes.
 abbrev pub SameIfYes : Call → Named → Verdict ℕ ℕ ℚ → Type 0
-SameIfYes call n Yes = (file name : List ℕ) → Asks call (Check file name) → (report : Report) × HoldsReport call.shelf n name report × SameInAll n.net report.flow
+SameIfYes call n Yes = (file name : List ℕ) → Asks call (Check file name)
+    → (report : Report) × HoldsReport call.shelf n name report × SameInAll n.net report.flow
 SameIfYes call n (No rule subject time left right) = Unit {0}
 
 -- Of the equilibrium line of `quick`: in every equilibrium that describes the least departure by which the amount is supplied, who leaves
@@ -42,7 +43,8 @@ IsSameInAll call (Solved n report) = SameInAll n.net report.flow
 IsSameInAll call (Generated number rungs n made report) = SameInAll n.net report.flow
 IsSameInAll call (SolvedForever n forever) = SameForever n.net forever
 IsSameInAll call (Checked n verdict) = SameIfYes call n verdict
-IsSameInAll call (Quickest n quick arrival) = (file : List ℕ) (amount : ℚ) (augments : ℕ) → Asks call (Quick file amount augments) → SameArrival n.net amount arrival
+IsSameInAll call (Quickest n quick arrival) = (file : List ℕ) (amount : ℚ) (augments : ℕ) → Asks call (Quick file amount augments)
+    → SameArrival n.net amount arrival
 IsSameInAll call answer = Unit {0}
 
 -- whichever answer comes: whatever a run stopped for, the labels, queues and exits of its report are those of every equilibrium

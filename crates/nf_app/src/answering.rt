@@ -99,7 +99,8 @@ fn show(alloc: Global, net: &Network) -> Result<Computed, Refusal>
 fn load_to(alloc: Global, net: &Network, loads: &[u8], horizon: Q) -> Result<Computed, Refusal>
     requires horizon { 0ℚ ≤ℚ horizon }
     requires within { length loads.now ≤ longest_text }
-    ensures { (shelf : Visit) (file name : List ℕ) → IsLastText shelf (loads_file name) loads.now → IsGiving shelf net.now (Load file name horizon) result }
+    ensures { (shelf : Visit) (file name : List ℕ) → IsLastText shelf (loads_file name) loads.now
+        → IsGiving shelf net.now (Load file name horizon) result }
 {
     // For the proof: the network is that of an accepted file.
     net.recall();
@@ -111,7 +112,8 @@ fn load_to(alloc: Global, net: &Network, loads: &[u8], horizon: Q) -> Result<Com
 // The verdict on the flow of the report that the text is.
 fn check_report(alloc: Global, net: &Network, text: &[u8]) -> Result<Computed, Refusal>
     requires { length text.now ≤ report_limit }
-    ensures { (shelf : Visit) (file name : List ℕ) → IsLastText shelf (report_file name) text.now → IsGiving shelf net.now (Check file name) result }
+    ensures { (shelf : Visit) (file name : List ℕ) → IsLastText shelf (report_file name) text.now
+        → IsGiving shelf net.now (Check file name) result }
 {
     // For the proof: the network is that of an accepted file.
     net.recall();
@@ -123,7 +125,8 @@ fn check_report(alloc: Global, net: &Network, text: &[u8]) -> Result<Computed, R
 // What the thin flow is settled to that the text of a flows file gives.
 fn settle_to(alloc: Global, net: &Network, text: &[u8]) -> Result<Computed, Refusal>
     requires { length text.now ≤ longest_text }
-    ensures { (shelf : Visit) (file name : List ℕ) → IsLastText shelf (flows_file name) text.now → IsGiving shelf net.now (Settle file name) result }
+    ensures { (shelf : Visit) (file name : List ℕ) → IsLastText shelf (flows_file name) text.now
+        → IsGiving shelf net.now (Settle file name) result }
 {
     let flows = parse_flows(alloc, net, text)?;
     match settle_at_start(alloc, net, &flows)? {
@@ -172,7 +175,8 @@ fn resume_to(
 fn distribute(alloc: Global, net: &Network, text: &[u8], horizon: Q) -> Result<Computed, Refusal>
     requires horizon { 0ℚ ≤ℚ horizon }
     requires within { length text.now ≤ longest_text }
-    ensures { (shelf : Visit) (file name : List ℕ) → IsLastText shelf (routes_file name) text.now → IsGiving shelf net.now (Routes file name horizon) result }
+    ensures { (shelf : Visit) (file name : List ℕ) → IsLastText shelf (routes_file name) text.now
+        → IsGiving shelf net.now (Routes file name horizon) result }
 {
     let routes = parse_routes(alloc, net, text)?;
     let routed = load_routes(alloc, net, &routes, horizon)?;
@@ -190,8 +194,10 @@ fn end_over_budget(
     augments: u64,
     walks: Vec<Augment>,
 ) -> Result<Computed, Refusal>
-    ensures { (shelf : Visit) (file : List ℕ) (amount : ℚ) → answered.IsAnswered passes_Q net.now.net amount augments (Err (QuickFault.Budget walks))
-        → answered.IsInOrder net.now.net amount augments (Err (QuickFault.Budget walks)) → IsGiving shelf net.now (requests.Quick file amount augments) result }
+    ensures { (shelf : Visit) (file : List ℕ) (amount : ℚ)
+        → answered.IsAnswered passes_Q net.now.net amount augments (Err (QuickFault.Budget walks))
+        → answered.IsInOrder net.now.net amount augments (Err (QuickFault.Budget walks))
+        → IsGiving shelf net.now (requests.Quick file amount augments) result }
 {
     let text = augments_text(alloc, net, &walks)?;
     Ok(Computed::TooManyWalks {
@@ -220,7 +226,12 @@ fn refuse_quick(
 }
 
 // A quickest flow of an amount, beside the arrival in an equilibrium of who departs when the amount is supplied.
-fn beside_arrival(alloc: Global, net: &Network, amount: Q, quick: Quick) -> Result<Computed, Refusal>
+fn beside_arrival(
+    alloc: Global,
+    net: &Network,
+    amount: Q,
+    quick: Quick,
+) -> Result<Computed, Refusal>
     requires amount { 0ℚ ≤ℚ amount }
     requires flow { IsQuickFlow net.now.net amount quick }
     ensures { (shelf : Visit) (file : List ℕ) (augments : ℕ) → answered.IsAnswered passes_Q net.now.net amount augments (Ok quick)
@@ -262,7 +273,8 @@ fn with_net(found: Result<Computed, Refusal>, net: Network) -> Result<Outcome, R
 fn find(alloc: Global, request: &Request, net: &Network, other: &[u8]) -> Result<Computed, Refusal>
     requires asked { CanBeAsked (requested request.now) }
     requires fits { OtherFits (requested request.now) other.now }
-    ensures { (shelf : Visit) → OtherIsText shelf (requested request.now) other.now → IsGiving shelf net.now (requested request.now) result }
+    ensures { (shelf : Visit) → OtherIsText shelf (requested request.now) other.now
+        → IsGiving shelf net.now (requested request.now) result }
 {
     match *request {
         Request::Solve {

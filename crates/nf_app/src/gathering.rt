@@ -35,7 +35,8 @@ fn fetch_one<S: Shelf>(
     shelf: &mut S,
     file: &str,
 ) -> Result<(Network, Vec<u8>), Refusal>
-    ensures read { AreRead (visit S.Shelf shelf.old shelf.new) (network_file file.now) [] (result_map_both (λ got. (got.0, [])) (λ refusal. refusal) result) }
+    ensures read { AreRead (visit S.Shelf shelf.old shelf.new) (network_file file.now) []
+        (result_map_both (λ got. (got.0, [])) (λ refusal. refusal) result) }
     ensures same { (name : List ℕ) → S.told shelf.new name ≡ S.told shelf.old name }
     ensures never_falls { S.faults shelf.old ≤ S.faults shelf.new }
 {

@@ -46,7 +46,8 @@ fn check_arrival(
     requires worked { IsWorked net.now.net worked.now }
     requires reached { 0ℚ ≤ℚ flow.now.reached }
     requires kept { AreKept net.now.net worked.now flow.now.reached exits.old }
-    ensures tries { Tries (λ _. tt) result (arrivals passes_Q net.now.net (flow_of flow.now) (labels_in worked.now) (loaded_in worked.now) node) }
+    ensures tries { Tries (λ _. tt) result
+        (arrivals passes_Q net.now.net (flow_of flow.now) (labels_in worked.now) (loaded_in worked.now) node) }
     ensures kept { OnOk result (AreKept net.now.net worked.now flow.now.reached exits.new) }
 {
     let least = least_exits(alloc, net, worked, flow.reached, node, exits)?;
@@ -77,7 +78,8 @@ fn check_arrivals_at(
     requires reached { 0ℚ ≤ℚ flow.now.reached }
     requires kept { AreKept net.now.net worked.now flow.now.reached exits.old }
     ensures tries { Tries (λ _. tt) result
-        (done (each (arrivals passes_Q net.now.net (flow_of flow.now) (labels_in worked.now) (loaded_in worked.now)) (nodes_but net.now.net.source net.now.net))) }
+        (done (each (arrivals passes_Q net.now.net (flow_of flow.now) (labels_in worked.now) (loaded_in worked.now))
+        (nodes_but net.now.net.source net.now.net))) }
     ensures kept { OnOk result (AreKept net.now.net worked.now flow.now.reached exits.new) }
 {
     for number in 0..net.node_count() {
@@ -100,7 +102,8 @@ pub(crate) fn check_arrivals(
     requires worked { IsWorked net.now.net worked.now }
     requires reached { 0ℚ ≤ℚ flow.now.reached }
     requires kept { AreKept net.now.net worked.now flow.now.reached exits.old }
-    ensures tries { Tries (λ _. tt) result (arrivals_list passes_Q net.now.net (flow_of flow.now) (labels_in worked.now) (loaded_in worked.now)) }
+    ensures tries { Tries (λ _. tt) result
+        (arrivals_list passes_Q net.now.net (flow_of flow.now) (labels_in worked.now) (loaded_in worked.now)) }
     ensures kept { OnOk result (AreKept net.now.net worked.now flow.now.reached exits.new) }
 {
     let source = net.source();

@@ -53,7 +53,8 @@ fn cut_label(alloc: Global, net: &Network, flow: &Flow, node: NodeId) -> Result<
 pub(crate) fn cut_labels(alloc: Global, net: &Network, flow: &Flow) -> Result<Vec<Curve>, Ended>
     requires labels { length flow.now.labels.items ≡ net.now.net.nodes }
     requires reached { 0ℚ ≤ℚ flow.now.reached }
-    ensures { Tries (λ labels. curves_of labels.items) result (each (label_cut passes_Q net.now.net (flow_of flow.now)) (all_nodes net.now.net)) }
+    ensures { Tries (λ labels. curves_of labels.items) result
+        (each (label_cut passes_Q net.now.net (flow_of flow.now)) (all_nodes net.now.net)) }
 {
     let mut labels = Vec::with_capacity(alloc, net.node_count() as usize)?;
     for number in 0..net.node_count() {

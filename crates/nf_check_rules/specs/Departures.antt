@@ -17,4 +17,5 @@ pub record IsDeparture (sent : Sent) (departure : Departure) : Type 0 where
   pub places : ArePlaces sent departure.time departure.places
   pub within : AreWithin sent departure.places
   pub taken : checked_value passes_Q sent.taken.points departure.time ≡ Ok departure.taken
-  pub sides : (sides : Difference) → departure.sides ≡ Some sides → sides_at passes_Q sent.exits.points sent.labels.points departure.time ≡ Ok (difference_of sides)
+  pub sides : (sides : Difference) → departure.sides ≡ Some sides
+      → sides_at passes_Q sent.exits.points sent.labels.points departure.time ≡ Ok (difference_of sides)

@@ -28,8 +28,10 @@ pub record AreKept (net : Network) (worked : Worked) (last : ℚ) (exits : Exits
 
 -- what was kept of a link
 pub record IsKept (net : Network) (worked : Worked) (last : ℚ) (e : ℕ) (kept : Option Grown) : Type 0 where
-  pub known : (link : Link) → IsLink net e link → IfSome kept (λ exits. short_exits passes_Q (loaded_at (loaded_in worked) e).exit (points_at (labels_in worked) link.tail) last ≡ Ok exits.points)
+  pub known : (link : Link) → IsLink net e link → IfSome kept
+      (λ exits. short_exits passes_Q (loaded_at (loaded_in worked) e).exit (points_at (labels_in worked) link.tail) last ≡ Ok exits.points)
 
 -- those of a link are kept in short form, or all stay as they were
 abbrev pub Keeps : ℕ → List Point → Exits → Exits → Type 0
-Keeps e points old new = (new.kept.items ≡ old.kept.items) ⊎ ((curve : Grown) × (new.kept.items ≡ set old.kept.items e (Some curve)) × (checked_short passes_Q points ≡ Ok curve.points))
+Keeps e points old new = (new.kept.items ≡ old.kept.items)
+    ⊎ ((curve : Grown) × (new.kept.items ≡ set old.kept.items e (Some curve)) × (checked_short passes_Q points ≡ Ok curve.points))

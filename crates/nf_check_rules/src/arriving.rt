@@ -32,7 +32,8 @@ fn exit_along(
     requires worked { IsWorked net.now.net worked.now }
     requires reached { 0ℚ ≤ℚ reached }
     ensures { (here : Link) → IsLink net.now.net link here → Gives (λ c. c.points) (λ q. q) result
-        (at_part Check (checked_composed passes_Q (loaded_by (loaded_in worked.now) link).exit (points_at (labels_in worked.now) here.tail) reached)) }
+        (at_part Check
+        (checked_composed passes_Q (loaded_by (loaded_in worked.now) link).exit (points_at (labels_in worked.now) here.tail) reached)) }
 {
     let tail = net.link(link).tail;
     let exit = &loaded_at(&worked.loaded, link).exit;
@@ -42,7 +43,8 @@ fn exit_along(
 
 // The lesser of a curve and one more, if there is one so far.
 fn lesser(alloc: Global, so_far: Option<Curve>, curve: Curve) -> Result<Curve, Halt<Q>>
-    ensures { Gives (λ c. Some c.points) (λ q. q) result (at_part Check (lesser_by passes_Q (option_map (λ c. c.points) so_far) curve.points)) }
+    ensures { Gives (λ c. Some c.points) (λ q. q) result
+        (at_part Check (lesser_by passes_Q (option_map (λ c. c.points) so_far) curve.points)) }
 {
     match so_far {
         None => Ok(curve),
@@ -66,7 +68,8 @@ fn with_exit(
     requires reached { 0ℚ ≤ℚ reached }
     requires kept { AreKept net.now.net worked.now reached exits.old }
     ensures list { (here : Link) → IsLink net.now.net link here → Gives (λ o. option_map (λ c. c.points) o) (λ q. q) result
-        (at_part Check (with_exit_by passes_Q (labels_in worked.now) (loaded_in worked.now) reached node (option_map (λ c. c.points) so_far) (link, here))) }
+        (at_part Check (with_exit_by passes_Q (labels_in worked.now) (loaded_in worked.now) reached node (option_map (λ c. c.points) so_far)
+        (link, here))) }
     ensures kept { AreKept net.now.net worked.now reached exits.new }
 {
     if net.link(link).head != node {

@@ -36,7 +36,8 @@ fn with_supply(
     node: NodeId,
     total: Curve,
 ) -> Result<Curve, Halt<Q>>
-    ensures { Gives (λ c. c.points) (λ q. q) result (at_part Check (with_supply_by passes_Q net.now.net supplied.now.points node total.points)) }
+    ensures { Gives (λ c. c.points) (λ q. q) result
+        (at_part Check (with_supply_by passes_Q net.now.net supplied.now.points node total.points)) }
 {
     if node == net.source() {
         Curve::sum(alloc, &total, supplied, Part::Check)
@@ -73,7 +74,8 @@ fn check_balance(
     requires inflows { length flow.now.inflows.items ≡ length net.now.net.links }
     requires worked { IsWorked net.now.net worked.now }
     requires reached { 0ℚ ≤ℚ flow.now.reached }
-    ensures { Tries (λ _. tt) result (balance passes_Q net.now.net (flow_of flow.now) (labels_in worked.now) (loaded_in worked.now) supplied.now.points node) }
+    ensures { Tries (λ _. tt) result
+        (balance passes_Q net.now.net (flow_of flow.now) (labels_in worked.now) (loaded_in worked.now) supplied.now.points node) }
 {
     let comes = total_in(alloc, net, &worked.loaded, node)?;
     let total = with_supply(alloc, net, supplied, node, comes)?;
@@ -99,7 +101,8 @@ fn check_balances_at(
     requires worked { IsWorked net.now.net worked.now }
     requires reached { 0ℚ ≤ℚ flow.now.reached }
     ensures { Tries (λ _. tt) result
-        (done (each (balance passes_Q net.now.net (flow_of flow.now) (labels_in worked.now) (loaded_in worked.now) supplied.now.points) (nodes_but net.now.net.sink net.now.net))) }
+        (done (each (balance passes_Q net.now.net (flow_of flow.now) (labels_in worked.now) (loaded_in worked.now) supplied.now.points)
+        (nodes_but net.now.net.sink net.now.net))) }
 {
     for number in 0..net.node_count() {
         let node = NodeId(number);
@@ -122,7 +125,8 @@ fn check_stays(
 ) -> Result<(), Ended>
     requires label { IsFromZero label.now.points }
     requires reached { 0ℚ ≤ℚ reached }
-    ensures { Tries (λ _. tt) result (stays_by passes_Q sink label.now.points comes.now.points goes.now.points supplied.now.points reached) }
+    ensures { Tries (λ _. tt) result
+        (stays_by passes_Q sink label.now.points comes.now.points goes.now.points supplied.now.points reached) }
 {
     let come = Curve::compose(alloc, comes, label, reached, Part::Check)?;
     let gone = Curve::compose(alloc, goes, label, reached, Part::Check)?;
@@ -142,7 +146,8 @@ fn check_sink(
     requires inflows { length flow.now.inflows.items ≡ length net.now.net.links }
     requires worked { IsWorked net.now.net worked.now }
     requires reached { 0ℚ ≤ℚ flow.now.reached }
-    ensures { Tries (λ _. tt) result (sink_rules passes_Q net.now.net (flow_of flow.now) (labels_in worked.now) (loaded_in worked.now) supplied.now.points) }
+    ensures { Tries (λ _. tt) result
+        (sink_rules passes_Q net.now.net (flow_of flow.now) (labels_in worked.now) (loaded_in worked.now) supplied.now.points) }
 {
     let sink = net.sink();
     let label = curve_at(&worked.labels, sink.index());

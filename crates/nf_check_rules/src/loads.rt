@@ -32,7 +32,8 @@ fn load(
     requires inflows { length flow.now.inflows.items ≡ length net.now.net.links }
     requires labels { length labels.now ≡ net.now.net.nodes }
     requires inflow { Holds net.now.net (flow_of flow.now) (Inflow link) }
-    ensures { (here : Link) → IsLink net.now.net link here → Tries loaded_of result (loading passes_Q net.now.net (flow_of flow.now) (curves_of labels.now) (link, here)) }
+    ensures { (here : Link) → IsLink net.now.net link here
+        → Tries loaded_of result (loading passes_Q net.now.net (flow_of flow.now) (curves_of labels.now) (link, here)) }
 {
     let here = net.link(link);
     let tail = greatest_value(curve_at(labels, here.tail.index()));

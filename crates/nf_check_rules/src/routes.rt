@@ -100,7 +100,8 @@ pub fn check_routes(
     requires reached { 0ℚ ≤ℚ flow.now.reached }
     requires kept { AreKept net.now.net worked.now flow.now.reached exits.old }
     ensures tries { Tries (λ _. tt) result
-        (done (each (route passes_Q net.now.net (flow_of flow.now) (labels_in worked.now) (loaded_in worked.now)) (enumerate_from 0 net.now.net.links))) }
+        (done (each (route passes_Q net.now.net (flow_of flow.now) (labels_in worked.now) (loaded_in worked.now))
+        (enumerate_from 0 net.now.net.links))) }
     ensures kept { AreKept net.now.net worked.now flow.now.reached exits.new }
 {
     for number in 0..net.link_count() {

@@ -144,7 +144,8 @@ impl Sent {
     pub(crate) fn sides_at(&self, places: &Places, time: Q) -> Result<Difference, PassedAt<Q>>
         requires time { 0ℚ ≤ℚ time }
         requires places { ArePlaces self.now time places.now }
-        ensures { seen_at difference_of (λ q. q) result ≡ at_part Check (sides_by passes_Q self.now.exits.points self.now.labels.points time) }
+        ensures { seen_at difference_of (λ q. q) result
+            ≡ at_part Check (sides_by passes_Q self.now.exits.points self.now.labels.points time) }
     {
         let left = value_at(&self.exits, places.exits, time)?;
         let right = value_at(&self.labels, places.labels, time)?;

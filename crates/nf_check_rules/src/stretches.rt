@@ -73,7 +73,8 @@ fn departure_at(sent: &Sent, near: &Places, time: Q) -> Result<Departure, Passed
 // Exit and label at a departure.
 fn sides_of(sent: &Sent, here: &Departure) -> Result<Difference, PassedAt<Q>>
     requires { IsDeparture sent.now here.now }
-    ensures { seen_at difference_of (λ q. q) result ≡ at_part Check (sides_by passes_Q sent.now.exits.points sent.now.labels.points here.now.time) }
+    ensures { seen_at difference_of (λ q. q) result
+        ≡ at_part Check (sides_by passes_Q sent.now.exits.points sent.now.labels.points here.now.time) }
 {
     match here.sides {
         Some(sides) => Ok(sides),
@@ -134,7 +135,8 @@ fn on_stretch(
     requires here { IsDeparture sent.now here.now }
     requires there { IsDeparture sent.now there.old }
     ensures list { seen_at (option_map difference_of) (λ q. q) result ≡
-        at_part Check (on_stretch_by passes_Q sent.now.taken.points sent.now.exits.points sent.now.labels.points here.now.time there.old.time) }
+        at_part Check
+        (on_stretch_by passes_Q sent.now.taken.points sent.now.exits.points sent.now.labels.points here.now.time there.old.time) }
     ensures there { OnOk result (IsDeparture sent.now there.new) }
     ensures time { OnOk result (there.new.time ≡ there.old.time) }
 {

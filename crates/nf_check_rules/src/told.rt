@@ -54,7 +54,8 @@ pub fn check_outflows(net: &Network, flow: &Flow, worked: &Worked) -> Result<(),
     requires outflows { length flow.now.outflows.items ≡ length net.now.net.links }
     requires worked { IsWorked net.now.net worked.now }
     ensures { Tries (λ _. tt) result
-        (done (each (outflow_rule passes_Q net.now.net (flow_of flow.now) (labels_in worked.now) (loaded_in worked.now)) (enumerate_from 0 net.now.net.links))) }
+        (done (each (outflow_rule passes_Q net.now.net (flow_of flow.now) (labels_in worked.now) (loaded_in worked.now))
+        (enumerate_from 0 net.now.net.links))) }
 {
     for number in 0..net.link_count() {
         check_outflow(net, flow, worked, LinkId(number))?;
@@ -67,7 +68,8 @@ pub fn check_queues(net: &Network, flow: &Flow, worked: &Worked) -> Result<(), E
     requires queues { length flow.now.queues.items ≡ length net.now.net.links }
     requires worked { IsWorked net.now.net worked.now }
     ensures { Tries (λ _. tt) result
-        (done (each (queue_rule passes_Q net.now.net (flow_of flow.now) (labels_in worked.now) (loaded_in worked.now)) (enumerate_from 0 net.now.net.links))) }
+        (done (each (queue_rule passes_Q net.now.net (flow_of flow.now) (labels_in worked.now) (loaded_in worked.now))
+        (enumerate_from 0 net.now.net.links))) }
 {
     for number in 0..net.link_count() {
         check_queue(net, flow, worked, LinkId(number))?;

@@ -84,7 +84,8 @@ pub(crate) fn total_out(
     node: NodeId,
 ) -> Result<Curve, Halt<Q>>
     requires { length flow.now.inflows.items ≡ length net.now.net.links }
-    ensures { Gives (λ c. c.points) (λ q. q) result (at_part Check (total_out_by passes_Q (points_of (flow_of flow.now).inflows) net.now.net.links node)) }
+    ensures { Gives (λ c. c.points) (λ q. q) result
+        (at_part Check (total_out_by passes_Q (points_of (flow_of flow.now).inflows) net.now.net.links node)) }
 {
     let mut total = Curve::start(alloc, Q::zero())?;
     for number in 0..net.link_count() {

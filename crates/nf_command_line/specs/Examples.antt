@@ -10,12 +10,15 @@ said words = codes "nfot" ∷ words
 
 pub record WordsAreRead : Type 0 where
   -- options stand in any order, before the files and after them, also as `--name=value`
-  pub any_order : request_of (said (codes "solve" ∷ codes "--horizon=2" ∷ codes "A" ∷ [])) ≡ Some (Solve (codes "A") (ratio (pos 2) 1) 10000 100000)
+  pub any_order : request_of (said (codes "solve" ∷ codes "--horizon=2" ∷ codes "A" ∷ []))
+      ≡ Some (Solve (codes "A") (ratio (pos 2) 1) 10000 100000)
   pub between : request_of (said (codes "--phases" ∷ codes "007" ∷ codes "solve" ∷ codes "A" ∷ codes "--horizon" ∷ codes "2" ∷ []))
       ≡ Some (Solve (codes "A") (ratio (pos 2) 1) 7 100000)
-  pub no_files : request_of (said (codes "gen" ∷ codes "--rungs=30" ∷ codes "--number=0" ∷ codes "--horizon=2" ∷ [])) ≡ Some (Gen 0 30 (ratio (pos 2) 1) 10000 100000)
+  pub no_files : request_of (said (codes "gen" ∷ codes "--rungs=30" ∷ codes "--number=0" ∷ codes "--horizon=2" ∷ []))
+      ≡ Some (Gen 0 30 (ratio (pos 2) 1) 10000 100000)
   -- a flag takes no word; it is there in place of a horizon
-  pub flag : request_of (said (codes "solve" ∷ codes "--forever" ∷ codes "A" ∷ codes "--phases" ∷ codes "7" ∷ [])) ≡ Some (SolveForever (codes "A") 7 100000)
+  pub flag : request_of (said (codes "solve" ∷ codes "--forever" ∷ codes "A" ∷ codes "--phases" ∷ codes "7" ∷ []))
+      ≡ Some (SolveForever (codes "A") 7 100000)
   pub both : request_of (said (codes "solve" ∷ codes "A" ∷ codes "--forever" ∷ codes "--horizon=2" ∷ [])) ≡ None
   pub valued : request_of (said (codes "solve" ∷ codes "A" ∷ codes "--forever=true" ∷ [])) ≡ None
   -- behind `--` each word is a file

@@ -15,7 +15,8 @@ between (Some full) flow = lt_ℚ 0ℚ flow && lt_ℚ flow full
 -- on an active link that isn't resetting
 abbrev pub interior_test : Sets → List (Option ℚ) → List ℚ → ℕ → Bool
 interior_test sets fulls flows e =
-    unwrap_or (slice_get sets.active e) false && (not (unwrap_or (slice_get sets.resetting e) false) && between (unwrap_or (slice_get fulls e) None) (number_at flows e))
+    unwrap_or (slice_get sets.active e) false
+    && (not (unwrap_or (slice_get sets.resetting e) false) && between (unwrap_or (slice_get fulls e) None) (number_at flows e))
 
 -- of each link, whether it is interior
 abbrev pub interior_flags : Sets → List (Option ℚ) → List ℚ → List Bool

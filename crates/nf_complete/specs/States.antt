@@ -33,9 +33,12 @@ full_test (Some full) flow = same_test flow full
 abbrev pub FitsState : Network → Sets → List ℚ → List ℚ → ℕ → Link → Option State → Type 0
 FitsState net sets flows slopes e link None = NeedsState sets e → ⊥
 FitsState net sets flows slopes e link (Some Tight) = NeedsState sets e
-    × (LeadsToBare net sets flows slopes e link ⊎ ((number_at flows e ≢ 0ℚ) × (Fills link.capacity (number_at flows e) (number_at slopes link.head) → ⊥)))
-FitsState net sets flows slopes e link (Some Full) = NeedsState sets e × ((number_at flows e ≢ 0ℚ) × Fills link.capacity (number_at flows e) (number_at slopes link.head))
-FitsState net sets flows slopes e link (Some Zero) = NeedsState sets e × ((number_at flows e ≡ 0ℚ) × (LeadsToBare net sets flows slopes e link → ⊥))
+    × (LeadsToBare net sets flows slopes e link
+    ⊎ ((number_at flows e ≢ 0ℚ) × (Fills link.capacity (number_at flows e) (number_at slopes link.head) → ⊥)))
+FitsState net sets flows slopes e link (Some Full) = NeedsState sets e
+    × ((number_at flows e ≢ 0ℚ) × Fills link.capacity (number_at flows e) (number_at slopes link.head))
+FitsState net sets flows slopes e link (Some Zero) = NeedsState sets e
+    × ((number_at flows e ≡ 0ℚ) × (LeadsToBare net sets flows slopes e link → ⊥))
 
 -- the state of link e
 abbrev pub IsStateAt : Network → Sets → List ℚ → List ℚ → ℕ → Option State → Type 0

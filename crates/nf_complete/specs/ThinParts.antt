@@ -45,7 +45,8 @@ keeps_test false (Some full) x s t = (le_ℚ t s || le_ℚ full x) && (le_ℚ x 
 
 abbrev pub KeepsAt : Sets → List ℚ → List ℚ → ℕ → Link → Type 0
 KeepsAt sets flows slopes e link = Has sets.active e
-    → KeepsSlopes (unwrap_or (slice_get sets.resetting e) false) (filling link.capacity (number_at slopes link.head)) (number_at flows e) (number_at slopes link.tail) (number_at slopes link.head)
+    → KeepsSlopes (unwrap_or (slice_get sets.resetting e) false) (filling link.capacity (number_at slopes link.head)) (number_at flows e)
+    (number_at slopes link.tail) (number_at slopes link.head)
 
 -- ---- links into a node
 -- link e is an active one into node v

@@ -93,7 +93,8 @@ pub(crate) fn first_cycle(
     requires count { length chosen.now ≡ length hops.now }
     requires fewer { length hops.now < 2 ^ 32 }
     requires known { IsForest hops.now (λ e. (e < known) × Has chosen.now e) }
-    ensures { IfOk result (λ found. MatchOption found (IsForest hops.now (Has chosen.now)) (λ cycle. Closes hops.now chosen.now cycle.last cycle.steps.items)) }
+    ensures { IfOk result (λ found. MatchOption found (IsForest hops.now (Has chosen.now))
+        (λ cycle. Closes hops.now chosen.now cycle.last cycle.steps.items)) }
 {
     let mut before = vec![in alloc; false; hops.len()]?;
     for (e, hop) in hops.iter().enumerate() {

@@ -37,7 +37,8 @@ pub(crate) fn full_at(
     requires link { link < length net.now.net.links }
     requires sets { length sets.now.active ≡ length net.now.net.links }
     requires slopes { length slopes.now ≡ net.now.net.nodes }
-    ensures { (here : SeenLink) → IsLink net.now.net link here → result ≡ at_part Verdict (full_at_by passes_Q sets.now slopes.now (link, here)) }
+    ensures { (here : SeenLink) → IsLink net.now.net link here
+        → result ≡ at_part Verdict (full_at_by passes_Q sets.now slopes.now (link, here)) }
 {
     let here = net.link(link);
     full_of(sets.active(link), here.capacity, slopes[here.head.index()])

@@ -27,7 +27,8 @@ fn with_flow(
 ) -> Result<Q, PassedAt<Q>>
     requires link { link < length sets.now.active }
     requires flows { length flows.now ≡ length sets.now.active }
-    ensures { (net : SeenNetwork) (rate : ℚ) → result ≡ at_part Verdict (sum_more passes_Q net sets.now rate flows.now (is_active passes_Q net sets.now rate flows.now link && at_node) so_far link) }
+    ensures { (net : SeenNetwork) (rate : ℚ) → result ≡ at_part Verdict
+        (sum_more passes_Q net sets.now rate flows.now (is_active passes_Q net sets.now rate flows.now link && at_node) so_far link) }
 {
     if sets.active(link) && at_node {
         let sum = at!(Part::Verdict, so_far.sum(flows[link.index()]));
@@ -49,7 +50,8 @@ fn come_more(
     requires link { link < length net.now.net.links }
     requires sets { length sets.now.active ≡ length net.now.net.links }
     requires flows { length flows.now ≡ length net.now.net.links }
-    ensures { (rate : ℚ) (here : SeenLink) → IsLink net.now.net link here → result ≡ at_part Verdict (in_more passes_Q net.now.net sets.now rate flows.now node so_far (link, here)) }
+    ensures { (rate : ℚ) (here : SeenLink) → IsLink net.now.net link here
+        → result ≡ at_part Verdict (in_more passes_Q net.now.net sets.now rate flows.now node so_far (link, here)) }
 {
     let here = net.link(link);
     with_flow(sets, flows, link, here.head == node, so_far)
@@ -67,7 +69,8 @@ fn go_more(
     requires link { link < length net.now.net.links }
     requires sets { length sets.now.active ≡ length net.now.net.links }
     requires flows { length flows.now ≡ length net.now.net.links }
-    ensures { (rate : ℚ) (here : SeenLink) → IsLink net.now.net link here → result ≡ at_part Verdict (out_more passes_Q net.now.net sets.now rate flows.now node so_far (link, here)) }
+    ensures { (rate : ℚ) (here : SeenLink) → IsLink net.now.net link here
+        → result ≡ at_part Verdict (out_more passes_Q net.now.net sets.now rate flows.now node so_far (link, here)) }
 {
     let here = net.link(link);
     with_flow(sets, flows, link, here.tail == node, so_far)
@@ -77,7 +80,8 @@ fn go_more(
 fn come(net: &Network, sets: &LinkSets, flows: &[Q], node: NodeId) -> Result<Q, PassedAt<Q>>
     requires sets { length sets.now.active ≡ length net.now.net.links }
     requires flows { length flows.now ≡ length net.now.net.links }
-    ensures { (rate : ℚ) → result ≡ at_part Verdict (fold_checked (in_more passes_Q net.now.net sets.now rate flows.now node) 0ℚ (enumerate_from 0 net.now.net.links)) }
+    ensures { (rate : ℚ) → result ≡ at_part Verdict
+        (fold_checked (in_more passes_Q net.now.net sets.now rate flows.now node) 0ℚ (enumerate_from 0 net.now.net.links)) }
 {
     let mut so_far = Q::zero();
     for e in 0..net.link_count() {
@@ -91,7 +95,8 @@ fn come(net: &Network, sets: &LinkSets, flows: &[Q], node: NodeId) -> Result<Q, 
 fn go(net: &Network, sets: &LinkSets, flows: &[Q], node: NodeId) -> Result<Q, PassedAt<Q>>
     requires sets { length sets.now.active ≡ length net.now.net.links }
     requires flows { length flows.now ≡ length net.now.net.links }
-    ensures { (rate : ℚ) → result ≡ at_part Verdict (fold_checked (out_more passes_Q net.now.net sets.now rate flows.now node) 0ℚ (enumerate_from 0 net.now.net.links)) }
+    ensures { (rate : ℚ) → result ≡ at_part Verdict
+        (fold_checked (out_more passes_Q net.now.net sets.now rate flows.now node) 0ℚ (enumerate_from 0 net.now.net.links)) }
 {
     let mut so_far = Q::zero();
     for e in 0..net.link_count() {
@@ -103,7 +108,8 @@ fn go(net: &Network, sets: &LinkSets, flows: &[Q], node: NodeId) -> Result<Q, Pa
 
 // A sum with the rate, if it stays at the node.
 fn with_rate(stays: bool, sum: Q, rate: Q) -> Result<Q, PassedAt<Q>>
-    ensures { (net : SeenNetwork) (sets : Sets) (flows : List ℚ) → result ≡ at_part Verdict (with_rate_by passes_Q net sets rate flows stays sum) }
+    ensures { (net : SeenNetwork) (sets : Sets) (flows : List ℚ)
+        → result ≡ at_part Verdict (with_rate_by passes_Q net sets rate flows stays sum) }
 {
     if stays {
         let all = at!(Part::Verdict, sum.sum(rate));
@@ -130,7 +136,8 @@ fn balances_at(
 ) -> Result<bool, PassedAt<Q>>
     requires sets { length sets.now.active ≡ length net.now.net.links }
     requires flows { length flows.now ≡ length net.now.net.links }
-    ensures { Tells (IsBalanced net.now.net sets.now rate flows.now node) (sums_at passes_Q net.now.net sets.now rate flows.now node) result }
+    ensures { Tells (IsBalanced net.now.net sets.now rate flows.now node)
+        (sums_at passes_Q net.now.net sets.now rate flows.now node) result }
 {
     let by_links = come(net, sets, flows, node)?;
     let sent = go(net, sets, flows, node)?;

@@ -70,7 +70,8 @@ pub(crate) fn is_proper(net: &Network, sets: &LinkSets, flows: &[Q], slopes: &[Q
     requires sets { length sets.now.active ≡ length net.now.net.links }
     requires flows { length flows.now ≡ length net.now.net.links }
     requires slopes { length slopes.now ≡ net.now.net.nodes }
-    ensures { MatchBool result (IsProper net.now.net sets.now flows.now slopes.now) (IsProper net.now.net sets.now flows.now slopes.now → ⊥) }
+    ensures { MatchBool result (IsProper net.now.net sets.now flows.now slopes.now)
+        (IsProper net.now.net sets.now flows.now slopes.now → ⊥) }
 {
     if !none_negative(flows) {
         return false;

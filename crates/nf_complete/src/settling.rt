@@ -38,7 +38,8 @@ fn next_cycle(
     requires flows { length flows.now ≡ length net.now.net.links }
     requires fulls { fulls_list passes_Q net.now.net sets.now slopes.now ≡ Ok fulls.now }
     requires known { AreForestBelow net.now.net sets.now slopes.now flows.now known }
-    ensures { IfOk result (λ found. MatchOption found (IsForest (hops_of net.now.net) (IsInterior net.now.net sets.now slopes.now flows.now))
+    ensures { IfOk result
+        (λ found. MatchOption found (IsForest (hops_of net.now.net) (IsInterior net.now.net sets.now slopes.now flows.now))
         (λ cycle. ClosesNext net.now.net sets.now slopes.now flows.now cycle.last cycle.steps.items)) }
 {
     // For the proof: the slopes by which links are full.

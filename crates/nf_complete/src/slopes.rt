@@ -71,7 +71,8 @@ fn keeps_at(
     requires sets { length sets.now.active ≡ length net.now.net.links }
     requires flows { length flows.now ≡ length net.now.net.links }
     requires slopes { length slopes.now ≡ net.now.net.nodes }
-    ensures { (here : SeenLink) → IsLink net.now.net link here → Tells (KeepsAt sets.now flows.now slopes.now link here) (full_at_by passes_Q sets.now slopes.now (link, here)) result }
+    ensures { (here : SeenLink) → IsLink net.now.net link here
+        → Tells (KeepsAt sets.now flows.now slopes.now link here) (full_at_by passes_Q sets.now slopes.now (link, here)) result }
 {
     let full = full_at(net, sets, slopes, link)?;
     let here = net.link(link);

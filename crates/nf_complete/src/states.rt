@@ -21,7 +21,8 @@ fn brings_into(net: &Network, sets: &LinkSets, flows: &[Q], link: LinkId, node: 
     requires link { link < length net.now.net.links }
     requires sets { length sets.now.active ≡ length net.now.net.links }
     requires flows { length flows.now ≡ length net.now.net.links }
-    ensures { MatchBool result (BringsInto net.now.net sets.now flows.now node link) (BringsInto net.now.net sets.now flows.now node link → ⊥) }
+    ensures { MatchBool result (BringsInto net.now.net sets.now flows.now node link)
+        (BringsInto net.now.net sets.now flows.now node link → ⊥) }
 {
     if !leads_into(net, sets, link, node) {
         return false;
@@ -51,7 +52,8 @@ fn is_level_into(net: &Network, sets: &LinkSets, slopes: &[Q], link: LinkId, nod
     requires link { link < length net.now.net.links }
     requires sets { length sets.now.active ≡ length net.now.net.links }
     requires slopes { length slopes.now ≡ net.now.net.nodes }
-    ensures { MatchBool result (LevelInto net.now.net sets.now slopes.now node link) (LevelInto net.now.net sets.now slopes.now node link → ⊥) }
+    ensures { MatchBool result (LevelInto net.now.net sets.now slopes.now node link)
+        (LevelInto net.now.net sets.now slopes.now node link → ⊥) }
 {
     if !leads_into(net, sets, link, node) {
         return false;
@@ -70,7 +72,8 @@ fn none_level_before(
     requires link { link < length net.now.net.links }
     requires sets { length sets.now.active ≡ length net.now.net.links }
     requires slopes { length slopes.now ≡ net.now.net.nodes }
-    ensures { MatchBool result (NoneLevelBefore net.now.net sets.now slopes.now node link) (NoneLevelBefore net.now.net sets.now slopes.now node link → ⊥) }
+    ensures { MatchBool result (NoneLevelBefore net.now.net sets.now slopes.now node link)
+        (NoneLevelBefore net.now.net sets.now slopes.now node link → ⊥) }
 {
     for e in 0..link.0 {
         if is_level_into(net, sets, slopes, LinkId(e), node) {
@@ -87,7 +90,8 @@ fn leads_to_bare(net: &Network, sets: &LinkSets, flows: &[Q], slopes: &[Q], link
     requires flows { length flows.now ≡ length net.now.net.links }
     requires slopes { length slopes.now ≡ net.now.net.nodes }
     ensures { (here : SeenLink) → IsLink net.now.net link here
-        → MatchBool result (LeadsToBare net.now.net sets.now flows.now slopes.now link here) (LeadsToBare net.now.net sets.now flows.now slopes.now link here → ⊥) }
+        → MatchBool result (LeadsToBare net.now.net sets.now flows.now slopes.now link here)
+        (LeadsToBare net.now.net sets.now flows.now slopes.now link here → ⊥) }
 {
     let node = net.link(link).head;
     if !is_level_into(net, sets, slopes, link, node) {

@@ -20,7 +20,8 @@ fn takes(
     requires sets { length sets.now.active ≡ length net.now.net.links }
     requires flows { length flows.now ≡ length net.now.net.links }
     requires slopes { length slopes.now ≡ net.now.net.nodes }
-    ensures { MatchBool result (Takes net.now.net sets.now flows.now slopes.now node link) (Takes net.now.net sets.now flows.now slopes.now node link → ⊥) }
+    ensures { MatchBool result (Takes net.now.net sets.now flows.now slopes.now node link)
+        (Takes net.now.net sets.now flows.now slopes.now node link → ⊥) }
 {
     if !leads_into(net, sets, link, node) {
         return false;
@@ -36,7 +37,8 @@ fn is_taken(net: &Network, sets: &LinkSets, flows: &[Q], slopes: &[Q], node: Nod
     requires sets { length sets.now.active ≡ length net.now.net.links }
     requires flows { length flows.now ≡ length net.now.net.links }
     requires slopes { length slopes.now ≡ net.now.net.nodes }
-    ensures { MatchBool result ((e : ℕ) × Takes net.now.net sets.now flows.now slopes.now node e) ((e : ℕ) → Takes net.now.net sets.now flows.now slopes.now node e → ⊥) }
+    ensures { MatchBool result ((e : ℕ) × Takes net.now.net sets.now flows.now slopes.now node e)
+        ((e : ℕ) → Takes net.now.net sets.now flows.now slopes.now node e → ⊥) }
 {
     for e in 0..net.link_count() {
         if takes(net, sets, flows, slopes, node, LinkId(e)) {
@@ -51,7 +53,8 @@ pub(crate) fn each_is_taken(net: &Network, sets: &LinkSets, flows: &[Q], slopes:
     requires sets { length sets.now.active ≡ length net.now.net.links }
     requires flows { length flows.now ≡ length net.now.net.links }
     requires slopes { length slopes.now ≡ net.now.net.nodes }
-    ensures { MatchBool result (EachIsTaken net.now.net sets.now flows.now slopes.now) (EachIsTaken net.now.net sets.now flows.now slopes.now → ⊥) }
+    ensures { MatchBool result (EachIsTaken net.now.net sets.now flows.now slopes.now)
+        (EachIsTaken net.now.net sets.now flows.now slopes.now → ⊥) }
 {
     let source = net.source();
     for v in 0..net.node_count() {

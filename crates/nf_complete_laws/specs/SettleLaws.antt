@@ -27,24 +27,31 @@ pub record AreGoodSets (net : Network) (sets : Sets) : Type 0 where
 -- what any thin flow is settled to is a thin flow with the same slopes, its pattern is listed, and it is the one solution of its equations
 -- and meets its inequalities
 abbrev pub SettledFlowIsSolution : Type 0
-SettledFlowIsSolution = (passes : Passing) (net : Network) (sets : Sets) (rate : ℚ) (flows slopes settled : List ℚ) (pattern : Pattern) → AreGoodSets net sets → 0ℚ ≤ℚ rate
-    → IsThinFlow net sets rate flows slopes → Settles passes net sets slopes flows (Ok settled) → IsSettledPattern net sets settled slopes pattern
+SettledFlowIsSolution = (passes : Passing) (net : Network) (sets : Sets) (rate : ℚ) (flows slopes settled : List ℚ) (pattern : Pattern)
+    → AreGoodSets net sets → 0ℚ ≤ℚ rate
+    → IsThinFlow net sets rate flows slopes → Settles passes net sets slopes flows (Ok settled)
+    → IsSettledPattern net sets settled slopes pattern
     → IsThinFlow net sets rate settled slopes × IsListedIn net sets pattern × IsSolution net sets rate pattern settled slopes
 
 -- where no listed pattern is solvable, there is no thin flow; so there is none where a search answers that there is no pattern
 pub record NoPatternNoThinFlow : Type 0 where
   pub listed : (net : Network) (sets : Sets) (rate : ℚ) (flows slopes : List ℚ) → AreGoodSets net sets → 0ℚ ≤ℚ rate
-      → ((pattern : Pattern) → IsListedIn net sets pattern → IsSolvable net sets rate pattern → ⊥) → IsThinFlow net sets rate flows slopes → ⊥
-  pub search : (passes : Passing) (net : Network) (sets : Sets) (rate : ℚ) (base : Pattern) (budget : ℕ) (flows slopes : List ℚ) → AreGoodSets net sets → 0ℚ ≤ℚ rate
+      → ((pattern : Pattern) → IsListedIn net sets pattern → IsSolvable net sets rate pattern → ⊥)
+      → IsThinFlow net sets rate flows slopes → ⊥
+  pub search : (passes : Passing) (net : Network) (sets : Sets) (rate : ℚ) (base : Pattern) (budget : ℕ) (flows slopes : List ℚ)
+      → AreGoodSets net sets → 0ℚ ≤ℚ rate
       → IsSearch passes net sets rate base budget NoPattern → IsThinFlow net sets rate flows slopes → ⊥
 
 -- flows are settled to one answer, and settled flows have one pattern
 pub record SettlingHasOneAnswer : Type 0 where
-  pub flows : (passes : Passing) (net : Network) (sets : Sets) (slopes flows : List ℚ) (result other : Checked (List ℚ)) → IsNetwork net → Settles passes net sets slopes flows result
+  pub flows : (passes : Passing) (net : Network) (sets : Sets) (slopes flows : List ℚ) (result other : Checked (List ℚ)) → IsNetwork net
+      → Settles passes net sets slopes flows result
       → Settles passes net sets slopes flows other → result ≡ other
-  pub pattern : (net : Network) (sets : Sets) (rate : ℚ) (flows slopes : List ℚ) (pattern other : Pattern) → AreGoodSets net sets → IsThinFlow net sets rate flows slopes
+  pub pattern : (net : Network) (sets : Sets) (rate : ℚ) (flows slopes : List ℚ) (pattern other : Pattern) → AreGoodSets net sets
+      → IsThinFlow net sets rate flows slopes
       → IsSettledPattern net sets flows slopes pattern → IsSettledPattern net sets flows slopes other → pattern ≡ other
 
 -- the report of a run that stopped since no pattern was left, stopped where there is no thin flow
 abbrev pub StoppedRunHasNoThinFlow : Type 0
-StoppedRunHasNoThinFlow = (passes : Passing) (net : Network) (bounds : Bounds) (report : Report) → IsNetwork net → IsRunReport passes net bounds report → StopsForNoThinFlow net report.stop report.flow
+StoppedRunHasNoThinFlow = (passes : Passing) (net : Network) (bounds : Bounds) (report : Report) → IsNetwork net
+    → IsRunReport passes net bounds report → StopsForNoThinFlow net report.stop report.flow

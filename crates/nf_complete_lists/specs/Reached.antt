@@ -13,7 +13,8 @@ labels_reached net flow = map (λ v. label flow v flow.reached) (range_with_len 
 
 -- there is no thin flow for the sets of the labels and the supply rate there
 abbrev pub NoThinFlowFrom : Network → Flow → Type 0
-NoThinFlowFrom net flow = (flows slopes : List ℚ) → IsThinFlow net (sets_at net (labels_reached net flow)) (rate_at net flow.reached) flows slopes → ⊥
+NoThinFlowFrom net flow = (flows slopes : List ℚ)
+    → IsThinFlow net (sets_at net (labels_reached net flow)) (rate_at net flow.reached) flows slopes → ⊥
 
 -- a run that stopped with this flow since no pattern was left, stopped where there is no thin flow
 abbrev pub StopsForNoThinFlow : Network → Option (Cause ℚ) → Flow → Type 0

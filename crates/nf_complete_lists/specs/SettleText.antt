@@ -14,7 +14,8 @@ abbrev pub flow_line : Named → List ℚ → ℕ → List (List (List ℕ))
 flow_line n flows e = (codes "flow" ∷ name_at n.link_names e ∷ printed (number_at flows e) ∷ []) ∷ []
 
 abbrev pub settled_lines : Named → Pattern → List ℚ → List (List (List ℕ))
-settled_lines n pattern flows = for_each (length n.net.links) (state_lines n pattern) ++ for_each (length n.net.links) (flow_line n flows) ++ (codes "end" ∷ []) ∷ []
+settled_lines n pattern flows = for_each (length n.net.links) (state_lines n pattern) ++ for_each (length n.net.links) (flow_line n flows)
+    ++ (codes "end" ∷ []) ∷ []
 
 abbrev pub settled_text : Named → Pattern → List ℚ → List ℕ
 settled_text n pattern flows = flat_map line_of_words (settled_lines n pattern flows)

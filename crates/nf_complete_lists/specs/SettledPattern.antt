@@ -17,7 +17,8 @@ pub record IsBare (net : Network) (sets : Sets) (flows : List ℚ) (v : ℕ) : T
 -- link e is the first active one into its head whose ends have equal slopes
 pub record IsFirstLevel (net : Network) (sets : Sets) (slopes : List ℚ) (e : ℕ) (link : Link) : Type 0 where
   pub level : number_at slopes link.head ≡ number_at slopes link.tail
-  pub first : (other : ℕ) (before : Link) → other < e → Enters net sets link.head other before → number_at slopes before.head ≡ number_at slopes before.tail → ⊥
+  pub first : (other : ℕ) (before : Link) → other < e → Enters net sets link.head other before
+      → number_at slopes before.head ≡ number_at slopes before.tail → ⊥
 
 -- the link by which a bare node is led to
 pub record LeadsToBare (net : Network) (sets : Sets) (flows slopes : List ℚ) (e : ℕ) (link : Link) : Type 0 where
@@ -30,7 +31,11 @@ pub record LeadsToBare (net : Network) (sets : Sets) (flows slopes : List ℚ) (
 pub record IsSettledPattern (net : Network) (sets : Sets) (flows slopes : List ℚ) (pattern : Pattern) : Type 0 where
   pub count : length pattern ≡ length sets.active
   pub states : (e : ℕ) → NeedsState sets e ↔ ((state : State) × HasState pattern e state)
-  pub led : (e : ℕ) (link : Link) → IsLink net e link → NeedsState sets e → LeadsToBare net sets flows slopes e link → HasState pattern e Tight
-  pub zero : (e : ℕ) (link : Link) → IsLink net e link → NeedsState sets e → number_at flows e ≡ 0ℚ → (LeadsToBare net sets flows slopes e link → ⊥) → HasState pattern e Zero
-  pub full : (e : ℕ) (link : Link) → IsLink net e link → NeedsState sets e → number_at flows e ≢ 0ℚ → Fills link.capacity (number_at flows e) (number_at slopes link.head) → HasState pattern e Full
-  pub tight : (e : ℕ) (link : Link) → IsLink net e link → NeedsState sets e → number_at flows e ≢ 0ℚ → (Fills link.capacity (number_at flows e) (number_at slopes link.head) → ⊥) → HasState pattern e Tight
+  pub led : (e : ℕ) (link : Link) → IsLink net e link → NeedsState sets e → LeadsToBare net sets flows slopes e link
+      → HasState pattern e Tight
+  pub zero : (e : ℕ) (link : Link) → IsLink net e link → NeedsState sets e → number_at flows e ≡ 0ℚ
+      → (LeadsToBare net sets flows slopes e link → ⊥) → HasState pattern e Zero
+  pub full : (e : ℕ) (link : Link) → IsLink net e link → NeedsState sets e → number_at flows e ≢ 0ℚ
+      → Fills link.capacity (number_at flows e) (number_at slopes link.head) → HasState pattern e Full
+  pub tight : (e : ℕ) (link : Link) → IsLink net e link → NeedsState sets e → number_at flows e ≢ 0ℚ
+      → (Fills link.capacity (number_at flows e) (number_at slopes link.head) → ⊥) → HasState pattern e Tight

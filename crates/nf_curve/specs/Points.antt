@@ -17,4 +17,5 @@ pub record Grown : Type 0 where
   pub spare : ℕ
 
 abbrev pub coded_grown : Coded Grown
-coded_grown = code_by (List (ℚ × ℚ) × ℕ) (coded× coded_points coded_ℕ) (λ g. (g.points, g.spare)) (λ p. record { points = p.0; spare = p.1 }) (λ _. refl)
+coded_grown = code_by (List (ℚ × ℚ) × ℕ) (coded× coded_points coded_ℕ) (λ g. (g.points, g.spare))
+    (λ p. record { points = p.0; spare = p.1 }) (λ _. refl)

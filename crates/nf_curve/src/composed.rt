@@ -39,7 +39,8 @@ fn add_corner_below(
     requires later { p.now.0 <ℚ q.now.0 }
     requires apart { p.now.1 ≢ q.now.1 }
     ensures { Gives (λ _. composed.new.items) (λ q. q) result
-        (at_part part (behind composed.old.items (each (corner_by passes_Q p.now q.now) (filter (λ c. lt_ℚ c.0 bound) (corner.now ∷ []))))) }
+        (at_part part
+        (behind composed.old.items (each (corner_by passes_Q p.now q.now) (filter (λ c. lt_ℚ c.0 bound) (corner.now ∷ []))))) }
 {
     if !corner.0.is_below(bound) {
         return Ok(());
@@ -80,7 +81,8 @@ fn add_corners_down(
     requires later { p.now.0 <ℚ q.now.0 }
     requires down { q.now.1 <ℚ p.now.1 }
     ensures { Gives (λ _. composed.new.items) (λ q. q) result
-        (at_part part (behind composed.old.items (each (corner_by passes_Q p.now q.now) (filter (λ c. lt_ℚ c.0 p.now.1) (reverse between.now))))) }
+        (at_part part
+        (behind composed.old.items (each (corner_by passes_Q p.now q.now) (filter (λ c. lt_ℚ c.0 p.now.1) (reverse between.now))))) }
 {
     let mut left = between.len();
     while left > 0 {
@@ -104,7 +106,8 @@ fn add_corners(
     requires first { places.0 ≡ place_of p.now.1 outer.now }
     requires last { places.1 ≡ place_of q.now.1 outer.now }
     ensures { Gives (λ _. composed.new.items) (λ q. q) result
-        (at_part part (behind composed.old.items (each (corner_by passes_Q p.now q.now) (points_along (lt_ℚ p.now.1 q.now.1) p.now.1 q.now.1 outer.now)))) }
+        (at_part part (behind composed.old.items
+        (each (corner_by passes_Q p.now q.now) (points_along (lt_ℚ p.now.1 q.now.1) p.now.1 q.now.1 outer.now)))) }
 {
     let (first, last) = places;
     if p.1.is_below(q.1) {

@@ -49,7 +49,8 @@ fn turns_before(points: &[Point], place: usize, part: Part) -> Result<bool, Pass
     requires rise { TimesRise points.now }
     requires some { 2 ≤ place }
     requires within { place ≤ length points.now }
-    ensures { result ≡ at_part part (turn_between passes_Q (slice_get points.now (place - 2)) (slice_get points.now (place - 1)) (slice_get points.now place)) }
+    ensures { result ≡ at_part part (turn_between passes_Q (slice_get points.now (place - 2)) (slice_get points.now (place - 1))
+        (slice_get points.now place)) }
 {
     let (p, q) = (&points[place - 2], &points[place - 1]);
     if place == points.len() {

@@ -32,7 +32,8 @@ fn least_point(sides: &Sides) -> Point
 // The point at which the curves cross from one time to the next, if they do.
 fn crossing(before: &Sides, now: &Sides, part: Part) -> Result<Option<Point>, PassedAt<Q>>
     requires { before.now.time <ℚ now.now.time }
-    ensures { seen_at option_to_list (λ q. q) result ≡ at_part part (crossing_by passes_Q (is_crossed_by (sides_of before.now) (sides_of now.now)) (sides_of before.now) (sides_of now.now)) }
+    ensures { seen_at option_to_list (λ q. q) result ≡ at_part part
+        (crossing_by passes_Q (is_crossed_by (sides_of before.now) (sides_of now.now)) (sides_of before.now) (sides_of now.now)) }
 {
     if !is_crossed(before, now) {
         return Ok(None);
@@ -52,7 +53,8 @@ fn add_points(
     part: Part,
 ) -> Result<(), Halt<Q>>
     requires { before.now.time <ℚ now.now.time }
-    ensures { Gives (λ _. points.new.items) (λ q. q) result (at_part part (lesser_step passes_Q points.old.items (sides_of before.now) (sides_of now.now))) }
+    ensures { Gives (λ _. points.new.items) (λ q. q) result
+        (at_part part (lesser_step passes_Q points.old.items (sides_of before.now) (sides_of now.now))) }
 {
     if let Some(point) = crossing(before, now, part)? {
         points.push(point)?;

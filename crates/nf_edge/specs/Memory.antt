@@ -58,7 +58,8 @@ pub record MemorySink : Type 0 where
 
 -- how many bytes of a piece the next write takes: none where it fails
 abbrev pub next_count : MemorySink → List ℕ → ℕ
-next_count sink piece = if is_among sink.failing (one_more sink.calls) then 0 else min (length piece) (min sink.most (sink.room - length sink.bytes))
+next_count sink piece = if is_among sink.failing (one_more sink.calls) then 0
+    else min (length piece) (min sink.most (sink.room - length sink.bytes))
 
 -- the sink after a write that took some bytes
 abbrev pub after_write : MemorySink → List ℕ → MemorySink

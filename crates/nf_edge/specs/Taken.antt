@@ -13,7 +13,8 @@ pub record TookFront (old new : Option (List ℕ)) (text : List ℕ) : Type 0 wh
   pub front : new ≡ with_more old (take count text)
 
 -- the text was written to a sink: all of it, or its first bytes and not all of them where the sink's faults rose
-pub record Wrote {E : Type 0} (took_before took_now : Option (List ℕ)) (faults_before faults_now : ℕ) (text : List ℕ) (result : Result (Unit {0}) E) : Type 0 where
+pub record Wrote {E : Type 0} (took_before took_now : Option (List ℕ)) (faults_before faults_now : ℕ) (text : List ℕ)
+    (result : Result (Unit {0}) E) : Type 0 where
   pub whole : OnOk result (took_now ≡ with_more took_before text)
   pub front : OnErr result (TookFront took_before took_now text)
   pub cause : OnErr result (Rose faults_before faults_now)

@@ -21,13 +21,17 @@ pub record IsPatternIn (net : Network) (sets : Sets) (pattern : Pattern) : Type 
 -- these flows and slopes alone meet the equations of the pattern
 pub record SolvesAlone (net : Network) (sets : Sets) (rate : ℚ) (pattern : Pattern) (flows slopes : List ℚ) : Type 0 where
   pub solves : Solves net sets rate pattern flows slopes
-  pub only : (other_flows other_slopes : List ℚ) → Solves net sets rate pattern other_flows other_slopes → (other_flows ≡ flows) × (other_slopes ≡ slopes)
+  pub only : (other_flows other_slopes : List ℚ) → Solves net sets rate pattern other_flows other_slopes
+      → (other_flows ≡ flows) × (other_slopes ≡ slopes)
 
 -- The table of a pattern has as many rows as unknowns. Where no operation passes: the values that its elimination gives are the
 -- flows and slopes that alone solve the pattern, and none are given where there are none or more than one.
 pub record EquationsAreThePatterns : Type 0 where
-  pub square : (net : Network) (sets : Sets) (rate : ℚ) (pattern : Pattern) → IsNetwork net → AreSets net sets → IsSquare (equations net sets rate pattern)
+  pub square : (net : Network) (sets : Sets) (rate : ℚ) (pattern : Pattern) → IsNetwork net → AreSets net sets
+      → IsSquare (equations net sets rate pattern)
   pub one : (passes : Passing) (net : Network) (sets : Sets) (rate : ℚ) (pattern : Pattern) (values : List ℚ) → IsPatternIn net sets pattern
-      → table_list passes (equations net sets rate pattern) ≡ Ok (Some values) → SolvesAlone net sets rate pattern (flows_in net.nodes sets.active values) (slopes_in net.nodes values)
-  pub not_one : (passes : Passing) (net : Network) (sets : Sets) (rate : ℚ) (pattern : Pattern) (flows slopes : List ℚ) → IsPatternIn net sets pattern
+      → table_list passes (equations net sets rate pattern) ≡ Ok (Some values)
+      → SolvesAlone net sets rate pattern (flows_in net.nodes sets.active values) (slopes_in net.nodes values)
+  pub not_one : (passes : Passing) (net : Network) (sets : Sets) (rate : ℚ) (pattern : Pattern) (flows slopes : List ℚ)
+      → IsPatternIn net sets pattern
       → table_list passes (equations net sets rate pattern) ≡ Ok None → SolvesAlone net sets rate pattern flows slopes → ⊥

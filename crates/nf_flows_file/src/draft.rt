@@ -26,7 +26,8 @@ pub struct Draft {
 // Puts a number at a place that has none yet.
 fn put(numbers: &mut Vec<Option<Q>>, place: usize, number: Q) -> Result<(), FlowsRule>
     requires { place < length numbers.old.items }
-    ensures puts { (if is_given numbers.old.items place then Err S10 else Ok (set numbers.old.items place (Some number))) ≡ said_by (λ _. numbers.new.items) result }
+    ensures puts { (if is_given numbers.old.items place then Err S10 else Ok (set numbers.old.items place (Some number)))
+        ≡ said_by (λ _. numbers.new.items) result }
     ensures count { OnOk result (length numbers.new.items ≡ length numbers.old.items) }
 {
     if numbers[place].is_some() {

@@ -55,7 +55,8 @@ fn read_flow(net: &Network, line: &ReadLine) -> Result<Entry, FlowsRule>
 #[tactic(auto, using(crate::proofs::FlowWords::count_wrong, crate::proofs::FlowWords::not_named, crate::proofs::FlowWords::named))]
 fn read_slope(net: &Network, line: &ReadLine) -> Result<Entry, FlowsRule>
     requires { 0 < length line.now.words }
-    ensures says { named_line (λ node slope. file.SlopeOf node slope) net.now.node_names (drop 1 line.now.words) ≡ said_by seen_entry result }
+    ensures says { named_line (λ node slope. file.SlopeOf node slope) net.now.node_names (drop 1 line.now.words)
+        ≡ said_by seen_entry result }
     ensures node { IfOk result (λ entry. IsOf net.now (seen_entry entry)) }
 {
     if line.len() != 3 {

@@ -64,7 +64,8 @@ fn read_draft(alloc: Global, net: &Network, lines: &[ReadLine]) -> Result<Draft,
 /// rules of all bytes and lines come first, then those of the lines one by one, then that of the file as a whole, with line 0.
 pub fn parse_flows(alloc: Global, net: &Network, text: &[u8]) -> Result<Flows, FlowsFault>
     requires { length text.now ≤ longest_text }
-    ensures reads { MatchResult result (λ flows. flows_in net.now text.now ≡ Ok (given_of flows)) (λ fault. IfBroken fault (λ broken. flows_in net.now text.now ≡ Err broken)) }
+    ensures reads { MatchResult result (λ flows. flows_in net.now text.now ≡ Ok (given_of flows))
+        (λ fault. IfBroken fault (λ broken. flows_in net.now text.now ≡ Err broken)) }
     ensures links { IfOk result (λ flows. length flows.flows.items ≡ length net.now.net.links) }
     ensures nodes { IfOk result (λ flows. length flows.slopes.items ≡ net.now.net.nodes) }
 {

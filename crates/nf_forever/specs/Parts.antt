@@ -12,7 +12,8 @@ use Rattle.nf_forever_lists.specs.ForeverText.{tail_lines}
 
 -- how far it went, and why it stopped
 abbrev pub head_lines : ℚ → Option (Cause ℚ) → List Line
-head_lines reached stop = (codes "forever" ∷ codes "1" ∷ []) ∷ (codes "reached" ∷ printed reached ∷ []) ∷ (codes "cause" ∷ cause_words stop) ∷ []
+head_lines reached stop = (codes "forever" ∷ codes "1" ∷ []) ∷ (codes "reached" ∷ printed reached ∷ [])
+    ∷ (codes "cause" ∷ cause_words stop) ∷ []
 
 -- the states of the links, the tail, and the end
 abbrev pub end_lines : Named → Forever → List Line

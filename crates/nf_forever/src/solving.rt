@@ -110,7 +110,8 @@ pub fn solve_forever(alloc: Global, net: &Network, budgets: Budgets) -> Result<F
     ensures run { IfOk result (λ f. IsForever passes_Q net.now.net budgets.phases budgets.patterns (forever_in f)) }
     ensures form { IfOk result (λ f. HasForm net.now.net (forever_in f)) }
     ensures equilibrium { IfOk result (λ f. Equilibrium net.now.net (flow_of f.flow)) }
-    ensures tail { IfOk result (λ f. IfSome f.tail (λ tail. (until : ℚ) → 0ℚ ≤ℚ until → Equilibrium net.now.net (flow_until net.now.net (flow_of f.flow) (tail_in tail) until))) }
+    ensures tail { IfOk result (λ f. IfSome f.tail
+        (λ tail. (until : ℚ) → 0ℚ ≤ℚ until → Equilibrium net.now.net (flow_until net.now.net (flow_of f.flow) (tail_in tail) until))) }
     ensures stop { IfOk result (λ f. IsSome f.tail ↔ (f.stopped ≡ None)) }
     ensures never_no_pattern { IfOk result (λ f. NeverNoPattern f.stopped) }
 {

@@ -37,7 +37,8 @@ fn put_tail_of<O: Sink>(
     net: &Network,
     forever: &Forever,
 ) -> Result<(), SinkFault>
-    requires { IfSome (forever_in forever.now).tail (λ tail. (length tail.slopes ≡ net.now.net.nodes) × (length tail.flows ≡ length net.now.net.links)) }
+    requires { IfSome (forever_in forever.now).tail
+        (λ tail. (length tail.slopes ≡ net.now.net.nodes) × (length tail.flows ≡ length net.now.net.links)) }
     ensures { GatheredLines (O.took out.old) (O.took out.new) (O.faults out.old) (O.faults out.new) page.old.items page.new.items
         (tail_lines net.now (forever_in forever.now).tail) result }
 {
@@ -88,7 +89,8 @@ pub fn write_forever<O: Sink>(
     out: &mut O,
 ) -> Result<(), SinkFault>
     requires { HasForm net.now.net (forever_in forever.now) }
-    ensures { Wrote (O.took out.old) (O.took out.new) (O.faults out.old) (O.faults out.new) (forever_text net.now (forever_in forever.now)) result }
+    ensures { Wrote (O.took out.old) (O.took out.new) (O.faults out.old) (O.faults out.new)
+        (forever_text net.now (forever_in forever.now)) result }
 {
     let mut page = Page::new();
     put_forever(out, &mut page, net, forever)?;

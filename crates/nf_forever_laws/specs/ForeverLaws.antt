@@ -23,31 +23,41 @@ ForeverRunIsEquilibrium = (passes : Passing) (net : Network) (phases patterns : 
 
 -- where it ends in a tail, the flow that goes on by it is an equilibrium up to every departure from 0 on
 abbrev pub TailGoesOn : Type 0
-TailGoesOn = (passes : Passing) (net : Network) (phases patterns : ℕ) (last : Standing) (pattern : Pattern) (tail : Tail) (until : ℚ) → IsNetwork net
-    → IsForeverRun passes net phases patterns last (NeverEnds pattern tail) → 0ℚ ≤ℚ until → Equilibrium net (flow_until net (flow_of last) tail until)
+TailGoesOn = (passes : Passing) (net : Network) (phases patterns : ℕ) (last : Standing) (pattern : Pattern) (tail : Tail) (until : ℚ)
+    → IsNetwork net
+    → IsForeverRun passes net phases patterns last (NeverEnds pattern tail) → 0ℚ ≤ℚ until
+    → Equilibrium net (flow_until net (flow_of last) tail until)
 
 -- an equilibrium up to a departure is one up to each earlier one
 abbrev pub EquilibriumHoldsBefore : Type 0
-EquilibriumHoldsBefore = (net : Network) (flow : Flow) (until : ℚ) → IsNetwork net → Equilibrium net flow → 0ℚ ≤ℚ until → until ≤ℚ flow.reached
+EquilibriumHoldsBefore = (net : Network) (flow : Flow) (until : ℚ) → IsNetwork net → Equilibrium net flow → 0ℚ ≤ℚ until
+    → until ≤ℚ flow.reached
     → Equilibrium net (up_to flow until)
 
 -- two runs without a horizon, of one network and with the same budgets, have the same result
 abbrev pub ForeverHasOneResult : Type 0
-ForeverHasOneResult = (passes : Passing) (net : Network) (phases patterns : ℕ) (forever other : Forever) → IsForever passes net phases patterns forever
+ForeverHasOneResult = (passes : Passing) (net : Network) (phases patterns : ℕ) (forever other : Forever)
+    → IsForever passes net phases patterns forever
     → IsForever passes net phases patterns other → forever ≡ other
 
 -- one that stopped since no pattern was left, stopped where there is no thin flow
 abbrev pub StoppedForeverHasNoThinFlow : Type 0
-StoppedForeverHasNoThinFlow = (passes : Passing) (net : Network) (phases patterns : ℕ) (forever : Forever) → IsNetwork net → IsForever passes net phases patterns forever
+StoppedForeverHasNoThinFlow = (passes : Passing) (net : Network) (phases patterns : ℕ) (forever : Forever) → IsNetwork net
+    → IsForever passes net phases patterns forever
     → StopsForNoThinFlow net forever.stop forever.flow
 
 -- Where a phase is found, and when it ends, its end is later; and a phase of a run to this end as horizon is one of the run without
 -- a horizon, as is the cause for which there is none.
 pub record StepsAgree : Type 0 where
-  pub later : (passes : Passing) (net : Network) (slacks slopes : List ℚ) (time end : ℚ) → IsNetwork net → end_list passes net slacks slopes time ≡ Ok (Some end) → time <ℚ end
-  pub goes : (passes : Passing) (net : Network) (patterns : ℕ) (s new : Standing) (place : ℕ) (pattern : Pattern) (flows slopes : List ℚ) (end : ℚ) → length s.last ≡ length net.links
-      → SeeksOn passes net patterns s (Found place pattern flows slopes) → end_list passes net (slacks_of (hops net) s.labels) slopes s.time ≡ Ok (Some end)
+  pub later : (passes : Passing) (net : Network) (slacks slopes : List ℚ) (time end : ℚ) → IsNetwork net
+      → end_list passes net slacks slopes time ≡ Ok (Some end) → time <ℚ end
+  pub goes : (passes : Passing) (net : Network) (patterns : ℕ) (s new : Standing) (place : ℕ) (pattern : Pattern) (flows slopes : List ℚ)
+      (end : ℚ) → length s.last ≡ length net.links
+      → SeeksOn passes net patterns s (Found place pattern flows slopes)
+      → end_list passes net (slacks_of (hops net) s.labels) slopes s.time ≡ Ok (Some end)
       → Goes passes net end patterns s new → GoesToEnd passes net patterns s new
-  pub fails : (passes : Passing) (net : Network) (patterns : ℕ) (s : Standing) (cause : Cause ℚ) (place : ℕ) (pattern : Pattern) (flows slopes : List ℚ) (end : ℚ) → length s.last ≡ length net.links
-      → SeeksOn passes net patterns s (Found place pattern flows slopes) → end_list passes net (slacks_of (hops net) s.labels) slopes s.time ≡ Ok (Some end)
+  pub fails : (passes : Passing) (net : Network) (patterns : ℕ) (s : Standing) (cause : Cause ℚ) (place : ℕ) (pattern : Pattern)
+      (flows slopes : List ℚ) (end : ℚ) → length s.last ≡ length net.links
+      → SeeksOn passes net patterns s (Found place pattern flows slopes)
+      → end_list passes net (slacks_of (hops net) s.labels) slopes s.time ≡ Ok (Some end)
       → Fails passes net end patterns s cause → FailsOn passes net patterns s cause

@@ -38,7 +38,8 @@ with_end true points point = points ++ point ∷ []
 with_end false points point = points
 
 abbrev pub trace_with_end : Bool → Trace → Point → Trace
-trace_with_end true trace point = record { points = trace.points ++ point ∷ []; rates = trace.rates ++ slope (last_point trace.points) point ∷ [] }
+trace_with_end true trace point = record
+    { points = trace.points ++ point ∷ []; rates = trace.rates ++ slope (last_point trace.points) point ∷ [] }
 trace_with_end false trace point = trace
 
 -- of each node its label, at the departure `until`
@@ -50,17 +51,20 @@ labels_with_end until labels curves = []
 module _ (while : ℚ) (slopes labels : List ℚ) where
   abbrev pub inflows_with_end : List Link → List ℚ → List Trace → List Trace
   inflows_with_end (link ∷ links) (flow ∷ flows) (trace ∷ traces) =
-      trace_with_end (is_positive (number_at slopes link.tail)) trace (number_at labels link.tail, value_after trace.points while flow) ∷ inflows_with_end links flows traces
+      trace_with_end (is_positive (number_at slopes link.tail)) trace (number_at labels link.tail, value_after trace.points while flow)
+      ∷ inflows_with_end links flows traces
   inflows_with_end links flows traces = []
 
   abbrev pub outflows_with_end : List Link → List ℚ → List Trace → List Trace
   outflows_with_end (link ∷ links) (flow ∷ flows) (trace ∷ traces) =
-      trace_with_end (is_positive (number_at slopes link.head)) trace (number_at labels link.head, value_after trace.points while flow) ∷ outflows_with_end links flows traces
+      trace_with_end (is_positive (number_at slopes link.head)) trace (number_at labels link.head, value_after trace.points while flow)
+      ∷ outflows_with_end links flows traces
   outflows_with_end links flows traces = []
 
   abbrev pub queues_with_end : List Link → List (List Point) → List (List Point)
   queues_with_end (link ∷ links) (points ∷ curves) =
-      with_end (is_positive (number_at slopes link.tail)) points (number_at labels link.tail, queue_then link.capacity (slack labels (hop_of link))) ∷ queues_with_end links curves
+      with_end (is_positive (number_at slopes link.tail)) points
+      (number_at labels link.tail, queue_then link.capacity (slack labels (hop_of link))) ∷ queues_with_end links curves
   queues_with_end links curves = []
 
 -- ---- the flow up to a departure after the one that it reached

@@ -57,11 +57,15 @@ module _ (passes : Passing) (net : Network) (patterns : ℕ) where
   -- the first cause for which no phase can be made, as with a horizon
   pub data FailsOn (s : Standing) : Cause ℚ → Type 0 where
     at_slack : (p : Passed ℚ) → slack_list passes (hops net) s.labels ≡ Err p → FailsOn s (Cause.Passed (suc s.made) None (placed Slack p))
-    at_search : (answer : SearchAnswer) (cause : Cause ℚ) → SeeksOn s answer → cause_of_search (suc s.made) patterns answer ≡ Some cause → FailsOn s cause
+    at_search : (answer : SearchAnswer) (cause : Cause ℚ) → SeeksOn s answer → cause_of_search (suc s.made) patterns answer ≡ Some cause
+        → FailsOn s cause
     at_extend : (place : ℕ) (pattern : Pattern) (flows slopes : List ℚ) (p : Passed ℚ) → SeeksOn s (Found place pattern flows slopes)
-        → end_list passes net (slacks_of (hops net) s.labels) slopes s.time ≡ Err p → FailsOn s (Cause.Passed (suc s.made) None (placed Extend p))
-    at_lists : (place : ℕ) (pattern : Pattern) (flows slopes : List ℚ) (end : ℚ) (p : PassedAt ℚ) → SeeksOn s (Found place pattern flows slopes)
-        → end_list passes net (slacks_of (hops net) s.labels) slopes s.time ≡ Ok (Some end) → phase_lists passes net end s pattern flows slopes ≡ Err p
+        → end_list passes net (slacks_of (hops net) s.labels) slopes s.time ≡ Err p
+        → FailsOn s (Cause.Passed (suc s.made) None (placed Extend p))
+    at_lists : (place : ℕ) (pattern : Pattern) (flows slopes : List ℚ) (end : ℚ) (p : PassedAt ℚ)
+        → SeeksOn s (Found place pattern flows slopes)
+        → end_list passes net (slacks_of (hops net) s.labels) slopes s.time ≡ Ok (Some end)
+        → phase_lists passes net end s pattern flows slopes ≡ Err p
         → FailsOn s (Cause.Passed (suc s.made) None p)
 
 -- ---- phase by phase
@@ -76,8 +80,10 @@ module _ (passes : Passing) (net : Network) (phases patterns : ℕ) where
   pub data RunsForever : Standing → Standing → End → Type 0 where
     at_phases : {s : Standing} → s.made ≡ phases → RunsForever s s (Stops (Cause.Phases s.made))
     fails : {s : Standing} {cause : Cause ℚ} → s.made < phases → FailsOn passes net patterns s cause → RunsForever s s (Stops cause)
-    never_ends : {s : Standing} {pattern : Pattern} {tail : Tail} → s.made < phases → GoesForever passes net patterns s pattern tail → RunsForever s s (NeverEnds pattern tail)
-    goes : {s new last : Standing} {end : End} → s.made < phases → GoesToEnd passes net patterns s new → RunsForever new last end → RunsForever s last end
+    never_ends : {s : Standing} {pattern : Pattern} {tail : Tail} → s.made < phases → GoesForever passes net patterns s pattern tail
+        → RunsForever s s (NeverEnds pattern tail)
+    goes : {s new last : Standing} {end : End} → s.made < phases → GoesToEnd passes net patterns s new → RunsForever new last end
+        → RunsForever s last end
 
   pub record IsForeverRun (last : Standing) (end : End) : Type 0 where
     pub first : Standing

@@ -35,7 +35,8 @@ hops_among nodes links = map (λ l. hop_of (numbered nodes l)) links
 
 -- a link of a network, by its name and those of its ends
 abbrev pub link_by_name : List Name → Name → Link → NamedLink
-link_by_name nodes name l = record { name = name; tail = name_at nodes l.tail; head = name_at nodes l.head; transit = l.transit; capacity = l.capacity }
+link_by_name nodes name l =
+    record { name = name; tail = name_at nodes l.tail; head = name_at nodes l.head; transit = l.transit; capacity = l.capacity }
 
 abbrev pub links_by_name : List Name → List Name → List Link → List NamedLink
 links_by_name nodes (name ∷ names) (l ∷ links) = link_by_name nodes name l ∷ links_by_name nodes names links
@@ -67,12 +68,21 @@ abbrev pub coded_name : Coded Name
 coded_name = coded_list coded_ℕ
 
 abbrev pub coded_named_link : Coded NamedLink
-coded_named_link = code_by (Name × (Name × (Name × (ℚ × Option ℚ)))) (coded× coded_name (coded× coded_name (coded× coded_name (coded× coded_ℚ (coded_option coded_ℚ)))))
+coded_named_link = code_by (Name × (Name × (Name × (ℚ × Option ℚ))))
+    (coded× coded_name (coded× coded_name (coded× coded_name (coded× coded_ℚ (coded_option coded_ℚ)))))
     (λ l. (l.name, (l.tail, (l.head, (l.transit, l.capacity)))))
     (λ p. record { name = p.0; tail = p.1.0; head = p.1.1.0; transit = p.1.1.1.0; capacity = p.1.1.1.1 }) (λ _. refl)
 
 abbrev pub coded_named : Coded Named
 coded_named = code_by (ℕ × (Network × (List Name × (List Name × (List Name × List NamedLink)))))
-    (coded× coded_ℕ (coded× coded_network (coded× (coded_list coded_name) (coded× (coded_list coded_name) (coded× (coded_list coded_name) (coded_list coded_named_link))))))
+    (coded× coded_ℕ (coded× coded_network
+    (coded× (coded_list coded_name) (coded× (coded_list coded_name) (coded× (coded_list coded_name) (coded_list coded_named_link))))))
     (λ n. (n.version, (n.net, (n.node_names, (n.link_names, (n.idle_nodes, n.idle_links))))))
-    (λ p. record { version = p.0; net = p.1.0; node_names = p.1.1.0; link_names = p.1.1.1.0; idle_nodes = p.1.1.1.1.0; idle_links = p.1.1.1.1.1 }) (λ _. refl)
+    (λ p. record {
+      version = p.0;
+      net = p.1.0;
+      node_names = p.1.1.0;
+      link_names = p.1.1.1.0;
+      idle_nodes = p.1.1.1.1.0;
+      idle_links = p.1.1.1.1.1;
+    }) (λ _. refl)

@@ -34,13 +34,15 @@ node_line make (name ∷ []) = if is_name name then Ok (make name) else Err N7
 node_line make words = Err N6
 
 abbrev pub link_entry : Name → Name → Name → Option ℚ → Option (Option ℚ) → Result Entry NetRule
-link_entry name tail head (Some transit) (Some capacity) = Ok (LinkLine (record { name = name; tail = tail; head = head; transit = transit; capacity = capacity }))
+link_entry name tail head (Some transit) (Some capacity) =
+    Ok (LinkLine (record { name = name; tail = tail; head = head; transit = transit; capacity = capacity }))
 link_entry name tail head transit capacity = Err N8
 
 -- `link NAME TAIL HEAD TRANSIT CAPACITY`
 abbrev pub link_line : ℕ → List (List ℕ) → Result Entry NetRule
 link_line version (name ∷ tail ∷ head ∷ transit ∷ capacity ∷ []) =
-    if is_name name && (is_name tail && is_name head) then link_entry name tail head (number_in version transit) (capacity_in version capacity) else Err N7
+    if is_name name && (is_name tail && is_name head)
+    then link_entry name tail head (number_in version transit) (capacity_in version capacity) else Err N7
 link_line version words = Err N6
 
 abbrev pub inflow_entry : Option ℚ → Option ℚ → Result Entry NetRule
@@ -118,7 +120,8 @@ abbrev pub broken_rule : Draft → Entry → Option NetRule
 broken_rule draft (Source name) = first_rule ((is_some draft.source, N9) ∷ (too_many_nodes draft (name ∷ []), N10) ∷ [])
 broken_rule draft (Sink name) = first_rule ((is_some draft.sink, N9) ∷ (too_many_nodes draft (name ∷ []), N10) ∷ [])
 broken_rule draft (LinkLine l) = first_rule (
-    (has_name (names_of draft.links) l.name, N9) ∷ (too_many_nodes draft (l.tail ∷ l.head ∷ []), N10) ∷ (nat_le most_links (length draft.links), N11)
+    (has_name (names_of draft.links) l.name, N9) ∷ (too_many_nodes draft (l.tail ∷ l.head ∷ []), N10)
+    ∷ (nat_le most_links (length draft.links), N11)
     ∷ (is_negative l.transit, N13) ∷ (is_no_capacity l.capacity, N14) ∷ [])
 broken_rule draft (InflowLine piece) = first_rule (
     (nat_le most_pieces (length draft.pieces), N12) ∷ (is_negative piece.start || is_negative piece.rate, N15)
@@ -132,7 +135,8 @@ unless (Some rule) draft = Err rule
 
 -- what the lines say with one line more, or the first of N4 to N16 that it breaks
 abbrev pub add_line : Draft → List (List ℕ) → Result Draft NetRule
-add_line draft words = if draft.ended then Err N4 else (entry_of draft.version words >>= λ entry. unless (broken_rule draft entry) (after draft entry))
+add_line draft words = if draft.ended then Err N4
+    else (entry_of draft.version words >>= λ entry. unless (broken_rule draft entry) (after draft entry))
 
 abbrev pub in_line : ℕ → Result Draft NetRule → Result Draft Broken
 in_line number (Ok draft) = Ok draft

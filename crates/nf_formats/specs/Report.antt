@@ -47,7 +47,8 @@ point_lines key name points = map (λ p. key ∷ name ∷ printed p.0 ∷ printe
 -- the same, with the rate from each point to the next, and `-` at the last
 abbrev pub trace_lines : List ℕ → Name → List (ℚ × ℚ) → List ℚ → List (List (List ℕ))
 trace_lines key name [] rates = []
-trace_lines key name (p ∷ points) (rate ∷ rates) = (key ∷ name ∷ printed p.0 ∷ printed p.1 ∷ printed rate ∷ []) ∷ trace_lines key name points rates
+trace_lines key name (p ∷ points) (rate ∷ rates) =
+    (key ∷ name ∷ printed p.0 ∷ printed p.1 ∷ printed rate ∷ []) ∷ trace_lines key name points rates
 trace_lines key name (p ∷ points) [] = (key ∷ name ∷ printed p.0 ∷ printed p.1 ∷ codes "-" ∷ []) ∷ trace_lines key name points []
 
 abbrev pub trace_at : List Trace → ℕ → Trace

@@ -30,7 +30,8 @@ IsNearer (Some best) (Some offered) nearer =
 pub record IsNearestBefore (hops : List Hop) (sums : List (Option ℚ)) (count : ℕ) (best : Option Step) : Type 0 where
   pub given : (step : Step) → best ≡ Some step → Offers hops sums step.node step.sum
   pub least : (v : ℕ) (sum : ℚ) (o : Offers hops sums v sum) → o.number < count → (step : Step) × (best ≡ Some step) × (step.sum ≤ℚ sum)
-  pub fits : (e : ℕ) (hop : Hop) (before : ℚ) → e < count → IsHop hops e hop → HasSum sums hop.tail before → SumPasses before hop.transit → ⊥
+  pub fits : (e : ℕ) (hop : Hop) (before : ℚ) → e < count → IsHop hops e hop → HasSum sums hop.tail before
+      → SumPasses before hop.transit → ⊥
 
 -- the least offer; and all sums fit
 pub record IsNearest (hops : List Hop) (sums : List (Option ℚ)) (best : Option Step) : Type 0 where

@@ -73,13 +73,16 @@ AllEndBefore time curves = (v : ℕ) (curve : GrowingCurve) → slice_get curves
 
 -- ---- how these values are told apart
 abbrev pub coded_roomy : {A : Type 0} → Coded A → Coded (Roomy A)
-coded_roomy {A} code = code_by (A × ℕ) (coded× code coded_ℕ) (λ r. (r.grown, r.spare)) (λ p. record { grown = p.0; spare = p.1 }) (λ _. refl)
+coded_roomy {A} code = code_by (A × ℕ) (coded× code coded_ℕ) (λ r. (r.grown, r.spare))
+    (λ p. record { grown = p.0; spare = p.1 }) (λ _. refl)
 
 abbrev pub coded_growing : Coded GrowingCurve
-coded_growing = code_by (List (ℚ × ℚ) × Option ℚ) (coded× coded_points (coded_option coded_ℚ)) (λ c. (c.points, c.slope)) (λ p. record { points = p.0; slope = p.1 }) (λ _. refl)
+coded_growing = code_by (List (ℚ × ℚ) × Option ℚ) (coded× coded_points (coded_option coded_ℚ)) (λ c. (c.points, c.slope))
+    (λ p. record { points = p.0; slope = p.1 }) (λ _. refl)
 
 abbrev pub coded_trace : Coded Trace
-coded_trace = code_by (List (ℚ × ℚ) × List ℚ) (coded× coded_points (coded_list coded_ℚ)) (λ t. (t.points, t.rates)) (λ p. record { points = p.0; rates = p.1 }) (λ _. refl)
+coded_trace = code_by (List (ℚ × ℚ) × List ℚ) (coded× coded_points (coded_list coded_ℚ)) (λ t. (t.points, t.rates))
+    (λ p. record { points = p.0; rates = p.1 }) (λ _. refl)
 
 abbrev pub coded_curves : Coded LinkCurves
 coded_curves = code_by (Trace × (Trace × GrowingCurve)) (coded× coded_trace (coded× coded_trace coded_growing))

@@ -16,5 +16,6 @@ pub record LinkEndsBefore (labels : List ℚ) (link : Link) (curves : LinkCurves
 
 -- so do those of all links
 abbrev pub AllLinksEndBefore : Network → List ℚ → List LinkCurves → List LinkStep → Type 0
-AllLinksEndBefore net labels curves steps = (e : ℕ) (link : Link) (c : LinkCurves) (step : LinkStep) → IsLink net e link → slice_get curves e ≡ Some c → slice_get steps e ≡ Some step
+AllLinksEndBefore net labels curves steps = (e : ℕ) (link : Link) (c : LinkCurves) (step : LinkStep) → IsLink net e link
+    → slice_get curves e ≡ Some c → slice_get steps e ≡ Some step
     → LinkEndsBefore labels link c step

@@ -41,7 +41,10 @@ impl Model for GrowingCurve {
 
     ghost coded = { coded_roomy coded_growing };
 
-    ghost view = { λ a. record { grown = record { points = points_to a.corners.points a.end; slope = end_slope a.end }; spare = a.corners.spare } };
+    ghost view = { λ a. record {
+      grown = record { points = points_to a.corners.points a.end; slope = end_slope a.end };
+      spare = a.corners.spare;
+    } };
 
     ghost invariant = { λ a. IsAfter a.corners.points a.end };
 }

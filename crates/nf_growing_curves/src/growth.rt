@@ -28,7 +28,8 @@ pub fn first_labels(alloc: Global, labels: &[Q]) -> Result<Vec<GrowingCurve>, Al
 
 /// Curves that go on where these end. Passed comes exactly at the first operation of their list that passes, and has part Curve.
 pub fn restore_labels(alloc: Global, curves: &[Curve]) -> Result<Vec<GrowingCurve>, Halt<Q>>
-    ensures { Gives (λ grown. all_grown grown.items) (λ q. q) result (at_part CurvePart (each (growing passes_Q) (map (λ c. c.points) curves.now))) }
+    ensures { Gives (λ grown. all_grown grown.items) (λ q. q) result
+        (at_part CurvePart (each (growing passes_Q) (map (λ c. c.points) curves.now))) }
 {
     let mut grown = Vec::new(alloc);
     for curve in curves {
@@ -126,8 +127,10 @@ impl FinishedLinks {
     // One more link.
     fn add(&mut self, inflow: Trace, outflow: Trace, queue: Curve) -> Result<(), AllocError>
         ensures inflows { OnOk result (map trace_of self.new.inflows.items ≡ map trace_of self.old.inflows.items ++ trace_of inflow ∷ []) }
-        ensures outflows { OnOk result (map trace_of self.new.outflows.items ≡ map trace_of self.old.outflows.items ++ trace_of outflow ∷ []) }
-        ensures queues { OnOk result (map (λ c. c.points) self.new.queues.items ≡ map (λ c. c.points) self.old.queues.items ++ queue.points ∷ []) }
+        ensures outflows { OnOk result
+            (map trace_of self.new.outflows.items ≡ map trace_of self.old.outflows.items ++ trace_of outflow ∷ []) }
+        ensures queues { OnOk result
+            (map (λ c. c.points) self.new.queues.items ≡ map (λ c. c.points) self.old.queues.items ++ queue.points ∷ []) }
     {
         self.inflows.push(inflow)?;
         self.outflows.push(outflow)?;
@@ -137,9 +140,12 @@ impl FinishedLinks {
 
     // One more link, whose curves end here.
     fn push(&mut self, link: LinkCurves) -> Result<(), AllocError>
-        ensures inflows { OnOk result (map trace_of self.new.inflows.items ≡ map trace_of self.old.inflows.items ++ link.grown.inflow ∷ []) }
-        ensures outflows { OnOk result (map trace_of self.new.outflows.items ≡ map trace_of self.old.outflows.items ++ link.grown.outflow ∷ []) }
-        ensures queues { OnOk result (map (λ c. c.points) self.new.queues.items ≡ map (λ c. c.points) self.old.queues.items ++ link.grown.queue.points ∷ []) }
+        ensures inflows { OnOk result
+            (map trace_of self.new.inflows.items ≡ map trace_of self.old.inflows.items ++ link.grown.inflow ∷ []) }
+        ensures outflows { OnOk result
+            (map trace_of self.new.outflows.items ≡ map trace_of self.old.outflows.items ++ link.grown.outflow ∷ []) }
+        ensures queues { OnOk result
+            (map (λ c. c.points) self.new.queues.items ≡ map (λ c. c.points) self.old.queues.items ++ link.grown.queue.points ∷ []) }
     {
         let (inflow, outflow, queue) = link.finish()?;
         self.add(inflow, outflow, queue)
@@ -147,9 +153,12 @@ impl FinishedLinks {
 
     // One more link, whose curves may go on.
     fn push_copy(&mut self, alloc: Global, link: &LinkCurves) -> Result<(), AllocError>
-        ensures inflows { OnOk result (map trace_of self.new.inflows.items ≡ map trace_of self.old.inflows.items ++ link.now.grown.inflow ∷ []) }
-        ensures outflows { OnOk result (map trace_of self.new.outflows.items ≡ map trace_of self.old.outflows.items ++ link.now.grown.outflow ∷ []) }
-        ensures queues { OnOk result (map (λ c. c.points) self.new.queues.items ≡ map (λ c. c.points) self.old.queues.items ++ link.now.grown.queue.points ∷ []) }
+        ensures inflows { OnOk result
+            (map trace_of self.new.inflows.items ≡ map trace_of self.old.inflows.items ++ link.now.grown.inflow ∷ []) }
+        ensures outflows { OnOk result
+            (map trace_of self.new.outflows.items ≡ map trace_of self.old.outflows.items ++ link.now.grown.outflow ∷ []) }
+        ensures queues { OnOk result
+            (map (λ c. c.points) self.new.queues.items ≡ map (λ c. c.points) self.old.queues.items ++ link.now.grown.queue.points ∷ []) }
     {
         let (inflow, outflow, queue) = link.copy(alloc)?;
         self.add(inflow, outflow, queue)

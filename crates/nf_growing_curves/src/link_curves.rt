@@ -75,7 +75,8 @@ impl LinkCurves {
     ) -> Result<LinkCurves, Halt<Q>>
         requires inflow { AreSlopes (trace_of inflow.now).points (trace_of inflow.now).rates }
         requires outflow { AreSlopes (trace_of outflow.now).points (trace_of outflow.now).rates }
-        ensures { Gives (λ c. c.grown) (λ q. q) result (at_part CurvePart (of_link passes_Q (trace_of inflow.now) (trace_of outflow.now) queue.now.points)) }
+        ensures { Gives (λ c. c.grown) (λ q. q) result
+            (at_part CurvePart (of_link passes_Q (trace_of inflow.now) (trace_of outflow.now) queue.now.points)) }
     {
         let inflow = GrowingTrace::of(alloc, inflow)?;
         let outflow = GrowingTrace::of(alloc, outflow)?;

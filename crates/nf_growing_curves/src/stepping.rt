@@ -164,7 +164,8 @@ fn step_of(
     requires labels { count_of labels.now ≡ net.now.net.nodes }
     requires amounts { count_of amounts.now ≡ count_of net.now.net.links }
     ensures { (here : SeenLink) → IsLink net.now.net link here
-        → result ≡ at_part Curve (link_step_by passes_Q length (number_at amounts.now link) (link_phase_of sets.now pattern.now flows.now slopes.now labels.now (link, here))) }
+        → result ≡ at_part Curve (link_step_by passes_Q length (number_at amounts.now link)
+        (link_phase_of sets.now pattern.now flows.now slopes.now labels.now (link, here))) }
 {
     let here = link_phase(net, sets, pattern, flows, slopes, labels, link);
     link_step(length, amounts[link.index()], &here)

@@ -52,7 +52,8 @@ fn clear_one<S: Scalar>(
     requires column { column < length row.old }
     requires own { S.means own ≢ 0ℚ }
     requires later { AllByRecursion (λ other. other.0 < length row.old) later.now }
-    ensures { seen_at (λ _. row.new) S.means result ≡ at_part Part.Table (clear_unless S.passes (is_pivot || Signs.is_zero (number_at row.old column)) column (S.means own) later.now row.old) }
+    ensures { seen_at (λ _. row.new) S.means result ≡ at_part Part.Table
+        (clear_unless S.passes (is_pivot || Signs.is_zero (number_at row.old column)) column (S.means own) later.now row.old) }
 {
     if is_pivot || row.is_zero_at(column) {
         return Ok(());
@@ -71,7 +72,8 @@ fn clear_rows<S: Scalar>(
     requires own { S.means own ≢ 0ℚ }
     requires column { (i : ℕ) → i < length rows.old → column < length (row_at rows.old i) }
     requires later { (i : ℕ) → i < length rows.old → AllByRecursion (λ other. other.0 < length (row_at rows.old i)) later.now }
-    ensures { seen_at (λ _. rows.new) S.means result ≡ at_part Part.Table (clear_each S.passes column pivot (S.means own) later.now 0 rows.old) }
+    ensures { seen_at (λ _. rows.new) S.means result
+        ≡ at_part Part.Table (clear_each S.passes column pivot (S.means own) later.now 0 rows.old) }
 {
     for i in 0..rows.len() {
         clear_one(&mut rows[i], i == pivot, column, own, later)?;
@@ -90,7 +92,8 @@ pub fn eliminate<S: Scalar>(
     requires pivot { pivot < length rows.old }
     requires column { column < length rows.old }
     requires some { number_at (row_at rows.old pivot) column ≢ 0ℚ }
-    ensures { Gives (λ _. rows.new) S.means result (at_part Part.Table (Lists.clear_rows S.passes column pivot (row_at rows.old pivot) 0 rows.old)) }
+    ensures { Gives (λ _. rows.new) S.means result
+        (at_part Part.Table (Lists.clear_rows S.passes column pivot (row_at rows.old pivot) 0 rows.old)) }
 {
     let own = rows[pivot].at(column);
     rows[pivot].later(column, later)?;

@@ -61,7 +61,8 @@ fn clear_one<const N: usize>(
     requires column { column + 1 < length row.old }
     requires own { own ≢ 0ℚ }
     requires later { AllByRecursion (λ other. other.0 < length row.old) later.now }
-    ensures { seen_at (λ _. row.new) (λ q. q) result ≡ at_part Part.Table (clear_unless passes_Q (is_pivot || Signs.is_zero (number_at row.old column)) column own later.now row.old) }
+    ensures { seen_at (λ _. row.new) (λ q. q) result
+        ≡ at_part Part.Table (clear_unless passes_Q (is_pivot || Signs.is_zero (number_at row.old column)) column own later.now row.old) }
 {
     if is_pivot || row.is_zero_at(column) {
         return Ok(());
@@ -100,7 +101,8 @@ fn eliminate<const N: usize>(
     requires column { column < length rows.old }
     requires some { number_at (row_at rows.old pivot) column ≢ 0ℚ }
     requires entries { N ≤ length entries.old }
-    ensures { seen_at (λ _. rows.new) (λ q. q) result ≡ at_part Part.Table (Lists.clear_rows passes_Q column pivot (row_at rows.old pivot) 0 rows.old) }
+    ensures { seen_at (λ _. rows.new) (λ q. q) result
+        ≡ at_part Part.Table (Lists.clear_rows passes_Q column pivot (row_at rows.old pivot) 0 rows.old) }
 {
     let own = rows[pivot].at(column);
     let count = rows[pivot].later(column, entries);

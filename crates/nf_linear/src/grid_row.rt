@@ -108,7 +108,8 @@ impl<const N: usize> GridRow<N> {
     fn push_some(&self, entries: &mut [(usize, Q)], count: usize, column: usize) -> usize
         requires column { column < length self.now }
         requires room { count < length entries.old }
-        ensures value { take result entries.new ≡ take count entries.old ++ (if Signs.is_zero (number_at self.now column) then [] else (column, number_at self.now column) ∷ []) }
+        ensures value { take result entries.new ≡ take count entries.old
+            ++ (if Signs.is_zero (number_at self.now column) then [] else (column, number_at self.now column) ∷ []) }
         ensures count { result ≤ count + 1 }
     {
         let value = self.at(column);
@@ -136,7 +137,8 @@ impl<const N: usize> GridRow<N> {
     // Each of these entries of another row, times the factor, is taken off.
     fn subtract(&mut self, factor: Q, others: &[(usize, Q)]) -> Result<(), PassedAt<Q>>
         requires { AllByRecursion (λ other. other.0 < length self.old) others.now }
-        ensures { seen_at (λ _. self.new) (λ q. q) result ≡ at_part Part.Table (fold_checked (entry_less passes_Q factor) self.old others.now) }
+        ensures { seen_at (λ _. self.new) (λ q. q) result
+            ≡ at_part Part.Table (fold_checked (entry_less passes_Q factor) self.old others.now) }
     {
         for other in others {
             let (column, entry) = *other;
@@ -163,7 +165,8 @@ impl<const N: usize> GridRow<N> {
     pub fn value_of(&self, column: usize) -> Result<Q, PassedAt<Q>>
         requires column { column + 1 < length self.now }
         requires own { number_at self.now column ≢ 0ℚ }
-        ensures { seen_at (λ q. q) (λ q. q) result ≡ checked_at passes_Q Part.Table Quotient (number_at self.now (length self.now - 1)) (number_at self.now column) }
+        ensures { seen_at (λ q. q) (λ q. q) result
+            ≡ checked_at passes_Q Part.Table Quotient (number_at self.now (length self.now - 1)) (number_at self.now column) }
     {
         let right = self.at(self.size as usize);
         let value = nf_frac::at!(Part::Table, right.quotient(self.at(column)));

@@ -59,7 +59,8 @@ fn is_zero<S: Scalar>(value: S) -> bool
 
 // A value less a factor times another.
 fn less<S: Scalar>(value: S, factor: S, other: S) -> Result<S, PassedAt<S>>
-    ensures { seen_at S.means S.means result ≡ at_part Part.Table (less_unless S.passes false (S.means factor) (S.means other) (S.means value)) }
+    ensures { seen_at S.means S.means result
+        ≡ at_part Part.Table (less_unless S.passes false (S.means factor) (S.means other) (S.means value)) }
 {
     let product = nf_frac::at!(Part::Table, factor.product(other));
     let less = nf_frac::at!(Part::Table, value.difference(product));
@@ -110,7 +111,8 @@ impl<S: Scalar> Row<S> {
     // One more entry, unless it is 0.
     fn push_some(&self, entries: &mut Vec<Entry<S>>, column: usize) -> Result<(), AllocError>
         requires { column < length self.now }
-        ensures { IfOk result (λ _. entries.new.items ≡ entries.old.items ++ (if Signs.is_zero (number_at self.now column) then [] else (column, number_at self.now column) ∷ [])) }
+        ensures { IfOk result (λ _. entries.new.items
+            ≡ entries.old.items ++ (if Signs.is_zero (number_at self.now column) then [] else (column, number_at self.now column) ∷ [])) }
     {
         if !self.is_zero_at(column) {
             let value = self.at(column);
@@ -135,7 +137,8 @@ impl<S: Scalar> Row<S> {
     // Each of these entries of another row, times the factor, is taken off.
     fn subtract(&mut self, factor: S, others: &[Entry<S>]) -> Result<(), PassedAt<S>>
         requires { AllByRecursion (λ other. other.0 < length self.old) others.now }
-        ensures { seen_at (λ _. self.new) S.means result ≡ at_part Part.Table (fold_checked (entry_less S.passes (S.means factor)) self.old others.now) }
+        ensures { seen_at (λ _. self.new) S.means result
+            ≡ at_part Part.Table (fold_checked (entry_less S.passes (S.means factor)) self.old others.now) }
     {
         for other in others {
             let entry: &Entry<S> = other;
@@ -162,7 +165,8 @@ impl<S: Scalar> Row<S> {
     pub fn value_of(&self, column: usize) -> Result<S, PassedAt<S>>
         requires column { column + 1 < length self.now }
         requires own { number_at self.now column ≢ 0ℚ }
-        ensures { seen_at S.means S.means result ≡ checked_at S.passes Part.Table Quotient (number_at self.now (length self.now - 1)) (number_at self.now column) }
+        ensures { seen_at S.means S.means result
+            ≡ checked_at S.passes Part.Table Quotient (number_at self.now (length self.now - 1)) (number_at self.now column) }
     {
         let right = self.at(self.len() - 1);
         let value = nf_frac::at!(Part::Table, right.quotient(self.at(column)));

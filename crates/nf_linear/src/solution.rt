@@ -25,7 +25,8 @@ pub enum Solved<S> {
 // The value of each unknown, once the columns are cleared.
 fn values<S: Scalar>(alloc: Global, rows: &[Row<S>], pivots: &[usize]) -> Result<Vec<S>, Halt<S>>
     requires { HasPivots rows.now pivots.now }
-    ensures { Gives (λ values. map S.means values.items) S.means result (at_part Part.Table (solution_from S.passes rows.now 0 pivots.now)) }
+    ensures { Gives (λ values. map S.means values.items) S.means result
+        (at_part Part.Table (solution_from S.passes rows.now 0 pivots.now)) }
 {
     let mut values = Vec::with_capacity(alloc, pivots.len())?;
     for column in 0..pivots.len() {

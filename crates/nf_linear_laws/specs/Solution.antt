@@ -28,5 +28,7 @@ pub record IsOnlySolution (rows : List Row) (xs : List ℚ) : Type 0 where
 
 -- Where no operation passes: the values given are the only solution, and none are given where there is none or more than one.
 pub record TableIsSolved : Type 0 where
-  pub one : (passes : Passing) (rows : List Row) (xs : List ℚ) → IsSquare rows → table_list passes rows ≡ Ok (Some xs) → IsOnlySolution rows xs
-  pub not_one : (passes : Passing) (rows : List Row) → IsSquare rows → table_list passes rows ≡ Ok None → (xs : List ℚ) → IsOnlySolution rows xs → ⊥
+  pub one : (passes : Passing) (rows : List Row) (xs : List ℚ) → IsSquare rows → table_list passes rows ≡ Ok (Some xs)
+      → IsOnlySolution rows xs
+  pub not_one : (passes : Passing) (rows : List Row) → IsSquare rows → table_list passes rows ≡ Ok None → (xs : List ℚ)
+      → IsOnlySolution rows xs → ⊥

@@ -97,4 +97,5 @@ module _ (passes : Passing) where
   -- the labels are those at the phase's end, and the amounts what had entered the links at its beginning
   unfoldable pub curve_list : Network → Sets → Pattern → ℚ → List ℚ → List ℚ → List ℚ → List ℚ → Checked (List LinkStep)
   curve_list net sets pattern length flows slopes labels amounts =
-      each (λ numbered. link_step length (number_at amounts numbered.0) (link_phase sets pattern flows slopes labels numbered)) (enumerate_from 0 net.links)
+      each (λ numbered. link_step length (number_at amounts numbered.0) (link_phase sets pattern flows slopes labels numbered))
+      (enumerate_from 0 net.links)

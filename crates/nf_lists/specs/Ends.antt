@@ -18,6 +18,9 @@ end_of points = option_map_or (λ point. point.0) (last_or None points) 0ℚ
 -- outflow at that of its head.
 pub record EndsAtLabels (net : Network) (s : Standing) : Type 0 where
   pub labels : (v : ℕ) (curve : GrowingCurve) → slice_get s.label_curves v ≡ Some curve → end_of curve.points ≡ s.time
-  pub inflows : (e : ℕ) (link : Link) (curves : LinkCurves) → IsLink net e link → slice_get s.link_curves e ≡ Some curves → end_of curves.inflow.points ≡ number_at s.labels link.tail
-  pub outflows : (e : ℕ) (link : Link) (curves : LinkCurves) → IsLink net e link → slice_get s.link_curves e ≡ Some curves → end_of curves.outflow.points ≡ number_at s.labels link.head
-  pub queues : (e : ℕ) (link : Link) (curves : LinkCurves) → IsLink net e link → slice_get s.link_curves e ≡ Some curves → end_of curves.queue.points ≡ number_at s.labels link.tail
+  pub inflows : (e : ℕ) (link : Link) (curves : LinkCurves) → IsLink net e link → slice_get s.link_curves e ≡ Some curves
+      → end_of curves.inflow.points ≡ number_at s.labels link.tail
+  pub outflows : (e : ℕ) (link : Link) (curves : LinkCurves) → IsLink net e link → slice_get s.link_curves e ≡ Some curves
+      → end_of curves.outflow.points ≡ number_at s.labels link.head
+  pub queues : (e : ℕ) (link : Link) (curves : LinkCurves) → IsLink net e link → slice_get s.link_curves e ≡ Some curves
+      → end_of curves.queue.points ≡ number_at s.labels link.tail

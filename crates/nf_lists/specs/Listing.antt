@@ -10,10 +10,12 @@ abbrev pub HasPlace : List Pattern → ℕ → Pattern → Type 0
 HasPlace listing place pattern = (index : ℕ) × (place ≡ suc index) × (slice_get listing index ≡ Some pattern)
 
 -- Each listed pattern is there, no other pattern is, and each comes before those at later places: so each is there once.
-pub record IsListing (nodes source : ℕ) (hops : List Hop) (sets : Sets) (unbounded : List Bool) (base : Pattern) (listing : List Pattern) : Type 0 where
+pub record IsListing (nodes source : ℕ) (hops : List Hop) (sets : Sets) (unbounded : List Bool) (base : Pattern)
+    (listing : List Pattern) : Type 0 where
   pub listed : (place : ℕ) (pattern : Pattern) → HasPlace listing place pattern → IsListed nodes source hops sets unbounded pattern
   pub whole : (pattern : Pattern) → IsListed nodes source hops sets unbounded pattern → (place : ℕ) × HasPlace listing place pattern
-  pub ordered : (earlier later : ℕ) (p q : Pattern) → earlier < later → HasPlace listing earlier p → HasPlace listing later q → IsBefore base p q
+  pub ordered : (earlier later : ℕ) (p q : Pattern) → earlier < later → HasPlace listing earlier p → HasPlace listing later q
+      → IsBefore base p q
 
 -- that of a network
 abbrev pub IsListingIn : Network → Sets → Pattern → List Pattern → Type 0

@@ -80,7 +80,8 @@ module _ (passes : Passing) (net : Network) (horizon : ℚ) where
   phase_lists s pattern flows slopes = do
     extension ← at_part Extend (extend_list passes net (slacks_of (hops net) s.labels) slopes s.time)
     advanced ← at_part Advance (advance_list passes horizon s.time extension s.labels slopes)
-    links ← at_part Curve (curve_list passes net (sets_at net s.labels) pattern advanced.length flows slopes advanced.labels (map amount_so_far s.link_curves))
+    links ← at_part Curve (curve_list passes net (sets_at net s.labels) pattern advanced.length flows slopes advanced.labels
+        (map amount_so_far s.link_curves))
     Ok (record { length = advanced.length; labels = advanced.labels; links = links })
 
 module _ (passes : Passing) (net : Network) (horizon : ℚ) (patterns : ℕ) where
@@ -112,8 +113,10 @@ module _ (passes : Passing) (net : Network) (horizon : ℚ) (patterns : ℕ) whe
   -- The first cause for which no phase can be made: an operation of the slack list passes; the search finds no pattern; or an
   -- operation of the phase's lists passes.
   pub data Fails (s : Standing) : Cause ℚ → Type 0 where
-    at_slack : (p : Passed ℚ) → s.time <ℚ horizon → slack_list passes (hops net) s.labels ≡ Err p → Fails s (Cause.Passed (suc s.made) None (placed Slack p))
-    at_search : (answer : SearchAnswer) (cause : Cause ℚ) → Seeks s answer → cause_of_search (suc s.made) patterns answer ≡ Some cause → Fails s cause
+    at_slack : (p : Passed ℚ) → s.time <ℚ horizon → slack_list passes (hops net) s.labels ≡ Err p
+        → Fails s (Cause.Passed (suc s.made) None (placed Slack p))
+    at_search : (answer : SearchAnswer) (cause : Cause ℚ) → Seeks s answer → cause_of_search (suc s.made) patterns answer ≡ Some cause
+        → Fails s cause
     at_lists : (place : ℕ) (pattern : Pattern) (flows slopes : List ℚ) (p : PassedAt ℚ) → Seeks s (Found place pattern flows slopes)
         → phase_lists passes net horizon s pattern flows slopes ≡ Err p → Fails s (Cause.Passed (suc s.made) None p)
 
@@ -124,7 +127,8 @@ module _ (passes : Passing) (net : Network) (bounds : Bounds) where
   pub data Runs : Standing → Standing → Option (Cause ℚ) → Type 0 where
     at_horizon : {s : Standing} → s.time ≡ bounds.horizon → Runs s s None
     at_phases : {s : Standing} → s.time <ℚ bounds.horizon → s.made ≡ bounds.phases → Runs s s (Some (Cause.Phases s.made))
-    fails : {s : Standing} {cause : Cause ℚ} → s.made < bounds.phases → Fails passes net bounds.horizon bounds.patterns s cause → Runs s s (Some cause)
+    fails : {s : Standing} {cause : Cause ℚ} → s.made < bounds.phases → Fails passes net bounds.horizon bounds.patterns s cause
+        → Runs s s (Some cause)
     goes : {s new last : Standing} {stop : Option (Cause ℚ)} → s.made < bounds.phases → Goes passes net bounds.horizon bounds.patterns s new
         → Runs new last stop → Runs s last stop
 

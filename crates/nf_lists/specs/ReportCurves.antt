@@ -75,7 +75,8 @@ first_curves labels link = record {
 
 -- the label of a node, by departure
 abbrev pub label_curves_after : ℚ → List ℚ → List ℚ → List GrowingCurve → List GrowingCurve
-label_curves_after time (label ∷ labels) (slope ∷ slopes) (curve ∷ curves) = curve_with curve (time, label) slope ∷ label_curves_after time labels slopes curves
+label_curves_after time (label ∷ labels) (slope ∷ slopes) (curve ∷ curves) =
+    curve_with curve (time, label) slope ∷ label_curves_after time labels slopes curves
 label_curves_after time labels slopes curves = []
 
 -- no point where the label stands still
@@ -95,7 +96,8 @@ curves_after labels link curves step = record {
 }
 
 abbrev pub link_curves_after : List ℚ → List Link → List LinkCurves → List LinkStep → List LinkCurves
-link_curves_after labels (link ∷ links) (c ∷ curves) (step ∷ steps) = curves_after labels link c step ∷ link_curves_after labels links curves steps
+link_curves_after labels (link ∷ links) (c ∷ curves) (step ∷ steps) =
+    curves_after labels link c step ∷ link_curves_after labels links curves steps
 link_curves_after labels links curves steps = []
 
 -- ---- what has entered a link so far: the value of its inflow curve's last point

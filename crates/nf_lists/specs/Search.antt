@@ -22,7 +22,8 @@ pub data SearchAnswer : Type 0 where
 module _ (passes : Passing) (net : Network) (sets : Sets) (rate : ℚ) (listing : List Pattern) where
   -- no pattern before this place is accepted
   abbrev pub NoneAcceptedBefore : ℕ → Type 0
-  NoneAcceptedBefore place = (other : ℕ) (pattern : Pattern) → other < place → HasPlace listing other pattern → IsAccepted passes net sets rate pattern → ⊥
+  NoneAcceptedBefore place = (other : ℕ) (pattern : Pattern) → other < place → HasPlace listing other pattern
+      → IsAccepted passes net sets rate pattern → ⊥
 
   abbrev pub NoneAccepted : Type 0
   NoneAccepted = (other : ℕ) (pattern : Pattern) → HasPlace listing other pattern → IsAccepted passes net sets rate pattern → ⊥
@@ -49,7 +50,8 @@ module _ (passes : Passing) (net : Network) (sets : Sets) (rate : ℚ) (listing 
     pub pattern : Pattern
     pub has_place : HasPlace listing place pattern
     pub passed : pattern_lists passes net sets rate pattern ≡ Err at
-    pub first : (other : ℕ) (before : Pattern) → other < place → HasPlace listing other before → IsOk (pattern_lists passes net sets rate before)
+    pub first : (other : ℕ) (before : Pattern) → other < place → HasPlace listing other before
+        → IsOk (pattern_lists passes net sets rate before)
 
   abbrev pub NonePasses : Type 0
   NonePasses = (other : ℕ) (pattern : Pattern) → HasPlace listing other pattern → IsOk (pattern_lists passes net sets rate pattern)
@@ -61,7 +63,8 @@ module _ (passes : Passing) (net : Network) (sets : Sets) (rate : ℚ) (listing 
   Answers budget NoPattern = IsInVain budget × NonePasses
 
 -- the answer of the search that begins with this base pattern and tries no more patterns than the budget
-pub record IsSearch (passes : Passing) (net : Network) (sets : Sets) (rate : ℚ) (base : Pattern) (budget : ℕ) (answer : SearchAnswer) : Type 0 where
+pub record IsSearch (passes : Passing) (net : Network) (sets : Sets) (rate : ℚ) (base : Pattern) (budget : ℕ)
+    (answer : SearchAnswer) : Type 0 where
   pub listing : List Pattern
   pub is_listing : IsListingIn net sets base listing
   pub answers : Answers passes net sets rate listing budget answer

@@ -23,7 +23,8 @@ row_at rows i = unwrap_or (slice_get rows i) []
 abbrev pub pivot_from : ℕ → List Row → List ℕ → ℕ → Option ℕ
 pivot_from i [] pivots column = None
 pivot_from i (row ∷ rows) pivots column =
-    if not (list_any (λ pivot. pivot == i) pivots) && not (is_zero (number_at row column)) then Some i else pivot_from (suc i) rows pivots column
+    if not (list_any (λ pivot. pivot == i) pivots) && not (is_zero (number_at row column)) then Some i
+    else pivot_from (suc i) rows pivots column
 
 abbrev pub pivot_of : List Row → List ℕ → ℕ → Option ℕ
 pivot_of rows pivots column = pivot_from 0 rows pivots column

@@ -31,10 +31,12 @@ SearchHasOneAnswer = (passes : Passing) (net : Network) (sets : Sets) (rate : �
     → IsSearch passes net sets rate base budget answer → IsSearch passes net sets rate base budget other → answer ≡ other
 
 abbrev pub RunHasOneReport : Type 0
-RunHasOneReport = (passes : Passing) (net : Network) (bounds : Bounds) (report other : Report) → IsRunReport passes net bounds report → IsRunReport passes net bounds other → report ≡ other
+RunHasOneReport = (passes : Passing) (net : Network) (bounds : Bounds) (report other : Report) → IsRunReport passes net bounds report
+    → IsRunReport passes net bounds other → report ≡ other
 
 abbrev pub RunEndsAtLabels : Type 0
-RunEndsAtLabels = (passes : Passing) (net : Network) (bounds : Bounds) (last : Standing) (stop : Option (Cause ℚ)) → IsNetwork net → IsPhaseRun passes net bounds last stop → EndsAtLabels net last
+RunEndsAtLabels = (passes : Passing) (net : Network) (bounds : Bounds) (last : Standing) (stop : Option (Cause ℚ)) → IsNetwork net
+    → IsPhaseRun passes net bounds last stop → EndsAtLabels net last
 
 -- ---- where no operation of a list passes, its value is exact
 
@@ -44,20 +46,27 @@ never op x y = false
 
 -- Whichever operations may pass: where none of the list does, its value is the one that it has where none can.
 pub record ValuesAreExact : Type 0 where
-  pub slack : (passes : Passing) (hops : List Hop) (labels slacks : List ℚ) → slack_list passes hops labels ≡ Ok slacks → slack_list never hops labels ≡ Ok slacks
-  pub table : (passes : Passing) (rows : List Row) (values : Option (List ℚ)) → table_list passes rows ≡ Ok values → table_list never rows ≡ Ok values
+  pub slack : (passes : Passing) (hops : List Hop) (labels slacks : List ℚ) → slack_list passes hops labels ≡ Ok slacks
+      → slack_list never hops labels ≡ Ok slacks
+  pub table : (passes : Passing) (rows : List Row) (values : Option (List ℚ)) → table_list passes rows ≡ Ok values
+      → table_list never rows ≡ Ok values
   pub verdict : (passes : Passing) (net : Network) (pattern : Pattern) (slopes : List ℚ) (limits : List (Option ℚ))
       → verdict_list passes net pattern slopes ≡ Ok limits → verdict_list never net pattern slopes ≡ Ok limits
   pub extend : (passes : Passing) (net : Network) (slacks slopes : List ℚ) (time : ℚ) (extension : Option ℚ)
       → extend_list passes net slacks slopes time ≡ Ok extension → extend_list never net slacks slopes time ≡ Ok extension
   pub advance : (passes : Passing) (horizon time : ℚ) (extension : Option ℚ) (labels slopes : List ℚ) (new : Advanced)
       → advance_list passes horizon time extension labels slopes ≡ Ok new → advance_list never horizon time extension labels slopes ≡ Ok new
-  pub curve : (passes : Passing) (net : Network) (sets : Sets) (pattern : Pattern) (length : ℚ) (flows slopes labels amounts : List ℚ) (steps : List LinkStep)
-      → curve_list passes net sets pattern length flows slopes labels amounts ≡ Ok steps → curve_list never net sets pattern length flows slopes labels amounts ≡ Ok steps
+  pub curve : (passes : Passing) (net : Network) (sets : Sets) (pattern : Pattern) (length : ℚ) (flows slopes labels amounts : List ℚ)
+      (steps : List LinkStep)
+      → curve_list passes net sets pattern length flows slopes labels amounts ≡ Ok steps
+      → curve_list never net sets pattern length flows slopes labels amounts ≡ Ok steps
 
 -- The slack list gives the slacks; the advance list gives the extension length cut at what is left to the horizon, and the
 -- labels moved as long.
 pub record StepsAreTheModels : Type 0 where
-  pub slacks : (passes : Passing) (hops : List Hop) (labels slacks : List ℚ) → slack_list passes hops labels ≡ Ok slacks → slacks ≡ slacks_of hops labels
-  pub advanced : (passes : Passing) (horizon time : ℚ) (extension : Option ℚ) (labels slopes : List ℚ) (new : Advanced) → length slopes ≡ length labels
-      → advance_list passes horizon time extension labels slopes ≡ Ok new → (new.length ≡ cut_at (horizon -ℚ time) extension) × (new.labels ≡ moved labels slopes new.length)
+  pub slacks : (passes : Passing) (hops : List Hop) (labels slacks : List ℚ) → slack_list passes hops labels ≡ Ok slacks
+      → slacks ≡ slacks_of hops labels
+  pub advanced : (passes : Passing) (horizon time : ℚ) (extension : Option ℚ) (labels slopes : List ℚ) (new : Advanced)
+      → length slopes ≡ length labels
+      → advance_list passes horizon time extension labels slopes ≡ Ok new
+      → (new.length ≡ cut_at (horizon -ℚ time) extension) × (new.labels ≡ moved labels slopes new.length)

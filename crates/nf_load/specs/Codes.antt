@@ -9,4 +9,5 @@ coded_waits = code_by (ℚ × (ℚ × ℚ)) (coded× coded_ℚ (coded× coded_�
     (λ w. (w.time, (w.amount, w.queue))) (λ p. record { time = p.0; amount = p.1.0; queue = p.1.1 }) (λ _. refl)
 
 abbrev pub coded_leaves : Coded Leaves
-coded_leaves = code_by (Waits × ℚ) (coded× coded_waits coded_ℚ) (λ l. (l.waits, l.exit)) (λ p. record { waits = p.0; exit = p.1 }) (λ _. refl)
+coded_leaves = code_by (Waits × ℚ) (coded× coded_waits coded_ℚ) (λ l. (l.waits, l.exit))
+    (λ p. record { waits = p.0; exit = p.1 }) (λ _. refl)

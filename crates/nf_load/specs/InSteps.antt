@@ -39,4 +39,5 @@ pub record AreCurves (waits : List Waits) (all : List Leaves) : Type 0 where
 
 -- and so do those of an inflow
 abbrev pub LeadsToCurves : Passing → ℚ → Option ℚ → List Point → Type 0
-LeadsToCurves passes transit capacity cut = (waits : List Waits) (all : List Leaves) → all_waits passes capacity cut ≡ Ok waits → each (leaves passes capacity transit) waits ≡ Ok all → AreCurves waits all
+LeadsToCurves passes transit capacity cut = (waits : List Waits) (all : List Leaves) → all_waits passes capacity cut ≡ Ok waits
+    → each (leaves passes capacity transit) waits ≡ Ok all → AreCurves waits all

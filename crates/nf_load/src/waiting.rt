@@ -108,7 +108,8 @@ fn grow(capacity: Q, rate: Q, before: &Waits, end: &Point) -> Result<Over, Passe
 // The queue is empty at this time of the piece, and from then on.
 fn drain_at(before: &Waits, end: &Point, time: Q) -> Result<Over, PassedAt<Q>>
     requires { before.now.time <ℚ end.now.0 }
-    ensures list { (capacity rate : ℚ) → seen_at over_list (λ q. q) result ≡ at_part Load (lists.drains_at passes_Q true capacity rate before.now end.now time) }
+    ensures list { (capacity rate : ℚ) → seen_at over_list (λ q. q) result
+        ≡ at_part Load (lists.drains_at passes_Q true capacity rate before.now end.now time) }
     ensures end { IfOk result (λ over. over.end.time ≡ end.now.0) }
 {
     let amount = amount_at(before, end, time)?;

@@ -27,7 +27,8 @@ pub record IsLoaded (transit : ℚ) (capacity : Option ℚ) (inflow : List (ℚ 
   pub exit_short : IsShort loaded.exit
   pub queue_values : (time : ℚ) → Within 0ℚ last time → IsQueue capacity (value inflow) time (value loaded.queue time)
   pub exit_values : (time : ℚ) → Within 0ℚ last time → IsExit transit capacity (value inflow) time (value loaded.exit time)
-  pub outflow_values : (time : ℚ) → Within 0ℚ (last +ℚ transit) time → IsOutflow transit capacity (value inflow) time (value loaded.outflow time)
+  pub outflow_values : (time : ℚ) → Within 0ℚ (last +ℚ transit) time
+      → IsOutflow transit capacity (value inflow) time (value loaded.outflow time)
 
 -- a link's loading by its pieces, up to the last time: that of the amount which they supply
 pub record IsLinkLoaded (last : ℚ) (link : Link) (pieces : List Piece) (loaded : Loaded) : Type 0 where

@@ -22,7 +22,8 @@ coded_hop = code_by (ℕ × (ℕ × ℚ)) (coded× coded_ℕ (coded× coded_ℕ 
 
 abbrev pub coded_link : Coded Link
 coded_link = code_by (ℕ × (ℕ × (ℚ × Option ℚ))) (coded× coded_ℕ (coded× coded_ℕ (coded× coded_ℚ (coded_option coded_ℚ))))
-    (λ l. (l.tail, (l.head, (l.transit, l.capacity)))) (λ p. record { tail = p.0; head = p.1.0; transit = p.1.1.0; capacity = p.1.1.1 }) (λ _. refl)
+    (λ l. (l.tail, (l.head, (l.transit, l.capacity))))
+    (λ p. record { tail = p.0; head = p.1.0; transit = p.1.1.0; capacity = p.1.1.1 }) (λ _. refl)
 
 abbrev pub coded_piece : Coded Piece
 coded_piece = code_by (ℚ × ℚ) (coded× coded_ℚ coded_ℚ) (λ p. (p.start, p.rate)) (λ p. record { start = p.0; rate = p.1 }) (λ _. refl)

@@ -11,7 +11,8 @@ use Rattle.nf_model.specs.Queue.{IsExit}
 abbrev pub Arrives : Network → (ℕ → ℚ → ℚ) → List ℕ → ℚ → ℚ → Type 0
 Arrives net amount [] time arrival = time ≡ arrival
 Arrives net amount (e ∷ walk) time arrival =
-    (link : Link) × IsLink net e link × (exit : ℚ) × IsExit link.transit link.capacity (amount e) time exit × Arrives net amount walk exit arrival
+    (link : Link) × IsLink net e link × (exit : ℚ) × IsExit link.transit link.capacity (amount e) time exit
+    × Arrives net amount walk exit arrival
 
 -- the earliest arrival at node v over all walks from the source, for who leaves it at the departure: some walk arrives then,
 -- and none arrives earlier

@@ -21,7 +21,8 @@ pub record Balances (net : Network) (amount : ℕ → ℚ → ℚ) (v : ℕ) (ti
 -- Flow is conserved, for all that leaves the source up to the time `until`.
 pub record Conserves (net : Network) (amount label : ℕ → ℚ → ℚ) (until : ℚ) : Type 0 where
   -- at each node but source and sink, up to the arrival of the last of it
-  pub inner : (v : ℕ) (time : ℚ) → v < net.nodes → v ≢ net.source → v ≢ net.sink → Within 0ℚ (label v until) time → Balances net amount v time 0ℚ 0ℚ
+  pub inner : (v : ℕ) (time : ℚ) → v < net.nodes → v ≢ net.source → v ≢ net.sink → Within 0ℚ (label v until) time
+      → Balances net amount v time 0ℚ 0ℚ
   -- at the source, where the supply comes in
   pub source : (time : ℚ) → Within 0ℚ until time → Balances net amount net.source time (supply net time) 0ℚ
   -- at the sink nothing stays before the first arrival
@@ -39,7 +40,8 @@ TakesFlow amount label until e tail departure =
 -- arrival at its tail leaves it at the earliest arrival at its head.
 abbrev pub OnlyShortest : Network → (ℕ → ℚ → ℚ) → (ℕ → ℚ → ℚ) → ℚ → Type 0
 OnlyShortest net amount label until =
-    (e : ℕ) (link : Link) (departure : ℚ) → IsLink net e link → 0ℚ ≤ℚ departure → departure <ℚ until → TakesFlow amount label until e link.tail departure
+    (e : ℕ) (link : Link) (departure : ℚ) → IsLink net e link → 0ℚ ≤ℚ departure → departure <ℚ until
+    → TakesFlow amount label until e link.tail departure
     → IsExit link.transit link.capacity (amount e) (label link.tail departure) (label link.head departure)
 
 -- A Nash flow over time, for all that leaves the source up to the time `until`: nothing is on the links at time 0 and nothing

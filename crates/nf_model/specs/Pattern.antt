@@ -95,7 +95,8 @@ pub record IsBase (hops : List Hop) (sets : Sets) (last base : Pattern) : Type 0
   pub states : (e : ℕ) → NeedsState sets e ↔ ((state : State) × HasState base e state)
   pub kept : (e : ℕ) (state : State) → NeedsState sets e → HasState last e state → HasState base e state
   pub first : (e : ℕ) (hop : Hop) → NeedsState sets e → slice_get last e ≡ Some None → IsFirstInto hops sets e hop → HasState base e Tight
-  pub later : (e : ℕ) → NeedsState sets e → slice_get last e ≡ Some None → ((hop : Hop) → IsFirstInto hops sets e hop → ⊥) → HasState base e Zero
+  pub later : (e : ℕ) → NeedsState sets e → slice_get last e ≡ Some None → ((hop : Hop) → IsFirstInto hops sets e hop → ⊥)
+      → HasState base e Zero
 
 -- ---- solvable patterns
 
@@ -127,7 +128,8 @@ pub record Solves (net : Network) (sets : Sets) (rate : ℚ) (pattern : Pattern)
   pub source : surplus net flows net.source ≡ rate
   pub inner : (v : ℕ) → v < net.nodes → v ≢ net.source → v ≢ net.sink → surplus net flows v ≡ 0ℚ
   pub links : (e : ℕ) (link : Link) (state : Option State) → IsLink net e link → slice_get pattern e ≡ Some state
-      → Equation state (unwrap_or (slice_get sets.resetting e) false) link.capacity (number_at flows e) (number_at slopes link.tail) (number_at slopes link.head)
+      → Equation state (unwrap_or (slice_get sets.resetting e) false) link.capacity (number_at flows e) (number_at slopes link.tail)
+      (number_at slopes link.head)
 
 -- they meet its inequalities, and none of them is negative
 pub record Meets (net : Network) (pattern : Pattern) (flows slopes : List ℚ) : Type 0 where
@@ -139,7 +141,8 @@ pub record Meets (net : Network) (pattern : Pattern) (flows slopes : List ℚ) :
 -- the one solution of the equations, which meets the inequalities
 pub record IsSolution (net : Network) (sets : Sets) (rate : ℚ) (pattern : Pattern) (flows slopes : List ℚ) : Type 0 where
   pub solves : Solves net sets rate pattern flows slopes
-  pub only : (other_flows other_slopes : List ℚ) → Solves net sets rate pattern other_flows other_slopes → (other_flows ≡ flows) × (other_slopes ≡ slopes)
+  pub only : (other_flows other_slopes : List ℚ) → Solves net sets rate pattern other_flows other_slopes
+      → (other_flows ≡ flows) × (other_slopes ≡ slopes)
   pub meets : Meets net pattern flows slopes
 
 -- a pattern is solvable where its equations have exactly one solution, and that one meets its inequalities

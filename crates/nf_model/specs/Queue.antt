@@ -9,7 +9,8 @@ use Rattle.nf_model.specs.Curve.{IsGreatest, IsLeast}
 -- the capacity could serve since. On an unbounded link it is 0.
 pub record IsQueue (capacity : Option ℚ) (amount : ℚ → ℚ) (time queue : ℚ) : Type 0 where
   pub unbounded : capacity ≡ None → queue ≡ 0ℚ
-  pub bounded : (rate : ℚ) → capacity ≡ Some rate → IsGreatest (λ since. amount time -ℚ amount since -ℚ rate *ℚ (time -ℚ since)) 0ℚ time queue
+  pub bounded : (rate : ℚ) → capacity ≡ Some rate
+      → IsGreatest (λ since. amount time -ℚ amount since -ℚ rate *ℚ (time -ℚ since)) 0ℚ time queue
 
 -- how long one waits in a queue
 abbrev pub waiting : Option ℚ → ℚ → ℚ
@@ -28,4 +29,5 @@ pub record IsExit (transit : ℚ) (capacity : Option ℚ) (amount : ℚ → ℚ)
 pub record IsOutflow (transit : ℚ) (capacity : Option ℚ) (amount : ℚ → ℚ) (time out : ℚ) : Type 0 where
   pub early : time <ℚ transit → out ≡ 0ℚ
   pub unbounded : transit ≤ℚ time → capacity ≡ None → out ≡ amount (time -ℚ transit)
-  pub bounded : (rate : ℚ) → transit ≤ℚ time → capacity ≡ Some rate → IsLeast (λ since. amount since +ℚ rate *ℚ (time -ℚ transit -ℚ since)) 0ℚ (time -ℚ transit) out
+  pub bounded : (rate : ℚ) → transit ≤ℚ time → capacity ≡ Some rate
+      → IsLeast (λ since. amount since +ℚ rate *ℚ (time -ℚ transit -ℚ since)) 0ℚ (time -ℚ transit) out

@@ -45,7 +45,8 @@ pub record IsQuickest (net : Network) (amount time : ℚ) : Type 0 where
   pub entered : ℕ → ℚ → ℚ
   pub left : ℕ → ℚ → ℚ
   pub delivers : Delivers net entered left amount time
-  pub least : (other_entered other_left : ℕ → ℚ → ℚ) (other : ℚ) → 0ℚ ≤ℚ other → Delivers net other_entered other_left amount other → time ≤ℚ other
+  pub least : (other_entered other_left : ℕ → ℚ → ℚ) (other : ℚ) → 0ℚ ≤ℚ other → Delivers net other_entered other_left amount other
+      → time ≤ℚ other
 
 -- ---- cuts over time
 

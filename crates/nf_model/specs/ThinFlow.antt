@@ -46,7 +46,8 @@ exit_slope false (Some capacity) flow tail_slope = max_ℚ tail_slope (flow /ℚ
 
 -- that of the link of number e
 abbrev pub exit_slope_at : Sets → List ℚ → List ℚ → ℕ → Link → ℚ
-exit_slope_at sets flows slopes e link = exit_slope (unwrap_or (slice_get sets.resetting e) false) link.capacity (number_at flows e) (number_at slopes link.tail)
+exit_slope_at sets flows slopes e link =
+    exit_slope (unwrap_or (slice_get sets.resetting e) false) link.capacity (number_at flows e) (number_at slopes link.tail)
 
 -- an active link into a node
 pub record Enters (net : Network) (sets : Sets) (v e : ℕ) (link : Link) : Type 0 where
@@ -66,7 +67,9 @@ pub record IsThinFlow (net : Network) (sets : Sets) (rate : ℚ) (flows slopes :
   pub source : surplus net flows net.source ≡ rate
   pub inner : (v : ℕ) → v < net.nodes → v ≢ net.source → v ≢ net.sink → surplus net flows v ≡ 0ℚ
   pub starts : number_at slopes net.source ≡ 1ℚ
-  pub taken : (v : ℕ) → v < net.nodes → v ≢ net.source → (e : ℕ) × (link : Link) × Enters net sets v e link × (exit_slope_at sets flows slopes e link ≡ number_at slopes v)
-  pub least : (v e : ℕ) (link : Link) → v < net.nodes → v ≢ net.source → Enters net sets v e link → number_at slopes v ≤ℚ exit_slope_at sets flows slopes e link
+  pub taken : (v : ℕ) → v < net.nodes → v ≢ net.source
+      → (e : ℕ) × (link : Link) × Enters net sets v e link × (exit_slope_at sets flows slopes e link ≡ number_at slopes v)
+  pub least : (v e : ℕ) (link : Link) → v < net.nodes → v ≢ net.source → Enters net sets v e link
+      → number_at slopes v ≤ℚ exit_slope_at sets flows slopes e link
   pub used : (v e : ℕ) (link : Link) → v < net.nodes → v ≢ net.source → Enters net sets v e link → 0ℚ <ℚ number_at flows e
       → exit_slope_at sets flows slopes e link ≡ number_at slopes v

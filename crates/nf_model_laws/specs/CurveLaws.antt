@@ -13,7 +13,8 @@ ValuesRise rest = Unit {0}
 
 -- a curve has each point's value at its time, is affine from each point to the next, and constant after the last
 pub record CurveGoesByPoints : Type 0 where
-  pub at_point : (front : List (ℚ × ℚ)) (p : ℚ × ℚ) (rest : List (ℚ × ℚ)) → IsCurve (front ++ p ∷ rest) → value (front ++ p ∷ rest) p.0 ≡ p.1
+  pub at_point : (front : List (ℚ × ℚ)) (p : ℚ × ℚ) (rest : List (ℚ × ℚ)) → IsCurve (front ++ p ∷ rest)
+      → value (front ++ p ∷ rest) p.0 ≡ p.1
   pub between : (front : List (ℚ × ℚ)) (p q : ℚ × ℚ) (rest : List (ℚ × ℚ)) → IsCurve (front ++ p ∷ q ∷ rest)
       → IsAffine (value (front ++ p ∷ q ∷ rest)) p.0 q.0 (slope p q)
   pub after : (front : List (ℚ × ℚ)) (p : ℚ × ℚ) (time : ℚ) → IsCurve (front ++ p ∷ []) → p.0 ≤ℚ time → value (front ++ p ∷ []) time ≡ p.1
@@ -28,8 +29,10 @@ pub record AppendedPointGoesOn : Type 0 where
 
 -- a point with equal slopes before and after it may go
 pub record EqualSlopesMerge : Type 0 where
-  pub curve : (front : List (ℚ × ℚ)) (p q r : ℚ × ℚ) (rest : List (ℚ × ℚ)) → IsCurve (front ++ p ∷ q ∷ r ∷ rest) → IsCurve (front ++ p ∷ r ∷ rest)
-  pub values : (front : List (ℚ × ℚ)) (p q r : ℚ × ℚ) (rest : List (ℚ × ℚ)) (time : ℚ) → IsCurve (front ++ p ∷ q ∷ r ∷ rest) → slope p q ≡ slope q r
+  pub curve : (front : List (ℚ × ℚ)) (p q r : ℚ × ℚ) (rest : List (ℚ × ℚ)) → IsCurve (front ++ p ∷ q ∷ r ∷ rest)
+      → IsCurve (front ++ p ∷ r ∷ rest)
+  pub values : (front : List (ℚ × ℚ)) (p q r : ℚ × ℚ) (rest : List (ℚ × ℚ)) (time : ℚ) → IsCurve (front ++ p ∷ q ∷ r ∷ rest)
+      → slope p q ≡ slope q r
       → 0ℚ ≤ℚ time → value (front ++ p ∷ q ∷ r ∷ rest) time ≡ value (front ++ p ∷ r ∷ rest) time
 
 -- what two functions that are affine on a stretch are at its ends decides what they are between
@@ -44,7 +47,8 @@ pub record EndsDecideAffine : Type 0 where
 pub record AffineFunctionsCombine : Type 0 where
   pub sum : (f g : ℚ → ℚ) (a b k l : ℚ) → IsAffine f a b k → IsAffine g a b l → IsAffine (λ t. f t +ℚ g t) a b (k +ℚ l)
   pub difference : (f g : ℚ → ℚ) (a b k l : ℚ) → IsAffine f a b k → IsAffine g a b l → IsAffine (λ t. f t -ℚ g t) a b (k -ℚ l)
-  pub composed : (f g : ℚ → ℚ) (a b c d k m : ℚ) → IsAffine g a b k → IsAffine f c d m → a ≤ℚ b → ((t : ℚ) → a ≤ℚ t → t ≤ℚ b → (c ≤ℚ g t) × (g t ≤ℚ d))
+  pub composed : (f g : ℚ → ℚ) (a b c d k m : ℚ) → IsAffine g a b k → IsAffine f c d m → a ≤ℚ b
+      → ((t : ℚ) → a ≤ℚ t → t ≤ℚ b → (c ≤ℚ g t) × (g t ≤ℚ d))
       → IsAffine (λ t. f (g t)) a b (m *ℚ k)
   pub part : (f : ℚ → ℚ) (a b c d k : ℚ) → IsAffine f a d k → a ≤ℚ b → b ≤ℚ d → c ≤ℚ d → IsAffine f b c k
 

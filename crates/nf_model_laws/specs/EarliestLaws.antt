@@ -16,7 +16,8 @@ pub record ExtremesAreUnique : Type 0 where
   pub least_transit : (hops : List Hop) (v w : ℕ) (y z : ℚ) → IsLeastTransit hops v w y → IsLeastTransit hops v w z → y ≡ z
   pub earliest : (net : Network) (amount : ℕ → ℚ → ℚ) (v : ℕ) (departure y z : ℚ)
       → IsEarliest net amount v departure y → IsEarliest net amount v departure z → y ≡ z
-  pub extension : (net : Network) (slacks slopes : List ℚ) (time y z : ℚ) → IsExtension net slacks slopes time y → IsExtension net slacks slopes time z → y ≡ z
+  pub extension : (net : Network) (slacks slopes : List ℚ) (time y z : ℚ) → IsExtension net slacks slopes time y
+      → IsExtension net slacks slopes time z → y ≡ z
   pub phase_length : (net : Network) (slacks slopes : List ℚ) (time horizon y z : ℚ)
       → IsPhaseLength net slacks slopes time horizon y → IsPhaseLength net slacks slopes time horizon z → y ≡ z
 
@@ -27,7 +28,8 @@ pub record AreLabels (net : Network) (amount : ℕ → ℚ → ℚ) (departure :
   pub not_before : (e : ℕ) (link : Link) → IsLink net e link → link.head ≢ net.source
       → (exit : ℚ) × IsExit link.transit link.capacity (amount e) (label link.tail) exit × (label link.head ≤ℚ exit)
   pub entered : (v : ℕ) → v < net.nodes → v ≢ net.source
-      → (e : ℕ) × (link : Link) × IsLink net e link × (link.head ≡ v) × IsExit link.transit link.capacity (amount e) (label link.tail) (label link.head)
+      → (e : ℕ) × (link : Link) × IsLink net e link × (link.head ≡ v)
+      × IsExit link.transit link.capacity (amount e) (label link.tail) (label link.head)
 
 -- no cumulative inflow falls
 abbrev pub InflowsRise : Network → (ℕ → ℚ → ℚ) → Type 0
@@ -36,7 +38,8 @@ InflowsRise net amount = (e : ℕ) → e < length net.links → NeverFalls (amou
 -- such labels are the earliest arrivals over all walks, and the earliest arrivals are such labels, where each link has an exit
 -- for who enters it at them
 pub record LabelsAreEarliest : Type 0 where
-  pub to : (net : Network) (amount : ℕ → ℚ → ℚ) (departure : ℚ) (label : ℕ → ℚ) → IsNetwork net → InflowsRise net amount → AreLabels net amount departure label
+  pub to : (net : Network) (amount : ℕ → ℚ → ℚ) (departure : ℚ) (label : ℕ → ℚ) → IsNetwork net → InflowsRise net amount
+      → AreLabels net amount departure label
       → (v : ℕ) → v < net.nodes → IsEarliest net amount v departure (label v)
   pub from : (net : Network) (amount : ℕ → ℚ → ℚ) (departure : ℚ) (label : ℕ → ℚ) → IsNetwork net → InflowsRise net amount
       → ((e : ℕ) (link : Link) → IsLink net e link → (exit : ℚ) × IsExit link.transit link.capacity (amount e) (label link.tail) exit)
@@ -45,7 +48,8 @@ pub record LabelsAreEarliest : Type 0 where
 -- of a report, whose inflows are curves, for each departure from 0 on: the labels are such labels exactly where they are the
 -- earliest arrivals
 abbrev pub ReportLabelsAreEarliest : Type 0
-ReportLabelsAreEarliest = (net : Network) (flow : Flow) (departure : ℚ) → IsNetwork net → HasShape net flow → InflowsRise net (inflow flow) → 0ℚ ≤ℚ departure
+ReportLabelsAreEarliest = (net : Network) (flow : Flow) (departure : ℚ) → IsNetwork net → HasShape net flow → InflowsRise net (inflow flow)
+    → 0ℚ ≤ℚ departure
     → AreLabels net (inflow flow) departure (λ v. label flow v departure)
     ↔ ((v : ℕ) → v < net.nodes → IsEarliest net (inflow flow) v departure (label flow v departure))
 
@@ -56,7 +60,8 @@ ReportLabelsAreEarliest = (net : Network) (flow : Flow) (departure : ℚ) → Is
 pub record AreTransitLabels (net : Network) (label : ℕ → ℚ) : Type 0 where
   pub source : label net.source ≡ 0ℚ
   pub none_shorter : (e : ℕ) (link : Link) → IsLink net e link → link.head ≢ net.source → label link.head ≤ℚ label link.tail +ℚ link.transit
-  pub entered : (v : ℕ) → v < net.nodes → v ≢ net.source → (e : ℕ) × (link : Link) × IsLink net e link × (link.head ≡ v) × (label v ≡ label link.tail +ℚ link.transit)
+  pub entered : (v : ℕ) → v < net.nodes → v ≢ net.source
+      → (e : ℕ) × (link : Link) × IsLink net e link × (link.head ≡ v) × (label v ≡ label link.tail +ℚ link.transit)
 
 -- such labels are the least transit sums over all walks from the source, and the least transit sums are such labels
 abbrev pub LeastTransitByLinks : Type 0

@@ -9,5 +9,6 @@ use Rattle.nf_model_laws.specs.Capacity.{IsPositive}
 
 -- by the exit of what enters at a time, just what had entered by that time has left, where the inflow never falls
 abbrev pub FirstInFirstOut : Type 0
-FirstInFirstOut = (transit : ℚ) (capacity : Option ℚ) (amount : ℚ → ℚ) (time exit : ℚ) → IsPositive capacity → NeverFalls amount → 0ℚ ≤ℚ time
+FirstInFirstOut = (transit : ℚ) (capacity : Option ℚ) (amount : ℚ → ℚ) (time exit : ℚ) → IsPositive capacity → NeverFalls amount
+    → 0ℚ ≤ℚ time
     → IsExit transit capacity amount time exit → IsOutflow transit capacity amount exit (amount time)

@@ -31,12 +31,14 @@ pub record FillsLink (transit : ℚ) (capacity : Option ℚ) (pieces : List Piec
   pub supplied : (time : ℚ) → Within 0ℚ flow.reached time → inflow flow 0 time ≡ supply (one_link transit capacity pieces) time
   pub source : (departure : ℚ) → Within 0ℚ flow.reached departure → label flow 0 departure ≡ departure
   pub sink : (departure : ℚ) → Within 0ℚ flow.reached departure → IsExit transit capacity (inflow flow 0) departure (label flow 1 departure)
-  pub outflows : (time : ℚ) → Within 0ℚ (label flow 1 flow.reached) time → IsOutflow transit capacity (inflow flow 0) time (outflow flow 0 time)
+  pub outflows : (time : ℚ) → Within 0ℚ (label flow 1 flow.reached) time
+      → IsOutflow transit capacity (inflow flow 0) time (outflow flow 0 time)
   pub queues : (time : ℚ) → Within 0ℚ flow.reached time → IsQueue capacity (inflow flow 0) time (queue flow 0 time)
 
 -- such a flow is an equilibrium, and no other is one
 abbrev pub OneLinkEquilibrium : Type 0
-OneLinkEquilibrium = (transit : ℚ) (capacity : Option ℚ) (pieces : List Piece) (flow : Flow) → 0ℚ ≤ℚ transit → IsPositive capacity → ArePieces pieces
+OneLinkEquilibrium = (transit : ℚ) (capacity : Option ℚ) (pieces : List Piece) (flow : Flow) → 0ℚ ≤ℚ transit → IsPositive capacity
+    → ArePieces pieces
     → Equilibrium (one_link transit capacity pieces) flow ↔ FillsLink transit capacity pieces flow
 
 -- ---- at one rate, from time 0 to a horizon
@@ -52,14 +54,16 @@ at_rate rate later = record { start = 0ℚ; rate = rate } ∷ later
 -- The outflow: none before the transit time, and then at one rate up to the amount at the arrival. Without a transit time it
 -- begins at once.
 abbrev pub delayed_trace : ℚ → ℚ → ℚ → ℚ → Trace
-delayed_trace transit arrival amount out_rate = record { points = (0ℚ, 0ℚ) ∷ (transit, 0ℚ) ∷ (arrival, amount) ∷ []; rates = 0ℚ ∷ out_rate ∷ [] }
+delayed_trace transit arrival amount out_rate =
+    record { points = (0ℚ, 0ℚ) ∷ (transit, 0ℚ) ∷ (arrival, amount) ∷ []; rates = 0ℚ ∷ out_rate ∷ [] }
 
 abbrev pub prompt_trace : ℚ → ℚ → ℚ → Trace
 prompt_trace arrival amount out_rate = record { points = (0ℚ, 0ℚ) ∷ (arrival, amount) ∷ []; rates = out_rate ∷ [] }
 
 abbrev pub IsOutTrace : ℚ → ℚ → ℚ → ℚ → Trace → Type 0
 IsOutTrace transit arrival amount out_rate trace =
-    ((0ℚ <ℚ transit) × (trace ≡ delayed_trace transit arrival amount out_rate)) ⊎ ((transit ≡ 0ℚ) × (trace ≡ prompt_trace arrival amount out_rate))
+    ((0ℚ <ℚ transit) × (trace ≡ delayed_trace transit arrival amount out_rate))
+    ⊎ ((transit ≡ 0ℚ) × (trace ≡ prompt_trace arrival amount out_rate))
 
 -- the flow up to the horizon, by the arrival of who departs then, the amount that has departed by then and what waits then
 abbrev pub steady_flow : ℚ → ℚ → ℚ → ℚ → ℚ → ℚ → Trace → Flow
@@ -76,13 +80,15 @@ steady_flow transit rate horizon arrival amount waits trace = record {
 abbrev pub FullLinkEquilibrium : Type 0
 FullLinkEquilibrium = (transit capacity rate horizon arrival amount waits : ℚ) (later : List Piece) (trace : Trace)
     → 0ℚ ≤ℚ transit → 0ℚ <ℚ capacity → capacity ≤ℚ rate → 0ℚ <ℚ horizon → ArePieces (at_rate rate later) → NotBefore horizon later
-    → amount ≡ rate *ℚ horizon → waits ≡ (rate -ℚ capacity) *ℚ horizon → capacity *ℚ (arrival -ℚ transit) ≡ amount → IsOutTrace transit arrival amount capacity trace
+    → amount ≡ rate *ℚ horizon → waits ≡ (rate -ℚ capacity) *ℚ horizon → capacity *ℚ (arrival -ℚ transit) ≡ amount
+    → IsOutTrace transit arrival amount capacity trace
     → Equilibrium (one_link transit (Some capacity) (at_rate rate later)) (steady_flow transit rate horizon arrival amount waits trace)
 
 -- A link that is unbounded, or supplied at its capacity or less: nothing waits, and each arrives after the transit time.
 abbrev pub TightLinkEquilibrium : Type 0
 TightLinkEquilibrium = (transit : ℚ) (capacity : Option ℚ) (rate horizon arrival amount : ℚ) (later : List Piece) (trace : Trace)
-    → 0ℚ ≤ℚ transit → IsPositive capacity → ((bound : ℚ) → capacity ≡ Some bound → rate ≤ℚ bound) → 0ℚ <ℚ horizon → ArePieces (at_rate rate later) → NotBefore horizon later
+    → 0ℚ ≤ℚ transit → IsPositive capacity → ((bound : ℚ) → capacity ≡ Some bound → rate ≤ℚ bound) → 0ℚ <ℚ horizon
+    → ArePieces (at_rate rate later) → NotBefore horizon later
     → amount ≡ rate *ℚ horizon → arrival ≡ transit +ℚ horizon → IsOutTrace transit arrival amount rate trace
     → Equilibrium (one_link transit capacity (at_rate rate later)) (steady_flow transit rate horizon arrival amount 0ℚ trace)
 

@@ -11,7 +11,9 @@ use Rattle.nf_model.specs.Phases.{moved, slack_after}
 -- a link is active where its slack is at least 0 and resetting where it is above 0; and its slack after a while is the slack at
 -- the labels that have moved for a while
 pub record SlacksMakeSets : Type 0 where
-  pub active : (net : Network) (labels : List ℚ) (e : ℕ) (link : Link) → IsLink net e link → Has (sets_at net labels).active e ↔ (0ℚ ≤ℚ slack labels (hop_of link))
-  pub resetting : (net : Network) (labels : List ℚ) (e : ℕ) (link : Link) → IsLink net e link → Has (sets_at net labels).resetting e ↔ (0ℚ <ℚ slack labels (hop_of link))
+  pub active : (net : Network) (labels : List ℚ) (e : ℕ) (link : Link) → IsLink net e link
+      → Has (sets_at net labels).active e ↔ (0ℚ ≤ℚ slack labels (hop_of link))
+  pub resetting : (net : Network) (labels : List ℚ) (e : ℕ) (link : Link) → IsLink net e link
+      → Has (sets_at net labels).resetting e ↔ (0ℚ <ℚ slack labels (hop_of link))
   pub moves : (net : Network) (labels slopes : List ℚ) (e : ℕ) (link : Link) (while : ℚ) → IsLink net e link → length labels ≡ length slopes
       → slack_after (slacks_of (hops net) labels) slopes e link while ≡ slack (moved labels slopes while) (hop_of link)

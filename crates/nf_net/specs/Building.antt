@@ -29,7 +29,8 @@ pub record AreTablesOf (nodes : List Name) (named : List NamedLink) (tables : Ta
   pub hops : tables.hops.items ≡ hops_among nodes named
 
 abbrev pub net_of : Draft → Parts → Named
-net_of draft parts = with_parts draft.version parts.tables.node_names.items parts.tables.link_names.items parts.tables.links.items draft.pieces parts.nodes.idle.items parts.links.idle.items
+net_of draft parts = with_parts draft.version parts.tables.node_names.items parts.tables.link_names.items parts.tables.links.items
+    draft.pieces parts.nodes.idle.items parts.links.idle.items
 
 -- with these parts the draft stands for a network
 pub record ArePartsOf (draft : Draft) (parts : Parts) : Type 0 where

@@ -36,9 +36,12 @@ impl Model for Network {
 
     ghost coded = { coded_named };
 
-    ghost view = { λ a. with_parts a.version a.node_names.items a.link_names.items a.links.items a.pieces.items a.idle_nodes.items a.idle_links.items };
+    ghost view = { λ a. with_parts a.version a.node_names.items a.link_names.items a.links.items a.pieces.items a.idle_nodes.items
+        a.idle_links.items };
 
-    ghost invariant = { λ a. IsKept (with_parts a.version a.node_names.items a.link_names.items a.links.items a.pieces.items a.idle_nodes.items a.idle_links.items) a.hops.items };
+    ghost invariant = { λ a. IsKept
+        (with_parts a.version a.node_names.items a.link_names.items a.links.items a.pieces.items a.idle_nodes.items a.idle_links.items)
+        a.hops.items };
 }
 
 // The place of a name, if it is there.
@@ -77,7 +80,8 @@ impl Network {
         idle_nodes: Vec<Name>,
         idle_links: Vec<NamedLink>,
     ) -> Network
-        requires { IsKept (with_parts version node_names.items link_names.items links.items pieces.items idle_nodes.items idle_links.items) hops.items }
+        requires { IsKept (with_parts version node_names.items link_names.items links.items pieces.items idle_nodes.items idle_links.items)
+            hops.items }
         ensures { result ≡ with_parts version node_names.items link_names.items links.items pieces.items idle_nodes.items idle_links.items }
     {
         Network {
@@ -158,7 +162,8 @@ impl Network {
 
     /// The node of a name; None exactly where no node has it. Idle nodes have none of the numbers.
     pub fn node_named(&self, name: &str) -> Option<NodeId>
-        ensures { MatchOption result (has_name self.now.node_names name.now ≡ false) (λ node. slice_get self.now.node_names node ≡ Some name.now) }
+        ensures { MatchOption result (has_name self.now.node_names name.now ≡ false)
+            (λ node. slice_get self.now.node_names node ≡ Some name.now) }
     {
         match found(&self.node_names, name) {
             Some(place) => Some(NodeId(place)),
@@ -168,7 +173,8 @@ impl Network {
 
     /// The link of a name; None exactly where no link has it, idle links aside.
     pub fn link_named(&self, name: &str) -> Option<LinkId>
-        ensures { MatchOption result (has_name self.now.link_names name.now ≡ false) (λ link. slice_get self.now.link_names link ≡ Some name.now) }
+        ensures { MatchOption result (has_name self.now.link_names name.now ≡ false)
+            (λ link. slice_get self.now.link_names link ≡ Some name.now) }
     {
         match found(&self.link_names, name) {
             Some(place) => Some(LinkId(place)),

@@ -72,7 +72,8 @@ fn push_link(
     capacity: Option<Q>,
 ) -> Result<(), AllocError>
     ensures { OnOk result (out.new.items ≡ out.old.items
-        ++ line_of_words (link_words (record { name = name.now; tail = tail.now; head = head.now; transit = transit; capacity = capacity }))) }
+        ++ line_of_words
+        (link_words (record { name = name.now; tail = tail.now; head = head.now; transit = transit; capacity = capacity }))) }
 {
     let mut time = TextBuf::new();
     transit.write(&mut time);

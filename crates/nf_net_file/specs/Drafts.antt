@@ -7,7 +7,15 @@ use Rattle.nf_net_file.specs.declared.draft.NetLineFault.{NetLineFault}
 use Rattle.nf_net_file.specs.declared.draft.NetLineFault.TheVariants.{Broken, Memory}
 
 abbrev pub seen_draft : Draft → lines.Draft
-seen_draft d = record { version = d.version; source = d.source; sink = d.sink; nodes = d.nodes; links = d.links.items; pieces = d.pieces.items; ended = d.ended }
+seen_draft d = record {
+  version = d.version;
+  source = d.source;
+  sink = d.sink;
+  nodes = d.nodes;
+  links = d.links.items;
+  pieces = d.pieces.items;
+  ended = d.ended;
+}
 
 -- of a rule that is broken, unless memory is wanting
 abbrev pub IfRule : NetLineFault → (NetRule → Type 0) → Type 0

@@ -26,7 +26,8 @@ pub enum Entry {
 
 // A word that is to be a name.
 fn read_name(word: &[u8]) -> Result<Name, NetRule>
-    ensures { MatchResult result (λ name. (name ≡ word.now) × (is_name word.now ≡ true)) (λ rule. (rule ≡ N7) × (is_name word.now ≡ false)) }
+    ensures { MatchResult result (λ name. (name ≡ word.now) × (is_name word.now ≡ true))
+        (λ rule. (rule ≡ N7) × (is_name word.now ≡ false)) }
 {
     match Name::read(word) {
         Some(name) => Ok(name),

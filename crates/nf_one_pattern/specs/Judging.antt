@@ -72,7 +72,8 @@ module _ (passes : Passing) where
   -- of a link with its number
   abbrev pub numbered_verdict : Pattern → List ℚ → List ℚ → ℕ × Link → Checked Bool
   numbered_verdict pattern flows slopes (e, link) =
-      link_verdict (unwrap_or (slice_get pattern e) None) link.capacity (number_at flows e) (number_at slopes link.tail) (number_at slopes link.head)
+      link_verdict (unwrap_or (slice_get pattern e) None) link.capacity (number_at flows e) (number_at slopes link.tail)
+      (number_at slopes link.head)
 
   abbrev pub broken_after : Pattern → List ℚ → List ℚ → Option ℕ → ℕ × Link → Checked (Option ℕ)
   broken_after pattern flows slopes found numbered = do

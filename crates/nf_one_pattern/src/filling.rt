@@ -108,7 +108,8 @@ fn fill_nodes<T: System>(table: &mut T, net: &Network, sets: &LinkSets, rate: Q)
     requires first { (pattern : SeenPattern) → IsFilledTo (equations net.now.net sets.now rate pattern) (T.rows_of table.old) 1 }
     requires sets { length sets.now.active ≡ length net.now.net.links }
     requires takes { IsTrue (T.takes rate) }
-    ensures nodes { (pattern : SeenPattern) → IsFilledTo (equations net.now.net sets.now rate pattern) (T.rows_of table.new) net.now.net.nodes }
+    ensures nodes { (pattern : SeenPattern)
+        → IsFilledTo (equations net.now.net sets.now rate pattern) (T.rows_of table.new) net.now.net.nodes }
     ensures size { length (T.rows_of table.new) ≡ length (T.rows_of table.old) }
 {
     let sink = net.sink();
@@ -129,7 +130,8 @@ fn fill_tight<T: System>(table: &mut T, row: u32, link: Link)
     requires row { row < length (T.rows_of table.old) }
     requires tail { link.tail < length (T.rows_of table.old) }
     requires head { link.head < length (T.rows_of table.old) }
-    ensures { ChangesRow (T.rows_of table.old) (T.rows_of table.new) row (with_entries (row_at (T.rows_of table.old) row) (tight_entries link)) }
+    ensures { ChangesRow (T.rows_of table.old) (T.rows_of table.new) row
+        (with_entries (row_at (T.rows_of table.old) row) (tight_entries link)) }
 {
     if link.head != link.tail {
         table.set(row, link.head.0, Q::one());
@@ -142,7 +144,8 @@ fn fill_full<T: System>(table: &mut T, row: u32, link: Link)
     requires row { row < length (T.rows_of table.old) }
     requires head { link.head < length (T.rows_of table.old) }
     requires capacity { HoldsCapacity T.takes link }
-    ensures { ChangesRow (T.rows_of table.old) (T.rows_of table.new) row (with_entries (row_at (T.rows_of table.old) row) (full_entries row link)) }
+    ensures { ChangesRow (T.rows_of table.old) (T.rows_of table.new) row
+        (with_entries (row_at (T.rows_of table.old) row) (full_entries row link)) }
 {
     let capacity = link.capacity.unwrap_or(Q::zero());
     table.set(row, link.head.0, capacity.negated());
@@ -155,7 +158,8 @@ fn fill_link<T: System>(table: &mut T, row: u32, link: Link, state: Option<State
     requires tail { link.tail < length (T.rows_of table.old) }
     requires head { link.head < length (T.rows_of table.old) }
     requires capacity { HoldsCapacity T.takes link }
-    ensures { ChangesRow (T.rows_of table.old) (T.rows_of table.new) row (with_entries (row_at (T.rows_of table.old) row) (link_entries row link state)) }
+    ensures { ChangesRow (T.rows_of table.old) (T.rows_of table.new) row
+        (with_entries (row_at (T.rows_of table.old) row) (link_entries row link state)) }
 {
     match state {
         Some(State::Tight) => fill_tight(table, row, link),

@@ -33,7 +33,8 @@ fn solve_on<const N: usize>(
     requires size { (0 < count) × (count ≤ N) }
     requires few { N ≤ 32 }
     requires values { length values.old ≡ count }
-    ensures { seen_at (λ found. values_if found values.new) (λ q. q) result ≡ at_part Part.Table (table_list passes_Q (equations net.now.net sets.now rate pattern.now)) }
+    ensures { seen_at (λ found. values_if found values.new) (λ q. q) result
+        ≡ at_part Part.Table (table_list passes_Q (equations net.now.net sets.now rate pattern.now)) }
 {
     let mut grid = Grid::<N>::zero(count);
     fill(&mut grid, net, sets, rate, pattern);
@@ -54,7 +55,8 @@ pub fn solve_pattern(
     requires count { count ≡ length (unknowns net.now.net sets.now) }
     requires few { count ≤ 32 }
     requires values { length values.old ≡ count }
-    ensures { seen_at (λ found. values_if found values.new) (λ q. q) result ≡ at_part Part.Table (table_list passes_Q (equations net.now.net sets.now rate pattern.now)) }
+    ensures { seen_at (λ found. values_if found values.new) (λ q. q) result
+        ≡ at_part Part.Table (table_list passes_Q (equations net.now.net sets.now rate pattern.now)) }
 {
     if count <= 4 {
         solve_on::<4>(count, net, sets, rate, pattern, values)

@@ -88,7 +88,8 @@ fn judge(
     requires pattern { IsPatternIn net.now.net sets.now pattern.now }
     requires flows { length flows.now ≡ length net.now.net.links }
     requires slopes { length slopes.now ≡ net.now.net.nodes }
-    ensures { JudgesFlows net.now.net pattern.now flows.now slopes.now (at_part Part.Verdict (verdict_list passes_Q net.now.net pattern.now slopes.now)) result }
+    ensures { JudgesFlows net.now.net pattern.now flows.now slopes.now
+        (at_part Part.Verdict (verdict_list passes_Q net.now.net pattern.now slopes.now)) result }
 {
     match verdict(net, sets, pattern, flows, slopes)? {
         Judged::Meets => Ok(Tried::Accepted),
@@ -112,7 +113,8 @@ fn judge_into(
     requires slopes { length slopes.old ≡ net.now.net.nodes }
     ensures flows { flows.new ≡ flows_in net.now.net.nodes sets.now.active values.now }
     ensures slopes { slopes.new ≡ slopes_in net.now.net.nodes values.now }
-    ensures judged { JudgesFlows net.now.net pattern.now flows.new slopes.new (at_part Part.Verdict (verdict_list passes_Q net.now.net pattern.now slopes.new)) result }
+    ensures judged { JudgesFlows net.now.net pattern.now flows.new slopes.new
+        (at_part Part.Verdict (verdict_list passes_Q net.now.net pattern.now slopes.new)) result }
 {
     spread_flows(net, sets, values, flows);
     slopes.copy_from_slice(&values[..net.node_count() as usize]);
@@ -129,7 +131,8 @@ pub fn judge_values(
 ) -> Result<Outcome, Halt<Q>>
     requires pattern { IsPatternIn net.now.net sets.now pattern.now }
     requires values { length values.items ≡ net.now.net.nodes + length (active_from 0 sets.now.active) }
-    ensures { JudgesValues net.now.net pattern.now (flows_in net.now.net.nodes sets.now.active values.items) (slopes_in net.now.net.nodes values.items)
+    ensures { JudgesValues net.now.net pattern.now (flows_in net.now.net.nodes sets.now.active values.items)
+        (slopes_in net.now.net.nodes values.items)
         (at_part Part.Verdict (verdict_list passes_Q net.now.net pattern.now (slopes_in net.now.net.nodes values.items))) result }
 {
     let flows = flows_of(alloc, net, sets, &values)?;
@@ -172,7 +175,8 @@ fn small_solution(
 ) -> Result<Option<Solved<Q>>, AllocError>
     requires pattern { IsPatternIn net.now.net sets.now pattern.now }
     requires small { HoldsNumbers takes_small net.now.net rate }
-    ensures { IfOk result (λ found. IfSome found (λ solved. table_list passes_Q (equations net.now.net sets.now rate pattern.now) ≡ Ok (values_of (λ q. q) solved))) }
+    ensures { IfOk result (λ found. IfSome found
+        (λ solved. table_list passes_Q (equations net.now.net sets.now rate pattern.now) ≡ Ok (values_of (λ q. q) solved))) }
 {
     let mut table = Table::<Small>::new(alloc, unknown_count(net, sets))?;
     fill(&mut table, net, sets, rate, pattern);
@@ -188,7 +192,8 @@ pub fn pattern_values(
     pattern: &Pattern,
 ) -> Result<Option<Vec<Q>>, Halt<Q>>
     requires { IsPatternIn net.now.net sets.now pattern.now }
-    ensures { Gives (option_map (λ values. values.items)) (λ q. q) result (at_part Part.Table (table_list passes_Q (equations net.now.net sets.now rate pattern.now))) }
+    ensures { Gives (option_map (λ values. values.items)) (λ q. q) result
+        (at_part Part.Table (table_list passes_Q (equations net.now.net sets.now rate pattern.now))) }
 {
     if has_small_numbers(net, rate) {
         if let Some(found) = small_solution(alloc, net, sets, rate, pattern)? {

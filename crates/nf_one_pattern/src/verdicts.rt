@@ -107,7 +107,8 @@ fn judge(
     requires states { length pattern.now ≡ length net.now.net.links }
     requires flows { length flows.now ≡ length net.now.net.links }
     requires slopes { length slopes.now ≡ net.now.net.nodes }
-    ensures { (here : SeenLink) → IsLink net.now.net link here → result ≡ at_part Verdict (numbered_verdict passes_Q pattern.now flows.now slopes.now (link, here)) }
+    ensures { (here : SeenLink) → IsLink net.now.net link here
+        → result ≡ at_part Verdict (numbered_verdict passes_Q pattern.now flows.now slopes.now (link, here)) }
 {
     let here = net.link(link);
     judge_link(
@@ -177,7 +178,8 @@ pub fn verdict(
     requires sets { length sets.now.active ≡ length net.now.net.links }
     requires flows { length flows.now ≡ length net.now.net.links }
     requires slopes { length slopes.now ≡ net.now.net.nodes }
-    ensures { Judges (IsJudged net.now.net pattern.now flows.now slopes.now) (at_part Verdict (verdict_list passes_Q net.now.net pattern.now slopes.now)) result }
+    ensures { Judges (IsJudged net.now.net pattern.now flows.now slopes.now)
+        (at_part Verdict (verdict_list passes_Q net.now.net pattern.now slopes.now)) result }
 {
     let failing = first_failing(net, pattern, flows, slopes)?;
     match first_negative(net, slopes) {

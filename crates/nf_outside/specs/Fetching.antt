@@ -61,7 +61,8 @@ AreFetched shelf files (Err refusal) = AreMissing shelf files refusal
 
 -- the network of the first file, and the bytes of the others
 abbrev pub AreRead : Visit → Wanted → List Wanted → Result (Named × List (List ℕ)) Refusal → Type 0
-AreRead shelf file others (Ok read) = FetchedAll shelf (file ∷ others) × NetworkReads shelf None (file ∷ others) (Ok read.0) × AreTexts shelf others read.1
+AreRead shelf file others (Ok read) = FetchedAll shelf (file ∷ others) × NetworkReads shelf None (file ∷ others) (Ok read.0)
+    × AreTexts shelf others read.1
 AreRead shelf file others (Err (Refusal.Malformed rule line)) =
     FetchedAll shelf (file ∷ others) × NetworkReads shelf None (file ∷ others) (Err (record { rule = rule; line = line }))
 AreRead shelf file others (Err refusal) = AreMissing shelf (file ∷ others) refusal

@@ -93,4 +93,5 @@ Failed shelf file = (shelf.taken ≤ file.limit) × Rose shelf.faults_before she
 -- More bytes of this file were taken than it may have. Where the shelf tells them, and no fault of it was counted, there are more.
 abbrev pub HasTooMany : Visit → Wanted → Type 0
 HasTooMany shelf file =
-    (file.limit < shelf.taken) × IfSome (shelf.told file.name) (λ text. Rose shelf.faults_before shelf.faults_now ⊎ (file.limit < length text))
+    (file.limit < shelf.taken)
+    × IfSome (shelf.told file.name) (λ text. Rose shelf.faults_before shelf.faults_now ⊎ (file.limit < length text))

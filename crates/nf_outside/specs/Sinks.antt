@@ -13,7 +13,8 @@ pub record Taken : Type 0 where
 
 -- the same of a sink that stood so before a call and stands so now
 abbrev pub taken : {S : Type 0} → Ghosts S → S → S → Taken
-taken sink before now = record { before = sink.took before; now = sink.took now; faults_before = sink.faults before; faults_now = sink.faults now }
+taken sink before now =
+    record { before = sink.took before; now = sink.took now; faults_before = sink.faults before; faults_now = sink.faults now }
 
 abbrev pub TookAll : Taken → List ℕ → Type 0
 TookAll sink text = sink.now ≡ with_more sink.before text

@@ -36,7 +36,8 @@ fn fetch_files<S: Shelf>(
 ) -> Result<(Vec<u8>, Vec<u8>), Refusal>
     ensures same { (name : List ℕ) → S.told shelf.new name ≡ S.told shelf.old name }
     ensures never_falls { S.faults shelf.old ≤ S.faults shelf.new }
-    ensures fetched { AreFetched (visit S.Shelf shelf.old shelf.new) (network_file file.now ∷ record { name = other.now; limit = limit } ∷ [])
+    ensures fetched { AreFetched (visit S.Shelf shelf.old shelf.new)
+        (network_file file.now ∷ record { name = other.now; limit = limit } ∷ [])
         (result_map_both (λ texts. texts.0.items ∷ texts.1.items ∷ []) (λ refusal. refusal) result) }
     ensures first { IfOk result (λ texts. length texts.0.items ≤ network_limit) }
     ensures second { IfOk result (λ texts. length texts.1.items ≤ limit) }
@@ -51,7 +52,8 @@ fn fetch_files<S: Shelf>(
 pub fn fetch_network<S: Shelf>(alloc: Global, shelf: &mut S, file: &str) -> Result<Network, Refusal>
     ensures same { (name : List ℕ) → S.told shelf.new name ≡ S.told shelf.old name }
     ensures never_falls { S.faults shelf.old ≤ S.faults shelf.new }
-    ensures read { AreRead (visit S.Shelf shelf.old shelf.new) (network_file file.now) [] (result_map_both (λ net. (net, [])) (λ refusal. refusal) result) }
+    ensures read { AreRead (visit S.Shelf shelf.old shelf.new) (network_file file.now) []
+        (result_map_both (λ net. (net, [])) (λ refusal. refusal) result) }
 {
     let text = fetch_file(alloc, shelf, file, LONGEST_FILE)?;
     let net = parse(alloc, &text)?;

@@ -36,7 +36,8 @@ AreLastInto hops n last = (v : ℕ) (found : Option ℕ) → slice_get last v �
 
 -- of each link, the last one before it that leads to the same node
 abbrev pub AreChained : List Hop → List (Option ℕ) → Type 0
-AreChained hops chain = (e : ℕ) (found : Option ℕ) → slice_get chain e ≡ Some found → (hop : Hop) → IsHop hops e hop → IsLastInto hops e hop.head found
+AreChained hops chain = (e : ℕ) (found : Option ℕ) → slice_get chain e ≡ Some found → (hop : Hop) → IsHop hops e hop
+    → IsLastInto hops e hop.head found
 
 -- link e is resetting, or may have a state
 abbrev pub CanCarry : List Bool → Pattern → ℕ → Type 0
@@ -63,8 +64,10 @@ pub record Strands (source : ℕ) (hops : List Hop) (resetting : List Bool) (pat
 
 -- or else it is entered, if link e is the last one that can enter it
 abbrev pub Keeps : ℕ → List Hop → List Bool → Pattern → List ℕ → ℕ → Type 0
-Keeps source hops resetting pattern ends e = (v : ℕ) → v ≢ source → LeadsTo hops e v → slice_get ends v ≡ Some (suc e) → EnteredBefore hops resetting pattern (suc e) v
+Keeps source hops resetting pattern ends e = (v : ℕ) → v ≢ source → LeadsTo hops e v → slice_get ends v ≡ Some (suc e)
+    → EnteredBefore hops resetting pattern (suc e) v
 
 -- whether no link can enter a node but the source
 abbrev pub IsLost : ℕ → List ℕ → Bool → Type 0
-IsLost source ends lost = MatchBool lost ((v : ℕ) × (v ≢ source) × (slice_get ends v ≡ Some 0)) ((v : ℕ) → v ≢ source → slice_get ends v ≡ Some 0 → ⊥)
+IsLost source ends lost = MatchBool lost ((v : ℕ) × (v ≢ source) × (slice_get ends v ≡ Some 0))
+    ((v : ℕ) → v ≢ source → slice_get ends v ≡ Some 0 → ⊥)

@@ -15,15 +15,20 @@ HaveListings = (question : Question) → IsQuestion question → (listing : List
 -- their number, or 2^64 - 1 where that is less.
 pub record AreGiven (given : Given) (front : List Pattern) : Type 0 where
   pub listed : (i : ℕ) (p : Pattern) → slice_get front i ≡ Some p → IsListedBy given.question p
-  pub ordered : (i j : ℕ) (p q : Pattern) → i < j → slice_get front i ≡ Some p → slice_get front j ≡ Some q → IsBefore given.question.base p q
-  pub whole : (r : Pattern) → IsListedBy given.question r → (IsLater given.question.base given.last r → ⊥) → (i : ℕ) × (slice_get front i ≡ Some r)
-  pub before : (i : ℕ) (p r : Pattern) → slice_get front i ≡ Some p → IsLater given.question.base given.last r → IsBefore given.question.base p r
+  pub ordered : (i j : ℕ) (p q : Pattern) → i < j → slice_get front i ≡ Some p → slice_get front j ≡ Some q
+      → IsBefore given.question.base p q
+  pub whole : (r : Pattern) → IsListedBy given.question r → (IsLater given.question.base given.last r → ⊥)
+      → (i : ℕ) × (slice_get front i ≡ Some r)
+  pub before : (i : ℕ) (p r : Pattern) → slice_get front i ≡ Some p → IsLater given.question.base given.last r
+      → IsBefore given.question.base p r
   pub place : given.place ≡ min (length front) (2 ^ 64 - 1)
 
 -- None is given at the start; what is given next is the next of them; where none is left, they are the listing; and they are always
 -- a front of it.
 pub record GivenAreFronts : Type 0 where
   pub start : (question : Question) → AreGiven (record { question = question; last = AtStart; place = 0 }) []
-  pub more : (given after : Given) (front : List Pattern) (p : Pattern) → AreGiven given front → Gives given (Some p) after → AreGiven after (front ++ p ∷ [])
+  pub more : (given after : Given) (front : List Pattern) (p : Pattern) → AreGiven given front → Gives given (Some p) after
+      → AreGiven after (front ++ p ∷ [])
   pub end : (given after : Given) (front : List Pattern) → AreGiven given front → Gives given None after → IsListingOf given.question front
-  pub front : (given : Given) (front listing : List Pattern) → AreGiven given front → IsListingOf given.question listing → (i : ℕ) (p : Pattern) → slice_get front i ≡ Some p → slice_get listing i ≡ Some p
+  pub front : (given : Given) (front listing : List Pattern) → AreGiven given front → IsListingOf given.question listing
+      → (i : ℕ) (p : Pattern) → slice_get front i ≡ Some p → slice_get listing i ≡ Some p

@@ -81,8 +81,10 @@ next_place place = min (place + 1) (2 ^ 64 - 1)
 
 -- one pattern more is given, or none exactly where none is left
 abbrev pub Gives : Given → Option Pattern → Given → Type 0
-Gives given None after = NoneLeft given.question given.last × (after ≡ record { question = given.question; last = AtEnd; place = given.place })
-Gives given (Some p) after = IsNext given.question given.last p × (after ≡ record { question = given.question; last = UpTo p; place = next_place given.place })
+Gives given None after = NoneLeft given.question given.last
+    × (after ≡ record { question = given.question; last = AtEnd; place = given.place })
+Gives given (Some p) after = IsNext given.question given.last p
+    × (after ≡ record { question = given.question; last = UpTo p; place = next_place given.place })
 
 -- ---- how these values are told apart
 abbrev pub coded_question : Coded Question

@@ -51,7 +51,8 @@ with_rest (Some s) rest = before_all s (rest s)
 abbrev pub earliest : Pattern → List Bool → ℕ → Option Pattern
 earliest [] unbounded n = if n == 0 then Some [] else None
 earliest (b ∷ base) [] n = None
-earliest (b ∷ base) (u ∷ unbounded) n = with_rest (first_good (fits b n (free base)) (choices b u)) (λ s. earliest base unbounded (n - change b s))
+earliest (b ∷ base) (u ∷ unbounded) n =
+    with_rest (first_good (fits b n (free base)) (choices b u)) (λ s. earliest base unbounded (n - change b s))
 
 abbrev pub or_else : Option Pattern → Option Pattern → Option Pattern
 or_else None other = other
@@ -60,11 +61,13 @@ or_else (Some states) other = Some states
 -- a later state of the first link, with as many changes in all
 abbrev pub raised : Option State → Bool → Pattern → List Bool → Option State → ℕ → Option Pattern
 raised b u base unbounded a n =
-    with_rest (first_good (λ s. nat_lt (rank a) (rank s) && fits b n (free base) s) (choices b u)) (λ s. earliest base unbounded (n - change b s))
+    with_rest (first_good (λ s. nat_lt (rank a) (rank s) && fits b n (free base) s) (choices b u))
+    (λ s. earliest base unbounded (n - change b s))
 
 -- the same at link e of a list: from there on, with so many changes
 abbrev pub raised_at : Pattern → List Bool → Pattern → ℕ → ℕ → Option Pattern
-raised_at base unbounded states e n = raised (get_or base e None) (get_or unbounded e false) (drop (suc e) base) (drop (suc e) unbounded) (get_or states e None) n
+raised_at base unbounded states e n = raised (get_or base e None) (get_or unbounded e false) (drop (suc e) base) (drop (suc e) unbounded)
+    (get_or states e None) n
 
 -- link e of the states is raised, and the links before it stay
 pub record RaisesAt (base : Pattern) (unbounded : List Bool) (states : Pattern) (e n : ℕ) (after : Pattern) : Type 0 where

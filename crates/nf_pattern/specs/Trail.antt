@@ -19,7 +19,8 @@ pub record Follows (source : ℕ) (hops : List Hop) (resetting : List Bool) (pat
   pub chain : AreChained hops trail.chain.items
   pub count_chain : length trail.chain.items ≡ length hops
   pub count_ends : length trail.ends.items ≡ length trail.tight.last.items
-  pub entered : (v n : ℕ) → v ≢ source → slice_get trail.ends.items v ≡ Some n → 0 < n → n ≤ trail.depth → EnteredBefore hops resetting pattern n v
+  pub entered : (v n : ℕ) → v ≢ source → slice_get trail.ends.items v ≡ Some n → 0 < n → n ≤ trail.depth
+      → EnteredBefore hops resetting pattern n v
   pub last : (v e : ℕ) → slice_get trail.ends.items v ≡ Some (suc e) → LeadsTo hops e v
 
 -- the trail stands at a link of the pattern, in a listing's question

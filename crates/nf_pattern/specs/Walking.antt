@@ -50,8 +50,10 @@ pub record IsWalkable (hops : List Hop) (pattern : Pattern) (n : ℕ) (last tail
   pub count_tails : length tails ≡ length hops
   pub count_heads : length heads ≡ length hops
   pub last_is : (v : ℕ) → v < length last → slice_get last v ≡ Some (last_at (ends_at hops pattern) n v)
-  pub tails_are : (e : ℕ) (hop : Hop) → e < n → HasState pattern e Tight → IsHop hops e hop → slice_get tails e ≡ Some (last_at (ends_at hops pattern) e hop.tail)
-  pub heads_are : (e : ℕ) (hop : Hop) → e < n → HasState pattern e Tight → IsHop hops e hop → slice_get heads e ≡ Some (last_at (ends_at hops pattern) e hop.head)
+  pub tails_are : (e : ℕ) (hop : Hop) → e < n → HasState pattern e Tight → IsHop hops e hop
+      → slice_get tails e ≡ Some (last_at (ends_at hops pattern) e hop.tail)
+  pub heads_are : (e : ℕ) (hop : Hop) → e < n → HasState pattern e Tight → IsHop hops e hop
+      → slice_get heads e ≡ Some (last_at (ends_at hops pattern) e hop.head)
 
 abbrev pub Holds : List Hop → Pattern → ℕ → TightLinks → Type 0
 Holds hops pattern n tight = IsWalkable hops pattern n tight.last.items tight.tails.items tight.heads.items
@@ -62,7 +64,8 @@ IsPlace hops pattern n v o = (m : ℕ) × (m ≤ n) × (o ≡ last_at (ends_at h
 
 -- over the link; or by the last link at the node, unless it is the start
 abbrev pub GoesBy : List Hop → Pattern → ℕ → ℕ → ℕ → Option ℕ → Option Place → Type 0
-GoesBy hops pattern n start v (Some l) (Some after) = (after.node ≡ other_end hops l v) × (after.link ≡ last_at (ends_at hops pattern) l (other_end hops l v))
+GoesBy hops pattern n start v (Some l) (Some after) = (after.node ≡ other_end hops l v)
+    × (after.link ≡ last_at (ends_at hops pattern) l (other_end hops l v))
 GoesBy hops pattern n start v (Some l) None = ⊥
 GoesBy hops pattern n start v None (Some after) = (v ≢ start) × (after.node ≡ v) × (after.link ≡ last_at (ends_at hops pattern) n v)
 GoesBy hops pattern n start v None None = v ≡ start

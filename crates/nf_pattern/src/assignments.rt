@@ -227,7 +227,8 @@ pub(crate) fn advance(
     requires valid { IsAssignment base.now unbounded.now base.now }
     requires quiet { IsQuiet base.now quiet states.old }
     ensures { MatchOption result ((next_assignment same base.now unbounded.now states.old ≡ None) × (states.new ≡ states.old))
-        (λ raised. (next_assignment same base.now unbounded.now states.old ≡ Some states.new) × IsSameBefore same raised.link states.old states.new
+        (λ raised. (next_assignment same base.now unbounded.now states.old ≡ Some states.new)
+        × IsSameBefore same raised.link states.old states.new
         × IsQuiet base.now raised.quiet states.new) }
 {
     if let Some(raised) = raise(states, base, unbounded, same, quiet) {

@@ -48,7 +48,8 @@ fn is_entered_before(
     requires count { length chain.now ≡ length hops.now }
     requires link { link < length hops.now }
     requires leads { LeadsTo hops.now link node }
-    ensures { MatchBool result (EnteredBefore hops.now resetting.now states.now link node) (EnteredBefore hops.now resetting.now states.now link node → ⊥) }
+    ensures { MatchBool result (EnteredBefore hops.now resetting.now states.now link node)
+        (EnteredBefore hops.now resetting.now states.now link node → ⊥) }
 {
     let mut at = chain[link.index()];
     while let Some(before) = at {
@@ -76,7 +77,8 @@ pub(crate) fn strands(
     requires below { AreBelow (length ends.now) hops.now }
     requires chain { AreChained hops.now chain.now }
     requires count { length chain.now ≡ length hops.now }
-    ensures { MatchBool result (Strands source hops.now resetting.now states.now ends.now link) (Keeps source hops.now resetting.now states.now ends.now link) }
+    ensures { MatchBool result (Strands source hops.now resetting.now states.now ends.now link)
+        (Keeps source hops.now resetting.now states.now ends.now link) }
 {
     if may_carry(states, resetting, link) {
         return false;
@@ -184,7 +186,8 @@ pub(crate) fn ends(
 fn is_lost_at(ends: &[usize], source: NodeId, node: usize) -> bool
     requires node { node < length ends.now }
     requires fewer { length ends.now < 2 ^ 32 }
-    ensures { MatchBool result ((node ≢ source) × (slice_get ends.now node ≡ Some 0)) (node ≢ source → slice_get ends.now node ≡ Some 0 → ⊥) }
+    ensures { MatchBool result ((node ≢ source) × (slice_get ends.now node ≡ Some 0))
+        (node ≢ source → slice_get ends.now node ≡ Some 0 → ⊥) }
 {
     NodeId(node as u32) != source && ends[node] == 0
 }

@@ -43,7 +43,8 @@ impl FirmLinks {
 
     // A Tight link was looked at that may not be firm.
     pub(crate) fn note(&mut self, link: LinkId)
-        ensures { (hops : List SeenHop) (pattern : Pattern) → AreCalm hops pattern link self.old → AreCalm hops pattern (suc link) self.new }
+        ensures { (hops : List SeenHop) (pattern : Pattern) → AreCalm hops pattern link self.old
+            → AreCalm hops pattern (suc link) self.new }
     {
         if self.calm > link.index() {
             self.calm = link.index();
@@ -52,7 +53,8 @@ impl FirmLinks {
 
     // Back to where no link from this one on was looked at.
     pub(crate) fn retreat(&mut self, link: usize)
-        ensures { (hops : List SeenHop) (pattern : Pattern) (n : ℕ) → n ≤ link → AreCalm hops pattern n self.old → AreCalm hops pattern n self.new }
+        ensures { (hops : List SeenHop) (pattern : Pattern) (n : ℕ) → n ≤ link → AreCalm hops pattern n self.old
+            → AreCalm hops pattern n self.new }
     {
         if self.calm >= link {
             self.calm = self.flags.len();

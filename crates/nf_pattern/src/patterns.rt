@@ -60,7 +60,18 @@ impl Patterns {
         requires fewer { length hops.now < 2 ^ 32 }
         requires base { IsPattern sets.now unbounded.now base.now }
         ensures { IfOk result (λ patterns. patterns
-            ≡ record { question = record { nodes = nodes; source = source; hops = hops.now; sets = sets.now; unbounded = unbounded.now; base = base.now }; last = AtStart; place = 0 }) }
+            ≡ record {
+              question = record {
+                nodes = nodes;
+                source = source;
+                hops = hops.now;
+                sets = sets.now;
+                unbounded = unbounded.now;
+                base = base.now;
+              };
+              last = AtStart;
+              place = 0;
+            }) }
     {
         let question = Question::new(alloc, nodes, source, hops, sets, base, unbounded)?;
         let current = base.copy(alloc)?;

@@ -36,9 +36,23 @@ impl Model for Question {
 
     ghost coded = { coded_question };
 
-    ghost view = { λ q. record { nodes = q.nodes; source = q.source; hops = q.hops.items; sets = record { active = q.active.items; resetting = q.resetting.items }; unbounded = q.unbounded.items; base = q.base } };
+    ghost view = { λ q. record {
+      nodes = q.nodes;
+      source = q.source;
+      hops = q.hops.items;
+      sets = record { active = q.active.items; resetting = q.resetting.items };
+      unbounded = q.unbounded.items;
+      base = q.base;
+    } };
 
-    ghost invariant = { λ q. IsQuestion (record { nodes = q.nodes; source = q.source; hops = q.hops.items; sets = record { active = q.active.items; resetting = q.resetting.items }; unbounded = q.unbounded.items; base = q.base }) };
+    ghost invariant = { λ q. IsQuestion (record {
+      nodes = q.nodes;
+      source = q.source;
+      hops = q.hops.items;
+      sets = record { active = q.active.items; resetting = q.resetting.items };
+      unbounded = q.unbounded.items;
+      base = q.base;
+    }) };
 }
 
 // Of each link, whether it is active.
@@ -89,8 +103,10 @@ impl Question {
         base: &Pattern,
         unbounded: &[bool],
     ) -> Result<Question, AllocError>
-        requires { IsQuestion (record { nodes = nodes; source = source; hops = hops.now; sets = sets.now; unbounded = unbounded.now; base = base.now }) }
-        ensures { IfOk result (λ question. question ≡ record { nodes = nodes; source = source; hops = hops.now; sets = sets.now; unbounded = unbounded.now; base = base.now }) }
+        requires { IsQuestion
+            (record { nodes = nodes; source = source; hops = hops.now; sets = sets.now; unbounded = unbounded.now; base = base.now }) }
+        ensures { IfOk result (λ question. question
+            ≡ record { nodes = nodes; source = source; hops = hops.now; sets = sets.now; unbounded = unbounded.now; base = base.now }) }
     {
         let active = active_flags(alloc, sets, hops.len())?;
         let resetting = resetting_flags(alloc, sets, hops.len())?;
@@ -129,7 +145,8 @@ impl Question {
         requires assigned { IsAssignment self.now.base self.now.unbounded states.now }
         requires trail { IsTrailOf self.now states.now trail.old }
         ensures trail { IsTrailOf self.now states.now trail.new }
-        ensures found { MatchOption result (IsListedBy self.now states.now) (λ n. (n ≤ length self.now.base) × IsBarren self.now n states.now) }
+        ensures found { MatchOption result (IsListedBy self.now states.now)
+            (λ n. (n ≤ length self.now.base) × IsBarren self.now n states.now) }
     {
         if trail.is_lost() {
             return Some(0);
@@ -147,8 +164,10 @@ impl Question {
         requires same { same ≤ length self.now.base }
         requires quiet { IsQuiet self.now.base quiet.old states.old }
         ensures quiet { IsQuiet self.now.base quiet.new states.new }
-        ensures found { MatchOption result ((next_assignment same self.now.base self.now.unbounded states.old ≡ None) × (states.new ≡ states.old))
-            (λ link. (next_assignment same self.now.base self.now.unbounded states.old ≡ Some states.new) × IsSameBefore same link states.old states.new) }
+        ensures found { MatchOption result ((next_assignment same self.now.base self.now.unbounded states.old ≡ None)
+            × (states.new ≡ states.old))
+            (λ link. (next_assignment same self.now.base self.now.unbounded states.old ≡ Some states.new)
+            × IsSameBefore same link states.old states.new) }
     {
         let raised = advance(states, self.base.states(), &self.unbounded, same, *quiet)?;
         *quiet = raised.quiet;
@@ -158,7 +177,8 @@ impl Question {
     // The trail comes back to where these states are the same.
     fn retreat(&self, link: usize, trail: &mut Trail)
         requires left { IsLeft self.now.hops trail.old }
-        ensures { (before after : SeenPattern) → IsTrailOf self.now before trail.old → length after ≡ length before → take link after ≡ take link before → IsTrailOf self.now after trail.new }
+        ensures { (before after : SeenPattern) → IsTrailOf self.now before trail.old → length after ≡ length before
+            → take link after ≡ take link before → IsTrailOf self.now after trail.new }
     {
         trail.retreat(&self.hops, link);
     }
@@ -234,7 +254,8 @@ impl Question {
         ensures assigned { IsAssignment self.now.base self.now.unbounded states.new }
         ensures trail { IsTrailOf self.now states.new trail.new }
         ensures quiet { IsQuiet self.now.base quiet.new states.new }
-        ensures found { MatchBool result (IsNext self.now (last_of stand states.old) states.new) (NoneLeft self.now (last_of stand states.old)) }
+        ensures found { MatchBool result (IsNext self.now (last_of stand states.old) states.new)
+            (NoneLeft self.now (last_of stand states.old)) }
     {
         match stand {
             Stand::Start => self.first(states, trail, quiet),

@@ -91,7 +91,8 @@ impl Trail {
         ensures follows { Follows source hops.now resetting.now states.now self.new }
         ensures way { IsOnWay self.old self.new }
         ensures entered { MatchBool result (self.new.depth ≡ suc self.old.depth)
-            ((self.new.depth ≡ self.old.depth) × (Strands source hops.now resetting.now states.now self.new.ends.items self.new.depth ⊎ Closes hops.now states.now self.new.depth)) }
+            ((self.new.depth ≡ self.old.depth) × (Strands source hops.now resetting.now states.now self.new.ends.items self.new.depth
+            ⊎ Closes hops.now states.now self.new.depth)) }
     {
         let link = LinkId(self.depth as u32);
         if is_tight(states, link) {
@@ -131,7 +132,8 @@ impl Trail {
         ensures follows { Follows source hops.now resetting.now states.now self.new }
         ensures way { IsOnWay self.old self.new }
         ensures extended { MatchBool result (self.new.depth ≡ length hops.now)
-            ((self.new.depth < length hops.now) × (Strands source hops.now resetting.now states.now self.new.ends.items self.new.depth ⊎ Closes hops.now states.now self.new.depth)) }
+            ((self.new.depth < length hops.now) × (Strands source hops.now resetting.now states.now self.new.ends.items self.new.depth
+            ⊎ Closes hops.now states.now self.new.depth)) }
     {
         while self.depth < hops.len() {
             if !self.enter(hops, states, resetting, source) {
@@ -146,7 +148,8 @@ impl Trail {
         requires fewer { length hops.now < 2 ^ 32 }
         requires left { IsLeft hops.now self.old }
         requires some { 0 < self.old.depth }
-        ensures kept { (source : ℕ) (resetting : List Bool) (p : SeenPattern) → Follows source hops.now resetting p self.old → Follows source hops.now resetting p self.new }
+        ensures kept { (source : ℕ) (resetting : List Bool) (p : SeenPattern) → Follows source hops.now resetting p self.old
+            → Follows source hops.now resetting p self.new }
         ensures way { IsOnWay self.old self.new }
         ensures depth { suc self.new.depth ≡ self.old.depth }
     {
@@ -159,7 +162,8 @@ impl Trail {
     pub(crate) fn retreat(&mut self, hops: &[Hop], link: usize)
         requires fewer { length hops.now < 2 ^ 32 }
         requires left { IsLeft hops.now self.old }
-        ensures kept { (source : ℕ) (resetting : List Bool) (p : SeenPattern) → Follows source hops.now resetting p self.old → Follows source hops.now resetting p self.new }
+        ensures kept { (source : ℕ) (resetting : List Bool) (p : SeenPattern) → Follows source hops.now resetting p self.old
+            → Follows source hops.now resetting p self.new }
         ensures way { IsOnWay self.old self.new }
         ensures depth { self.new.depth ≤ link }
     {

@@ -103,7 +103,8 @@ impl TightLinks {
         requires place { IsPlace hops.now states.now depth place.node place.link }
         requires within { place.node < length self.now.last.items }
         ensures goes { Goes hops.now states.now depth start place result }
-        ensures place { IfSome result (λ after. IsPlace hops.now states.now depth after.node after.link × (after.node < length self.now.last.items)) }
+        ensures place { IfSome result (λ after. IsPlace hops.now states.now depth after.node after.link
+            × (after.node < length self.now.last.items)) }
     {
         match place.link {
             Some(link) => Some(self.cross(hops, states, depth, place.node, link)),
@@ -132,7 +133,8 @@ impl TightLinks {
         requires clear { NoneCloses hops.now states.now depth }
         requires tail { tail < length self.now.last.items }
         requires head { head < length self.now.last.items }
-        ensures { MatchBool result (AreJoined hops.now (TightBefore states.now depth) head tail) (AreJoined hops.now (TightBefore states.now depth) head tail → ⊥) }
+        ensures { MatchBool result (AreJoined hops.now (TightBefore states.now depth) head tail)
+            (AreJoined hops.now (TightBefore states.now depth) head tail → ⊥) }
     {
         if tail == head {
             return true;
@@ -227,7 +229,8 @@ impl TightLinks {
         requires holds { Holds hops.now states.now link self.old }
         requires clear { NoneCloses hops.now states.now link }
         requires calm { AreCalm hops.now states.now link firm.old }
-        ensures entered { MatchBool result (Holds hops.now states.now (suc link) self.new × NoneCloses hops.now states.now (suc link) × AreCalm hops.now states.now (suc link) firm.new)
+        ensures entered { MatchBool result (Holds hops.now states.now (suc link) self.new × NoneCloses hops.now states.now (suc link)
+            × AreCalm hops.now states.now (suc link) firm.new)
             ((self.new ≡ self.old) × (firm.new ≡ firm.old) × Closes hops.now states.now link) }
         ensures nodes { length self.new.last.items ≡ length self.old.last.items }
     {
@@ -246,7 +249,8 @@ impl TightLinks {
     // The link is the last one at the node.
     fn is_last_at(&self, node: NodeId, link: LinkId) -> bool
         requires { node < length self.now.last.items }
-        ensures { MatchBool result (slice_get self.now.last.items node ≡ Some (Some link)) (slice_get self.now.last.items node ≡ Some (Some link) → ⊥) }
+        ensures { MatchBool result (slice_get self.now.last.items node ≡ Some (Some link))
+            (slice_get self.now.last.items node ≡ Some (Some link) → ⊥) }
     {
         match self.last[node.index()] {
             Some(last) => last == link,

@@ -36,12 +36,15 @@ module _ (passes : Passing) (net : Network) (patterns : ℕ) (s : Standing) wher
   -- why there is none: an operation of the slack list passes, or no pattern is found
   pub data FindsNone : Cause ℚ → Type 0 where
     at_slack : (p : Passed ℚ) → slack_list passes (hops net) s.labels ≡ Err p → FindsNone (Cause.Passed (suc s.made) None (placed Slack p))
-    at_search : (answer : SearchAnswer) (cause : Cause ℚ) → SeeksOn passes net patterns s answer → cause_of_search (suc s.made) patterns answer ≡ Some cause → FindsNone cause
+    at_search : (answer : SearchAnswer) (cause : Cause ℚ) → SeeksOn passes net patterns s answer
+        → cause_of_search (suc s.made) patterns answer ≡ Some cause → FindsNone cause
 
 -- ---- the lists of a phase
 -- an operation of theirs passes, this one first
-pub data ListsPass (passes : Passing) (net : Network) (horizon : ℚ) (s : Standing) (pattern : Pattern) (flows slopes : List ℚ) : Cause ℚ → Type 0 where
-  at_lists : (p : PassedAt ℚ) → phase_lists passes net horizon s pattern flows slopes ≡ Err p → ListsPass passes net horizon s pattern flows slopes (Cause.Passed (suc s.made) None p)
+pub data ListsPass (passes : Passing) (net : Network) (horizon : ℚ) (s : Standing) (pattern : Pattern) (flows slopes : List ℚ) : Cause ℚ
+    → Type 0 where
+  at_lists : (p : PassedAt ℚ) → phase_lists passes net horizon s pattern flows slopes ≡ Err p
+      → ListsPass passes net horizon s pattern flows slopes (Cause.Passed (suc s.made) None p)
 
 -- the phase leads on from here, by the first accepted pattern
 pub record LeadsOn (passes : Passing) (net : Network) (horizon : ℚ) (patterns : ℕ) (s : Standing) (phase : Phase) : Type 0 where

@@ -22,8 +22,10 @@ use Rattle.nf_phase.specs.Finding.{after_phase}
 -- that of its head.
 pub record EndsAtItsLabels (net : Network) (flow : Flow) : Type 0 where
   pub labels : (v : ℕ) → v < net.nodes → end_of (points_at flow.labels v) ≡ flow.reached
-  pub inflows : (e : ℕ) (link : Link) → IsLink net e link → end_of (points_at (points_of flow.inflows) e) ≡ label flow link.tail flow.reached
-  pub outflows : (e : ℕ) (link : Link) → IsLink net e link → end_of (points_at (points_of flow.outflows) e) ≡ label flow link.head flow.reached
+  pub inflows : (e : ℕ) (link : Link) → IsLink net e link
+      → end_of (points_at (points_of flow.inflows) e) ≡ label flow link.tail flow.reached
+  pub outflows : (e : ℕ) (link : Link) → IsLink net e link
+      → end_of (points_at (points_of flow.outflows) e) ≡ label flow link.head flow.reached
   pub queues : (e : ℕ) (link : Link) → IsLink net e link → end_of (points_at flow.queues e) ≡ label flow link.tail flow.reached
 
 -- no unbounded link is Full

@@ -40,7 +40,8 @@ report_in horizon s = record { horizon = horizon; flow = flow_of s.flow; stop = 
 
 -- every phase sequence to the horizon with as many phases ends with the departure and the labels that are reached
 abbrev pub EndsAll : Network → ℚ → Standing → Type 0
-EndsAll net horizon last = (phases : List (ℚ × List ℚ)) → IsPhaseSequence net horizon phases → length phases ≡ suc last.made → slice_get phases last.made ≡ Some (reached_by last)
+EndsAll net horizon last = (phases : List (ℚ × List ℚ)) → IsPhaseSequence net horizon phases → length phases ≡ suc last.made
+    → slice_get phases last.made ≡ Some (reached_by last)
 
 -- The report describes a flow which is an equilibrium up to the time reached, and it is the report of the phase run: so it reaches
 -- the horizon, or it has the cause that stopped the run there. The run made so many phases, and the labels that it keeps are the values of

@@ -19,8 +19,10 @@ use Rattle.nf_phase.specs.Restarting.{IsRestored}
 pub data Reaches (passes : Passing) (net : Network) : Standing → Type 0 where
   starts : {s : Standing} → IsStart net s → Reaches passes net s
   restored : {s : Standing} → IsRestored passes net s → Reaches passes net s
-  goes_on : (horizon : ℚ) (patterns : ℕ) {s new : Standing} → Reaches passes net s → Goes passes net horizon patterns s new → Reaches passes net new
-  keeps_on : (horizon : ℚ) (patterns : ℕ) {s new : Standing} → Reaches passes net s → Continues net s → Goes passes net horizon patterns s new → Reaches passes net (with_last s.last new)
+  goes_on : (horizon : ℚ) (patterns : ℕ) {s new : Standing} → Reaches passes net s → Goes passes net horizon patterns s new
+      → Reaches passes net new
+  keeps_on : (horizon : ℚ) (patterns : ℕ) {s new : Standing} → Reaches passes net s → Continues net s
+      → Goes passes net horizon patterns s new → Reaches passes net (with_last s.last new)
 
 -- the cause for which a fault stands, where the phase of this number isn't made, is one of these; wanting memory says nothing, and is
 -- never a search's

@@ -35,7 +35,8 @@ impl Run {
         requires reaches { Reaches passes_Q net.now.net self.now }
         ensures named { IsNamed net.now }
         ensures slacks { IfOk result (λ slacks. slacks.items ≡ slacks_of (hops_of net.now.net) self.now.labels) }
-        ensures list { OnOk result (slack_list passes_Q (hops_of net.now.net) self.now.labels ≡ Ok (slacks_of (hops_of net.now.net) self.now.labels)) }
+        ensures list { OnOk result
+            (slack_list passes_Q (hops_of net.now.net) self.now.labels ≡ Ok (slacks_of (hops_of net.now.net) self.now.labels)) }
         ensures cause { IfErr result (StandsFor (FindsNone passes_Q net.now.net patterns self.now) (suc self.now.made)) }
     {
         let slacks = slacks(alloc, net.hops(), &self.labels)?;

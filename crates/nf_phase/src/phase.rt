@@ -53,10 +53,14 @@ impl Run {
         requires reaches { Reaches passes_Q net.now.net self.now }
         requires named { IsNamed net.now }
         requires found { IsFound passes_Q net.now.net patterns self.now found.now }
-        ensures lists { IfOk result (λ parts. phase_lists passes_Q net.now.net horizon self.now found.now.thin.pattern found.now.thin.flows.items found.now.thin.slopes.items
+        ensures lists { IfOk result (λ parts. phase_lists passes_Q net.now.net horizon self.now found.now.thin.pattern
+            found.now.thin.flows.items found.now.thin.slopes.items
             ≡ Ok (record { length = parts.0.length; labels = parts.0.labels; links = parts.1.items })) }
-        ensures length { IfOk result (λ parts. IsPhaseLength net.now.net (slacks_of (hops_of net.now.net) self.now.labels) found.now.thin.slopes.items self.now.time horizon parts.0.length) }
-        ensures cause { IfErr result (StandsFor (ListsPass passes_Q net.now.net horizon self.now found.now.thin.pattern found.now.thin.flows.items found.now.thin.slopes.items) (suc self.now.made)) }
+        ensures length { IfOk result (λ parts. IsPhaseLength net.now.net
+            (slacks_of (hops_of net.now.net) self.now.labels) found.now.thin.slopes.items self.now.time horizon parts.0.length) }
+        ensures cause { IfErr result (StandsFor
+            (ListsPass passes_Q net.now.net horizon self.now found.now.thin.pattern found.now.thin.flows.items found.now.thin.slopes.items)
+            (suc self.now.made)) }
     {
         let slopes = &found.thin.slopes;
         let extension = extension(net, &found.slacks, slopes, self.reached)?;
@@ -98,7 +102,9 @@ impl Run {
         requires found { IsFound passes_Q net.now.net patterns self.now found }
         ensures leads { IfOk result (LeadsOn passes_Q net.now.net horizon patterns self.now) }
         ensures slopes { IfOk result (λ phase. phase.slopes.items ≡ found.thin.slopes.items) }
-        ensures cause { IfErr result (StandsFor (ListsPass passes_Q net.now.net horizon self.now found.thin.pattern found.thin.flows.items found.thin.slopes.items) (suc self.now.made)) }
+        ensures cause { IfErr result
+            (StandsFor (ListsPass passes_Q net.now.net horizon self.now found.thin.pattern found.thin.flows.items found.thin.slopes.items)
+            (suc self.now.made)) }
     {
         let (end, steps) = self.lists(alloc, net, horizon, patterns, &found)?;
         let PhaseStart {

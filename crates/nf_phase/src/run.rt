@@ -127,7 +127,8 @@ impl Run {
     ) -> Result<Option<ThinFlow>, StepFault>
         requires reaches { Reaches passes_Q net.now.net self.old }
         requires more { self.old.made < 2 ^ 64 - 1 }
-        ensures phase { IfOk result (λ tail. MatchOption tail (GoesToEnd passes_Q net.now.net patterns self.old self.new) (λ thin. GoesForever passes_Q net.now.net patterns self.old thin.pattern (tail_of thin))) }
+        ensures phase { IfOk result (λ tail. MatchOption tail (GoesToEnd passes_Q net.now.net patterns self.old self.new)
+            (λ thin. GoesForever passes_Q net.now.net patterns self.old thin.pattern (tail_of thin))) }
         ensures stays { IfOk result (λ tail. IsSome tail → self.new ≡ self.old) }
         ensures reaches { Reaches passes_Q net.now.net self.new }
         ensures equilibrium { Equilibrium net.now.net (flow_of self.new) }

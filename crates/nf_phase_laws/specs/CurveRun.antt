@@ -32,10 +32,14 @@ pub record FirstCurves (net : Network) (labels : List ℚ) (curves : Curves) : T
 -- Curves up to a time, with the labels then: first those of the least transit sums; and in each phase, to a horizon of its own, each
 -- curve goes on by a point, as the phase's thin flow and length say.
 pub data GrowByPhases (net : Network) : ℚ → List ℚ → Curves → Type 0 where
-  begin : (labels : List ℚ) (curves : Curves) → AreStartLabels net labels → FirstCurves net labels curves → GrowByPhases net 0ℚ labels curves
-  grow : (horizon time time' : ℚ) (labels labels' : List ℚ) (curves curves' : Curves) (phase : IsPhase net horizon (time, labels) (time', labels')) → GrowByPhases net time labels curves
-      → CurvesGoOn net curves.inflows curves.labels time phase.length (number_at phase.flows) (number_at phase.slopes) curves'.inflows curves'.labels
-      → DescriptionCurvesGoOn net (at curves.labels) (at curves'.labels) curves.outflows curves.queues time phase.length (number_at phase.flows) (number_at phase.slopes) curves'.outflows curves'.queues
+  begin : (labels : List ℚ) (curves : Curves) → AreStartLabels net labels → FirstCurves net labels curves
+      → GrowByPhases net 0ℚ labels curves
+  grow : (horizon time time' : ℚ) (labels labels' : List ℚ) (curves curves' : Curves)
+      (phase : IsPhase net horizon (time, labels) (time', labels')) → GrowByPhases net time labels curves
+      → CurvesGoOn net curves.inflows curves.labels time phase.length (number_at phase.flows)
+      (number_at phase.slopes) curves'.inflows curves'.labels
+      → DescriptionCurvesGoOn net (at curves.labels) (at curves'.labels) curves.outflows curves.queues time phase.length
+      (number_at phase.flows) (number_at phase.slopes) curves'.outflows curves'.queues
       → GrowByPhases net time' labels' curves'
 
 -- the curves of a flow
@@ -49,5 +53,6 @@ curves_of flow = record {
 
 -- a flow whose curves grow phase by phase, and have their form and rates, is an equilibrium
 abbrev pub PhasesMakeEquilibrium : Type 0
-PhasesMakeEquilibrium = (net : Network) (labels : List ℚ) (flow : Flow) → IsNetwork net → GrowByPhases net flow.reached labels (curves_of flow)
+PhasesMakeEquilibrium = (net : Network) (labels : List ℚ) (flow : Flow) → IsNetwork net
+    → GrowByPhases net flow.reached labels (curves_of flow)
     → HasShape net flow → HasSlopes flow.inflows → HasSlopes flow.outflows → Equilibrium net flow

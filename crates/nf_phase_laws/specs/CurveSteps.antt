@@ -25,8 +25,10 @@ pub record GoesOnTo (points points' : List Point) (last new : Point) : Type 0 wh
 -- so it goes on where the point is appended, and also where it takes the place of a last point that the curve reached with the same
 -- slope
 pub record PointsGoOn : Type 0 where
-  pub appended : (points : List Point) (last new : Point) → LastPoint points last → last.0 <ℚ new.0 → GoesOnTo points (points ++ new ∷ []) last new
-  pub replaced : (front : List Point) (before last new : Point) → LastPoint (front ++ before ∷ last ∷ []) last → last.0 <ℚ new.0 → slope before last ≡ slope last new
+  pub appended : (points : List Point) (last new : Point) → LastPoint points last → last.0 <ℚ new.0
+      → GoesOnTo points (points ++ new ∷ []) last new
+  pub replaced : (front : List Point) (before last new : Point) → LastPoint (front ++ before ∷ last ∷ []) last → last.0 <ℚ new.0
+      → slope before last ≡ slope last new
       → GoesOnTo (front ++ before ∷ last ∷ []) (front ++ before ∷ new ∷ []) last new
 
 -- the functions of curves
@@ -36,12 +38,15 @@ at curves i time = value (curves i) time
 -- the curves of a flow up to a departure: each label's ends there, and each inflow's at the label of its link's tail
 pub record CurvesStand (net : Network) (inflows labels : ℕ → List Point) (until : ℚ) : Type 0 where
   pub labels_end : (v : ℕ) → v < net.nodes → LastPoint (labels v) (until, at labels v until)
-  pub inflows_end : (e : ℕ) (link : Link) → IsLink net e link → LastPoint (inflows e) (at labels link.tail until, at inflows e (at labels link.tail until))
+  pub inflows_end : (e : ℕ) (link : Link) → IsLink net e link
+      → LastPoint (inflows e) (at labels link.tail until, at inflows e (at labels link.tail until))
 
 -- Over a phase of this length each label goes on at its slope, and each inflow takes the flow by departure. Where the label of the tail
 -- stands still, the inflow stays as it is.
-pub record CurvesGoOn (net : Network) (inflows labels : ℕ → List Point) (until length : ℚ) (flow slope : ℕ → ℚ) (inflows' labels' : ℕ → List Point) : Type 0 where
-  pub labels_go : (v : ℕ) → v < net.nodes → GoesOnTo (labels v) (labels' v) (until, at labels v until) (until +ℚ length, at labels v until +ℚ slope v *ℚ length)
+pub record CurvesGoOn (net : Network) (inflows labels : ℕ → List Point) (until length : ℚ) (flow slope : ℕ → ℚ)
+    (inflows' labels' : ℕ → List Point) : Type 0 where
+  pub labels_go : (v : ℕ) → v < net.nodes
+      → GoesOnTo (labels v) (labels' v) (until, at labels v until) (until +ℚ length, at labels v until +ℚ slope v *ℚ length)
   pub inflows_go : (e : ℕ) (link : Link) → IsLink net e link → 0ℚ <ℚ slope link.tail
       → GoesOnTo (inflows e) (inflows' e) (at labels link.tail until, at inflows e (at labels link.tail until))
       (at labels link.tail until +ℚ slope link.tail *ℚ length, at inflows e (at labels link.tail until) +ℚ flow e *ℚ length)
@@ -50,11 +55,13 @@ pub record CurvesGoOn (net : Network) (inflows labels : ℕ → List Point) (unt
 -- then the flow of the curves goes on so, where none is sent into a link whose tail's label stands still, and the new curves stand at the
 -- end of the phase
 pub record CurvesMakeFlow : Type 0 where
-  pub flow : (net : Network) (inflows labels : ℕ → List Point) (until length : ℚ) (flow slope : ℕ → ℚ) (inflows' labels' : ℕ → List Point) → IsNetwork net
+  pub flow : (net : Network) (inflows labels : ℕ → List Point) (until length : ℚ) (flow slope : ℕ → ℚ) (inflows' labels' : ℕ → List Point)
+      → IsNetwork net
       → 0ℚ <ℚ length → ((v : ℕ) → 0ℚ ≤ℚ slope v) → ((e : ℕ) (link : Link) → IsLink net e link → slope link.tail ≡ 0ℚ → flow e ≡ 0ℚ)
       → CurvesStand net inflows labels until → CurvesGoOn net inflows labels until length flow slope inflows' labels'
       → GoesOn net (at inflows) (at labels) until length flow slope (at inflows') (at labels')
-  pub stand : (net : Network) (inflows labels : ℕ → List Point) (until length : ℚ) (flow slope : ℕ → ℚ) (inflows' labels' : ℕ → List Point) → IsNetwork net
+  pub stand : (net : Network) (inflows labels : ℕ → List Point) (until length : ℚ) (flow slope : ℕ → ℚ) (inflows' labels' : ℕ → List Point)
+      → IsNetwork net
       → 0ℚ <ℚ length → ((v : ℕ) → 0ℚ ≤ℚ slope v) → ((e : ℕ) (link : Link) → IsLink net e link → slope link.tail ≡ 0ℚ → flow e ≡ 0ℚ)
       → CurvesStand net inflows labels until → CurvesGoOn net inflows labels until length flow slope inflows' labels'
       → CurvesStand net inflows' labels' (until +ℚ length)

@@ -16,7 +16,8 @@ use Rattle.nf_phase_laws.specs.Invariant.{link_slack, queue_by_slack, sent, Hold
 -- By departure, what comes out of a link by the label of its head is what was sent into it, and what waits at the label of its tail
 -- is the queue of the slack. Before the labels of departure 0 both are 0.
 pub record DescribesLinks (net : Network) (amount label outflow queue : ℕ → ℚ → ℚ) (until : ℚ) : Type 0 where
-  pub outflows : (e : ℕ) (link : Link) (departure : ℚ) → IsLink net e link → Within 0ℚ until departure → outflow e (label link.head departure) ≡ sent net amount label e departure
+  pub outflows : (e : ℕ) (link : Link) (departure : ℚ) → IsLink net e link → Within 0ℚ until departure
+      → outflow e (label link.head departure) ≡ sent net amount label e departure
   pub outflows_early : (e : ℕ) (link : Link) (time : ℚ) → IsLink net e link → Within 0ℚ (label link.head 0ℚ) time → outflow e time ≡ 0ℚ
   pub queues : (e : ℕ) (link : Link) (departure : ℚ) → IsLink net e link → Within 0ℚ until departure
       → queue e (label link.tail departure) ≡ queue_by_slack link.capacity (link_slack label link departure)
@@ -24,36 +25,52 @@ pub record DescribesLinks (net : Network) (amount label outflow queue : ℕ → 
 
 -- A description goes on over a phase: up to then nothing changes. While the head's label moves the outflow has one rate, so much that
 -- by departure it is `flow`; and while the tail's label moves the queue changes at one rate, up to that of the slack at the end.
-pub record DescriptionGoesOn (net : Network) (label : ℕ → ℚ → ℚ) (until length : ℚ) (flow slope : ℕ → ℚ) (label' outflow queue outflow' queue' : ℕ → ℚ → ℚ) : Type 0 where
-  pub outflow_before : (e : ℕ) (link : Link) (time : ℚ) → IsLink net e link → Within 0ℚ (label link.head until) time → outflow' e time ≡ outflow e time
+pub record DescriptionGoesOn (net : Network) (label : ℕ → ℚ → ℚ) (until length : ℚ) (flow slope : ℕ → ℚ)
+    (label' outflow queue outflow' queue' : ℕ → ℚ → ℚ) : Type 0 where
+  pub outflow_before : (e : ℕ) (link : Link) (time : ℚ) → IsLink net e link → Within 0ℚ (label link.head until) time
+      → outflow' e time ≡ outflow e time
   pub outflow_after : (e : ℕ) (link : Link) → IsLink net e link → (rate : ℚ) × (rate *ℚ slope link.head ≡ flow e)
       × IsAffine (outflow' e) (label link.head until) (label link.head until +ℚ slope link.head *ℚ length) rate
-  pub queue_before : (e : ℕ) (link : Link) (time : ℚ) → IsLink net e link → Within 0ℚ (label link.tail until) time → queue' e time ≡ queue e time
-  pub queue_after : (e : ℕ) (link : Link) → IsLink net e link → (rate : ℚ) × IsAffine (queue' e) (label link.tail until) (label link.tail until +ℚ slope link.tail *ℚ length) rate
+  pub queue_before : (e : ℕ) (link : Link) (time : ℚ) → IsLink net e link → Within 0ℚ (label link.tail until) time
+      → queue' e time ≡ queue e time
+  pub queue_after : (e : ℕ) (link : Link) → IsLink net e link
+      → (rate : ℚ) × IsAffine (queue' e) (label link.tail until) (label link.tail until +ℚ slope link.tail *ℚ length) rate
   pub queue_end : (e : ℕ) (link : Link) → IsLink net e link
-      → queue' e (label link.tail until +ℚ slope link.tail *ℚ length) ≡ queue_by_slack link.capacity (link_slack label' link (until +ℚ length))
+      → queue' e (label link.tail until +ℚ slope link.tail *ℚ length)
+      ≡ queue_by_slack link.capacity (link_slack label' link (until +ℚ length))
 
 -- such a description is right: where the invariant of phases holds, these are the outflow and the queue
 pub record DescriptionIsRight : Type 0 where
-  pub outflows : (net : Network) (amount label outflow queue : ℕ → ℚ → ℚ) (until : ℚ) → IsNetwork net → HoldsUpTo net amount label until → DescribesLinks net amount label outflow queue until
-      → (e : ℕ) (link : Link) (time : ℚ) → IsLink net e link → Within 0ℚ (label link.head until) time → IsOutflow link.transit link.capacity (amount e) time (outflow e time)
-  pub queues : (net : Network) (amount label outflow queue : ℕ → ℚ → ℚ) (until : ℚ) → IsNetwork net → HoldsUpTo net amount label until → DescribesLinks net amount label outflow queue until
-      → (e : ℕ) (link : Link) (time : ℚ) → IsLink net e link → Within 0ℚ (label link.tail until) time → IsQueue link.capacity (amount e) time (queue e time)
+  pub outflows : (net : Network) (amount label outflow queue : ℕ → ℚ → ℚ) (until : ℚ) → IsNetwork net → HoldsUpTo net amount label until
+      → DescribesLinks net amount label outflow queue until
+      → (e : ℕ) (link : Link) (time : ℚ) → IsLink net e link → Within 0ℚ (label link.head until) time
+      → IsOutflow link.transit link.capacity (amount e) time (outflow e time)
+  pub queues : (net : Network) (amount label outflow queue : ℕ → ℚ → ℚ) (until : ℚ) → IsNetwork net → HoldsUpTo net amount label until
+      → DescribesLinks net amount label outflow queue until
+      → (e : ℕ) (link : Link) (time : ℚ) → IsLink net e link → Within 0ℚ (label link.tail until) time
+      → IsQueue link.capacity (amount e) time (queue e time)
 
 -- the description begins with 0, and each phase keeps it
 pub record PhasesKeepDescription : Type 0 where
-  pub begins : (net : Network) (labels : List ℚ) (amount label outflow queue : ℕ → ℚ → ℚ) → IsNetwork net → AreStartLabels net labels → IsStart net labels amount label
-      → ((e : ℕ) (link : Link) (time : ℚ) → IsLink net e link → 0ℚ ≤ℚ time → outflow e time ≡ 0ℚ) → ((e : ℕ) (link : Link) (time : ℚ) → IsLink net e link → 0ℚ ≤ℚ time → queue e time ≡ 0ℚ)
+  pub begins : (net : Network) (labels : List ℚ) (amount label outflow queue : ℕ → ℚ → ℚ) → IsNetwork net → AreStartLabels net labels
+      → IsStart net labels amount label
+      → ((e : ℕ) (link : Link) (time : ℚ) → IsLink net e link → 0ℚ ≤ℚ time → outflow e time ≡ 0ℚ)
+      → ((e : ℕ) (link : Link) (time : ℚ) → IsLink net e link → 0ℚ ≤ℚ time → queue e time ≡ 0ℚ)
       → DescribesLinks net amount label outflow queue 0ℚ
-  pub phase : (net : Network) (amount label amount' label' : ℕ → ℚ → ℚ) (until length : ℚ) (labels flows slopes : List ℚ) (outflow queue outflow' queue' : ℕ → ℚ → ℚ)
-      → IsNetwork net → HoldsUpTo net amount label until → LabelsAre net label until labels → IsThinFlow net (sets_at net labels) (rate_at net until) flows slopes
-      → Lasts net (slacks_of (hops net) labels) slopes until length → GoesOn net amount label until length (number_at flows) (number_at slopes) amount' label'
-      → DescribesLinks net amount label outflow queue until → DescriptionGoesOn net label until length (number_at flows) (number_at slopes) label' outflow queue outflow' queue'
+  pub phase : (net : Network) (amount label amount' label' : ℕ → ℚ → ℚ) (until length : ℚ) (labels flows slopes : List ℚ)
+      (outflow queue outflow' queue' : ℕ → ℚ → ℚ)
+      → IsNetwork net → HoldsUpTo net amount label until → LabelsAre net label until labels
+      → IsThinFlow net (sets_at net labels) (rate_at net until) flows slopes
+      → Lasts net (slacks_of (hops net) labels) slopes until length
+      → GoesOn net amount label until length (number_at flows) (number_at slopes) amount' label'
+      → DescribesLinks net amount label outflow queue until
+      → DescriptionGoesOn net label until length (number_at flows) (number_at slopes) label' outflow queue outflow' queue'
       → DescribesLinks net amount' label' outflow' queue' (until +ℚ length)
 
 -- So a flow of a report is an equilibrium where the invariant holds of its inflows and labels, its outflows and queues are described
 -- by departure, and its curves and rates have their form.
 abbrev pub DescriptionMakesEquilibrium : Type 0
 DescriptionMakesEquilibrium = (net : Network) (flow : Flow) → IsNetwork net → HoldsUpTo net (inflow flow) (label flow) flow.reached
-    → DescribesLinks net (inflow flow) (label flow) (outflow flow) (queue flow) flow.reached → HasShape net flow → HasSlopes flow.inflows → HasSlopes flow.outflows
+    → DescribesLinks net (inflow flow) (label flow) (outflow flow) (queue flow) flow.reached → HasShape net flow → HasSlopes flow.inflows
+    → HasSlopes flow.outflows
     → Equilibrium net flow

@@ -11,12 +11,15 @@ use Rattle.nf_phase_laws.specs.CurveSteps.{LastPoint, GoesOnTo, at}
 
 -- each outflow ends at the label of its link's head, and each queue at that of its tail
 pub record DescriptionStands (net : Network) (label : ℕ → ℚ → ℚ) (outflows queues : ℕ → List Point) (until : ℚ) : Type 0 where
-  pub outflows_end : (e : ℕ) (link : Link) → IsLink net e link → LastPoint (outflows e) (label link.head until, at outflows e (label link.head until))
-  pub queues_end : (e : ℕ) (link : Link) → IsLink net e link → LastPoint (queues e) (label link.tail until, at queues e (label link.tail until))
+  pub outflows_end : (e : ℕ) (link : Link) → IsLink net e link
+      → LastPoint (outflows e) (label link.head until, at outflows e (label link.head until))
+  pub queues_end : (e : ℕ) (link : Link) → IsLink net e link
+      → LastPoint (queues e) (label link.tail until, at queues e (label link.tail until))
 
 -- Over a phase of this length the outflow takes the flow by departure, while the label of the head moves; and the queue goes to that of
 -- the slack at the end, while the label of the tail moves. Else they stay as they are.
-pub record DescriptionCurvesGoOn (net : Network) (label label' : ℕ → ℚ → ℚ) (outflows queues : ℕ → List Point) (until length : ℚ) (flow slope : ℕ → ℚ)
+pub record DescriptionCurvesGoOn (net : Network) (label label' : ℕ → ℚ → ℚ) (outflows queues : ℕ → List Point) (until length : ℚ)
+    (flow slope : ℕ → ℚ)
     (outflows' queues' : ℕ → List Point) : Type 0 where
   pub outflows_go : (e : ℕ) (link : Link) → IsLink net e link → 0ℚ <ℚ slope link.head
       → GoesOnTo (outflows e) (outflows' e) (label link.head until, at outflows e (label link.head until))
@@ -30,15 +33,19 @@ pub record DescriptionCurvesGoOn (net : Network) (label label' : ℕ → ℚ →
 -- then the description goes on so, where the invariant holds at the beginning and at the end and no flow comes to a node whose label
 -- stands still, and the new curves stand at the end
 pub record CurvesMakeDescription : Type 0 where
-  pub description : (net : Network) (amount label amount' label' : ℕ → ℚ → ℚ) (until length : ℚ) (flow slope : ℕ → ℚ) (outflows queues outflows' queues' : ℕ → List Point) → IsNetwork net
+  pub description : (net : Network) (amount label amount' label' : ℕ → ℚ → ℚ) (until length : ℚ) (flow slope : ℕ
+      → ℚ) (outflows queues outflows' queues' : ℕ → List Point) → IsNetwork net
       → 0ℚ <ℚ length → ((v : ℕ) → 0ℚ ≤ℚ slope v) → ((e : ℕ) (link : Link) → IsLink net e link → slope link.head ≡ 0ℚ → flow e ≡ 0ℚ)
-      → HoldsUpTo net amount label until → HoldsUpTo net amount' label' (until +ℚ length) → GoesOn net amount label until length flow slope amount' label'
+      → HoldsUpTo net amount label until → HoldsUpTo net amount' label' (until +ℚ length)
+      → GoesOn net amount label until length flow slope amount' label'
       → DescribesLinks net amount label (at outflows) (at queues) until → DescriptionStands net label outflows queues until
       → DescriptionCurvesGoOn net label label' outflows queues until length flow slope outflows' queues'
       → DescriptionGoesOn net label until length flow slope label' (at outflows) (at queues) (at outflows') (at queues')
-  pub stands : (net : Network) (amount label amount' label' : ℕ → ℚ → ℚ) (until length : ℚ) (flow slope : ℕ → ℚ) (outflows queues outflows' queues' : ℕ → List Point) → IsNetwork net
+  pub stands : (net : Network) (amount label amount' label' : ℕ → ℚ → ℚ) (until length : ℚ) (flow slope : ℕ
+      → ℚ) (outflows queues outflows' queues' : ℕ → List Point) → IsNetwork net
       → 0ℚ <ℚ length → ((v : ℕ) → 0ℚ ≤ℚ slope v) → ((e : ℕ) (link : Link) → IsLink net e link → slope link.head ≡ 0ℚ → flow e ≡ 0ℚ)
-      → HoldsUpTo net amount label until → HoldsUpTo net amount' label' (until +ℚ length) → GoesOn net amount label until length flow slope amount' label'
+      → HoldsUpTo net amount label until → HoldsUpTo net amount' label' (until +ℚ length)
+      → GoesOn net amount label until length flow slope amount' label'
       → DescribesLinks net amount label (at outflows) (at queues) until → DescriptionStands net label outflows queues until
       → DescriptionCurvesGoOn net label label' outflows queues until length flow slope outflows' queues'
       → DescriptionStands net label' outflows' queues' (until +ℚ length)

@@ -37,7 +37,8 @@ pub record HoldsUpTo (net : Network) (amount label : ℕ → ℚ → ℚ) (until
   pub begun : 0ℚ ≤ℚ until
   -- labels never fall, take each value between, and are not negative; that of the source is the departure
   pub source : (departure : ℚ) → Within 0ℚ until departure → label net.source departure ≡ departure
-  pub label_rises : (v : ℕ) (earlier later : ℚ) → v < net.nodes → 0ℚ ≤ℚ earlier → earlier ≤ℚ later → later ≤ℚ until → label v earlier ≤ℚ label v later
+  pub label_rises : (v : ℕ) (earlier later : ℚ) → v < net.nodes → 0ℚ ≤ℚ earlier → earlier ≤ℚ later → later ≤ℚ until
+      → label v earlier ≤ℚ label v later
   pub label_takes : (v : ℕ) (time : ℚ) → v < net.nodes → label v 0ℚ ≤ℚ time → time ≤ℚ label v until
       → (departure : ℚ) × Within 0ℚ until departure × (label v departure ≡ time)
   pub label_not_negative : (v : ℕ) → v < net.nodes → 0ℚ ≤ℚ label v 0ℚ
@@ -50,25 +51,32 @@ pub record HoldsUpTo (net : Network) (amount label : ℕ → ℚ → ℚ) (until
   pub inner : (v : ℕ) (departure : ℚ) → v < net.nodes → v ≢ net.source → v ≢ net.sink → Within 0ℚ until departure
       → sum_in net.links (λ e. sent net amount label e departure) v ≡ sum_out net.links (λ e. sent net amount label e departure) v
   pub supplied : (departure : ℚ) → Within 0ℚ until departure
-      → sum_in net.links (λ e. sent net amount label e departure) net.source +ℚ supply net departure ≡ sum_out net.links (λ e. sent net amount label e departure) net.source
+      → sum_in net.links (λ e. sent net amount label e departure) net.source +ℚ supply net departure
+      ≡ sum_out net.links (λ e. sent net amount label e departure) net.source
   pub drained : (departure : ℚ) → Within 0ℚ until departure
-      → sum_in net.links (λ e. sent net amount label e departure) net.sink ≡ sum_out net.links (λ e. sent net amount label e departure) net.sink +ℚ supply net departure
+      → sum_in net.links (λ e. sent net amount label e departure) net.sink
+      ≡ sum_out net.links (λ e. sent net amount label e departure) net.sink +ℚ supply net departure
   -- the queue that one meets is that of the slack; and no slack of an unbounded link is above 0
   pub queue : (e : ℕ) (link : Link) (departure : ℚ) → IsLink net e link → Within 0ℚ until departure
       → IsQueue link.capacity (amount e) (label link.tail departure) (queue_by_slack link.capacity (link_slack label link departure))
-  pub unbounded : (e : ℕ) (link : Link) (departure : ℚ) → IsLink net e link → link.capacity ≡ None → Within 0ℚ until departure → link_slack label link departure ≤ℚ 0ℚ
+  pub unbounded : (e : ℕ) (link : Link) (departure : ℚ) → IsLink net e link → link.capacity ≡ None → Within 0ℚ until departure
+      → link_slack label link departure ≤ℚ 0ℚ
   -- into each node but the source leads an active link
   pub entered : (v : ℕ) (departure : ℚ) → v < net.nodes → v ≢ net.source → Within 0ℚ until departure
       → (e : ℕ) × (link : Link) × IsLink net e link × (link.head ≡ v) × (0ℚ ≤ℚ link_slack label link departure)
   -- Where the slack is not above 0, nothing has entered the link since the time at which one would have to enter it, so as to be
   -- at its head in time; and nothing waited then.
-  pub idle : (e : ℕ) (link : Link) (departure time : ℚ) → IsLink net e link → Within 0ℚ until departure → link_slack label link departure ≤ℚ 0ℚ
-      → 0ℚ ≤ℚ time → label link.head departure -ℚ link.transit ≤ℚ time → time ≤ℚ label link.tail departure → amount e time ≡ sent net amount label e departure
-  pub idle_queue : (e : ℕ) (link : Link) (departure : ℚ) → IsLink net e link → Within 0ℚ until departure → link_slack label link departure ≤ℚ 0ℚ
+  pub idle : (e : ℕ) (link : Link) (departure time : ℚ) → IsLink net e link → Within 0ℚ until departure
+      → link_slack label link departure ≤ℚ 0ℚ
+      → 0ℚ ≤ℚ time → label link.head departure -ℚ link.transit ≤ℚ time → time ≤ℚ label link.tail departure
+      → amount e time ≡ sent net amount label e departure
+  pub idle_queue : (e : ℕ) (link : Link) (departure : ℚ) → IsLink net e link → Within 0ℚ until departure
+      → link_slack label link departure ≤ℚ 0ℚ
       → 0ℚ ≤ℚ label link.head departure -ℚ link.transit → IsQueue link.capacity (amount e) (label link.head departure -ℚ link.transit) 0ℚ
   -- what is sent into a link just after a departure is sent into an active one
   pub used : (e : ℕ) (link : Link) (departure : ℚ) → IsLink net e link → 0ℚ ≤ℚ departure → departure <ℚ until
-      → ((later : ℚ) → departure <ℚ later → later ≤ℚ until → sent net amount label e departure <ℚ sent net amount label e later) → 0ℚ ≤ℚ link_slack label link departure
+      → ((later : ℚ) → departure <ℚ later → later ≤ℚ until → sent net amount label e departure <ℚ sent net amount label e later)
+      → 0ℚ ≤ℚ link_slack label link departure
 
 -- these are the labels of the nodes at a departure
 abbrev pub LabelsAre : Network → (ℕ → ℚ → ℚ) → ℚ → List ℚ → Type 0
@@ -81,10 +89,13 @@ pub record IsStart (net : Network) (labels : List ℚ) (amount label : ℕ → �
 
 -- A flow goes on from a departure for a while; what was up to then stays. Each label moves on at its slope. While the label of its tail
 -- moves, a link takes flow at one rate by time, which is `flow` by departure; and after that it takes nothing more.
-pub record GoesOn (net : Network) (amount label : ℕ → ℚ → ℚ) (until length : ℚ) (flow slope : ℕ → ℚ) (amount' label' : ℕ → ℚ → ℚ) : Type 0 where
+pub record GoesOn (net : Network) (amount label : ℕ → ℚ → ℚ) (until length : ℚ) (flow slope : ℕ → ℚ)
+    (amount' label' : ℕ → ℚ → ℚ) : Type 0 where
   pub label_before : (v : ℕ) (departure : ℚ) → v < net.nodes → Within 0ℚ until departure → label' v departure ≡ label v departure
-  pub label_after : (v : ℕ) (while : ℚ) → v < net.nodes → Within 0ℚ length while → label' v (until +ℚ while) ≡ label v until +ℚ slope v *ℚ while
-  pub amount_before : (e : ℕ) (link : Link) (time : ℚ) → IsLink net e link → Within 0ℚ (label link.tail until) time → amount' e time ≡ amount e time
+  pub label_after : (v : ℕ) (while : ℚ) → v < net.nodes → Within 0ℚ length while
+      → label' v (until +ℚ while) ≡ label v until +ℚ slope v *ℚ while
+  pub amount_before : (e : ℕ) (link : Link) (time : ℚ) → IsLink net e link → Within 0ℚ (label link.tail until) time
+      → amount' e time ≡ amount e time
   pub amount_after : (e : ℕ) (link : Link) → IsLink net e link → (rate : ℚ) × (rate *ℚ slope link.tail ≡ flow e)
       × IsAffine (amount' e) (label link.tail until) (label link.tail until +ℚ slope link.tail *ℚ length) rate
   pub amount_ends : (e : ℕ) (link : Link) (time : ℚ) → IsLink net e link → label link.tail until +ℚ slope link.tail *ℚ length ≤ℚ time

@@ -10,5 +10,6 @@ use Rattle.nf_model.specs.Phases.{IsExtension, IsPhaseLength, IsPhase}
 -- phase that begins before the horizon, and what a phase adds to the time are above 0.
 pub record PhasesTakeTime : Type 0 where
   pub extension : (net : Network) (slacks slopes : List ℚ) (time length : ℚ) → IsExtension net slacks slopes time length → 0ℚ <ℚ length
-  pub length : (net : Network) (slacks slopes : List ℚ) (time horizon length : ℚ) → time <ℚ horizon → IsPhaseLength net slacks slopes time horizon length → 0ℚ <ℚ length
+  pub length : (net : Network) (slacks slopes : List ℚ) (time horizon length : ℚ) → time <ℚ horizon
+      → IsPhaseLength net slacks slopes time horizon length → 0ℚ <ℚ length
   pub time : (net : Network) (horizon : ℚ) (old new : ℚ × List ℚ) → IsPhase net horizon old new → old.0 <ℚ new.0

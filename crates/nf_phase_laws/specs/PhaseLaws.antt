@@ -13,29 +13,36 @@ use Rattle.nf_phase_laws.specs.Run.{GoesByPhases}
 
 -- a flow of which the invariant holds up to a time is a Nash flow over time up to then
 abbrev pub NashFromInvariant : Type 0
-NashFromInvariant = (net : Network) (amount label : ℕ → ℚ → ℚ) (until : ℚ) → IsNetwork net → HoldsUpTo net amount label until → IsNashFlow net amount label until
+NashFromInvariant = (net : Network) (amount label : ℕ → ℚ → ℚ) (until : ℚ) → IsNetwork net → HoldsUpTo net amount label until
+    → IsNashFlow net amount label until
 
 -- at the start, where nothing has entered a link and the labels are the least transit sums, the invariant holds up to time 0
 abbrev pub StartHasInvariant : Type 0
-StartHasInvariant = (net : Network) (labels : List ℚ) (amount label : ℕ → ℚ → ℚ) → IsNetwork net → AreStartLabels net labels → IsStart net labels amount label
+StartHasInvariant = (net : Network) (labels : List ℚ) (amount label : ℕ → ℚ → ℚ) → IsNetwork net → AreStartLabels net labels
+    → IsStart net labels amount label
     → HoldsUpTo net amount label 0ℚ
 
 -- Where the invariant holds up to a time, the labels then are these, and the flow goes on for a while by a thin flow for the sets of
 -- their slacks and the supply rate, no longer than such a phase may last, it holds up to the end of that while.
 abbrev pub PhaseKeepsInvariant : Type 0
 PhaseKeepsInvariant = (net : Network) (amount label amount' label' : ℕ → ℚ → ℚ) (until length : ℚ) (labels flows slopes : List ℚ)
-    → IsNetwork net → HoldsUpTo net amount label until → LabelsAre net label until labels → IsThinFlow net (sets_at net labels) (rate_at net until) flows slopes
-    → Lasts net (slacks_of (hops net) labels) slopes until length → GoesOn net amount label until length (number_at flows) (number_at slopes) amount' label'
+    → IsNetwork net → HoldsUpTo net amount label until → LabelsAre net label until labels
+    → IsThinFlow net (sets_at net labels) (rate_at net until) flows slopes
+    → Lasts net (slacks_of (hops net) labels) slopes until length
+    → GoesOn net amount label until length (number_at flows) (number_at slopes) amount' label'
     → HoldsUpTo net amount' label' (until +ℚ length)
 
 -- the invariant holds of a flow that goes on phase by phase, and the labels of the last phase's end are those of the flow
 pub record PhasesKeepInvariant : Type 0 where
-  pub holds : (net : Network) (horizon until : ℚ) (labels : List ℚ) (amount label : ℕ → ℚ → ℚ) → IsNetwork net → GoesByPhases net horizon until labels amount label
+  pub holds : (net : Network) (horizon until : ℚ) (labels : List ℚ) (amount label : ℕ → ℚ → ℚ) → IsNetwork net
+      → GoesByPhases net horizon until labels amount label
       → HoldsUpTo net amount label until
-  pub labels : (net : Network) (horizon until : ℚ) (labels : List ℚ) (amount label : ℕ → ℚ → ℚ) → IsNetwork net → GoesByPhases net horizon until labels amount label
+  pub labels : (net : Network) (horizon until : ℚ) (labels : List ℚ) (amount label : ℕ → ℚ → ℚ) → IsNetwork net
+      → GoesByPhases net horizon until labels amount label
       → LabelsAre net label until labels
 
 -- a flow that goes on phase by phase is a Nash flow over time, for all that leaves the source up to the end of the last phase
 abbrev pub PhasesMakeNashFlow : Type 0
-PhasesMakeNashFlow = (net : Network) (horizon until : ℚ) (labels : List ℚ) (amount label : ℕ → ℚ → ℚ) → IsNetwork net → GoesByPhases net horizon until labels amount label
+PhasesMakeNashFlow = (net : Network) (horizon until : ℚ) (labels : List ℚ) (amount label : ℕ → ℚ → ℚ) → IsNetwork net
+    → GoesByPhases net horizon until labels amount label
     → IsNashFlow net amount label until

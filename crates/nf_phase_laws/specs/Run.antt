@@ -10,7 +10,10 @@ use Rattle.nf_phase_laws.specs.Invariant.{IsStart, GoesOn}
 -- The flow of a phase sequence up to a time, with the labels then: at first nothing has entered a link, and the labels are the least
 -- transit sums; and in each phase the flow goes on by the phase's thin flow for the phase's length.
 pub data GoesByPhases (net : Network) (horizon : ℚ) : ℚ → List ℚ → (ℕ → ℚ → ℚ) → (ℕ → ℚ → ℚ) → Type 0 where
-  begins : (labels : List ℚ) (amount label : ℕ → ℚ → ℚ) → AreStartLabels net labels → IsStart net labels amount label → GoesByPhases net horizon 0ℚ labels amount label
-  goes_on : (time time' : ℚ) (labels labels' : List ℚ) (amount label amount' label' : ℕ → ℚ → ℚ) (phase : IsPhase net horizon (time, labels) (time', labels'))
-      → GoesByPhases net horizon time labels amount label → GoesOn net amount label time phase.length (number_at phase.flows) (number_at phase.slopes) amount' label'
+  begins : (labels : List ℚ) (amount label : ℕ → ℚ → ℚ) → AreStartLabels net labels → IsStart net labels amount label
+      → GoesByPhases net horizon 0ℚ labels amount label
+  goes_on : (time time' : ℚ) (labels labels' : List ℚ) (amount label amount' label' : ℕ → ℚ → ℚ)
+      (phase : IsPhase net horizon (time, labels) (time', labels'))
+      → GoesByPhases net horizon time labels amount label
+      → GoesOn net amount label time phase.length (number_at phase.flows) (number_at phase.slopes) amount' label'
       → GoesByPhases net horizon time' labels' amount' label'

@@ -9,7 +9,9 @@ use Rattle.nf_model.specs.ThinFlow.{sets_at, IsThinFlow}
 
 -- In a thin flow for the sets of slacks, a node whose label stands still is passed by no flow: none comes in, and none goes out.
 pub record StillNodesCarryNoFlow : Type 0 where
-  pub leaves : (net : Network) (labels : List ℚ) (rate : ℚ) (flows slopes : List ℚ) → IsNetwork net → 0ℚ ≤ℚ rate → IsThinFlow net (sets_at net labels) rate flows slopes
+  pub leaves : (net : Network) (labels : List ℚ) (rate : ℚ) (flows slopes : List ℚ) → IsNetwork net → 0ℚ ≤ℚ rate
+      → IsThinFlow net (sets_at net labels) rate flows slopes
       → (e : ℕ) (link : Link) → IsLink net e link → number_at slopes link.tail ≡ 0ℚ → number_at flows e ≡ 0ℚ
-  pub comes : (net : Network) (labels : List ℚ) (rate : ℚ) (flows slopes : List ℚ) → IsNetwork net → 0ℚ ≤ℚ rate → IsThinFlow net (sets_at net labels) rate flows slopes
+  pub comes : (net : Network) (labels : List ℚ) (rate : ℚ) (flows slopes : List ℚ) → IsNetwork net → 0ℚ ≤ℚ rate
+      → IsThinFlow net (sets_at net labels) rate flows slopes
       → (e : ℕ) (link : Link) → IsLink net e link → number_at slopes link.head ≡ 0ℚ → number_at flows e ≡ 0ℚ

@@ -6,11 +6,22 @@ use Rattle.nf_lists.specs.Advance.{Advanced}
 use Rattle.nf_lists.specs.CurveList.{LinkPhase}
 
 abbrev pub coded_advanced : Coded Advanced
-coded_advanced = code_by (ℚ × List ℚ) (coded× coded_ℚ (coded_list coded_ℚ)) (λ a. (a.length, a.labels)) (λ p. record { length = p.0; labels = p.1 }) (λ _. refl)
+coded_advanced = code_by (ℚ × List ℚ) (coded× coded_ℚ (coded_list coded_ℚ)) (λ a. (a.length, a.labels))
+    (λ p. record { length = p.0; labels = p.1 }) (λ _. refl)
 
 abbrev pub coded_link_phase : Coded LinkPhase
 coded_link_phase = code_by (Option ℚ × (ℚ × (ℚ × (Bool × (ℚ × (ℚ × (ℚ × ℚ)))))))
-    (coded× (coded_option coded_ℚ) (coded× coded_ℚ (coded× coded_ℚ (coded× coded_bool (coded× coded_ℚ (coded× coded_ℚ (coded× coded_ℚ coded_ℚ)))))))
+    (coded× (coded_option coded_ℚ)
+    (coded× coded_ℚ (coded× coded_ℚ (coded× coded_bool (coded× coded_ℚ (coded× coded_ℚ (coded× coded_ℚ coded_ℚ)))))))
     (λ l. (l.capacity, (l.transit, (l.flow, (l.filled, (l.tail_slope, (l.head_slope, (l.tail_label, l.head_label))))))))
-    (λ p. record { capacity = p.0; transit = p.1.0; flow = p.1.1.0; filled = p.1.1.1.0; tail_slope = p.1.1.1.1.0; head_slope = p.1.1.1.1.1.0; tail_label = p.1.1.1.1.1.1.0; head_label = p.1.1.1.1.1.1.1 })
+    (λ p. record {
+      capacity = p.0;
+      transit = p.1.0;
+      flow = p.1.1.0;
+      filled = p.1.1.1.0;
+      tail_slope = p.1.1.1.1.0;
+      head_slope = p.1.1.1.1.1.0;
+      tail_label = p.1.1.1.1.1.1.0;
+      head_label = p.1.1.1.1.1.1.1;
+    })
     (λ _. refl)

@@ -74,7 +74,8 @@ fn after(
     requires link { link < length net.now.net.links }
     requires slacks { length slacks.now ≡ length net.now.net.links }
     requires slopes { length slopes.now ≡ net.now.net.nodes }
-    ensures { (here : SeenLink) → IsLink net.now.net link here → result ≡ at_part Extend (least_after passes_Q slacks.now slopes.now least (link, here)) }
+    ensures { (here : SeenLink) → IsLink net.now.net link here
+        → result ≡ at_part Extend (least_after passes_Q slacks.now slopes.now least (link, here)) }
 {
     let here = net.link(link);
     after_link(
@@ -135,7 +136,8 @@ pub fn extension(
     requires slacks { length slacks.now ≡ length net.now.net.links }
     requires slopes { length slopes.now ≡ net.now.net.nodes }
     ensures list { result ≡ at_part Extend (extend_list passes_Q net.now.net slacks.now slopes.now time) }
-    ensures length { IfOk result (λ length. MatchOption length (IsUnending net.now.net slacks.now slopes.now time) (IsExtension net.now.net slacks.now slopes.now time)) }
+    ensures length { IfOk result (λ length. MatchOption length (IsUnending net.now.net slacks.now slopes.now time)
+        (IsExtension net.now.net slacks.now slopes.now time)) }
 {
     let least = after_links(net, slacks, slopes)?;
     until_change(least, time, next_change(net, time))

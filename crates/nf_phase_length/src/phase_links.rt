@@ -32,9 +32,27 @@ impl Model for LinkPhase {
 
     ghost coded = { coded_link_phase };
 
-    ghost view = { λ a. record { capacity = a.capacity; transit = a.transit; flow = a.flow; filled = a.filled; tail_slope = a.tail_slope; head_slope = a.head_slope; tail_label = a.tail_label; head_label = a.head_label } };
+    ghost view = { λ a. record {
+      capacity = a.capacity;
+      transit = a.transit;
+      flow = a.flow;
+      filled = a.filled;
+      tail_slope = a.tail_slope;
+      head_slope = a.head_slope;
+      tail_label = a.tail_label;
+      head_label = a.head_label;
+    } };
 
-    ghost inverse = { λ l. record { capacity = l.capacity; transit = l.transit; flow = l.flow; filled = l.filled; tail_slope = l.tail_slope; head_slope = l.head_slope; tail_label = l.tail_label; head_label = l.head_label } };
+    ghost inverse = { λ l. record {
+      capacity = l.capacity;
+      transit = l.transit;
+      flow = l.flow;
+      filled = l.filled;
+      tail_slope = l.tail_slope;
+      head_slope = l.head_slope;
+      tail_label = l.tail_label;
+      head_label = l.head_label;
+    } };
 }
 
 // The flow fills the link: it is resetting or Full.
@@ -64,7 +82,8 @@ pub fn link_phase(
     requires flows { length flows.now ≡ length net.now.net.links }
     requires slopes { length slopes.now ≡ net.now.net.nodes }
     requires labels { length labels.now ≡ net.now.net.nodes }
-    ensures { (here : SeenLink) → IsLink net.now.net link here → result ≡ link_phase_of sets.now pattern.now flows.now slopes.now labels.now (link, here) }
+    ensures { (here : SeenLink) → IsLink net.now.net link here
+        → result ≡ link_phase_of sets.now pattern.now flows.now slopes.now labels.now (link, here) }
 {
     let here = net.link(link);
     LinkPhase {

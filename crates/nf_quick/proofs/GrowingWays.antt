@@ -145,4 +145,3 @@ module _ (net : Network) (good : IsNetwork net) where
 
     pub all_known : AreWays net ways → AreAllWays net ways
     all_known are = record { each = are; all = λ walk v p. reached walk net.source v are.source.0 are.source.1 p }
-

@@ -24,18 +24,24 @@ HasNoWay net amount = (amount ≡ 0ℚ) ⊎ IsLimited net
 -- where the walks that were pushed end: with no walk left to be pushed, over the budget, or with an operation that passes
 abbrev pub IsPushed : Passing → Network → ℚ → ℕ → Result QuickStanding QuickFault → Type 0
 IsPushed passes net amount augments (Ok s) = at_part Part.Quick (push_up_to passes net amount augments (start_of net)) ≡ Ok (Done s)
-IsPushed passes net amount augments (Err (QuickFault.Budget walks)) = at_part Part.Quick (push_up_to passes net amount augments (start_of net)) ≡ Ok (OverBudget walks.items)
+IsPushed passes net amount augments (Err (QuickFault.Budget walks)) =
+    at_part Part.Quick (push_up_to passes net amount augments (start_of net)) ≡ Ok (OverBudget walks.items)
 IsPushed passes net amount augments (Err (QuickFault.Unbounded links)) = ⊥
-IsPushed passes net amount augments (Err (QuickFault.Passed at)) = at_part Part.Quick (push_up_to passes net amount augments (start_of net)) ≡ Err at
+IsPushed passes net amount augments (Err (QuickFault.Passed at)) =
+    at_part Part.Quick (push_up_to passes net amount augments (start_of net)) ≡ Err at
 IsPushed passes net amount augments (Err QuickFault.Memory) = Unit {0}
 
 -- Unbounded comes exactly where the amount is above 0 and a walk of unbounded links leads from source to sink, with such a walk; else
 -- what comes is what the list says, unless memory is wanting.
 abbrev pub IsAnswered : Passing → Network → ℚ → ℕ → Result Quick QuickFault → Type 0
-IsAnswered passes net amount augments (Ok quick) = HasNoWay net amount × (at_part Part.Quick (quickest_list passes net amount augments) ≡ Ok (FoundQuick quick))
-IsAnswered passes net amount augments (Err (QuickFault.Budget walks)) = HasNoWay net amount × (at_part Part.Quick (quickest_list passes net amount augments) ≡ Ok (Budget walks.items))
-IsAnswered passes net amount augments (Err (QuickFault.Unbounded links)) = (0ℚ <ℚ amount) × IsUnboundedWalk net links.items net.source net.sink
-IsAnswered passes net amount augments (Err (QuickFault.Passed at)) = HasNoWay net amount × (at_part Part.Quick (quickest_list passes net amount augments) ≡ Err at)
+IsAnswered passes net amount augments (Ok quick) = HasNoWay net amount
+    × (at_part Part.Quick (quickest_list passes net amount augments) ≡ Ok (FoundQuick quick))
+IsAnswered passes net amount augments (Err (QuickFault.Budget walks)) = HasNoWay net amount
+    × (at_part Part.Quick (quickest_list passes net amount augments) ≡ Ok (Budget walks.items))
+IsAnswered passes net amount augments (Err (QuickFault.Unbounded links)) = (0ℚ <ℚ amount)
+    × IsUnboundedWalk net links.items net.source net.sink
+IsAnswered passes net amount augments (Err (QuickFault.Passed at)) = HasNoWay net amount
+    × (at_part Part.Quick (quickest_list passes net amount augments) ≡ Err at)
 IsAnswered passes net amount augments (Err QuickFault.Memory) = Unit {0}
 
 -- A quickest flow comes of walks that are pushed in order; over the budget, as many of them as allowed were pushed.

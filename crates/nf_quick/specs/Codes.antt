@@ -9,13 +9,16 @@ use Rattle.nf_quick_lists.specs.Codes.{coded_walk}
 use Rattle.nf_quick_lists.specs.Quick.{Augment, QuickStanding, Quick}
 
 abbrev pub coded_fed : Coded Fed
-coded_fed = code_by (ℚ × List ℕ) (coded× coded_ℚ (coded_list coded_ℕ)) (λ f. (f.rate, f.walk)) (λ p. record { rate = p.0; walk = p.1 }) (λ _. refl)
+coded_fed = code_by (ℚ × List ℕ) (coded× coded_ℚ (coded_list coded_ℕ)) (λ f. (f.rate, f.walk))
+    (λ p. record { rate = p.0; walk = p.1 }) (λ _. refl)
 
 abbrev pub coded_augment : Coded Augment
-coded_augment = code_by (Walk × ℚ) (coded× coded_walk coded_ℚ) (λ a. (a.walk, a.amount)) (λ p. record { walk = p.0; amount = p.1 }) (λ _. refl)
+coded_augment = code_by (Walk × ℚ) (coded× coded_walk coded_ℚ) (λ a. (a.walk, a.amount))
+    (λ p. record { walk = p.0; amount = p.1 }) (λ _. refl)
 
 abbrev pub coded_times : Coded Times
-coded_times = code_by (ℚ × (ℚ × ℚ)) (coded× coded_ℚ (coded× coded_ℚ coded_ℚ)) (λ t. (t.rate, (t.cost, t.time))) (λ p. record { rate = p.0; cost = p.1.0; time = p.1.1 }) (λ _. refl)
+coded_times = code_by (ℚ × (ℚ × ℚ)) (coded× coded_ℚ (coded× coded_ℚ coded_ℚ)) (λ t. (t.rate, (t.cost, t.time)))
+    (λ p. record { rate = p.0; cost = p.1.0; time = p.1.1 }) (λ _. refl)
 
 abbrev pub coded_standing : Coded QuickStanding
 coded_standing = code_by (List ℚ × (List Augment × (ℚ × (ℚ × Option ℚ))))

@@ -24,7 +24,8 @@ fn within(net: &Network, amount: Q, known: Q, piece: &Piece) -> Result<Option<Q>
 
 // The departure in the last piece, if it supplies anything.
 fn in_last(net: &Network, amount: Q, known: Q, piece: &Piece) -> Result<Option<Q>, PassedAt<Q>>
-    ensures { result ≡ at_part Quick (last_piece passes_Q (checked_supply passes_Q net.now.net) amount (lt_ℚ 0ℚ piece.now.rate) known piece.now) }
+    ensures { result
+        ≡ at_part Quick (last_piece passes_Q (checked_supply passes_Q net.now.net) amount (lt_ℚ 0ℚ piece.now.rate) known piece.now) }
 {
     if !Q::zero().is_below(piece.rate) {
         return Ok(None);

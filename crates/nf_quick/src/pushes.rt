@@ -142,7 +142,8 @@ impl QuickStanding {
     pub fn next(&self, alloc: Global, net: &Network) -> Result<Option<Walk>, Halt<Q>>
         requires sound { IsSound net.now.net self.now.flows }
         requires limited { IsLimited net.now.net }
-        ensures list { (amount : ℚ) → Gives (λ found. found) (λ q. q) result (at_part Quick (next_list passes_Q net.now.net amount self.now)) }
+        ensures list { (amount : ℚ)
+            → Gives (λ found. found) (λ q. q) result (at_part Quick (next_list passes_Q net.now.net amount self.now)) }
         ensures shortest { IfOk result (λ found. IfSome found (IsShortestWalk net.now.net self.now.flows)) }
     {
         let found = self.flow.shortest(alloc, net)?;

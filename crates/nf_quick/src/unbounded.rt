@@ -116,7 +116,8 @@ pub(crate) fn unbounded_walk(
     alloc: Global,
     net: &Network,
 ) -> Result<Option<Vec<LinkId>>, AllocError>
-    ensures { IfOk result (λ found. MatchOption found (IsLimited net.now.net) (λ links. IsUnboundedWalk net.now.net links.items net.now.net.source net.now.net.sink)) }
+    ensures { IfOk result (λ found. MatchOption found (IsLimited net.now.net)
+        (λ links. IsUnboundedWalk net.now.net links.items net.now.net.source net.now.net.sink)) }
 {
     let mut ways = all_ways(alloc, net)?;
     let sink = net.sink();

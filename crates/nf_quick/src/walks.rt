@@ -138,7 +138,8 @@ fn take(flows: &mut Vec<Q>, way: &[LinkId], rate: Q) -> Result<(), PassedAt<Q>>
 // A walk is taken off along these links, with the least flow on them.
 fn walk_off(flows: &mut Vec<Q>, links: Vec<LinkId>) -> Result<Rated, PassedAt<Q>>
     requires { AllByRecursion (λ e. e < length flows.old.items) links.items }
-    ensures list { seen_at (λ _. flows.new.items) (λ q. q) result ≡ at_part Quick (take_list passes_Q (least_along_by flows.old.items None links.items) links.items flows.old.items) }
+    ensures list { seen_at (λ _. flows.new.items) (λ q. q) result
+        ≡ at_part Quick (take_list passes_Q (least_along_by flows.old.items None links.items) links.items flows.old.items) }
     ensures walk { IfOk result (λ rated. rated ≡ record { rate = least_along_by flows.old.items None links.items; walk = links.items }) }
     ensures count { length flows.new.items ≡ length flows.old.items }
 {
@@ -158,7 +159,8 @@ fn is_none(way: &[LinkId]) -> bool
 /// that passes, and has part Quick.
 pub fn walks_off(alloc: Global, net: &Network, flows: Vec<Q>) -> Result<Vec<Rated>, Halt<Q>>
     requires { length flows.items ≡ length net.now.net.links }
-    ensures { Gives (λ walks. walks.items) (λ q. q) result (at_part Quick (walks_off_by passes_Q (length net.now.net.links) net.now.net flows.items)) }
+    ensures { Gives (λ walks. walks.items) (λ q. q) result
+        (at_part Quick (walks_off_by passes_Q (length net.now.net.links) net.now.net flows.items)) }
 {
     let mut flows = flows;
     let mut spent = vec![in alloc; 0; net.node_count() as usize]?;

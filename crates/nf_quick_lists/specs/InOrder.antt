@@ -42,7 +42,8 @@ pub record IsFullPush (net : Network) (amount : ℚ) (before : List ℚ) (augmen
 -- one such push after the other leads from the first flow to the last
 abbrev pub ArePushed : Network → ℚ → List ℚ → List Augment → List ℚ → Type 0
 ArePushed net amount flows [] last = flows ≡ last
-ArePushed net amount flows (augment ∷ walks) last = (next : List ℚ) × IsFullPush net amount flows augment next × ArePushed net amount next walks last
+ArePushed net amount flows (augment ∷ walks) last = (next : List ℚ) × IsFullPush net amount flows augment next
+    × ArePushed net amount next walks last
 
 -- ---- what they come to
 -- A flow that comes of the flow 0 by at most so many pushes, and leaves no walk that is shorter than the time: the walks of the quickest

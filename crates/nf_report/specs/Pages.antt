@@ -12,11 +12,13 @@ pub record Kept (took_before took_now : Option (List ℕ)) (faults_before faults
   pub never_falls : faults_before ≤ faults_now
 
 -- a text was put behind what was on the page: the sink took the first bytes of both and the rest is on the page, or its faults rose and it took the first bytes
-pub record Gathered {E : Type 0} (took_before took_now : Option (List ℕ)) (faults_before faults_now : ℕ) (page_before page_now text : List ℕ) (result : Result (Unit {0}) E) : Type 0 where
+pub record Gathered {E : Type 0} (took_before took_now : Option (List ℕ)) (faults_before faults_now : ℕ)
+    (page_before page_now text : List ℕ) (result : Result (Unit {0}) E) : Type 0 where
   pub kept : OnOk result (Kept took_before took_now faults_before faults_now (page_before ++ text) page_now)
   pub refused : OnErr result (Wrote took_before took_now faults_before faults_now (page_before ++ text) result)
 
 -- lines were put on the page
-abbrev pub GatheredLines : {E : Type 0} → Option (List ℕ) → Option (List ℕ) → ℕ → ℕ → List ℕ → List ℕ → List Line → Result (Unit {0}) E → Type 0
+abbrev pub GatheredLines : {E : Type 0} → Option (List ℕ) → Option (List ℕ) → ℕ → ℕ → List ℕ → List ℕ → List Line
+    → Result (Unit {0}) E → Type 0
 GatheredLines took_before took_now faults_before faults_now page_before page_now lines result =
     Gathered took_before took_now faults_before faults_now page_before page_now (flat_map line_of_words lines) result

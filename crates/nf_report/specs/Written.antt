@@ -50,4 +50,5 @@ never_lines names = map (λ name. codes "never" ∷ name ∷ []) names
 
 -- the labels of the nodes, the idle nodes, and the curves of the links
 abbrev pub flow_lines : Named → Flow → List Line
-flow_lines n flow = for_each n.net.nodes (label_lines n flow) ++ never_lines n.idle_nodes ++ for_each (length n.net.links) (link_lines n flow)
+flow_lines n flow = for_each n.net.nodes (label_lines n flow) ++ never_lines n.idle_nodes
+    ++ for_each (length n.net.links) (link_lines n flow)

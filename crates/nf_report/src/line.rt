@@ -8,7 +8,8 @@ use nf_edge::{Sink, SinkFault, write_text};
 
 // A word that isn't the first of its line.
 fn put_word<O: Sink>(out: &mut O, page: &mut Page, word: &[u8]) -> Result<(), SinkFault>
-    ensures { Gathered (O.took out.old) (O.took out.new) (O.faults out.old) (O.faults out.new) page.old.items page.new.items (32 ∷ word.now) result }
+    ensures { Gathered (O.took out.old) (O.took out.new) (O.faults out.old) (O.faults out.new) page.old.items page.new.items
+        (32 ∷ word.now) result }
 {
     put(out, page, b" ")?;
     put(out, page, word)

@@ -21,7 +21,8 @@ fn write_page<O: Sink>(out: &mut O, page: &mut Page) -> Result<(), SinkFault>
 
 // Bytes for which the page has no room.
 fn put_on_next<O: Sink>(out: &mut O, page: &mut Page, bytes: &[u8]) -> Result<(), SinkFault>
-    ensures { Gathered (O.took out.old) (O.took out.new) (O.faults out.old) (O.faults out.new) page.old.items page.new.items bytes.now result }
+    ensures { Gathered (O.took out.old) (O.took out.new) (O.faults out.old)
+        (O.faults out.new) page.old.items page.new.items bytes.now result }
 {
     write_page(out, page)?;
     match page.try_extend_from_slice(bytes) {
@@ -32,7 +33,8 @@ fn put_on_next<O: Sink>(out: &mut O, page: &mut Page, bytes: &[u8]) -> Result<()
 
 /// Puts bytes on the page, which is written first where they don't fit.
 pub(crate) fn put<O: Sink>(out: &mut O, page: &mut Page, bytes: &[u8]) -> Result<(), SinkFault>
-    ensures { Gathered (O.took out.old) (O.took out.new) (O.faults out.old) (O.faults out.new) page.old.items page.new.items bytes.now result }
+    ensures { Gathered (O.took out.old) (O.took out.new) (O.faults out.old)
+        (O.faults out.new) page.old.items page.new.items bytes.now result }
 {
     match page.try_extend_from_slice(bytes) {
         Ok(()) => Ok(()),

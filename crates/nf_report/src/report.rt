@@ -213,9 +213,11 @@ fn put_report<O: Sink>(
     stopped: Option<&Stop>,
     last: &Pattern,
 ) -> Result<(), SinkFault>
-    requires { IsWellFormed net.now.net (record { horizon = horizon; flow = flow_of flow.now; stop = option_copied stopped; last = last.now }) }
+    requires { IsWellFormed net.now.net
+        (record { horizon = horizon; flow = flow_of flow.now; stop = option_copied stopped; last = last.now }) }
     ensures { GatheredLines (O.took out.old) (O.took out.new) (O.faults out.old) (O.faults out.new) page.old.items page.new.items
-        (report_lines net.now (record { horizon = horizon; flow = flow_of flow.now; stop = option_copied stopped.entry; last = last.now })) result }
+        (report_lines net.now (record { horizon = horizon; flow = flow_of flow.now; stop = option_copied stopped.entry; last = last.now }))
+        result }
 {
     put_head(out, page, net, horizon, flow, stopped)?;
     put_flow(out, page, net, flow)?;
@@ -234,9 +236,11 @@ pub fn write_report<O: Sink>(
     last: &Pattern,
     out: &mut O,
 ) -> Result<(), SinkFault>
-    requires { IsWellFormed net.now.net (record { horizon = horizon; flow = flow_of flow.now; stop = option_copied stopped; last = last.now }) }
+    requires { IsWellFormed net.now.net
+        (record { horizon = horizon; flow = flow_of flow.now; stop = option_copied stopped; last = last.now }) }
     ensures { Wrote (O.took out.old) (O.took out.new) (O.faults out.old) (O.faults out.new)
-        (report_text net.now (record { horizon = horizon; flow = flow_of flow.now; stop = option_copied stopped.entry; last = last.now })) result }
+        (report_text net.now (record { horizon = horizon; flow = flow_of flow.now; stop = option_copied stopped.entry; last = last.now }))
+        result }
 {
     let mut page = Page::new();
     put_report(out, &mut page, net, horizon, flow, stopped, last)?;

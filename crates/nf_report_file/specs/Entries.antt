@@ -48,7 +48,8 @@ drafted n draft (Cause stop) = record draft { stage = lines.InBody; stop = stop 
 drafted n draft (OfCurve opening p) =
     let o = opened_by draft opening in with_point draft o (p.time, p.value) (with_rate o.curve.rates p.rate)
 drafted n draft Never =
-    let o = begun_by (with_current draft.done draft.current) draft.keys in record draft { done = o.done ++ o.curve ∷ []; current = None; keys = o.keys }
+    let o = begun_by (with_current draft.done draft.current) draft.keys in
+    record draft { done = o.done ++ o.curve ∷ []; current = None; keys = o.keys }
 drafted n draft (OfLink link state) =
     record (closed draft) { next_state = suc link; states = set draft.states link (Some state) }
 drafted n draft End = record (closed draft) { stage = lines.AtEnd }

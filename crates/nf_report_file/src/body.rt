@@ -149,7 +149,8 @@ impl Draft {
         requires words { 0 < length line.now.words }
         requires within { IsWithin net.now self.now }
         ensures says { let draft = seen_draft net.now self.now in
-            trace_line (seen_kind kind) draft (words_behind (option_copied next.entry)) (drop 1 line.now.words) ≡ said_by (drafted net.now draft) result }
+            trace_line (seen_kind kind) draft (words_behind (option_copied next.entry)) (drop 1 line.now.words)
+            ≡ said_by (drafted net.now draft) result }
         ensures fits { IfOk result (λ entry. Fits net.now (seen_draft net.now self.now) entry) }
     {
         if line.len() != 5 {

@@ -175,7 +175,8 @@ impl Draft {
     ) -> Result<(), AllocError>
         requires within { IsWithin net.now self.old }
         requires fits { Fits net.now (seen_draft net.now self.old) (OfCurve opening point.now) }
-        ensures draft { OnOk result (seen_draft net.now self.new ≡ drafted net.now (seen_draft net.now self.old) (OfCurve opening point.now)) }
+        ensures draft { OnOk result
+            (seen_draft net.now self.new ≡ drafted net.now (seen_draft net.now self.old) (OfCurve opening point.now)) }
         ensures within { OnOk result (IsWithin net.now self.new) }
     {
         // For the proof: the clauses speak of the network's curves.

@@ -50,7 +50,8 @@ fn second_number(line: &ReadLine) -> Result<Q, ReportRule>
 /// The number of the line `horizon`; or P5, P6, P8 or P10, the first in this order.
 pub fn read_horizon(line: &ReadLine) -> Result<Q, ReportRule>
     requires { 0 < length line.now.words }
-    ensures { (draft : ReportDraft) → horizon_line draft line.now.words ≡ said_by (λ horizon. record draft { stage = lines.AtReached; horizon = horizon }) result }
+    ensures { (draft : ReportDraft) → horizon_line draft line.now.words
+        ≡ said_by (λ horizon. record draft { stage = lines.AtReached; horizon = horizon }) result }
 {
     if !is_word(line.at(0), b"horizon") {
         return Err(ReportRule::P5);

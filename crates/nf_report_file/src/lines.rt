@@ -51,7 +51,8 @@ impl Draft {
         requires words { 0 < length line.now.words }
         requires within { IsWithin net.now self.now }
         ensures says { let draft = seen_draft net.now self.now in
-            staged_line net.now draft (words_behind (option_copied next.entry)) line.now.words draft.stage ≡ said_by (drafted net.now draft) result }
+            staged_line net.now draft (words_behind (option_copied next.entry)) line.now.words draft.stage
+            ≡ said_by (drafted net.now draft) result }
         ensures fits { IfOk result (λ entry. Fits net.now (seen_draft net.now self.now) entry) }
     {
         match self.stage {
@@ -82,7 +83,8 @@ impl Draft {
     ) -> Result<Entry, ReportRule>
         requires { IsWithin net.now self.now }
         ensures says { let draft = seen_draft net.now self.now in
-            report_line net.now draft line.now.plain (words_behind (option_copied next.entry)) line.now.words ≡ said_by (drafted net.now draft) result }
+            report_line net.now draft line.now.plain (words_behind (option_copied next.entry)) line.now.words
+            ≡ said_by (drafted net.now draft) result }
         ensures fits { IfOk result (λ entry. Fits net.now (seen_draft net.now self.now) entry) }
     {
         if line.len() == 0 || !line.is_plain() {
@@ -100,7 +102,8 @@ impl Draft {
         next: Option<&ReadLine>,
     ) -> Result<(), ReportFault>
         requires { IsWithin net.now self.old }
-        ensures adds { let read = in_report_line line.now.number (report_line net.now (seen_draft net.now self.old) line.now.plain (words_behind (option_copied next.entry)) line.now.words) in
+        ensures adds { let read = in_report_line line.now.number
+            (report_line net.now (seen_draft net.now self.old) line.now.plain (words_behind (option_copied next.entry)) line.now.words) in
             MatchResult result (λ _. read ≡ Ok (seen_draft net.now self.new)) (λ fault. IfBroken fault (λ broken. read ≡ Err broken)) }
         ensures within { OnOk result (IsWithin net.now self.new) }
     {

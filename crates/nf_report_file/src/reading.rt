@@ -21,8 +21,10 @@ fn next_line<'a>(
     alloc: Global,
     cursor: &mut Cursor<'a>,
 ) -> Result<Option<ReadLine<'a>>, ReportFault>
-    ensures line { IfOk result (λ next. MatchOption next (cursor.old ≡ []) (λ line. map read_line cursor.old ≡ line ∷ map read_line cursor.new)) }
-    ensures fine { IfOk result (λ next. MatchOption next (cursor.new ≡ cursor.old) (λ line. first_fault_of cursor.old ≡ first_fault_of cursor.new)) }
+    ensures line { IfOk result
+        (λ next. MatchOption next (cursor.old ≡ []) (λ line. map read_line cursor.old ≡ line ∷ map read_line cursor.new)) }
+    ensures fine { IfOk result
+        (λ next. MatchOption next (cursor.new ≡ cursor.old) (λ line. first_fault_of cursor.old ≡ first_fault_of cursor.new)) }
     ensures fault { IfErr result (λ fault. IfBroken fault (λ broken. option_map as_report_rule (first_fault_of cursor.old) ≡ Some broken)) }
 {
     match cursor.next_line(alloc) {
@@ -73,11 +75,13 @@ fn add_lines(
     draft: &mut Draft,
 ) -> Result<(), ReportFault>
     requires { IsWithin net.now draft.old }
-    ensures draft { OnOk result (report_lines_from net.now (seen_draft net.now draft.old) (first.entry ∷ map read_line cursor.old) ≡ Ok (seen_draft net.now draft.new)) }
+    ensures draft { OnOk result (report_lines_from net.now (seen_draft net.now draft.old) (first.entry ∷ map read_line cursor.old)
+        ≡ Ok (seen_draft net.now draft.new)) }
     ensures within { OnOk result (IsWithin net.now draft.new) }
     ensures fine { OnOk result (first_fault_of cursor.old ≡ None) }
     ensures fault { IfErr result (λ fault. IfBroken fault (λ broken.
-        report_by_bytes (first_fault_of cursor.old) (closed_by (report_lines_from net.now (seen_draft net.now draft.old) (first.entry ∷ map read_line cursor.old))) ≡ Err broken)) }
+        report_by_bytes (first_fault_of cursor.old)
+        (closed_by (report_lines_from net.now (seen_draft net.now draft.old) (first.entry ∷ map read_line cursor.old))) ≡ Err broken)) }
 {
     let mut line = Some(first);
     while let Some(current) = line {
@@ -122,7 +126,8 @@ fn read_draft(alloc: Global, net: &Network, text: &[u8]) -> Result<Draft, Report
 // The report that a text is.
 fn read_report(alloc: Global, net: &Network, text: &[u8]) -> Result<Report, ReportFault>
     requires { length text.now ≤ longest_text }
-    ensures { MatchResult result (λ report. report_in net.now text.now ≡ Ok (report_of report)) (λ fault. IfBroken fault (λ broken. report_in net.now text.now ≡ Err broken)) }
+    ensures { MatchResult result (λ report. report_in net.now text.now ≡ Ok (report_of report))
+        (λ fault. IfBroken fault (λ broken. report_in net.now text.now ≡ Err broken)) }
 {
     match read_draft(alloc, net, text) {
         Ok(draft) => draft.report(alloc, net),
@@ -135,10 +140,12 @@ fn read_report(alloc: Global, net: &Network, text: &[u8]) -> Result<Report, Repo
 /// once, line by line.
 pub fn parse_report(alloc: Global, net: &Network, text: &[u8]) -> Result<Report, ReportFault>
     requires { length text.now ≤ longest_text }
-    ensures reads { MatchResult result (λ report. report_in net.now text.now ≡ Ok (report_of report)) (λ fault. IfBroken fault (λ broken. report_in net.now text.now ≡ Err broken)) }
+    ensures reads { MatchResult result (λ report. report_in net.now text.now ≡ Ok (report_of report))
+        (λ fault. IfBroken fault (λ broken. report_in net.now text.now ≡ Err broken)) }
     ensures formed { IfOk result (λ report. IsWellFormed net.now.net (report_of report)) }
     ensures text { IfOk result (λ report. text.now ≡ report_text net.now (report_of report)) }
-    ensures all { (report : SeenReport) → IsWellFormed net.now.net report → IsReadable report → text.now ≡ report_text net.now report → Shows report result }
+    ensures all { (report : SeenReport) → IsWellFormed net.now.net report → IsReadable report → text.now ≡ report_text net.now report
+        → Shows report result }
 {
     // For the proof: the network is one of an accepted file.
     net.recall();

@@ -98,7 +98,8 @@ impl Draft {
     pub fn report(self, alloc: Global, net: &Network) -> Result<Report, ReportFault>
         requires { IsWithin net.now self }
         ensures { let draft = seen_draft net.now self in
-            MatchResult result (λ report. if_at_end draft.stage draft ≡ Ok (report_of report)) (λ fault. IfBroken fault (λ broken. if_at_end draft.stage draft ≡ Err broken)) }
+            MatchResult result (λ report. if_at_end draft.stage draft ≡ Ok (report_of report))
+            (λ fault. IfBroken fault (λ broken. if_at_end draft.stage draft ≡ Err broken)) }
     {
         if !matches!(self.stage, Stage::End) {
             return Err(ReportFault::Broken {

@@ -15,13 +15,19 @@ use Rattle.nf_residual.specs.Ways.{Places, place_at, known_by}
 abbrev pub leg_of : Bool → ℕ → Link → ℚ → List Leg
 leg_of forward e link flow =
     if can_go forward link.capacity flow
-    then record { step = record { link = e; forward = forward }; begin = begin_of forward link; end = end_of forward link; transit = link.transit } ∷ []
+    then record {
+      step = record { link = e; forward = forward };
+      begin = begin_of forward link;
+      end = end_of forward link;
+      transit = link.transit;
+    } ∷ []
     else []
 
 -- link by link, and along a link before back along it; the first of these links has the number e
 abbrev pub legs_from : ℕ → List Link → List ℚ → List Leg
 legs_from e [] flows = []
-legs_from e (link ∷ links) flows = leg_of true e link (number_at flows e) ++ leg_of false e link (number_at flows e) ++ legs_from (suc e) links flows
+legs_from e (link ∷ links) flows = leg_of true e link (number_at flows e) ++ leg_of false e link (number_at flows e)
+    ++ legs_from (suc e) links flows
 
 -- they lead between so many nodes
 abbrev pub AreLegs : ℕ → List Leg → Type 0
@@ -33,5 +39,6 @@ along_leg passes before so_far leg = along passes true (known_at before leg.begi
 
 -- legs after a way that isn't fresh offer nothing new, and no operation of theirs passes
 abbrev pub AreSettled : Passing → List Leg → ℕ → List Twig → Places → Type 0
-AreSettled passes legs fresh tree places = (k : ℕ) (leg : Leg) → slice_get legs k ≡ Some leg → (way : ℕ) → place_at places leg.begin ≡ Some way → way < fresh
+AreSettled passes legs fresh tree places = (k : ℕ) (leg : Leg) → slice_get legs k ≡ Some leg → (way : ℕ)
+    → place_at places leg.begin ≡ Some way → way < fresh
     → along_leg passes (known_by tree places) (known_by tree places) leg ≡ Ok (known_by tree places)

@@ -68,5 +68,6 @@ pub record Grows (old new : List Twig) (before after : Places) : Type 0 where
   pub added : List Twig
   pub grown : new ≡ old ++ added
   pub count : length after ≡ length before
-  pub places : (v : ℕ) → (place_at after v ≡ place_at before v) ⊎ ((way : ℕ) × (place_at after v ≡ Some way) × (length old ≤ way) × (way < length new))
+  pub places : (v : ℕ) → (place_at after v ≡ place_at before v)
+      ⊎ ((way : ℕ) × (place_at after v ≡ Some way) × (length old ≤ way) × (way < length new))
   pub same : length new ≡ length old → after ≡ before

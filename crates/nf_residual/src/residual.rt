@@ -54,7 +54,8 @@ fn at(flows: &Vec<Q>, link: LinkId) -> Q
 // A flow is moved along each of these steps.
 fn move_along(flows: &mut Vec<Q>, steps: &[Step], amount: Q) -> Result<(), PassedAt<Q>>
     requires { AllByRecursion (λ step. step.link < length flows.old.items) steps.now }
-    ensures moved { seen_at (λ _. flows.new.items) (λ q. q) result ≡ at_part Quick (fold_checked (push_step passes_Q amount) flows.old.items steps.now) }
+    ensures moved { seen_at (λ _. flows.new.items) (λ q. q) result
+        ≡ at_part Quick (fold_checked (push_step passes_Q amount) flows.old.items steps.now) }
     ensures count { length flows.new.items ≡ length flows.old.items }
 {
     for step in steps {

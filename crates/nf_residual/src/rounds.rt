@@ -34,7 +34,8 @@ fn offer(
     requires end { leg.now.end < length places.old.items }
     requires within { AreWithin (length ways.old) places.old.items }
     ensures list { Gives (λ _. known_by ways.new places.new.items) (λ q. q) result
-        (at_part Quick (along_by passes_Q true (Some (way_at ways.old way)) leg.now.step leg.now.transit leg.now.end (known_by ways.old places.old.items))) }
+        (at_part Quick (along_by passes_Q true (Some (way_at ways.old way)) leg.now.step leg.now.transit leg.now.end
+        (known_by ways.old places.old.items))) }
     ensures grows { OnOk result (Grows ways.old ways.new places.old.items places.new.items) }
 {
     let number = ways.count();

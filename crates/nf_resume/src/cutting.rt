@@ -20,7 +20,8 @@ use std::alloc::{AllocError, Global};
 // The labels of all nodes, up to the departure reached.
 fn cut_labels(alloc: Global, labels: &[Curve], reached: Q) -> Result<Vec<Curve>, Halt<Q>>
     requires { 0ℚ ≤ℚ reached }
-    ensures { Gives (λ cuts. curves_of cuts.items) (λ q. q) result (at_part OfCurve (each (cut_short_by passes_Q reached) (curves_of labels.now))) }
+    ensures { Gives (λ cuts. curves_of cuts.items) (λ q. q) result
+        (at_part OfCurve (each (cut_short_by passes_Q reached) (curves_of labels.now))) }
 {
     let mut cuts = Vec::with_capacity(alloc, labels.len())?;
     for label in labels {
@@ -41,8 +42,10 @@ struct OfLinks {
 impl OfLinks {
     // One more link.
     fn push(&mut self, cut: CutLink) -> Result<(), AllocError>
-        ensures inflows { OnOk result (map trace_of self.new.inflows.items ≡ map trace_of self.old.inflows.items ++ (cut_in cut).inflow ∷ []) }
-        ensures outflows { OnOk result (map trace_of self.new.outflows.items ≡ map trace_of self.old.outflows.items ++ (cut_in cut).outflow ∷ []) }
+        ensures inflows { OnOk result
+            (map trace_of self.new.inflows.items ≡ map trace_of self.old.inflows.items ++ (cut_in cut).inflow ∷ []) }
+        ensures outflows { OnOk result
+            (map trace_of self.new.outflows.items ≡ map trace_of self.old.outflows.items ++ (cut_in cut).outflow ∷ []) }
         ensures queues { OnOk result (curves_of self.new.queues.items ≡ curves_of self.old.queues.items ++ (cut_in cut).queue ∷ []) }
     {
         self.inflows.push(cut.inflow)?;
@@ -54,7 +57,8 @@ impl OfLinks {
 
 // The cut curves of links, in three lists.
 fn in_lists(alloc: Global, cuts: Vec<CutLink>) -> Result<OfLinks, AllocError>
-    ensures { IfOk result (λ links. AreLists (map trace_of links.inflows.items) (map trace_of links.outflows.items) (curves_of links.queues.items) (map cut_in cuts.items)) }
+    ensures { IfOk result (λ links. AreLists (map trace_of links.inflows.items) (map trace_of links.outflows.items)
+        (curves_of links.queues.items) (map cut_in cuts.items)) }
 {
     let mut links = OfLinks {
         inflows: Vec::new(alloc),

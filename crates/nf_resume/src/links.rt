@@ -38,7 +38,8 @@ fn cut_link(
 ) -> Result<CutLink, Halt<Q>>
     requires tail { 0ℚ ≤ℚ tail }
     requires head { 0ℚ ≤ℚ head }
-    ensures { Gives cut_in (λ q. q) result (at_part OfCurve (cut_ends passes_Q tail head inflow.now.curve.points outflow.now.curve.points queue.now.points)) }
+    ensures { Gives cut_in (λ q. q) result
+        (at_part OfCurve (cut_ends passes_Q tail head inflow.now.curve.points outflow.now.curve.points queue.now.points)) }
 {
     let inflow = cut_trace(alloc, inflow, tail)?;
     let outflow = cut_trace(alloc, outflow, head)?;
@@ -63,7 +64,8 @@ pub(crate) fn cut_links(
     requires queues { length flow.now.queues.items ≡ length net.now.net.links }
     requires ends { (v : ℕ) → v < net.now.net.nodes → 0ℚ ≤ℚ value_at_end (points_at (curves_of labels.now) v) }
     ensures { Gives (λ cuts. map cut_in cuts.items) (λ q. q) result (at_part OfCurve
-        (each (cut_link_by passes_Q (curves_of labels.now)) (links_with net.now.net.links (flow_of flow.now).inflows (flow_of flow.now).outflows (flow_of flow.now).queues))) }
+        (each (cut_link_by passes_Q (curves_of labels.now))
+        (links_with net.now.net.links (flow_of flow.now).inflows (flow_of flow.now).outflows (flow_of flow.now).queues))) }
 {
     let mut cuts = Vec::with_capacity(alloc, net.link_count() as usize)?;
     for number in 0..net.link_count() {

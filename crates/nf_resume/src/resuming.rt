@@ -92,7 +92,8 @@ pub fn resume(
     budgets: Budgets,
 ) -> Result<Solution, ResumeFault>
     requires { IsWellFormed net.now.net (report_of report.now) }
-    ensures resumed { IfOk result (λ s. IsResumedReport passes_Q net.now.net (bounds_of horizon budgets) (report_of report.now) s.phases (report_in horizon s)) }
+    ensures resumed { IfOk result
+        (λ s. IsResumedReport passes_Q net.now.net (bounds_of horizon budgets) (report_of report.now) s.phases (report_in horizon s)) }
     ensures equilibrium { IfOk result (λ s. Equilibrium net.now.net (flow_of s.flow)) }
     ensures goes_on { IfOk result (λ s. GoesOnFrom net.now.net (report_of report.now).flow (flow_of s.flow)) }
     ensures short { IfOk result (λ s. IsShortFlow net.now.net (flow_of s.flow)) }

@@ -20,17 +20,22 @@ use Rattle.nf_resume_lists.specs.Meanings.{GoesOnFrom, IsResumedReport}
 -- of an equilibrium, whoever made it, the invariant of phases holds up to the departure that it reached, and it describes its links
 pub record EquilibriumHasInvariant : Type 0 where
   pub holds : (net : Network) (flow : Flow) → IsNetwork net → Equilibrium net flow → HoldsUpTo net (inflow flow) (label flow) flow.reached
-  pub describes : (net : Network) (flow : Flow) → IsNetwork net → Equilibrium net flow → DescribesLinks net (inflow flow) (label flow) (outflow flow) (queue flow) flow.reached
+  pub describes : (net : Network) (flow : Flow) → IsNetwork net → Equilibrium net flow
+      → DescribesLinks net (inflow flow) (label flow) (outflow flow) (queue flow) flow.reached
 
 -- an equilibrium that is cut at the departure that it reached, and put into short form, is an equilibrium with the same values
 pub record CutFlowIsEquilibrium : Type 0 where
-  pub equilibrium : (passes : Passing) (net : Network) (old new : Flow) → IsNetwork net → Equilibrium net old → cut_flow passes net old ≡ Ok new → Equilibrium net new
-  pub goes_on : (passes : Passing) (net : Network) (old new : Flow) → IsNetwork net → Equilibrium net old → cut_flow passes net old ≡ Ok new → GoesOnFrom net old new
-  pub short : (passes : Passing) (net : Network) (old new : Flow) → IsNetwork net → Equilibrium net old → cut_flow passes net old ≡ Ok new → IsShortFlow net new
+  pub equilibrium : (passes : Passing) (net : Network) (old new : Flow) → IsNetwork net → Equilibrium net old
+      → cut_flow passes net old ≡ Ok new → Equilibrium net new
+  pub goes_on : (passes : Passing) (net : Network) (old new : Flow) → IsNetwork net → Equilibrium net old → cut_flow passes net old ≡ Ok new
+      → GoesOnFrom net old new
+  pub short : (passes : Passing) (net : Network) (old new : Flow) → IsNetwork net → Equilibrium net old → cut_flow passes net old ≡ Ok new
+      → IsShortFlow net new
 
 -- the report of a resumed run is an equilibrium, and has the values of the report that it goes on from
 abbrev pub ResumedReportGoesOn : Type 0
-ResumedReportGoesOn = (passes : Passing) (net : Network) (bounds : Bounds) (old : Report) (phases : ℕ) (report : Report) → IsNetwork net → Equilibrium net old.flow → IsResumedReport passes net bounds old phases report
+ResumedReportGoesOn = (passes : Passing) (net : Network) (bounds : Bounds) (old : Report) (phases : ℕ) (report : Report) → IsNetwork net
+    → Equilibrium net old.flow → IsResumedReport passes net bounds old phases report
     → Equilibrium net report.flow × GoesOnFrom net old.flow report.flow
 
 -- A part of a phase was made: a run stands so long after the labels of a time, which moved at these slopes, and its last pattern is the
@@ -45,9 +50,11 @@ pub record IsPartOf (net : Network) (time : ℚ) (labels slopes : List ℚ) (pat
 
 -- a run is open exactly where it stands within a phase
 pub record OpenIsWithinPhase : Type 0 where
-  pub within : (net : Network) (time : ℚ) (labels slopes : List ℚ) (pattern : Pattern) (done : ℚ) (s : Standing) → IsNetwork net → IsPartOf net time labels slopes pattern done s
+  pub within : (net : Network) (time : ℚ) (labels slopes : List ℚ) (pattern : Pattern) (done : ℚ) (s : Standing) → IsNetwork net
+      → IsPartOf net time labels slopes pattern done s
       → (whole : ℚ) → Lasts net (slacks_of (hops net) labels) slopes time whole → 0ℚ <ℚ done → done <ℚ whole → IsOpen net s
-  pub ended : (net : Network) (time : ℚ) (labels slopes : List ℚ) (pattern : Pattern) (done : ℚ) (s : Standing) → IsNetwork net → IsPartOf net time labels slopes pattern done s
+  pub ended : (net : Network) (time : ℚ) (labels slopes : List ℚ) (pattern : Pattern) (done : ℚ) (s : Standing) → IsNetwork net
+      → IsPartOf net time labels slopes pattern done s
       → IsExtension net (slacks_of (hops net) labels) slopes time done → ¬ IsOpen net s
   pub at_start : (net : Network) (s : Standing) → IsNetwork net → IsStart net s → ¬ Continues net s
 
@@ -58,7 +65,10 @@ pub record IsRestOf (net : Network) (rate done whole : ℚ) (flows slopes : List
   pub length : IsExtension net (slacks_of (hops net) s.labels) slopes s.time (whole -ℚ done)
 
 abbrev pub RestGoesOn : Type 0
-RestGoesOn = (net : Network) (time : ℚ) (labels slopes : List ℚ) (pattern : Pattern) (done : ℚ) (s : Standing) → IsNetwork net → IsPartOf net time labels slopes pattern done s
-    → (rate whole : ℚ) (flows : List ℚ) (base : Pattern) → IsListedIn net (sets_at net labels) pattern → IsSolution net (sets_at net labels) rate pattern flows slopes
-    → IsExtension net (slacks_of (hops net) labels) slopes time whole → 0ℚ <ℚ done → done <ℚ whole → IsBase (hops net) (sets_at net s.labels) s.last base
+RestGoesOn = (net : Network) (time : ℚ) (labels slopes : List ℚ) (pattern : Pattern) (done : ℚ) (s : Standing) → IsNetwork net
+    → IsPartOf net time labels slopes pattern done s
+    → (rate whole : ℚ) (flows : List ℚ) (base : Pattern) → IsListedIn net (sets_at net labels) pattern
+    → IsSolution net (sets_at net labels) rate pattern flows slopes
+    → IsExtension net (slacks_of (hops net) labels) slopes time whole → 0ℚ <ℚ done → done <ℚ whole
+    → IsBase (hops net) (sets_at net s.labels) s.last base
     → IsRestOf net rate done whole flows slopes s base

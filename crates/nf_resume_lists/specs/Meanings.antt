@@ -22,12 +22,16 @@ use Rattle.nf_resume_lists.specs.Resuming.{Stands, resume_list}
 pub record GoesOnFrom (net : Network) (old new : Flow) : Type 0 where
   pub reached : old.reached ≤ℚ new.reached
   pub labels : (v : ℕ) (departure : ℚ) → v < net.nodes → Within 0ℚ old.reached departure → label new v departure ≡ label old v departure
-  pub inflows : (e : ℕ) (link : Link) (time : ℚ) → IsLink net e link → Within 0ℚ (label old link.tail old.reached) time → inflow new e time ≡ inflow old e time
-  pub outflows : (e : ℕ) (link : Link) (time : ℚ) → IsLink net e link → Within 0ℚ (label old link.head old.reached) time → outflow new e time ≡ outflow old e time
-  pub queues : (e : ℕ) (link : Link) (time : ℚ) → IsLink net e link → Within 0ℚ (label old link.tail old.reached) time → queue new e time ≡ queue old e time
+  pub inflows : (e : ℕ) (link : Link) (time : ℚ) → IsLink net e link → Within 0ℚ (label old link.tail old.reached) time
+      → inflow new e time ≡ inflow old e time
+  pub outflows : (e : ℕ) (link : Link) (time : ℚ) → IsLink net e link → Within 0ℚ (label old link.head old.reached) time
+      → outflow new e time ≡ outflow old e time
+  pub queues : (e : ℕ) (link : Link) (time : ℚ) → IsLink net e link → Within 0ℚ (label old link.tail old.reached) time
+      → queue new e time ≡ queue old e time
 
 -- a report is resumed: the run that stands at its end goes on, with its phases counted from there
-pub record IsResumed (passes : Passing) (net : Network) (bounds : Bounds) (old : Report) (last : Standing) (stop : Option (Cause ℚ)) : Type 0 where
+pub record IsResumed (passes : Passing) (net : Network) (bounds : Bounds) (old : Report) (last : Standing)
+    (stop : Option (Cause ℚ)) : Type 0 where
   pub first : Standing
   pub stands : resume_list passes net old ≡ Ok (Stands first)
   pub runs : RunsOn passes net bounds first last stop
@@ -42,6 +46,8 @@ pub record IsResumedReport (passes : Passing) (net : Network) (bounds : Bounds) 
 
 -- ---- no operation of a table or verdict list passes
 -- in a phase: of the patterns that are tried
-abbrev pub NonePassesIn : (passes : Passing) (net : Network) (horizon : ℚ) (patterns : ℕ) (s t : Standing) → Goes passes net horizon patterns s t → Type 0
-NonePassesIn passes net horizon patterns s t g = (place : ℕ) (pattern : Pattern) → place ≤ g.place → HasPlace g.finds.search.is_search.listing place pattern
+abbrev pub NonePassesIn : (passes : Passing) (net : Network) (horizon : ℚ) (patterns : ℕ) (s t : Standing)
+    → Goes passes net horizon patterns s t → Type 0
+NonePassesIn passes net horizon patterns s t g = (place : ℕ) (pattern : Pattern) → place ≤ g.place
+    → HasPlace g.finds.search.is_search.listing place pattern
     → IsOk (pattern_lists passes net (sets_at net s.labels) (rate_at net s.time) pattern)

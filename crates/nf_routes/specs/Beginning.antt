@@ -31,4 +31,5 @@ module _ (passes : Passing) where
   -- all links, in the order of loading
   abbrev pub all_loaded : Network → List Route → ℚ → Checked SoFar
   all_loaded net routes horizon =
-      load_all passes net routes horizon (loading_order (length net.links) routes) (record { links = nothing_loaded net.links; entries = nothing_sent routes })
+      load_all passes net routes horizon (loading_order (length net.links) routes)
+      (record { links = nothing_loaded net.links; entries = nothing_sent routes })

@@ -11,4 +11,5 @@ coded_loaded = code_by (List (ℚ × ℚ) × (List (ℚ × ℚ) × List (ℚ × 
     (λ l. (l.queue, (l.outflow, l.exit))) (λ p. record { queue = p.0; outflow = p.1.0; exit = p.1.1 }) (λ _. refl)
 
 abbrev pub coded_loaded_link : Coded LoadedLink
-coded_loaded_link = code_by (ℚ × Loaded) (coded× coded_ℚ coded_loaded) (λ l. (l.end, l.loaded)) (λ p. record { end = p.0; loaded = p.1 }) (λ _. refl)
+coded_loaded_link = code_by (ℚ × Loaded) (coded× coded_ℚ coded_loaded) (λ l. (l.end, l.loaded))
+    (λ p. record { end = p.0; loaded = p.1 }) (λ _. refl)

@@ -33,7 +33,8 @@ fn load_here(
     requires horizon { 0ℚ ≤ℚ horizon }
     requires may { MayLoad net.now.net (routes_of routes.now) link (seen_so_far so_far.old) }
     ensures { Gives (λ _. seen_so_far so_far.new) (λ q. q) result
-        (at_part Load (lists.load_here passes_Q horizon (routes_of routes.now) (seen_so_far so_far.old) link (slice_get net.now.net.links link))) }
+        (at_part Load
+        (lists.load_here passes_Q horizon (routes_of routes.now) (seen_so_far so_far.old) link (slice_get net.now.net.links link))) }
 {
     let here = net.link(link);
     let end = end_of(routes, &so_far.links, link, horizon);

@@ -21,7 +21,8 @@ use std::alloc::{AllocError, Global};
 fn all_sides(alloc: Global, left: &[Point], right: &[Point]) -> Result<Vec<Sides>, Halt<Q>>
     requires left { IsCurve left.now }
     requires right { IsCurve right.now }
-    ensures { Gives (λ sides. map sides_of sides.items) (λ q. q) result (at_part Load (each (sides_by passes_Q left.now right.now) (both_times left.now right.now))) }
+    ensures { Gives (λ sides. map sides_of sides.items) (λ q. q) result
+        (at_part Load (each (sides_by passes_Q left.now right.now) (both_times left.now right.now))) }
 {
     let mut all = Vec::new(alloc);
     let mut now = Some(first_moment(left, right));
@@ -59,7 +60,8 @@ pub(crate) fn next_entry(alloc: Global, exit: &Curve, entry: &Curve) -> Result<C
     requires amount { IsAmount entry.now.points }
     ensures list { Gives (λ c. c.points) (λ q. q) result (at_part Load (next_by passes_Q exit.now.points entry.now.points)) }
     ensures amount { IfOk result (λ c. IsAmount c.points) }
-    ensures next { (last : ℚ) → CanShare exit.now.points entry.now.points last → IfOk result (λ c. IsNext exit.now.points entry.now.points last c.points) }
+    ensures next { (last : ℚ) → CanShare exit.now.points entry.now.points last
+        → IfOk result (λ c. IsNext exit.now.points entry.now.points last c.points) }
 {
     let sides = all_sides(alloc, entry.as_points(), exit.as_points())?;
     let points = next_points(alloc, &sides)?;

@@ -56,7 +56,8 @@ fn ended(alloc: Global, links: Vec<Option<LoadedLink>>) -> Result<(Vec<Q>, Vec<L
 // What routes sent into their links, and what of it has arrived.
 fn parted(alloc: Global, entries: Vec<Stages>) -> Result<(Vec<Vec<Curve>>, Vec<Curve>), AllocError>
     requires { HaveSent entries.items }
-    ensures entries { IfOk result (λ parts. map (λ sent. map (λ c. c.points) sent.items) parts.0.items ≡ map (but_last passes_Q) entries.items) }
+    ensures entries { IfOk result
+        (λ parts. map (λ sent. map (λ c. c.points) sent.items) parts.0.items ≡ map (but_last passes_Q) entries.items) }
     ensures arrivals { IfOk result (λ parts. map (λ c. c.points) parts.1.items ≡ map last_entry entries.items) }
 {
     let mut all = Vec::new(alloc);

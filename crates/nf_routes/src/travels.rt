@@ -55,7 +55,8 @@ pub(crate) fn travels(
     requires exits { HaveExits (map loaded_of links.now) }
     requires over { GoOverAll (map loaded_of links.now) (routes_of routes.now) }
     ensures { Gives (λ travels. map (λ c. c.points) travels.items) (λ q. q) result
-        (at_part Load (each (λ route. travel_along passes_Q horizon (map loaded_of links.now) route.links (departures_by horizon)) (routes_of routes.now))) }
+        (at_part Load (each (λ route. travel_along passes_Q horizon (map loaded_of links.now) route.links (departures_by horizon))
+        (routes_of routes.now))) }
 {
     let mut travels = Vec::new(alloc);
     for route in routes {

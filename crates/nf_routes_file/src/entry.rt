@@ -46,7 +46,8 @@ fn first_named(routes: &[Route], name: &[u8]) -> Option<usize>
 /// The place of the route of a name; None exactly where there is none.
 #[tactic(auto, using(crate::proofs::RouteNames::found, crate::proofs::RouteNames::not_found))]
 pub fn place_of(routes: &[Route], name: &[u8]) -> Option<usize>
-    ensures named { MatchOption result (has_name (route_names routes.now) name.now ≡ false) (λ place. IsNameAt (route_names routes.now) name.now place) }
+    ensures named { MatchOption result (has_name (route_names routes.now) name.now ≡ false)
+        (λ place. IsNameAt (route_names routes.now) name.now place) }
     ensures within { IfSome result (λ place. place < length routes.now) }
 {
     first_named(routes, name)

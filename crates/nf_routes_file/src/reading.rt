@@ -87,7 +87,8 @@ fn close(alloc: Global, net: &Network, draft: Draft) -> Result<Routes, RoutesFau
 // What parse_routes gives, by the order of loading.
 fn read_routes(alloc: Global, net: &Network, text: &[u8]) -> Result<Routes, RoutesFault>
     requires { length text.now ≤ longest_text }
-    ensures { MatchResult result (λ routes. routes_in net.now text.now ≡ Ok routes) (λ fault. IfBroken fault (λ broken. routes_in net.now text.now ≡ Err broken)) }
+    ensures { MatchResult result (λ routes. routes_in net.now text.now ≡ Ok routes)
+        (λ fault. IfBroken fault (λ broken. routes_in net.now text.now ≡ Err broken)) }
 {
     let lines = match contents(alloc, text) {
         Ok(lines) => lines,
@@ -103,7 +104,8 @@ fn read_routes(alloc: Global, net: &Network, text: &[u8]) -> Result<Routes, Rout
 /// the same link.
 pub fn parse_routes(alloc: Global, net: &Network, text: &[u8]) -> Result<Routes, RoutesFault>
     requires { length text.now ≤ longest_text }
-    ensures reads { MatchResult result (λ routes. ReadsRoutes net.now text.now (Ok routes)) (λ fault. IfBroken fault (λ broken. ReadsRoutes net.now text.now (Err broken))) }
+    ensures reads { MatchResult result (λ routes. ReadsRoutes net.now text.now (Ok routes))
+        (λ fault. IfBroken fault (λ broken. ReadsRoutes net.now text.now (Err broken))) }
     ensures kept { IfOk result (λ routes. AreKept routes) }
     ensures walks { IfOk result (λ routes. AreWalks net.now.net (routes_of routes)) }
     ensures circle { IfErr result (λ fault. IfBroken fault (λ broken. broken.rule ≡ G17 → HoldsCircleIn net.now text.now)) }

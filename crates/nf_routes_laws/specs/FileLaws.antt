@@ -13,7 +13,8 @@ pub record RoutesHaveOneReading : Type 0 where
 
 -- a text is refused by the last rule exactly where its routes hold a circle
 pub record LastRuleIsCircle : Type 0 where
-  pub circle : (n : Named) (text : List ℕ) (broken : RoutesBroken) → ReadsRoutes n text (Err broken) → broken.rule ≡ G17 → HoldsCircleIn n text
+  pub circle : (n : Named) (text : List ℕ) (broken : RoutesBroken) → ReadsRoutes n text (Err broken) → broken.rule ≡ G17
+      → HoldsCircleIn n text
   pub refused : (n : Named) (text : List ℕ) → HoldsCircleIn n text → ReadsRoutes n text (Err circle_broken)
 
 -- what is read keeps the rules that need no network, and is walks from source to sink

@@ -25,7 +25,8 @@ pub record CanShare (exit entry : List Point) (last : ℚ) : Type 0 where
   pub begins : value entry 0ℚ ≡ 0ℚ
   pub first_exit : 0ℚ ≤ℚ value exit 0ℚ
   pub exits_rise : (earlier later : ℚ) → 0ℚ ≤ℚ earlier → earlier ≤ℚ later → later ≤ℚ last → value exit earlier ≤ℚ value exit later
-  pub shares : (earlier later : ℚ) → 0ℚ ≤ℚ earlier → earlier ≤ℚ later → later ≤ℚ last → value exit earlier ≡ value exit later → value entry earlier ≡ value entry later
+  pub shares : (earlier later : ℚ) → 0ℚ ≤ℚ earlier → earlier ≤ℚ later → later ≤ℚ last → value exit earlier ≡ value exit later
+      → value entry earlier ≡ value entry later
 
 -- what it sends into its next link: by each exit what it had sent by the entry, and before the first exit and after the last one nothing
 pub record IsNext (exit entry : List Point) (last : ℚ) (next : List Point) : Type 0 where
@@ -36,15 +37,19 @@ pub record IsNext (exit entry : List Point) (last : ℚ) (next : List Point) : T
   pub after : (time : ℚ) → value exit last ≤ℚ time → value next time ≡ value entry last
 
 abbrev pub NextEntryShares : Type 0
-NextEntryShares = (passes : Passing) (exit entry next : List Point) (last : ℚ) → CanShare exit entry last → next_entry passes exit entry ≡ Ok next → IsNext exit entry last next
+NextEntryShares = (passes : Passing) (exit entry next : List Point) (last : ℚ) → CanShare exit entry last
+    → next_entry passes exit entry ≡ Ok next → IsNext exit entry last next
 
 -- what is loaded by route arrives
 abbrev pub LoadedRoutesArrive : Type 0
-LoadedRoutesArrive = (net : Network) (routes : List Route) (horizon : ℚ) (routed : Routed) → IsNetwork net → AreRoutes net routes → 0ℚ ≤ℚ horizon → IsRouted net routes horizon routed
+LoadedRoutesArrive = (net : Network) (routes : List Route) (horizon : ℚ) (routed : Routed) → IsNetwork net → AreRoutes net routes
+    → 0ℚ ≤ℚ horizon → IsRouted net routes horizon routed
     → RoutesArrive net routes horizon routed
 
 -- the order of loading takes each link where no links stand in a circle, and else not: where it leaves one out, some stand in a circle
 pub record OrderTakesAll : Type 0 where
-  pub straight : (net : Network) (routes : List Route) → AreRoutes net routes → ¬ HoldCircle routes → takes_all (length net.links) routes ≡ true
-  pub circle : (net : Network) (routes : List Route) → AreRoutes net routes → takes_all (length net.links) routes ≡ true → ¬ HoldCircle routes
+  pub straight : (net : Network) (routes : List Route) → AreRoutes net routes → ¬ HoldCircle routes
+      → takes_all (length net.links) routes ≡ true
+  pub circle : (net : Network) (routes : List Route) → AreRoutes net routes → takes_all (length net.links) routes ≡ true
+      → ¬ HoldCircle routes
   pub found : (net : Network) (routes : List Route) → AreRoutes net routes → takes_all (length net.links) routes ≡ false → HoldCircle routes

@@ -21,13 +21,16 @@ pub record IsByList (net : Network) (routes : List Route) (horizon : ℚ) (route
   pub is_list : routes_list passes net routes horizon ≡ Ok routed
 
 abbrev pub RoutesListIs : Type 0
-RoutesListIs = (net : Network) (routes : List Route) (horizon : ℚ) (routed : Routed) → IsByList net routes horizon routed → IsRouted net routes horizon routed
+RoutesListIs = (net : Network) (routes : List Route) (horizon : ℚ) (routed : Routed) → IsByList net routes horizon routed
+    → IsRouted net routes horizon routed
 
 abbrev pub RoutesListArrives : Type 0
-RoutesListArrives = (net : Network) (routes : List Route) (horizon : ℚ) (routed : Routed) → IsByList net routes horizon routed → RoutesArrive net routes horizon routed
+RoutesListArrives = (net : Network) (routes : List Route) (horizon : ℚ) (routed : Routed) → IsByList net routes horizon routed
+    → RoutesArrive net routes horizon routed
 
 -- what the routes over a link send on is what it lets out, up to one transit time after its end
 abbrev pub NextsAreOutflow : Type 0
-NextsAreOutflow = (net : Network) (routes : List Route) (horizon : ℚ) (routed : Routed) (e : ℕ) (link : Link) (time : ℚ) → IsNetwork net → AreRoutes net routes → 0ℚ ≤ℚ horizon
+NextsAreOutflow = (net : Network) (routes : List Route) (horizon : ℚ) (routed : Routed) (e : ℕ) (link : Link) (time : ℚ) → IsNetwork net
+    → AreRoutes net routes → 0ℚ ≤ℚ horizon
     → IsRouted net routes horizon routed → IsLink net e link → Within 0ℚ (number_at routed.ends e +ℚ link.transit) time
     → value (link_loaded routed e).outflow time ≡ sent_by_routes (λ r place. sent_by routed r (suc place) time) e routes

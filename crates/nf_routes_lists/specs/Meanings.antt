@@ -38,7 +38,8 @@ sent_by routed r place time = value (entry_at routed r place) time
 -- ---- the inflow of a link: the sum of the entries into it, by route and by place
 abbrev pub sent_along : (ℕ → ℚ) → ℕ → List ℕ → ℚ
 sent_along entered e [] = 0ℚ
-sent_along entered e (f ∷ rest) = if f == e then entered 0 +ℚ sent_along (λ place. entered (suc place)) e rest else sent_along (λ place. entered (suc place)) e rest
+sent_along entered e (f ∷ rest) = if f == e then entered 0 +ℚ sent_along (λ place. entered (suc place)) e rest
+    else sent_along (λ place. entered (suc place)) e rest
 
 abbrev pub sent_by_routes : (ℕ → ℕ → ℚ) → ℕ → List Route → ℚ
 sent_by_routes entered e [] = 0ℚ
@@ -73,14 +74,19 @@ pub record IsRouted (net : Network) (routes : List Route) (horizon : ℚ) (route
       → IsCurve (link_loaded routed e).queue × (IsCurve (link_loaded routed e).outflow × IsCurve (link_loaded routed e).exit)
   pub link_short : (e : ℕ) → e < length net.links
       → IsShort (link_loaded routed e).queue × (IsShort (link_loaded routed e).outflow × IsShort (link_loaded routed e).exit)
-  pub travel_curves : (r : ℕ) (route : Route) → slice_get routes r ≡ Some route → IsCurve (travel_at routed r) × IsShort (travel_at routed r)
+  pub travel_curves : (r : ℕ) (route : Route) → slice_get routes r ≡ Some route
+      → IsCurve (travel_at routed r) × IsShort (travel_at routed r)
   -- nothing is sent at time 0, and nothing that was sent is taken back
-  pub begins : (r place : ℕ) (route : Route) → slice_get routes r ≡ Some route → place < suc (length route.links) → sent_by routed r place 0ℚ ≡ 0ℚ
-  pub rises : (r place : ℕ) (route : Route) → slice_get routes r ≡ Some route → place < suc (length route.links) → NeverFalls (sent_by routed r place)
+  pub begins : (r place : ℕ) (route : Route) → slice_get routes r ≡ Some route → place < suc (length route.links)
+      → sent_by routed r place 0ℚ ≡ 0ℚ
+  pub rises : (r place : ℕ) (route : Route) → slice_get routes r ≡ Some route → place < suc (length route.links)
+      → NeverFalls (sent_by routed r place)
   pub ends : (e : ℕ) → e < length net.links → IsEnd routes horizon routed e (number_at routed.ends e)
   -- what a route sends into its first link is what it is given, up to the horizon, and nothing after
-  pub first : (r : ℕ) (route : Route) (time : ℚ) → slice_get routes r ≡ Some route → Within 0ℚ horizon time → sent_by routed r 0 time ≡ supplied route.pieces time
-  pub first_after : (r : ℕ) (route : Route) (time : ℚ) → slice_get routes r ≡ Some route → horizon ≤ℚ time → sent_by routed r 0 time ≡ supplied route.pieces horizon
+  pub first : (r : ℕ) (route : Route) (time : ℚ) → slice_get routes r ≡ Some route → Within 0ℚ horizon time
+      → sent_by routed r 0 time ≡ supplied route.pieces time
+  pub first_after : (r : ℕ) (route : Route) (time : ℚ) → slice_get routes r ≡ Some route → horizon ≤ℚ time
+      → sent_by routed r 0 time ≡ supplied route.pieces horizon
   -- the law of the point queue, for all that enters a link
   pub queues : (e : ℕ) (link : Link) (time : ℚ) → IsLink net e link → Within 0ℚ (number_at routed.ends e) time
       → IsQueue link.capacity (inflow_by routes routed e) time (value (link_loaded routed e).queue time)
@@ -94,7 +100,8 @@ pub record IsRouted (net : Network) (routes : List Route) (horizon : ℚ) (route
   pub next_before : (r place e : ℕ) (route : Route) (time : ℚ) → slice_get routes r ≡ Some route → slice_get route.links place ≡ Some e
       → Within 0ℚ (exit_by routed e 0ℚ) time → sent_by routed r (suc place) time ≡ 0ℚ
   pub next_after : (r place e : ℕ) (route : Route) (time : ℚ) → slice_get routes r ≡ Some route → slice_get route.links place ≡ Some e
-      → exit_by routed e (number_at routed.ends e) ≤ℚ time → sent_by routed r (suc place) time ≡ sent_by routed r place (number_at routed.ends e)
+      → exit_by routed e (number_at routed.ends e) ≤ℚ time
+      → sent_by routed r (suc place) time ≡ sent_by routed r place (number_at routed.ends e)
   pub travels : (r : ℕ) (route : Route) (time : ℚ) → slice_get routes r ≡ Some route → Within 0ℚ horizon time
       → value (travel_at routed r) time ≡ exits_along routed route.links time
 
@@ -108,4 +115,5 @@ pub record RoutesArrive (net : Network) (routes : List Route) (horizon : ℚ) (r
       → value (arrival_at routed r) (value (travel_at routed r) departure) ≡ sent_by routed r 0 departure
   -- up to the exit of a link at its end, what the routes over it send on is what it lets out
   pub shares : (e : ℕ) (link : Link) (time : ℚ) → IsLink net e link → Within 0ℚ (exit_by routed e (number_at routed.ends e)) time
-      → IsOutflow link.transit link.capacity (inflow_by routes routed e) time (sent_by_routes (λ r place. sent_by routed r (suc place) time) e routes)
+      → IsOutflow link.transit link.capacity (inflow_by routes routed e) time
+      (sent_by_routes (λ r place. sent_by routed r (suc place) time) e routes)

@@ -62,7 +62,8 @@ with_next (Some e) later = e ∷ later e
 -- so many links at most, with these taken already
 abbrev pub order_from : ℕ → List (ℕ × ℕ) → ℕ → List ℕ → List ℕ
 order_from zero pairs links taken = []
-order_from (suc more) pairs links taken = with_next (first_free pairs taken (range_with_len 0 links)) (λ e. order_from more pairs links (e ∷ taken))
+order_from (suc more) pairs links taken =
+    with_next (first_free pairs taken (range_with_len 0 links)) (λ e. order_from more pairs links (e ∷ taken))
 
 unfoldable pub loading_order : ℕ → List Route → List ℕ
 loading_order links routes = order_from links (all_pairs routes) links []

@@ -55,7 +55,8 @@ piece_entry r start rate = Err G9
 -- `rate NAME START RATE`
 abbrev pub rate_line : List Name → List (List ℕ) → Result RoutesEntry RoutesRule
 rate_line routes (name ∷ start ∷ rate ∷ []) =
-    if has_name routes name then piece_entry (place_of routes name) (result_ok (number_of greatest start)) (result_ok (number_of greatest rate)) else Err G8
+    if has_name routes name then piece_entry (place_of routes name) (result_ok (number_of greatest start))
+    (result_ok (number_of greatest rate)) else Err G8
 rate_line routes words = Err G6
 
 abbrev pub end_line : List (List ℕ) → Result RoutesEntry RoutesRule
@@ -135,7 +136,8 @@ with_piece piece None routes r = routes
 with_piece piece (Some named) routes r = set routes r (longer named piece)
 
 abbrev pub routes_after : RoutesDraft → RoutesEntry → RoutesDraft
-routes_after draft (RouteLine name links) = record draft { routes = draft.routes ++ record { name = name; route = record { links = links; pieces = [] } } ∷ [] }
+routes_after draft (RouteLine name links) =
+    record draft { routes = draft.routes ++ record { name = name; route = record { links = links; pieces = [] } } ∷ [] }
 routes_after draft (RateLine r piece) = record draft { routes = with_piece piece (slice_get draft.routes r) draft.routes r }
 routes_after draft End = record draft { ended = true }
 
@@ -145,7 +147,8 @@ unless_rule (Some rule) draft = Err rule
 
 abbrev pub add_route_line : Named → RoutesDraft → List (List ℕ) → Result RoutesDraft RoutesRule
 add_route_line n draft words = if draft.ended then Err G4
-    else (routes_entry n.link_names (route_names draft.routes) words >>= λ entry. unless_rule (routes_rule_of n.net draft entry) (routes_after draft entry))
+    else (routes_entry n.link_names (route_names draft.routes) words >>= λ entry. unless_rule (routes_rule_of n.net draft entry)
+    (routes_after draft entry))
 
 abbrev pub in_routes_line : ℕ → Result RoutesDraft RoutesRule → Result RoutesDraft RoutesBroken
 in_routes_line number (Ok draft) = Ok draft
@@ -164,7 +167,8 @@ is_routes_1 words = false
 
 abbrev pub routes_draft : Named → List ReadLine → Result RoutesDraft RoutesBroken
 routes_draft n [] = Err (record { rule = G3; line = 1 })
-routes_draft n (line ∷ rest) = if is_routes_1 line.words then add_route_lines n (record { routes = []; ended = false }) rest else Err (record { rule = G3; line = line.number })
+routes_draft n (line ∷ rest) = if is_routes_1 line.words then add_route_lines n (record { routes = []; ended = false }) rest
+    else Err (record { rule = G3; line = line.number })
 
 abbrev pub routes_ended : RoutesDraft → Result (List NamedRoute) RoutesBroken
 routes_ended draft = if draft.ended then Ok draft.routes else Err (record { rule = G16; line = 0 })

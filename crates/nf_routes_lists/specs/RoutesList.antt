@@ -122,7 +122,10 @@ module _ (passes : Passing) where
     inflow ← sum_from e ((0ℚ, 0ℚ) ∷ []) routes begun
     loaded ← checked_loading passes link.transit link.capacity inflow (end_by horizon (all_pairs routes) so_far.links e)
     entries ← next_all e loaded.exit routes begun
-    Ok (record { links = set so_far.links e (Some (record { end = end_by horizon (all_pairs routes) so_far.links e; loaded = loaded })); entries = entries })
+    Ok (record {
+      links = set so_far.links e (Some (record { end = end_by horizon (all_pairs routes) so_far.links e; loaded = loaded }));
+      entries = entries;
+    })
 
   -- ---- the travels
   abbrev pub exit_of : List (Option LoadedLink) → ℕ → List Point
@@ -161,6 +164,13 @@ module _ (passes : Passing) where
 
   unfoldable pub routes_list : Network → List Route → ℚ → Checked Routed
   routes_list net routes horizon = do
-    all ← load_all net routes horizon (loading_order (length net.links) routes) (record { links = map (λ _. None) net.links; entries = map (λ _. []) routes })
+    all ← load_all net routes horizon (loading_order (length net.links) routes)
+        (record { links = map (λ _. None) net.links; entries = map (λ _. []) routes })
     travels ← each (λ route. travel_on horizon all.links route.links (departures horizon)) routes
-    Ok (record { ends = map end_or all.links; links = map loaded_or all.links; entries = map but_last all.entries; arrivals = map last_entry all.entries; travels = travels })
+    Ok (record {
+      ends = map end_or all.links;
+      links = map loaded_or all.links;
+      entries = map but_last all.entries;
+      arrivals = map last_entry all.entries;
+      travels = travels;
+    })

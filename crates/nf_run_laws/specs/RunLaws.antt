@@ -17,30 +17,36 @@ use Rattle.nf_phase_laws.specs.CurveRun.{GrowByPhases, curves_of}
 
 -- the curves of a run grow phase by phase from the start
 abbrev pub RunGrowsByPhases : Type 0
-RunGrowsByPhases = (passes : Passing) (net : Network) (bounds : Bounds) (last : Standing) (stop : Option (Cause ℚ)) → IsNetwork net → IsPhaseRun passes net bounds last stop
+RunGrowsByPhases = (passes : Passing) (net : Network) (bounds : Bounds) (last : Standing) (stop : Option (Cause ℚ)) → IsNetwork net
+    → IsPhaseRun passes net bounds last stop
     → GrowByPhases net last.time last.labels (curves_of (flow_of last))
 
 -- the flow of a run has a curve of each kind for each node or link
 abbrev pub RunHasShape : Type 0
-RunHasShape = (passes : Passing) (net : Network) (bounds : Bounds) (last : Standing) (stop : Option (Cause ℚ)) → IsNetwork net → IsPhaseRun passes net bounds last stop
+RunHasShape = (passes : Passing) (net : Network) (bounds : Bounds) (last : Standing) (stop : Option (Cause ℚ)) → IsNetwork net
+    → IsPhaseRun passes net bounds last stop
     → HasShape net (flow_of last)
 
 -- the rates of a run are the slopes of its curves
 abbrev pub RunHasSlopes : Type 0
-RunHasSlopes = (passes : Passing) (net : Network) (bounds : Bounds) (last : Standing) (stop : Option (Cause ℚ)) → IsNetwork net → IsPhaseRun passes net bounds last stop
+RunHasSlopes = (passes : Passing) (net : Network) (bounds : Bounds) (last : Standing) (stop : Option (Cause ℚ)) → IsNetwork net
+    → IsPhaseRun passes net bounds last stop
     → HasSlopes (flow_of last).inflows × HasSlopes (flow_of last).outflows
 
 -- the report of a phase run is an equilibrium
 abbrev pub RunReportIsEquilibrium : Type 0
-RunReportIsEquilibrium = (passes : Passing) (net : Network) (bounds : Bounds) (report : Report) → IsNetwork net → IsRunReport passes net bounds report → Equilibrium net report.flow
+RunReportIsEquilibrium = (passes : Passing) (net : Network) (bounds : Bounds) (report : Report) → IsNetwork net
+    → IsRunReport passes net bounds report → Equilibrium net report.flow
 
 -- ---- short form
 
 -- the curves of a run are in short form, and so are those of its report
 pub record RunIsShort : Type 0 where
-  pub run : (passes : Passing) (net : Network) (bounds : Bounds) (last : Standing) (stop : Option (Cause ℚ)) → IsNetwork net → IsPhaseRun passes net bounds last stop
+  pub run : (passes : Passing) (net : Network) (bounds : Bounds) (last : Standing) (stop : Option (Cause ℚ)) → IsNetwork net
+      → IsPhaseRun passes net bounds last stop
       → IsShortFlow net (flow_of last)
-  pub report : (passes : Passing) (net : Network) (bounds : Bounds) (report : Report) → IsNetwork net → IsRunReport passes net bounds report → IsShortFlow net report.flow
+  pub report : (passes : Passing) (net : Network) (bounds : Bounds) (report : Report) → IsNetwork net → IsRunReport passes net bounds report
+      → IsShortFlow net report.flow
 
 -- ---- labels
 
@@ -51,25 +57,30 @@ pub record KeepsLabels (net : Network) (s : Standing) : Type 0 where
 
 -- so does that to which a run has come
 abbrev pub RunKeepsLabels : Type 0
-RunKeepsLabels = (passes : Passing) (net : Network) (bounds : Bounds) (last : Standing) (stop : Option (Cause ℚ)) → IsNetwork net → IsPhaseRun passes net bounds last stop
+RunKeepsLabels = (passes : Passing) (net : Network) (bounds : Bounds) (last : Standing) (stop : Option (Cause ℚ)) → IsNetwork net
+    → IsPhaseRun passes net bounds last stop
     → KeepsLabels net last
 
 -- The labels at which a run stands are the earliest arrivals at the nodes, for who leaves the source when it has reached; and those
 -- of its report are the earliest arrivals for each departure up to there.
 pub record RunLabelsAreEarliest : Type 0 where
-  pub run : (passes : Passing) (net : Network) (bounds : Bounds) (last : Standing) (stop : Option (Cause ℚ)) → IsNetwork net → IsPhaseRun passes net bounds last stop
+  pub run : (passes : Passing) (net : Network) (bounds : Bounds) (last : Standing) (stop : Option (Cause ℚ)) → IsNetwork net
+      → IsPhaseRun passes net bounds last stop
       → (v : ℕ) → v < net.nodes → IsEarliest net (inflow (flow_of last)) v last.time (number_at last.labels v)
   pub report : (passes : Passing) (net : Network) (bounds : Bounds) (report : Report) → IsNetwork net → IsRunReport passes net bounds report
-      → (v : ℕ) (departure : ℚ) → v < net.nodes → Within 0ℚ report.flow.reached departure → IsEarliest net (inflow report.flow) v departure (label report.flow v departure)
+      → (v : ℕ) (departure : ℚ) → v < net.nodes → Within 0ℚ report.flow.reached departure
+      → IsEarliest net (inflow report.flow) v departure (label report.flow v departure)
 
 -- ---- phases of a run
 
 -- The value of the extend list is the extension length, the greatest length for which the phase may last; and there is none
 -- only where it may last for any length.
 pub record ExtendListIsExtension : Type 0 where
-  pub length : (passes : Passing) (net : Network) (slacks slopes : List ℚ) (time length : ℚ) → ArePieces net.pieces → extend_list passes net slacks slopes time ≡ Ok (Some length)
+  pub length : (passes : Passing) (net : Network) (slacks slopes : List ℚ) (time length : ℚ) → ArePieces net.pieces
+      → extend_list passes net slacks slopes time ≡ Ok (Some length)
       → IsExtension net slacks slopes time length
-  pub none : (passes : Passing) (net : Network) (slacks slopes : List ℚ) (time : ℚ) → ArePieces net.pieces → extend_list passes net slacks slopes time ≡ Ok None
+  pub none : (passes : Passing) (net : Network) (slacks slopes : List ℚ) (time : ℚ) → ArePieces net.pieces
+      → extend_list passes net slacks slopes time ≡ Ok None
       → IsUnending net slacks slopes time
 
 -- the departure that a run has reached, with the labels there
@@ -79,7 +90,11 @@ reached_by s = (s.time, s.labels)
 -- A run makes a phase sequence of its phases. So each phase sequence to the same horizon with as many phases ends where the run
 -- ends; and phases that are cut short are none.
 pub record RunIsPhaseSequence : Type 0 where
-  pub is_one : (passes : Passing) (net : Network) (bounds : Bounds) (last : Standing) (stop : Option (Cause ℚ)) → IsNetwork net → IsPhaseRun passes net bounds last stop
-      → (phases : List (ℚ × List ℚ)) × IsPhaseSequence net bounds.horizon phases × (length phases ≡ suc last.made) × (slice_get phases last.made ≡ Some (reached_by last))
-  pub ends : (passes : Passing) (net : Network) (bounds : Bounds) (last : Standing) (stop : Option (Cause ℚ)) (phases : List (ℚ × List ℚ)) → IsNetwork net
-      → IsPhaseRun passes net bounds last stop → IsPhaseSequence net bounds.horizon phases → length phases ≡ suc last.made → slice_get phases last.made ≡ Some (reached_by last)
+  pub is_one : (passes : Passing) (net : Network) (bounds : Bounds) (last : Standing) (stop : Option (Cause ℚ)) → IsNetwork net
+      → IsPhaseRun passes net bounds last stop
+      → (phases : List (ℚ × List ℚ)) × IsPhaseSequence net bounds.horizon phases × (length phases ≡ suc last.made)
+      × (slice_get phases last.made ≡ Some (reached_by last))
+  pub ends : (passes : Passing) (net : Network) (bounds : Bounds) (last : Standing) (stop : Option (Cause ℚ)) (phases : List (ℚ × List ℚ))
+      → IsNetwork net
+      → IsPhaseRun passes net bounds last stop → IsPhaseSequence net bounds.horizon phases → length phases ≡ suc last.made
+      → slice_get phases last.made ≡ Some (reached_by last)

@@ -17,7 +17,8 @@ pub record AreReadable (bounds : Bounds) : Type 0 where
 -- The numbers in the report of a run are fractions of a file, and its counts have at most 64 bits: of the curves, and of the cause
 -- for which the run stopped.
 abbrev pub RunReportIsReadable : Type 0
-RunReportIsReadable = (n : Named) (bounds : Bounds) (report : Report) → IsNamed n → AreReadable bounds → IsRunReport passes_Q n.net bounds report → IsReadable report
+RunReportIsReadable = (n : Named) (bounds : Bounds) (report : Report) → IsNamed n → AreReadable bounds
+    → IsRunReport passes_Q n.net bounds report → IsReadable report
 
 -- Its text is read as that report. Where it is the text of another well formed report that can be read, the two are the same.
 pub record ReadsBack (n : Named) (report : Report) : Type 0 where
@@ -25,5 +26,6 @@ pub record ReadsBack (n : Named) (report : Report) : Type 0 where
   pub only : (other : Report) → IsWellFormed n.net other → IsReadable other → report_text n report ≡ report_text n other → report ≡ other
 
 abbrev pub RunReportReadsBack : Type 0
-RunReportReadsBack = (n : Named) (bounds : Bounds) (report : Report) → IsNamed n → AreReadable bounds → IsWellFormed n.net report → IsRunReport passes_Q n.net bounds report
+RunReportReadsBack = (n : Named) (bounds : Bounds) (report : Report) → IsNamed n → AreReadable bounds → IsWellFormed n.net report
+    → IsRunReport passes_Q n.net bounds report
     → ReadsBack n report

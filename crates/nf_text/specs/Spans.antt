@@ -11,7 +11,8 @@ text_of text span = take span.len (drop span.start text)
 -- each place begins after the one before, from a first byte on, and none goes past a last one
 abbrev pub Rise : ℕ → ℕ → List Span → Type 0
 Rise first last [] = Unit {0}
-Rise first last (span ∷ spans) = (first ≤ span.start) × (0 < span.len) × (span.start + span.len ≤ last) × Rise (span.start + span.len) last spans
+Rise first last (span ∷ spans) = (first ≤ span.start) × (0 < span.len) × (span.start + span.len ≤ last)
+    × Rise (span.start + span.len) last spans
 
 -- a word, and maybe a space before it
 abbrev pub space_before : Bool → List ℕ → List ℕ
@@ -19,4 +20,5 @@ space_before spaced word = if spaced then 32 ∷ word else word
 
 -- the line begins with these bytes and goes on as the rest, or it doesn't begin with them: told by what comparisons answer
 abbrev pub GoesOn : List ℕ → List ℕ → Option (Bor (List ℕ)) → Type 0
-GoesOn line front rest = (tail : List ℕ) → MatchOption rest (bytes_eq line (front ++ tail) ≡ false) (λ r. bytes_eq line (front ++ tail) ≡ bytes_eq r.now tail)
+GoesOn line front rest = (tail : List ℕ)
+    → MatchOption rest (bytes_eq line (front ++ tail) ≡ false) (λ r. bytes_eq line (front ++ tail) ≡ bytes_eq r.now tail)

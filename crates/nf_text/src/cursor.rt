@@ -50,7 +50,8 @@ impl<'a> Cursor<'a> {
     /// The next line, and the cursor goes on behind it; None at the end of the text. Or the fault of the line, if it has one.
     pub fn next_line(&mut self, alloc: Global) -> Result<Option<ReadLine<'a>>, TextFault>
         ensures line { IfOk result (λ next. MatchOption next (self.old ≡ []) (λ line. map as_read self.old ≡ line ∷ map as_read self.new)) }
-        ensures fine { IfOk result (λ next. MatchOption next (self.new ≡ self.old) (λ line. first_fault_of self.old ≡ first_fault_of self.new)) }
+        ensures fine { IfOk result
+            (λ next. MatchOption next (self.new ≡ self.old) (λ line. first_fault_of self.old ≡ first_fault_of self.new)) }
         ensures fault { IfErr result (λ fault. Tells fault (first_fault_of self.old)) }
     {
         if self.start == self.text.len() {

@@ -16,7 +16,8 @@ abbrev pub full_by : Passing → Network → List ℚ → List (Option ℚ)
 full_by passes net slopes = map (λ (link : Link). full_of passes link.capacity (number_at slopes link.head)) net.links
 
 -- with the slopes that the full flows were found by, these flows solve the pattern and meet its inequalities
-pub record CanFlow (passes : Passing) (net : Network) (sets : Sets) (rate : ℚ) (pattern : Pattern) (full : List (Option ℚ)) (flows : List ℚ) : Type 0 where
+pub record CanFlow (passes : Passing) (net : Network) (sets : Sets) (rate : ℚ) (pattern : Pattern) (full : List (Option ℚ))
+    (flows : List ℚ) : Type 0 where
   pub slopes : List ℚ
   pub full_are : full ≡ full_by passes net slopes
   pub solves : Solves net sets rate pattern flows slopes
@@ -28,7 +29,8 @@ surplus_of_first net flows v count = sum_out (take count net.links) (number_at f
 
 -- it lies in this range, whatever flows there can be
 abbrev pub BoundsFirst : Passing → Network → Sets → Pattern → List (Option ℚ) → ℕ → ℕ → Range → Type 0
-BoundsFirst passes net sets pattern full v count range = (rate : ℚ) (flows : List ℚ) → CanFlow passes net sets rate pattern full flows → IsWithin range (surplus_of_first net flows v count)
+BoundsFirst passes net sets pattern full v count range = (rate : ℚ) (flows : List ℚ) → CanFlow passes net sets rate pattern full flows
+    → IsWithin range (surplus_of_first net flows v count)
 
 -- what a node is to send out beyond what comes in: the rate out of the source and into the sink, and nothing elsewhere
 abbrev pub needed_at : Network → ℚ → ℕ → ℚ

@@ -17,7 +17,8 @@ use Rattle.nf_thin.specs.Searching.{Searches}
 
 -- the first pattern that is accepted with the forced states, at its place among those that are left; in the whole listing it stands
 -- within the budget
-pub record IsFirstFilled (passes : Passing) (net : Network) (sets : Sets) (rate : ℚ) (forced : Pattern) (listing narrow : List Pattern) (budget : ℕ) (thin : Thin) : Type 0 where
+pub record IsFirstFilled (passes : Passing) (net : Network) (sets : Sets) (rate : ℚ) (forced : Pattern) (listing narrow : List Pattern)
+    (budget : ℕ) (thin : Thin) : Type 0 where
   pub part : Pattern
   pub has_place : HasPlace narrow thin.place part
   pub pattern_is : thin.pattern ≡ filled forced part
@@ -27,17 +28,21 @@ pub record IsFirstFilled (passes : Passing) (net : Network) (sets : Sets) (rate 
   pub within : (there : ℕ) → HasPlace listing there (filled forced part) → there ≤ budget
 
 -- a pattern stands beyond the budget in the whole listing, and of those that are left none before it is accepted
-pub record GoesBeyond (passes : Passing) (net : Network) (sets : Sets) (rate : ℚ) (forced : Pattern) (listing narrow : List Pattern) (budget : ℕ) : Type 0 where
+pub record GoesBeyond (passes : Passing) (net : Network) (sets : Sets) (rate : ℚ) (forced : Pattern) (listing narrow : List Pattern)
+    (budget : ℕ) : Type 0 where
   pub place : ℕ
   pub part : Pattern
   pub has_place : HasPlace narrow place part
   pub none : NoneFilledBefore passes net sets rate forced narrow place
   pub beyond : (there : ℕ) → HasPlace listing there (filled forced part) → budget < there
 
-abbrev pub NarrowAnswers : Passing → Network → Sets → ℚ → Pattern → List Pattern → List Pattern → ℕ → Result (Option Thin) SearchFault → Type 0
-NarrowAnswers passes net sets rate forced listing narrow budget (Ok (Some thin)) = IsFirstFilled passes net sets rate forced listing narrow budget thin
+abbrev pub NarrowAnswers : Passing → Network → Sets → ℚ → Pattern → List Pattern → List Pattern → ℕ
+    → Result (Option Thin) SearchFault → Type 0
+NarrowAnswers passes net sets rate forced listing narrow budget (Ok (Some thin)) =
+    IsFirstFilled passes net sets rate forced listing narrow budget thin
 NarrowAnswers passes net sets rate forced listing narrow budget (Ok None) = Unit {0}
-NarrowAnswers passes net sets rate forced listing narrow budget (Err (SearchFault.Budget tried)) = (tried ≡ budget) × GoesBeyond passes net sets rate forced listing narrow budget
+NarrowAnswers passes net sets rate forced listing narrow budget (Err (SearchFault.Budget tried)) = (tried ≡ budget)
+    × GoesBeyond passes net sets rate forced listing narrow budget
 NarrowAnswers passes net sets rate forced listing narrow budget (Err (SearchFault.Passed place at)) = ⊥
 NarrowAnswers passes net sets rate forced listing narrow budget (Err SearchFault.NoPattern) = ⊥
 NarrowAnswers passes net sets rate forced listing narrow budget (Err SearchFault.Memory) = Unit {0}
@@ -45,7 +50,8 @@ NarrowAnswers passes net sets rate forced listing narrow budget (Err SearchFault
 -- whatever the listings are
 abbrev pub NarrowFinds : Passing → Network → Sets → ℚ → Pattern → Pattern → ℕ → Result (Option Thin) SearchFault → Type 0
 NarrowFinds passes net sets rate base forced budget result =
-    (listing narrow : List Pattern) → Narrows net sets rate base forced listing narrow → NarrowAnswers passes net sets rate forced listing narrow budget result
+    (listing narrow : List Pattern) → Narrows net sets rate base forced listing narrow
+    → NarrowAnswers passes net sets rate forced listing narrow budget result
 
 -- ---- the search whose pattern is found at some place
 

@@ -26,7 +26,8 @@ IsEndOfSum one other sum = (end : ℚ) → sum ≡ Some end → (a : ℚ) × (b 
 
 -- or their difference
 abbrev pub IsEndOfDifference : Option ℚ → Option ℚ → Option ℚ → Type 0
-IsEndOfDifference one other difference = (end : ℚ) → difference ≡ Some end → (a : ℚ) × (b : ℚ) × (one ≡ Some a) × (other ≡ Some b) × (end ≡ a -ℚ b)
+IsEndOfDifference one other difference = (end : ℚ) → difference ≡ Some end
+    → (a : ℚ) × (b : ℚ) × (one ≡ Some a) × (other ≡ Some b) × (end ≡ a -ℚ b)
 
 -- A flow that meets the equation and the inequality of a link's state, where `full` fills the link, if it is known.
 pub record MeetsState (state : Option State) (resetting : Bool) (full capacity : Option ℚ) (flow tail_slope head_slope : ℚ) : Type 0 where

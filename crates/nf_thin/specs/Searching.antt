@@ -51,8 +51,10 @@ module _ (passes : Passing) (net : Network) (sets : Sets) (rate : ℚ) (pattern 
     pub solution : IsSolution net sets rate pattern thin.flows.items thin.labels.items
 
 abbrev pub TriesNext : Passing → Network → Sets → ℚ → ℕ → Pattern → Vain → Vain → Result (Option Thin) SearchFault → Type 0
-TriesNext passes net sets rate budget pattern before after (Ok None) = (before.tried < budget) × InVain passes net sets rate pattern before after
-TriesNext passes net sets rate budget pattern before after (Ok (Some thin)) = (before.tried < budget) × IsFound passes net sets rate pattern before thin
+TriesNext passes net sets rate budget pattern before after (Ok None) = (before.tried < budget)
+    × InVain passes net sets rate pattern before after
+TriesNext passes net sets rate budget pattern before after (Ok (Some thin)) = (before.tried < budget)
+    × IsFound passes net sets rate pattern before thin
 TriesNext passes net sets rate budget pattern before after (Err (SearchFault.Budget tried)) = (before.tried ≡ budget) × (tried ≡ budget)
 TriesNext passes net sets rate budget pattern before after (Err (SearchFault.Passed place at)) = ⊥
 TriesNext passes net sets rate budget pattern before after (Err SearchFault.NoPattern) = ⊥
@@ -72,7 +74,8 @@ pub record AreSetsOf (net : Network) (sets : Sets) : Type 0 where
 
 -- what a listing of the network's patterns is of, for these sets and this base
 abbrev pub question_of : Network → Sets → Pattern → Question
-question_of net sets base = record { nodes = net.nodes; source = net.source; hops = hops net; sets = sets; unbounded = unbounded net; base = base }
+question_of net sets base =
+    record { nodes = net.nodes; source = net.source; hops = hops net; sets = sets; unbounded = unbounded net; base = base }
 
 -- such a listing, of which nothing is given yet
 pub record AsksOf (net : Network) (sets : Sets) (given : Given) : Type 0 where

@@ -30,8 +30,10 @@ pub record IsCounted (passes : Passing) (net : Network) (sets : Sets) (rate : �
   pub not_accepted : IsAccepted passes net sets rate pattern → ⊥
 
 abbrev pub SiftsNext : Passing → Network → Sets → ℚ → ℕ → Pattern → Vain → Vain → Result (Option Thin) SearchFault → Type 0
-SiftsNext passes net sets rate budget pattern before after (Ok None) = (before.tried < budget) × IsCounted passes net sets rate pattern before after
-SiftsNext passes net sets rate budget pattern before after (Ok (Some thin)) = (before.tried < budget) × IsFound passes net sets rate pattern before thin
+SiftsNext passes net sets rate budget pattern before after (Ok None) = (before.tried < budget)
+    × IsCounted passes net sets rate pattern before after
+SiftsNext passes net sets rate budget pattern before after (Ok (Some thin)) = (before.tried < budget)
+    × IsFound passes net sets rate pattern before thin
 SiftsNext passes net sets rate budget pattern before after (Err (SearchFault.Budget tried)) = (before.tried ≡ budget) × (tried ≡ budget)
 SiftsNext passes net sets rate budget pattern before after (Err (SearchFault.Passed place at)) = ⊥
 SiftsNext passes net sets rate budget pattern before after (Err SearchFault.NoPattern) = ⊥

@@ -11,5 +11,6 @@ AreThinSlopes net sets rate slopes = (flows : List ℚ) × IsThinFlow net sets r
 
 -- each solution of a listed pattern that meets its inequalities has these slopes
 abbrev pub AreSlopesOfListed : Network → Sets → ℚ → List ℚ → Type 0
-AreSlopesOfListed net sets rate slopes = (pattern : Pattern) (flows other : List ℚ) → IsListedIn net sets pattern → Solves net sets rate pattern flows other → Meets net pattern flows other
+AreSlopesOfListed net sets rate slopes = (pattern : Pattern) (flows other : List ℚ) → IsListedIn net sets pattern
+    → Solves net sets rate pattern flows other → Meets net pattern flows other
     → other ≡ slopes

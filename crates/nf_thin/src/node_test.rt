@@ -36,7 +36,8 @@ fn range_of(sets: &LinkSets, full: &[Option<Q>], pattern: &Pattern, link: LinkId
     requires link { link < length pattern.now }
     requires sets { length sets.now.active ≡ length pattern.now }
     requires full { length full.now ≡ length pattern.now }
-    ensures { (net : SeenNetwork) (rate : ℚ) (flows : List ℚ) (here : SeenLink) → CanFlow passes_Q net sets.now rate pattern.now full.now flows → IsLink net link here → IsWithin result (number_at flows link) }
+    ensures { (net : SeenNetwork) (rate : ℚ) (flows : List ℚ) (here : SeenLink)
+        → CanFlow passes_Q net sets.now rate pattern.now full.now flows → IsLink net link here → IsWithin result (number_at flows link) }
 {
     flow_range(
         pattern.state(link),
@@ -87,7 +88,8 @@ fn surplus_range(
     requires sets { length sets.now.active ≡ length net.now.net.links }
     requires full { length full.now ≡ length net.now.net.links }
     requires states { length pattern.now ≡ length net.now.net.links }
-    ensures { (rate : ℚ) (flows : List ℚ) → CanFlow passes_Q net.now.net sets.now rate pattern.now full.now flows → IsWithin result (surplus_of net.now.net flows node) }
+    ensures { (rate : ℚ) (flows : List ℚ) → CanFlow passes_Q net.now.net sets.now rate pattern.now full.now flows
+        → IsWithin result (surplus_of net.now.net flows node) }
 {
     let mut range = Range::just(Some(Q::zero()));
     for e in 0..net.link_count() {

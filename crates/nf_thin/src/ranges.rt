@@ -115,7 +115,8 @@ impl Range {
 // What a link may carry in a state, where `full` fills it, if that is known: anything up to that where it is Tight, just that where it is
 // Full, and nothing where it is Zero.
 fn range_in(state: State, full: Option<Q>) -> Range
-    ensures { (resetting : Bool) (capacity : Option ℚ) (flow tail_slope head_slope : ℚ) → MeetsState (Some state) resetting full capacity flow tail_slope head_slope → IsWithin result flow }
+    ensures { (resetting : Bool) (capacity : Option ℚ) (flow tail_slope head_slope : ℚ)
+        → MeetsState (Some state) resetting full capacity flow tail_slope head_slope → IsWithin result flow }
 {
     match state {
         State::Tight => Range::up_to(full),
@@ -126,7 +127,8 @@ fn range_in(state: State, full: Option<Q>) -> Range
 
 /// What any link may carry: by its state, as above; without one, what fills it where it is resetting, and else nothing.
 pub(crate) fn flow_range(state: Option<State>, resetting: bool, full: Option<Q>) -> Range
-    ensures { (capacity : Option ℚ) (flow tail_slope head_slope : ℚ) → MeetsState state resetting full capacity flow tail_slope head_slope → IsWithin result flow }
+    ensures { (capacity : Option ℚ) (flow tail_slope head_slope : ℚ) → MeetsState state resetting full capacity flow tail_slope head_slope
+        → IsWithin result flow }
 {
     if let Some(state) = state {
         return range_in(state, full);

@@ -13,7 +13,8 @@ pub record AreSets (net : Network) (sets : Sets) : Type 0 where
 -- a walk from v to w by active links alone
 abbrev pub IsActiveWalk : Network → Sets → List ℕ → ℕ → ℕ → Type 0
 IsActiveWalk net sets [] v w = v ≡ w
-IsActiveWalk net sets (e ∷ walk) v w = (link : Link) × IsLink net e link × Has sets.active e × (link.tail ≡ v) × IsActiveWalk net sets walk link.head w
+IsActiveWalk net sets (e ∷ walk) v w = (link : Link) × IsLink net e link × Has sets.active e × (link.tail ≡ v)
+    × IsActiveWalk net sets walk link.head w
 
 -- the active links hold no cycle: no walk of one link or more leads back to where it began
 abbrev pub HoldNoCycle : Network → Sets → Type 0

@@ -22,7 +22,8 @@ first_sets = record { active = true ∷ []; resetting = false ∷ [] }
 -- its inequalities; and where the rate is at least its capacity, that in which it is Full. A thin flow at the rate, whatever it is, makes a phase up to any
 -- horizon, where the supply has this one rate from time 0 on.
 pub record OneLinkHasPhase : Type 0 where
-  pub sets : (transit : ℚ) (capacity : Option ℚ) (pieces : List Piece) → sets_at (one_link transit capacity pieces) (first_labels transit) ≡ first_sets
+  pub sets : (transit : ℚ) (capacity : Option ℚ) (pieces : List Piece)
+      → sets_at (one_link transit capacity pieces) (first_labels transit) ≡ first_sets
   pub tight : (transit : ℚ) (capacity : Option ℚ) (pieces : List Piece) (rate : ℚ) → 0ℚ ≤ℚ transit → IsPositive capacity → ArePieces pieces
       → 0ℚ ≤ℚ rate → ((most : ℚ) → capacity ≡ Some most → rate ≤ℚ most)
       → IsListedIn (one_link transit capacity pieces) first_sets (Some Tight ∷ [])
@@ -30,6 +31,8 @@ pub record OneLinkHasPhase : Type 0 where
   pub full : (transit capacity : ℚ) (pieces : List Piece) (rate : ℚ) → 0ℚ ≤ℚ transit → 0ℚ <ℚ capacity → ArePieces pieces → capacity ≤ℚ rate
       → IsListedIn (one_link transit (Some capacity) pieces) first_sets (Some Full ∷ [])
       × IsSolution (one_link transit (Some capacity) pieces) first_sets rate (Some Full ∷ []) (rate ∷ []) (1ℚ ∷ rate /ℚ capacity ∷ [])
-  pub phase : (transit : ℚ) (capacity : Option ℚ) (rate horizon : ℚ) (flows slopes : List ℚ) → 0ℚ ≤ℚ transit → IsPositive capacity → 0ℚ ≤ℚ rate → 0ℚ <ℚ horizon
+  pub phase : (transit : ℚ) (capacity : Option ℚ) (rate horizon : ℚ) (flows slopes : List ℚ) → 0ℚ ≤ℚ transit → IsPositive capacity
+      → 0ℚ ≤ℚ rate → 0ℚ <ℚ horizon
       → IsThinFlow (one_link transit capacity (at_rate rate [])) first_sets rate flows slopes
-      → IsPhaseSequence (one_link transit capacity (at_rate rate [])) horizon ((0ℚ, first_labels transit) ∷ (horizon, moved (first_labels transit) slopes horizon) ∷ [])
+      → IsPhaseSequence (one_link transit capacity (at_rate rate [])) horizon
+      ((0ℚ, first_labels transit) ∷ (horizon, moved (first_labels transit) slopes horizon) ∷ [])

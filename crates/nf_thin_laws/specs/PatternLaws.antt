@@ -20,7 +20,8 @@ EachIsLed net sets pattern = (v : ℕ) → v < net.nodes → v ≢ net.source �
 -- A solution of the equations of a listed pattern that meets its inequalities is a thin flow, whatever the capacities of the links
 -- are, if there are any. For that the Tight links need not form a forest.
 pub record AcceptedPatternIsThin : Type 0 where
-  pub listed : (net : Network) (sets : Sets) (rate : ℚ) (pattern : Pattern) (flows slopes : List ℚ) → IsNetwork net → AreSets net sets → IsListedIn net sets pattern
+  pub listed : (net : Network) (sets : Sets) (rate : ℚ) (pattern : Pattern) (flows slopes : List ℚ) → IsNetwork net → AreSets net sets
+      → IsListedIn net sets pattern
       → Solves net sets rate pattern flows slopes → Meets net pattern flows slopes → IsThinFlow net sets rate flows slopes
   pub led : (net : Network) (sets : Sets) (rate : ℚ) (pattern : Pattern) (flows slopes : List ℚ) → IsNetwork net → AreSets net sets
       → IsPattern sets (unbounded net) pattern → EachIsLed net sets pattern
@@ -35,11 +36,14 @@ AllowState tail_slope head_slope Zero = head_slope ≤ℚ tail_slope
 -- Where active links hold no cycle, the slopes of any thin flow are those of each listed pattern whose equations have a solution
 -- that meets its inequalities. So they allow each state of it, and a pattern with another state is not solvable.
 pub record SlopesAllowStates : Type 0 where
-  pub same : (net : Network) (sets : Sets) (rate : ℚ) (thin_flows thin_slopes : List ℚ) (pattern : Pattern) (flows slopes : List ℚ) → IsNetwork net → AreSets net sets
+  pub same : (net : Network) (sets : Sets) (rate : ℚ) (thin_flows thin_slopes : List ℚ) (pattern : Pattern) (flows slopes : List ℚ)
+      → IsNetwork net → AreSets net sets
       → HoldNoCycle net sets → IsThinFlow net sets rate thin_flows thin_slopes → IsListedIn net sets pattern
       → Solves net sets rate pattern flows slopes → Meets net pattern flows slopes → slopes ≡ thin_slopes
-  pub states : (net : Network) (sets : Sets) (rate : ℚ) (thin_flows thin_slopes : List ℚ) (pattern : Pattern) → IsNetwork net → AreSets net sets
-      → HoldNoCycle net sets → IsThinFlow net sets rate thin_flows thin_slopes → IsListedIn net sets pattern → IsSolvable net sets rate pattern
+  pub states : (net : Network) (sets : Sets) (rate : ℚ) (thin_flows thin_slopes : List ℚ) (pattern : Pattern) → IsNetwork net
+      → AreSets net sets
+      → HoldNoCycle net sets → IsThinFlow net sets rate thin_flows thin_slopes → IsListedIn net sets pattern
+      → IsSolvable net sets rate pattern
       → (e : ℕ) (link : Link) (state : State) → IsLink net e link → HasState pattern e state
       → AllowState (number_at thin_slopes link.tail) (number_at thin_slopes link.head) state
 
@@ -51,15 +55,22 @@ pub record SolvesHomogeneous (net : Network) (sets : Sets) (pattern : Pattern) (
   pub starts : number_at slopes net.source ≡ 0ℚ
   pub nodes : (v : ℕ) → v < net.nodes → v ≢ net.sink → surplus net flows v ≡ 0ℚ
   pub links : (e : ℕ) (link : Link) (state : Option State) → IsLink net e link → slice_get pattern e ≡ Some state
-      → Equation state (unwrap_or (slice_get sets.resetting e) false) link.capacity (number_at flows e) (number_at slopes link.tail) (number_at slopes link.head)
+      → Equation state (unwrap_or (slice_get sets.resetting e) false) link.capacity (number_at flows e) (number_at slopes link.tail)
+      (number_at slopes link.head)
 
 -- Where active links hold no cycle, no listed pattern is singular: 0 alone solves its homogeneous equations. So its equations have
 -- at most one solution, and one that meets the inequalities makes the pattern solvable.
 pub record NoListedPatternIsSingular : Type 0 where
-  pub homogeneous : (net : Network) (sets : Sets) (pattern : Pattern) (flows slopes : List ℚ) → IsNetwork net → AreSets net sets → HoldNoCycle net sets
-      → IsListedIn net sets pattern → SolvesHomogeneous net sets pattern flows slopes → ((e : ℕ) → number_at flows e ≡ 0ℚ) × ((v : ℕ) → number_at slopes v ≡ 0ℚ)
-  pub one : (net : Network) (sets : Sets) (rate : ℚ) (pattern : Pattern) (flows slopes other_flows other_slopes : List ℚ) → IsNetwork net → AreSets net sets
-      → HoldNoCycle net sets → IsListedIn net sets pattern → Solves net sets rate pattern flows slopes → Solves net sets rate pattern other_flows other_slopes
+  pub homogeneous : (net : Network) (sets : Sets) (pattern : Pattern) (flows slopes : List ℚ) → IsNetwork net → AreSets net sets
+      → HoldNoCycle net sets
+      → IsListedIn net sets pattern → SolvesHomogeneous net sets pattern flows slopes
+      → ((e : ℕ) → number_at flows e ≡ 0ℚ) × ((v : ℕ) → number_at slopes v ≡ 0ℚ)
+  pub one : (net : Network) (sets : Sets) (rate : ℚ) (pattern : Pattern) (flows slopes other_flows other_slopes : List ℚ) → IsNetwork net
+      → AreSets net sets
+      → HoldNoCycle net sets → IsListedIn net sets pattern → Solves net sets rate pattern flows slopes
+      → Solves net sets rate pattern other_flows other_slopes
       → (flows ≡ other_flows) × (slopes ≡ other_slopes)
-  pub solution : (net : Network) (sets : Sets) (rate : ℚ) (pattern : Pattern) (flows slopes : List ℚ) → IsNetwork net → AreSets net sets → HoldNoCycle net sets
-      → IsListedIn net sets pattern → Solves net sets rate pattern flows slopes → Meets net pattern flows slopes → IsSolution net sets rate pattern flows slopes
+  pub solution : (net : Network) (sets : Sets) (rate : ℚ) (pattern : Pattern) (flows slopes : List ℚ) → IsNetwork net → AreSets net sets
+      → HoldNoCycle net sets
+      → IsListedIn net sets pattern → Solves net sets rate pattern flows slopes → Meets net pattern flows slopes
+      → IsSolution net sets rate pattern flows slopes

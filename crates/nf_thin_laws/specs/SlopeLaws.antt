@@ -9,17 +9,20 @@ use Rattle.nf_thin_laws.specs.ActiveLinks.{HoldNoCycle}
 
 -- where active links hold no cycle, all thin flows for these sets and one rate have the same slopes
 abbrev pub SlopesAreUnique : Type 0
-SlopesAreUnique = (net : Network) (sets : Sets) (rate : ℚ) (flows slopes other_flows other_slopes : List ℚ) → IsNetwork net → HoldNoCycle net sets
+SlopesAreUnique = (net : Network) (sets : Sets) (rate : ℚ) (flows slopes other_flows other_slopes : List ℚ) → IsNetwork net
+    → HoldNoCycle net sets
     → IsThinFlow net sets rate flows slopes → IsThinFlow net sets rate other_flows other_slopes → slopes ≡ other_slopes
 
 -- from a time with its labels one phase leads to one later time with its labels; and phase sequences of one network and one
 -- horizon that are equally long are the same
 pub record PhaseSequencesAgree : Type 0 where
-  pub phase : (net : Network) (horizon : ℚ) (old new other : ℚ × List ℚ) → IsNetwork net → IsPhase net horizon old new → IsPhase net horizon old other → new ≡ other
+  pub phase : (net : Network) (horizon : ℚ) (old new other : ℚ × List ℚ) → IsNetwork net → IsPhase net horizon old new
+      → IsPhase net horizon old other → new ≡ other
   pub sequence : (net : Network) (horizon : ℚ) (phases others : List (ℚ × List ℚ)) → IsNetwork net → IsPhaseSequence net horizon phases
       → IsPhaseSequence net horizon others → length phases ≡ length others → phases ≡ others
 
 -- what a thin flow sends out of the source comes to the sink
 abbrev pub ThinFlowComesToSink : Type 0
-ThinFlowComesToSink = (net : Network) (sets : Sets) (rate : ℚ) (flows slopes : List ℚ) → IsNetwork net → IsThinFlow net sets rate flows slopes
+ThinFlowComesToSink = (net : Network) (sets : Sets) (rate : ℚ) (flows slopes : List ℚ) → IsNetwork net
+    → IsThinFlow net sets rate flows slopes
     → surplus net flows net.sink ≡ 0ℚ -ℚ rate

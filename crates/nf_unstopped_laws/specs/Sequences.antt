@@ -13,4 +13,5 @@ ComesTo horizon phases = (place : ℕ) × (labels : List ℚ) × (slice_get phas
 -- there is a phase sequence of so many phases, or one of fewer that comes to the horizon
 abbrev pub PhaseSequencesGoOn : Type 0
 PhaseSequencesGoOn = (net : Network) (horizon : ℚ) (many : ℕ) → IsNetwork net → 0ℚ ≤ℚ horizon
-    → (phases : List (ℚ × List ℚ)) × IsPhaseSequence net horizon phases × ((length phases ≡ suc many) ⊎ ((length phases ≤ many) × ComesTo horizon phases))
+    → (phases : List (ℚ × List ℚ)) × IsPhaseSequence net horizon phases
+    × ((length phases ≡ suc many) ⊎ ((length phases ≤ many) × ComesTo horizon phases))

@@ -14,8 +14,12 @@ abbrev pub NeverNoPattern : Option (Cause ℚ) → Type 0
 NeverNoPattern stop = (phase : ℕ) → stop ≡ Some (Cause.NoPattern phase) → ⊥
 
 pub record NoRunStopsForNoPattern : Type 0 where
-  pub run : (passes : Passing) (net : Network) (bounds : Bounds) (last : Standing) (stop : Option (Cause ℚ)) → IsNetwork net → IsPhaseRun passes net bounds last stop → NeverNoPattern stop
-  pub report : (passes : Passing) (net : Network) (bounds : Bounds) (report : Report) → IsNetwork net → IsRunReport passes net bounds report → NeverNoPattern report.stop
-  pub resumed : (passes : Passing) (net : Network) (bounds : Bounds) (old : Report) (phases : ℕ) (report : Report) → IsNetwork net → IsWellFormed net old
+  pub run : (passes : Passing) (net : Network) (bounds : Bounds) (last : Standing) (stop : Option (Cause ℚ)) → IsNetwork net
+      → IsPhaseRun passes net bounds last stop → NeverNoPattern stop
+  pub report : (passes : Passing) (net : Network) (bounds : Bounds) (report : Report) → IsNetwork net → IsRunReport passes net bounds report
+      → NeverNoPattern report.stop
+  pub resumed : (passes : Passing) (net : Network) (bounds : Bounds) (old : Report) (phases : ℕ) (report : Report) → IsNetwork net
+      → IsWellFormed net old
       → IsResumedReport passes net bounds old phases report → NeverNoPattern report.stop
-  pub forever : (passes : Passing) (net : Network) (phases patterns : ℕ) (forever : Forever) → IsNetwork net → IsForever passes net phases patterns forever → NeverNoPattern forever.stop
+  pub forever : (passes : Passing) (net : Network) (phases patterns : ℕ) (forever : Forever) → IsNetwork net
+      → IsForever passes net phases patterns forever → NeverNoPattern forever.stop

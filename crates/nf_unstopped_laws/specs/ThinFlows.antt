@@ -17,18 +17,24 @@ use Rattle.nf_resume_lists.specs.Meanings.{IsResumed}
 
 -- for the sets of these labels and the supply rate at this departure
 abbrev pub HasThinFlow : Network → ℚ → List ℚ → Type 0
-HasThinFlow net departure labels = (flows : List ℚ) × (slopes : List ℚ) × IsThinFlow net (sets_at net labels) (rate_at net departure) flows slopes
+HasThinFlow net departure labels = (flows : List ℚ) × (slopes : List ℚ)
+    × IsThinFlow net (sets_at net labels) (rate_at net departure) flows slopes
 
 -- So it is at the labels of an equilibrium, at each departure that it describes; at those of each place in a phase sequence; and where
 -- a run ends, from the start, resumed from a report or without a horizon, however many phases it may make.
 pub record LabelsHaveThinFlow : Type 0 where
-  pub equilibrium : (net : Network) (flow : Flow) (departure : ℚ) (labels : List ℚ) → IsNetwork net → Equilibrium net flow → Within 0ℚ flow.reached departure
+  pub equilibrium : (net : Network) (flow : Flow) (departure : ℚ) (labels : List ℚ) → IsNetwork net → Equilibrium net flow
+      → Within 0ℚ flow.reached departure
       → LabelsAre net (label flow) departure labels → HasThinFlow net departure labels
-  pub sequence : (net : Network) (horizon : ℚ) (phases : List (ℚ × List ℚ)) (place : ℕ) (departure : ℚ) (labels : List ℚ) → IsNetwork net → IsPhaseSequence net horizon phases
+  pub sequence : (net : Network) (horizon : ℚ) (phases : List (ℚ × List ℚ)) (place : ℕ) (departure : ℚ) (labels : List ℚ) → IsNetwork net
+      → IsPhaseSequence net horizon phases
       → slice_get phases place ≡ Some (departure, labels) → HasThinFlow net departure labels
-  pub run : (passes : Passing) (net : Network) (bounds : Bounds) (last : Standing) (stop : Option (Cause ℚ)) → IsNetwork net → IsPhaseRun passes net bounds last stop
+  pub run : (passes : Passing) (net : Network) (bounds : Bounds) (last : Standing) (stop : Option (Cause ℚ)) → IsNetwork net
+      → IsPhaseRun passes net bounds last stop
       → HasThinFlow net last.time last.labels
-  pub resumed : (passes : Passing) (net : Network) (bounds : Bounds) (old : Report) (last : Standing) (stop : Option (Cause ℚ)) → IsNetwork net → IsWellFormed net old
+  pub resumed : (passes : Passing) (net : Network) (bounds : Bounds) (old : Report) (last : Standing) (stop : Option (Cause ℚ))
+      → IsNetwork net → IsWellFormed net old
       → IsResumed passes net bounds old last stop → HasThinFlow net last.time last.labels
-  pub forever : (passes : Passing) (net : Network) (phases patterns : ℕ) (last : Standing) (end : End) → IsNetwork net → IsForeverRun passes net phases patterns last end
+  pub forever : (passes : Passing) (net : Network) (phases patterns : ℕ) (last : Standing) (end : End) → IsNetwork net
+      → IsForeverRun passes net phases patterns last end
       → HasThinFlow net last.time last.labels

@@ -42,7 +42,12 @@ fn of_one(alloc: Global, call: &str, operands: &str) -> Result<CurveAnswer, Faul
     at_time(alloc, call, &curve, at)
 }
 
-fn composed(alloc: Global, outer: &Curve, inner: &Curve, until: &str) -> Result<CurveAnswer, Fault> {
+fn composed(
+    alloc: Global,
+    outer: &Curve,
+    inner: &Curve,
+    until: &str,
+) -> Result<CurveAnswer, Fault> {
     if !is_never_negative(inner) {
         return Err(Fault::NoCase);
     }
