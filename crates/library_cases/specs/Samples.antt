@@ -4,7 +4,7 @@ use Rattle.nf_rational.specs.Rational.{ℚ}
 use Rattle.nf_work.specs.declared.Op.TheVariants.{Product, Difference}
 use Rattle.nf_work.specs.declared.Passed.{Passed}
 use Rattle.nf_work.specs.Passing.{Passing}
-use Rattle.nf_work.specs.Checked.{checked}
+use Rattle.nf_work.specs.Checked.{checked, ◌>>=◌}
 
 -- a · b - c
 unfoldable pub product_less : Passing → ℚ → ℚ → ℚ → Result ℚ (Passed ℚ)

@@ -3,12 +3,12 @@ use Rattle.std.specs.Prelude.{◌≡◌, ℕ, List, IsOk, Result, Ok, Err}
 use Rattle.nf_rational.specs.Rational.{ℚ}
 use Rattle.nf_rational.specs.Operations.{0ℚ}
 use Rattle.nf_work.specs.Passing.{passes_Q}
-use Rattle.nf_work.specs.Checked.{placed}
+use Rattle.nf_work.specs.Checked.{at_part, placed}
 use Rattle.nf_work.specs.declared.Part.TheVariants.{Slack, Verdict}
 use Rattle.nf_work.specs.declared.Passed.{Passed}
 use Rattle.nf_work.specs.declared.PassedAt.{PassedAt}
 use Rattle.nf_model.specs.Network.{Network, hops, rate_at}
-use Rattle.nf_model.specs.ThinFlow.{sets_at, IsThinFlow}
+use Rattle.nf_model.specs.ThinFlow.{Sets, sets_at, IsThinFlow}
 use Rattle.nf_model.specs.Pattern.{Pattern, IsListedIn, IsSolution}
 use Rattle.nf_model.specs.Phases.{AreStartLabels}
 use Rattle.nf_formats.specs.Named.{Named}

@@ -3,7 +3,7 @@ use Rattle.std.specs.Prelude.{◌≡◌, ℕ, ◌≤◌, List, length, if◌then
 use Rattle.nf_rational.specs.Rational.{ℚ}
 use Rattle.nf_rational.specs.Order.{lt_ℚ}
 use Rattle.nf_work.specs.Passing.{Passing}
-use Rattle.nf_work.specs.Checked.{Checked}
+use Rattle.nf_work.specs.Checked.{Checked, ◌>>=◌}
 use Rattle.nf_model.specs.Curve.{Point, IsCurve}
 use Rattle.nf_curve_lists.specs.Short.{checked_short}
 use Rattle.nf_curve_lists.specs.Composed.{checked_composed}

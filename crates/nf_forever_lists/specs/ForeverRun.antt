@@ -3,7 +3,7 @@
 use Rattle.std.specs.Prelude.{◌≡◌, ℕ, suc, ◌<◌, List, Option, Some, None, Ok, Err}
 use Rattle.nf_rational.specs.Rational.{ℚ}
 use Rattle.nf_work.specs.Passing.{Passing}
-use Rattle.nf_work.specs.Checked.{Checked, checked, placed}
+use Rattle.nf_work.specs.Checked.{Checked, checked, placed, ◌>>=◌}
 use Rattle.nf_work.specs.declared.Op.TheVariants.{Sum}
 use Rattle.nf_work.specs.declared.Part.TheVariants.{Slack, Extend}
 use Rattle.nf_work.specs.declared.Passed.{Passed}

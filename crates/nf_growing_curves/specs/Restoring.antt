@@ -1,7 +1,7 @@
 -- The list of restoring, link by link.
 use Rattle.std.specs.Prelude.{List, Ok}
 use Rattle.nf_work.specs.Passing.{Passing}
-use Rattle.nf_work.specs.Checked.{Checked, each}
+use Rattle.nf_work.specs.Checked.{Checked, each, ◌>>=◌}
 use Rattle.nf_model.specs.Curve.{Point}
 use Rattle.nf_model.specs.Equilibrium.{Trace}
 use Rattle.nf_lists.specs.ReportCurves.{LinkCurves}

@@ -3,7 +3,7 @@
 use Rattle.std.specs.Prelude.{List, Option, Some, None, Result, Ok, IsOk}
 use Rattle.nf_rational.specs.Rational.{ℚ}
 use Rattle.nf_work.specs.Passing.{Passing}
-use Rattle.nf_work.specs.Checked.{at_part}
+use Rattle.nf_work.specs.Checked.{at_part, ◌>>=◌}
 use Rattle.nf_work.specs.declared.Part.TheVariants.{Table, Verdict}
 use Rattle.nf_work.specs.declared.PassedAt.{PassedAt}
 use Rattle.nf_model.specs.Network.{Network}

@@ -4,7 +4,7 @@ use Rattle.std.specs.List.{enumerate_from}
 use Rattle.nf_rational.specs.Rational.{ℚ}
 use Rattle.nf_rational.specs.Operations.{0ℚ}
 use Rattle.nf_work.specs.Passing.{Passing}
-use Rattle.nf_work.specs.Checked.{Checked, checked, each}
+use Rattle.nf_work.specs.Checked.{Checked, checked, each, ◌>>=◌}
 use Rattle.nf_work.specs.declared.Op.TheVariants.{Sum, Difference, Product, Quotient}
 use Rattle.nf_model.specs.declared.State.{State}
 use Rattle.nf_model.specs.declared.State.TheVariants.{Full}

@@ -6,7 +6,7 @@ use Rattle.nf_rational.specs.Rational.{ℚ}
 use Rattle.nf_rational.specs.Operations.{0ℚ}
 use Rattle.nf_rational.specs.Order.{min_ℚ}
 use Rattle.nf_work.specs.Passing.{Passing}
-use Rattle.nf_work.specs.Checked.{Checked, checked, fold_checked}
+use Rattle.nf_work.specs.Checked.{Checked, checked, fold_checked, ◌>>=◌}
 use Rattle.nf_work.specs.declared.Op.TheVariants.{Difference, Quotient}
 use Rattle.nf_model.specs.Entries.{number_at}
 use Rattle.nf_model.specs.Network.{Link, Network, next_change}

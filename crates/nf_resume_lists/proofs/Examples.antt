@@ -7,12 +7,14 @@ use Rattle.nf_rational.specs.Rational.{ℚ, ratio}
 use Rattle.nf_rational.specs.Operations.{whole, neg_ℚ, inv_ℚ, ◌+ℚ◌, ◌-ℚ◌, ◌*ℚ◌, ◌/ℚ◌}
 use Rattle.nf_rational.specs.Order.{le_ℚ, lt_ℚ, min_ℚ, max_ℚ}
 use Rattle.nf_work.specs.Passing.{beyond}
-use Rattle.nf_work.specs.Checked.{checked}
+use Rattle.nf_work.specs.Checked.{checked, ◌>>=◌}
+use Rattle.nf_work.specs.declared.Passed.{Passed}
 use Rattle.nf_work.specs.declared.PassedAt.{PassedAt}
 use Rattle.nf_model.specs.declared.State.TheVariants.{Full}
 use Rattle.nf_model.specs.Curve.{Point}
 use Rattle.nf_model.specs.Network.{Network}
 use Rattle.nf_model.specs.Equilibrium.{Trace, Flow}
+use Rattle.nf_model.specs.Pattern.{Pattern}
 use Rattle.nf_lists.specs.ReportCurves.{GrowingCurve, LinkCurves}
 use Rattle.nf_lists.specs.PhaseRun.{Standing}
 use Rattle.nf_formats.specs.Report.{Report}

@@ -12,10 +12,10 @@ use Rattle.nf_formats.specs.declared.Cause.{Cause}
 use Rattle.nf_formats.specs.Report.{Report}
 use Rattle.nf_lists.specs.Accepted.{pattern_lists}
 use Rattle.nf_lists.specs.Listing.{HasPlace}
-use Rattle.nf_lists.specs.PhaseRun.{Standing, Bounds, Goes, report_of}
+use Rattle.nf_lists.specs.PhaseRun.{Standing, Bounds, Goes, Runs, flow_of, report_of}
 use Rattle.nf_model.specs.Network.{rate_at}
 use Rattle.nf_model.specs.ThinFlow.{sets_at}
-use Rattle.nf_resume_lists.specs.Open.{RunsOn}
+use Rattle.nf_resume_lists.specs.Open.{Steps, RunsOn, continues, begins, steps, at_horizon, at_phases, fails}
 use Rattle.nf_resume_lists.specs.Resuming.{Stands, resume_list}
 
 -- a flow goes on from another one: it reaches as far at least, and up to there it has the same values

@@ -1,11 +1,11 @@
 -- A run that is restored from a flow: it stands where the flow ends.
-use Rattle.std.specs.Prelude.{List, [], ◌∷◌, map, Option, Some, None, Ok}
+use Rattle.std.specs.Prelude.{ℕ, List, [], ◌∷◌, map, Option, Some, None, Ok}
 use Rattle.std.specs.List.{last_or}
 use Rattle.std.specs.Option.{option_map_or}
 use Rattle.nf_rational.specs.Rational.{ℚ}
 use Rattle.nf_rational.specs.Operations.{0ℚ}
 use Rattle.nf_work.specs.Passing.{Passing}
-use Rattle.nf_work.specs.Checked.{Checked, each}
+use Rattle.nf_work.specs.Checked.{Checked, each, ◌>>=◌}
 use Rattle.nf_model.specs.Curve.{Point}
 use Rattle.nf_model.specs.Pattern.{Pattern}
 use Rattle.nf_model.specs.Equilibrium.{Trace, Flow}

@@ -3,18 +3,18 @@
 use Rattle.std.specs.Prelude.{ℕ, List, [], ◌∷◌, map, Result, Ok}
 use Rattle.nf_rational.specs.Rational.{ℚ}
 use Rattle.nf_work.specs.Passing.{Passing}
-use Rattle.nf_work.specs.Checked.{Checked, at_part, each}
+use Rattle.nf_work.specs.Checked.{Checked, at_part, each, ◌>>=◌}
 use Rattle.nf_work.specs.declared.Part.TheVariants.{Curve}
 use Rattle.nf_work.specs.declared.PassedAt.{PassedAt}
 use Rattle.nf_model.specs.Curve.{Point}
 use Rattle.nf_model.specs.Network.{Link, Network}
-use Rattle.nf_model.specs.Equilibrium.{Trace, Flow, points_at}
+use Rattle.nf_model.specs.Equilibrium.{Trace, Flow, points_at, points_of}
 use Rattle.nf_formats.specs.Report.{Report}
 use Rattle.nf_lists.specs.PhaseRun.{Standing}
 use Rattle.nf_curve_lists.specs.Values.{checked_cut}
 use Rattle.nf_curve_lists.specs.Short.{checked_slopes, checked_short}
 use Rattle.nf_check_lists.specs.declared.Answer.{Answer}
-use Rattle.nf_check_lists.specs.declared.Answer.TheVariants.{Yes}
+use Rattle.nf_check_lists.specs.declared.Answer.TheVariants.{Yes, No}
 use Rattle.nf_check_lists.specs.CheckList.{check_list}
 use Rattle.nf_resume_lists.specs.Restoring.{value_at_end, restore_list}
 
