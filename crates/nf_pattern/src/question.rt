@@ -3,6 +3,7 @@ ghost use Rattle.std.specs.Prelude.{◌≡◌, ◌^◌, ◌<◌, length, IfOk};
 
 use crate::assignments::{Quiet, advance};
 use crate::pattern::Pattern;
+use crate::stated::StatedLinks;
 use crate::trail::Trail;
 use nf_graph::{Hop, LinkId, LinkSets, NodeId};
 use nf_model::State;
@@ -19,6 +20,7 @@ pub(crate) struct Question {
     resetting: Vec<bool>,
     unbounded: Vec<bool>,
     base: Pattern,
+    stated: StatedLinks,
 }
 
 // Where a listing stands: before the first listed pattern, at one, or behind the last.
@@ -31,6 +33,7 @@ pub(crate) enum Stand {
 
 impl Model for Question {
     ghost use Rattle.nf_pattern.specs.Given.{Question as SeenQuestion, IsQuestion, coded_question};
+    ghost use Rattle.nf_pattern.specs.Stated.{AreStated};
 
     ghost Value = { SeenQuestion };
 
@@ -38,7 +41,7 @@ impl Model for Question {
 
     ghost view = { λ q. record { nodes = q.nodes; source = q.source; hops = q.hops.items; sets = record { active = q.active.items; resetting = q.resetting.items }; unbounded = q.unbounded.items; base = q.base } };
 
-    ghost invariant = { λ q. IsQuestion (record { nodes = q.nodes; source = q.source; hops = q.hops.items; sets = record { active = q.active.items; resetting = q.resetting.items }; unbounded = q.unbounded.items; base = q.base }) };
+    ghost invariant = { λ q. IsQuestion (record { nodes = q.nodes; source = q.source; hops = q.hops.items; sets = record { active = q.active.items; resetting = q.resetting.items }; unbounded = q.unbounded.items; base = q.base }) × AreStated q.base q.stated };
 }
 
 // Of each link, whether it is active.
@@ -73,7 +76,7 @@ fn resetting_flags(alloc: Global, sets: &LinkSets, links: usize) -> Result<Vec<b
 impl Question {
     ghost use Rattle.std.specs.Prelude.{◌≡◌, ◌≤◌, length, take, IfOk, MatchBool, MatchOption, Some, None};
     ghost use Rattle.nf_model.specs.Pattern.{Pattern as SeenPattern};
-    ghost use Rattle.nf_pattern.specs.Trail.{IsLeft, IsTrailOf};
+    ghost use Rattle.nf_pattern.specs.Trail.{IsTrailOf};
     ghost use Rattle.nf_pattern.specs.Successor.{IsAssignment, IsSameBefore, IsQuiet, next_assignment};
     ghost use Rattle.nf_pattern.specs.Given.{IsQuestion, IsListedBy, IsBarren, IsFirstFrom, NoneFrom, IsNext, NoneLeft, AtStart, UpTo};
     ghost use Rattle.nf_pattern.specs.declared.question.Stand.TheVariants.{Start};
@@ -97,6 +100,7 @@ impl Question {
         let hops = hops.to_vec(alloc)?;
         let unbounded = unbounded.to_vec(alloc)?;
         let base = base.copy(alloc)?;
+        let stated = StatedLinks::new(alloc, base.states())?;
         Ok(Question {
             nodes,
             source,
@@ -105,6 +109,7 @@ impl Question {
             resetting,
             unbounded,
             base,
+            stated,
         })
     }
 
@@ -129,12 +134,19 @@ impl Question {
         requires assigned { IsAssignment self.now.base self.now.unbounded states.now }
         requires trail { IsTrailOf self.now states.now trail.old }
         ensures trail { IsTrailOf self.now states.now trail.new }
-        ensures found { MatchOption result (IsListedBy self.now states.now) (λ n. (n ≤ length self.now.base) × IsBarren self.now n states.now) }
+        ensures found { MatchOption result (IsListedBy self.now states.now)
+            (λ n. (n ≤ length self.now.base) × IsBarren self.now n states.now) }
     {
         if trail.is_lost() {
             return Some(0);
         }
-        if trail.extend(&self.hops, states, &self.resetting, self.source) {
+        if trail.extend(
+            &self.hops,
+            states,
+            &self.resetting,
+            self.source,
+            &self.stated,
+        ) {
             return None;
         }
         Some(trail.depth() + 1)
@@ -150,17 +162,25 @@ impl Question {
         ensures found { MatchOption result ((next_assignment same self.now.base self.now.unbounded states.old ≡ None) × (states.new ≡ states.old))
             (λ link. (next_assignment same self.now.base self.now.unbounded states.old ≡ Some states.new) × IsSameBefore same link states.old states.new) }
     {
-        let raised = advance(states, self.base.states(), &self.unbounded, same, *quiet)?;
+        let raised = advance(
+            states,
+            self.base.states(),
+            &self.unbounded,
+            same,
+            *quiet,
+            &self.stated,
+        )?;
         *quiet = raised.quiet;
         Some(raised.link)
     }
 
     // The trail comes back to where these states are the same.
     fn retreat(&self, link: usize, trail: &mut Trail)
-        requires left { IsLeft self.now.hops trail.old }
-        ensures { (before after : SeenPattern) → IsTrailOf self.now before trail.old → length after ≡ length before → take link after ≡ take link before → IsTrailOf self.now after trail.new }
+        requires left { (before : SeenPattern) × IsAssignment self.now.base self.now.unbounded before × IsTrailOf self.now before trail.old }
+        ensures { (before after : SeenPattern) → IsTrailOf self.now before trail.old → IsAssignment self.now.base self.now.unbounded before
+            → take link after ≡ take link before → IsTrailOf self.now after trail.new }
     {
-        trail.retreat(&self.hops, link);
+        trail.retreat(&self.hops, link, &self.stated);
     }
 
     // On to the first listed pattern from this assignment on; whether there is one.
