@@ -24,7 +24,7 @@ module _ (hops : List Hop) (p : Pattern) (n : ℕ) (ends tails heads : List (Opt
   new v e = last_new (ends_at hops p) (other_end hops) (λ m v w. AreJoined hops (TightBefore p m) v w) n v e
 
   -- which isn't Tight
-  back_loose : (HasState p n Tight → ⊥) → IsWalkable hops p n ends tails heads
+  pub back_loose : (HasState p n Tight → ⊥) → IsWalkable hops p n ends tails heads
   back_loose none = record {
     below = chains.below;
     count_tails = chains.count_tails;

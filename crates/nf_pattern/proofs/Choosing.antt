@@ -79,6 +79,23 @@ is_choice b false Tight bar = inl refl
 is_choice b false Full bar = inr (inl refl)
 is_choice b false Zero bar = inr (inr (inl refl))
 
+-- ---- an assignment has states where its base has
+chosen_too : (base : Pattern) (us : List Bool) (p : Pattern) (e : ℕ) (b : Option State) → IsAssignment base us p → HasEntry base e b → (u : Bool) × (s : Option State) × HasEntry p e s × IsIn (choices b u) s
+chosen_too [] us p e b h at = absurd (none-some b at)
+chosen_too (x ∷ base) [] [] e b h at = absurd h
+chosen_too (x ∷ base) [] (s ∷ p) e b h at = absurd h
+chosen_too (x ∷ base) (u ∷ us) [] e b h at = absurd h
+chosen_too (x ∷ base) (u ∷ us) (s ∷ p) zero b h at = (u, s, refl, subst (λ (y : Option State). IsIn (choices y u) s) (same_Some x b at) h.0)
+chosen_too (x ∷ base) (u ∷ us) (s ∷ p) (suc e) b h at = chosen_too base us p e b h.1 at
+
+pub none_too : (base : Pattern) (us : List Bool) (p : Pattern) (e : ℕ) → IsAssignment base us p → HasEntry base e None → HasEntry p e None
+none_too base us p e h at = let c = chosen_too base us p e None h at in c.2 ∙ ap (λ (s : Option State). Some s) (none_chosen c.0 c.1 c.3)
+
+pub some_too : (base : Pattern) (us : List Bool) (p : Pattern) (e : ℕ) (state : State) → IsAssignment base us p → HasState base e state → (other : State) × HasState p e other
+some_too base us p e state h at =
+    let c = chosen_too base us p e (Some state) h at in
+    let some = some_chosen state c.0 c.1 c.3 in (some.0, c.2 ∙ ap (λ (s : Option State). Some s) some.1)
+
 -- ---- both ways
 module _ (sets : Sets) (us : List Bool) (base : Pattern) (is_base : IsPattern sets us base) (count : length us ≡ length base) where
   module _ (states : Pattern) where

@@ -187,9 +187,9 @@ module _ (hops : List Hop) (resetting : List Bool) (base : Pattern) where
   pub ends_kept : (m : ℕ) (ends : List ℕ) → AreEndsBefore hops resetting base m ends → (CanCarry resetting base m → ⊥) → AreEndsBefore hops resetting base (suc m) ends
   ends_kept m ends before none v n read = end_later m v n (before v n read) (λ hop is_hop head can. none can)
 
-  pub end_noted : (m : ℕ) (hop : Hop) → IsHop hops m hop → (i : ℕ) → i ≡ hop.head → (ends : List ℕ) → i < length ends → AreEndsBefore hops resetting base m ends
+  pub end_noted : (m : ℕ) → CanCarry resetting base m → (hop : Hop) → IsHop hops m hop → (i : ℕ) → i ≡ hop.head → (ends : List ℕ) → i < length ends → AreEndsBefore hops resetting base m ends
       → AreEndsBefore hops resetting base (suc m) (slice_set ends i (m + 1))
-  end_noted m hop is_hop i at ends within before v n read = ⊎_elim
+  end_noted m can_here hop is_hop i at ends within before v n read = ⊎_elim
       (λ (same : v ≡ i). subst (λ (k : ℕ). IsEndBefore hops resetting base (suc m) v k)
       (same_Some (m + 1) n (sym (set_same ends i (m + 1) within) ∙ (ap (λ (k : ℕ). slice_get (slice_set ends i (m + 1)) k) (sym same) ∙ read)))
       (here v same))
@@ -200,7 +200,9 @@ module _ (hops : List Hop) (resetting : List Bool) (base : Pattern) where
       here : (v : ℕ) → v ≡ i → IsEndBefore hops resetting base (suc m) v (m + 1)
       here v same = record {
         all = λ e h less is_h head can. omega arith;
-        last = λ e one. (hop, subst (λ (k : ℕ). IsHop hops k hop) (omega arith) is_hop, sym at ∙ sym same);
+        last = λ e one.
+            let this : m ≡ e = omega arith in
+            (hop, subst (λ (k : ℕ). IsHop hops k hop) this is_hop, sym at ∙ sym same, subst (λ (k : ℕ). CanCarry resetting base k) this can_here);
       }
 
   -- before any link

@@ -87,5 +87,5 @@ follows_none source hops resetting base p nodes {trail} depth tight count chain 
   count_chain = count_chain;
   count_ends = count_ends ∙ sym count;
   entered = λ v n other at some few. absurd (omega arith);
-  last = λ v e at. (ends v (suc e) at).last e refl;
+  last = λ v e at. let end = (ends v (suc e) at).last e refl in (end.0, end.1, end.2);
 }

@@ -27,3 +27,5 @@ pub mod Holding
 pub mod Tests
 pub mod Crossing
 pub mod Calming
+pub mod Stating
+pub mod Passing

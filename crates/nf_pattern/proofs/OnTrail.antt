@@ -8,7 +8,9 @@ use Rattle.nf_model.specs.Pattern.{Pattern}
 use Rattle.nf_pattern.specs.declared.trail.Trail.{Trail}
 use Rattle.nf_pattern.specs.Forest.{Closes}
 use Rattle.nf_pattern.specs.Entered.{IsEntered, EnteredBefore, AreEnds, IsLost, Strands}
-use Rattle.nf_pattern.specs.Trail.{Follows, IsTrailOf, IsOnWay}
+use Rattle.nf_pattern.specs.Trail.{Follows, IsLeftBy, IsTrailOf, IsOnWay}
+use Rattle.nf_pattern.specs.Stated.{AreStated}
+use Rattle.nf_pattern.specs.declared.stated.StatedLinks.{StatedLinks}
 use Rattle.nf_pattern.specs.Successor.{IsAssignment}
 use Rattle.nf_pattern.specs.Given.{Question, IsQuestion, IsListedBy, IsBarren}
 use Rattle.nf_pattern.proofs.Choosing.{assigned_length}
@@ -134,13 +136,19 @@ module _ (q seen : Question) (same : q ≡ seen) (hops : List Hop) (resetting : 
   all_seen = ap length (is_hops ∙ ap (λ (x : Question). x.hops) same)
 
 -- what goes on by the hops, goes on by the question
-pub follows_on : (q seen : Question) → q ≡ seen → (hops : List Hop) → hops ≡ q.hops → (before after : Trail)
-    → ((source : ℕ) (resetting : List Bool) (p : Pattern) → Follows source hops resetting p before → Follows source hops resetting p after)
-    → (p : Pattern) → Follows seen.source seen.hops seen.sets.resetting p before → Follows seen.source seen.hops seen.sets.resetting p after
-follows_on q seen same hops is_hops before after kept p follows =
-    let at : hops ≡ seen.hops = is_hops ∙ ap (λ (x : Question). x.hops) same in
-    subst (λ (x : List Hop). Follows seen.source x seen.sets.resetting p after) at
-    (kept seen.source seen.sets.resetting p (subst (λ (x : List Hop). Follows seen.source x seen.sets.resetting p before) (sym at) follows))
+module _ (q seen : Question) (same : q ≡ seen) (hops : List Hop) (is_hops : hops ≡ q.hops) where
+  seen_hops : hops ≡ seen.hops
+  seen_hops = is_hops ∙ ap (λ (x : Question). x.hops) same
+
+  pub follows_on : (before after : Trail) (p : Pattern) → ((source : ℕ) (resetting : List Bool) → Follows source hops resetting p before → Follows source hops resetting p after)
+      → Follows seen.source seen.hops seen.sets.resetting p before → Follows seen.source seen.hops seen.sets.resetting p after
+  follows_on before after p kept follows =
+      subst (λ (x : List Hop). Follows seen.source x seen.sets.resetting p after) seen_hops
+      (kept seen.source seen.sets.resetting (subst (λ (x : List Hop). Follows seen.source x seen.sets.resetting p before) (sym seen_hops) follows))
+
+  pub left_seen : (stated : StatedLinks) (p : Pattern) (trail : Trail) → AreStated p stated → Follows seen.source seen.hops seen.sets.resetting p trail → IsLeftBy hops stated trail
+  left_seen stated p trail is follows =
+      (seen.source, seen.sets.resetting, p, is, subst (λ (x : List Hop). Follows seen.source x seen.sets.resetting p trail) (sym seen_hops) follows)
 
 pub count_links : (question : Question) → IsQuestion question → (p : Pattern) → IsAssignment question.base question.unbounded p → length p ≡ length question.hops
 count_links question is p assigned = assigned_length question.base question.unbounded p assigned ∙ (is.base.count ∙ is.active)

@@ -6,6 +6,9 @@ use Rattle.std.proofs.Math.ListN.{drop_of_length-le}
 use Rattle.nf_model.specs.declared.State.{State}
 use Rattle.nf_model.specs.Pattern.{Pattern, changes}
 use Rattle.nf_pattern.specs.Successor.{choices, IsAssignment, free, change, first_good, before_all, with_rest, earliest, or_else, raised, raised_at, RaisesAt, IsSameBefore, later}
+use Rattle.nf_pattern.specs.Stated.{IsLastTo}
+use Rattle.nf_pattern.proofs.Choosing.{assigned_length, none_too}
+use Rattle.nf_pattern.proofs.Stating.{idle_there}
 use Rattle.nf_pattern.proofs.Filling.{free_first, none_raised}
 use Rattle.nf_pattern.proofs.Successors.{changes_first, fits_out, good_some, higher, higher_out}
 
@@ -221,6 +224,23 @@ module _ (base : Pattern) (us : List Bool) (states : Pattern) (same i j made mor
   last_idle none nor before = last_kept 0 made (idle_change (get_or base i None) (get_or states i None) none nor) (omega arith)
       0 more (idle_change None (get_or base i None) refl none) (omega arith)
       (idle_raised (get_or base i None) (get_or states i None) (get_or us i false) (drop (suc i) base) (drop (suc i) us) made none nor) before (omega arith) (omega arith)
+
+-- and those behind the last one that has a state
+last_passed : (base : Pattern) (us : List Bool) (states : Pattern) (same k i j made more : ℕ) → AreLast base us states same j made more → j ≡ i + k → j ≤ same → length states ≡ length base → length us ≡ length base
+    → ((e : ℕ) → i ≤ e → e < j → (get_or base e None ≡ None) × (get_or states e None ≡ None)) → AreLast base us states same i made more
+last_passed base us states same zero i j made more last is few count us_count idle = subst (λ (m : ℕ). AreLast base us states same m made more) (let e : j ≡ i = omega arith in e) last
+last_passed base us states same (suc k) i j made more last is few count us_count idle =
+    let m : ℕ = i + k in
+    let here = idle m (omega arith) (omega arith) in
+    last_passed base us states same k i m made more (last_idle base us states same m j made more last (omega arith) count us_count here.0 here.1 (omega arith)) refl (omega arith) count us_count
+    (λ e from less. idle e from (omega arith))
+
+pub last_stated : (base : Pattern) (us : List Bool) (states : Pattern) (same i j made more : ℕ) → AreLast base us states same j made more → 0 < j → j ≤ same → IsAssignment base us states → length us ≡ length base
+    → IsLastTo base (j - 1) i → AreLast base us states same (suc i) made more
+last_stated base us states same i j made more last some few assigned us_count is =
+    let before = is.0 in
+    last_passed base us states same (j - suc i) (suc i) j made more last (omega arith) few (assigned_length base us states assigned) us_count
+    (λ e from less. let none = is.1 e from (omega arith) in (idle_there base e none, idle_there states e (none_too base us states e assigned none)))
 
 pub last_all : (base : Pattern) (us : List Bool) (states : Pattern) (same i made more : ℕ) → i ≤ 0 → AreLast base us states same i made more → later same base us states ≡ None
 last_all base us states same i made more first last =

@@ -43,16 +43,20 @@ AreChained hops chain = (e : ℕ) (found : Option ℕ) → slice_get chain e ≡
 abbrev pub CanCarry : List Bool → Pattern → ℕ → Type 0
 CanCarry resetting base e = Has resetting e ⊎ ((state : State) × HasState base e state)
 
--- those before number m into node v stand before number n, and link n - 1 leads to v
+-- those before number m into node v stand before number n, and link n - 1 is such a link into v
 pub record IsEndBefore (hops : List Hop) (resetting : List Bool) (base : Pattern) (m v n : ℕ) : Type 0 where
   pub all : (e : ℕ) (hop : Hop) → e < m → IsHop hops e hop → hop.head ≡ v → CanCarry resetting base e → e < n
-  pub last : (e : ℕ) → n ≡ suc e → (hop : Hop) × IsHop hops e hop × (hop.head ≡ v)
+  pub last : (e : ℕ) → n ≡ suc e → (hop : Hop) × IsHop hops e hop × (hop.head ≡ v) × CanCarry resetting base e
 
 abbrev pub AreEndsBefore : List Hop → List Bool → Pattern → ℕ → List ℕ → Type 0
 AreEndsBefore hops resetting base m ends = (v n : ℕ) → slice_get ends v ≡ Some n → IsEndBefore hops resetting base m v n
 
 abbrev pub AreEnds : List Hop → List Bool → Pattern → List ℕ → Type 0
 AreEnds hops resetting base ends = AreEndsBefore hops resetting base (length hops) ends
+
+-- the link that ends those into a node can carry
+abbrev pub DoEndsCarry : List Bool → Pattern → List ℕ → Type 0
+DoEndsCarry resetting pattern ends = (v e : ℕ) → slice_get ends v ≡ Some (suc e) → CanCarry resetting pattern e
 
 -- link e leads to a node but the source that no link up to it enters, and no later one can
 pub record Strands (source : ℕ) (hops : List Hop) (resetting : List Bool) (pattern : Pattern) (ends : List ℕ) (e : ℕ) : Type 0 where

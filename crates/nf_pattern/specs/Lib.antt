@@ -9,3 +9,4 @@ pub mod Stands
 pub mod Front
 pub mod Giving
 pub mod Firm
+pub mod Stated

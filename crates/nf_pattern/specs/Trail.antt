@@ -7,6 +7,8 @@ use Rattle.nf_pattern.specs.Firm.{AreCalm}
 use Rattle.nf_pattern.specs.Walking.{Holds}
 use Rattle.nf_pattern.specs.Entered.{EnteredBefore, AreChained, LeadsTo, AreEnds, IsLost}
 use Rattle.nf_pattern.specs.Given.{Question}
+use Rattle.nf_pattern.specs.Stated.{AreStated}
+use Rattle.nf_pattern.specs.declared.stated.StatedLinks.{StatedLinks}
 use Rattle.nf_pattern.specs.declared.trail.Trail.{Trail}
 
 -- The links before number `depth` were looked at: none of them closes a cycle of Tight links, and each node but the source is
@@ -33,6 +35,10 @@ pub record IsTrailOf (question : Question) (pattern : Pattern) (trail : Trail) :
 -- of some pattern, for some source
 abbrev pub IsLeft : List Hop → Trail → Type 0
 IsLeft hops trail = (source : ℕ) × (resetting : List Bool) × (pattern : Pattern) × Follows source hops resetting pattern trail
+
+-- of one in which these links have a state
+abbrev pub IsLeftBy : List Hop → StatedLinks → Trail → Type 0
+IsLeftBy hops stated trail = (source : ℕ) × (resetting : List Bool) × (pattern : Pattern) × AreStated pattern stated × Follows source hops resetting pattern trail
 
 -- what a trail keeps on its way
 pub record IsOnWay (before after : Trail) : Type 0 where

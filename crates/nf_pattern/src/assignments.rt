@@ -1,9 +1,11 @@
 // Assignments of states to links, in order: by the number of links that differ from a base, and then link by link.
-ghost use Rattle.std.specs.Prelude.{◌≡◌, ◌^◌, ◌<◌, ◌≤◌, ◌++◌, suc, length, take, drop, Some, None, MatchOption, IsTrue};
+ghost use Rattle.std.specs.Prelude.{◌≡◌, ◌^◌, ◌<◌, ◌≤◌, ◌++◌, suc, length, take, drop, Some, None, MatchOption};
 ghost use Rattle.nf_model.specs.Pattern.{changes as changes_of};
+ghost use Rattle.nf_pattern.specs.Stated.{AreStated};
 ghost use Rattle.nf_pattern.specs.Successor.{IsAssignment, free, earliest, later, next_assignment, raised_at, RaisesAt, IsSameBefore, IsQuiet};
 
 use crate::choice::{change, first_choice, next_choice};
+use crate::stated::StatedLinks;
 use nf_model::State;
 
 // From which link on nothing differs from the base, and how many of the links from there on may.
@@ -112,13 +114,6 @@ fn raise_at(
     }
 }
 
-// The link has no state, neither in the base nor here.
-fn is_idle(base: Option<State>, state: Option<State>) -> bool
-    ensures { IsTrue result → (base ≡ None) × (state ≡ None) }
-{
-    base.is_none() && state.is_none()
-}
-
 // The next assignment with equally many changes that isn't the same up to this link, from which on there are so many changes and may be
 // so many; None where there is none.
 fn raise_from(
@@ -128,12 +123,15 @@ fn raise_from(
     same: usize,
     changes: u32,
     more: u32,
+    stated: &StatedLinks,
 ) -> Option<Raised>
     requires same { same ≤ length base.now }
     requires states { length states.old ≡ length base.now }
+    requires assigned { IsAssignment base.now unbounded.now states.old }
     requires unbounded { length unbounded.now ≡ length base.now }
     requires fewer { length base.now < 2 ^ 32 }
     requires valid { IsAssignment base.now unbounded.now base.now }
+    requires stated { AreStated base.now stated.now }
     requires counted { changes ≡ changes_of (drop same base.now) (drop same states.old) }
     requires free { more ≡ free (drop same base.now) }
     ensures { MatchOption result ((later same base.now unbounded.now states.old ≡ None) × (states.new ≡ states.old))
@@ -144,10 +142,7 @@ fn raise_from(
     let mut more = more;
     let mut i = same;
     while i > 0 {
-        i -= 1;
-        if is_idle(base[i], states[i]) {
-            continue;
-        }
+        i = stated.up_to(i - 1);
         changes += change(base[i], states[i]);
         if let Some(quiet) = raise_at(states, base, unbounded, i, changes, more) {
             return Some(Raised { link: i, quiet });
@@ -165,23 +160,26 @@ fn raise(
     unbounded: &[bool],
     same: usize,
     quiet: Quiet,
+    stated: &StatedLinks,
 ) -> Option<Raised>
     requires same { same ≤ length base.now }
     requires states { length states.old ≡ length base.now }
+    requires assigned { IsAssignment base.now unbounded.now states.old }
     requires unbounded { length unbounded.now ≡ length base.now }
     requires fewer { length base.now < 2 ^ 32 }
     requires valid { IsAssignment base.now unbounded.now base.now }
+    requires stated { AreStated base.now stated.now }
     requires quiet { IsQuiet base.now quiet states.old }
     ensures { MatchOption result ((later same base.now unbounded.now states.old ≡ None) × (states.new ≡ states.old))
         (λ raised. (later same base.now unbounded.now states.old ≡ Some states.new) × IsSameBefore same raised.link states.old states.new
         × IsQuiet base.now raised.quiet states.new) }
 {
     if quiet.link <= same {
-        raise_from(states, base, unbounded, quiet.link, 0, quiet.free)
+        raise_from(states, base, unbounded, quiet.link, 0, quiet.free, stated)
     } else {
         let changes = count_changes(&base[same..quiet.link], &states[same..quiet.link]);
         let more = count_free(&base[same..quiet.link]) + quiet.free;
-        raise_from(states, base, unbounded, same, changes, more)
+        raise_from(states, base, unbounded, same, changes, more, stated)
     }
 }
 
@@ -219,19 +217,22 @@ pub(crate) fn advance(
     unbounded: &[bool],
     same: usize,
     quiet: Quiet,
+    stated: &StatedLinks,
 ) -> Option<Raised>
     requires same { same ≤ length base.now }
     requires states { length states.old ≡ length base.now }
+    requires assigned { IsAssignment base.now unbounded.now states.old }
     requires unbounded { length unbounded.now ≡ length base.now }
     requires fewer { length base.now < 2 ^ 32 }
     requires valid { IsAssignment base.now unbounded.now base.now }
+    requires stated { AreStated base.now stated.now }
     requires quiet { IsQuiet base.now quiet states.old }
     ensures { MatchOption result ((next_assignment same base.now unbounded.now states.old ≡ None) × (states.new ≡ states.old))
         (λ raised. (next_assignment same base.now unbounded.now states.old ≡ Some states.new)
         × IsSameBefore same raised.link states.old states.new
         × IsQuiet base.now raised.quiet states.new) }
 {
-    if let Some(raised) = raise(states, base, unbounded, same, quiet) {
+    if let Some(raised) = raise(states, base, unbounded, same, quiet, stated) {
         return Some(raised);
     }
     let changes = count_changes(base, states);

@@ -3,6 +3,7 @@ ghost use Rattle.std.specs.Prelude.{◌≡◌, ◌^◌, ◌<◌, length, IfOk};
 
 use crate::assignments::{Quiet, advance};
 use crate::pattern::Pattern;
+use crate::stated::StatedLinks;
 use crate::trail::Trail;
 use nf_graph::{Hop, LinkId, LinkSets, NodeId};
 use nf_model::State;
@@ -19,6 +20,7 @@ pub(crate) struct Question {
     resetting: Vec<bool>,
     unbounded: Vec<bool>,
     base: Pattern,
+    stated: StatedLinks,
 }
 
 // Where a listing stands: before the first listed pattern, at one, or behind the last.
@@ -31,28 +33,15 @@ pub(crate) enum Stand {
 
 impl Model for Question {
     ghost use Rattle.nf_pattern.specs.Given.{Question as SeenQuestion, IsQuestion, coded_question};
+    ghost use Rattle.nf_pattern.specs.Stated.{AreStated};
 
     ghost Value = { SeenQuestion };
 
     ghost coded = { coded_question };
 
-    ghost view = { λ q. record {
-      nodes = q.nodes;
-      source = q.source;
-      hops = q.hops.items;
-      sets = record { active = q.active.items; resetting = q.resetting.items };
-      unbounded = q.unbounded.items;
-      base = q.base;
-    } };
+    ghost view = { λ q. record { nodes = q.nodes; source = q.source; hops = q.hops.items; sets = record { active = q.active.items; resetting = q.resetting.items }; unbounded = q.unbounded.items; base = q.base } };
 
-    ghost invariant = { λ q. IsQuestion (record {
-      nodes = q.nodes;
-      source = q.source;
-      hops = q.hops.items;
-      sets = record { active = q.active.items; resetting = q.resetting.items };
-      unbounded = q.unbounded.items;
-      base = q.base;
-    }) };
+    ghost invariant = { λ q. IsQuestion (record { nodes = q.nodes; source = q.source; hops = q.hops.items; sets = record { active = q.active.items; resetting = q.resetting.items }; unbounded = q.unbounded.items; base = q.base }) × AreStated q.base q.stated };
 }
 
 // Of each link, whether it is active.
@@ -87,7 +76,7 @@ fn resetting_flags(alloc: Global, sets: &LinkSets, links: usize) -> Result<Vec<b
 impl Question {
     ghost use Rattle.std.specs.Prelude.{◌≡◌, ◌≤◌, length, take, IfOk, MatchBool, MatchOption, Some, None};
     ghost use Rattle.nf_model.specs.Pattern.{Pattern as SeenPattern};
-    ghost use Rattle.nf_pattern.specs.Trail.{IsLeft, IsTrailOf};
+    ghost use Rattle.nf_pattern.specs.Trail.{IsTrailOf};
     ghost use Rattle.nf_pattern.specs.Successor.{IsAssignment, IsSameBefore, IsQuiet, next_assignment};
     ghost use Rattle.nf_pattern.specs.Given.{IsQuestion, IsListedBy, IsBarren, IsFirstFrom, NoneFrom, IsNext, NoneLeft, AtStart, UpTo};
     ghost use Rattle.nf_pattern.specs.declared.question.Stand.TheVariants.{Start};
@@ -103,16 +92,15 @@ impl Question {
         base: &Pattern,
         unbounded: &[bool],
     ) -> Result<Question, AllocError>
-        requires { IsQuestion
-            (record { nodes = nodes; source = source; hops = hops.now; sets = sets.now; unbounded = unbounded.now; base = base.now }) }
-        ensures { IfOk result (λ question. question
-            ≡ record { nodes = nodes; source = source; hops = hops.now; sets = sets.now; unbounded = unbounded.now; base = base.now }) }
+        requires { IsQuestion (record { nodes = nodes; source = source; hops = hops.now; sets = sets.now; unbounded = unbounded.now; base = base.now }) }
+        ensures { IfOk result (λ question. question ≡ record { nodes = nodes; source = source; hops = hops.now; sets = sets.now; unbounded = unbounded.now; base = base.now }) }
     {
         let active = active_flags(alloc, sets, hops.len())?;
         let resetting = resetting_flags(alloc, sets, hops.len())?;
         let hops = hops.to_vec(alloc)?;
         let unbounded = unbounded.to_vec(alloc)?;
         let base = base.copy(alloc)?;
+        let stated = StatedLinks::new(alloc, base.states())?;
         Ok(Question {
             nodes,
             source,
@@ -121,6 +109,7 @@ impl Question {
             resetting,
             unbounded,
             base,
+            stated,
         })
     }
 
@@ -151,7 +140,13 @@ impl Question {
         if trail.is_lost() {
             return Some(0);
         }
-        if trail.extend(&self.hops, states, &self.resetting, self.source) {
+        if trail.extend(
+            &self.hops,
+            states,
+            &self.resetting,
+            self.source,
+            &self.stated,
+        ) {
             return None;
         }
         Some(trail.depth() + 1)
@@ -164,23 +159,28 @@ impl Question {
         requires same { same ≤ length self.now.base }
         requires quiet { IsQuiet self.now.base quiet.old states.old }
         ensures quiet { IsQuiet self.now.base quiet.new states.new }
-        ensures found { MatchOption result ((next_assignment same self.now.base self.now.unbounded states.old ≡ None)
-            × (states.new ≡ states.old))
-            (λ link. (next_assignment same self.now.base self.now.unbounded states.old ≡ Some states.new)
-            × IsSameBefore same link states.old states.new) }
+        ensures found { MatchOption result ((next_assignment same self.now.base self.now.unbounded states.old ≡ None) × (states.new ≡ states.old))
+            (λ link. (next_assignment same self.now.base self.now.unbounded states.old ≡ Some states.new) × IsSameBefore same link states.old states.new) }
     {
-        let raised = advance(states, self.base.states(), &self.unbounded, same, *quiet)?;
+        let raised = advance(
+            states,
+            self.base.states(),
+            &self.unbounded,
+            same,
+            *quiet,
+            &self.stated,
+        )?;
         *quiet = raised.quiet;
         Some(raised.link)
     }
 
     // The trail comes back to where these states are the same.
     fn retreat(&self, link: usize, trail: &mut Trail)
-        requires left { IsLeft self.now.hops trail.old }
-        ensures { (before after : SeenPattern) → IsTrailOf self.now before trail.old → length after ≡ length before
+        requires left { (before : SeenPattern) × IsAssignment self.now.base self.now.unbounded before × IsTrailOf self.now before trail.old }
+        ensures { (before after : SeenPattern) → IsTrailOf self.now before trail.old → IsAssignment self.now.base self.now.unbounded before
             → take link after ≡ take link before → IsTrailOf self.now after trail.new }
     {
-        trail.retreat(&self.hops, link);
+        trail.retreat(&self.hops, link, &self.stated);
     }
 
     // On to the first listed pattern from this assignment on; whether there is one.
@@ -254,8 +254,7 @@ impl Question {
         ensures assigned { IsAssignment self.now.base self.now.unbounded states.new }
         ensures trail { IsTrailOf self.now states.new trail.new }
         ensures quiet { IsQuiet self.now.base quiet.new states.new }
-        ensures found { MatchBool result (IsNext self.now (last_of stand states.old) states.new)
-            (NoneLeft self.now (last_of stand states.old)) }
+        ensures found { MatchBool result (IsNext self.now (last_of stand states.old) states.new) (NoneLeft self.now (last_of stand states.old)) }
     {
         match stand {
             Stand::Start => self.first(states, trail, quiet),

@@ -2,6 +2,7 @@
 use crate::entered::{chain, ends, is_lost, strands};
 use crate::firm::FirmLinks;
 use crate::firming::firm_links;
+use crate::stated::StatedLinks;
 use crate::walking::{TightLinks, is_tight};
 use nf_graph::{Hop, LinkId, NodeId};
 use nf_model::State;
@@ -22,11 +23,13 @@ pub(crate) struct Trail {
 
 impl Trail {
     ghost use Rattle.std.specs.Prelude.{◌≡◌, ◌⊎◌, ◌^◌, ◌<◌, ◌≤◌, ℕ, suc, List, Bool, length, IfOk, MatchBool};
+    ghost use Rattle.nf_model.specs.Walk.{Hop as SeenHop};
     ghost use Rattle.nf_model.specs.Pattern.{Pattern as SeenPattern};
     ghost use Rattle.nf_graph.specs.Graph.{AreBelow};
     ghost use Rattle.nf_pattern.specs.Forest.{Closes};
-    ghost use Rattle.nf_pattern.specs.Entered.{Strands, AreEnds, IsLost};
-    ghost use Rattle.nf_pattern.specs.Trail.{Follows, IsLeft, IsOnWay};
+    ghost use Rattle.nf_pattern.specs.Entered.{Strands, AreEnds, DoEndsCarry, IsLost};
+    ghost use Rattle.nf_pattern.specs.Stated.{AreStated};
+    ghost use Rattle.nf_pattern.specs.Trail.{Follows, IsLeft, IsLeftBy, IsOnWay};
 
     // No link was looked at.
     pub(crate) fn new(
@@ -90,8 +93,8 @@ impl Trail {
         requires more { self.old.depth < length hops.now }
         ensures follows { Follows source hops.now resetting.now states.now self.new }
         ensures way { IsOnWay self.old self.new }
-        ensures entered { MatchBool result (self.new.depth ≡ suc self.old.depth)
-            ((self.new.depth ≡ self.old.depth) × (Strands source hops.now resetting.now states.now self.new.ends.items self.new.depth
+        ensures entered { MatchBool result (self.new.depth ≡ suc self.old.depth) ((self.new.depth ≡ self.old.depth)
+            × (Strands source hops.now resetting.now states.now self.new.ends.items self.new.depth
             ⊎ Closes hops.now states.now self.new.depth)) }
     {
         let link = LinkId(self.depth as u32);
@@ -117,25 +120,41 @@ impl Trail {
         true
     }
 
-    // On to the last link, or to the first one that closes a cycle or strands a node; whether it is there.
+    // On over links without a state; whether a link is left.
+    fn pass(&mut self, hops: &[Hop], stated: &StatedLinks) -> bool
+        ensures kept { (source : ℕ) (resetting : List Bool) (p : SeenPattern) → AreStated p stated.now → length p ≡ length hops.now
+            → DoEndsCarry resetting p self.old.ends.items → Follows source hops.now resetting p self.old
+            → Follows source hops.now resetting p self.new × (self.old.depth ≤ self.new.depth) }
+        ensures way { IsOnWay self.old self.new }
+        ensures left { MatchBool result (self.new.depth < length hops.now) (length hops.now ≤ self.new.depth) }
+    {
+        self.depth = stated.from(self.depth);
+        self.depth < hops.len()
+    }
+
+    // On to the last link, or to the first one that closes a cycle or strands a node; whether it is there. Those without a state are
+    // passed by.
     pub(crate) fn extend(
         &mut self,
         hops: &[Hop],
         states: &[Option<State>],
         resetting: &[bool],
         source: NodeId,
+        stated: &StatedLinks,
     ) -> bool
         requires states { length states.now ≡ length hops.now }
         requires resetting { length resetting.now ≡ length hops.now }
         requires fewer { length hops.now < 2 ^ 32 }
+        requires stated { AreStated states.now stated.now }
+        requires ends { DoEndsCarry resetting.now states.now self.old.ends.items }
         requires follows { Follows source hops.now resetting.now states.now self.old }
         ensures follows { Follows source hops.now resetting.now states.now self.new }
         ensures way { IsOnWay self.old self.new }
-        ensures extended { MatchBool result (self.new.depth ≡ length hops.now)
-            ((self.new.depth < length hops.now) × (Strands source hops.now resetting.now states.now self.new.ends.items self.new.depth
+        ensures extended { MatchBool result (self.new.depth ≡ length hops.now) ((self.new.depth < length hops.now)
+            × (Strands source hops.now resetting.now states.now self.new.ends.items self.new.depth
             ⊎ Closes hops.now states.now self.new.depth)) }
     {
-        while self.depth < hops.len() {
+        while self.pass(hops, stated) {
             if !self.enter(hops, states, resetting, source) {
                 return false;
             }
@@ -148,8 +167,8 @@ impl Trail {
         requires fewer { length hops.now < 2 ^ 32 }
         requires left { IsLeft hops.now self.old }
         requires some { 0 < self.old.depth }
-        ensures kept { (source : ℕ) (resetting : List Bool) (p : SeenPattern) → Follows source hops.now resetting p self.old
-            → Follows source hops.now resetting p self.new }
+        ensures kept { (source : ℕ) (resetting : List Bool) (p : SeenPattern)
+            → Follows source hops.now resetting p self.old → Follows source hops.now resetting p self.new }
         ensures way { IsOnWay self.old self.new }
         ensures depth { suc self.new.depth ≡ self.old.depth }
     {
@@ -158,16 +177,30 @@ impl Trail {
         self.tight.take_back(hops, link);
     }
 
+    // Back over links without a state, up to behind one that has a state or to behind the first.
+    fn pass_back(&mut self, stated: &StatedLinks)
+        requires stated { (p : SeenPattern) × AreStated p stated.now }
+        requires some { 0 < self.old.depth }
+        ensures kept { (source : ℕ) (hops : List SeenHop) (resetting : List Bool) (p : SeenPattern) → AreStated p stated.now
+            → Follows source hops resetting p self.old → Follows source hops resetting p self.new }
+        ensures way { IsOnWay self.old self.new }
+        ensures some { 0 < self.new.depth }
+        ensures back { self.new.depth ≤ self.old.depth }
+    {
+        self.depth = stated.up_to(self.depth - 1) + 1;
+    }
+
     // Back until no link from this one on is left.
-    pub(crate) fn retreat(&mut self, hops: &[Hop], link: usize)
+    pub(crate) fn retreat(&mut self, hops: &[Hop], link: usize, stated: &StatedLinks)
         requires fewer { length hops.now < 2 ^ 32 }
-        requires left { IsLeft hops.now self.old }
-        ensures kept { (source : ℕ) (resetting : List Bool) (p : SeenPattern) → Follows source hops.now resetting p self.old
-            → Follows source hops.now resetting p self.new }
+        requires left { IsLeftBy hops.now stated.now self.old }
+        ensures kept { (source : ℕ) (resetting : List Bool) (p : SeenPattern) → AreStated p stated.now
+            → Follows source hops.now resetting p self.old → Follows source hops.now resetting p self.new }
         ensures way { IsOnWay self.old self.new }
         ensures depth { self.new.depth ≤ link }
     {
         while self.depth > link {
+            self.pass_back(stated);
             self.leave(hops);
         }
         self.firm.retreat(link);

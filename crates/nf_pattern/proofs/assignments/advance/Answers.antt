@@ -29,3 +29,9 @@ returns c =
 
 pub fill-quiet-requires-clause-unbounded : goal.fill-quiet-requires-clause-unbounded
 fill-quiet-requires-clause-unbounded c = c.requires.unbounded
+
+pub raise-requires-clause-assigned : goal.raise-requires-clause-assigned
+raise-requires-clause-assigned c = c.requires.assigned
+
+pub raise-requires-clause-stated : goal.raise-requires-clause-stated
+raise-requires-clause-stated c = c.requires.stated

@@ -34,3 +34,9 @@ raise_from-requires-else-quiet-same-clause-same c = c.requires.same
 
 pub raise_from-requires-else-quiet-same-clause-fewer : goal.raise_from-requires-else-quiet-same-clause-fewer
 raise_from-requires-else-quiet-same-clause-fewer c = c.requires.fewer
+
+pub raise_from-requires-else-quiet-same-clause-assigned : goal.raise_from-requires-else-quiet-same-clause-assigned
+raise_from-requires-else-quiet-same-clause-assigned c = c.requires.assigned
+
+pub raise_from-requires-else-quiet-same-clause-stated : goal.raise_from-requires-else-quiet-same-clause-stated
+raise_from-requires-else-quiet-same-clause-stated c = c.requires.stated

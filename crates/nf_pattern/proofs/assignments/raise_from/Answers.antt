@@ -1,9 +1,9 @@
-use Rattle.std.proofs.Common.{◌≡◌, ◌<◌, ◌+◌, ◌-◌, length, get_or, drop, None, ap, subst, refl, ◌∙◌, arith}
+use Rattle.std.proofs.Common.{◌≡◌, suc, ◌<◌, ◌+◌, length, get_or, drop, None, ap, subst, refl, ◌∙◌, arith}
 use Rattle.nf_model.specs.Pattern.{Pattern}
 use Rattle.nf_pattern.specs.Successor.{change, RaisesAt, raised_at}
 use Rattle.nf_pattern.proofs.Counting.{few_changes}
 use Rattle.nf_pattern.proofs.Quiet.{free_few}
-use Rattle.nf_pattern.proofs.Raising.{last_from, free_behind, raised_later, raised_same, last_kept, last_idle, last_all}
+use Rattle.nf_pattern.proofs.Raising.{last_from, free_behind, raised_later, raised_same, last_kept, last_stated, last_all}
 use Rattle.nf_pattern.proofs.assignments.raise_from.Goals as goal
 
 pub loop-i-init : goal.loop-i-init
@@ -17,26 +17,31 @@ loop-i-init c = record {
 
 pub slice_copy_out-change : goal.slice_copy_out-change
 slice_copy_out-change c =
-    let k = ap length c.loop-i.invariant.kept in let w = c.loop-i.invariant.last.within in let n = c.requires.states in omega arith
+    let k = ap length c.loop-i.invariant.kept in let w = c.loop-i.invariant.last.within in let l = (c.up_to-i.ensures c.args.base.now c.requires.stated).0 in let n = c.requires.states in omega arith
 
 pub overflow_add-changes : goal.overflow_add-changes
 overflow_add-changes c = let f = c.loop-i.invariant.last.few in let s = c.change-changes.ensures.small in omega arith
 
 pub raise_at-requires-clause-free : goal.raise_at-requires-clause-free
-raise_at-requires-clause-free c = free_behind c.args.base.now c.args.unbounded.now c.args.states.now c.args.same (c.loop-i.i - 1) c.loop-i.i c.loop-i.changes c.loop-i.more c.loop-i.invariant.last (omega arith)
+raise_at-requires-clause-free c =
+    let last = last_stated c.args.base.now c.args.unbounded.now c.args.states.now c.args.same c.up_to-i.result c.loop-i.i c.loop-i.changes c.loop-i.more c.loop-i.invariant.last
+    (let some = c.loop-i-test.true in omega arith) c.loop-i.invariant.below c.requires.assigned c.requires.unbounded (c.up_to-i.ensures c.args.base.now c.requires.stated) in
+    free_behind c.args.base.now c.args.unbounded.now c.args.states.now c.args.same c.up_to-i.result (suc c.up_to-i.result) c.loop-i.changes c.loop-i.more last refl
     c.requires.states c.requires.unbounded
 
 pub returns-in-Some : goal.returns-in-Some
 returns-in-Some c =
-    let less : c.loop-i.i - 1 < c.args.same = (let b = c.loop-i.invariant.below in omega arith) in
-    let raised : RaisesAt c.args.base.now c.args.unbounded.now c.args.states.now (c.loop-i.i - 1) (c.loop-i.changes + c.change-changes.result) c.raise_at.new.states =
-    subst (λ (x : Pattern). RaisesAt c.args.base.now c.args.unbounded.now x (c.loop-i.i - 1) (c.loop-i.changes + c.change-changes.result) c.raise_at.new.states) c.loop-i.invariant.kept c.in-Some.ensures.0 in (
-      raised_later c.args.base.now c.args.unbounded.now c.args.states.now c.args.same (c.loop-i.i - 1) c.loop-i.i c.loop-i.changes c.loop-i.more c.loop-i.invariant.last (omega arith)
+    let last = last_stated c.args.base.now c.args.unbounded.now c.args.states.now c.args.same c.up_to-i.result c.loop-i.i c.loop-i.changes c.loop-i.more c.loop-i.invariant.last
+    (let some = c.loop-i-test.true in omega arith) c.loop-i.invariant.below c.requires.assigned c.requires.unbounded (c.up_to-i.ensures c.args.base.now c.requires.stated) in
+    let less : c.up_to-i.result < c.args.same = (let b = c.loop-i.invariant.below in let l = (c.up_to-i.ensures c.args.base.now c.requires.stated).0 in omega arith) in
+    let raised : RaisesAt c.args.base.now c.args.unbounded.now c.args.states.now c.up_to-i.result (c.loop-i.changes + c.change-changes.result) c.raise_at.new.states =
+    subst (λ (x : Pattern). RaisesAt c.args.base.now c.args.unbounded.now x c.up_to-i.result (c.loop-i.changes + c.change-changes.result) c.raise_at.new.states) c.loop-i.invariant.kept c.in-Some.ensures.0 in (
+      raised_later c.args.base.now c.args.unbounded.now c.args.states.now c.args.same c.up_to-i.result (suc c.up_to-i.result) c.loop-i.changes c.loop-i.more last refl
           c.requires.states c.requires.unbounded c.change-changes.result (c.loop-i.changes + c.change-changes.result)
-          (subst (λ (x : Pattern). c.change-changes.result ≡ change (get_or c.args.base.now (c.loop-i.i - 1) None) (get_or x (c.loop-i.i - 1) None)) c.loop-i.invariant.kept c.change-changes.ensures.value) refl
+          (subst (λ (x : Pattern). c.change-changes.result ≡ change (get_or c.args.base.now c.up_to-i.result None) (get_or x c.up_to-i.result None)) c.loop-i.invariant.kept c.change-changes.ensures.value) refl
           c.raise_at.new.states less raised,
-      raised_same c.args.base.now c.args.unbounded.now c.args.states.now c.args.same (c.loop-i.i - 1) (c.loop-i.changes + c.change-changes.result) c.raise_at.new.states less
-          (let w = c.loop-i.invariant.last.within in let n = c.requires.states in omega arith) raised,
+      raised_same c.args.base.now c.args.unbounded.now c.args.states.now c.args.same c.up_to-i.result (c.loop-i.changes + c.change-changes.result) c.raise_at.new.states less
+          (let w = c.loop-i.invariant.last.within in let l = (c.up_to-i.ensures c.args.base.now c.requires.stated).0 in let n = c.requires.states in omega arith) raised,
       c.in-Some.ensures.1,
     )
 
@@ -45,15 +50,17 @@ overflow_add-more c = let f = c.loop-i.invariant.last.few_free in let s = c.chan
 
 pub loop-i-preserved : goal.loop-i-preserved
 loop-i-preserved c =
-    let is : c.change-changes.result ≡ change (get_or c.args.base.now (c.loop-i.i - 1) None) (get_or c.args.states.now (c.loop-i.i - 1) None) =
-    subst (λ (x : Pattern). c.change-changes.result ≡ change (get_or c.args.base.now (c.loop-i.i - 1) None) (get_or x (c.loop-i.i - 1) None)) c.loop-i.invariant.kept c.change-changes.ensures.value in
+    let last = last_stated c.args.base.now c.args.unbounded.now c.args.states.now c.args.same c.up_to-i.result c.loop-i.i c.loop-i.changes c.loop-i.more c.loop-i.invariant.last
+    (let some = c.loop-i-test.true in omega arith) c.loop-i.invariant.below c.requires.assigned c.requires.unbounded (c.up_to-i.ensures c.args.base.now c.requires.stated) in
+    let is : c.change-changes.result ≡ change (get_or c.args.base.now c.up_to-i.result None) (get_or c.args.states.now c.up_to-i.result None) =
+    subst (λ (x : Pattern). c.change-changes.result ≡ change (get_or c.args.base.now c.up_to-i.result None) (get_or x c.up_to-i.result None)) c.loop-i.invariant.kept c.change-changes.ensures.value in
     record {
       kept = c.in_default.ensures.1 ∙ c.loop-i.invariant.kept;
-      below = (let b = c.loop-i.invariant.below in omega arith);
-      last = last_kept c.args.base.now c.args.unbounded.now c.args.states.now c.args.same (c.loop-i.i - 1) c.loop-i.i c.loop-i.changes c.loop-i.more c.loop-i.invariant.last (omega arith)
+      below = (let b = c.loop-i.invariant.below in let l = (c.up_to-i.ensures c.args.base.now c.requires.stated).0 in omega arith);
+      last = last_kept c.args.base.now c.args.unbounded.now c.args.states.now c.args.same c.up_to-i.result (suc c.up_to-i.result) c.loop-i.changes c.loop-i.more last refl
           c.requires.states c.requires.unbounded c.change-changes.result (c.loop-i.changes + c.change-changes.result) is refl c.change-more.result (c.loop-i.more + c.change-more.result) c.change-more.ensures.value refl
-          (subst (λ (x : Pattern). raised_at c.args.base.now c.args.unbounded.now x (c.loop-i.i - 1) (c.loop-i.changes + c.change-changes.result) ≡ None) c.loop-i.invariant.kept c.in_default.ensures.0)
-          (let b = c.loop-i.invariant.below in omega arith) c.change-changes.ensures.small c.change-more.ensures.small;
+          (subst (λ (x : Pattern). raised_at c.args.base.now c.args.unbounded.now x c.up_to-i.result (c.loop-i.changes + c.change-changes.result) ≡ None) c.loop-i.invariant.kept c.in_default.ensures.0)
+          (let b = c.loop-i.invariant.below in let l = (c.up_to-i.ensures c.args.base.now c.requires.stated).0 in omega arith) c.change-changes.ensures.small c.change-more.ensures.small;
     }
 
 pub returns : goal.returns
@@ -61,13 +68,3 @@ returns c = (last_all c.args.base.now c.args.unbounded.now c.args.states.now c.a
 
 pub raise_at-requires-clause-unbounded : goal.raise_at-requires-clause-unbounded
 raise_at-requires-clause-unbounded c = c.requires.unbounded
-
-pub loop-i-preserved-then-is_idle : goal.loop-i-preserved-then-is_idle
-loop-i-preserved-then-is_idle c =
-    let told = c.is_idle.ensures c.if-is_idle.true in
-    record {
-      kept = c.loop-i.invariant.kept;
-      below = (let b = c.loop-i.invariant.below in omega arith);
-      last = last_idle c.args.base.now c.args.unbounded.now c.args.states.now c.args.same (c.loop-i.i - 1) c.loop-i.i c.loop-i.changes c.loop-i.more c.loop-i.invariant.last (omega arith)
-          c.requires.states c.requires.unbounded told.0 (subst (λ (x : Pattern). get_or x (c.loop-i.i - 1) None ≡ None) c.loop-i.invariant.kept told.1) (let b = c.loop-i.invariant.below in omega arith);
-    }

@@ -8,7 +8,7 @@ pub returns-then-can_carry : goal.returns-then-can_carry
 returns-then-can_carry c =
     let here : IsHop c.args.hops.now c.args.link c.index-hops-link.result = hop_there c.args.hops.now c.args.link c.args.link c.index-hops-link.result c.requires.link refl c.index-hops-link.is in
     let at = c.index.ensures ∙ ap (λ (h : Hop). h.head) c.hop.view_is in
-    end_noted c.args.hops.now c.args.resetting.now c.args.base.now c.args.link c.index-hops-link.result here c.index.result at c.args.ends.now
+    end_noted c.args.hops.now c.args.resetting.now c.args.base.now c.args.link c.if-can_carry.ensures c.index-hops-link.result here c.index.result at c.args.ends.now
     (let below = c.requires.below.heads c.args.link c.index-hops-link.result here in omega arith) c.requires.ends
 
 pub returns-else-can_carry : goal.returns-else-can_carry

@@ -17,4 +17,4 @@ invariant_of-result c = standing_start c.in_ok-question.question _ c.in_ok-curre
     c.in_ok-current.ensures c.in_ok-trail.ensures refl refl
 
 pub trail-requires : goal.trail-requires
-trail-requires c = record { question = subst IsQuestion c.question.view_is c.question.invariant }
+trail-requires c = record { question = subst IsQuestion c.question.view_is c.question.invariant.0 }

@@ -24,7 +24,10 @@ returns-in-Some-clause-found c = match_after c.args.self.now c.requires.question
     (let n = assigned_length c.args.self.now.base c.args.self.now.unbounded c.args.states.now c.requires.assigned in omega arith) c.in-Some.ensures.found.0 c.seek.ensures.found
 
 pub seek-requires-clause-trail : goal.seek-requires-clause-trail
-seek-requires-clause-trail c = c.retreat.ensures c.args.states.now c.advance.new.states c.requires.trail c.advance.auto.states c.in-Some.ensures.found.1.1
+seek-requires-clause-trail c = c.retreat.ensures c.args.states.now c.advance.new.states c.requires.trail c.requires.assigned c.in-Some.ensures.found.1.1
 
 pub returns-in-None-clause-trail : goal.returns-in-None-clause-trail
 returns-in-None-clause-trail c = subst (λ (x : Pattern). IsTrailOf c.args.self.now x c.args.trail.now) (sym c.in-None.ensures.found.1) c.requires.trail
+
+pub retreat-requires : goal.retreat-requires
+retreat-requires c = record { left = (c.args.states.now, c.requires.assigned, c.requires.trail) }

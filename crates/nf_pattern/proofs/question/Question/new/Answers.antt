@@ -1,12 +1,17 @@
 use Rattle.std.proofs.Common.{sym, subst}
+use Rattle.nf_model.specs.Pattern.{Pattern}
 use Rattle.nf_pattern.specs.Given.{Question, IsQuestion}
+use Rattle.nf_pattern.specs.Stated.{AreStated}
 use Rattle.nf_pattern.proofs.Seeking.{same_question}
 use Rattle.nf_pattern.proofs.question.Question.new.Goals as goal
 
 pub invariant_of-result : goal.invariant_of-result
-invariant_of-result c = subst (λ (q : Question). IsQuestion q)
-    (sym (same_question c.args.nodes c.args.source (c.in_ok-hops.ensures.items_if_clones_equal (λ x y e. e)) c.in_ok-active.ensures c.in_ok-resetting.ensures (c.in_ok-unbounded.ensures.items_if_clones_equal (λ x y e. e)) c.in_ok-base.ensures))
-    c.requires
+invariant_of-result c = (
+  subst (λ (q : Question). IsQuestion q)
+      (sym (same_question c.args.nodes c.args.source (c.in_ok-hops.ensures.items_if_clones_equal (λ x y e. e)) c.in_ok-active.ensures c.in_ok-resetting.ensures (c.in_ok-unbounded.ensures.items_if_clones_equal (λ x y e. e)) c.in_ok-base.ensures))
+      c.requires,
+  subst (λ (base : Pattern). AreStated base c.in_ok-stated.stated) c.states.ensures c.in_ok-stated.ensures,
+)
 
 pub returns : goal.returns
 returns c = same_question c.args.nodes c.args.source (c.in_ok-hops.ensures.items_if_clones_equal (λ x y e. e)) c.in_ok-active.ensures c.in_ok-resetting.ensures (c.in_ok-unbounded.ensures.items_if_clones_equal (λ x y e. e)) c.in_ok-base.ensures

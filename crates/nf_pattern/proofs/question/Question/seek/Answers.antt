@@ -31,7 +31,7 @@ loop-same-smaller c = step_fewer c.args.self.now c.requires.question c.in-Some.s
 pub loop-same-preserved : goal.loop-same-preserved
 loop-same-preserved c = record {
   sought = sought_more c.args.self.now c.requires.question c.args.states.now c.loop-same.states c.loop-same.invariant.sought c.in-Some.same c.in-Some.ensures.found.1 c.advance.new.states c.in-Some-advance.ensures.found.0;
-  trail = c.retreat.ensures c.loop-same.states c.advance.new.states c.in-Some.ensures.trail c.advance.auto.states c.in-Some-advance.ensures.found.1.1;
+  trail = c.retreat.ensures c.loop-same.states c.advance.new.states c.in-Some.ensures.trail c.loop-same.invariant.sought.assigned c.in-Some-advance.ensures.found.1.1;
   quiet = c.in-Some-advance.ensures.quiet;
 }
 
@@ -43,3 +43,6 @@ returns-clause-found c = sought_found c.args.self.now c.requires.question c.args
 
 pub returns-in_default-advance-clause-trail : goal.returns-in_default-advance-clause-trail
 returns-in_default-advance-clause-trail c = subst (λ (x : Pattern). IsTrailOf c.args.self.now x c.failing.new.trail) (sym c.in_default-advance.ensures.found.1) c.in-Some.ensures.trail
+
+pub retreat-requires : goal.retreat-requires
+retreat-requires c = record { left = (c.loop-same.states, c.loop-same.invariant.sought.assigned, c.in-Some.ensures.trail) }

@@ -1,13 +1,15 @@
 use Rattle.std.proofs.Common.{length, ◌-◌}
+use Rattle.nf_pattern.specs.Entered.{DoEndsCarry}
 use Rattle.nf_pattern.specs.Trail.{Follows, IsOnWay}
 use Rattle.nf_pattern.proofs.trail.Trail.extend.Given as goal
 
 -- the links so far were looked at
-abbrev pub invariant-loop-self : goal.invariant-loop-self
-invariant-loop-self l = record {
+abbrev pub invariant-loop-source : goal.invariant-loop-source
+invariant-loop-source l = record {
   follows : Follows l.fn.source l.hops l.resetting l.states l.self;
   way : IsOnWay l.fn.self l.self;
+  ends : DoEndsCarry l.resetting l.states l.self.ends.items;
 }
 
-abbrev pub decreases-loop-self : goal.decreases-loop-self
-decreases-loop-self l = length l.hops - l.self.depth
+abbrev pub decreases-loop-source : goal.decreases-loop-source
+decreases-loop-source l = length l.hops - l.self.depth

@@ -1,13 +1,14 @@
 use Rattle.std.proofs.Common.{◌-◌, ℕ, List, Bool}
 use Rattle.nf_model.specs.Pattern.{Pattern}
-use Rattle.nf_pattern.specs.Trail.{Follows, IsLeft, IsOnWay}
+use Rattle.nf_pattern.specs.Stated.{AreStated}
+use Rattle.nf_pattern.specs.Trail.{Follows, IsLeftBy, IsOnWay}
 use Rattle.nf_pattern.proofs.trail.Trail.retreat.Given as goal
 
 -- what the trail followed at first, it follows still
 abbrev pub invariant-loop-self : goal.invariant-loop-self
 invariant-loop-self l = record {
-  left : IsLeft l.hops l.self;
-  kept : (source : ℕ) (resetting : List Bool) (p : Pattern) → Follows source l.hops resetting p l.fn.self → Follows source l.hops resetting p l.self;
+  left : IsLeftBy l.hops l.stated l.self;
+  kept : (source : ℕ) (resetting : List Bool) (p : Pattern) → AreStated p l.stated → Follows source l.hops resetting p l.fn.self → Follows source l.hops resetting p l.self;
   way : IsOnWay l.fn.self l.self;
 }
 
