@@ -86,15 +86,9 @@ ListedStatesAreChoices = (nodes source : ℕ) (hops : List Hop) (sets : Sets) (u
 
 -- ---- what a narrowed search answers
 
--- The first pattern that is accepted with the forced states is what the search finds, at some place: where so few assignments come
--- before it that its place is within the budget, or where its place is known to be. Where the place of any pattern is known to be beyond,
--- and none before it is accepted, the search finds nothing; and where more patterns are gone through than the budget allows, so are they
--- in the whole listing.
+-- The first pattern that is accepted with the forced states is what the search finds, at some place, where that is known to be within the
+-- budget. Where the place of any pattern is known to be beyond, and none before it is accepted, the search finds nothing.
 pub record NarrowedSearchAnswers : Type 0 where
-  pub found : (passes : Passing) (net : Network) (sets : Sets) (rate : ℚ) (base forced : Pattern) (listing narrow : List Pattern) (choices : Choices) (budget place : ℕ) (p : Pattern)
-      (flows slopes : List ℚ) → Narrows net sets rate base forced listing narrow → ((q : Pattern) → IsListedIn net sets q → AreIn choices q) → HasPlace narrow place p
-      → IsAccepted passes net sets rate (filled forced p) → IsSolution net sets rate (filled forced p) flows slopes → NoneFilledBefore passes net sets rate forced narrow place
-      → ways_before choices base (filled forced p) < budget → (there : ℕ) × IsSearch passes net sets rate base budget (Found there (filled forced p) flows slopes)
   pub within : (passes : Passing) (net : Network) (sets : Sets) (rate : ℚ) (base forced : Pattern) (listing narrow : List Pattern) (budget place : ℕ) (p : Pattern) (flows slopes : List ℚ)
       → Narrows net sets rate base forced listing narrow → HasPlace narrow place p → IsAccepted passes net sets rate (filled forced p) → IsSolution net sets rate (filled forced p) flows slopes
       → NoneFilledBefore passes net sets rate forced narrow place → ((there : ℕ) → HasPlace listing there (filled forced p) → there ≤ budget)
@@ -102,6 +96,3 @@ pub record NarrowedSearchAnswers : Type 0 where
   pub beyond : (passes : Passing) (net : Network) (sets : Sets) (rate : ℚ) (base forced : Pattern) (listing narrow : List Pattern) (budget place : ℕ) (p : Pattern)
       → Narrows net sets rate base forced listing narrow → HasPlace narrow place p → NoneFilledBefore passes net sets rate forced narrow place
       → ((there : ℕ) → HasPlace listing there (filled forced p) → budget < there) → IsSearch passes net sets rate base budget OverBudget
-  pub over : (passes : Passing) (net : Network) (sets : Sets) (rate : ℚ) (base forced : Pattern) (listing narrow : List Pattern) (budget : ℕ)
-      → Narrows net sets rate base forced listing narrow → budget < length narrow → NoneFilledBefore passes net sets rate forced narrow (suc budget)
-      → IsSearch passes net sets rate base budget OverBudget
