@@ -3,7 +3,7 @@ use Rattle.std.proofs.Common.{◌≡◌, ℕ, ◌+◌, ◌<◌, List, length, dr
 use Rattle.std.proofs.lemmas.List.{at_drop_more}
 use Rattle.nf_work.specs.Checked.{◌>>=◌}
 use Rattle.nf_lines.specs.Words.{ReadLine, read_lines, content_lines}
-use Rattle.nf_lines.specs.Faults.{LineFault as TextLineFault, first_fault}
+use Rattle.nf_lines.specs.Faults.{LineFault, first_fault}
 use Rattle.nf_text.specs.declared.TextFault.{TextFault}
 use Rattle.nf_text.specs.Reading.{Tells}
 use Rattle.nf_formats.specs.Named.{Named}
@@ -11,7 +11,7 @@ use Rattle.nf_routes_lists.specs.declared.RoutesRule.{RoutesRule}
 use Rattle.nf_routes_lists.specs.RoutesFile.{NamedRoute, RoutesDraft, RoutesBroken, add_route_line, in_routes_line, add_route_lines, routes_draft, routes_ended, routes_by_bytes, routes_of_lines, unless_circle, routes_in}
 use Rattle.nf_routes_file.specs.declared.routes.Routes.{Routes}
 use Rattle.nf_routes_file.specs.declared.fault.RoutesFault.{RoutesFault}
-use Rattle.nf_routes_file.specs.declared.fault.LineFault.{LineFault}
+use Rattle.nf_routes_file.specs.declared.fault.RoutesLineFault.{RoutesLineFault}
 use Rattle.nf_routes_file.specs.Files.{IfBroken, fault_of_text, IfRule, fault_in_line}
 
 -- of a rule that is broken, what follows
@@ -31,18 +31,18 @@ module _ (n : Named) (draft : RoutesDraft) (lines : List ReadLine) (i : ℕ) (li
   pub line_adds : (next : RoutesDraft) → add_route_line n draft line.words ≡ Ok next → add_route_lines n draft (drop i lines) ≡ add_route_lines n next (drop (i + 1) lines)
   line_adds next e = from_line ∙ ap read_on e
 
-  pub line_breaks : (fault : LineFault) → IfRule fault (λ rule. add_route_line n draft line.words ≡ Err rule)
+  pub line_breaks : (fault : RoutesLineFault) → IfRule fault (λ rule. add_route_line n draft line.words ≡ Err rule)
       → IfBroken (fault_in_line line.number fault) (λ broken. add_route_lines n draft (drop i lines) ≡ Err broken)
-  line_breaks (LineFault.Broken rule) e = from_line ∙ ap read_on e
-  line_breaks LineFault.Memory e = tt
+  line_breaks (RoutesLineFault.Broken rule) e = from_line ∙ ap read_on e
+  line_breaks RoutesLineFault.Memory e = tt
 
 -- ---- the whole text
 module _ (n : Named) (text : List ℕ) where
   -- a line with a fault
   pub bytes_break : (fault : TextFault) → Tells fault (first_fault text) → IfBroken (fault_of_text fault) (λ broken. routes_in n text ≡ Err broken)
   unfolding routes_in routes_of_lines
-  bytes_break (TextFault.NotAscii line) e = ap (λ (o : Option TextLineFault). routes_by_bytes o (routes_draft n (content_lines (read_lines text)) >>= routes_ended) >>= unless_circle n) e
-  bytes_break (TextFault.LongLine line) e = ap (λ (o : Option TextLineFault). routes_by_bytes o (routes_draft n (content_lines (read_lines text)) >>= routes_ended) >>= unless_circle n) e
+  bytes_break (TextFault.NotAscii line) e = ap (λ (o : Option LineFault). routes_by_bytes o (routes_draft n (content_lines (read_lines text)) >>= routes_ended) >>= unless_circle n) e
+  bytes_break (TextFault.LongLine line) e = ap (λ (o : Option LineFault). routes_by_bytes o (routes_draft n (content_lines (read_lines text)) >>= routes_ended) >>= unless_circle n) e
   bytes_break TextFault.Memory e = tt
 
   -- lines without a fault
@@ -50,7 +50,7 @@ module _ (n : Named) (text : List ℕ) where
     pub by_lines : (read : Result RoutesDraft RoutesBroken) → routes_draft n lines ≡ read → routes_in n text ≡ ((read >>= routes_ended) >>= unless_circle n)
     unfolding routes_in routes_of_lines
     by_lines read e =
-        ap (λ (o : Option TextLineFault). routes_by_bytes o (routes_draft n (content_lines (read_lines text)) >>= routes_ended) >>= unless_circle n) fine
+        ap (λ (o : Option LineFault). routes_by_bytes o (routes_draft n (content_lines (read_lines text)) >>= routes_ended) >>= unless_circle n) fine
         ∙ ap (λ (ls : List ReadLine). (routes_draft n ls >>= routes_ended) >>= unless_circle n) (sym same)
         ∙ ap (λ (r : Result RoutesDraft RoutesBroken). (r >>= routes_ended) >>= unless_circle n) e
 

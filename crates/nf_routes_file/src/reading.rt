@@ -4,13 +4,12 @@ ghost use Rattle.nf_routes_lists.specs.declared.RoutesRule.TheVariants.{G17};
 ghost use Rattle.nf_lines.specs.Faults.{longest_text};
 ghost use Rattle.nf_routes_lists.specs.Routes.{AreWalks};
 ghost use Rattle.nf_routes_lists.specs.RoutesFile.{is_routes_1 as is_routes_1_by, add_route_lines, routes_draft, routes_in, routes_of, HoldsCircleIn, ReadsRoutes};
-ghost use Rattle.nf_routes_lists.specs.Kept.{AreKept, AreSound};
-ghost use Rattle.nf_routes_file.specs.Drafts.{seen_draft, routes_closed};
+ghost use Rattle.nf_routes_lists.specs.Kept.{AreKept};
+ghost use Rattle.nf_routes_file.specs.Drafts.{seen_draft};
 ghost use Rattle.nf_routes_file.specs.Files.{IfBroken};
 
 use crate::draft::Draft;
 use crate::fault::RoutesFault;
-use crate::order::takes_all;
 use crate::routes::Routes;
 use nf_net::Network;
 use nf_routes_lists::RoutesRule;
@@ -63,27 +62,6 @@ fn read_draft(alloc: Global, net: &Network, lines: &[ReadLine]) -> Result<Draft,
     add_lines(alloc, net, Draft::new(alloc), rest)
 }
 
-// The routes, or the first rule of the file as a whole that is broken.
-fn close(alloc: Global, net: &Network, draft: Draft) -> Result<Routes, RoutesFault>
-    requires { AreSound net.now.net draft.routes.items }
-    ensures { MatchResult result (λ routes. routes_closed net.now (seen_draft draft) ≡ Ok routes)
-        (λ fault. IfBroken fault (λ broken. routes_closed net.now (seen_draft draft) ≡ Err broken)) }
-{
-    if !draft.ended {
-        return Err(RoutesFault::Broken {
-            rule: RoutesRule::G16,
-            line: 0,
-        });
-    }
-    if !takes_all(alloc, net.link_count(), &draft.routes)? {
-        return Err(RoutesFault::Broken {
-            rule: RoutesRule::G17,
-            line: 0,
-        });
-    }
-    Ok(Routes::kept(draft.routes))
-}
-
 // What parse_routes gives, by the order of loading.
 fn read_routes(alloc: Global, net: &Network, text: &[u8]) -> Result<Routes, RoutesFault>
     requires { length text.now ≤ longest_text }
@@ -94,7 +72,7 @@ fn read_routes(alloc: Global, net: &Network, text: &[u8]) -> Result<Routes, Rout
         Err(fault) => return Err(RoutesFault::from(fault)),
     };
     let draft = read_draft(alloc, net, &lines)?;
-    close(alloc, net, draft)
+    draft.close(alloc, net)
 }
 
 /// The routes of a network that a text of at most 67,108,864 bytes gives, each a walk from source to sink; or the first rule that it
