@@ -7,8 +7,7 @@ use Rattle.nf_side_files.specs.PiecesBehind.{fault_behind}
 use Rattle.nf_side_files.proofs.PieceRules as pieces
 use Rattle.nf_readings.specs.declared.LoadRule.{LoadRule}
 use Rattle.nf_readings.specs.declared.LoadRule.TheVariants.{L9, L10, L11}
-use Rattle.nf_readings.specs.LoadsFile.{most_lines_of_a_link}
-use Rattle.nf_loads_file.specs.Drafts.{rule_behind}
+use Rattle.nf_readings.specs.LoadsFile.{most_lines_of_a_link, rule_behind}
 
 abbrev pub rule_by : PieceFault → LoadRule
 rule_by fault = pieces.rule_by L9 L10 L11 fault

@@ -4,9 +4,10 @@ use Rattle.std.proofs.lemmas.Option.{slice_get_read}
 use Rattle.nf_model.specs.Network.{Piece, Network}
 use Rattle.nf_work.specs.Checked.{◌>>=◌}
 use Rattle.nf_formats.specs.Named.{Named}
+use Rattle.nf_side_lists.specs.Lines.{unless_rule}
 use Rattle.nf_routes_lists.specs.declared.RoutesRule.{RoutesRule}
 use Rattle.nf_routes_lists.specs.declared.RoutesRule.TheVariants.{G4}
-use Rattle.nf_routes_lists.specs.RoutesFile.{NamedRoute, RoutesEntry, RoutesDraft, RouteLine, RateLine, route_names, pieces_of, routes_entry, routes_rule_of, routes_after, unless_rule, add_route_line, with_piece, longer, rule_behind}
+use Rattle.nf_routes_lists.specs.RoutesFile.{NamedRoute, RoutesEntry, RoutesDraft, RouteLine, RateLine, route_names, pieces_of, routes_entry, routes_rule_of, routes_after, add_route_line, with_piece, longer, rule_behind}
 use Rattle.nf_routes_file.specs.declared.fault.RoutesLineFault.{RoutesLineFault}
 use Rattle.nf_routes_file.specs.Files.{IfRule}
 

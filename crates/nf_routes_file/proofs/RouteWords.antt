@@ -1,5 +1,5 @@
 -- The words of a line, by their number.
-use Rattle.std.proofs.Common.{◌≡◌, ◌≢◌, ℕ, ◌<◌, ◌≤◌, Bool, true, false, not, cond, List, [], ◌∷◌, length, drop, map, Result, Ok, Err, refl, sym, ◌∙◌, ap, arith, ◌&&◌, bytes_eq, codes}
+use Rattle.std.proofs.Common.{◌≡◌, ◌≢◌, ℕ, ◌<◌, ◌≤◌, Bool, true, false, not, cond, List, [], ◌∷◌, length, drop, map, Result, Ok, Err, refl, sym, ◌∙◌, ap, arith, bytes_eq, codes}
 use Rattle.std.specs.List.{list_all}
 use Rattle.std.proofs.lemmas.Bool.{cond-true, cond-false}
 use Rattle.std.specs.Result.{result_ok}
@@ -9,10 +9,11 @@ use Rattle.nf_formats.specs.Numbers.{greatest}
 use Rattle.nf_text.specs.Within.{word_at}
 use Rattle.nf_side_files.specs.NameAt.{IsNameAt}
 use Rattle.nf_side_files.proofs.NamesOf.{where_named, where_not_named}
-use Rattle.nf_side_files.proofs.WordCounts.{one_word, two_words, four_words, unless_one, unless_two, unless_four}
+use Rattle.nf_side_files.proofs.WordCounts.{one_word, four_words, unless_one, unless_four}
+use Rattle.nf_side_lists.specs.Lines.{piece_entry}
 use Rattle.nf_routes_lists.specs.declared.RoutesRule.{RoutesRule}
-use Rattle.nf_routes_lists.specs.declared.RoutesRule.TheVariants.{G6, G7, G8}
-use Rattle.nf_routes_lists.specs.RoutesFile.{RoutesEntry, RouteLine, End, route_line, piece_entry, rate_line, end_line, routes_entry, is_routes_1}
+use Rattle.nf_routes_lists.specs.declared.RoutesRule.TheVariants.{G6, G7, G8, G9}
+use Rattle.nf_routes_lists.specs.RoutesFile.{RoutesEntry, RouteLine, RateLine, End, route_line, rate_line, end_line, routes_entry}
 use Rattle.nf_routes_file.specs.declared.fault.RoutesLineFault.{RoutesLineFault}
 use Rattle.nf_routes_file.specs.Files.{IfRule}
 use Rattle.nf_routes_file.specs.Entries.{AreLinksOf, NoLinks}
@@ -61,7 +62,7 @@ module _ (names : List Name) (words : List (List ℕ)) where
 
   module _ (n : length words ≡ 4) where
     abbrev of_route : ℕ → Result RoutesEntry RoutesRule
-    of_route place = piece_entry place (result_ok (number_of greatest (word_at words 2))) (result_ok (number_of greatest (word_at words 3)))
+    of_route place = piece_entry (λ piece. RateLine place piece) G9 (result_ok (number_of greatest (word_at words 2))) (result_ok (number_of greatest (word_at words 3)))
 
     pub rate_unknown : has_name names (word_at words 1) ≡ false → rate_line names (drop 1 words) ≡ Err G8
     rate_unknown e = ap (λ (ws : List (List ℕ)). rate_line names (drop 1 ws)) (four_words words n) ∙ where_not_named names (word_at words 1) of_route (Err G8) e
@@ -75,13 +76,6 @@ end_count_wrong words some n = unless_one (λ (ws : List (List ℕ)). end_line (
 
 pub end_count_right : (words : List (List ℕ)) → length words ≡ 1 → end_line (drop 1 words) ≡ Ok End
 end_count_right words n = ap (λ (ws : List (List ℕ)). end_line (drop 1 ws)) (one_word words n)
-
--- ---- the head
-pub head_count_wrong : (words : List (List ℕ)) → length words ≢ 2 → is_routes_1 words ≡ false
-head_count_wrong words n = unless_two is_routes_1 false refl (λ _. refl) (λ _ _ _ _. refl) words n
-
-pub head_is : (words : List (List ℕ)) → length words ≡ 2 → is_routes_1 words ≡ (bytes_eq (word_at words 0) (codes "routes") && bytes_eq (word_at words 1) (codes "1"))
-head_is words n = ap is_routes_1 (two_words words n)
 
 -- ---- a line by its key
 module _ (links routes : List Name) (words : List (List ℕ)) (key : List ℕ) (some : length words ≡ 0 → ⊥) (is_key : key ≡ word_at words 0) where
