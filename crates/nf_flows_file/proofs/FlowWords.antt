@@ -1,5 +1,5 @@
 -- The words of a line, by their number.
-use Rattle.std.proofs.Common.{◌≡◌, ◌≢◌, ℕ, ◌<◌, false, List, length, drop, Result, Ok, Err, refl, ◌∙◌, ap, ◌&&◌, bytes_eq, codes}
+use Rattle.std.proofs.Common.{◌≡◌, ◌≢◌, ℕ, ◌<◌, false, List, length, drop, Result, Ok, Err, refl, ◌∙◌, ap}
 use Rattle.std.specs.Result.{result_ok}
 use Rattle.nf_rational.specs.Rational.{ℚ}
 use Rattle.nf_numerals.specs.Numbers.{number_of}
@@ -8,10 +8,10 @@ use Rattle.nf_formats.specs.Numbers.{greatest}
 use Rattle.nf_text.specs.Within.{word_at}
 use Rattle.nf_side_files.specs.NameAt.{IsNameAt}
 use Rattle.nf_side_files.proofs.NamesOf.{where_named, where_not_named}
-use Rattle.nf_side_files.proofs.WordCounts.{one_word, two_words, three_words, unless_one, unless_two, unless_three}
+use Rattle.nf_side_files.proofs.WordCounts.{one_word, three_words, unless_one, unless_three}
 use Rattle.nf_complete_lists.specs.declared.FlowsRule.{FlowsRule}
 use Rattle.nf_complete_lists.specs.declared.FlowsRule.TheVariants.{S6, S7}
-use Rattle.nf_complete_lists.specs.FlowsFile.{FlowsEntry, End, number_entry, named_line, end_line, is_flows_1}
+use Rattle.nf_complete_lists.specs.FlowsFile.{FlowsEntry, End, number_entry, named_line, end_line}
 
 -- ---- `flow` and `slope`
 module _ (make : ℕ → ℚ → FlowsEntry) (names : List Name) (words : List (List ℕ)) where
@@ -33,10 +33,3 @@ end_count_wrong words some n = unless_one (λ (ws : List (List ℕ)). end_line (
 
 pub end_count_right : (words : List (List ℕ)) → length words ≡ 1 → end_line (drop 1 words) ≡ Ok End
 end_count_right words n = ap (λ (ws : List (List ℕ)). end_line (drop 1 ws)) (one_word words n)
-
--- ---- the head
-pub head_count_wrong : (words : List (List ℕ)) → length words ≢ 2 → is_flows_1 words ≡ false
-head_count_wrong words n = unless_two is_flows_1 false refl (λ _. refl) (λ _ _ _ _. refl) words n
-
-pub head_is : (words : List (List ℕ)) → length words ≡ 2 → is_flows_1 words ≡ (bytes_eq (word_at words 0) (codes "flows") && bytes_eq (word_at words 1) (codes "1"))
-head_is words n = ap is_flows_1 (two_words words n)

@@ -1,7 +1,6 @@
 -- What a line of a flows file says, as the definitions have it.
-use Rattle.std.specs.Prelude.{◌<◌, length, Result, Ok, Err}
+use Rattle.std.specs.Prelude.{◌<◌, length}
 use Rattle.nf_formats.specs.Named.{Named}
-use Rattle.nf_complete_lists.specs.declared.FlowsRule.{FlowsRule}
 use Rattle.nf_complete_lists.specs.FlowsFile as file
 use Rattle.nf_flows_file.specs.declared.entry.Entry.{Entry}
 use Rattle.nf_flows_file.specs.declared.entry.Entry.TheVariants.{Flow, Slope, End}
@@ -10,11 +9,6 @@ abbrev pub seen_entry : Entry → file.FlowsEntry
 seen_entry (Flow link flow) = file.FlowOf link flow
 seen_entry (Slope node slope) = file.SlopeOf node slope
 seen_entry End = file.End
-
--- of a line that says such a thing, or breaks a rule
-abbrev pub said_by : {A B : Type 0} → (A → B) → Result A FlowsRule → Result B FlowsRule
-said_by f (Ok x) = Ok (f x)
-said_by f (Err rule) = Err rule
 
 -- its link or its node is one of the network
 abbrev pub IsOf : Named → file.FlowsEntry → Type 0

@@ -2,7 +2,7 @@
 ghost use Rattle.std.specs.Prelude.{◌≡◌, ◌<◌, if◌then◌else◌, length, set, Some, Ok, Err, IfOk, OnOk, MatchResult};
 ghost use Rattle.nf_complete_lists.specs.declared.FlowsRule.TheVariants.{S10};
 ghost use Rattle.nf_complete_lists.specs.FlowsFile.{is_given, add_flows, empty_flows, or_nothing, if_ended};
-ghost use Rattle.nf_flows_file.specs.Entries.{said_by};
+ghost use Rattle.nf_side_files.specs.Said.{said_by};
 ghost use Rattle.nf_flows_file.specs.Drafts.{seen_draft, HasPlaces};
 ghost use Rattle.nf_flows_file.specs.Files.{given_of, IfBroken};
 

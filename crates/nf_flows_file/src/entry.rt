@@ -6,7 +6,8 @@ ghost use Rattle.nf_numerals.specs.Numbers.{number_of as number_by};
 ghost use Rattle.nf_formats.specs.Numbers.{greatest};
 ghost use Rattle.nf_complete_lists.specs.FlowsFile as file;
 ghost use Rattle.nf_complete_lists.specs.FlowsFile.{FlowsEntry, number_entry, named_line, end_line, flows_entry};
-ghost use Rattle.nf_flows_file.specs.Entries.{seen_entry, said_by, IsOf};
+ghost use Rattle.nf_side_files.specs.Said.{said_by};
+ghost use Rattle.nf_flows_file.specs.Entries.{seen_entry, IsOf};
 
 use nf_complete_lists::FlowsRule;
 use nf_frac::Q;

@@ -1,7 +1,8 @@
 // The reading of a flows file.
 ghost use Rattle.std.specs.Prelude.{◌≡◌, ◌≤◌, length, Ok, Err, IfOk, MatchResult};
 ghost use Rattle.nf_lines.specs.Faults.{longest_text};
-ghost use Rattle.nf_complete_lists.specs.FlowsFile.{is_flows_1 as is_flows_1_by, add_flows_lines, flows_draft, flows_in};
+ghost use Rattle.nf_side_lists.specs.Frame.{add_lines as add_lines_by, draft_of};
+ghost use Rattle.nf_complete_lists.specs.FlowsFile.{add_flows, flows_frame, flows_in};
 ghost use Rattle.nf_flows_file.specs.Drafts.{seen_draft, HasPlaces};
 ghost use Rattle.nf_flows_file.specs.Files.{given_of, IfBroken};
 
@@ -10,22 +11,14 @@ use crate::fault::FlowsFault;
 use crate::flows::Flows;
 use nf_complete_lists::FlowsRule;
 use nf_net::Network;
-use nf_side_files::{ReadLine, contents, is_word};
+use nf_side_files::{ReadLine, contents, is_head};
 use std::alloc::Global;
-
-// `flows 1`
-#[tactic(auto, using(crate::proofs::FlowWords::head_count_wrong, crate::proofs::FlowWords::head_is))]
-fn is_flows_1(line: &ReadLine) -> bool
-    ensures { result ≡ is_flows_1_by line.now.words }
-{
-    line.len() == 2 && is_word(line.at(0), b"flows") && is_word(line.at(1), b"1")
-}
 
 // What a draft comes to with more lines, up to the first that breaks a rule.
 fn add_lines(net: &Network, mut draft: Draft, lines: &[ReadLine]) -> Result<Draft, FlowsFault>
     requires { HasPlaces net.now draft }
-    ensures adds { MatchResult result (λ next. add_flows_lines net.now (seen_draft draft) lines.now ≡ Ok (seen_draft next))
-        (λ fault. IfBroken fault (λ broken. add_flows_lines net.now (seen_draft draft) lines.now ≡ Err broken)) }
+    ensures adds { MatchResult result (λ next. add_lines_by (add_flows net.now) (seen_draft draft) lines.now ≡ Ok (seen_draft next))
+        (λ fault. IfBroken fault (λ broken. add_lines_by (add_flows net.now) (seen_draft draft) lines.now ≡ Err broken)) }
     ensures places { IfOk result (λ next. HasPlaces net.now next) }
 {
     for line in lines {
@@ -41,8 +34,8 @@ fn add_lines(net: &Network, mut draft: Draft, lines: &[ReadLine]) -> Result<Draf
 
 // What the lines that have words say.
 fn read_draft(alloc: Global, net: &Network, lines: &[ReadLine]) -> Result<Draft, FlowsFault>
-    ensures reads { MatchResult result (λ draft. flows_draft net.now lines.now ≡ Ok (seen_draft draft))
-        (λ fault. IfBroken fault (λ broken. flows_draft net.now lines.now ≡ Err broken)) }
+    ensures reads { MatchResult result (λ draft. draft_of (flows_frame net.now) lines.now ≡ Ok (seen_draft draft))
+        (λ fault. IfBroken fault (λ broken. draft_of (flows_frame net.now) lines.now ≡ Err broken)) }
     ensures places { IfOk result (λ draft. HasPlaces net.now draft) }
 {
     let [head, rest @ ..] = lines else {
@@ -51,7 +44,7 @@ fn read_draft(alloc: Global, net: &Network, lines: &[ReadLine]) -> Result<Draft,
             line: 1,
         });
     };
-    if !is_flows_1(head) {
+    if !is_head(head, b"flows") {
         return Err(FlowsFault::Broken {
             rule: FlowsRule::S3,
             line: head.number(),

@@ -1,5 +1,5 @@
 -- The words of a line, by their number.
-use Rattle.std.proofs.Common.{◌≡◌, ◌≢◌, ℕ, ◌<◌, false, List, length, drop, Result, Ok, Err, refl, ◌∙◌, ap, ◌&&◌, bytes_eq, codes}
+use Rattle.std.proofs.Common.{◌≡◌, ◌≢◌, ℕ, ◌<◌, false, List, length, drop, Result, Ok, Err, refl, ◌∙◌, ap}
 use Rattle.std.specs.Result.{result_ok}
 use Rattle.nf_numerals.specs.Numbers.{number_of}
 use Rattle.nf_formats.specs.Names.{Name, has_name}
@@ -7,10 +7,11 @@ use Rattle.nf_formats.specs.Numbers.{greatest}
 use Rattle.nf_text.specs.Within.{word_at}
 use Rattle.nf_side_files.specs.NameAt.{IsNameAt}
 use Rattle.nf_side_files.proofs.NamesOf.{where_named, where_not_named}
-use Rattle.nf_side_files.proofs.WordCounts.{one_word, two_words, four_words, unless_one, unless_two, unless_four}
+use Rattle.nf_side_files.proofs.WordCounts.{one_word, four_words, unless_one, unless_four}
+use Rattle.nf_side_lists.specs.Lines.{piece_entry}
 use Rattle.nf_readings.specs.declared.LoadRule.{LoadRule}
-use Rattle.nf_readings.specs.declared.LoadRule.TheVariants.{L6, L7}
-use Rattle.nf_readings.specs.LoadsFile.{LoadEntry, End, piece_entry, rate_line, end_line, is_loads_1}
+use Rattle.nf_readings.specs.declared.LoadRule.TheVariants.{L6, L7, L8}
+use Rattle.nf_readings.specs.LoadsFile.{LoadEntry, Rate, End, rate_line, end_line}
 
 -- ---- `rate`
 module _ (names : List Name) (words : List (List ℕ)) where
@@ -20,7 +21,7 @@ module _ (names : List Name) (words : List (List ℕ)) where
 
   module _ (n : length words ≡ 4) where
     abbrev of_link : ℕ → Result LoadEntry LoadRule
-    of_link link = piece_entry link (result_ok (number_of greatest (word_at words 2))) (result_ok (number_of greatest (word_at words 3)))
+    of_link link = piece_entry (λ piece. Rate link piece) L8 (result_ok (number_of greatest (word_at words 2))) (result_ok (number_of greatest (word_at words 3)))
 
     pub rate_unknown : has_name names (word_at words 1) ≡ false → rate_line names (drop 1 words) ≡ Err L7
     rate_unknown e = ap (λ (ws : List (List ℕ)). rate_line names (drop 1 ws)) (four_words words n) ∙ where_not_named names (word_at words 1) of_link (Err L7) e
@@ -34,10 +35,3 @@ end_count_wrong words some n = unless_one (λ (ws : List (List ℕ)). end_line (
 
 pub end_count_right : (words : List (List ℕ)) → length words ≡ 1 → end_line (drop 1 words) ≡ Ok End
 end_count_right words n = ap (λ (ws : List (List ℕ)). end_line (drop 1 ws)) (one_word words n)
-
--- ---- the head
-pub head_count_wrong : (words : List (List ℕ)) → length words ≢ 2 → is_loads_1 words ≡ false
-head_count_wrong words n = unless_two is_loads_1 false refl (λ _. refl) (λ _ _ _ _. refl) words n
-
-pub head_is : (words : List (List ℕ)) → length words ≡ 2 → is_loads_1 words ≡ (bytes_eq (word_at words 0) (codes "loads") && bytes_eq (word_at words 1) (codes "1"))
-head_is words n = ap is_loads_1 (two_words words n)

@@ -1,6 +1,5 @@
 -- What a line of a loads file says, as the definitions have it.
-use Rattle.std.specs.Prelude.{ℕ, ◌<◌, Result, Ok, Err}
-use Rattle.nf_readings.specs.declared.LoadRule.{LoadRule}
+use Rattle.std.specs.Prelude.{ℕ, ◌<◌}
 use Rattle.nf_readings.specs.LoadsFile as file
 use Rattle.nf_loads_file.specs.declared.entry.Entry.{Entry}
 use Rattle.nf_loads_file.specs.declared.entry.Entry.TheVariants.{Rate, End}
@@ -8,11 +7,6 @@ use Rattle.nf_loads_file.specs.declared.entry.Entry.TheVariants.{Rate, End}
 abbrev pub seen_entry : Entry → file.LoadEntry
 seen_entry (Rate link piece) = file.Rate link piece
 seen_entry End = file.End
-
--- of a line that says such a thing, or breaks a rule
-abbrev pub said_by : {A B : Type 0} → (A → B) → Result A LoadRule → Result B LoadRule
-said_by f (Ok x) = Ok (f x)
-said_by f (Err rule) = Err rule
 
 -- the link of a piece is one of so many
 abbrev pub HasLink : ℕ → file.LoadEntry → Type 0

@@ -1,8 +1,9 @@
 // What the lines of a loads file say so far.
 ghost use Rattle.std.specs.Prelude.{◌≡◌, ◌++◌, [], ◌∷◌, length, Ok, Err, IfOk, OnOk, MatchResult};
-ghost use Rattle.nf_readings.specs.LoadsFile.{empty_loads, load_rule_of, load_after, add_load, in_load_line, if_ended};
+ghost use Rattle.nf_side_lists.specs.Frame.{in_line};
+ghost use Rattle.nf_readings.specs.LoadsFile.{empty_loads, rule_behind, load_rule_of, load_after, add_load, if_ended};
 ghost use Rattle.nf_loads_file.specs.Entries.{HasLink, seen_entry};
-ghost use Rattle.nf_loads_file.specs.Drafts.{seen_draft, HasLinks, rule_behind};
+ghost use Rattle.nf_loads_file.specs.Drafts.{seen_draft, HasLinks};
 ghost use Rattle.nf_loads_file.specs.Files.{IfBroken};
 
 use crate::entry::{Entry, read_entry};
@@ -80,10 +81,10 @@ impl Draft {
     pub fn add_line(&mut self, net: &Network, line: &ReadLine) -> Result<(), LoadsFault>
         requires { HasLinks net.now self.old }
         ensures adds { MatchResult result
-            (λ _. in_load_line line.now.number (add_load net.now.link_names (seen_draft self.old) line.now.words)
+            (λ _. in_line line.now.number (add_load net.now.link_names (seen_draft self.old) line.now.words)
             ≡ Ok (seen_draft self.new))
             (λ fault. IfBroken fault (λ broken.
-            in_load_line line.now.number (add_load net.now.link_names (seen_draft self.old) line.now.words) ≡ Err broken)) }
+            in_line line.now.number (add_load net.now.link_names (seen_draft self.old) line.now.words) ≡ Err broken)) }
         ensures links { OnOk result (HasLinks net.now self.new) }
     {
         let number = line.number();

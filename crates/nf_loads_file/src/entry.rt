@@ -2,7 +2,8 @@
 ghost use Rattle.std.specs.Prelude.{◌≡◌, ◌<◌, length, drop, IfOk};
 ghost use Rattle.nf_readings.specs.LoadsFile as file;
 ghost use Rattle.nf_readings.specs.LoadsFile.{rate_line, end_line, load_entry};
-ghost use Rattle.nf_loads_file.specs.Entries.{HasLink, seen_entry, said_by};
+ghost use Rattle.nf_side_files.specs.Said.{said_by};
+ghost use Rattle.nf_loads_file.specs.Entries.{HasLink, seen_entry};
 
 use nf_net::{LinkId, Network, Piece};
 use nf_readings::LoadRule;

@@ -1,7 +1,8 @@
 // The reading of a loads file.
 ghost use Rattle.std.specs.Prelude.{◌≡◌, ◌≤◌, length, Ok, Err, IfOk, MatchResult};
 ghost use Rattle.nf_lines.specs.Faults.{longest_text};
-ghost use Rattle.nf_readings.specs.LoadsFile.{is_loads_1 as is_loads_1_by, add_loads, loads_draft, loads_in};
+ghost use Rattle.nf_side_lists.specs.Frame.{add_lines as add_lines_by, draft_of};
+ghost use Rattle.nf_readings.specs.LoadsFile.{add_load, loads_frame, loads_in};
 ghost use Rattle.nf_loads_file.specs.Drafts.{seen_draft, HasLinks};
 ghost use Rattle.nf_loads_file.specs.Files.{IfBroken};
 
@@ -10,22 +11,14 @@ use crate::fault::LoadsFault;
 use crate::loads::Loads;
 use nf_net::Network;
 use nf_readings::LoadRule;
-use nf_side_files::{ReadLine, contents, is_word};
+use nf_side_files::{ReadLine, contents, is_head};
 use std::alloc::Global;
-
-// `loads 1`
-#[tactic(auto, using(crate::proofs::LoadWords::head_count_wrong, crate::proofs::LoadWords::head_is))]
-fn is_loads_1(line: &ReadLine) -> bool
-    ensures { result ≡ is_loads_1_by line.now.words }
-{
-    line.len() == 2 && is_word(line.at(0), b"loads") && is_word(line.at(1), b"1")
-}
 
 // What a draft comes to with more lines, up to the first that breaks a rule.
 fn add_lines(net: &Network, mut draft: Draft, lines: &[ReadLine]) -> Result<Draft, LoadsFault>
     requires { HasLinks net.now draft }
-    ensures { MatchResult result (λ next. add_loads net.now.link_names (seen_draft draft) lines.now ≡ Ok (seen_draft next))
-        (λ fault. IfBroken fault (λ broken. add_loads net.now.link_names (seen_draft draft) lines.now ≡ Err broken)) }
+    ensures { MatchResult result (λ next. add_lines_by (add_load net.now.link_names) (seen_draft draft) lines.now ≡ Ok (seen_draft next))
+        (λ fault. IfBroken fault (λ broken. add_lines_by (add_load net.now.link_names) (seen_draft draft) lines.now ≡ Err broken)) }
 {
     for line in lines {
         draft.add_line(net, line)?;
@@ -35,8 +28,8 @@ fn add_lines(net: &Network, mut draft: Draft, lines: &[ReadLine]) -> Result<Draf
 
 // What the lines that have words say.
 fn read_draft(alloc: Global, net: &Network, lines: &[ReadLine]) -> Result<Draft, LoadsFault>
-    ensures { MatchResult result (λ draft. loads_draft net.now lines.now ≡ Ok (seen_draft draft))
-        (λ fault. IfBroken fault (λ broken. loads_draft net.now lines.now ≡ Err broken)) }
+    ensures { MatchResult result (λ draft. draft_of (loads_frame net.now) lines.now ≡ Ok (seen_draft draft))
+        (λ fault. IfBroken fault (λ broken. draft_of (loads_frame net.now) lines.now ≡ Err broken)) }
 {
     let [head, rest @ ..] = lines else {
         return Err(LoadsFault::Broken {
@@ -44,7 +37,7 @@ fn read_draft(alloc: Global, net: &Network, lines: &[ReadLine]) -> Result<Draft,
             line: 1,
         });
     };
-    if !is_loads_1(head) {
+    if !is_head(head, b"loads") {
         return Err(LoadsFault::Broken {
             rule: LoadRule::L3,
             line: head.number(),

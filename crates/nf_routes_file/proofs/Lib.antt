@@ -2,6 +2,7 @@ pub mod Pairs
 pub mod Taking
 pub mod RouteNames
 pub mod RouteWords
+pub mod PieceRules
 pub mod RouteLinks
 pub mod RouteSteps
 pub mod RoutesRead

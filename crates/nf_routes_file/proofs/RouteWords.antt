@@ -1,5 +1,5 @@
 -- The words of a line, by their number.
-use Rattle.std.proofs.Common.{◌≡◌, ◌≢◌, ℕ, ◌<◌, ◌≤◌, Bool, true, false, not, cond, List, [], ◌∷◌, length, drop, map, Result, Ok, Err, refl, sym, ◌∙◌, ap, arith, ◌&&◌, bytes_eq, codes}
+use Rattle.std.proofs.Common.{◌≡◌, ◌≢◌, ℕ, ◌<◌, ◌≤◌, Bool, true, false, not, cond, List, [], ◌∷◌, length, drop, map, Result, Ok, Err, refl, sym, ◌∙◌, ap, arith, bytes_eq, codes}
 use Rattle.std.specs.List.{list_all}
 use Rattle.std.proofs.lemmas.Bool.{cond-true, cond-false}
 use Rattle.std.specs.Result.{result_ok}
@@ -8,10 +8,13 @@ use Rattle.nf_formats.specs.Names.{Name, is_name, has_name, place_of}
 use Rattle.nf_formats.specs.Numbers.{greatest}
 use Rattle.nf_text.specs.Within.{word_at}
 use Rattle.nf_side_files.specs.NameAt.{IsNameAt}
+use Rattle.nf_side_files.proofs.NamesOf.{where_named, where_not_named}
+use Rattle.nf_side_files.proofs.WordCounts.{one_word, four_words, unless_one, unless_four}
+use Rattle.nf_side_lists.specs.Lines.{piece_entry}
 use Rattle.nf_routes_lists.specs.declared.RoutesRule.{RoutesRule}
-use Rattle.nf_routes_lists.specs.declared.RoutesRule.TheVariants.{G6, G7, G8}
-use Rattle.nf_routes_lists.specs.RoutesFile.{RoutesEntry, RouteLine, End, route_line, piece_entry, rate_line, end_line, routes_entry, is_routes_1}
-use Rattle.nf_routes_file.specs.declared.fault.LineFault.{LineFault}
+use Rattle.nf_routes_lists.specs.declared.RoutesRule.TheVariants.{G6, G7, G8, G9}
+use Rattle.nf_routes_lists.specs.RoutesFile.{RoutesEntry, RouteLine, RateLine, End, route_line, rate_line, end_line, routes_entry}
+use Rattle.nf_routes_file.specs.declared.fault.RoutesLineFault.{RoutesLineFault}
 use Rattle.nf_routes_file.specs.Files.{IfRule}
 use Rattle.nf_routes_file.specs.Entries.{AreLinksOf, NoLinks}
 
@@ -47,64 +50,32 @@ module _ (names : List Name) where
         let links_are = sym are.places in
         by_links true are.there ∙ λ i. Ok (RouteLine (name_is i) (links_are i))
 
-    pub route_no_links : (fault : LineFault) → NoLinks fault names (drop 2 words) → IfRule fault (λ rule. route_line names (drop 1 words) ≡ Err rule)
-    route_no_links (LineFault.Broken rule) (same, none) = by_links false none ∙ ap (λ (r : RoutesRule). Err r) (sym same)
-    route_no_links LineFault.Memory h = tt
+    pub route_no_links : (fault : RoutesLineFault) → NoLinks fault names (drop 2 words) → IfRule fault (λ rule. route_line names (drop 1 words) ≡ Err rule)
+    route_no_links (RoutesLineFault.Broken rule) (same, none) = by_links false none ∙ ap (λ (r : RoutesRule). Err r) (sym same)
+    route_no_links RoutesLineFault.Memory h = tt
 
 -- ---- `rate`
-module _ (names : List Name) where
-  pub rate_count_wrong : (words : List (List ℕ)) → 0 < length words → length words ≢ 4 → rate_line names (drop 1 words) ≡ Err G6
-  rate_count_wrong [] some n = absurd (omega arith)
-  rate_count_wrong (key ∷ []) some n = refl
-  rate_count_wrong (key ∷ a ∷ []) some n = refl
-  rate_count_wrong (key ∷ a ∷ b ∷ []) some n = refl
-  rate_count_wrong (key ∷ a ∷ b ∷ c ∷ []) some n = absurd (n refl)
-  rate_count_wrong (key ∷ a ∷ b ∷ c ∷ more ∷ rest) some n = refl
+module _ (names : List Name) (words : List (List ℕ)) where
+  pub rate_count_wrong : 0 < length words → length words ≢ 4 → rate_line names (drop 1 words) ≡ Err G6
+  rate_count_wrong some n =
+      unless_four (λ (ws : List (List ℕ)). rate_line names (drop 1 ws)) (Err G6) refl (λ _. refl) (λ _ _. refl) (λ _ _ _. refl) (λ _ _ _ _ _ _. refl) words n
 
-  abbrev by_name : List (List ℕ) → Bool → ℕ → Result RoutesEntry RoutesRule
-  by_name words there place = cond there (piece_entry place (result_ok (number_of greatest (word_at words 2))) (result_ok (number_of greatest (word_at words 3)))) (Err G8)
+  module _ (n : length words ≡ 4) where
+    abbrev of_route : ℕ → Result RoutesEntry RoutesRule
+    of_route place = piece_entry (λ piece. RateLine place piece) G9 (result_ok (number_of greatest (word_at words 2))) (result_ok (number_of greatest (word_at words 3)))
 
-  rate_is : (words : List (List ℕ)) → length words ≡ 4 → rate_line names (drop 1 words) ≡ by_name words (has_name names (word_at words 1)) (place_of names (word_at words 1))
-  rate_is [] n = absurd (omega arith)
-  rate_is (key ∷ []) n = absurd (omega arith)
-  rate_is (key ∷ a ∷ []) n = absurd (omega arith)
-  rate_is (key ∷ a ∷ b ∷ []) n = absurd (omega arith)
-  rate_is (key ∷ a ∷ b ∷ c ∷ []) n = refl
-  rate_is (key ∷ a ∷ b ∷ c ∷ more ∷ rest) n = absurd (omega arith)
+    pub rate_unknown : has_name names (word_at words 1) ≡ false → rate_line names (drop 1 words) ≡ Err G8
+    rate_unknown e = ap (λ (ws : List (List ℕ)). rate_line names (drop 1 ws)) (four_words words n) ∙ where_not_named names (word_at words 1) of_route (Err G8) e
 
-  pub rate_unknown : (words : List (List ℕ)) → length words ≡ 4 → has_name names (word_at words 1) ≡ false → rate_line names (drop 1 words) ≡ Err G8
-  rate_unknown words n e = rate_is words n ∙ ap (λ (b : Bool). by_name words b (place_of names (word_at words 1))) e
-
-  pub rate_known : (words : List (List ℕ)) (place : ℕ) → length words ≡ 4 → IsNameAt names (word_at words 1) place
-      → rate_line names (drop 1 words) ≡ piece_entry place (result_ok (number_of greatest (word_at words 2))) (result_ok (number_of greatest (word_at words 3)))
-  rate_known words place n is =
-      rate_is words n
-      ∙ ap (λ (b : Bool). by_name words b (place_of names (word_at words 1))) is.there
-      ∙ ap (λ (k : ℕ). by_name words true k) is.is_place
+    pub rate_known : (place : ℕ) → IsNameAt names (word_at words 1) place → rate_line names (drop 1 words) ≡ of_route place
+    rate_known place is = ap (λ (ws : List (List ℕ)). rate_line names (drop 1 ws)) (four_words words n) ∙ where_named names (word_at words 1) of_route (Err G8) place is
 
 -- ---- `end`
 pub end_count_wrong : (words : List (List ℕ)) → 0 < length words → length words ≢ 1 → end_line (drop 1 words) ≡ Err G6
-end_count_wrong [] some n = absurd (omega arith)
-end_count_wrong (key ∷ []) some n = absurd (n refl)
-end_count_wrong (key ∷ more ∷ rest) some n = refl
+end_count_wrong words some n = unless_one (λ (ws : List (List ℕ)). end_line (drop 1 ws)) (Err G6) (λ _ _ _. refl) words some n
 
 pub end_count_right : (words : List (List ℕ)) → length words ≡ 1 → end_line (drop 1 words) ≡ Ok End
-end_count_right [] n = absurd (omega arith)
-end_count_right (key ∷ []) n = refl
-end_count_right (key ∷ more ∷ rest) n = absurd (omega arith)
-
--- ---- the head
-pub head_count_wrong : (words : List (List ℕ)) → length words ≢ 2 → is_routes_1 words ≡ false
-head_count_wrong [] n = refl
-head_count_wrong (a ∷ []) n = refl
-head_count_wrong (a ∷ b ∷ []) n = absurd (n refl)
-head_count_wrong (a ∷ b ∷ c ∷ rest) n = refl
-
-pub head_is : (words : List (List ℕ)) → length words ≡ 2 → is_routes_1 words ≡ (bytes_eq (word_at words 0) (codes "routes") && bytes_eq (word_at words 1) (codes "1"))
-head_is [] n = absurd (omega arith)
-head_is (a ∷ []) n = absurd (omega arith)
-head_is (a ∷ b ∷ []) n = refl
-head_is (a ∷ b ∷ c ∷ rest) n = absurd (omega arith)
+end_count_right words n = ap (λ (ws : List (List ℕ)). end_line (drop 1 ws)) (one_word words n)
 
 -- ---- a line by its key
 module _ (links routes : List Name) (words : List (List ℕ)) (key : List ℕ) (some : length words ≡ 0 → ⊥) (is_key : key ≡ word_at words 0) where

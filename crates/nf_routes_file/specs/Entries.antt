@@ -5,7 +5,7 @@ use Rattle.nf_formats.specs.Names.{Name, has_name, place_of}
 use Rattle.nf_routes_lists.specs.declared.RoutesRule.{RoutesRule}
 use Rattle.nf_routes_lists.specs.declared.RoutesRule.TheVariants.{G8}
 use Rattle.nf_routes_lists.specs.RoutesFile as file
-use Rattle.nf_routes_file.specs.declared.fault.LineFault.{LineFault}
+use Rattle.nf_routes_file.specs.declared.fault.RoutesLineFault.{RoutesLineFault}
 use Rattle.nf_routes_file.specs.declared.entry.Entry.{Entry}
 use Rattle.nf_routes_file.specs.declared.entry.Entry.TheVariants.{Route, Rate, End}
 use Rattle.nf_routes_file.specs.Files.{IfRule}
@@ -16,7 +16,7 @@ seen_entry (Rate place piece) = file.RateLine place piece
 seen_entry End = file.End
 
 -- this is what a line says, or the rule that it breaks, unless memory is wanting
-abbrev pub Says : Result file.RoutesEntry RoutesRule → Result Entry LineFault → Type 0
+abbrev pub Says : Result file.RoutesEntry RoutesRule → Result Entry RoutesLineFault → Type 0
 Says said result = MatchResult result (λ entry. said ≡ Ok (seen_entry entry)) (λ fault. IfRule fault (λ rule. said ≡ Err rule))
 
 -- nothing is sent along a new route, and the route of a piece is one of so many
@@ -38,5 +38,5 @@ pub record AreLinksOf (names : List Name) (words : List (List ℕ)) (links : Lis
   pub within : All (λ e. e < length names) links
 
 -- one of the words names none, unless memory is wanting
-abbrev pub NoLinks : LineFault → List Name → List (List ℕ) → Type 0
+abbrev pub NoLinks : RoutesLineFault → List Name → List (List ℕ) → Type 0
 NoLinks fault names words = IfRule fault (λ rule. (rule ≡ G8) × (list_all (has_name names) words ≡ false))

@@ -5,7 +5,7 @@ use Rattle.nf_routes_lists.specs.declared.RoutesRule.{RoutesRule}
 use Rattle.nf_routes_lists.specs.declared.RoutesRule.TheVariants.{G1, G2}
 use Rattle.nf_routes_lists.specs.RoutesFile.{RoutesBroken}
 use Rattle.nf_routes_file.specs.declared.fault.RoutesFault.{RoutesFault}
-use Rattle.nf_routes_file.specs.declared.fault.LineFault.{LineFault}
+use Rattle.nf_routes_file.specs.declared.fault.RoutesLineFault.{RoutesLineFault}
 
 -- of a rule that is broken in a line, unless memory is wanting
 abbrev pub IfBroken : RoutesFault → (RoutesBroken → Type 0) → Type 0
@@ -19,11 +19,11 @@ fault_of_text (TextFault.LongLine line) = RoutesFault.Broken G2 line
 fault_of_text TextFault.Memory = RoutesFault.Memory
 
 -- of a rule that a line breaks, unless memory is wanting
-abbrev pub IfRule : LineFault → (RoutesRule → Type 0) → Type 0
-IfRule (LineFault.Broken rule) P = P rule
-IfRule LineFault.Memory P = Unit {0}
+abbrev pub IfRule : RoutesLineFault → (RoutesRule → Type 0) → Type 0
+IfRule (RoutesLineFault.Broken rule) P = P rule
+IfRule RoutesLineFault.Memory P = Unit {0}
 
 -- the fault of the line of this number
-abbrev pub fault_in_line : ℕ → LineFault → RoutesFault
-fault_in_line line (LineFault.Broken rule) = RoutesFault.Broken rule line
-fault_in_line line LineFault.Memory = RoutesFault.Memory
+abbrev pub fault_in_line : ℕ → RoutesLineFault → RoutesFault
+fault_in_line line (RoutesLineFault.Broken rule) = RoutesFault.Broken rule line
+fault_in_line line RoutesLineFault.Memory = RoutesFault.Memory

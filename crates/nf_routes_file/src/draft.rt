@@ -1,27 +1,27 @@
 // What the lines of a routes file say so far.
-ghost use Rattle.std.specs.Prelude.{◌≡◌, ◌<◌, false, [], length, None, Ok, Err, IfOk, OnOk, MatchResult, All};
-ghost use Rattle.std.specs.List.{last_or};
-ghost use Rattle.nf_formats.specs.NetLines.{is_not_after};
+ghost use Rattle.std.specs.Prelude.{◌≡◌, ◌<◌, false, [], length, Ok, Err, OnOk, MatchResult, All};
 ghost use Rattle.nf_routes_lists.specs.RoutesFile.{RouteLine, routes_rule_of, routes_after, add_route_line, rule_behind};
 ghost use Rattle.nf_routes_file.specs.Entries.{seen_entry, Fits, HasLinks};
-ghost use Rattle.nf_routes_file.specs.Drafts.{seen_draft};
-ghost use Rattle.nf_routes_file.specs.Files.{IfRule};
+ghost use Rattle.nf_routes_lists.specs.Kept.{AreSound};
+ghost use Rattle.nf_routes_file.specs.Drafts.{seen_draft, routes_closed};
+ghost use Rattle.nf_routes_file.specs.Files.{IfBroken, IfRule};
 
 use crate::entry::{Entry, place_of, read_entry};
-use crate::fault::LineFault;
+use crate::fault::{RoutesFault, RoutesLineFault};
+use crate::order::takes_all;
 use crate::route::Route;
+use crate::routes::Routes;
 use crate::walk::is_walk;
-use nf_frac::Q;
 use nf_net::{Network, Piece};
 use nf_routes_lists::RoutesRule;
-use nf_side_files::ReadLine;
+use nf_side_files::{PieceFault, ReadLine, piece_fault};
 use std::alloc::{AllocError, Global};
 
 /// The most routes.
 const MOST_ROUTES: usize = 100;
 
 /// The most rate lines of a route.
-const MOST_RATES: usize = 200;
+const MOST_LINES: usize = 200;
 
 /// What the lines so far say: the routes, and whether there was an `end` line.
 #[derive(Drop)]
@@ -30,31 +30,17 @@ pub struct Draft {
     pub ended: bool,
 }
 
-// A start isn't above that of the piece before.
-fn is_too_early(pieces: &[Piece], start: Q) -> bool
-    ensures { result ≡ is_not_after start (last_or None pieces.now) }
-{
-    if pieces.is_empty() {
-        return false;
-    }
-    let last = &pieces[pieces.len() - 1];
-    start.is_at_most(last.start)
-}
-
 // The first of G13 to G15 that a piece breaks behind those of its route.
+#[tactic(auto, using(crate::proofs::PieceRules::rule_is))]
 fn piece_rule(before: &[Piece], piece: &Piece) -> Option<RoutesRule>
     ensures { result ≡ rule_behind before.now piece.now }
 {
-    if piece.start.is_below(Q::zero()) || piece.rate.is_below(Q::zero()) {
-        return Some(RoutesRule::G13);
+    match piece_fault(before, piece, MOST_LINES) {
+        Some(PieceFault::Negative) => Some(RoutesRule::G13),
+        Some(PieceFault::NotAfter) => Some(RoutesRule::G14),
+        Some(PieceFault::TooMany) => Some(RoutesRule::G15),
+        None => None,
     }
-    if is_too_early(before, piece.start) {
-        return Some(RoutesRule::G14);
-    }
-    if before.len() >= MOST_RATES {
-        return Some(RoutesRule::G15);
-    }
-    None
 }
 
 impl Draft {
@@ -74,7 +60,7 @@ impl Draft {
         ensures { result ≡ routes_rule_of net.now.net (seen_draft self.now) (RouteLine route.now.name route.now.route.links) }
     {
         // For the proof: each link has a name.
-        net.recall();
+        let _ = net.version();
         if place_of(&self.routes, route.name().as_bytes()).is_some() {
             return Some(RoutesRule::G10);
         }
@@ -118,21 +104,42 @@ impl Draft {
         alloc: Global,
         net: &Network,
         line: &ReadLine,
-    ) -> Result<(), LineFault>
+    ) -> Result<(), RoutesLineFault>
         ensures { MatchResult result (λ _. add_route_line net.now (seen_draft self.old) line.now.words ≡ Ok (seen_draft self.new))
             (λ fault. IfRule fault (λ rule. add_route_line net.now (seen_draft self.old) line.now.words ≡ Err rule)) }
     {
         if self.ended {
-            return Err(LineFault::Broken(RoutesRule::G4));
+            return Err(RoutesLineFault::Broken(RoutesRule::G4));
         }
         let entry = match read_entry(alloc, net, &self.routes, line) {
             Ok(entry) => entry,
             Err(fault) => return Err(fault),
         };
         if let Some(rule) = self.rule(net, &entry) {
-            return Err(LineFault::Broken(rule));
+            return Err(RoutesLineFault::Broken(rule));
         }
         self.add(entry)?;
         Ok(())
+    }
+
+    /// The routes, or the first of G16 and G17 that is broken: there was no `end` line; not every link is taken by the order of loading.
+    pub fn close(self, alloc: Global, net: &Network) -> Result<Routes, RoutesFault>
+        requires { AreSound net.now.net self.routes.items }
+        ensures { MatchResult result (λ routes. routes_closed net.now (seen_draft self) ≡ Ok routes)
+            (λ fault. IfBroken fault (λ broken. routes_closed net.now (seen_draft self) ≡ Err broken)) }
+    {
+        if !self.ended {
+            return Err(RoutesFault::Broken {
+                rule: RoutesRule::G16,
+                line: 0,
+            });
+        }
+        if !takes_all(alloc, net.link_count(), &self.routes)? {
+            return Err(RoutesFault::Broken {
+                rule: RoutesRule::G17,
+                line: 0,
+            });
+        }
+        Ok(Routes::kept(self.routes))
     }
 }

@@ -1,7 +1,7 @@
 // Why a routes file is refused.
 ghost use Rattle.std.specs.Prelude.{◌≡◌};
 ghost use Rattle.nf_routes_file.specs.Files.{fault_of_text, fault_in_line};
-ghost use Rattle.nf_routes_file.specs.declared.fault.LineFault.TheVariants as LineFault;
+ghost use Rattle.nf_routes_file.specs.declared.fault.RoutesLineFault.TheVariants as RoutesLineFault;
 ghost use Rattle.nf_routes_file.specs.declared.fault.RoutesFault.TheVariants as RoutesFault;
 
 use nf_routes_lists::RoutesRule;
@@ -48,35 +48,35 @@ impl From<AllocError> for RoutesFault {
 
 /// Why a line isn't added.
 #[derive(Clone, Copy)]
-pub enum LineFault {
+pub enum RoutesLineFault {
     Broken(RoutesRule),
     Memory,
 }
 
-impl LineFault {
+impl RoutesLineFault {
     /// Why the file is refused, in the line of this number.
     pub fn in_line(self, line: u32) -> RoutesFault
         ensures { result ≡ fault_in_line line self }
     {
         match self {
-            LineFault::Broken(rule) => RoutesFault::Broken { rule, line },
-            LineFault::Memory => RoutesFault::Memory,
+            RoutesLineFault::Broken(rule) => RoutesFault::Broken { rule, line },
+            RoutesLineFault::Memory => RoutesFault::Memory,
         }
     }
 }
 
-impl From<AllocError> for LineFault {
-    ghost from_gives = { λ _ fault. fault ≡ LineFault.Memory };
+impl From<AllocError> for RoutesLineFault {
+    ghost from_gives = { λ _ fault. fault ≡ RoutesLineFault.Memory };
 
     fn from(_: AllocError) -> Self {
-        LineFault::Memory
+        RoutesLineFault::Memory
     }
 }
 
-impl<T: Drop> From<AllocFailed<T>> for LineFault {
-    ghost from_gives = { λ _ fault. fault ≡ LineFault.Memory };
+impl<T: Drop> From<AllocFailed<T>> for RoutesLineFault {
+    ghost from_gives = { λ _ fault. fault ≡ RoutesLineFault.Memory };
 
     fn from(_: AllocFailed<T>) -> Self {
-        LineFault::Memory
+        RoutesLineFault::Memory
     }
 }

@@ -2,28 +2,20 @@
 ghost use Rattle.std.specs.Prelude.{◌≡◌, ◌≤◌, length, Ok, Err, IfOk, IfErr, MatchResult};
 ghost use Rattle.nf_routes_lists.specs.declared.RoutesRule.TheVariants.{G17};
 ghost use Rattle.nf_lines.specs.Faults.{longest_text};
+ghost use Rattle.nf_side_lists.specs.Frame.{add_lines as add_lines_by, draft_of};
 ghost use Rattle.nf_routes_lists.specs.Routes.{AreWalks};
-ghost use Rattle.nf_routes_lists.specs.RoutesFile.{is_routes_1 as is_routes_1_by, add_route_lines, routes_draft, routes_in, routes_of, HoldsCircleIn, ReadsRoutes};
-ghost use Rattle.nf_routes_lists.specs.Kept.{AreKept, AreSound};
-ghost use Rattle.nf_routes_file.specs.Drafts.{seen_draft, routes_closed};
+ghost use Rattle.nf_routes_lists.specs.RoutesFile.{add_route_line, routes_frame, routes_in, routes_of, HoldsCircleIn, ReadsRoutes};
+ghost use Rattle.nf_routes_lists.specs.Kept.{AreKept};
+ghost use Rattle.nf_routes_file.specs.Drafts.{seen_draft};
 ghost use Rattle.nf_routes_file.specs.Files.{IfBroken};
 
 use crate::draft::Draft;
 use crate::fault::RoutesFault;
-use crate::order::takes_all;
 use crate::routes::Routes;
 use nf_net::Network;
 use nf_routes_lists::RoutesRule;
-use nf_side_files::{ReadLine, contents, is_word};
+use nf_side_files::{ReadLine, contents, is_head};
 use std::alloc::Global;
-
-// `routes 1`
-#[tactic(auto, using(crate::proofs::RouteWords::head_count_wrong, crate::proofs::RouteWords::head_is))]
-fn is_routes_1(line: &ReadLine) -> bool
-    ensures { result ≡ is_routes_1_by line.now.words }
-{
-    line.len() == 2 && is_word(line.at(0), b"routes") && is_word(line.at(1), b"1")
-}
 
 // What a draft comes to with more lines, up to the first that breaks a rule.
 fn add_lines(
@@ -32,8 +24,8 @@ fn add_lines(
     mut draft: Draft,
     lines: &[ReadLine],
 ) -> Result<Draft, RoutesFault>
-    ensures { MatchResult result (λ next. add_route_lines net.now (seen_draft draft) lines.now ≡ Ok (seen_draft next))
-        (λ fault. IfBroken fault (λ broken. add_route_lines net.now (seen_draft draft) lines.now ≡ Err broken)) }
+    ensures { MatchResult result (λ next. add_lines_by (add_route_line net.now) (seen_draft draft) lines.now ≡ Ok (seen_draft next))
+        (λ fault. IfBroken fault (λ broken. add_lines_by (add_route_line net.now) (seen_draft draft) lines.now ≡ Err broken)) }
 {
     for line in lines {
         if let Err(fault) = draft.add_line(alloc, net, line) {
@@ -45,8 +37,8 @@ fn add_lines(
 
 // What the lines that have words say.
 fn read_draft(alloc: Global, net: &Network, lines: &[ReadLine]) -> Result<Draft, RoutesFault>
-    ensures { MatchResult result (λ draft. routes_draft net.now lines.now ≡ Ok (seen_draft draft))
-        (λ fault. IfBroken fault (λ broken. routes_draft net.now lines.now ≡ Err broken)) }
+    ensures { MatchResult result (λ draft. draft_of (routes_frame net.now) lines.now ≡ Ok (seen_draft draft))
+        (λ fault. IfBroken fault (λ broken. draft_of (routes_frame net.now) lines.now ≡ Err broken)) }
 {
     let [head, rest @ ..] = lines else {
         return Err(RoutesFault::Broken {
@@ -54,34 +46,13 @@ fn read_draft(alloc: Global, net: &Network, lines: &[ReadLine]) -> Result<Draft,
             line: 1,
         });
     };
-    if !is_routes_1(head) {
+    if !is_head(head, b"routes") {
         return Err(RoutesFault::Broken {
             rule: RoutesRule::G3,
             line: head.number(),
         });
     }
     add_lines(alloc, net, Draft::new(alloc), rest)
-}
-
-// The routes, or the first rule of the file as a whole that is broken.
-fn close(alloc: Global, net: &Network, draft: Draft) -> Result<Routes, RoutesFault>
-    requires { AreSound net.now.net draft.routes.items }
-    ensures { MatchResult result (λ routes. routes_closed net.now (seen_draft draft) ≡ Ok routes)
-        (λ fault. IfBroken fault (λ broken. routes_closed net.now (seen_draft draft) ≡ Err broken)) }
-{
-    if !draft.ended {
-        return Err(RoutesFault::Broken {
-            rule: RoutesRule::G16,
-            line: 0,
-        });
-    }
-    if !takes_all(alloc, net.link_count(), &draft.routes)? {
-        return Err(RoutesFault::Broken {
-            rule: RoutesRule::G17,
-            line: 0,
-        });
-    }
-    Ok(Routes::kept(draft.routes))
 }
 
 // What parse_routes gives, by the order of loading.
@@ -95,7 +66,7 @@ fn read_routes(alloc: Global, net: &Network, text: &[u8]) -> Result<Routes, Rout
         Err(fault) => return Err(RoutesFault::from(fault)),
     };
     let draft = read_draft(alloc, net, &lines)?;
-    close(alloc, net, draft)
+    draft.close(alloc, net)
 }
 
 /// The routes of a network that a text of at most 67,108,864 bytes gives, each a walk from source to sink; or the first rule that it

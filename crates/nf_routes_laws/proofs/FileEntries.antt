@@ -7,9 +7,10 @@ use Rattle.nf_rational.specs.Rational.{ℚ}
 use Rattle.nf_numerals.specs.Numbers.{number_of}
 use Rattle.nf_formats.specs.Names.{Name, is_name, has_name, place_of}
 use Rattle.nf_formats.specs.Numbers.{greatest}
+use Rattle.nf_side_lists.specs.Lines.{piece_entry}
 use Rattle.nf_routes_lists.specs.declared.RoutesRule.{RoutesRule}
-use Rattle.nf_routes_lists.specs.declared.RoutesRule.TheVariants.{G5, G7, G8, G17}
-use Rattle.nf_routes_lists.specs.RoutesFile.{RoutesEntry, RouteLine, RateLine, End, route_line, piece_entry, rate_line, end_line, routes_entry}
+use Rattle.nf_routes_lists.specs.declared.RoutesRule.TheVariants.{G5, G7, G8, G9, G17}
+use Rattle.nf_routes_lists.specs.RoutesFile.{RoutesEntry, RouteLine, RateLine, End, route_line, rate_line, end_line, routes_entry}
 
 abbrev pub IsNew : RoutesEntry → Type 0
 IsNew (RouteLine name links) = (is_name name ≡ true) × (0 < length links)
@@ -36,7 +37,7 @@ of_route links (name ∷ one ∷ rest) = by (is_name name) refl
     by true e = either (list_all (has_name links) (one ∷ rest)) (Ok (RouteLine name (map (place_of links) (one ∷ rest)))) (Err G8) (e, some) (λ e. cc)
     by false e = λ e. cc
 
-of_piece : (r : ℕ) (start rate : Option ℚ) → Entered (piece_entry r start rate)
+of_piece : (r : ℕ) (start rate : Option ℚ) → Entered (piece_entry (λ piece. RateLine r piece) G9 start rate)
 of_piece r (Some start) (Some rate) = tt
 of_piece r (Some start) None = λ e. cc
 of_piece r None (Some rate) = λ e. cc
@@ -47,7 +48,7 @@ of_rate routes [] = λ e. cc
 of_rate routes (a ∷ []) = λ e. cc
 of_rate routes (a ∷ b ∷ []) = λ e. cc
 of_rate routes (name ∷ start ∷ rate ∷ []) =
-    let piece = piece_entry (place_of routes name) (result_ok (number_of greatest start)) (result_ok (number_of greatest rate)) in
+    let piece = piece_entry (λ piece. RateLine (place_of routes name) piece) G9 (result_ok (number_of greatest start)) (result_ok (number_of greatest rate)) in
     either (has_name routes name) piece (Err G8) (of_piece (place_of routes name) (result_ok (number_of greatest start)) (result_ok (number_of greatest rate))) (λ e. cc)
 of_rate routes (a ∷ b ∷ d ∷ e ∷ rest) = λ x. cc
 

@@ -1,32 +1,30 @@
 -- What lines that break no rule give: not too many routes, of different names, each a walk from source to sink with its pieces.
 use Rattle.std.proofs.Common.{◌≡◌, ◌≢◌, ℕ, zero, suc, ◌<◌, ◌≤◌, ⊎_elim, Bool, true, false, not, ◌||◌, ◌&&◌, eqb, nat_le, List, [], ◌∷◌, ◌++◌, length, set, get_or, Option, Some, None, All, slice_get, Result, Ok, Err, refl, sym, ap, subst, ◌∙◌, arith, bytes_eq}
-use Rattle.std.specs.List.{last_or, list_all, IsDistinct}
-use Rattle.std.proofs.lemmas.Bool.{or_parts, and_parts, leb-false}
+use Rattle.std.specs.List.{list_all, IsDistinct}
+use Rattle.std.proofs.lemmas.Bool.{and_parts, leb-false}
 use Rattle.std.proofs.lemmas.Bool.Decides.{eqb_tells}
 use Rattle.std.proofs.lemmas.List.{length-append, length-set, map-append}
 use Rattle.std.proofs.lemmas.List.Folds.{list_all-append}
 use Rattle.std.proofs.lemmas.List.Elements.{All-nil, All-push, All-set, All-get_or, All-map, All-weaker}
 use Rattle.std.proofs.lemmas.Option.{none-some, same_Some, slice_get-get_or, slice_get_within}
-use Rattle.nf_rational.specs.Rational.{ℚ}
-use Rattle.nf_rational.specs.Operations.{0ℚ}
-use Rattle.nf_rational.specs.Order.{◌≤ℚ◌, ◌<ℚ◌, lt_ℚ}
-use Rattle.nf_rational_laws.proofs.Tests.{lt_of_test, lt_ℚ_cases}
 use Rattle.nf_work.specs.Checked.{◌>>=◌}
 use Rattle.nf_lines.specs.Words.{ReadLine}
 use Rattle.nf_model.specs.Walk.{IsWalk}
-use Rattle.nf_model.specs.Network.{Piece, Link, Network, IsPiece, ArePieces, hop_of, hops}
+use Rattle.nf_model.specs.Network.{Piece, Link, Network, ArePieces, hop_of, hops}
 use Rattle.nf_formats.specs.Names.{Name, is_name, has_name, AreNames}
-use Rattle.nf_formats.specs.NetLines.{is_negative, is_not_after}
 use Rattle.nf_formats.specs.Named.{Named}
 use Rattle.nf_formats_laws.proofs.NameFacts.{with_name_new}
 use Rattle.nf_formats_laws.proofs.DraftKept.{distinct_with_names}
 use Rattle.nf_plain_laws.proofs.Entries.{slice_get-image}
 use Rattle.nf_plain_laws.proofs.Results.{same_Ok, not_both}
-use Rattle.nf_readings_laws.proofs.Outcomes.{no_err, and_true, both_ok, where_true, where_false}
-use Rattle.nf_routes_lists.specs.declared.RoutesRule.{RoutesRule}
-use Rattle.nf_routes_lists.specs.declared.RoutesRule.TheVariants.{G3, G4, G10, G11, G12, G13, G14, G15}
+use Rattle.nf_side_lists.specs.Lines.{unless_rule}
+use Rattle.nf_side_lists.specs.Frame.{draft_of}
+use Rattle.nf_readings_laws.proofs.FrameKept.{rules_out, no_rule, draft_kept}
+use Rattle.nf_readings_laws.proofs.Outcomes.{and_true, both_ok, where_false}
+use Rattle.nf_readings_laws.proofs.PiecesKept.{GoOn, go_on_pieces, piece_kept}
+use Rattle.nf_routes_lists.specs.declared.RoutesRule.TheVariants.{G4, G10, G11, G12, G13, G14, G15}
 use Rattle.nf_routes_lists.specs.Routes.{Route, AreWalks, AreRoutes}
-use Rattle.nf_routes_lists.specs.RoutesFile.{NamedRoute, RoutesEntry, RouteLine, RateLine, End, RoutesDraft, route_names, routes_of, pieces_of, with_piece, longer, is_walk, tail_is, head_of, first_rule, rule_behind, routes_entry, routes_rule_of, routes_after, unless_rule, add_route_line, in_routes_line, add_route_lines, is_routes_1, routes_draft}
+use Rattle.nf_routes_lists.specs.RoutesFile.{NamedRoute, RoutesEntry, RouteLine, RateLine, End, RoutesDraft, route_names, routes_of, pieces_of, with_piece, longer, is_walk, tail_is, head_of, rule_behind, routes_entry, routes_rule_of, routes_after, add_route_line, routes_frame}
 use Rattle.nf_routes_lists.specs.Kept.{AreInForm, AreSound}
 use Rattle.nf_routes_laws.proofs.FileEntries.{IsNew, Entered, entered}
 
@@ -43,41 +41,6 @@ walk_of net (e ∷ rest) v w k =
         → IsWalk (hops net) (e ∷ rest) v w
     by None there p later = absurd (not_both false p.0 refl)
     by (Some link) there p later = (hop_of link, slice_get-image hop_of net.links e link there, same_node link.tail v p.0, later link.head p.1)
-
--- ---- pieces, one after the other
-abbrev After : Option Piece → Piece → Type 0
-After None piece = Unit {0}
-After (Some before) piece = before.start <ℚ piece.start
-
-abbrev GoOn : Option Piece → List Piece → Type 0
-GoOn before [] = Unit {0}
-GoOn before (p ∷ rest) = (0ℚ ≤ℚ p.start) × (0ℚ ≤ℚ p.rate) × After before p × GoOn (Some p) rest
-
-go_on_more : (before : Option Piece) (xs : List Piece) (piece : Piece) → GoOn before xs → 0ℚ ≤ℚ piece.start → 0ℚ ≤ℚ piece.rate → After (last_or before xs) piece → GoOn before (xs ++ piece ∷ [])
-go_on_more before [] piece w h k a = (h, k, a, tt)
-go_on_more before (x ∷ xs) piece w h k a = (w.0, w.1, w.2, go_on_more (Some x) xs piece w.3 h k a)
-
-starts_of : (before : Option Piece) (xs : List Piece) (i : ℕ) (piece : Piece) → GoOn before xs → IsPiece xs i piece → (0ℚ ≤ℚ piece.start) × (0ℚ ≤ℚ piece.rate)
-starts_of before [] i piece w is = absurd (none-some piece is)
-starts_of before (x ∷ xs) zero piece w is = subst (λ (p : Piece). (0ℚ ≤ℚ p.start) × (0ℚ ≤ℚ p.rate)) (same_Some x piece is) (w.0, w.1)
-starts_of before (x ∷ xs) (suc i) piece w is = starts_of (Some x) xs i piece w.3 is
-
-rise_of : (before : Option Piece) (xs : List Piece) (i : ℕ) (piece next : Piece) → GoOn before xs → IsPiece xs i piece → IsPiece xs (suc i) next → piece.start <ℚ next.start
-rise_of before [] i piece next w is then_ = absurd (none-some piece is)
-rise_of before (x ∷ []) i piece next w is then_ = absurd (none-some next then_)
-rise_of before (x ∷ y ∷ xs) zero piece next w is then_ =
-    subst (λ (q : Piece). piece.start <ℚ q.start) (same_Some y next then_) (subst (λ (p : Piece). p.start <ℚ y.start) (same_Some x piece is) w.3.2)
-rise_of before (x ∷ y ∷ xs) (suc i) piece next w is then_ = rise_of (Some x) (y ∷ xs) i piece next w.3 is then_
-
-go_on_pieces : (xs : List Piece) → GoOn None xs → ArePieces xs
-go_on_pieces xs w = record { starts = λ i p is. (starts_of None xs i p w is).0; rise = λ i p q is then_. rise_of None xs i p q w is then_; rates = λ i p is. (starts_of None xs i p w is).1 }
-
-not_negative : (x : ℚ) → is_negative x ≡ false → 0ℚ ≤ℚ x
-not_negative x e = ⊎_elim (λ (w : (lt_ℚ x 0ℚ ≡ true) × (x <ℚ 0ℚ)). absurd (not_both (lt_ℚ x 0ℚ) w.0 e)) (λ (w : (lt_ℚ x 0ℚ ≡ false) × (0ℚ ≤ℚ x)). w.1) (lt_ℚ_cases x 0ℚ)
-
-after_it : (piece : Piece) (before : Option Piece) → is_not_after piece.start before ≡ false → After before piece
-after_it piece None e = tt
-after_it piece (Some before) e = lt_of_test piece.start before.start e
 
 -- ---- names
 names_more : (names : List Name) (name : Name) → AreNames names → is_name name ≡ true → has_name names name ≡ false → AreNames (names ++ name ∷ [])
@@ -106,11 +69,6 @@ record IsGood (net : Network) (draft : RoutesDraft) : Type 0 where
   pub few : length draft.routes ≤ 100
   pub names : AreNames (route_names draft.routes)
   pub each : All (IsGoodRoute net) draft.routes
-
--- a rule that isn't broken
-rules_out : (test : Bool) (rule : RoutesRule) (rest : List (Bool × RoutesRule)) → first_rule ((test, rule) ∷ rest) ≡ None → (test ≡ false) × (first_rule rest ≡ None)
-rules_out true rule rest e = absurd (cc)
-rules_out false rule rest e = (refl, e)
 
 not_false : (b : Bool) → not b ≡ false → b ≡ true
 not_false true e = refl
@@ -146,28 +104,21 @@ module _ (net : Network) (draft : RoutesDraft) (good : IsGood net draft) where
       by : (o : Option NamedRoute) → slice_get draft.routes r ≡ o → rule_behind (pieces_of o) piece ≡ None → IsGood net (record draft { routes = with_piece piece o draft.routes r })
       by None there e = record { few = good.few; names = good.names; each = good.each }
       by (Some named) there e =
-          let a = rules_out (is_negative piece.start || is_negative piece.rate) G13 ((is_not_after piece.start (last_or None named.route.pieces), G14) ∷ (nat_le 200 (length named.route.pieces), G15) ∷ []) e in
-          let b = rules_out (is_not_after piece.start (last_or None named.route.pieces)) G14 ((nat_le 200 (length named.route.pieces), G15) ∷ []) a.1 in
-          let d = rules_out (nat_le 200 (length named.route.pieces)) G15 [] b.1 in
-          let fewer : length named.route.pieces < 200 = leb-false 200 (length named.route.pieces) d.0 in
-          let w = or_parts (is_negative piece.start) (is_negative piece.rate) a.0 in
           let was = all_at (IsGoodRoute net) draft.routes r named good.each there in
+          let k = piece_kept 200 G13 G14 G15 named.route.pieces piece was.pieces e in
+          let fewer : length named.route.pieces < 200 = leb-false 200 (length named.route.pieces) k.1 in
           record {
             few = omega (arith, good.few, length-set draft.routes r (longer named piece));
             names = subst AreNames (sym (names_stay draft.routes r named piece there)) good.names;
             each = All-set (IsGoodRoute net) draft.routes r (longer named piece) (record {
               walk = was.walk;
               some = was.some;
-              pieces = go_on_more None named.route.pieces piece was.pieces (not_negative piece.start w.0) (not_negative piece.rate w.1) (after_it piece (last_or None named.route.pieces) b.0);
+              pieces = k.0;
               few = omega (arith, fewer, length-append named.route.pieces (piece ∷ []));
             }) good.each;
           }
 
 -- ---- lines, one after the other
-no_rule : (o : Option RoutesRule) (draft next : RoutesDraft) → unless_rule o draft ≡ Ok next → (o ≡ None) × (draft ≡ next)
-no_rule None draft next e = (refl, same_Ok draft next e)
-no_rule (Some rule) draft next e = absurd (no_err rule next e)
-
 module _ (n : Named) where
   entry_kept : (draft : RoutesDraft) (entry : RoutesEntry) (next : RoutesDraft) → IsNew entry → IsGood n.net draft → unless_rule (routes_rule_of n.net draft entry) (routes_after draft entry) ≡ Ok next → IsGood n.net next
   entry_kept draft (RouteLine name links) next new good e =
@@ -185,28 +136,13 @@ module _ (n : Named) where
       (where_false draft.ended G4 (entry >>= λ entry. unless_rule (routes_rule_of n.net draft entry) (routes_after draft entry)) next e).1 in
       entry_kept draft w.between next (subst Entered w.first (entered n.link_names (route_names draft.routes) words)) good w.next
 
-  in_line : (number : ℕ) (r : Result RoutesDraft RoutesRule) (next : RoutesDraft) → in_routes_line number r ≡ Ok next → r ≡ Ok next
-  in_line number (Ok draft) next e = cc
-  in_line number (Err rule) next e = absurd (cc)
-
-  lines_kept : (draft : RoutesDraft) (lines : List ReadLine) (last : RoutesDraft) → IsGood n.net draft → add_route_lines n draft lines ≡ Ok last → IsGood n.net last
-  lines_kept draft [] last good e = subst (IsGood n.net) (same_Ok draft last e) good
-  lines_kept draft (line ∷ rest) last good e =
-      let w = both_ok (in_routes_line line.number (add_route_line n draft line.words)) (λ next. add_route_lines n next rest) last e in
-      lines_kept w.between rest last (line_kept draft line.words w.between good (in_line line.number (add_route_line n draft line.words) w.between w.first)) w.next
-
-  draft_good : (lines : List ReadLine) (draft : RoutesDraft) → routes_draft n lines ≡ Ok draft → IsGood n.net draft
-  draft_good [] draft e = absurd (no_err (record { rule = G3; line = 1 }) draft e)
-  draft_good (line ∷ rest) draft e =
-      lines_kept (record { routes = []; ended = false }) rest draft (record { few = omega arith; names = no_names; each = All-nil (IsGoodRoute n.net) })
-      (where_true (is_routes_1 line.words) (record { rule = G3; line = line.number }) (add_route_lines n (record { routes = []; ended = false }) rest) draft e).1
-
   abbrev IsWalkOf : Route → Type 0
   IsWalkOf route = IsWalk (hops n.net) route.links n.net.source n.net.sink
 
-  pub draft_sound : (lines : List ReadLine) (draft : RoutesDraft) → routes_draft n lines ≡ Ok draft → AreSound n.net draft.routes
+  pub draft_sound : (lines : List ReadLine) (draft : RoutesDraft) → draft_of (routes_frame n) lines ≡ Ok draft → AreSound n.net draft.routes
   draft_sound lines draft e =
-      let good = draft_good lines draft e in
+      let none : IsGood n.net (routes_frame n).empty = record { few = omega arith; names = no_names; each = All-nil (IsGoodRoute n.net) } in
+      let good = draft_kept (routes_frame n) (IsGood n.net) line_kept none lines draft e in
       let walks = All-map IsWalkOf (λ (r : NamedRoute). r.route) draft.routes (All-weaker (IsGoodRoute n.net) (λ (r : NamedRoute). IsWalkOf r.route) (λ r g. g.walk) draft.routes good.each) in
       record {
         form = record {

@@ -1,5 +1,5 @@
 -- What a routes file is read as: the last rule is broken by a circle and by nothing else, and the order of loading tells it.
-use Rattle.std.proofs.Common.{◌≡◌, ◌≢◌, ℕ, Bool, true, false, not, ◌||◌, nat_le, List, [], ◌∷◌, length, Option, Some, None, Result, Ok, Err, inl, inr, refl, sym, ap, subst, ◌∙◌}
+use Rattle.std.proofs.Common.{◌≡◌, ◌≢◌, ℕ, Bool, true, false, not, ◌||◌, nat_le, List, [], ◌∷◌, length, Option, Some, None, Result, Ok, Err, inl, inr, refl, sym, ap, subst, ◌∙◌, codes}
 use Rattle.std.specs.Prelude.{if◌then◌else◌}
 use Rattle.std.specs.List.{last_or}
 use Rattle.nf_work.specs.Checked.{◌>>=◌}
@@ -10,11 +10,14 @@ use Rattle.nf_formats.specs.Names.{has_name}
 use Rattle.nf_formats.specs.NetLines.{is_negative, is_not_after}
 use Rattle.nf_formats.specs.Named.{Named}
 use Rattle.nf_plain_laws.proofs.Results.{same_Ok}
-use Rattle.nf_readings_laws.proofs.Outcomes.{no_err, both_ok, where_true}
+use Rattle.nf_side_lists.specs.Lines.{is_head, unless_rule}
+use Rattle.nf_side_lists.specs.Frame.{in_line, add_lines, draft_of, by_bytes}
+use Rattle.nf_readings_laws.proofs.FrameKept.{file_is}
+use Rattle.nf_readings_laws.proofs.Outcomes.{where_true}
 use Rattle.nf_routes_lists.specs.declared.RoutesRule.{RoutesRule}
 use Rattle.nf_routes_lists.specs.declared.RoutesRule.TheVariants.{G3, G4, G10, G11, G12, G13, G14, G15, G16, G17}
 use Rattle.nf_routes_lists.specs.Routes.{HoldCircle}
-use Rattle.nf_routes_lists.specs.RoutesFile.{RoutesBroken, NamedRoute, RoutesEntry, RouteLine, RateLine, End, RoutesDraft, route_names, routes_of, pieces_at, is_walk, routes_entry, routes_rule_of, routes_after, unless_rule, add_route_line, in_routes_line, add_route_lines, is_routes_1, routes_draft, routes_ended, as_routes_rule, routes_by_bytes, routes_of_lines, HoldsCircleIn, circle_broken, ReadsRoutes, is_ordered, unless_circle, routes_in}
+use Rattle.nf_routes_lists.specs.RoutesFile.{RoutesBroken, NamedRoute, RoutesEntry, RouteLine, RateLine, End, RoutesDraft, route_names, routes_of, pieces_at, is_walk, routes_entry, routes_rule_of, routes_after, add_route_line, routes_ended, routes_frame, routes_of_lines, HoldsCircleIn, circle_broken, ReadsRoutes, is_ordered, unless_circle, routes_in}
 use Rattle.nf_routes_lists.specs.Kept.{AreKept, AreSound}
 use Rattle.nf_routes_laws.proofs.Ordering.{none-circle, circle-found}
 use Rattle.nf_routes_laws.proofs.FileEntries.{Entered, entered}
@@ -45,9 +48,9 @@ then_in : {A B : Type 0} (r : Result A RoutesBroken) (f : A → Result B RoutesB
 then_in (Ok x) f h k = k x
 then_in (Err broken) f h k = h
 
-in_line : (number : ℕ) (r : Result RoutesDraft RoutesRule) → Other r → OtherIn (in_routes_line number r)
-in_line number (Ok draft) h = tt
-in_line number (Err rule) h = h
+of_number : (number : ℕ) (r : Result RoutesDraft RoutesRule) → Other r → OtherIn (in_line number r)
+of_number number (Ok draft) h = tt
+of_number number (Err rule) h = h
 
 first : (b : Bool) (rule : RoutesRule) (o : Option RoutesRule) → rule ≢ G17 → OtherOf o → OtherOf (if b then Some rule else o)
 first true rule o h k = h
@@ -88,17 +91,17 @@ module _ (n : Named) where
       (then_ entry (λ entry. unless_rule (routes_rule_of n.net draft entry) (routes_after draft entry)) (of_entry entry (entered n.link_names (route_names draft.routes) words))
       (λ entry. unless (routes_rule_of n.net draft entry) (routes_after draft entry) (of_rule n.net draft entry)))
 
-  of_lines : (draft : RoutesDraft) (lines : List ReadLine) → OtherIn (add_route_lines n draft lines)
+  of_lines : (draft : RoutesDraft) (lines : List ReadLine) → OtherIn (add_lines (add_route_line n) draft lines)
   of_lines draft [] = tt
   of_lines draft (line ∷ rest) =
-      then_in (in_routes_line line.number (add_route_line n draft line.words)) (λ next. add_route_lines n next rest)
-      (in_line line.number (add_route_line n draft line.words) (of_line draft line.words)) (λ next. of_lines next rest)
+      then_in (in_line line.number (add_route_line n draft line.words)) (λ next. add_lines (add_route_line n) next rest)
+      (of_number line.number (add_route_line n draft line.words) (of_line draft line.words)) (λ next. of_lines next rest)
 
-  of_draft : (lines : List ReadLine) → OtherIn (routes_draft n lines)
+  of_draft : (lines : List ReadLine) → OtherIn (draft_of (routes_frame n) lines)
   of_draft [] = λ e. cc
-  of_draft (line ∷ rest) = step (is_routes_1 line.words)
+  of_draft (line ∷ rest) = step (is_head (codes "routes") line.words)
     where
-      step : (b : Bool) → OtherIn (if b then add_route_lines n (record { routes = []; ended = false }) rest else Err (record { rule = G3; line = line.number }))
+      step : (b : Bool) → OtherIn (if b then add_lines (add_route_line n) (record { routes = []; ended = false }) rest else Err (record { rule = G3; line = line.number }))
       step true = of_lines (record { routes = []; ended = false }) rest
       step false = λ e. cc
 
@@ -109,29 +112,25 @@ kept_routes n routes sound o = record { form = sound.form; straight = none-circl
 -- ---- the whole text
 module _ (n : Named) (text : List ℕ) where
   abbrev ended : Result (List NamedRoute) RoutesBroken
-  ended = routes_draft n (content_lines (read_lines text)) >>= routes_ended
+  ended = draft_of (routes_frame n) (content_lines (read_lines text)) >>= routes_ended
 
   -- no line breaks the last rule
   of_text : OtherIn (routes_of_lines n text)
   unfolding routes_of_lines
   of_text = by (first_fault text)
     where
-      by : (o : Option LineFault) → OtherIn (routes_by_bytes o ended)
+      by : (o : Option LineFault) → OtherIn (by_bytes (routes_frame n) o ended)
       by (Some (NotAscii line)) = λ e. cc
       by (Some (LongLine line)) = λ e. cc
-      by None = then_in (routes_draft n (content_lines (read_lines text))) routes_ended (of_draft n (content_lines (read_lines text))) of_ended
+      by None = then_in (draft_of (routes_frame n) (content_lines (read_lines text))) routes_ended (of_draft n (content_lines (read_lines text))) of_ended
 
   -- lines that break no rule give routes of the network
   lines_sound : (routes : List NamedRoute) → routes_of_lines n text ≡ Ok routes → AreSound n.net routes
   unfolding routes_of_lines
   lines_sound routes e =
-      let w = both_ok (routes_draft n (content_lines (read_lines text))) routes_ended routes (by (first_fault text) e) in
+      let w = file_is (routes_frame n) text routes e in
       let t = where_true w.between.ended (record { rule = G16; line = 0 }) (Ok w.between.routes) routes w.next in
       subst (AreSound n.net) (same_Ok w.between.routes routes t.1) (draft_sound n (content_lines (read_lines text)) w.between w.first)
-    where
-      by : (o : Option LineFault) → routes_by_bytes o ended ≡ Ok routes → ended ≡ Ok routes
-      by (Some fault) f = absurd (no_err (as_routes_rule fault) routes f)
-      by None f = f
 
   module _ (routes : List NamedRoute) (read : routes_of_lines n text ≡ Ok routes) where
     straight : is_ordered n routes ≡ true → HoldCircle (routes_of routes) → ⊥

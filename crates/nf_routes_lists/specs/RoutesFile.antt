@@ -1,18 +1,14 @@
 -- The routes file: which routes it gives in a network, or which rule it breaks first, and where.
 use Rattle.std.specs.Prelude.{◌≡◌, ◌⊎◌, ℕ, Bool, true, false, not, ◌&&◌, ◌||◌, ◌==◌, nat_le, if◌then◌else◌, List, [], ◌∷◌, ◌++◌, length, map, set, Option, Some, None, Result, Ok, Err, codes, slice_get}
-use Rattle.std.specs.List.{last_or, list_all}
-use Rattle.std.specs.Result.{result_ok}
+use Rattle.std.specs.List.{list_all}
 use Rattle.std.specs.Str.{bytes_eq}
-use Rattle.nf_rational.specs.Rational.{ℚ}
 use Rattle.nf_work.specs.Checked.{◌>>=◌}
-use Rattle.nf_lines.specs.Words.{ReadLine, read_lines, content_lines}
-use Rattle.nf_lines.specs.Faults.{LineFault, NotAscii, LongLine, first_fault}
-use Rattle.nf_numerals.specs.Numbers.{number_of}
 use Rattle.nf_model.specs.Network.{Piece, Link, Network}
 use Rattle.nf_formats.specs.Names.{Name, is_name, has_name, place_of}
-use Rattle.nf_formats.specs.Numbers.{greatest}
-use Rattle.nf_formats.specs.NetLines.{is_negative, is_not_after}
 use Rattle.nf_formats.specs.Named.{Named}
+use Rattle.nf_side_lists.specs.Lines as lines
+use Rattle.nf_side_lists.specs.Lines.{first_rule}
+use Rattle.nf_side_lists.specs.Frame.{Broken, Frame, file_in}
 use Rattle.nf_routes_lists.specs.declared.RoutesRule.{RoutesRule}
 use Rattle.nf_routes_lists.specs.declared.RoutesRule.TheVariants.{G1, G2, G3, G4, G5, G6, G7, G8, G9, G10, G11, G12, G13, G14, G15, G16, G17}
 use Rattle.nf_routes_lists.specs.Routes.{Route, HoldCircle, takes_all}
@@ -30,10 +26,8 @@ pub record NamedRoute : Type 0 where
   pub name : Name
   pub route : Route
 
--- a rule that is broken, and the line in which it is seen
-pub record RoutesBroken : Type 0 where
-  pub rule : RoutesRule
-  pub line : ℕ
+abbrev pub RoutesBroken : Type 0
+RoutesBroken = Broken RoutesRule
 
 -- ---- what a line says by itself
 pub data RoutesEntry : Type 0 where
@@ -48,20 +42,12 @@ route_line links (name ∷ first ∷ rest) =
     else (if list_all (has_name links) (first ∷ rest) then Ok (RouteLine name (map (place_of links) (first ∷ rest))) else Err G8)
 route_line links words = Err G6
 
-abbrev pub piece_entry : ℕ → Option ℚ → Option ℚ → Result RoutesEntry RoutesRule
-piece_entry r (Some start) (Some rate) = Ok (RateLine r (record { start = start; rate = rate }))
-piece_entry r start rate = Err G9
-
 -- `rate NAME START RATE`
 abbrev pub rate_line : List Name → List (List ℕ) → Result RoutesEntry RoutesRule
-rate_line routes (name ∷ start ∷ rate ∷ []) =
-    if has_name routes name then piece_entry (place_of routes name) (result_ok (number_of greatest start))
-    (result_ok (number_of greatest rate)) else Err G8
-rate_line routes words = Err G6
+rate_line routes words = lines.rate_line (λ r piece. RateLine r piece) G6 G8 G9 routes words
 
 abbrev pub end_line : List (List ℕ) → Result RoutesEntry RoutesRule
-end_line [] = Ok End
-end_line words = Err G6
+end_line words = lines.end_line End G6 words
 
 abbrev pub routes_entry : List Name → List Name → List (List ℕ) → Result RoutesEntry RoutesRule
 routes_entry links routes [] = Err G5
@@ -109,16 +95,9 @@ abbrev pub is_walk : List Link → List ℕ → ℕ → ℕ → Bool
 is_walk links [] v w = v == w
 is_walk links (e ∷ rest) v w = tail_is (slice_get links e) v && is_walk links rest (head_of (slice_get links e)) w
 
-abbrev pub first_rule : List (Bool × RoutesRule) → Option RoutesRule
-first_rule [] = None
-first_rule (test ∷ rest) = if test.0 then Some test.1 else first_rule rest
-
 -- the first rule that a piece breaks behind others of its route
 abbrev pub rule_behind : List Piece → Piece → Option RoutesRule
-rule_behind before piece = first_rule (
-    (is_negative piece.start || is_negative piece.rate, G13)
-    ∷ (is_not_after piece.start (last_or None before), G14)
-    ∷ (nat_le most_lines_of_a_route (length before), G15) ∷ [])
+rule_behind before piece = lines.piece_rule most_lines_of_a_route G13 G14 G15 before piece
 
 abbrev pub routes_rule_of : Network → RoutesDraft → RoutesEntry → Option RoutesRule
 routes_rule_of net draft (RouteLine name links) = first_rule (
@@ -136,54 +115,32 @@ with_piece piece None routes r = routes
 with_piece piece (Some named) routes r = set routes r (longer named piece)
 
 abbrev pub routes_after : RoutesDraft → RoutesEntry → RoutesDraft
-routes_after draft (RouteLine name links) =
-    record draft { routes = draft.routes ++ record { name = name; route = record { links = links; pieces = [] } } ∷ [] }
+routes_after draft (RouteLine name links) = record draft { routes = draft.routes ++ record { name = name; route = record { links = links; pieces = [] } } ∷ [] }
 routes_after draft (RateLine r piece) = record draft { routes = with_piece piece (slice_get draft.routes r) draft.routes r }
 routes_after draft End = record draft { ended = true }
 
-abbrev pub unless_rule : Option RoutesRule → RoutesDraft → Result RoutesDraft RoutesRule
-unless_rule None draft = Ok draft
-unless_rule (Some rule) draft = Err rule
-
 abbrev pub add_route_line : Named → RoutesDraft → List (List ℕ) → Result RoutesDraft RoutesRule
 add_route_line n draft words = if draft.ended then Err G4
-    else (routes_entry n.link_names (route_names draft.routes) words >>= λ entry. unless_rule (routes_rule_of n.net draft entry)
-    (routes_after draft entry))
-
-abbrev pub in_routes_line : ℕ → Result RoutesDraft RoutesRule → Result RoutesDraft RoutesBroken
-in_routes_line number (Ok draft) = Ok draft
-in_routes_line number (Err rule) = Err (record { rule = rule; line = number })
-
-abbrev pub add_route_lines : Named → RoutesDraft → List ReadLine → Result RoutesDraft RoutesBroken
-add_route_lines n draft [] = Ok draft
-add_route_lines n draft (line ∷ rest) = do
-  next ← in_routes_line line.number (add_route_line n draft line.words)
-  add_route_lines n next rest
+    else (routes_entry n.link_names (route_names draft.routes) words >>= λ entry. lines.unless_rule (routes_rule_of n.net draft entry) (routes_after draft entry))
 
 -- ---- the whole file
-abbrev pub is_routes_1 : List (List ℕ) → Bool
-is_routes_1 (key ∷ version ∷ []) = bytes_eq key (codes "routes") && bytes_eq version (codes "1")
-is_routes_1 words = false
-
-abbrev pub routes_draft : Named → List ReadLine → Result RoutesDraft RoutesBroken
-routes_draft n [] = Err (record { rule = G3; line = 1 })
-routes_draft n (line ∷ rest) = if is_routes_1 line.words then add_route_lines n (record { routes = []; ended = false }) rest
-    else Err (record { rule = G3; line = line.number })
-
 abbrev pub routes_ended : RoutesDraft → Result (List NamedRoute) RoutesBroken
 routes_ended draft = if draft.ended then Ok draft.routes else Err (record { rule = G16; line = 0 })
 
-abbrev pub as_routes_rule : LineFault → RoutesBroken
-as_routes_rule (NotAscii line) = record { rule = G1; line = line }
-as_routes_rule (LongLine line) = record { rule = G2; line = line }
-
-abbrev pub routes_by_bytes : Option LineFault → Result (List NamedRoute) RoutesBroken → Result (List NamedRoute) RoutesBroken
-routes_by_bytes (Some fault) read = Err (as_routes_rule fault)
-routes_by_bytes None read = read
+abbrev pub routes_frame : Named → Frame RoutesRule RoutesDraft (List NamedRoute)
+routes_frame n = record {
+  not_ascii = G1;
+  long_line = G2;
+  no_head = G3;
+  keyword = codes "routes";
+  empty = record { routes = []; ended = false };
+  add = add_route_line n;
+  close = routes_ended;
+}
 
 -- the routes in the order of their lines, or the first rule that is broken, of all rules but the last
 unfoldable pub routes_of_lines : Named → List ℕ → Result (List NamedRoute) RoutesBroken
-routes_of_lines n text = routes_by_bytes (first_fault text) (routes_draft n (content_lines (read_lines text)) >>= routes_ended)
+routes_of_lines n text = file_in (routes_frame n) text
 
 -- ---- the last rule
 -- a text that breaks none of the others gives routes that hold a circle

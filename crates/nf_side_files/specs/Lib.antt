@@ -1,2 +1,3 @@
 pub mod NameAt
 pub mod PiecesBehind
+pub mod Said

@@ -1,10 +1,11 @@
-// The lines of a text that have words.
+// The lines of a text that have words, and its first line.
 ghost use Rattle.std.specs.Prelude.{◌≡◌, ◌≤◌, [], ◌∷◌, ◌++◌, length, None, IfOk, IfErr, OnOk};
 ghost use Rattle.nf_lines.specs.Words.{read_lines, content_lines};
 ghost use Rattle.nf_lines.specs.Faults.{first_fault, longest_text};
 ghost use Rattle.nf_text.specs.Reading.{Tells};
+ghost use Rattle.nf_side_lists.specs.Lines.{is_head as is_head_by};
 
-use nf_text::{Cursor, ReadLine, TextFault};
+use nf_text::{Cursor, ReadLine, TextFault, is_word};
 use std::alloc::{AllocError, Global};
 
 // Puts a line behind the others, if it has words.
@@ -34,4 +35,12 @@ pub fn contents<'a>(alloc: Global, text: &'a [u8]) -> Result<Vec<ReadLine<'a>>, 
             Err(fault) => return Err(fault),
         }
     }
+}
+
+/// Whether the words of a line are a keyword and the version 1.
+#[tactic(auto, using(crate::proofs::HeadWords::head_count_wrong, crate::proofs::HeadWords::head_is))]
+pub fn is_head(line: &ReadLine, keyword: &[u8]) -> bool
+    ensures { result ≡ is_head_by keyword.now line.now.words }
+{
+    line.len() == 2 && is_word(line.at(0), keyword) && is_word(line.at(1), b"1")
 }

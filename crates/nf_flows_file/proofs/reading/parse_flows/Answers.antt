@@ -1,11 +1,13 @@
 use Rattle.std.proofs.Common.{◌≡◌, List, length, Ok, Err, sym, ap, subst, ◌∙◌}
 use Rattle.std.proofs.lemmas.Result.{err_from_is_err_and, IfOk-weaker}
 use Rattle.nf_lines.specs.Words.{ReadLine}
-use Rattle.nf_complete_lists.specs.FlowsFile.{flows_draft, flows_in, if_ended}
+use Rattle.nf_side_lists.specs.Frame.{draft_of}
+use Rattle.nf_side_files.proofs.Frame.{same_read}
+use Rattle.nf_complete_lists.specs.FlowsFile.{if_ended, flows_frame, flows_in}
 use Rattle.nf_flows_file.specs.Drafts.{seen_draft}
 use Rattle.nf_flows_file.specs.declared.fault.FlowsFault.{FlowsFault}
-use Rattle.nf_flows_file.specs.Files.{IfBroken}
-use Rattle.nf_flows_file.proofs.FlowsRead.{broken_more, bytes_break, by_lines, answers}
+use Rattle.nf_flows_file.specs.Files.{given_of, IfBroken}
+use Rattle.nf_flows_file.proofs.FlowsRead.{broken_more, bytes_break, by_lines}
 use Rattle.nf_flows_file.proofs.reading.parse_flows.Goals as goal
 
 pub returns-in-Err-clause-reads : goal.returns-in-Err-clause-reads
@@ -18,14 +20,14 @@ returns-in_err-draft-clause-reads c =
     let p = err_from_is_err_and c.from_residual.result c.from_residual.ensures.1 in
     rw (p.1, p.2) (broken_more _ _ _
     (λ broken h. by_lines c.args.net.now c.args.text.now c.in-Ok.lines.items c.in-Ok.ensures.lines c.in-Ok.ensures.none (Err broken)
-    (ap (λ (ls : List ReadLine). flows_draft c.args.net.now ls) (sym c.deref.ensures.value) ∙ h))
+    (ap (λ (ls : List ReadLine). draft_of (flows_frame c.args.net.now) ls) (sym c.deref.ensures.value) ∙ h))
     c.in_err-draft.ensures.reads)
 
 pub returns-clause-reads : goal.returns-clause-reads
 returns-clause-reads c =
-    answers c.close.result (if_ended (seen_draft c.in_ok-draft.draft)) (flows_in c.args.net.now c.args.text.now)
+    same_read given_of IfBroken c.close.result (if_ended (seen_draft c.in_ok-draft.draft)) (flows_in c.args.net.now c.args.text.now)
     (by_lines c.args.net.now c.args.text.now c.in-Ok.lines.items c.in-Ok.ensures.lines c.in-Ok.ensures.none (Ok (seen_draft c.in_ok-draft.draft))
-    (ap (λ (ls : List ReadLine). flows_draft c.args.net.now ls) (sym c.deref.ensures.value) ∙ c.in_ok-draft.ensures.reads))
+    (ap (λ (ls : List ReadLine). draft_of (flows_frame c.args.net.now) ls) (sym c.deref.ensures.value) ∙ c.in_ok-draft.ensures.reads))
     c.close.ensures.closes
 
 pub returns-clause-links : goal.returns-clause-links

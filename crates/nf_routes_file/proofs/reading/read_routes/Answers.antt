@@ -2,12 +2,14 @@ use Rattle.std.proofs.Common.{◌≡◌, List, Ok, Err, sym, ap, subst, ◌∙�
 use Rattle.std.proofs.lemmas.Result.{err_from_is_err_and}
 use Rattle.nf_work.specs.Checked.{◌>>=◌}
 use Rattle.nf_lines.specs.Words.{ReadLine}
-use Rattle.nf_routes_lists.specs.RoutesFile.{routes_draft, routes_ended, unless_circle, routes_in}
+use Rattle.nf_side_lists.specs.Frame.{draft_of}
+use Rattle.nf_side_files.proofs.Frame.{same_read}
+use Rattle.nf_routes_lists.specs.RoutesFile.{routes_ended, routes_frame, unless_circle, routes_in}
 use Rattle.nf_routes_laws.proofs.FileKept.{draft_sound}
 use Rattle.nf_routes_file.specs.Drafts.{seen_draft}
 use Rattle.nf_routes_file.specs.declared.fault.RoutesFault.{RoutesFault}
 use Rattle.nf_routes_file.specs.Files.{IfBroken}
-use Rattle.nf_routes_file.proofs.RoutesRead.{broken_more, bytes_break, by_lines, answers}
+use Rattle.nf_routes_file.proofs.RoutesRead.{broken_more, bytes_break, by_lines}
 use Rattle.nf_routes_file.proofs.reading.read_routes.Goals as goal
 
 pub returns-in-Err : goal.returns-in-Err
@@ -20,7 +22,7 @@ returns-in_err-draft c =
     let p = err_from_is_err_and c.from_residual.result c.from_residual.ensures.1 in
     rw (p.1, p.2) (broken_more _ _ _
     (λ broken h. by_lines c.args.net.now c.args.text.now c.in-Ok.lines.items c.in-Ok.ensures.lines c.in-Ok.ensures.none (Err broken)
-    (ap (λ (ls : List ReadLine). routes_draft c.args.net.now ls) (sym c.deref.ensures.value) ∙ h))
+    (ap (λ (ls : List ReadLine). draft_of (routes_frame c.args.net.now) ls) (sym c.deref.ensures.value) ∙ h))
     c.in_err-draft.ensures)
 
 pub close-requires : goal.close-requires
@@ -28,7 +30,7 @@ close-requires c = draft_sound c.args.net.now c.deref.result.now (seen_draft c.i
 
 pub returns : goal.returns
 returns c =
-    answers c.close.result (routes_ended (seen_draft c.in_ok-draft.draft) >>= unless_circle c.args.net.now) (routes_in c.args.net.now c.args.text.now)
+    same_read (λ routes. routes) IfBroken c.close.result (routes_ended (seen_draft c.in_ok-draft.draft) >>= unless_circle c.args.net.now) (routes_in c.args.net.now c.args.text.now)
     (by_lines c.args.net.now c.args.text.now c.in-Ok.lines.items c.in-Ok.ensures.lines c.in-Ok.ensures.none (Ok (seen_draft c.in_ok-draft.draft))
-    (ap (λ (ls : List ReadLine). routes_draft c.args.net.now ls) (sym c.deref.ensures.value) ∙ c.in_ok-draft.ensures))
+    (ap (λ (ls : List ReadLine). draft_of (routes_frame c.args.net.now) ls) (sym c.deref.ensures.value) ∙ c.in_ok-draft.ensures))
     c.close.ensures

@@ -8,7 +8,8 @@ use Rattle.nf_complete_lists.specs.declared.FlowsRule.{FlowsRule}
 use Rattle.nf_complete_lists.specs.declared.FlowsRule.TheVariants.{S4, S10}
 use Rattle.nf_complete_lists.specs.FlowsFile.{FlowsEntry, FlowOf, SlopeOf, End, FlowsDraft, flows_entry, is_given, with_entry, add_flows}
 use Rattle.nf_flows_file.specs.declared.entry.Entry.{Entry}
-use Rattle.nf_flows_file.specs.Entries.{seen_entry, said_by, IsOf}
+use Rattle.nf_side_files.specs.Said.{said_by}
+use Rattle.nf_flows_file.specs.Entries.{seen_entry, IsOf}
 use Rattle.nf_flows_file.specs.Drafts.{seen_draft}
 use Rattle.nf_flows_file.proofs.draft.Draft.add_line.Goals as goal
 

@@ -1,9 +1,9 @@
 use Rattle.std.proofs.Common.{List, length, sym, ap, subst, ◌∙◌}
 use Rattle.nf_model.specs.Network.{Piece}
-use Rattle.nf_readings.specs.LoadsFile.{load_rule_of}
+use Rattle.nf_readings.specs.LoadsFile.{rule_behind, load_rule_of}
 use Rattle.nf_loads_file.specs.declared.entry.Entry.{Entry}
 use Rattle.nf_loads_file.specs.Entries.{HasLink, seen_entry}
-use Rattle.nf_loads_file.specs.Drafts.{seen_draft, rule_behind}
+use Rattle.nf_loads_file.specs.Drafts.{seen_draft}
 use Rattle.nf_loads_file.proofs.Pushed.{read_at}
 use Rattle.nf_loads_file.proofs.draft.Draft.rule.Goals as goal
 
