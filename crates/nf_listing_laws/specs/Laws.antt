@@ -17,18 +17,23 @@ use Rattle.nf_listing_laws.specs.Ways.{Choices, AreIn, ways_before, AreSole, cho
 -- The listed patterns that have the forced states are those that are listed for the sets that are left, with the forced states put
 -- in; in the same order, and with as many changes more for each.
 pub record ForcedPatternsAreListed : Type 0 where
-  pub taken : (nodes source : ℕ) (hops : List Hop) (sets : Sets) (unbounded : List Bool) (forced p : Pattern) → IsForcing sets unbounded forced
+  pub taken : (nodes source : ℕ) (hops : List Hop) (sets : Sets) (unbounded : List Bool) (forced p : Pattern)
+      → IsForcing sets unbounded forced
       → IsListed nodes source hops sets unbounded p → HasForced forced p
       → IsListed nodes source hops (sets_left forced sets) unbounded (left_of forced p) × (filled forced (left_of forced p) ≡ p)
-  pub put : (nodes source : ℕ) (hops : List Hop) (sets : Sets) (unbounded : List Bool) (forced p : Pattern) → IsForcing sets unbounded forced
+  pub put : (nodes source : ℕ) (hops : List Hop) (sets : Sets) (unbounded : List Bool) (forced p : Pattern)
+      → IsForcing sets unbounded forced
       → IsListed nodes source hops (sets_left forced sets) unbounded p
-      → IsListed nodes source hops sets unbounded (filled forced p) × HasForced forced (filled forced p) × (left_of forced (filled forced p) ≡ p)
+      → IsListed nodes source hops sets unbounded (filled forced p) × HasForced forced (filled forced p)
+      × (left_of forced (filled forced p) ≡ p)
   pub base : (sets : Sets) (unbounded : List Bool) (forced p : Pattern) → IsForcing sets unbounded forced
       → IsPattern sets unbounded p → IsPattern (sets_left forced sets) unbounded (left_of forced p)
-  pub order : (sets : Sets) (unbounded : List Bool) (forced base p q : Pattern) → IsForcing sets unbounded forced → IsPattern sets unbounded base
+  pub order : (sets : Sets) (unbounded : List Bool) (forced base p q : Pattern) → IsForcing sets unbounded forced
+      → IsPattern sets unbounded base
       → IsPattern (sets_left forced sets) unbounded p → IsPattern (sets_left forced sets) unbounded q
       → IsBefore (left_of forced base) p q ↔ IsBefore base (filled forced p) (filled forced q)
-  pub more : (sets : Sets) (unbounded : List Bool) (forced base p : Pattern) → IsForcing sets unbounded forced → IsPattern sets unbounded base
+  pub more : (sets : Sets) (unbounded : List Bool) (forced base p : Pattern) → IsForcing sets unbounded forced
+      → IsPattern sets unbounded base
       → IsPattern (sets_left forced sets) unbounded p
       → changes base (filled forced p) ≡ forced_changes forced base + changes (left_of forced base) p
 
@@ -50,12 +55,15 @@ NoneFilledBefore passes net sets rate forced narrow place =
 -- The first one that is accepted with the forced states is the first accepted one of the whole listing, at no earlier place; where
 -- the first ones of so many aren't, nor are as many of the whole listing; and where none is, none at all is accepted.
 pub record NarrowedSearchTells : Type 0 where
-  pub found : (passes : Passing) (net : Network) (sets : Sets) (rate : ℚ) (base forced : Pattern) (listing narrow : List Pattern) (place : ℕ) (p : Pattern)
+  pub found : (passes : Passing) (net : Network) (sets : Sets) (rate : ℚ) (base forced : Pattern) (listing narrow : List Pattern)
+      (place : ℕ) (p : Pattern)
       → Narrows net sets rate base forced listing narrow → HasPlace narrow place p → IsAccepted passes net sets rate (filled forced p)
       → NoneFilledBefore passes net sets rate forced narrow place
       → (there : ℕ) × (place ≤ there) × HasPlace listing there (filled forced p) × NoneAcceptedBefore passes net sets rate listing there
-  pub over : (passes : Passing) (net : Network) (sets : Sets) (rate : ℚ) (base forced : Pattern) (listing narrow : List Pattern) (budget : ℕ)
-      → Narrows net sets rate base forced listing narrow → budget < length narrow → NoneFilledBefore passes net sets rate forced narrow (suc budget)
+  pub over : (passes : Passing) (net : Network) (sets : Sets) (rate : ℚ) (base forced : Pattern) (listing narrow : List Pattern)
+      (budget : ℕ)
+      → Narrows net sets rate base forced listing narrow → budget < length narrow
+      → NoneFilledBefore passes net sets rate forced narrow (suc budget)
       → IsOverBudget passes net sets rate listing budget
   pub none : (passes : Passing) (net : Network) (sets : Sets) (rate : ℚ) (base forced : Pattern) (listing narrow : List Pattern)
       → Narrows net sets rate base forced listing narrow → ((place : ℕ) → NoneFilledBefore passes net sets rate forced narrow place)
@@ -63,7 +71,8 @@ pub record NarrowedSearchTells : Type 0 where
 
 -- Where active links hold no cycle, the slopes of a thin flow force states that each listed and solvable pattern has.
 abbrev pub SlopesForceStates : Type 0
-SlopesForceStates = (net : Network) (sets : Sets) (rate : ℚ) (base : Pattern) (flows slopes : List ℚ) → IsNetwork net → AreSets net sets → HoldNoCycle net sets
+SlopesForceStates = (net : Network) (sets : Sets) (rate : ℚ) (base : Pattern) (flows slopes : List ℚ) → IsNetwork net → AreSets net sets
+    → HoldNoCycle net sets
     → length sets.resetting ≡ length net.links → IsPattern sets (unbounded net) base → IsThinFlow net sets rate flows slopes
     → IsForcing sets (unbounded net) (forced_by net slopes base)
     × ((pattern : Pattern) → IsListedIn net sets pattern → IsSolvable net sets rate pattern → HasForced (forced_by net slopes base) pattern)
@@ -73,14 +82,17 @@ SlopesForceStates = (net : Network) (sets : Sets) (rate : ℚ) (base : Pattern) 
 -- A pattern of a listing stands at most one place behind as many assignments as come before it, whatever states links may have,
 -- if only each listed pattern has such states.
 abbrev pub PlacesAreBounded : Type 0
-PlacesAreBounded = (nodes source : ℕ) (hops : List Hop) (sets : Sets) (unbounded : List Bool) (base : Pattern) (choices : Choices) (listing : List Pattern) (place : ℕ) (p : Pattern)
-    → IsListing nodes source hops sets unbounded base listing → ((q : Pattern) → IsListed nodes source hops sets unbounded q → AreIn choices q)
+PlacesAreBounded = (nodes source : ℕ) (hops : List Hop) (sets : Sets) (unbounded : List Bool) (base : Pattern) (choices : Choices)
+    (listing : List Pattern) (place : ℕ) (p : Pattern)
+    → IsListing nodes source hops sets unbounded base listing
+    → ((q : Pattern) → IsListed nodes source hops sets unbounded q → AreIn choices q)
     → length base ≡ length sets.active → HasPlace listing place p → place ≤ suc (ways_before choices base p)
 
 -- Each listed pattern has such states: Full for no unbounded link, and Zero for none that alone can enter its head.
 abbrev pub ListedStatesAreChoices : Type 0
 ListedStatesAreChoices = (nodes source : ℕ) (hops : List Hop) (sets : Sets) (unbounded sole : List Bool) (base p : Pattern)
-    → ((e : ℕ) (hop : Hop) → IsHop hops e hop → hop.head < nodes) → ((e : ℕ) → Has sets.resetting e → Has sets.active e) → IsPattern sets unbounded base
+    → ((e : ℕ) (hop : Hop) → IsHop hops e hop → hop.head < nodes) → ((e : ℕ) → Has sets.resetting e → Has sets.active e)
+    → IsPattern sets unbounded base
     → length unbounded ≡ length sets.active → length sole ≡ length sets.active → AreSole source hops sets sole
     → IsListed nodes source hops sets unbounded p → AreIn (choices_of base unbounded sole) p
 
@@ -89,10 +101,15 @@ ListedStatesAreChoices = (nodes source : ℕ) (hops : List Hop) (sets : Sets) (u
 -- The first pattern that is accepted with the forced states is what the search finds, at some place, where that is known to be within the
 -- budget. Where the place of any pattern is known to be beyond, and none before it is accepted, the search finds nothing.
 pub record NarrowedSearchAnswers : Type 0 where
-  pub within : (passes : Passing) (net : Network) (sets : Sets) (rate : ℚ) (base forced : Pattern) (listing narrow : List Pattern) (budget place : ℕ) (p : Pattern) (flows slopes : List ℚ)
-      → Narrows net sets rate base forced listing narrow → HasPlace narrow place p → IsAccepted passes net sets rate (filled forced p) → IsSolution net sets rate (filled forced p) flows slopes
-      → NoneFilledBefore passes net sets rate forced narrow place → ((there : ℕ) → HasPlace listing there (filled forced p) → there ≤ budget)
+  pub within : (passes : Passing) (net : Network) (sets : Sets) (rate : ℚ) (base forced : Pattern) (listing narrow : List Pattern)
+      (budget place : ℕ) (p : Pattern) (flows slopes : List ℚ)
+      → Narrows net sets rate base forced listing narrow → HasPlace narrow place p → IsAccepted passes net sets rate (filled forced p)
+      → IsSolution net sets rate (filled forced p) flows slopes
+      → NoneFilledBefore passes net sets rate forced narrow place
+      → ((there : ℕ) → HasPlace listing there (filled forced p) → there ≤ budget)
       → (there : ℕ) × IsSearch passes net sets rate base budget (Found there (filled forced p) flows slopes)
-  pub beyond : (passes : Passing) (net : Network) (sets : Sets) (rate : ℚ) (base forced : Pattern) (listing narrow : List Pattern) (budget place : ℕ) (p : Pattern)
-      → Narrows net sets rate base forced listing narrow → HasPlace narrow place p → NoneFilledBefore passes net sets rate forced narrow place
+  pub beyond : (passes : Passing) (net : Network) (sets : Sets) (rate : ℚ) (base forced : Pattern) (listing narrow : List Pattern)
+      (budget place : ℕ) (p : Pattern)
+      → Narrows net sets rate base forced listing narrow → HasPlace narrow place p
+      → NoneFilledBefore passes net sets rate forced narrow place
       → ((there : ℕ) → HasPlace listing there (filled forced p) → budget < there) → IsSearch passes net sets rate base budget OverBudget

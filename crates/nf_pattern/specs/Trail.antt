@@ -38,7 +38,8 @@ IsLeft hops trail = (source : ℕ) × (resetting : List Bool) × (pattern : Patt
 
 -- of one in which these links have a state
 abbrev pub IsLeftBy : List Hop → StatedLinks → Trail → Type 0
-IsLeftBy hops stated trail = (source : ℕ) × (resetting : List Bool) × (pattern : Pattern) × AreStated pattern stated × Follows source hops resetting pattern trail
+IsLeftBy hops stated trail = (source : ℕ) × (resetting : List Bool) × (pattern : Pattern) × AreStated pattern stated
+    × Follows source hops resetting pattern trail
 
 -- what a trail keeps on its way
 pub record IsOnWay (before after : Trail) : Type 0 where

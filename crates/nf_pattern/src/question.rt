@@ -39,9 +39,24 @@ impl Model for Question {
 
     ghost coded = { coded_question };
 
-    ghost view = { λ q. record { nodes = q.nodes; source = q.source; hops = q.hops.items; sets = record { active = q.active.items; resetting = q.resetting.items }; unbounded = q.unbounded.items; base = q.base } };
+    ghost view = { λ q. record {
+      nodes = q.nodes;
+      source = q.source;
+      hops = q.hops.items;
+      sets = record { active = q.active.items; resetting = q.resetting.items };
+      unbounded = q.unbounded.items;
+      base = q.base;
+    } };
 
-    ghost invariant = { λ q. IsQuestion (record { nodes = q.nodes; source = q.source; hops = q.hops.items; sets = record { active = q.active.items; resetting = q.resetting.items }; unbounded = q.unbounded.items; base = q.base }) × AreStated q.base q.stated };
+    ghost invariant = { λ q. IsQuestion (record {
+      nodes = q.nodes;
+      source = q.source;
+      hops = q.hops.items;
+      sets = record { active = q.active.items; resetting = q.resetting.items };
+      unbounded = q.unbounded.items;
+      base = q.base;
+    })
+        × AreStated q.base q.stated };
 }
 
 // Of each link, whether it is active.
@@ -92,8 +107,10 @@ impl Question {
         base: &Pattern,
         unbounded: &[bool],
     ) -> Result<Question, AllocError>
-        requires { IsQuestion (record { nodes = nodes; source = source; hops = hops.now; sets = sets.now; unbounded = unbounded.now; base = base.now }) }
-        ensures { IfOk result (λ question. question ≡ record { nodes = nodes; source = source; hops = hops.now; sets = sets.now; unbounded = unbounded.now; base = base.now }) }
+        requires { IsQuestion
+            (record { nodes = nodes; source = source; hops = hops.now; sets = sets.now; unbounded = unbounded.now; base = base.now }) }
+        ensures { IfOk result (λ question. question
+            ≡ record { nodes = nodes; source = source; hops = hops.now; sets = sets.now; unbounded = unbounded.now; base = base.now }) }
     {
         let active = active_flags(alloc, sets, hops.len())?;
         let resetting = resetting_flags(alloc, sets, hops.len())?;
@@ -159,8 +176,10 @@ impl Question {
         requires same { same ≤ length self.now.base }
         requires quiet { IsQuiet self.now.base quiet.old states.old }
         ensures quiet { IsQuiet self.now.base quiet.new states.new }
-        ensures found { MatchOption result ((next_assignment same self.now.base self.now.unbounded states.old ≡ None) × (states.new ≡ states.old))
-            (λ link. (next_assignment same self.now.base self.now.unbounded states.old ≡ Some states.new) × IsSameBefore same link states.old states.new) }
+        ensures found { MatchOption result ((next_assignment same self.now.base self.now.unbounded states.old ≡ None)
+            × (states.new ≡ states.old))
+            (λ link. (next_assignment same self.now.base self.now.unbounded states.old ≡ Some states.new)
+            × IsSameBefore same link states.old states.new) }
     {
         let raised = advance(
             states,
@@ -176,7 +195,8 @@ impl Question {
 
     // The trail comes back to where these states are the same.
     fn retreat(&self, link: usize, trail: &mut Trail)
-        requires left { (before : SeenPattern) × IsAssignment self.now.base self.now.unbounded before × IsTrailOf self.now before trail.old }
+        requires left { (before : SeenPattern) × IsAssignment self.now.base self.now.unbounded before
+            × IsTrailOf self.now before trail.old }
         ensures { (before after : SeenPattern) → IsTrailOf self.now before trail.old → IsAssignment self.now.base self.now.unbounded before
             → take link after ≡ take link before → IsTrailOf self.now after trail.new }
     {
@@ -254,7 +274,8 @@ impl Question {
         ensures assigned { IsAssignment self.now.base self.now.unbounded states.new }
         ensures trail { IsTrailOf self.now states.new trail.new }
         ensures quiet { IsQuiet self.now.base quiet.new states.new }
-        ensures found { MatchBool result (IsNext self.now (last_of stand states.old) states.new) (NoneLeft self.now (last_of stand states.old)) }
+        ensures found { MatchBool result (IsNext self.now (last_of stand states.old) states.new)
+            (NoneLeft self.now (last_of stand states.old)) }
     {
         match stand {
             Stand::Start => self.first(states, trail, quiet),

@@ -55,6 +55,7 @@ piece_kept {Rule} most negative not_after too_many before piece w e =
     let late : List (Bool × Rule) = (is_not_after piece.start (last_or None before), not_after) ∷ many in
     let a = rules_out (is_negative piece.start || is_negative piece.rate) negative late e in
     let b = rules_out (is_not_after piece.start (last_or None before)) not_after many a.1 in
-    let c = or_parts (is_negative piece.start) (is_negative piece.rate) a.0 in
-    (go_on_more None before piece w (not_negative piece.start c.0) (not_negative piece.rate c.1) (after_it piece (last_or None before) b.0),
-    (rules_out (nat_le most (length before)) too_many [] b.1).0)
+    let c = or_parts (is_negative piece.start) (is_negative piece.rate) a.0 in (
+      go_on_more None before piece w (not_negative piece.start c.0) (not_negative piece.rate c.1) (after_it piece (last_or None before) b.0),
+      (rules_out (nat_le most (length before)) too_many [] b.1).0,
+    )

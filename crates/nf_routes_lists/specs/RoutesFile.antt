@@ -115,13 +115,15 @@ with_piece piece None routes r = routes
 with_piece piece (Some named) routes r = set routes r (longer named piece)
 
 abbrev pub routes_after : RoutesDraft → RoutesEntry → RoutesDraft
-routes_after draft (RouteLine name links) = record draft { routes = draft.routes ++ record { name = name; route = record { links = links; pieces = [] } } ∷ [] }
+routes_after draft (RouteLine name links) =
+    record draft { routes = draft.routes ++ record { name = name; route = record { links = links; pieces = [] } } ∷ [] }
 routes_after draft (RateLine r piece) = record draft { routes = with_piece piece (slice_get draft.routes r) draft.routes r }
 routes_after draft End = record draft { ended = true }
 
 abbrev pub add_route_line : Named → RoutesDraft → List (List ℕ) → Result RoutesDraft RoutesRule
 add_route_line n draft words = if draft.ended then Err G4
-    else (routes_entry n.link_names (route_names draft.routes) words >>= λ entry. lines.unless_rule (routes_rule_of n.net draft entry) (routes_after draft entry))
+    else (routes_entry n.link_names (route_names draft.routes) words >>= λ entry. lines.unless_rule (routes_rule_of n.net draft entry)
+    (routes_after draft entry))
 
 -- ---- the whole file
 abbrev pub routes_ended : RoutesDraft → Result (List NamedRoute) RoutesBroken

@@ -26,7 +26,8 @@ abbrev pub in_line : {Draft Rule : Type 0} → ℕ → Result Draft Rule → Res
 in_line number (Ok draft) = Ok draft
 in_line number (Err rule) = Err (record { rule = rule; line = number })
 
-abbrev pub add_lines : {Draft Rule : Type 0} → (Draft → List (List ℕ) → Result Draft Rule) → Draft → List ReadLine → Result Draft (Broken Rule)
+abbrev pub add_lines : {Draft Rule : Type 0} → (Draft → List (List ℕ) → Result Draft Rule) → Draft → List ReadLine
+    → Result Draft (Broken Rule)
 add_lines add draft [] = Ok draft
 add_lines add draft (line ∷ rest) = do
   next ← in_line line.number (add draft line.words)
@@ -36,7 +37,8 @@ add_lines add draft (line ∷ rest) = do
 module _ {Rule Draft Given : Type 0} (frame : Frame Rule Draft Given) where
   abbrev pub draft_of : List ReadLine → Result Draft (Broken Rule)
   draft_of [] = Err (record { rule = frame.no_head; line = 1 })
-  draft_of (line ∷ rest) = if is_head frame.keyword line.words then add_lines frame.add frame.empty rest else Err (record { rule = frame.no_head; line = line.number })
+  draft_of (line ∷ rest) = if is_head frame.keyword line.words then add_lines frame.add frame.empty rest
+      else Err (record { rule = frame.no_head; line = line.number })
 
   abbrev pub broken_bytes : LineFault → Broken Rule
   broken_bytes (NotAscii line) = record { rule = frame.not_ascii; line = line }

@@ -28,7 +28,8 @@ piece_entry make no_number start rate = Err no_number
 -- `rate NAME START RATE`
 abbrev pub rate_line : {Entry Rule : Type 0} → (ℕ → Piece → Entry) → Rule → Rule → Rule → List Name → List (List ℕ) → Result Entry Rule
 rate_line make wrong_count unknown no_number names (name ∷ start ∷ rate ∷ []) =
-    if has_name names name then piece_entry (make (place_of names name)) no_number (result_ok (number_of greatest start)) (result_ok (number_of greatest rate)) else Err unknown
+    if has_name names name then piece_entry (make (place_of names name)) no_number (result_ok (number_of greatest start))
+    (result_ok (number_of greatest rate)) else Err unknown
 rate_line make wrong_count unknown no_number names words = Err wrong_count
 
 -- ---- rules of a line behind others
