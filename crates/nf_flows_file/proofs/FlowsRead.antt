@@ -1,5 +1,5 @@
 -- The reading of a text from that of its lines and of the file as a whole.
-use Rattle.std.proofs.Common.{◌≡◌, ℕ, List, None, Result, Ok, Err, refl, ◌∙◌}
+use Rattle.std.proofs.Common.{◌≡◌, ℕ, List, None, Result, Err, refl, ◌∙◌}
 use Rattle.nf_work.specs.Checked.{◌>>=◌}
 use Rattle.nf_lines.specs.Words.{ReadLine, read_lines, content_lines}
 use Rattle.nf_lines.specs.Faults.{NotAscii, LongLine, first_fault}

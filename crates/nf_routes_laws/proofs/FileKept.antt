@@ -1,5 +1,5 @@
 -- What lines that break no rule give: not too many routes, of different names, each a walk from source to sink with its pieces.
-use Rattle.std.proofs.Common.{◌≡◌, ◌≢◌, ℕ, zero, suc, ◌<◌, ◌≤◌, ⊎_elim, Bool, true, false, not, ◌||◌, ◌&&◌, eqb, nat_le, List, [], ◌∷◌, ◌++◌, length, set, get_or, Option, Some, None, All, slice_get, Result, Ok, Err, refl, sym, ap, subst, ◌∙◌, arith, bytes_eq}
+use Rattle.std.proofs.Common.{◌≡◌, ◌≢◌, ℕ, zero, suc, ◌<◌, ◌≤◌, ⊎_elim, Bool, true, false, not, ◌&&◌, eqb, nat_le, List, [], ◌∷◌, ◌++◌, length, set, get_or, Option, Some, None, All, slice_get, Ok, refl, sym, ap, subst, ◌∙◌, arith, bytes_eq}
 use Rattle.std.specs.List.{list_all, IsDistinct}
 use Rattle.std.proofs.lemmas.Bool.{and_parts, leb-false}
 use Rattle.std.proofs.lemmas.Bool.Decides.{eqb_tells}
