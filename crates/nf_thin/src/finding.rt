@@ -19,7 +19,7 @@ use crate::sifting::{Guide, guide_of, sift_next};
 use crate::thin::{Thin, ThinFlow};
 use crate::vain::Vain;
 use nf_frac::Q;
-use nf_graph::LinkSets;
+use nf_graph::{LinkSets, NodeId};
 use nf_narrow::{fill, forced_by, narrow_listing};
 use nf_net::Network;
 use nf_pattern::{Pattern, Patterns};
@@ -51,6 +51,7 @@ fn go_narrow(
     let mut vain = Vain {
         tried: 0,
         passed: None,
+        node: NodeId(0),
     };
     let mut pace = Pace {
         asked: 0,

@@ -1,6 +1,6 @@
 // Whether the links at each node can carry what conservation of flow asks there, where slopes are known: a pattern of which some can't
 // isn't accepted, and no table is needed to see it.
-ghost use Rattle.std.specs.Prelude.{◌≡◌, ◌<◌, ℕ, suc, true, List, length, IfOk};
+ghost use Rattle.std.specs.Prelude.{◌≡◌, ◌<◌, ℕ, suc, true, List, length, None, IfOk};
 ghost use Rattle.nf_rational.specs.Rational.{ℚ};
 ghost use Rattle.nf_work.specs.Passing.{beyond, passes_Q};
 ghost use Rattle.nf_model.specs.Entries.{number_at};
@@ -129,6 +129,50 @@ fn can_conserve_at(
     range.holds(needed(net, rate, node))
 }
 
+// The first node at which flow can't be conserved, if there is one.
+fn first_unbalanced(
+    net: &Network,
+    sets: &LinkSets,
+    rate: Q,
+    full: &[Option<Q>],
+    pattern: &Pattern,
+) -> Option<NodeId>
+    requires network { IsNetwork net.now.net }
+    requires sets { length sets.now.active ≡ length net.now.net.links }
+    requires full { length full.now ≡ length net.now.net.links }
+    requires states { length pattern.now ≡ length net.now.net.links }
+    ensures { (flows : List ℚ) → CanFlow passes_Q net.now.net sets.now rate pattern.now full.now flows → result ≡ None }
+{
+    for v in 0..net.node_count() {
+        if !can_conserve_at(net, sets, rate, full, pattern, NodeId(v)) {
+            return Some(NodeId(v));
+        }
+    }
+    None
+}
+
+/// A node at which flow can't be conserved, by what its links may carry in their states, if there is one. This node is looked at first:
+/// patterns that follow each other mostly fail at the same node.
+pub(crate) fn unbalanced_node(
+    net: &Network,
+    sets: &LinkSets,
+    rate: Q,
+    full: &[Option<Q>],
+    pattern: &Pattern,
+    first: NodeId,
+) -> Option<NodeId>
+    requires network { IsNetwork net.now.net }
+    requires sets { length sets.now.active ≡ length net.now.net.links }
+    requires full { length full.now ≡ length net.now.net.links }
+    requires states { length pattern.now ≡ length net.now.net.links }
+    ensures { (flows : List ℚ) → CanFlow passes_Q net.now.net sets.now rate pattern.now full.now flows → result ≡ None }
+{
+    if first.0 < net.node_count() && !can_conserve_at(net, sets, rate, full, pattern, first) {
+        return Some(first);
+    }
+    first_unbalanced(net, sets, rate, full, pattern)
+}
+
 /// Whether flow can be conserved at each node, by what its links may carry in their states.
 pub fn can_conserve(
     net: &Network,
@@ -143,10 +187,5 @@ pub fn can_conserve(
     requires states { length pattern.now ≡ length net.now.net.links }
     ensures { (flows : List ℚ) → CanFlow passes_Q net.now.net sets.now rate pattern.now full.now flows → result ≡ true }
 {
-    for v in 0..net.node_count() {
-        if !can_conserve_at(net, sets, rate, full, pattern, NodeId(v)) {
-            return false;
-        }
-    }
-    true
+    first_unbalanced(net, sets, rate, full, pattern).is_none()
 }

@@ -15,7 +15,7 @@ use crate::thin::{Thin, ThinFlow};
 use crate::trying_next::try_next;
 use crate::vain::Vain;
 use nf_frac::Q;
-use nf_graph::LinkSets;
+use nf_graph::{LinkSets, NodeId};
 use nf_net::Network;
 use nf_pattern::{Pattern, Patterns};
 use std::alloc::Global;
@@ -37,6 +37,7 @@ fn go_through(
     let mut vain = Vain {
         tried: 0,
         passed: None,
+        node: NodeId(0),
     };
     while let Some(pattern) = patterns.next() {
         let found = try_next(alloc, net, sets, rate, pattern, budget, &mut vain)?;

@@ -8,14 +8,16 @@ ghost use Rattle.nf_thin.specs.Sifting.{Guides, SiftsNext};
 
 use crate::cycles::hold_no_cycle;
 use crate::fault::SearchFault;
-use crate::known::{Known, known_by, try_or_know};
-use crate::node_test::{can_conserve, full_flows};
+use crate::known::{Known, known_by, thin_at};
+use crate::node_test::{full_flows, unbalanced_node};
 use crate::thin::Thin;
+use crate::trying_next::try_next;
 use crate::vain::Vain;
 use nf_frac::Q;
 use nf_graph::LinkSets;
 use nf_guess::guess;
 use nf_net::Network;
+use nf_one_pattern::is_one_pattern;
 use nf_pattern::Pattern;
 use std::alloc::{AllocError, Global};
 
@@ -26,8 +28,8 @@ pub(crate) struct Guide {
     pub(crate) full: Vec<Option<Q>>,
 }
 
-/// The next pattern is passed over where flow can't be conserved at a node, and else tried. What passes is not noted of those that
-/// are passed over.
+/// The next pattern is found without a table where it is the known one, passed over where flow can't be conserved at a node, and else
+/// tried. What passes is not noted of those that are passed over.
 pub(crate) fn sift_next(
     alloc: Global,
     net: &Network,
@@ -44,13 +46,18 @@ pub(crate) fn sift_next(
     requires within { vain.old.tried ≤ budget }
     ensures { SiftsNext passes_Q net.now.net sets.now rate budget pattern.now vain.old vain.new result }
 {
-    if can_conserve(net, sets, rate, &guide.full, pattern) {
-        return try_or_know(alloc, net, sets, rate, &guide.known, pattern, budget, vain);
-    }
     if vain.tried == budget {
         return Err(SearchFault::Budget { tried: budget });
     }
+    if is_one_pattern(net, &guide.known.pattern, pattern) {
+        let thin = thin_at(alloc, &guide.known, vain.tried + 1)?;
+        return Ok(Some(thin));
+    }
+    let Some(node) = unbalanced_node(net, sets, rate, &guide.full, pattern, vain.node) else {
+        return try_next(alloc, net, sets, rate, pattern, budget, vain);
+    };
     vain.tried += 1;
+    vain.node = node;
     Ok(None)
 }
 

@@ -1,12 +1,15 @@
 // Patterns that were tried in vain.
 use crate::fault::SearchFault;
 use nf_frac::{PassedAt, Q};
+use nf_graph::NodeId;
 
-/// Patterns tried in vain: how many, and the first of them of which an operation passes, with its place.
+/// Patterns tried in vain: how many, and the first of them of which an operation passes, with its place; and the node that ruled out the
+/// last one for which no table was needed.
 #[derive(Clone, Copy)]
 pub(crate) struct Vain {
     pub(crate) tried: u64,
     pub(crate) passed: Option<(u64, PassedAt<Q>)>,
+    pub(crate) node: NodeId,
 }
 
 impl Vain {
