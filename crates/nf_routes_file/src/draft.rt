@@ -60,7 +60,7 @@ impl Draft {
         ensures { result ≡ routes_rule_of net.now.net (seen_draft self.now) (RouteLine route.now.name route.now.route.links) }
     {
         // For the proof: each link has a name.
-        let _ = net.version();
+        net.recall();
         if place_of(&self.routes, route.name().as_bytes()).is_some() {
             return Some(RoutesRule::G10);
         }
