@@ -114,7 +114,7 @@ impl Run {
         } = found;
         let ThinFlow {
             flows: _,
-            labels: slopes,
+            slopes,
             pattern,
         } = thin;
         let Advanced { length, labels } = end;
