@@ -170,7 +170,8 @@ fn tell_conserves_at(
     if full.len() != net.link_count() as usize {
         return tell_none(rt);
     }
-    print!(rt; "{}", can_conserve(net, sets, rate, &full, pattern))
+    let can = can_conserve(rt.alloc(), net, sets, rate, &full, pattern)?;
+    print!(rt; "{can}")
 }
 
 /// Prints whether flow can be conserved at the nodes, with the slopes of these words.

@@ -23,7 +23,7 @@ use Rattle.nf_thin.specs.Ranges.{IsWithin, MeetsState}
 use Rattle.nf_model_laws.proofs.Totals.{sink_takes}
 use Rattle.nf_thin.proofs.Within.{checked_is}
 use Rattle.nf_one_pattern.specs.Fulls.{full_of}
-use Rattle.nf_thin.specs.Conserving.{full_by, CanFlow, surplus_of_first, BoundsFirst, needed_at}
+use Rattle.nf_thin.specs.Conserving.{full_by, CanFlow, surplus_by, surplus_of_first, BoundsFirst, Conserves}
 
 -- ---- one link more
 first_term : (b : Bool) (a : ℚ) → (if b then a +ℚ 0ℚ else 0ℚ) ≡ 0ℚ +ℚ (if b then a else 0ℚ)
@@ -56,38 +56,38 @@ just_leaves o p i j x e f = linear_eq (o ∷ p ∷ i ∷ j ∷ x ∷ []) (eq e �
 just_enters : (o p i j x : ℚ) → o ≡ p +ℚ 0ℚ → i ≡ j +ℚ x → (p -ℚ j) -ℚ x ≡ o -ℚ i
 just_enters o p i j x e f = linear_eq (o ∷ p ∷ i ∷ j ∷ x ∷ []) (eq e ∷ eq f ∷ []) (search reading_of depth 12) tt tt
 
-module _ (net : Network) (flows : List ℚ) (v e : ℕ) (link : Link) (is_link : IsLink net e link) where
+module _ (net : Network) (flow : ℕ → ℚ) (v e : ℕ) (link : Link) (is_link : IsLink net e link) where
   abbrev before : ℚ
-  before = surplus_of_first net flows v e
+  before = surplus_of_first net flow v e
 
   abbrev x : ℚ
-  x = number_at flows e
+  x = flow e
 
-  out_more : (b : Bool) → eqb link.tail v ≡ b → sum_out (take (suc e) net.links) (number_at flows) v ≡ sum_out (take e net.links) (number_at flows) v +ℚ (if b then x else 0ℚ)
-  out_more b is = sum_out-more net.links (number_at flows) v e link is_link ∙ ap (λ (c : Bool). sum_out (take e net.links) (number_at flows) v +ℚ (if c then x else 0ℚ)) is
+  out_more : (b : Bool) → eqb link.tail v ≡ b → sum_out (take (suc e) net.links) flow v ≡ sum_out (take e net.links) flow v +ℚ (if b then x else 0ℚ)
+  out_more b is = sum_out-more net.links flow v e link is_link ∙ ap (λ (c : Bool). sum_out (take e net.links) flow v +ℚ (if c then x else 0ℚ)) is
 
-  in_more : (b : Bool) → eqb link.head v ≡ b → sum_in (take (suc e) net.links) (number_at flows) v ≡ sum_in (take e net.links) (number_at flows) v +ℚ (if b then x else 0ℚ)
-  in_more b is = sum_in-more net.links (number_at flows) v e link is_link ∙ ap (λ (c : Bool). sum_in (take e net.links) (number_at flows) v +ℚ (if c then x else 0ℚ)) is
+  in_more : (b : Bool) → eqb link.head v ≡ b → sum_in (take (suc e) net.links) flow v ≡ sum_in (take e net.links) flow v +ℚ (if b then x else 0ℚ)
+  in_more b is = sum_in-more net.links flow v e link is_link ∙ ap (λ (c : Bool). sum_in (take e net.links) flow v +ℚ (if c then x else 0ℚ)) is
 
-  pub same_surplus : eqb link.tail v ≡ eqb link.head v → before ≡ surplus_of_first net flows v (suc e)
+  pub same_surplus : eqb link.tail v ≡ eqb link.head v → before ≡ surplus_of_first net flow v (suc e)
   same_surplus same = both_or_none _ _ _ _ x (eqb link.head v) (out_more (eqb link.head v) same) (in_more (eqb link.head v) refl)
 
-  pub greater_surplus : eqb link.tail v ≡ true → eqb link.head v ≡ false → before +ℚ x ≡ surplus_of_first net flows v (suc e)
+  pub greater_surplus : eqb link.tail v ≡ true → eqb link.head v ≡ false → before +ℚ x ≡ surplus_of_first net flow v (suc e)
   greater_surplus leaves enters = just_leaves _ _ _ _ x (out_more true leaves) (in_more false enters)
 
-  pub lesser_surplus : eqb link.tail v ≡ false → eqb link.head v ≡ true → before -ℚ x ≡ surplus_of_first net flows v (suc e)
+  pub lesser_surplus : eqb link.tail v ≡ false → eqb link.head v ≡ true → before -ℚ x ≡ surplus_of_first net flow v (suc e)
   lesser_surplus leaves enters = just_enters _ _ _ _ x (out_more false leaves) (in_more true enters)
 
 -- of no link
-pub none_sent : (net : Network) (flows : List ℚ) (v : ℕ) (nothing : ℚ) → nothing ≡ 0ℚ → (known : ℚ) → Some nothing ≡ Some known → surplus_of_first net flows v 0 ≡ known
-none_sent net flows v nothing none known at = less_itself 0ℚ ∙ (sym none ∙ same_Some nothing known at)
+pub none_sent : (net : Network) (flow : ℕ → ℚ) (v : ℕ) (nothing : ℚ) → nothing ≡ 0ℚ → (known : ℚ) → Some nothing ≡ Some known → surplus_of_first net flow v 0 ≡ known
+none_sent net flow v nothing none known at = less_itself 0ℚ ∙ (sym none ∙ same_Some nothing known at)
   where
     less_itself : (a : ℚ) → a -ℚ a ≡ 0ℚ
     less_itself a = linear_eq (a ∷ []) [] (search reading_of depth 12) tt tt
 
 -- all links are the first ones
-pub surplus_of_all : (net : Network) (flows : List ℚ) (v n : ℕ) → length net.links ≤ n → surplus_of_first net flows v n ≡ surplus net flows v
-surplus_of_all net flows v n all = ap (λ (links : List Link). sum_out links (number_at flows) v -ℚ sum_in links (number_at flows) v) (take_all n net.links all)
+pub surplus_of_all : (net : Network) (flow : ℕ → ℚ) (v n : ℕ) → length net.links ≤ n → surplus_of_first net flow v n ≡ surplus_by net flow v
+surplus_of_all net flow v n all = ap (λ (links : List Link). sum_out links flow v -ℚ sum_in links flow v) (take_all n net.links all)
 
 -- ---- what fills a link
 full_fills : (passes : Passing) (capacity : Option ℚ) (head_slope most : ℚ) → full_of passes capacity head_slope ≡ Some most → Fills capacity most head_slope
@@ -124,9 +124,9 @@ module _ (passes : Passing) (net : Network) (sets : Sets) (rate : ℚ) (pattern 
     inequality = can.meets.links e link state h at_state;
   }
 
-  -- what a node sends out beyond what comes in
-  pub needed : IsNetwork net → (v : ℕ) → v < net.nodes → surplus net flows v ≡ needed_at net rate v
-  needed good v within = ⊎_elim
+  -- each node sends out what it is to
+  pub conserves : IsNetwork net → Conserves net rate (number_at flows)
+  conserves good v within = ⊎_elim
       (λ (t : (eqb v net.sink ≡ true) × (v ≡ net.sink)). ap (surplus net flows) t.1
       ∙ (sink_takes net good (number_at flows) rate can.solves.source can.solves.inner
       ∙ (other_sign rate ∙ sym (ap (λ (b : Bool). if b then neg_ℚ rate else (if eqb v net.source then rate else 0ℚ)) t.0))))
@@ -184,16 +184,16 @@ other_true false true e t = refl
 other_true false false e t = sym e
 other_true true b e t = absurd (cc)
 
-module _ (passes : Passing) (net : Network) (sets : Sets) (pattern : Pattern) (full : List (Option ℚ)) (v e : ℕ) (range : Range) (link : Link) (is_link : IsLink net e link)
-    (so_far : BoundsFirst passes net sets pattern full v e range) (leaves enters : Bool) (tail_is : eqb link.tail v ≡ leaves) (head_is : eqb link.head v ≡ enters) where
-  pub bounds_still : beq leaves enters ≡ true → BoundsFirst passes net sets pattern full v (suc e) range
-  bounds_still same rate flows can = subst (IsWithin range) (same_surplus net flows v e link is_link (tail_is ∙ (same_bits leaves enters same ∙ sym head_is))) (so_far rate flows can)
+module _ (net : Network) (ranges : List Range) (v e : ℕ) (range : Range) (link : Link) (is_link : IsLink net e link)
+    (so_far : BoundsFirst net ranges v e range) (leaves enters : Bool) (tail_is : eqb link.tail v ≡ leaves) (head_is : eqb link.head v ≡ enters) where
+  pub bounds_still : beq leaves enters ≡ true → BoundsFirst net ranges v (suc e) range
+  bounds_still same flow within = subst (IsWithin range) (same_surplus net flow v e link is_link (tail_is ∙ (same_bits leaves enters same ∙ sym head_is))) (so_far flow within)
 
-  module _ (apart : beq leaves enters ≡ false) (flow more : Range) (carries : (rate : ℚ) (flows : List ℚ) → CanFlow passes net sets rate pattern full flows → IsWithin flow (number_at flows e)) where
-    pub bounds_sum : leaves ≡ true → ((x y : ℚ) → IsWithin range x → IsWithin flow y → IsWithin more (x +ℚ y)) → BoundsFirst passes net sets pattern full v (suc e) more
-    bounds_sum out sums rate flows can = subst (IsWithin more) (greater_surplus net flows v e link is_link (tail_is ∙ out) (head_is ∙ other_false leaves enters apart out))
-        (sums _ _ (so_far rate flows can) (carries rate flows can))
+  module _ (apart : beq leaves enters ≡ false) (here more : Range) (at : slice_get ranges e ≡ Some here) where
+    pub bounds_sum : leaves ≡ true → ((x y : ℚ) → IsWithin range x → IsWithin here y → IsWithin more (x +ℚ y)) → BoundsFirst net ranges v (suc e) more
+    bounds_sum out sums flow within = subst (IsWithin more) (greater_surplus net flow v e link is_link (tail_is ∙ out) (head_is ∙ other_false leaves enters apart out))
+        (sums _ _ (so_far flow within) (within e here at))
 
-    pub bounds_difference : leaves ≡ false → ((x y : ℚ) → IsWithin range x → IsWithin flow y → IsWithin more (x -ℚ y)) → BoundsFirst passes net sets pattern full v (suc e) more
-    bounds_difference not_out differences rate flows can = subst (IsWithin more) (lesser_surplus net flows v e link is_link (tail_is ∙ not_out) (head_is ∙ other_true leaves enters apart not_out))
-        (differences _ _ (so_far rate flows can) (carries rate flows can))
+    pub bounds_difference : leaves ≡ false → ((x y : ℚ) → IsWithin range x → IsWithin here y → IsWithin more (x -ℚ y)) → BoundsFirst net ranges v (suc e) more
+    bounds_difference not_out differences flow within = subst (IsWithin more) (lesser_surplus net flow v e link is_link (tail_is ∙ not_out) (head_is ∙ other_true leaves enters apart not_out))
+        (differences _ _ (so_far flow within) (within e here at))

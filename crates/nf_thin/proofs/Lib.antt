@@ -7,6 +7,7 @@ pub mod NoCycle
 pub mod LedSlopes
 pub mod Within
 pub mod Conserving
+pub mod Closing
 pub mod Refusing
 pub mod Narrowing
 pub mod Early

@@ -9,6 +9,7 @@ use Rattle.nf_rational.specs.Order.{◌≤ℚ◌, le_ℚ}
 use Rattle.nf_rational_laws.proofs.Polynomial.{reading_of}
 use Rattle.nf_rational_laws.proofs.Linear.{le, eq, linear_le, linear_eq}
 use Rattle.nf_rational_laws.proofs.Order.{≤ℚ_of_same}
+use Rattle.nf_rational_laws.proofs.Chains.{≤ℚ_trans}
 use Rattle.nf_rational_laws.proofs.Tests.{le_of_test, test_of_le}
 use Rattle.nf_work.specs.declared.Op.{Op}
 use Rattle.nf_work.specs.declared.Op.TheVariants.{Sum, Difference}
@@ -90,6 +91,10 @@ from_test end least x b at is = subst (λ (o : Option ℚ). MatchBool b (IsFrom 
 
 pub up_to_test : (end : Option ℚ) (greatest x : ℚ) (b : Bool) → end ≡ Some greatest → b ≡ le_ℚ x greatest → MatchBool b (IsUpTo end x) (IsUpTo end x → ⊥)
 up_to_test end greatest x b at is = subst (λ (o : Option ℚ). MatchBool b (IsUpTo o x) (IsUpTo o x → ⊥)) (sym at) (test_up_to greatest x b is)
+
+-- one number from one end on and up to another
+pub meeting : (least greatest : Option ℚ) (end x : ℚ) → greatest ≡ Some end → IsFrom least x → IsUpTo greatest x → IsFrom least end
+meeting least greatest end x is from up_to other at = ≤ℚ_trans other x end (from other at) (up_to end is)
 
 -- ---- the flow of a link in its state
 pub within_just : (number : Option ℚ) (x : ℚ) → ((known : ℚ) → number ≡ Some known → x ≡ known) → IsWithin (record { least = number; greatest = number }) x

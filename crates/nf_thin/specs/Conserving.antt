@@ -1,5 +1,5 @@
 -- Whether flow can be conserved at a node by what its links may carry, where slopes are known.
-use Rattle.std.specs.Prelude.{◌≡◌, ℕ, List, map, take, Option, eqb, if◌then◌else◌}
+use Rattle.std.specs.Prelude.{◌≡◌, ◌<◌, ℕ, Bool, true, List, map, take, Option, Some, slice_get, eqb, if◌then◌else◌}
 use Rattle.nf_rational.specs.Rational.{ℚ}
 use Rattle.nf_rational.specs.Operations.{0ℚ, ◌-ℚ◌, neg_ℚ}
 use Rattle.nf_work.specs.Passing.{Passing}
@@ -16,22 +16,36 @@ abbrev pub full_by : Passing → Network → List ℚ → List (Option ℚ)
 full_by passes net slopes = map (λ (link : Link). full_of passes link.capacity (number_at slopes link.head)) net.links
 
 -- with the slopes that the full flows were found by, these flows solve the pattern and meet its inequalities
-pub record CanFlow (passes : Passing) (net : Network) (sets : Sets) (rate : ℚ) (pattern : Pattern) (full : List (Option ℚ))
-    (flows : List ℚ) : Type 0 where
+pub record CanFlow (passes : Passing) (net : Network) (sets : Sets) (rate : ℚ) (pattern : Pattern) (full : List (Option ℚ)) (flows : List ℚ) : Type 0 where
   pub slopes : List ℚ
   pub full_are : full ≡ full_by passes net slopes
   pub solves : Solves net sets rate pattern flows slopes
   pub meets : Meets net pattern flows slopes
 
--- what the first links send out of a node beyond what they bring to it
-abbrev pub surplus_of_first : Network → List ℚ → ℕ → ℕ → ℚ
-surplus_of_first net flows v count = sum_out (take count net.links) (number_at flows) v -ℚ sum_in (take count net.links) (number_at flows) v
+-- each link carries a number in its range
+abbrev pub AreWithin : List Range → (ℕ → ℚ) → Type 0
+AreWithin ranges flow = (e : ℕ) (range : Range) → slice_get ranges e ≡ Some range → IsWithin range (flow e)
 
--- it lies in this range, whatever flows there can be
-abbrev pub BoundsFirst : Passing → Network → Sets → Pattern → List (Option ℚ) → ℕ → ℕ → Range → Type 0
-BoundsFirst passes net sets pattern full v count range = (rate : ℚ) (flows : List ℚ) → CanFlow passes net sets rate pattern full flows
-    → IsWithin range (surplus_of_first net flows v count)
+-- what a node sends out beyond what comes in, where links carry so much
+abbrev pub surplus_by : Network → (ℕ → ℚ) → ℕ → ℚ
+surplus_by net flow v = sum_out net.links flow v -ℚ sum_in net.links flow v
+
+-- what the first links send out of a node beyond what they bring to it
+abbrev pub surplus_of_first : Network → (ℕ → ℚ) → ℕ → ℕ → ℚ
+surplus_of_first net flow v count = sum_out (take count net.links) flow v -ℚ sum_in (take count net.links) flow v
+
+-- it lies in this range, whatever the links carry in theirs
+abbrev pub BoundsFirst : Network → List Range → ℕ → ℕ → Range → Type 0
+BoundsFirst net ranges v count range = (flow : ℕ → ℚ) → AreWithin ranges flow → IsWithin range (surplus_of_first net flow v count)
 
 -- what a node is to send out beyond what comes in: the rate out of the source and into the sink, and nothing elsewhere
 abbrev pub needed_at : Network → ℚ → ℕ → ℚ
 needed_at net rate v = if eqb v net.sink then neg_ℚ rate else (if eqb v net.source then rate else 0ℚ)
+
+-- each node sends out what it is to
+abbrev pub Conserves : Network → ℚ → (ℕ → ℚ) → Type 0
+Conserves net rate flow = (v : ℕ) → v < net.nodes → surplus_by net flow v ≡ needed_at net rate v
+
+-- whatever the links carry in their ranges where flow is conserved, they carry in new ranges too, and it fits
+abbrev pub Keeps : Network → ℚ → List Range → List Range → Bool → Type 0
+Keeps net rate before after fits = (flow : ℕ → ℚ) → AreWithin before flow → Conserves net rate flow → (fits ≡ true) × AreWithin after flow

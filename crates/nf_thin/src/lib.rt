@@ -6,6 +6,7 @@ mod fault;
 mod finding;
 mod first;
 mod known;
+mod leaves;
 mod listings;
 mod node_test;
 mod pace;

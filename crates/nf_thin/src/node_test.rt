@@ -1,13 +1,12 @@
 // Whether the links at each node can carry what conservation of flow asks there, where slopes are known: a pattern of which some can't
 // isn't accepted, and no table is needed to see it.
-ghost use Rattle.std.specs.Prelude.{◌≡◌, ◌<◌, ℕ, suc, true, List, length, None, IfOk};
+ghost use Rattle.std.specs.Prelude.{◌≡◌, ◌<◌, ℕ, suc, true, List, length, slice_get, Some, None, IfOk};
 ghost use Rattle.nf_rational.specs.Rational.{ℚ};
 ghost use Rattle.nf_work.specs.Passing.{beyond, passes_Q};
 ghost use Rattle.nf_model.specs.Entries.{number_at};
 ghost use Rattle.nf_model.specs.Network.{Network as SeenNetwork, Link as SeenLink, IsLink, IsNetwork};
-ghost use Rattle.nf_model.specs.ThinFlow.{surplus as surplus_of};
 ghost use Rattle.nf_thin.specs.Ranges.{IsWithin};
-ghost use Rattle.nf_thin.specs.Conserving.{full_by, CanFlow, BoundsFirst, needed_at};
+ghost use Rattle.nf_thin.specs.Conserving.{full_by, CanFlow, AreWithin, Conserves, BoundsFirst, surplus_by, needed_at};
 
 use crate::ranges::{Range, flow_range};
 use nf_frac::Q;
@@ -36,8 +35,7 @@ fn range_of(sets: &LinkSets, full: &[Option<Q>], pattern: &Pattern, link: LinkId
     requires link { link < length pattern.now }
     requires sets { length sets.now.active ≡ length pattern.now }
     requires full { length full.now ≡ length pattern.now }
-    ensures { (net : SeenNetwork) (rate : ℚ) (flows : List ℚ) (here : SeenLink)
-        → CanFlow passes_Q net sets.now rate pattern.now full.now flows → IsLink net link here → IsWithin result (number_at flows link) }
+    ensures { (net : SeenNetwork) (rate : ℚ) (flows : List ℚ) (here : SeenLink) → CanFlow passes_Q net sets.now rate pattern.now full.now flows → IsLink net link here → IsWithin result (number_at flows link) }
 {
     flow_range(
         pattern.state(link),
@@ -46,60 +44,71 @@ fn range_of(sets: &LinkSets, full: &[Option<Q>], pattern: &Pattern, link: LinkId
     )
 }
 
-// What the links up to this one send out of a node beyond what they bring to it, where that of the links before it lies in this range.
-fn with_link(
-    range: Range,
+/// What each link may carry by its state, in link order, where `full` fills the links.
+pub(crate) fn link_ranges(
+    alloc: Global,
     net: &Network,
     sets: &LinkSets,
     full: &[Option<Q>],
     pattern: &Pattern,
-    node: NodeId,
-    link: LinkId,
-) -> Range
-    requires link { link < length net.now.net.links }
+) -> Result<Vec<Range>, AllocError>
     requires sets { length sets.now.active ≡ length net.now.net.links }
     requires full { length full.now ≡ length net.now.net.links }
     requires states { length pattern.now ≡ length net.now.net.links }
-    requires before { BoundsFirst passes_Q net.now.net sets.now pattern.now full.now node link range }
-    ensures { BoundsFirst passes_Q net.now.net sets.now pattern.now full.now node (suc link) result }
+    ensures count { IfOk result (λ ranges. length ranges.items ≡ length net.now.net.links) }
+    ensures carry { IfOk result (λ ranges. (rate : ℚ) (flows : List ℚ)
+        → CanFlow passes_Q net.now.net sets.now rate pattern.now full.now flows → AreWithin ranges.items (number_at flows)) }
+{
+    let mut ranges = Vec::with_capacity(alloc, net.link_count() as usize)?;
+    for e in 0..net.link_count() {
+        ranges.push(range_of(sets, full, pattern, LinkId(e)))?;
+    }
+    Ok(ranges)
+}
+
+/// What a link may carry.
+pub(crate) fn range_at(ranges: &[Range], link: LinkId) -> Range
+    requires { link < length ranges.now }
+    ensures { slice_get ranges.now link ≡ Some result }
+{
+    ranges[link.index()]
+}
+
+// What the links before this one send out of a node beyond what they bring to it lies in the range; that with this one lies in the new one.
+fn add_link(range: &mut Range, net: &Network, ranges: &[Range], node: NodeId, link: LinkId)
+    requires link { link < length net.now.net.links }
+    requires ranges { length ranges.now ≡ length net.now.net.links }
+    requires before { BoundsFirst net.now.net ranges.now node link range.old }
+    ensures { BoundsFirst net.now.net ranges.now node (suc link) range.new }
 {
     let hop = &net.hops()[link.index()];
     let leaves = hop.tail == node;
     let enters = hop.head == node;
     if leaves == enters {
-        return range;
+        return;
     }
-    let flow = range_of(sets, full, pattern, link);
+    let flow = range_at(ranges, link);
     if leaves {
-        range.sum(flow)
-    } else {
-        range.difference(flow)
+        *range = range.sum(flow);
+        return;
     }
+    *range = range.difference(flow);
 }
 
-// What all links send out of a node beyond what they bring to it lies in this range.
-fn surplus_range(
-    net: &Network,
-    sets: &LinkSets,
-    full: &[Option<Q>],
-    pattern: &Pattern,
-    node: NodeId,
-) -> Range
-    requires sets { length sets.now.active ≡ length net.now.net.links }
-    requires full { length full.now ≡ length net.now.net.links }
-    requires states { length pattern.now ≡ length net.now.net.links }
-    ensures { (rate : ℚ) (flows : List ℚ) → CanFlow passes_Q net.now.net sets.now rate pattern.now full.now flows
-        → IsWithin result (surplus_of net.now.net flows node) }
+/// What all links send out of a node beyond what they bring to it, where they carry numbers in these ranges, lies in this one.
+pub(crate) fn surplus_range(net: &Network, ranges: &[Range], node: NodeId) -> Range
+    requires ranges { length ranges.now ≡ length net.now.net.links }
+    ensures { (flow : ℕ → ℚ) → AreWithin ranges.now flow → IsWithin result (surplus_by net.now.net flow node) }
 {
     let mut range = Range::just(Some(Q::zero()));
     for e in 0..net.link_count() {
-        range = with_link(range, net, sets, full, pattern, node, LinkId(e));
+        add_link(&mut range, net, ranges, node, LinkId(e));
     }
     range
 }
 
-// What a node is to send out beyond what comes in: the rate out of the source and into the sink, and nothing elsewhere.
-fn needed(net: &Network, rate: Q, node: NodeId) -> Q
+/// What a node is to send out beyond what comes in: the rate out of the source and into the sink, and nothing elsewhere.
+pub(crate) fn needed(net: &Network, rate: Q, node: NodeId) -> Q
     ensures { result ≡ needed_at net.now.net rate node }
 {
     if node == net.sink() {
@@ -110,82 +119,59 @@ fn needed(net: &Network, rate: Q, node: NodeId) -> Q
 }
 
 // Flow can be conserved at a node: its links can send out of it what they are to, beyond what they bring to it.
-fn can_conserve_at(
-    net: &Network,
-    sets: &LinkSets,
-    rate: Q,
-    full: &[Option<Q>],
-    pattern: &Pattern,
-    node: NodeId,
-) -> bool
-    requires network { IsNetwork net.now.net }
+fn can_conserve_at(net: &Network, rate: Q, ranges: &[Range], node: NodeId) -> bool
     requires node { node < net.now.net.nodes }
-    requires sets { length sets.now.active ≡ length net.now.net.links }
-    requires full { length full.now ≡ length net.now.net.links }
-    requires states { length pattern.now ≡ length net.now.net.links }
-    ensures { (flows : List ℚ) → CanFlow passes_Q net.now.net sets.now rate pattern.now full.now flows → result ≡ true }
+    requires ranges { length ranges.now ≡ length net.now.net.links }
+    ensures { (flow : ℕ → ℚ) → AreWithin ranges.now flow → Conserves net.now.net rate flow → result ≡ true }
 {
-    let range = surplus_range(net, sets, full, pattern, node);
-    range.holds(needed(net, rate, node))
+    surplus_range(net, ranges, node).holds(needed(net, rate, node))
 }
 
-// The first node at which flow can't be conserved, if there is one.
-fn first_unbalanced(
-    net: &Network,
-    sets: &LinkSets,
-    rate: Q,
-    full: &[Option<Q>],
-    pattern: &Pattern,
-) -> Option<NodeId>
-    requires network { IsNetwork net.now.net }
-    requires sets { length sets.now.active ≡ length net.now.net.links }
-    requires full { length full.now ≡ length net.now.net.links }
-    requires states { length pattern.now ≡ length net.now.net.links }
-    ensures { (flows : List ℚ) → CanFlow passes_Q net.now.net sets.now rate pattern.now full.now flows → result ≡ None }
+/// The first node at which flow can't be conserved, if there is one.
+pub(crate) fn first_unbalanced(net: &Network, rate: Q, ranges: &[Range]) -> Option<NodeId>
+    requires { length ranges.now ≡ length net.now.net.links }
+    ensures { (flow : ℕ → ℚ) → AreWithin ranges.now flow → Conserves net.now.net rate flow → result ≡ None }
 {
     for v in 0..net.node_count() {
-        if !can_conserve_at(net, sets, rate, full, pattern, NodeId(v)) {
+        if !can_conserve_at(net, rate, ranges, NodeId(v)) {
             return Some(NodeId(v));
         }
     }
     None
 }
 
-/// A node at which flow can't be conserved, by what its links may carry in their states, if there is one. This node is looked at first:
-/// patterns that follow each other mostly fail at the same node.
+/// A node at which flow can't be conserved, if there is one. This node is looked at first: patterns that follow each other mostly fail
+/// at the same node.
 pub(crate) fn unbalanced_node(
     net: &Network,
-    sets: &LinkSets,
     rate: Q,
-    full: &[Option<Q>],
-    pattern: &Pattern,
+    ranges: &[Range],
     first: NodeId,
 ) -> Option<NodeId>
-    requires network { IsNetwork net.now.net }
-    requires sets { length sets.now.active ≡ length net.now.net.links }
-    requires full { length full.now ≡ length net.now.net.links }
-    requires states { length pattern.now ≡ length net.now.net.links }
-    ensures { (flows : List ℚ) → CanFlow passes_Q net.now.net sets.now rate pattern.now full.now flows → result ≡ None }
+    requires { length ranges.now ≡ length net.now.net.links }
+    ensures { (flow : ℕ → ℚ) → AreWithin ranges.now flow → Conserves net.now.net rate flow → result ≡ None }
 {
-    if first.0 < net.node_count() && !can_conserve_at(net, sets, rate, full, pattern, first) {
+    if first.0 < net.node_count() && !can_conserve_at(net, rate, ranges, first) {
         return Some(first);
     }
-    first_unbalanced(net, sets, rate, full, pattern)
+    first_unbalanced(net, rate, ranges)
 }
 
 /// Whether flow can be conserved at each node, by what its links may carry in their states.
 pub fn can_conserve(
+    alloc: Global,
     net: &Network,
     sets: &LinkSets,
     rate: Q,
     full: &[Option<Q>],
     pattern: &Pattern,
-) -> bool
+) -> Result<bool, AllocError>
     requires network { IsNetwork net.now.net }
     requires sets { length sets.now.active ≡ length net.now.net.links }
     requires full { length full.now ≡ length net.now.net.links }
     requires states { length pattern.now ≡ length net.now.net.links }
-    ensures { (flows : List ℚ) → CanFlow passes_Q net.now.net sets.now rate pattern.now full.now flows → result ≡ true }
+    ensures { IfOk result (λ can. (flows : List ℚ) → CanFlow passes_Q net.now.net sets.now rate pattern.now full.now flows → can ≡ true) }
 {
-    first_unbalanced(net, sets, rate, full, pattern).is_none()
+    let ranges = link_ranges(alloc, net, sets, full, pattern)?;
+    Ok(first_unbalanced(net, rate, &ranges).is_none())
 }

@@ -1,5 +1,5 @@
 // Ranges of numbers, and what range the flow of a link has by its state.
-ghost use Rattle.std.specs.Prelude.{◌≡◌, MatchBool, Bool, Option, Some};
+ghost use Rattle.std.specs.Prelude.{◌≡◌, MatchBool, Bool, true, Option, Some};
 ghost use Rattle.nf_rational.specs.Rational.{ℚ};
 ghost use Rattle.nf_rational.specs.Operations.{0ℚ, ◌+ℚ◌, ◌-ℚ◌};
 ghost use Rattle.nf_rational.specs.Order.{◌≤ℚ◌};
@@ -62,6 +62,16 @@ fn is_up_to(greatest: Option<Q>, number: Q) -> bool
     }
 }
 
+// A number can be at least one end and at most another, as far as they are known.
+fn ends_meet(least: Option<Q>, greatest: Option<Q>) -> bool
+    ensures { (x : ℚ) → IsFrom least x → IsUpTo greatest x → result ≡ true }
+{
+    match greatest {
+        Some(greatest) => is_from(least, greatest),
+        None => true,
+    }
+}
+
 impl Range {
     /// One number alone, if it is known, and else any.
     pub(crate) fn just(number: Option<Q>) -> Range
@@ -101,6 +111,24 @@ impl Range {
         Range {
             least: end_of_difference(self.least, other.greatest),
             greatest: end_of_difference(self.greatest, other.least),
+        }
+    }
+
+    /// Whether a number can lie in it and in another one.
+    pub(crate) fn meets(&self, other: &Range) -> bool
+        ensures { (x : ℚ) → IsWithin self.now x → IsWithin other.now x → result ≡ true }
+    {
+        if !ends_meet(self.least, other.greatest) {
+            return false;
+        }
+        ends_meet(other.least, self.greatest)
+    }
+
+    /// Whether one number alone lies in it. Nothing rests on it.
+    pub(crate) fn is_one(self) -> bool {
+        match (self.least, self.greatest) {
+            (Some(least), Some(greatest)) => least == greatest,
+            _ => false,
         }
     }
 

@@ -1,20 +1,24 @@
 // What slopes of a thin flow tell of listed patterns: some are seen not to be accepted without a table.
-ghost use Rattle.std.specs.Prelude.{◌≤◌, IfOk, IfSome};
+ghost use Rattle.std.specs.Prelude.{◌≡◌, ◌≤◌, List, length, None, IfOk, IfSome};
+ghost use Rattle.nf_rational.specs.Rational.{ℚ};
 ghost use Rattle.nf_work.specs.Passing.{passes_Q};
+ghost use Rattle.nf_model.specs.Network.{IsNetwork};
 ghost use Rattle.nf_model.specs.Pattern.{IsListedIn};
 ghost use Rattle.nf_equation_laws.specs.Equations.{IsPatternIn};
 ghost use Rattle.nf_thin.specs.Searching.{AreSetsOf};
+ghost use Rattle.nf_thin.specs.Conserving.{CanFlow};
 ghost use Rattle.nf_thin.specs.Sifting.{Guides, SiftsNext};
 
 use crate::cycles::hold_no_cycle;
 use crate::fault::SearchFault;
 use crate::known::{Known, known_by, thin_at};
-use crate::node_test::{full_flows, unbalanced_node};
+use crate::leaves::comes_out;
+use crate::node_test::{full_flows, link_ranges, unbalanced_node};
 use crate::thin::Thin;
 use crate::trying_next::try_next;
 use crate::vain::Vain;
 use nf_frac::Q;
-use nf_graph::LinkSets;
+use nf_graph::{LinkSets, NodeId};
 use nf_guess::guess;
 use nf_net::Network;
 use nf_one_pattern::is_one_pattern;
@@ -26,6 +30,34 @@ use std::alloc::{AllocError, Global};
 pub(crate) struct Guide {
     pub(crate) known: Known,
     pub(crate) full: Vec<Option<Q>>,
+}
+
+// A node to look at first the next time, where the pattern is seen not to be accepted: by what links may carry in their states, flow can't
+// be conserved at each node.
+fn ruled_out_at(
+    alloc: Global,
+    net: &Network,
+    sets: &LinkSets,
+    rate: Q,
+    full: &[Option<Q>],
+    pattern: &Pattern,
+    first: NodeId,
+) -> Result<Option<NodeId>, AllocError>
+    requires network { IsNetwork net.now.net }
+    requires sets { length sets.now.active ≡ length net.now.net.links }
+    requires full { length full.now ≡ length net.now.net.links }
+    requires states { length pattern.now ≡ length net.now.net.links }
+    ensures { IfOk result (λ node. (flows : List ℚ) → CanFlow passes_Q net.now.net sets.now rate pattern.now full.now flows → node ≡ None) }
+{
+    let mut ranges = link_ranges(alloc, net, sets, full, pattern)?;
+    if let Some(node) = unbalanced_node(net, rate, &ranges, first) {
+        return Ok(Some(node));
+    }
+    if comes_out(net, rate, &mut ranges) {
+        Ok(None)
+    } else {
+        Ok(Some(first))
+    }
 }
 
 /// The next pattern is found without a table where it is the known one, passed over where flow can't be conserved at a node, and else
@@ -53,7 +85,7 @@ pub(crate) fn sift_next(
         let thin = thin_at(alloc, &guide.known, vain.tried + 1)?;
         return Ok(Some(thin));
     }
-    let Some(node) = unbalanced_node(net, sets, rate, &guide.full, pattern, vain.node) else {
+    let Some(node) = ruled_out_at(alloc, net, sets, rate, &guide.full, pattern, vain.node)? else {
         return try_next(alloc, net, sets, rate, pattern, budget, vain);
     };
     vain.tried += 1;

@@ -4,11 +4,11 @@ use Rattle.nf_thin.proofs.Conserving.{none_sent, surplus_of_all}
 use Rattle.nf_thin.proofs.node_test.surplus_range.Goals as goal
 
 pub loop-e-init : goal.loop-e-init
-loop-e-init c rate flows can = c.just-range.ensures _ (none_sent c.args.net.now.net flows c.args.node c.zero.result c.zero.ensures)
+loop-e-init c flow within = c.just-range.ensures _ (none_sent c.args.net.now.net flow c.args.node c.zero.result c.zero.ensures)
 
 pub loop-e-preserved : goal.loop-e-preserved
-loop-e-preserved c = rw (add-one c.loop-e.e) c.with_link-range.ensures
+loop-e-preserved c = rw (add-one c.loop-e.e) c.add_link.ensures
 
 pub returns : goal.returns
-returns c rate flows can = subst (IsWithin c.loop-e.range)
-    (surplus_of_all c.args.net.now.net flows c.args.node c.loop-e.e (let n = c.link_count-e-end.ensures in let t = c.loop-e-test.false in omega arith)) (c.loop-e.invariant rate flows can)
+returns c flow within = subst (IsWithin c.loop-e.range)
+    (surplus_of_all c.args.net.now.net flow c.args.node c.loop-e.e (let n = c.link_count-e-end.ensures in let t = c.loop-e-test.false in omega arith)) (c.loop-e.invariant flow within)

@@ -8,18 +8,18 @@ use Rattle.nf_thin.proofs.FoundThin.{found_known}
 use Rattle.nf_thin.proofs.Refusing.{can_flow, tried_counts}
 use Rattle.nf_thin.proofs.sifting.sift_next.Goals as goal
 
-pub unbalanced_node-requires-clause-full : goal.unbalanced_node-requires-clause-full
-unbalanced_node-requires-clause-full c =
+pub ruled_out_at-requires-clause-full : goal.ruled_out_at-requires-clause-full
+ruled_out_at-requires-clause-full c =
     ap (λ (l : List (Option ℚ)). length l) (c.deref.ensures.value ∙ c.requires.guide.full) ∙ full_count passes_Q c.args.net.now.net c.args.guide.now.known.slopes.items
 
-pub unbalanced_node-requires-clause-network : goal.unbalanced_node-requires-clause-network
-unbalanced_node-requires-clause-network c = c.requires.pattern.network
+pub ruled_out_at-requires-clause-network : goal.ruled_out_at-requires-clause-network
+ruled_out_at-requires-clause-network c = c.requires.pattern.network
 
-pub unbalanced_node-requires-clause-sets : goal.unbalanced_node-requires-clause-sets
-unbalanced_node-requires-clause-sets c = c.requires.pattern.sets_are.count
+pub ruled_out_at-requires-clause-sets : goal.ruled_out_at-requires-clause-sets
+ruled_out_at-requires-clause-sets c = c.requires.pattern.sets_are.count
 
-pub unbalanced_node-requires-clause-states : goal.unbalanced_node-requires-clause-states
-unbalanced_node-requires-clause-states c = c.requires.pattern.pattern_is.count ∙ c.requires.pattern.sets_are.count
+pub ruled_out_at-requires-clause-states : goal.ruled_out_at-requires-clause-states
+ruled_out_at-requires-clause-states c = c.requires.pattern.pattern_is.count ∙ c.requires.pattern.sets_are.count
 
 pub is_one_pattern-requires-clause-one : goal.is_one_pattern-requires-clause-one
 is_one_pattern-requires-clause-one c = c.requires.guide.known.states
@@ -43,7 +43,7 @@ returns c = (
   let n = c.if-vain-budget.false in let w = c.requires.within in omega arith,
   record {
     one_more = add-one c.args.vain.now.tried;
-    not_accepted = λ accepted. none-some c.in-Some.node (sym (c.unbalanced_node.ensures accepted.solvable.flows
+    not_accepted = λ accepted. none-some c.in-Some.node (sym (c.in_ok-node.ensures accepted.solvable.flows
         (can_flow c.args.net.now.net c.args.sets.now c.args.rate c.args.pattern.now c.requires.listed accepted.solvable passes_Q c.args.guide.now.known.slopes.items c.deref.result.now
         c.requires.guide.slopes (c.deref.ensures.value ∙ c.requires.guide.full)))
         ∙ c.in-Some.is);

@@ -1,9 +1,8 @@
-use Rattle.std.proofs.Common.{◌≡◌, List, length, ap, ◌∙◌, arith, sym}
-use Rattle.nf_work.specs.Passing.{passes_Q}
+use Rattle.std.proofs.Common.{◌≡◌, List, length, ap, ◌∙◌, arith}
 use Rattle.nf_model.specs.Walk.{Hop}
 use Rattle.nf_thin.proofs.Conserving.{link_read, end_test, bounds_still, bounds_sum, bounds_difference}
 use Rattle.nf_thin.proofs.Hops.{hops_length}
-use Rattle.nf_thin.proofs.node_test.with_link.Goals as goal
+use Rattle.nf_thin.proofs.node_test.add_link.Goals as goal
 
 pub bounds-hops-index : goal.bounds-hops-index
 bounds-hops-index c =
@@ -15,7 +14,7 @@ bounds-hops-index c =
 pub returns-then-leaves-enters : goal.returns-then-leaves-enters
 returns-then-leaves-enters c =
     let f = link_read c.args.net.now.net c.hops.result.now c.args.link c.index.result c.index-hops-index.result c.hops.ensures.value c.index.ensures c.requires.link c.index-hops-index.is in
-    bounds_still passes_Q c.args.net.now.net c.args.sets.now c.args.pattern.now c.args.full.now c.args.node c.args.link c.args.range f.0 f.1 c.requires.before
+    bounds_still c.args.net.now.net c.args.ranges.now c.args.node c.args.link c.args.range.now f.0 f.1 c.requires.before
     c.eq-leaves.result c.eq-enters.result
     (end_test c.eq-leaves.result c.hop.inside.tail c.index-hops-index.result.tail (f.0).tail c.args.node c.eq-leaves.ensures (ap (λ (h : Hop). h.tail) c.hop.view_is) f.2)
     (end_test c.eq-enters.result c.hop.inside.head c.index-hops-index.result.head (f.0).head c.args.node c.eq-enters.ensures (ap (λ (h : Hop). h.head) c.hop.view_is) f.3)
@@ -24,23 +23,20 @@ returns-then-leaves-enters c =
 pub returns-then-leaves : goal.returns-then-leaves
 returns-then-leaves c =
     let f = link_read c.args.net.now.net c.hops.result.now c.args.link c.index.result c.index-hops-index.result c.hops.ensures.value c.index.ensures c.requires.link c.index-hops-index.is in
-    bounds_sum passes_Q c.args.net.now.net c.args.sets.now c.args.pattern.now c.args.full.now c.args.node c.args.link c.args.range f.0 f.1 c.requires.before
+    bounds_sum c.args.net.now.net c.args.ranges.now c.args.node c.args.link c.args.range.now f.0 f.1 c.requires.before
     c.eq-leaves.result c.eq-enters.result
     (end_test c.eq-leaves.result c.hop.inside.tail c.index-hops-index.result.tail (f.0).tail c.args.node c.eq-leaves.ensures (ap (λ (h : Hop). h.tail) c.hop.view_is) f.2)
     (end_test c.eq-enters.result c.hop.inside.head c.index-hops-index.result.head (f.0).head c.args.node c.eq-enters.ensures (ap (λ (h : Hop). h.head) c.hop.view_is) f.3)
-    c.if-leaves-enters.false c.range_of-flow.result c.sum.result (λ rate flows can. c.range_of-flow.ensures c.args.net.now.net rate flows f.0 can f.1) c.if-leaves.true c.sum.ensures
+    c.if-leaves-enters.false c.range_at-flow.result c.sum.result c.range_at-flow.ensures c.if-leaves.true c.sum.ensures
 
-pub returns-else-leaves : goal.returns-else-leaves
-returns-else-leaves c =
+pub returns : goal.returns
+returns c =
     let f = link_read c.args.net.now.net c.hops.result.now c.args.link c.index.result c.index-hops-index.result c.hops.ensures.value c.index.ensures c.requires.link c.index-hops-index.is in
-    bounds_difference passes_Q c.args.net.now.net c.args.sets.now c.args.pattern.now c.args.full.now c.args.node c.args.link c.args.range f.0 f.1 c.requires.before
+    bounds_difference c.args.net.now.net c.args.ranges.now c.args.node c.args.link c.args.range.now f.0 f.1 c.requires.before
     c.eq-leaves.result c.eq-enters.result
     (end_test c.eq-leaves.result c.hop.inside.tail c.index-hops-index.result.tail (f.0).tail c.args.node c.eq-leaves.ensures (ap (λ (h : Hop). h.tail) c.hop.view_is) f.2)
     (end_test c.eq-enters.result c.hop.inside.head c.index-hops-index.result.head (f.0).head c.args.node c.eq-enters.ensures (ap (λ (h : Hop). h.head) c.hop.view_is) f.3)
-    c.if-leaves-enters.false c.range_of-flow.result c.difference.result (λ rate flows can. c.range_of-flow.ensures c.args.net.now.net rate flows f.0 can f.1) c.if-leaves.false c.difference.ensures
+    c.if-leaves-enters.false c.range_at-flow.result c.difference.result c.range_at-flow.ensures c.if-leaves.false c.difference.ensures
 
-pub range_of-flow-requires-clause-full : goal.range_of-flow-requires-clause-full
-range_of-flow-requires-clause-full c = c.requires.full ∙ sym c.requires.states
-
-pub range_of-flow-requires-clause-sets : goal.range_of-flow-requires-clause-sets
-range_of-flow-requires-clause-sets c = c.requires.sets ∙ sym c.requires.states
+pub range_at-flow-requires : goal.range_at-flow-requires
+range_at-flow-requires c = let n = c.requires.ranges in let l = c.requires.link in omega arith

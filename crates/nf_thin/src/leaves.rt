@@ -1,0 +1,127 @@
+// What Tight links carry, where the slopes are known: at a node of which one link alone is left open, conservation of flow tells what
+// that one carries. So what all links of a forest carry comes out, from its leaves on.
+ghost use Rattle.std.specs.Prelude.{◌≡◌, ◌<◌, ℕ, true, length, slice_get, slice_set, Some, None, IfSome, MatchBool};
+ghost use Rattle.nf_rational.specs.Rational.{ℚ};
+ghost use Rattle.nf_rational.specs.Operations.{◌+ℚ◌, ◌-ℚ◌};
+ghost use Rattle.nf_model.specs.Network.{IsNetwork};
+ghost use Rattle.nf_thin.specs.Ranges.{IsWithin};
+ghost use Rattle.nf_thin.specs.Conserving.{AreWithin, Conserves, Keeps};
+
+use crate::node_test::{first_unbalanced, needed, range_at, surplus_range};
+use crate::ranges::Range;
+use nf_frac::Q;
+use nf_graph::{LinkId, NodeId};
+use nf_net::Network;
+
+// A link has one end at a node, and isn't known to carry one number.
+fn is_open_at(net: &Network, ranges: &[Range], node: NodeId, link: LinkId) -> bool
+    requires link { link < length net.now.net.links }
+    requires ranges { length ranges.now ≡ length net.now.net.links }
+{
+    let hop = &net.hops()[link.index()];
+    let leaves = hop.tail == node;
+    let enters = hop.head == node;
+    leaves != enters && !range_at(ranges, link).is_one()
+}
+
+// The open link at a node; none where there is no such link, or more than one.
+fn only_open(net: &Network, ranges: &[Range], node: NodeId) -> Option<LinkId>
+    requires { length ranges.now ≡ length net.now.net.links }
+    ensures { IfSome result (λ link. link < length net.now.net.links) }
+{
+    let mut open = None;
+    for e in 0..net.link_count() {
+        if is_open_at(net, ranges, node, LinkId(e)) {
+            if open.is_some() {
+                return None;
+            }
+            open = Some(LinkId(e));
+        }
+    }
+    open
+}
+
+// What is left for a link that leaves a node, or enters it, by what its other links send out of it beyond what they bring to it.
+fn left_for(leaves: bool, needed: Q, others: Range) -> Range
+    ensures { (x s : ℚ) → IsWithin others s → MatchBool leaves (s +ℚ x ≡ needed) (s -ℚ x ≡ needed) → IsWithin result x }
+{
+    let needed = Range::just(Some(needed));
+    if leaves {
+        needed.difference(others)
+    } else {
+        others.difference(needed)
+    }
+}
+
+// Of a link what it may carry becomes this.
+fn put_range(ranges: &mut Vec<Range>, link: LinkId, range: Range)
+    requires { link < length ranges.old.items }
+    ensures { ranges.new.items ≡ slice_set ranges.old.items link range }
+{
+    ranges[link.index()] = range;
+}
+
+// A link carries what is left for it at a node; false where it can't.
+fn close(net: &Network, rate: Q, ranges: &mut Vec<Range>, node: NodeId, link: LinkId) -> bool
+    requires node { node < net.now.net.nodes }
+    requires link { link < length net.now.net.links }
+    requires ranges { length ranges.old.items ≡ length net.now.net.links }
+    ensures count { length ranges.new.items ≡ length net.now.net.links }
+    ensures keeps { Keeps net.now.net rate ranges.old.items ranges.new.items result }
+{
+    let hop = &net.hops()[link.index()];
+    let leaves = hop.tail == node;
+    let enters = hop.head == node;
+    if leaves == enters {
+        return true;
+    }
+    let own = range_at(ranges, link);
+    put_range(ranges, link, Range::just(Some(Q::zero())));
+    let others = surplus_range(net, ranges, node);
+    let flow = left_for(leaves, needed(net, rate, node), others);
+    let fits = own.meets(&flow);
+    put_range(ranges, link, flow);
+    fits
+}
+
+// The other end of a link.
+fn other_end(net: &Network, link: LinkId, node: NodeId) -> NodeId
+    requires link { link < length net.now.net.links }
+    ensures { result < net.now.net.nodes }
+{
+    let hop = &net.hops()[link.index()];
+    if hop.tail == node { hop.head } else { hop.tail }
+}
+
+// From a node on, as long as one link alone is open there, that one is closed; false where it can't be.
+fn close_from(net: &Network, rate: Q, ranges: &mut Vec<Range>, start: NodeId) -> bool
+    requires start { start < net.now.net.nodes }
+    requires ranges { length ranges.old.items ≡ length net.now.net.links }
+    ensures count { length ranges.new.items ≡ length net.now.net.links }
+    ensures keeps { Keeps net.now.net rate ranges.old.items ranges.new.items result }
+{
+    let mut node = start;
+    for _ in 0..net.node_count() {
+        let Some(link) = only_open(net, ranges, node) else {
+            return true;
+        };
+        if !close(net, rate, ranges, node, link) {
+            return false;
+        }
+        node = other_end(net, link, node);
+    }
+    true
+}
+
+/// Whether all links can carry what comes out for them from leaves on, and flow can then be conserved at each node.
+pub(crate) fn comes_out(net: &Network, rate: Q, ranges: &mut Vec<Range>) -> bool
+    requires { length ranges.old.items ≡ length net.now.net.links }
+    ensures { (flow : ℕ → ℚ) → AreWithin ranges.old.items flow → Conserves net.now.net rate flow → result ≡ true }
+{
+    for v in 0..net.node_count() {
+        if !close_from(net, rate, ranges, NodeId(v)) {
+            return false;
+        }
+    }
+    first_unbalanced(net, rate, ranges).is_none()
+}
