@@ -16,7 +16,8 @@ abbrev pub full_by : Passing → Network → List ℚ → List (Option ℚ)
 full_by passes net slopes = map (λ (link : Link). full_of passes link.capacity (number_at slopes link.head)) net.links
 
 -- with the slopes that the full flows were found by, these flows solve the pattern and meet its inequalities
-pub record CanFlow (passes : Passing) (net : Network) (sets : Sets) (rate : ℚ) (pattern : Pattern) (full : List (Option ℚ)) (flows : List ℚ) : Type 0 where
+pub record CanFlow (passes : Passing) (net : Network) (sets : Sets) (rate : ℚ) (pattern : Pattern) (full : List (Option ℚ))
+    (flows : List ℚ) : Type 0 where
   pub slopes : List ℚ
   pub full_are : full ≡ full_by passes net slopes
   pub solves : Solves net sets rate pattern flows slopes

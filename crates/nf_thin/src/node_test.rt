@@ -35,7 +35,8 @@ fn range_of(sets: &LinkSets, full: &[Option<Q>], pattern: &Pattern, link: LinkId
     requires link { link < length pattern.now }
     requires sets { length sets.now.active ≡ length pattern.now }
     requires full { length full.now ≡ length pattern.now }
-    ensures { (net : SeenNetwork) (rate : ℚ) (flows : List ℚ) (here : SeenLink) → CanFlow passes_Q net sets.now rate pattern.now full.now flows → IsLink net link here → IsWithin result (number_at flows link) }
+    ensures { (net : SeenNetwork) (rate : ℚ) (flows : List ℚ) (here : SeenLink)
+        → CanFlow passes_Q net sets.now rate pattern.now full.now flows → IsLink net link here → IsWithin result (number_at flows link) }
 {
     flow_range(
         pattern.state(link),
