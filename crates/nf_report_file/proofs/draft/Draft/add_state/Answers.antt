@@ -5,7 +5,7 @@ use Rattle.nf_report_file.proofs.draft.Draft.add_state.Goals as goal
 
 pub overflow_add-self : goal.overflow_add-self
 overflow_add-self c =
-    let few = few_links c.args.net.now c.recall-self.ensures in
+    let few = few_links c.args.net.now c.recall.ensures in
     omega (arith, few, c.requires.fits, c.link.view_is)
 
 pub returns-clause-draft : goal.returns-clause-draft
