@@ -17,13 +17,11 @@ pub(crate) fn answer_of(tested: Result<(), Ended>) -> Result<Answer, Halt<Q>>
 {
     match &tested {
         Ok(()) => Ok(Answer::Yes),
-        Err(
-            Ended::Breaks {
-                rule,
-                subject,
-                sides,
-            },
-        ) => Ok(Answer::No {
+        Err(Ended::Breaks {
+            rule,
+            subject,
+            sides,
+        }) => Ok(Answer::No {
             rule: *rule,
             subject: *subject,
             time: sides.time,
