@@ -1,9 +1,13 @@
 // What is answered.
+ghost use Rattle.std.specs.Prelude.{◌≡◌};
 ghost use Rattle.nf_work.specs.Checked.{Gives};
+ghost use Rattle.nf_check_lists.specs.declared.Answer.TheVariants.{No};
 ghost use Rattle.nf_check_lists.specs.Trial.{Trial, answer_of as answer_by};
 ghost use Rattle.nf_check_rules.specs.Trials.{Tries};
 
-use nf_check_rules::Ended;
+use nf_check_lists::CheckRule;
+use nf_check_rules::{Ended, Subject};
+use nf_curve::Difference;
 use nf_frac::{Halt, Q};
 use nf_graph::{LinkId, NodeId};
 
@@ -11,23 +15,27 @@ use nf_graph::{LinkId, NodeId};
 /// there.
 pub type Answer = nf_check_lists::Answer<NodeId, LinkId, Q>;
 
+// No, since these two values differ.
+fn no(rule: CheckRule, subject: Subject, sides: Difference) -> Answer
+    ensures { result ≡ No rule subject sides.time sides.left sides.right }
+{
+    Answer::No {
+        rule,
+        subject,
+        time: sides.time,
+        left: sides.left,
+        right: sides.right,
+    }
+}
+
 /// The answer of a check that was made.
 pub(crate) fn answer_of(tested: Result<(), Ended>) -> Result<Answer, Halt<Q>>
     ensures { (trial : Trial (Unit {0})) → Tries (λ _. tt) tested trial → Gives (λ answer. answer) (λ q. q) result (answer_by trial) }
 {
     match &tested {
         Ok(()) => Ok(Answer::Yes),
-        Err(Ended::Breaks {
-            rule,
-            subject,
-            sides,
-        }) => Ok(Answer::No {
-            rule: *rule,
-            subject: *subject,
-            time: sides.time,
-            left: sides.left,
-            right: sides.right,
-        }),
+        Err(Ended::AtNode { rule, node, sides }) => Ok(no(*rule, Subject::Node(*node), *sides)),
+        Err(Ended::AtLink { rule, link, sides }) => Ok(no(*rule, Subject::Link(*link), *sides)),
         Err(Ended::Passed(passed)) => Err(Halt::Passed(*passed)),
         Err(Ended::Memory) => Err(Halt::Memory),
     }

@@ -30,7 +30,8 @@ module _ {A B : Type 0} (f : A → Trial B) (front : List B) (x : A) (later : Li
   front_ends e h = ends_as e all (with_front front (each f (x ∷ later))) (sym so_far) (behind e (each f (x ∷ later)) (ends e (f x) (λ y. each f later >>= λ ys. Ok (y ∷ ys)) h))
     where
       behind : (e : Ended) (r : Trial (List B)) → EndsAs e r → EndsAs e (with_front front r)
-      behind (Ended.Breaks rule subject sides) r h = ap (with_front front) h
+      behind (Ended.AtNode rule node sides) r h = ap (with_front front) h
+      behind (Ended.AtLink rule link sides) r h = ap (with_front front) h
       behind (Ended.Passed p) r h = ap (with_front front) h
       behind Ended.Memory r h = tt
 

@@ -16,7 +16,8 @@ module _ {A B : Type 0} where
   goes_on r f x e = ap (λ (w : Trial A). w >>= f) e
 
   pub ends : (e : Ended) (r : Trial A) (f : A → Trial B) → EndsAs e r → EndsAs e (r >>= f)
-  ends (Ended.Breaks rule subject sides) r f h = ap (λ (w : Trial A). w >>= f) h
+  ends (Ended.AtNode rule node sides) r f h = ap (λ (w : Trial A). w >>= f) h
+  ends (Ended.AtLink rule link sides) r f h = ap (λ (w : Trial A). w >>= f) h
   ends (Ended.Passed p) r f h = ap (λ (w : Trial A). w >>= f) h
   ends Ended.Memory r f h = tt
 
@@ -46,7 +47,8 @@ module _ {A B : Type 0} (part : Part) (r : Checked A) (f : A → Trial B) where
 
 -- ---- only whether it goes through
 pub done_ends : {A : Type 0} (e : Ended) (r : Trial A) → EndsAs e r → EndsAs e (done r)
-done_ends (Ended.Breaks rule subject sides) r h = ap done h
+done_ends (Ended.AtNode rule node sides) r h = ap done h
+done_ends (Ended.AtLink rule link sides) r h = ap done h
 done_ends (Ended.Passed p) r h = ap done h
 done_ends Ended.Memory r h = tt
 

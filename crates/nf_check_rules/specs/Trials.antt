@@ -3,6 +3,7 @@ use Rattle.std.specs.Prelude.{◌≡◌, Result, Ok, Err}
 use Rattle.nf_rational.specs.Rational.{ℚ}
 use Rattle.nf_work.specs.declared.Halt.{Halt}
 use Rattle.nf_curve.specs.Differences.{difference_of}
+use Rattle.nf_check_lists.specs.declared.Subject.TheVariants.{Node, Link}
 use Rattle.nf_check_lists.specs.Trial.{Passes, Breaks, Trial}
 use Rattle.nf_check_rules.specs.declared.ended.Ended.{Ended}
 
@@ -12,7 +13,8 @@ of_halt Halt.Memory = Ended.Memory
 
 -- it ended as the trial does, unless memory is wanting
 abbrev pub EndsAs : {A : Type 0} → Ended → Trial A → Type 0
-EndsAs (Ended.Breaks rule subject sides) said = said ≡ Err (Breaks rule subject (difference_of sides))
+EndsAs (Ended.AtNode rule node sides) said = said ≡ Err (Breaks rule (Node node) (difference_of sides))
+EndsAs (Ended.AtLink rule link sides) said = said ≡ Err (Breaks rule (Link link) (difference_of sides))
 EndsAs (Ended.Passed p) said = said ≡ Err (Passes p)
 EndsAs Ended.Memory said = Unit {0}
 

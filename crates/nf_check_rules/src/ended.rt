@@ -9,15 +9,22 @@ use crate::subject::Subject;
 use nf_check_lists::CheckRule;
 use nf_curve::Difference;
 use nf_frac::{Halt, PassedAt, Q};
+use nf_graph::{LinkId, NodeId};
 use std::alloc::{AllocError, AllocFailed};
 
 /// Why a check ends before all is tested.
 #[derive(Clone, Copy)]
 pub enum Ended {
-    /// A node or a link breaks a rule, where these two values differ.
-    Breaks {
+    /// A node breaks a rule, where these two values differ.
+    AtNode {
         rule: CheckRule,
-        subject: Subject,
+        node: NodeId,
+        sides: Difference,
+    },
+    /// A link does.
+    AtLink {
+        rule: CheckRule,
+        link: LinkId,
         sides: Difference,
     },
     /// An operation passes.
@@ -69,12 +76,11 @@ pub fn unless(
 ) -> Result<(), Ended>
     ensures { Tries (λ _. tt) result (unless_by rule subject (option_map difference_of difference)) }
 {
-    match difference {
-        None => Ok(()),
-        Some(sides) => Err(Ended::Breaks {
-            rule,
-            subject,
-            sides,
-        }),
-    }
+    let Some(sides) = difference else {
+        return Ok(());
+    };
+    Err(match subject {
+        Subject::Node(node) => Ended::AtNode { rule, node, sides },
+        Subject::Link(link) => Ended::AtLink { rule, link, sides },
+    })
 }
