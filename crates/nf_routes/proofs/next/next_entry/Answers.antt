@@ -22,7 +22,7 @@ use Rattle.nf_routes.proofs.next.next_entry.Goals as goal
 
 pub returns-in_err-sides-clause-list : goal.returns-in_err-sides-clause-list
 returns-in_err-sides-clause-list c =
-    let p = err_from_is_err_and c.from_residual-in_err-sides.result c.from_residual-in_err-sides.ensures.1 in
+    let p = err_from_is_err_and c.from_residual.result c.from_residual.ensures.1 in
     let entered : c.as_points.result.now ≡ c.args.entry.now.points = c.as_points.ensures.points in
     let exits : c.as_points-2.result.now ≡ c.args.exit.now.points = c.as_points-2.ensures.points in
     rw (p.1, p.2) (stops_on c.in_err-sides.field-0.0 (at_part Load (each (sides_at passes_Q c.args.entry.now.points c.args.exit.now.points) (both_times c.args.entry.now.points c.args.exit.now.points)))
@@ -31,8 +31,8 @@ returns-in_err-sides-clause-list c =
     (subst (λ (l : List Point). Stops (λ (q : ℚ). q) c.in_err-sides.field-0.0 (at_part Load (each (sides_at passes_Q l c.args.exit.now.points) (both_times l c.args.exit.now.points)))) entered
     (subst (λ (l : List Point). Stops (λ (q : ℚ). q) c.in_err-sides.field-0.0 (at_part Load (each (sides_at passes_Q c.as_points.result.now l) (both_times c.as_points.result.now l)))) exits c.in_err-sides.ensures)))
 
-pub of_points-requires : goal.of_points-requires
-of_points-requires c =
+pub of_points-curve-requires : goal.of_points-curve-requires
+of_points-curve-requires c =
     let entered : c.as_points.result.now ≡ c.args.entry.now.points = c.as_points.ensures.points in
     let exits : c.as_points-2.result.now ≡ c.args.exit.now.points = c.as_points-2.ensures.points in
     let sides : at_part Load (each (sides_at passes_Q c.args.entry.now.points c.args.exit.now.points) (both_times c.args.entry.now.points c.args.exit.now.points)) ≡ Ok (map sides_of c.in_ok-sides.sides.items) =
