@@ -3,7 +3,7 @@
 
 Prints what all together spend on the way (the area between inflow and outflow of each link, added up), what they would spend if
 each arrived at the label, the best that one driver alone could have had, and the difference, which is 0 in an equilibrium. It is for
-reports to which `nfot check` says `yes`, or `no` by C7 or C8, and in which just those who left by the departure reached enter and arrive."""
+reports to which `nfot check` says `yes`, or `no` by C7, and in which just those who left by the departure reached enter and arrive."""
 import signal
 import sys
 from fractions import Fraction
