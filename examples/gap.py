@@ -3,7 +3,8 @@
 
 Prints what all together spend on the way (the area between inflow and outflow of each link, added up), what they would spend if
 each arrived at the label, the best that one driver alone could have had, and the difference, which is 0 in an equilibrium. It is for
-reports to which `nfot check` says `yes`, or `no` by C7, and in which just those who left by the departure reached enter and arrive."""
+reports to which `nfot check` says `yes`, or `no` by C7, and in which just those who left by the departure reached enter and arrive.
+Statuses: 0 printed; 1 others enter, or not all arrive, or the report isn't one of NET; 2 wrong arguments or files."""
 import signal
 import sys
 from fractions import Fraction
@@ -14,9 +15,9 @@ from times import read, total, words_of
 signal.signal(signal.SIGPIPE, signal.SIG_DFL)  # behind `head` it ends without a word, as other commands do
 
 
-def refuse():
-    """Wrong arguments: prints the usage line, and ends with status 2."""
-    print("usage:", __doc__.splitlines()[0], file=sys.stderr)
+def refuse(line="usage: " + __doc__.splitlines()[0]):
+    """Wrong arguments or files: prints a line that says so, and ends with status 2."""
+    print(line, file=sys.stderr)
     sys.exit(2)
 
 
@@ -53,5 +54,7 @@ if __name__ == "__main__":
     try:
         net, report = sys.argv[1:]
         main(net, report)
-    except (OSError, ValueError, LookupError, ZeroDivisionError):
+    except OSError as fault:
+        refuse(f"gap: {fault.filename}: {fault.strerror}")
+    except (ValueError, LookupError, ZeroDivisionError):
         refuse()

@@ -2,7 +2,8 @@
 """times.py NET REPORT DEPARTURE ..: a report of nfot in decimals.
 
 Prints for each DEPARTURE when it arrives and how long it takes, for each link with a queue from when to when there is one and
-how long the longest wait is (waiting amount divided by capacity), and the time that all together spend on the way."""
+how long the longest wait is (waiting amount divided by capacity), and the time that all together spend on the way.
+Statuses: 0 printed; 1 the report isn't one of NET, or doesn't come to a DEPARTURE; 2 wrong arguments or files."""
 import signal
 import sys
 from fractions import Fraction  # reads 3611/35, 4 and 2.5 as they stand
@@ -10,9 +11,9 @@ from fractions import Fraction  # reads 3611/35, 4 and 2.5 as they stand
 signal.signal(signal.SIGPIPE, signal.SIG_DFL)  # behind `head` it ends without a word, as other commands do
 
 
-def refuse():
-    """Wrong arguments: prints the usage line, and ends with status 2."""
-    print("usage:", __doc__.splitlines()[0], file=sys.stderr)
+def refuse(line="usage: " + __doc__.splitlines()[0]):
+    """Wrong arguments or files: prints a line that says so, and ends with status 2."""
+    print(line, file=sys.stderr)
     sys.exit(2)
 
 
@@ -32,11 +33,16 @@ def value(points, time):
 
 def told_wait(link, queue, capacity):
     """The line of a link on which some queue stands."""
-    standing = [i for i, (_, amount) in enumerate(queue) if amount > 0]
-    first, last = queue[max(standing[0] - 1, 0)][0], standing[-1] + 1
-    until = f"{float(queue[last][0]):.2f}" if last < len(queue) else "(the end of its curve)"
+    spans, begin = [], queue[0][0]
+    for (time, amount), (later, then) in zip(queue, queue[1:]):
+        if amount == 0 < then:
+            begin = time
+        elif then == 0 < amount:
+            spans.append(f"from {float(begin):.2f} to {float(later):.2f}")
+    if queue[-1][1] > 0:
+        spans.append(f"from {float(begin):.2f} to (the end of its curve)")
     longest = max(amount for _, amount in queue) / capacity
-    return f"{link}: queue from {float(first):.2f} to {until}, longest wait {float(longest):.2f}"
+    return f"{link}: queue {', '.join(spans)}, longest wait {float(longest):.2f}"
 
 
 def total(supply, label, end):
@@ -63,16 +69,18 @@ def read(net, report):
     for words in words_of(report):
         if words[0] in ("label", "queue", "inflow", "outflow"):
             curves.setdefault((words[0], words[1]), []).append((Fraction(words[2]), Fraction(words[3])))
+    if ("label", sink) not in curves:
+        sys.exit(f"{report} has no label of {sink or 'a sink'}: is it a report of this network?")
     return capacity, supply, sink, curves
 
 
 def main(net, report, *departures):
     try:
         (capacity, supply, sink, curves), departures = read(net, report), [Fraction(departure) for departure in departures]
-    except (OSError, ValueError, IndexError, ZeroDivisionError):
+    except OSError as fault:
+        refuse(f"times: {fault.filename}: {fault.strerror}")
+    except (ValueError, IndexError, ZeroDivisionError):
         refuse()
-    if ("label", sink) not in curves:
-        sys.exit(f"{report} has no label of {sink}: is it a report of this network?")
     label = curves["label", sink]
     end = label[-1][0]
     for departure in departures:
