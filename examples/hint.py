@@ -3,7 +3,8 @@
 
 The states are those of a pattern whose equations give a thin flow at the departure that REPORT has reached, so that the first
 search of `resume` accepts the first pattern that it tries. Nothing is trusted: `resume` checks the report and the pattern itself.
-NET and REPORT are ones that nfot accepts. Statuses: 0 printed; 1 no such pattern found in STEPS steps (nothing printed); 2 wrong arguments."""
+NET and REPORT are ones that nfot accepts. Statuses: 0 printed; 1 no such pattern found in STEPS steps, or REPORT has labels that no
+equilibrium of NET has (nothing printed); 2 wrong arguments or files."""
 import signal
 import sys
 from fractions import Fraction
@@ -13,37 +14,43 @@ signal.signal(signal.SIGPIPE, signal.SIG_DFL)  # behind `head` it ends without a
 STEPS, TIGHT, FULL, ZERO = 2000, "tight", "full", "zero"
 
 
-def refuse():
-    """Wrong arguments: prints the usage line, and ends with status 2."""
-    print("usage:", __doc__.splitlines()[0], file=sys.stderr)
+def refuse(line="usage: " + __doc__.splitlines()[0]):
+    """Wrong arguments or files: prints a line that says so, and ends with status 2."""
+    print(line, file=sys.stderr)
     sys.exit(2)
 
 
+def words_of(lines):
+    """The words of each line, without comments and empty lines."""
+    return [words for line in lines if (words := line.split("#")[0].split())]
+
+
 class Phase:
-    """What a thin flow is asked of: nodes, active links as (tail, head, capacity or None), which of them are resetting."""
+    """What a thin flow is asked of: nodes, active links as (tail, head, capacity or None), which of them are resetting.
+
+    It is made of the lines of a network and of a report."""
 
     def __init__(self, net, report):
-        lines = [line.split("#")[0].split() for line in open(net)]
-        told = [line.split() for line in open(report)]
-        value = {line[0]: line[1] for line in lines + told if line and line[0] in ("source", "sink", "reached")}
+        lines, told = words_of(net), words_of(report)
+        value = {words[0]: words[1] for words in lines + told if words[0] in ("source", "sink", "reached")}
         self.source, self.sink, reached = value["source"], value["sink"], Fraction(value["reached"])
         labels, self.kept = {}, {}
-        for line in told:
-            if line and line[0] == "label":
-                labels.setdefault(line[1], []).append((Fraction(line[2]), Fraction(line[3])))
-            elif line and line[0] == "state":
-                self.kept[line[1]] = line[2]
+        for words in told:
+            if words[0] == "label":
+                labels.setdefault(words[1], []).append((Fraction(words[2]), Fraction(words[3])))
+            elif words[0] == "state":
+                self.kept[words[1]] = words[2]
         labels = {node: at(points, reached) for node, points in labels.items()}
         self.rate, self.links, self.resetting = Fraction(0), {}, set()
-        for line in lines:
-            if line and line[0] == "inflow" and Fraction(line[1]) <= reached:
-                self.rate = Fraction(line[2])
-            elif line and line[0] == "link" and line[2] in labels:  # idle nodes have no label
-                name, tail, head = line[1:4]
-                slack = labels[head] - (labels[tail] + Fraction(line[4]))
-                if slack >= 0:
-                    self.links[name] = tail, head, None if line[5] == "inf" else Fraction(line[5])
-                if slack > 0:
+        for words in lines:
+            if words[0] == "inflow" and Fraction(words[1]) <= reached:
+                self.rate = Fraction(words[2])
+            elif words[0] == "link" and words[2] in labels:  # idle nodes have no label
+                _, name, tail, head, transit, capacity = words
+                wait = labels[head] - (labels[tail] + Fraction(transit))
+                if wait >= 0:
+                    self.links[name] = tail, head, None if capacity == "inf" else Fraction(capacity)
+                if wait > 0:
                     self.resetting.add(name)
         self.free = [e for e in self.links if e not in self.resetting]  # in link order, as all that follows
         self.into = {v: [e for e in self.links if self.links[e][1] == v] for v in labels}
@@ -62,6 +69,12 @@ class Phase:
                     if not left[head]:
                         ready.append(head)
         return order
+
+    def may_be_equilibrium(self):
+        """Whether active links enter each node but the source and hold no cycle, and none of the resetting ones is unbounded."""
+        entered = {v for v in self.nodes if self.into[v]}
+        bounded = all(self.links[e][2] is not None for e in self.resetting)
+        return bounded and {self.source, self.sink} <= self.into.keys() == entered | {self.source}
 
     def base(self):
         """The pattern with which the search begins: kept states, else Tight for the first link into a node without a queue, else Zero."""
@@ -102,16 +115,20 @@ class Phase:
                     states[e] = TIGHT if joined(tail, w) else ZERO
             states[new] = TIGHT
 
-    def solve(self, states):
-        """The slopes and flows of a listed pattern's equations, by its Tight parts.
+    def carried(self, states):
+        """The links that carry their capacity times the slope of their head."""
+        return [e for e in self.links if e in self.resetting or states[e] == FULL]
+
+    def slopes_of(self, states):
+        """The slopes that solve a listed pattern's equations: the nodes of a Tight part have the same.
 
         The balance of each part but the source's is a row over the slopes of the parts. A column has its greatest entry on the
         diagonal and sums to at least 0 (an M-matrix, never singular for a listed pattern), so no pivot is looked for."""
         part = self.parts(states)[0]
-        root, carried = part[self.source], [e for e in self.links if e in self.resetting or states[e] == FULL]
+        root = part[self.source]
         rows = {p: {} for p in dict.fromkeys(part[v] for v in reversed(self.nodes)) if p != root}
         right = {p: Fraction(self.rate if p == part[self.sink] else 0) for p in rows}
-        for e in carried:
+        for e in self.carried(states):
             tail, head, capacity = self.links[e]
             a, b = part[tail], part[head]
             for p, x in ((b, capacity), (a, -capacity)):  # capacity * slope of b comes into b and goes out of a
@@ -131,11 +148,14 @@ class Phase:
         of = {root: Fraction(1)}
         for p in reversed(todo):
             of[p] = (right[p] - sum(x * of[c] for c, x in rows[p].items() if c != p)) / rows[p][p]
-        slopes = {v: of[part[v]] for v in self.nodes}
+        return {v: of[part[v]] for v in self.nodes}
+
+    def flows_of(self, states, slopes):
+        """The flows that solve a listed pattern's equations with these slopes."""
         flows, spare = {e: Fraction(0) for e in self.links}, {v: Fraction(0) for v in self.nodes}
         spare[self.source] += self.rate
         spare[self.sink] -= self.rate
-        for e in carried:
+        for e in self.carried(states):
             tail, head, capacity = self.links[e]
             flows[e] = capacity * slopes[head]
             spare[tail] -= flows[e]
@@ -153,7 +173,7 @@ class Phase:
                 if len(at_node[w]) == 1:
                     leaves.append(w)
             at_node[v] = ()
-        return slopes, flows
+        return flows
 
     def repairs(self, states, slopes, flows):
         """The links whose inequalities are broken, with the states that they should rather have."""
@@ -171,8 +191,8 @@ class Phase:
         states, slopes, seen = self.base(), {}, set()
         for step in range(1, STEPS + 1):
             self.make_listed(states, slopes)
-            slopes, flows = self.solve(states)
-            repairs = list(self.repairs(states, slopes, flows))
+            slopes = self.slopes_of(states)
+            repairs = list(self.repairs(states, slopes, self.flows_of(states, slopes)))
             if not repairs:
                 return states, step
             if tuple(states.values()) in seen:  # going round: only one of them, another one each time
@@ -195,16 +215,24 @@ def at(points, time):
 
 def main(net, report):
     try:
-        phase = Phase(net, report)
-    except (OSError, ValueError, LookupError):
+        with open(net) as network, open(report) as told:
+            lines = list(told)
+            phase = Phase(network, lines)
+    except OSError as fault:
+        refuse(f"hint: {fault.filename}: {fault.strerror}")
+    except (ValueError, LookupError, ZeroDivisionError):
         refuse()
+    if not phase.may_be_equilibrium():
+        sys.exit(f"hint: {report} has labels that no equilibrium of {net} has")
     states, steps = phase.settle()
     if states is None:
-        sys.exit("hint: no pattern in %d steps" % steps)
-    told = [line for line in open(report).read().split("\n") if not line.startswith(("state ", "end"))]
-    sys.stdout.write("\n".join(told[:-1] + ["state %s %s" % (e, states[e]) for e in phase.free] + ["end", ""]))
+        sys.exit(f"hint: no pattern in {steps} steps")
+    sys.stdout.writelines(line for line in lines if not line.startswith(("state ", "end")))
+    for e in phase.free:
+        print("state", e, states[e])
+    print("end")
     changed = [e for e, state in phase.base().items() if states[e] != state]
-    print("hint: %d steps, %d changes" % (steps, len(changed)), file=sys.stderr)
+    print(f"hint: {steps} steps, {len(changed)} changes", file=sys.stderr)
 
 
 if __name__ == "__main__":
