@@ -3,7 +3,8 @@
 
 LOADS is a loads file: what enters each link, at which rate from when. REACHED is the last departure that is judged, HORIZON a time by
 which all who left by then have arrived. Queues, outflows and exits are those of `nfot load`; the labels, earliest arrivals over
-these exits, are worked out here. Links that no walk from the source reaches are left out, as the file format wants it."""
+these exits, are worked out here. Links that no walk from the source reaches are left out, as the file format wants it.
+Statuses: 0 printed; 1 HORIZON is too early, or nfot doesn't start; 2 wrong arguments; else that of `nfot load`, which reads the files first."""
 import signal
 import subprocess
 import sys
@@ -52,8 +53,9 @@ def least(p, q):
 
 
 def network(name):
-    """Version, source, sink, and the ends of each link that is reached from the source."""
-    lines = words_of(open(name))
+    """Version, source, sink, the ends of each link, and the nodes that are reached from the source."""
+    with open(name) as net:
+        lines = words_of(net)
     source, sink = (words[1] for kind in ("source", "sink") for words in lines if words[0] == kind)
     links, reached = {words[1]: words[2:4] for words in lines if words[0] == "link"}, {source}
     for _ in links:
@@ -63,21 +65,25 @@ def network(name):
 
 def loaded(net, loads, horizon):
     """The curves of `nfot load` and those of the inflow: (kind, link) to points."""
-    done = subprocess.run(["nfot", "load", net, loads, "--horizon", horizon], stdout=subprocess.PIPE, text=True)
+    try:
+        done = subprocess.run(["nfot", "load", net, loads, "--horizon", str(horizon)], stdout=subprocess.PIPE, text=True)
+    except OSError as fault:
+        sys.exit(f"judge: nfot: {fault.strerror}")
     if done.returncode:
         sys.exit(done.returncode)
-    curves, last = {}, Fraction(horizon)
+    curves = {}
     for words in words_of(done.stdout.splitlines()):
         if len(words) == 4:
             curves.setdefault((words[0], words[1]), []).append((Fraction(words[2]), Fraction(words[3])))
             curves["inflow", words[1]] = [ZERO]
     rates = {}
-    for words in words_of(open(loads)):
-        if words[0] == "rate":
-            rates.setdefault(words[1], []).append((Fraction(words[2]), Fraction(words[3])))
+    with open(loads) as lines:
+        for words in words_of(lines):
+            if words[0] == "rate":
+                rates.setdefault(words[1], []).append((Fraction(words[2]), Fraction(words[3])))
     for link, pieces in rates.items():
         points, rate = curves["inflow", link], Fraction(0)
-        for start, next_rate in [piece for piece in pieces if piece[0] < last] + [(last, 0)]:
+        for start, next_rate in [piece for piece in pieces if piece[0] < horizon] + [(horizon, 0)]:
             time, entered = points[-1]
             if start > time:
                 points.append((start, entered + rate * (start - time)))
@@ -87,7 +93,7 @@ def loaded(net, loads, horizon):
 
 def labels_of(source, links, curves, reached):
     """The earliest arrival at each node for each departure: as Bellman and Ford, with curves in the place of lengths."""
-    label, changed = {source: [ZERO, (reached, reached)]}, {source}
+    label, changed = {source: [ZERO, (reached, reached)] if reached else [ZERO]}, {source}
     while changed:
         before, changed = changed, set()
         for link, (tail, head) in links.items():
@@ -101,15 +107,15 @@ def labels_of(source, links, curves, reached):
 
 
 def main(net, loads, reached, horizon):
-    curves, end = loaded(net, loads, horizon), Fraction(reached)  # first, so that nfot refuses files that are none
+    curves = loaded(net, loads, horizon)  # first, so that nfot refuses files that are none
     version, source, sink, links, near = network(net)
     idle = {name: ends for name, ends in links.items() if ends[0] not in near}
     links = {name: ends for name, ends in links.items() if ends[0] in near}
-    label = labels_of(source, links, curves, end)
+    label = labels_of(source, links, curves, reached)
     last = max(points[-1][1] for points in label.values())
-    if last > Fraction(horizon):
+    if last > horizon:
         sys.exit(f"judge: HORIZON is too early, flow is on its way until {float(last):.2f} at least")
-    print(f"report {version}\nhorizon {end}\nreached {end}\ncause done")
+    print(f"report {version}\nhorizon {reached}\nreached {reached}\ncause done")
     for node in dict.fromkeys([source, sink] + [node for ends in links.values() for node in ends]):
         for time, arrival in label[node]:
             print("label", node, time, arrival)
@@ -128,10 +134,10 @@ def main(net, loads, reached, horizon):
 
 if __name__ == "__main__":
     try:
-        net, loads, reached, horizon = sys.argv[1:]
-        wrong = min(Fraction(reached), Fraction(horizon)) < 0
+        net, loads, *times = sys.argv[1:]
+        reached, horizon = map(Fraction, times)
     except (ValueError, ZeroDivisionError):
         refuse()
-    if wrong:
+    if min(reached, horizon) < 0:
         refuse()
     main(net, loads, reached, horizon)
