@@ -2,7 +2,8 @@
 """city.py UNIT FROM TO START:RATE ..: a network file of Sioux Falls, from one zone to another.
 
 Capacities of siouxfalls.txt are rounded to multiples of UNIT vehicles an hour (at least one), and written a minute. From minute
-START on RATE vehicles a minute are supplied, whole numbers or fractions. The file siouxfalls.net is what `city.py 2400 1 20 0:200 30:400 60:200 90:0` prints."""
+START on RATE vehicles a minute are supplied, whole numbers or fractions. The file siouxfalls.net is what `city.py 2400 1 20 0:200 30:400 60:200 90:0` prints.
+Statuses: 0 printed; 2 wrong arguments. (Starts that don't rise, or FROM as TO, are left to nfot to refuse.)"""
 import pathlib
 import re
 import signal
@@ -22,7 +23,7 @@ def refuse():
 
 
 def main(unit, origin, destination, *supply):
-    roads = [line.split() for line in open(TABLE) if not line.startswith("#")]
+    roads = [line.split() for line in TABLE.read_text().splitlines() if not line.startswith("#")]
     zones = {zone for road in roads for zone in road[:2]}
     if not {origin, destination} <= zones or not re.fullmatch(NUMBER, unit) or not Fraction(unit):
         refuse()

@@ -3,7 +3,8 @@
 
 At the start of each step drivers look at the queues, and all who leave within the step take the road that is quicker then (half
 take each where both are equal). What a report asks for: exact fractions (Fraction prints them as nfot does), curves by their
-corners, also those between two steps, and labels that are the least exit at every departure."""
+corners, also those between two steps, and labels that are the least exit at every departure.
+Statuses: 0 printed; 2 wrong arguments."""
 import signal
 import sys
 from fractions import Fraction
