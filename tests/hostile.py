@@ -10,9 +10,12 @@ other fails, and all reads and writes take a single byte. What has to come of it
     single bytes         the answer that comes without the fault
 
     tests/hostile.py [PROGRAM]      (else crates/nfot/out/nfot)
+
+Statuses: 0 all held; 1 a run did not, or the program isn't built.
 """
 import os
 import pathlib
+import shutil
 import subprocess
 import sys
 import tempfile
@@ -61,11 +64,13 @@ class Runs:
 
 def main():
     program = pathlib.Path(sys.argv[1]).resolve() if len(sys.argv) > 1 else ROOT / "crates/nfot/out/nfot"
+    if not program.exists():
+        sys.exit(f"hostile: {program} isn't built")
     wrong = total = 0
     with tempfile.TemporaryDirectory() as folder:
         library = pathlib.Path(folder) / "faults.so"
         subprocess.run(["cc", "-O1", "-shared", "-fPIC", "-o", library, ROOT / "tests/faults.c", "-ldl"], check=True)
-        subprocess.run(f"cp -r {ROOT}/examples {folder}/examples", shell=True, check=True)
+        shutil.copytree(ROOT / "examples", f"{folder}/examples")
         for words in COMMANDS:
             runs = Runs(program, library, f"{folder}/examples", words)
             checks = [("allocation", n, runs.allocation) for n in range(1, runs.allocations + 2)]
