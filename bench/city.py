@@ -18,6 +18,8 @@ that lead away from the source).
 Each run is made once for its bytes (status, standard output, standard error), then some times for its time: the least sum of user and
 system time, since the kernel tells the sum exactly and the two parts by samples alone. The programs take turns. Networks are made by this
 file's own generator, so that they are the same everywhere. Outside the gate; Python 3 and its standard library are enough.
+
+Statuses: 0 the runs were made, whatever they show; 1 a program isn't there; 2 wrong arguments.
 """
 import argparse
 import collections
@@ -26,6 +28,7 @@ import heapq
 import os
 import re
 import shlex
+import shutil
 import subprocess
 import sys
 import tempfile
@@ -91,7 +94,7 @@ def roads():
 
 def nearest(value, step):
     """Returns how many steps are nearest to a value above 0, at least one; the greater number of two."""
-    return max(1, int(value / step + fractions.Fraction(1, 2)))
+    return max(1, int(fractions.Fraction(value) / step + fractions.Fraction(1, 2)))
 
 
 def city_network(pair, demand, rounding, horizon):
@@ -486,9 +489,18 @@ def print_each(result, asked):
             print(f"not the same bytes: {shlex.join(result.case.words)}  ({asked.other[at - 1]})", flush=True)
 
 
+def program_of(text):
+    """Returns the words of a program, the first of them as its file."""
+    name, *words = shlex.split(text)
+    file = shutil.which(name)
+    if not file:
+        sys.exit(f"city: there is no program {name}")
+    return [file, *words]
+
+
 def run_all(asked, folder):
     """Makes the runs, and prints what they show."""
-    programs = [shlex.split(asked.program), *map(shlex.split, asked.other)]
+    programs = [program_of(it) for it in [asked.program, *asked.other]]
     scale = 1 if asked.count else 1000
     results = []
     for case in cases_of(asked, Shelf(folder, programs[0], asked.patterns)):
@@ -500,25 +512,35 @@ def run_all(asked, folder):
         print_tables(results, asked)
 
 
-def words_of(text):
-    return text.split(",")
+def words_like(pattern):
+    """Returns a reader of words with commas between them, all of which the pattern allows."""
+
+    def words_of(text):
+        words = text.split(",")
+        for word in words:
+            if not re.fullmatch(pattern, word):
+                raise argparse.ArgumentTypeError(f"{word} isn't {pattern}")
+        return words
+
+    return words_of
 
 
 def numbers_of(text):
+    """Reads whole numbers with commas between them."""
     return [int(it) for it in text.split(",")]
 
 
 def asked_for():
     """Reads the command line."""
     how = argparse.ArgumentParser(description=__doc__, formatter_class=argparse.RawDescriptionHelpFormatter)
-    how.add_argument("--program", default=PROGRAM, help="the program under test, with further words where wanted")
+    how.add_argument("--program", default=shlex.quote(PROGRAM), help="the program under test, with further words where wanted")
     how.add_argument("--other", action="append", default=[], help="another program beside it, with further words; may be given again")
-    how.add_argument("--families", type=words_of, default=list(FAMILIES), help="city,grids,random,ladders")
-    how.add_argument("--commands", type=words_of, default=["solve"], help="solve,check,load,quick,resume,routes")
+    how.add_argument("--families", type=words_like("|".join(FAMILIES)), default=list(FAMILIES), help="city,grids,random,ladders")
+    how.add_argument("--commands", type=words_like("|".join(COMMANDS)), default=["solve"], help="solve,check,load,quick,resume,routes")
     how.add_argument("--patterns", type=numbers_of, default=[100_000], help="pattern budgets: 100000,1000000")
-    how.add_argument("--pairs", type=words_of, default=None, help="of the city: 1-20,13-3; all of six zones without it")
+    how.add_argument("--pairs", type=words_like("[0-9]+-[0-9]+"), default=None, help="of the city: 1-20,13-3; all of six zones without it")
     how.add_argument("--demands", type=numbers_of, default=DEMANDS, help="of the city, in vehicles an hour")
-    how.add_argument("--roundings", type=words_of, default=list(ROUNDINGS), help="of the city: hundred,minute,coarse")
+    how.add_argument("--roundings", type=words_like("|".join(ROUNDINGS)), default=list(ROUNDINGS), help="of the city: hundred,minute,coarse")
     how.add_argument("--horizons", type=numbers_of, default=[60, 120], help="of the city, in minutes")
     how.add_argument("--seeds", type=int, default=4, help="how many grids and random networks of each size")
     how.add_argument("--every", type=int, default=1, help="take each so-manieth network of a family alone")
