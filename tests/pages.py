@@ -39,7 +39,7 @@ def main():
     program = ROOT / "crates/nfot/out/nfot"
     if not program.exists():
         sys.exit(f"pages: {program} isn't built")
-    environment = dict(os.environ, PATH=f"{program.parent}:{os.environ['PATH']}")
+    environment = dict(os.environ, PATH=f"{program.parent}:{os.environ['PATH']}", LC_ALL="C")  # else awk may print 1,5 for 1.5
     wrong = count = 0
     for name in PAGES:
         with tempfile.TemporaryDirectory() as folder:
