@@ -6,11 +6,15 @@
 To measure it from nothing, where the kit keeps what earlier runs proved, move that away first. The seconds are those that the processes
 took, as /proc tells them four times a second; on a machine that others slow they grow, so the time of a fixed loop is printed as well,
 before and after.
+
+Statuses: 0 however the gate ends, whose last words are printed; 1 `rt` isn't on the path.
 """
 import collections
 import os
 import re
+import shutil
 import subprocess
+import sys
 import tempfile
 import time
 
@@ -55,6 +59,7 @@ def sample(root, seen):
 
 
 def note(seen, pid, start, seconds):
+    """Notes what a process has taken, and its words and folder until it has become a check of a crate."""
     last = seen.get((pid, start))
     words, folder = (last.words, last.folder) if last else ([], "")
     if "--crate-name" not in words:
@@ -109,7 +114,9 @@ def told(seen, programs):
 
 
 def main():
-    root = subprocess.run(["git", "rev-parse", "--show-toplevel"], capture_output=True, text=True, check=True).stdout.strip()
+    if not shutil.which("rt"):
+        sys.exit("gate: there is no program rt")
+    root = os.path.dirname(os.path.dirname(os.path.realpath(__file__)))
     programs = {it for it in os.listdir(f"{root}/crates") if os.path.isfile(f"{root}/crates/{it}/src/main.rt")}
     print(f"a fixed loop: {loop_seconds():.2f} seconds", flush=True)
     seen, begun = {}, time.time()
