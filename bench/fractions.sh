@@ -16,6 +16,7 @@ cp "$here/fractions.main.txt" "$work/repo/crates/bench_fractions/src/main.rt"
 touch "$work/repo/crates/bench_fractions/specs/Lib.antt"
 (cd "$work/repo/crates/bench_fractions" && rt run -- sum small >"$work/log" 2>&1) || { tail -n 20 "$work/log"; exit 1; }
 rustc -C opt-level=3 -o "$work/plain" "$here/fractions.rs"
+export LC_ALL=C # the times have a point, whatever the language
 for operation in sum product quotient cmp; do
     for kind in small middle wide beyond; do
         for program in "$work/repo/crates/bench_fractions/out/bench_fractions" "$work/plain"; do

@@ -36,6 +36,7 @@ network() {
         }'
 }
 (cd "$work/repo/crates/bench_networks" && rt run -- none 0 >"$work/log" 2>&1) || { tail -n 20 "$work/log"; exit 1; }
+export LC_ALL=C # the times have a point, whatever the language
 for fill in comments empty words; do
     network "$fill" >"$work/network"
     answer=$("$program" "$work/network" 1)

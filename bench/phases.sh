@@ -41,6 +41,7 @@ ladder() {
 }
 ladder 7 5 >"$work/ladder"
 (cd "$bench" && rt run -- search "$work/ladder" 1 >"$work/log" 2>&1) || { tail -n 20 "$work/log"; exit 1; }
+export LC_ALL=C # the times have a point, whatever the language
 least_of() {
     for _ in 1 2 3; do { TIMEFORMAT=%U; time "$program" "$1" "$work/ladder" "$2" >/dev/null; } 2>&1; done | sort -n | head -n 1
 }

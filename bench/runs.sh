@@ -9,6 +9,7 @@ work=$(mktemp -d)
 trap 'rm -rf "$work"' EXIT
 program=$here/../crates/nfot/out/nfot
 [ -x "$program" ] || (cd "$here/../crates/nfot" && rt run >"$work/log" 2>&1) || [ -x "$program" ] || { tail -n 20 "$work/log"; exit 1; }
+export LC_ALL=C # the times have a point, whatever the language
 # Two rails of so many nodes from s to t, and a rung from each upper node to the lower one beside it; or a square of nodes, each with a link
 # to the right and one down. Transit times from 1 to 5, capacities from 1 to 4 and inflows from 1 to 6 are drawn by x -> 75 x + 74
 # modulo 65537.

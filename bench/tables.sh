@@ -26,6 +26,7 @@ invariant-loop-cell l = length l.table ≡ l.size
 END
 (cd "$bench" && rt run -- 1 <"$here/tables.60.txt" >"$work/log" 2>&1) || { tail -n 20 "$work/log"; exit 1; }
 rustc -C opt-level=3 -o "$work/plain" "$here/tables.rs"
+export LC_ALL=C # the times have a point, whatever the language
 for size in 60 150; do
     for program in "$bench/out/bench_tables" "$work/plain"; do
         test "$("$program" "$turns" <"$here/tables.$size.txt")" = "$turns"
