@@ -114,7 +114,7 @@ def main(net, loads, reached, horizon):
     label = labels_of(source, links, curves, reached)
     last = max(points[-1][1] for points in label.values())
     if last > horizon:
-        sys.exit(f"judge: HORIZON is too early, flow is on its way until {float(last):.2f} at least")
+        sys.exit(f"judge: HORIZON is too early, flow is on its way until {last} at least")
     print(f"report {version}\nhorizon {reached}\nreached {reached}\ncause done")
     for node in dict.fromkeys([source, sink] + [node for ends in links.values() for node in ends]):
         for time, arrival in label[node]:

@@ -85,7 +85,7 @@ def main(net, report, *departures):
     end = label[-1][0]
     for departure in departures:
         if not 0 <= departure <= end:
-            sys.exit(f"the report has the departures from 0 to {float(end):.2f}")
+            sys.exit(f"{report} has the departures from 0 to {float(end - end % Fraction(1, 100)):.2f}")
         arrival = value(label, departure)
         print(f"leave {float(departure):.2f}  arrive {float(arrival):.2f}  takes {float(arrival - departure):.2f}")
     for link in capacity:
