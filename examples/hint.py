@@ -139,16 +139,16 @@ class Phase:
                         rows[p][b] = rows[p].get(b, 0) + x
         for i, p in enumerate(todo := list(rows)):
             for q in todo[i + 1:]:
-                f = rows[q].pop(p, 0) / rows[p][p]
-                if f:
-                    right[q] -= f * right[p]
+                factor = rows[q].pop(p, 0) / rows[p][p]
+                if factor:
+                    right[q] -= factor * right[p]
                     for c, x in rows[p].items():
                         if c != p:
-                            rows[q][c] = rows[q].get(c, 0) - f * x
-        of = {root: Fraction(1)}
+                            rows[q][c] = rows[q].get(c, 0) - factor * x
+        slope = {root: Fraction(1)}
         for p in reversed(todo):
-            of[p] = (right[p] - sum(x * of[c] for c, x in rows[p].items() if c != p)) / rows[p][p]
-        return {v: of[part[v]] for v in self.nodes}
+            slope[p] = (right[p] - sum(x * slope[c] for c, x in rows[p].items() if c != p)) / rows[p][p]
+        return {v: slope[part[v]] for v in self.nodes}
 
     def flows_of(self, states, slopes):
         """The flows that solve a listed pattern's equations with these slopes."""
