@@ -1,7 +1,7 @@
 #!/usr/bin/env python3
 """Runs each command that the pages show, in a copy of the folder examples, and compares what it prints with the page.
 
-A block that begins with ```console has lines `$ COMMAND`, each followed by what the command prints (standard output and standard error, as they come).
+A block that begins with ```console has lines `$ COMMAND`, each followed by what the command prints (on both streams, as it comes).
 The commands of a page run one after the other in one folder, so that a later one finds the files of an earlier one.
 Statuses: 0 all the same; 1 some differ, or the program isn't built.
 """
