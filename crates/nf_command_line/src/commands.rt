@@ -1,5 +1,6 @@
 // The commands of the command line, with their files and options.
 ghost use Rattle.std.specs.Prelude.{◌≡◌, ◌&&◌, map};
+ghost use Rattle.nf_command_line.specs.CommandLine.{options};
 ghost use Rattle.nf_command_line.specs.Commands.{are_met, commands, first_task, fits, is_met, is_named, need_of};
 ghost use Rattle.nf_command_line.specs.MatchViews.{line_of, rows_in, wanted_of};
 
@@ -153,7 +154,7 @@ fn is_met(need: Option<Need>, there: bool) -> bool
     }
 }
 
-// Whether each of these options of one value is as the command wants it.
+// Whether each of these options is as the command wants it.
 fn are_met(matches: &ArgMatches, wanted: &[(&'static str, Need)], names: &[&'static str]) -> bool
     ensures { result ≡ are_met (map wanted_of wanted.now) (rows_in matches.now) (map (λ name. name.now) names.now) }
 {
@@ -165,13 +166,20 @@ fn are_met(matches: &ArgMatches, wanted: &[(&'static str, Need)], names: &[&'sta
     true
 }
 
+// Whether each option of one value is as the command wants it.
+fn options_met(matches: &ArgMatches, wanted: &[(&'static str, Need)]) -> bool
+    ensures { result ≡ are_met (map wanted_of wanted.now) (rows_in matches.now) options }
+{
+    are_met(matches, wanted, OPTIONS.as_slice())
+}
+
 // Whether the files are as many as the command has, each required option is there, and no option is there that it doesn't have.
 #[tactic(auto, unfolding(crate::specs::Commands::fits))]
 fn fits(matches: &ArgMatches, line: &Line) -> bool
     ensures { result ≡ fits (line_of line.now) (rows_in matches.now) }
 {
     count_files(matches) == line.files
-        && are_met(matches, line.options, OPTIONS.as_slice())
+        && options_met(matches, line.options)
         && is_met(
             need_of(line.options, "forever"),
             is_flagged(matches, "forever"),
