@@ -1,13 +1,23 @@
--- Going through a table of commands, line by line.
-use Rattle.std.proofs.Common.{List, map}
+-- Going through tables, entry by entry: commands, and the options of one.
+use Rattle.std.proofs.Common.{Bool, List, map}
+use Rattle.std.specs.Borrow.{Bor}
 use Rattle.std.specs.Prelude.{Option}
-use Rattle.clap.specs.Walk.{Row}
+use Rattle.clap.specs.Walk.{Text, Row}
 use Rattle.nf_command_line.specs.declared.commands.Line.{Line}
+use Rattle.nf_command_line.specs.declared.commands.Need.{Need}
 use Rattle.nf_command_line.specs.declared.commands.Task.{Task}
-use Rattle.nf_command_line.specs.Commands.{first_task}
-use Rattle.nf_command_line.specs.MatchViews.{line_of}
+use Rattle.nf_command_line.specs.Commands.{are_met, first_task, need_of}
+use Rattle.nf_command_line.specs.MatchViews.{line_of, wanted_of}
 
 module _ (rows : List Row) where
   -- what the lines of a table give
   abbrev pub task_of : List Line → Option Task
   task_of table = first_task rows (map line_of table)
+
+  -- whether options are as they are wanted
+  abbrev pub all_met : List (Bor Text × Need) → List (Bor Text) → Bool
+  all_met wanted names = are_met (map wanted_of wanted) rows (map (λ name. name.now) names)
+
+-- the need of an option
+abbrev pub need_in : Text → List (Bor Text × Need) → Option Need
+need_in name options = need_of (map wanted_of options) name

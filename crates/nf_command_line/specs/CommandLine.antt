@@ -1,5 +1,5 @@
 -- The words of the command line as clap reads them: one simple command with its arguments, and its matches.
-use Rattle.std.specs.Prelude.{ℕ, true, List, [], ◌∷◌, Option, Some, None, unwrap_or, slice_get, if◌then◌else◌, codes}
+use Rattle.std.specs.Prelude.{ℕ, true, List, [], ◌∷◌, ◌++◌, map, Option, Some, None, unwrap_or, slice_get, if◌then◌else◌, codes}
 use Rattle.clap.specs.Lexer.{usize_max}
 use Rattle.clap.specs.declared.builder.action.ArgAction.TheVariants.{SetTrue}
 use Rattle.clap.specs.Walk.{Row, Rule, Text, first_of, all_of}
@@ -32,28 +32,21 @@ abbrev pub with_options : List Text → App → App
 with_options [] app = app
 with_options (name ∷ names) app = with_options names (with_rule app (option_rule name))
 
--- the options of a run
-abbrev pub run_options : List Text
-run_options = codes "horizon" ∷ codes "phases" ∷ codes "patterns" ∷ []
-
--- the options of a quickest flow, and those of a ladder
-abbrev pub other_options : List Text
-other_options = codes "amount" ∷ codes "augments" ∷ codes "number" ∷ codes "rungs" ∷ []
+-- the options of one value: those of a run, of a quickest flow, and of a ladder
+abbrev pub options : List Text
+options =
+    codes "horizon"
+    ∷ codes "phases"
+    ∷ codes "patterns"
+    ∷ codes "amount"
+    ∷ codes "augments"
+    ∷ codes "number"
+    ∷ codes "rungs"
+    ∷ []
 
 -- its arguments
 abbrev pub arguments : List Rule
-arguments =
-    command_rule
-    ∷ option_rule (codes "horizon")
-    ∷ option_rule (codes "phases")
-    ∷ option_rule (codes "patterns")
-    ∷ option_rule (codes "amount")
-    ∷ option_rule (codes "augments")
-    ∷ option_rule (codes "number")
-    ∷ option_rule (codes "rungs")
-    ∷ flag_rule (codes "forever")
-    ∷ files_rule
-    ∷ []
+arguments = command_rule ∷ (map option_rule options ++ (flag_rule (codes "forever") ∷ files_rule ∷ []))
 
 unfoldable pub nfot : App
 nfot = record { top = record (new_shape (codes "nfot")) { disable_help_flag = true; rules = arguments }; subs = [] }

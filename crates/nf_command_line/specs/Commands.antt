@@ -1,43 +1,45 @@
 -- The commands of the command line, with their files and options.
-use Rattle.std.specs.Prelude.{Bool, true, false, not, ◌&&◌, ◌==◌, List, [], ◌∷◌, length, Option, is_some, option_map, find, codes}
+use Rattle.std.specs.Prelude.{ℕ, Bool, true, false, not, ◌&&◌, ◌==◌, List, [], ◌∷◌, length, Option, Some, None, is_some, option_map, find, codes}
+use Rattle.std.specs.List.{list_all}
 use Rattle.std.specs.Option.{option_map_or}
 use Rattle.std.specs.Str.{bytes_eq}
 use Rattle.clap.specs.Walk.{Text, Row}
 use Rattle.nf_command_line.specs.declared.commands.Task.{Task}
 use Rattle.nf_command_line.specs.declared.commands.Task.TheVariants.{Solve, SolveForever, Show, Load, Check, Quick, Gen, Settle, Resume, Routes}
 use Rattle.nf_command_line.specs.declared.commands.Need.{Need}
-use Rattle.nf_command_line.specs.declared.commands.Need.TheVariants.{Required, Further, Absent}
-use Rattle.nf_command_line.specs.declared.commands.Wants.{Wants}
-use Rattle.nf_command_line.specs.CommandLine.{word_in, files_in}
+use Rattle.nf_command_line.specs.declared.commands.Need.TheVariants.{Required, Further}
+use Rattle.nf_command_line.specs.CommandLine.{options, word_in, files_in}
 
--- no file and no option
-abbrev pub nothing : Wants
-nothing = record {
-  files = 0;
-  horizon = Absent;
-  phases = Absent;
-  patterns = Absent;
-  amount = Absent;
-  augments = Absent;
-  number = Absent;
-  rungs = Absent;
-  forever = Absent;
-}
+-- A line of the table of commands: the name of one, what it does, how many files it has, the options and flags that it must be given,
+-- and further ones.
+pub record Line : Type 0 where
+  pub name : Text
+  pub task : Task
+  pub files : ℕ
+  pub options : List (Text × Need)
 
--- The table of commands: the name of each, how many files it has, the options that it must be given, and further ones. A flag is among
--- them. `solve` takes either a horizon or the flag `--forever`.
-unfoldable pub commands : List (Text × Task × Wants)
+-- the budgets of a run
+abbrev pub budgets : List (Text × Need)
+budgets = (codes "phases", Further) ∷ (codes "patterns", Further) ∷ []
+
+-- The table of commands. `solve` takes either a horizon or the flag `--forever`.
+unfoldable pub commands : List Line
 commands =
-    (codes "solve", Solve, record nothing { files = 1; horizon = Required; phases = Further; patterns = Further })
-    ∷ (codes "solve", SolveForever, record nothing { files = 1; forever = Required; phases = Further; patterns = Further })
-    ∷ (codes "show", Show, record nothing { files = 1 })
-    ∷ (codes "load", Load, record nothing { files = 2; horizon = Required })
-    ∷ (codes "check", Check, record nothing { files = 2 })
-    ∷ (codes "quick", Quick, record nothing { files = 1; amount = Required; augments = Further })
-    ∷ (codes "gen", Gen, record nothing { number = Required; rungs = Required; horizon = Required; phases = Further; patterns = Further })
-    ∷ (codes "settle", Settle, record nothing { files = 2 })
-    ∷ (codes "resume", Resume, record nothing { files = 2; horizon = Required; phases = Further; patterns = Further })
-    ∷ (codes "routes", Routes, record nothing { files = 2; horizon = Required })
+    record { name = codes "solve"; task = Solve; files = 1; options = (codes "horizon", Required) ∷ budgets }
+    ∷ record { name = codes "solve"; task = SolveForever; files = 1; options = (codes "forever", Required) ∷ budgets }
+    ∷ record { name = codes "show"; task = Show; files = 1; options = [] }
+    ∷ record { name = codes "load"; task = Load; files = 2; options = (codes "horizon", Required) ∷ [] }
+    ∷ record { name = codes "check"; task = Check; files = 2; options = [] }
+    ∷ record { name = codes "quick"; task = Quick; files = 1; options = (codes "amount", Required) ∷ (codes "augments", Further) ∷ [] }
+    ∷ record {
+      name = codes "gen";
+      task = Gen;
+      files = 0;
+      options = (codes "number", Required) ∷ (codes "rungs", Required) ∷ (codes "horizon", Required) ∷ budgets;
+    }
+    ∷ record { name = codes "settle"; task = Settle; files = 2; options = [] }
+    ∷ record { name = codes "resume"; task = Resume; files = 2; options = (codes "horizon", Required) ∷ budgets }
+    ∷ record { name = codes "routes"; task = Routes; files = 2; options = (codes "horizon", Required) ∷ [] }
     ∷ []
 
 -- the words give this option
@@ -48,29 +50,31 @@ is_there name rows = is_some (word_in name rows)
 unfoldable pub is_flagged : Text → List Row → Bool
 is_flagged name rows = option_map_or (λ word. bytes_eq word (codes "true")) (word_in name rows) false
 
+-- the need of an option that a command has
+abbrev pub need_of : List (Text × Need) → Text → Option Need
+need_of wanted name = option_map (λ option. option.1) (find (λ option. bytes_eq option.0 name) wanted)
+
 -- an option that is there, or isn't, is as the command wants it
-abbrev pub is_met : Need → Bool → Bool
-is_met Required there = there
-is_met Further there = true
-is_met Absent there = not there
+abbrev pub is_met : Option Need → Bool → Bool
+is_met (Some Required) there = there
+is_met (Some Further) there = true
+is_met None there = not there
+
+-- each of these options of one value is
+abbrev pub are_met : List (Text × Need) → List Row → List Text → Bool
+are_met wanted rows names = list_all (λ name. is_met (need_of wanted name) (is_there name rows)) names
 
 -- The files are as many as the command has, each required option is there, and no option is there that it doesn't have.
-unfoldable pub fits : Wants → List Row → Bool
-fits wants rows =
-    length (files_in rows) == wants.files
-    && is_met wants.horizon (is_there (codes "horizon") rows)
-    && is_met wants.phases (is_there (codes "phases") rows)
-    && is_met wants.patterns (is_there (codes "patterns") rows)
-    && is_met wants.amount (is_there (codes "amount") rows)
-    && is_met wants.augments (is_there (codes "augments") rows)
-    && is_met wants.number (is_there (codes "number") rows)
-    && is_met wants.rungs (is_there (codes "rungs") rows)
-    && is_met wants.forever (is_flagged (codes "forever") rows)
+unfoldable pub fits : Line → List Row → Bool
+fits line rows =
+    length (files_in rows) == line.files
+    && are_met line.options rows options
+    && is_met (need_of line.options (codes "forever")) (is_flagged (codes "forever") rows)
 
 -- the word COMMAND is this name
 unfoldable pub is_named : Text → List Row → Bool
 is_named name rows = option_map_or (λ word. bytes_eq word name) (word_in (codes "command") rows) false
 
 -- the first line of a table whose name the words have, and which they fit: what its command does
-abbrev pub first_task : List Row → List (Text × Task × Wants) → Option Task
-first_task rows table = option_map (λ line. line.1) (find (λ line. is_named line.0 rows && fits line.2 rows) table)
+abbrev pub first_task : List Row → List Line → Option Task
+first_task rows table = option_map (λ line. line.task) (find (λ line. is_named line.name rows && fits line rows) table)

@@ -9,8 +9,8 @@ use clap::error::ErrorKind;
 use clap::{Arg, ArgAction, ArgMatches, Command};
 use std::alloc::{AllocError, Global};
 
-// The options of one value: those of a run, of a quickest flow, and of a ladder.
-static OPTIONS: [&str; 7] = [
+/// The options of one value: those of a run, of a quickest flow, and of a ladder.
+pub(crate) static OPTIONS: [&str; 7] = [
     "horizon", "phases", "patterns", "amount", "augments", "number", "rungs",
 ];
 

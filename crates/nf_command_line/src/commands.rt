@@ -1,8 +1,10 @@
 // The commands of the command line, with their files and options.
 ghost use Rattle.std.specs.Prelude.{◌≡◌, ◌&&◌, map};
-ghost use Rattle.nf_command_line.specs.Commands.{commands, first_task, fits, is_met, is_named};
-ghost use Rattle.nf_command_line.specs.MatchViews.{line_of, rows_in};
+ghost use Rattle.nf_command_line.specs.CommandLine.{options};
+ghost use Rattle.nf_command_line.specs.Commands.{are_met, commands, first_task, fits, is_met, is_named, need_of};
+ghost use Rattle.nf_command_line.specs.MatchViews.{line_of, rows_in, wanted_of};
 
+use crate::command_line::OPTIONS;
 use crate::given::{count_files, is_flagged, is_named, is_there};
 use clap::ArgMatches;
 
@@ -31,183 +33,164 @@ pub enum Task {
     Routes,
 }
 
-/// Whether a command must be given an option or a flag, may be, or may not.
+/// Whether a command must be given an option or a flag that it has, or may be.
 #[derive(Clone, Copy)]
 pub(crate) enum Need {
     Required,
     Further,
-    Absent,
 }
 
-/// How many files a command has, and its options.
-#[derive(Clone, Copy)]
-pub(crate) struct Wants {
-    files: usize,
-    horizon: Need,
-    phases: Need,
-    patterns: Need,
-    amount: Need,
-    augments: Need,
-    number: Need,
-    rungs: Need,
-    forever: Need,
-}
-
-/// No file and no option.
-const NOTHING: Wants = Wants {
-    files: 0,
-    horizon: Need::Absent,
-    phases: Need::Absent,
-    patterns: Need::Absent,
-    amount: Need::Absent,
-    augments: Need::Absent,
-    number: Need::Absent,
-    rungs: Need::Absent,
-    forever: Need::Absent,
-};
-
-/// A line of the table of commands.
+/// A line of the table of commands: the name of one, what it does, how many files it has, and its options and flags.
 #[derive(Clone, Copy)]
 pub(crate) struct Line {
     name: &'static str,
     task: Task,
-    wants: Wants,
+    files: usize,
+    options: &'static [(&'static str, Need)],
 }
 
-/// The table of commands: the name of each, how many files it has, the options that it must be given, and further ones. `solve` takes
-/// either a horizon or the flag `--forever`.
+/// The table of commands. `solve` takes either a horizon or the flag `--forever`.
 static COMMANDS: [Line; 10] = [
     Line {
         name: "solve",
         task: Task::Solve,
-        wants: Wants {
-            files: 1,
-            horizon: Need::Required,
-            phases: Need::Further,
-            patterns: Need::Further,
-            ..NOTHING
-        },
+        files: 1,
+        options: &[
+            ("horizon", Need::Required),
+            ("phases", Need::Further),
+            ("patterns", Need::Further),
+        ],
     },
     Line {
         name: "solve",
         task: Task::SolveForever,
-        wants: Wants {
-            files: 1,
-            forever: Need::Required,
-            phases: Need::Further,
-            patterns: Need::Further,
-            ..NOTHING
-        },
+        files: 1,
+        options: &[
+            ("forever", Need::Required),
+            ("phases", Need::Further),
+            ("patterns", Need::Further),
+        ],
     },
     Line {
         name: "show",
         task: Task::Show,
-        wants: Wants {
-            files: 1,
-            ..NOTHING
-        },
+        files: 1,
+        options: &[],
     },
     Line {
         name: "load",
         task: Task::Load,
-        wants: Wants {
-            files: 2,
-            horizon: Need::Required,
-            ..NOTHING
-        },
+        files: 2,
+        options: &[("horizon", Need::Required)],
     },
     Line {
         name: "check",
         task: Task::Check,
-        wants: Wants {
-            files: 2,
-            ..NOTHING
-        },
+        files: 2,
+        options: &[],
     },
     Line {
         name: "quick",
         task: Task::Quick,
-        wants: Wants {
-            files: 1,
-            amount: Need::Required,
-            augments: Need::Further,
-            ..NOTHING
-        },
+        files: 1,
+        options: &[("amount", Need::Required), ("augments", Need::Further)],
     },
     Line {
         name: "gen",
         task: Task::Gen,
-        wants: Wants {
-            number: Need::Required,
-            rungs: Need::Required,
-            horizon: Need::Required,
-            phases: Need::Further,
-            patterns: Need::Further,
-            ..NOTHING
-        },
+        files: 0,
+        options: &[
+            ("number", Need::Required),
+            ("rungs", Need::Required),
+            ("horizon", Need::Required),
+            ("phases", Need::Further),
+            ("patterns", Need::Further),
+        ],
     },
     Line {
         name: "settle",
         task: Task::Settle,
-        wants: Wants {
-            files: 2,
-            ..NOTHING
-        },
+        files: 2,
+        options: &[],
     },
     Line {
         name: "resume",
         task: Task::Resume,
-        wants: Wants {
-            files: 2,
-            horizon: Need::Required,
-            phases: Need::Further,
-            patterns: Need::Further,
-            ..NOTHING
-        },
+        files: 2,
+        options: &[
+            ("horizon", Need::Required),
+            ("phases", Need::Further),
+            ("patterns", Need::Further),
+        ],
     },
     Line {
         name: "routes",
         task: Task::Routes,
-        wants: Wants {
-            files: 2,
-            horizon: Need::Required,
-            ..NOTHING
-        },
+        files: 2,
+        options: &[("horizon", Need::Required)],
     },
 ];
 
+// The need of an option that a command has; None of any other.
+fn need_of(options: &[(&'static str, Need)], name: &str) -> Option<Need>
+    ensures { result ≡ need_of (map wanted_of options.now) name.now }
+{
+    for option in options {
+        if option.0 == name {
+            return Some(option.1);
+        }
+    }
+    None
+}
+
 // Whether an option that is there, or isn't, is as the command wants it.
-fn is_met(need: Need, there: bool) -> bool
+fn is_met(need: Option<Need>, there: bool) -> bool
     ensures { result ≡ is_met need there }
 {
     match need {
-        Need::Required => there,
-        Need::Further => true,
-        Need::Absent => !there,
+        Some(Need::Required) => there,
+        Some(Need::Further) => true,
+        None => !there,
     }
+}
+
+// Whether each of these options is as the command wants it.
+fn are_met(matches: &ArgMatches, wanted: &[(&'static str, Need)], names: &[&'static str]) -> bool
+    ensures { result ≡ are_met (map wanted_of wanted.now) (rows_in matches.now) (map (λ name. name.now) names.now) }
+{
+    for name in names {
+        if !is_met(need_of(wanted, name), is_there(matches, name)) {
+            return false;
+        }
+    }
+    true
+}
+
+// Whether each option of one value is as the command wants it.
+fn options_met(matches: &ArgMatches, wanted: &[(&'static str, Need)]) -> bool
+    ensures { result ≡ are_met (map wanted_of wanted.now) (rows_in matches.now) options }
+{
+    are_met(matches, wanted, OPTIONS.as_slice())
 }
 
 // Whether the files are as many as the command has, each required option is there, and no option is there that it doesn't have.
 #[tactic(auto, unfolding(crate::specs::Commands::fits))]
-fn fits(matches: &ArgMatches, wants: Wants) -> bool
-    ensures { result ≡ fits wants (rows_in matches.now) }
+fn fits(matches: &ArgMatches, line: &Line) -> bool
+    ensures { result ≡ fits (line_of line.now) (rows_in matches.now) }
 {
-    count_files(matches) == wants.files
-        && is_met(wants.horizon, is_there(matches, "horizon"))
-        && is_met(wants.phases, is_there(matches, "phases"))
-        && is_met(wants.patterns, is_there(matches, "patterns"))
-        && is_met(wants.amount, is_there(matches, "amount"))
-        && is_met(wants.augments, is_there(matches, "augments"))
-        && is_met(wants.number, is_there(matches, "number"))
-        && is_met(wants.rungs, is_there(matches, "rungs"))
-        && is_met(wants.forever, is_flagged(matches, "forever"))
+    count_files(matches) == line.files
+        && options_met(matches, line.options)
+        && is_met(
+            need_of(line.options, "forever"),
+            is_flagged(matches, "forever"),
+        )
 }
 
 // Whether the words name the command, and fit it.
-fn is_command(matches: &ArgMatches, name: &str, wants: Wants) -> bool
-    ensures { result ≡ (is_named name.now (rows_in matches.now) && fits wants (rows_in matches.now)) }
+fn is_command(matches: &ArgMatches, line: &Line) -> bool
+    ensures { result ≡ (is_named line.now.name.now (rows_in matches.now) && fits (line_of line.now) (rows_in matches.now)) }
 {
-    is_named(matches, name) && fits(matches, wants)
+    is_named(matches, line.name) && fits(matches, line)
 }
 
 // The first line of a table whose name the words have, and which they fit: what its command does.
@@ -215,7 +198,7 @@ fn first_task(matches: &ArgMatches, table: &[Line]) -> Option<Task>
     ensures { result ≡ first_task (rows_in matches.now) (map line_of table.now) }
 {
     for line in table {
-        if is_command(matches, line.name, line.wants) {
+        if is_command(matches, line) {
             return Some(line.task);
         }
     }
