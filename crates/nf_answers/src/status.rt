@@ -18,7 +18,7 @@ pub enum Status {
     Phases,
     /// As many patterns as allowed were tried in a phase, and there are more.
     Patterns,
-    /// The result of a named operation has a part beyond 2^127 - 1.
+    /// A named operation passes: its result, or for a sum a number on the way to it, has a part beyond 2^127 - 1.
     Passed,
     /// No pattern of a phase is accepted, and none passes. No run ends so.
     NoPattern,
