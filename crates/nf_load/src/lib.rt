@@ -1,5 +1,5 @@
 //! Given inflow of the links of a network: the amounts that its pieces supply, and the queue, outflow and exits that come of it by the
-//! law of the point queue (Koch and Skutella 2011). Times, amounts and rates are exact fractions. Loads files are read by a crate of
+//! law of the point queue (Vickrey 1969). Times, amounts and rates are exact fractions. Loads files are read by a crate of
 //! their own, which is shown here.
 #![tactic(auto)]
 

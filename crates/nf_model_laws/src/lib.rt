@@ -75,14 +75,14 @@ pub fn extremes_are_unique()
     ensures { ExtremesAreUnique }
 {}
 
-/// Labels that no link undercuts, and that a link attains at each node but the source, are the earliest arrivals over all walks;
-/// and the earliest arrivals are such labels.
+/// Where inflows never fall, labels that no link undercuts, and that a link attains at each node but the source, are the earliest
+/// arrivals over all walks; and the earliest arrivals are such labels.
 pub fn labels_are_earliest()
     ensures { LabelsAreEarliest }
 {}
 
-/// The labels of a report, for any departure from 0 on, are the earliest arrivals exactly where no link undercuts them and one
-/// attains them at each node but the source.
+/// Where its inflows never fall, the labels of a report, for any departure from 0 on, are the earliest arrivals exactly where no link
+/// undercuts them and one attains them at each node but the source.
 pub fn report_labels_are_earliest()
     ensures { ReportLabelsAreEarliest }
 {}

@@ -48,7 +48,7 @@ pub fn extend_list_is_extension()
     ensures { ExtendListIsExtension }
 {}
 
-/// A run makes a phase sequence, and every phase sequence with as many phases ends where the run ends.
+/// A run makes a phase sequence to its horizon, and every phase sequence to that horizon with as many phases ends where the run ends.
 pub fn run_is_phase_sequence()
     ensures { RunIsPhaseSequence }
 {}
