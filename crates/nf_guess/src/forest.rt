@@ -32,7 +32,7 @@ impl Forest {
     pub(crate) fn new(alloc: Global, nodes: u32) -> Result<Forest, AllocError> {
         let last = vec![in alloc; None; nodes as usize]?;
         Ok(Forest {
-            branches: Vec::new(alloc),
+            branches: Vec::with_capacity(alloc, nodes as usize)?,
             last,
         })
     }

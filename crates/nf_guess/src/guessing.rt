@@ -24,8 +24,10 @@ pub struct SolvedPattern {
     pub values: Vec<Q>,
 }
 
-// How often a pattern is repaired at most.
-const MOST_REPAIRS: u32 = 64;
+// How often a pattern is repaired at most: mostly a few times, and where links are many and alike, twice for each of them.
+fn most_repairs(net: &Network) -> u32 {
+    net.link_count().saturating_mul(3).saturating_add(64)
+}
 
 // The values that solve the table of a pattern. None where not just one does, or an operation passes.
 fn values_of(
@@ -74,7 +76,7 @@ fn repaired(
     requires { IsPatternIn net.now.net sets.now pattern.old }
     ensures { IsPatternIn net.now.net sets.now pattern.new }
 {
-    for _ in 0..MOST_REPAIRS {
+    for _ in 0..most_repairs(net) {
         let Some(values) = part_values(alloc, net, sets, rate, pattern)? else {
             return Ok(None);
         };

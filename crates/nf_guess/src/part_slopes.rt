@@ -182,7 +182,7 @@ fn slopes_of_nodes(
     parts: &Parts,
     others: &[Q],
 ) -> Result<Vec<Q>, AllocError> {
-    let mut slopes = Vec::new(alloc);
+    let mut slopes = Vec::with_capacity(alloc, nodes as usize)?;
     for v in 0..nodes {
         let number = parts.number(NodeId(v));
         slopes.push(slope_of_part(number, others))?;

@@ -64,12 +64,15 @@ impl OpenFlows {
             sink: net.sink(),
             missing,
             degrees,
-            open: Vec::new(alloc),
+            open: Vec::with_capacity(alloc, nodes)?,
         })
     }
 
     // A link carries this flow.
     fn carry(&mut self, tail: NodeId, head: NodeId, flow: Q) -> Result<(), Halt<Q>> {
+        if flow.is_zero() {
+            return Ok(());
+        }
         take_off_at(&mut self.missing, tail.index(), flow)?;
         add_at(&mut self.missing, head.index(), flow)
     }
@@ -223,7 +226,8 @@ pub(crate) fn with_flows(
     requires sets { length sets.now.active ≡ length net.now.net.links }
     requires states { length pattern.now ≡ length net.now.net.links }
 {
-    let mut values = slopes;
+    let mut values = Vec::with_capacity(alloc, slopes.len() + net.link_count() as usize)?;
+    values.extend_from_slice(&slopes)?;
     let mut flows = OpenFlows::new(alloc, net, rate)?;
     put_flows(net, sets, pattern, &mut values, &mut flows)?;
     close_leaves(alloc, net, &mut values, &mut flows)?;

@@ -13,6 +13,7 @@ use Rattle.nf_lists.specs.Search.{Found, OverBudget, NoneAcceptedBefore, NoneAcc
 use Rattle.nf_thin_laws.specs.ActiveLinks.{AreSets, HoldNoCycle}
 use Rattle.nf_listing_laws.specs.Forcing.{left_of, filled, sets_left, IsForcing, HasForced, forced_changes, forced_by}
 use Rattle.nf_listing_laws.specs.Ways.{Choices, AreIn, ways_before, AreSole, choices_of}
+use Rattle.nf_listing_laws.specs.Firm.{choices_by, AreFirm, AllAscend, firm_before}
 
 -- The listed patterns that have the forced states are those that are listed for the sets that are left, with the forced states put
 -- in; in the same order, and with as many changes more for each.
@@ -95,6 +96,23 @@ ListedStatesAreChoices = (nodes source : ℕ) (hops : List Hop) (sets : Sets) (u
     → IsPattern sets unbounded base
     → length unbounded ≡ length sets.active → length sole ≡ length sets.active → AreSole source hops sets sole
     → IsListed nodes source hops sets unbounded p → AreIn (choices_of base unbounded sole) p
+
+-- A pattern of a listing stands behind as many places as assignments come before it, if each of these is listed.
+abbrev pub PlacesAreBoundedBelow : Type 0
+PlacesAreBoundedBelow = (nodes source : ℕ) (hops : List Hop) (sets : Sets) (unbounded : List Bool) (base : Pattern) (choices : Choices)
+    (listing : List Pattern) (place : ℕ) (p : Pattern)
+    → IsListing nodes source hops sets unbounded base listing
+    → ((q : Pattern) → AreIn choices q → IsListed nodes source hops sets unbounded q) → AllAscend choices
+    → length base ≡ length sets.active → HasPlace listing place p → firm_before choices base p < place
+
+-- Each assignment of firm states is listed, and the states ascend.
+abbrev pub FirmAssignmentsAreListed : Type 0
+FirmAssignmentsAreListed = (nodes source : ℕ) (hops : List Hop) (sets : Sets) (unbounded : List Bool) (base listed : Pattern)
+    (tight full zeros : List Bool)
+    → IsPattern sets unbounded base → IsListed nodes source hops sets unbounded listed
+    → AreFirm nodes source hops sets unbounded listed tight full zeros
+    → ((q : Pattern) → AreIn (choices_by base tight full zeros) q → IsListed nodes source hops sets unbounded q)
+    × AllAscend (choices_by base tight full zeros)
 
 -- ---- what a narrowed search answers
 

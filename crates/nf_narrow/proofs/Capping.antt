@@ -7,7 +7,7 @@ use Rattle.nf_listing_laws.specs.Forcing.{change}
 use Rattle.nf_listing_laws.specs.Ways.{Choices, left_ways, ways_by, ways_below, ways, ways_fewer}
 use Rattle.nf_narrow.specs.Rows.{most, number_in, Tells, first_ways}
 
-counted_capped : (t : Bool) (x y m : ℕ) → x ≡ min y m → (if t then x else 0) ≡ min (if t then y else 0) m
+pub counted_capped : (t : Bool) (x y m : ℕ) → x ≡ min y m → (if t then x else 0) ≡ min (if t then y else 0) m
 counted_capped true x y m h = h
 counted_capped false x y m h = omega arith
 

@@ -4,4 +4,5 @@ pub mod Standing
 pub mod Going
 pub mod Capping
 pub mod Stepping
+pub mod FirmStepping
 pub mod Reading

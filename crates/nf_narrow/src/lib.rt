@@ -3,6 +3,7 @@
 #![tactic(auto)]
 
 mod filling;
+mod firm;
 mod forcing;
 mod listing;
 mod row;
@@ -10,6 +11,7 @@ mod sole;
 mod within;
 
 pub use filling::fill;
+pub use firm::{Firm, firm_ways_before};
 pub use forcing::forced_by;
 pub use listing::narrow_listing;
 pub use row::ways_before;

@@ -11,7 +11,7 @@ use nf_pattern::Pattern;
 use std::alloc::{AllocError, Global};
 
 // Tight before Full before Zero, and before them no state.
-fn rank(state: Option<State>) -> u32
+pub(crate) fn rank(state: Option<State>) -> u32
     ensures { result ≡ rank_of state }
 {
     match state {
@@ -23,7 +23,7 @@ fn rank(state: Option<State>) -> u32
 }
 
 // How many changes this state makes of the base's: one, or none.
-fn change(base: Option<State>, state: Option<State>) -> usize
+pub(crate) fn change(base: Option<State>, state: Option<State>) -> usize
     ensures value { result ≡ change_of base state }
     ensures small { result ≤ 1 }
 {
@@ -31,7 +31,12 @@ fn change(base: Option<State>, state: Option<State>) -> usize
 }
 
 // In how many ways so many changes can be made, if the link has this state.
-fn ways_with(row: &[u64], base: Option<State>, state: Option<State>, changes: usize) -> u64
+pub(crate) fn ways_with(
+    row: &[u64],
+    base: Option<State>,
+    state: Option<State>,
+    changes: usize,
+) -> u64
     requires { changes < length row.now }
     ensures { result ≡ left_ways (change_of base state) (number_in row.now) changes }
 {
@@ -109,7 +114,7 @@ fn add_link(row: &mut [u64], base: Option<State>, unbounded: bool, sole: bool)
 }
 
 // How many links differ from the base.
-fn count_changes(base: &Pattern, pattern: &Pattern, links: u32) -> usize
+pub(crate) fn count_changes(base: &Pattern, pattern: &Pattern, links: u32) -> usize
     requires base { length base.now ≡ links }
     requires pattern { length pattern.now ≡ links }
     ensures changes { result ≡ changes_of base.now pattern.now }
@@ -124,7 +129,7 @@ fn count_changes(base: &Pattern, pattern: &Pattern, links: u32) -> usize
 }
 
 // The ways of the first numbers of changes together.
-fn sum_of(row: &[u64], count: usize) -> u64
+pub(crate) fn sum_of(row: &[u64], count: usize) -> u64
     requires { count ≤ length row.now }
     ensures { (ways : ℕ → ℕ) → Tells row.now ways → result ≡ min (first_ways ways count) most }
 {
@@ -172,7 +177,7 @@ fn count_earlier(
 }
 
 // With no link there is one way to make no change.
-fn first_row(alloc: Global, changes: usize) -> Result<Vec<u64>, AllocError>
+pub(crate) fn first_row(alloc: Global, changes: usize) -> Result<Vec<u64>, AllocError>
     requires { changes < 2 ^ 32 }
     ensures count { IfOk result (λ row. length row.items ≡ suc changes) }
     ensures ways { IfOk result (λ row. Tells row.items none_left) }

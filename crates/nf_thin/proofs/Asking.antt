@@ -2,8 +2,8 @@
 use Rattle.std.proofs.Common.{◌≡◌, subst, ap, ◌∙◌}
 use Rattle.nf_model.specs.Network.{Network, IsNetwork}
 use Rattle.nf_model.specs.ThinFlow.{Sets}
-use Rattle.nf_model.specs.Pattern.{Pattern}
-use Rattle.std.specs.Prelude.{Some}
+use Rattle.nf_model.specs.Pattern.{Pattern, IsListedIn}
+use Rattle.std.specs.Prelude.{Option, Some, None, IfSome}
 use Rattle.nf_pattern.specs.Given.{Question, Given, IsQuestion, IsListedBy, Gives}
 use Rattle.nf_equation_laws.specs.Equations.{IsPatternIn}
 use Rattle.nf_thin.specs.Searching.{AreSetsOf, AsksOf, question_of}
@@ -20,6 +20,16 @@ listed_in net sets q pattern good sets_are asked listed = record {
 -- so is the first one that is given
 pub given_in : (net : Network) (sets : Sets) (given after : Given) (pattern : Pattern) → IsNetwork net → AreSetsOf net sets → AsksOf net sets given → Gives given (Some pattern) after → IsPatternIn net sets pattern
 given_in net sets given after pattern good sets_are asks gives = listed_in net sets given.question pattern good sets_are asks.asked gives.0.listed
+
+pub first_in : (net : Network) (sets : Sets) (given after : Given) → IsNetwork net → AreSetsOf net sets → AsksOf net sets given
+    → (found : Option Pattern) → Gives given found after → IfSome found (λ (first : Pattern). IsPatternIn net sets first)
+first_in net sets given after good sets_are asks (Some first) gives = given_in net sets given after first good sets_are asks gives
+first_in net sets given after good sets_are asks None gives = tt
+
+pub first_asked : (net : Network) (sets : Sets) (given after : Given) → AsksOf net sets given
+    → (found : Option Pattern) → Gives given found after → IfSome found (λ (first : Pattern). IsListedIn net sets first)
+first_asked net sets given after asks (Some first) gives = subst (λ (q : Question). IsListedBy q first) asks.asked gives.0.listed
+first_asked net sets given after asks None gives = tt
 
 -- what is asked is a question, whatever the base is called
 pub question_asked : (net : Network) (sets : Sets) (base : Pattern) (given : Given) → AsksOf net sets given → given.question.base ≡ base → IsQuestion (question_of net sets base)

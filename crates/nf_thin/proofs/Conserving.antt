@@ -56,6 +56,12 @@ just_leaves o p i j x e f = linear_eq (o ∷ p ∷ i ∷ j ∷ x ∷ []) (eq e �
 just_enters : (o p i j x : ℚ) → o ≡ p +ℚ 0ℚ → i ≡ j +ℚ x → (p -ℚ j) -ℚ x ≡ o -ℚ i
 just_enters o p i j x e f = linear_eq (o ∷ p ∷ i ∷ j ∷ x ∷ []) (eq e ∷ eq f ∷ []) (search reading_of depth 12) tt tt
 
+carries_none : (o p i j x : ℚ) (b c : Bool) → x ≡ 0ℚ → o ≡ p +ℚ (if b then x else 0ℚ) → i ≡ j +ℚ (if c then x else 0ℚ) → p -ℚ j ≡ o -ℚ i
+carries_none o p i j x true true n e f = linear_eq (o ∷ p ∷ i ∷ j ∷ x ∷ []) (eq n ∷ eq e ∷ eq f ∷ []) (search reading_of depth 12) tt tt
+carries_none o p i j x true false n e f = linear_eq (o ∷ p ∷ i ∷ j ∷ x ∷ []) (eq n ∷ eq e ∷ eq f ∷ []) (search reading_of depth 12) tt tt
+carries_none o p i j x false true n e f = linear_eq (o ∷ p ∷ i ∷ j ∷ x ∷ []) (eq n ∷ eq e ∷ eq f ∷ []) (search reading_of depth 12) tt tt
+carries_none o p i j x false false n e f = linear_eq (o ∷ p ∷ i ∷ j ∷ x ∷ []) (eq n ∷ eq e ∷ eq f ∷ []) (search reading_of depth 12) tt tt
+
 module _ (net : Network) (flow : ℕ → ℚ) (v e : ℕ) (link : Link) (is_link : IsLink net e link) where
   abbrev before : ℚ
   before = surplus_of_first net flow v e
@@ -71,6 +77,9 @@ module _ (net : Network) (flow : ℕ → ℚ) (v e : ℕ) (link : Link) (is_link
 
   pub same_surplus : eqb link.tail v ≡ eqb link.head v → before ≡ surplus_of_first net flow v (suc e)
   same_surplus same = both_or_none _ _ _ _ x (eqb link.head v) (out_more (eqb link.head v) same) (in_more (eqb link.head v) refl)
+
+  pub idle_surplus : x ≡ 0ℚ → before ≡ surplus_of_first net flow v (suc e)
+  idle_surplus none = carries_none _ _ _ _ x (eqb link.tail v) (eqb link.head v) none (out_more (eqb link.tail v) refl) (in_more (eqb link.head v) refl)
 
   pub greater_surplus : eqb link.tail v ≡ true → eqb link.head v ≡ false → before +ℚ x ≡ surplus_of_first net flow v (suc e)
   greater_surplus leaves enters = just_leaves _ _ _ _ x (out_more true leaves) (in_more false enters)
@@ -183,6 +192,12 @@ pub other_true : (a b : Bool) → beq a b ≡ false → a ≡ false → b ≡ tr
 other_true false true e t = refl
 other_true false false e t = sym e
 other_true true b e t = absurd (cc)
+
+-- one that carries nothing changes nothing
+pub bounds_idle : (net : Network) (ranges : List Range) (v e : ℕ) (range : Range) (link : Link) → IsLink net e link → BoundsFirst net ranges v e range
+    → (here : Range) → slice_get ranges e ≡ Some here → ((x : ℚ) → IsWithin here x → x ≡ 0ℚ) → BoundsFirst net ranges v (suc e) range
+bounds_idle net ranges v e range link is_link so_far here at nothing flow within =
+    subst (IsWithin range) (idle_surplus net flow v e link is_link (nothing (flow e) (within e here at))) (so_far flow within)
 
 module _ (net : Network) (ranges : List Range) (v e : ℕ) (range : Range) (link : Link) (is_link : IsLink net e link)
     (so_far : BoundsFirst net ranges v e range) (leaves enters : Bool) (tail_is : eqb link.tail v ≡ leaves) (head_is : eqb link.head v ≡ enters) where

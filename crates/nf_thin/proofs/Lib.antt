@@ -7,8 +7,11 @@ pub mod NoCycle
 pub mod LedSlopes
 pub mod Within
 pub mod Conserving
+pub mod Balances
 pub mod Closing
 pub mod Refusing
 pub mod Narrowing
 pub mod Early
+pub mod Late
+pub mod Keepers
 pub mod FoundBy

@@ -39,6 +39,14 @@ surplus_of_first net flow v count = sum_out (take count net.links) flow v -ℚ s
 abbrev pub BoundsFirst : Network → List Range → ℕ → ℕ → Range → Type 0
 BoundsFirst net ranges v count range = (flow : ℕ → ℚ) → AreWithin ranges flow → IsWithin range (surplus_of_first net flow v count)
 
+-- of each node it lies in the node's range
+abbrev pub BoundEach : Network → List Range → ℕ → List Range → Type 0
+BoundEach net ranges count nodes = (v : ℕ) (range : Range) → slice_get nodes v ≡ Some range → BoundsFirst net ranges v count range
+
+-- what each node sends out beyond what comes in lies in the node's range
+abbrev pub AreSurpluses : Network → List Range → (ℕ → ℚ) → Type 0
+AreSurpluses net nodes flow = (v : ℕ) (range : Range) → slice_get nodes v ≡ Some range → IsWithin range (surplus_by net flow v)
+
 -- what a node is to send out beyond what comes in: the rate out of the source and into the sink, and nothing elsewhere
 abbrev pub needed_at : Network → ℚ → ℕ → ℚ
 needed_at net rate v = if eqb v net.sink then neg_ℚ rate else (if eqb v net.source then rate else 0ℚ)

@@ -7,3 +7,4 @@ pub mod Knowing
 pub mod Sifting
 pub mod Keeping
 pub mod Finding
+pub mod Firming

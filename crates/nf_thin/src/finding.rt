@@ -1,5 +1,5 @@
 // The search where slopes of a thin flow are known: among the listed patterns that have the states which they force.
-ghost use Rattle.std.specs.Prelude.{◌≡◌, IfOk};
+ghost use Rattle.std.specs.Prelude.{◌≡◌, IfOk, IfSome, None};
 ghost use Rattle.nf_work.specs.Passing.{passes_Q};
 ghost use Rattle.nf_model.specs.Network.{IsNetwork, unbounded as unbounded_of};
 ghost use Rattle.nf_model.specs.Pattern.{IsPattern};
@@ -12,8 +12,8 @@ ghost use Rattle.nf_thin.specs.Sifting.{Guides};
 ghost use Rattle.nf_thin.specs.Finding.{NarrowFinds, FindsBy};
 
 use crate::fault::SearchFault;
-use crate::first::copy_next;
-use crate::listings::{listing, unbounded_flags};
+use crate::first::first_listed;
+use crate::listings::unbounded_flags;
 use crate::pace::Pace;
 use crate::sifting::{Guide, guide_of, sift_next};
 use crate::thin::{Thin, ThinFlow};
@@ -26,7 +26,56 @@ use nf_pattern::{Pattern, Patterns};
 use std::alloc::{AllocError, Global};
 
 // The patterns that are left are gone through, with the forced states put in, until one is accepted, or stands beyond the budget in the
-// whole list; the place of what is found is that among them.
+// whole list; the place of what is found is that among them. The caller lends what is kept from one pattern to the next: `pace`, and in
+// `whole` the pattern with its forced states.
+fn try_narrow(
+    alloc: Global,
+    net: &Network,
+    sets: &LinkSets,
+    rate: Q,
+    guide: &Guide,
+    forced: &Pattern,
+    base: &Pattern,
+    patterns: &mut Patterns,
+    budget: u64,
+    pace: &mut Pace,
+    whole: &mut Pattern,
+) -> Result<Option<Thin>, SearchFault>
+    requires network { IsNetwork net.now.net }
+    requires sets { AreSetsOf net.now.net sets.now }
+    requires guide { Guides passes_Q net.now.net sets.now rate guide.now }
+    requires base { IsPattern sets.now (unbounded_of net.now.net) base.now }
+    requires forcing { IsForcing sets.now (unbounded_of net.now.net) forced.now }
+    requires asked { IsQuestion (question_of net.now.net sets.now base.now) }
+    requires question { patterns.old.question ≡ question_left forced.now (question_of net.now.net sets.now base.now) }
+    requires start { patterns.old.last ≡ AtStart }
+    requires pace { pace.old ≡ record { asked = 0; walk = None } }
+    requires whole { whole.old ≡ base.now }
+    ensures { NarrowFinds passes_Q net.now.net sets.now rate base.now forced.now budget result }
+{
+    let mut vain = Vain {
+        tried: 0,
+        passed: None,
+        node: NodeId(0),
+    };
+    while let Some(part) = patterns.next() {
+        fill(whole, forced, part, net.link_count());
+        let standing = pace.keep_up(alloc, net, sets, base, whole, vain.tried, budget)?;
+        if standing.is_beyond() {
+            return Err(SearchFault::Budget { tried: budget });
+        }
+        let found = sift_next(alloc, net, sets, rate, guide, whole, budget, &mut vain)?;
+        if let Some(thin) = found {
+            if standing.is_within(alloc, net, sets, base, whole, budget)? {
+                return Ok(Some(thin));
+            }
+            return Err(SearchFault::Budget { tried: budget });
+        }
+    }
+    Ok(None)
+}
+
+// The same, from the start on.
 fn go_narrow(
     alloc: Global,
     net: &Network,
@@ -48,31 +97,14 @@ fn go_narrow(
     requires start { patterns.old.last ≡ AtStart }
     ensures { NarrowFinds passes_Q net.now.net sets.now rate base.now forced.now budget result }
 {
-    let mut vain = Vain {
-        tried: 0,
-        passed: None,
-        node: NodeId(0),
-    };
     let mut pace = Pace {
         asked: 0,
         walk: None,
     };
     let mut whole = base.copy(alloc)?;
-    while let Some(part) = patterns.next() {
-        fill(&mut whole, forced, part, net.link_count());
-        let standing = pace.keep_up(alloc, net, sets, base, &whole, vain.tried, budget)?;
-        if standing.is_beyond() {
-            return Err(SearchFault::Budget { tried: budget });
-        }
-        let found = sift_next(alloc, net, sets, rate, guide, &whole, budget, &mut vain)?;
-        if let Some(thin) = found {
-            if standing.is_within(alloc, net, sets, base, &whole, budget)? {
-                return Ok(Some(thin));
-            }
-            return Err(SearchFault::Budget { tried: budget });
-        }
-    }
-    Ok(None)
+    try_narrow(
+        alloc, net, sets, rate, guide, forced, base, patterns, budget, &mut pace, &mut whole,
+    )
 }
 
 // The listing of what is left where links have given states.
@@ -143,6 +175,26 @@ fn find_by(
     Ok(Some(thin.flow()))
 }
 
+// A guide that is guessed from the first listed pattern on.
+fn guide_from_first(
+    alloc: Global,
+    net: &Network,
+    sets: &LinkSets,
+    rate: Q,
+    base: &Pattern,
+) -> Result<Option<Guide>, AllocError>
+    requires sets { AreSetsOf net.now.net sets.now }
+    requires base { IsPattern sets.now (unbounded_of net.now.net) base.now }
+    ensures guide { IfOk result (λ found. IfSome found (λ guide. Guides passes_Q net.now.net sets.now rate guide)) }
+    ensures question { IfOk result (λ found. IsQuestion (question_of net.now.net sets.now base.now)) }
+    ensures network { IsNetwork net.now.net }
+{
+    let Some(first) = first_listed(alloc, net, sets, base)? else {
+        return Ok(None);
+    };
+    guide_of(alloc, net, sets, rate, &first)
+}
+
 /// The search by the slopes of a thin flow, which are guessed from the first listed pattern on. None where it finds no answer; nothing is
 /// promised of when that is.
 pub fn find_by_slopes(
@@ -157,12 +209,8 @@ pub fn find_by_slopes(
     requires base { IsPattern sets.now (unbounded_of net.now.net) base.now }
     ensures { FindsBy (IsSearch passes_Q net.now.net sets.now rate base.now budget) budget result }
 {
-    let mut patterns = listing(alloc, net, sets, base)?;
-    let Some(first) = copy_next(alloc, &mut patterns)? else {
-        return Ok(None);
-    };
-    let Some(guide) = guide_of(alloc, net, sets, rate, &first)? else {
-        return Ok(None);
-    };
-    find_by(alloc, net, sets, rate, &guide, base, budget)
+    match guide_from_first(alloc, net, sets, rate, base)? {
+        Some(guide) => find_by(alloc, net, sets, rate, &guide, base, budget),
+        None => Ok(None),
+    }
 }

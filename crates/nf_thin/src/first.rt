@@ -1,15 +1,19 @@
 // The first listed pattern: a guess of slopes begins with it.
-ghost use Rattle.std.specs.Prelude.{IfOk};
-ghost use Rattle.nf_pattern.specs.Given.{Gives};
+ghost use Rattle.std.specs.Prelude.{IfOk, IfSome};
+ghost use Rattle.nf_model.specs.Network.{IsNetwork, unbounded as unbounded_of};
+ghost use Rattle.nf_model.specs.Pattern.{IsPattern, IsListedIn};
+ghost use Rattle.nf_equation_laws.specs.Equations.{IsPatternIn};
+ghost use Rattle.nf_pattern.specs.Given.{Gives, IsQuestion};
+ghost use Rattle.nf_thin.specs.Searching.{AreSetsOf, question_of};
 
+use crate::listings::listing;
+use nf_graph::LinkSets;
+use nf_net::Network;
 use nf_pattern::{Pattern, Patterns};
 use std::alloc::{AllocError, Global};
 
-/// A copy of the next listed pattern, if there is one.
-pub(crate) fn copy_next(
-    alloc: Global,
-    patterns: &mut Patterns,
-) -> Result<Option<Pattern>, AllocError>
+// A copy of the next listed pattern, if there is one.
+fn copy_next(alloc: Global, patterns: &mut Patterns) -> Result<Option<Pattern>, AllocError>
     ensures { IfOk result (λ given. Gives patterns.old given patterns.new) }
 {
     match patterns.next() {
@@ -19,4 +23,22 @@ pub(crate) fn copy_next(
         }
         None => Ok(None),
     }
+}
+
+/// A copy of the first listed pattern, if there is one.
+pub(crate) fn first_listed(
+    alloc: Global,
+    net: &Network,
+    sets: &LinkSets,
+    base: &Pattern,
+) -> Result<Option<Pattern>, AllocError>
+    requires sets { AreSetsOf net.now.net sets.now }
+    requires base { IsPattern sets.now (unbounded_of net.now.net) base.now }
+    ensures pattern { IfOk result (λ found. IfSome found (λ first. IsPatternIn net.now.net sets.now first)) }
+    ensures listed { IfOk result (λ found. IfSome found (λ first. IsListedIn net.now.net sets.now first)) }
+    ensures question { IfOk result (λ found. IsQuestion (question_of net.now.net sets.now base.now)) }
+    ensures network { IsNetwork net.now.net }
+{
+    let mut patterns = listing(alloc, net, sets, base)?;
+    copy_next(alloc, &mut patterns)
 }

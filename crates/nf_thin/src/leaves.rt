@@ -1,6 +1,6 @@
 // What Tight links carry, where the slopes are known: at a node of which one link alone is left open, conservation of flow tells what
 // that one carries. So what all links of a forest carry comes out, from its leaves on.
-ghost use Rattle.std.specs.Prelude.{◌≡◌, ◌<◌, ℕ, true, length, slice_get, slice_set, Some, None, IfSome, MatchBool};
+ghost use Rattle.std.specs.Prelude.{◌≡◌, ◌<◌, ℕ, true, length, slice_get, slice_set, Some, None, IfOk, IfSome, MatchBool};
 ghost use Rattle.nf_rational.specs.Rational.{ℚ};
 ghost use Rattle.nf_rational.specs.Operations.{◌+ℚ◌, ◌-ℚ◌};
 ghost use Rattle.nf_model.specs.Network.{IsNetwork};
@@ -12,6 +12,7 @@ use crate::ranges::Range;
 use nf_frac::Q;
 use nf_graph::{LinkId, NodeId};
 use nf_net::Network;
+use std::alloc::{AllocError, Global};
 
 // A link has one end at a node, and isn't known to carry one number.
 fn is_open_at(net: &Network, ranges: &[Range], node: NodeId, link: LinkId) -> bool
@@ -114,14 +115,20 @@ fn close_from(net: &Network, rate: Q, ranges: &mut Vec<Range>, start: NodeId) ->
 }
 
 /// Whether all links can carry what comes out for them from leaves on, and flow can then be conserved at each node.
-pub(crate) fn comes_out(net: &Network, rate: Q, ranges: &mut Vec<Range>) -> bool
+pub(crate) fn comes_out(
+    alloc: Global,
+    net: &Network,
+    rate: Q,
+    ranges: &mut Vec<Range>,
+) -> Result<bool, AllocError>
     requires { length ranges.old.items ≡ length net.now.net.links }
-    ensures { (flow : ℕ → ℚ) → AreWithin ranges.old.items flow → Conserves net.now.net rate flow → result ≡ true }
+    ensures { IfOk result (λ fits. (flow : ℕ → ℚ) → AreWithin ranges.old.items flow → Conserves net.now.net rate flow → fits ≡ true) }
 {
     for v in 0..net.node_count() {
         if !close_from(net, rate, ranges, NodeId(v)) {
-            return false;
+            return Ok(false);
         }
     }
-    first_unbalanced(net, rate, ranges).is_none()
+    let found = first_unbalanced(alloc, net, rate, ranges)?;
+    Ok(found.is_none())
 }

@@ -4,6 +4,7 @@
 mod cycles;
 mod fault;
 mod finding;
+mod firming;
 mod first;
 mod known;
 mod leaves;

@@ -13,7 +13,7 @@ use std::alloc::{AllocError, Global};
 pub(crate) fn unbounded_flags(alloc: Global, net: &Network) -> Result<Vec<bool>, AllocError>
     ensures { IfOk result (λ flags. flags.items ≡ unbounded_of net.now.net) }
 {
-    let mut flags = Vec::new(alloc);
+    let mut flags = Vec::with_capacity(alloc, net.link_count() as usize)?;
     for e in 0..net.link_count() {
         let link = net.link(LinkId(e));
         flags.push(link.capacity.is_none())?;

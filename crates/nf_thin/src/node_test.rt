@@ -1,12 +1,12 @@
 // Whether the links at each node can carry what conservation of flow asks there, where slopes are known: a pattern of which some can't
 // isn't accepted, and no table is needed to see it.
-ghost use Rattle.std.specs.Prelude.{◌≡◌, ◌<◌, ℕ, suc, true, List, length, slice_get, Some, None, IfOk};
+ghost use Rattle.std.specs.Prelude.{◌≡◌, ◌<◌, ℕ, suc, true, List, length, slice_get, slice_set, Some, None, IfOk};
 ghost use Rattle.nf_rational.specs.Rational.{ℚ};
 ghost use Rattle.nf_work.specs.Passing.{beyond, passes_Q};
 ghost use Rattle.nf_model.specs.Entries.{number_at};
 ghost use Rattle.nf_model.specs.Network.{Network as SeenNetwork, Link as SeenLink, IsLink, IsNetwork};
 ghost use Rattle.nf_thin.specs.Ranges.{IsWithin};
-ghost use Rattle.nf_thin.specs.Conserving.{full_by, CanFlow, AreWithin, Conserves, BoundsFirst, surplus_by, needed_at};
+ghost use Rattle.nf_thin.specs.Conserving.{full_by, CanFlow, AreWithin, Conserves, BoundsFirst, BoundEach, AreSurpluses, surplus_by, needed_at};
 
 use crate::ranges::{Range, flow_range};
 use nf_frac::Q;
@@ -21,7 +21,7 @@ pub fn full_flows(alloc: Global, net: &Network, slopes: &[Q]) -> Result<Vec<Opti
     requires { length slopes.now ≡ net.now.net.nodes }
     ensures { IfOk result (λ full. full.items ≡ full_by passes_Q net.now.net slopes.now) }
 {
-    let mut full = Vec::new(alloc);
+    let mut full = Vec::with_capacity(alloc, net.link_count() as usize)?;
     for e in 0..net.link_count() {
         let link = net.link(LinkId(e));
         let head_slope = slopes[link.head.index()];
@@ -89,6 +89,9 @@ fn add_link(range: &mut Range, net: &Network, ranges: &[Range], node: NodeId, li
         return;
     }
     let flow = range_at(ranges, link);
+    if flow.is_nothing() {
+        return;
+    }
     if leaves {
         *range = range.sum(flow);
         return;
@@ -128,34 +131,116 @@ fn can_conserve_at(net: &Network, rate: Q, ranges: &[Range], node: NodeId) -> bo
     surplus_range(net, ranges, node).holds(needed(net, rate, node))
 }
 
-/// The first node at which flow can't be conserved, if there is one.
-pub(crate) fn first_unbalanced(net: &Network, rate: Q, ranges: &[Range]) -> Option<NodeId>
-    requires { length ranges.now ≡ length net.now.net.links }
-    ensures { (flow : ℕ → ℚ) → AreWithin ranges.now flow → Conserves net.now.net rate flow → result ≡ None }
+// What the first links send out of a node beyond what they bring to it.
+fn surplus_at(nodes: &[Range], node: NodeId) -> Range
+    requires { node < length nodes.now }
+    ensures { slice_get nodes.now node ≡ Some result }
+{
+    nodes[node.index()]
+}
+
+// Of a node it becomes this.
+fn put_surplus(nodes: &mut Vec<Range>, node: NodeId, surplus: Range)
+    requires { node < length nodes.old.items }
+    ensures { nodes.new.items ≡ slice_set nodes.old.items node surplus }
+{
+    nodes[node.index()] = surplus;
+}
+
+// One link more: its tail sends out what it may carry, and its head gets that.
+fn add_to_ends(nodes: &mut Vec<Range>, net: &Network, ranges: &[Range], link: LinkId)
+    requires link { link < length net.now.net.links }
+    requires ranges { length ranges.now ≡ length net.now.net.links }
+    requires nodes { length nodes.old.items ≡ net.now.net.nodes }
+    requires before { BoundEach net.now.net ranges.now link nodes.old.items }
+    ensures count { length nodes.new.items ≡ net.now.net.nodes }
+    ensures more { BoundEach net.now.net ranges.now (suc link) nodes.new.items }
+{
+    let hop = &net.hops()[link.index()];
+    let looped = hop.tail == hop.head;
+    if looped {
+        return;
+    }
+    let flow = range_at(ranges, link);
+    if flow.is_nothing() {
+        return;
+    }
+    let sent = surplus_at(nodes, hop.tail);
+    put_surplus(nodes, hop.tail, sent.sum(flow));
+    let kept = surplus_at(nodes, hop.head);
+    put_surplus(nodes, hop.head, kept.difference(flow));
+}
+
+// What all links send out of each node beyond what they bring to it, where they carry numbers in these ranges: one pass over the links.
+fn surplus_ranges(
+    alloc: Global,
+    net: &Network,
+    ranges: &[Range],
+) -> Result<Vec<Range>, AllocError>
+    requires ranges { length ranges.now ≡ length net.now.net.links }
+    ensures count { IfOk result (λ nodes. length nodes.items ≡ net.now.net.nodes) }
+    ensures each { IfOk result (λ nodes. (flow : ℕ → ℚ) → AreWithin ranges.now flow → AreSurpluses net.now.net nodes.items flow) }
+{
+    let nothing = Range::just(Some(Q::zero()));
+    let mut nodes = vec![in alloc; nothing; net.node_count() as usize]?;
+    for e in 0..net.link_count() {
+        add_to_ends(&mut nodes, net, ranges, LinkId(e));
+    }
+    Ok(nodes)
+}
+
+// A node can send out what it is to.
+fn is_balanced(net: &Network, rate: Q, nodes: &[Range], node: NodeId) -> bool
+    requires node { node < net.now.net.nodes }
+    requires nodes { length nodes.now ≡ net.now.net.nodes }
+    ensures { (flow : ℕ → ℚ) → AreSurpluses net.now.net nodes.now flow → Conserves net.now.net rate flow → result ≡ true }
+{
+    surplus_at(nodes, node).holds(needed(net, rate, node))
+}
+
+// The first node that can't.
+fn first_failing(net: &Network, rate: Q, nodes: &[Range]) -> Option<NodeId>
+    requires { length nodes.now ≡ net.now.net.nodes }
+    ensures { (flow : ℕ → ℚ) → AreSurpluses net.now.net nodes.now flow → Conserves net.now.net rate flow → result ≡ None }
 {
     for v in 0..net.node_count() {
-        if !can_conserve_at(net, rate, ranges, NodeId(v)) {
+        if !is_balanced(net, rate, nodes, NodeId(v)) {
             return Some(NodeId(v));
         }
     }
     None
 }
 
+/// The first node at which flow can't be conserved, if there is one.
+pub(crate) fn first_unbalanced(
+    alloc: Global,
+    net: &Network,
+    rate: Q,
+    ranges: &[Range],
+) -> Result<Option<NodeId>, AllocError>
+    requires { length ranges.now ≡ length net.now.net.links }
+    ensures { IfOk result (λ found. (flow : ℕ → ℚ) → AreWithin ranges.now flow → Conserves net.now.net rate flow → found ≡ None) }
+{
+    let nodes = surplus_ranges(alloc, net, ranges)?;
+    Ok(first_failing(net, rate, &nodes))
+}
+
 /// A node at which flow can't be conserved, if there is one. This node is looked at first: patterns that follow each other mostly fail
 /// at the same node.
 pub(crate) fn unbalanced_node(
+    alloc: Global,
     net: &Network,
     rate: Q,
     ranges: &[Range],
     first: NodeId,
-) -> Option<NodeId>
+) -> Result<Option<NodeId>, AllocError>
     requires { length ranges.now ≡ length net.now.net.links }
-    ensures { (flow : ℕ → ℚ) → AreWithin ranges.now flow → Conserves net.now.net rate flow → result ≡ None }
+    ensures { IfOk result (λ found. (flow : ℕ → ℚ) → AreWithin ranges.now flow → Conserves net.now.net rate flow → found ≡ None) }
 {
     if first.0 < net.node_count() && !can_conserve_at(net, rate, ranges, first) {
-        return Some(first);
+        return Ok(Some(first));
     }
-    first_unbalanced(net, rate, ranges)
+    first_unbalanced(alloc, net, rate, ranges)
 }
 
 /// Whether flow can be conserved at each node, by what its links may carry in their states.
@@ -174,5 +259,6 @@ pub fn can_conserve(
     ensures { IfOk result (λ can. (flows : List ℚ) → CanFlow passes_Q net.now.net sets.now rate pattern.now full.now flows → can ≡ true) }
 {
     let ranges = link_ranges(alloc, net, sets, full, pattern)?;
-    Ok(first_unbalanced(net, rate, &ranges).is_none())
+    let found = first_unbalanced(alloc, net, rate, &ranges)?;
+    Ok(found.is_none())
 }

@@ -6,7 +6,7 @@ ghost use Rattle.nf_thin.specs.Keeping.{Tells, IsInStep, StaysBehind};
 ghost use Rattle.nf_thin.specs.Searching.{AreSetsOf, question_of};
 
 use crate::listings::listing;
-use crate::standing::{Standing, is_early};
+use crate::standing::{Standing, is_early, is_late};
 use nf_graph::LinkSets;
 use nf_narrow::goes_on_to;
 use nf_net::Network;
@@ -81,6 +81,9 @@ impl Pace {
         self.asked = tried.saturating_mul(2).saturating_add(1);
         if is_early(alloc, net, sets, base, pattern, budget)? {
             return Ok(Standing::Within);
+        }
+        if is_late(alloc, net, sets, base, pattern, budget)? {
+            return Ok(Standing::Beyond);
         }
         self.walk = Some(listing(alloc, net, sets, base)?);
         Ok(self.go_on(net, sets, base, pattern, budget))

@@ -72,6 +72,16 @@ fn ends_meet(least: Option<Q>, greatest: Option<Q>) -> bool
     }
 }
 
+// An end is known to be 0.
+fn is_zero_end(end: Option<Q>) -> bool
+    ensures { result ≡ true → end ≡ Some 0ℚ }
+{
+    match end {
+        Some(number) => number.is_zero(),
+        None => false,
+    }
+}
+
 impl Range {
     /// One number alone, if it is known, and else any.
     pub(crate) fn just(number: Option<Q>) -> Range
@@ -122,6 +132,16 @@ impl Range {
             return false;
         }
         ends_meet(other.least, self.greatest)
+    }
+
+    /// Whether 0 alone lies in it; `false` tells nothing.
+    pub(crate) fn is_nothing(&self) -> bool
+        ensures { result ≡ true → (x : ℚ) → IsWithin self.now x → x ≡ 0ℚ }
+    {
+        if !is_zero_end(self.greatest) {
+            return false;
+        }
+        is_zero_end(self.least)
     }
 
     /// Whether one number alone lies in it. Nothing rests on it.

@@ -50,10 +50,10 @@ fn ruled_out_at(
     ensures { IfOk result (λ node. (flows : List ℚ) → CanFlow passes_Q net.now.net sets.now rate pattern.now full.now flows → node ≡ None) }
 {
     let mut ranges = link_ranges(alloc, net, sets, full, pattern)?;
-    if let Some(node) = unbalanced_node(net, rate, &ranges, first) {
+    if let Some(node) = unbalanced_node(alloc, net, rate, &ranges, first)? {
         return Ok(Some(node));
     }
-    if comes_out(net, rate, &mut ranges) {
+    if comes_out(alloc, net, rate, &mut ranges)? {
         Ok(None)
     } else {
         Ok(Some(first))

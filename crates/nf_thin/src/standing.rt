@@ -1,14 +1,16 @@
 // Whether a listed pattern stands within a budget.
-ghost use Rattle.std.specs.Prelude.{◌≡◌, true, length, IfOk};
+ghost use Rattle.std.specs.Prelude.{◌≡◌, true, false, length, IfOk};
 ghost use Rattle.nf_model.specs.Network.{unbounded as unbounded_of};
 ghost use Rattle.nf_model.specs.Pattern.{IsPattern};
 ghost use Rattle.nf_narrow.specs.Asking.{StandsWithin};
 ghost use Rattle.nf_thin.specs.Keeping.{Tells};
 ghost use Rattle.nf_thin.specs.Searching.{AreSetsOf, question_of};
 
+use crate::firming::firm_states;
+use crate::first::first_listed;
 use crate::listings::{listing, unbounded_flags};
 use nf_graph::LinkSets;
-use nf_narrow::{goes_on_to, sole_flags, ways_before};
+use nf_narrow::{firm_ways_before, goes_on_to, sole_flags, ways_before};
 use nf_net::Network;
 use nf_pattern::Pattern;
 use std::alloc::{AllocError, Global};
@@ -41,6 +43,28 @@ pub(crate) fn is_early(
     Ok(ways < budget)
 }
 
+/// Whether so many listed patterns come before the pattern that it stands beyond the budget; `false` tells nothing.
+pub(crate) fn is_late(
+    alloc: Global,
+    net: &Network,
+    sets: &LinkSets,
+    base: &Pattern,
+    pattern: &Pattern,
+    budget: u64,
+) -> Result<bool, AllocError>
+    requires sets { AreSetsOf net.now.net sets.now }
+    requires base { IsPattern sets.now (unbounded_of net.now.net) base.now }
+    requires pattern { length pattern.now ≡ length net.now.net.links }
+    ensures { IfOk result (λ late. late ≡ true → StandsWithin (question_of net.now.net sets.now base.now) pattern.now budget false) }
+{
+    let Some(first) = first_listed(alloc, net, sets, base)? else {
+        return Ok(false);
+    };
+    let firm = firm_states(alloc, net, sets, &first)?;
+    let ways = firm_ways_before(alloc, base, pattern, &firm)?;
+    Ok(ways >= budget)
+}
+
 /// Whether a listed pattern is one of so many first ones. Where too many assignments come before it to tell, the list is gone through.
 pub fn is_within(
     alloc: Global,
@@ -57,6 +81,9 @@ pub fn is_within(
 {
     if is_early(alloc, net, sets, base, pattern, budget)? {
         return Ok(true);
+    }
+    if is_late(alloc, net, sets, base, pattern, budget)? {
+        return Ok(false);
     }
     let mut patterns = listing(alloc, net, sets, base)?;
     Ok(goes_on_to(&mut patterns, pattern, budget, net.link_count()))

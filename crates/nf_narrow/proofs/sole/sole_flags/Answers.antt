@@ -9,10 +9,10 @@ pub loop-e-preserved : goal.loop-e-preserved
 loop-e-preserved c =
     let pushed = c.in_ok-push.ensures.items in
     record {
-      count = ap (λ (l : List Bool). length l) pushed ∙ length_pushed c.loop-e.flags.items c.is_sole-flag.result c.loop-e.e c.loop-e.invariant.count;
+      count = ap (λ (l : List Bool). length l) pushed ∙ length_pushed c.loop-e.flags.items c.sole_flag-flag.result c.loop-e.e c.loop-e.invariant.count;
       sole = λ e has. ⊎_elim
           (λ (old : slice_get c.loop-e.flags.items e ≡ Some true). c.loop-e.invariant.sole e old)
-          (λ (new : (e ≡ length c.loop-e.flags.items) × (c.is_sole-flag.result ≡ true)).
-          subst (IsSole c.args.source c.args.hops.now c.args.sets.now) (sym (new.0 ∙ c.loop-e.invariant.count)) (c.is_sole-flag.ensures new.1))
-          (entry_pushed c.loop-e.flags.items c.is_sole-flag.result e true (subst (λ (l : List Bool). Has l e) pushed has));
+          (λ (new : (e ≡ length c.loop-e.flags.items) × (c.sole_flag-flag.result ≡ true)).
+          subst (IsSole c.args.source c.args.hops.now c.args.sets.now) (sym (new.0 ∙ c.loop-e.invariant.count)) (c.sole_flag-flag.ensures new.1))
+          (entry_pushed c.loop-e.flags.items c.sole_flag-flag.result e true (subst (λ (l : List Bool). Has l e) pushed has));
     }

@@ -26,5 +26,5 @@ pub first_unbalanced-requires : goal.first_unbalanced-requires
 first_unbalanced-requires c = ap (λ (l : List Range). length l) c.deref.ensures.value ∙ c.loop-v.invariant.count
 
 pub returns : goal.returns
-returns c flow within conserves = sym (none_flag c.first_unbalanced.result None c.is_none.result
-    (c.first_unbalanced.ensures flow (subst (λ (l : List Range). AreWithin l flow) (sym c.deref.ensures.value) (c.loop-v.invariant.within flow within conserves)) conserves) c.is_none.ensures)
+returns c flow within conserves = sym (none_flag c.in_ok-found.found None c.is_none.result
+    (c.in_ok-found.ensures flow (subst (λ (l : List Range). AreWithin l flow) (sym c.deref.ensures.value) (c.loop-v.invariant.within flow within conserves)) conserves) c.is_none.ensures)

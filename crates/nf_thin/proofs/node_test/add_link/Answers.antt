@@ -1,6 +1,6 @@
 use Rattle.std.proofs.Common.{◌≡◌, List, length, ap, ◌∙◌, arith}
 use Rattle.nf_model.specs.Walk.{Hop}
-use Rattle.nf_thin.proofs.Conserving.{link_read, end_test, bounds_still, bounds_sum, bounds_difference}
+use Rattle.nf_thin.proofs.Conserving.{link_read, end_test, bounds_still, bounds_idle, bounds_sum, bounds_difference}
 use Rattle.nf_thin.proofs.Hops.{hops_length}
 use Rattle.nf_thin.proofs.node_test.add_link.Goals as goal
 
@@ -19,6 +19,12 @@ returns-then-leaves-enters c =
     (end_test c.eq-leaves.result c.hop.inside.tail c.index-hops-index.result.tail (f.0).tail c.args.node c.eq-leaves.ensures (ap (λ (h : Hop). h.tail) c.hop.view_is) f.2)
     (end_test c.eq-enters.result c.hop.inside.head c.index-hops-index.result.head (f.0).head c.args.node c.eq-enters.ensures (ap (λ (h : Hop). h.head) c.hop.view_is) f.3)
     c.if-leaves-enters.true
+
+pub returns-then-is_nothing : goal.returns-then-is_nothing
+returns-then-is_nothing c =
+    let f = link_read c.args.net.now.net c.hops.result.now c.args.link c.index.result c.index-hops-index.result c.hops.ensures.value c.index.ensures c.requires.link c.index-hops-index.is in
+    bounds_idle c.args.net.now.net c.args.ranges.now c.args.node c.args.link c.args.range.now f.0 f.1 c.requires.before
+    c.range_at-flow.result c.range_at-flow.ensures (c.is_nothing.ensures c.if-is_nothing.true)
 
 pub returns-then-leaves : goal.returns-then-leaves
 returns-then-leaves c =

@@ -1,6 +1,11 @@
-use Rattle.std.proofs.Common.{sym, ◌∙◌}
-use Rattle.std.proofs.lemmas.Bool.{true≢false}
+use Rattle.std.proofs.Common.{List, length, sym, ap, subst, ◌∙◌}
+use Rattle.nf_thin.specs.declared.ranges.Range.{Range}
+use Rattle.nf_thin.specs.Conserving.{AreSurpluses}
 use Rattle.nf_thin.proofs.node_test.first_unbalanced.Goals as goal
 
-pub returns-then-not-can_conserve_at : goal.returns-then-not-can_conserve_at
-returns-then-not-can_conserve_at c flow within conserves = absurd (true≢false (sym (c.can_conserve_at.ensures flow within conserves) ∙ c.if-not-can_conserve_at.true))
+pub first_failing-requires : goal.first_failing-requires
+first_failing-requires c = ap (λ (l : List Range). length l) c.deref.ensures.value ∙ c.in_ok-nodes.ensures.count
+
+pub returns : goal.returns
+returns c flow within conserves = c.first_failing.ensures flow
+    (subst (λ (l : List Range). AreSurpluses c.args.net.now.net l flow) (sym c.deref.ensures.value) (c.in_ok-nodes.ensures.each flow within)) conserves

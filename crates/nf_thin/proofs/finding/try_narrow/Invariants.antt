@@ -1,7 +1,7 @@
 use Rattle.std.proofs.Common.{◌≡◌, ◌≤◌, ◌-◌, length}
 use Rattle.nf_work.specs.Passing.{passes_Q}
 use Rattle.nf_thin.proofs.Narrowing.{NarrowVainly, KeepsUp}
-use Rattle.nf_thin.proofs.finding.go_narrow.Given as goal
+use Rattle.nf_thin.proofs.finding.try_narrow.Given as goal
 
 -- so many were gone through in vain
 abbrev pub invariant-loop-part : goal.invariant-loop-part

@@ -12,7 +12,7 @@ use Rattle.nf_thin.specs.Searching.{question_of}
 use Rattle.nf_thin.specs.Sifting.{SiftsNext}
 use Rattle.nf_thin.specs.Keeping.{Tells, IsInStep, StaysBehind}
 use Rattle.nf_thin.proofs.Narrowing.{whole_listed, whole_pattern, part_count, whole_count, next_later, next_kept, narrow_found, narrow_beyond, narrow_failed, narrow_on}
-use Rattle.nf_thin.proofs.finding.go_narrow.Goals as goal
+use Rattle.nf_thin.proofs.finding.try_narrow.Goals as goal
 
 pub fill-requires-clause-part : goal.fill-requires-clause-part
 fill-requires-clause-part c = part_count passes_Q c.args.net.now.net c.args.sets.now c.args.rate c.args.base.now c.args.forced.now c.requires.network c.requires.sets c.requires.forcing c.loop-part.patterns (c.loop-part.invariant.same ∙ c.requires.question)

@@ -1,0 +1,5 @@
+use Rattle.nf_thin.specs.Firming.{AreKeepers}
+use Rattle.nf_thin.proofs.firming.keepers.Given as goal
+
+abbrev pub invariant-loop-e : goal.invariant-loop-e
+invariant-loop-e l = AreKeepers l.net.net l.sets l.listed l.e l.keepers.items

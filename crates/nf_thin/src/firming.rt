@@ -1,0 +1,100 @@
+// The states that links may have all at once, seen from a listed pattern.
+ghost use Rattle.std.specs.Prelude.{◌≡◌, ◌⊎◌, ◌<◌, ℕ, true, length, IfOk, Option, Some, None, slice_get};
+ghost use Rattle.nf_model.specs.declared.State.TheVariants.{Tight, Full};
+ghost use Rattle.nf_model.specs.Pattern.{IsListedIn};
+ghost use Rattle.nf_thin.specs.Firming.{AreKeepers, HaveFirm};
+ghost use Rattle.nf_thin.specs.Searching.{AreSetsOf};
+
+use nf_graph::{LinkId, LinkSets, NodeId};
+use nf_model::State;
+use nf_narrow::Firm;
+use nf_net::Network;
+use nf_pattern::Pattern;
+use std::alloc::{AllocError, Global};
+
+// Whether a link with this state leads to its head.
+fn leads(state: Option<State>) -> bool
+    ensures leads { result ≡ true → (state ≡ Some Tight) ⊎ (state ≡ Some Full) }
+    ensures all { (state ≡ Some Tight) ⊎ (state ≡ Some Full) → result ≡ true }
+{
+    matches!(state, Some(State::Tight)) || matches!(state, Some(State::Full))
+}
+
+// Whether it is Tight.
+fn is_tight(state: Option<State>) -> bool
+    ensures { result ≡ true → state ≡ Some Tight }
+{
+    matches!(state, Some(State::Tight))
+}
+
+// A link that leads to a node is its keeper, unless there is one; a resetting link in any case.
+fn keep(keepers: &mut [Option<LinkId>], node: NodeId, link: LinkId, resets: bool, leads: bool)
+    requires { node < length keepers.old }
+    ensures count { length keepers.new ≡ length keepers.old }
+    ensures keeps { (v e : ℕ) → slice_get keepers.new v ≡ Some (Some e)
+        → (slice_get keepers.old v ≡ Some (Some e)) ⊎ ((v ≡ node) × (e ≡ link) × ((resets ≡ true) ⊎ (leads ≡ true))) }
+    ensures there { (v : ℕ) → slice_get keepers.new v ≡ Some None → slice_get keepers.old v ≡ Some None }
+    ensures kept { slice_get keepers.new node ≡ Some None → (resets ≡ true) ⊎ (leads ≡ true) → ⊥ }
+{
+    if resets || (leads && keepers[node.index()].is_none()) {
+        keepers[node.index()] = Some(link);
+    }
+}
+
+// Of each node a link that leads to it, where there is one.
+fn keepers(
+    alloc: Global,
+    net: &Network,
+    sets: &LinkSets,
+    listed: &Pattern,
+) -> Result<Vec<Option<LinkId>>, AllocError>
+    requires sets { AreSetsOf net.now.net sets.now }
+    requires listed { IsListedIn net.now.net sets.now listed.now }
+    ensures { IfOk result (λ keepers. AreKeepers net.now.net sets.now listed.now (length net.now.net.links) keepers.items) }
+{
+    let mut keepers = vec![in alloc; None; net.node_count() as usize]?;
+    for e in 0..net.link_count() {
+        let link = LinkId(e);
+        let resets = sets.resetting(link);
+        let leads = leads(listed.state(link));
+        keep(&mut keepers, net.link(link).head, link, resets, leads);
+    }
+    Ok(keepers)
+}
+
+// Whether this link is the keeper of the node.
+fn is_keeper(keepers: &[Option<LinkId>], node: NodeId, link: LinkId) -> bool
+    requires { node < length keepers.now }
+    ensures { slice_get keepers.now node ≡ Some (Some link) → result ≡ true }
+{
+    match keepers[node.index()] {
+        Some(keeper) => keeper == link,
+        None => false,
+    }
+}
+
+/// The states that links may all have at once, each as it likes: Tight where the listed pattern is, Full where they are bounded, and
+/// Zero unless they are a node's keeper.
+pub(crate) fn firm_states(
+    alloc: Global,
+    net: &Network,
+    sets: &LinkSets,
+    listed: &Pattern,
+) -> Result<Vec<Firm>, AllocError>
+    requires sets { AreSetsOf net.now.net sets.now }
+    requires listed { IsListedIn net.now.net sets.now listed.now }
+    ensures { IfOk result (λ firm. HaveFirm net.now.net sets.now listed.now firm.items) }
+{
+    let keepers = keepers(alloc, net, sets, listed)?;
+    let mut firm = Vec::new(alloc);
+    for e in 0..net.link_count() {
+        let link = LinkId(e);
+        let here = net.link(link);
+        firm.push(Firm {
+            tight: is_tight(listed.state(link)),
+            full: here.capacity.is_some(),
+            zero: !is_keeper(&keepers, here.head, link),
+        })?;
+    }
+    Ok(firm)
+}
