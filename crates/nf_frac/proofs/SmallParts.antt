@@ -1,11 +1,12 @@
 -- What the parts of a small fraction in code say of the number, and back.
-use Rattle.std.proofs.Common.{◌≡◌, ℕ, ◌/◌, ◌%◌, ◌<◌, ◌≤◌, ℤ, pos, negsuc, ◌*ℤ◌, nat_abs, ◌⊎◌, inl, inr, refl, sym, ◌∙◌, ap, subst, arith}
+use Rattle.std.proofs.Common.{◌≡◌, ℕ, ◌+◌, ◌/◌, ◌%◌, ◌<◌, ◌≤◌, ℤ, pos, negsuc, ◌+ℤ◌, ◌*ℤ◌, nat_abs, ◌⊎◌, inl, inr, refl, sym, ◌∙◌, ap, subst, arith}
 use mathlib.Core.Path.{ap₂}
 use mir.Syntax.{w64, w128}
 use mir.Val.{to_z, of_z, SFits}
 use mir.Facts.{to_z-of_z, to_z_pos}
 use lib.Signed.{quot_z}
 use native.Mathlib.Nat.{div-le_self, one-dvd}
+use borrow.Author.Differences.{ints}
 use Rattle.std.specs.Int.{IsGcd}
 use Rattle.std.proofs.lemmas.Nat.Gcd.{same_from_IsGcd, IsGcd-from_mod, dvd_refl}
 use Rattle.nf_rational.specs.Gcd.{gcd, IsGcd-gcd}
@@ -135,6 +136,16 @@ module _ (a : ℤ) (b : ℕ) (small : nat_abs a ≤ short) (few : b ≤ short) w
 -- ---- two short numbers, each cast to 128 bits
 pub wide_product_is : (a b : ℤ) → nat_abs a ≤ short → nat_abs b ≤ short → bits_of (bits_of (bits_64 a) *ℤ bits_of (bits_64 b)) ≡ a *ℤ b
 wide_product_is a b h k = ap₂ (λ (x y : ℤ). bits_of (x *ℤ y)) (plain_widened a h) (plain_widened b k) ∙ plain (a *ℤ b) (short_product a b h k)
+
+-- ---- the sum of two short numbers, each cast to 128 bits
+pub abs_plus : (a b : ℤ) → nat_abs (a +ℤ b) ≤ nat_abs a + nat_abs b
+abs_plus a b = omega (arith, ints)
+
+pub short_total : (a b : ℤ) → nat_abs a ≤ short → nat_abs b ≤ short → nat_abs (a +ℤ b) ≤ greatest
+short_total a b h k = omega (arith, abs_plus a b, h, k)
+
+pub wide_total_is : (a b : ℤ) → nat_abs a ≤ short → nat_abs b ≤ short → bits_of (bits_of (bits_64 a) +ℤ bits_of (bits_64 b)) ≡ a +ℤ b
+wide_total_is a b h k = ap₂ (λ (x y : ℤ). bits_of (x +ℤ y)) (plain_widened a h) (plain_widened b k) ∙ plain (a +ℤ b) (short_total a b h k)
 
 -- ---- a quotient of short numbers
 pub part_short : (a g : ℕ) → a ≤ short → a / g ≤ short

@@ -3,7 +3,6 @@ use Rattle.std.proofs.Common.{◌≡◌, ℕ, ◌+◌, ◌*◌, ◌/◌, ◌<◌
 use mathlib.Core.Path.{ap₂}
 use Prim.Native.Nat.{◌∣◌}
 use lib.Signed.{quot_z}
-use borrow.Author.Differences.{ints}
 use mir.Syntax.{w128}
 use mir.Val.{SFits}
 use native.Mathlib.Nat.{mul-pos, dvd_trans, mul-div_cancel', eq_of_mul-eq-mul_left}
@@ -20,14 +19,11 @@ use Rattle.nf_frac.proofs.Bits.{bits_of, plain, fits_128, short_product}
 use Rattle.nf_frac.proofs.Factors.{left_over, right_over, sum_over, factors_of_sum}
 use Rattle.nf_frac.proofs.Form.{num_of, den_of, ratio_within, form_of, value_of}
 use Rattle.nf_frac.proofs.Passing.{sum_within}
-use Rattle.nf_frac.proofs.SmallParts.{bits_64, plain_64, kept_short, part_short, quotient_short, times_plain}
+use Rattle.nf_frac.proofs.SmallParts.{abs_plus, bits_64, plain_64, kept_short, part_short, quotient_short, times_plain}
 
 -- ---- sizes
 short_times : (a b : ℕ) → a ≤ short → b ≤ short → a * b ≤ 85070591730234615847396907784232501249
 short_times a b h k = omega (arith, mul-le a b short short h k)
-
-abs_plus : (a b : ℤ) → nat_abs (a +ℤ b) ≤ nat_abs a + nat_abs b
-abs_plus a b = omega (arith, ints)
 
 total_small : (a b : ℤ) → nat_abs a ≤ 85070591730234615847396907784232501249 → nat_abs b ≤ 85070591730234615847396907784232501249 → nat_abs (a +ℤ b) ≤ greatest
 total_small a b h k = omega (arith, abs_plus a b, h, k)

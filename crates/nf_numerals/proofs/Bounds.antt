@@ -40,6 +40,19 @@ power_passes i exponent bound h wide fits =
     let most : 10 ^ suc i ≤ 10 ^ exponent = pow-le-pow_right {n = 10} (omega arith) h in
     omega arith
 
+-- ---- a number of at most 18 digits fits 64 bits
+pub few_so_far : (value i count : ℕ) → i < count → count ≤ 18 → value < 10 ^ i → value < 10 ^ 17
+few_so_far value i count h few small =
+    let within : i ≤ 17 = omega arith in
+    let most : 10 ^ i ≤ 10 ^ 17 = pow-le-pow_right {n = 10} (omega arith) within in
+    omega arith
+
+pub few_at_end : (value i count : ℕ) → i ≤ count → count ≤ 18 → value < 10 ^ i → value < 10 ^ 18
+few_at_end value i count h few small =
+    let within : i ≤ 18 = omega arith in
+    let most : 10 ^ i ≤ 10 ^ 18 = pow-le-pow_right {n = 10} (omega arith) within in
+    omega arith
+
 -- ---- the digits of one field after those of another
 pub value_after-shift : (n : ℕ) (digits : List ℕ) → value_after n digits ≡ n * 10 ^ length digits + value_of digits
 value_after-shift n [] = omega arith
