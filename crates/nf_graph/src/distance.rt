@@ -12,7 +12,7 @@ use std::cmp::Ordering;
 
 /// Why least transit sums were refused: a sum passed, that of the least transit sum of a link's tail (`left`) and the link's
 /// transit time (`right`); or memory was wanting.
-#[derive(Clone, Copy, Debug, PartialEq, Eq)]
+#[derive(Clone, Copy)]
 pub enum DistanceFault {
     Passed { link: LinkId, left: Q, right: Q },
     Memory,

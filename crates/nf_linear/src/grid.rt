@@ -35,7 +35,7 @@ impl<const N: usize> Model for Grid<N> {
 }
 
 /// What is found of a system on a grid.
-#[derive(Clone, Copy, PartialEq, Eq, Debug)]
+#[derive(Clone, Copy)]
 pub enum Eliminated {
     /// There is one solution.
     One,
@@ -64,7 +64,7 @@ fn set_at<const N: usize>(rows: &mut [GridRow<N>], row: usize, column: usize, va
 }
 
 impl<const N: usize> Grid<N> {
-    /// The grid of this many unknowns, all zero.
+    /// Makes the grid of `size` unknowns, all numbers 0. `size` must be 1 to `N`, and `N` at most 32. Doesn't allocate.
     pub fn zero(size: u32) -> Grid<N>
         requires size { (0 < size) × (size ≤ N) }
         requires few { N ≤ 32 }

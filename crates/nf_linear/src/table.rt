@@ -28,7 +28,8 @@ impl<S: Scalar> Model for Table<S> {
 }
 
 impl<S: Scalar> Table<S> {
-    /// The table of this many unknowns, all zero.
+    /// Makes the table of `size` unknowns, all numbers 0. `size` must be 1 to 264: 64 nodes and 200 links. Fails only if an
+    /// allocation fails.
     pub fn new(alloc: Global, size: u32) -> Result<Table<S>, AllocError>
         requires { (0 < size) × (size ≤ 264) }
         ensures { IfOk result (λ table. table ≡ replicate size (replicate (size + 1) 0ℚ)) }

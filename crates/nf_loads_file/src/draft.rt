@@ -9,7 +9,7 @@ ghost use Rattle.nf_loads_file.specs.Files.{IfBroken};
 use crate::entry::{Entry, read_entry};
 use crate::fault::LoadsFault;
 use crate::loads::Pieces;
-use nf_net::{Network, Piece};
+use nf_net::{LinkId, Network, Piece};
 use nf_readings::LoadRule;
 use nf_side_files::{PieceFault, ReadLine, piece_fault};
 use std::alloc::{AllocError, Global};
@@ -22,6 +22,7 @@ const MOST_LINES: usize = 200;
 pub struct Draft {
     pub pieces: Vec<Pieces>,
     pub ended: bool,
+    pub near: LinkId,
 }
 
 // The first of L9 to L11 that a piece breaks behind those of its link.
@@ -52,6 +53,7 @@ impl Draft {
         Ok(Draft {
             pieces,
             ended: false,
+            near: LinkId(0),
         })
     }
 
@@ -71,7 +73,10 @@ impl Draft {
         ensures { OnOk result (seen_draft self.new ≡ load_after (seen_draft self.old) (seen_entry entry)) }
     {
         match entry {
-            Entry::Rate(link, piece) => self.pieces[link.index()].push(piece)?,
+            Entry::Rate(link, piece) => {
+                self.near = link;
+                self.pieces[link.index()].push(piece)?;
+            }
             Entry::End => self.ended = true,
         }
         Ok(())
@@ -94,7 +99,7 @@ impl Draft {
                 line: number,
             });
         }
-        let entry = match read_entry(net, line) {
+        let entry = match read_entry(net, line, self.near) {
             Ok(entry) => entry,
             Err(rule) => return Err(LoadsFault::Broken { rule, line: number }),
         };

@@ -6,9 +6,10 @@ use nf_frac::Q;
 use nf_graph::NodeId;
 use std::marker::Model;
 
-/// A link: it leads from one node to another. What enters it waits at its entrance, is served at the capacity, an amount per
-/// unit of time, and then takes the transit time. No capacity: it is unbounded, and nothing waits.
-#[derive(Clone, Copy, Debug)]
+/// A link leads from its tail to its head. Flow that enters it waits in a queue at the tail, leaves the queue at most at the rate
+/// `capacity`, an amount per unit of time, and then takes the time `transit`. A link without a capacity is unbounded: it has no
+/// queue. In a network that is read, `transit` is at least 0 and `capacity` above 0.
+#[derive(Clone, Copy)]
 pub struct Link {
     pub tail: NodeId,
     pub head: NodeId,
@@ -30,7 +31,7 @@ impl Model for Link {
 }
 
 /// From its start on the source is supplied at this rate, an amount per unit of time, until the next start.
-#[derive(Clone, Copy, Debug)]
+#[derive(Clone, Copy)]
 pub struct Piece {
     pub start: Q,
     pub rate: Q,

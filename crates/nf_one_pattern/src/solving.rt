@@ -15,8 +15,8 @@ use nf_linear::{Eliminated, Grid, solve_grid};
 use nf_net::Network;
 use nf_pattern::Pattern;
 
-/// The most unknowns of a table that is solved without memory.
-pub const MOST_UNKNOWNS: u32 = 32;
+/// `try_pattern` solves systems of at most this many unknowns, the nodes and the active links, without allocating.
+pub const MOST_GRID_UNKNOWNS: u32 = 32;
 
 // Solves the table on a grid of this size. Not inlined, so that no call makes room for a larger grid than it uses.
 #[inline(never)]

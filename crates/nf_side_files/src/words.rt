@@ -10,6 +10,7 @@ ghost use Rattle.nf_side_files.specs.NameAt.{IsNameAt};
 
 use nf_frac::Q;
 use nf_net::{LONGEST_NAME, LinkId, Network, NodeId};
+use nf_text::is_word;
 
 /// The link that a word names; None exactly where no link has the name, idle links aside.
 #[tactic(auto, using(crate::proofs::NamesOf::link_is_there, crate::proofs::NamesOf::no_link_text))]
@@ -22,6 +23,23 @@ pub fn link_of(net: &Network, word: &[u8]) -> Option<LinkId>
         Ok(name) => net.link_named(name),
         Err(_) => None,
     }
+}
+
+/// Returns the link that a word names, as `link_of` does. The name of the link `near` is compared first, for speed: neighbouring
+/// lines of a file often name the same link.
+#[tactic(auto, using(crate::proofs::NamesOf::near_is_there))]
+pub fn link_near(net: &Network, word: &[u8], near: LinkId) -> Option<LinkId>
+    ensures { MatchOption result (has_name net.now.link_names word.now ≡ false) (λ link. IsNameAt net.now.link_names word.now link) }
+{
+    // For the proof: names of links differ.
+    net.recall();
+    if near.0 < net.link_count() {
+        let name = net.link_name(near);
+        if is_word(name.as_bytes(), word) {
+            return Some(near);
+        }
+    }
+    link_of(net, word)
 }
 
 /// The node that a word names; None exactly where no node has the name, idle nodes aside.

@@ -18,16 +18,15 @@ mod words;
 
 pub use cursor::Cursor;
 pub use cursor_line::{ReadLine, is_word};
-pub use reading::read_line;
-pub use sameness::is_same;
+use reading::read_line;
 use std::alloc::{AllocError, AllocFailed, Global};
 use thiserror::Error;
 
-/// The most bytes of a line, without its ending.
-pub const LONGEST_LINE: usize = 1000;
+// The most bytes of a line, without its ending.
+const LONGEST_LINE: usize = 1000;
 
 /// The place of a word in a text, in bytes.
-#[derive(Clone, Copy, Debug, PartialEq, Eq)]
+#[derive(Clone, Copy)]
 pub struct Span {
     pub start: u32,
     pub len: u32,
@@ -45,7 +44,7 @@ impl Span {
 }
 
 /// A line, numbered from 1. It is plain where it is its words joined by single spaces and ended by LF.
-#[derive(Debug, Drop)]
+#[derive(Drop)]
 pub struct Line {
     pub number: u32,
     pub plain: bool,
@@ -53,7 +52,7 @@ pub struct Line {
 }
 
 /// Why a text isn't read.
-#[derive(Clone, Copy, Debug, PartialEq, Eq, Error)]
+#[derive(Clone, Copy, Debug, Error)]
 pub enum TextFault {
     /// The line has a byte other than tab and 32 to 126.
     #[error("line {line} isn't ASCII")]
