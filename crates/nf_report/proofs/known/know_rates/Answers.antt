@@ -1,6 +1,6 @@
 use Rattle.nf_formats.specs.WellNamed.{IsFraction}
-use Rattle.nf_written_laws.proofs.Entries.{one_read, up_to_end}
-use Rattle.nf_written_laws.proofs.known.know_rates.Goals as goal
+use Rattle.nf_report.proofs.Entries.{one_read, up_to_end}
+use Rattle.nf_report.proofs.known.know_rates.Goals as goal
 
 pub loop-rate-preserved : goal.loop-rate-preserved
 loop-rate-preserved c =

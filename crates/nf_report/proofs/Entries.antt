@@ -1,5 +1,5 @@
--- What holds of each entry of a list, from what holds of the first ones.
-use Rattle.std.proofs.Common.{◌≡◌, ℕ, zero, suc, ◌+◌, ◌<◌, ◌≤◌, List, [], ◌∷◌, length, take, get_or, refl, subst, add-one}
+-- What holds of each entry of a list, from what holds of a prefix.
+use Rattle.std.proofs.Common.{◌≡◌, ℕ, zero, suc, ◌+◌, ◌<◌, ◌≤◌, List, [], ◌∷◌, length, map, take, get_or, refl, subst, add-one}
 use Rattle.std.specs.Prelude.{Some, slice_get}
 use Rattle.std.specs.List.{AllByRecursion}
 use Rattle.std.proofs.lemmas.List.{take_all}
@@ -22,3 +22,8 @@ module _ {A : Type 0} (P : A → Type 0) where
   -- as many as there are
   pub up_to_end : (xs : List A) (i : ℕ) → length xs ≤ i → AllByRecursion P (take i xs) → AllByRecursion P xs
   up_to_end xs i h all = subst (λ (entries : List A). AllByRecursion P entries) (take_all i xs h) all
+
+-- of each image, from what holds of each entry
+pub all_image : {A B : Type 0} (P : A → Type 0) (Q : B → Type 0) (f : B → A) → ((y : B) → Q y → P (f y)) → (ys : List B) → AllByRecursion Q ys → AllByRecursion P (map f ys)
+all_image P Q f h [] all = tt
+all_image P Q f h (y ∷ ys) all = (h y all.0, all_image P Q f h ys all.1)

@@ -2,7 +2,7 @@ use Rattle.std.proofs.Common.{Some, sym, subst}
 use Rattle.nf_rational.specs.Rational.{ℚ}
 use Rattle.nf_formats.specs.declared.Cause.{Cause}
 use Rattle.nf_readings_laws.specs.Readable.{IsReadableCause}
-use Rattle.nf_written_laws.proofs.known.know_stop.Goals as goal
+use Rattle.nf_report.proofs.known.know_stop.Goals as goal
 
 pub returns-in-Patterns : goal.returns-in-Patterns
 returns-in-Patterns c =

@@ -1,4 +1,4 @@
-// For the proof: each number of a flow and of a stop is a fraction of a file, and each count has at most 64 bits.
+// Shows that each number of a flow and of a stop is a fraction that a file may have, and that each count has at most 64 bits.
 ghost use Rattle.std.specs.Prelude.{Some, map};
 ghost use Rattle.std.specs.List.{AllByRecursion};
 ghost use Rattle.std.specs.Option.{option_copied};
@@ -35,7 +35,7 @@ fn know_trace(trace: &Trace)
     know_rates(&trace.rates);
 }
 
-/// The points of each of some curves.
+/// Shows this of the points of some curves.
 pub(crate) fn know_curves(curves: &[Curve])
     ensures { AllByRecursion AreFractionPoints (map (λ c. c.points) curves.now) }
 {
@@ -44,7 +44,7 @@ pub(crate) fn know_curves(curves: &[Curve])
     }
 }
 
-/// The points and the rates of each of some traces.
+/// Shows this of the points and rates of some traces.
 pub(crate) fn know_traces(traces: &[Trace])
     ensures { AllByRecursion IsFractionTrace (map trace_of traces.now) }
 {
@@ -85,7 +85,7 @@ fn know_stop(stop: &Stop)
     }
 }
 
-/// The numbers and counts of the cause for which a run stopped, if it did.
+/// Shows this of the numbers and counts of a stop, if there is one.
 pub(crate) fn know_cause(stopped: Option<&Stop>)
     ensures { IsReadableCause (option_copied stopped.entry) }
 {

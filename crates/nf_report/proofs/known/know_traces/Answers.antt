@@ -1,9 +1,8 @@
 use Rattle.nf_curve.specs.Flows.{trace_of}
 use Rattle.nf_curve.specs.declared.flow.Trace.{Trace}
 use Rattle.nf_readings_laws.specs.Readable.{IsFractionTrace}
-use Rattle.nf_run_text_laws.proofs.Lists.{all_image}
-use Rattle.nf_written_laws.proofs.Entries.{one_read, up_to_end}
-use Rattle.nf_written_laws.proofs.known.know_traces.Goals as goal
+use Rattle.nf_report.proofs.Entries.{one_read, up_to_end, all_image}
+use Rattle.nf_report.proofs.known.know_traces.Goals as goal
 
 abbrev HasFractions : Trace → Type 0
 HasFractions trace = IsFractionTrace (trace_of trace)

@@ -1,7 +1,7 @@
 use Rattle.std.proofs.Common.{◌≤◌, length, arith}
 use Rattle.nf_readings_laws.specs.Readable.{IsFractionPoint}
-use Rattle.nf_written_laws.proofs.Entries.{one_more, up_to_end}
-use Rattle.nf_written_laws.proofs.known.know_points.Goals as goal
+use Rattle.nf_report.proofs.Entries.{one_more, up_to_end}
+use Rattle.nf_report.proofs.known.know_points.Goals as goal
 
 pub loop-index-preserved : goal.loop-index-preserved
 loop-index-preserved c =

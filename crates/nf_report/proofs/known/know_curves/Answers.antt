@@ -1,8 +1,7 @@
 use Rattle.nf_curve.specs.Points.{Grown}
 use Rattle.nf_readings_laws.specs.Readable.{AreFractionPoints}
-use Rattle.nf_run_text_laws.proofs.Lists.{all_image}
-use Rattle.nf_written_laws.proofs.Entries.{one_read, up_to_end}
-use Rattle.nf_written_laws.proofs.known.know_curves.Goals as goal
+use Rattle.nf_report.proofs.Entries.{one_read, up_to_end, all_image}
+use Rattle.nf_report.proofs.known.know_curves.Goals as goal
 
 abbrev HasFractions : Grown → Type 0
 HasFractions curve = AreFractionPoints curve.points
