@@ -63,18 +63,19 @@ def told(sink, links, rate, slopes):
 
 
 def main(net, forever):
+    name = "standard input" if forever == "-" else forever
     try:
         sink, links, rate = network(read(net))
         slopes = {words[1]: Fraction(words[2]) for words in read(forever) if words[0] == "slope"}
     except OSError as fault:
         refuse(f"bottleneck: {fault.filename}: {fault.strerror}")
     except (ValueError, IndexError, ZeroDivisionError, StopIteration):
-        refuse(f"bottleneck: {net} isn't a network file, or {forever} isn't the output of --forever")
+        refuse(f"bottleneck: {net} isn't a network file, or {name} isn't the output of --forever")
     if not slopes:
-        sys.exit(f"bottleneck: {forever} has no slopes: the run stopped before a phase that never ends")
+        sys.exit(f"bottleneck: {name} has no slopes: the run stopped before a phase that never ends")
     lines = told(sink, links, rate, slopes)
     if not lines:
-        sys.exit(f"bottleneck: {forever} isn't the output for {net}")
+        sys.exit(f"bottleneck: {name} isn't the output for {net}")
     print("\n".join(lines))
 
 
