@@ -1,4 +1,4 @@
--- What the code of a sum computes where both denominators are the same: there nothing is scaled.
+-- The computed sum of two numbers with equal denominators.
 use Rattle.std.proofs.Common.{◌≡◌, ℕ, ◌*◌, ◌/◌, ◌<◌, ◌≤◌, ℤ, pos, ◌+ℤ◌, ◌*ℤ◌, nat_abs, refl, sym, ◌∙◌, ap, subst, arith}
 use Rattle.std.proofs.Math.Nat.{div_self}
 use mathlib.Core.Path.{ap₂}
@@ -23,7 +23,7 @@ few_times_one d h = (omega (arith, h), omega arith)
 itself : (k : ℕ) → k ≤ k
 itself k = omega arith
 
--- a numerator, as a call has it
+-- a numerator, scaled by 1
 scaled_by_one : (n a : ℤ) → n ≡ a → nat_abs n ≤ short → (nat_abs (a *ℤ pos 1) ≤ short) × (n ≡ a *ℤ pos 1)
 scaled_by_one n a e h = (subst (λ (z : ℤ). nat_abs z ≤ short) (e ∙ sym (times_one a)) h, e ∙ sym (times_one a))
 
@@ -51,7 +51,7 @@ module _ (x y : ℚ) (d : ℕ) (n m : ℤ) (same : x.den ≡ y.den) (xd : d ≡ 
         ∙ value bits_64 short plain_64 x y d d d 1 1 short (itself short) (sym xd) (sym (xd ∙ same)) (gcd_itself d d refl) one one n m
         (scaled_by_one n x.num xn small) (scaled_by_one m y.num yn other_small) d t (few_times_one d few) w
 
--- ---- in 128 bits, where no sum of two numerators is too long
+-- ---- in 128 bits, which every sum of two numerators fits
 module _ (x y : ℚ) (same : x.den ≡ y.den) where
   left_one : left_over x y ≡ 1
   left_one = ap (λ (k : ℕ). y.den / k) (sym (gcd_itself x.den y.den same)) ∙ div_self {n = y.den} y.positive

@@ -5,12 +5,11 @@ ghost use Rattle.nf_work.specs.Passing.{bound_of};
 ghost use Rattle.nf_frac.specs.Parts.{greatest, IsWithin, IsMade};
 
 use crate::lowest::Lowest;
-use std::alloc::AllocError;
 use std::marker::Model;
 
 /// A rational number as a fraction in lowest terms. The denominator is at least 1. Numerator and denominator are at most 2^b - 1
 /// in magnitude, the bound, where b is BITS, but at least 8 and at most 127. Zero is 0/1.
-#[derive(Copy)]
+#[derive(Clone, Copy)]
 pub struct Frac<const BITS: u32> {
     pub(crate) value: Lowest,
 }
@@ -32,14 +31,6 @@ impl<const BITS: u32> Model for Frac<BITS> {
     ghost invariant = { λ f. IsWithin (bound_of BITS) f.value };
 
     ghost inverse = { λ q. record { value = q } };
-}
-
-impl<const BITS: u32> Clone for Frac<BITS> {
-    ghost is_clone = { λ x y. y ≡ x };
-
-    fn clone(&self) -> Result<Self, AllocError> {
-        Ok(*self)
-    }
 }
 
 // The greatest magnitude of a part.

@@ -10,12 +10,11 @@ ghost use Rattle.nf_frac.specs.Order.{same_ℚ};
 use crate::whole::{
     added, compare_quotients, divided, gcd_of, multiplied, product, shortened, with_sign,
 };
-use std::alloc::AllocError;
 use std::cmp::Ordering;
 use std::marker::Model;
 
 /// A fraction in lowest terms. The denominator is positive, and no part exceeds 2^127 - 1 in magnitude.
-#[derive(Copy)]
+#[derive(Clone, Copy)]
 pub(crate) struct Lowest {
     num: i128,
     den: u128,
@@ -37,14 +36,6 @@ impl Model for Lowest {
     ghost inverse = { λ q. record { num = q.num; den = q.den } };
 
     ghost inverse_ok = { λ a h. λ i. record { num = (parts_back a.num a.den h).0 i; den = (parts_back a.num a.den h).1 i } };
-}
-
-impl Clone for Lowest {
-    ghost is_clone = { λ x y. y ≡ x };
-
-    fn clone(&self) -> Result<Self, AllocError> {
-        Ok(*self)
-    }
 }
 
 impl Lowest {

@@ -11,7 +11,6 @@ ghost use Rattle.nf_frac.specs.Order.{same_ℚ};
 use crate::lowest::Lowest;
 use crate::short::{common_factor, signed_short, times};
 use crate::whole::SHORT;
-use std::alloc::AllocError;
 use std::cmp::Ordering;
 use std::marker::Model;
 
@@ -19,7 +18,7 @@ use std::marker::Model;
 const GREATEST_NUMERATOR: i128 = 0x7fff_ffff_ffff_ffff;
 
 /// A small number: a rational number whose numerator and denominator, in lowest terms, are at most 2^63 - 1 in magnitude.
-#[derive(Copy)]
+#[derive(Clone, Copy)]
 pub struct Small {
     num: i64,
     den: u64,
@@ -40,14 +39,6 @@ impl Model for Small {
     ghost inverse = { λ q. record { num = q.num; den = q.den } };
 
     ghost inverse_ok = { λ a h. λ i. record { num = (short_back a.num a.den h).0 i; den = (short_back a.num a.den h).1 i } };
-}
-
-impl Clone for Small {
-    ghost is_clone = { λ x y. y ≡ x };
-
-    fn clone(&self) -> Result<Self, AllocError> {
-        Ok(*self)
-    }
 }
 
 impl Lowest {

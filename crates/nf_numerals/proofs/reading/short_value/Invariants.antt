@@ -2,7 +2,7 @@ use Rattle.std.proofs.Common.{◌≡◌, ◌<◌, ◌^◌, drop, true}
 use Rattle.nf_numerals.specs.Digits.{are_digits, value_after, value_of}
 use Rattle.nf_numerals.proofs.reading.short_value.Given as goal
 
--- the value has as many digits as were read, and the digits that are left make of it that of all
+-- the value has at most as many digits as were read; followed by the remaining digits it is the number with all digits
 abbrev pub invariant-loop-c : goal.invariant-loop-c
 invariant-loop-c l = record {
   within : l.value < 10 ^ l.c-index;
