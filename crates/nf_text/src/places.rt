@@ -47,7 +47,7 @@ fn far_place_of(bytes: &[u8], wanted: u8) -> usize
     at + place_of(&bytes[at..], wanted)
 }
 
-// How many bytes stand before the first of this one.
+// Returns how many bytes stand before the first of this one.
 fn place_of(bytes: &[u8], wanted: u8) -> usize
     ensures place { result ≡ position_or_len (λ b. b == wanted) bytes.now }
     ensures within { result ≤ length bytes.now }
@@ -60,7 +60,7 @@ fn place_of(bytes: &[u8], wanted: u8) -> usize
     bytes.len()
 }
 
-/// How many bytes stand before the first blank.
+/// Returns how many bytes stand before the first blank.
 pub fn word_len(line: &[u8]) -> usize
     ensures place { result ≡ position_or_len is_blank line.now }
     ensures within { result ≤ length line.now }
@@ -73,7 +73,7 @@ pub fn word_len(line: &[u8]) -> usize
     line.len()
 }
 
-/// How many bytes stand before the comment.
+/// Returns how many bytes stand before the comment.
 pub fn comment_start(line: &[u8]) -> usize
     ensures place { result ≡ position_or_len (λ b. b == 35) line.now }
     ensures within { result ≤ length line.now }
@@ -81,7 +81,7 @@ pub fn comment_start(line: &[u8]) -> usize
     far_place_of(line, b'#')
 }
 
-/// How many bytes stand before the first LF.
+/// Returns how many bytes stand before the first LF.
 pub fn line_len(text: &[u8]) -> usize
     ensures place { result ≡ position_or_len (λ b. b == 10) text.now }
     ensures within { result ≤ length text.now }
