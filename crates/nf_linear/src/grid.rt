@@ -34,7 +34,7 @@ impl<const N: usize> Model for Grid<N> {
     ghost invariant = { λ t. (N ≤ 32) × (t.size ≤ N) × IsSquare (take t.size t.rows) };
 }
 
-/// What is found of a system on a grid.
+/// The number of solutions of a system.
 #[derive(Clone, Copy)]
 pub enum Eliminated {
     /// There is one solution.
@@ -75,7 +75,7 @@ impl<const N: usize> Grid<N> {
         Grid { rows, size }
     }
 
-    /// The number of a row for an unknown becomes this one.
+    /// Sets the number of a row for an unknown. Both indices must be below the number of unknowns.
     pub fn set(&mut self, row: u32, column: u32, value: Q)
         requires row { row < length self.old }
         requires column { column < length self.old }
@@ -85,7 +85,7 @@ impl<const N: usize> Grid<N> {
         set_at(&mut self.rows[..size], row as usize, column as usize, value);
     }
 
-    /// The right side of a row becomes this number.
+    /// Sets the right side of a row, whose index must be below the number of unknowns.
     pub fn set_right(&mut self, row: u32, value: Q)
         requires { row < length self.old }
         ensures { self.new ≡ set self.old row (set (row_at self.old row) (length self.old) value) }

@@ -42,7 +42,7 @@ impl<S: Scalar> Table<S> {
         Ok(Table { rows })
     }
 
-    /// The number of a row for an unknown becomes this one.
+    /// Sets the number of a row for an unknown. Both indices must be below the number of unknowns.
     pub fn set(&mut self, row: u32, column: u32, value: S)
         requires row { row < length self.old }
         requires column { column < length self.old }
@@ -52,7 +52,7 @@ impl<S: Scalar> Table<S> {
         changed.set(column as usize, value);
     }
 
-    /// The right side of a row becomes this number.
+    /// Sets the right side of a row, whose index must be below the number of unknowns.
     pub fn set_right(&mut self, row: u32, value: S)
         requires { row < length self.old }
         ensures { self.new ≡ set self.old row (set (row_at self.old row) (length self.old) (S.means value)) }

@@ -1,4 +1,4 @@
-// What the lines of a loads file say so far.
+// The lines of a loads file that are read so far.
 ghost use Rattle.std.specs.Prelude.{◌≡◌, ◌++◌, [], ◌∷◌, length, Ok, Err, IfOk, OnOk, MatchResult};
 ghost use Rattle.nf_side_lists.specs.Frame.{in_line};
 ghost use Rattle.nf_readings.specs.LoadsFile.{empty_loads, rule_behind, load_rule_of, load_after, add_load, if_ended};
@@ -17,7 +17,7 @@ use std::alloc::{AllocError, Global};
 /// The most lines of a link.
 const MOST_LINES: usize = 200;
 
-/// What the lines so far say: of each link its pieces, and whether there was an `end` line.
+/// The lines that are read so far: of each link its pieces, whether there was an `end` line, and the link of the last `rate` line.
 #[derive(Drop)]
 pub struct Draft {
     pub pieces: Vec<Pieces>,

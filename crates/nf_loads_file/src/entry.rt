@@ -9,7 +9,7 @@ use nf_net::{LinkId, Network, Piece};
 use nf_readings::LoadRule;
 use nf_side_files::{ReadLine, is_word, link_near, number_of};
 
-/// What a line says: a piece of a link, or the end.
+/// A line says that a link has a piece, or that the file ends.
 #[derive(Clone, Copy)]
 pub enum Entry {
     Rate(LinkId, Piece),
@@ -50,7 +50,7 @@ fn read_end(line: &ReadLine) -> Result<(), LoadRule>
     Ok(())
 }
 
-/// What the words of a line say, or the first of L5 to L8 that they break.
+/// Returns what the words of a line say, or the first of L5 to L8 that they break. The name of the link `near` is compared first.
 pub fn read_entry(net: &Network, line: &ReadLine, near: LinkId) -> Result<Entry, LoadRule>
     ensures says { load_entry net.now.link_names line.now.words ≡ said_by seen_entry result }
     ensures link { IfOk result (λ entry. HasLink (length net.now.link_names) (seen_entry entry)) }

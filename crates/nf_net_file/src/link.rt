@@ -30,7 +30,7 @@ impl Model for Link {
     ghost inverse = { λ l. record { tail = l.tail; head = l.head; transit = l.transit; capacity = l.capacity } };
 }
 
-/// From its start on the source is supplied at this rate, an amount per unit of time, until the next start.
+/// A piece of the supply: the source is supplied at `rate`, an amount per unit of time, from the time `start` until the next piece starts.
 #[derive(Clone, Copy)]
 pub struct Piece {
     pub start: Q,
@@ -50,7 +50,7 @@ impl Model for Piece {
     ghost inverse = { λ p. record { start = p.start; rate = p.rate } };
 }
 
-/// A link with its name and those of its ends.
+/// A link by names: its own and those of its ends. Readers use it until links have numbers, and for idle links.
 #[derive(Drop)]
 pub struct NamedLink {
     pub name: Name,

@@ -41,8 +41,8 @@ fn solve_on<const N: usize>(
     solve_grid(&mut grid, values)
 }
 
-/// Whether the table of a pattern has one solution, and the values of its unknowns then; or the first operation that passes. It is
-/// solved on the least grid that the unknowns fit.
+/// Returns whether the equations of a pattern have one solution, which `values` then holds, or the first operation that passes. They
+/// are solved on the smallest grid that has room for the unknowns.
 pub fn solve_pattern(
     count: u32,
     net: &Network,

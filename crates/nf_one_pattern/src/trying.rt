@@ -27,7 +27,7 @@ use nf_net::Network;
 use nf_pattern::Pattern;
 use std::alloc::{AllocError, Global};
 
-/// What comes of a pattern, where its flows and slopes are written into slices.
+/// The result of `try_pattern`, which writes flows and slopes into slices.
 #[derive(Clone, Copy)]
 pub enum Tried {
     /// The pattern is accepted, with the flows and slopes in the slices.
@@ -36,7 +36,7 @@ pub enum Tried {
     NotSolvable,
 }
 
-/// What comes of a pattern, with its flows and slopes.
+/// The result of `try_one`, with flows and slopes.
 #[derive(Drop)]
 pub enum Outcome {
     /// The pattern is accepted: flows of the links, and slopes of the nodes.

@@ -24,7 +24,7 @@ fn label_of(labels: &[Q], node: NodeId) -> Q
     labels[node.index()]
 }
 
-// How much later the label of the link's head is than that of its tail with the transit time.
+// Returns the slack of a link: the label of its head, less the sum of its tail's label and its transit time.
 #[tactic(auto, unfolding(nf_lists::specs::Slack::slack_of))]
 fn slack(labels: &[Q], hop: &Hop) -> Result<Q, PassedAt<Q>>
     requires tail { hop.now.tail < length labels.now }
@@ -85,7 +85,8 @@ fn resetting_flags(alloc: Global, slacks: &[Q]) -> Result<Vec<bool>, AllocError>
         .collect(alloc)
 }
 
-/// The links that are active, those with a slack of at least 0, and those that are resetting, with a slack above 0.
+/// Returns which links are active, those with a slack of at least 0, and which are resetting, those with a slack above 0. Fails only
+/// if an allocation fails.
 pub fn sets(alloc: Global, slacks: &[Q]) -> Result<LinkSets, AllocError>
     ensures { IfOk result (λ sets. sets ≡ sets_of slacks.now) }
 {

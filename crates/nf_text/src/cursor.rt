@@ -11,7 +11,7 @@ use crate::reading::read_line;
 use std::alloc::Global;
 use std::marker::Model;
 
-/// A place in a text, at which a line begins: the lines from there on are still to come.
+/// A cursor stands at the beginning of a line of a text, and reads the lines from there on.
 #[derive(Drop)]
 pub struct Cursor<'a> {
     text: &'a [u8],
@@ -35,7 +35,7 @@ impl<'a> Model for Cursor<'a> {
 }
 
 impl<'a> Cursor<'a> {
-    /// All lines of a text of at most 67,108,864 bytes.
+    /// Makes the cursor at the beginning of a text, which must have at most 67,108,864 bytes.
     pub fn new(text: &'a [u8]) -> Cursor<'a>
         requires { length text.now ≤ longest_text }
         ensures { result ≡ lines_of text.now }
