@@ -13,7 +13,7 @@ use nf_frac::{Q, TextBuf};
 use nf_net::{LinkId, Network};
 use nf_report::{Page, put_line, put_states};
 
-// The line of a link's flow.
+// Puts the line of a link's flow.
 fn put_flow<O: Sink>(
     out: &mut O,
     page: &mut Page,
@@ -22,7 +22,7 @@ fn put_flow<O: Sink>(
     flow: Q,
 ) -> Result<(), SinkFault>
     requires { link < length net.now.net.links }
-    ensures { GatheredLines (O.took out.old) (O.took out.new) (O.faults out.old) (O.faults out.new) page.old.items page.new.items
+    ensures { GatheredLines (O.took out.old) (O.took out.new) (O.faults out.old) (O.faults out.new) page.old page.new
         ((codes "flow" ∷ name_at net.now.link_names link ∷ printed flow ∷ []) ∷ []) result }
 {
     let name = net.link_name(LinkId(link)).as_bytes();
@@ -31,7 +31,7 @@ fn put_flow<O: Sink>(
     put_line(out, page, b"flow", &[name, word.text()])
 }
 
-// The lines of the flows of all links.
+// Puts the lines of the flows of all links.
 fn put_flows<O: Sink>(
     out: &mut O,
     page: &mut Page,
@@ -39,7 +39,7 @@ fn put_flows<O: Sink>(
     flows: &[Q],
 ) -> Result<(), SinkFault>
     requires { length flows.now ≡ length net.now.net.links }
-    ensures { GatheredLines (O.took out.old) (O.took out.new) (O.faults out.old) (O.faults out.new) page.old.items page.new.items
+    ensures { GatheredLines (O.took out.old) (O.took out.new) (O.faults out.old) (O.faults out.new) page.old page.new
         (for_each (length net.now.net.links) (flow_line net.now flows.now)) result }
 {
     for link in 0..net.link_count() {
@@ -48,7 +48,7 @@ fn put_flows<O: Sink>(
     Ok(())
 }
 
-// All lines: the states, the flows and the end.
+// Puts all lines: the states, the flows and the end.
 fn put_settled<O: Sink>(
     out: &mut O,
     page: &mut Page,
@@ -57,7 +57,7 @@ fn put_settled<O: Sink>(
 ) -> Result<(), SinkFault>
     requires flows { length settled.now.flows.items ≡ length net.now.net.links }
     requires states { length settled.now.pattern ≡ length net.now.net.links }
-    ensures { GatheredLines (O.took out.old) (O.took out.new) (O.faults out.old) (O.faults out.new) page.old.items page.new.items
+    ensures { GatheredLines (O.took out.old) (O.took out.new) (O.faults out.old) (O.faults out.new) page.old page.new
         (settled_lines net.now settled.now.pattern settled.now.flows.items) result }
 {
     put_states(out, page, net, &settled.pattern)?;
@@ -65,8 +65,9 @@ fn put_settled<O: Sink>(
     put_line(out, page, b"end", &[])
 }
 
-/// Writes what a thin flow is settled to: the states of the links that have one, and the flows of all links, which are rates. Where the sink
-/// fails, it has taken the first bytes, and not all of them. It takes no memory.
+/// Writes a settled thin flow: the states of the links that have one, and the flows of all links, which are rates. Allocates nothing.
+///
+/// It must have a state entry and a flow for each link. The first fault ends the writing; the sink then took a proper prefix of the text.
 pub fn write_settled<O: Sink>(
     out: &mut O,
     net: &Network,

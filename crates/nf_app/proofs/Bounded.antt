@@ -11,7 +11,7 @@ use Rattle.nf_gen.specs.Ladder.{ladder}
 use Rattle.nf_answers.specs.declared.status.Status.{Status}
 use Rattle.nf_answers.specs.Answers.{ProgramAnswer, status_of, status_of_stop, status_of_forever, status_of_verdict}
 use Rattle.nf_outside.specs.Files.{network_file, report_file}
-use Rattle.nf_outside.specs.Sinks.{Taken}
+use Rattle.nf_outside.specs.Sinks.{Took}
 use Rattle.nf_outside.specs.Shown.{IsShown}
 use Rattle.nf_command_line.specs.Requests.{Solve, SolveForever, Gen, Resume}
 use Rattle.nf_app.specs.Runs.{Call, IsAnswer}
@@ -83,14 +83,14 @@ module _ (call : Call) (no_fault : ¬ Rose call.shelf.faults_before call.shelf.f
         can.file (report_file can.report_name ∷ []) refl refl can.network (OrNoPattern EndsRest) (inl (inl (inr (inr (inr (inr refl)))))) given_ends answer comes)
 
 -- ---- a whole run
-pub bounded_by_text : (call : Call) (out err : Taken) (status : Status) (answer : ProgramAnswer) → IsAnswer call answer → IsShown answer out err status → EndsByBounds call out status
+pub bounded_by_text : (call : Call) (out err : Took) (status : Status) (answer : ProgramAnswer) → IsAnswer call answer → IsShown answer out err status → EndsByBounds call out status
 bounded_by_text call out err status answer comes shown no_fault takes = (
   (λ can. taken_well EndsRun out takes answer err status (run_ends_well call no_fault can answer comes) shown),
   (λ can. taken_well EndsForever out takes answer err status (forever_ends_well call no_fault can answer comes) shown),
   (λ can. taken_well EndsRest out takes answer err status (rest_ends_well call no_fault can answer comes) shown),
 )
 
-pub bounded_by_refusal : (call : Call) (out : Taken) (status : Status) (answer : ProgramAnswer) → IsAnswer call answer → status ≡ status_of answer → EndsByBounds call out status
+pub bounded_by_refusal : (call : Call) (out : Took) (status : Status) (answer : ProgramAnswer) → IsAnswer call answer → status ≡ status_of answer → EndsByBounds call out status
 bounded_by_refusal call out status answer comes is no_fault takes = (
   (λ can. subst (λ (s : Status). EndsRun s) (sym is) (run_ends_well call no_fault can answer comes)),
   (λ can. subst (λ (s : Status). EndsForever s) (sym is) (forever_ends_well call no_fault can answer comes)),

@@ -10,10 +10,13 @@ use Rattle.nf_formats.specs.WellNamed.{IsNamed}
 use Rattle.nf_answers.specs.declared.outcome.Computed.{Computed}
 use Rattle.nf_answers.specs.declared.outcome.Outcome.{Outcome}
 use Rattle.nf_answers.specs.declared.refusal.Refusal.{Refusal}
-use Rattle.nf_answers.specs.Answers.{ProgramAnswer, NoMemory, out_text}
+use Rattle.nf_answers.specs.declared.status.Status.{Status}
+use Rattle.nf_answers.specs.Answers.{ProgramAnswer, NoMemory, status_of, out_text, err_text}
 use Rattle.nf_answers.specs.Refusals.{answer_of}
 use Rattle.nf_outside.specs.Files.{Wanted, Visit, Fits, FetchedNone, FetchedAll, FetchedTo}
 use Rattle.nf_outside.specs.Fetching.{IsLastText, NetworkReads, AreRead}
+use Rattle.nf_outside.specs.Sinks.{Took, TookAll, TookText}
+use Rattle.nf_outside.specs.Shown.{IsShown}
 use Rattle.nf_outside.proofs.Networks.{all_reached}
 use Rattle.nf_command_line.specs.Requests.{Request, request_of}
 use Rattle.nf_app.specs.Requests.{files_of, generated_by}
@@ -132,7 +135,7 @@ module _ (call : Call) (request : Request) (n : Named) (named : IsNamed n) (read
   pub given : (r : Result Computed Refusal) → IsGiving call.shelf n request r → (out : Result Outcome Refusal) → out ≡ with_net n r → IsAnswered call out
   given r g out e = subst (λ (o : Result Outcome Refusal). IsAnswered call o) (sym e) (given_with r g)
 
--- ---- where there is no text, a sink takes nothing
+-- ---- a refusal has no text, so a sink that took nothing took it whole
 pub no_text : (refusal : Refusal) → out_text (answer_of refusal) ≡ []
 no_text Refusal.NoMemory = refl
 no_text Refusal.NoRequest = refl
@@ -154,3 +157,7 @@ nothing_more (Some bytes) = ap Some (sym (append-nil bytes))
 
 pub took_no_text : (took : Option (List ℕ)) (refusal : Refusal) → took ≡ with_more took (out_text (answer_of refusal))
 took_no_text took refusal = nothing_more took ∙ ap (λ (text : List ℕ). with_more took text) (sym (no_text refusal))
+
+pub refused_shown : (answer : ProgramAnswer) (out err : Took) (status : Status) → TookAll out (out_text answer) → out.faults_now ≡ out.faults_before
+    → status ≡ status_of answer → TookText err (err_text answer) → IsShown answer out err status
+refused_shown answer out err status took none is told = inl (record { status_is = is; out = record { all = took; no_fault = none }; err = told })

@@ -19,7 +19,7 @@ use Rattle.nf_answers.specs.declared.status.Status.{Status}
 use Rattle.nf_answers.specs.Answers.{ProgramAnswer, Checked, status_of, out_text}
 use Rattle.nf_outside.specs.Files.{network_file, report_file}
 use Rattle.nf_outside.specs.Fetching.{NetworkReads}
-use Rattle.nf_outside.specs.Sinks.{Taken, TookAll}
+use Rattle.nf_outside.specs.Sinks.{Took, TookAll}
 use Rattle.nf_outside.specs.Shown.{IsShown, IsShownWhole}
 use Rattle.nf_command_line.specs.Requests.{Request, Solve, Check, request_of}
 use Rattle.nf_app.specs.Requests.{files_of, generated_by}
@@ -46,8 +46,8 @@ one_text before text other e = append_cancel_left before text other (same_Some (
 -- ---- what the earlier call gave
 module _ (call : Call) (file text : List ℕ) (s : WasSolved call.shelf file text) where
   taken_so : IsShown s.ran.answer s.out s.err s.status → (status_of s.ran.answer ≡ Status.Ok) × TookAll s.out (out_text s.ran.answer)
-  taken_so (inl h) = (sym h.0 ∙ s.whole, h.1)
-  taken_so (inr h) = absurd (output_or_ok s.status h.0 s.whole)
+  taken_so (inl h) = (sym h.status_is ∙ s.whole, h.out.all)
+  taken_so (inr h) = absurd (output_or_ok s.status h.status_is s.whole)
 
   taken : (status_of s.ran.answer ≡ Status.Ok) × TookAll s.out (out_text s.ran.answer)
   taken = taken_so s.ran.shown
@@ -127,12 +127,12 @@ module _ (call : Call) (c : ChecksSolved call) (no_fault : ¬ Rose call.shelf.fa
   text_so answer comes ok = yes_text answer
       (yes_given answer (given_well call (Check c.file c.report_name) c.asks c.file (report_file c.report_name ∷ []) refl refl network answer comes ok)) ok
 
-  said : (answer : ProgramAnswer) (out err : Taken) (status : Status) → IsAnswer call answer → IsShownWhole answer out err status → Ends (status_of answer)
+  said : (answer : ProgramAnswer) (out err : Took) (status : Status) → IsAnswer call answer → IsShownWhole answer out err status → Ends (status_of answer)
       → ((status ≡ Status.Ok) × TookAll out (line_of_words (codes "yes" ∷ []))) ⊎ (status ≡ Status.Passed) ⊎ (status ≡ Status.Memory)
-  said answer out err status comes shown (inl ok) = inl (shown.0 ∙ ok, subst (λ (t : List ℕ). TookAll out t) (text_so answer comes ok) shown.1)
-  said answer out err status comes shown (inr (inl e)) = inr (inl (shown.0 ∙ e))
-  said answer out err status comes shown (inr (inr e)) = inr (inr (shown.0 ∙ e))
+  said answer out err status comes shown (inl ok) = inl (shown.status_is ∙ ok, subst (λ (t : List ℕ). TookAll out t) (text_so answer comes ok) shown.out.all)
+  said answer out err status comes shown (inr (inl e)) = inr (inl (shown.status_is ∙ e))
+  said answer out err status comes shown (inr (inr e)) = inr (inr (shown.status_is ∙ e))
 
-pub says_yes : (call : Call) (out err : Taken) (status : Status) → Ran call out err status → SaysYes call out status
+pub says_yes : (call : Call) (out err : Took) (status : Status) → Ran call out err status → SaysYes call out status
 says_yes call out err status ran c no_fault takes =
     said call c no_fault ran.answer out err status ran.comes (whole ran.answer out err status takes ran.shown) (ends call c no_fault ran.answer ran.comes)

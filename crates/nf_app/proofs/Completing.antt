@@ -9,6 +9,7 @@ use Rattle.nf_rational_laws.proofs.Order.{not_both_ℚ}
 use Rattle.nf_work.specs.Passing.{passes_Q}
 use Rattle.nf_work.specs.declared.PassedAt.{PassedAt}
 use Rattle.nf_edge.specs.Faults.{Rose}
+use Rattle.nf_edge.proofs.Rising.{rose}
 use Rattle.nf_model.specs.Network.{Piece}
 use Rattle.nf_model.specs.Equilibrium.{Equilibrium}
 use Rattle.nf_formats.specs.declared.Cause.{Cause}
@@ -37,7 +38,7 @@ use Rattle.nf_answers.specs.Answers.{ProgramAnswer, Solved, SolvedForever, Shown
 use Rattle.nf_app.specs.SettleGiven.{FlowsRead}
 use Rattle.nf_app.specs.RoutesGiven.{RoutesRead, by_route_list}
 use Rattle.nf_app.specs.Given.{LoadsRead, loading_list, IsGiven}
-use Rattle.nf_outside.specs.Sinks.{Taken}
+use Rattle.nf_outside.specs.Sinks.{Took}
 use Rattle.nf_app.specs.Runs.{Call, Asks, Reached, Read, IsRefused, IsAnswer}
 use Rattle.nf_outside.specs.Fetching.{NetworkReads}
 use Rattle.nf_outside.specs.Shown.{IsShown}
@@ -318,13 +319,13 @@ module _ (call : Call) (no_fault : ¬ Rose call.shelf.faults_before call.shelf.f
       (All-cons (Tells call.shelf) (report_file can.report_name) [] can.report.tells (All-nil (Tells call.shelf))))
       can.file (report_file can.report_name ∷ []) refl refl can.network (OrNoPattern EndsResumed) (inl (inr (inr (inr refl)))) gone_well answer comes)
 
-pub taken_well : (Ends : Status → Type 0) (out : Taken) → ¬ Rose out.faults_before out.faults_now → (answer : ProgramAnswer) (err : Taken) (status : Status) → Ends (status_of answer)
+pub taken_well : (Ends : Status → Type 0) (out : Took) → ¬ Rose out.faults_before out.faults_now → (answer : ProgramAnswer) (err : Took) (status : Status) → Ends (status_of answer)
     → IsShown answer out err status → Ends status
-taken_well Ends out takes answer err status well (inl h) = subst (λ (s : Status). Ends s) (sym h.0) well
-taken_well Ends out takes answer err status well (inr h) = absurd (takes h.2.cause)
+taken_well Ends out takes answer err status well (inl h) = subst (λ (s : Status). Ends s) (sym h.status_is) well
+taken_well Ends out takes answer err status well (inr h) = absurd (takes (rose out.faults_before out.faults_now h.out.cause))
 
 -- an answer with a text was given
-pub complete_by_text : (call : Call) (out err : Taken) (status : Status) (answer : ProgramAnswer) → IsAnswer call answer → IsShown answer out err status → IsComplete call out status
+pub complete_by_text : (call : Call) (out err : Took) (status : Status) (answer : ProgramAnswer) → IsAnswer call answer → IsShown answer out err status → IsComplete call out status
 complete_by_text call out err status answer comes shown no_fault takes = (
   (λ can. taken_well EndsWell out takes answer err status (ends_well call no_fault can answer comes) shown),
   (λ can. taken_well EndsJudged out takes answer err status (checked_well call no_fault can answer comes) shown),
@@ -334,7 +335,7 @@ complete_by_text call out err status answer comes shown no_fault takes = (
 )
 
 -- there is no text
-pub complete_by_refusal : (call : Call) (out : Taken) (status : Status) (answer : ProgramAnswer) → IsAnswer call answer → status ≡ status_of answer → IsComplete call out status
+pub complete_by_refusal : (call : Call) (out : Took) (status : Status) (answer : ProgramAnswer) → IsAnswer call answer → status ≡ status_of answer → IsComplete call out status
 complete_by_refusal call out status answer comes is no_fault takes = (
   (λ can. subst (λ (s : Status). EndsWell s) (sym is) (ends_well call no_fault can answer comes)),
   (λ can. subst (λ (s : Status). EndsJudged s) (sym is) (checked_well call no_fault can answer comes)),

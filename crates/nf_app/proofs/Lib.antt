@@ -19,4 +19,5 @@ pub mod Bounded
 pub mod ToldOnce
 pub mod ToldGiven
 pub mod Only
+pub mod Output
 pub mod Chained

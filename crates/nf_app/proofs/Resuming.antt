@@ -21,7 +21,7 @@ use Rattle.nf_answers.specs.declared.status.Status.{Status}
 use Rattle.nf_answers.specs.Answers.{ProgramAnswer, Solved, SolvedForever, Shown, Loaded, Checked, Quickest, TooManyWalks, Generated, Settled, Distributed, NoMemory, NoRequest, ShelfFailed, ShelfTooLong, Malformed, MalformedLoads, MalformedFlows, MalformedRoutes, MalformedReport, Passes, Unbounded, NotThin, Earlier, status_of, status_of_stop, out_text}
 use Rattle.nf_outside.specs.Files.{Wanted, network_file, report_file}
 use Rattle.nf_outside.specs.Fetching.{NetworkReads}
-use Rattle.nf_outside.specs.Sinks.{Taken, TookAll}
+use Rattle.nf_outside.specs.Sinks.{Took, TookAll}
 use Rattle.nf_outside.specs.Shown.{IsShown}
 use Rattle.nf_app.specs.Requests.{budgets_of, files_of, generated_by}
 use Rattle.nf_app.specs.Reports.{HoldsReport}
@@ -127,18 +127,18 @@ module _ (call : Call) (r : IsResumption call) where
       other : status_of answer ≡ Status.Malformed → status_of answer ≡ Status.Ok → ⊥
       other h k = cc
 
-  taken_whole : (answer : ProgramAnswer) (out err : Taken) (status : Status) → IsAnswer call answer → IsShown answer out err status → status ≡ Status.Ok → TookAll out (report_text n r.later.report)
+  taken_whole : (answer : ProgramAnswer) (out err : Took) (status : Status) → IsAnswer call answer → IsShown answer out err status → status ≡ Status.Ok → TookAll out (report_text n r.later.report)
   taken_whole answer out err status comes (inl h) e =
-      let well : status_of answer ≡ Status.Ok = sym h.0 ∙ e in
+      let well : status_of answer ≡ Status.Ok = sym h.status_is ∙ e in
       subst (λ (text : List ℕ). TookAll out text)
-      (whole_text answer (given_well call (Resume r.file r.report_name r.horizon r.phases r.patterns) r.asks r.file (report_file r.report_name ∷ []) refl refl r.network answer comes well) well) h.1
-  taken_whole answer out err status comes (inr h) e = absurd (other h.0 e)
+      (whole_text answer (given_well call (Resume r.file r.report_name r.horizon r.phases r.patterns) r.asks r.file (report_file r.report_name ∷ []) refl refl r.network answer comes well) well) h.out.all
+  taken_whole answer out err status comes (inr h) e = absurd (other h.status_is e)
     where
       other : status ≡ Status.Output → status ≡ Status.Ok → ⊥
       other f k = cc
 
 -- of a run of the program
-pub resumption_written : (call : Call) (out err : Taken) (status : Status) → Ran call out err status → (r : IsResumption call) → status ≡ Status.Ok
+pub resumption_written : (call : Call) (out err : Took) (status : Status) → Ran call out err status → (r : IsResumption call) → status ≡ Status.Ok
     → TookAll out (report_text r.network.net r.later.report)
 resumption_written call out err status ran r e = taken_whole call r ran.answer out err status ran.comes ran.shown e
 

@@ -16,7 +16,7 @@ use Rattle.nf_answers.specs.declared.arrival.Arrival.{Arrival}
 use Rattle.nf_answers.specs.declared.status.Status.{Status}
 use Rattle.nf_answers.specs.Answers.{ProgramAnswer, Solved, SolvedForever, Shown, Loaded, Checked, Quickest, TooManyWalks, Generated, Settled, Distributed, NoMemory, NoRequest, ShelfFailed, ShelfTooLong, Malformed, MalformedLoads, MalformedFlows, MalformedRoutes, MalformedReport, Passes, Unbounded, NotThin, Earlier, status_of, status_of_stop, status_of_forever, status_of_verdict}
 use Rattle.nf_outside.specs.Files.{Visit}
-use Rattle.nf_outside.specs.Sinks.{Taken}
+use Rattle.nf_outside.specs.Sinks.{Took}
 use Rattle.nf_outside.specs.Shown.{IsShown}
 use Rattle.nf_command_line.specs.Requests.{Request, Solve, SolveForever, Show, Load, Check, Quick, Gen, Settle, Resume, Routes}
 use Rattle.nf_app.specs.Requests.{usual_budgets}
@@ -143,6 +143,6 @@ output_other status o e = absurd (cc)
 pub never_by_refusal : (call : Call) (status : Status) (answer : ProgramAnswer) → IsAnswer call answer → status ≡ status_of answer → AlwaysHasPattern call status
 never_by_refusal call status answer comes is = record { stops = answer_never call; not_status = λ e. status_never call answer comes (sym is ∙ e) }
 
-pub never_by_text : (call : Call) (out err : Taken) (status : Status) (answer : ProgramAnswer) → IsAnswer call answer → IsShown answer out err status → AlwaysHasPattern call status
-never_by_text call out err status answer comes (inl h) = never_by_refusal call status answer comes h.0
-never_by_text call out err status answer comes (inr h) = record { stops = answer_never call; not_status = output_other status h.0 }
+pub never_by_text : (call : Call) (out err : Took) (status : Status) (answer : ProgramAnswer) → IsAnswer call answer → IsShown answer out err status → AlwaysHasPattern call status
+never_by_text call out err status answer comes (inl h) = never_by_refusal call status answer comes h.status_is
+never_by_text call out err status answer comes (inr h) = record { stops = answer_never call; not_status = output_other status h.status_is }

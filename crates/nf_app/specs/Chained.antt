@@ -5,7 +5,7 @@ use Rattle.nf_edge.specs.Faults.{Rose}
 use Rattle.nf_lines.specs.Words.{line_of_words}
 use Rattle.nf_answers.specs.declared.status.Status.{Status}
 use Rattle.nf_outside.specs.Files.{Visit, network_file, report_file}
-use Rattle.nf_outside.specs.Sinks.{Taken, TookAll}
+use Rattle.nf_outside.specs.Sinks.{Took, TookAll}
 use Rattle.nf_command_line.specs.Requests.{Solve, Check}
 use Rattle.nf_app.specs.Runs.{Call, Asks, Ran}
 use Rattle.nf_app.specs.Completeness.{Tells}
@@ -14,8 +14,8 @@ use Rattle.nf_app.specs.Completeness.{Tells}
 -- took this text
 pub record WasSolved (shelf : Visit) (file text : List ℕ) : Type 0 where
   pub call : Call
-  pub out : Taken
-  pub err : Taken
+  pub out : Took
+  pub err : Took
   pub status : Status
   pub ran : Ran call out err status
   pub horizon : ℚ
@@ -38,7 +38,7 @@ pub record ChecksSolved (call : Call) : Type 0 where
   pub solved : WasSolved call.shelf file report.text
 
 -- Where neither the shelf nor the output failed in the call, the answer is `yes`, unless an operation passed or memory was wanting.
-abbrev pub SaysYes : Call → Taken → Status → Type 0
+abbrev pub SaysYes : Call → Took → Status → Type 0
 SaysYes call out status = ChecksSolved call → ¬ Rose call.shelf.faults_before call.shelf.faults_now
     → ¬ Rose out.faults_before out.faults_now
     → ((status ≡ Status.Ok) × TookAll out (line_of_words (codes "yes" ∷ []))) ⊎ (status ≡ Status.Passed) ⊎ (status ≡ Status.Memory)

@@ -33,7 +33,7 @@ use Rattle.nf_app.specs.QuickGiven.{PassesQuick}
 use Rattle.nf_app.specs.SettleGiven.{PassesSettling}
 use Rattle.nf_app.specs.RoutesGiven.{by_route_list}
 use Rattle.nf_app.specs.ResumeGiven.{IsGoneOn, PassesResuming}
-use Rattle.nf_outside.specs.Sinks.{Taken}
+use Rattle.nf_outside.specs.Sinks.{Took}
 use Rattle.nf_app.specs.Told.{TellsWithin}
 use Rattle.nf_app.specs.Runs.{Call, Asks}
 
@@ -213,7 +213,7 @@ EndsResumed status = (status ≡ Status.Ok) ⊎ (status ≡ Status.Phases) ⊎ (
 
 -- Where neither the shelf nor the output failed in the call, the whole text was taken, of a report and of the summary of `gen` up to the
 -- horizon, or memory was wanting.
-abbrev pub IsComplete : Call → Taken → Status → Type 0
+abbrev pub IsComplete : Call → Took → Status → Type 0
 IsComplete call out status = ¬ Rose call.shelf.faults_before call.shelf.faults_now → ¬ Rose out.faults_before out.faults_now
     → (HasAnswer call → EndsWell status) × (CanBeJudged call → EndsJudged status) × (CanBeQuick call → EndsQuick status)
     × (CanBeSettled call → EndsSettled status)
@@ -274,7 +274,7 @@ abbrev pub EndsRest : Status → Type 0
 EndsRest status = EndsRun status ⊎ (status ≡ Status.NotEquilibrium) ⊎ (status ≡ Status.Earlier)
 
 -- Where neither the shelf nor the output failed in the call, a run ends so.
-abbrev pub EndsByBounds : Call → Taken → Status → Type 0
+abbrev pub EndsByBounds : Call → Took → Status → Type 0
 EndsByBounds call out status = ¬ Rose call.shelf.faults_before call.shelf.faults_now → ¬ Rose out.faults_before out.faults_now
     → (AsksToSolve call ⊎ AsksToGenerate call → EndsRun status) × (AsksForever call → EndsForever status)
     × (AsksToResume call → EndsRest status)

@@ -14,6 +14,7 @@ pub mod Told
 pub mod Completeness
 pub mod Uniqueness
 pub mod Only
+pub mod Output
 pub mod Chained
 pub mod Outcomes
 pub mod Settling

@@ -7,7 +7,7 @@ use Rattle.nf_answers.specs.declared.status.Status.{Status}
 use Rattle.nf_answers.specs.Answers.{ProgramAnswer, NoMemory, NoRequest, ShelfFailed, ShelfTooLong, Malformed}
 use Rattle.nf_outside.specs.Files.{Wanted, Visit, FetchedNone, FetchedAll, FetchedTo, Failed, HasTooMany}
 use Rattle.nf_outside.specs.Fetching.{NetworkReads}
-use Rattle.nf_outside.specs.Sinks.{Taken}
+use Rattle.nf_outside.specs.Sinks.{Took}
 use Rattle.nf_outside.specs.Shown.{IsShown}
 use Rattle.nf_command_line.specs.Requests.{Request, request_of}
 use Rattle.nf_app.specs.Requests.{files_of, generated_by}
@@ -55,7 +55,7 @@ abbrev pub IsAnswer : Call → ProgramAnswer → Type 0
 IsAnswer call answer = IsRefused call answer ⊎ IsComputed call answer
 
 -- ---- a whole run: it gave an answer where that comes, and its status and its sinks show it
-pub record Ran (call : Call) (out err : Taken) (status : Status) : Type 0 where
+pub record Ran (call : Call) (out err : Took) (status : Status) : Type 0 where
   pub answer : ProgramAnswer
   pub comes : IsAnswer call answer
   pub shown : IsShown answer out err status

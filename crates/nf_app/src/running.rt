@@ -4,7 +4,7 @@ ghost use Rattle.nf_edge.specs.Names.{texts};
 ghost use Rattle.nf_formats.specs.Report.{report_text};
 ghost use Rattle.nf_answers.specs.declared.status.Status.TheVariants as Status;
 ghost use Rattle.nf_outside.specs.Files.{visit};
-ghost use Rattle.nf_outside.specs.Sinks.{taken, TookAll};
+ghost use Rattle.nf_outside.specs.Sinks.{took_of, TookAll};
 ghost use Rattle.nf_app.specs.Runs.{Ran};
 ghost use Rattle.nf_app.specs.Completeness.{IsComplete, EndsByBounds};
 ghost use Rattle.nf_app.specs.Stops.{AlwaysHasPattern};
@@ -12,6 +12,7 @@ ghost use Rattle.nf_app.specs.Resumption.{IsResumption, ResumesAsOne};
 ghost use Rattle.nf_app.specs.Uniqueness.{AnswerIsSameInAll};
 ghost use Rattle.nf_app.specs.Only.{ShowsOnlyThat};
 ghost use Rattle.nf_app.specs.Chained.{SaysYes};
+ghost use Rattle.nf_app.specs.Output.{OutputFails};
 
 use crate::answering::answer;
 use nf_answers::{Outcome, Status};
@@ -44,24 +45,24 @@ pub fn run<S: Shelf, O: Sink, E: Sink>(
     err: &mut E,
 ) -> Status
     ensures ran { Ran (record { words = texts words.now; shelf = visit S.Shelf shelf.old shelf.new })
-        (taken O.Sink out.old out.new) (taken E.Sink err.old err.new) result }
+        (took_of O.Sink out.old out.new) (took_of E.Sink err.old err.new) result }
 
     // Where the files are told, and neither the shelf nor the output failed, the words have just one answer with what is told, whatever was asked
     // of the shelf before: that is the one that is shown, with its whole text and its status, or memory was wanting.
     ensures only { ShowsOnlyThat (record { words = texts words.now; shelf = visit S.Shelf shelf.old shelf.new })
-        (taken O.Sink out.old out.new) (taken E.Sink err.old err.new) result }
+        (took_of O.Sink out.old out.new) (took_of E.Sink err.old err.new) result }
 
     // Nothing but want of memory keeps a network from being shown, from being solved where its phase run reaches the horizon or goes on for
     // ever, and from being loaded, by loads or by routes, where no operation passes; a ladder of `gen` from its summary where its phase run reaches
     // the horizon; a report from its verdict, and from being resumed, where no operation passes; a quickest flow from being found where none
     // passes, unless too many walks are wanted or it is unbounded; and a thin flow from being settled where none passes.
     ensures complete { IsComplete (record { words = texts words.now; shelf = visit S.Shelf shelf.old shelf.new })
-        (taken O.Sink out.old out.new) result }
+        (took_of O.Sink out.old out.new) result }
 
     // Where `resume` goes on from the report of a run, it writes, byte for byte, the report of one run from the start to its horizon: if both
     // reach that horizon and, where the given report ends within a phase, no number grows too long in the search for the rest of the phase.
     ensures resumes { (r : IsResumption (record { words = texts words.now; shelf = visit S.Shelf shelf.old shelf.new }))
-        → result ≡ Status.Ok → TookAll (taken O.Sink out.old out.new) (report_text r.network.net r.later.report) }
+        → result ≡ Status.Ok → TookAll (took_of O.Sink out.old out.new) (report_text r.network.net r.later.report) }
 
     // So it is of the report that is made, whatever the shelf tells of its files, as with real ones, and whatever becomes of the output.
     ensures one_run { ResumesAsOne (record { words = texts words.now; shelf = visit S.Shelf shelf.old shelf.new }) }
@@ -79,7 +80,10 @@ pub fn run<S: Shelf, O: Sink, E: Sink>(
     // `gen` and `resume` ends at the horizon, or in a phase that never ends, or by a bound on the work or on the length of numbers, unless
     // memory is wanting, or the report can't be gone on from.
     ensures bounded { EndsByBounds (record { words = texts words.now; shelf = visit S.Shelf shelf.old shelf.new })
-        (taken O.Sink out.old out.new) result }
+        (took_of O.Sink out.old out.new) result }
+
+    // A fault of `out` in this call gives the status of a failed output, whatever the answer; without a fault the status is another.
+    ensures output { OutputFails (took_of O.Sink out.old out.new) result }
 
     // The shelf tells of each file what it told before, and no count of faults falls: so one call can follow another.
     ensures same { (name : List ℕ) → S.told shelf.new name ≡ S.told shelf.old name }
@@ -90,7 +94,7 @@ pub fn run<S: Shelf, O: Sink, E: Sink>(
     // A text that an earlier call of `solve` with status 0 wrote gets the answer `yes` of `check`, where the network's file is told as then, neither the
     // shelf nor the output failed, no operation passed and memory wasn't wanting.
     ensures says_yes { SaysYes (record { words = texts words.now; shelf = visit S.Shelf shelf.old shelf.new })
-        (taken O.Sink out.old out.new) result }
+        (took_of O.Sink out.old out.new) result }
 {
     match answer(alloc, words, shelf) {
         Ok(outcome) => {

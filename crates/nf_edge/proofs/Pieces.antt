@@ -1,13 +1,12 @@
 -- What a sink took, piece after piece.
 use Rattle.std.specs.Prelude.{◌≡◌, ℕ, ◌+◌, ◌-◌, ◌<◌, ◌≤◌, List, ◌++◌, length, take, drop, Option, Some, None, Result, Ok, Err, refl}
-use Rattle.std.proofs.Common.{arith, sym, ap, ◌∙◌, append_assoc, length-drop, length-append, inl, inr}
+use Rattle.std.proofs.Common.{arith, sym, ap, ◌∙◌, append_assoc, length-drop, length-append}
 use Rattle.std.proofs.lemmas.List.{take-append-le}
-use native.Mathlib.Decide.{dec_lt}
 use Rattle.std.proofs.Math.Seq.{take-add, take-length, take-append-add}
-use Rattle.nf_edge.specs.Faults.{Rose}
+use Rattle.nf_edge.specs.Faults.{one_more}
 use Rattle.nf_edge.specs.Taken.{with_more, Wrote}
 
--- the rest of a text from a place on
+-- the text without its first bytes
 abbrev pub rest : List ℕ → ℕ → List ℕ
 rest text done = take (length text - done) (drop done text)
 
@@ -18,7 +17,7 @@ with_more-with_more : (took : Option (List ℕ)) (a b : List ℕ) → with_more 
 with_more-with_more None a b = refl
 with_more-with_more (Some before) a b = ap Some (append_assoc before a b)
 
--- a sink that took the first bytes of a text and then some of the rest
+-- a sink that took a prefix of a text and then some of the remainder
 pub took_more : (old before now : Option (List ℕ)) (text : List ℕ) (done count : ℕ)
     → before ≡ with_more old (take done text) → now ≡ with_more before (take count (rest text done)) → now ≡ with_more old (take (done + count) text)
 took_more old before now text done count first next =
@@ -30,42 +29,36 @@ still_within text done count h k =
     let e : length (rest text done) ≡ length text - done = ap length (rest-drop text done) ∙ length-drop done text in omega (arith, h, k, e)
 
 -- ---- one text after another
--- a count that rose, whatever it did before
-rose_later : (first before now : ℕ) → first ≤ before → before ≤ now → Rose before now → Rose first now
-rose_later first before now a b (inl rose) = inl (omega (arith, a, rose))
-rose_later first before now a b (inr full) = at (dec_lt first before)
-  where
-    at : Dec (first < before) → Rose first now
-    at (yes less) = inl (omega (arith, less, b))
-    at (no same) = inr (omega (arith, same, a, full))
-
--- a text that was written whole, and then the next one
+-- a text written whole, and then the next one
 pub Wrote-append : {E F : Type 0} (old before now : Option (List ℕ)) (first_faults faults_before faults_now : ℕ) (first next : List ℕ) (r : Result (Unit {0}) E)
     → Wrote {E = F} old before first_faults faults_before first (Ok tt) → Wrote before now faults_before faults_now next r
     → Wrote old now first_faults faults_now (first ++ next) r
 Wrote-append old before now f g h first next (Ok u) v w = record {
   whole = w.whole ∙ ap (λ t. with_more t next) v.whole ∙ with_more-with_more old first next;
+  no_fault = w.no_fault ∙ v.no_fault;
   front = w.front;
   cause = w.cause;
   never_falls = omega (arith, v.never_falls, w.never_falls);
 }
 Wrote-append old before now f g h first next (Err e) v w = record {
   whole = w.whole;
+  no_fault = w.no_fault;
   front = record {
     count = length first + w.front.count;
     not_all = let a : length (first ++ next) ≡ length first + length next = length-append first next in omega (arith, w.front.not_all, a);
     front = w.front.front ∙ ap (λ t. with_more t (take w.front.count next)) v.whole ∙ with_more-with_more old first (take w.front.count next)
         ∙ ap (with_more old) (sym (take-append-add first next w.front.count));
   };
-  cause = rose_later f g h v.never_falls w.never_falls w.cause;
+  cause = w.cause ∙ ap one_more v.no_fault;
   never_falls = omega (arith, v.never_falls, w.never_falls);
 }
 
--- the first bytes of a text are those of a longer one, and not all of them
+-- a proper prefix of a text is one of each longer text
 pub Wrote-longer : {E F : Type 0} (old now : Option (List ℕ)) (faults_before faults_now : ℕ) (first rest : List ℕ) (e : E) (d : F)
     → Wrote old now faults_before faults_now first (Err e) → Wrote old now faults_before faults_now (first ++ rest) (Err d)
 Wrote-longer old now f g first rest e d w = record {
   whole = tt;
+  no_fault = tt;
   front = record {
     count = w.front.count;
     not_all = let a : length (first ++ rest) ≡ length first + length rest = length-append first rest in omega (arith, w.front.not_all, a);

@@ -1,11 +1,11 @@
 -- Counts of faults.
 use Rattle.std.specs.Prelude.{◌⊎◌, ℕ, ◌+◌, ◌-◌, ◌^◌, ◌<◌, ◌≤◌, min}
 
--- the greatest count of 64 bits
+-- the greatest count, of 64 bits
 abbrev pub greatest : ℕ
 greatest = 2 ^ 64 - 1
 
--- a count rose in a call; one that stood at its greatest value already counts as risen
+-- a count rose in a call; a count at its greatest value can't rise further, and counts as risen
 abbrev pub Rose : ℕ → ℕ → Type 0
 Rose before now = (before < now) ⊎ (greatest ≤ before)
 

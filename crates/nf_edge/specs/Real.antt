@@ -6,6 +6,6 @@ use Rattle.nf_edge.specs.declared.real.StdSink.{StdSink}
 abbrev pub writer_of : {W : Type 0} → StdSink W → W
 writer_of sink = sink.writer
 
--- how often a write has failed
+-- how many writes have failed
 abbrev pub faults_of : {W : Type 0} → StdSink W → ℕ
 faults_of sink = sink.faults

@@ -1,11 +1,11 @@
-//! Where the bytes of files come from, and where printed bytes go.
+//! Input files and output streams of the program.
 //!
-//! A program reads from a [`Shelf`] and prints to a [`Sink`]. In memory they tell what they hold, so that a theorem can
-//! speak of it. The real ones are the trusted edge of the program: they tell no bytes, and count their faults.
+//! A program reads files from a [`Shelf`] and writes bytes to a [`Sink`]. The bytes of those in memory are known to proofs. The real ones
+//! are the trusted I/O boundary: their bytes are unknown to proofs, and their faults are counted.
 #![tactic(auto)]
 
-ghost use Rattle.std.specs.Prelude.{◌≡◌, ◌⊎◌, ℕ, ◌+◌, ◌<◌, ◌≤◌, List, [], ◌∷◌, ◌++◌, length, take, Option, IfOk, IfSome, OnErr, IsErrOf};
-ghost use Rattle.nf_edge.specs.Faults.{Rose};
+ghost use Rattle.std.specs.Prelude.{◌≡◌, ◌⊎◌, ℕ, ◌+◌, ◌<◌, ◌≤◌, List, [], ◌∷◌, ◌++◌, length, take, Option, IfOk, IfSome, OnOk, OnErr, IsErrOf};
+ghost use Rattle.nf_edge.specs.Faults.{Rose, one_more};
 ghost use Rattle.nf_edge.specs.Taken.{with_more};
 ghost use Rattle.nf_edge.specs.declared.FetchFault.TheVariants as FetchFault;
 
@@ -21,14 +21,14 @@ pub use real::{RealShelf, StdSink};
 use std::alloc::{AllocError, AllocFailed, Global};
 pub use writing::write_text;
 
-/// Why a file isn't given.
+/// Why a fetch fails.
 #[derive(Clone, Copy, Debug, PartialEq, Eq)]
 pub enum FetchFault {
-    /// The outside failed, or has no such file.
+    /// The operating system reported an error, or there is no such file.
     Failed,
-    /// The file has more bytes than are wanted.
+    /// The file has more bytes than the limit.
     TooLong,
-    /// Memory is wanting.
+    /// Allocation failed.
     Memory,
 }
 
@@ -48,70 +48,78 @@ impl<T: Drop> From<AllocFailed<T>> for FetchFault {
     }
 }
 
-/// The outside takes no more bytes.
+/// A write that took no bytes.
 #[derive(Clone, Copy, Debug, PartialEq, Eq)]
 pub struct SinkFault;
 
 /// Files by name.
 pub trait Shelf {
-    /// The bytes under a name, where the shelf tells them.
+    /// The bytes under a name, if they are known to proofs.
     ghost told: { Self → List ℕ → Option (List ℕ) };
 
-    /// How often fetching has failed.
+    /// How often the operating system failed a fetch.
     ghost faults: { Self → ℕ };
 
-    /// How many bytes the latest fetch took.
+    /// How many bytes the latest fetch read.
     ghost taken: { Self → ℕ };
 
-    /// The names fetched so far.
+    /// The names fetched so far, in order.
     ghost asked: { Self → List (List ℕ) };
 
-    /// The bytes under the name, which are at most `limit`. It takes one byte more at most.
+    /// Reads the file of this name and returns all its bytes, of which there are at most `limit`.
+    ///
+    /// Returns `Failed` if there is no such file or reading fails, `TooLong` if the file has more than `limit` bytes, and `Memory` if
+    /// an allocation fails. The call reads at most `limit + 1` bytes.
     fn fetch(&mut self, alloc: Global, name: &str, limit: u32) -> Result<Vec<u8>, FetchFault>
         ensures taken { IfOk result (λ bytes. taken self.new ≡ length bytes.items) }
         ensures told { IfOk result (λ bytes. IfSome (told self.old name.now) (λ held. bytes.items ≡ held)) }
         ensures same { (other : List ℕ) → told self.new other ≡ told self.old other }
 
-        // The outside's failure is counted.
+        // A failure of the operating system raises the count of faults.
         ensures failed { IsErrOf result FetchFault.Failed → Rose (faults self.old) (faults self.new) }
         ensures never_falls { faults self.old ≤ faults self.new }
 
-        // Whatever it answers, it has taken no more than the limit and one byte.
+        // The bytes read are at most the limit and one more, whatever the result.
         ensures at_most { taken self.new ≤ limit + 1 }
 
-        // TooLong comes exactly where more than the limit was taken.
+        // `TooLong` implies that more than `limit` bytes were read; then the result is `TooLong` or `Memory`.
         ensures too_long { IsErrOf result FetchFault.TooLong → limit < taken self.new }
         ensures long { limit < taken self.new →
             IsErrOf result FetchFault.TooLong ⊎ IsErrOf result FetchFault.Memory }
 
-        // Where the bytes are told and no fault was counted, that is exactly where there are more of them.
+        // If the bytes are known and no fault was counted, `TooLong` implies more than `limit` bytes; then the result is `TooLong` or `Memory`.
         ensures told_too_long { IsErrOf result FetchFault.TooLong → IfSome (told self.old name.now)
             (λ held. Rose (faults self.old) (faults self.new) ⊎ (limit < length held)) }
         ensures told_long { IfSome (told self.old name.now) (λ held. limit < length held →
             Rose (faults self.old) (faults self.new) ⊎ IsErrOf result FetchFault.TooLong ⊎ IsErrOf result FetchFault.Memory) }
 
-        // The name is noted, but maybe where memory is wanting.
+        // The name is noted, unless an allocation failed.
         ensures asked { (asked self.new ≡ asked self.old ++ name.now ∷ [])
             ⊎ (IsErrOf result FetchFault.Memory × (asked self.new ≡ asked self.old)) };
 }
 
-/// Takes bytes.
+/// An output stream.
 pub trait Sink {
-    /// The bytes taken so far, where the sink tells them.
+    /// The bytes taken so far, if they are known to proofs.
     ghost took: { Self → Option (List ℕ) };
 
     /// How often a write has failed.
     ghost faults: { Self → ℕ };
 
-    /// Takes the first bytes of the piece, at least one of them, and says how many. It takes no memory.
+    /// Takes a prefix of `piece`, which isn't empty, and returns its length, at least 1. Allocates nothing.
+    ///
+    /// Returns `SinkFault` if the sink takes no byte. A result with a length raises no count of faults, so one fault ends the writing of a text.
     fn write(&mut self, piece: &[u8]) -> Result<usize, SinkFault>
         requires { 0 < length piece.now }
         ensures some { IfOk result (λ count. 0 < count) }
         ensures within { IfOk result (λ count. count ≤ length piece.now) }
         ensures took { IfOk result (λ count. took self.new ≡ with_more (took self.old) (take count piece.now)) }
 
-        // A fault takes nothing, and is counted.
+        // A write that takes bytes raises no fault.
+        ensures no_fault { OnOk result (faults self.new ≡ faults self.old) }
+
+        // A fault takes nothing, and is counted once.
         ensures none { OnErr result (took self.new ≡ took self.old) }
-        ensures fault { OnErr result (Rose (faults self.old) (faults self.new)) }
+        ensures fault { OnErr result (faults self.new ≡ one_more (faults self.old)) }
         ensures never_falls { faults self.old ≤ faults self.new };
 }

@@ -8,7 +8,7 @@ use crate::{FetchFault, Shelf};
 use std::alloc::{AllocError, Global};
 use std::marker::Model;
 
-/// The bytes under a name.
+/// A file: its name and bytes.
 #[derive(Drop)]
 struct File {
     name: String,
@@ -23,7 +23,7 @@ impl Model for File {
     ghost view = { λ f. (string_bytes f.name, f.bytes.items) };
 }
 
-/// Files in memory.
+/// Files in memory, whose bytes are known to proofs. Chosen fetches fail, so that tests can fail each one.
 #[derive(Drop)]
 pub struct MemShelf {
     files: Vec<File>,
@@ -50,7 +50,7 @@ impl Model for MemShelf {
     } };
 }
 
-// The bytes that were put under the name last: the first ones in the list.
+// Returns the bytes put under the name last, which come first in the list.
 fn bytes_under<'a>(files: &'a [File], name: &str) -> Option<&'a [u8]>
     ensures { MatchOption result (told_under files.now name.now ≡ None)
         (λ bytes. told_under files.now name.now ≡ Some bytes.now) }
@@ -63,7 +63,7 @@ fn bytes_under<'a>(files: &'a [File], name: &str) -> Option<&'a [u8]>
     None
 }
 
-// What the call of that number finds under the name.
+// Returns what the call of this number finds under the name.
 fn find<'a>(
     files: &'a [File],
     failing: &[u64],
@@ -85,7 +85,7 @@ fn find<'a>(
 }
 
 impl MemShelf {
-    /// A shelf with nothing on it, of which no call fails.
+    /// Returns a shelf without files, of which no fetch is set to fail.
     pub fn new(alloc: Global) -> MemShelf
         ensures { result ≡ record { files = []; failing = []; calls = 0; asked = []; taken = 0; faults = 0 } }
     {
@@ -99,7 +99,7 @@ impl MemShelf {
         }
     }
 
-    /// The name then tells these bytes.
+    /// Puts these bytes under the name, in place of those put there before. The shelf is unchanged if allocation fails.
     pub fn put(&mut self, alloc: Global, name: &str, bytes: &[u8]) -> Result<(), AllocError>
         ensures ok { OnOk result (self.new ≡ record self.old { files = (name.now, bytes.now) ∷ self.old.files }) }
         ensures err { OnErr result (self.new ≡ self.old) }
@@ -112,7 +112,7 @@ impl MemShelf {
         Ok(())
     }
 
-    /// The fetch of that number, counted from 1, fails.
+    /// Sets the fetch of this number, counted from 1, to fail. The shelf is unchanged if allocation fails.
     pub fn fail(&mut self, call: u32) -> Result<(), AllocError>
         ensures ok { OnOk result (self.new ≡ record self.old { failing = self.old.failing ++ call ∷ [] }) }
         ensures err { OnErr result (self.new ≡ self.old) }

@@ -1,6 +1,6 @@
 // A sink in memory.
 ghost use Rattle.std.specs.Prelude.{◌≡◌, ℕ, ◌<◌, ◌≤◌, [], ◌∷◌, ◌++◌, length, take, Some, IfOk, OnOk, OnErr};
-ghost use Rattle.nf_edge.specs.Faults.{Rose, one_more};
+ghost use Rattle.nf_edge.specs.Faults.{one_more};
 ghost use Rattle.nf_edge.specs.Taken.{with_more};
 ghost use Rattle.nf_edge.specs.Memory.{next_count, after_write};
 
@@ -8,7 +8,7 @@ use crate::{Sink, SinkFault};
 use std::alloc::{AllocError, Global};
 use std::marker::Model;
 
-/// Takes bytes into memory, up to a room, and tells them.
+/// A sink in memory, whose bytes are known to proofs. It takes bytes up to a fixed room, and chosen writes fail.
 #[derive(Drop)]
 pub struct MemSink {
     bytes: Vec<u8>,
@@ -38,7 +38,9 @@ impl Model for MemSink {
 }
 
 impl MemSink {
-    /// A sink that takes `room` bytes in all, and at most `most` in one write. The room is reserved here.
+    /// Returns an empty sink that takes `room` bytes in all, and at most `most` bytes, at least 1, in one write.
+    ///
+    /// Reserves the room, and returns an error if that allocation fails. Later writes allocate nothing.
     pub fn new(alloc: Global, room: u32, most: u32) -> Result<MemSink, AllocError>
         requires { 0 < most }
         ensures { IfOk result (λ s. s ≡ record {
@@ -60,7 +62,7 @@ impl MemSink {
         })
     }
 
-    /// The write of that number, counted from 1, fails.
+    /// Sets the write of this number, counted from 1, to fail. The sink is unchanged if allocation fails.
     pub fn fail(&mut self, call: u32) -> Result<(), AllocError>
         ensures ok { OnOk result (self.new ≡ record self.old { failing = self.old.failing ++ call ∷ [] }) }
         ensures err { OnErr result (self.new ≡ self.old) }
@@ -69,7 +71,7 @@ impl MemSink {
         Ok(())
     }
 
-    /// What was taken.
+    /// Returns the bytes taken so far.
     pub fn bytes(&self) -> &[u8]
         ensures { result.now ≡ self.now.bytes }
     {

@@ -1,7 +1,7 @@
-// Real files and a real writer, the trusted edge.
+// Real files and a real writer: the trusted I/O boundary.
 ghost use Rattle.std.specs.Prelude.{◌≡◌, ◌⊎◌, ◌↔◌, ℕ, ◌+◌, ◌<◌, ◌≤◌, [], None, IfOk, OnOk, OnErr, IsErrOf, length, take};
 ghost use Rattle.std.specs.Io.KnownBytes.{Appends, Consumes, IsAtEnd};
-ghost use Rattle.nf_edge.specs.Faults.{Rose, one_more};
+ghost use Rattle.nf_edge.specs.Faults.{one_more};
 ghost use Rattle.nf_edge.specs.Names.{texts};
 ghost use Rattle.nf_edge.specs.Real.{writer_of, faults_of};
 
@@ -12,10 +12,10 @@ use std::fs;
 use std::io::{Read, Write};
 use std::rt::Files;
 
-/// The most bytes that are read in one turn.
+/// The most bytes of one read.
 const TURN: usize = 4096;
 
-/// Reads a file to its end, in turns that each take at least one byte. It stops at one byte more than the limit.
+/// Reads a file to its end, at least one byte at a time. Stops at one byte more than the limit.
 fn read_file<F: Read>(file: &mut F, bytes: &mut Vec<u8>, limit: u32) -> Result<(), FetchFault>
     requires { bytes.old.items ≡ [] }
     ensures at_most { length bytes.new.items ≤ limit + 1 }
@@ -23,7 +23,7 @@ fn read_file<F: Read>(file: &mut F, bytes: &mut Vec<u8>, limit: u32) -> Result<(
     ensures too_long { IsErrOf result FetchFault.TooLong → length bytes.new.items ≡ limit + 1 }
     ensures long { limit < length bytes.new.items → IsErrOf result FetchFault.TooLong }
 
-    // Where the file's bytes are known, they are read, and all of them.
+    // If the file's bytes are known to proofs, all of them are read.
     ensures read { OnOk result (Consumes (F.remaining file.old) (F.remaining file.new) bytes.new.items) }
     ensures all { OnOk result (IsAtEnd (F.remaining file.new)) }
 {
@@ -42,7 +42,7 @@ fn read_file<F: Read>(file: &mut F, bytes: &mut Vec<u8>, limit: u32) -> Result<(
     Err(FetchFault::TooLong)
 }
 
-// Reads the file of that name, as `read_file` does. It fails where none can be opened.
+// Opens the file of this name and reads it as `read_file` does. Returns `Failed` if it can't be opened.
 fn read_named<R: Files>(
     runtime: &R,
     name: &str,
@@ -61,7 +61,7 @@ fn read_named<R: Files>(
     }
 }
 
-/// The files of the runtime.
+/// The files of the operating system, by path. Their bytes are unknown to proofs.
 #[derive(Drop)]
 pub struct RealShelf<'r, R: Files> {
     runtime: &'r R,
@@ -71,7 +71,7 @@ pub struct RealShelf<'r, R: Files> {
 }
 
 impl<'r, R: Files> RealShelf<'r, R> {
-    /// The shelf over the runtime's files. Nothing was asked of it yet.
+    /// Returns the shelf of the runtime's files, of which nothing was fetched yet.
     pub fn new(rt: &'r R, alloc: Global) -> RealShelf<'r, R>
         ensures asked { ⟦<RealShelf<'r, R> as Shelf>⟧.asked result ≡ [] }
         ensures faults { ⟦<RealShelf<'r, R> as Shelf>⟧.faults result ≡ 0 }
@@ -84,7 +84,7 @@ impl<'r, R: Files> RealShelf<'r, R> {
         }
     }
 
-    // Counts a failure of the outside, and gives the fault on.
+    // Counts a failure of the operating system, and returns the fault.
     fn counted(&mut self, fault: FetchFault) -> FetchFault
         ensures fault { result ≡ fault }
         ensures asked { self.new.asked ≡ self.old.asked }
@@ -121,7 +121,8 @@ impl<'r, R: Files> Shelf for RealShelf<'r, R> {
     }
 }
 
-/// A writer of std.
+/// A sink over a writer of std, such as standard output. The bytes taken are unknown to proofs. A write that returns an error or takes no
+/// byte is a fault.
 #[derive(Drop)]
 pub struct StdSink<W: Write + Drop> {
     writer: W,
@@ -129,7 +130,7 @@ pub struct StdSink<W: Write + Drop> {
 }
 
 impl<W: Write + Drop> StdSink<W> {
-    /// The sink over this writer. No write has failed yet.
+    /// Returns the sink over this writer, with no fault counted yet.
     pub fn new(inner: W) -> StdSink<W>
         ensures { ⟦<StdSink<W> as Sink>⟧.faults result ≡ 0 }
     {
@@ -151,7 +152,8 @@ impl<W: Write + Drop> Sink for StdSink<W> {
         ensures within { IfOk result (λ count. count ≤ length piece.now) }
         ensures passed_on { IfOk result (λ count. Appends (W.contents (writer_of self.old))
             (W.contents (writer_of self.new)) (take count piece.now)) }
-        ensures fault { OnErr result (Rose (faults_of self.old) (faults_of self.new)) }
+        ensures no_fault { OnOk result (faults_of self.new ≡ faults_of self.old) }
+        ensures fault { OnErr result (faults_of self.new ≡ one_more (faults_of self.old)) }
         ensures never_falls { faults_of self.old ≤ faults_of self.new }
     {
         match self.writer.write(piece) {

@@ -1,9 +1,10 @@
-// A whole text, in as many pieces as the sink wants.
+// Writing a whole text to a sink.
 ghost use Rattle.nf_edge.specs.Taken.{Wrote};
 
 use crate::{Sink, SinkFault};
 
-/// Writes the whole text. Where the sink fails, it has taken the text's first bytes, and not all of them.
+/// Writes the whole text, in as many writes as the sink needs. The first fault ends the writing; the sink then took a proper prefix of
+/// the text.
 pub fn write_text<O: Sink>(out: &mut O, text: &[u8]) -> Result<(), SinkFault>
     ensures { Wrote (O.took out.old) (O.took out.new) (O.faults out.old) (O.faults out.new) text.now result }
 {

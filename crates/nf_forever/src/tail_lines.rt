@@ -13,7 +13,7 @@ use nf_frac::{Q, TextBuf};
 use nf_net::{LinkId, Network, NodeId};
 use nf_report::{Page, put_line};
 
-// The number at a place.
+// Returns the number of this index.
 fn at_place(numbers: &[Q], place: u32) -> Q
     requires { place < length numbers.now }
     ensures { result ≡ number_at numbers.now place }
@@ -21,7 +21,7 @@ fn at_place(numbers: &[Q], place: u32) -> Q
     numbers[place as usize]
 }
 
-// The number of a node or a link, with its name.
+// Puts the number of a node or a link, with its name.
 fn put_named<O: Sink>(
     out: &mut O,
     page: &mut Page,
@@ -29,7 +29,7 @@ fn put_named<O: Sink>(
     name: &[u8],
     number: Q,
 ) -> Result<(), SinkFault>
-    ensures { GatheredLines (O.took out.old) (O.took out.new) (O.faults out.old) (O.faults out.new) page.old.items page.new.items
+    ensures { GatheredLines (O.took out.old) (O.took out.new) (O.faults out.old) (O.faults out.new) page.old page.new
         ((key.now ∷ name.now ∷ printed number ∷ []) ∷ []) result }
 {
     let mut text = TextBuf::new();
@@ -37,7 +37,7 @@ fn put_named<O: Sink>(
     put_line(out, page, key, &[name, text.text()])
 }
 
-// The slope of a node's label.
+// Puts the slope of a node's label.
 fn put_slope<O: Sink>(
     out: &mut O,
     page: &mut Page,
@@ -47,7 +47,7 @@ fn put_slope<O: Sink>(
 ) -> Result<(), SinkFault>
     requires node { node < net.now.net.nodes }
     requires slopes { length tail.now.slopes.items ≡ net.now.net.nodes }
-    ensures { GatheredLines (O.took out.old) (O.took out.new) (O.faults out.old) (O.faults out.new) page.old.items page.new.items
+    ensures { GatheredLines (O.took out.old) (O.took out.new) (O.faults out.old) (O.faults out.new) page.old page.new
         (slope_line net.now (tail_in tail.now) node) result }
 {
     let name = net.node_name(NodeId(node)).as_bytes();
@@ -55,7 +55,7 @@ fn put_slope<O: Sink>(
     put_named(out, page, b"slope", name, slope)
 }
 
-// The slopes of all labels.
+// Puts the slopes of all labels.
 fn put_slopes<O: Sink>(
     out: &mut O,
     page: &mut Page,
@@ -63,7 +63,7 @@ fn put_slopes<O: Sink>(
     tail: &Tail,
 ) -> Result<(), SinkFault>
     requires { length tail.now.slopes.items ≡ net.now.net.nodes }
-    ensures { GatheredLines (O.took out.old) (O.took out.new) (O.faults out.old) (O.faults out.new) page.old.items page.new.items
+    ensures { GatheredLines (O.took out.old) (O.took out.new) (O.faults out.old) (O.faults out.new) page.old page.new
         (for_each net.now.net.nodes (slope_line net.now (tail_in tail.now))) result }
 {
     for node in 0..net.node_count() {
@@ -72,7 +72,7 @@ fn put_slopes<O: Sink>(
     Ok(())
 }
 
-// The flow of a link.
+// Puts the flow of a link.
 fn put_flow<O: Sink>(
     out: &mut O,
     page: &mut Page,
@@ -82,7 +82,7 @@ fn put_flow<O: Sink>(
 ) -> Result<(), SinkFault>
     requires link { link < length net.now.net.links }
     requires flows { length tail.now.flows.items ≡ length net.now.net.links }
-    ensures { GatheredLines (O.took out.old) (O.took out.new) (O.faults out.old) (O.faults out.new) page.old.items page.new.items
+    ensures { GatheredLines (O.took out.old) (O.took out.new) (O.faults out.old) (O.faults out.new) page.old page.new
         (flow_line net.now (tail_in tail.now) link) result }
 {
     let name = net.link_name(LinkId(link)).as_bytes();
@@ -90,7 +90,7 @@ fn put_flow<O: Sink>(
     put_named(out, page, b"flow", name, flow)
 }
 
-// The flows of all links.
+// Puts the flows of all links.
 fn put_flows<O: Sink>(
     out: &mut O,
     page: &mut Page,
@@ -98,7 +98,7 @@ fn put_flows<O: Sink>(
     tail: &Tail,
 ) -> Result<(), SinkFault>
     requires { length tail.now.flows.items ≡ length net.now.net.links }
-    ensures { GatheredLines (O.took out.old) (O.took out.new) (O.faults out.old) (O.faults out.new) page.old.items page.new.items
+    ensures { GatheredLines (O.took out.old) (O.took out.new) (O.faults out.old) (O.faults out.new) page.old page.new
         (for_each (length net.now.net.links) (flow_line net.now (tail_in tail.now))) result }
 {
     for link in 0..net.link_count() {
@@ -116,7 +116,7 @@ pub(crate) fn put_tail<O: Sink>(
 ) -> Result<(), SinkFault>
     requires slopes { length tail.now.slopes.items ≡ net.now.net.nodes }
     requires flows { length tail.now.flows.items ≡ length net.now.net.links }
-    ensures { GatheredLines (O.took out.old) (O.took out.new) (O.faults out.old) (O.faults out.new) page.old.items page.new.items
+    ensures { GatheredLines (O.took out.old) (O.took out.new) (O.faults out.old) (O.faults out.new) page.old page.new
         (for_each net.now.net.nodes (slope_line net.now (tail_in tail.now))
         ++ for_each (length net.now.net.links) (flow_line net.now (tail_in tail.now))) result }
 {

@@ -15,14 +15,14 @@ use nf_frac::Q;
 use nf_net::Network;
 use nf_report::{Page, put_cause, put_flow, put_line, put_number, put_states};
 
-// How far the run went, and why it stopped.
+// Puts the departure reached, and why the run stopped.
 fn put_head<O: Sink>(
     out: &mut O,
     page: &mut Page,
     reached: Q,
     stopped: Option<&Stop>,
 ) -> Result<(), SinkFault>
-    ensures { GatheredLines (O.took out.old) (O.took out.new) (O.faults out.old) (O.faults out.new) page.old.items page.new.items
+    ensures { GatheredLines (O.took out.old) (O.took out.new) (O.faults out.old) (O.faults out.new) page.old page.new
         (head_lines reached (option_copied stopped.entry)) result }
 {
     put_line(out, page, b"forever", &[b"1"])?;
@@ -30,7 +30,7 @@ fn put_head<O: Sink>(
     put_cause(out, page, stopped)
 }
 
-// The tail, where there is one.
+// Puts the tail, if there is one.
 fn put_tail_of<O: Sink>(
     out: &mut O,
     page: &mut Page,
@@ -39,7 +39,7 @@ fn put_tail_of<O: Sink>(
 ) -> Result<(), SinkFault>
     requires { IfSome (forever_in forever.now).tail
         (λ tail. (length tail.slopes ≡ net.now.net.nodes) × (length tail.flows ≡ length net.now.net.links)) }
-    ensures { GatheredLines (O.took out.old) (O.took out.new) (O.faults out.old) (O.faults out.new) page.old.items page.new.items
+    ensures { GatheredLines (O.took out.old) (O.took out.new) (O.faults out.old) (O.faults out.new) page.old page.new
         (tail_lines net.now (forever_in forever.now).tail) result }
 {
     match &forever.tail {
@@ -48,7 +48,7 @@ fn put_tail_of<O: Sink>(
     }
 }
 
-// The states of the links, the tail, and the end.
+// Puts the states of the links, the tail, and the end.
 fn put_end<O: Sink>(
     out: &mut O,
     page: &mut Page,
@@ -56,7 +56,7 @@ fn put_end<O: Sink>(
     forever: &Forever,
 ) -> Result<(), SinkFault>
     requires { HasForm net.now.net (forever_in forever.now) }
-    ensures { GatheredLines (O.took out.old) (O.took out.new) (O.faults out.old) (O.faults out.new) page.old.items page.new.items
+    ensures { GatheredLines (O.took out.old) (O.took out.new) (O.faults out.old) (O.faults out.new) page.old page.new
         (end_lines net.now (forever_in forever.now)) result }
 {
     put_states(out, page, net, &forever.last)?;
@@ -64,7 +64,7 @@ fn put_end<O: Sink>(
     put_line(out, page, b"end", &[])
 }
 
-// The whole text.
+// Puts the whole text.
 fn put_forever<O: Sink>(
     out: &mut O,
     page: &mut Page,
@@ -72,7 +72,7 @@ fn put_forever<O: Sink>(
     forever: &Forever,
 ) -> Result<(), SinkFault>
     requires { HasForm net.now.net (forever_in forever.now) }
-    ensures { GatheredLines (O.took out.old) (O.took out.new) (O.faults out.old) (O.faults out.new) page.old.items page.new.items
+    ensures { GatheredLines (O.took out.old) (O.took out.new) (O.faults out.old) (O.faults out.new) page.old page.new
         (forever_lines net.now (forever_in forever.now)) result }
 {
     put_head(out, page, forever.flow.reached, forever.stopped.as_ref())?;
@@ -80,9 +80,11 @@ fn put_forever<O: Sink>(
     put_end(out, page, net, forever)
 }
 
-/// Writes the text of a run without a horizon: its flow up to the departure reached, with the cause for which it stopped, if it did, the
-/// states of the links, and the tail by which the flow goes on, if there is one. Where the sink fails, it has taken the text's first
-/// bytes, and not all of them. It takes no memory.
+/// Writes the text of a run without a horizon: the flow up to the departure reached, why the run stopped if it did, the links' states, and
+/// the tail by which the flow goes on for ever if it didn't. Times, amounts and rates are exact fractions. Allocates nothing.
+///
+/// The run must have the network's form: a curve, a state, a slope and a flow for each node or link of the network. The first fault ends
+/// the writing; the sink then took a proper prefix of the text.
 pub fn write_forever<O: Sink>(
     net: &Network,
     forever: &Forever,

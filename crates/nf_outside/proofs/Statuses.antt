@@ -12,7 +12,7 @@ use Rattle.nf_answers.specs.declared.outcome.Computed.{Computed}
 use Rattle.nf_answers.specs.declared.outcome.Outcome.{Outcome}
 use Rattle.nf_answers.specs.Answers.{HasOutput, out_text, err_text, text_of_stop, status_of, status_of_stop, status_of_forever}
 use Rattle.nf_edge.specs.Taken.{Wrote}
-use Rattle.nf_outside.specs.Sinks.{Taken, TookText}
+use Rattle.nf_outside.specs.Sinks.{Took, TookText}
 use Rattle.nf_answers.specs.Outcomes.{answer_in, answer_with, text_with, stop_of, HasTextWith}
 
 -- the budget of phases has one of its own
@@ -91,10 +91,10 @@ text_is net (Computed.Settled settled) h = refl
 text_is net (Computed.Distributed routes horizon routed) h = refl
 
 -- ---- what a sink took of a text that was written to it
-pub took_same : (sink : Taken) (first text : List ℕ) → first ≡ text → TookText sink first → TookText sink text
+pub took_same : (sink : Took) (first text : List ℕ) → first ≡ text → TookText sink first → TookText sink text
 took_same sink first text same took = subst (λ (t : List ℕ). TookText sink t) same took
 
 pub took_text : {E : Type 0} (old now : Option (List ℕ)) (f g : ℕ) (text : List ℕ) (r : Result (Unit {0}) E) → Wrote old now f g text r
     → TookText (record { before = old; now = now; faults_before = f; faults_now = g }) text
-took_text old now f g text (Ok u) w = inl w.whole
+took_text old now f g text (Ok u) w = inl (record { all = w.whole; no_fault = w.no_fault })
 took_text old now f g text (Err e) w = inr (record { front = w.front; cause = w.cause })

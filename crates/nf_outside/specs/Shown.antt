@@ -3,14 +3,21 @@ use Rattle.std.specs.Prelude.{◌≡◌, ◌⊎◌}
 use Rattle.nf_answers.specs.declared.status.Status.{Status}
 use Rattle.nf_answers.specs.ErrorLines.{output_line}
 use Rattle.nf_answers.specs.Answers.{ProgramAnswer, HasOutput, status_of, out_text, err_text}
-use Rattle.nf_outside.specs.Sinks.{Taken, TookAll, CutShort, TookText}
+use Rattle.nf_outside.specs.Sinks.{Took, TookWhole, CutShort, TookText}
 
--- the status is that of the answer, and `out` took its whole text
-abbrev pub IsShownWhole : ProgramAnswer → Taken → Taken → Status → Type 0
-IsShownWhole answer out err status = (status ≡ status_of answer) × TookAll out (out_text answer) × TookText err (err_text answer)
+-- the status is that of the answer, `out` took its whole text without a fault, and `err` took its error text, whole or cut short
+pub record IsShownWhole (answer : ProgramAnswer) (out err : Took) (status : Status) : Type 0 where
+  pub status_is : status ≡ status_of answer
+  pub out : TookWhole out (out_text answer)
+  pub err : TookText err (err_text answer)
 
--- that; or the answer has a text and `out` failed. A fault of `err` changes no status.
-abbrev pub IsShown : ProgramAnswer → Taken → Taken → Status → Type 0
-IsShown answer out err status =
-    IsShownWhole answer out err status
-    ⊎ ((status ≡ Status.Output) × HasOutput answer × CutShort out (out_text answer) × TookText err output_line)
+-- the status is that of a failed output, one fault of `out` cut the answer's text short, and `err` took the line that says so
+pub record IsShownInPart (answer : ProgramAnswer) (out err : Took) (status : Status) : Type 0 where
+  pub status_is : status ≡ Status.Output
+  pub has_text : HasOutput answer
+  pub out : CutShort out (out_text answer)
+  pub err : TookText err output_line
+
+-- either of the two; a fault of `err` changes no status
+abbrev pub IsShown : ProgramAnswer → Took → Took → Status → Type 0
+IsShown answer out err status = IsShownWhole answer out err status ⊎ IsShownInPart answer out err status

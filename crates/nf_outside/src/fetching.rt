@@ -1,4 +1,4 @@
-// The files of a request, and the network of the first.
+// Fetching the files of a request, and parsing the first as a network.
 ghost use Rattle.std.specs.Prelude.{◌≡◌, ◌≤◌, ℕ, List, [], ◌∷◌, length, IfOk};
 ghost use Rattle.std.specs.Result.{result_map_both};
 ghost use Rattle.nf_outside.specs.Files.{visit, network_limit, network_file};
@@ -9,7 +9,7 @@ use nf_edge::Shelf;
 use nf_net::{LONGEST_FILE, Network, parse};
 use std::alloc::Global;
 
-// The bytes of a file, of which there are at most so many.
+// Fetches a file of at most `limit` bytes.
 fn fetch_file<S: Shelf>(
     alloc: Global,
     shelf: &mut S,
@@ -26,7 +26,7 @@ fn fetch_file<S: Shelf>(
     Ok(text)
 }
 
-// The bytes of a network file, and of another of which there are at most so many.
+// Fetches a network file, and another file of at most `limit` bytes.
 fn fetch_files<S: Shelf>(
     alloc: Global,
     shelf: &mut S,
@@ -47,8 +47,10 @@ fn fetch_files<S: Shelf>(
     Ok((text, more))
 }
 
-/// Fetches a file, and reads it as a network. It is refused where the file isn't given, has too many bytes or breaks a rule, or memory is
-/// wanting. The shelf tells of each file what it told before, and no count of its faults falls.
+/// Fetches a file and parses it as a network.
+///
+/// Refuses if the file can't be fetched, has more than 1,048,576 bytes, or breaks a rule of network files, or if an allocation fails. What is
+/// known of the shelf's files stays the same.
 pub fn fetch_network<S: Shelf>(alloc: Global, shelf: &mut S, file: &str) -> Result<Network, Refusal>
     ensures same { (name : List ℕ) → S.told shelf.new name ≡ S.told shelf.old name }
     ensures never_falls { S.faults shelf.old ≤ S.faults shelf.new }
@@ -60,9 +62,10 @@ pub fn fetch_network<S: Shelf>(alloc: Global, shelf: &mut S, file: &str) -> Resu
     Ok(net)
 }
 
-/// Fetches a file and another of at most so many bytes, and reads the first as a network once both are there. It is refused where one of
-/// them isn't given or has too many bytes, the first breaks a rule, or memory is wanting. The shelf tells of each file what it told before, and
-/// no count of its faults falls.
+/// Fetches a network file and another file of at most `limit` bytes, in this order, and then parses the first.
+///
+/// Refuses if one of them can't be fetched or is too long, if the first breaks a rule of network files, or if an allocation fails. What is
+/// known of the shelf's files stays the same.
 pub fn fetch_network_with<S: Shelf>(
     alloc: Global,
     shelf: &mut S,

@@ -1,5 +1,5 @@
-//! What a run does outside: the files that it wants are fetched, each once and in order, and the first is read as a network when all are
-//! there; and its two sinks are given an answer, or why there is none.
+//! The input and output of a run: fetches the files of a request, each once and in order, and parses the first as a network; writes an answer
+//! to the two sinks, or why there is none.
 #![tactic(auto)]
 
 mod fetching;

@@ -1,4 +1,4 @@
-// What the two sinks are given.
+// Writing an answer to the two sinks.
 ghost use Rattle.std.specs.Prelude.{◌≡◌, ◌≤◌, ◌++◌};
 ghost use Rattle.std.specs.Option.{option_copied};
 ghost use Rattle.nf_edge.specs.Taken.{Wrote};
@@ -7,7 +7,7 @@ ghost use Rattle.nf_answers.specs.Answers.{status_of, status_of_cause, status_of
 ghost use Rattle.nf_answers.specs.QuickText.{arrival_text};
 ghost use Rattle.nf_answers.specs.Refusals.{answer_of};
 ghost use Rattle.nf_answers.specs.Outcomes.{answer_in, answer_with, text_with, HasText, HasTextWith};
-ghost use Rattle.nf_outside.specs.Sinks.{taken, TookText};
+ghost use Rattle.nf_outside.specs.Sinks.{took_of, TookText};
 ghost use Rattle.nf_outside.specs.Shown.{IsShown};
 
 use nf_answers::{
@@ -21,7 +21,7 @@ use nf_forever::write_forever;
 use nf_net::Network;
 use nf_report::write_report;
 
-// The text of a quickest flow, and then that of the arrival.
+// Writes the text of a quickest flow, and then that of the arrival.
 fn write_quick<O: Sink>(text: &[u8], arrival: &Arrival, out: &mut O) -> Result<(), SinkFault>
     ensures { Wrote (O.took out.old) (O.took out.new) (O.faults out.old) (O.faults out.new) (text.now ++ arrival_text arrival.now) result }
 {
@@ -29,7 +29,7 @@ fn write_quick<O: Sink>(text: &[u8], arrival: &Arrival, out: &mut O) -> Result<(
     write_arrival(out, arrival)
 }
 
-// The text of what was found.
+// Writes the text of an outcome.
 fn write_found<O: Sink>(net: &Network, found: &Computed, out: &mut O) -> Result<(), SinkFault>
     requires { HasTextWith net.now found.now }
     ensures { Wrote (O.took out.old) (O.took out.new) (O.faults out.old) (O.faults out.new) (text_with net.now found.now) result }
@@ -64,7 +64,7 @@ fn write_found<O: Sink>(net: &Network, found: &Computed, out: &mut O) -> Result<
     }
 }
 
-// How a run of the program ends whose report has this cause.
+// Returns the status of a run that stopped for this cause.
 fn status_of_cause(stop: &Stop) -> Status
     ensures { result ≡ status_of_cause stop.now }
 {
@@ -76,10 +76,10 @@ fn status_of_cause(stop: &Stop) -> Status
     }
 }
 
-// Says why the run of a report stopped, if it did. The status is the same where that can't be said.
+// Writes to `err` why the run of a report stopped, if it did, and returns the status. A fault of `err` doesn't change the status.
 fn tell_stop<E: Sink>(stop: Option<&Stop>, err: &mut E) -> Status
     ensures status { result ≡ status_of_stop (option_copied stop.entry) }
-    ensures told { TookText (taken E.Sink err.old err.new) (text_of_stop (option_copied stop.entry)) }
+    ensures told { TookText (took_of E.Sink err.old err.new) (text_of_stop (option_copied stop.entry)) }
     ensures never_falls { E.faults err.old ≤ E.faults err.new }
 {
     match stop {
@@ -91,10 +91,10 @@ fn tell_stop<E: Sink>(stop: Option<&Stop>, err: &mut E) -> Status
     }
 }
 
-// Says why a run without a horizon stopped, if it did; the budget of phases then has a status of its own.
+// Does the same for a run without a horizon, whose budget of phases has a status of its own.
 fn tell_forever<E: Sink>(stop: Option<&Stop>, err: &mut E) -> Status
     ensures status { result ≡ status_of_forever (option_copied stop.entry) }
-    ensures told { TookText (taken E.Sink err.old err.new) (text_of_stop (option_copied stop.entry)) }
+    ensures told { TookText (took_of E.Sink err.old err.new) (text_of_stop (option_copied stop.entry)) }
     ensures never_falls { E.faults err.old ≤ E.faults err.new }
 {
     match tell_stop(stop, err) {
@@ -103,10 +103,10 @@ fn tell_forever<E: Sink>(stop: Option<&Stop>, err: &mut E) -> Status
     }
 }
 
-// Says that a flow is no equilibrium, if it is none. The status is the same where that can't be said.
+// Writes to `err` that a flow is no equilibrium, if it is none, and returns the status. A fault of `err` doesn't change the status.
 fn tell_verdict<E: Sink>(verdict: &Answer, err: &mut E) -> Status
     ensures status { result ≡ status_of_verdict verdict.now }
-    ensures told { TookText (taken E.Sink err.old err.new) (text_of_verdict verdict.now) }
+    ensures told { TookText (took_of E.Sink err.old err.new) (text_of_verdict verdict.now) }
     ensures never_falls { E.faults err.old ≤ E.faults err.new }
 {
     match verdict {
@@ -118,10 +118,10 @@ fn tell_verdict<E: Sink>(verdict: &Answer, err: &mut E) -> Status
     }
 }
 
-// Says why what was found isn't the whole answer, if it isn't.
+// Writes to `err` why an outcome isn't the whole answer, if it isn't, and returns the status.
 fn tell<E: Sink>(found: &Computed, err: &mut E) -> Status
     ensures status { (net : Named) → result ≡ status_of (answer_with net found.now) }
-    ensures told { (net : Named) → TookText (taken E.Sink err.old err.new) (err_text (answer_with net found.now)) }
+    ensures told { (net : Named) → TookText (took_of E.Sink err.old err.new) (err_text (answer_with net found.now)) }
     ensures never_falls { E.faults err.old ≤ E.faults err.new }
 {
     match found {
@@ -135,11 +135,13 @@ fn tell<E: Sink>(found: &Computed, err: &mut E) -> Status
     }
 }
 
-/// Writes the text of an outcome to `out`, says on `err` why it isn't the whole answer, if it isn't, or that `out` failed, and gives the
-/// status with which the run ends. A fault of `err` changes no status. No count of faults falls.
+/// Writes the text of an outcome to `out`, writes to `err` why it isn't the whole answer, if it isn't, and returns the status of the run.
+///
+/// If `out` has a fault, the status is `Output`, `out` took a proper prefix of the text, and `err` is told so. A fault of `err` changes no
+/// status. The outcome must have the text that its command gives.
 pub fn give<O: Sink, E: Sink>(outcome: &Outcome, out: &mut O, err: &mut E) -> Status
     requires { HasText outcome.now }
-    ensures shown { IsShown (answer_in outcome.now) (taken O.Sink out.old out.new) (taken E.Sink err.old err.new) result }
+    ensures shown { IsShown (answer_in outcome.now) (took_of O.Sink out.old out.new) (took_of E.Sink err.old err.new) result }
     ensures out_never_falls { O.faults out.old ≤ O.faults out.new }
     ensures err_never_falls { E.faults err.old ≤ E.faults err.new }
 {
@@ -152,10 +154,10 @@ pub fn give<O: Sink, E: Sink>(outcome: &Outcome, out: &mut O, err: &mut E) -> St
     }
 }
 
-/// Says on `err` why there is nothing on the output, and gives the status with which the run ends. It is the same where that can't be said.
+/// Writes to `err` why there is no answer, and returns the status of the run. A fault of `err` doesn't change the status.
 pub fn refuse<E: Sink>(refusal: &Refusal, err: &mut E) -> Status
     ensures status { result ≡ status_of (answer_of refusal.now) }
-    ensures told { TookText (taken E.Sink err.old err.new) (err_text (answer_of refusal.now)) }
+    ensures told { TookText (took_of E.Sink err.old err.new) (err_text (answer_of refusal.now)) }
     ensures never_falls { E.faults err.old ≤ E.faults err.new }
 {
     let _ = write_refusal(err, refusal);

@@ -1,4 +1,4 @@
--- What a sink took of a text that goes to it page by page, part by part.
+-- What a sink took of a text that is written page by page, part by part.
 use Rattle.std.proofs.Common.{◌≡◌, ℕ, List, [], ◌++◌, refl, sym, ap, ◌∙◌, subst, append_assoc, append-nil, arith}
 use Rattle.std.specs.Prelude.{flat_map, Option, Some, None, Result, Ok, Err, IsErr}
 use Rattle.std.proofs.lemmas.Grind.{flat_map-append}
@@ -13,7 +13,13 @@ use Rattle.nf_report.proofs.Written.{wrote_front}
 -- what the sink took of it
 pub kept_wrote : {E : Type 0} {old now : Option (List ℕ)} {f g : ℕ} {text page : List ℕ} {u : Unit {0}} (k : Kept old now f g text page)
     → Wrote {E = E} old now f g k.written (Ok u)
-kept_wrote k = record { whole = k.took; front = tt; cause = tt; never_falls = k.never_falls }
+kept_wrote {E} {old} {now} {f} {g} {text} {page} {u} k = record {
+  whole = k.took;
+  no_fault = k.no_fault;
+  front = tt;
+  cause = tt;
+  never_falls = let same : g ≡ f = k.no_fault in omega (arith, same);
+}
 
 -- nothing more taken
 nothing_more : (took : Option (List ℕ)) → took ≡ with_more took []
@@ -24,7 +30,7 @@ nothing_more (Some bytes) = ap Some (sym (append-nil bytes))
 -- there was room
 pub put_there : {E : Type 0} {took : Option (List ℕ)} {faults : ℕ} {u : Unit {0}} (before now bytes : List ℕ) → now ≡ before ++ bytes
     → Gathered {E = E} took took faults faults before now bytes (Ok u)
-put_there {E} {took} before now bytes e = record { kept = record { written = []; all = e; took = nothing_more took; never_falls = omega arith }; refused = tt }
+put_there {E} {took} before now bytes e = record { kept = record { written = []; all = e; took = nothing_more took; no_fault = refl }; refused = tt; emptied = tt }
 
 -- nothing is put yet
 pub gathered_nil : {E : Type 0} {took : Option (List ℕ)} {faults : ℕ} {page : List ℕ} → Gathered {E = E} took took faults faults page page [] (Ok tt)
@@ -38,9 +44,10 @@ put_on_next page empty end bytes e s w = record {
     written = page;
     all = ap (λ (l : List ℕ). page ++ l) (s ∙ ap (λ (l : List ℕ). l ++ bytes) e);
     took = w.whole;
-    never_falls = w.never_falls;
+    no_fault = w.no_fault;
   };
   refused = tt;
+  emptied = tt;
 }
 
 -- the page was written, and then the bytes
@@ -51,17 +58,19 @@ put_behind {E} {F} {old} {before} {now} {f} {g} {h} page end bytes (Ok v) e w x 
     written = page ++ bytes;
     all = ap (λ (l : List ℕ). (page ++ bytes) ++ l) e ∙ append-nil (page ++ bytes);
     took = both.whole;
-    never_falls = both.never_falls;
+    no_fault = both.no_fault;
   };
   refused = tt;
+  emptied = tt;
 }
-put_behind {E} {F} {old} {before} {now} {f} {g} {h} page end bytes (Err d) e w x = record { kept = tt; refused = Wrote-append old before now f g h page bytes (Err d) w x }
+put_behind {E} {F} {old} {before} {now} {f} {g} {h} page end bytes (Err d) e w x = record { kept = tt; refused = Wrote-append old before now f g h page bytes (Err d) w x; emptied = e }
 
 -- the page was refused
 pub page_refused : {E F : Type 0} {old now : Option (List ℕ)} {f g : ℕ} {e : E} (page end bytes : List ℕ) (r : Result (Unit {0}) F) → IsErr r
-    → Wrote old now f g page (Err e) → Gathered old now f g page end bytes r
-page_refused page end bytes (Ok u) fails w = cc
-page_refused {E} {F} {old} {now} {f} {g} {e} page end bytes (Err d) fails w = record { kept = tt; refused = Wrote-longer old now f g page bytes e d w }
+    → end ≡ [] → Wrote old now f g page (Err e) → Gathered old now f g page end bytes r
+page_refused page end bytes (Ok u) fails empty w = cc
+page_refused {E} {F} {old} {now} {f} {g} {e} page end bytes (Err d) fails empty w =
+    record { kept = tt; refused = Wrote-longer old now f g page bytes e d w; emptied = empty }
 
 -- the same page at the start
 pub same_start : {E : Type 0} {old now : Option (List ℕ)} {f g : ℕ} {end text : List ℕ} {r : Result (Unit {0}) E} (first page : List ℕ) → first ≡ page
@@ -78,15 +87,17 @@ module _ {E F : Type 0} {old before now : Option (List ℕ)} {f g h : ℕ} {page
       all = append_assoc k.written m.written end ∙ ap (λ (l : List ℕ). k.written ++ l) m.all ∙ sym (append_assoc k.written middle next)
           ∙ ap (λ (l : List ℕ). l ++ next) k.all ∙ append_assoc page first next ∙ ap (λ (l : List ℕ). page ++ l) e;
       took = (Wrote-append old before now f g h k.written m.written (Ok v) (kept_wrote {E = F} k) (kept_wrote {E = E} m)).whole;
-      never_falls = omega (arith, k.never_falls, m.never_falls);
+      no_fault = m.no_fault ∙ k.no_fault;
     };
     refused = tt;
+    emptied = tt;
   }
   both_for (Err d) text e x y = let k = x.kept in record {
     kept = tt;
     refused = subst (λ (t : List ℕ). Wrote old now f h t (Err d))
         (sym (append_assoc k.written middle next) ∙ ap (λ (l : List ℕ). l ++ next) k.all ∙ append_assoc page first next ∙ ap (λ (l : List ℕ). page ++ l) e)
         (Wrote-append old before now f g h k.written (middle ++ next) (Err d) (kept_wrote {E = F} k) y.refused);
+    emptied = y.emptied;
   }
 
   -- the next part follows the first
@@ -102,6 +113,7 @@ gathered_front {E} {F} {old} {now} {f} {g} {page} {end} {first} {e} rest text (E
   kept = tt;
   refused = subst (λ (t : List ℕ). Wrote {E = F} old now f g t (Err d)) (append_assoc page first rest ∙ ap (λ (l : List ℕ). page ++ l) s)
       (Wrote-longer old now f g (page ++ first) rest e d w.refused);
+  emptied = w.emptied;
 }
 
 -- ---- lines

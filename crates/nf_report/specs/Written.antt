@@ -16,11 +16,11 @@ use Rattle.nf_formats.specs.Report.{for_each, label_lines, link_lines}
 abbrev pub Line : Type 0
 Line = List (List ℕ)
 
--- words that follow the first of their line: a space before each
+-- the words after the first of their line, with a space before each
 abbrev pub after_words : Line → List ℕ
 after_words words = flat_map (λ word. 32 ∷ word) words
 
--- lines were written to a sink: all of them, or the first bytes of their text where the sink's faults rose
+-- lines were written to a sink: all of them without a fault, or a proper prefix of their text with one fault
 abbrev pub WroteLines : {E : Type 0} → Option (List ℕ) → Option (List ℕ) → ℕ → ℕ → List Line → Result (Unit {0}) E → Type 0
 WroteLines took_before took_now faults_before faults_now lines result =
     Wrote took_before took_now faults_before faults_now (flat_map line_of_words lines) result
@@ -29,7 +29,7 @@ WroteLines took_before took_now faults_before faults_now lines result =
 abbrev pub point_line : List ℕ → Name → ℚ × ℚ → Line
 point_line key name p = key ∷ name ∷ printed p.0 ∷ printed p.1 ∷ []
 
--- the rate from a point on, or `-` where there is none
+-- the rate from a point on, or `-` if there is none
 abbrev pub rate_word : Option ℚ → List ℕ
 rate_word None = codes "-"
 rate_word (Some rate) = printed rate
@@ -37,7 +37,7 @@ rate_word (Some rate) = printed rate
 abbrev pub trace_line : List ℕ → Name → ℚ × ℚ → Option ℚ → Line
 trace_line key name p rate = key ∷ name ∷ printed p.0 ∷ printed p.1 ∷ rate_word rate ∷ []
 
--- ---- the head of a report, its idle nodes, and its flow
+-- ---- the head of a report, its unreached nodes, and its flow
 abbrev pub head_lines : ℕ → ℚ → ℚ → Option (Cause ℚ) → List Line
 head_lines version horizon reached stop = (codes "report" ∷ digits_of version ∷ [])
     ∷ (codes "horizon" ∷ printed horizon ∷ [])
@@ -48,7 +48,7 @@ head_lines version horizon reached stop = (codes "report" ∷ digits_of version 
 abbrev pub never_lines : List Name → List Line
 never_lines names = map (λ name. codes "never" ∷ name ∷ []) names
 
--- the labels of the nodes, the idle nodes, and the curves of the links
+-- the labels of the nodes, the unreached nodes, and the curves of the links
 abbrev pub flow_lines : Named → Flow → List Line
 flow_lines n flow = for_each n.net.nodes (label_lines n flow) ++ never_lines n.idle_nodes
     ++ for_each (length n.net.links) (link_lines n flow)

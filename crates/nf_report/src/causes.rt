@@ -53,14 +53,14 @@ fn state_text(state: State) -> &'static [u8]
     }
 }
 
-/// Puts the line of a number on the page, behind a first word.
+/// Puts a line on the page: this word and this number. After an `Err` the page is empty.
 pub fn put_number<O: Sink>(
     out: &mut O,
     page: &mut Page,
     key: &[u8],
     number: Q,
 ) -> Result<(), SinkFault>
-    ensures { GatheredLines (O.took out.old) (O.took out.new) (O.faults out.old) (O.faults out.new) page.old.items page.new.items
+    ensures { GatheredLines (O.took out.old) (O.took out.new) (O.faults out.old) (O.faults out.new) page.old page.new
         ((key.now ∷ printed number ∷ []) ∷ []) result }
 {
     let mut text = TextBuf::new();
@@ -68,7 +68,7 @@ pub fn put_number<O: Sink>(
     put_line(out, page, key, &[text.text()])
 }
 
-// A cause with one count.
+// Puts a cause with one count.
 fn put_counted<O: Sink>(
     out: &mut O,
     page: &mut Page,
@@ -76,7 +76,7 @@ fn put_counted<O: Sink>(
     word: &[u8],
     count: u64,
 ) -> Result<(), SinkFault>
-    ensures { GatheredLines (O.took out.old) (O.took out.new) (O.faults out.old) (O.faults out.new) page.old.items page.new.items
+    ensures { GatheredLines (O.took out.old) (O.took out.new) (O.faults out.old) (O.faults out.new) page.old page.new
         ((key.now ∷ word.now ∷ digits_of count ∷ []) ∷ []) result }
 {
     let mut text = TextBuf::new();
@@ -91,7 +91,7 @@ fn put_patterns<O: Sink>(
     phase: u64,
     tried: u64,
 ) -> Result<(), SinkFault>
-    ensures { GatheredLines (O.took out.old) (O.took out.new) (O.faults out.old) (O.faults out.new) page.old.items page.new.items
+    ensures { GatheredLines (O.took out.old) (O.took out.new) (O.faults out.old) (O.faults out.new) page.old page.new
         ((key.now ∷ codes "patterns" ∷ digits_of phase ∷ digits_of tried ∷ []) ∷ []) result }
 {
     let mut first = TextBuf::new();
@@ -101,7 +101,7 @@ fn put_patterns<O: Sink>(
     put_line(out, page, key, &[b"patterns", first.text(), second.text()])
 }
 
-// An operation that passes: the words for its phase, part, place and operation, and then its operands.
+// Puts an operation that passes: the words for its phase, part, place and operation, and its operands.
 fn put_operation<'w, O: Sink>(
     out: &mut O,
     page: &mut Page,
@@ -112,7 +112,7 @@ fn put_operation<'w, O: Sink>(
     op: &'w [u8],
     at: &PassedAt<Q>,
 ) -> Result<(), SinkFault>
-    ensures { GatheredLines (O.took out.old) (O.took out.new) (O.faults out.old) (O.faults out.new) page.old.items page.new.items
+    ensures { GatheredLines (O.took out.old) (O.took out.new) (O.faults out.old) (O.faults out.new) page.old page.new
         ((key.now ∷ codes "passed" ∷ phase.now ∷ part.now ∷ place.now ∷ op.now
         ∷ printed at.now.left ∷ printed at.now.right ∷ []) ∷ []) result }
 {
@@ -136,7 +136,7 @@ fn put_passed<O: Sink>(
     place: Option<u64>,
     at: &PassedAt<Q>,
 ) -> Result<(), SinkFault>
-    ensures { GatheredLines (O.took out.old) (O.took out.new) (O.faults out.old) (O.faults out.new) page.old.items page.new.items
+    ensures { GatheredLines (O.took out.old) (O.took out.new) (O.faults out.old) (O.faults out.new) page.old page.new
         ((key.now ∷ passed_words (Some phase) place at.now) ∷ []) result }
 {
     let mut phase_word = TextBuf::new();
@@ -169,8 +169,9 @@ fn put_passed<O: Sink>(
     }
 }
 
-/// Writes the line that says which operation passes in a command of one call, behind a first word. There is no phase and no place.
-/// Where the sink fails, it has taken the first bytes, and not all of them. It takes no memory.
+/// Writes a line: this word, and the operation that passes in a command without phases. Allocates nothing.
+///
+/// The first fault ends the writing; the sink then took a proper prefix of the line.
 pub fn write_passed_call<O: Sink>(
     out: &mut O,
     key: &[u8],
@@ -186,9 +187,9 @@ pub fn write_passed_call<O: Sink>(
     write_text(out, page.as_slice())
 }
 
-// The line that says why a run stopped, behind a first word.
+// Puts a line: this word, and why a run stopped.
 fn put_stop<O: Sink>(out: &mut O, page: &mut Page, key: &[u8], stop: &Stop) -> Result<(), SinkFault>
-    ensures { GatheredLines (O.took out.old) (O.took out.new) (O.faults out.old) (O.faults out.new) page.old.items page.new.items
+    ensures { GatheredLines (O.took out.old) (O.took out.new) (O.faults out.old) (O.faults out.new) page.old page.new
         ((key.now ∷ cause_words (Some stop.now)) ∷ []) result }
 {
     match stop {
@@ -199,8 +200,9 @@ fn put_stop<O: Sink>(out: &mut O, page: &mut Page, key: &[u8], stop: &Stop) -> R
     }
 }
 
-/// Writes the line that says why a run stopped, behind a first word. Where the sink fails, it has taken the first bytes,
-/// and not all of them. It takes no memory.
+/// Writes a line: this word, and why a run stopped. Allocates nothing.
+///
+/// The first fault ends the writing; the sink then took a proper prefix of the line.
 pub fn write_stop<O: Sink>(out: &mut O, key: &[u8], stop: &Stop) -> Result<(), SinkFault>
     ensures { WroteLines (O.took out.old) (O.took out.new) (O.faults out.old) (O.faults out.new)
         ((key.now ∷ cause_words (Some stop.now)) ∷ []) result }
@@ -210,13 +212,13 @@ pub fn write_stop<O: Sink>(out: &mut O, key: &[u8], stop: &Stop) -> Result<(), S
     write_text(out, page.as_slice())
 }
 
-/// Puts the line of the cause for which a run stopped on the page: `done` where there is no stop.
+/// Puts a line on the page: `cause`, and why a run stopped, or `done` without a stop. After an `Err` the page is empty.
 pub fn put_cause<O: Sink>(
     out: &mut O,
     page: &mut Page,
     stop: Option<&Stop>,
 ) -> Result<(), SinkFault>
-    ensures { GatheredLines (O.took out.old) (O.took out.new) (O.faults out.old) (O.faults out.new) page.old.items page.new.items
+    ensures { GatheredLines (O.took out.old) (O.took out.new) (O.faults out.old) (O.faults out.new) page.old page.new
         ((codes "cause" ∷ cause_words (option_copied stop.entry)) ∷ []) result }
 {
     match stop {
@@ -225,27 +227,27 @@ pub fn put_cause<O: Sink>(
     }
 }
 
-// The line of a link's state.
+// Puts the line of a link's state.
 fn put_named_state<O: Sink>(
     out: &mut O,
     page: &mut Page,
     name: &[u8],
     word: &[u8],
 ) -> Result<(), SinkFault>
-    ensures { GatheredLines (O.took out.old) (O.took out.new) (O.faults out.old) (O.faults out.new) page.old.items page.new.items
+    ensures { GatheredLines (O.took out.old) (O.took out.new) (O.faults out.old) (O.faults out.new) page.old page.new
         ((codes "state" ∷ name.now ∷ word.now ∷ []) ∷ []) result }
 {
     put_line(out, page, b"state", &[name, word])
 }
 
-/// The line of a link's state, where it has one.
+/// Puts the line of a link's state, if it has one.
 pub(crate) fn put_state<O: Sink>(
     out: &mut O,
     page: &mut Page,
     name: &[u8],
     state: Option<State>,
 ) -> Result<(), SinkFault>
-    ensures { GatheredLines (O.took out.old) (O.took out.new) (O.faults out.old) (O.faults out.new) page.old.items page.new.items
+    ensures { GatheredLines (O.took out.old) (O.took out.new) (O.faults out.old) (O.faults out.new) page.old page.new
         (state_line name.now state) result }
 {
     match state {

@@ -11,7 +11,7 @@ use nf_curve::{Curve, Trace};
 use nf_edge::{Sink, SinkFault, write_text};
 use nf_frac::{Q, TextBuf};
 
-// A time and a value.
+// Puts a time and a value.
 fn put_point<O: Sink>(
     out: &mut O,
     page: &mut Page,
@@ -19,7 +19,7 @@ fn put_point<O: Sink>(
     name: &[u8],
     point: (Q, Q),
 ) -> Result<(), SinkFault>
-    ensures { GatheredLines (O.took out.old) (O.took out.new) (O.faults out.old) (O.faults out.new) page.old.items page.new.items
+    ensures { GatheredLines (O.took out.old) (O.took out.new) (O.faults out.old) (O.faults out.new) page.old page.new
         (point_line key.now name.now point ∷ []) result }
 {
     let mut time = TextBuf::new();
@@ -29,7 +29,7 @@ fn put_point<O: Sink>(
     put_line(out, page, key, &[name, time.text(), value.text()])
 }
 
-/// The points of a curve.
+/// Puts the points of a curve.
 pub(crate) fn put_curve<O: Sink>(
     out: &mut O,
     page: &mut Page,
@@ -37,7 +37,7 @@ pub(crate) fn put_curve<O: Sink>(
     name: &[u8],
     curve: &Curve,
 ) -> Result<(), SinkFault>
-    ensures { GatheredLines (O.took out.old) (O.took out.new) (O.faults out.old) (O.faults out.new) page.old.items page.new.items
+    ensures { GatheredLines (O.took out.old) (O.took out.new) (O.faults out.old) (O.faults out.new) page.old page.new
         (point_lines key.now name.now curve.now.points) result }
 {
     for index in 0..curve.len() {
@@ -46,8 +46,9 @@ pub(crate) fn put_curve<O: Sink>(
     Ok(())
 }
 
-/// Writes the points of a curve, each in a line with this word and this name first: its time and its value. Where the sink fails, it has
-/// taken the first bytes, and not all of them. It takes no memory.
+/// Writes a line for each point of a curve: this word, this name, the point's time and its value. Allocates nothing.
+///
+/// The first fault ends the writing; the sink then took a proper prefix of the lines.
 pub fn write_curve<O: Sink>(
     out: &mut O,
     key: &[u8],
@@ -62,7 +63,7 @@ pub fn write_curve<O: Sink>(
     write_text(out, page.as_slice())
 }
 
-// A time and a value, with the rate from then on, or `-` where there is none.
+// Puts a time and a value, with the rate from then on, or `-` if there is none.
 fn put_rated_point<O: Sink>(
     out: &mut O,
     page: &mut Page,
@@ -71,7 +72,7 @@ fn put_rated_point<O: Sink>(
     point: (Q, Q),
     rate: Option<Q>,
 ) -> Result<(), SinkFault>
-    ensures { GatheredLines (O.took out.old) (O.took out.new) (O.faults out.old) (O.faults out.new) page.old.items page.new.items
+    ensures { GatheredLines (O.took out.old) (O.took out.new) (O.faults out.old) (O.faults out.new) page.old page.new
         (trace_line key.now name.now point rate ∷ []) result }
 {
     let mut time = TextBuf::new();
@@ -93,7 +94,7 @@ fn put_rated_point<O: Sink>(
     }
 }
 
-// The rate from the point of this number on, where there is one.
+// Returns the rate from the point of this number on, if there is one.
 fn rate_at(rates: &[Q], index: usize) -> Option<Q>
     ensures { result ≡ slice_get rates.now index }
 {
@@ -104,7 +105,7 @@ fn rate_at(rates: &[Q], index: usize) -> Option<Q>
     }
 }
 
-/// The points of a curve with the rates between them.
+/// Puts the points of a curve with the rates between them.
 pub(crate) fn put_trace<O: Sink>(
     out: &mut O,
     page: &mut Page,
@@ -112,7 +113,7 @@ pub(crate) fn put_trace<O: Sink>(
     name: &[u8],
     trace: &Trace,
 ) -> Result<(), SinkFault>
-    ensures { GatheredLines (O.took out.old) (O.took out.new) (O.faults out.old) (O.faults out.new) page.old.items page.new.items
+    ensures { GatheredLines (O.took out.old) (O.took out.new) (O.faults out.old) (O.faults out.new) page.old page.new
         (trace_lines key.now name.now trace.now.curve.points trace.now.rates.items) result }
 {
     for index in 0..trace.curve.len() {
@@ -128,7 +129,7 @@ pub(crate) fn put_trace<O: Sink>(
     Ok(())
 }
 
-/// The curves of a link: its inflow, its outflow and its queue.
+/// Puts the curves of a link: its inflow, its outflow and its queue.
 pub(crate) fn put_link<O: Sink>(
     out: &mut O,
     page: &mut Page,
@@ -137,7 +138,7 @@ pub(crate) fn put_link<O: Sink>(
     outflow: &Trace,
     queue: &Curve,
 ) -> Result<(), SinkFault>
-    ensures { GatheredLines (O.took out.old) (O.took out.new) (O.faults out.old) (O.faults out.new) page.old.items page.new.items
+    ensures { GatheredLines (O.took out.old) (O.took out.new) (O.faults out.old) (O.faults out.new) page.old page.new
         (trace_lines (codes "inflow") name.now inflow.now.curve.points inflow.now.rates.items
         ++ trace_lines (codes "outflow") name.now outflow.now.curve.points outflow.now.rates.items
         ++ point_lines (codes "queue") name.now queue.now.points) result }

@@ -6,18 +6,18 @@ ghost use Rattle.nf_report.specs.Pages.{Gathered, GatheredLines};
 use crate::pages::{Page, put};
 use nf_edge::{Sink, SinkFault, write_text};
 
-// A word that isn't the first of its line.
+// Puts a word that isn't the first of its line.
 fn put_word<O: Sink>(out: &mut O, page: &mut Page, word: &[u8]) -> Result<(), SinkFault>
-    ensures { Gathered (O.took out.old) (O.took out.new) (O.faults out.old) (O.faults out.new) page.old.items page.new.items
+    ensures { Gathered (O.took out.old) (O.took out.new) (O.faults out.old) (O.faults out.new) page.old page.new
         (32 ∷ word.now) result }
 {
     put(out, page, b" ")?;
     put(out, page, word)
 }
 
-// Words that follow the first of their line.
+// Puts the words after the first of their line.
 fn put_words<O: Sink>(out: &mut O, page: &mut Page, words: &[&[u8]]) -> Result<(), SinkFault>
-    ensures { Gathered (O.took out.old) (O.took out.new) (O.faults out.old) (O.faults out.new) page.old.items page.new.items
+    ensures { Gathered (O.took out.old) (O.took out.new) (O.faults out.old) (O.faults out.new) page.old page.new
         (after_words (map (λ w. w.now) words.now)) result }
 {
     for word in words {
@@ -26,15 +26,17 @@ fn put_words<O: Sink>(out: &mut O, page: &mut Page, words: &[&[u8]]) -> Result<(
     Ok(())
 }
 
-/// Puts the line of these words on the page. Where the sink fails, it has taken the first bytes of the page and the line,
-/// and not all of them. It takes no memory, nor does any other call that puts lines.
+/// Puts the line of these words on the page, and writes the page whenever it is full. Allocates nothing.
+///
+/// The first fault ends the writing. Then the sink took a proper prefix of the page and the line, and the page is empty. So it is with each
+/// call that puts lines.
 pub fn put_line<O: Sink>(
     out: &mut O,
     page: &mut Page,
     first: &[u8],
     words: &[&[u8]],
 ) -> Result<(), SinkFault>
-    ensures { GatheredLines (O.took out.old) (O.took out.new) (O.faults out.old) (O.faults out.new) page.old.items page.new.items
+    ensures { GatheredLines (O.took out.old) (O.took out.new) (O.faults out.old) (O.faults out.new) page.old page.new
         ((first.now ∷ map (λ w. w.now) words.now) ∷ []) result }
 {
     put(out, page, first)?;
@@ -42,8 +44,9 @@ pub fn put_line<O: Sink>(
     put(out, page, b"\n")
 }
 
-/// Writes the line of these words, in one piece where it isn't very long. Where the sink fails, it has taken the first bytes,
-/// and not all of them. It takes no memory.
+/// Writes the line of these words, in one write if it has at most 4096 bytes. Allocates nothing.
+///
+/// The first fault ends the writing; the sink then took a proper prefix of the line.
 pub fn write_line<O: Sink>(out: &mut O, first: &[u8], words: &[&[u8]]) -> Result<(), SinkFault>
     ensures { WroteLines (O.took out.old) (O.took out.new) (O.faults out.old) (O.faults out.new)
         ((first.now ∷ map (λ w. w.now) words.now) ∷ []) result }

@@ -1,42 +1,87 @@
-// Bytes that are gathered on a page before they are written.
-ghost use Rattle.std.specs.Prelude.{◌≡◌, [], OnOk};
+// Bytes gathered on a page before they are written.
+ghost use Rattle.std.specs.Prelude.{◌≡◌, [], ◌++◌, OnOk, OnErr};
 ghost use Rattle.nf_edge.specs.Taken.{Wrote};
 ghost use Rattle.nf_report.specs.Pages.{Gathered};
 
-use arrayvec::ArrayVec;
+use arrayvec::{ArrayVec, CapacityError};
 use nf_edge::{Sink, SinkFault, write_text};
+use std::marker::Model;
 
-/// The bytes that wait to be written, of which 4096 fit.
-pub type Page = ArrayVec<u8, 4096>;
-
-// Writes the page, which is empty then.
-fn write_page<O: Sink>(out: &mut O, page: &mut Page) -> Result<(), SinkFault>
-    ensures wrote { Wrote (O.took out.old) (O.took out.new) (O.faults out.old) (O.faults out.new) page.old.items result }
-    ensures empty { OnOk result (page.new.items ≡ []) }
-{
-    write_text(out, page.as_slice())?;
-    page.clear();
-    Ok(())
+/// A buffer of at most 4096 bytes that wait to be written together. Proofs see it as the list of its bytes.
+#[derive(Drop)]
+pub struct Page {
+    bytes: ArrayVec<u8, 4096>,
 }
 
-// Bytes for which the page has no room.
+impl Model for Page {
+    ghost use Rattle.std.specs.Prelude.{ℕ, List};
+
+    ghost Value = { List ℕ };
+
+    ghost view = { λ page. page.bytes.items };
+}
+
+impl Page {
+    /// Returns an empty page.
+    pub fn new() -> Page
+        ensures { result ≡ [] }
+    {
+        Page {
+            bytes: ArrayVec::new(),
+        }
+    }
+
+    /// Returns the bytes on the page.
+    pub fn as_slice(&self) -> &[u8]
+        ensures value { result.now ≡ self.now }
+    {
+        self.bytes.as_slice()
+    }
+
+    // Appends the bytes, or leaves the page unchanged if they don't fit.
+    fn append(&mut self, bytes: &[u8]) -> Result<(), CapacityError>
+        ensures ok { OnOk result (self.new ≡ self.old ++ bytes.now) }
+        ensures err { OnErr result (self.new ≡ self.old) }
+    {
+        self.bytes.try_extend_from_slice(bytes)
+    }
+
+    // Removes all bytes.
+    fn clear(&mut self)
+        ensures { self.new ≡ [] }
+    {
+        self.bytes.clear();
+    }
+}
+
+// Writes the page and empties it.
+fn write_page<O: Sink>(out: &mut O, page: &mut Page) -> Result<(), SinkFault>
+    ensures wrote { Wrote (O.took out.old) (O.took out.new) (O.faults out.old) (O.faults out.new) page.old result }
+    ensures empty { page.new ≡ [] }
+{
+    let wrote = write_text(out, page.as_slice());
+    page.clear();
+    wrote
+}
+
+// Writes the page, and then puts bytes on it for which it had no room.
 fn put_on_next<O: Sink>(out: &mut O, page: &mut Page, bytes: &[u8]) -> Result<(), SinkFault>
     ensures { Gathered (O.took out.old) (O.took out.new) (O.faults out.old)
-        (O.faults out.new) page.old.items page.new.items bytes.now result }
+        (O.faults out.new) page.old page.new bytes.now result }
 {
     write_page(out, page)?;
-    match page.try_extend_from_slice(bytes) {
+    match page.append(bytes) {
         Ok(()) => Ok(()),
         Err(_) => write_text(out, bytes),
     }
 }
 
-/// Puts bytes on the page, which is written first where they don't fit.
+/// Puts bytes on the page. Writes the page first if they don't fit.
 pub(crate) fn put<O: Sink>(out: &mut O, page: &mut Page, bytes: &[u8]) -> Result<(), SinkFault>
     ensures { Gathered (O.took out.old) (O.took out.new) (O.faults out.old)
-        (O.faults out.new) page.old.items page.new.items bytes.now result }
+        (O.faults out.new) page.old page.new bytes.now result }
 {
-    match page.try_extend_from_slice(bytes) {
+    match page.append(bytes) {
         Ok(()) => Ok(()),
         Err(_) => put_on_next(out, page, bytes),
     }

@@ -1,5 +1,5 @@
 // The parts of a report by the nodes and links of a network.
-ghost use Rattle.std.specs.Prelude.{◌≡◌, ◌<◌, [], ◌∷◌, length, codes};
+ghost use Rattle.std.specs.Prelude.{◌≡◌, ◌<◌, [], ◌∷◌, length, codes, Ok};
 ghost use Rattle.std.specs.Option.{option_copied};
 ghost use Rattle.nf_numerals.specs.Digits.{digits_of};
 ghost use Rattle.nf_edge.specs.Taken.{Wrote};
@@ -7,6 +7,7 @@ ghost use Rattle.nf_model.specs.Equilibrium.{HasShape};
 ghost use Rattle.nf_formats.specs.Report.{IsWellFormed, report_lines, report_text};
 ghost use Rattle.nf_formats.specs.Names.{name_at};
 ghost use Rattle.nf_formats.specs.Report.{for_each, label_lines, link_lines, state_lines};
+ghost use Rattle.nf_readings.specs.ReportFile.{report_in};
 ghost use Rattle.nf_curve.specs.Flows.{flow_of};
 ghost use Rattle.nf_report.specs.Written.{never_lines, flow_lines, head_lines};
 ghost use Rattle.nf_report.specs.Pages.{GatheredLines};
@@ -15,6 +16,7 @@ use crate::causes::{put_cause, put_number, put_state};
 use crate::curves::{put_curve, put_link};
 use crate::line::put_line;
 use crate::pages::Page;
+use crate::read_back::written_reads_back;
 use nf_curve::{Flow, Stop};
 use nf_edge::{Sink, SinkFault, write_text};
 use nf_frac::{Q, TextBuf};
@@ -22,7 +24,7 @@ use nf_net::{LinkId, Network, NodeId};
 use nf_numerals::write_count;
 use nf_pattern::Pattern;
 
-// The label of a node.
+// Puts the label of a node.
 fn put_label<O: Sink>(
     out: &mut O,
     page: &mut Page,
@@ -32,7 +34,7 @@ fn put_label<O: Sink>(
 ) -> Result<(), SinkFault>
     requires node { node < net.now.net.nodes }
     requires labels { length flow.now.labels.items ≡ net.now.net.nodes }
-    ensures { GatheredLines (O.took out.old) (O.took out.new) (O.faults out.old) (O.faults out.new) page.old.items page.new.items
+    ensures { GatheredLines (O.took out.old) (O.took out.new) (O.faults out.old) (O.faults out.new) page.old page.new
         (label_lines net.now (flow_of flow.now) node) result }
 {
     let name = net.node_name(NodeId(node)).as_bytes();
@@ -40,7 +42,7 @@ fn put_label<O: Sink>(
     put_curve(out, page, b"label", name, label)
 }
 
-// The labels of all nodes: a flow has a label curve for each.
+// Puts the labels of all nodes. The flow has a label curve for each.
 fn put_labels<O: Sink>(
     out: &mut O,
     page: &mut Page,
@@ -48,7 +50,7 @@ fn put_labels<O: Sink>(
     flow: &Flow,
 ) -> Result<(), SinkFault>
     requires { length flow.now.labels.items ≡ net.now.net.nodes }
-    ensures { GatheredLines (O.took out.old) (O.took out.new) (O.faults out.old) (O.faults out.new) page.old.items page.new.items
+    ensures { GatheredLines (O.took out.old) (O.took out.new) (O.faults out.old) (O.faults out.new) page.old page.new
         (for_each net.now.net.nodes (label_lines net.now (flow_of flow.now))) result }
 {
     for node in 0..net.node_count() {
@@ -57,7 +59,7 @@ fn put_labels<O: Sink>(
     Ok(())
 }
 
-// The curves of a link.
+// Puts the curves of a link.
 fn put_curves<O: Sink>(
     out: &mut O,
     page: &mut Page,
@@ -69,7 +71,7 @@ fn put_curves<O: Sink>(
     requires inflows { length flow.now.inflows.items ≡ length net.now.net.links }
     requires outflows { length flow.now.outflows.items ≡ length net.now.net.links }
     requires queues { length flow.now.queues.items ≡ length net.now.net.links }
-    ensures { GatheredLines (O.took out.old) (O.took out.new) (O.faults out.old) (O.faults out.new) page.old.items page.new.items
+    ensures { GatheredLines (O.took out.old) (O.took out.new) (O.faults out.old) (O.faults out.new) page.old page.new
         (link_lines net.now (flow_of flow.now) link) result }
 {
     let name = net.link_name(LinkId(link)).as_bytes();
@@ -79,7 +81,7 @@ fn put_curves<O: Sink>(
     put_link(out, page, name, inflow, outflow, queue)
 }
 
-// The curves of all links: a flow has an inflow, an outflow and a queue for each.
+// Puts the curves of all links. The flow has an inflow, an outflow and a queue for each.
 fn put_links<O: Sink>(
     out: &mut O,
     page: &mut Page,
@@ -89,7 +91,7 @@ fn put_links<O: Sink>(
     requires inflows { length flow.now.inflows.items ≡ length net.now.net.links }
     requires outflows { length flow.now.outflows.items ≡ length net.now.net.links }
     requires queues { length flow.now.queues.items ≡ length net.now.net.links }
-    ensures { GatheredLines (O.took out.old) (O.took out.new) (O.faults out.old) (O.faults out.new) page.old.items page.new.items
+    ensures { GatheredLines (O.took out.old) (O.took out.new) (O.faults out.old) (O.faults out.new) page.old page.new
         (for_each (length net.now.net.links) (link_lines net.now (flow_of flow.now))) result }
 {
     for link in 0..net.link_count() {
@@ -98,7 +100,7 @@ fn put_links<O: Sink>(
     Ok(())
 }
 
-// The state of a link in the last phase.
+// Puts the state of a link in the last phase.
 fn put_state_of<O: Sink>(
     out: &mut O,
     page: &mut Page,
@@ -108,7 +110,7 @@ fn put_state_of<O: Sink>(
 ) -> Result<(), SinkFault>
     requires link { link < length net.now.net.links }
     requires states { length last.now ≡ length net.now.net.links }
-    ensures { GatheredLines (O.took out.old) (O.took out.new) (O.faults out.old) (O.faults out.new) page.old.items page.new.items
+    ensures { GatheredLines (O.took out.old) (O.took out.new) (O.faults out.old) (O.faults out.new) page.old page.new
         (state_lines net.now last.now link) result }
 {
     let name = net.link_name(LinkId(link)).as_bytes();
@@ -116,7 +118,8 @@ fn put_state_of<O: Sink>(
     put_state(out, page, name, state)
 }
 
-/// Puts the lines of the states of all links in a phase on the page, of those that have one: a pattern has an entry for each.
+/// Puts a line on the page for each link that has a state in the pattern. The pattern has an entry for each link. After an `Err` the page is
+/// empty.
 pub fn put_states<O: Sink>(
     out: &mut O,
     page: &mut Page,
@@ -124,7 +127,7 @@ pub fn put_states<O: Sink>(
     last: &Pattern,
 ) -> Result<(), SinkFault>
     requires { length last.now ≡ length net.now.net.links }
-    ensures { GatheredLines (O.took out.old) (O.took out.new) (O.faults out.old) (O.faults out.new) page.old.items page.new.items
+    ensures { GatheredLines (O.took out.old) (O.took out.new) (O.faults out.old) (O.faults out.new) page.old page.new
         (for_each (length net.now.net.links) (state_lines net.now last.now)) result }
 {
     for link in 0..net.link_count() {
@@ -133,7 +136,7 @@ pub fn put_states<O: Sink>(
     Ok(())
 }
 
-// The line of an idle node.
+// Puts the line of an unreached node.
 fn put_never<O: Sink>(
     out: &mut O,
     page: &mut Page,
@@ -141,16 +144,16 @@ fn put_never<O: Sink>(
     node: u32,
 ) -> Result<(), SinkFault>
     requires { node < length net.now.idle_nodes }
-    ensures { GatheredLines (O.took out.old) (O.took out.new) (O.faults out.old) (O.faults out.new) page.old.items page.new.items
+    ensures { GatheredLines (O.took out.old) (O.took out.new) (O.faults out.old) (O.faults out.new) page.old page.new
         ((codes "never" ∷ name_at net.now.idle_nodes node ∷ []) ∷ []) result }
 {
     let name = net.idle_name(node).as_bytes();
     put_line(out, page, b"never", &[name])
 }
 
-// The idle nodes.
+// Puts the unreached nodes.
 fn put_idle<O: Sink>(out: &mut O, page: &mut Page, net: &Network) -> Result<(), SinkFault>
-    ensures { GatheredLines (O.took out.old) (O.took out.new) (O.faults out.old) (O.faults out.new) page.old.items page.new.items
+    ensures { GatheredLines (O.took out.old) (O.took out.new) (O.faults out.old) (O.faults out.new) page.old page.new
         (never_lines net.now.idle_nodes) result }
 {
     for node in 0..net.idle_count() {
@@ -159,7 +162,8 @@ fn put_idle<O: Sink>(out: &mut O, page: &mut Page, net: &Network) -> Result<(), 
     Ok(())
 }
 
-/// Puts the lines of a flow on the page: the labels of all nodes, the idle nodes, and the curves of all links.
+/// Puts the lines of a flow on the page: the labels of all nodes, the unreached nodes, and the curves of all links. The flow has a curve for each
+/// node and link. After an `Err` the page is empty.
 pub fn put_flow<O: Sink>(
     out: &mut O,
     page: &mut Page,
@@ -167,7 +171,7 @@ pub fn put_flow<O: Sink>(
     flow: &Flow,
 ) -> Result<(), SinkFault>
     requires { HasShape net.now.net (flow_of flow.now) }
-    ensures { GatheredLines (O.took out.old) (O.took out.new) (O.faults out.old) (O.faults out.new) page.old.items page.new.items
+    ensures { GatheredLines (O.took out.old) (O.took out.new) (O.faults out.old) (O.faults out.new) page.old page.new
         (flow_lines net.now (flow_of flow.now)) result }
 {
     put_labels(out, page, net, flow)?;
@@ -175,9 +179,9 @@ pub fn put_flow<O: Sink>(
     put_links(out, page, net, flow)
 }
 
-// The first line, which has the version.
+// Puts the first line, which has the version.
 fn put_version<O: Sink>(out: &mut O, page: &mut Page, version: u32) -> Result<(), SinkFault>
-    ensures { GatheredLines (O.took out.old) (O.took out.new) (O.faults out.old) (O.faults out.new) page.old.items page.new.items
+    ensures { GatheredLines (O.took out.old) (O.took out.new) (O.faults out.old) (O.faults out.new) page.old page.new
         ((codes "report" ∷ digits_of version ∷ []) ∷ []) result }
 {
     let mut text = TextBuf::new();
@@ -185,7 +189,7 @@ fn put_version<O: Sink>(out: &mut O, page: &mut Page, version: u32) -> Result<()
     put_line(out, page, b"report", &[text.text()])
 }
 
-// The head of the report: its version, how far the run was to go, how far it went, and why it stopped.
+// Puts the head of the report: its version, its horizon, the time reached, and why the run stopped.
 fn put_head<O: Sink>(
     out: &mut O,
     page: &mut Page,
@@ -194,7 +198,7 @@ fn put_head<O: Sink>(
     flow: &Flow,
     stopped: Option<&Stop>,
 ) -> Result<(), SinkFault>
-    ensures { GatheredLines (O.took out.old) (O.took out.new) (O.faults out.old) (O.faults out.new) page.old.items page.new.items
+    ensures { GatheredLines (O.took out.old) (O.took out.new) (O.faults out.old) (O.faults out.new) page.old page.new
         (head_lines net.now.version horizon flow.now.reached (option_copied stopped.entry)) result }
 {
     put_version(out, page, net.version())?;
@@ -203,7 +207,7 @@ fn put_head<O: Sink>(
     put_cause(out, page, stopped)
 }
 
-// The whole report.
+// Puts the whole report.
 fn put_report<O: Sink>(
     out: &mut O,
     page: &mut Page,
@@ -215,7 +219,7 @@ fn put_report<O: Sink>(
 ) -> Result<(), SinkFault>
     requires { IsWellFormed net.now.net
         (record { horizon = horizon; flow = flow_of flow.now; stop = option_copied stopped; last = last.now }) }
-    ensures { GatheredLines (O.took out.old) (O.took out.new) (O.faults out.old) (O.faults out.new) page.old.items page.new.items
+    ensures { GatheredLines (O.took out.old) (O.took out.new) (O.faults out.old) (O.faults out.new) page.old page.new
         (report_lines net.now (record { horizon = horizon; flow = flow_of flow.now; stop = option_copied stopped.entry; last = last.now }))
         result }
 {
@@ -225,9 +229,11 @@ fn put_report<O: Sink>(
     put_line(out, page, b"end", &[])
 }
 
-/// Writes the text of a report: of the flow of a run to a horizon, with the cause for which it stopped, if it did, and the
-/// states of the links in its last phase. Where the sink fails, it has taken the text's first bytes, and not all of them. It takes no
-/// memory.
+/// Writes the text of a report: the horizon, the flow up to the time reached, why the run stopped if it did, and the links' states in its
+/// last phase. Times, amounts and rates are exact fractions. Allocates nothing.
+///
+/// The report must be well formed: a curve for each node and link of the network, and a stop exactly if the time reached is below the horizon.
+/// The text is read back as this report. The first fault ends the writing; the sink then took a proper prefix of the text.
 pub fn write_report<O: Sink>(
     net: &Network,
     horizon: Q,
@@ -238,10 +244,15 @@ pub fn write_report<O: Sink>(
 ) -> Result<(), SinkFault>
     requires { IsWellFormed net.now.net
         (record { horizon = horizon; flow = flow_of flow.now; stop = option_copied stopped; last = last.now }) }
-    ensures { Wrote (O.took out.old) (O.took out.new) (O.faults out.old) (O.faults out.new)
+    ensures wrote { Wrote (O.took out.old) (O.took out.new) (O.faults out.old) (O.faults out.new)
         (report_text net.now (record { horizon = horizon; flow = flow_of flow.now; stop = option_copied stopped.entry; last = last.now }))
         result }
+    ensures reads_back { report_in net.now
+        (report_text net.now (record { horizon = horizon; flow = flow_of flow.now; stop = option_copied stopped.entry; last = last.now }))
+        ≡ Ok (record { horizon = horizon; flow = flow_of flow.now; stop = option_copied stopped.entry; last = last.now }) }
 {
+    // For the proof: all numbers and counts of the report can be read.
+    written_reads_back(net, horizon, flow, stopped, last);
     let mut page = Page::new();
     put_report(out, &mut page, net, horizon, flow, stopped, last)?;
     write_text(out, page.as_slice())

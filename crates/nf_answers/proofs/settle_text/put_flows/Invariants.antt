@@ -8,5 +8,5 @@ use Rattle.nf_answers.proofs.settle_text.put_flows.Given as goal
 
 abbrev pub invariant-loop-link : goal.invariant-loop-link
 invariant-loop-link g l = let out = g.O.Sink in
-    GatheredLines {E = SinkFault} (out.took l.initial.out) (out.took l.out) (out.faults l.initial.out) (out.faults l.out) l.initial.page.items l.page.items
+    GatheredLines {E = SinkFault} (out.took l.initial.out) (out.took l.out) (out.faults l.initial.out) (out.faults l.out) l.initial.page l.page
     (flat_map (flow_line l.net l.flows) (take l.link (range_with_len 0 (length l.net.net.links)))) (Ok tt)

@@ -1,4 +1,4 @@
-use Rattle.std.proofs.Common.{arith}
+use Rattle.std.proofs.Common.{◌∙◌}
 use Rattle.nf_edge.proofs.Pieces.{took_more, still_within}
 use Rattle.nf_edge.proofs.writing.write_text.Goals as goal
 
@@ -6,5 +6,5 @@ pub loop-done-preserved : goal.loop-done-preserved
 loop-done-preserved g c = record {
   within = still_within c.args.text.now c.loop-done.done c.in_ok-done.field-0 c.loop-done.invariant.within c.in_ok-done.ensures.within;
   took = took_more (g.O.Sink.took c.args.out.now) (g.O.Sink.took c.loop-done.out) (g.O.Sink.took c.write.new.self) c.args.text.now c.loop-done.done c.in_ok-done.field-0 c.loop-done.invariant.took c.in_ok-done.ensures.took;
-  never_falls = omega (arith, c.loop-done.invariant.never_falls, c.in_ok-done.ensures.never_falls);
+  no_fault = c.in_ok-done.ensures.no_fault ∙ c.loop-done.invariant.no_fault;
 }

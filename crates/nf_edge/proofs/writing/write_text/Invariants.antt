@@ -7,7 +7,7 @@ invariant-loop-done g l = let out = g.O.Sink in
     record {
       within : l.done ≤ length l.text;
       took : out.took l.out ≡ with_more (out.took l.initial.out) (take l.done l.text);
-      never_falls : out.faults l.initial.out ≤ out.faults l.out;
+      no_fault : out.faults l.out ≡ out.faults l.initial.out;
     }
 
 abbrev pub decreases-loop-done : goal.decreases-loop-done

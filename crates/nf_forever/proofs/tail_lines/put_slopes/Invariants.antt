@@ -9,5 +9,5 @@ use Rattle.nf_forever.proofs.tail_lines.put_slopes.Given as goal
 
 abbrev pub invariant-loop-node : goal.invariant-loop-node
 invariant-loop-node g l = let out = g.O.Sink in
-    GatheredLines {E = SinkFault} (out.took l.initial.out) (out.took l.out) (out.faults l.initial.out) (out.faults l.out) l.initial.page.items l.page.items
+    GatheredLines {E = SinkFault} (out.took l.initial.out) (out.took l.out) (out.faults l.initial.out) (out.faults l.out) l.initial.page l.page
     (flat_map (slope_line l.net (tail_in l.tail)) (take l.node (range_with_len 0 l.net.net.nodes))) (Ok tt)

@@ -28,7 +28,7 @@ returns-in-Solved g c =
     let written : Report = record { horizon = c.in-Solved.horizon; flow = flow_of s.flow; stop = option_copied c.as_ref.result; last = s.last } in
     let same : written ≡ report_in c.in-Solved.horizon s = cc (c.as_ref.ensures.value) in
     same_text (report_text c.args.net.now written) (text_with c.args.net.now c.args.found.now) (ap (λ (r : Report). report_text c.args.net.now r) same ∙ sym (ap (text_with c.args.net.now) c.in-Solved.is))
-    c.write_report.ensures
+    c.write_report.ensures.wrote
 
 pub returns-in-Loaded : goal.returns-in-Loaded
 returns-in-Loaded g c =

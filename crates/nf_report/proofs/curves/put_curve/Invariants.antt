@@ -7,4 +7,4 @@ use Rattle.nf_report.proofs.curves.put_curve.Given as goal
 
 abbrev pub invariant-loop-index : goal.invariant-loop-index
 invariant-loop-index g l = let out = g.O.Sink in
-    GatheredLines {E = SinkFault} (out.took l.initial.out) (out.took l.out) (out.faults l.initial.out) (out.faults l.out) l.initial.page.items l.page.items (point_lines l.key l.name (take l.index l.curve.points)) (Ok tt)
+    GatheredLines {E = SinkFault} (out.took l.initial.out) (out.took l.out) (out.faults l.initial.out) (out.faults l.out) l.initial.page l.page (point_lines l.key l.name (take l.index l.curve.points)) (Ok tt)

@@ -7,5 +7,5 @@ use Rattle.nf_report.proofs.curves.put_trace.Given as goal
 
 abbrev pub invariant-loop-index : goal.invariant-loop-index
 invariant-loop-index g l = let out = g.O.Sink in
-    GatheredLines {E = SinkFault} (out.took l.initial.out) (out.took l.out) (out.faults l.initial.out) (out.faults l.out) l.initial.page.items l.page.items
+    GatheredLines {E = SinkFault} (out.took l.initial.out) (out.took l.out) (out.faults l.initial.out) (out.faults l.out) l.initial.page l.page
     (trace_lines l.key l.name (take l.index l.trace.curve.points) l.trace.rates.items) (Ok tt)

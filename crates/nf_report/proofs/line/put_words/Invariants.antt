@@ -7,4 +7,4 @@ use Rattle.nf_report.proofs.line.put_words.Given as goal
 
 abbrev pub invariant-loop-word : goal.invariant-loop-word
 invariant-loop-word g l = let out = g.O.Sink in
-    Gathered {E = SinkFault} (out.took l.initial.out) (out.took l.out) (out.faults l.initial.out) (out.faults l.out) l.initial.page.items l.page.items (after_words (take l.word-index (map (λ w. w.now) l.words))) (Ok tt)
+    Gathered {E = SinkFault} (out.took l.initial.out) (out.took l.out) (out.faults l.initial.out) (out.faults l.out) l.initial.page l.page (after_words (take l.word-index (map (λ w. w.now) l.words))) (Ok tt)

@@ -1,5 +1,3 @@
-use Rattle.std.proofs.Common.{ℕ, ap}
-use Rattle.arrayvec.specs.ArrayVec.{ArrayVec}
 use Rattle.nf_report.proofs.Gathering.{put_there, same_start}
 use Rattle.nf_report.proofs.pages.put.Goals as goal
 
@@ -7,4 +5,4 @@ pub returns-in-Ok : goal.returns-in-Ok
 returns-in-Ok g c = put_there _ _ _ c.in-Ok.ensures.ok
 
 pub returns-in-Err : goal.returns-in-Err
-returns-in-Err g c = same_start _ _ (ap (λ (p : ArrayVec ℕ). p.items) c.in-Err.ensures.err) c.put_on_next.ensures
+returns-in-Err g c = same_start _ _ c.in-Err.ensures.err c.put_on_next.ensures

@@ -7,4 +7,4 @@ use Rattle.nf_report.proofs.report.put_idle.Given as goal
 
 abbrev pub invariant-loop-node : goal.invariant-loop-node
 invariant-loop-node g l = let out = g.O.Sink in
-    GatheredLines {E = SinkFault} (out.took l.initial.out) (out.took l.out) (out.faults l.initial.out) (out.faults l.out) l.initial.page.items l.page.items (never_lines (take l.node l.net.idle_nodes)) (Ok tt)
+    GatheredLines {E = SinkFault} (out.took l.initial.out) (out.took l.out) (out.faults l.initial.out) (out.faults l.out) l.initial.page l.page (never_lines (take l.node l.net.idle_nodes)) (Ok tt)

@@ -9,5 +9,5 @@ use Rattle.nf_report.proofs.report.put_links.Given as goal
 
 abbrev pub invariant-loop-link : goal.invariant-loop-link
 invariant-loop-link g l = let out = g.O.Sink in
-    GatheredLines {E = SinkFault} (out.took l.initial.out) (out.took l.out) (out.faults l.initial.out) (out.faults l.out) l.initial.page.items l.page.items
+    GatheredLines {E = SinkFault} (out.took l.initial.out) (out.took l.out) (out.faults l.initial.out) (out.faults l.out) l.initial.page l.page
     (flat_map (link_lines l.net (flow_of l.flow)) (take l.link (range_with_len 0 (length l.net.net.links)))) (Ok tt)

@@ -1,0 +1,96 @@
+// Shows that each number of a flow and of a stop is a fraction that a file may have, and that each count has at most 64 bits.
+ghost use Rattle.std.specs.Prelude.{Some, map};
+ghost use Rattle.std.specs.List.{AllByRecursion};
+ghost use Rattle.std.specs.Option.{option_copied};
+ghost use Rattle.nf_formats.specs.WellNamed.{IsFraction};
+ghost use Rattle.nf_curve.specs.Flows.{trace_of};
+ghost use Rattle.nf_readings_laws.specs.Readable.{IsCount, IsCountOrNone, AreFractionPoints, IsFractionTrace, IsReadableCause};
+
+use nf_curve::{Curve, Stop, Trace};
+use nf_frac::Q;
+use nf_net_file::is_fraction;
+
+fn know_points(curve: &Curve)
+    ensures { AreFractionPoints curve.now.points }
+{
+    for index in 0..curve.len() {
+        let here = curve.point(index);
+        is_fraction(here.0);
+        is_fraction(here.1);
+    }
+}
+
+fn know_rates(rates: &[Q])
+    ensures { AllByRecursion IsFraction rates.now }
+{
+    for rate in rates {
+        is_fraction(*rate);
+    }
+}
+
+fn know_trace(trace: &Trace)
+    ensures { IsFractionTrace (trace_of trace.now) }
+{
+    know_points(&trace.curve);
+    know_rates(&trace.rates);
+}
+
+/// Shows this of the points of some curves.
+pub(crate) fn know_curves(curves: &[Curve])
+    ensures { AllByRecursion AreFractionPoints (map (λ c. c.points) curves.now) }
+{
+    for curve in curves {
+        know_points(curve);
+    }
+}
+
+/// Shows this of the points and rates of some traces.
+pub(crate) fn know_traces(traces: &[Trace])
+    ensures { AllByRecursion IsFractionTrace (map trace_of traces.now) }
+{
+    for trace in traces {
+        know_trace(trace);
+    }
+}
+
+fn know_count(count: u64)
+    ensures { IsCount count }
+{}
+
+fn know_place(place: Option<u64>)
+    ensures { IsCountOrNone place }
+{
+    match place {
+        None => {}
+        Some(number) => know_count(number),
+    }
+}
+
+fn know_stop(stop: &Stop)
+    ensures { IsReadableCause (Some stop.now) }
+{
+    match stop {
+        Stop::Phases { made } => know_count(*made),
+        Stop::Patterns { phase, tried } => {
+            know_count(*phase);
+            know_count(*tried);
+        }
+        Stop::Passed { phase, place, at } => {
+            know_count(*phase);
+            know_place(*place);
+            is_fraction(at.left);
+            is_fraction(at.right);
+        }
+        Stop::NoPattern { phase } => know_count(*phase),
+    }
+}
+
+/// Shows this of the numbers and counts of a stop, if there is one.
+pub(crate) fn know_cause(stopped: Option<&Stop>)
+    ensures { IsReadableCause (option_copied stopped.entry) }
+{
+    match stopped {
+        None => {}
+        Some(stop) => know_stop(stop),
+    }
+}
