@@ -14,32 +14,64 @@ use nf_graph::{LinkId, NodeId};
 use nf_net::Network;
 use std::alloc::{AllocError, Global};
 
-// A link has one end at a node, and isn't known to carry one number.
-fn is_open_at(net: &Network, ranges: &[Range], node: NodeId, link: LinkId) -> bool
-    requires link { link < length net.now.net.links }
-    requires ranges { length ranges.now ≡ length net.now.net.links }
-{
-    let hop = &net.hops()[link.index()];
-    let leaves = hop.tail == node;
-    let enters = hop.head == node;
-    leaves != enters && !range_at(ranges, link).is_one()
+// How many links at a node are open, not known to carry one number, and the sum of their numbers: where there is one, that is its number.
+// Nothing rests on it.
+#[derive(Clone, Copy)]
+struct OpenAt {
+    links: u32,
+    sum: u32,
+}
+
+// A link more is open at a node.
+fn open_at(open: &mut Vec<OpenAt>, node: NodeId, link: u32) {
+    if node.index() < open.len() {
+        let here = open[node.index()];
+        open[node.index()] = OpenAt {
+            links: here.links.saturating_add(1),
+            sum: here.sum.saturating_add(link),
+        };
+    }
+}
+
+// It is no longer open there.
+fn close_at(open: &mut Vec<OpenAt>, node: NodeId, link: u32) {
+    if node.index() < open.len() {
+        let here = open[node.index()];
+        open[node.index()] = OpenAt {
+            links: here.links.saturating_sub(1),
+            sum: here.sum.saturating_sub(link),
+        };
+    }
+}
+
+// The open links at each node.
+fn open_links(alloc: Global, net: &Network, ranges: &[Range]) -> Result<Vec<OpenAt>, AllocError> {
+    let none = OpenAt { links: 0, sum: 0 };
+    let mut open = vec![in alloc; none; net.node_count() as usize]?;
+    let mut link: u32 = 0;
+    for (hop, range) in net.hops().iter().zip(ranges.iter()) {
+        if hop.tail != hop.head && !range.is_one() {
+            open_at(&mut open, hop.tail, link);
+            open_at(&mut open, hop.head, link);
+        }
+        link = link.saturating_add(1);
+    }
+    Ok(open)
 }
 
 // The open link at a node; none where there is no such link, or more than one.
-fn only_open(net: &Network, ranges: &[Range], node: NodeId) -> Option<LinkId>
-    requires { length ranges.now ≡ length net.now.net.links }
+fn only_open(net: &Network, open: &[OpenAt], node: NodeId) -> Option<LinkId>
     ensures { IfSome result (λ link. link < length net.now.net.links) }
 {
-    let mut open = None;
-    for e in 0..net.link_count() {
-        if is_open_at(net, ranges, node, LinkId(e)) {
-            if open.is_some() {
-                return None;
-            }
-            open = Some(LinkId(e));
-        }
+    if node.index() >= open.len() {
+        return None;
     }
-    open
+    let here = open[node.index()];
+    if here.links == 1 && here.sum < net.link_count() {
+        Some(LinkId(here.sum))
+    } else {
+        None
+    }
 }
 
 // What is left for a link that leaves a node, or enters it, by what its other links send out of it beyond what they bring to it.
@@ -95,7 +127,13 @@ fn other_end(net: &Network, link: LinkId, node: NodeId) -> NodeId
 }
 
 // From a node on, as long as one link alone is open there, that one is closed; false where it can't be.
-fn close_from(net: &Network, rate: Q, ranges: &mut Vec<Range>, start: NodeId) -> bool
+fn close_from(
+    net: &Network,
+    rate: Q,
+    ranges: &mut Vec<Range>,
+    open: &mut Vec<OpenAt>,
+    start: NodeId,
+) -> bool
     requires start { start < net.now.net.nodes }
     requires ranges { length ranges.old.items ≡ length net.now.net.links }
     ensures count { length ranges.new.items ≡ length net.now.net.links }
@@ -103,13 +141,16 @@ fn close_from(net: &Network, rate: Q, ranges: &mut Vec<Range>, start: NodeId) ->
 {
     let mut node = start;
     for _ in 0..net.node_count() {
-        let Some(link) = only_open(net, ranges, node) else {
+        let Some(link) = only_open(net, open, node) else {
             return true;
         };
         if !close(net, rate, ranges, node, link) {
             return false;
         }
-        node = other_end(net, link, node);
+        let other = other_end(net, link, node);
+        close_at(open, node, link.0);
+        close_at(open, other, link.0);
+        node = other;
     }
     true
 }
@@ -124,8 +165,9 @@ pub(crate) fn comes_out(
     requires { length ranges.old.items ≡ length net.now.net.links }
     ensures { IfOk result (λ fits. (flow : ℕ → ℚ) → AreWithin ranges.old.items flow → Conserves net.now.net rate flow → fits ≡ true) }
 {
+    let mut open = open_links(alloc, net, ranges)?;
     for v in 0..net.node_count() {
-        if !close_from(net, rate, ranges, NodeId(v)) {
+        if !close_from(net, rate, ranges, &mut open, NodeId(v)) {
             return Ok(false);
         }
     }

@@ -1,7 +1,6 @@
-use Rattle.std.proofs.Common.{ℕ, ◌<◌, List, length, refl, sym, ap, subst, ◌∙◌}
+use Rattle.std.proofs.Common.{ℕ, ◌<◌, length, refl, sym, subst, ◌∙◌}
 use Rattle.std.proofs.lemmas.Bool.{true≢false}
 use Rattle.std.specs.Prelude.{Option, IfSome}
-use Rattle.nf_thin.specs.declared.ranges.Range.{Range}
 use Rattle.nf_thin.proofs.leaves.close_from.Goals as goal
 
 pub loop-init : goal.loop-init
@@ -16,16 +15,13 @@ returns-then-not-close-clause-keeps c flow within conserves =
 
 pub loop-preserved : goal.loop-preserved
 loop-preserved c = record {
-  node = c.other_end-node.ensures;
+  node = c.other_end-other.ensures;
   count = c.close.ensures.count;
   within = λ flow within conserves. (c.close.ensures.keeps flow (c.loop.invariant.within flow within conserves) conserves).1;
 }
 
 pub returns-clause-keeps : goal.returns-clause-keeps
 returns-clause-keeps c flow within conserves = (refl, c.loop.invariant.within flow within conserves)
-
-pub only_open-requires : goal.only_open-requires
-only_open-requires c = ap (λ (l : List Range). length l) c.deref.ensures.value ∙ c.loop.invariant.count
 
 pub close-requires-clause-node : goal.close-requires-clause-node
 close-requires-clause-node c = c.loop.invariant.node

@@ -23,8 +23,8 @@ pub close_from-requires-clause-ranges : goal.close_from-requires-clause-ranges
 close_from-requires-clause-ranges c = c.loop-v.invariant.count
 
 pub first_unbalanced-requires : goal.first_unbalanced-requires
-first_unbalanced-requires c = ap (λ (l : List Range). length l) c.deref.ensures.value ∙ c.loop-v.invariant.count
+first_unbalanced-requires c = ap (λ (l : List Range). length l) c.deref-2.ensures.value ∙ c.loop-v.invariant.count
 
 pub returns : goal.returns
 returns c flow within conserves = sym (none_flag c.in_ok-found.found None c.is_none.result
-    (c.in_ok-found.ensures flow (subst (λ (l : List Range). AreWithin l flow) (sym c.deref.ensures.value) (c.loop-v.invariant.within flow within conserves)) conserves) c.is_none.ensures)
+    (c.in_ok-found.ensures flow (subst (λ (l : List Range). AreWithin l flow) (sym c.deref-2.ensures.value) (c.loop-v.invariant.within flow within conserves)) conserves) c.is_none.ensures)
