@@ -61,8 +61,7 @@ def pieces_network(count):
 
 
 def grid_networks():
-    kinds = (("grid", (1, 9), (3, 12), (2, 10)), ("streets", (1, 2), (1, 4), (1, 4)))
-    return [city.grid(kind[0], size, 0, *kind[1:]) for size in (6, 7, 8) for kind in kinds]
+    return [city.grid("grid", size, seed, (1, 9), (3, 12), (2, 10)) for size in (6, 7, 8) for seed in range(2)]
 
 
 def random_networks():

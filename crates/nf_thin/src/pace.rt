@@ -13,8 +13,12 @@ use nf_net::Network;
 use nf_pattern::{Pattern, Patterns};
 use std::alloc::{AllocError, Global};
 
-/// After how many patterns in vain it is asked next whether so few assignments come before a pattern that it stands within the budget;
-/// and, from the first one on of which that isn't so, the whole list, which is gone through as far as the last pattern.
+// The whole list is gone through once so many patterns were in vain: before that, the next numbers of assignments often tell.
+const WALK_AFTER: u64 = 255;
+
+/// After how many patterns in vain it is asked next whether so few assignments come before a pattern that it stands within the budget, or
+/// so many listed ones that it stands beyond; and, once many patterns were in vain and neither tells, the whole list, which is gone through
+/// as far as the last pattern.
 #[derive(Drop)]
 pub(crate) struct Pace {
     pub(crate) asked: u64,
@@ -52,7 +56,7 @@ impl Pace {
     }
 
     /// Where the next pattern stands, which comes later than the last one: told by the assignments before it, after 0, 1, 3, 7 and so on
-    /// in vain, or by the whole list once they are too many.
+    /// in vain, or by the whole list once it is gone through.
     pub(crate) fn keep_up(
         &mut self,
         alloc: Global,
@@ -84,6 +88,9 @@ impl Pace {
         }
         if is_late(alloc, net, sets, base, pattern, budget)? {
             return Ok(Standing::Beyond);
+        }
+        if tried < WALK_AFTER {
+            return Ok(Standing::Unknown);
         }
         self.walk = Some(listing(alloc, net, sets, base)?);
         Ok(self.go_on(net, sets, base, pattern, budget))

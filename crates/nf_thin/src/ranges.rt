@@ -7,12 +7,21 @@ ghost use Rattle.nf_thin.specs.Ranges.{IsFrom, IsUpTo, IsWithin, IsEndOfSum, IsE
 
 use nf_frac::Q;
 use nf_model::State;
+use std::alloc::AllocError;
 
 /// The numbers from a least to a greatest one. Where one of these is wanting, there is no bound on its side.
-#[derive(Clone, Copy)]
+#[derive(Copy)]
 pub(crate) struct Range {
     pub(crate) least: Option<Q>,
     pub(crate) greatest: Option<Q>,
+}
+
+impl Clone for Range {
+    ghost is_clone = { λ x y. y ≡ x };
+
+    fn clone(&self) -> Result<Self, AllocError> {
+        Ok(*self)
+    }
 }
 
 // The sum of two ends, if both are known and it doesn't pass.
