@@ -27,7 +27,6 @@ pub fn link_of(net: &Network, word: &[u8]) -> Option<LinkId>
 
 /// Returns the link that a word names, as `link_of` does. The name of the link `near` is compared first, for speed: neighbouring
 /// lines of a file often name the same link.
-#[tactic(auto, using(crate::proofs::NamesOf::near_is_there))]
 pub fn link_near(net: &Network, word: &[u8], near: LinkId) -> Option<LinkId>
     ensures { MatchOption result (has_name net.now.link_names word.now ≡ false) (λ link. IsNameAt net.now.link_names word.now link) }
 {

@@ -14,8 +14,8 @@ use Rattle.nf_curve.proofs.Composing.{pieces_go, pieces_stop, last_stops, last_g
 use Rattle.nf_curve.proofs.Exits.{stops_on}
 use Rattle.nf_curve.proofs.composed.composed_points.Goals as goal
 
-pub bounds-inner-0-2 : goal.bounds-inner-0-2
-bounds-inner-0-2 c = points_there c.args.inner.now c.requires.inner
+pub bounds-inner-0-in_ok-composed : goal.bounds-inner-0-in_ok-composed
+bounds-inner-0-in_ok-composed c = points_there c.args.inner.now c.requires.inner
 
 pub add_piece-requires-clause-later : goal.add_piece-requires-clause-later
 add_piece-requires-clause-later c =
