@@ -160,4 +160,4 @@ took_no_text took refusal = nothing_more took ∙ ap (λ (text : List ℕ). with
 
 pub refused_shown : (answer : ProgramAnswer) (out err : Took) (status : Status) → TookAll out (out_text answer) → out.faults_now ≡ out.faults_before
     → status ≡ status_of answer → TookText err (err_text answer) → IsShown answer out err status
-refused_shown answer out err status took none is told = inl (record { status_is = is; out = record { all = took; no_fault = none }; err = told })
+refused_shown answer out err status took none is told = inl (record { status_is = is; took = record { all = took; no_fault = none }; told = told })

@@ -46,7 +46,7 @@ one_text before text other e = append_cancel_left before text other (same_Some (
 -- ---- what the earlier call gave
 module _ (call : Call) (file text : List ℕ) (s : WasSolved call.shelf file text) where
   taken_so : IsShown s.ran.answer s.out s.err s.status → (status_of s.ran.answer ≡ Status.Ok) × TookAll s.out (out_text s.ran.answer)
-  taken_so (inl h) = (sym h.status_is ∙ s.whole, h.out.all)
+  taken_so (inl h) = (sym h.status_is ∙ s.whole, h.took.all)
   taken_so (inr h) = absurd (output_or_ok s.status h.status_is s.whole)
 
   taken : (status_of s.ran.answer ≡ Status.Ok) × TookAll s.out (out_text s.ran.answer)
@@ -129,7 +129,7 @@ module _ (call : Call) (c : ChecksSolved call) (no_fault : ¬ Rose call.shelf.fa
 
   said : (answer : ProgramAnswer) (out err : Took) (status : Status) → IsAnswer call answer → IsShownWhole answer out err status → Ends (status_of answer)
       → ((status ≡ Status.Ok) × TookAll out (line_of_words (codes "yes" ∷ []))) ⊎ (status ≡ Status.Passed) ⊎ (status ≡ Status.Memory)
-  said answer out err status comes shown (inl ok) = inl (shown.status_is ∙ ok, subst (λ (t : List ℕ). TookAll out t) (text_so answer comes ok) shown.out.all)
+  said answer out err status comes shown (inl ok) = inl (shown.status_is ∙ ok, subst (λ (t : List ℕ). TookAll out t) (text_so answer comes ok) shown.took.all)
   said answer out err status comes shown (inr (inl e)) = inr (inl (shown.status_is ∙ e))
   said answer out err status comes shown (inr (inr e)) = inr (inr (shown.status_is ∙ e))
 

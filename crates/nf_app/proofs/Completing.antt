@@ -322,7 +322,7 @@ module _ (call : Call) (no_fault : ¬ Rose call.shelf.faults_before call.shelf.f
 pub taken_well : (Ends : Status → Type 0) (out : Took) → ¬ Rose out.faults_before out.faults_now → (answer : ProgramAnswer) (err : Took) (status : Status) → Ends (status_of answer)
     → IsShown answer out err status → Ends status
 taken_well Ends out takes answer err status well (inl h) = subst (λ (s : Status). Ends s) (sym h.status_is) well
-taken_well Ends out takes answer err status well (inr h) = absurd (takes (rose out.faults_before out.faults_now h.out.cause))
+taken_well Ends out takes answer err status well (inr h) = absurd (takes (rose out.faults_before out.faults_now h.took.cause))
 
 -- an answer with a text was given
 pub complete_by_text : (call : Call) (out err : Took) (status : Status) (answer : ProgramAnswer) → IsAnswer call answer → IsShown answer out err status → IsComplete call out status

@@ -15,7 +15,7 @@ use Rattle.nf_app.proofs.ToldGiven.{told_or_memory}
 -- where the output didn't fail, it took the whole text
 pub whole : (answer : ProgramAnswer) (out err : Took) (status : Status) → ¬ Rose out.faults_before out.faults_now → IsShown answer out err status → IsShownWhole answer out err status
 whole answer out err status takes (inl h) = h
-whole answer out err status takes (inr h) = absurd (takes (rose out.faults_before out.faults_now h.out.cause))
+whole answer out err status takes (inr h) = absurd (takes (rose out.faults_before out.faults_now h.took.cause))
 
 by_answer : (call : Call) (out err : Took) (status : Status) (answer : ProgramAnswer) → IsShownWhole answer out err status → IsToldAnswer call.words call.shelf.told answer ⊎ (answer ≡ NoMemory)
     → ShowsToldAnswer call out err status ⊎ IsShownWhole NoMemory out err status

@@ -1,5 +1,5 @@
 -- A fault of the output gives its own status, which no answer has.
-use Rattle.std.proofs.Common.{◌≡◌, ◌<◌, ℕ, sym, ◌∙◌, subst, arith}
+use Rattle.std.proofs.Common.{◌≡◌, ◌<◌, ℕ, sym, ◌∙◌, inl, inr, arith}
 use Rattle.std.specs.Prelude.{Option, Some, None}
 use Rattle.nf_rational.specs.Rational.{ℚ}
 use Rattle.nf_edge.specs.Faults.{greatest, Rose}
@@ -64,14 +64,14 @@ same_not_less before now e less = omega (arith, e, less)
 pub output_fails : (answer : ProgramAnswer) (out err : Took) (status : Status) → IsShown answer out err status → OutputFails out status
 output_fails answer out err status (inl h) = record {
   failed = λ e. absurd (never_output answer (sym h.status_is ∙ e));
-  else_none = λ e. h.out.no_fault;
+  else_none = λ e. h.took.no_fault;
   exactly = λ below. (
     (λ e. absurd (never_output answer (sym h.status_is ∙ e))),
-    (λ less. absurd (same_not_less out.faults_before out.faults_now h.out.no_fault less)),
+    (λ less. absurd (same_not_less out.faults_before out.faults_now h.took.no_fault less)),
   );
 }
 output_fails answer out err status (inr h) = record {
-  failed = λ e. rose out.faults_before out.faults_now h.out.cause;
+  failed = λ e. rose out.faults_before out.faults_now h.took.cause;
   else_none = λ other. absurd (other h.status_is);
-  exactly = λ below. ((λ e. rises out.faults_before out.faults_now below h.out.cause), (λ less. h.status_is));
+  exactly = λ below. ((λ e. rises out.faults_before out.faults_now below h.took.cause), (λ less. h.status_is));
 }

@@ -131,7 +131,7 @@ module _ (call : Call) (r : IsResumption call) where
   taken_whole answer out err status comes (inl h) e =
       let well : status_of answer ≡ Status.Ok = sym h.status_is ∙ e in
       subst (λ (text : List ℕ). TookAll out text)
-      (whole_text answer (given_well call (Resume r.file r.report_name r.horizon r.phases r.patterns) r.asks r.file (report_file r.report_name ∷ []) refl refl r.network answer comes well) well) h.out.all
+      (whole_text answer (given_well call (Resume r.file r.report_name r.horizon r.phases r.patterns) r.asks r.file (report_file r.report_name ∷ []) refl refl r.network answer comes well) well) h.took.all
   taken_whole answer out err status comes (inr h) e = absurd (other h.status_is e)
     where
       other : status ≡ Status.Output → status ≡ Status.Ok → ⊥

@@ -48,7 +48,7 @@ returns-in-Err-clause-resumes g c =
       answer = answer_of c.in-Err.refusal;
       comes = c.in-Err.ensures.answered;
       shown = refused_shown (answer_of c.in-Err.refusal) (took_of g.O.Sink c.args.out.now c.args.out.now) (took_of g.E.Sink c.args.err.now c.refuse.new.err) c.refuse.result
-      (took_no_text (g.O.Sink.took c.args.out.now) c.in-Err.refusal) refl c.refuse.ensures.status c.refuse.ensures.told;
+          (took_no_text (g.O.Sink.took c.args.out.now) c.in-Err.refusal) refl c.refuse.ensures.status c.refuse.ensures.told;
     })
 
 pub returns-in-Ok-clause-one_run : goal.returns-in-Ok-clause-one_run
@@ -95,7 +95,7 @@ returns-in-Err-clause-only g c =
       answer = answer_of c.in-Err.refusal;
       comes = c.in-Err.ensures.answered;
       shown = refused_shown (answer_of c.in-Err.refusal) (took_of g.O.Sink c.args.out.now c.args.out.now) (took_of g.E.Sink c.args.err.now c.refuse.new.err) c.refuse.result
-      (took_no_text (g.O.Sink.took c.args.out.now) c.in-Err.refusal) refl c.refuse.ensures.status c.refuse.ensures.told;
+          (took_no_text (g.O.Sink.took c.args.out.now) c.in-Err.refusal) refl c.refuse.ensures.status c.refuse.ensures.told;
     })
 
 pub returns-in-Ok-clause-output : goal.returns-in-Ok-clause-output
@@ -121,7 +121,7 @@ returns-in-Err-clause-says_yes g c =
       answer = answer_of c.in-Err.refusal;
       comes = c.in-Err.ensures.answered;
       shown = refused_shown (answer_of c.in-Err.refusal) (took_of g.O.Sink c.args.out.now c.args.out.now) (took_of g.E.Sink c.args.err.now c.refuse.new.err) c.refuse.result
-      (took_no_text (g.O.Sink.took c.args.out.now) c.in-Err.refusal) refl c.refuse.ensures.status c.refuse.ensures.told;
+          (took_no_text (g.O.Sink.took c.args.out.now) c.in-Err.refusal) refl c.refuse.ensures.status c.refuse.ensures.told;
     })
 
 pub returns-in-Ok-clause-same : goal.returns-in-Ok-clause-same
