@@ -5,7 +5,7 @@ FORMATS.md, "The command line" and "What is written to standard error".
 from .checking import Violation, check
 from .command_line import USAGE, Usage, read_request
 from .endless import STATUS_PHASES_SPENT, forever_text, solve_forever
-from .exact import Passing
+from .exact import Passing, ZERO
 from .flows_file import read_flows
 from .ladders import ladder
 from .lines import Broken, joined
@@ -21,7 +21,6 @@ from .resuming import resume
 from .routes import routes_text
 from .routes_file import read_routes
 from .settling import settle_text
-from .exact import ZERO
 
 FILE_LIMIT = 1048576
 REPORT_LIMIT = 67108864
@@ -151,7 +150,7 @@ def answer_load(options, net, loads):
 
 
 def violated(violation):
-    return 10, joined([violation.line]), "nfot: no equilibrium\n"
+    return 10, joined([violation.line()]), "nfot: no equilibrium\n"
 
 
 def answer_check(options, net, report):

@@ -12,7 +12,15 @@ class Violation(Exception):
 
     def __init__(self, rule, subject, time, left, right):
         super().__init__(rule, subject, time, left, right)
-        self.line = f"no {rule} {subject} {time} {left} {right}"
+        self.rule = rule
+        self.subject = subject
+        self.time = time
+        self.left = left
+        self.right = right
+
+    def line(self):
+        """What `check` writes."""
+        return f"no {self.rule} {self.subject} {self.time} {self.left} {self.right}"
 
 
 def check(net, flow):

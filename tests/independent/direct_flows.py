@@ -1,0 +1,201 @@
+"""Checks by definition of patterns, quickest flows, loading by route, and what goes on for ever. No list of operations is used.
+
+MODEL.md, "Patterns" and "Quickest flows"; FORMATS.md, "The routes file, and what `routes` writes" and "What `solve --forever` writes".
+"""
+import itertools
+from fractions import Fraction
+
+from .direct import LoadedLink, between, plain, plain_points, supply, value
+from .exact import ZERO as NOTHING
+from .patterns import FULL, TIGHT, State, has_state
+from .phases import Flow
+
+
+def is_listed(net, sets, pattern):
+    """Whether the Tight links form a forest, taken without direction, each node but the source is entered by a link that is Tight, Full or
+    resetting, and no unbounded link is Full (`IsListed`, `IsListedIn`)."""
+    entering = [e for e in range(len(net.links)) if sets.resetting[e] or pattern[e] in (TIGHT, FULL)]
+    entered = {net.links[e].head for e in entering} | {net.source}
+    no_full = all(link.capacity is not None or state != FULL for link, state in zip(net.links, pattern))
+    tight = [(link.tail, link.head) for link, state in zip(net.links, pattern) if state == TIGHT]
+    return no_full and len(entered) == len(net.nodes) and is_forest(tight)
+
+
+def is_forest(ends):
+    """Whether no closed trail takes some of these links once each (`IsForest`): a link that is the only one at a node is on none."""
+    left = list(ends)
+    while left:
+        at = [node for pair in left for node in pair]
+        kept = [pair for pair in left if all(at.count(node) > 1 for node in pair)]
+        if len(kept) == len(left):
+            return False
+        left = kept
+    return True
+
+
+def whole_listing(net, sets, base):
+    """All listed patterns, by fewer changes from the base first and then by the earlier states (`IsListing`, `IsBefore`)."""
+    order = list(State)
+    links = [e for e in range(len(net.links)) if has_state(sets, e)]
+    found = []
+    for choice in itertools.product(range(len(order)), repeat=len(links)):
+        pattern = [None] * len(net.links)
+        for e, place in zip(links, choice):
+            pattern[e] = order[place]
+        if is_listed(net, sets, pattern):
+            found.append((sum(pattern[e] != base[e] for e in links), choice, pattern))
+    return [pattern for _, _, pattern in sorted(found, key=lambda entry: entry[:2])]
+
+
+class RepeatedFlow:
+    """A temporally repeated flow: walks, each fed at its rate from time 0 until the end minus its transit sum (`entered_by`, `left_by`)."""
+
+    def __init__(self, net, walks, end):
+        self.net = net
+        self.feeds = []             # link, rate, from when until when it enters the link
+        self.ends_in_time = True
+        for rate, links in walks:
+            length = sum(plain(net.links[e].transit) for e in links)
+            self.ends_in_time = self.ends_in_time and length <= end
+            begin = Fraction(0)
+            for e in links:
+                self.feeds.append((e, plain(rate), begin, begin + end - length))
+                begin += plain(net.links[e].transit)
+
+    def entered_by(self, e, time):
+        return sum((rate * max(0, min(time, end) - begin) for f, rate, begin, end in self.feeds if f == e), Fraction(0))
+
+    def left_by(self, e, time):
+        return self.entered_by(e, time - plain(self.net.links[e].transit))
+
+    def is_feasible(self, until):
+        """Whether it is a feasible flow over time, at its corners and between them (`IsFeasible`)."""
+        net = self.net
+        times = between([Fraction(0), until] + [
+            time + delay for e, _, begin, end in self.feeds for time in (begin, end) for delay in (0, plain(net.links[e].transit))])
+        for e, link in enumerate(net.links):
+            for start, end in zip(times, times[1:]):
+                left = self.left_by(e, end) - self.left_by(e, start)
+                if left < 0 or (link.capacity is not None and left > plain(link.capacity) * (end - start)):
+                    return False
+        return self.ends_in_time and all(self.at_node(v, time) >= 0 for v in range(len(net.nodes)) if v != net.source for time in times)
+
+    def at_node(self, v, time):
+        """What has left links into a node by a time, minus what has entered links out of it; at the sink what is `delivered`."""
+        return sum((self.left_by(e, time) for e in self.net.into[v]), Fraction(0)) - sum(
+            self.entered_by(e, time) for e in self.net.out_of[v])
+
+
+def is_quickest(net, amount, quickest):
+    """Whether the walks are a feasible flow that delivers the amount by the time, and the numbers of the nodes a cut over time whose value is
+    the amount (`IsQuickest`, `IsCut`, `cut_value`). No feasible flow delivers more than the value of a cut."""
+    time, cut = plain(quickest.time), [plain(number) for number in quickest.cut]
+    repeated = RepeatedFlow(net, quickest.walks, time)
+    gaps = [cut[link.head] - plain(link.transit) - cut[link.tail] for link in net.links]
+    is_cut = cut[net.source] == 0 and cut[net.sink] == time and all(
+        link.capacity is not None or gap <= 0 for link, gap in zip(net.links, gaps))
+    cut_value = sum(plain(link.capacity) * max(0, gap) for link, gap in zip(net.links, gaps) if link.capacity is not None)
+    return (is_cut and repeated.is_feasible(time) and repeated.at_node(net.sink, time) == plain(amount)
+            and plain(quickest.value) == plain(amount) == cut_value)
+
+
+def extended(net, flow, tail, until):
+    """The flow of a run with a tail, up to any later departure: of each curve one point more on the line that the tail says, and none where the
+    label of its node stands still (`extended`)."""
+    slopes, flows = tail
+    longer = until - flow.reached
+    labels = [points[-1][1] + longer * slope for points, slope in zip(flow.labels, slopes)]
+    new = Flow(until, [points + [(until, label)] for points, label in zip(flow.labels, labels)], [], [], [])
+    for e, link in enumerate(net.links):
+        amount = flow.inflows[e][0][-1][1] + longer * flows[e]
+        slack = labels[link.head] - labels[link.tail] - link.transit
+        queue = link.capacity * slack if link.capacity is not None and slack > NOTHING else NOTHING
+        moves_in, moves_out = slopes[link.tail] > NOTHING, slopes[link.head] > NOTHING
+        new.inflows.append(longer_trace(flow.inflows[e], labels[link.tail], amount, moves_in))
+        new.outflows.append(longer_trace(flow.outflows[e], labels[link.head], amount, moves_out))
+        new.queues.append(flow.queues[e] + ([(labels[link.tail], queue)] if moves_in else []))
+    return new
+
+
+def longer_trace(trace, time, amount, moves):
+    """The trace with one point more, where the label of its node moves; its last rate is the slope to that point."""
+    points, rates = trace
+    if not moves:
+        return trace
+    last_time, last_amount = points[-1]
+    return points + [(time, amount)], rates + [(amount - last_amount) / (time - last_time)]
+
+
+class DirectRoutes:
+    """What routes carry (`IsRouted`), in plain fractions: entries into the links, arrivals, and each link's inflow as the sum of the entries."""
+
+    def __init__(self, net, routes, routed, horizon):
+        self.routes = routes
+        self.horizon = plain(horizon)
+        self.ends = [plain(end) for end in routed.ends]
+        self.carried = [[plain_points(entry) for entry in entries] + [plain_points(arrival)]
+                        for entries, arrival in zip(routed.entries, routed.arrivals)]
+        self.travels = [plain_points(points) for points in routed.travels]
+        self.loaded = [[plain_points(points) for points in (loaded.queue, loaded.outflow, loaded.exits)] for loaded in routed.loaded]
+        self.links = [LoadedLink(link, self.inflow_of(e)) for e, link in enumerate(net.links)]
+
+    def inflow_of(self, e):
+        """The sum of the entries into a link."""
+        entries = [self.carried[r][route.links.index(e)] for r, route in enumerate(self.routes) if e in route.links]
+        times = sorted({Fraction(0)} | {time for points in entries for time, _ in points})
+        return [(time, sum((value(points, time) for points in entries), Fraction(0))) for time in times]
+
+    def complaints(self):
+        """Where something is not as the definition says, at sample times."""
+        found = []
+        for r in range(len(self.routes)):
+            found += self.wrong_entry(r) + self.wrong_passages(r) + self.wrong_travel(r)
+        for e in range(len(self.links)):
+            found += self.wrong_end(e) + self.wrong_loading(e)
+        return found
+
+    def wrong_entry(self, r):
+        """A route's entry into its first link is what its pieces supply up to the horizon, and nothing after."""
+        pieces, entry = plain_points(self.routes[r].pieces), self.carried[r][0]
+        times = between([Fraction(0), self.horizon, self.horizon + 2] + [start for start, _ in pieces])
+        return [["entry", r, time] for time in times if value(entry, time) != supply(pieces, min(time, self.horizon))]
+
+    def wrong_passages(self, r):
+        """By the exit of an entry time a route has sent on what it had entered by that time; no more after the exit of the link's end."""
+        found = []
+        for place, e in enumerate(self.routes[r].links):
+            entry, sent_on = self.carried[r][place], self.carried[r][place + 1]
+            end = self.ends[e]
+            corners = [time for time, _ in entry + self.loaded[e][2] if time < end]
+            found += [["passage", r, e, time] for time in between([Fraction(0), end] + corners)
+                      if value(sent_on, self.links[e].exit(time)) != value(entry, time)]
+            if sent_on[-1][0] > self.links[e].exit(end) or sent_on[-1][1] != entry[-1][1]:
+                found.append(["passage of all", r, e])
+        return found
+
+    def wrong_travel(self, r):
+        """A departure up to the horizon goes through the exits of the route's links, and has then arrived with all that was sent before it."""
+        found = []
+        for time in between([Fraction(0), self.horizon] + [time for time, _ in self.travels[r]]):
+            arrival = time
+            for e in self.routes[r].links:
+                arrival = self.links[e].exit(arrival)
+            if value(self.travels[r], time) != arrival or value(self.carried[r][-1], arrival) != value(self.carried[r][0], time):
+                found.append(["travel", r, time])
+        return found
+
+    def wrong_end(self, e):
+        """A link's end is the greatest of the horizon and of the exits, at their own ends, of the links directly before it."""
+        before = {f for route in self.routes for f, following in zip(route.links, route.links[1:]) if following == e}
+        greatest = max([self.horizon] + [self.links[f].exit(self.ends[f]) for f in before])
+        return [] if self.ends[e] == greatest else [["end", e]]
+
+    def wrong_loading(self, e):
+        """Queue and exit up to the link's end, and outflow up to the transit time after it, are those of its inflow."""
+        link, end = self.links[e], self.ends[e]
+        queue, outflow, exits = self.loaded[e]
+        corners = [time for time, _ in queue + link.inflow if time < end]
+        found = [["loading", e, time] for time in between([Fraction(0), end] + corners)
+                 if value(queue, time) != link.queue(time) or value(exits, time) != link.exit(time)]
+        return found + [["outflow", e, time] for time in between([Fraction(0), end + link.transit] + [time for time, _ in outflow])
+                        if value(outflow, time) != link.outflow(time)]
