@@ -3,11 +3,12 @@
 
     tests/direct.py [--seed N] [--cases N]
 
-What `independent` computes by lists of operations meets what `independent/direct*.py` say by definition: queues and outflows over all past
-times, earliest arrivals over all walks, listed patterns among all patterns, feasible flows and cuts. Each case is one network, made from its
-own seed alone: case 5 of a run with seed 100 is the only case of a run with seed 105.
+What `independent` computes by lists of operations is compared with `independent/direct*.py`: queues and outflows over all
+past times, earliest arrivals over all walks, listed patterns among all patterns, feasible flows and cuts. A case is a
+network, made from its own seed alone: seed 105 is the sixth case of a run with seed 100.
 
-Progress goes to standard error, then a tally of what was met. Statuses: 0 all agree; 1 some case disagrees; 2 the words are wrong.
+Progress goes to standard error, and at last a tally to standard output. Statuses: 0 all agree; 1 some case disagrees; 2 the
+words are wrong.
 """
 import argparse
 import collections
@@ -34,7 +35,7 @@ from independent.resuming import resume
 from independent.routes import load_routes
 from independent.routes_file import read_routes
 from independent.settling import settled, settled_pattern
-from independent.small_cases import (changed_flow, flow_of_part, reordered, some_network, some_number, some_routes_text)
+from independent.small_cases import changed_flow, flow_of_part, reordered, some_network, some_number, some_routes_text
 from independent.thin_flows import NoPattern, OverBudget, is_thin_flow, meets, search, solve_pattern
 
 PHASES, PATTERNS = 10000, 2000
@@ -45,11 +46,13 @@ class Disagreement(Exception):
 
 
 def expect(agrees, what, *details):
+    """Raises Disagreement unless both sides agree."""
     if not agrees:
         raise Disagreement(" ".join([what, *map(str, details)]))
 
 
 def text_of(net, horizon, solution):
+    """The report of a run."""
     return report_text(net, Report(horizon, solution.flow, solution.cause, solution.pattern))
 
 
@@ -61,7 +64,7 @@ def expect_equilibrium(net, flow, what):
 
 
 def meet_run(rng, net, tally):
-    """A run's flow is an equilibrium, its report reads back, and its labels don't hang on the order of the links."""
+    """A run's flow is an equilibrium, its report reads back, and its labels don't depend on the order of the links."""
     expect(canonical_text(read_network(canonical_text(net))) == canonical_text(net), "the canonical text doesn't read back")
     horizon = some_number(rng, 0, 40, [1, 2, 3])
     solution = solve(net, horizon, rng.choice([1, 3, PHASES]), PATTERNS)
@@ -71,10 +74,10 @@ def meet_run(rng, net, tally):
     expect(report_text(net, report) == text, "the report doesn't read back")
     expect_equilibrium(net, report.flow, "the run's flow")
     other = reordered(rng, net)
-    labels = solve(other, solution.flow.reached, PHASES, 20000)
-    if labels.cause == DONE:
-        same = all(points == labels.flow.labels[other.node_number[name]] for name, points in zip(net.nodes, solution.flow.labels))
-        expect(same or solution.cause != DONE, "labels hang on the order of the links")
+    run = solve(other, solution.flow.reached, PHASES, 20000)
+    if run.cause == DONE:
+        labels = [run.flow.labels[other.node_number[name]] for name in net.nodes]
+        expect(labels == solution.flow.labels, "labels depend on the order of the links")
     for _ in range(12):
         meet_verdict(net, changed_flow(rng, solution.flow), tally)
     for _ in range(4):
@@ -84,7 +87,7 @@ def meet_run(rng, net, tally):
 
 
 def meet_verdict(net, flow, tally):
-    """What `check` answers of a flow is what the definitions say of it. A label may be wrong between sample times alone."""
+    """What `check` answers of a flow is what the definitions say of it. A label may be wrong between samples alone."""
     direct = DirectFlow(net, flow)
     try:
         check(net, flow)
@@ -123,7 +126,7 @@ def meet_quickest(rng, net, tally):
 
 
 def found_thin_flows(rng, net, rate):
-    """Thin flows of departure 0 that are found in several orders of the links, as pairs of flows and slopes in the order of the network."""
+    """Thin flows of departure 0, found in four orders of the links: pairs of flows and slopes, in the network's order."""
     found = []
     for _ in range(4):
         other = reordered(rng, net)
@@ -151,7 +154,8 @@ def meet_settling(rng, net, tally):
     ends = settled(net, sets, flows, slopes)
     pattern = settled_pattern(net, sets, ends, slopes)
     thin = solve_pattern(net, sets, rate, pattern)
-    expect(is_listed(net, sets, pattern) and meets(net, thin) and (thin.flows, thin.slopes) == (ends, slopes), "a pattern isn't settled")
+    solves = meets(net, thin) and (thin.flows, thin.slopes) == (ends, slopes)
+    expect(solves and is_listed(net, sets, pattern), "a pattern isn't settled")
     e = rng.randrange(len(flows))
     more = flows[:e] + [flows[e] + ONE] + flows[e + 1:]
     expect(not is_thin_flow(net, sets, rate, more, slopes), "a flow that isn't conserved is thin")
@@ -169,11 +173,12 @@ def meet_forever(rng, net, tally):
         expect_equilibrium(net, flow, "the extended flow")
         run = solve(net, until, 60, 4000)
         if run.cause == DONE:
-            expect([points[-1] for points in run.flow.labels] == [points[-1] for points in flow.labels], "labels of the tail differ")
+            same = [points[-1] for points in run.flow.labels] == [points[-1] for points in flow.labels]
+            expect(same, "labels of the tail differ")
 
 
 def meet_resuming(rng, net, tally):
-    """A report that is resumed gives the bytes of one long run; another spelling of the flow, with other states, gives its labels."""
+    """A report that is resumed gives the bytes of one long run. Other points and states of a report give its labels."""
     early, late = sorted(some_number(rng, 0, 40, [1, 2, 3]) for _ in range(2))
     first = solve(net, early, rng.choice([1, 2, PHASES]), PATTERNS)
     report = read_report(net, text_of(net, early, first))
@@ -181,11 +186,12 @@ def meet_resuming(rng, net, tally):
     check(net, resumed.flow)
     done = resumed.cause == whole.cause == DONE
     expect(not done or text_of(net, late, resumed) == text_of(net, late, whole), "the resumed run has other bytes")
-    foreign = Report(early, respelled(rng, report.flow), report.cause, [rng.choice([None, state]) for state in report.pattern])
-    resumed = resume(net, foreign, late, PHASES, PATTERNS)
-    check(net, resumed.flow)
-    expect(resumed.cause != DONE or whole.cause != DONE or resumed.flow.labels == whole.flow.labels, "other states give other labels")
     tally["resumed" if done else "resumed, stopped"] += 1
+    states = [rng.choice([None, state]) for state in report.pattern]
+    resumed = resume(net, Report(early, respelled(rng, report.flow), report.cause, states), late, PHASES, PATTERNS)
+    check(net, resumed.flow)
+    done = resumed.cause == whole.cause == DONE
+    expect(not done or resumed.flow.labels == whole.flow.labels, "other states give other labels")
 
 
 def respelled(rng, flow):
@@ -229,7 +235,9 @@ def meet(seed, tally):
 
 
 def main():
-    parser = argparse.ArgumentParser(prog="tests/direct.py", description=__doc__, formatter_class=argparse.RawDescriptionHelpFormatter)
+    """Runs the cases."""
+    parser = argparse.ArgumentParser(prog="tests/direct.py", description=__doc__,
+                                     formatter_class=argparse.RawDescriptionHelpFormatter)
     parser.add_argument("--seed", type=int, default=1, metavar="N")
     parser.add_argument("--cases", type=int, default=100, metavar="N")
     options = parser.parse_args()

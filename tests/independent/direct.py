@@ -1,8 +1,8 @@
-"""Checks by definition: whether a flow is an equilibrium, at sample times, from the definitions of MODEL.md alone.
+"""Checks by definition: whether a flow is an equilibrium, from the definitions of MODEL.md alone.
 
-Nothing here is done by a list of operations, and nothing is shared with the modules that compute flows and check them: no bound on numbers, no
-loading step by step, no composed curves. Queues and outflows look back over all past times, and earliest arrivals over all walks.
-All functions of time are linear from corner to corner, so what holds at corners and at times between them holds at each time near them.
+No list of operations is used, and no computation is shared with the modules that make flows and check them. Numbers have
+no bound. Queues and outflows look back over all past times, earliest arrivals over all walks. The checks are made at
+sample times: corners, and two times between each two corners. From corner to corner all functions of time are linear.
 """
 from fractions import Fraction
 
@@ -13,6 +13,7 @@ def plain(number):
 
 
 def plain_points(points):
+    """Pairs of numbers as pairs of fractions of the standard library."""
     return [(plain(time), plain(value)) for time, value in points]
 
 
@@ -25,7 +26,10 @@ def value(points, time):
 
 
 def supply(pieces, time):
-    """The sum over the pieces of the rate times the length of that part of the times from 0 on in which it is the latest one (`supply`)."""
+    """The amount supplied by a time (`supply`).
+
+    It is a sum over the pieces: the rate times the length of the times so far in which the piece is the latest.
+    """
     total = Fraction(0)
     for i, (start, rate) in enumerate(pieces):
         end = min(time, pieces[i + 1][0]) if i + 1 < len(pieces) else time
@@ -34,14 +38,14 @@ def supply(pieces, time):
 
 
 def between(times):
-    """The times in order, with two more between each two neighbours."""
+    """The times in rising order, with two more between each two neighbours."""
     ordered = sorted(set(times))
     more = [time for a, b in zip(ordered, ordered[1:]) for time in ((a + b) / 2, (2 * a + b) / 3)]
     return sorted(ordered + more)
 
 
 class LoadedLink:
-    """A link with its inflow F, both in plain fractions."""
+    """A link and its inflow F, in plain fractions."""
 
     def __init__(self, link, inflow):
         self.tail, self.head = link.tail, link.head
@@ -51,28 +55,38 @@ class LoadedLink:
         self.exits = {}
 
     def entered(self, time):
+        """F at a time."""
         return value(self.inflow, time)
 
     def corners(self, until):
-        """The corners of F on the times from 0 to a last one: what is linear between them is greatest and least at one of them (`IsCorner`)."""
+        """The corners of F on the times from 0 to a last one (`IsCorner`, `Within`).
+
+        A function that is linear between them is greatest, and least, at one of them (`IsGreatest`, `IsLeast`).
+        """
         return [Fraction(0), until] + [time for time, _ in self.inflow if 0 < time < until]
 
     def queue(self, time):
-        """The greatest of F(time) - F(η) - ν (time - η) over all η from 0 to the time; 0 on an unbounded link (`IsQueue`)."""
+        """The greatest value of F(time) - F(η) - ν (time - η) over all η from 0 to the time (`IsQueue`).
+
+        On an unbounded link it is 0.
+        """
         if self.capacity is None:
             return Fraction(0)
         now = self.entered(time)
         return max(now - self.entered(past) - self.capacity * (time - past) for past in self.corners(time))
 
     def exit(self, time):
-        """The time, the transit time and the waiting, which is the queue over the capacity (`IsExit`, `waiting`)."""
+        """The sum of the time, the transit time and the waiting, which is queue over capacity (`IsExit`, `waiting`)."""
         if time not in self.exits:
             waiting = 0 if self.capacity is None else self.queue(time) / self.capacity
             self.exits[time] = time + self.transit + waiting
         return self.exits[time]
 
     def outflow(self, time):
-        """The least of F(η) + ν (time - τ - η) over all η from 0 to time - τ; F(time - τ) on an unbounded link, and 0 before τ (`IsOutflow`)."""
+        """The least value of F(η) + ν (time - τ - η) over all η from 0 to time - τ (`IsOutflow`).
+
+        Before τ it is 0. On an unbounded link it is F(time - τ).
+        """
         entry = time - self.transit
         if entry < 0:
             return Fraction(0)
@@ -82,7 +96,7 @@ class LoadedLink:
 
 
 class DirectFlow:
-    """A network and a flow in plain fractions, and what the definitions say of them. Complaints are lists of words."""
+    """A network and a flow (`HasShape`) in plain fractions. A complaint is a list: what is wrong, where and when."""
 
     def __init__(self, net, flow):
         self.net = net
@@ -96,9 +110,10 @@ class DirectFlow:
         self.arrivals = {}
 
     def earliest(self, departure):
-        """The earliest arrival at each node of who leaves the source at this departure (`IsEarliest`), over all walks.
+        """The earliest arrival at each node for a departure, over all walks (`IsEarliest`).
 
-        Who comes to a node again leaves it no earlier than before, where inflows never fall. So walks that come to no node twice will do.
+        Walks that come to no node twice are enough. Where inflows never fall, nobody who enters a link later leaves it
+        earlier. So a walk that returns to a node arrives no earlier than without the part between.
         """
         if departure not in self.arrivals:
             best = [None] * len(self.net.nodes)
@@ -107,7 +122,7 @@ class DirectFlow:
         return self.arrivals[departure]
 
     def walk_on(self, node, arrival, visited, best):
-        """Goes on from a node by each link, the exit from a link being the entry into the next (`Arrives`)."""
+        """Extends a walk that is at a node by each link; the exit from a link is the entry into the next (`Arrives`)."""
         if best[node] is None or arrival < best[node]:
             best[node] = arrival
         for e in self.net.out_of[node]:
@@ -116,7 +131,7 @@ class DirectFlow:
                 self.walk_on(head, self.links[e].exit(arrival), visited + [node], best)
 
     def complaints(self):
-        """Where the flow is no equilibrium at the sample times (`Equilibrium`); nothing where it is one at all of them."""
+        """Where the flow is no equilibrium (`Equilibrium`, `IsNashFlow`); an empty list where it is one at all samples."""
         found = self.wrong_inflows_and_rates()
         if not found:
             departures = self.departures()
@@ -126,7 +141,7 @@ class DirectFlow:
         return found
 
     def departures(self):
-        """Sample departures: 0, the departure reached, where a label may turn or a piece starts, and times between."""
+        """Sample departures: 0, the departure reached, the points of labels, the starts of pieces, and times between."""
         times = [time for points in self.labels for time, _ in points] + [start for start, _ in self.pieces]
         return between([Fraction(0), self.reached] + [time for time in times if time < self.reached])
 
@@ -144,19 +159,22 @@ class DirectFlow:
         return found
 
     def wrong_labels(self, departures):
-        """Labels that are not the earliest arrivals."""
+        """Labels that are not the earliest arrivals (`IsEarliest`)."""
         return [["label", v, departure] for departure in departures for v, points in enumerate(self.labels)
                 if value(points, departure) != self.earliest(departure)[v]]
 
     def samples(self, e, node, departures, until):
-        """Sample times of a link at one of its ends, up to a last one."""
+        """Sample times at one end of a link, up to a last one."""
         curves = (self.inflows[e][0], self.outflows[e][0], self.queues[e])
         times = [time for points in curves for time, _ in points if time < until]
         times += [self.earliest(departure)[node] for departure in departures]
         return between([Fraction(0), until] + [time for time in times if time < until])
 
     def wrong_links(self, departures):
-        """Printed outflows, up to the head's label at the end, and queues, up to the tail's, that are not those of the inflow."""
+        """Printed outflows and queues that are not those of the inflow.
+
+        Outflows are compared up to the label of the link's head at the departure reached, queues up to the tail's.
+        """
         found = []
         end = self.earliest(self.reached)
         for e, link in enumerate(self.links):
@@ -167,7 +185,7 @@ class DirectFlow:
         return found
 
     def balance(self, v, time):
-        """What has come out of the links into a node by a time, minus what has gone into the links out of it (`Balances`)."""
+        """What has left the links into a node by a time, minus what has entered the links out of it (`Balances`)."""
         come = sum(self.links[e].outflow(time) for e in self.net.into[v])
         gone = sum(self.links[e].entered(time) for e in self.net.out_of[v])
         return come - gone
@@ -190,7 +208,7 @@ class DirectFlow:
         return found
 
     def detours(self, departures):
-        """Links that take flow just after a departure though they are on no shortest route (`TakesFlow`, `OnlyShortest`)."""
+        """Links that take flow just after a departure but lie on no shortest route (`TakesFlow`, `OnlyShortest`)."""
         found = []
         for e, link in enumerate(self.links):
             corners = sorted(set(departures) | self.entries_at_corners(e))
@@ -202,7 +220,7 @@ class DirectFlow:
         return found
 
     def entries_at_corners(self, e):
-        """The departures up to the one reached that come to the link's tail at a corner of its inflow, where its label moves."""
+        """The departures up to the one reached whose arrival at a link's tail is a corner of the link's inflow."""
         label = self.labels[self.links[e].tail]
         found = set()
         for (start, before), (end, after) in zip(label, label[1:]):

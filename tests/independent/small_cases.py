@@ -12,11 +12,12 @@ CAPACITIES = ["1", "2", "3", "1/2", "3/2", "4"]
 
 
 def some_number(rng, least, most, denominators):
+    """A fraction with a numerator within limits over one of the denominators."""
     return Rational(rng.randint(least, most), rng.choice(denominators))
 
 
 def some_network(rng):
-    """A network of two to six nodes and one to ten links, of either version; in version 2 some links are unbounded and some are idle."""
+    """A network of two to six nodes and one to ten links. In version 2 links may be unbounded, and links may be idle."""
     while True:
         try:
             return read_network(some_network_text(rng))
@@ -25,6 +26,7 @@ def some_network(rng):
 
 
 def some_network_text(rng):
+    """The text of such a network, unless it breaks a rule."""
     version = rng.choice([1, 2])
     nodes = (["s", "t"] + [f"n{i}" for i in range(4)])[:rng.randint(2, 6)]
     lines = [f"nfot {version}", "source s", "sink t"]
@@ -65,14 +67,17 @@ def trace_of(points):
 
 
 def flow_of_part(rng, net, horizon):
-    """The equilibrium of a part of the network, with the earliest arrivals of the whole one, or None. It breaks rules from C6 on at most."""
+    """The equilibrium of a part of the network, with the earliest arrivals of the whole one, or None.
+
+    It keeps the rules before C6.
+    """
     part = part_of(rng, net)
     if part is None:
         return None
     flow = solve(part, horizon, phases=10, patterns=500).flow
     latest = max([value for points in flow.labels for _, value in points] + [flow.reached])
-    inflows = [flow.inflows[part.link_number[link.name]] if link.name in part.link_number else ([(ZERO, ZERO)], [])
-               for link in net.links]
+    inflow_of = dict(zip((link.name for link in part.links), flow.inflows))
+    inflows = [inflow_of.get(link.name, ([(ZERO, ZERO)], [])) for link in net.links]
     loaded = [load_link(link, inflow, latest) for link, (inflow, _) in zip(net.links, inflows)]
     labels = earliest_labels(net, [of_link.exits for of_link in loaded], flow.reached)
     return Flow(flow.reached, labels, inflows, [trace_of(of_link.outflow) for of_link in loaded],
@@ -80,7 +85,7 @@ def flow_of_part(rng, net, horizon):
 
 
 def earliest_labels(net, exits, reached):
-    """Labels that no link undercuts, given the exits of the links: made less, as often as there are nodes, by each link in turn."""
+    """Labels that no link undercuts, given the exits of the links. Each link lowers them, as often as there are nodes."""
     labels = [None] * len(net.nodes)
     labels[net.source] = curves.identity(reached)
     for _ in net.nodes:
@@ -94,7 +99,7 @@ def earliest_labels(net, exits, reached):
 
 
 def changed_flow(rng, flow):
-    """The flow with one or two changes of points. Rates are made the slopes again, so that the rules from C3 on come to be looked at."""
+    """The flow with one or two changes of points. Rates are the slopes again, so that the flow keeps rule C2."""
     labels, queues = [list(points) for points in flow.labels], [list(points) for points in flow.queues]
     inflows, outflows = [list(points) for points, _ in flow.inflows], [list(points) for points, _ in flow.outflows]
     for _ in range(rng.randint(1, 2)):
@@ -121,7 +126,8 @@ def change_points(rng, points):
 def some_routes_text(rng, net):
     """A routes file with up to four routes of at most six links."""
     routes = [links for links in (some_walk(rng, net) for _ in range(rng.randint(0, 4))) if links]
-    lines = ["routes 1"] + [f"route r{r} " + " ".join(net.links[e].name for e in links) for r, links in enumerate(routes)]
+    lines = ["routes 1"]
+    lines += [f"route r{r} " + " ".join(net.links[e].name for e in links) for r, links in enumerate(routes)]
     for r in range(len(routes)):
         start = some_number(rng, 0, 1, [1])
         for _ in range(rng.randint(0, 3)):
