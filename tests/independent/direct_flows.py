@@ -226,8 +226,9 @@ class DirectRoutes:
         return found
 
     def wrong_end(self, e):
-        """A link's end is the greatest of the horizon and of the exits, at their own ends, of the links directly before it."""
-        before = {f for route in self.routes for f, following in zip(route.links, route.links[1:]) if following == e}
+        """A link's end is the greatest of the horizon and of the exits from the links directly before it, at their ends."""
+        pairs = [pair for route in self.routes for pair in zip(route.links, route.links[1:])]
+        before = {f for f, following in pairs if following == e}
         greatest = max([self.horizon] + [self.links[f].exit(self.ends[f]) for f in before])
         return [] if self.ends[e] == greatest else [["end", e]]
 

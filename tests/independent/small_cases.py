@@ -104,7 +104,7 @@ def changed_flow(rng, flow):
     inflows, outflows = [list(points) for points, _ in flow.inflows], [list(points) for points, _ in flow.outflows]
     for _ in range(rng.randint(1, 2)):
         change_points(rng, rng.choice(rng.choice([labels, queues, outflows, inflows, inflows])))
-    return Flow(flow.reached, labels, [trace_of(points) for points in inflows], [trace_of(points) for points in outflows], queues)
+    return Flow(flow.reached, labels, list(map(trace_of, inflows)), list(map(trace_of, outflows)), queues)
 
 
 def change_points(rng, points):
