@@ -1,0 +1,21 @@
+"""An independent program with the command line of `nfot`: slow, readable, exact.
+
+The definitions of docs/MODEL.md, docs/FORMATS.md and docs/LISTS.md are computed here one by one, in plain Python 3 with integers of any size.
+Nothing in this package is derived from the Rattle code. Who changes a format changes it here from docs/FORMATS.md, not from the code.
+Only so can a difference between both programs show a fault of one of them, or a sentence of those pages that is unclear.
+
+A docstring gives the definition that its function computes, with the definition's name in backticks where MODEL.md or LISTS.md has one.
+
+| subject | modules |
+|---|---|
+| numbers and lines | `exact`, `lines` |
+| networks | `network`, `network_file`, `ladders` |
+| curves, and the loading of a link | `curves`, `loading`, `loads_file` |
+| thin flows | `patterns`, `equations`, `thin_flows`, `settling`, `flows_file` |
+| runs | `phases`, `endless`, `resuming` |
+| reports | `reports`, `report_file`, `checking` |
+| quickest flows | `residual`, `quickest` |
+| loading by route | `routes`, `routes_file` |
+| the command line | `command_line`, `app`, `__main__` |
+| checks by definition, which share no computation with the above | `direct`, `direct_flows` |
+"""
