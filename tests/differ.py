@@ -71,8 +71,8 @@ class Comparison:
         self.tally.add(name, expected)
         if found != expected:
             small, tried = shrinking.smallest(case, self.still_differs)
-            self.note(seed, small, [("expected", self.programs.expected(small.words, small.files)), ("found", self.programs.found(small.words, small.files))],
-                      f"expected status {expected.status}, found {found.status}; made smaller in {tried} tries")
+            expected, found = self.programs.expected(small.words, small.files), self.programs.found(small.words, small.files)
+            self.note(seed, small, expected, found, f"expected status {expected.status}, found {found.status}; made smaller in {tried} tries")
 
     def still_differs(self, case):
         """Whether the programs differ on a smaller case; one that is too slow doesn't count."""
@@ -84,11 +84,11 @@ class Comparison:
     def relate(self, seed, rng):
         """A relation of the program with itself."""
         for name, case, expected, found in metamorphic.some_relation(rng, self.programs):
-            self.tally.add(name, found)
+            self.tally.add(f"relation {name}", found)
             if expected != found:
-                self.note(seed, case, [("expected", expected), ("found", found)], f"the relation {name} doesn't hold")
+                self.note(seed, case, expected, found, f"the relation {name} doesn't hold")
 
-    def note(self, seed, case, answers, why):
+    def note(self, seed, case, expected, found, why):
         """Keeps a case that differs, and says where."""
         self.differing += 1
         self.kept = self.kept or pathlib.Path(tempfile.mkdtemp(prefix="differ-kept-"))
@@ -96,8 +96,8 @@ class Comparison:
         folder.mkdir(parents=True, exist_ok=True)
         for name, text in case.files.items():
             (folder / name).write_bytes(text)
-        (folder / "command").write_text(f"nfot {shlex.join(case.words)}\n")
-        for name, answer in answers:
+        (folder / "command").write_bytes(f"nfot {shlex.join(case.words)}\n".encode("utf-8", "surrogateescape"))
+        for name, answer in (("expected", expected), ("found", found)):
             (folder / f"{name}.status").write_text(f"{answer.status}\n")
             (folder / f"{name}.out").write_bytes(answer.out)
             (folder / f"{name}.err").write_bytes(answer.err)
@@ -110,6 +110,7 @@ def progress(line):
 
 
 def main():
+    """Runs the cases, one seed after the other."""
     options = parsed(sys.argv[1:])
     comparison, start, told = Comparison(options), time.monotonic(), time.monotonic()
     for count in range(1, options.cases + 1):

@@ -72,14 +72,16 @@ def break_network(rng, lines):
     elif rule == 10:
         del lines[rng.choice(lines_with(lines, "source") + lines_with(lines, "sink") or [0])]
     elif rule == 11:
-        put_word(rng, lines, rng.choice(["source", "sink"]), 1, ["s", "t", "n0", "new"])
+        ends = [lines[i].split(" ")[-1] for i in lines_with(lines, "source") + lines_with(lines, "sink")]
+        put_word(rng, lines, rng.choice(["source", "sink"]), 1, ends + ["n0", "new"])
     elif rule == 12:
         lines.insert(max(0, len(lines) - 1), rng.choice(["link far1 q1 q2 1 1", "link far2 q1 t 1 1", "link far3 t q1 0 1"]))
     elif rule == 13:
         put_word(rng, lines, "link", 4, ["0"])
         lines.insert(max(0, len(lines) - 1), rng.choice(["link zero1 t s 0 1", "link zero2 s s 0 1", "link zero3 n0 s 0 1", "link zero4 t t 0 2"]))
     else:
-        put_word(rng, lines, "link", 4, [str(LARGEST), f"{LARGEST}/2", f"1/{LARGEST}", str(LARGEST - 1)])
+        for _ in range(rng.randint(1, 3)):
+            put_word(rng, lines, "link", 4, [str(LARGEST), f"{LARGEST}/2", f"1/{LARGEST}", str(LARGEST - 1)])
 
 
 def swap_two(rng, lines, places):
@@ -159,7 +161,7 @@ def break_flows(rng, lines, nodes, idle):
 
 def break_routes(rng, lines, names, idle):
     """One of the rules of routes files is broken, where it can be."""
-    kind = rng.randrange(9)
+    kind = rng.randrange(12)
     if kind == 0:
         break_shared(rng, lines, "routes", ["route", "rate"])
     elif kind == 1:

@@ -24,23 +24,28 @@ def replaced(line, column, word):
 
 
 def break_bytes(rng, lines, i):
+    """A byte that no line may have."""
     lines[i] += rng.choice(BAD_BYTES)
 
 
 def break_length(rng, lines, i):
+    """A line of 1,001 bytes."""
     lines[i] += rng.choice([" ", "x", "#"]) * (1001 - len(lines[i]))
 
 
 def break_spaces(rng, lines, i):
+    """A line that is not its words joined by single spaces and ended by LF."""
     line = lines[i]
     lines[i] = rng.choice([line + " ", " " + line, line.replace(" ", "  ", 1), line.replace(" ", "\t", 1), line + " # note", "", line + "\r", "#"])
 
 
 def break_head(rng, lines, i):
+    """Another first line."""
     lines[0] = rng.choice(["report 1", "report 2", "report", "report 1 1", "report 01", "forever 1", "horizon 1"])
 
 
 def break_key(rng, lines, i):
+    """Another first word of a line, or first lines in another order."""
     if chance(rng, 0.4):
         swap_two(rng, lines, list(range(min(5, len(lines)))))
     else:
@@ -48,6 +53,7 @@ def break_key(rng, lines, i):
 
 
 def break_count_of_words(rng, lines, i):
+    """A word too many or too few."""
     words = lines[i].split(" ")
     if chance(rng, 0.5):
         words.insert(rng.randint(1, len(words)), rng.choice(["1", "-", "x"]))
@@ -57,6 +63,7 @@ def break_count_of_words(rng, lines, i):
 
 
 def break_order(rng, lines, i):
+    """A line in another place, doubled or gone."""
     kind, points = rng.randrange(6), places_of(lines, CURVES)
     states, never = places_of(lines, ["state"]), places_of(lines, ["never"])
     if kind == 0:
@@ -74,15 +81,18 @@ def break_order(rng, lines, i):
 
 
 def break_name(rng, lines, i):
+    """Another name."""
     names = [line.split(" ")[1] for line in lines if line.count(" ") > 1]
     lines[i] = replaced(lines[i], 1, rng.choice(names + ["x", "s", "t"]))
 
 
 def break_number(rng, lines, i):
+    """A number that is none, is not in the printed form, or is at a limit."""
     lines[i] = replaced(lines[i], rng.randrange(2, 5), rng.choice(ODD_WORDS))
 
 
 def break_cause(rng, lines, i):
+    """Another cause, or an odd count in it."""
     if len(lines) > 3:
         lines[3] = f"cause {rng.choice(CAUSES)}"
         if chance(rng, 0.4):
@@ -90,6 +100,7 @@ def break_cause(rng, lines, i):
 
 
 def break_state(rng, lines, i):
+    """Another state of a link."""
     states = places_of(lines, ["state"])
     if states:
         j = rng.choice(states)
@@ -97,16 +108,19 @@ def break_state(rng, lines, i):
 
 
 def break_reach(rng, lines, i):
+    """Another horizon or departure reached."""
     if len(lines) > 3:
         j = rng.choice([1, 2])
         lines[j] = replaced(lines[j], 1, rng.choice(["-1", "0", "1000", "1/7", str(LARGEST), "-1/2", "2/4", "-0"]))
 
 
 def break_times(rng, lines, i):
+    """Another time of a point."""
     lines[i] = replaced(lines[i], 2, rng.choice(["0", "1", "-1", "1/2", "1000"]))
 
 
 def break_rates(rng, lines, i):
+    """A rate on the last point, or none on another one; a point doubled or gone."""
     places = places_of(lines, WITH_RATES)
     if places:
         j, kind = rng.choice(places), rng.randrange(3)
@@ -119,6 +133,7 @@ def break_rates(rng, lines, i):
 
 
 def break_end(rng, lines, i):
+    """No `end`, or something behind it or before."""
     kind = rng.randrange(4)
     if kind == 0:
         del lines[-1]

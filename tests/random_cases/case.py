@@ -3,8 +3,9 @@ from dataclasses import dataclass, field
 
 from .numerals import LARGEST, ODD_COUNTS, ODD_WORDS, chance
 
-ODD_OPTIONS = ["--", "-", "-x", "-1", "--help", "-h", "--horizon", "--phases=3", "--=1", "---", "--forever", "--forever=", "--no-forever", "N", "",
-               "--amount", "--horizon=2", "--version", "--hor=2", "--Horizon=1", "- ", "-=", "\u00e9", "--\u00e9=1", "--horizon="]
+ODD_OPTIONS = ["--", "-", "-x", "-1", "--help", "-h", "--horizon", "--phases=3", "--=1", "---", "--forever", "--forever=", "--no-forever",
+               "N", "", "--amount", "--horizon=2", "--version", "--hor=2", "--Horizon=1", "- ", "-=", "\u00e9", "--\u00e9=1", "--horizon=",
+               "\udcff", "--amount=\udcc3"]
 ODD_COMMANDS = ["Solve", "", "help", "solve ", "so", "-", "\u00e9", "SHOW"]
 ODD_NAMES = ["-", "a b", "x" * 255, "\u00e9", "\u00f1\u2603", "N\n", "=", "solve", "#", "\"", "'", " "]
 

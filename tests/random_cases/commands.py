@@ -6,9 +6,10 @@ from . import breaking
 from .breaking_reports import break_report
 from .case import Call, spelled
 from .corrupting import corrupted, respelled, with_odd_end
+from .crafted import crafted_files
 from .flow_changes import changed_flow, foreign_states
 from .limits import full_file, second_file_at_limits, show_at_limits
-from .networks import PLAIN, WIDE, joined, scaled, some_network
+from .networks import PLAIN, WIDE, joined, some_network
 from .numerals import LARGEST, chance, near_powers, printed, some_time, wide
 from .reports import read_report
 from .side_files import flows_lines, full_loads_lines, loads_lines, routes_lines
@@ -102,7 +103,9 @@ def settle_call(rng, answer_of):
     network = some_network(rng, answer_of)
     _, idle = names_of(network)
     lines = flows_lines(rng, answer_of, network)
-    text = changed_text(rng, joined(lines), lambda lines: breaking.break_flows(rng, lines, network.used_nodes(), idle)) if chance(rng, 0.4) else joined(lines)
+    text = joined(lines)
+    if chance(rng, 0.6):
+        text = changed_text(rng, text, lambda lines: breaking.break_flows(rng, lines, network.used_nodes(), idle))
     return Call("settle", [], {"N": network_text(rng, network), "F": text})
 
 
@@ -140,7 +143,7 @@ def length_amount(answer_of, network):
 def quick_call(rng, answer_of):
     """`quick` of an amount; most networks have no supply, so that no equilibrium is looked for."""
     network = some_network(rng, answer_of, ["row"] + PLAIN + WIDE)
-    if len(network.links) > 10 or chance(rng, 0.5):
+    if len(network.links) > 8 or chance(rng, 0.5):
         network = replace(network, pieces=[])
     amount = length_amount(answer_of, network) if chance(rng, 0.2) else some_amount(rng)
     options = [("amount", amount)]
@@ -211,6 +214,8 @@ def with_later_supply(rng, network, report):
 
 def check_call(rng, answer_of):
     """`check` of a report."""
+    if chance(rng, 0.02):
+        return Call("check", [], crafted_files(rng, answer_of))
     files, _ = report_files(rng, answer_of)
     return Call("check", [], files)
 

@@ -1,5 +1,4 @@
 """Files with lines, words or bytes changed at random, and other spellings of the same content."""
-from .networks import joined
 from .numerals import ODD_WORDS, chance
 
 ODD_LINE_WORDS = ODD_WORDS + ["end", "a", "s", "t", "#", "full", "tight", "-", "done", "label", "e0", "w" * 24, "w" * 25, "", "never", "link"]

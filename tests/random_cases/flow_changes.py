@@ -124,14 +124,17 @@ def moved_point(rng, network, report, kinds=("label", "inflow", "outflow", "queu
 
 
 def moved_label(rng, network, report):
+    """A point of a label moved."""
     return moved_point(rng, network, report, ("label",))
 
 
 def moved_outflow(rng, network, report):
+    """A point of an outflow moved."""
     return moved_point(rng, network, report, ("outflow",))
 
 
 def moved_queue(rng, network, report):
+    """A point of a queue moved."""
     return moved_point(rng, network, report, ("queue",))
 
 
@@ -181,6 +184,7 @@ def loaded(network, report, inflows):
     for link in links:
         inflow = inflows[link.name]
         until = max(until, inflow[-1][0]) + (0 if link.capacity is None else inflow[-1][1] / link.capacity)
+    until = Fraction(int(until) + 1)  # whole, so that the width of its parts doesn't add to that of the flow
     exits = {}
     for link in links:
         inflow = inflows[link.name]

@@ -9,13 +9,12 @@ from dataclasses import replace
 from fractions import Fraction
 
 from .case import Case
-from .networks import PLAIN, scaled, some_network
+from .networks import PLAIN, joined, scaled, some_network
 from .numerals import printed
 from .relations import in_other_units, lines_of, other_names, renamed, with_names
-from .reports import read_report
+from .reports import CURVES
 from .running import Answer
-from .side_files import flows_text_lines, thin_flow, with_shuffled_links
-from .networks import joined
+from .side_files import flows_text_lines, loads_lines, routes_lines, thin_flow, with_shuffled_links
 
 PATTERNS = ["--patterns", "5000"]
 YES = Answer(0, b"yes\n", b"")
@@ -65,6 +64,22 @@ def scaling(rng, runs, network, horizon):
             yield case, answer._replace(out=in_other_units(answer.out, time, amount)), found
 
 
+def scaling_files(rng, runs, network, horizon):
+    """Other units of time and amount scale what `load` and `routes` write.
+
+    A link's queue and exits follow from what enters it by the same definitions in all units. Starts are times and rates are rates, as in the
+    network file. The files may have wide numbers: where one is too wide in the other units (status 4), or an operation passes, nothing is asked.
+    """
+    time, amount = small_factor(rng), small_factor(rng)
+    for command, lines in (("load", loads_lines), ("routes", routes_lines)):
+        text = joined(lines(rng, network, horizon))
+        _, answer = runs.of([command, "N", "X", "--horizon", printed(horizon)], N=network.text(), X=text)
+        case, found = runs.of([command, "N", "X", "--horizon", printed(horizon * time)], N=scaled(network, time, amount).text(),
+                              X=in_other_units(text, time, amount))
+        if not {4, 7} & {answer.status, found.status}:
+            yield case, answer._replace(out=in_other_units(answer.out, time, amount)), found
+
+
 def renaming(rng, runs, network, horizon):
     """Other names of nodes and links rename the report.
 
@@ -72,7 +87,8 @@ def renaming(rng, runs, network, horizon):
     """
     nodes, links = other_names(rng, network)
     other = renamed(network, nodes, links)
-    for words in (["solve", "N", "--horizon", printed(horizon), *PATTERNS], ["solve", "N", "--forever", *PATTERNS], ["quick", "N", "--amount", printed(horizon)]):
+    number = printed(horizon)
+    for words in (["solve", "N", "--horizon", number, *PATTERNS], ["solve", "N", "--forever", *PATTERNS], ["quick", "N", "--amount", number]):
         _, answer = runs.of(words, N=network.text())
         case, found = runs.of(words, N=other.text())
         yield case, answer._replace(out=with_names(answer.out, nodes, links)), found
@@ -107,7 +123,8 @@ def checking(rng, runs, network, horizon):
     _, first = runs.solve(network, horizon, "--phases", str(rng.randint(1, 8)))
     if not first.out:
         return
-    _, second = runs.of(["resume", "N", "R", "--horizon", printed(some_later(rng, horizon)), *PATTERNS, "--phases", "3"], N=network.text(), R=first.out)
+    later = printed(some_later(rng, horizon))
+    _, second = runs.of(["resume", "N", "R", "--horizon", later, *PATTERNS, "--phases", "3"], N=network.text(), R=first.out)
     for answer in (first, second):
         if answer.out:
             case, found = runs.of(["check", "N", "R"], N=network.text(), R=answer.out)
@@ -216,10 +233,10 @@ def lasting(rng, runs, network, horizon):
         reached = Fraction(answer.out.decode().splitlines()[1].split(" ")[1])
         case, found = runs.solve(network, reached)
         if found.status == 0:
-            yield case, lines_of(answer, "label", "never", "inflow", "outflow", "queue"), lines_of(found, "label", "never", "inflow", "outflow", "queue")
+            yield case, lines_of(answer, *CURVES, "never"), lines_of(found, *CURVES, "never")
 
 
-RELATIONS = [scaling, renaming, resuming, resuming, checking, settling, showing, ordering, cutting, halving, later_supply, lasting]
+RELATIONS = [scaling, scaling_files, renaming, resuming, resuming, checking, settling, showing, ordering, cutting, halving, later_supply, lasting]
 
 
 def some_relation(rng, programs):

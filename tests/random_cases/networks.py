@@ -1,8 +1,8 @@
 """Networks of several kinds, and their files."""
-from dataclasses import dataclass, field, replace
+from dataclasses import dataclass, replace
 from fractions import Fraction
 
-from .numerals import LARGEST, chance, coprime, fits, near_powers, over_primes, printed, rising_times, small_rate, wide
+from .numerals import chance, coprime, fits, near_powers, over_primes, printed, rising_times, small_rate, wide
 
 NAME_CHARACTERS = "ABCXYZabcxyz0189_-."
 
@@ -70,19 +70,6 @@ def link_line(link):
     return f"link {link.name} {link.tail} {link.head} {printed(link.transit)} {capacity}"
 
 
-def read_network(text):
-    """The network of a file as `show` prints it."""
-    lines = [line.split(" ") for line in text.decode().splitlines()]
-    network = Network(int(lines[0][1]), [], [], lines[1][1], lines[2][1])
-    for words in lines[3:]:
-        if words[0] == "link":
-            capacity = None if words[5] == "inf" else Fraction(words[5])
-            network.links.append(Link(words[1], words[2], words[3], Fraction(words[4]), capacity))
-        elif words[0] == "inflow":
-            network.pieces.append((Fraction(words[1]), Fraction(words[2])))
-    return network
-
-
 def some_name(rng, taken):
     """A name that isn't taken, often of all 24 characters."""
     while True:
@@ -113,7 +100,7 @@ def inner_nodes(count):
 
 def choice_of(*values):
     """A call that chooses one of the values."""
-    return lambda rng: rng.choice(values) if values[0] is not None or len(values) > 1 else None
+    return lambda rng: rng.choice(values)
 
 
 def unbounded_at_times(rng, version, capacity):
@@ -166,7 +153,8 @@ def zero_chains(rng, version):
     for k in range(rng.randint(0, 5)):
         tail, head = sorted(rng.sample(range(len(nodes)), 2))
         transit = rng.choice([Fraction(0), Fraction(0), Fraction(0), Fraction(1), Fraction(1, 2)])
-        links.append(Link(f"x{k}", nodes[tail], nodes[head], transit, unbounded_at_times(rng, version, rng.choice([Fraction(1), Fraction(2), Fraction(3, 2)]))))
+        capacity = unbounded_at_times(rng, version, rng.choice([Fraction(1), Fraction(2), Fraction(3, 2)]))
+        links.append(Link(f"x{k}", nodes[tail], nodes[head], transit, capacity))
     if chance(rng, 0.3):
         links.append(Link("back", "t", "s", Fraction(1, 1000), Fraction(1)))
     rng.shuffle(links)
@@ -182,8 +170,8 @@ def standing_still(rng, version):
             links.append(Link(name, tail, head, Fraction(rng.randint(1, 6)), Fraction(rng.randint(1, 3))))
     rate, stop = first + rng.randint(1, 4), Fraction(rng.randint(1, 4))
     empty = stop * rate / first
-    beside = rng.choice([Fraction(0), Fraction(0), Fraction(0), Fraction(1, 1000), Fraction(-1, 1000), Fraction(1, 10 ** 9), Fraction(1), Fraction(-1, 2)])
-    again = max(stop + Fraction(1, 10 ** 6), empty + beside)
+    beside = rng.choice(["0", "0", "0", "1/1000", "-1/1000", "1/1000000000", "1", "-1/2"])
+    again = max(stop + Fraction(1, 10 ** 6), empty + Fraction(beside))
     pieces = [(Fraction(0), rate), (stop, Fraction(0)), (again, Fraction(rng.randint(0, 5)))]
     if chance(rng, 0.5):
         pieces += [(again + 2, Fraction(0)), (again + rng.randint(4, 9), Fraction(rng.randint(1, 4)))]
@@ -193,8 +181,15 @@ def standing_still(rng, version):
 def with_wide_numbers(rng, version, number):
     """A few nodes in a chain with further links; about half of the numbers are of a wide kind."""
     nodes = inner_nodes(rng.randint(0, 2))
-    transit = lambda rng: number(rng) if chance(rng, 0.4) else Fraction(rng.randint(0, 2))
-    capacity = lambda rng: number(rng) if chance(rng, 0.6) else Fraction(rng.randint(1, 3))
+
+    def transit(rng):
+        """A wide transit time, or a small one."""
+        return number(rng) if chance(rng, 0.4) else Fraction(rng.randint(0, 2))
+
+    def capacity(rng):
+        """A wide capacity, or a small one."""
+        return number(rng) if chance(rng, 0.6) else Fraction(rng.randint(1, 3))
+
     links = chain(rng, nodes, transit, capacity)
     for k in range(rng.randint(0, 4)):
         tail, head = rng.choice(nodes), rng.choice(nodes)
@@ -220,7 +215,7 @@ def wide_tables(rng, version):
             capacity = number(rng) if chance(rng, 0.7) else Fraction(rng.randint(1, 3))
             links.append(Link(f"c{len(links)}", tail, head, Fraction(rng.choice([0, 1, 1, 1, 2])), capacity))
     rng.shuffle(links)
-    rate = rng.choice([Fraction(rng.randint(1, 9)), Fraction(rng.randint(0, 9), 2), Fraction(rng.randint(2 ** 30, 2 ** 60), rng.randint(1, 2 ** 40)), number(rng)])
+    rate = rng.choice([Fraction(rng.randint(1, 9)), Fraction(rng.randint(0, 9), 2), wide(rng, 63), number(rng)])
     return Network(version, links, [(Fraction(0), rate), (Fraction(2), Fraction(rng.randint(0, 5)))])
 
 
@@ -232,6 +227,7 @@ def coprime_numbers(rng, version):
 def at_powers(rng, version):
     """One link or two, with numbers beside powers of two."""
     def number():
+        """A number beside powers of two, or a small one."""
         return near_powers(rng) if chance(rng, 0.6) else Fraction(rng.randint(1, 3))
     links = [Link(name, "s", "t", rng.choice([number(), Fraction(0)]), number()) for name in "ab"[:rng.randint(1, 2)]]
     pieces = [(Fraction(0), number())]

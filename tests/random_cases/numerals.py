@@ -34,11 +34,6 @@ def is_number(word):
     return len(digits) <= 2 and all(part.isascii() and part.isdigit() for part in digits) and int(digits[-1] if len(digits) == 2 else 1) > 0
 
 
-def fraction_of(word):
-    """The fraction that a number word says."""
-    return Fraction(word)
-
-
 def wide(rng, most_bits=126):
     """A positive fraction of any width up to so many bits."""
     numerator = rng.randint(1, 2 ** rng.choice([bits for bits in (1, 3, 20, 40, 62, 63, 64, 100, 126) if bits <= most_bits]))
@@ -54,14 +49,16 @@ def over_primes(rng):
 def near_powers(rng):
     """A positive fraction with parts beside a power of two, 2^63 and 2^127 among them."""
     def part():
+        """A whole number beside a power of two."""
         return max(1, min(LARGEST, 2 ** rng.choice([31, 32, 62, 63, 63, 64, 126, 126, 127]) + rng.choice([-2, -1, -1, 0, 1])))
     return Fraction(part(), part() if chance(rng, 0.4) else 1)
 
 
 def coprime(rng):
     """A positive fraction of one of several kinds whose denominators share nothing."""
-    return rng.choice([over_primes, near_powers, lambda r: Fraction(1, r.choice(PRIMES)), lambda r: Fraction(r.choice(PRIMES), r.choice(PRIMES)),
-                       lambda r: Fraction(r.randint(1, 3)), lambda r: Fraction(LARGEST - 1, r.randint(1, 3))])(rng)
+    one, other = rng.choice(PRIMES), rng.choice(PRIMES)
+    return rng.choice([over_primes(rng), near_powers(rng), Fraction(1, one), Fraction(one, other), Fraction(rng.randint(1, 3)),
+                       Fraction(LARGEST - 1, rng.randint(1, 3))])
 
 
 def some_time(rng):

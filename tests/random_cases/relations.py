@@ -7,7 +7,7 @@ from .running import Answer
 
 # What the words behind the first one of a line are: t a time, a an amount, r a rate, - neither. Further words are neither.
 UNITS = {"horizon": "t", "reached": "t", "label": "-tt", "inflow": "-tar", "outflow": "-tar", "queue": "-ta", "exit": "-tt", "travel": "-tt",
-         "arrival": "-ta", "quick": "t", "walk": "r", "cut": "-t", "value": "a", "equilibrium": "t", "flow": "-r"}
+         "arrival": "-ta", "quick": "t", "walk": "r", "cut": "-t", "value": "a", "equilibrium": "t", "flow": "-r", "rate": "-tr"}
 NODE_LINES = ("label", "never", "slope", "cut", "source", "sink")
 LINK_LINES = ("inflow", "outflow", "queue", "exit", "state", "flow")
 

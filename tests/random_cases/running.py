@@ -1,16 +1,13 @@
 """Runs the two programs on a case: the one under test as a process, the independent one within this process."""
 import contextlib
-import importlib
-import os
 import pathlib
 import shutil
 import signal
 import subprocess
-import sys
 import tempfile
 from typing import NamedTuple
 
-INDEPENDENT = pathlib.Path(__file__).resolve().parent.parent / "independent"
+from independent.app import run
 
 
 class Answer(NamedTuple):
@@ -28,6 +25,7 @@ class TooSlow(Exception):
 def within_seconds(seconds):
     """Raises TooSlow where the block takes longer."""
     def late(number, frame):
+        """The signal that time is over."""
         raise TooSlow
     before = signal.signal(signal.SIGALRM, late)
     signal.setitimer(signal.ITIMER_REAL, seconds)
@@ -47,27 +45,17 @@ def put_files(folder, files):
 
 
 class Programs:
-    """The two programs, with a temporary folder in which each case stands while it runs."""
+    """The two programs, with a temporary folder in which each case stands while the program under test runs."""
 
     def __init__(self, program, slowest=20):
         self.program, self.slowest = pathlib.Path(program).resolve(), slowest
         self.temporary = tempfile.TemporaryDirectory(prefix="differ")
         self.folder = pathlib.Path(self.temporary.name) / "case"
-        sys.path.insert(0, str(INDEPENDENT))
-        sys.dont_write_bytecode = True
-        sys.setrecursionlimit(20000)
-        self.call = importlib.import_module("app").run
 
     def expected(self, words, files):
         """The answer of the independent program. Raises TooSlow."""
-        put_files(self.folder, files)
-        before = os.getcwd()
-        os.chdir(self.folder)
-        try:
-            with within_seconds(self.slowest):
-                return Answer(*self.call(list(words)))
-        finally:
-            os.chdir(before)
+        with within_seconds(self.slowest):
+            return Answer(*run(list(words), files))
 
     def found(self, words, files):
         """The answer of the program under test."""

@@ -16,6 +16,7 @@ class Shrinking:
         self.case, self.differs, self.end, self.tried = case, differs, time.monotonic() + seconds, 0
 
     def is_late(self):
+        """Whether time is over."""
         return time.monotonic() > self.end
 
     def take(self, case):
@@ -40,17 +41,24 @@ class Shrinking:
         return any([self.fewer_of(name) for name in sorted(self.case.files)])
 
     def fewer_of(self, name):
+        """Lines are taken away from one file."""
         smaller = False
         size = max(1, len(lines_of(self.case, name)) // 2)
         while size >= 1:
-            at = 0
-            while at < len(lines_of(self.case, name)) and not self.is_late():
-                lines = lines_of(self.case, name)
-                if self.take(with_lines(self.case, name, lines[:at] + lines[at + size:])):
-                    smaller = True
-                else:
-                    at += size
+            smaller |= self.fewer_in_steps(name, size)
             size = size // 2
+        return smaller
+
+    def fewer_in_steps(self, name, size):
+        """So many lines at once are taken away, from each place on where the case still differs."""
+        smaller, at = False, 0
+        while at < len(lines_of(self.case, name)) and not self.is_late():
+            lines = lines_of(self.case, name)
+            ending = [""] if lines[-1] == "" and at + size >= len(lines) else []
+            if self.take(with_lines(self.case, name, lines[:at] + lines[at + size:] + ending)):
+                smaller = True
+            else:
+                at += size
         return smaller
 
     def fewer_links(self):
@@ -80,6 +88,7 @@ class Shrinking:
         return smaller
 
     def smaller_in_line(self, name, row):
+        """The numbers of one line become smaller."""
         smaller = False
         for column in range(1, len(words_at(self.case, name, row))):
             words = words_at(self.case, name, row)
@@ -157,7 +166,7 @@ def smaller_words(word):
         shorter.append(f"{sign}{numerator}/{denominator[1:1 + len(denominator) // 2]}")
     if len(numerator) > 1:
         shorter += [f"{sign}{numerator[:len(numerator) // 2]}{denominator or ''}", f"{sign}{numerator[:-1]}{denominator or ''}"]
-    return ["0", "1", "2", *shorter]
+    return ["0", "1", "2", *(["1/2"] if denominator and word != "1/2" else []), *shorter]
 
 
 def without_link(case, link):

@@ -36,7 +36,7 @@ class Tally:
         """A line for each command, and one of rules and operations."""
         for command, counts in sorted(self.statuses.items()):
             told = ", ".join(f"{status}: {counts[status]}" for status in sorted(counts, key=in_order))
-            yield f"{command:8} {sum(counts.values()):6} answers  {told}"
+            yield f"{command:22} {sum(counts.values()):6} answers  {told}"
         yield "of these " + ", ".join(f"{name}: {count}" for name, count in sorted(self.details.items(), key=lambda item: in_order(item[0])))
 
 
