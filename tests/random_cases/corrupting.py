@@ -1,4 +1,6 @@
 """Files with lines, words or bytes changed at random, and other spellings of the same content."""
+from fractions import Fraction
+
 from .numerals import ODD_WORDS, chance
 
 ODD_LINE_WORDS = ODD_WORDS + ["end", "a", "s", "t", "#", "full", "tight", "-", "done", "label", "e0", "w" * 24, "w" * 25, "", "never", "link"]
@@ -67,14 +69,25 @@ def respelled_number(rng, word):
     return f"{zeros}{numerator}{slash}{denominator}"
 
 
+def decimal_of(rng, word):
+    """A decimal of the same number with up to 38 digits behind the point, or the word itself where it has none of at most eight."""
+    value = Fraction(word)
+    for digits in range(1, 9):
+        if (value * 10 ** digits).denominator == 1:
+            digits = rng.choice([digits, digits, digits + 1, 30, 38])
+            whole, part = divmod(abs(value.numerator) * 10 ** digits // value.denominator, 10 ** digits)
+            return f"{'-' if value < 0 else ''}{rng.choice(['', '', '0'])}{whole}.{part:0{digits}}"
+    return word
+
+
 def respelled(rng, text, number_columns):
     """The content of a file in other spaces, comments, endings and number words; columns tell by a line's first word where its numbers begin."""
-    lines = []
+    lines, spellings = [], [respelled_number, decimal_of] if text.startswith(b"nfot 2") else [respelled_number]
     for line in text.decode("latin-1").splitlines():
         words = line.split(" ")
         for i in range(number_columns.get(words[0], len(words)), len(words)):
             if chance(rng, 0.4) and words[i].strip("-").replace("/", "").isdigit():
-                words[i] = respelled_number(rng, words[i])
+                words[i] = rng.choice(spellings)(rng, words[i])
         if chance(rng, 0.3):
             lines.append(rng.choice(["", "   ", "\t", "#", "# x y z", " \t# nfot 1", "#" * 1000, " " * 1000]))
         separator = rng.choice([" ", " ", "\t", "  ", " \t "])
