@@ -1,9 +1,10 @@
 #!/usr/bin/env python3
 """Compares a program with the independent one on random cases, byte for byte, and with itself by relations that must hold.
 
-    tests/differ.py PROGRAM [--seed N] [--cases N] [--commands NAME,NAME ..] [--metamorphic] [--keep FOLDER]
+    tests/differ.py PROGRAM [--seed N] [--cases N] [--commands NAME,NAME ..] [--metamorphic] [--first] [--keep FOLDER]
 
-Each case is made from its own seed alone: case 5 of a run with seed 100 is the only case of a run with seed 105 and the same commands.
+Each case is made from its own seed alone, which the first one has from --seed and each further one is one higher: --seed N --cases 1, with the
+same commands, makes the case of seed N again.
 A case is run by both programs, in a temporary folder; status, standard output and standard error have to be the same bytes. One case in
 twenty is a relation of the program with itself; with --metamorphic all are. A case that differs is made smaller and kept, as files with
 the command line and both answers, in a folder that is named. Progress goes to standard error; at last comes a tally of answers.
@@ -36,11 +37,14 @@ def parsed(words):
     parser.add_argument("--cases", type=int, default=300, metavar="N")
     parser.add_argument("--commands", type=lambda names: names.split(","), default=list(commands.MAKERS), metavar="NAME,NAME ..")
     parser.add_argument("--metamorphic", action="store_true", help="relations of the program with itself alone")
+    parser.add_argument("--first", action="store_true", help="stop at the first case that differs")
     parser.add_argument("--keep", type=pathlib.Path, metavar="FOLDER", help="where cases that differ are kept (else a new temporary folder)")
     options = parser.parse_args(words)
     unknown = [name for name in options.commands if name not in commands.MAKERS]
     if unknown:
         parser.error(f"no command is called {', '.join(unknown)}; there are {', '.join(commands.MAKERS)}")
+    if options.cases < 1:
+        parser.error("there is no case to run")
     if not options.program.is_file():
         parser.error(f"{options.program} isn't built")
     return options
@@ -115,13 +119,15 @@ def main():
     comparison, start, told = Comparison(options), time.monotonic(), time.monotonic()
     for count in range(1, options.cases + 1):
         comparison.run(options.seed + count - 1)
+        if options.first and comparison.differing:
+            break
         if time.monotonic() - told > 15:
             told = time.monotonic()
             progress(f"{count} of {options.cases} cases, {comparison.differing} differ, {told - start:.0f} seconds")
     for line in comparison.tally.lines():
         print(line)
     late = f", {comparison.slow} left out as too slow" if comparison.slow else ""
-    print(f"differ: {options.cases} cases from seed {options.seed}, {comparison.differing} differ{late}, {time.monotonic() - start:.0f} seconds")
+    print(f"differ: {count} cases from seed {options.seed}, {comparison.differing} differ{late}, {time.monotonic() - start:.0f} seconds")
     sys.exit(1 if comparison.differing else 0)
 
 

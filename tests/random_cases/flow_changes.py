@@ -307,7 +307,7 @@ def solved(answer_of, network, horizon):
 
 SAME_FLOW = [more_points, more_points, wide_points, moved_end]
 BROKEN = [negative_label, beyond_the_reach, falling_inflow, wrong_rate, moved_point, moved_label, moved_outflow, moved_queue, lost_point, zigzag,
-          far_point, other_inflow, one_route, round_the_sink]
+          far_point, other_inflow, other_inflow, one_route, one_route, one_route, round_the_sink]
 OF_OTHER_RUNS = [of_another_order, of_another_order, of_a_part]
 
 

@@ -3,6 +3,7 @@ import re
 import time
 
 from .case import Case
+from .simpler_reports import read_exactly, simpler
 
 NUMBER = re.compile(r"^(-?)(\d+)(/\d+)?$")
 NAMED_LINKS = ("inflow", "outflow", "queue", "state", "rate", "flow")
@@ -31,7 +32,7 @@ class Shrinking:
 
     def smallest(self):
         """The smallest case that is found, when no step makes it smaller or time is over."""
-        steps = [self.fewer_links, self.fewer_lines, self.fewer_words, self.smaller_numbers, self.plainer_lines, self.shorter_names]
+        steps = [self.fewer_links, self.simpler_reports, self.fewer_lines, self.fewer_words, self.smaller_numbers, self.plainer_lines, self.shorter_names]
         while not self.is_late() and any([step() for step in steps]):
             pass
         return self.case
@@ -65,6 +66,17 @@ class Shrinking:
         """A link is taken away from all files together, and nodes that no link names then."""
         names = [line.split()[1] for line in lines_of(self.case, first_name(self.case)) if line.startswith("link ") and line.count(" ") > 1]
         return any([self.take(without_link(self.case, name)) for name in names])
+
+    def simpler_reports(self):
+        """A report gets shorter, loses a point or gets a smaller number, and its rates with it."""
+        return any([self.simpler_report(name) for name in sorted(self.case.files)])
+
+    def simpler_report(self, name):
+        """The report of one file becomes simpler as long as it can."""
+        smaller, report = False, read_exactly(self.case.files[name])
+        while report is not None and any(self.take(with_text(self.case, name, other.text())) for other in simpler(report)):
+            smaller, report = True, read_exactly(self.case.files[name])
+        return smaller
 
     def fewer_words(self):
         """An option is taken away, or a file that no word names."""
@@ -132,7 +144,12 @@ def words_at(case, name, row):
 
 def with_lines(case, name, lines):
     """The case with other lines in a file."""
-    return Case(case.words, {**case.files, name: "\n".join(lines).encode("latin-1")})
+    return with_text(case, name, "\n".join(lines).encode("latin-1"))
+
+
+def with_text(case, name, text):
+    """The case with another file of a name."""
+    return Case(case.words, {**case.files, name: text})
 
 
 def with_line(case, name, row, line):
