@@ -1,6 +1,8 @@
 #!/usr/bin/env python3
 """Runs each command that the pages show, in a copy of the folder examples, and compares what it prints with the page.
 
+    tests/pages.py [PROGRAM]    PROGRAM is a file `nfot`, else the built one: `tests/pages.py tests/independent/nfot`
+
 A block that begins with ```console has lines `$ COMMAND`, each followed by what the command prints (on both streams, as it comes).
 The commands of a page run one after the other in one folder, so that a later one finds the files of an earlier one.
 Statuses: 0 all the same; 1 some differ, or the program isn't built.
@@ -36,7 +38,7 @@ def printed(command, folder, environment):
 
 
 def main():
-    program = ROOT / "crates/nfot/out/nfot"
+    program = pathlib.Path(sys.argv[1]).resolve() if len(sys.argv) > 1 else ROOT / "crates/nfot/out/nfot"
     if not program.exists():
         sys.exit(f"pages: {program} isn't built")
     environment = dict(os.environ, PATH=f"{program.parent}:{os.environ['PATH']}", LC_ALL="C")  # else awk may print 1,5 for 1.5

@@ -1,10 +1,12 @@
 """An independent program with the command line of `nfot`: slow, readable, exact.
 
-The definitions of docs/MODEL.md, docs/FORMATS.md and docs/LISTS.md are computed here one by one, in plain Python 3 with integers of any size.
-Nothing in this package is derived from the Rattle code. Who changes a format changes it here from docs/FORMATS.md, not from the code.
-Only so can a difference between both programs show a fault of one of them, or a sentence of those pages that is unclear.
+The package computes the definitions of docs/MODEL.md, docs/FORMATS.md and docs/LISTS.md, one by one, in plain Python 3
+with integers of any size. Nothing in it is derived from the Rattle code. Who changes a format changes it here from
+docs/FORMATS.md, not from the code. Then a difference between both programs shows a fault of one of them, or an unclear
+sentence of those pages.
 
-A docstring gives the definition that its function computes, with the definition's name in backticks where MODEL.md or LISTS.md has one.
+Each docstring gives the definition that its function computes. The definition's name in MODEL.md or LISTS.md stands in
+backticks. "The list Slack" is the list of operations that LISTS.md calls Slack.
 
 | subject | modules |
 |---|---|

@@ -1,4 +1,4 @@
-"""`python3 tests/independent solve FILE --horizon 2`: the arguments, bytes and statuses of `nfot`. FORMATS.md, "The command line"."""
+"""The program: `python3 tests/independent solve FILE --horizon 2` has the arguments, bytes and statuses of `nfot`."""
 import os
 import sys
 
@@ -19,7 +19,7 @@ def write(stream, text):
 
 
 def main():
-    """Runs the program. Where standard output takes no more, that is the answer; a fault of standard error changes no status."""
+    """Runs the program. Status 9: standard output takes no more. A fault of standard error changes no status."""
     status, output, error = run(sys.argv[1:])
     if not write(1, output):
         status, error = 9, b"nfot: output\n"

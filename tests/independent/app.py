@@ -5,7 +5,7 @@ FORMATS.md, "The command line" and "What is written to standard error".
 from .checking import Violation, check
 from .command_line import USAGE, Usage, read_request
 from .endless import STATUS_PHASES_SPENT, forever_text, solve_forever
-from .exact import Passing
+from .exact import Passing, ZERO
 from .flows_file import read_flows
 from .ladders import ladder
 from .lines import Broken, joined
@@ -21,13 +21,12 @@ from .resuming import resume
 from .routes import routes_text
 from .routes_file import read_routes
 from .settling import settle_text
-from .exact import ZERO
 
 FILE_LIMIT = 1048576
 REPORT_LIMIT = 67108864
 DEFAULTS = {"phases": 10000, "patterns": 100000, "augments": 10000}
 SECOND_FILES = {"check": ("report", read_report), "resume": ("report", read_report), "load": ("loads", read_loads),
-                "settle": ("flows", read_flows), "routes": ("routes", read_routes)}
+                "settle": ("flows", read_flows), "routes": ("routes", read_routes)}    # the file's kind and its reader
 
 
 class Refusal(Exception):
@@ -40,9 +39,10 @@ class Refusal(Exception):
 
 
 def run(words, files=None):
-    """The status and the bytes of standard output and standard error, given the words behind the program's name.
+    """The status and the bytes of standard output and of standard error, given the words behind the program's name.
 
-    `files` maps names of files to their bytes; without it the files of the file system are read.
+    `files` maps names to bytes; without it the files of the file system are read. Status 1 doesn't come: where memory is
+    wanting, Python ends.
     """
     try:
         "".join(words).encode("utf-8")
@@ -56,7 +56,7 @@ def run(words, files=None):
 
 
 def answer(words, files):
-    """The answer to the words: the order is usage, files, rules of the network, rules of the second file, the command's own."""
+    """The answer to the words. Faults come in this order: words, files, the network's rules, the second file's rules."""
     try:
         request = read_request(words)
     except Usage:
@@ -94,7 +94,7 @@ def fetch(name, limit, files):
 
 
 def read_file(kind, reader, *arguments):
-    """What a file says; where it breaks a rule, the line and the rule are the answer."""
+    """What a file says; raises Refusal with the rule that it breaks and the line."""
     try:
         return reader(*arguments)
     except Broken as broken:
@@ -102,20 +102,23 @@ def read_file(kind, reader, *arguments):
 
 
 def stopped_line(cause):
+    """The line on standard error for a cause."""
     return f"nfot: stopped: {cause}\n"
 
 
 def stopped(solution):
-    """The status of a run, and the line on standard error where it stopped."""
+    """The status of a run, and what is written to standard error."""
     status = status_of(solution.cause)
     return status, stopped_line(solution.cause) if status else ""
 
 
 def answer_show(options, net):
+    """`show`: the canonical text."""
     return 0, canonical_text(net), ""
 
 
 def answer_solve(options, net):
+    """`solve`: the report of the run to the horizon, or of the run without one."""
     if "forever" in options:
         return answer_forever(options, net)
     solution = solve(net, options["horizon"], options["phases"], options["patterns"])
@@ -125,10 +128,12 @@ def answer_solve(options, net):
 def reported(options, net, solution):
     """The answer of a run to a horizon: its report."""
     status, error = stopped(solution)
-    return status, report_text(net, Report(options["horizon"], solution.flow, solution.cause, solution.pattern)), error
+    report = Report(options["horizon"], solution.flow, solution.cause, solution.pattern)
+    return status, report_text(net, report), error
 
 
 def answer_forever(options, net):
+    """`solve --forever`: the run until its tail."""
     solution, tail = solve_forever(net, options["phases"], options["patterns"])
     status, error = stopped(solution)
     if solution.cause.startswith("phases"):
@@ -137,6 +142,7 @@ def answer_forever(options, net):
 
 
 def answer_gen(options):
+    """`gen`: the summary of a ladder's run."""
     net = ladder(options["number"], options["rungs"])
     solution = solve(net, options["horizon"], options["phases"], options["patterns"])
     status, error = stopped(solution)
@@ -147,14 +153,17 @@ def answer_gen(options):
 
 
 def answer_load(options, net, loads):
+    """`load`: queues, outflows and exits."""
     return 0, load_text(net, loads, options["horizon"]), ""
 
 
 def violated(violation):
-    return 10, joined([violation.line]), "nfot: no equilibrium\n"
+    """The answer where a flow is no equilibrium."""
+    return 10, joined([violation.line()]), "nfot: no equilibrium\n"
 
 
 def answer_check(options, net, report):
+    """`check`: whether the report's flow is an equilibrium."""
     try:
         check(net, report.flow)
     except Violation as violation:
@@ -163,6 +172,7 @@ def answer_check(options, net, report):
 
 
 def answer_resume(options, net, report):
+    """`resume`: the report of the run that goes on."""
     if options["horizon"] < report.flow.reached:
         raise Refusal(16, "nfot: earlier\n")
     try:
@@ -173,6 +183,7 @@ def answer_resume(options, net, report):
 
 
 def answer_quick(options, net):
+    """`quick`: the quickest flow of the amount, with its cut."""
     amount, augments = options["amount"], options["augments"]
     if amount > ZERO and has_unbounded_walk(net):
         raise Refusal(14, "nfot: unbounded\n")
@@ -184,6 +195,7 @@ def answer_quick(options, net):
 
 
 def answer_settle(options, net, given):
+    """`settle`: the thin flow without cycles, with its pattern."""
     text = settle_text(net, *given)
     if text is None:
         raise Refusal(15, "nfot: no thin flow\n")
@@ -191,8 +203,9 @@ def answer_settle(options, net, given):
 
 
 def answer_routes(options, net, routes):
+    """`routes`: the loading by route."""
     return 0, routes_text(net, routes, options["horizon"]), ""
 
 
-COMMANDS = {"show": answer_show, "solve": answer_solve, "gen": answer_gen, "load": answer_load, "check": answer_check,
-            "resume": answer_resume, "quick": answer_quick, "settle": answer_settle, "routes": answer_routes}
+COMMANDS = {"solve": answer_solve, "show": answer_show, "load": answer_load, "check": answer_check, "quick": answer_quick,
+            "gen": answer_gen, "settle": answer_settle, "resume": answer_resume, "routes": answer_routes}

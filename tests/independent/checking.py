@@ -1,6 +1,7 @@
 """The check whether a flow is an equilibrium: the rules C1 to C8 in their order.
 
-FORMATS.md, "What `check` answers"; LISTS.md, "The check of a flow"; what the rules ask for together is `Equilibrium` in MODEL.md.
+FORMATS.md, "What `check` answers"; LISTS.md, "The check of a flow". A flow that keeps all rules is an equilibrium
+(`Equilibrium`).
 """
 from . import curves
 from .exact import CHECK, TWO, ZERO
@@ -8,15 +9,23 @@ from .loading import cumulative, load_link
 
 
 class Violation(Exception):
-    """A rule that is broken: its name, the node or link that breaks it, a time, and the two values that differ there."""
+    """A broken rule: its name, the node or link that breaks it, a time, and the two values that differ there."""
 
     def __init__(self, rule, subject, time, left, right):
         super().__init__(rule, subject, time, left, right)
-        self.line = f"no {rule} {subject} {time} {left} {right}"
+        self.rule = rule
+        self.subject = subject
+        self.time = time
+        self.left = left
+        self.right = right
+
+    def line(self):
+        """What `check` writes."""
+        return f"no {self.rule} {self.subject} {self.time} {self.left} {self.right}"
 
 
 def check(net, flow):
-    """Raises Violation with the first rule that the flow breaks; it breaks none exactly where it is an equilibrium (`trial`)."""
+    """Tests the rules in order (`trial`, `Checks`); raises Violation with the first one that the flow breaks."""
     trial = Trial(net, flow)
     trial.labels_not_negative()
     trial.inflows_never_fall()
@@ -34,7 +43,7 @@ def check(net, flow):
 
 
 class Trial:
-    """A check that goes on: `labels` are cut at the departure reached, `loaded` is what the law of the point queue says of the inflows."""
+    """The state of a check: the labels cut at the departure reached, the loaded links, and the supply."""
 
     def __init__(self, net, flow):
         self.net = net
@@ -44,7 +53,7 @@ class Trial:
         self.supply = None
 
     def differ(self, rule, subject, left, right, until):
-        """Raises Violation where two curves differ up to a time, at the first corner at which they do."""
+        """Raises Violation at the first corner up to a time at which two curves differ."""
         difference = curves.first_difference(left, right, until, CHECK)
         if difference is not None:
             raise Violation(rule, subject, *difference)
@@ -83,7 +92,10 @@ class Trial:
             self.loaded.append(load_link(link, inflow, until))
 
     def labels_are_earliest(self):
-        """C3: the source's label is the departure; another node's is the least exit over the links into it, entered at their tails' labels."""
+        """C3: the source's label is the departure; another node's is the least exit over the links into it.
+
+        Each of these links is entered at the label of its tail.
+        """
         net, reached = self.net, self.flow.reached
         self.differ("C3", net.nodes[net.source], self.labels[net.source], curves.identity(reached), reached)
         for v, name in enumerate(net.nodes):
@@ -96,11 +108,15 @@ class Trial:
             self.differ("C3", name, self.labels[v], least, reached)
 
     def outflows_and_queues(self):
-        """C4: each printed outflow is that of the inflow, up to the head's label at the end. C5: each printed queue, up to the tail's."""
+        """C4: each printed outflow is that of the inflow, up to the head's label at the departure reached.
+
+        C5: each printed queue is that of the inflow, up to the tail's label there.
+        """
+        ends = [points[-1][1] for points in self.labels]
         for e, link in enumerate(self.net.links):
-            self.differ("C4", link.name, self.flow.outflows[e][0], self.loaded[e].outflow, self.labels[link.head][-1][1])
+            self.differ("C4", link.name, self.flow.outflows[e][0], self.loaded[e].outflow, ends[link.head])
         for e, link in enumerate(self.net.links):
-            self.differ("C5", link.name, self.flow.queues[e], self.loaded[e].queue, self.labels[link.tail][-1][1])
+            self.differ("C5", link.name, self.flow.queues[e], self.loaded[e].queue, ends[link.tail])
 
     def amount_into(self, v):
         """The sum of the outflows of the links into a node (`sum_in`)."""
@@ -117,7 +133,8 @@ class Trial:
         return total
 
     def conserves(self, v):
-        """C6: what leaves the links into a node, and the supply at the source, enters the links out of it (`Conserves`)."""
+        """C6: what leaves the links into a node enters the links out of it (`Conserves`). The source is supplied besides.
+        """
         amount_in = self.amount_into(v)
         until = self.labels[v][-1][1]
         if v == self.net.source:
@@ -126,8 +143,10 @@ class Trial:
         self.differ("C6", self.net.nodes[v], amount_in, self.amount_out_of(v), until)
 
     def conserves_at_sink(self):
-        """C7: up to the sink's label at 0 nothing leaves it but what came; at the label of each departure, what has come in is what has
-        gone out and what was supplied by that departure (`Conserves`)."""
+        """C7: nothing leaves the sink but what came, up to its label at departure 0 (`Conserves`).
+
+        At the label of each departure, what has come in is what has gone out and what was supplied by that departure.
+        """
         sink, reached = self.net.sink, self.flow.reached
         name, label = self.net.nodes[sink], self.labels[sink]
         amount_in, amount_out = self.amount_into(sink), self.amount_out_of(sink)
@@ -137,7 +156,10 @@ class Trial:
         self.differ("C7", name, arrived, curves.sum_of(left, self.supply, CHECK), reached)
 
     def only_shortest(self, e):
-        """C8: from each departure from which on the link's inflow grows, at its tail's label, its exit is its head's label (`OnlyShortest`)."""
+        """C8: a link takes flow only where its exit, at its tail's label, is its head's label (`OnlyShortest`).
+
+        Departures are cut at the corners of three curves: inflow and exit at the tail's label, and the head's label.
+        """
         link, reached = self.net.links[e], self.flow.reached
         entered = curves.composed(self.flow.inflows[e][0], self.labels[link.tail], reached, CHECK)
         exits = curves.composed(self.loaded[e].exits, self.labels[link.tail], reached, CHECK)
@@ -146,13 +168,19 @@ class Trial:
         corners = curves.times(entered, exits, label)
         for start, end in zip(corners, corners[1:]):
             grows = curves.value(entered, start, CHECK) < curves.value(entered, end, CHECK)
-            if grows and not same_at(exits, label, start):
-                raise Violation("C8", link.name, start, curves.value(exits, start, CHECK), curves.value(label, start, CHECK))
-            if grows and not same_at(exits, label, end):
+            if grows and differ_at(start, exits, label):
+                raise Violation("C8", link.name, start, *values_at(start, exits, label))
+            if grows and differ_at(end, exits, label):
                 middle = CHECK.quotient(CHECK.sum(start, end), TWO)
-                raise Violation("C8", link.name, middle, curves.value(exits, middle, CHECK), curves.value(label, middle, CHECK))
+                raise Violation("C8", link.name, middle, *values_at(middle, exits, label))
 
 
-def same_at(left, right, time):
-    """Whether two curves have the same value at a time."""
-    return curves.value(left, time, CHECK) == curves.value(right, time, CHECK)
+def values_at(time, left, right):
+    """The values of two curves at a time."""
+    return curves.value(left, time, CHECK), curves.value(right, time, CHECK)
+
+
+def differ_at(time, left, right):
+    """Whether two curves differ at a time."""
+    left_value, right_value = values_at(time, left, right)
+    return left_value != right_value

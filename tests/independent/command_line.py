@@ -18,7 +18,7 @@ BUDGETS = ("phases", "patterns")
 
 
 class Form:
-    """A form of a command: how many files it has, the options that it must have, and those that may be left out."""
+    """A form of a command: its number of files, its options, and those that may be left out."""
 
     def __init__(self, command, files, options=(), optional=()):
         self.command = command
@@ -40,7 +40,8 @@ FORMS = [
     Form("routes", 2, ("horizon",)),
 ]
 NUMBER_OPTIONS = ("horizon", "amount")
-RANGES = {"phases": (1, 100000), "patterns": (1, 1000000), "augments": (1, 100000), "rungs": (1, 30), "number": (0, 2 ** 64 - 1)}
+RANGES = {"phases": (1, 100000), "patterns": (1, 1000000), "augments": (1, 100000), "rungs": (1, 30),
+          "number": (0, 2 ** 64 - 1)}
 
 
 class Usage(Exception):
@@ -48,7 +49,7 @@ class Usage(Exception):
 
 
 class Request:
-    """What the words ask for: the command, the names of its files, and the values of its options by name."""
+    """What the words ask for: the command, the names of its files, and the values of its options."""
 
     def __init__(self, command, files, options):
         self.command = command
@@ -69,7 +70,7 @@ def read_request(words):
 
 
 def has_options(form, options):
-    """Whether the options are those of the form, perhaps without those that may be left out."""
+    """Whether the options are those of the form, with or without those that may be left out."""
     return all(name in options for name in form.options) and all(
         name in form.options or name in form.optional for name in options)
 
@@ -77,8 +78,8 @@ def has_options(form, options):
 def split_words(words):
     """The positional words and the options with their words, as the library clap takes them; raises Usage.
 
-    Options stand anywhere, as `--name value` or `--name=value`, each at most once; behind a word `--` no word is an option. A word that
-    begins with `-` and isn't `-` alone is an option, and as a value it is taken only behind `=`.
+    Options stand anywhere, as `--name value` or `--name=value`, each at most once. Behind a word `--` no word is an
+    option. A word that begins with `-` and isn't `-` alone is an option. As a value it is taken only behind `=`.
     """
     positional, options = [], {}
     rest = list(words)

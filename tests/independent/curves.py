@@ -1,6 +1,7 @@
 """Curves: lists of points (time, value) whose times rise strictly from 0 (`IsCurve`).
 
-MODEL.md, "Functions of time and curves"; LISTS.md, "Lists of curves". Each function takes the part of the work to which its operations belong.
+MODEL.md, "Functions of time and curves"; LISTS.md, "Lists of curves". A function of time is given by its curve
+(`HasCurve`). Each call takes the part of the work to which its operations belong.
 """
 from bisect import bisect_right
 
@@ -34,7 +35,7 @@ def inverse(start, end, level, part):
 
 
 def crossing(before, after, part):
-    """The time at which two curves cross (the list Cross); `before` and `after` are triples of a time and both values there."""
+    """The time at which two curves cross (the list Cross), given two triples of a time and both values there."""
     (start, left, right), (end, left_after, right_after) = before, after
     gap = part.difference(left, right)
     gap_after = part.difference(left_after, right_after)
@@ -53,7 +54,7 @@ def value(points, time, part):
 
 
 def cut(points, end, part):
-    """The points before a time, and then one at that time (`IsCutOf`; the list Cut)."""
+    """The points before a time, and one at that time (`IsCutOf`; the list Cut)."""
     at_end = value(points, end, part)
     return [point for point in points if point[0] < end] + [(end, at_end)]
 
@@ -110,16 +111,18 @@ def composed(outer, inner, until, part):
 
 
 def short(points, part):
-    """The same values in short form: no inner point has equal slopes on both sides (`IsShort`, `IsShortOf`; the list Short)."""
+    """The same values in short form (`IsShort`, `IsShortOf`; the list Short): no inner point has equal slopes on both
+    sides."""
     rates = slopes(points, part)
     last = len(points) - 1
     return [point for i, point in enumerate(points) if i in (0, last) or rates[i - 1] != rates[i]]
 
 
 def first_difference(left, right, until, part):
-    """The first corner on the times from 0 to a last one at which two curves differ, with both values (`IsDifference`); None where there is none.
+    """The first corner at which two curves differ, up to a last time, with both values (`IsDifference`), or None.
 
-    Corners (`IsCorner`) are 0, the last time, and each time between at which one of the curves turns.
+    Corners (`IsCorner`) are 0, the last time, and each time between at which one of the curves turns (the list First
+    difference).
     """
     for time in [t for t in times(left, right) if t < until] + [until]:
         left_value = value(left, time, part)

@@ -8,14 +8,15 @@ STATUS_PHASES_SPENT = 12
 
 
 class EndlessRun(Run):
-    """A run in which each phase is as long as it may last. A phase that may last for ever is the tail: pairs of slopes and flows."""
+    """A run in which each phase is as long as it may last. The tail is the phase that may last for ever: slopes and flows.
+    """
 
     def __init__(self, net):
         super().__init__(net)
         self.tail = None
 
     def make_longest_phase(self, patterns):
-        """Makes a phase to its end (`GoesToEnd`), or keeps the tail, with its pattern (`GoesForever`)."""
+        """Makes a phase to its end (`GoesToEnd`), or keeps the tail and its pattern (`GoesForever`)."""
         link_slacks, sets, thin = self.thin_flow(patterns)
         extension = extension_length(self.net, link_slacks, thin.slopes, self.reached)
         if extension is None:
@@ -27,7 +28,7 @@ class EndlessRun(Run):
 
 
 def solve_forever(net, phases, patterns):
-    """The run until its tail, or until it stops, and the tail, which is None where it stopped."""
+    """The run until its tail, or until it stops; and the tail, or None where it stopped."""
     run = EndlessRun(net)
     cause = DONE
     while run.tail is None and cause == DONE:

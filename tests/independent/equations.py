@@ -7,19 +7,26 @@ from .patterns import FULL, TIGHT
 
 
 class Equations:
-    """A linear system with as many rows as unknowns. A row holds its entries other than 0, by column; `right` has the right sides."""
+    """A linear system with as many rows as unknowns.
+
+    A row holds its entries other than 0 by their columns, and `right` holds the right sides.
+    """
 
     def __init__(self):
         self.rows = []
         self.right = []
 
     def add(self, row, right):
+        """Appends a row."""
         self.rows.append(row)
         self.right.append(right)
 
 
 def equations(net, sets, rate, pattern):
-    """The equations of a pattern (`Equations`, `Solves`), and the active links, whose flows have the columns after those of the nodes' slopes."""
+    """The equations of a pattern (`Equations`, `Solves`), and the active links.
+
+    The first columns are those of the nodes' slopes; those of the active links' flows follow.
+    """
     active = [e for e in range(len(net.links)) if sets.active[e]]
     column = {e: len(net.nodes) + i for i, e in enumerate(active)}
     system = Equations()
@@ -44,7 +51,11 @@ def conservation(net, v, active, column):
 
 
 def link_equation(link, full, tight, flow_column):
-    """On a resetting or Full link the flow is the capacity times the head's slope; a Tight link has equal slopes at its ends; on a Zero link the flow is 0."""
+    """The equation of an active link.
+
+    On a resetting or Full link the flow is the capacity times the head's slope. A Tight link has equal slopes at its
+    ends. On a Zero link the flow is 0.
+    """
     if full:
         return {flow_column: ONE, link.head: -link.capacity}
     if tight:
@@ -53,7 +64,8 @@ def link_equation(link, full, tight, flow_column):
 
 
 def eliminated(system):
-    """The one solution of the equations, or None where there is not exactly one (the list Table, as Gauss and Jordan do it)."""
+    """The one solution of the equations, by Gauss-Jordan elimination, or None where there is not exactly one (the list
+    Table)."""
     rows, right = system.rows, system.right
     pivots = []
     for column in range(len(rows)):
@@ -69,7 +81,7 @@ def eliminated(system):
 
 
 def subtract_pivot(system, r, pivot, column):
-    """Takes so much of the pivot's row from a row that its entry in the column becomes 0."""
+    """Subtracts a multiple of the pivot's row from a row, so that its entry in the column becomes 0."""
     row, pivot_row = system.rows[r], system.rows[pivot]
     factor = TABLE.quotient(row.pop(column), pivot_row[column])
     for later in sorted(pivot_row):

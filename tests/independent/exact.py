@@ -9,7 +9,7 @@ DIGITS = frozenset("0123456789")
 
 
 class Rational:
-    """A fraction in lowest terms, with a denominator above 0. Its operators are exact, and no bound holds for them."""
+    """A fraction in lowest terms with a denominator above 0. Its operators are exact and have no bound."""
 
     __slots__ = ("numerator", "denominator")
 
@@ -87,7 +87,7 @@ class Passing(Exception):
 
 
 class Part:
-    """A part of the work, with the four operations. One whose result does not fit raises Passing with the part's name."""
+    """A part of the work, with the four operations. An operation whose result does not fit raises Passing."""
 
     def __init__(self, name):
         self.name = name
@@ -101,15 +101,16 @@ class Part:
         return self._total("difference", left, right, -right.numerator)
 
     def product(self, left, right):
-        """left times right; it passes where a part of the reduced result is wider than the bound."""
+        """left times right, reduced."""
         return self._fitting("product", left, right, left * right)
 
     def quotient(self, left, right):
-        """left over right, which is not 0; it passes as a product does."""
+        """left over right, reduced; right is not 0."""
         return self._fitting("quotient", left, right, left / right)
 
     def _total(self, operation, left, right, right_numerator):
-        """It passes where the common denominator, a numerator brought to that denominator, or their sum is wider than the bound."""
+        """A sum passes where one of these is beyond the bound: the least common denominator, a numerator brought to it,
+        the sum of the two numerators."""
         denominator = lcm(left.denominator, right.denominator)
         first = left.numerator * (denominator // left.denominator)
         second = right_numerator * (denominator // right.denominator)
@@ -119,6 +120,7 @@ class Part:
         return Rational(total, denominator)
 
     def _fitting(self, operation, left, right, result):
+        """A product or quotient passes where a part of its reduced result is beyond the bound."""
         if not result.fits():
             raise Passing(self.name, operation, left, right)
         return result
@@ -130,7 +132,10 @@ SLACK, TABLE, VERDICT, EXTEND, ADVANCE, CURVE, LOAD, CHECK, QUICK = (Part(name) 
 
 
 def read_digits(word):
-    """The value of a word of decimal digits alone, at least one; None for another word. Above the bound all values are alike."""
+    """The value of a word of decimal digits alone, at least one; None for another word.
+
+    Of a value with more than 40 digits the first 40 are returned: they are beyond each bound too.
+    """
     if not word or not DIGITS.issuperset(word):
         return None
     significant = word.lstrip("0")
@@ -138,7 +143,7 @@ def read_digits(word):
 
 
 def read_fraction(word):
-    """The number of a word `a` or `a/b`, perhaps with a minus before it, as in version 1 of the network file; else None."""
+    """The number of a word `a` or `a/b`, perhaps with a minus before it; None for another word."""
     digits, slash, below = word.partition("/")
     negative = digits.startswith("-")
     numerator = read_digits(digits[1:] if negative else digits)
@@ -151,7 +156,7 @@ def read_fraction(word):
 
 
 def read_number(word):
-    """The number of a word in version 2 of the network file: a fraction, or a decimal `a.b`; else None."""
+    """The number of a word in version 2 of the network file: a fraction or a decimal `a.b`; None for another word."""
     if "/" in word or "." not in word:
         return read_fraction(word)
     before, _, behind = word.partition(".")
@@ -173,6 +178,6 @@ def read_printed(word):
 
 
 def read_count(word):
-    """The value of a plain count: decimal digits with no zero before others, below 2^64; None for another word."""
+    """The value of a plain count below 2^64: decimal digits with no zero before others; None for another word."""
     value = read_digits(word)
     return value if value is not None and str(value) == word and value < 2 ** 64 else None

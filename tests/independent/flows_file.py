@@ -6,7 +6,7 @@ COUNTS = {"flow": [3], "slope": [3], "end": [1]}
 
 
 def read_flows(net, text):
-    """The flow of each link and the slope of each node, 0 where none is named; raises Broken with the first rule that the text breaks."""
+    """The flow of each link and the slope of each node, 0 where none is named; raises Broken with the first broken rule."""
     _, lines = content_lines(text, "S", [["flows", "1"]])
     numbers = {"flow": net.link_number, "slope": net.node_number}
     given = {"flow": {}, "slope": {}}
@@ -20,7 +20,7 @@ def read_flows(net, text):
 
 
 def take_value(numbers, values, name, word):
-    """Takes a value for a link or node; the lowest of the rules S7 to S10 that it breaks, if it breaks one."""
+    """Reads a value of a link or node; returns the lowest of the rules S7 to S10 that its line breaks, or None."""
     value = read_fraction(word)
     if name not in numbers:
         return "S7"

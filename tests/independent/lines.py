@@ -17,7 +17,10 @@ class Broken(Exception):
 
 
 class Line:
-    """A line: its number from 1, its words, and whether it is plain, which means its words joined by single spaces and ended by LF."""
+    """A line: its number from 1, its words, and whether it is plain.
+
+    A plain line is its words joined by single spaces and ended by LF.
+    """
 
     def __init__(self, number, words, plain):
         self.number = number
@@ -50,7 +53,10 @@ def read_line(number, raw, ended, letter):
 
 
 def content_lines(text, letter, heads):
-    """Which head the first content line is, and the content lines behind it. Rule 3: it is one of the heads, each a list of words."""
+    """The place of the first content line among the heads, and the content lines behind it.
+
+    Rule 3: the first content line is one of the heads, each of which is a list of words.
+    """
     content = [line for line in read_lines(text, letter) if line.words]
     if not content:
         raise Broken(letter + "3", 1)
@@ -60,10 +66,11 @@ def content_lines(text, letter, heads):
 
 
 def body_lines(lines, letter, counts, end_rule):
-    """The lines before `end`, one after the other; `counts` tells how many words each first word asks for.
+    """Yields the lines before `end`; `counts` has the allowed numbers of words by first word.
 
     Rule 4: nothing stands after `end`. Rule 5: the first word is one of `counts`. Rule 6: the line has as many words.
-    The rule of a missing `end` comes last. Whoever goes through the lines looks at the later rules of one before the next comes.
+    `end_rule` is that of a missing `end`, and comes last. The caller tests the later rules of a line before it takes the
+    next one, so that the lowest line is refused.
     """
     ended = False
     for line in lines:

@@ -9,7 +9,7 @@ from .reports import curve_lines
 
 
 class Loaded:
-    """What is computed of a link's inflow: the curves of its queue, its outflow and its exits (`IsQueue`, `IsOutflow`, `IsExit`)."""
+    """The curves of a link with some inflow: its queue (`IsQueue`), its outflow (`IsOutflow`) and its exits (`IsExit`)."""
 
     def __init__(self, queue, outflow, exits):
         self.queue = queue
@@ -20,7 +20,7 @@ class Loaded:
 def cumulative(pieces, until, part=LOAD):
     """The amount that pieces supply by each time up to a last one (`supply`, `IsCumulative`; the list Cumulative).
 
-    It is the sum over the pieces of the rate times the length of the times in which the piece is the latest one started.
+    From its start to the next piece's start a piece supplies at its rate.
     """
     points = [(ZERO, ZERO)]
     amount = ZERO
@@ -40,7 +40,8 @@ def cumulative(pieces, until, part=LOAD):
 def load_link(link, inflow, until):
     """Queue, outflow and exits of a link with this inflow up to a last time (`IsLoaded`; the list Loading).
 
-    What enters waits in a queue at the entrance, which is served at the rate of the capacity, and then takes the transit time.
+    What enters waits in a queue at the entrance, which is served at the rate of the capacity. Then it takes the transit
+    time.
     """
     points = curves.cut(inflow, until, LOAD)
     if link.capacity is None:
@@ -58,7 +59,7 @@ def load_link(link, inflow, until):
 
 
 def queue_of(capacity, points):
-    """The queue behind a capacity for the points of an inflow, and what has entered by each point of the queue."""
+    """The queue before a capacity, given the points of an inflow; and what has entered by each point of the queue."""
     queue, entered = [(ZERO, ZERO)], [points[0][1]]
     for start, end in zip(points, points[1:]):
         waiting = queue[-1][1]
@@ -78,7 +79,7 @@ def queue_of(capacity, points):
 
 
 def emptied_at(capacity, rate, time, waiting):
-    """When a queue that drains is empty; None where there is none, or it does not drain."""
+    """The time at which a queue that drains is empty; None where there is no queue, or it does not drain."""
     if waiting == ZERO or rate >= capacity:
         return None
     drain = LOAD.difference(rate, capacity)
@@ -87,7 +88,7 @@ def emptied_at(capacity, rate, time, waiting):
 
 
 def exit_time(link, time, waiting):
-    """When what enters at a time leaves the link: after the queue is served, and the transit time (`IsExit`, `waiting`)."""
+    """The exit of who enters at a time: the time, the transit time and the waiting (`IsExit`, `waiting`)."""
     if link.capacity is None:
         return LOAD.sum(time, link.transit)
     wait = LOAD.quotient(waiting, link.capacity)

@@ -18,7 +18,7 @@ def read_loads(net, text):
 
 
 def take_rate(net, loads, name, start_word, rate_word):
-    """Takes a `rate` line; the lowest of the rules L7 to L11 that it breaks, if it breaks one."""
+    """Reads a `rate` line; returns the lowest of the rules L7 to L11 that it breaks, or None."""
     if name not in net.link_number:
         return "L7"
     pieces = loads[net.link_number[name]]

@@ -7,7 +7,10 @@ from .lines import joined
 
 
 class Link:
-    """A link (`Link`): its name, the numbers of its tail and head, its transit time, and its capacity, which is None on an unbounded link."""
+    """A link (`Link`): its name, the numbers of its tail and head, its transit time and its capacity.
+
+    The capacity of an unbounded link is None.
+    """
 
     def __init__(self, name, tail, head, transit, capacity):
         self.name = name
@@ -18,10 +21,11 @@ class Link:
 
 
 class Network:
-    """A network (`Network`), with the names of its nodes and links.
+    """A network (`Network`) with the names of its nodes and links, which are counted from 0.
 
-    Nodes are numbered as in `nodes`: the source is 0, the sink 1. Pieces (`Piece`) are pairs of a start and a rate.
-    Idle nodes and idle links stand beside the network: the links with the names of their ends, since idle nodes have no numbers.
+    The source is node 0, the sink node 1. Pieces (`Piece`) are pairs of a start and a rate. Idle nodes and idle links
+    are kept beside the network. An idle link is a tuple of its name, the names of its ends, its transit time and its
+    capacity.
     """
 
     source = 0
@@ -64,9 +68,10 @@ def reached_from(source, pairs):
 
 
 def least_transit_sums(source, hops):
-    """The least transit sum from the source to each node that some walk reaches (`IsLeastTransit`), exact and without a bound.
+    """The least transit sum over the walks from the source to each node (`IsLeastTransit`), exact and without a bound.
 
-    Hops (`Hop`) are triples of a tail, a head and a transit time. A sum is made less as long as some hop allows it.
+    Hops (`Hop`) are triples of a tail, a head and a transit time. Nodes that no walk reaches have no sum. Each sum is
+    lowered until no hop allows a lower one.
     """
     least = {source: ZERO}
     changed = True
@@ -80,12 +85,16 @@ def least_transit_sums(source, hops):
 
 
 def start_labels(net):
-    """The labels of departure 0: the least transit sums from the source (`AreStartLabels`). Rule N22 makes them fit."""
+    """The labels of departure 0: the least transit sums from the source (`AreStartLabels`).
+
+    They are within the bound, by rule N22.
+    """
     least = least_transit_sums(net.source, [(link.tail, link.head, link.transit) for link in net.links])
     return [least[v] for v in range(len(net.nodes))]
 
 
 def link_line(name, tail, head, transit, capacity):
+    """The `link` line of a link, given the names of its ends."""
     return f"link {name} {tail} {head} {transit} {'inf' if capacity is None else capacity}"
 
 

@@ -1,6 +1,7 @@
 """Reading a network file: the rules N1 to N22 in their order.
 
-FORMATS.md, "The network file".
+FORMATS.md, "The network file". What the rules ask for is a network of MODEL.md (`IsNetwork`, `ArePieces`) with names and
+limits.
 """
 from .exact import Passing, SLACK, ZERO, read_fraction, read_number
 from .lines import Broken, body_lines, content_lines, is_name
@@ -13,7 +14,10 @@ INF = "inf"
 
 
 class Draft:
-    """What the lines read so far say. Links are tuples (name, tail, head, transit, capacity) with the names of nodes."""
+    """The parser's state: what the lines read so far say.
+
+    Links are tuples of a name, the names of both ends, a transit time and a capacity.
+    """
 
     def __init__(self, version):
         self.version = version
@@ -38,7 +42,7 @@ def read_network(text):
 
 
 def take_line(draft, words):
-    """Takes a line into the draft; the lowest of the rules N7 to N16 that the line breaks, if it breaks one."""
+    """Reads a line; returns the lowest of the rules N7 to N16 that the line breaks, or None."""
     if words[0] == "link":
         return take_link(draft, *words[1:])
     if words[0] == "inflow":
@@ -47,7 +51,7 @@ def take_line(draft, words):
 
 
 def take_end(draft, kind, node):
-    """A `source` or `sink` line."""
+    """Reads a `source` or `sink` line: N7, N9, N10."""
     if not is_name(node):
         return "N7"
     if kind in draft.ends:
@@ -57,12 +61,13 @@ def take_end(draft, kind, node):
 
 
 def take_nodes(draft, nodes):
+    """Adds names of nodes: N10."""
     draft.names.update(nodes)
     return "N10" if len(draft.names) > MOST_NODES else None
 
 
 def take_link(draft, name, tail, head, transit_word, capacity_word):
-    """A `link` line."""
+    """Reads a `link` line: N7 to N11, N13, N14."""
     if not all(map(is_name, (name, tail, head))):
         return "N7"
     unbounded = draft.version == 2 and capacity_word == INF
@@ -86,7 +91,7 @@ def take_link(draft, name, tail, head, transit_word, capacity_word):
 
 
 def take_inflow(draft, start_word, rate_word):
-    """An `inflow` line."""
+    """Reads an `inflow` line: N8, N12, N15, N16."""
     start, rate = read_word(draft, start_word), read_word(draft, rate_word)
     if start is None or rate is None:
         return "N8"
@@ -101,12 +106,12 @@ def take_inflow(draft, start_word, rate_word):
 
 
 def read_word(draft, word):
-    """The number of a word; decimals are allowed in version 2 alone."""
+    """The number of a word, or None. Only version 2 allows decimals."""
     return read_fraction(word) if draft.version == 1 else read_number(word)
 
 
 def whole_file_rule(draft):
-    """The first of the rules N18 to N22 that the file as a whole breaks, if it breaks one."""
+    """The first of the rules N18 to N22 that the file as a whole breaks, or None."""
     if len(draft.ends) < 2:
         return "N18"
     source, sink = draft.ends["source"], draft.ends["sink"]
@@ -117,7 +122,8 @@ def whole_file_rule(draft):
         return "N20"
     if has_cycle([(tail, head) for _, tail, head, transit, _ in draft.links if transit == ZERO]):
         return "N21"
-    if has_wide_sum(source, [(tail, head, transit) for _, tail, head, transit, _ in draft.links if tail in reached]):
+    hops = [(tail, head, transit) for _, tail, head, transit, _ in draft.links if tail in reached]
+    if has_wide_sum(source, hops):
         return "N22"
     return None
 
@@ -130,7 +136,7 @@ def reached_nodes(draft):
 def has_cycle(pairs):
     """Whether some of these links, pairs of a tail and a head, form a cycle.
 
-    A link is on no cycle where no link leaves its head, so such links are taken away as long as there are some.
+    A link whose head no link leaves is on no cycle. Such links are removed until none is left.
     """
     left = pairs
     while True:
@@ -142,7 +148,10 @@ def has_cycle(pairs):
 
 
 def has_wide_sum(source, hops):
-    """Whether the sum of a hop's transit time and the least transit sum to its tail passes. A least sum that does not fit breaks nothing."""
+    """Whether the sum of a hop's transit time and the least transit sum to its tail passes.
+
+    A least transit sum beyond the bound breaks nothing.
+    """
     least = least_transit_sums(source, hops)
     for tail, _, transit in hops:
         if least[tail].fits():
@@ -154,7 +163,8 @@ def has_wide_sum(source, hops):
 
 
 def numbered(draft):
-    """The network, with nodes numbered by first appearance: source, sink, then the nodes of the links; idle nodes and links apart."""
+    """The network. Its nodes are the source, the sink, then the nodes of its links by first appearance; so are idle nodes.
+    """
     source, sink = draft.ends["source"], draft.ends["sink"]
     reached = reached_nodes(draft)
     links = [link for link in draft.links if link[1] in reached]

@@ -45,8 +45,8 @@ def states(link):
 def base_pattern(net, sets, last):
     """The base of a phase, given the last phase's pattern (`IsBase`).
 
-    A link that is to have a state keeps that of the last phase. Where it had none, it is Tight if it is the first active link into its
-    head, in link order, and no resetting link enters that node; else Zero.
+    A link that is to have a state keeps that of the last phase. Where it had none, it is Tight or Zero. It is Tight if it
+    is the first active link into its head, in link order, and no resetting link enters that node.
     """
     base = []
     for e, link in enumerate(net.links):
@@ -65,8 +65,8 @@ def base_pattern(net, sets, last):
 def listing(net, sets, base):
     """The listed patterns in their order, one after the other (`IsListing`).
 
-    First come those that differ from the base at fewer links (`IsBefore`). Among those that differ at equally many, the one is earlier that
-    has the earlier state at the first link where the two differ.
+    Patterns that differ from the base at fewer links come first. Of two that differ at equally many, the first one has
+    the earlier state at the first link where they differ (`IsBefore`).
     """
     listed = Listing(net, sets, base)
     component, entering = listed.start()
@@ -76,11 +76,11 @@ def listing(net, sets, base):
 
 
 class Listing:
-    """The listed patterns of some sets, sought link by link.
+    """The listed patterns of some sets, enumerated link by link (`IsListed`).
 
-    On the way it is known which nodes the Tight links so far join (`component`), and how many links may still enter each node (`entering`):
-    those that are resetting, Tight or Full, and those that have no state yet. No pattern is listed where two nodes that are joined get one
-    more Tight link between them, or where no link enters a node any more.
+    `component` tells which nodes the Tight links so far join. `entering` counts the links that may enter each node: those
+    that are resetting, Tight or Full, and those without a state so far. A Tight link between joined nodes would close a
+    cycle, and a node that no link may enter would be stranded: no pattern that goes on so is listed.
     """
 
     def __init__(self, net, sets, base):
@@ -91,13 +91,16 @@ class Listing:
         self.pattern = [None] * len(net.links)
 
     def start(self):
-        """Components and entering links where no link has a state yet."""
+        """Components and entering links where no link has a state."""
         component = list(range(len(self.net.nodes)))
         entering = [sum(self.sets.active[e] for e in into) for into in self.net.into]
         return component, entering
 
     def completions(self, i, changes, component, entering):
-        """The listed patterns in which the links before the i-th have the states of `pattern`, and so many of the others differ from the base."""
+        """Yields the listed patterns with the states of `pattern` before the i-th link and so many changes from it on.
+
+        A change is a link whose state differs from the base.
+        """
         if i == len(self.links):
             yield list(self.pattern)
             return
@@ -112,7 +115,7 @@ class Listing:
                 yield from self.completions(i + 1, changes_left, *after)
 
     def with_state(self, e, state, component, entering):
-        """Components and entering links once the link has the state; None where no pattern with it is listed."""
+        """Components and entering links with this state of the link; None where no such pattern is listed."""
         link = self.net.links[e]
         if state == TIGHT:
             tail, head = component[link.tail], component[link.head]

@@ -12,9 +12,10 @@ STATUS_OF_CAUSE = {DONE: 0, "phases": 5, "patterns": 6, "passed": 7, "nopattern"
 
 
 class Flow:
-    """What a report holds (`Flow`): the departure reached, a label curve for each node, and for each link an inflow, an outflow and a queue.
+    """What a report holds (`Flow`): the departure reached, a label curve for each node, and curves for each link.
 
-    Inflows and outflows are traces (`Trace`): pairs of a curve's points and its printed rates.
+    The curves of a link are its inflow, its outflow and its queue. Inflows and outflows are traces (`Trace`): pairs of a
+    curve's points and its printed rates.
     """
 
     def __init__(self, reached, labels, inflows, outflows, queues):
@@ -26,7 +27,8 @@ class Flow:
 
 
 class Solution:
-    """The answer of a run: its flow, how many phases it made, the last one's pattern, and the cause, as a report writes it."""
+    """The answer of a run: its flow, the number of phases made, the last one's pattern, and the cause as a report has it.
+    """
 
     def __init__(self, flow, phases, pattern, cause):
         self.flow = flow
@@ -36,7 +38,7 @@ class Solution:
 
 
 def cause_of(fault, phase):
-    """The words of a cause, given why the phase could not be made."""
+    """The cause in a report's words, given what kept a phase from being made."""
     if isinstance(fault, OverBudget):
         return f"patterns {phase} {fault.budget}"
     if isinstance(fault, NoPattern):
@@ -47,23 +49,27 @@ def cause_of(fault, phase):
 
 
 def passed_words(phase, place, passing):
+    """The words of a cause `passed`."""
     return f"passed {phase} {passing.part} {place} {passing.operation} {passing.left} {passing.right}"
 
 
 def status_of(cause):
-    """The status of a run that ends by this cause."""
+    """The program's status for a run with this cause."""
     return STATUS_OF_CAUSE[cause.split()[0]]
 
 
 class GrowingCurve:
-    """A curve in short form to which points are added; `slopes` has that of each piece, None where nobody asks for it."""
+    """A curve in short form to which points are appended, with the slope of each piece.
+
+    Only the last slope of a label or queue is ever read; of a curve that is restored the others are None.
+    """
 
     def __init__(self, points, slopes):
         self.points = points
         self.slopes = slopes
 
     def add(self, time, value, slope):
-        """Adds a point. Where the curve goes on with the slope with which it came to its last point, the new one takes the last one's place."""
+        """Appends a point. It replaces the last one where the slope to it is that of the last piece."""
         if self.slopes and self.slopes[-1] == slope:
             self.points[-1] = (time, value)
         else:
@@ -71,6 +77,7 @@ class GrowingCurve:
             self.slopes.append(slope)
 
     def trace(self):
+        """The points and the slopes."""
         return list(self.points), list(self.slopes)
 
 
@@ -82,7 +89,7 @@ def nothing_until(time):
 
 
 def slacks(net, labels):
-    """The slack of each link: the head's label minus the tail's label and the transit time (`slack`; the list Slack)."""
+    """The slack of each link: the head's label minus the tail's and the transit time (`slack`; the list Slack)."""
     answer = []
     for link in net.links:
         arrival = SLACK.sum(labels[link.tail], link.transit)
@@ -91,9 +98,10 @@ def slacks(net, labels):
 
 
 def extension_length(net, link_slacks, slopes, time):
-    """The greatest length for which the phase may last (`Lasts`, `IsExtension`; the list Extend); None where each will do (`IsUnending`).
+    """The greatest length for which a phase may last (`IsExtension`; the list Extend); None where each will do.
 
-    A link with a slack below 0 keeps one of at most 0, a link with one above 0 keeps one of at least 0, and no piece starts in between.
+    While a phase lasts (`Lasts`), each slack below 0 stays at most 0, and each above 0 at least 0 (`slack_after`). No
+    piece starts before its end. Where each length will do the phase is unending (`IsUnending`).
     """
     lengths = []
     for e, link in enumerate(net.links):
@@ -109,10 +117,13 @@ def extension_length(net, link_slacks, slopes, time):
 
 
 class Run:
-    """A run at a departure (`Standing`): labels of the nodes there, the curves up to there, the number of phases made, the last one's pattern."""
+    """A run that has reached a departure (`Standing`).
+
+    It has the labels of the nodes there, the curves up to there, the number of phases made, and the last one's pattern.
+    """
 
     def __init__(self, net):
-        """The start of a run (`IsStart`): departure 0, the least transit sums as labels, and no states."""
+        """The start of a run (`IsStart`): departure 0, the least transit sums as labels, no states."""
         self.net = net
         self.labels = start_labels(net)
         self.reached = ZERO
@@ -132,14 +143,14 @@ class Run:
         return link_slacks, sets, search(self.net, sets, rate, base, patterns)
 
     def make_phase(self, horizon, patterns):
-        """Makes a phase (`Goes`, `IsPhase`); raises what keeps it from being made (`Fails`), and then nothing has changed."""
+        """Makes a phase (`Goes`, `IsPhase`). Raises what keeps it from being made (`Fails`); the run is then unchanged."""
         link_slacks, sets, thin = self.thin_flow(patterns)
         extension = extension_length(self.net, link_slacks, thin.slopes, self.reached)
         left = ADVANCE.difference(horizon, self.reached)
         self.advance(left if extension is None else min(left, extension), sets, thin)
 
     def advance(self, length, sets, thin):
-        """Moves the run by a phase of this length: the labels (`moved`; the list Advance), then the curves (the list Curve)."""
+        """Moves the labels by a phase of this length (`moved`; the list Advance), then the curves (the list Curve)."""
         labels = []
         for label, slope in zip(self.labels, thin.slopes):
             growth = ADVANCE.product(length, slope)
@@ -155,10 +166,11 @@ class Run:
         self.phases += 1
 
     def keep_pattern(self, pattern):
+        """Keeps the pattern of the phase that was made."""
         self.pattern = pattern
 
     def growth_of(self, e, length, sets, thin, labels):
-        """How a link's curves go on in a phase that ends at these labels (the list Curve)."""
+        """The growth of a link's curves in a phase that ends at these labels (the list Curve)."""
         link = self.net.links[e]
         flow = thin.flows[e] if sets.active[e] else ZERO
         tail_slope, head_slope = thin.slopes[link.tail], thin.slopes[link.head]
@@ -176,7 +188,7 @@ class Run:
         return growth
 
     def add_points(self, e, growth):
-        """Adds the points of a phase to a link's curves; where a label stands still none is added."""
+        """Appends the points of a phase to a link's curves. None is appended where the label of the node stands still."""
         link = self.net.links[e]
         if growth.inflow_rate is not None:
             self.inflows[e].add(self.labels[link.tail], growth.amount, growth.inflow_rate)
@@ -185,14 +197,14 @@ class Run:
             self.outflows[e].add(self.labels[link.head], growth.amount, growth.outflow_rate)
 
     def flow(self):
-        """The flow up to the departure reached (`ReportCurves`)."""
+        """The flow up to the departure reached (`ReportCurves`, `EndsAtLabels`, `IsShortFlow`)."""
         return Flow(self.reached, [list(curve.points) for curve in self.label_curves],
                     [curve.trace() for curve in self.inflows], [curve.trace() for curve in self.outflows],
                     [list(curve.points) for curve in self.queues])
 
 
 class Growth:
-    """How a link's curves go on in a phase: what has entered by its end, the rates, the queue at its end and the queue's slope.
+    """The growth of a link's curves in a phase: the amount that has entered by its end, both rates, the queue at its end.
 
     The rate of the inflow is None where the tail's label stands still, and that of the outflow where the head's does.
     """
@@ -206,7 +218,7 @@ class Growth:
 
 
 def finish(run, horizon, phases, patterns):
-    """The run, phase by phase, to the horizon, or until it stops (`Runs`, `IsRunReport`)."""
+    """Makes phases until the run is at the horizon or stops (`Runs`, `IsPhaseSequence`, `IsRunReport`)."""
     cause = DONE
     while run.reached != horizon and cause == DONE:
         if run.phases == phases:
@@ -217,7 +229,7 @@ def finish(run, horizon, phases, patterns):
 
 
 def try_phase(run, make):
-    """DONE where the next phase could be made, else the cause; phases count from 1."""
+    """Makes the next phase. Returns DONE, or the cause where it can't be made; phases count from 1."""
     try:
         make()
     except (OverBudget, PassesAt, NoPattern, Passing) as fault:
@@ -226,5 +238,5 @@ def try_phase(run, make):
 
 
 def solve(net, horizon, phases, patterns):
-    """The equilibrium up to the horizon, within the budgets of phases and of patterns in each of them."""
+    """The equilibrium up to the horizon, within the budgets of phases and of patterns in a phase."""
     return finish(Run(net), horizon, phases, patterns)

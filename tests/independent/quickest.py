@@ -12,7 +12,7 @@ PHASES, PATTERNS = 10000, 100000
 
 
 class PushesSpent(Exception):
-    """More walks would have to be pushed than allowed; those that were pushed."""
+    """The budget of pushes is spent: the walks that were pushed."""
 
     def __init__(self, walks):
         super().__init__(walks)
@@ -20,7 +20,7 @@ class PushesSpent(Exception):
 
 
 class QuickestFlow:
-    """The least time (`IsQuickest`), walks with their rates, as pairs, a cut over time (`IsCut`) and its value (`cut_value`)."""
+    """The least time (`IsQuickest`), the walks as pairs of a rate and links, a cut over time (`IsCut`) and its value."""
 
     def __init__(self, time, walks, cut, value):
         self.time = time
@@ -47,10 +47,10 @@ def quickest_flow(net, amount, augments):
 
 
 def pushed_time(residual, amount, augments):
-    """Pushes shortest walks until one is as long as the time that the pushed ones take, or there is none; that time.
+    """Pushes shortest walks until one is at least as long as the time of the pushed ones, or there is none; that time.
 
-    The time of some walks is that at which the walks, each fed at its rate until the end minus its length, have brought the amount: amount
-    plus the sum of rate times length, over the sum of the rates (the list Time).
+    Each walk is fed at its rate until the time minus its length. The pushed walks bring the amount by this time: the
+    amount plus the sum of rate times length, over the sum of rates (the list Time).
     """
     pushed, time = [], None
     so_far = rates = ZERO
@@ -68,9 +68,9 @@ def pushed_time(residual, amount, augments):
 
 
 def walks_of(net, flow):
-    """Takes walks off a static flow until none is left at the source: pairs of a rate and a list of links.
+    """Takes walks off a static flow until no flow is left at the source. A walk is a pair of a rate and links.
 
-    A walk leaves each node by the first link out of it with flow left. Its rate is the least flow left on it.
+    It leaves each node by the first link out of it with flow left. Its rate is the least flow left on it.
     """
     left = list(flow)
     walks = []
@@ -92,7 +92,10 @@ def first_with_flow(net, left, node):
 
 
 def cut_of(net, residual, time):
-    """Each node's time in the cut: the least of the time, its distance from the source, and the time plus its distance from the sink."""
+    """Each node's time in the cut, by distances in the residual network.
+
+    It is the least of the time, the distance from the source, and the time plus the distance from the sink.
+    """
     from_source = residual.distances_from(net.source)
     from_sink = residual.distances_from(net.sink)
     cut = []
@@ -118,7 +121,7 @@ def cut_value(net, cut):
 
 
 def departure_of(net, amount):
-    """The first departure by which an amount above 0 is supplied; None where it never is (the list Departure)."""
+    """The first departure by which an amount above 0 is supplied, or None (the list Departure)."""
     supplied = ZERO
     for i, (start, rate) in enumerate(net.pieces):
         if i + 1 < len(net.pieces):
@@ -134,7 +137,7 @@ def departure_of(net, amount):
 
 
 def equilibrium_words(net, amount):
-    """When who leaves last of the amount arrives in the equilibrium, as the last line of `quick` says it."""
+    """The last line of `quick`: when who leaves last of the amount arrives in the equilibrium."""
     departure = ZERO if amount == ZERO else departure_of(net, amount)
     if departure is None:
         return "equilibrium none"
@@ -153,6 +156,6 @@ def quick_lines(net, amount, quickest):
 
 
 def augment_lines(net, walks):
-    """What `quick` writes of the walks that were pushed, where more would have to be than allowed."""
+    """What `quick` writes where the budget of pushes is spent: the walks that were pushed."""
     return [f"augment {walk.rate} " + " ".join(("+" if direction == FORWARD else "-") + net.links[e].name
                                                 for e, direction in walk.steps) for walk in walks]

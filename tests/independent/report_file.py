@@ -11,7 +11,8 @@ from .reports import Report
 HEAD_WORDS = ("horizon", "reached", "cause")
 TRACES = ("inflow", "outflow")
 BODY_WORDS = ("label", "never", *TRACES, "queue", "state", "end")
-WORD_COUNTS = {"horizon": 2, "reached": 2, "label": 4, "never": 2, "inflow": 5, "outflow": 5, "queue": 4, "state": 3, "end": 1}
+WORD_COUNTS = {"horizon": 2, "reached": 2, "label": 4, "never": 2, "inflow": 5, "outflow": 5, "queue": 4, "state": 3,
+               "end": 1}
 CAUSE_COUNTS = {"done": 2, "phases": 3, "patterns": 4, "passed": 8, "nopattern": 3}
 
 
@@ -32,7 +33,7 @@ def read_report(net, text):
 
 
 def form_rule(net, index, line):
-    """The lowest of the rules P3 to P6 that a line breaks, if it breaks one; `index` counts lines from 0."""
+    """The lowest of the rules P3 to P6 that a line breaks, or None. `index` counts lines from 0."""
     words = line.words
     if not line.plain or not words:
         return "P3"
@@ -55,7 +56,10 @@ def has_its_words(words):
 
 
 class Draft:
-    """What the lines read so far say. `order` names the curves in the order in which they stand, and `reading` is the current one's place."""
+    """The parser's state: what the lines read so far say.
+
+    `order` has the first word and the subject of each curve, as they have to stand. `reading` is the current one's place.
+    """
 
     def __init__(self, net):
         self.net = net
@@ -70,7 +74,10 @@ class Draft:
         self.ended = False
 
     def take_line(self, words, following):
-        """Takes a line whose form is right; the lowest of the rules P7 to P14 that it breaks, if it breaks one."""
+        """Reads a line that keeps P3 to P6; returns the lowest of the rules P7 to P14 that it breaks, or None.
+
+        `following` has the words of the next line.
+        """
         first = words[0]
         if first == "report":
             return None
@@ -85,7 +92,7 @@ class Draft:
         return self.take_curve_line(words, following)
 
     def take_head(self, first, words):
-        """A `horizon`, `reached` or `cause` line: P8 to P10."""
+        """Reads a `horizon`, `reached` or `cause` line: P8 to P10."""
         if first == "cause":
             rule = cause_rule(words)
             self.cause = " ".join(words[1:])
@@ -100,7 +107,7 @@ class Draft:
         return "P10" if number < ZERO or number > self.horizon else None
 
     def take_state(self, name, word):
-        """What a `state` line says of a link: P7 and P9."""
+        """Reads what a `state` line says of a link: P7, P9."""
         e = self.net.link_number.get(name)
         if e is None or e <= self.last_stated:
             return "P7"
@@ -114,14 +121,14 @@ class Draft:
         return None
 
     def close(self):
-        """A `state` or `end` line: P13, all curves stand before it; P14, no `end` does."""
+        """Closes the curves at a `state` or `end` line. P13: all curves were read. P14: no `end` was."""
         if self.reading != len(self.order) - 1:
             return "P13"
         self.closed = True
         return "P14" if self.ended else None
 
     def take_curve_line(self, words, following):
-        """A line of a curve: P7, and the rules of a point. A `never` line is a whole curve."""
+        """Reads a line of a curve: P7, and the rules of a point. A `never` line is a whole curve."""
         if self.closed:
             return "P7"
         subject = words[:2]
@@ -134,7 +141,7 @@ class Draft:
         return self.take_point(words, is_last=following[:2] != subject)
 
     def take_point(self, words, is_last):
-        """A point of the current curve: P8, P11 and P12."""
+        """Reads a point of the current curve: P8, P11, P12."""
         time, value = read_printed(words[2]), read_printed(words[3])
         rate_word = words[4] if words[0] in TRACES else None
         rate = None if rate_word in (None, "-") else read_printed(rate_word)
@@ -166,7 +173,7 @@ def curves_in_order(net):
 
 
 def cause_rule(words):
-    """P8 and P9 for the words of a `cause` line, of which there are as many as the cause asks for."""
+    """The lower of the rules P8 and P9 that a `cause` line breaks, or None. The line keeps P6."""
     kind, details = words[1], words[2:]
     if kind not in CAUSE_COUNTS:
         return "P9"

@@ -18,7 +18,7 @@ def curve_lines(word, name, points):
 
 
 def trace_lines(word, name, trace):
-    """The lines of an inflow or outflow: each point with the rate up to the next one, the last with `-`."""
+    """The lines of an inflow or outflow: each point with the rate to the next one, the last point with `-`."""
     points, rates = trace
     return [f"{word} {name} {time} {value} {rate}" for (time, value), rate in zip(points, [*rates, "-"])]
 
@@ -43,5 +43,6 @@ def state_lines(net, pattern):
 
 def report_text(net, report):
     """What `solve` and `resume` write."""
-    head = [f"report {net.version}", f"horizon {report.horizon}", f"reached {report.flow.reached}", f"cause {report.cause}"]
-    return joined(head + flow_lines(net, report.flow) + state_lines(net, report.pattern) + ["end"])
+    lines = [f"report {net.version}", f"horizon {report.horizon}", f"reached {report.flow.reached}"]
+    lines += [f"cause {report.cause}"] + flow_lines(net, report.flow) + state_lines(net, report.pattern)
+    return joined(lines + ["end"])

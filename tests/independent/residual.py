@@ -8,7 +8,7 @@ FORWARD, BACK = 0, 1
 
 
 class Walk:
-    """A walk of steps, which are pairs of a link and FORWARD or BACK: its length and the rate that it has room for."""
+    """A walk of steps, its length and the rate that it has room for. A step is a pair of a link and FORWARD or BACK."""
 
     def __init__(self, steps, length, rate):
         self.steps = steps
@@ -17,14 +17,14 @@ class Walk:
 
 
 class Residual:
-    """A static flow, 0 on each link at first, and the steps that are left to it."""
+    """The residual network of a static flow, which is 0 on each link at first."""
 
     def __init__(self, net):
         self.net = net
         self.flow = [ZERO] * len(net.links)
 
     def steps(self):
-        """The steps in order, each with its beginning and its end.
+        """The steps in order, each with the nodes from which and to which it leads.
 
         A link is taken forward where its flow is below its capacity, and back where its flow is above 0.
         """
@@ -37,10 +37,11 @@ class Residual:
         return steps
 
     def ways_from(self, begin):
-        """For each node the best way there, as its length, its number of steps and its steps; None where there is none (the list Rounds).
+        """The best way to each node, as its length, its number of steps and its steps, or None (the list Rounds).
 
-        There is one round fewer than nodes. In a round each way known before is made one step longer. The best way is the shortest, then
-        the one of fewest steps, then the one with the earlier step at the first place where they differ.
+        A round makes each best way of the rounds before one step longer, and there is one round fewer than nodes. Shorter
+        ways are better. Of equally long ones those of fewer steps are, and of these the one with the earlier step at the
+        first place where they differ.
         """
         best = [None] * len(self.net.nodes)
         best[begin] = (ZERO, 0, ())
@@ -59,9 +60,9 @@ class Residual:
         return [None if way is None else way[0] for way in self.ways_from(begin)]
 
     def shortest_walk(self):
-        """The best way from source to sink, and the rate of its push; None where there is no way (the list Shortest).
+        """The best way from source to sink with the rate of its push, or None (the list Shortest).
 
-        The rate is the least of what is left of the capacity of links taken forward, and of the flow of links taken back.
+        The rate is the least room: capacity minus flow where a link is taken forward, the flow where it is taken back.
         """
         way = self.ways_from(self.net.source)[self.net.sink]
         if way is None:
@@ -84,7 +85,7 @@ class Residual:
 
 
 def longer_way(net, way, step):
-    """A way with one step more. The transit time counts as the step's length forward, and negated back."""
+    """A way with one step more. The length of a step is the transit time, negated where the link is taken back."""
     length, count, steps = way
     e, direction = step
     change = QUICK.sum if direction == FORWARD else QUICK.difference

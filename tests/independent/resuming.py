@@ -9,7 +9,7 @@ from .phases import Flow, GrowingCurve, Run, finish
 
 
 class RestoredRun(Run):
-    """A run that stands where a flow ends. It has made no phase, and has the pattern that the report tells (the list of `restore_list`)."""
+    """A run that goes on where a flow ends (`restore_list`). It has made no phase, and has the pattern of the report."""
 
     def __init__(self, net, flow, pattern):
         self.net = net
@@ -24,12 +24,15 @@ class RestoredRun(Run):
         self.was_open = self.is_open()
 
     def keep_pattern(self, pattern):
-        """The first phase of a run that was cut within a phase leaves the pattern as it was."""
+        """Keeps the pattern of a phase. The first phase of an open run leaves the report's pattern as it was (`Steps`)."""
         if self.phases > 0 or not self.was_open:
             self.pattern = pattern
 
     def is_open(self):
-        """Whether the run stands within a phase: no piece starts at its time, and each link without a state has another slack than 0."""
+        """Whether the run is open, which means that it was cut within a phase.
+
+        No piece starts at its time then, and each link without a state has a slack other than 0.
+        """
         if any(start == self.reached for start, _ in self.net.pieces):
             return False
         return all(state is not None or self.labels[link.head] - self.labels[link.tail] != link.transit
@@ -37,15 +40,17 @@ class RestoredRun(Run):
 
 
 def last_slope(points):
-    """The slopes of a curve that is restored: that of the last piece, and None for those before it, for which nobody asks."""
+    """The slopes of a curve that is restored: the last piece's, and None for the others, which are never read."""
     if len(points) < 2:
         return []
     return [None] * (len(points) - 2) + [curves.slope(points[-2], points[-1], CURVE)]
 
 
 def cut_flow(net, flow):
-    """The flow cut at the departure reached, in short form (`cut_flow`): labels there, inflows and queues at the label of the link's tail,
-    outflows at that of its head."""
+    """The flow cut at the departure reached, in short form (`cut_flow`).
+
+    Labels are cut there, inflows and queues at the label of the link's tail, outflows at that of its head.
+    """
     labels = [short_cut(points, flow.reached) for points in flow.labels]
     ends = [points[-1][1] for points in labels]
     inflows, outflows, queues = [], [], []
@@ -57,16 +62,21 @@ def cut_flow(net, flow):
 
 
 def short_cut(points, until):
+    """A curve cut at a time, in short form."""
     return curves.short(curves.cut(points, until, CURVE), CURVE)
 
 
 def cut_trace(trace, until):
+    """A trace cut at a time, in short form, with the slopes that are left as rates."""
     points = short_cut(trace[0], until)
     return points, curves.slopes(points, CURVE)
 
 
 def resume(net, report, horizon, phases, patterns):
-    """The run from a report on to a horizon that is not before the departure reached (`RunsOn`). The flow is checked first: raises Violation."""
+    """The run from a report on to a horizon that is not before the departure reached (`RunsOn`, `IsResumedReport`).
+
+    The flow is checked first: raises Violation.
+    """
     check(net, report.flow)
     run = RestoredRun(net, cut_flow(net, report.flow), report.pattern)
     return finish(run, horizon, phases, patterns)

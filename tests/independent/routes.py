@@ -11,8 +11,10 @@ from .routes_file import links_before, loading_order
 
 
 class Routed:
-    """What is computed of routes (`IsRouted`): each link's end and what is loaded on it, and for each route the entries into its links, one
-    after the other, the arrivals, and the travel."""
+    """What is computed of routes (`IsRouted`): each link's end and loading, and what each route carries.
+
+    A route has entries into its links, one after the other, arrivals and a travel.
+    """
 
     def __init__(self, net, routes):
         self.ends = [None] * len(net.links)
@@ -23,14 +25,15 @@ class Routed:
 
 
 def load_routes(net, routes, horizon):
-    """Loads all links, in an order in which what enters each is known before (the list `routes_list`)."""
+    """Loads the links in their order, then computes the travels (`routes_list`)."""
     routed = Routed(net, routes)
     before = links_before(net, routes)
     for e in loading_order(net, routes):
         for entries, route in zip(routed.entries, routes):
             if route.links[0] == e:
                 entries.append(curves.short(cumulative(route.pieces, horizon), LOAD))
-        load_next(net, routes, routed, e, max([horizon] + [last_exit(routed.loaded[f]) for f in before[e]]))
+        routed.ends[e] = max([horizon] + [last_exit(routed.loaded[f]) for f in before[e]])
+        load_next(net, routes, routed, e)
     for route in routes:
         routed.travels.append(travel(routed, route, horizon))
     return routed
@@ -41,14 +44,13 @@ def last_exit(loaded):
     return loaded.exits[-1][1]
 
 
-def load_next(net, routes, routed, e, end):
-    """Loads a link with the sum of the entries into it up to its end, and sends what leaves it on, route by route."""
+def load_next(net, routes, routed, e):
+    """Loads a link up to its end with the sum of the entries into it; route by route, what leaves enters the next link."""
     over = [(r, route.links.index(e)) for r, route in enumerate(routes) if e in route.links]
     inflow = curves.constant(ZERO)
     for r, place in over:
         inflow = curves.sum_of(inflow, routed.entries[r][place], LOAD)
-    routed.ends[e] = end
-    routed.loaded[e] = load_link(net.links[e], inflow, end)
+    routed.loaded[e] = load_link(net.links[e], inflow, routed.ends[e])
     for r, place in over:
         sent_on = next_entry(routed.entries[r][place], routed.loaded[e].exits)
         if place + 1 < len(routes[r].links):
@@ -58,7 +60,7 @@ def load_next(net, routes, routed, e, end):
 
 
 def next_entry(entry, exits):
-    """What a route has sent into its next link, or has arrived: by the exit of a time, what it had entered by that time (the list `next_entry`)."""
+    """A route's entry into its next link, or its arrivals (`next_entry`): by the exit of a time, what had entered by it."""
     points = [(ZERO, ZERO)]
     for time in curves.times(entry, exits):
         amount = curves.value(entry, time, LOAD)
@@ -69,7 +71,7 @@ def next_entry(entry, exits):
 
 
 def travel(routed, route, horizon):
-    """When each departure up to the horizon arrives: the exits of the route's links one after the other."""
+    """The arrival of each departure up to the horizon: the exits of the route's links one after the other."""
     arrival = curves.identity(horizon)
     for e in route.links:
         arrival = curves.composed(routed.loaded[e].exits, arrival, horizon, LOAD)

@@ -31,7 +31,7 @@ def read_routes(net, text):
 
 
 def take_route(net, routes, name, *link_names):
-    """Takes a `route` line; the lowest of the rules G7 to G12 that it breaks, if it breaks one."""
+    """Reads a `route` line; returns the lowest of the rules G7 to G12 that it breaks, or None."""
     if not is_name(name):
         return "G7"
     if not all(link_name in net.link_number for link_name in link_names):
@@ -48,7 +48,7 @@ def take_route(net, routes, name, *link_names):
 
 
 def take_rate(net, routes, name, start_word, rate_word):
-    """Takes a `rate` line; the lowest of the rules G8 to G15 that it breaks, if it breaks one."""
+    """Reads a `rate` line; returns the lowest of the rules G8 to G15 that it breaks, or None."""
     if name not in routes:
         return "G8"
     pieces = routes[name].pieces
@@ -66,7 +66,7 @@ def take_rate(net, routes, name, start_word, rate_word):
 
 
 def is_walk(net, links, begin, end):
-    """Whether the links lead from one node to another, each from where the one before leads (`IsWalk`)."""
+    """Whether links are a walk between two nodes (`IsWalk`): each leaves the node to which the one before leads."""
     node = begin
     for e in links:
         if net.links[e].tail != node:
@@ -76,7 +76,7 @@ def is_walk(net, links, begin, end):
 
 
 def links_before(net, routes):
-    """For each link the links directly before it: those that stand right before it on some route."""
+    """The links directly before each link: those that stand right before it on some route."""
     before = [set() for _ in net.links]
     for route in routes:
         for e, following in zip(route.links, route.links[1:]):
@@ -85,8 +85,10 @@ def links_before(net, routes):
 
 
 def loading_order(net, routes):
-    """The order in which links are loaded (`loading_order`): each time the lowest that isn't taken yet and of which all links directly
-    before it were taken. None where there is no such order (rule G17)."""
+    """The order in which links are loaded (`loading_order`), or None where rule G17 is broken.
+
+    The next one is the lowest link that is left and before which no link that is left stands directly.
+    """
     before = links_before(net, routes)
     order = []
     while len(order) < len(net.links):

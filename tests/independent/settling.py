@@ -12,9 +12,10 @@ from .thin_flows import is_thin_flow
 
 
 def settle_text(net, flows, slopes):
-    """What `settle` writes, or None where flows and slopes are no thin flow of departure 0 (`PassesFirst`).
+    """What `settle` writes, or None where flows and slopes are no thin flow of departure 0.
 
-    The sets are those of the least transit sums from the source, and the rate is that from time 0 on.
+    The sets are those of the least transit sums from the source, and the rate is that from time 0 on. The operations are
+    those of the slacks, then of the test, then of settling (`PassesFirst`).
     """
     sets = sets_of(slacks(net, start_labels(net)))
     rate = net.rate_at(NOTHING)
@@ -28,7 +29,7 @@ def settle_text(net, flows, slopes):
 
 
 def test_operations(net, sets, rate, flows, slopes):
-    """The operations of the test whether flows and slopes are thin (`thin_list`), any of which may pass; the answer needs none of them."""
+    """The operations of the test whether flows and slopes are thin (`thin_list`). Each may pass; no value is used."""
     for v in range(len(net.nodes)):
         for links in (net.into[v], net.out_of[v]):
             total = NOTHING
@@ -41,13 +42,16 @@ def test_operations(net, sets, rate, flows, slopes):
 
 
 def filling_flows(net, sets, slopes):
-    """The flow that would fill each active link with a capacity: the capacity times the slope of its head. None for other links."""
+    """The flow that fills each active link with a capacity: the capacity times its head's slope. None for other links."""
     return [VERDICT.product(link.capacity, slopes[link.head]) if sets.active[e] and link.capacity is not None else None
             for e, link in enumerate(net.links)]
 
 
 def settled(net, sets, flows, slopes):
-    """The flows once no cycle of interior links is left (`Settles`). Each step takes the least amount that ends the interior of a link."""
+    """The flows once interior links hold no cycle (`Settles`).
+
+    Along each cycle the flow changes by the least amount at which a link is filled or empty.
+    """
     filling = filling_flows(net, sets, slopes)
     flows = list(flows)
     while True:
@@ -62,15 +66,15 @@ def settled(net, sets, flows, slopes):
 
 
 def interior_links(net, sets, flows, filling):
-    """The links that are active and not resetting, and carry some flow, and less than what would fill them."""
+    """The links that are active and not resetting, and carry some flow, but less than fills them."""
     return [e for e in range(len(net.links)) if has_state(sets, e) and flows[e] > NOTHING
             and (filling[e] is None or flows[e] < filling[e])]
 
 
 def first_cycle(net, links):
-    """The cycle that the first link closes with those before it, taken without direction, or None (`IsNextCycle`).
+    """The cycle that the first such link closes with links before it, taken without direction, or None (`IsNextCycle`).
 
-    The cycle is a list of pairs in link order: the link, and whether it is taken forward. The lowest link is taken forward.
+    The cycle is a list of pairs in link order: a link, and whether it is taken forward. Its lowest link is.
     """
     before = []
     for e in links:
@@ -84,7 +88,10 @@ def first_cycle(net, links):
 
 
 def path_between(net, forest, start, end):
-    """The path from one node to another in a forest of links, taken without direction: pairs of a link and whether it is taken forward."""
+    """The path between two nodes in a forest of links, taken without direction, or None.
+
+    It is a list of pairs: a link, and whether it is taken forward.
+    """
     paths = {start: []}
     nodes = [start]
     for v in nodes:
@@ -98,10 +105,10 @@ def path_between(net, forest, start, end):
 
 
 def settled_pattern(net, sets, flows, slopes):
-    """The pattern of settled flows (`IsSettledPattern`): Zero where a link carries nothing, Full where its flow fills it, and else Tight.
+    """The pattern of settled flows (`IsSettledPattern`): Zero for no flow, Full where the flow fills the link, else Tight.
 
-    But of a node that isn't the source, where all active links into it carry nothing and none of them is resetting, the first active link
-    into it with equal slopes at its ends is Tight.
+    There is an exception at nodes other than the source. Where all active links into a node carry nothing and none is
+    resetting, the first of them with equal slopes at its ends is Tight.
     """
     pattern = [None] * len(net.links)
     for e, link in enumerate(net.links):

@@ -17,7 +17,7 @@ class ThinFlow:
 
 
 class OverBudget(Exception):
-    """There are more patterns than the budget, and none of the first so many is accepted."""
+    """The listing is longer than the budget, and no pattern within the budget is accepted."""
 
     def __init__(self, budget):
         super().__init__(budget)
@@ -25,7 +25,7 @@ class OverBudget(Exception):
 
 
 class PassesAt(Exception):
-    """No pattern is accepted, and an operation passes: the place of the first pattern with such an operation, from 1, and its first one."""
+    """No pattern is accepted, and an operation passes: the first place of a pattern where one does, and its first one."""
 
     def __init__(self, place, passing):
         super().__init__(place, passing)
@@ -34,11 +34,14 @@ class PassesAt(Exception):
 
 
 class NoPattern(Exception):
-    """No pattern is accepted, and none passes. Each phase has a thin flow, so no run ends so."""
+    """No pattern is accepted, and no operation passes. Each phase has a thin flow, so no run ends so."""
 
 
 def search(net, sets, rate, base, budget):
-    """The first accepted pattern's thin flow (`IsSearch`: Found); raises OverBudget, PassesAt or NoPattern."""
+    """The thin flow of the first accepted pattern (`IsSearch`, `IsAccepted`); raises OverBudget, PassesAt or NoPattern.
+
+    Places in the listing count from 1.
+    """
     first_passing = None
     for place, pattern in enumerate(listing(net, sets, base), 1):
         if place > budget:
@@ -53,7 +56,7 @@ def search(net, sets, rate, base, budget):
 
 
 def solve_pattern(net, sets, rate, pattern):
-    """What solves the pattern's equations, or None where they have not exactly one solution (`pattern_lists`, the table list)."""
+    """The solution of a pattern's equations, or None where there is not exactly one (`IsSolvable`, `pattern_lists`)."""
     system, active = equations(net, sets, rate, pattern)
     values = eliminated(system)
     if values is None:
@@ -65,7 +68,10 @@ def solve_pattern(net, sets, rate, pattern):
 
 
 def meets(net, thin):
-    """Whether a solution meets the inequalities of its pattern (`Meets`; the list Verdict). All products come before any comparison."""
+    """Whether a solution meets the inequalities of its pattern (`Meets`, `IsSolution`; the list Verdict).
+
+    All products come before any comparison.
+    """
     pattern, slopes = thin.pattern, thin.slopes
     most = [VERDICT.product(link.capacity, slopes[link.head])
             if pattern[e] == TIGHT and link.capacity is not None else None for e, link in enumerate(net.links)]
@@ -84,8 +90,9 @@ def meets(net, thin):
 def is_thin_flow(net, sets, rate, flows, slopes):
     """Whether flows and slopes are a thin flow with resetting (`IsThinFlow`), exactly and without a bound.
 
-    The flows are a static flow of value `rate` from source to sink on the active links alone. The slope of the source is 1. The slope of
-    each other node is the least exit slope over the active links into it, and equals that of each such link with flow. None is negative.
+    The flows are a static flow of value `rate` from source to sink on the active links alone. The slope of the source
+    is 1. The slope of each other node is the least exit slope over the active links into it. It equals the exit slope of
+    each of these with flow. No flow and no slope is negative.
     """
     if min(flows) < NOTHING or min(slopes) < NOTHING or slopes[net.source] != ONE:
         return False
@@ -96,7 +103,7 @@ def is_thin_flow(net, sets, rate, flows, slopes):
 
 
 def is_static_flow(net, rate, flows):
-    """Whether the flow out of each node minus the flow into it is `rate` at the source, minus that at the sink, and 0 elsewhere."""
+    """Whether the flow out of a node minus the flow into it is `rate` at the source, -`rate` at the sink, 0 elsewhere."""
     excess = [NOTHING] * len(net.nodes)
     excess[net.source], excess[net.sink] = -rate, rate
     for e, link in enumerate(net.links):
@@ -106,7 +113,7 @@ def is_static_flow(net, rate, flows):
 
 
 def has_least_exit_slope(net, sets, flows, slopes, w):
-    """Whether the node's slope is the least exit slope over the active links into it, and that of each of these with flow."""
+    """Whether a node's slope is the least exit slope over the active links into it, and that of each with flow."""
     exit_slopes = {e: exit_slope(net.links[e], sets.resetting[e], flows[e], slopes[net.links[e].tail])
                    for e in net.into[w] if sets.active[e]}
     if not exit_slopes or min(exit_slopes.values()) != slopes[w]:
@@ -117,7 +124,7 @@ def has_least_exit_slope(net, sets, flows, slopes, w):
 def exit_slope(link, resetting, flow, tail_slope):
     """The slope at which the exit of a link moves with the departure (`exit_slope`, ρ).
 
-    It is flow over capacity on a resetting link, the tail's slope on an unbounded one, and the greater of these two on another.
+    It is flow over capacity on a resetting link, the tail's slope on an unbounded one, and the greater of both on another.
     """
     if link.capacity is None:
         return tail_slope
