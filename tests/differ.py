@@ -9,7 +9,7 @@ A case is run by both programs, in a temporary folder; status, standard output a
 twenty is a relation of the program with itself; with --metamorphic all are. A case that differs is made smaller and kept, as files with
 the command line and both answers, in a folder that is named. Progress goes to standard error; at last comes a tally of answers.
 
-Statuses: 0 none differs; 1 some differ; 2 the words are wrong.
+Statuses: 0 none differs; 1 some differ; 2 the words are wrong, or Python is older than 3.10.
 """
 import argparse
 import pathlib
@@ -19,6 +19,9 @@ import sys
 import tempfile
 import time
 
+if sys.version_info < (3, 10):
+    print("differ: Python 3.10 or later is needed", file=sys.stderr)
+    sys.exit(2)
 sys.path.insert(0, str(pathlib.Path(__file__).resolve().parent))
 sys.dont_write_bytecode = True
 

@@ -227,7 +227,7 @@ def other_inflow(rng, network, report):
     """Other inflows of one link or of all: conservation breaks at a node."""
     inflows = inflows_of(network, report)
     names = list(inflows) if chance(rng, 0.2) else [rng.choice(sorted(inflows))]
-    return loaded(network, report, inflows | {name: random_inflow(rng) for name in names})
+    return loaded(network, report, {**inflows, **{name: random_inflow(rng) for name in names}})
 
 
 def walk_without_return(rng, network, start, end):

@@ -9,12 +9,12 @@ NAME_CHARACTERS = "ABCXYZabcxyz0189_-."
 
 @dataclass(frozen=True)
 class Link:
-    """A link; a capacity of None is unbounded."""
+    """A link; its capacity is a fraction, or None where it is unbounded."""
     name: str
     tail: str
     head: str
     transit: Fraction
-    capacity: Fraction | None
+    capacity: object
 
 
 @dataclass

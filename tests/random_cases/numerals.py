@@ -30,7 +30,7 @@ def fits(value):
 
 def is_number(word):
     """Whether a word is a fraction as it is printed or could be."""
-    digits = word.removeprefix("-").split("/")
+    digits = (word[1:] if word.startswith("-") else word).split("/")
     return len(digits) <= 2 and all(part.isascii() and part.isdigit() for part in digits) and int(digits[-1] if len(digits) == 2 else 1) > 0
 
 

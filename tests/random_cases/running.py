@@ -11,8 +11,8 @@ from independent.app import run
 
 
 class Answer(NamedTuple):
-    """What a run answers: its status and what it writes on its two outputs."""
-    status: int | str
+    """What a run answers: its status, or why there is none, and what it writes on its two outputs."""
+    status: object
     out: bytes
     err: bytes
 
