@@ -6,8 +6,8 @@
 Each case is made from its own seed alone, which the first one has from --seed and each further one is one higher: --seed N --cases 1, with the
 same commands, makes the case of seed N again.
 A case is run by both programs, in a temporary folder; status, standard output and standard error have to be the same bytes. One case in
-twenty is a relation of the program with itself; with --metamorphic all are. A case that differs is made smaller and kept, as files with
-the command line and both answers, in a folder that is named. Progress goes to standard error; at last comes a tally of answers.
+twenty is a relation of the program with itself; with --metamorphic all are. A case that differs is kept, as files with the command line and
+both answers, in a folder that is named; the first ten are made smaller before. Progress goes to standard error; at last comes a tally of answers.
 
 Statuses: 0 none differs; 1 some differ; 2 the words are wrong, or Python is older than 3.10.
 """
@@ -30,6 +30,7 @@ from random_cases.running import Programs, TooSlow
 from random_cases.tally import Tally
 
 METAMORPHIC_SHARE = 0.05
+SHRUNK = 10
 
 
 def parsed(words):
@@ -77,9 +78,16 @@ class Comparison:
         expected, found = self.programs.expected(case.words, case.files), self.programs.found(case.words, case.files)
         self.tally.add(name, expected)
         if found != expected:
-            small, tried = shrinking.smallest(case, self.still_differs)
-            expected, found = self.programs.expected(small.words, small.files), self.programs.found(small.words, small.files)
-            self.note(seed, small, expected, found, f"expected status {expected.status}, found {found.status}; made smaller in {tried} tries")
+            self.shrink(seed, case, expected, found)
+
+    def shrink(self, seed, case, expected, found):
+        """A case that differs is made smaller, if it is one of the first ones, and kept."""
+        why = f"expected status {expected.status}, found {found.status}"
+        if self.differing < SHRUNK:
+            case, tried = shrinking.smallest(case, self.still_differs)
+            expected, found = self.programs.expected(case.words, case.files), self.programs.found(case.words, case.files)
+            why += f"; made smaller in {tried} tries"
+        self.note(seed, case, expected, found, why)
 
     def still_differs(self, case):
         """Whether the programs differ on a smaller case; one that is too slow doesn't count."""

@@ -211,7 +211,7 @@ def renamed(case, name, short):
     return Case(case.words, {file: pattern.sub(short, text) for file, text in case.files.items()})
 
 
-def smallest(case, differs, seconds=120):
+def smallest(case, differs, seconds=300):
     """The smallest case found within so many seconds that still differs, and how many were tried."""
     shrinking = Shrinking(case, differs, seconds)
     return shrinking.smallest(), shrinking.tried
