@@ -65,6 +65,9 @@ def main(net1, report1, net2, report2, *departures):
     for departure in departures:
         if not 0 <= departure <= end:
             raise nfot.Fault(f"both reports have the departures from 0 to {nfot.short(end)}, not {nfot.short(departure)}", 1)
+    if {first.cause, second.cause} != {"done"} or first.reached != second.reached:
+        name, report = (report1, first) if first.reached == end else (report2, second)
+        print(f"both are cut at departure {float(end):.2f}, where {name} ends" + (f": {report.cause}" if report.cause != "done" else ""))
     print(f"{'':<22}{'first':>12}{'second':>12}{'change':>12}")
     for departure in departures or [start for start, _ in one.supply if start <= end]:
         row(f"leave {float(departure):.2f}", travel(before, departure), travel(after, departure))

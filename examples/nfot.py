@@ -97,7 +97,8 @@ class Report:
     """Curves of nodes and links up to the departure `reached`; `cause` is "done" where that is the horizon.
 
     A label says when who leaves the source at a departure is at the node; inflow and outflow how much has entered and left a link by a
-    time; a queue how much waits there. Rates aren't kept: they are the slopes of the curves."""
+    time; a queue how much waits there. Rates aren't kept: they are the slopes of the curves. To write a report, ints and texts as "17/2"
+    will do in the place of Fractions."""
     horizon: Fraction
     reached: Fraction
     labels: Dict[str, Curve]

@@ -34,6 +34,8 @@ def main(net, report, *departures):
             raise nfot.Fault(f"{report} has the departures from 0 to {nfot.short(end)}, not {nfot.short(departure)}", 1)
         arrival = nfot.value(label, departure)
         print(f"leave {float(departure):.2f}  arrive {float(arrival):.2f}  takes {float(arrival - departure):.2f}")
+    if told.cause != "done":
+        print(f"the report ends at departure {float(end):.2f}, not at {float(told.horizon):.2f}: {told.cause}")
     for link in network.used_links():
         queue = told.queues[link.name]
         if any(amount > 0 for _, amount in queue):

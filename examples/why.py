@@ -1,16 +1,15 @@
 #!/usr/bin/env python3
-"""why.py [FILE ..] or why.py -- COMMAND: what a line of nfot means, by the tables of docs/FORMATS.md.
+"""why.py [FILE ..] or why.py -- COMMAND: what a line of nfot means, by the tables of docs/FORMATS.md, and what to do, by docs/GUIDE.md.
 
     nfot show my.net 2>&1 | python3 why.py my.net
     python3 why.py -- nfot solve my.net --horizon 60
 
 Behind `--` stands a command of nfot, which is run; without it the lines are read from standard input, and FILE .. are the files of the
-command (for the line that is named). Lines without a rule or a status pass as they come. docs/FORMATS.md is looked for beside the
-folder of this script and in the folders above the current one. Statuses: that of the command; else 0, and 2 for wrong arguments."""
+command (for the line that is named). Lines without a rule or a status pass as they come. The folder docs is looked for beside the
+folder of this script, in the current folder and in those above it. Statuses: that of the command; else 0, and 2 for wrong arguments."""
 import os
 import pathlib
 import re
-import subprocess
 import sys
 
 sys.dont_write_bytecode = True  # no folder of compiled scripts among the examples
@@ -19,38 +18,41 @@ import nfot
 RULE = re.compile(r"[NPLSGC][0-9]+")
 
 
+def cells(line):
+    """The cells of a row of a table, without the bar that begins it and the one that ends it."""
+    return [cell.replace("\\|", "|").strip() for cell in re.split(r"(?<!\\)\|", line)[1:-1]]
+
+
 class Page:
-    """The tables of docs/FORMATS.md: rules by name, statuses with when they come, their line, and what to do."""
+    """The tables of the pages: rules by name, statuses with when they come, their line, and what to do; the usage lines."""
 
     def __init__(self):
         here = pathlib.Path.cwd().resolve()
         places = [pathlib.Path(__file__).resolve().parent.parent, here, *here.parents]
-        page = next((place / "docs/FORMATS.md" for place in places if (place / "docs/FORMATS.md").exists()), None)
-        if page is None:
+        docs = next((place / "docs" for place in places if (place / "docs/FORMATS.md").exists()), None)
+        if docs is None:
             raise nfot.Fault("docs/FORMATS.md isn't here: copy the folder docs beside the folder of this script")
         self.rules, self.statuses, self.lines, self.advice, self.commands = {}, {}, {}, {}, []
         heading = ""
-        for line in page.read_text(encoding="utf-8").splitlines():
+        for line in docs.joinpath("FORMATS.md").read_text(encoding="utf-8").splitlines():
             heading = line if line.startswith("## ") else heading
             if line.startswith("|"):
-                self.add_row([cell.replace("\\|", "|").strip() for cell in re.split(r"(?<!\\)\|", line)[1:-1]], heading)
+                self.add_row(cells(line), heading)
             elif line.startswith("nfot ") and heading == "## The command line":
                 self.commands.append(line.split())
-            elif found := re.match(r"- \*\*(\d+)\*\*: ", line):
-                self.advice[int(found[1])] = line[found.end():]
-            elif self.advice and line.startswith("  "):
-                self.advice[max(self.advice)] += " " + line.strip()
+        for line in docs.joinpath("GUIDE.md").read_text(encoding="utf-8").splitlines():
+            if re.match(r"\| \d", line):
+                self.advice.update((status, cells(line)[-1]) for status in self.numbers(cells(line)[0]))
 
-    def add_row(self, cells, heading):
-        """Takes a row of a table, where it is one of a rule or a status."""
-        names = cells[0].split(", ")
+    def add_row(self, row, heading):
+        """Takes a row of FORMATS.md, where it is one of a rule or a status."""
+        names = row[0].split(", ")
         if all(RULE.fullmatch(name) for name in names):
-            for name in names:
-                self.rules[name] = cells[1:]
-        elif heading.endswith("standard error") or heading.endswith("The command line"):
-            numbers = self.numbers(cells[0])
-            for status in numbers:
-                (self.lines if heading.endswith("standard error") else self.statuses)[status] = cells[1]
+            self.rules.update((name, row[1:]) for name in names)
+        elif heading.endswith("standard error"):
+            self.lines.update((status, row[1]) for status in self.numbers(row[0]))
+        elif heading.endswith("The command line"):
+            self.statuses.update((status, row[1]) for status in self.numbers(row[0]))
 
     @staticmethod
     def numbers(words):
@@ -172,8 +174,8 @@ def explain(line, files, words, page, ended):
         yield wrong_words(words, page.commands)
     if status == 3 and (reason := unread(files)):
         yield reason
-    if status in page.advice or status == 12:
-        yield f"to do: {page.advice.get(status, 'allow more phases, or ask for a horizon')}"
+    if status in page.advice:
+        yield f"to do: {page.advice[status]}"
 
 
 def files_of(words):
