@@ -2,12 +2,16 @@
 """python3 -m unittest test_scripts: the scripts of this folder, against values worked out by hand or standing on the pages.
 
 The program nfot is on the path, and the folder docs beside this one."""
+import contextlib
+import importlib
+import io
+import os
 import pathlib
 import re
-import subprocess
 import sys
 import tempfile
 import unittest
+from unittest import mock
 
 sys.dont_write_bytecode = True
 import nfot
@@ -23,10 +27,19 @@ class Case(unittest.TestCase):
         folder = tempfile.TemporaryDirectory()
         self.addCleanup(folder.cleanup)
         self.folder = pathlib.Path(folder.name)
+        self.addCleanup(os.chdir, os.getcwd())
+        os.chdir(self.folder)
 
     def run_script(self, name, *words, stdin=""):
-        done = subprocess.run([sys.executable, str(HERE / name), *map(str, words)], cwd=self.folder, input=stdin, capture_output=True, text=True)
-        return done.returncode, done.stdout, done.stderr
+        """Status, standard output and standard error of a script, run in this process."""
+        script, status, out, err = importlib.import_module(name.removesuffix(".py")), 0, io.StringIO(), io.StringIO()
+        with mock.patch("sys.argv", [name, *map(str, words)]), mock.patch("sys.stdin", io.StringIO(stdin)), \
+                contextlib.redirect_stdout(out), contextlib.redirect_stderr(err):
+            try:
+                nfot.script(script.main, script.__doc__)
+            except SystemExit as end:
+                status = end.code or 0
+        return status, out.getvalue(), err.getvalue()
 
     def write(self, name, text, encoding="utf-8"):
         (self.folder / name).write_text(text, encoding=encoding)
