@@ -151,7 +151,7 @@ def refuse_size(kept):
         if len(seen) > NODES or count > LINKS:
             break
         fits = longer
-    ways = f"--detour {nfot.short(fits)} leaves few enough" if fits is not None else "cut out the part that the question is about"
+    ways = f"--detour {nfot.short(Fraction(fits * 100 // 1, 100))} leaves few enough" if fits is not None else "cut out the part that the question is about"
     raise nfot.Fault(f"{len(nodes)} nodes and {len(kept)} links on routes from FROM to TO; nfot takes {NODES} and {LINKS}: {ways}", 1)
 
 
