@@ -61,7 +61,9 @@ class Names:
 
 def number(word, decimal_comma):
     """A number of the table."""
-    found = nfot.exact((word.replace(",", ".") if decimal_comma else word).strip())
+    if not word:
+        raise nfot.Fault("an empty cell is no number")
+    found = nfot.exact(word.replace(",", ".") if decimal_comma else word)
     if found < 0:
         raise nfot.Fault(f"{word} is below 0")
     return found
@@ -106,7 +108,7 @@ def roads_of(name, two_way):
         if two_way:
             roads.append((row.get("name") and row["name"] + "_back", row["to"], row["from"], time, capacity))
     if closed:
-        tell(f"{closed} rows of capacity 0 are left out")
+        tell(f"left out, since the capacity is 0: {closed} of the rows")
     return roads
 
 
@@ -158,6 +160,16 @@ def refuse_size(kept):
 def rounded(amount, unit):
     """The nearest multiple of a unit, at least one."""
     return max(1, round(amount / unit)) * unit
+
+
+def tell_small(kept, unit, step):
+    """Tells how many times and capacities were raised to the step or unit, since these are too large for them."""
+    times = sum(time < step / 2 for _, (_, _, _, time, _) in kept)
+    capacities = sum(capacity is not None and capacity < unit / 2 for _, (_, _, _, _, capacity) in kept)
+    if times:
+        tell(f"times below {nfot.short(step / 2)} that became {nfot.short(step)}: {times} (a smaller --time keeps them)")
+    if capacities:
+        tell(f"capacities below {nfot.short(unit / 2)} that became {nfot.short(unit)}: {capacities} (a smaller UNIT keeps them)")
 
 
 def link_name(names, name, tail, head):
@@ -241,6 +253,7 @@ def main(*words):
         refuse_size(kept)
     if len(supply) == 0:
         tell("no START:RATE: nothing is supplied, so nfot gives the times on empty roads")
+    tell_small(kept, unit, step)
     print_network(kept, unit, step, 60 if options["hourly"] else 1, origin, goals, supply)
 
 

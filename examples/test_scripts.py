@@ -80,6 +80,9 @@ class FromCsv(Case):
         net, err = self.net("To,FROM,x,capacity,Time\nt,s,9,82.63634880000001,4.26\nt,s,9,,0\n", "5", "s", "t", "0:1.5")
         self.assertEqual(nfot.network_text(net), "nfot 2\nsource s\nsink t\nlink s-t s t 43/10 85\nlink s-t_2 s t 1/10 inf\ninflow 0 3/2\nend\n")
         self.assertIn("capacities changed by at most 3 %, times by at most 0.1", err)  # 85/82.636 = 1.0286; from 0 to 0.1
+        self.assertIn("times below 0.05 that became 0.1: 1", err)
+        _, err = self.net("from,to,time,capacity\ns,t,7,2\n", "5", "s", "t", "0:1")
+        self.assertIn("capacities below 2.5 that became 5: 1", err)
         net, _ = self.net("from,to,time,capacity\ns,t,7,4958.18\n", "100", "s", "t", "0:1", "--hourly", "--time", "2")
         self.assertEqual((net.links["s-t"].transit, net.links["s-t"].capacity), (8, nfot.exact("250/3")))  # 7/2 is as far from 3 as from 4, and 4 is even
 
@@ -94,7 +97,7 @@ class FromCsv(Case):
     def test_dead_ends_and_closed_roads_are_left_out(self):
         net, err = self.net("from,to,time,capacity\ns,t,1,1\ns,x,1,1\ny,t,1,1\ns,m,1,0\nm,t,1,1\n", "1", "s", "t", "0:1")
         self.assertEqual((net.nodes(), list(net.links)), (["s", "t"], ["s-t"]))
-        self.assertIn("1 rows of capacity 0 are left out", err)
+        self.assertIn("left out, since the capacity is 0: 1 of the rows", err)
 
     def test_several_destinations(self):
         net, _ = self.net("from,to,time,capacity\ns,a,1,1\ns,b,2,1\na,b,1,1\n", "1", "s", "a,b", "0:1")
@@ -123,7 +126,7 @@ class FromCsv(Case):
         good = "from,to,time,capacity\ns,t,1,1\n"
         for text, words, wanted in [
                 ("from,to,capacity\n", ["1", "s", "t"], "line 1: no column `time`"), ("from,to,time,capacity\ns,t,1x,1\n", ["1", "s", "t"], "line 2: 1x is no number"),
-                ("from,to,time,capacity\ns,t,1,-1\n", ["1", "s", "t"], "line 2: -1 is below 0"), ("from,to,time,capacity\ns,t,1\n", ["1", "s", "t"], "line 2: 3 columns"),
+                ("from,to,time,capacity\ns,t,1,-1\n", ["1", "s", "t"], "line 2: -1 is below 0"), ("from,to,time,capacity\ns,t,1\n", ["1", "s", "t"], "line 2: 3 columns"), ("from,to,time,capacity\ns,t,,1\n", ["1", "s", "t"], "line 2: an empty cell"),
                 (good, ["0", "s", "t"], "0: UNIT"), (good, ["1", "q", "t"], "q is no node"), (good, ["1", "s", "t,q"], "q is no node"), (good, ["1", "s", "s"], "s is FROM and TO"),
                 (good, ["1", "t", "s"], "no route leads from t to s"), (good, ["1", "s", "t", "5"], "5 is no START:RATE"), (good, ["1", "s", "t", "0:1", "0:2"], "0:2: starts have to rise"),
                 (good, ["1", "s", "t", "--twoway"], "--twoway is no option"), (good, ["1"], "usage: from_csv.py"), ("", ["1", "s", "t"], "no column `from`")]:
