@@ -6,29 +6,24 @@ START on RATE vehicles a minute are supplied, whole numbers or fractions. The fi
 Statuses: 0 printed; 2 wrong arguments. (Starts that don't rise, or FROM as TO, are left to nfot to refuse.)"""
 import pathlib
 import re
-import signal
 import sys
 from fractions import Fraction
 
-signal.signal(signal.SIGPIPE, signal.SIG_DFL)  # behind `head` it ends without a word, as other commands do
+sys.dont_write_bytecode = True  # no folder of compiled scripts among the examples
+import nfot
 
 TABLE = pathlib.Path(__file__).with_name("siouxfalls.txt")
 NUMBER = "[0-9]+(/0*[1-9][0-9]*)?"
 
 
-def refuse():
-    """Wrong arguments: prints the usage line, and ends with status 2."""
-    print("usage:", __doc__.splitlines()[0], file=sys.stderr)
-    sys.exit(2)
-
-
 def main(unit, origin, destination, *supply):
-    roads = [line.split() for line in TABLE.read_text().splitlines() if not line.startswith("#")]
+    roads = [words for _, words in nfot.words_of(nfot.lines_of(TABLE))]
     zones = {zone for road in roads for zone in road[:2]}
-    if not {origin, destination} <= zones or not re.fullmatch(NUMBER, unit) or not Fraction(unit):
-        refuse()
-    if not all(re.fullmatch(f"{NUMBER}:{NUMBER}", piece) for piece in supply):
-        refuse()
+    for word, fits, what in [(unit, re.fullmatch(NUMBER, unit) and Fraction(unit), "no UNIT, a number above 0"),
+                             (origin, origin in zones, "no zone, from 1 to 24"), (destination, destination in zones, "no zone, from 1 to 24"),
+                             *((piece, re.fullmatch(f"{NUMBER}:{NUMBER}", piece), "no START:RATE, as 30:400") for piece in supply)]:
+        if not fits:
+            raise nfot.Fault(f"{word} is {what}")
     print("# Sioux Falls (LeBlanc, Morlok and Pierskalla 1975): values of public test networks, as remembered (siouxfalls.txt).")
     print(f"# Minutes, and vehicles a minute. Capacities are rounded to multiples of {unit} vehicles an hour, transit times are not.")
     print(f"nfot 1\nsource {origin}\nsink {destination}")
@@ -43,6 +38,4 @@ def main(unit, origin, destination, *supply):
 
 
 if __name__ == "__main__":
-    if len(sys.argv) < 4:
-        refuse()
-    main(*sys.argv[1:])
+    nfot.script(main, __doc__)

@@ -5,53 +5,32 @@ The states are those of a pattern whose equations give a thin flow at the depart
 search of `resume` accepts the first pattern that it tries. Nothing is trusted: `resume` checks the report and the pattern itself.
 NET and REPORT are ones that nfot accepts. Statuses: 0 printed; 1 no such pattern found in STEPS steps, or REPORT has labels that no
 equilibrium of NET has (nothing printed); 2 wrong arguments or files."""
-import signal
 import sys
 from fractions import Fraction
 
-signal.signal(signal.SIGPIPE, signal.SIG_DFL)  # behind `head` it ends without a word, as other commands do
+sys.dont_write_bytecode = True  # no folder of compiled scripts among the examples
+import nfot
 
 STEPS, TIGHT, FULL, ZERO = 2000, "tight", "full", "zero"
-
-
-def refuse(line="usage: " + __doc__.splitlines()[0]):
-    """Wrong arguments or files: prints a line that says so, and ends with status 2."""
-    print(line, file=sys.stderr)
-    sys.exit(2)
-
-
-def words_of(lines):
-    """The words of each line, without comments and empty lines."""
-    return [words for line in lines if (words := line.split("#")[0].split())]
 
 
 class Phase:
     """What a thin flow is asked of: nodes, active links as (tail, head, capacity or None), which of them are resetting.
 
-    It is made of the lines of a network and of a report."""
+    It is made of a network and of a report."""
 
     def __init__(self, net, report):
-        lines, told = words_of(net), words_of(report)
-        value = {words[0]: words[1] for words in lines + told if words[0] in ("source", "sink", "reached")}
-        self.source, self.sink, reached = value["source"], value["sink"], Fraction(value["reached"])
-        labels, self.kept = {}, {}
-        for words in told:
-            if words[0] == "label":
-                labels.setdefault(words[1], []).append((Fraction(words[2]), Fraction(words[3])))
-            elif words[0] == "state":
-                self.kept[words[1]] = words[2]
-        labels = {node: at(points, reached) for node, points in labels.items()}
-        self.rate, self.links, self.resetting = Fraction(0), {}, set()
-        for words in lines:
-            if words[0] == "inflow" and Fraction(words[1]) <= reached:
-                self.rate = Fraction(words[2])
-            elif words[0] == "link" and words[2] in labels:  # idle nodes have no label
-                _, name, tail, head, transit, capacity = words
-                wait = labels[head] - (labels[tail] + Fraction(transit))
+        self.source, self.sink, self.kept = net.source, net.sink, report.states
+        labels = {node: nfot.value(points, report.reached) for node, points in report.labels.items()}
+        started = [rate for start, rate in net.supply if start <= report.reached]
+        self.rate, self.links, self.resetting = started[-1] if started else Fraction(0), {}, set()
+        for link in net.links.values():
+            if link.tail in labels:  # idle nodes have no label
+                wait = labels[link.head] - (labels[link.tail] + link.transit)
                 if wait >= 0:
-                    self.links[name] = tail, head, None if capacity == "inf" else Fraction(capacity)
+                    self.links[link.name] = link.tail, link.head, link.capacity
                 if wait > 0:
-                    self.resetting.add(name)
+                    self.resetting.add(link.name)
         self.free = [e for e in self.links if e not in self.resetting]  # in link order, as all that follows
         self.into = {v: [e for e in self.links if self.links[e][1] == v] for v in labels}
         self.nodes = self.topological()
@@ -205,28 +184,17 @@ class Phase:
         return None, STEPS
 
 
-def at(points, time):
-    """The value of a curve: linear between its points, constant after the last."""
-    for (t, a), (u, b) in zip(points, points[1:]):
-        if t <= time < u:
-            return a + (b - a) * (time - t) / (u - t)
-    return points[-1][1]
-
-
 def main(net, report):
-    try:
-        with open(net) as network, open(report) as told:
-            lines = list(told)
-            phase = Phase(network, lines)
-    except OSError as fault:
-        refuse(f"hint: {fault.filename}: {fault.strerror}")
-    except (ValueError, LookupError, ZeroDivisionError):
-        refuse()
+    lines = nfot.lines_of(report)
+    network, told = nfot.read_network(net), nfot.report_of(lines, report)
+    if set(told.labels) != set(network.nodes()):
+        raise nfot.Fault(f"{report} has labels of other nodes than {net}", 1)
+    phase = Phase(network, told)
     if not phase.may_be_equilibrium():
-        sys.exit(f"hint: {report} has labels that no equilibrium of {net} has")
+        raise nfot.Fault(f"{report} has labels that no equilibrium of {net} has", 1)
     states, steps = phase.settle()
     if states is None:
-        sys.exit(f"hint: no pattern in {steps} steps")
+        raise nfot.Fault(f"no pattern in {steps} steps", 1)
     sys.stdout.writelines(line for line in lines if not line.startswith(("state ", "end")))
     for e in phase.free:
         print("state", e, states[e])
@@ -236,6 +204,4 @@ def main(net, report):
 
 
 if __name__ == "__main__":
-    if len(sys.argv) != 3:
-        refuse()
-    main(*sys.argv[1:])
+    nfot.script(main, __doc__)

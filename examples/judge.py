@@ -5,139 +5,64 @@ LOADS is a loads file: what enters each link, at which rate from when. REACHED i
 which all who left by then have arrived. Queues, outflows and exits are those of `nfot load`; the labels, earliest arrivals over
 these exits, are worked out here. Links that no walk from the source reaches are left out, as the file format wants it.
 Statuses: 0 printed; 1 HORIZON is too early, or nfot doesn't start; 2 wrong arguments; else that of `nfot load`, which reads the files first."""
-import signal
-import subprocess
 import sys
 from fractions import Fraction
 
-signal.signal(signal.SIGPIPE, signal.SIG_DFL)  # behind `head` it ends without a word, as other commands do
-
-ZERO = (Fraction(0), Fraction(0))
-
-
-def refuse():
-    """Wrong arguments: prints the usage line, and ends with status 2."""
-    print("usage:", __doc__.splitlines()[0], file=sys.stderr)
-    sys.exit(2)
-
-
-def words_of(lines):
-    """The words of each line, without comments and empty lines."""
-    return [words for line in lines if (words := line.split("#")[0].split())]
-
-
-def value(points, time):
-    """The value of a curve: straight from point to point, then constant."""
-    for (t, v), (u, w) in zip(points, points[1:]):
-        if time <= u:
-            return v + (w - v) * (time - t) / (u - t)
-    return points[-1][1]
-
-
-def composed(outer, inner):
-    """The curve outer(inner(time)); inner rises. A corner stands where inner has one, or comes to one of outer."""
-    times = {t for t, _ in inner}
-    for (t, v), (u, w) in zip(inner, inner[1:]):
-        times |= {t + (corner - v) * (u - t) / (w - v) for corner, _ in outer if v < corner < w}
-    return [(t, value(outer, value(inner, t))) for t in sorted(times)]
-
-
-def least(p, q):
-    """The lesser of two curves: the times of both, and those between at which they cross."""
-    times = sorted({t for t, _ in p + q})
-    for a, b in zip(times, times[1:]):
-        before, after = value(p, a) - value(q, a), value(p, b) - value(q, b)
-        if before * after < 0:
-            times.append(a + (b - a) * before / (before - after))
-    return [(t, min(value(p, t), value(q, t))) for t in sorted(times)]
-
-
-def network(name):
-    """Version, source, sink, the ends of each link, and the nodes that are reached from the source."""
-    with open(name) as net:
-        lines = words_of(net)
-    source, sink = (words[1] for kind in ("source", "sink") for words in lines if words[0] == kind)
-    links, reached = {words[1]: words[2:4] for words in lines if words[0] == "link"}, {source}
-    for _ in links:
-        reached |= {head for tail, head in links.values() if tail in reached}
-    return lines[0][1], source, sink, links, reached
+sys.dont_write_bytecode = True  # no folder of compiled scripts among the examples
+import nfot
 
 
 def loaded(net, loads, horizon):
-    """The curves of `nfot load` and those of the inflow: (kind, link) to points."""
-    try:
-        done = subprocess.run(["nfot", "load", net, loads, "--horizon", str(horizon)], stdout=subprocess.PIPE, text=True)
-    except OSError as fault:
-        sys.exit(f"judge: nfot: {fault.strerror}")
-    if done.returncode:
-        sys.exit(done.returncode)
-    curves = {}
-    for words in words_of(done.stdout.splitlines()):
+    """The curves that `nfot load` prints: for queue, outflow and exit, of each link."""
+    curves = {"queue": {}, "outflow": {}, "exit": {}}
+    for _, words in nfot.words_of(nfot.answer(nfot.run("load", net, loads, "--horizon", str(horizon)), (0,)).splitlines()):
         if len(words) == 4:
-            curves.setdefault((words[0], words[1]), []).append((Fraction(words[2]), Fraction(words[3])))
-            curves["inflow", words[1]] = [ZERO]
-    rates = {}
-    with open(loads) as lines:
-        for words in words_of(lines):
-            if words[0] == "rate":
-                rates.setdefault(words[1], []).append((Fraction(words[2]), Fraction(words[3])))
-    for link, pieces in rates.items():
-        points, rate = curves["inflow", link], Fraction(0)
-        for start, next_rate in [piece for piece in pieces if piece[0] < horizon] + [(horizon, 0)]:
-            time, entered = points[-1]
-            if start > time:
-                points.append((start, entered + rate * (start - time)))
-            rate = next_rate
+            curves[words[0]].setdefault(words[1], []).append((Fraction(words[2]), Fraction(words[3])))
     return curves
 
 
-def labels_of(source, links, curves, reached):
+def inflows(loads, horizon):
+    """What has entered each link of a loads file, up to the horizon."""
+    rates = {}
+    for _, words in nfot.words_of(nfot.lines_of(loads)):
+        if words[0] == "rate":
+            rates.setdefault(words[1], []).append((Fraction(words[2]), Fraction(words[3])))
+    return {link: [(Fraction(0), Fraction(0))] + [(stop, nfot.supplied(parts, stop)) for stop in stops(parts, horizon)] for link, parts in rates.items()}
+
+
+def stops(parts, horizon):
+    """The times after 0 at which the rate changes, and the horizon."""
+    return [start for start, _ in parts if 0 < start < horizon] + [horizon] * (horizon > 0)
+
+
+def labels_of(net, exits, reached):
     """The earliest arrival at each node for each departure: as Bellman and Ford, with curves in the place of lengths."""
-    label, changed = {source: [ZERO, (reached, reached)] if reached else [ZERO]}, {source}
+    label, changed = {net.source: [nfot.ZERO, (reached, reached)] if reached else [nfot.ZERO]}, {net.source}
     while changed:
         before, changed = changed, set()
-        for link, (tail, head) in links.items():
-            if tail in before and head != source:
-                arrival = composed(curves["exit", link], label[tail])
-                new = least(label[head], arrival) if head in label else arrival
-                if head not in label or any(value(label[head], time) != earliest for time, earliest in new):
-                    label[head] = new
-                    changed.add(head)
+        for link in net.used_links():
+            if link.tail in before and link.head != net.source:
+                arrival = nfot.composed(exits[link.name], label[link.tail])
+                new = nfot.least(label[link.head], arrival) if link.head in label else arrival
+                if link.head not in label or any(nfot.value(label[link.head], time) != earliest for time, earliest in new):
+                    label[link.head] = new
+                    changed.add(link.head)
     return label
 
 
 def main(net, loads, reached, horizon):
+    reached, horizon = nfot.exact(reached), nfot.exact(horizon)
+    if min(reached, horizon) < 0:
+        raise nfot.Fault(f"{min(reached, horizon)} is below 0")
     curves = loaded(net, loads, horizon)  # first, so that nfot refuses files that are none
-    version, source, sink, links, near = network(net)
-    idle = {name: ends for name, ends in links.items() if ends[0] not in near}
-    links = {name: ends for name, ends in links.items() if ends[0] in near}
-    label = labels_of(source, links, curves, reached)
+    network = nfot.read_network(net)
+    label = labels_of(network, curves["exit"], reached)
     last = max(points[-1][1] for points in label.values())
     if last > horizon:
-        sys.exit(f"judge: HORIZON is too early, flow is on its way until {last} at least")
-    print(f"report {version}\nhorizon {reached}\nreached {reached}\ncause done")
-    for node in dict.fromkeys([source, sink] + [node for ends in links.values() for node in ends]):
-        for time, arrival in label[node]:
-            print("label", node, time, arrival)
-    for node in dict.fromkeys(node for ends in idle.values() for node in ends if node not in near):
-        print("never", node)
-    for link in links:
-        for kind in "inflow", "outflow":
-            points = curves.get((kind, link), [ZERO])
-            for (t, v), (u, w) in zip(points, points[1:]):
-                print(kind, link, t, v, (w - v) / (u - t))
-            print(kind, link, *points[-1], "-")
-        for time, amount in curves["queue", link]:
-            print("queue", link, time, amount)
-    print("end")
+        raise nfot.Fault(f"HORIZON is too early, flow is on its way until {last} at least", 1)
+    report = nfot.Report(reached, reached, label, inflows(loads, horizon), curves["outflow"], curves["queue"])
+    print(nfot.report_text(network, report), end="")
 
 
 if __name__ == "__main__":
-    try:
-        net, loads, *times = sys.argv[1:]
-        reached, horizon = map(Fraction, times)
-    except (ValueError, ZeroDivisionError):
-        refuse()
-    if min(reached, horizon) < 0:
-        refuse()
-    main(net, loads, reached, horizon)
+    nfot.script(main, __doc__)

@@ -1,11 +1,11 @@
 #!/usr/bin/env python3
-"""Runs each command that the pages show, in a copy of the folder examples, and compares what it prints with the page.
+"""Runs each command that the pages show, in a copy of the folder examples, and compares what it prints with the page; then the tests of the scripts.
 
     tests/pages.py [PROGRAM]    PROGRAM is a file `nfot`, else the built one: `tests/pages.py tests/independent/nfot`
 
 A block that begins with ```console has lines `$ COMMAND`, each followed by what the command prints (on both streams, as it comes).
 The commands of a page run one after the other in one folder, so that a later one finds the files of an earlier one.
-Statuses: 0 all the same; 1 some differ, or the program isn't built.
+The folder docs is copied beside it, since why.py reads docs/FORMATS.md. Statuses: 0 all the same; 1 some differ, or the program isn't built.
 """
 import os
 import pathlib
@@ -37,6 +37,21 @@ def printed(command, folder, environment):
     return done.stdout.decode().splitlines()
 
 
+def copied(folder):
+    """Copies the folders examples and docs into a folder; the place of the examples there."""
+    shutil.copytree(ROOT / "docs", f"{folder}/docs")
+    return shutil.copytree(ROOT / "examples", f"{folder}/examples")
+
+
+def tests_fail(environment):
+    """Runs the tests of the scripts in a copy; whether one fails (what it says is printed)."""
+    with tempfile.TemporaryDirectory() as folder:
+        done = subprocess.run([sys.executable, "-m", "unittest"], cwd=copied(folder), env=environment, stdout=subprocess.PIPE, stderr=subprocess.STDOUT)
+    told = done.stdout.decode()
+    print("pages: tests of the scripts:", told.strip().splitlines()[-1] if done.returncode == 0 else told)
+    return done.returncode != 0
+
+
 def main():
     program = pathlib.Path(sys.argv[1]).resolve() if len(sys.argv) > 1 else ROOT / "crates/nfot/out/nfot"
     if not program.exists():
@@ -45,15 +60,16 @@ def main():
     wrong = count = 0
     for name in PAGES:
         with tempfile.TemporaryDirectory() as folder:
-            examples = shutil.copytree(ROOT / "examples", f"{folder}/examples")
+            examples = copied(folder)
             for number, command, expected in shown(ROOT / name):
                 count += 1
                 found = printed(command, examples, environment)
                 if found != expected:
                     wrong += 1
                     print(f"pages: {name}:{number}: {command}\n  shown   {expected}\n  printed {found}")
+    failed = tests_fail(environment)
     print(f"pages: {count} commands, {wrong} differ")
-    sys.exit(1 if wrong or not count else 0)
+    sys.exit(1 if wrong or failed or not count else 0)
 
 
 if __name__ == "__main__":
