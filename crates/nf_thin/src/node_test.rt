@@ -172,11 +172,7 @@ fn add_to_ends(nodes: &mut Vec<Range>, net: &Network, ranges: &[Range], link: Li
 }
 
 // What all links send out of each node beyond what they bring to it, where they carry numbers in these ranges: one pass over the links.
-fn surplus_ranges(
-    alloc: Global,
-    net: &Network,
-    ranges: &[Range],
-) -> Result<Vec<Range>, AllocError>
+fn surplus_ranges(alloc: Global, net: &Network, ranges: &[Range]) -> Result<Vec<Range>, AllocError>
     requires ranges { length ranges.now ≡ length net.now.net.links }
     ensures count { IfOk result (λ nodes. length nodes.items ≡ net.now.net.nodes) }
     ensures each { IfOk result (λ nodes. (flow : ℕ → ℚ) → AreWithin ranges.now flow → AreSurpluses net.now.net nodes.items flow) }
