@@ -32,7 +32,7 @@ loop-e-preserved c =
     c.loop-e.invariant c.in_ok-push.ensures.items
 
 pub loop-e-init : goal.loop-e-init
-loop-e-init c = c.new-full.ensures.items
+loop-e-init c = c.in_ok-full.ensures.items
 
 pub returns : goal.returns
 returns c =

@@ -18,4 +18,4 @@ returns-in-Some c flows can = absurd (none-some c.in-Some.node (sym (c.in_ok-unb
 
 pub returns : goal.returns
 returns c flows can = absurd (true≢false (sym (c.in_ok-comes_out.ensures (number_at flows) (c.in_ok-ranges.ensures.carry c.args.rate flows can)
-    (conserves passes_Q c.args.net.now.net c.args.sets.now c.args.rate c.args.pattern.now c.args.full.now flows can c.requires.network)) ∙ c.if-comes_out.false))
+    (conserves passes_Q c.args.net.now.net c.args.sets.now c.args.rate c.args.pattern.now c.args.full.now flows can c.requires.network)) ∙ c.if-branch.false))
