@@ -74,22 +74,25 @@ def eliminated(system):
         if pivot is None:
             return None
         pivots.append(pivot)
+        later = sorted(c for c in rows[pivot] if c > column)
         for r in holding:
             if r != pivot:
-                subtract_pivot(system, r, pivot, column)
+                subtract_pivot(system, r, pivot, column, later)
     return [TABLE.quotient(right[pivot], rows[pivot][column]) for column, pivot in enumerate(pivots)]
 
 
-def subtract_pivot(system, r, pivot, column):
-    """Subtracts a multiple of the pivot's row from a row, so that its entry in the column becomes 0."""
+def subtract_pivot(system, r, pivot, column, later):
+    """Subtracts a multiple of the pivot's row from a row, so that the row's entry in the column becomes 0.
+
+    `later` has the columns after it in which the pivot's row has an entry.
+    """
     row, pivot_row = system.rows[r], system.rows[pivot]
     factor = TABLE.quotient(row.pop(column), pivot_row[column])
-    for later in sorted(pivot_row):
-        if later > column:
-            product = TABLE.product(factor, pivot_row[later])
-            entry = TABLE.difference(row.pop(later, NOTHING), product)
-            if entry != NOTHING:
-                row[later] = entry
+    for c in later:
+        product = TABLE.product(factor, pivot_row[c])
+        entry = TABLE.difference(row.pop(c, NOTHING), product)
+        if entry != NOTHING:
+            row[c] = entry
     if system.right[pivot] != NOTHING:
         product = TABLE.product(factor, system.right[pivot])
         system.right[r] = TABLE.difference(system.right[r], product)
