@@ -16,9 +16,9 @@ use Rattle.nf_thin.proofs.Conserving.{same_surplus, idle_surplus, greater_surplu
 
 -- ---- tests of numbers
 pub test_same : (b : Bool) (v w : ℕ) → b ≡ eqb v w → b ≡ true → v ≡ w
-test_same b v w is yes = ⊎_elim
+test_same b v w is told = ⊎_elim
     (λ (t : (eqb v w ≡ true) × (v ≡ w)). t.1)
-    (λ (t : (eqb v w ≡ false) × (v ≢ w)). absurd (true≢false (sym yes ∙ (is ∙ t.0))))
+    (λ (t : (eqb v w ≡ false) × (v ≢ w)). absurd (true≢false (sym told ∙ (is ∙ t.0))))
     (eqb_tells v w)
 
 eqb_same : (v w : ℕ) → v ≡ w → eqb v w ≡ true
@@ -34,7 +34,7 @@ eqb_other v w other = ⊎_elim
     (eqb_tells v w)
 
 pub test_other : (b : Bool) (v w : ℕ) → b ≡ eqb v w → b ≡ false → v ≢ w
-test_other b v w is no same = true≢false (sym (eqb_same v w same) ∙ (sym is ∙ no))
+test_other b v w is told same = true≢false (sym (eqb_same v w same) ∙ (sym is ∙ told))
 
 -- ---- of no link
 replicated : {A : Type 0} (n k : ℕ) (x y : A) → slice_get (replicate n x) k ≡ Some y → x ≡ y

@@ -10,7 +10,7 @@ find_by-requires-clause-network c = c.guide_from_first.ensures.network
 
 pub find_by-requires-clause-guide : goal.find_by-requires-clause-guide
 find_by-requires-clause-guide c =
-    subst (λ (found : Option Guide). IfSome found (λ guide. Guides passes_Q c.args.net.now.net c.args.sets.now c.args.rate guide)) c.in-Some.is c.in_ok-guide_from_first.ensures.guide
+    subst (λ (found : Option Guide). IfSome found (λ guide. Guides passes_Q c.args.net.now.net c.args.sets.now c.args.rate guide)) c.in-Some.is c.in_ok-guide.ensures.guide
 
 pub find_by-requires-clause-question : goal.find_by-requires-clause-question
-find_by-requires-clause-question c = c.in_ok-guide_from_first.ensures.question
+find_by-requires-clause-question c = c.in_ok-guide.ensures.question

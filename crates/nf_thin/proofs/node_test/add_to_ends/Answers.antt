@@ -56,8 +56,8 @@ surplus_at-kept-requires c =
     ∙ (length_set c.args.nodes.now.items c.hop.inside.tail c.sum.result ∙ c.requires.nodes) in
     omega arith
 
-pub put_surplus-2-requires : goal.put_surplus-2-requires
-put_surplus-2-requires c =
+pub put_surplus-requires-2 : goal.put_surplus-requires-2
+put_surplus-requires-2 c =
     let f = link_read c.args.net.now.net c.hops.result.now c.args.link c.index.result c.index-hops-index.result c.hops.ensures.value c.index.ensures c.requires.link c.index-hops-index.is in
     let is : (f.0).head ≡ c.hop.inside.head = f.3 ∙ ap (λ (h : Hop). h.head) (sym c.hop.view_is) in
     let below = c.hops.ensures.named.network.heads c.args.link f.0 f.1 in

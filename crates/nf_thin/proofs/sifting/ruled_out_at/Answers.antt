@@ -12,7 +12,7 @@ pub unbalanced_node-requires : goal.unbalanced_node-requires
 unbalanced_node-requires c = ap (λ (l : List Range). length l) c.deref.ensures.value ∙ c.in_ok-ranges.ensures.count
 
 pub returns-in-Some : goal.returns-in-Some
-returns-in-Some c flows can = absurd (none-some c.in-Some.node (sym (c.in_ok-unbalanced_node.ensures (number_at flows)
+returns-in-Some c flows can = absurd (none-some c.in-Some.node (sym (c.in_ok-node.ensures (number_at flows)
     (subst (λ (l : List Range). AreWithin l (number_at flows)) (sym c.deref.ensures.value) (c.in_ok-ranges.ensures.carry c.args.rate flows can))
     (conserves passes_Q c.args.net.now.net c.args.sets.now c.args.rate c.args.pattern.now c.args.full.now flows can c.requires.network)) ∙ c.in-Some.is))
 
