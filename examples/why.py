@@ -41,7 +41,7 @@ class Page:
             elif line.startswith("nfot ") and heading == "## The command line":
                 self.commands.append(line.split())
         for line in docs.joinpath("GUIDE.md").read_text(encoding="utf-8").splitlines():
-            if re.match(r"\| \d", line):
+            if re.match(r"\| \d[^|]*\| `nfot: ", line):
                 self.advice.update((status, cells(line)[-1]) for status in self.numbers(cells(line)[0]))
 
     def add_row(self, row, heading):
