@@ -8,11 +8,11 @@ returns-in-Ok-clause-shown g c =
     let net = c.args.outcome.now.net in
     inl (record {
       status_is = c.tell.ensures.status net;
-      out = record {
+      took = record {
         all = c.in-Ok.ensures.whole ∙ ap (with_more (g.O.Sink.took c.args.out.now)) (text_is net c.args.outcome.now.found c.requires);
         no_fault = c.in-Ok.ensures.no_fault;
       };
-      err = c.tell.ensures.told net;
+      told = c.tell.ensures.told net;
     })
 
 pub returns-in-Err-clause-shown : goal.returns-in-Err-clause-shown
@@ -22,9 +22,9 @@ returns-in-Err-clause-shown g c =
     inr (record {
       status_is = refl;
       has_text = writes c.args.outcome.now;
-      out = record {
+      took = record {
         front = subst (λ (text : List ℕ). TookFront (g.O.Sink.took c.args.out.now) (g.O.Sink.took c.write_found.new.out) text) (text_is net found c.requires) c.in-Err.ensures.front;
         cause = c.in-Err.ensures.cause;
       };
-      err = took_text _ _ _ _ _ c.write_text.result c.write_text.ensures;
+      told = took_text _ _ _ _ _ c.write_text.result c.write_text.ensures;
     })
