@@ -23,6 +23,8 @@ use Rattle.nf_forever_lists.specs.Extended.{flow_until}
 use Rattle.nf_forever_lists.specs.ForeverText.{HasForm}
 use Rattle.nf_lists_laws.proofs.OneRun.{goes_knows, start_knows}
 use Rattle.nf_forever_laws.proofs.Run.{well_forever, Equilibrium-forever, Equilibrium-until}
+use Rattle.nf_growth_laws.specs.TailGrowth.{TailGrows}
+use Rattle.nf_growth_laws.proofs.Tail.{TailGrows-forever}
 use Rattle.nf_forever.specs.declared.forever.Tail as code
 use Rattle.nf_forever.specs.declared.forever.Forever as told
 use Rattle.nf_forever.specs.Seen.{tail_in, forever_in}
@@ -138,6 +140,10 @@ module _ (passes : Passing) (net : Network) (good : IsNetwork net) (phases patte
   tail_answered (Ok f) e =
       tail_seen f.tail (λ tail. (until : ℚ) → 0ℚ ≤ℚ until → Equilibrium net (flow_until net (flow_in f.flow) tail until)) (goes_on_told passes net good phases patterns (forever_in f) (is_told f e))
   tail_answered (Err x) e = tt
+
+  pub grows_answered : {E : Type 0} (result : Result told.Forever E) → Answered result → IfOk result (λ f. IfSome f.tail (λ tail. TailGrows net (flow_in f.flow) (tail_in tail)))
+  grows_answered (Ok f) e = tail_seen f.tail (TailGrows net (flow_in f.flow)) (TailGrows-forever passes net good phases patterns (forever_in f) (is_told f e))
+  grows_answered (Err x) e = tt
 
   pub stop_answered : {E : Type 0} (result : Result told.Forever E) → Answered result → IfOk result (λ f. IsSome f.tail ↔ (f.stopped ≡ None))
   stop_answered (Ok f) e = some_seen f.tail f.stopped (stop_told passes net good phases patterns (forever_in f) (is_told f e))

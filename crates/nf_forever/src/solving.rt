@@ -12,6 +12,7 @@ ghost use Rattle.nf_forever_lists.specs.ForeverRun.{Stops, NeverEnds, IsForeverR
 ghost use Rattle.nf_forever_lists.specs.Extended.{flow_until};
 ghost use Rattle.nf_forever_lists.specs.ForeverText.{HasForm};
 ghost use Rattle.nf_unstopped_laws.specs.Stops.{NeverNoPattern};
+ghost use Rattle.nf_growth_laws.specs.TailGrowth.{TailGrows};
 ghost use Rattle.nf_forever.specs.Seen.{tail_in, forever_in};
 ghost use Rattle.nf_forever.specs.Ends.{end_in, IsStopBy};
 
@@ -100,18 +101,21 @@ fn outcome(alloc: Global, run: &Run, end: End) -> Result<Forever, AllocError>
     }
 }
 
-/// Solves a network without a horizon: goes on phase by phase from departure 0, each by the first accepted pattern and for as long as
-/// it may last, until one never ends, as many phases as allowed were made, or one can't be made. The flow up to there is an
-/// equilibrium (a Nash flow over time: Koch and Skutella 2011). Where the last phase never ends, it is the tail, and the flow that goes
-/// on by it is an equilibrium up to every departure. The tail is no phase that was made: the budget of phases is looked at before it.
-/// Each phase has a thin flow, so one can't be made only where an operation passes or more patterns than allowed would have to be tried.
-/// It is refused only where memory is wanting.
+/// Solves a network without a horizon. Each phase has the first accepted pattern and its extension length, from departure 0 on. The run
+/// ends with a phase that never ends, with the budget of phases, or before a phase that fails. The flow up to there is an equilibrium
+/// (a Nash flow over time: Koch and Skutella 2011). A phase that never ends is the tail, and isn't counted as a phase: the budget is tested
+/// before it. The flow that is extended by the tail is an equilibrium up to every departure.
+/// `grows`: labels then grow at the slopes of the tail. Travel times stay constant exactly if the capacity of each static cut is at least
+/// the last supply rate. Else a unit of departure adds to them that rate over the least capacity, less 1 (Cominetti, Correa, Olver 2017).
+/// A phase fails only if an operation exceeds the bound, or if more patterns than allowed would have to be tried: each phase has a thin
+/// flow. Returns `AllocError` only if an allocation fails.
 pub fn solve_forever(alloc: Global, net: &Network, budgets: Budgets) -> Result<Forever, AllocError>
     ensures run { IfOk result (λ f. IsForever passes_Q net.now.net budgets.phases budgets.patterns (forever_in f)) }
     ensures form { IfOk result (λ f. HasForm net.now.net (forever_in f)) }
     ensures equilibrium { IfOk result (λ f. Equilibrium net.now.net (flow_of f.flow)) }
     ensures tail { IfOk result (λ f. IfSome f.tail
         (λ tail. (until : ℚ) → 0ℚ ≤ℚ until → Equilibrium net.now.net (flow_until net.now.net (flow_of f.flow) (tail_in tail) until))) }
+    ensures grows { IfOk result (λ f. IfSome f.tail (λ tail. TailGrows net.now.net (flow_of f.flow) (tail_in tail))) }
     ensures stop { IfOk result (λ f. IsSome f.tail ↔ (f.stopped ≡ None)) }
     ensures never_no_pattern { IfOk result (λ f. NeverNoPattern f.stopped) }
 {

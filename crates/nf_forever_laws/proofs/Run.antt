@@ -88,16 +88,16 @@ module _ (passes : Passing) (net : Network) (good : IsNetwork net) (phases patte
     well : WellRun net last
     well = well_forever last (NeverEnds pattern tail) run
 
-    thin : IsThinFlow net (sets_at net last.labels) (rate_at net last.time) tail.flows tail.slopes
-    thin = let first = forever.finds.is_search.answers in
+    pub IsThinFlow-tail : IsThinFlow net (sets_at net last.labels) (rate_at net last.time) tail.flows tail.slopes
+    IsThinFlow-tail = let first = forever.finds.is_search.answers in
         let listed = forever.finds.is_search.is_listing.listed forever.place pattern first.has_place in
         IsThinFlow-accepted net (sets_at net last.labels) (rate_at net last.time) pattern tail.flows tail.slopes good (AreSets-sets_at net last.labels) listed.states listed.entered first.solution.solves first.solution.meets
 
-    unending : IsUnending net (slacks_of (hops net) last.labels) tail.slopes last.time
-    unending = unending_is net (slacks_of (hops net) last.labels) tail.slopes last.time passes good.pieces (endless passes net (slacks_of (hops net) last.labels) tail.slopes last.time forever.no_end)
+    pub IsUnending-tail : IsUnending net (slacks_of (hops net) last.labels) tail.slopes last.time
+    IsUnending-tail = unending_is net (slacks_of (hops net) last.labels) tail.slopes last.time passes good.pieces (endless passes net (slacks_of (hops net) last.labels) tail.slopes last.time forever.no_end)
 
     after : (until : ℚ) → last.time <ℚ until → Equilibrium net (extended net (flow_of last) tail until)
-    after until h = Equilibrium-extended net (flow_of last) tail until last.labels good well.grow (HasShape-well net good last well) (HasSlopes-well net good last well).0 (HasSlopes-well net good last well).1 thin unending h
+    after until h = Equilibrium-extended net (flow_of last) tail until last.labels good well.grow (HasShape-well net good last well) (HasSlopes-well net good last well).0 (HasSlopes-well net good last well).1 IsThinFlow-tail IsUnending-tail h
 
     pub Equilibrium-until : (until : ℚ) → 0ℚ ≤ℚ until → Equilibrium net (flow_until net (flow_of last) tail until)
     Equilibrium-until until from_0 = ⊎_elim

@@ -1,6 +1,6 @@
 use Rattle.nf_work.specs.Passing.{passes_Q}
 use Rattle.nf_forever.specs.Ends.{end_in}
-use Rattle.nf_forever.proofs.Told.{run_answered, form_answered, equilibrium_answered, tail_answered, stop_answered}
+use Rattle.nf_forever.proofs.Told.{run_answered, form_answered, equilibrium_answered, tail_answered, grows_answered, stop_answered}
 use Rattle.nf_forever.proofs.Unstopped.{never_answered}
 use Rattle.nf_forever.proofs.solving.solve_forever.Goals as goal
 
@@ -22,6 +22,11 @@ returns-clause-equilibrium c =
 pub returns-clause-tail : goal.returns-clause-tail
 returns-clause-tail c =
     tail_answered passes_Q c.args.net.now.net c.recall.ensures.network c.args.budgets.phases c.args.budgets.patterns c.go.new.run (end_in c.in_ok-end.end) c.in_ok-end.ensures
+    c.outcome.result c.outcome.ensures
+
+pub returns-clause-grows : goal.returns-clause-grows
+returns-clause-grows c =
+    grows_answered passes_Q c.args.net.now.net c.recall.ensures.network c.args.budgets.phases c.args.budgets.patterns c.go.new.run (end_in c.in_ok-end.end) c.in_ok-end.ensures
     c.outcome.result c.outcome.ensures
 
 pub returns-clause-stop : goal.returns-clause-stop
