@@ -32,6 +32,7 @@ use Rattle.nf_phase.specs.Solution.{EndsAll, IsSolution}
 use Rattle.nf_complete_lists.specs.FlowsFile.{GivenFlows, flows_in}
 use Rattle.nf_forever_lists.specs.ForeverRun.{Forever, IsForever}
 use Rattle.nf_forever_lists.specs.Extended.{flow_until}
+use Rattle.nf_growth_laws.specs.TailGrowth.{TailGrows}
 use Rattle.nf_resume_lists.specs.Meanings.{IsResumedReport, GoesOnFrom}
 use Rattle.nf_routes_lists.specs.RoutesFile.{NamedRoute, routes_of, ReadsRoutes}
 use Rattle.nf_routes_lists.specs.RoutesList.{Routed}
@@ -58,7 +59,7 @@ pub record SolveAnswer (n : Named) (bounds : Bounds) (answer : ProgramAnswer) : 
   pub reads_back : ReadsBack n report
 
 -- `solve --forever`: the run without a horizon. It has a tail exactly if it isn't stopped. The flow that goes on by the tail is an
--- equilibrium up to every departure from 0 on.
+-- equilibrium up to every departure from 0 on. Travel times settle there, or grow, by the static cuts of the network.
 pub record ForeverAnswer (n : Named) (phases patterns : ℕ) (answer : ProgramAnswer) : Type 0 where
   pub forever : Forever
   pub is : answer ≡ SolvedForever n forever
@@ -66,6 +67,7 @@ pub record ForeverAnswer (n : Named) (phases patterns : ℕ) (answer : ProgramAn
   pub tail : IsSome forever.tail ↔ (forever.stop ≡ None)
   pub goes_on : IfSome forever.tail
       (λ tail. (until : ℚ) → 0ℚ ≤ℚ until → Equilibrium n.net (flow_until n.net forever.flow tail until))
+  pub grows : IfSome forever.tail (TailGrows n.net forever.flow)
   pub run : IsForever passes_Q n.net phases patterns forever
   pub short : IsShortFlow n.net forever.flow
   pub ends : EndsAtItsLabels n.net forever.flow

@@ -7,6 +7,7 @@ use Rattle.nf_rational.specs.Order.{◌≤ℚ◌}
 use Rattle.nf_work.specs.Passing.{passes_Q}
 use Rattle.nf_model.specs.Equilibrium.{Equilibrium}
 use Rattle.nf_forever_lists.specs.Extended.{flow_until}
+use Rattle.nf_growth_laws.specs.TailGrowth.{TailGrows}
 use Rattle.nf_forever.specs.Seen.{forever_in}
 use Rattle.nf_app.proofs.ForeverGiven.{stop_seen, tail_seen, forever_short, forever_ends}
 use Rattle.nf_app.proofs.answering.solve_on.Goals as goal
@@ -28,6 +29,7 @@ returns c file text =
           short = forever_short passes_Q c.args.net.now.net c.recall.ensures.network c.args.budgets.phases c.args.budgets.patterns f e.run;
           ends = forever_ends passes_Q c.args.net.now.net c.recall.ensures.network c.args.budgets.phases c.args.budgets.patterns f e.run;
           tail = stop_seen c.in_ok-forever.forever.tail (f.stop ≡ None) e.stop;
+          grows = tail_seen (TailGrows c.args.net.now.net f.flow) c.in_ok-forever.forever.tail e.grows;
           goes_on = tail_seen (λ tail. (until : ℚ) → 0ℚ ≤ℚ until → Equilibrium c.args.net.now.net (flow_until c.args.net.now.net f.flow tail until)) c.in_ok-forever.forever.tail e.tail;
       },
       e.form,
