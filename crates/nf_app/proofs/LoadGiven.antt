@@ -40,12 +40,12 @@ module _ (n : Named) (file name : List ℕ) (horizon : ℚ) (text : List ℕ) wh
     pub loading_given : (loaded : List Loading) → loading_list n pieces horizon ≡ Ok loaded → IsNetwork n.net → length pieces ≡ length n.net.links → 0ℚ ≤ℚ horizon
         → ((e : ℕ) → ArePieces (pieces_at pieces e)) → IsGiven n text (Load file name horizon) (Loaded n horizon loaded)
     loading_given loaded e good many from_0 are = inl (record {
-        pieces = pieces;
-        read = read;
-        loaded = loaded;
-        is = refl;
-        computed = e;
-        loadings = links_loaded passes_Q horizon from_0 n.net.links pieces loaded many good.transits good.capacities
-            (λ (i : ℕ) (p : List Piece) (is : slice_get pieces i ≡ Some p). subst (λ (l : List Piece). ArePieces l) (ap (λ o. unwrap_or o []) is) (are i))
-            (was_ok LoadPart (load_list passes_Q n.net.links pieces horizon) loaded e);
+      pieces = pieces;
+      read = read;
+      loaded = loaded;
+      is = refl;
+      computed = e;
+      loadings = links_loaded passes_Q horizon from_0 n.net.links pieces loaded many good.transits good.capacities
+          (λ (i : ℕ) (p : List Piece) (is : slice_get pieces i ≡ Some p). subst (λ (l : List Piece). ArePieces l) (ap (λ o. unwrap_or o []) is) (are i))
+          (was_ok LoadPart (load_list passes_Q n.net.links pieces horizon) loaded e);
     })

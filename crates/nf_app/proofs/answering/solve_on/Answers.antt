@@ -22,15 +22,15 @@ returns c file text =
     let f = forever_in c.in_ok-forever.forever in
     let e = c.in_ok-forever.ensures in (
       record {
-          forever = f;
-          is = refl;
-          run = e.run;
-          equilibrium = e.equilibrium;
-          short = forever_short passes_Q c.args.net.now.net c.recall.ensures.network c.args.budgets.phases c.args.budgets.patterns f e.run;
-          ends = forever_ends passes_Q c.args.net.now.net c.recall.ensures.network c.args.budgets.phases c.args.budgets.patterns f e.run;
-          tail = stop_seen c.in_ok-forever.forever.tail (f.stop ≡ None) e.stop;
-          grows = tail_seen (TailGrows c.args.net.now.net f.flow) c.in_ok-forever.forever.tail e.grows;
-          goes_on = tail_seen (λ tail. (until : ℚ) → 0ℚ ≤ℚ until → Equilibrium c.args.net.now.net (flow_until c.args.net.now.net f.flow tail until)) c.in_ok-forever.forever.tail e.tail;
+        forever = f;
+        is = refl;
+        run = e.run;
+        equilibrium = e.equilibrium;
+        short = forever_short passes_Q c.args.net.now.net c.recall.ensures.network c.args.budgets.phases c.args.budgets.patterns f e.run;
+        ends = forever_ends passes_Q c.args.net.now.net c.recall.ensures.network c.args.budgets.phases c.args.budgets.patterns f e.run;
+        tail = stop_seen c.in_ok-forever.forever.tail (f.stop ≡ None) e.stop;
+        grows = tail_seen (TailGrows c.args.net.now.net f.flow) c.in_ok-forever.forever.tail e.grows;
+        goes_on = tail_seen (λ tail. (until : ℚ) → 0ℚ ≤ℚ until → Equilibrium c.args.net.now.net (flow_until c.args.net.now.net f.flow tail until)) c.in_ok-forever.forever.tail e.tail;
       },
       e.form,
     )
