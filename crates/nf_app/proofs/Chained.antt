@@ -1,6 +1,6 @@
 -- `check` says yes of what `solve` wrote, and `resume` of one such text writes another.
 use Rattle.std.proofs.Common.{◌≡◌, ◌⊎◌, ℕ, Bool, true, false, List, [], ◌∷◌, ◌++◌, refl, sym, ap, subst, ◌∙◌, inl, inr}
-use Rattle.std.specs.Prelude.{Some, IsOk, Result, Ok, Err, codes}
+use Rattle.std.specs.Prelude.{Some, IsOk, is_ok, Result, Ok, Err, codes}
 use Rattle.std.proofs.lemmas.Option.{same_Some}
 use Rattle.std.proofs.lemmas.List.{append_cancel_left}
 use Rattle.nf_rational.specs.Rational.{ℚ}
@@ -45,8 +45,7 @@ ok_err : {A E : Type 0} (r : Result A E) (x : A) (e : E) → r ≡ Ok x → r �
 ok_err r x e h k = cc
 
 is_ok_so : {A E : Type 0} (r : Result A E) (x : A) → r ≡ Ok x → IsOk r
-is_ok_so (Ok y) x e = tt
-is_ok_so (Err d) x e = absurd (ok_err (Err d) x d e refl)
+is_ok_so r x e = ap is_ok e
 
 -- ---- the status of a report
 abbrev of_report : Status → Bool
