@@ -15,8 +15,8 @@ use Rattle.nf_command_line.specs.Requests.{Solve, Check, Resume}
 use Rattle.nf_app.specs.Requests.{bounds_to}
 use Rattle.nf_app.specs.Runs.{Call, Run, Asks, Ran, NothingFailed, IsOneOf}
 
--- An earlier call of `solve`, over a shelf with the same known bytes of the network's file, wrote a report, to its horizon or to the stop of
--- its phase run; its output, whose bytes are known, took this text.
+-- An earlier call of `solve`, over a shelf with the same known bytes of the network's file, wrote a report, to its horizon or to the stop
+-- of its phase run; its output, whose bytes are known, took this text.
 pub record WroteReport (shelf : Visit) (file text : List ℕ) : Type 0 where
   pub run : Run
   pub ran : Ran run

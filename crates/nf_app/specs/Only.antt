@@ -7,8 +7,8 @@ use Rattle.nf_outside.specs.Shown.{IsShown, IsShownWhole}
 use Rattle.nf_app.specs.Runs.{Run}
 use Rattle.nf_app.specs.Told.{IsToldAnswer, TellsAll}
 
--- The words have one answer and no other, and the call shows it, cut short only by a failed output. Or an allocation failed, or the shelf did
--- and the call shows that.
+-- The words have one answer and no other, and the call shows it, cut short only by a failed output. Or an allocation failed, or the shelf
+-- did and the call shows that.
 pub data Shows (run : Run) : Type 0 where
   the_answer : (answer : ProgramAnswer) → IsToldAnswer run.call.words run.call.shelf.told answer
       → ((other : ProgramAnswer) → IsToldAnswer run.call.words run.call.shelf.told other → other ≡ answer)

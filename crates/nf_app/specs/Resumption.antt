@@ -18,8 +18,8 @@ use Rattle.nf_app.specs.Completeness.{ReachesHorizon, ToldRequest}
 
 -- ---- the report that was read in this call
 -- The text is the report of a run of the network, to any horizon, within any budgets, whatever stopped it. One run from the start, within
--- budgets of its own, reaches the horizon of `resume`. If the first run ended mid-phase, no operation of a table or verdict list exceeds the
--- bound in the search for the remainder of that phase. Then the new report is that of the one run, if it isn't stopped.
+-- budgets of its own, reaches the horizon of `resume`. If the first run ended mid-phase, no operation of a table or verdict list exceeds
+-- the bound in the search for the remainder of that phase. Then the new report is that of the one run, if it isn't stopped.
 abbrev pub IsOneRun : Named → List ℕ → Bounds → Report → Type 0
 IsOneRun n text bounds new = (old : Report) → report_in n text ≡ Ok old
     → (first_bounds : Bounds) (first : IsRunReport passes_Q n.net first_bounds old) (later_budgets : Budgets)

@@ -31,8 +31,8 @@ pub record Run : Type 0 where
   pub status : Status
 
 -- this call, by the states of the shelf and the sinks before it and after it
-abbrev pub this_call : {S O E : Type 0} → ShelfGhosts S → SinkGhosts O → SinkGhosts E → List (String Global) → S → S → O → O → E → E → Status
-    → Run
+abbrev pub this_call : {S O E : Type 0} → ShelfGhosts S → SinkGhosts O → SinkGhosts E → List (String Global) → S → S → O → O → E → E
+    → Status → Run
 this_call shelf out err words s t o p e f status = record {
   call = record { words = texts words; shelf = visit shelf s t };
   out = took_of out o p;

@@ -57,8 +57,8 @@ fn arrival_at(alloc: Global, net: &Network, departs: Q) -> Result<Arrival, Alloc
     }
 }
 
-/// Returns the arrival at the sink after this departure, in an equilibrium of the network. Without a departure the amount is never supplied.
-/// The network is solved to the departure within the default budgets.
+/// Returns the arrival at the sink after this departure, in an equilibrium of the network. Without a departure the amount is never
+/// supplied. The network is solved to the departure within the default budgets.
 pub(crate) fn find_arrival(
     alloc: Global,
     net: &Network,

@@ -21,8 +21,8 @@ fn let_go(_outcome: Outcome) {}
 
 /// Reads the words as one request, fetches its files, writes the answer to `out`, and returns the status.
 ///
-/// All files are fetched, each once and in order, before a rule of one is checked. Nothing is written to `out` before the answer is known. If
-/// the answer is refused, or ends early, `err` is told why. The first of the words is the program's name.
+/// All files are fetched, each once and in order, before a rule of one is checked. Nothing is written to `out` before the answer is
+/// known. If the answer is refused, or ends early, `err` is told why. The first of the words is the program's name.
 ///
 /// - `solve`: the report of the phase run, up to the horizon or its stop
 /// - `solve --forever`: the run with its last phase, which never ends
@@ -58,38 +58,50 @@ pub fn run<S: Shelf, O: Sink, E: Sink>(
 ) -> Status
     // Asked to solve an accepted file, and with a status other than 1, 3 and 9, `out` took the text of one report to the horizon. Its
     // flow is an equilibrium up to the departure reached. The status is 0 exactly if that is the horizon, and else that of the cause.
-    ensures solves { SolvesTold (this_call S.Shelf O.Sink E.Sink words.now shelf.old shelf.new out.old out.new err.old err.new result) }
+    ensures solves { SolvesTold
+        (this_call S.Shelf O.Sink E.Sink words.now shelf.old shelf.new out.old out.new err.old err.new result) }
 
     // An answer comes, and the status, `out` and `err` show it.
-    ensures ran { Ran (this_call S.Shelf O.Sink E.Sink words.now shelf.old shelf.new out.old out.new err.old err.new result) }
+    ensures ran { Ran
+        (this_call S.Shelf O.Sink E.Sink words.now shelf.old shelf.new out.old out.new err.old err.new result) }
 
     // With known files the words have one answer, whatever was fetched before, and it is shown; or an allocation or the shelf failed.
-    ensures only { ShowsOnlyThat (this_call S.Shelf O.Sink E.Sink words.now shelf.old shelf.new out.old out.new err.old err.new result) }
+    ensures only { ShowsOnlyThat
+        (this_call S.Shelf O.Sink E.Sink words.now shelf.old shelf.new out.old out.new err.old err.new result) }
 
-    // With known, well-formed files and no failure, each command ends with a status of its row in the table; unhindered, with the best of them.
-    ensures complete { IsComplete (this_call S.Shelf O.Sink E.Sink words.now shelf.old shelf.new out.old out.new err.old err.new result) }
+    // With known, well-formed files and no failure, each command ends with a status of its row in the table; unhindered, with one of
+    // its best.
+    ensures complete { IsComplete
+        (this_call S.Shelf O.Sink E.Sink words.now shelf.old shelf.new out.old out.new err.old err.new result) }
 
     // A fault of `out` in this call gives the status of a failed output, whatever the answer; without a fault the status is another.
-    ensures output { OutputFails (this_call S.Shelf O.Sink E.Sink words.now shelf.old shelf.new out.old out.new err.old err.new result) }
+    ensures output { OutputFails
+        (this_call S.Shelf O.Sink E.Sink words.now shelf.old shelf.new out.old out.new err.old err.new result) }
 
     // No run stops because no pattern is left, since each phase has a thin flow.
-    ensures never_no_pattern { AlwaysHasPattern (this_call S.Shelf O.Sink E.Sink words.now shelf.old shelf.new out.old out.new err.old err.new result) }
+    ensures never_no_pattern { AlwaysHasPattern
+        (this_call S.Shelf O.Sink E.Sink words.now shelf.old shelf.new out.old out.new err.old err.new result) }
 
     // Every equilibrium of the network has the labels, queues and exits of the flow of the answer, as far as both describe departures.
-    ensures same_in_all { AnswerIsSameInAll (this_call S.Shelf O.Sink E.Sink words.now shelf.old shelf.new out.old out.new err.old err.new result) }
+    ensures same_in_all { AnswerIsSameInAll
+        (this_call S.Shelf O.Sink E.Sink words.now shelf.old shelf.new out.old out.new err.old err.new result) }
 
     // The report that continues the report of a run is that of one run from the start, if both reach the horizon and, mid-phase, the search
     // for the remainder of the phase exceeds no bound.
-    ensures one_run { ResumesAsOne (this_call S.Shelf O.Sink E.Sink words.now shelf.old shelf.new out.old out.new err.old err.new result) }
+    ensures one_run { ResumesAsOne
+        (this_call S.Shelf O.Sink E.Sink words.now shelf.old shelf.new out.old out.new err.old err.new result) }
 
     // With known files, `resume` writes this report byte for byte.
-    ensures resumes { ResumesInOneRun (this_call S.Shelf O.Sink E.Sink words.now shelf.old shelf.new out.old out.new err.old err.new result) }
+    ensures resumes { ResumesInOneRun
+        (this_call S.Shelf O.Sink E.Sink words.now shelf.old shelf.new out.old out.new err.old err.new result) }
 
     // `check` says yes of a text that an earlier call of `solve` wrote, unless an operation exceeds the bound or an allocation fails.
-    ensures says_yes { SaysYes (this_call S.Shelf O.Sink E.Sink words.now shelf.old shelf.new out.old out.new err.old err.new result) }
+    ensures says_yes { SaysYes
+        (this_call S.Shelf O.Sink E.Sink words.now shelf.old shelf.new out.old out.new err.old err.new result) }
 
     // `resume` of a text that an earlier call of `solve` wrote, to the horizon of another, writes the text of that other call.
-    ensures resumes_solved { ResumesSolvedText (this_call S.Shelf O.Sink E.Sink words.now shelf.old shelf.new out.old out.new err.old err.new result) }
+    ensures resumes_solved { ResumesSolvedText
+        (this_call S.Shelf O.Sink E.Sink words.now shelf.old shelf.new out.old out.new err.old err.new result) }
 
     // What is known of the shelf's files stays the same, and no count of faults falls. So one call can follow another.
     ensures same { (name : List ℕ) → S.told shelf.new name ≡ S.told shelf.old name }
