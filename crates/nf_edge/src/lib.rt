@@ -87,7 +87,8 @@ pub trait Shelf {
         ensures long { limit < taken self.new →
             IsErrOf result FetchFault.TooLong ⊎ IsErrOf result FetchFault.Memory }
 
-        // If the bytes are known and no fault was counted, `TooLong` implies more than `limit` bytes; then the result is `TooLong` or `Memory`.
+        // If the bytes are known and no fault was counted, `TooLong` implies more than `limit` bytes; then the result is `TooLong` or
+        // `Memory`.
         ensures told_too_long { IsErrOf result FetchFault.TooLong → IfSome (told self.old name.now)
             (λ held. Rose (faults self.old) (faults self.new) ⊎ (limit < length held)) }
         ensures told_long { IfSome (told self.old name.now) (λ held. limit < length held →
@@ -108,7 +109,8 @@ pub trait Sink {
 
     /// Takes a prefix of `piece`, which isn't empty, and returns its length, at least 1. Allocates nothing.
     ///
-    /// Returns `SinkFault` if the sink takes no byte. A result with a length raises no count of faults, so one fault ends the writing of a text.
+    /// Returns `SinkFault` if the sink takes no byte. A result with a length raises no count of faults, so one fault ends the writing of
+    /// a text.
     fn write(&mut self, piece: &[u8]) -> Result<usize, SinkFault>
         requires { 0 < length piece.now }
         ensures some { IfOk result (λ count. 0 < count) }

@@ -49,8 +49,8 @@ fn fetch_files<S: Shelf>(
 
 /// Fetches a file and parses it as a network.
 ///
-/// Refuses if the file can't be fetched, has more than 1,048,576 bytes, or breaks a rule of network files, or if an allocation fails. What is
-/// known of the shelf's files stays the same.
+/// Refuses if the file can't be fetched, has more than 1,048,576 bytes, or breaks a rule of network files, or if an allocation fails.
+/// What is known of the shelf's files stays the same.
 pub fn fetch_network<S: Shelf>(alloc: Global, shelf: &mut S, file: &str) -> Result<Network, Refusal>
     ensures same { (name : List ℕ) → S.told shelf.new name ≡ S.told shelf.old name }
     ensures never_falls { S.faults shelf.old ≤ S.faults shelf.new }

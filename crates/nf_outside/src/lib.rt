@@ -1,5 +1,5 @@
-//! The input and output of a run: fetches the files of a request, each once and in order, and parses the first as a network; writes an answer
-//! to the two sinks, or why there is none.
+//! The input and output of a run: fetches the files of a request, each once and in order, and parses the first as a network; writes an
+//! answer to the two sinks, or why there is none.
 #![tactic(auto)]
 
 mod fetching;

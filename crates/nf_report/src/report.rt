@@ -118,8 +118,8 @@ fn put_state_of<O: Sink>(
     put_state(out, page, name, state)
 }
 
-/// Puts a line on the page for each link that has a state in the pattern. The pattern has an entry for each link. After an `Err` the page is
-/// empty.
+/// Puts a line on the page for each link that has a state in the pattern. The pattern has an entry for each link. After an `Err` the page
+/// is empty.
 pub fn put_states<O: Sink>(
     out: &mut O,
     page: &mut Page,
@@ -162,8 +162,8 @@ fn put_idle<O: Sink>(out: &mut O, page: &mut Page, net: &Network) -> Result<(), 
     Ok(())
 }
 
-/// Puts the lines of a flow on the page: the labels of all nodes, the unreached nodes, and the curves of all links. The flow has a curve for each
-/// node and link. After an `Err` the page is empty.
+/// Puts the lines of a flow on the page: the labels of all nodes, the unreached nodes, and the curves of all links. The flow has a curve
+/// for each node and link. After an `Err` the page is empty.
 pub fn put_flow<O: Sink>(
     out: &mut O,
     page: &mut Page,
@@ -232,8 +232,8 @@ fn put_report<O: Sink>(
 /// Writes the text of a report: the horizon, the flow up to the time reached, why the run stopped if it did, and the links' states in its
 /// last phase. Times, amounts and rates are exact fractions. Allocates nothing.
 ///
-/// The report must be well formed: a curve for each node and link of the network, and a stop exactly if the time reached is below the horizon.
-/// The text is read back as this report. The first fault ends the writing; the sink then took a proper prefix of the text.
+/// The report must be well formed: a curve for each node and link of the network, and a stop exactly if the time reached is below the
+/// horizon. The text is read back as this report. The first fault ends the writing; the sink then took a proper prefix of the text.
 pub fn write_report<O: Sink>(
     net: &Network,
     horizon: Q,
