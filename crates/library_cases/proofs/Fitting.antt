@@ -18,7 +18,7 @@ use Rattle.nf_lists_laws.proofs.Exact.{slacks_exact}
 use Rattle.nf_plain_laws.proofs.Entries.{slice_get-image}
 use Rattle.nf_thin_laws.specs.ActiveLinks.{HoldNoCycle, AreSets}
 use Rattle.nf_thin_laws.proofs.ActiveLinks.{AreSets-sets_at, HoldNoCycle-sets_at}
-use Rattle.nf_complete_laws.specs.SettleLaws.{AreGoodSets}
+use Rattle.nf_complete.specs.FitSets.{AreFitSets}
 use Rattle.nf_sets.proofs.Flags.{are_sets}
 use Rattle.nf_thin.specs.Searching.{AreSetsOf, NoneResetsUnbounded}
 use Rattle.nf_lists_laws.proofs.Numbered.{part_ok}
@@ -35,9 +35,8 @@ sets_are net given labels slacks read sets same worked seen is =
 pub sets_count : (net : Network) (labels : List ℚ) (sets : Sets) → sets ≡ sets_at net labels → length sets.active ≡ length net.links
 sets_count net labels sets is = ap (λ (s : Sets). length s.active) is ∙ (AreSets-sets_at net labels).count
 
-pub good_sets : (net : Network) (labels : List ℚ) (sets : Sets) → IsNetwork net → sets ≡ sets_at net labels → ((e : ℕ) → Has (unbounded net) e → Has sets.resetting e → ⊥) → AreGoodSets net sets
-good_sets net labels sets good is bounded = record {
-  network = good;
+pub fit_sets : (net : Network) (labels : List ℚ) (sets : Sets) → IsNetwork net → sets ≡ sets_at net labels → ((e : ℕ) → Has (unbounded net) e → Has sets.resetting e → ⊥) → AreFitSets net sets
+fit_sets net labels sets good is bounded = record {
   sets_are = subst (λ (s : Sets). AreSets net s) (sym is) (AreSets-sets_at net labels);
   acyclic = subst (λ (s : Sets). HoldNoCycle net s) (sym is) (HoldNoCycle-sets_at net labels good);
   bounded = λ e link p none reset. bounded e (slice_get-image (λ (l : Link). is_none l.capacity) net.links e link p ∙ ap (λ (o : Option ℚ). Some (is_none o)) none) reset;

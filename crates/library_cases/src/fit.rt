@@ -4,7 +4,7 @@ ghost use Rattle.nf_model.specs.Entries.{Has};
 ghost use Rattle.nf_model.specs.Network.{Link as SeenLink, unbounded};
 ghost use Rattle.nf_model.specs.ThinFlow.{Enters, sets_at};
 ghost use Rattle.nf_thin_laws.specs.ActiveLinks.{NoneEntersSource};
-ghost use Rattle.nf_complete_laws.specs.SettleLaws.{AreGoodSets};
+ghost use Rattle.nf_complete.specs.FitSets.{AreFitSets};
 
 use nf_frac::Q;
 use nf_graph::{LinkId, LinkSets};
@@ -71,7 +71,7 @@ fn made_sets(alloc: Global, net: &Network, labels: &[Q]) -> Option<LinkSets>
 
 /// The sets of the slacks at these labels, where they are as the test of a thin flow asks.
 pub fn fit_sets(alloc: Global, net: &Network, labels: &[Q]) -> Option<LinkSets>
-    ensures good { IfSome result (λ sets. AreGoodSets net.now.net sets) }
+    ensures good { IfSome result (λ sets. AreFitSets net.now.net sets) }
     ensures source { IfSome result (λ sets. NoneEntersSource net.now.net sets) }
 {
     // For the proof: what is read is a network.

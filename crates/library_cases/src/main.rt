@@ -23,6 +23,7 @@ mod finding;
 mod fit;
 mod fractions;
 mod ladders;
+mod names;
 mod network;
 mod numbers;
 mod phases;

@@ -12,7 +12,7 @@ use nf_graph::LinkSets;
 use nf_net::Network;
 use nf_pattern::Pattern;
 use nf_thin::parts::{can_conserve, full_flows, listing, part_values};
-use nf_thin::verdict;
+use nf_thin::{Judged, verdict};
 use std::io;
 
 // The slacks at these labels.
@@ -90,7 +90,9 @@ fn tell_verdict_on(
         return tell_none(rt);
     }
     match verdict(net, sets, pattern, &numbers[..links], &numbers[links..]) {
-        Ok(judged) => print!(rt; "{judged:?}"),
+        Ok(Judged::Meets) => print!(rt; "Meets"),
+        Ok(Judged::FailsNode(node)) => print!(rt; "FailsNode(NodeId({}))", node.0),
+        Ok(Judged::FailsLink(link)) => print!(rt; "FailsLink(LinkId({}))", link.0),
         Err(at) => tell_passed(rt, &at),
     }
 }

@@ -10,7 +10,7 @@ use nf_graph::LinkSets;
 use nf_net::Network;
 use nf_pattern::Pattern;
 use nf_thin::parts::{find_by_slopes, is_within};
-use nf_thin::{MOST_UNKNOWNS, SearchFault, Thin, Tried, search, try_pattern, unknown_count};
+use nf_thin::{MOST_GRID_UNKNOWNS, SearchFault, Thin, Tried, search, try_pattern, unknown_count};
 use std::io;
 
 // Flows and slopes.
@@ -134,7 +134,7 @@ pub fn tell_tried(
     requires sets { AreSetsOf net.now.net sets.now }
     requires pattern { IsPattern sets.now (unbounded net.now.net) pattern.now }
 {
-    if unknown_count(net, sets) > MOST_UNKNOWNS {
+    if unknown_count(net, sets) > MOST_GRID_UNKNOWNS {
         return tell_none(rt);
     }
     let mut flows = vec![in rt.alloc(); Q::zero(); net.link_count() as usize]?;

@@ -4,7 +4,7 @@ ghost use Rattle.nf_rational.specs.Operations.{0ℚ};
 ghost use Rattle.nf_rational.specs.Order.{◌≤ℚ◌};
 ghost use Rattle.nf_model.specs.ThinFlow.{IsThinFlow};
 ghost use Rattle.nf_thin_laws.specs.ActiveLinks.{NoneEntersSource};
-ghost use Rattle.nf_complete_laws.specs.SettleLaws.{AreGoodSets};
+ghost use Rattle.nf_complete.specs.FitSets.{AreFitSets};
 
 use crate::fit::fit_sets;
 use crate::settled::tell_settled;
@@ -25,7 +25,7 @@ fn tell_settling(
     flows: &[Q],
     slopes: &[Q],
 ) -> io::Result<()>
-    requires sets { AreGoodSets net.now.net sets.now }
+    requires sets { AreFitSets net.now.net sets.now }
     requires rate { 0ℚ ≤ℚ rate }
     requires thin { IsThinFlow net.now.net sets.now rate flows.now slopes.now }
 {
@@ -44,7 +44,7 @@ fn tell_flows(
     flows: &[Q],
     slopes: &[Q],
 ) -> io::Result<()>
-    requires sets { AreGoodSets net.now.net sets.now }
+    requires sets { AreFitSets net.now.net sets.now }
     requires source { NoneEntersSource net.now.net sets.now }
     requires rate { 0ℚ ≤ℚ rate }
 {
@@ -78,7 +78,7 @@ fn labels_of(alloc: Global, net: &Network, asked: &str) -> Option<Vec<Q>> {
 
 #[tactic(auto, using(nf_rational_laws::proofs::Tests::le_of_test))]
 fn tell_sets(rt: &HostRuntime, net: &Network, sets: &LinkSets, asked: &str) -> io::Result<()>
-    requires sets { AreGoodSets net.now.net sets.now }
+    requires sets { AreFitSets net.now.net sets.now }
     requires source { NoneEntersSource net.now.net sets.now }
 {
     let rate = net.rate_at(Q::zero());

@@ -1,6 +1,7 @@
 // Answers as text.
 ghost use Rattle.std.specs.Prelude.{◌≡◌, length};
 
+use crate::names::{op_name, part_name, state_name};
 use case_lines::Shown;
 use nf_frac::{PassedAt, Q};
 use nf_graph::{LinkId, LinkSets};
@@ -18,13 +19,8 @@ pub fn tell_numbers(rt: &HostRuntime, word: &str, numbers: &[Q]) -> io::Result<(
 
 /// Prints an operation that passes.
 pub fn tell_passed(rt: &HostRuntime, at: &PassedAt<Q>) -> io::Result<()> {
-    print!(rt;
-        "{:?} {:?} {} {}",
-        at.part,
-        at.op,
-        Shown(at.left),
-        Shown(at.right)
-    )
+    let (part, op) = (part_name(at.part), op_name(at.op));
+    print!(rt; "{part} {op} {} {}", Shown(at.left), Shown(at.right))
 }
 
 /// Prints that there is no answer.
@@ -43,8 +39,8 @@ pub fn tell_pattern(rt: &HostRuntime, pattern: &Pattern, links: u32) -> io::Resu
 {
     print!(rt; "{}", "Pattern { states: [")?;
     for e in 0..links {
-        let state = pattern.state(LinkId(e));
-        print!(rt; "{}{state:?}", before(e))?;
+        let state = state_name(pattern.state(LinkId(e)));
+        print!(rt; "{}{state}", before(e))?;
     }
     print!(rt; "{}", "] }")
 }

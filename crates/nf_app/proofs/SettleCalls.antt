@@ -25,6 +25,7 @@ use Rattle.nf_complete_lists.specs.SettledPattern.{IsSettledPattern}
 use Rattle.nf_complete_lists.specs.ThinList.{thin_list}
 use Rattle.nf_complete_lists.specs.FlowsFile.{GivenFlows}
 use Rattle.nf_complete_laws.specs.SettleLaws.{AreGoodSets}
+use Rattle.nf_complete.specs.FitSets.{AreFitSets}
 use Rattle.nf_complete.specs.declared.settled.Settled.{Settled}
 use Rattle.nf_complete.specs.Settling.{SettlesTo}
 use Rattle.nf_app.specs.Settling.{SlacksFit, TestFits, AreThin, PassesFirst, at_slack, at_test, at_settling, AreStartSets, SettlesAtStart}
@@ -90,8 +91,10 @@ module _ (net : Network) (given : GivenFlows) (labels : List ℚ) (are : AreStar
         (subst (λ (f : List ℚ). P sets rate f given.slopes) (sym called.flows_same)
         (subst (λ (l : List ℚ). P sets rate flows l) (sym called.slopes_same) h)))
 
-    pub sets_good : IsNetwork net → AreGoodSets net sets
-    sets_good good = subst (λ (s : Sets). AreGoodSets net s) called.sets_same (start_sets_good net good labels are)
+    pub sets_good : IsNetwork net → AreFitSets net sets
+    sets_good good =
+        let fine = subst (λ (s : Sets). AreGoodSets net s) called.sets_same (start_sets_good net good labels are) in
+        record { sets_are = fine.sets_are; acyclic = fine.acyclic; bounded = fine.bounded }
 
     pub sets_source : IsNetwork net → NoneEntersSource net sets
     sets_source good = subst (λ (s : Sets). NoneEntersSource net s) called.sets_same (start_source net good labels are)

@@ -15,3 +15,4 @@ pub mod Balancing
 pub mod Filling
 pub mod LinkAnswers
 pub mod Stating
+pub mod GoodSets

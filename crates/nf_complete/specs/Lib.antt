@@ -6,3 +6,4 @@ pub mod NextCycles
 pub mod Testing
 pub mod ThinParts
 pub mod States
+pub mod FitSets

@@ -26,7 +26,13 @@ fn lower(best: Option<Step>, step: Step) -> Step
     ensures { result ≡ lower_of best step }
 {
     match best {
-        Some(best) => { if best.link <= step.link { best } else { step } }
+        Some(best) => {
+            if best.link.0 <= step.link.0 {
+                best
+            } else {
+                step
+            }
+        }
         None => step,
     }
 }

@@ -10,6 +10,7 @@ ghost use Rattle.nf_complete_lists.specs.Interior.{IsInterior};
 ghost use Rattle.nf_complete_lists.specs.Cancelling.{fulls_list, Cancels};
 ghost use Rattle.nf_complete_lists.specs.SettledPattern.{IsSettledPattern};
 ghost use Rattle.nf_complete_laws.specs.SettleLaws.{AreGoodSets};
+ghost use Rattle.nf_complete.specs.FitSets.{AreFitSets};
 ghost use Rattle.nf_complete.specs.Settling.{ComesTo, SettlesTo};
 ghost use Rattle.nf_complete.specs.NextCycles.{AreForestBelow, ClosesNext};
 
@@ -75,11 +76,15 @@ fn cancelled(
     Ok(new)
 }
 
-/// Settles a thin flow (Cominetti, Correa and Larré 2015) into a listed pattern, of which its flows become the one solution, with the same
-/// slopes. As long as interior links, those that carry something and not all they can, hold a cycle, the flows along the next one change
-/// until one of its links carries nothing or is full. What fills each link is worked out first, and then cycle by cycle the room of each link and its new flow.
-/// Passed comes exactly at the first of these operations that passes, and has part Verdict. Flows and the rate are amounts per unit of
-/// time.
+/// Settles a thin flow (Cominetti, Correa and Larré 2015): returns flows and a listed pattern whose one solution they are, with the same
+/// slopes. While interior links, those that carry something and not all they can, hold a cycle, the flows along the next one change
+/// until one of its links carries nothing or is full. `flows` and `rate`, which is at least 0, are amounts per unit of time; `slopes`
+/// has each label's change per unit of departure time. They must be a thin flow (`is_thin` tests it) of these sets. The active links
+/// must hold no cycle, and no resetting link may be unbounded.
+///
+/// The operations are those that `Settles` (nf_complete_lists/specs/Cancelling.antt) names: the flow that fills each link, and then
+/// cycle by cycle the room of each link and its new flow. Returns `Passed` exactly at the first of them that passes, with the part
+/// Verdict. Otherwise fails only if an allocation fails.
 pub fn settle(
     alloc: Global,
     net: &Network,
@@ -88,7 +93,7 @@ pub fn settle(
     flows: &[Q],
     slopes: &[Q],
 ) -> Result<Settled, Halt<Q>>
-    requires sets { AreGoodSets net.now.net sets.now }
+    requires sets { AreFitSets net.now.net sets.now }
     requires rate { 0ℚ ≤ℚ rate }
     requires thin { IsThinFlow net.now.net sets.now rate flows.now slopes.now }
     ensures list { SettlesTo passes_Q net.now.net sets.now slopes.now flows.now result }
@@ -97,6 +102,8 @@ pub fn settle(
     ensures listed { IfOk result (λ s. IsListedIn net.now.net sets.now s.pattern) }
     ensures solution { IfOk result (λ s. IsSolution net.now.net sets.now rate s.pattern s.flows.items slopes.now) }
 {
+    // For the proof: every network is well formed.
+    net.recall();
     let fulls = fulls(alloc, net, sets, slopes)?;
     let flows = cancelled(alloc, net, sets, rate, &fulls, flows, slopes)?;
     let pattern = settled_pattern(alloc, net, sets, &fulls, &flows, slopes)?;

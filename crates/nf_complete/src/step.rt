@@ -3,7 +3,7 @@ use nf_graph::LinkId;
 use std::marker::Model;
 
 /// A step along a link, forward or backward.
-#[derive(Clone, Copy, PartialEq, Eq)]
+#[derive(Clone, Copy)]
 pub struct Step {
     pub link: LinkId,
     pub forward: bool,

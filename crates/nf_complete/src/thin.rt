@@ -3,7 +3,7 @@ ghost use Rattle.std.specs.Prelude.{◌≡◌, length, IfOk, MatchBool};
 ghost use Rattle.nf_work.specs.Passing.{passes_Q};
 ghost use Rattle.nf_model.specs.ThinFlow.{IsThinFlow};
 ghost use Rattle.nf_thin_laws.specs.ActiveLinks.{NoneEntersSource};
-ghost use Rattle.nf_complete_laws.specs.SettleLaws.{AreGoodSets};
+ghost use Rattle.nf_complete.specs.FitSets.{AreFitSets};
 ghost use Rattle.nf_complete.specs.Settling.{Passes};
 
 use crate::node_sums::balances;
@@ -14,11 +14,15 @@ use nf_frac::{PassedAt, Q};
 use nf_graph::LinkSets;
 use nf_net::Network;
 
-/// Whether flows of the links, amounts per unit of time, and slopes of the nodes are a thin flow with resetting (Cominetti, Correa and
-/// Larré 2015) that sends this rate from source to sink. Node by node the flows of the active links into it are summed, and then those
-/// of the active links out of it, at the sink with the rate; then each active link's capacity is multiplied by the slope of its head.
-/// Passed comes exactly at the first of these operations that passes, whatever the answer would be, and has part Verdict. Takes no
-/// memory.
+/// Returns whether flows and slopes are a thin flow with resetting (Cominetti, Correa and Larré 2015) that sends `rate` from source to
+/// sink. `flows` has one number for each link, an amount per unit of time; `slopes` one for each node, its label's change per unit of
+/// departure time; `rate` is an amount per unit of time. The active links must hold no cycle and not enter the source, and no resetting
+/// link may be unbounded.
+///
+/// The operations are those of `thin_list` (nf_complete_lists/specs/ThinList.antt): node by node the flows of the active links into it
+/// are summed, and then those of the active links out of it, at the sink with the rate; then each active link's capacity is multiplied
+/// by the slope of its head. Returns `Passed` exactly at the first of them that passes, whatever the answer would be, with the part
+/// Verdict. Doesn't allocate.
 pub fn is_thin(
     net: &Network,
     sets: &LinkSets,
@@ -26,7 +30,7 @@ pub fn is_thin(
     flows: &[Q],
     slopes: &[Q],
 ) -> Result<bool, PassedAt<Q>>
-    requires sets { AreGoodSets net.now.net sets.now }
+    requires sets { AreFitSets net.now.net sets.now }
     requires source { NoneEntersSource net.now.net sets.now }
     requires flows { length flows.now ≡ length net.now.net.links }
     requires slopes { length slopes.now ≡ net.now.net.nodes }
@@ -34,6 +38,8 @@ pub fn is_thin(
     ensures thin { IfOk result (λ yes. MatchBool yes (IsThinFlow net.now.net sets.now rate flows.now slopes.now)
         (IsThinFlow net.now.net sets.now rate flows.now slopes.now → ⊥)) }
 {
+    // For the proof: every network is well formed.
+    net.recall();
     let balanced = balances(net, sets, rate, flows)?;
     let kept = keep_slopes(net, sets, flows, slopes)?;
     let proper = is_proper(net, sets, flows, slopes);

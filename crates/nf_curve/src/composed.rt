@@ -168,7 +168,7 @@ fn composed_points(
     requires values { (i : ℕ) (p : ℚ × ℚ) → slice_get inner.now i ≡ Some p → 0ℚ ≤ℚ p.1 }
     ensures { Gives (λ points. points.items) (λ q. q) result (at_part part (composed_all passes_Q outer.now inner.now)) }
 {
-    let mut composed = Vec::new(alloc);
+    let mut composed = Vec::with_capacity(alloc, inner.len() + 1)?;
     let mut place = place_up(outer, 0, inner[0].1);
     for i in 1..inner.len() {
         place = add_piece(&mut composed, outer, place, &inner[i - 1], &inner[i], part)?;

@@ -30,7 +30,10 @@ use std::alloc::{AllocError, Global};
 use std::marker::Model;
 
 /// A piecewise linear function of time, from time 0 on: points (time, value) whose times rise strictly from 0. It is linear
-/// between neighbouring points and constant after the last.
+/// between neighbouring points and constant after the last. Times and values are exact fractions, in units of the caller's choice.
+///
+/// A call that computes takes a `Part`, and does the operations of one list, in order: the definition that its clause `list`
+/// names, in nf_curve_lists. It returns `Passed` exactly if one of them passes, with the first of them and that part.
 #[derive(Drop)]
 pub struct Curve {
     points: Vec<(Q, Q)>,
@@ -51,7 +54,7 @@ impl Model for Curve {
 }
 
 impl Curve {
-    /// The curve of this one value: its point is at time 0.
+    /// Returns the constant curve of this value: its one point is at time 0. Fails only if the allocation fails.
     pub fn start(alloc: Global, value: Q) -> Result<Curve, AllocError>
         ensures { IfOk result (λ c. c.points ≡ (0ℚ, value) ∷ []) }
     {
@@ -60,7 +63,7 @@ impl Curve {
         Ok(Curve { points })
     }
 
-    /// The curve of these points.
+    /// Returns the curve of these points, whose times must rise strictly from 0.
     pub fn of_points(points: Vec<Point>) -> Curve
         requires { IsCurve points.items }
         ensures { result.points ≡ points.items }
@@ -68,7 +71,7 @@ impl Curve {
         Curve { points }
     }
 
-    /// Afterwards so many pushes can't be refused. The points stay, also where memory is wanting.
+    /// Allocates room, so that the next `more` pushes can't fail. The points stay the same, also if the allocation fails.
     pub fn reserve(&mut self, more: usize) -> Result<(), AllocError>
         ensures points { self.new.points ≡ self.old.points }
         ensures ok { OnOk result (more ≤ self.new.spare) }
@@ -78,7 +81,8 @@ impl Curve {
         self.points.reserve(more)
     }
 
-    /// One more point, at a time after the last. Where memory is wanting the points stay; it isn't where room was reserved.
+    /// Adds a point, whose time must be after the last one. If the allocation fails, the points stay the same. It can't fail if room
+    /// was reserved.
     pub fn push(&mut self, time: Q, value: Q) -> Result<(), AllocError>
         requires { last_time self.old.points <ℚ time }
         ensures ok { OnOk result (self.new.points ≡ self.old.points ++ (time, value) ∷ []) }
@@ -90,7 +94,7 @@ impl Curve {
         Ok(())
     }
 
-    /// How many points there are: at least one.
+    /// Returns the number of points, which is at least 1.
     #[tactic(auto, using(crate::proofs::Points::points_there))]
     pub fn len(&self) -> usize
         ensures count { result ≡ length self.now.points }
@@ -100,7 +104,7 @@ impl Curve {
         self.points.len()
     }
 
-    /// Its points, in order.
+    /// Returns the points, in the order of their times.
     pub fn as_points(&self) -> &[Point]
         ensures points { result.now ≡ self.now.points }
         ensures curve { IsCurve result.now }
@@ -108,7 +112,7 @@ impl Curve {
         &self.points
     }
 
-    /// The point of this number, its time and its value.
+    /// Returns the time and the value of the point at this index, which must be below `len`.
     pub fn point(&self, index: usize) -> (Q, Q)
         requires { index < length self.now.points }
         ensures { slice_get self.now.points index ≡ Some result }
@@ -116,8 +120,8 @@ impl Curve {
         self.points[index]
     }
 
-    /// The value at a time of at least 0. Passed comes exactly at the first operation of its list that passes, and has this part.
-    /// Takes no memory.
+    /// Returns the value at a time, which must be at least 0. Its list of operations is `checked_value`, in
+    /// nf_curve_lists/specs/Values.antt; Passed comes exactly at the first one that passes, and has this part. Doesn't allocate.
     pub fn value(&self, time: Q, part: Part) -> Result<Q, PassedAt<Q>>
         requires { 0ℚ ≤ℚ time }
         ensures list { result ≡ at_part part (checked_value passes_Q self.now.points time) }
@@ -127,8 +131,8 @@ impl Curve {
         value_at(&self.points, place, time, part)
     }
 
-    /// The sum of two curves at every time. Passed comes exactly at the first operation of its list that passes, and has this
-    /// part.
+    /// Returns the sum of two curves: at every time, of their values. Its list of operations is `checked_sum`, in
+    /// nf_curve_lists/specs/Sums.antt; Passed comes exactly at the first one that passes, and has this part.
     pub fn sum(alloc: Global, left: &Curve, right: &Curve, part: Part) -> Result<Curve, Halt<Q>>
         ensures list { Gives (λ c. c.points) (λ q. q) result
             (at_part part (checked_sum passes_Q left.now.points right.now.points)) }
@@ -138,8 +142,8 @@ impl Curve {
         Ok(Curve { points })
     }
 
-    /// The lesser of two curves at every time. Passed comes exactly at the first operation of its list that passes, and has this
-    /// part.
+    /// Returns the lesser of two curves: at every time, of their values. Its list of operations is `checked_least`, in
+    /// nf_curve_lists/specs/Least.antt; Passed comes exactly at the first one that passes, and has this part.
     pub fn least(alloc: Global, left: &Curve, right: &Curve, part: Part) -> Result<Curve, Halt<Q>>
         ensures list { Gives (λ c. c.points) (λ q. q) result
             (at_part part (checked_least passes_Q left.now.points right.now.points)) }
@@ -149,8 +153,9 @@ impl Curve {
         Ok(Curve { points })
     }
 
-    /// The curve up to the time `last`, which is at least 0: its points before that time, and then one at that time. Passed comes
-    /// exactly at the first operation of its list that passes, and has this part.
+    /// Returns the curve up to the time `last`, which must be at least 0: its points before that time, and then one at that time.
+    /// Its list of operations is `checked_cut`, in nf_curve_lists/specs/Values.antt; Passed comes exactly at the first one that
+    /// passes, and has this part.
     pub fn cut(&self, alloc: Global, last: Q, part: Part) -> Result<Curve, Halt<Q>>
         requires { 0ℚ ≤ℚ last }
         ensures list { Gives (λ c. c.points) (λ q. q) result
@@ -161,8 +166,9 @@ impl Curve {
         Ok(Curve { points })
     }
 
-    /// `outer` at the value of `inner`, for the times from 0 to `until`, which is at least 0. There no value of `inner` may be
-    /// negative. Passed comes exactly at the first operation of its list that passes, and has this part.
+    /// Returns `outer` at the values of `inner`, for the times from 0 to `until`, which must be at least 0. At these times no value
+    /// of `inner` may be negative. Its list of operations is `checked_composed`, in nf_curve_lists/specs/Composed.antt; Passed comes
+    /// exactly at the first one that passes, and has this part.
     pub fn compose(
         alloc: Global,
         outer: &Curve,
@@ -180,7 +186,8 @@ impl Curve {
         Ok(Curve { points })
     }
 
-    /// A curve in short form with the values of this one. Passed comes exactly at the first operation of its list that passes, and has this part.
+    /// Returns the same function in short form: without points at which the slope doesn't change. Its list of operations is
+    /// `checked_short`, in nf_curve_lists/specs/Short.antt; Passed comes exactly at the first one that passes, and has this part.
     pub fn short(alloc: Global, curve: &Curve, part: Part) -> Result<Curve, Halt<Q>>
         ensures list { Gives (λ c. c.points) (λ q. q) result
             (at_part part (checked_short passes_Q curve.now.points)) }
@@ -190,9 +197,10 @@ impl Curve {
         Ok(Curve { points })
     }
 
-    /// The first corner on the times from 0 to `until` at which two curves differ, with both values; None exactly where they agree
-    /// at every one of these times. Corners are time 0, `until`, and the times between at which the slope of one of them changes.
-    /// Passed comes exactly at the first operation of its list that passes, and has this part. Takes no memory.
+    /// Returns the first corner at the times from 0 to `until` at which two curves differ, with both values; None exactly if they
+    /// agree at all these times. Corners are time 0, `until`, and the times between at which the slope of one of them changes.
+    /// `until` must be at least 0. Its list of operations is `checked_difference`, in nf_curve_lists/specs/Differences.antt; Passed
+    /// comes exactly at the first one that passes, and has this part. Doesn't allocate.
     pub fn first_difference(
         left: &Curve,
         right: &Curve,
@@ -211,8 +219,8 @@ impl Curve {
     }
 }
 
-/// Two curves differ at this time: the left one has this value there, and the right one that.
-#[derive(Clone, Copy, Debug, PartialEq, Eq)]
+/// Two curves differ at this time: `left` and `right` are their values there.
+#[derive(Clone, Copy)]
 pub struct Difference {
     pub time: Q,
     pub left: Q,

@@ -38,7 +38,7 @@ pub(crate) fn cut_points(
     ensures { Gives (λ cut. cut.items) (λ q. q) result (at_part part (checked_cut passes_Q points.now last)) }
 {
     let value = value_at(points, place_up(points, 0, last), last, part)?;
-    let mut cut = Vec::new(alloc);
+    let mut cut = Vec::with_capacity(alloc, points.len() + 1)?;
     add_before(&mut cut, points, last)?;
     cut.push((last, value))?;
     Ok(cut)

@@ -34,7 +34,7 @@ pub(crate) fn sum_points(
     requires right { IsCurve right.now }
     ensures { Gives (λ points. points.items) (λ q. q) result (at_part part (checked_sum passes_Q left.now right.now)) }
 {
-    let mut points = Vec::new(alloc);
+    let mut points = Vec::with_capacity(alloc, left.len() + right.len())?;
     let mut now = Some(first_moment(left, right));
     while let Some(moment) = now {
         let point = sum_at(left, right, &moment, part)?;

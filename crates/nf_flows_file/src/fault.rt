@@ -9,7 +9,7 @@ use std::alloc::AllocError;
 use thiserror::Error;
 
 /// Why a text is no flows file.
-#[derive(Clone, Copy, Debug, PartialEq, Eq, Error)]
+#[derive(Clone, Copy, Debug, Error)]
 pub enum FlowsFault {
     /// This rule is the first that is broken, seen in this line; 0 stands for the file as a whole.
     #[error("line {line} breaks {rule:?}")]

@@ -3,10 +3,13 @@
 //! definitions share: see `specs/`, and docs/FORMATS.md for the same in prose. All formats are this project's own.
 #![tactic(auto)]
 
+ghost use Rattle.std.specs.Prelude.{◌≡◌};
+
 use nf_work::PassedAt;
+use std::alloc::AllocError;
 
 /// A rule of the network file; docs/FORMATS.md states each.
-#[derive(Clone, Copy, Debug, PartialEq, Eq)]
+#[derive(Clone, Copy, Debug)]
 pub enum NetRule {
     /// A line holds a byte that isn't printable ASCII, a space or a tab.
     N1,
@@ -55,7 +58,7 @@ pub enum NetRule {
 }
 
 /// Why a run ended below its horizon, as a report's `cause` line says it. Phases count from 1, and places of patterns too.
-#[derive(Clone, Copy, Debug, PartialEq, Eq)]
+#[derive(Copy)]
 pub enum Cause<S> {
     /// As many phases as allowed were made.
     Phases {
@@ -76,4 +79,12 @@ pub enum Cause<S> {
     NoPattern {
         phase: u64,
     },
+}
+
+impl<S: Copy> Clone for Cause<S> {
+    ghost is_clone = { λ x y. y ≡ x };
+
+    fn clone(&self) -> Result<Self, AllocError> {
+        Ok(*self)
+    }
 }

@@ -1,4 +1,4 @@
--- How two quotients compare.
+-- The order of two quotients.
 use Rattle.std.proofs.Common.{◌≡◌, ◌≢◌, ℕ, zero, suc, ◌+◌, ◌*◌, ◌/◌, ◌%◌, ◌<◌, ◌≤◌, ◌⊎◌, inl, inr, ⊎_elim, refl, sym, ◌∙◌, ap, subst, arith, Less, Equal, Greater}
 use mathlib.Core.Path.{ap₂}
 use native.Mathlib.Nat.{div-add-mod, mod-lt, mul-le-mul_right, mul-lt-mul_of_pos_right}
@@ -23,7 +23,7 @@ cmp_greater x y h = grind arith
 pub cmp_equal : (x y : ℕ) → x ≡ y → nat_cmp x y ≡ Equal
 cmp_equal x y h = grind arith
 
--- a common summand does not matter
+-- adding the same number to both sides preserves the order
 pub cmp_shift : (k u v : ℕ) → nat_cmp (k + u) (k + v) ≡ nat_cmp u v
 cmp_shift k u v = ⊎_elim
     (λ (h : u < v). cmp_less (k + u) (k + v) (omega arith) ∙ sym (cmp_less u v h))
@@ -63,7 +63,7 @@ same_whole a b c d q r s e f =
     spread' : (b q s d : ℕ) → (d * q + s) * b ≡ b * q * d + s * b
     spread' b q s d = omega arith
 
--- equal quotients: what is left over decides
+-- if the quotients are equal, the order is that of the remainders
 pub left_over : (a b c d : ℕ) → a / b ≡ c / d → nat_cmp (a * d) (c * b) ≡ nat_cmp (a % b * d) (c % d * b)
 left_over a b c d e = same_whole a b c d (a / b) (a % b) (c % d) (div-add-mod a b) (ap (λ (t : ℕ). d * t + c % d) e ∙ div-add-mod c d)
 
@@ -73,7 +73,7 @@ turned a b c d e = ap₂ nat_cmp (swapped d (a % b)) (swapped b (c % d)) ∙ sym
     swapped : (x y : ℕ) → x * y ≡ y * x
     swapped x y = omega arith
 
--- where one rest is 0
+-- the case that a remainder is 0
 rest_zero : (r s b d : ℕ) → 0 < b → 0 < d → (r ≡ 0) ⊎ (s ≡ 0) → nat_cmp r s ≡ nat_cmp (r * d) (s * b)
 rest_zero zero zero b d h k w = ap₂ nat_cmp (zero_times d) (zero_times b)
   where
@@ -95,7 +95,7 @@ rest_zero (suc r) (suc s) b d h k w = absurd (neither w)
 pub ended : (a b c d : ℕ) → 0 < b → 0 < d → a / b ≡ c / d → (a % b ≡ 0) ⊎ (c % d ≡ 0) → nat_cmp (a % b) (c % d) ≡ nat_cmp (a * d) (c * b)
 ended a b c d h k e w = rest_zero (a % b) (c % d) b d h k w ∙ sym (left_over a b c d e)
 
--- what a test by `||` says
+-- the result of a test by `||`
 pub one_of : {P Q : Type 0} → P ⊎ ((P → ⊥) × Q) → P ⊎ Q
 one_of (inl p) = inl p
 one_of (inr w) = inr w.1
@@ -195,11 +195,11 @@ left_negative n m d e some h k = sym (int_less _ _ (join_lt _ _ (below_zero n e 
 pub right_negative : (n m : ℤ) (d e : ℕ) → 0 < d → lt_z n (pos 0) ≡ false → lt_z m (pos 0) ≡ true → Greater ≡ int_cmp (n *ℤ pos e) (m *ℤ pos d)
 right_negative n m d e some h k = sym (int_greater _ _ (join_lt _ _ (below_zero m d some k) (not_below_zero n e h)))
 
--- ---- at the numbers' own parts
+-- ---- for the parts of two numbers
 pub cmp_is : (x y : ℚ) (n m : ℤ) (d e : ℕ) → n ≡ x.num → m ≡ y.num → x.den ≡ d → y.den ≡ e → int_cmp (n *ℤ pos e) (m *ℤ pos d) ≡ cmp_ℚ x y
 cmp_is x y n m d e xn yn xd yd = ap₂ int_cmp (ap₂ (λ (z : ℤ) (t : ℕ). z *ℤ pos t) xn (sym yd)) (ap₂ (λ (z : ℤ) (t : ℕ). z *ℤ pos t) yn (sym xd))
 
--- numerators over the same denominator compare as the fractions do
+-- if the denominators are equal, the order of the fractions is that of the numerators
 pub over_same : (a b : ℤ) (d : ℕ) → 0 < d → int_cmp a b ≡ int_cmp (a *ℤ pos d) (b *ℤ pos d)
 over_same a b d some = int_cmp_is (a *ℤ pos d) (b *ℤ pos d) (int_cmp a b) (go (int_cmp a b) (int_ranks a b))
   where

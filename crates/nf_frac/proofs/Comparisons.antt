@@ -1,4 +1,4 @@
--- What the comparisons of fractions in code say: `<`, `<=`, `>`, `>=` and `==`, at fractions and at any type that is ordered by what its values mean.
+-- The results of `<`, `<=`, `>`, `>=` and `==` for fractions, and for any type that is ordered by the numbers of its values.
 use Rattle.std.proofs.Common.{◌≡◌, ◌≢◌, Bool, true, false, not, cond, ◌&&◌, refl, sym, ◌∙◌, ap}
 use Rattle.std.specs.Prelude.{Option, Some}
 use Rattle.std.specs.Ordering.{is_eq, is_lt, is_le, is_gt, is_ge, is_some_and, MatchOrdering, partial_lt, partial_le}
@@ -80,7 +80,7 @@ same_by_order x y = cmp_matches_same x y ∙ go (cmp_ℚ x y) (ranks_ℚ x y)
 pub apart_of_test : (x y : ℚ) → same_ℚ x y ≡ false → x ≢ y
 apart_of_test x y t e = let s : same_ℚ x y ≡ true = (same_decides x y).1 e in cc
 
--- a type that is ordered by what its values mean
+-- a type that is ordered by the numbers of its values
 module _ {K : Type 0} (means : K → ℚ) (partial : K → K → Option Ordering) (cmp : K → K → Ordering)
     (agrees : (x y : K) → partial x y ≡ Some (cmp x y)) (ordered : (x y : K) → cmp x y ≡ cmp_ℚ (means x) (means y)) where
   known : (x y : K) → partial x y ≡ Some (cmp_ℚ (means x) (means y))

@@ -1,4 +1,4 @@
--- The only common factors of a sum over the least common denominator and that denominator are those of the two denominators' common factor.
+-- A sum over the least common denominator can only be reduced by factors of the greatest common divisor of the two denominators.
 use Rattle.std.proofs.Common.{◌≡◌, ℕ, suc, ◌+◌, ◌-◌, ◌*◌, ◌/◌, ℤ, pos, negsuc, ◌+ℤ◌, ◌*ℤ◌, neg_ℤ, nat_abs, sym, ◌∙◌, ap, subst, arith}
 use Prim.Native.Nat.{◌∣◌}
 use lib.IntN.{+ℤ_comm}
@@ -18,7 +18,7 @@ itself a = subst (λ (m : ℕ). a ∣ m) (one_times a) (dvd-mul_right a 1)
     one_times : (a : ℕ) → a * 1 ≡ a
     one_times a = omega arith
 
--- what divides two whole numbers divides their sum
+-- a divisor of two whole numbers divides their sum
 apart_is : (a b : ℕ) → nat_abs (pos a +ℤ negsuc b) ≡ (a - suc b) + (suc b - a)
 apart_is a b = grind (arith, ints)
 
@@ -37,7 +37,7 @@ dvd_rest a b f h k = subst (λ (z : ℤ). f ∣ nat_abs z) (back a b) (dvd-plus 
     back : (a b : ℤ) → (a +ℤ b) +ℤ neg_ℤ a ≡ b
     back a b = omega (arith, ints)
 
--- a factor e of the sum n l + m r has none in common with l
+-- a factor e of the sum n l + m r has no common factor with l
 coprime_with : (n m : ℤ) (l r k e : ℕ) → IsGcd r l 1 → IsGcd (nat_abs m) k 1 → l ∣ k → e ∣ nat_abs (n *ℤ pos l +ℤ m *ℤ pos r) → IsGcd e l 1
 coprime_with n m l r k e apart lowest h d = (one-dvd e, one-dvd l, λ f p q. lowest.2 f (in_num f p q) (dvd_trans f q h))
   where

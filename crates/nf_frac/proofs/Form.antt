@@ -1,4 +1,4 @@
--- What the parts of a fraction in code say of the number, and back.
+-- The number of a fraction's stored parts, and the parts of a number.
 use Rattle.std.proofs.Common.{◌≡◌, ℕ, zero, suc, ◌/◌, ◌<◌, ◌≤◌, Bool, true, false, ℤ, pos, neg_ℤ, nat_abs, refl, sym, ◌∙◌, ap, subst, arith}
 use Rattle.std.specs.Prelude.{Option, None, SomeIff}
 use mathlib.Core.Path.{ap₂}
@@ -24,7 +24,7 @@ parts_of {x} {n} {d} h e = record {
 pub num_plain : {x : ℚ} {n : ℤ} {d : ℕ} → InForm n d → ratio n d ≡ x → bits_of n ≡ x.num
 num_plain {x} {n} {d} h e = plain n h.small ∙ sym (parts_of h e).num
 
--- ---- a fraction that is made of a number's own parts
+-- ---- a fraction stored with the parts of a number
 along : (n : ℤ) (limit : ℕ) (m : ℤ) → n ≡ m → nat_abs m ≤ limit → nat_abs n ≤ limit
 along n limit m e h = subst (λ (k : ℕ). k ≤ limit) (sym (ap nat_abs e)) h
 
@@ -96,7 +96,7 @@ module _ (negative : Bool) (m d g above below : ℕ) (common : g ≡ gcd m d) (a
     subst (λ (j : ℕ). j ≤ limit) (sym den_reduced) w.small_den,
   )
 
--- a ratio whose common factors are known
+-- a ratio with known common factors
 module _ (n : ℤ) (d a common g below : ℕ) (q : ℤ) (size : a ≡ nat_abs n) (e : g ≡ gcd a common) (f : gcd (nat_abs n) common ≡ gcd (nat_abs n) d) (h : q ≡ quot_z n (pos g)) (b : below ≡ d / g) (some : 0 < d) where
   factor : g ≡ gcd (nat_abs n) d
   factor = e ∙ ap (λ (k : ℕ). gcd k common) size ∙ f
@@ -111,7 +111,7 @@ module _ (n : ℤ) (d a common g below : ℕ) (q : ℤ) (size : a ≡ nat_abs n)
 pub stops : {V : Type 0} (r : Option V) (P : Type 0) (v : V) → r ≡ None → (P → ⊥) → SomeIff r P v
 stops {V} r P v e n = subst (λ (o : Option V). SomeIff o P v) (sym e) n
 
--- the parts of a value in code fit
+-- the parts of a stored number are within the greatest magnitude
 pub own_within : {x : ℚ} {n : ℤ} {d : ℕ} → InForm n d → ratio n d ≡ x → IsWithin greatest x
 own_within {x} {n} {d} h e = record {
   small = subst (λ (z : ℤ). nat_abs z ≤ greatest) (sym (parts_of h e).num) h.small;

@@ -31,7 +31,7 @@ module _ (n : ℕ) (some : 0 < n) (fits : n < 18446744073709551616) where
   pub power_rest : 2 ^ trailing_zeros w64 n * (n / 2 ^ trailing_zeros w64 n) ≡ n
   power_rest = mul-div_cancel' (2 ^ trailing_zeros w64 n) (low_zeros n (trailing_zeros w64 n) lowest_place.2)
 
--- ---- an odd number has no factor in common with a power of 2
+-- ---- an odd number and a power of 2 have no common factor
 odd_apart : (y : ℕ) → y % 2 ≡ 1 → IsGcd y 2 1
 odd_apart y h = IsGcd-from_mod y 2 1 (IsGcd-one 2 (y % 2) h)
 
@@ -48,7 +48,7 @@ with_power k x y g odd h = (dvd_trans g h.0 (dvd-mul_left x (2 ^ k)), h.1, λ d 
         (apart_parts y (2 ^ k) d (2 ^ k) (IsGcd-swap (2 ^ k) y 1 (power_apart y k odd)) v (dvd_refl (2 ^ k)))
         (subst (λ (m : ℕ). d ∣ m) (mul_comm (2 ^ k) x) u)
 
--- ---- one step: what is left of the greater number, without its power of 2
+-- ---- one step: the remainder of the greater number, without its power of 2
 from_ordered : (x y g : ℕ) → IsGcd (max x y) (min x y) g → IsGcd x y g
 from_ordered x y g h = go (which x y)
   where
@@ -62,7 +62,7 @@ from_ordered x y g h = go (which x y)
 pub one_found : (a b x y less : ℕ) → less ≡ min x y → less ≡ 1 → ((g : ℕ) → IsGcd x y g → IsGcd a b g) → 1 ≡ gcd a b
 one_found a b x y less l e f = same_from_IsGcd a b _ _ (f 1 (from_ordered x y 1 (IsGcd-one (max x y) (min x y) (sym l ∙ e)))) (IsGcd-gcd a b)
 
--- less and more are those of x and y
+-- less and more are the lesser and the greater of x and y
 module _ (x y less more rest : ℕ) (l : less ≡ min x y) (m : more ≡ max x y) (down : (g : ℕ) → IsGcd less rest g → IsGcd more less g) where
   pub step_down : (g : ℕ) → IsGcd less rest g → IsGcd x y g
   step_down g h = from_ordered x y g (subst (λ (k : ℕ). IsGcd (max x y) k g) l (subst (λ (k : ℕ). IsGcd k less g) m (down g h)))
@@ -80,7 +80,7 @@ odd_min x y h k = go (which x y)
     go (inl e) = ap (λ (m : ℕ). m % 2) e ∙ h
     go (inr e) = ap (λ (m : ℕ). m % 2) e ∙ k
 
--- ---- the powers of 2 that both numbers have
+-- ---- the common power of 2
 shared : (i k x y g : ℕ) → x % 2 ≡ 1 → IsGcd x y g → IsGcd (2 ^ i * x) (2 ^ (i + k) * y) (2 ^ i * g)
 shared i k x y g odd h =
     subst (λ (m : ℕ). IsGcd (2 ^ i * x) m (2 ^ i * g)) (sym (joined i k y))
@@ -111,7 +111,7 @@ both_powers i j x y g odd_x odd_y h = go (which i j)
         (IsGcd-swap (2 ^ j * y) (2 ^ i * x) (2 ^ j * g)
         (subst (λ (m : ℕ). IsGcd (2 ^ j * y) (2 ^ m * x) (2 ^ j * g)) (sym w.1) (shared j (i - j) y x g odd_y (IsGcd-swap x y g h))))
 
--- a and b are their odd parts with their powers, and the odd parts come to the same number
+-- a and b are products of their odd parts and powers of 2, and z is the greatest common divisor of the odd parts
 pub whole_gcd : (a b i j x y z : ℕ) → a ≡ 2 ^ i * x → b ≡ 2 ^ j * y → x % 2 ≡ 1 → y % 2 ≡ 1 → IsGcd x y z → 2 ^ min i j * z ≡ gcd a b
 whole_gcd a b i j x y z e f odd_x odd_y h =
     same_from_IsGcd a b _ _
@@ -122,7 +122,7 @@ pub shifted_back : (a b t m z : ℕ) → m ≡ t → 2 ^ t * z ≡ gcd a b → 0
 shifted_back a b t m z n e some fits =
     ap (λ (k : ℕ). k % 18446744073709551616) (ap (λ (k : ℕ). z * 2 ^ k) n ∙ mul_comm z (2 ^ t) ∙ e) ∙ mod-eq_of_lt (omega (arith, gcd-le a b some, fits))
 
--- ---- where both have come to the same number, and where one is 0
+-- ---- the cases that both numbers are equal, and that one is 0
 pub same_number : (a b x y : ℕ) → x ≡ y → ((g : ℕ) → IsGcd x y g → IsGcd a b g) → x ≡ gcd a b
 same_number a b x y e f = same_from_IsGcd a b _ _ (f x (subst (λ (m : ℕ). IsGcd x m x) e (dvd_refl x, dvd_refl x, λ d u v. u))) (IsGcd-gcd a b)
 

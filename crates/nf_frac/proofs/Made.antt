@@ -1,4 +1,4 @@
--- A quotient of whole numbers is the ratio of their magnitudes with a sign; the bound on the parts.
+-- A quotient of whole numbers as the ratio of their magnitudes with a sign. The bound on the parts.
 use Rattle.std.proofs.Common.{◌≡◌, ◌≢◌, ℕ, suc, ◌-◌, ◌*◌, ◌%◌, ◌^◌, ◌<◌, ◌≤◌, min, max, Bool, true, false, not, ℤ, pos, negsuc, ◌*ℤ◌, neg_ℤ, nat_abs, [], ◌∷◌, refl, sym, ◌∙◌, ap, subst, arith}
 use mathlib.Core.Path.{ap₂}
 use mathlib.Core.Bool.{beq}
@@ -73,7 +73,7 @@ pub short_natural_value : (k : ℕ) → ratio (pos k) 1 ≡ whole (pos k)
 unfolding whole
 short_natural_value k = refl
 
--- ---- a quotient as the code makes it: the sign is that of one of the two being below 0, and not of both
+-- ---- the computed quotient: it is negative if exactly one of the two numbers is below 0
 abbrev pub differ : ℤ → ℤ → Bool
 differ n d = not (beq (lt_z n (pos 0)) (lt_z d (pos 0)))
 
@@ -102,7 +102,7 @@ quotient_is n d h =
     (Is-same _ _ _ _ (Is-times _ _ _ _ (Is-ratio (signed (differ n d) (nat_abs n)) (nat_abs d) (abs_positive d h)) (Is-whole d)) (Is-whole n)
     (with_ones _ d n (pos (nat_abs d)) (signed_times n d)))
 
--- n and d as their bits, a and b their magnitudes
+-- n' and d' are the stored n and d, a and b their magnitudes
 module _ (n d n' d' : ℤ) (a b limit : ℕ) (nn : n' ≡ n) (dd : d' ≡ d) (aa : a ≡ nat_abs n') (bb : b ≡ nat_abs d') (some : d ≢ pos 0) where
   ratio_is : ratio (signed (differ n' d') a) b ≡ whole n /ℚ whole d
   ratio_is =

@@ -1,4 +1,4 @@
--- What the answers of the four operations say of the list of those that pass.
+-- The results of the four operations, and which operations exceed the bound.
 use Rattle.std.proofs.Common.{◌≡◌, ℕ, ◌*◌, ◌/◌, ◌≤◌, Bool, true, false, cond, ltb, pos, ◌*ℤ◌, nat_abs, refl, sym, ◌∙◌, ap, subst, arith}
 use Rattle.std.specs.Prelude.{Ok, Err}
 use Rattle.std.proofs.Math.Nat.{le_trans}
@@ -32,7 +32,7 @@ sum_within b x y w =
     subst (λ (q : ℚ). IsWithin b q) (plus_over_lcm x y)
     (ratio_within b _ _ (mul-pos x.positive (part_pos x.den y.den y.positive)) w.total w.denominator)
 
--- ---- a test that fails, and one that holds
+-- ---- a test that fails, and a test that succeeds
 so : (t : Bool) → (t ≡ false → ⊥) → t ≡ true
 so true n = refl
 so false n = absurd (n refl)
@@ -78,11 +78,11 @@ module _ (b : ℕ) (x y : ℚ) where
   unfolding checked beyond ◌/ℚ◌
   quotient_passed n = answer_err (is_wide b (x *ℚ inv_ℚ y)) _ (x *ℚ inv_ℚ y) (so _ (λ e. n (narrow_out b (x *ℚ inv_ℚ y) e)))
 
--- ---- what a value is within
+-- ---- a number within a bound
 pub within_along : (b : ℕ) (p q : ℚ) → p ≡ q → IsWithin b q → IsWithin b p
 within_along b p q e w = subst (λ (z : ℚ). IsWithin b z) (sym e) w
 
--- ---- what passes no bound passes no wider one
+-- ---- an operation within a bound is within every greater bound
 module _ (b c : ℕ) (wider : b ≤ c) where
   within_wider : (q : ℚ) → IsWithin b q → IsWithin c q
   within_wider q w = record { small = le_trans w.small wider; small_den = le_trans w.small_den wider }

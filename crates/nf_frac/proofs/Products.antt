@@ -1,4 +1,4 @@
--- What the code of a product computes: each numerator is reduced with the other's denominator before they meet.
+-- The computed product: each numerator is reduced with the other denominator before the multiplication.
 use Rattle.std.proofs.Common.{◌≡◌, ℕ, ◌*◌, ◌/◌, ◌≤◌, ℤ, pos, ◌*ℤ◌, nat_abs, sym, ◌∙◌, ap, subst, arith}
 use mathlib.Core.Path.{ap₂}
 use lib.Signed.{quot_z}
@@ -10,7 +10,7 @@ use Rattle.nf_rational_laws.proofs.Products.{num_times, den_times}
 use Rattle.nf_frac.specs.Parts.{greatest, IsWithin}
 use Rattle.nf_frac.proofs.Bits.{bits_of, plain}
 
--- one numerator n, which x has, and the other's denominator e, which y has
+-- the numerator n of x and the denominator e of y
 module _ (x y : ℚ) (n q : ℤ) (a e g : ℕ) (xn : n ≡ x.num) (small : nat_abs x.num ≤ greatest) (ye : y.den ≡ e) (size : a ≡ nat_abs n) (common : g ≡ gcd a e) (part : q ≡ quot_z n (pos g)) where
   pub factor_is : g ≡ gcd (nat_abs x.num) y.den
   factor_is = common ∙ ap₂ gcd (size ∙ ap nat_abs xn) (sym ye)

@@ -1,4 +1,4 @@
--- What the code of the test for equality computes.
+-- The computed test for equality.
 use Rattle.std.proofs.Common.{◌≡◌, ℕ, Bool, true, false, ◌&&◌, eqb, ℤ, refl, sym, ◌∙◌, ap}
 use mathlib.Core.Path.{ap₂}
 use mir.Syntax.{Width}

@@ -1,20 +1,21 @@
--- What the parts of a small fraction in code say of the number, and back.
-use Rattle.std.proofs.Common.{◌≡◌, ℕ, ◌/◌, ◌%◌, ◌<◌, ◌≤◌, ℤ, pos, negsuc, ◌*ℤ◌, nat_abs, ◌⊎◌, inl, inr, refl, sym, ◌∙◌, ap, subst, arith}
+-- The number of a small fraction's stored parts, and the parts of a number.
+use Rattle.std.proofs.Common.{◌≡◌, ℕ, ◌+◌, ◌/◌, ◌%◌, ◌≤◌, ℤ, pos, negsuc, ◌+ℤ◌, ◌*ℤ◌, nat_abs, refl, sym, ◌∙◌, ap, subst, arith}
 use mathlib.Core.Path.{ap₂}
 use mir.Syntax.{w64, w128}
 use mir.Val.{to_z, of_z, SFits}
 use mir.Facts.{to_z-of_z, to_z_pos}
 use lib.Signed.{quot_z}
 use native.Mathlib.Nat.{div-le_self, one-dvd}
+use borrow.Author.Differences.{ints}
 use Rattle.std.specs.Int.{IsGcd}
 use Rattle.std.proofs.lemmas.Nat.Gcd.{same_from_IsGcd, IsGcd-from_mod, dvd_refl}
 use Rattle.nf_rational.specs.Gcd.{gcd, IsGcd-gcd}
 use Rattle.nf_rational.specs.Rational.{ℚ, ratio, abs_quot}
 use Rattle.nf_rational.proofs.Lowest.{parts_ratio}
-use Rattle.nf_frac.specs.Parts.{greatest, InForm, IsWithin}
+use Rattle.nf_frac.specs.Parts.{greatest, IsWithin}
 use Rattle.nf_frac.specs.Short.{short, IsShort, short_back}
 use Rattle.nf_frac.proofs.Bits.{bits_of, fits_128, plain, short_product}
-use Rattle.nf_frac.proofs.Form.{Parts, parts_of}
+use Rattle.nf_frac.proofs.Form.{Parts}
 
 abbrev pub bits_64 : ℤ → ℤ
 bits_64 z = to_z w64 (of_z w64 z)
@@ -29,7 +30,7 @@ plain_64 z h = to_z-of_z (fits_64 z h)
 pub kept_short : (z : ℤ) → nat_abs z ≤ short → nat_abs (bits_64 z) ≤ short
 kept_short z h = subst (λ (y : ℤ). nat_abs y ≤ short) (sym (plain_64 z h)) h
 
--- a short number that is cast to 128 bits, and from them
+-- a short number, cast to 128 bits and back
 pub within_wide : (z : ℤ) → nat_abs z ≤ short → nat_abs z ≤ greatest
 within_wide z h = omega (arith, h)
 
@@ -39,14 +40,8 @@ plain_widened z h = ap bits_of (plain_64 z h) ∙ plain z (within_wide z h)
 pub plain_narrowed : (z : ℤ) → nat_abs z ≤ short → bits_64 (bits_of z) ≡ z
 plain_narrowed z h = ap bits_64 (plain z (within_wide z h)) ∙ plain_64 z h
 
-pub widened_fits : (z : ℤ) → nat_abs z ≤ short → SFits w128 (bits_64 z)
-widened_fits z h = subst (SFits w128) (sym (plain_64 z h)) (fits_128 z (within_wide z h))
-
 pub narrowed_fits : (z : ℤ) → nat_abs z ≤ short → SFits w64 (bits_of z)
 narrowed_fits z h = subst (SFits w64) (sym (plain z (within_wide z h))) (fits_64 z h)
-
-pub widened_within : (z : ℤ) → nat_abs z ≤ short → nat_abs (bits_of (bits_64 z)) ≤ greatest
-widened_within z h = subst (λ (y : ℤ). nat_abs y ≤ greatest) (sym (plain_widened z h)) (within_wide z h)
 
 pub short_parts : {x : ℚ} {n : ℤ} {d : ℕ} → IsShort n d → ratio n d ≡ x → Parts x n d
 short_parts {x} {n} {d} h e = record {
@@ -63,11 +58,11 @@ own_short {x} {n} {d} h e = record {
   small_den = subst (λ (k : ℕ). k ≤ short) (sym (short_parts h e).den) h.small_den;
 }
 
--- what the calls for the parts say
+-- a number with short parts
 pub called_short : (x : ℚ) (n : ℤ) (d : ℕ) → n ≡ x.num → nat_abs n ≤ short → d ≡ x.den → d ≤ short → IsWithin short x
 called_short x n d e h f k = record { small = subst (λ (z : ℤ). nat_abs z ≤ short) e h; small_den = subst (λ (j : ℕ). j ≤ short) f k }
 
--- ---- a small fraction that is made of a number's own parts
+-- ---- a small fraction stored with the parts of a number
 own_plain : (q : ℚ) (n : ℤ) → n ≡ q.num → nat_abs q.num ≤ short → bits_64 n ≡ q.num
 own_plain q n e h = plain_64 n (subst (λ (z : ℤ). nat_abs z ≤ short) (sym e) h) ∙ e
 
@@ -79,11 +74,11 @@ short_form q n d e f h =
 pub short_value : (q : ℚ) (n : ℤ) (d : ℕ) → n ≡ q.num → d ≡ q.den → IsWithin short q → ratio (bits_64 n) d ≡ q
 short_value q n d e f h = ap₂ ratio (own_plain q n e h.small) f ∙ parts_ratio q
 
--- the fraction of these parts, as it is stored
+-- the stored fraction with these parts
 pub stored : (n : ℤ) (d : ℕ) → IsShort n d → IsWithin short (ratio (bits_64 n) d)
 stored n d h = subst (λ (z : ℤ). IsWithin short (ratio z d)) (sym (plain_64 n h.small)) (own_short h refl)
 
--- ---- greatest common divisors that nothing is divided for
+-- ---- greatest common divisors without a division
 pub gcd_one : (a b : ℕ) → b ≡ 1 → 1 ≡ gcd a b
 gcd_one a b e = same_from_IsGcd a b _ _ (subst (λ (k : ℕ). IsGcd a k 1) (sym e) (one-dvd a, one-dvd 1, λ g u v. v)) (IsGcd-gcd a b)
 
@@ -93,30 +88,13 @@ gcd_itself a b e = same_from_IsGcd a b _ _ (subst (λ (k : ℕ). IsGcd k b b) (s
 pub gcd_step : (a b g : ℕ) → g ≡ gcd b (a % b) → g ≡ gcd a b
 gcd_step a b g e = e ∙ same_from_IsGcd a b _ _ (IsGcd-from_mod a b _ (IsGcd-gcd b (a % b))) (IsGcd-gcd a b)
 
--- a numerator has no factor in common with its own denominator
+-- a numerator and its own denominator have no common factor
 pub own_factor : (x y : ℚ) (d e : ℕ) → x.den ≡ d → y.den ≡ e → d ≡ e → 1 ≡ gcd (nat_abs x.num) y.den
 own_factor x y d e p q h = sym x.reduced ∙ ap (λ (k : ℕ). gcd (nat_abs x.num) k) (p ∙ h ∙ sym q)
 
--- a product of short numbers is stored as it is
+-- a product of short numbers fits 128 bits
 pub times_plain : (r a : ℤ) (b : ℕ) → r ≡ a *ℤ pos b → nat_abs a ≤ short → b ≤ short → bits_of r ≡ a *ℤ pos b
 times_plain r a b e h k = ap bits_of e ∙ plain (a *ℤ pos b) (short_product a (pos b) h k)
-
--- a fraction with a part that isn't short
-pub not_short : (q : ℚ) (n : ℤ) (d m : ℕ) → InForm n d → q ≡ ratio (bits_of n) d → m ≡ nat_abs (bits_of n) → ((m ≤ short) × (short < d)) ⊎ (short < m) → IsWithin short q → ⊥
-not_short q n d m h e f either w = go either
-  where
-    same : q ≡ ratio n d
-    same = e ∙ ap (λ (z : ℤ). ratio z d) (plain n h.small)
-
-    small : m ≤ short
-    small = subst (λ (k : ℕ). k ≤ short) (ap nat_abs (parts_of h (sym same)).num ∙ sym (f ∙ ap nat_abs (plain n h.small))) w.small
-
-    small_den : d ≤ short
-    small_den = subst (λ (k : ℕ). k ≤ short) (parts_of h (sym same)).den w.small_den
-
-    go : ((m ≤ short) × (short < d)) ⊎ (short < m) → ⊥
-    go (inl l) = omega (arith, l.1, small_den)
-    go (inr l) = omega (arith, l, small)
 
 -- ---- a product of a short number and a short natural number, each cast to 128 bits
 module _ (a : ℤ) (b : ℕ) (small : nat_abs a ≤ short) (few : b ≤ short) where
@@ -132,9 +110,19 @@ module _ (a : ℤ) (b : ℕ) (small : nat_abs a ≤ short) (few : b ≤ short) w
   pub cast_product : bits_of (bits_of (bits_64 a) *ℤ bits_of (to_z w64 b)) ≡ a *ℤ pos b
   cast_product = ap bits_of cast_factors ∙ plain (a *ℤ pos b) product_within
 
--- ---- two short numbers, each cast to 128 bits
+-- ---- the product of two short numbers, each cast to 128 bits
 pub wide_product_is : (a b : ℤ) → nat_abs a ≤ short → nat_abs b ≤ short → bits_of (bits_of (bits_64 a) *ℤ bits_of (bits_64 b)) ≡ a *ℤ b
 wide_product_is a b h k = ap₂ (λ (x y : ℤ). bits_of (x *ℤ y)) (plain_widened a h) (plain_widened b k) ∙ plain (a *ℤ b) (short_product a b h k)
+
+-- ---- the sum of two short numbers, each cast to 128 bits
+pub abs_plus : (a b : ℤ) → nat_abs (a +ℤ b) ≤ nat_abs a + nat_abs b
+abs_plus a b = omega (arith, ints)
+
+pub short_total : (a b : ℤ) → nat_abs a ≤ short → nat_abs b ≤ short → nat_abs (a +ℤ b) ≤ greatest
+short_total a b h k = omega (arith, abs_plus a b, h, k)
+
+pub wide_total_is : (a b : ℤ) → nat_abs a ≤ short → nat_abs b ≤ short → bits_of (bits_of (bits_64 a) +ℤ bits_of (bits_64 b)) ≡ a +ℤ b
+wide_total_is a b h k = ap₂ (λ (x y : ℤ). bits_of (x +ℤ y)) (plain_widened a h) (plain_widened b k) ∙ plain (a +ℤ b) (short_total a b h k)
 
 -- ---- a quotient of short numbers
 pub part_short : (a g : ℕ) → a ≤ short → a / g ≤ short

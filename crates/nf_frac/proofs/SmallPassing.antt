@@ -1,4 +1,4 @@
--- The operations on small values where the bound is the widest: none passes it.
+-- No operation on two small values exceeds the widest bound.
 use Rattle.std.proofs.Common.{◌≡◌, ◌≢◌, ℕ, sym, ◌∙◌, ap, subst}
 use mathlib.Core.Path.{ap₂}
 use Rattle.nf_rational.specs.Rational.{ℚ}

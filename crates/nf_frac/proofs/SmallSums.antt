@@ -1,9 +1,8 @@
--- What the code of the operations on small fractions computes: nothing in them is beyond 127 bits.
-use Rattle.std.proofs.Common.{◌≡◌, ℕ, ◌+◌, ◌*◌, ◌/◌, ◌<◌, ◌≤◌, ℤ, pos, ◌+ℤ◌, ◌*ℤ◌, nat_abs, sym, ◌∙◌, ap, subst, arith}
+-- The computed sums and products of small fractions: every number in them has at most 127 bits.
+use Rattle.std.proofs.Common.{◌≡◌, ℕ, ◌*◌, ◌/◌, ◌<◌, ◌≤◌, ℤ, pos, ◌+ℤ◌, ◌*ℤ◌, nat_abs, sym, ◌∙◌, ap, subst, arith}
 use mathlib.Core.Path.{ap₂}
 use Prim.Native.Nat.{◌∣◌}
 use lib.Signed.{quot_z}
-use borrow.Author.Differences.{ints}
 use mir.Syntax.{w128}
 use mir.Val.{SFits}
 use native.Mathlib.Nat.{mul-pos, dvd_trans, mul-div_cancel', eq_of_mul-eq-mul_left}
@@ -20,14 +19,11 @@ use Rattle.nf_frac.proofs.Bits.{bits_of, plain, fits_128, short_product}
 use Rattle.nf_frac.proofs.Factors.{left_over, right_over, sum_over, factors_of_sum}
 use Rattle.nf_frac.proofs.Form.{num_of, den_of, ratio_within, form_of, value_of}
 use Rattle.nf_frac.proofs.Passing.{sum_within}
-use Rattle.nf_frac.proofs.SmallParts.{bits_64, plain_64, kept_short, part_short, quotient_short, times_plain}
+use Rattle.nf_frac.proofs.SmallParts.{abs_plus, bits_64, plain_64, kept_short, part_short, quotient_short, times_plain}
 
 -- ---- sizes
 short_times : (a b : ℕ) → a ≤ short → b ≤ short → a * b ≤ 85070591730234615847396907784232501249
 short_times a b h k = omega (arith, mul-le a b short short h k)
-
-abs_plus : (a b : ℤ) → nat_abs (a +ℤ b) ≤ nat_abs a + nat_abs b
-abs_plus a b = omega (arith, ints)
 
 total_small : (a b : ℤ) → nat_abs a ≤ 85070591730234615847396907784232501249 → nat_abs b ≤ 85070591730234615847396907784232501249 → nat_abs (a +ℤ b) ≤ greatest
 total_small a b h k = omega (arith, abs_plus a b, h, k)
@@ -56,7 +52,7 @@ module _ (x y : ℚ) (xw : IsWithin short x) (yw : IsWithin short y) where
       ratio_within greatest (x.num *ℤ y.num) (x.den * y.den) (mul-pos x.positive y.positive) (short_product x.num y.num xw.small yw.small)
       (omega (arith, short_times x.den y.den xw.small_den yw.small_den))
 
--- ---- a sum: the denominators d and e with their common factor g, and what is left of each
+-- ---- a sum: the denominators d and e, their greatest common divisor g, and their quotients by g
 division_first : (d l g : ℕ) → 0 < g → g ∣ d → d / g * l ≡ d * l / g
 division_first d l g some h =
     eq_of_mul-eq-mul_left g some (d / g * l) (d * l / g) (moved g (d / g) l ∙ ap (λ (k : ℕ). k * l) (mul-div_cancel' g h) ∙ sym (mul-div_cancel' g (dvd_times g d l h)))
@@ -162,7 +158,7 @@ module _ (x y : ℚ) (xw : IsWithin short x) (yw : IsWithin short y) (n m u v q 
   pub product_value : ratio (bits_of q) den ≡ x *ℚ y
   product_value = value_of (x *ℚ y) q den product_num product_den (product_fits x y xw yw)
 
--- a numerator that is divided
+-- a divided numerator
 part_within : (p n : ℤ) (g : ℕ) → p ≡ quot_z (bits_64 n) (pos g) → nat_abs n ≤ short → nat_abs p ≤ short
 part_within p n g e h = subst (λ (z : ℤ). nat_abs z ≤ short) (sym (e ∙ ap (λ (z : ℤ). quot_z z (pos g)) (plain_64 n h))) (quotient_short n g h)
 

@@ -1,4 +1,4 @@
--- What the code of a sum computes.
+-- The computed sum.
 use Rattle.std.proofs.Common.{◌≡◌, ℕ, ◌*◌, ◌/◌, ◌<◌, ◌≤◌, ℤ, pos, ◌+ℤ◌, ◌*ℤ◌, nat_abs, sym, ◌∙◌, ap, subst, arith}
 use mathlib.Core.Path.{ap₂}
 use native.Mathlib.Nat.{mul-pos}
@@ -9,13 +9,13 @@ use Rattle.nf_rational_laws.proofs.Lowest.{plus_over_lcm}
 use Rattle.nf_frac.specs.Parts.{SumFits}
 use Rattle.nf_frac.proofs.Factors.{left_over, right_over, sum_over, factors_of_sum}
 
--- a number goes to its bits and is read again: it stays what it is where it is at most `top` in magnitude
+-- converting a number to its bits and back does not change it if it is at most `top` in magnitude
 module _ (bits : ℤ → ℤ) (top : ℕ) (plain : (z : ℤ) → nat_abs z ≤ top → bits z ≡ z) where
-  -- two numbers that fit, as a call has them
+  -- a computed number that fits
   fits_along : (limit : ℕ) (a u : ℤ) → limit ≤ top → (nat_abs u ≤ limit) × (a ≡ u) → bits a ≡ u
   fits_along limit a u narrow w = plain a (subst (λ (k : ℕ). k ≤ top) (sym (ap nat_abs w.1)) (omega (arith, w.0))) ∙ w.1
 
-  -- x and y have the denominators d and e, whose common factor is g
+  -- x and y have the denominators d and e with the greatest common divisor g
   module _ (x y : ℚ) (d e g l r limit : ℕ) (narrow : limit ≤ top) (xd : x.den ≡ d) (yd : y.den ≡ e) (common : g ≡ gcd d e) (left : l ≡ e / g) (right : r ≡ d / g) where
     g_is : g ≡ gcd x.den y.den
     g_is = common ∙ sym (ap₂ gcd xd yd)

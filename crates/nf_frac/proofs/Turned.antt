@@ -1,4 +1,4 @@
--- A fraction with the other sign, and one over it.
+-- The negation and the reciprocal of a fraction.
 use Rattle.std.proofs.Common.{◌≡◌, ◌≢◌, ℕ, zero, suc, ◌<◌, ◌≤◌, Bool, true, false, ℤ, pos, negsuc, ◌-ℤ◌, neg_ℤ, nat_abs, refl, sym, ◌∙◌, ap, subst, arith}
 use mathlib.Core.Path.{ap₂}
 use lib.Signed.{lt_z}
@@ -12,7 +12,7 @@ use Rattle.nf_frac.specs.Parts.{IsWithin, signed}
 use Rattle.nf_rational_laws.proofs.Quotient.{abs_positive, num_zero}
 use Rattle.nf_frac.proofs.Bits.{abs-neg}
 
--- ---- the other sign
+-- ---- the negation
 neg_lowest : (x : ℚ) → gcd (nat_abs (neg_ℤ x.num)) x.den ≡ 1
 neg_lowest x = ap (λ (k : ℕ). gcd k x.den) (abs-neg x.num) ∙ x.reduced
 
@@ -36,7 +36,7 @@ minus_is x n e = from_zero n ∙ ap neg_ℤ e ∙ sym (num-neg x)
     from_zero : (n : ℤ) → pos 0 -ℤ n ≡ neg_ℤ n
     from_zero n = omega (arith, ints)
 
--- ---- one over it
+-- ---- the reciprocal
 pub num_apart : (x : ℚ) → x ≢ 0ℚ → 0 < nat_abs x.num
 num_apart x h = abs_positive x.num (λ e. h (num_zero x e))
 
@@ -76,16 +76,9 @@ signed_so (pos n) d = ap (λ (t : Bool). signed t d) (no (lt_z (pos n) (pos 0)) 
     no false e = e
 signed_so (negsuc n) d = refl
 
--- in code
+-- the computed parts
 pub inverse_num : (x : ℚ) (n s : ℤ) (d : ℕ) → x ≢ 0ℚ → n ≡ x.num → x.den ≡ d → s ≡ signed (lt_z n (pos 0)) d → s ≡ (inv_ℚ x).num
 inverse_num x n s d h e f k = k ∙ signed_so n d ∙ ap₂ signed_as e (sym f) ∙ sym (num-inv x h)
 
 pub inverse_den : (x : ℚ) (n : ℤ) (a : ℕ) → x ≢ 0ℚ → n ≡ x.num → a ≡ nat_abs n → a ≡ (inv_ℚ x).den
 inverse_den x n a h e f = f ∙ ap nat_abs e ∙ sym (den-inv x h)
-
--- a number with the other sign has a wide part where it has one
-pub neg_beyond : (limit : ℕ) (x q : ℚ) → q ≡ neg_ℚ x → (IsWithin limit x → ⊥) → IsWithin limit q → ⊥
-neg_beyond limit x q e n w = n (record {
-  small = subst (λ (k : ℕ). k ≤ limit) (ap (λ (z : ℚ). nat_abs z.num) e ∙ ap nat_abs (num-neg x) ∙ abs-neg x.num) w.small;
-  small_den = subst (λ (k : ℕ). k ≤ limit) (ap (λ (z : ℚ). z.den) e ∙ den-neg x) w.small_den;
-})

@@ -1,4 +1,4 @@
--- Fractions that are read from words, and written as words.
+-- Parsed and printed fractions.
 use Rattle.std.proofs.Common.{◌≡◌, ℕ, ◌<◌, ◌≤◌, List, ℤ, nat_abs, sym, ◌∙◌, ap, subst, arith}
 use Rattle.std.specs.Prelude.{Ok}
 use mathlib.Core.Path.{ap₂}
@@ -10,12 +10,12 @@ use Rattle.nf_frac.specs.Parts.{greatest, IsWithin}
 use Rattle.nf_frac.proofs.Bits.{bits_of, plain}
 use Rattle.nf_frac.proofs.Form.{ratio_within}
 
--- parts within the limit make a number within it
+-- a ratio of parts within the limit is within the limit
 pub read_within : (limit : ℕ) (n : ℤ) (d : ℕ) (q : ℚ) → limit ≤ greatest → nat_abs n ≤ limit → d ≤ limit → 0 < d → q ≡ ratio (bits_of n) d → IsWithin limit q
 read_within limit n d q narrow h k some e =
     subst (λ (z : ℚ). IsWithin limit z) (sym (e ∙ ap (λ (m : ℤ). ratio m d) (plain n (omega arith)))) (ratio_within limit n d some h k)
 
--- the parts of q, as a call has them
+-- the computed parts of q
 module _ (q : ℚ) (n : ℤ) (d : ℕ) (num : n ≡ q.num) (small : nat_abs n ≤ greatest) (den : d ≡ q.den) (text : List ℕ) (wrote : text ≡ printed_parts (bits_of n) d) where
   pub written : text ≡ printed q
   unfolding printed

@@ -1,4 +1,4 @@
--- A fraction gives its parts back.
+-- The parts of a fraction in lowest terms determine it, and are determined by it.
 use Rattle.std.specs.Prelude.{◌≡◌, ℕ, ℤ}
 use Rattle.nf_rational.specs.Rational.{ratio}
 use Rattle.nf_rational.proofs.Lowest.{num-ratio, den-ratio}

@@ -1,4 +1,4 @@
--- Numbers that fit a bound, and the test for that.
+-- Numbers within a bound, and the test for it.
 use Rattle.std.proofs.Common.{◌≡◌, ℕ, ◌≤◌, Bool, true, false, ◌||◌, ltb, nat_abs, refl, arith}
 use borrow.Author.Tests.{ltb-false}
 use Rattle.nf_rational.specs.Rational.{ℚ}

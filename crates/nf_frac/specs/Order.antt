@@ -1,4 +1,4 @@
--- Equality of rationals, as a test of their parts.
+-- Equality of rational numbers as a test of their parts.
 use Rattle.std.specs.Prelude.{Bool, ◌&&◌, ◌==◌}
 use Rattle.std.specs.Ordering.{int_eq}
 use Rattle.nf_rational.specs.Rational.{ℚ}

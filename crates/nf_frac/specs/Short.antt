@@ -1,15 +1,15 @@
--- The numbers whose parts have at most 63 bits.
+-- Small numbers: their parts have at most 63 bits.
 use Rattle.std.specs.Prelude.{◌≡◌, ℕ, ◌-◌, ◌^◌, ◌<◌, ◌≤◌, ℤ, nat_abs}
 use Rattle.nf_rational.specs.Gcd.{gcd}
 use Rattle.nf_rational.specs.Rational.{ℚ, ratio}
 use Rattle.nf_rational.proofs.Lowest.{num-ratio, den-ratio}
 use Rattle.nf_frac.specs.Parts.{greatest, IsWithin}
 
--- the greatest magnitude of a part of 63 bits
+-- the greatest magnitude of a part with 63 bits
 abbrev pub short : ℕ
 short = 2 ^ 63 - 1
 
--- the parts of a fraction of 63 bits, in lowest terms
+-- the parts of a small number, in lowest terms
 pub record IsShort (n : ℤ) (d : ℕ) : Type 0 where
   pub positive : 0 < d
   pub small : nat_abs n ≤ short
@@ -19,7 +19,7 @@ pub record IsShort (n : ℤ) (d : ℕ) : Type 0 where
 pub short_back : (n : ℤ) (d : ℕ) → IsShort n d → ((ratio n d).num ≡ n) × ((ratio n d).den ≡ d)
 short_back n d h = (num-ratio n d h.positive h.lowest, den-ratio n d h.positive h.lowest)
 
--- two values as small ones, where the bound on parts is the widest
+-- the pair has the values x and y, both are small, and the bound is the widest
 pub record AreSmall (limit : ℕ) (x y : ℚ) (pair : ℚ × ℚ) : Type 0 where
   pub widest : limit ≡ greatest
   pub left : pair.0 ≡ x

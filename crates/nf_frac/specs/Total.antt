@@ -1,4 +1,4 @@
--- The laws of the order of the rationals and of their equality, as the library's comparisons ask for them.
+-- Theorems on the order and equality of rational numbers that the standard library's comparison traits require.
 use Rattle.std.proofs.Common.{◌≡◌, Bool, true, false, ◌&&◌, eqb, pos, ◌*ℤ◌, ◌<ℤ◌, [], ◌∷◌, ◌++◌, refl, sym, ◌∙◌, ap}
 use mathlib.Core.Path.{ap₂}
 use Rattle.std.specs.Prelude.{◌↔◌, IsTrue, Some}
@@ -78,14 +78,14 @@ same_partial_equivalence = partial_equiv_from_equiv same_equivalence
 pub partial_order : IsPartialOrder same_ℚ (λ x y. Some (cmp_ℚ x y))
 partial_order = po cmp_total cmp_matches_same
 
--- ---- what is hashed
+-- ---- the input of the hash
 pub same_hash : (x y : ℚ) → IsTrue (same_ℚ x y) → fed.i128 x.num ++ fed.u128 x.den ≡ fed.i128 y.num ++ fed.u128 y.den
 same_hash x y t = ap (λ (q : ℚ). fed.i128 q.num ++ fed.u128 q.den) ((same_decides x y).0 t)
 
 pub same_small_hash : (x y : ℚ) → IsTrue (same_ℚ x y) → fed.i64 x.num ++ fed.u64 x.den ≡ fed.i64 y.num ++ fed.u64 y.den
 same_small_hash x y t = ap (λ (q : ℚ). fed.i64 q.num ++ fed.u64 q.den) ((same_decides x y).0 t)
 
--- ---- the laws of counted values
+-- ---- the theorems that `Scalar` requires
 pub same_values : (x y : ℚ) → IsTrue (same_ℚ x y) ↔ (x ≡ y)
 same_values x y = ((same_decides x y).0, (same_decides x y).1)
 
@@ -95,7 +95,7 @@ same_input x y e = ap (λ (q : ℚ). fed.i128 q.num ++ fed.u128 q.den) e
 pub same_small_input : (x y : ℚ) → x ≡ y → fed.i64 x.num ++ fed.u64 x.den ≡ fed.i64 y.num ++ fed.u64 y.den
 same_small_input x y e = ap (λ (q : ℚ). fed.i64 q.num ++ fed.u64 q.den) e
 
--- the order is what its three cases say
+-- the order is determined by its three cases
 pub cmp_is : (x y : ℚ) (r : Ordering) → MatchOrdering r (x <ℚ y) (x ≡ y) (y <ℚ x) → r ≡ cmp_ℚ x y
 cmp_is x y r h = one_rank ◌<ℚ◌ <ℚ_irrefl <ℚ_chain x y r (cmp_ℚ x y) h (ranks_ℚ x y)
 

@@ -1,4 +1,4 @@
-// The four operations on fractions. Each gives the exact result, or its operands where it passes the bound.
+// The four operations on fractions. Each returns the exact result, or an error with its operands if it exceeds the bound.
 ghost use Rattle.std.specs.Prelude.{◌≡◌, ◌≢◌, IfSome};
 ghost use Rattle.nf_rational.specs.Operations.{0ℚ, 1ℚ, neg_ℚ};
 ghost use Rattle.nf_work.specs.declared.Op.TheVariants.{Sum, Difference, Product, Quotient};
@@ -7,12 +7,12 @@ ghost use Rattle.nf_work.specs.Checked.{checked};
 ghost use Rattle.nf_frac.specs.Short.{AreSmall};
 
 use crate::fraction::{Frac, bound};
-use crate::number::Number;
+use crate::lowest::Lowest;
 use crate::small::Small;
 use nf_work::{Op, Passed};
 
 impl<const BITS: u32> Frac<BITS> {
-    // Both values in their small form, where the bound is the widest: there no operation on them passes it.
+    // Both values as small numbers, if they are small and the bound is the widest. No operation on them exceeds this bound.
     fn small_pair(self, right: Frac<BITS>) -> Option<(Small, Small)>
         ensures { IfSome result (λ pair. AreSmall (bound_of BITS) self.entry right.entry pair) }
     {
@@ -24,45 +24,53 @@ impl<const BITS: u32> Frac<BITS> {
         Some((left, right))
     }
 
-    /// 0.
+    /// Returns 0.
     pub fn zero() -> Frac<BITS>
         ensures { result ≡ 0ℚ }
     {
         Frac {
-            value: Number::natural(0),
+            value: Lowest::natural(0),
         }
     }
 
-    /// 1.
+    /// Returns 1.
     pub fn one() -> Frac<BITS>
         ensures { result ≡ 1ℚ }
     {
         Frac {
-            value: Number::natural(1),
+            value: Lowest::natural(1),
         }
     }
 
-    /// The exact sum, formed over the least common denominator. It passes exactly where that denominator, one of the two scaled
-    /// numerators or their sum is beyond the bound in magnitude.
+    /// Returns the exact sum, computed over the least common denominator. Returns an error with the operands exactly if this
+    /// denominator, one of the two numerators scaled to it, or their sum exceeds the bound in magnitude.
     pub fn sum(self, right: Frac<BITS>) -> Result<Frac<BITS>, Passed<Frac<BITS>>>
         ensures { result ≡ checked (beyond (bound_of BITS)) Sum self.entry right.entry }
     {
         if let Some((x, y)) = self.small_pair(right) {
             return Ok(Frac { value: x.plus(y) });
         }
-        match self.value.lowest().sum(right.value.lowest(), bound(BITS)) {
-            Some(value) => Ok(Frac {
-                value: Number::held(value),
-            }),
+        self.wide_sum(&right)
+    }
+
+    // The sum for numbers of any length. It is rarely needed, so it stays out of the callers' code.
+    #[cold]
+    #[inline(never)]
+    fn wide_sum(&self, right: &Frac<BITS>) -> Result<Frac<BITS>, Passed<Frac<BITS>>>
+        ensures { result ≡ checked (beyond (bound_of BITS)) Sum self.now right.now }
+    {
+        match self.value.sum(right.value, bound(BITS)) {
+            Some(value) => Ok(Frac { value }),
             None => Err(Passed {
                 op: Op::Sum,
-                left: self,
-                right,
+                left: *self,
+                right: *right,
             }),
         }
     }
 
-    /// The exact difference. It passes exactly where the sum with the negated right value does.
+    /// Returns the exact difference. Returns an error with the operands exactly if the sum of the left value and the negated right
+    /// value does.
     pub fn difference(self, right: Frac<BITS>) -> Result<Frac<BITS>, Passed<Frac<BITS>>>
         ensures { result ≡ checked (beyond (bound_of BITS)) Difference self.entry right.entry }
     {
@@ -71,23 +79,26 @@ impl<const BITS: u32> Frac<BITS> {
                 value: x.plus(y.negated()),
             });
         }
-        match self
-            .value
-            .lowest()
-            .sum(right.value.lowest().negated(), bound(BITS))
-        {
-            Some(value) => Ok(Frac {
-                value: Number::held(value),
-            }),
+        self.wide_difference(&right)
+    }
+
+    // The difference for numbers of any length, as `wide_sum`.
+    #[cold]
+    #[inline(never)]
+    fn wide_difference(&self, right: &Frac<BITS>) -> Result<Frac<BITS>, Passed<Frac<BITS>>>
+        ensures { result ≡ checked (beyond (bound_of BITS)) Difference self.now right.now }
+    {
+        match self.value.sum(right.value.negated(), bound(BITS)) {
+            Some(value) => Ok(Frac { value }),
             None => Err(Passed {
                 op: Op::Difference,
-                left: self,
-                right,
+                left: *self,
+                right: *right,
             }),
         }
     }
 
-    /// The same value with the other sign.
+    /// Returns the negated value.
     pub fn negated(self) -> Frac<BITS>
         ensures { result ≡ neg_ℚ self.entry }
     {
@@ -96,8 +107,8 @@ impl<const BITS: u32> Frac<BITS> {
         }
     }
 
-    /// The exact product, reduced crosswise before it is formed. It passes exactly where a part of the reduced product is beyond
-    /// the bound.
+    /// Returns the exact product. Returns an error with the operands exactly if the numerator or denominator of the reduced product
+    /// exceeds the bound in magnitude.
     pub fn product(self, right: Frac<BITS>) -> Result<Frac<BITS>, Passed<Frac<BITS>>>
         ensures { result ≡ checked (beyond (bound_of BITS)) Product self.entry right.entry }
     {
@@ -106,23 +117,27 @@ impl<const BITS: u32> Frac<BITS> {
                 value: x.multiplied(y),
             });
         }
-        match self
-            .value
-            .lowest()
-            .product(right.value.lowest(), bound(BITS))
-        {
-            Some(value) => Ok(Frac {
-                value: Number::held(value),
-            }),
+        self.wide_product(&right)
+    }
+
+    // The product for numbers of any length, as `wide_sum`.
+    #[cold]
+    #[inline(never)]
+    fn wide_product(&self, right: &Frac<BITS>) -> Result<Frac<BITS>, Passed<Frac<BITS>>>
+        ensures { result ≡ checked (beyond (bound_of BITS)) Product self.now right.now }
+    {
+        match self.value.product(right.value, bound(BITS)) {
+            Some(value) => Ok(Frac { value }),
             None => Err(Passed {
                 op: Op::Product,
-                left: self,
-                right,
+                left: *self,
+                right: *right,
             }),
         }
     }
 
-    /// The exact quotient by a value that isn't 0. It passes exactly where a part of the reduced quotient is beyond the bound.
+    /// Returns the exact quotient by a value that is not 0. Returns an error with the operands exactly if the numerator or
+    /// denominator of the reduced quotient exceeds the bound in magnitude.
     pub fn quotient(self, right: Frac<BITS>) -> Result<Frac<BITS>, Passed<Frac<BITS>>>
         requires { right ≢ 0ℚ }
         ensures { result ≡ checked (beyond (bound_of BITS)) Quotient self.entry right.entry }
@@ -132,18 +147,22 @@ impl<const BITS: u32> Frac<BITS> {
                 value: x.multiplied(y.inverted()),
             });
         }
-        match self
-            .value
-            .lowest()
-            .product(right.value.lowest().inverted(), bound(BITS))
-        {
-            Some(value) => Ok(Frac {
-                value: Number::held(value),
-            }),
+        self.wide_quotient(&right)
+    }
+
+    // The quotient for numbers of any length, as `wide_sum`.
+    #[cold]
+    #[inline(never)]
+    fn wide_quotient(&self, right: &Frac<BITS>) -> Result<Frac<BITS>, Passed<Frac<BITS>>>
+        requires { right.now ≢ 0ℚ }
+        ensures { result ≡ checked (beyond (bound_of BITS)) Quotient self.now right.now }
+    {
+        match self.value.product(right.value.inverted(), bound(BITS)) {
+            Some(value) => Ok(Frac { value }),
             None => Err(Passed {
                 op: Op::Quotient,
-                left: self,
-                right,
+                left: *self,
+                right: *right,
             }),
         }
     }

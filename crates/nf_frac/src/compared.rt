@@ -1,4 +1,4 @@
-// Comparisons of fractions as the definitions of the order's tests state them, and the lesser and the greater of two.
+// Comparisons of fractions, and the lesser and the greater of two.
 ghost use Rattle.std.specs.Prelude.{◌≡◌, ◌↔◌, IsTrue, ◌&&◌};
 ghost use Rattle.nf_rational.specs.Operations.{0ℚ};
 ghost use Rattle.nf_rational.specs.Order.{le_ℚ, lt_ℚ, min_ℚ, max_ℚ};
@@ -6,7 +6,7 @@ ghost use Rattle.nf_rational.specs.Order.{le_ℚ, lt_ℚ, min_ℚ, max_ℚ};
 use crate::fraction::Frac;
 
 impl<const BITS: u32> Frac<BITS> {
-    /// This value is at most the other.
+    /// Returns whether this value is at most the other.
     #[tactic(auto, using(crate::proofs::Comparisons::le_by_order))]
     pub fn is_at_most(self, right: Frac<BITS>) -> bool
         ensures { result ≡ le_ℚ self.entry right.entry }
@@ -14,7 +14,7 @@ impl<const BITS: u32> Frac<BITS> {
         self <= right
     }
 
-    /// This value is less than the other.
+    /// Returns whether this value is less than the other.
     #[tactic(auto, using(crate::proofs::Comparisons::below_is))]
     pub fn is_below(self, right: Frac<BITS>) -> bool
         ensures { result ≡ lt_ℚ self.entry right.entry }
@@ -22,14 +22,14 @@ impl<const BITS: u32> Frac<BITS> {
         !right.is_at_most(self)
     }
 
-    /// The two values are the same number.
+    /// Returns whether the two values are equal.
     pub fn is_same(self, right: Frac<BITS>) -> bool
         ensures { result ≡ (le_ℚ self.entry right.entry && le_ℚ right.entry self.entry) }
     {
         self == right
     }
 
-    /// The lesser of the two.
+    /// Returns the lesser of the two values.
     #[tactic(auto, using(crate::proofs::Comparisons::lesser_is))]
     pub fn lesser(self, right: Frac<BITS>) -> Frac<BITS>
         ensures { result ≡ min_ℚ self.entry right.entry }
@@ -37,7 +37,7 @@ impl<const BITS: u32> Frac<BITS> {
         if self.is_at_most(right) { self } else { right }
     }
 
-    /// The greater of the two.
+    /// Returns the greater of the two values.
     #[tactic(auto, using(crate::proofs::Comparisons::greater_is))]
     pub fn greater(self, right: Frac<BITS>) -> Frac<BITS>
         ensures { result ≡ max_ℚ self.entry right.entry }
@@ -45,7 +45,7 @@ impl<const BITS: u32> Frac<BITS> {
         if self.is_at_most(right) { right } else { self }
     }
 
-    /// This value is 0.
+    /// Returns whether this value is 0.
     pub fn is_zero(self) -> bool
         ensures by_order { result ≡ (le_ℚ self.entry 0ℚ && le_ℚ 0ℚ self.entry) }
         ensures zero { IsTrue result ↔ (self.entry ≡ 0ℚ) }

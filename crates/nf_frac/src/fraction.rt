@@ -5,17 +5,16 @@ ghost use Rattle.nf_work.specs.Passing.{bound_of};
 ghost use Rattle.nf_frac.specs.Parts.{greatest, IsWithin, IsMade};
 
 use crate::lowest::Lowest;
-use crate::number::Number;
 use std::marker::Model;
 
-/// A rational number as a fraction in lowest terms. Its denominator is at least 1, and neither part is beyond 2^b - 1 in
-/// magnitude, where b is BITS, or 8 where that is less, or 127 where that is more. Zero is 0/1.
-#[derive(Clone, Copy, Debug)]
+/// A rational number as a fraction in lowest terms. The denominator is at least 1. Numerator and denominator are at most 2^b - 1
+/// in magnitude, the bound, where b is BITS, but at least 8 and at most 127. Zero is 0/1.
+#[derive(Clone, Copy)]
 pub struct Frac<const BITS: u32> {
-    pub(crate) value: Number,
+    pub(crate) value: Lowest,
 }
 
-/// The fractions that everything is counted in.
+/// Fractions with 127 bits, which all amounts, times and rates are.
 pub type Q = Frac<127>;
 
 impl<const BITS: u32> Model for Frac<BITS> {
@@ -43,8 +42,8 @@ pub(crate) fn bound(bits: u32) -> u128
 }
 
 impl<const BITS: u32> Frac<BITS> {
-    /// The numerator over the denominator, reduced. None exactly where the denominator is 0 or a part of the reduced fraction is
-    /// beyond the bound.
+    /// Returns numerator over denominator, reduced. Returns None exactly if the denominator is 0, or the numerator or denominator of
+    /// the reduced fraction exceeds the bound in magnitude.
     pub fn make(num: i128, den: i128) -> Option<Frac<BITS>>
         ensures { SomeIff result (IsMade (bound_of BITS) num den) (whole num /ℚ whole den) }
     {
@@ -58,12 +57,10 @@ impl<const BITS: u32> Frac<BITS> {
             den.unsigned_abs(),
             bound(BITS),
         )?;
-        Some(Frac {
-            value: Number::held(value),
-        })
+        Some(Frac { value })
     }
 
-    /// The numerator.
+    /// Returns the numerator of the reduced fraction.
     pub fn numer(self) -> i128
         ensures value { result ≡ self.entry.num }
         ensures small { nat_abs result ≤ bound_of BITS }
@@ -71,7 +68,7 @@ impl<const BITS: u32> Frac<BITS> {
         self.value.numer()
     }
 
-    /// The denominator.
+    /// Returns the denominator of the reduced fraction, which is at least 1.
     pub fn denom(self) -> i128
         ensures value { result ≡ pos self.entry.den }
         ensures small { result ≤ℤ pos (bound_of BITS) }

@@ -1,12 +1,12 @@
-//! Checked fractions: exact rational numbers in lowest terms whose parts have a bounded number of bits, and what a value that
-//! is counted in them must do (`Scalar`). No call takes memory, and none rounds: an operation whose result would not fit says so.
+//! Checked fractions: exact rational numbers in lowest terms whose numerators and denominators have a bounded number of bits.
+//! The trait `Scalar` has the operations that amounts, times and rates need. No function allocates memory, and none rounds: an
+//! operation returns an error if its result would exceed the bound.
 #![tactic(auto)]
 
 mod arithmetic;
 mod compared;
 mod fraction;
 mod lowest;
-mod number;
 mod order;
 mod scalar;
 mod short;
@@ -24,8 +24,8 @@ pub use nf_work::{Halt, Op, Part, Passed, PassedAt};
 pub use scalar::Scalar;
 pub use small::Small;
 
-/// The value of an operation that may pass, or a return from the function with the part of the work, the operation and its
-/// operands, turned by `From` into the function's error.
+/// Evaluates to the value of an operation. If the operation exceeds the bound, it returns from the function instead: with the part
+/// of the work, the operation and its operands, converted by `From` into the function's error.
 #[macro_export]
 macro_rules! at {
     ($part:expr, $operation:expr) => {

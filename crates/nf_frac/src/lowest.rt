@@ -1,4 +1,4 @@
-// Fractions in lowest terms with parts of at most 127 bits: what is reduced, summed and multiplied within a limit.
+// Fractions in lowest terms with parts of at most 127 bits: reduction, sums and products within a limit, and comparisons.
 ghost use Rattle.std.specs.Prelude.{◌≡◌, ◌≢◌, ◌*◌, ◌/◌, ◌-◌, ◌^◌, ◌<◌, ◌≤◌, pos, nat_abs, ◌*ℤ◌, SomeIff};
 ghost use Rattle.nf_rational.specs.Gcd.{gcd};
 ghost use Rattle.nf_rational.specs.Rational.{ratio};
@@ -13,8 +13,8 @@ use crate::whole::{
 use std::cmp::Ordering;
 use std::marker::Model;
 
-/// A fraction in lowest terms. Its denominator is positive, and no part is beyond 2^127 - 1 in magnitude.
-#[derive(Clone, Copy, Debug)]
+/// A fraction in lowest terms. The denominator is positive, and no part exceeds 2^127 - 1 in magnitude.
+#[derive(Clone, Copy)]
 pub(crate) struct Lowest {
     num: i128,
     den: u128,
@@ -39,7 +39,7 @@ impl Model for Lowest {
 }
 
 impl Lowest {
-    /// The fraction of these parts.
+    /// The fraction with these parts.
     pub(crate) fn of(num: i128, den: u128) -> Lowest
         requires { InForm num den }
         ensures { result ≡ ratio num den }
@@ -63,7 +63,7 @@ impl Lowest {
         self.den
     }
 
-    /// A natural number of at most one bit.
+    /// 0 or 1.
     pub(crate) fn natural(number: u32) -> Lowest
         requires { number < 2 }
         ensures value { result ≡ whole (pos number) }
@@ -75,7 +75,7 @@ impl Lowest {
         }
     }
 
-    /// The fraction of this sign, magnitude and denominator, where no part of it is beyond the limit once it is reduced.
+    /// The fraction with this sign, magnitude and denominator, reduced. None exactly if a reduced part exceeds the limit.
     pub(crate) fn reduced(negative: bool, magnitude: u128, den: u128, limit: u128) -> Option<Lowest>
         requires positive { 0 < den }
         requires narrow { limit ≤ greatest }
@@ -93,7 +93,7 @@ impl Lowest {
         })
     }
 
-    /// The numerator over the denominator, whose only common factors are those of `common`.
+    /// The numerator over the denominator, reduced. Their common factors are those of the numerator and `common`.
     pub(crate) fn over(num: i128, den: u128, common: u128) -> Lowest
         requires positive { 0 < den }
         requires some { 0 < common }
@@ -110,7 +110,7 @@ impl Lowest {
         }
     }
 
-    // The numerator times a factor, if that is at most the limit in magnitude.
+    // The numerator times a factor. None exactly if the product exceeds the limit in magnitude.
     fn scaled(self, factor: u128, limit: u128) -> Option<i128>
         requires bounded { factor ≤ greatest }
         requires narrow { limit ≤ greatest }
@@ -119,7 +119,7 @@ impl Lowest {
         multiplied(self.num, factor as i128, limit)
     }
 
-    /// The sum, formed over the least common denominator with no part beyond the limit.
+    /// The sum, computed over the least common denominator. None exactly if a number in this computation exceeds the limit.
     pub(crate) fn sum(self, right: Lowest, limit: u128) -> Option<Lowest>
         requires { limit ≤ greatest }
         ensures { SomeIff result (SumFits limit self right) (self +ℚ right) }
@@ -134,7 +134,8 @@ impl Lowest {
         Some(Lowest::over(num, den, common))
     }
 
-    /// The product, each numerator reduced with the other's denominator before they meet.
+    /// The product: each numerator is reduced with the other denominator before the multiplication. None exactly if a part of
+    /// the reduced product exceeds the limit.
     pub(crate) fn product(self, right: Lowest, limit: u128) -> Option<Lowest>
         requires { limit ≤ greatest }
         ensures { SomeIff result (IsWithin limit (self *ℚ right)) (self *ℚ right) }
@@ -150,7 +151,7 @@ impl Lowest {
         Some(Lowest { num, den })
     }
 
-    /// The same with the other sign.
+    /// The negated number.
     pub(crate) fn negated(self) -> Lowest
         ensures { result ≡ neg_ℚ self }
     {
@@ -160,7 +161,7 @@ impl Lowest {
         }
     }
 
-    /// One over it.
+    /// The reciprocal.
     pub(crate) fn inverted(self) -> Lowest
         requires { self ≢ 0ℚ }
         ensures { result ≡ inv_ℚ self }
@@ -171,16 +172,32 @@ impl Lowest {
         }
     }
 
-    /// Whether the two are the same number.
+    /// Whether the two numbers are equal.
     pub(crate) fn is_same(self, right: Lowest) -> bool
         ensures { result ≡ same_ℚ self right }
     {
         self.num == right.num && self.den == right.den
     }
 
-    /// How the two compare.
+    /// The order of the two numbers: by the numerators if the denominators are equal, and by products of at most 128 bits if both
+    /// numbers are small.
     pub(crate) fn compare(self, right: Lowest) -> Ordering
         ensures { result ≡ cmp_ℚ self right }
+    {
+        if self.den == right.den {
+            return self.num.cmp(&right.num);
+        }
+        if let (Some(left), Some(other)) = (self.small(), right.small()) {
+            return left.compare(other);
+        }
+        self.compare_wide(&right)
+    }
+
+    // The order of numbers of any length. It is rarely needed, so it stays out of the callers' code.
+    #[cold]
+    #[inline(never)]
+    fn compare_wide(&self, right: &Lowest) -> Ordering
+        ensures { result ≡ cmp_ℚ self.now right.now }
     {
         if self.num < 0 {
             if right.num < 0 {

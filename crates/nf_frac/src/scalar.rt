@@ -1,4 +1,4 @@
-// What a value must do that amounts, times and rates are counted in.
+// The operations of the type that amounts, times and rates have.
 ghost use Rattle.std.specs.Prelude.{◌≡◌, ◌≢◌, ◌↔◌, IsTrue, refl};
 ghost use Rattle.std.specs.Cmp.{IsTotalOrder};
 ghost use Rattle.nf_rational.specs.Rational.{ℚ};
@@ -13,56 +13,56 @@ use crate::fraction::Frac;
 use nf_work::Passed;
 use std::hash::Hash;
 
-/// Rational numbers with exact operations that may pass a bound. A value means a rational; what is computed depends on the
-/// meanings alone.
+/// Rational numbers with exact operations, each of which may exceed a bound. Each value stands for a rational number, and results
+/// depend on these numbers alone.
 pub trait Scalar: Copy + Eq + Ord + Hash {
-    // The number that a value stands for.
+    // The rational number of a value.
     ghost means: { Self → ℚ };
 
-    // Whether an operation passes on these operands.
+    // Whether an operation exceeds the bound on these operands.
     ghost passes: { Passing };
 
-    /// 0.
+    /// Returns 0.
     fn zero() -> Self
         ensures { means result ≡ 0ℚ };
 
-    /// 1.
+    /// Returns 1.
     fn one() -> Self
         ensures { means result ≡ 1ℚ };
 
-    /// The exact sum, unless it passes.
+    /// Returns the exact sum, or an error with the operands if the sum exceeds the bound.
     fn sum(self, right: Self) -> Result<Self, Passed<Self>>
         ensures { seen means means result ≡ checked passes Sum (means self) (means right) };
 
-    /// The exact difference, unless it passes.
+    /// Returns the exact difference, or an error with the operands if the difference exceeds the bound.
     fn difference(self, right: Self) -> Result<Self, Passed<Self>>
         ensures { seen means means result ≡ checked passes Difference (means self) (means right) };
 
-    /// The exact product, unless it passes.
+    /// Returns the exact product, or an error with the operands if the product exceeds the bound.
     fn product(self, right: Self) -> Result<Self, Passed<Self>>
         ensures { seen means means result ≡ checked passes Product (means self) (means right) };
 
-    /// The exact quotient by a value that isn't 0, unless it passes.
+    /// Returns the exact quotient by a value that is not 0, or an error with the operands if the quotient exceeds the bound.
     fn quotient(self, right: Self) -> Result<Self, Passed<Self>>
         requires { means right ≢ 0ℚ }
         ensures { seen means means result ≡ checked passes Quotient (means self) (means right) };
 
-    // Values are equal exactly where their meanings are.
+    // Values are equal exactly if their numbers are.
     ghost equal_by_meaning: { (x y : Self) → IsTrue (Self.eq x y) ↔ (means x ≡ means y) };
 
-    // The order is total, and it is that of the meanings.
+    // The order is total. It is the order of the numbers.
     ghost ordered: { IsTotalOrder Self.cmp };
 
     ghost ordered_by_meaning: { (x y : Self) → Self.cmp x y ≡ cmp_ℚ (means x) (means y) };
 
-    // A sum keeps the order, and so does a product with a positive value.
+    // Adding a value to both sides preserves the order. So does multiplying both sides by a positive value.
     ghost sums_keep_order: { (x y z s t : Self) → means s ≡ means x +ℚ means z → means t ≡ means y +ℚ means z
         → Self.cmp s t ≡ Self.cmp x y };
 
     ghost products_keep_order: { (x y k s t : Self) → 0ℚ <ℚ means k → means s ≡ means x *ℚ means k → means t ≡ means y *ℚ means k
         → Self.cmp s t ≡ Self.cmp x y };
 
-    // Equal values hash equally.
+    // Equal values have equal hashes.
     ghost equal_hash: { (x y : Self) → means x ≡ means y → Self.hash_input x ≡ Self.hash_input y };
 }
 

@@ -9,7 +9,7 @@ use crate::whole::gcd_short;
 // The greatest number of 63 bits.
 const SHORT: u64 = 0x7fff_ffff_ffff_ffff;
 
-/// The greatest common divisor. Where one is 1 or both are equal there is nothing to divide.
+/// The greatest common divisor. No division is needed if b is 1 or both numbers are equal.
 pub(crate) fn common_factor(a: u64, b: u64) -> u64
     ensures value { result ≡ gcd a b }
     ensures positive { 0 < b → 0 < result }
@@ -38,7 +38,7 @@ pub(crate) fn divided_short(a: u64, b: u64) -> u64
     }
 }
 
-/// The whole number of this sign and magnitude.
+/// The whole number with this sign and magnitude.
 pub(crate) fn signed_short(negative: bool, magnitude: u64) -> i64
     requires { magnitude ≤ short }
     ensures { result ≡ signed negative magnitude }
@@ -93,6 +93,15 @@ pub(crate) fn wide_product(a: i64, b: i64) -> i128
     a as i128 * b as i128
 }
 
+/// The sum of two short signed numbers.
+pub(crate) fn wide_sum(a: i64, b: i64) -> i128
+    requires left { nat_abs a ≤ short }
+    requires right { nat_abs b ≤ short }
+    ensures { result ≡ a +ℤ b }
+{
+    a as i128 + b as i128
+}
+
 /// The product of two natural numbers.
 pub(crate) fn widened(a: u64, b: u64) -> u128
     ensures { result ≡ a * b }
@@ -100,7 +109,7 @@ pub(crate) fn widened(a: u64, b: u64) -> u128
     a as u128 * b as u128
 }
 
-/// The product of two natural numbers, if it is at most 2^63 - 1.
+/// The product of two natural numbers. None exactly if it exceeds 2^63 - 1.
 pub(crate) fn product_short(a: u64, b: u64) -> Option<u64>
     ensures { SomeIff result (a * b ≤ short) (a * b) }
 {
@@ -110,7 +119,7 @@ pub(crate) fn product_short(a: u64, b: u64) -> Option<u64>
     }
 }
 
-/// The product, if its magnitude is at most 2^63 - 1.
+/// The product. None exactly if its magnitude exceeds 2^63 - 1.
 pub(crate) fn multiplied_short(a: i64, b: i64) -> Option<i64>
     ensures { SomeIff result (nat_abs (a *ℤ b) ≤ short) (a *ℤ b) }
 {
@@ -120,7 +129,7 @@ pub(crate) fn multiplied_short(a: i64, b: i64) -> Option<i64>
     }
 }
 
-/// The sum, if its magnitude is at most 2^63 - 1.
+/// The sum. None exactly if its magnitude exceeds 2^63 - 1.
 pub(crate) fn added_short(a: i64, b: i64) -> Option<i64>
     ensures { SomeIff result (nat_abs (a +ℤ b) ≤ short) (a +ℤ b) }
 {

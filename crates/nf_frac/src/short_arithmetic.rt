@@ -1,4 +1,4 @@
-// The sum and the product of small numbers where they are small too, in 64-bit arithmetic alone.
+// Sums and products of small numbers that are small too, in 64-bit arithmetic.
 ghost use Rattle.std.specs.Prelude.{◌≡◌, ◌<◌, ◌≤◌, pos, ◌*ℤ◌, nat_abs, SomeIff};
 ghost use Rattle.nf_rational.specs.Gcd.{gcd};
 ghost use Rattle.nf_rational.specs.Rational.{ratio};
@@ -12,7 +12,7 @@ use crate::short::{
 use crate::small::Small;
 
 impl Small {
-    // The numerator over the denominator, whose only common factors are those of `common`.
+    // The numerator over the denominator, reduced. Their common factors are those of the numerator and `common`.
     fn over(num: i64, den: u64, common: u64) -> Small
         requires positive { 0 < den }
         requires some { 0 < common }
@@ -26,7 +26,7 @@ impl Small {
         Small::of(part_of(num, rest), divided_short(den, rest))
     }
 
-    // The numerator times a factor, if that is at most 2^63 - 1 in magnitude.
+    // The numerator times a factor. None exactly if the product exceeds 2^63 - 1 in magnitude.
     fn scaled(self, factor: u64) -> Option<i64>
         requires { factor ≤ short }
         ensures { SomeIff result (nat_abs (self.num *ℤ pos factor) ≤ short) (self.num *ℤ pos factor) }
@@ -34,7 +34,7 @@ impl Small {
         multiplied_short(self.numer(), factor as i64)
     }
 
-    // The sum of two numbers with the same denominator, where nothing is scaled.
+    // The sum of two numbers with equal denominators.
     fn level_sum(self, right: Small) -> Option<Small>
         requires { self.den ≡ right.den }
         ensures { SomeIff result (SumFits short self right) (self +ℚ right) }
@@ -44,7 +44,7 @@ impl Small {
         Some(Small::over(num, den, den))
     }
 
-    // The sum, formed over the least common denominator with no part beyond 2^63 - 1.
+    // The sum, computed over the least common denominator. None exactly if a number in this computation exceeds 2^63 - 1.
     pub(crate) fn short_sum(self, right: Small) -> Option<Small>
         ensures { SomeIff result (SumFits short self right) (self +ℚ right) }
     {
@@ -63,10 +63,24 @@ impl Small {
         Some(Small::over(num, low, common))
     }
 
-    // The product, each numerator reduced with the other's denominator before they meet.
+    // The product of two whole numbers.
+    fn whole_product(self, right: Small) -> Option<Small>
+        requires left { self.den ≡ 1 }
+        requires right { right.den ≡ 1 }
+        ensures { SomeIff result (IsWithin short (self *ℚ right)) (self *ℚ right) }
+    {
+        let num = multiplied_short(self.numer(), right.numer())?;
+        Some(Small::of(num, 1))
+    }
+
+    // The product: each numerator is reduced with the other denominator before the multiplication. None exactly if a part of
+    // the reduced product exceeds 2^63 - 1.
     pub(crate) fn short_product(self, right: Small) -> Option<Small>
         ensures { SomeIff result (IsWithin short (self *ℚ right)) (self *ℚ right) }
     {
+        if self.denom() == 1 && right.denom() == 1 {
+            return self.whole_product(right);
+        }
         let left = self.common_with(right);
         let other = right.common_with(self);
         let num = multiplied_short(part_of(self.numer(), left), part_of(right.numer(), other))?;

@@ -1,20 +1,24 @@
 // Fractions in lowest terms with parts of at most 63 bits.
-ghost use Rattle.std.specs.Prelude.{◌≡◌, ◌≢◌, ◌<◌, ◌≤◌, pos, nat_abs};
+ghost use Rattle.std.specs.Prelude.{◌≡◌, ◌≢◌, ◌<◌, ◌≤◌, pos, nat_abs, SomeIff};
 ghost use Rattle.nf_rational.specs.Gcd.{gcd};
 ghost use Rattle.nf_rational.specs.Rational.{ratio};
 ghost use Rattle.nf_rational.specs.Operations.{0ℚ, neg_ℚ, inv_ℚ};
 ghost use Rattle.nf_rational.specs.Order.{cmp_ℚ};
-ghost use Rattle.nf_frac.specs.Parts.{IsWithin};
+ghost use Rattle.nf_frac.specs.Parts.{greatest, IsWithin};
 ghost use Rattle.nf_frac.specs.Short.{short, IsShort};
 ghost use Rattle.nf_frac.specs.Order.{same_ℚ};
 
 use crate::lowest::Lowest;
 use crate::short::{common_factor, signed_short, times};
+use crate::whole::SHORT;
 use std::cmp::Ordering;
 use std::marker::Model;
 
-/// A rational number whose numerator and denominator, in lowest terms, are at most 2^63 - 1 in magnitude.
-#[derive(Clone, Copy, Debug)]
+// The greatest numerator of a small number.
+const GREATEST_NUMERATOR: i128 = 0x7fff_ffff_ffff_ffff;
+
+/// A small number: a rational number whose numerator and denominator, in lowest terms, are at most 2^63 - 1 in magnitude.
+#[derive(Clone, Copy)]
 pub struct Small {
     num: i64,
     den: u64,
@@ -37,8 +41,23 @@ impl Model for Small {
     ghost inverse_ok = { λ a h. λ i. record { num = (short_back a.num a.den h).0 i; den = (short_back a.num a.den h).1 i } };
 }
 
+impl Lowest {
+    /// The same number as a small one. None exactly if a part exceeds 2^63 - 1 in magnitude.
+    pub(crate) fn small(self) -> Option<Small>
+        ensures { SomeIff result (IsWithin short self) self }
+    {
+        let num = self.numer();
+        let den = self.denom();
+        if -GREATEST_NUMERATOR <= num && num <= GREATEST_NUMERATOR && den <= SHORT {
+            Some(Small::of(num as i64, den as u64))
+        } else {
+            None
+        }
+    }
+}
+
 impl Small {
-    // The fraction of these parts.
+    // The fraction with these parts.
     pub(crate) fn of(num: i64, den: u64) -> Small
         requires { IsShort num den }
         ensures value { result ≡ ratio num den }
@@ -64,25 +83,15 @@ impl Small {
         self.den
     }
 
-    // The same number, whose parts are known to be short.
-    pub(crate) fn known(self) -> Small
-        ensures value { result ≡ self }
-        ensures small { IsWithin short self }
-    {
-        Small {
-            num: self.num,
-            den: self.den,
-        }
-    }
-
     // The same number with wider parts.
     pub(crate) fn lowest(self) -> Lowest
-        ensures { result ≡ self }
+        ensures value { result ≡ self }
+        ensures small { IsWithin greatest result }
     {
         Lowest::of(self.num as i128, self.den as u128)
     }
 
-    // The same with the other sign.
+    // The negated number.
     pub(crate) fn negated(self) -> Small
         ensures value { result ≡ neg_ℚ self }
         ensures small { IsWithin short result }
@@ -93,7 +102,7 @@ impl Small {
         }
     }
 
-    // One over it.
+    // The reciprocal.
     pub(crate) fn inverted(self) -> Small
         requires { self ≢ 0ℚ }
         ensures { result ≡ inv_ℚ self }
@@ -104,14 +113,14 @@ impl Small {
         }
     }
 
-    // Whether the two are the same number.
+    // Whether the two numbers are equal.
     pub(crate) fn is_same(self, right: Small) -> bool
         ensures { result ≡ same_ℚ self right }
     {
         self.num == right.num && self.den == right.den
     }
 
-    // How the two compare.
+    // The order of the two numbers.
     pub(crate) fn compare(self, right: Small) -> Ordering
         ensures { result ≡ cmp_ℚ self right }
     {
@@ -121,7 +130,7 @@ impl Small {
         times(self.num, right.den).cmp(&times(right.num, self.den))
     }
 
-    // The greatest common divisor of this numerator and the other's denominator. It is 1 where the two denominators are equal.
+    // The greatest common divisor of this numerator and the other denominator. It is 1 if the two denominators are equal.
     pub(crate) fn common_with(self, other: Small) -> u64
         ensures value { result ≡ gcd (nat_abs self.num) other.den }
         ensures positive { 0 < result }

@@ -1,42 +1,54 @@
-// The operations on small numbers. None can fail: each number that arises has fewer than 128 bits.
+// The operations on small numbers. None can fail: every intermediate number has at most 127 bits.
 ghost use Rattle.std.specs.Prelude.{◌≡◌, ◌≢◌, SomeIff};
 ghost use Rattle.nf_rational.specs.Operations.{0ℚ, ◌+ℚ◌, ◌-ℚ◌, ◌*ℚ◌, ◌/ℚ◌, inv_ℚ};
 ghost use Rattle.nf_frac.specs.Parts.{IsWithin};
 ghost use Rattle.nf_frac.specs.Short.{short};
 
 use crate::fraction::{Frac, Q};
-use crate::number::Number;
+use crate::lowest::Lowest;
 use crate::short::{
-    common_factor, divided_short, part_of, rest_factor, times, wide_product, widened,
+    common_factor, divided_short, part_of, rest_factor, times, wide_product, wide_sum, widened,
 };
 use crate::small::Small;
 use crate::whole::shortened;
 
 impl Small {
     // The sum, over the least common denominator.
-    pub(crate) fn plus(self, right: Small) -> Number
+    pub(crate) fn plus(self, right: Small) -> Lowest
         ensures { result ≡ self +ℚ right }
     {
         let den = self.denom();
         let right_den = right.denom();
+        if den == right_den {
+            return self.level_plus(right);
+        }
         let common = common_factor(den, right_den);
         let left_factor = divided_short(right_den, common);
         let right_factor = divided_short(den, common);
         let num = times(self.numer(), left_factor) + times(right.numer(), right_factor);
         let rest = rest_factor(num.unsigned_abs(), common);
-        Number::of(
+        Lowest::of(
             shortened(num, rest as u128),
             widened(divided_short(den, rest), left_factor),
         )
     }
 
-    // The product, each numerator reduced with the other's denominator before they meet.
-    pub(crate) fn multiplied(self, right: Small) -> Number
+    // The sum of two numbers with equal denominators.
+    fn level_plus(self, right: Small) -> Lowest
+        requires { self.den ≡ right.den }
+        ensures { result ≡ self +ℚ right }
+    {
+        let den = self.denom() as u128;
+        Lowest::over(wide_sum(self.numer(), right.numer()), den, den)
+    }
+
+    // The product: each numerator is reduced with the other denominator before the multiplication.
+    pub(crate) fn multiplied(self, right: Small) -> Lowest
         ensures { result ≡ self *ℚ right }
     {
         let left = self.common_with(right);
         let other = right.common_with(self);
-        Number::of(
+        Lowest::of(
             wide_product(part_of(self.numer(), left), part_of(right.numer(), other)),
             widened(
                 divided_short(self.denom(), other),
@@ -45,16 +57,16 @@ impl Small {
         )
     }
 
-    /// The same value.
+    /// Returns the same value as a `Q`.
     pub fn wide(self) -> Q
         ensures { result ≡ self }
     {
         Frac {
-            value: Number::of_small(self),
+            value: self.lowest(),
         }
     }
 
-    /// The exact sum.
+    /// Returns the exact sum, which always fits a `Q`.
     pub fn sum(self, right: Small) -> Q
         ensures { result ≡ self +ℚ right }
     {
@@ -63,7 +75,7 @@ impl Small {
         }
     }
 
-    /// The exact difference.
+    /// Returns the exact difference, which always fits a `Q`.
     pub fn difference(self, right: Small) -> Q
         ensures { result ≡ self -ℚ right }
     {
@@ -72,7 +84,7 @@ impl Small {
         }
     }
 
-    /// The exact product.
+    /// Returns the exact product, which always fits a `Q`.
     pub fn product(self, right: Small) -> Q
         ensures { result ≡ self *ℚ right }
     {
@@ -81,7 +93,7 @@ impl Small {
         }
     }
 
-    /// The exact quotient by a value that isn't 0.
+    /// Returns the exact quotient by a value that is not 0. It always fits a `Q`.
     pub fn quotient(self, right: Small) -> Q
         requires { right ≢ 0ℚ }
         ensures { result ≡ self /ℚ right }
@@ -93,7 +105,7 @@ impl Small {
 }
 
 impl Frac<127> {
-    /// The value in its small form. None exactly where a part is beyond 2^63 - 1 in magnitude.
+    /// Returns the same value as a `Small`. Returns None exactly if the numerator or denominator exceeds 2^63 - 1 in magnitude.
     pub fn small(self) -> Option<Small>
         ensures { SomeIff result (IsWithin short self) self }
     {

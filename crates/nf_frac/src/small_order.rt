@@ -1,4 +1,4 @@
-// The order of small numbers, their equality and their hash. None of these can fail.
+// Order, equality and hash of small numbers. None of these can fail.
 ghost use Rattle.std.specs.Prelude.{◌≡◌, ◌++◌, refl, Some};
 ghost use Rattle.std.specs.Hash as fed;
 ghost use Rattle.nf_rational.specs.Order.{cmp_ℚ};

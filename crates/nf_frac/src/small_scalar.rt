@@ -1,4 +1,4 @@
-// Small numbers as values to calculate in: an operation passes where it would in fractions with parts of 63 bits.
+// `Scalar` for small numbers: an operation exceeds the bound exactly if it does for fractions with 63 bits.
 ghost use Rattle.std.specs.Prelude.{◌≡◌, ◌≢◌, refl};
 ghost use Rattle.nf_rational.specs.Operations.{0ℚ, 1ℚ};
 ghost use Rattle.nf_work.specs.declared.Op.TheVariants.{Sum, Difference, Product, Quotient};
@@ -27,18 +27,18 @@ impl Scalar for Small {
 
     ghost equal_hash = { same_small_input };
 
-    /// 0.
+    /// Returns 0.
     fn zero() -> Self {
         Small::of(0, 1)
     }
 
-    /// 1.
+    /// Returns 1.
     fn one() -> Self {
         Small::of(1, 1)
     }
 
-    /// The exact sum. It passes exactly where the least common denominator, one of the two numerators scaled to it or their sum
-    /// is beyond 2^63 - 1 in magnitude.
+    /// Returns the exact sum. Returns an error with the operands exactly if the least common denominator, one of the two numerators
+    /// scaled to it, or their sum exceeds 2^63 - 1 in magnitude.
     fn sum(self, right: Self) -> Result<Self, Passed<Self>> {
         match self.short_sum(right) {
             Some(value) => Ok(value),
@@ -50,7 +50,8 @@ impl Scalar for Small {
         }
     }
 
-    /// The exact difference. It passes exactly where the sum with the negated right value does.
+    /// Returns the exact difference. Returns an error with the operands exactly if the sum of the left value and the negated right
+    /// value does.
     fn difference(self, right: Self) -> Result<Self, Passed<Self>> {
         match self.short_sum(right.negated()) {
             Some(value) => Ok(value),
@@ -62,7 +63,8 @@ impl Scalar for Small {
         }
     }
 
-    /// The exact product. It passes exactly where a part of the reduced product is beyond 2^63 - 1.
+    /// Returns the exact product. Returns an error with the operands exactly if the numerator or denominator of the reduced product
+    /// exceeds 2^63 - 1 in magnitude.
     fn product(self, right: Self) -> Result<Self, Passed<Self>> {
         match self.short_product(right) {
             Some(value) => Ok(value),
@@ -74,7 +76,8 @@ impl Scalar for Small {
         }
     }
 
-    /// The exact quotient by a value that isn't 0. It passes exactly where a part of the reduced quotient is beyond 2^63 - 1.
+    /// Returns the exact quotient by a value that is not 0. Returns an error with the operands exactly if the numerator or
+    /// denominator of the reduced quotient exceeds 2^63 - 1 in magnitude.
     fn quotient(self, right: Self) -> Result<Self, Passed<Self>> {
         match self.short_product(right.inverted()) {
             Some(value) => Ok(value),

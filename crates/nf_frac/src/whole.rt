@@ -1,4 +1,4 @@
-// Arithmetic of whole numbers within a limit. Numbers of at most 64 bits, which nearly all are, take a shorter way.
+// Arithmetic of whole numbers within a limit. Numbers of at most 64 bits, by far the most common, are handled in 64 bits.
 ghost use Rattle.std.specs.Prelude.{◌≡◌, ℕ, ◌*◌, ◌/◌, ◌%◌, ◌-◌, ◌^◌, ◌<◌, ◌≤◌, pos, ◌+ℤ◌, ◌*ℤ◌, nat_abs, int_div, SomeIff};
 ghost use Rattle.std.specs.Int.{IsGcd, trailing_zeros};
 ghost use Rattle.std.specs.Ordering.{nat_cmp};
@@ -17,10 +17,10 @@ const WORD: u128 = 0xffff_ffff_ffff_ffff;
 // The greatest number of 32 bits.
 const HALF: u64 = 0xffff_ffff;
 
-// A number is much the shorter where it has more than so many bits less.
+// If one number has more than this many bits fewer than another, a division replaces the difference.
 const NEAR: u32 = 6;
 
-// What is left of a number when it is halved as long as that leaves no rest.
+// The odd part: the number without its factors 2.
 fn odd_part(n: u64) -> u64
     requires { 0 < n }
     ensures power { n ≡ 2 ^ trailing_zeros w64 n * result }
@@ -30,8 +30,7 @@ fn odd_part(n: u64) -> u64
     n >> n.trailing_zeros()
 }
 
-// A number that is less by a multiple of the other: what is left of a division where the other is much the shorter, and else
-// the difference.
+// The greater number minus a multiple of the lesser: the remainder if the lesser is much shorter, else the difference.
 fn less_of(more: u64, less: u64) -> u64
     requires some { 0 < less }
     requires ordered { less ≤ more }
@@ -68,7 +67,7 @@ fn gcd_odd(a: u64, b: u64) -> u64
     x
 }
 
-// The greatest common divisor of two numbers, by their odd parts.
+// The greatest common divisor of two numbers, from that of their odd parts.
 fn gcd_halving(a: u64, b: u64) -> u64
     ensures { result ≡ gcd a b }
 {
@@ -82,7 +81,7 @@ fn gcd_halving(a: u64, b: u64) -> u64
     gcd_odd(odd_part(a), odd_part(b)) << twos
 }
 
-/// The greatest common divisor of two short numbers. Two divisions come first where both are long.
+/// The greatest common divisor of two 64-bit numbers. If both have more than 32 bits, two divisions come first.
 pub(crate) fn gcd_short(a: u64, b: u64) -> u64
     ensures { result ≡ gcd a b }
 {
@@ -97,7 +96,7 @@ pub(crate) fn gcd_short(a: u64, b: u64) -> u64
     }
 }
 
-// The greatest common divisor of two numbers of any length. The steps are short ones as soon as the numbers are.
+// The greatest common divisor of two numbers of any length. It continues in 64 bits once both numbers fit them.
 fn gcd_long(a: u128, b: u128) -> u128
     ensures { result ≡ gcd a b }
 {
@@ -159,7 +158,7 @@ pub(crate) fn shortened(a: i128, b: u128) -> i128
     }
 }
 
-/// The whole number of this sign and magnitude.
+/// The whole number with this sign and magnitude.
 pub(crate) fn with_sign(negative: bool, magnitude: u128) -> i128
     requires { magnitude ≤ greatest }
     ensures { result ≡ signed negative magnitude }
@@ -171,7 +170,7 @@ pub(crate) fn with_sign(negative: bool, magnitude: u128) -> i128
     }
 }
 
-/// The product, if it is at most the limit.
+/// The product. None exactly if it exceeds the limit.
 pub(crate) fn product(a: u128, b: u128, limit: u128) -> Option<u128>
     ensures { SomeIff result (a * b ≤ limit) (a * b) }
 {
@@ -190,7 +189,7 @@ pub(crate) fn product(a: u128, b: u128, limit: u128) -> Option<u128>
     }
 }
 
-/// The product, if its magnitude is at most the limit.
+/// The product. None exactly if its magnitude exceeds the limit.
 pub(crate) fn multiplied(a: i128, b: i128, limit: u128) -> Option<i128>
     requires { limit ≤ greatest }
     ensures { SomeIff result (nat_abs (a *ℤ b) ≤ limit) (a *ℤ b) }
@@ -210,7 +209,7 @@ pub(crate) fn multiplied(a: i128, b: i128, limit: u128) -> Option<i128>
     }
 }
 
-/// The sum, if its magnitude is at most the limit.
+/// The sum. None exactly if its magnitude exceeds the limit.
 pub(crate) fn added(a: i128, b: i128, limit: u128) -> Option<i128>
     requires { limit ≤ greatest }
     ensures { SomeIff result (nat_abs (a +ℤ b) ≤ limit) (a +ℤ b) }
@@ -221,7 +220,7 @@ pub(crate) fn added(a: i128, b: i128, limit: u128) -> Option<i128>
     }
 }
 
-// The same for numbers of any length: by the quotients, and then by what is left over.
+// The order of a/b and c/d for numbers of any length: by the quotients, and if these are equal by the remainders.
 fn compare_long(a: u128, b: u128, c: u128, d: u128) -> Ordering
     requires left { 0 < b }
     requires right { 0 < d }
@@ -242,7 +241,7 @@ fn compare_long(a: u128, b: u128, c: u128, d: u128) -> Ordering
         if rest == 0 || other_rest == 0 {
             return rest.cmp(&other_rest);
         }
-        // one over the other's rest against one over this one's
+        // equal quotients: compare the reciprocals of the remainders, in the opposite order
         above = other_below;
         other_above = below;
         below = other_rest;
@@ -250,7 +249,7 @@ fn compare_long(a: u128, b: u128, c: u128, d: u128) -> Ordering
     }
 }
 
-/// How a/b and c/d compare. No product of more than 128 bits is formed.
+/// The order of a/b and c/d. No product exceeds 128 bits.
 pub(crate) fn compare_quotients(a: u128, b: u128, c: u128, d: u128) -> Ordering
     requires left { 0 < b }
     requires right { 0 < d }

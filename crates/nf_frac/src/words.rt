@@ -1,4 +1,4 @@
-// Fractions as words of text, read and written.
+// Parsing and printing fractions.
 ghost use Rattle.std.specs.Prelude.{◌≡◌, Ok};
 ghost use Rattle.nf_work.specs.Passing.{bound_of};
 ghost use Rattle.nf_numerals.specs.Numbers.{number_of, decimal_of};
@@ -6,33 +6,44 @@ ghost use Rattle.nf_numerals.specs.Printed.{printed};
 
 use crate::fraction::{Frac, bound};
 use crate::lowest::Lowest;
-use crate::number::Number;
 use nf_numerals::{NumberFault, TextBuf, decimal_parts, parts, write_parts};
 
 impl<const BITS: u32> Frac<BITS> {
-    /// The value that a word `a` or `a/b` writes, reduced; a may begin with `-`. Or the first fault that applies, in the order of
-    /// `NumberFault`; a part that is beyond the bound as written is too wide, also where the reduced one isn't.
+    /// Parses a word `a` or `a/b` of decimal digits, where `a` may begin with `-`, and returns its value, reduced.
+    ///
+    /// The word is split at its first slash; without a slash the denominator is 1. Returns an error exactly if a fault applies, and
+    /// then the first of these: `Empty` if `a` without its sign, or `b`, is empty; `BadDigit` if a byte in them is not a digit;
+    /// `TooWide` if `a` or `b` exceeds the bound in magnitude, as written, even if the reduced fraction is within it;
+    /// `ZeroDenominator` if `b` is 0.
     pub fn read(word: &[u8]) -> Result<Frac<BITS>, NumberFault>
         ensures { result ≡ number_of (bound_of BITS) word.now }
     {
         let (num, den) = parts(word, bound(BITS))?;
         Ok(Frac {
-            value: Number::held(Lowest::over(num, den, den)),
+            value: Lowest::over(num, den, den),
         })
     }
 
-    /// The same, where a word without a slash may also be a decimal `a.b`.
+    /// Parses a word `a`, `a/b` or `a.b`, where `a` may begin with `-`, and returns its exact value, reduced.
+    ///
+    /// A word with a point and no slash is a decimal `a.b`, split at its first point. If `b` has k digits, its value is
+    /// (|a| · 10^k + b) / 10^k with the sign of `a`: `-0.50` is -1/2. Every other word is parsed as by `read`, with the same value
+    /// and the same faults.
+    ///
+    /// For a decimal, returns an error exactly if a fault applies, and then the first of these: `Empty` if `a` without its sign, or
+    /// `b`, is empty; `BadDigit` if a byte in them is not a digit; `TooWide` if |a| · 10^k + b or 10^k exceeds the bound, even if
+    /// the reduced fraction is within it.
     pub fn read_decimal(word: &[u8]) -> Result<Frac<BITS>, NumberFault>
         ensures { result ≡ decimal_of (bound_of BITS) word.now }
     {
         let (num, den) = decimal_parts(word, bound(BITS))?;
         Ok(Frac {
-            value: Number::held(Lowest::over(num, den, den)),
+            value: Lowest::over(num, den, den),
         })
     }
 
-    /// Writes the printed form: the numerator, and `/` with the denominator where that isn't 1. What the text was before is
-    /// dropped. Either reading gives the value back from it.
+    /// Replaces the text by the printed form: the numerator, followed by `/` and the denominator if the denominator is not 1. Both
+    /// `read` and `read_decimal` return this value from the printed form.
     pub fn write(self, buf: &mut TextBuf)
         ensures text { buf.new ≡ printed self.entry }
         ensures reads_back { number_of (bound_of BITS) buf.new ≡ Ok self.entry }

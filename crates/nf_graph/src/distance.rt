@@ -12,7 +12,7 @@ use std::cmp::Ordering;
 
 /// Why least transit sums were refused: a sum passed, that of the least transit sum of a link's tail (`left`) and the link's
 /// transit time (`right`); or memory was wanting.
-#[derive(Clone, Copy, Debug, PartialEq, Eq)]
+#[derive(Clone, Copy)]
 pub enum DistanceFault {
     Passed { link: LinkId, left: Q, right: Q },
     Memory,
@@ -40,14 +40,14 @@ impl<T: Drop> From<AllocFailed<T>> for DistanceFault {
     }
 }
 
-// A node that may be settled with this sum.
+// This node may be settled with this sum.
 #[derive(Clone, Copy)]
 struct Step {
     node: NodeId,
     sum: Q,
 }
 
-// The sum of what stands before a link and its transit time.
+// Returns the sum of a number and the transit time of a link.
 fn sum_along(hops: &[Hop], link: LinkId, before: Q) -> Result<Q, DistanceFault>
     requires { link < length hops.now }
     ensures sum { IfOk result (λ sum. IsSumAlong hops.now link before sum) }
@@ -95,7 +95,7 @@ fn offer(hops: &[Hop], link: LinkId, sums: &[Option<Q>]) -> Result<Option<Step>,
     }
 }
 
-// The one of two offers with the lesser sum.
+// Returns the offer with the lesser sum.
 fn nearer(best: Option<Step>, offered: Option<Step>) -> Option<Step>
     ensures { IsNearer best offered result }
 {

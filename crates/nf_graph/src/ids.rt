@@ -5,7 +5,7 @@ use nf_frac::Q;
 use std::marker::Model;
 
 /// A node, by its number.
-#[derive(Clone, Copy, Debug, PartialEq, Eq, PartialOrd, Ord, Hash)]
+#[derive(Clone, Copy, PartialEq, Eq)]
 pub struct NodeId(pub u32);
 
 impl Model for NodeId {
@@ -19,7 +19,7 @@ impl Model for NodeId {
 }
 
 impl NodeId {
-    /// Its place in a list with one entry for each node.
+    /// Returns its index in a list with one entry for each node.
     #[inline(always)]
     pub fn index(self) -> usize
         ensures { result ≡ self }
@@ -29,7 +29,7 @@ impl NodeId {
 }
 
 /// A link, by its number.
-#[derive(Clone, Copy, Debug, PartialEq, Eq, PartialOrd, Ord, Hash)]
+#[derive(Clone, Copy, PartialEq, Eq)]
 pub struct LinkId(pub u32);
 
 impl Model for LinkId {
@@ -43,7 +43,7 @@ impl Model for LinkId {
 }
 
 impl LinkId {
-    /// Its place in a list with one entry for each link.
+    /// Returns its index in a list with one entry for each link.
     #[inline(always)]
     pub fn index(self) -> usize
         ensures { result ≡ self }
@@ -52,8 +52,8 @@ impl LinkId {
     }
 }
 
-/// A link where its capacity doesn't matter: it leads from one node to another in its transit time.
-#[derive(Clone, Copy, Debug, PartialEq, Eq)]
+/// A link without its capacity: it leads from one node to another and takes its transit time, which is in the unit of time.
+#[derive(Clone, Copy)]
 pub struct Hop {
     pub tail: NodeId,
     pub head: NodeId,

@@ -21,7 +21,7 @@ fn leads_in(hop: &Hop, placed: &[bool], node: NodeId) -> bool
     hop.head == node && !placed[tail.index()]
 }
 
-// A chosen link into this node from one that is not placed.
+// Returns whether this link is chosen and leads to this node from one that is not placed.
 fn entering(hops: &[Hop], chosen: &[bool], placed: &[bool], node: NodeId) -> Option<LinkId>
     requires ends { AreBelow (length placed.now) hops.now }
     requires count { length chosen.now ≡ length hops.now }

@@ -3,7 +3,8 @@ use crate::ids::LinkId;
 use std::alloc::{AllocError, Global};
 use std::marker::Model;
 
-/// Which links are active, and which of these are resetting.
+/// Two flags for each link of a network, in link order: whether it is active, and whether it is resetting. A resetting link is
+/// active.
 #[derive(Drop)]
 pub struct LinkSets {
     active: Vec<bool>,
@@ -28,7 +29,8 @@ impl LinkSets {
     ghost use Rattle.std.specs.Prelude.{◌≡◌, ◌<◌, length, slice_get, IfOk};
     ghost use Rattle.nf_graph.specs.Sets.{AreSets};
 
-    /// The sets of these flags, one of each for each link. Each resetting link is active.
+    /// Makes the sets of these flags, two for each link. Both lists must be equally long, and each resetting link active. Fails only
+    /// if an allocation fails.
     pub fn new(alloc: Global, active: &[bool], resetting: &[bool]) -> Result<LinkSets, AllocError>
         requires { AreSets (record { active = active.now; resetting = resetting.now }) }
         ensures { IfOk result (λ sets. sets ≡ record { active = active.now; resetting = resetting.now }) }
@@ -38,7 +40,7 @@ impl LinkSets {
         Ok(LinkSets { active, resetting })
     }
 
-    /// Whether the link is active.
+    /// Returns whether the link is active. The sets must have a flag for the link.
     pub fn active(&self, link: LinkId) -> bool
         requires { link < length self.now.active }
         ensures flag { slice_get self.now.active link ≡ Some result }
@@ -47,7 +49,7 @@ impl LinkSets {
         self.active[link.index()]
     }
 
-    /// Whether the link is resetting.
+    /// Returns whether the link is resetting. The sets must have a flag for the link.
     pub fn resetting(&self, link: LinkId) -> bool
         requires { link < length self.now.active }
         ensures flag { slice_get self.now.resetting link ≡ Some result }

@@ -13,8 +13,8 @@ use nf_one_pattern::solved;
 use nf_pattern::Pattern;
 use std::alloc::{AllocError, Global};
 
-// The most unknowns that a table may have.
-const MOST_UNKNOWNS: u32 = 264;
+// `Table::new` takes at most this many unknowns.
+const MOST_TABLE_UNKNOWNS: u32 = 264;
 
 // A Full or resetting link from a part to another one.
 #[derive(Clone, Copy)]
@@ -159,7 +159,7 @@ fn slopes_of_parts(
     if size == 0 {
         return Ok(Some(Vec::new(alloc)));
     }
-    if size > MOST_UNKNOWNS {
+    if size > MOST_TABLE_UNKNOWNS {
         return Ok(None);
     }
     let table = slope_table(alloc, size, links, sink_part, rate)?;

@@ -34,8 +34,8 @@ impl<const N: usize> Model for Grid<N> {
     ghost invariant = { λ t. (N ≤ 32) × (t.size ≤ N) × IsSquare (take t.size t.rows) };
 }
 
-/// What is found of a system on a grid.
-#[derive(Clone, Copy, PartialEq, Eq, Debug)]
+/// The number of solutions of a system.
+#[derive(Clone, Copy)]
 pub enum Eliminated {
     /// There is one solution.
     One,
@@ -64,7 +64,7 @@ fn set_at<const N: usize>(rows: &mut [GridRow<N>], row: usize, column: usize, va
 }
 
 impl<const N: usize> Grid<N> {
-    /// The grid of this many unknowns, all zero.
+    /// Makes the grid of `size` unknowns, all numbers 0. `size` must be 1 to `N`, and `N` at most 32. Doesn't allocate.
     pub fn zero(size: u32) -> Grid<N>
         requires size { (0 < size) × (size ≤ N) }
         requires few { N ≤ 32 }
@@ -75,7 +75,7 @@ impl<const N: usize> Grid<N> {
         Grid { rows, size }
     }
 
-    /// The number of a row for an unknown becomes this one.
+    /// Sets the number of a row for an unknown. Both indices must be below the number of unknowns.
     pub fn set(&mut self, row: u32, column: u32, value: Q)
         requires row { row < length self.old }
         requires column { column < length self.old }
@@ -85,7 +85,7 @@ impl<const N: usize> Grid<N> {
         set_at(&mut self.rows[..size], row as usize, column as usize, value);
     }
 
-    /// The right side of a row becomes this number.
+    /// Sets the right side of a row, whose index must be below the number of unknowns.
     pub fn set_right(&mut self, row: u32, value: Q)
         requires { row < length self.old }
         ensures { self.new ≡ set self.old row (set (row_at self.old row) (length self.old) value) }

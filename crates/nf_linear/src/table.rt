@@ -28,7 +28,8 @@ impl<S: Scalar> Model for Table<S> {
 }
 
 impl<S: Scalar> Table<S> {
-    /// The table of this many unknowns, all zero.
+    /// Makes the table of `size` unknowns, all numbers 0. `size` must be 1 to 264: 64 nodes and 200 links. Fails only if an
+    /// allocation fails.
     pub fn new(alloc: Global, size: u32) -> Result<Table<S>, AllocError>
         requires { (0 < size) × (size ≤ 264) }
         ensures { IfOk result (λ table. table ≡ replicate size (replicate (size + 1) 0ℚ)) }
@@ -41,7 +42,7 @@ impl<S: Scalar> Table<S> {
         Ok(Table { rows })
     }
 
-    /// The number of a row for an unknown becomes this one.
+    /// Sets the number of a row for an unknown. Both indices must be below the number of unknowns.
     pub fn set(&mut self, row: u32, column: u32, value: S)
         requires row { row < length self.old }
         requires column { column < length self.old }
@@ -51,7 +52,7 @@ impl<S: Scalar> Table<S> {
         changed.set(column as usize, value);
     }
 
-    /// The right side of a row becomes this number.
+    /// Sets the right side of a row, whose index must be below the number of unknowns.
     pub fn set_right(&mut self, row: u32, value: S)
         requires { row < length self.old }
         ensures { self.new ≡ set self.old row (set (row_at self.old row) (length self.old) (S.means value)) }

@@ -1,4 +1,4 @@
-// What the lines of a loads file say so far.
+// The lines of a loads file that are read so far.
 ghost use Rattle.std.specs.Prelude.{◌≡◌, ◌++◌, [], ◌∷◌, length, Ok, Err, IfOk, OnOk, MatchResult};
 ghost use Rattle.nf_side_lists.specs.Frame.{in_line};
 ghost use Rattle.nf_readings.specs.LoadsFile.{empty_loads, rule_behind, load_rule_of, load_after, add_load, if_ended};
@@ -9,7 +9,7 @@ ghost use Rattle.nf_loads_file.specs.Files.{IfBroken};
 use crate::entry::{Entry, read_entry};
 use crate::fault::LoadsFault;
 use crate::loads::Pieces;
-use nf_net::{Network, Piece};
+use nf_net::{LinkId, Network, Piece};
 use nf_readings::LoadRule;
 use nf_side_files::{PieceFault, ReadLine, piece_fault};
 use std::alloc::{AllocError, Global};
@@ -17,11 +17,12 @@ use std::alloc::{AllocError, Global};
 /// The most lines of a link.
 const MOST_LINES: usize = 200;
 
-/// What the lines so far say: of each link its pieces, and whether there was an `end` line.
+/// The lines that are read so far: of each link its pieces, whether there was an `end` line, and the link of the last `rate` line.
 #[derive(Drop)]
 pub struct Draft {
     pub pieces: Vec<Pieces>,
     pub ended: bool,
+    pub near: LinkId,
 }
 
 // The first of L9 to L11 that a piece breaks behind those of its link.
@@ -52,6 +53,7 @@ impl Draft {
         Ok(Draft {
             pieces,
             ended: false,
+            near: LinkId(0),
         })
     }
 
@@ -71,7 +73,10 @@ impl Draft {
         ensures { OnOk result (seen_draft self.new ≡ load_after (seen_draft self.old) (seen_entry entry)) }
     {
         match entry {
-            Entry::Rate(link, piece) => self.pieces[link.index()].push(piece)?,
+            Entry::Rate(link, piece) => {
+                self.near = link;
+                self.pieces[link.index()].push(piece)?;
+            }
             Entry::End => self.ended = true,
         }
         Ok(())
@@ -94,7 +99,7 @@ impl Draft {
                 line: number,
             });
         }
-        let entry = match read_entry(net, line) {
+        let entry = match read_entry(net, line, self.near) {
             Ok(entry) => entry,
             Err(rule) => return Err(LoadsFault::Broken { rule, line: number }),
         };

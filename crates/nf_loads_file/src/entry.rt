@@ -7,9 +7,9 @@ ghost use Rattle.nf_loads_file.specs.Entries.{HasLink, seen_entry};
 
 use nf_net::{LinkId, Network, Piece};
 use nf_readings::LoadRule;
-use nf_side_files::{ReadLine, is_word, link_of, number_of};
+use nf_side_files::{ReadLine, is_word, link_near, number_of};
 
-/// What a line says: a piece of a link, or the end.
+/// A line says that a link has a piece, or that the file ends.
 #[derive(Clone, Copy)]
 pub enum Entry {
     Rate(LinkId, Piece),
@@ -18,7 +18,7 @@ pub enum Entry {
 
 // `rate LINK START RATE`
 #[tactic(auto, using(crate::proofs::LoadWords::rate_count_wrong, crate::proofs::LoadWords::rate_unknown, crate::proofs::LoadWords::rate_known))]
-fn read_rate(net: &Network, line: &ReadLine) -> Result<Entry, LoadRule>
+fn read_rate(net: &Network, line: &ReadLine, near: LinkId) -> Result<Entry, LoadRule>
     requires { 0 < length line.now.words }
     ensures says { rate_line net.now.link_names (drop 1 line.now.words) ≡ said_by seen_entry result }
     ensures link { IfOk result (λ entry. HasLink (length net.now.link_names) (seen_entry entry)) }
@@ -26,7 +26,7 @@ fn read_rate(net: &Network, line: &ReadLine) -> Result<Entry, LoadRule>
     if line.len() != 4 {
         return Err(LoadRule::L6);
     }
-    let Some(link) = link_of(net, line.at(1)) else {
+    let Some(link) = link_near(net, line.at(1), near) else {
         return Err(LoadRule::L7);
     };
     let Some(start) = number_of(line.at(2)) else {
@@ -50,8 +50,8 @@ fn read_end(line: &ReadLine) -> Result<(), LoadRule>
     Ok(())
 }
 
-/// What the words of a line say, or the first of L5 to L8 that they break.
-pub fn read_entry(net: &Network, line: &ReadLine) -> Result<Entry, LoadRule>
+/// Returns what the words of a line say, or the first of L5 to L8 that they break. The name of the link `near` is compared first.
+pub fn read_entry(net: &Network, line: &ReadLine, near: LinkId) -> Result<Entry, LoadRule>
     ensures says { load_entry net.now.link_names line.now.words ≡ said_by seen_entry result }
     ensures link { IfOk result (λ entry. HasLink (length net.now.link_names) (seen_entry entry)) }
 {
@@ -60,7 +60,7 @@ pub fn read_entry(net: &Network, line: &ReadLine) -> Result<Entry, LoadRule>
     }
     let key = line.at(0);
     if is_word(key, b"rate") {
-        return read_rate(net, line);
+        return read_rate(net, line, near);
     }
     if is_word(key, b"end") {
         read_end(line)?;

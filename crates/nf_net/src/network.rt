@@ -1,5 +1,5 @@
 // Networks.
-ghost use Rattle.std.specs.Prelude.{◌≡◌, ◌<◌, ◌≤◌, length, position, slice_get, Some, MatchOption, true, false};
+ghost use Rattle.std.specs.Prelude.{◌≡◌, ◌<◌, ◌≤◌, ◌⊎◌, length, position, slice_get, Some, MatchOption, true, false};
 ghost use Rattle.std.specs.List.{list_all};
 ghost use Rattle.std.specs.Str.{bytes_eq};
 ghost use Rattle.nf_model.specs.Network.{IsLink, hops as hops_of, rate_at as rate_of_net, next_change as change_of_net};
@@ -96,9 +96,10 @@ impl Network {
         }
     }
 
-    /// 1 or 2: the version of its file's format.
+    /// Returns the version of its file's format: 1 or 2.
     pub fn version(&self) -> u32
-        ensures { result ≡ self.now.version }
+        ensures value { result ≡ self.now.version }
+        ensures known { (result ≡ 1) ⊎ (result ≡ 2) }
     {
         self.version
     }

@@ -173,8 +173,6 @@ fn push_node(out: &mut Vec<u8>, key: &[u8], net: &Network, node: NodeId) -> Resu
 fn push_head(out: &mut Vec<u8>, net: &Network) -> Result<(), AllocError>
     ensures { OnOk result (out.new.items ≡ out.old.items ++ head_text net.now) }
 {
-    // For the proof: the version is 1 or 2.
-    net.recall();
     let version = net.version();
     let source = net.source();
     let sink = net.sink();

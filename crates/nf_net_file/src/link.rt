@@ -6,9 +6,10 @@ use nf_frac::Q;
 use nf_graph::NodeId;
 use std::marker::Model;
 
-/// A link: it leads from one node to another. What enters it waits at its entrance, is served at the capacity, an amount per
-/// unit of time, and then takes the transit time. No capacity: it is unbounded, and nothing waits.
-#[derive(Clone, Copy, Debug)]
+/// A link leads from its tail to its head. Flow that enters it waits in a queue at the tail, leaves the queue at most at the rate
+/// `capacity`, an amount per unit of time, and then takes the time `transit`. A link without a capacity is unbounded: it has no
+/// queue. In a network that is read, `transit` is at least 0 and `capacity` above 0.
+#[derive(Clone, Copy)]
 pub struct Link {
     pub tail: NodeId,
     pub head: NodeId,
@@ -29,8 +30,8 @@ impl Model for Link {
     ghost inverse = { λ l. record { tail = l.tail; head = l.head; transit = l.transit; capacity = l.capacity } };
 }
 
-/// From its start on the source is supplied at this rate, an amount per unit of time, until the next start.
-#[derive(Clone, Copy, Debug)]
+/// A piece of the supply: the source is supplied at `rate`, an amount per unit of time, from the time `start` until the next piece starts.
+#[derive(Clone, Copy)]
 pub struct Piece {
     pub start: Q,
     pub rate: Q,
@@ -49,7 +50,7 @@ impl Model for Piece {
     ghost inverse = { λ p. record { start = p.start; rate = p.rate } };
 }
 
-/// A link with its name and those of its ends.
+/// A link by names: its own and those of its ends. Readers use it until links have numbers, and for idle links.
 #[derive(Drop)]
 pub struct NamedLink {
     pub name: Name,

@@ -13,7 +13,7 @@ use std::marker::Model;
 pub const LONGEST_NAME: usize = 24;
 
 /// A name: 1 to 24 letters, digits, `_`, `-` and `.`. It takes no memory beside its own.
-#[derive(Drop, Debug)]
+#[derive(Drop)]
 pub struct Name {
     bytes: [u8; LONGEST_NAME],
     len: usize,

@@ -1,4 +1,4 @@
--- Which bytes stand in digits and in printed numbers: no blank, no line end and no letter.
+-- The bytes of digits and of printed numbers: no blank, no line end and no letter.
 use Rattle.std.proofs.Common.{◌≡◌, ℕ, suc, ◌<◌, ◌≤◌, true, List, [], ◌∷◌, ◌++◌, length, ℤ, pos, negsuc, sym, subst, arith, inl, inr, length-append}
 use Rattle.std.specs.List.{AllByRecursion}
 use Rattle.std.proofs.lemmas.Bool.{and_parts, cond-true, cond-false, eq-eqb, ne_eqb, cases_eq}
@@ -31,7 +31,7 @@ some_signed : (n : ℤ) → 0 < length (signed_digits_of n)
 some_signed (pos n) = some_digits n
 some_signed (negsuc n) = omega arith
 
--- ---- a printed form is one list of digits or two
+-- ---- a printed form has one list of digits or two
 module _ (P : List ℕ → Type 0) (n : ℤ) (d : ℕ) (whole : P (signed_digits_of n)) (ratio : P (signed_digits_of n ++ slash ∷ digits_of d)) where
   pub printed_either : P (printed_parts n d)
   unfolding printed_parts
@@ -48,7 +48,7 @@ pub some_printed : (q : ℚ) → 0 < length (printed q)
 unfolding printed
 some_printed q = printed_either (λ ds. 0 < length ds) q.num q.den (some_signed q.num) (let h : 0 < length (signed_digits_of q.num) = some_signed q.num in omega (arith, length-append (signed_digits_of q.num) (slash ∷ digits_of q.den)))
 
--- parts that are those of a number are printed as that number
+-- the parts of a number are printed as this number
 pub printed_by_parts : (q : ℚ) (n : ℤ) (d : ℕ) → q.num ≡ n → q.den ≡ d → printed_parts n d ≡ printed q
 unfolding printed
 printed_by_parts q n d e f = cc

@@ -6,7 +6,7 @@ use Rattle.std.specs.Char.{is_ascii_digit}
 use Rattle.nf_numerals.specs.Digits.{value_after, value_of, digits_of, is_plain, count_of}
 use Rattle.nf_numerals.proofs.Digits.{digit_range, digit_again, digit_from, digits_one, digits_of-value_after, value_of-digits_of, by_steps, are_digits-append}
 
--- ---- a plain word is the digits of its number
+-- ---- a plain word consists of the digits of its number
 value_first : (c : ℕ) (rest : List ℕ) → value_of (c ∷ rest) ≡ value_after (c - 48) rest
 value_first c rest = let e : 10 * 0 + (c - 48) ≡ c - 48 = omega arith in ap (λ n. value_after n rest) e
 

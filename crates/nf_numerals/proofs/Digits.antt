@@ -1,4 +1,4 @@
--- The digits of a number, and the number that digits write.
+-- The digits of a number, and the number with given digits.
 use Rattle.std.proofs.Common.{subst, inl, inr, ◌≡◌, ℕ, zero, suc, ◌+◌, ◌-◌, ◌*◌, ◌/◌, ◌%◌, ◌<◌, ◌≤◌, Bool, true, false, List, [], ◌∷◌, ◌++◌, length, refl, sym, ap, ◌∙◌, arith, append_assoc, length-append}
 use Rattle.std.proofs.lemmas.List.{append-nil}
 use Rattle.std.specs.Char.{is_ascii_digit}
@@ -24,13 +24,13 @@ pub value_after-append : (n : ℕ) (xs ys : List ℕ) → value_after n (xs ++ y
 value_after-append n [] ys = refl
 value_after-append n (x ∷ xs) ys = value_after-append (10 * n + (x - 48)) xs ys
 
--- digits that follow make no number less
+-- more digits do not make a number less
 pub le-value_after : (n : ℕ) (digits : List ℕ) → n ≤ value_after n digits
 le-value_after n [] = omega arith
 le-value_after n (c ∷ rest) = let h : 10 * n + (c - 48) ≤ value_after (10 * n + (c - 48)) rest = le-value_after (10 * n + (c - 48)) rest in omega arith
 
 -- ---- the digits of a number
--- one step of them, where it is known whether n is below ten
+-- one step, for n below ten and for other n
 abbrev step_at : ℕ → ℕ → Bool → List ℕ
 step_at k n true = (48 + n) ∷ []
 step_at k n false = digits_within k (n / 10) ++ (48 + n % 10) ∷ []
@@ -41,7 +41,7 @@ within_one k n h = ap (step_at k n) (lt-ltb n 10 h)
 pub within_more : (k n : ℕ) → 10 ≤ n → digits_within (suc k) n ≡ digits_within k (n / 10) ++ (48 + n % 10) ∷ []
 within_more k n h = ap (step_at k n) (le-ltb n 10 h)
 
--- the bound on their count does not matter
+-- the digits do not depend on the bound on their count
 within_same : (j k n : ℕ) → n < j → n < k → digits_within j n ≡ digits_within k n
 within_same zero k n p q = absurd (omega arith)
 within_same (suc j) zero n p q = absurd (omega arith)
@@ -64,7 +64,7 @@ digits_push n d p q =
     let b : (10 * n + d) % 10 ≡ d = omega arith in
     rw (digits_more (10 * n + d) (omega arith), a, b) refl
 
--- what holds of one digit, and of digits with one more, holds of the digits of any number
+-- induction on the digits of a number
 module _ (P : ℕ → List ℕ → Type 0) (one : (n : ℕ) → n < 10 → P n ((48 + n) ∷ [])) (more : (n : ℕ) (ds : List ℕ) → 10 ≤ n → P (n / 10) ds → P n (ds ++ (48 + n % 10) ∷ [])) where
   by_steps_within : (k n : ℕ) → n < k → P n (digits_within k n)
   by_steps_within zero n h = absurd (omega arith)
@@ -77,7 +77,7 @@ module _ (P : ℕ → List ℕ → Type 0) (one : (n : ℕ) → n < 10 → P n (
   unfolding digits_of
   by_steps n = by_steps_within (suc n) n (omega arith)
 
--- a digit or more, and they write the number
+-- a number has at least one digit, and its digits have its value
 pub are_digits-digits_of : (n : ℕ) → are_digits (digits_of n) ≡ true
 are_digits-digits_of = by_steps (λ n ds. are_digits ds ≡ true) (λ n h. and_from _ _ (digit_from n h) refl) (λ n ds h e. are_digits-append ds ((48 + n % 10) ∷ []) e (and_from _ _ (digit_from (n % 10) (omega arith)) refl))
 
@@ -90,7 +90,7 @@ some_digits = by_steps (λ n ds. 0 < length ds) (λ n h. omega arith) (λ n ds h
 pub digits_injective : (m n : ℕ) → digits_of m ≡ digits_of n → m ≡ n
 digits_injective m n e = sym (value_of-digits_of m) ∙ ap value_of e ∙ value_of-digits_of n
 
--- digits that follow those of a number above 0 are its digits and they
+-- the digits of a number above 0 followed by more digits are the digits of the number with all these digits
 pub digits_of-value_after : (n : ℕ) (rest : List ℕ) → 0 < n → are_digits rest ≡ true → digits_of (value_after n rest) ≡ digits_of n ++ rest
 digits_of-value_after n [] some e = sym (append-nil (digits_of n))
 digits_of-value_after n (c ∷ rest) some e =

@@ -1,4 +1,4 @@
--- What two fields of digits are read as, case by case.
+-- The results of parsing two fields of digits, case by case.
 use Rattle.std.proofs.Math.Nat.{one-le-pow}
 use Rattle.std.proofs.Common.{subst, ◌≡◌, ℕ, zero, suc, ◌+◌, ◌*◌, ◌^◌, ◌<◌, ◌≤◌, Bool, true, false, not, ◌||◌, ◌&&◌, cond, List, length, ℤ, pos, refl, sym, ap, ◌∙◌, arith}
 use Rattle.std.specs.Prelude.{◌==◌, nat_lt, nat_abs, neg_ℤ, Ok, Err, Result, IfOk, IfErr}
@@ -13,7 +13,7 @@ use Rattle.nf_rational.specs.Rational.{ratio}
 pub not_zero : (n : ℕ) → 0 < n → (n == 0) ≡ false
 not_zero n h = let ne : n ≡ 0 → ⊥ = λ e. omega arith in ne_eqb n 0 ne
 
--- ---- two fields that have a digit or more, and nothing else
+-- ---- two fields of one or more digits
 pub record AreFields (a b : List ℕ) : Type 0 where
   pub some_left : 0 < length a
   pub some_right : 0 < length b
@@ -29,7 +29,7 @@ module _ (bound : ℕ) (a b : List ℕ) (n : ℤ) (d : ℕ) (are : AreFields a b
   pub parts_read : nat_abs n ≤ bound → d ≤ bound → 0 < d → parts_or_fault bound a b n d ≡ Ok (n, d)
   parts_read fits_n fits_d some = past_digits ∙ cond-false _ _ _ (or_from _ _ (le-ltb _ _ fits_n) (le-ltb _ _ fits_d)) ∙ cond-false _ _ _ (not_zero d some)
 
--- ---- the sign does not change the size
+-- ---- the sign does not change the magnitude
 pub abs-signed_by : (field : List ℕ) (n : ℕ) → nat_abs (signed_by field n) ≡ n
 abs-signed_by field n = abs_cases (starts_with_minus field) n
   where
@@ -41,7 +41,7 @@ abs-signed_by field n = abs_cases (starts_with_minus field) n
     abs_cases true n = abs_neg n
     abs_cases false n = refl
 
--- ---- from the parts of a word to its number
+-- ---- the number of a word with given parts
 pub parts_by_fields : (bound : ℕ) (word left right : List ℕ) (r : Result (ℤ × ℕ) NumberFault) → left ≡ before slash word → right ≡ denominator word
     → r ≡ parts_or_fault bound (unsigned left) right (signed_by left (value_of (unsigned left))) (value_of right) → r ≡ parts_of bound word
 unfolding parts_of
@@ -76,7 +76,7 @@ unfolding decimal_of
 decimal_fault_from bound word (Ok p) e = tt
 decimal_fault_from bound word (Err fault) e = ap as_ratio (sym e)
 
--- a decimal that has no fault
+-- a decimal without a fault
 pub decimal_given : (bound : ℕ) (left digits right : List ℕ) (num den : ℕ) (m : ℤ) → digits ≡ unsigned left → AreFields digits right
     → value_of digits * 10 ^ length right + value_of right ≤ bound → num ≡ value_of digits * 10 ^ length right + value_of right
     → 10 ^ length right ≤ bound → den ≡ 10 ^ length right → m ≡ signed_by left num
@@ -89,7 +89,7 @@ decimal_given bound left digits right num den m is_digits are fits_num is_num fi
     ∙ sym (parts_read bound (unsigned left) right (signed_by left value) (10 ^ length right) (subst (λ ds. AreFields ds right) is_digits are)
     (subst (λ (n : ℕ). n ≤ bound) (same ∙ sym (abs-signed_by left value)) fits_num) fits_den (one-le-pow (length right) 10 (omega arith)))
 
--- ---- the parts that are read are within the bound
+-- ---- parsed parts are within the bound
 abbrev IsWithin : ℕ → ℤ × ℕ → Type 0
 IsWithin bound p = (nat_abs p.0 ≤ bound) × (p.1 ≤ bound) × (0 < p.1)
 

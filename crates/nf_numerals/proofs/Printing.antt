@@ -1,4 +1,4 @@
--- The printed form, in std's words for what an integer's text is.
+-- The printed form, in terms of the standard library's texts of integers.
 use Rattle.std.proofs.Common.{◌≡◌, ◌≢◌, ℕ, zero, suc, ◌^◌, ◌<◌, List, [], ◌∷◌, ◌++◌, ℤ, pos, negsuc, sym, ap, ◌∙◌, arith, append_assoc, pow-suc}
 use Rattle.std.specs.Prelude.{nat_abs}
 use Rattle.std.specs.Fmt.{decimal, signed_decimal}
@@ -38,7 +38,7 @@ ratio_text n d fits_n fits_d e =
     ∙ ap (λ ds. (ds ++ slash ∷ []) ++ digits_of d) (signed_digits_are_decimal n fits_n)
     ∙ ap (λ ds. (signed_decimal n ++ slash ∷ []) ++ ds) (digits_are_decimal d fits_d)
 
--- ---- a text that is written piece by piece
+-- ---- a text written in chunks
 pub whole_written : (n : ℤ) (d : ℕ) (empty text piece : List ℕ) → nat_abs n < 2 ^ 127 → d ≡ 1 → empty ≡ [] → text ≡ empty ++ piece → piece ≡ signed_decimal n → text ≡ printed_parts n d
 whole_written n d empty text piece fits one start step is = cc (whole_text n d fits one)
 

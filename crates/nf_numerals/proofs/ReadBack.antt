@@ -1,4 +1,4 @@
--- What the printed form of a number is read as.
+-- Parsing the printed form of a number.
 use Rattle.std.proofs.Common.{◌≡◌, ℕ, suc, ◌+◌, ◌<◌, ◌≤◌, true, false, List, [], ◌∷◌, ◌++◌, length, ℤ, pos, negsuc, refl, sym, ap, ◌∙◌, inl, inr, arith}
 use Rattle.std.specs.Prelude.{nat_abs, neg_ℤ, Ok, Result}
 use Rattle.std.specs.Str.Parse.{starts_with_minus}
@@ -70,7 +70,7 @@ printed_read bound n d fits_n fits_d some = elim (cases_eq d 1) [
   | inr more ↦ ap (parts_of bound) (cond-false _ _ _ (ne_eqb d 1 more)) ∙ ratio_read bound n d fits_n fits_d some
 ]
 
--- the same as decimals: a printed form has no point, or has a slash
+-- the same with decimals allowed: a printed form has no point, or has a slash
 decimal_read : (bound : ℕ) (n : ℤ) (d : ℕ) → decimal_parts_of bound (printed_parts n d) ≡ parts_of bound (printed_parts n d)
 unfolding decimal_parts_of printed_parts
 decimal_read bound n d = elim (cases_eq d 1) [

@@ -1,4 +1,4 @@
--- What reading and printing have to do with each other, and worked examples of both.
+-- Theorems on parsing and printing, and worked examples of both.
 use Rattle.std.specs.Prelude.{◌≡◌, ◌↔◌, ℕ, ◌-◌, ◌^◌, ◌<◌, ◌≤◌, List, codes, pos, negsuc, nat_abs, Ok, Err, Some}
 use Rattle.nf_rational.specs.Rational.{ℚ, ratio}
 use Rattle.nf_numerals.specs.declared.NumberFault.TheVariants.{Empty, BadDigit, TooWide, ZeroDenominator}
@@ -6,7 +6,7 @@ use Rattle.nf_numerals.specs.Digits.{digits_of, count_of}
 use Rattle.nf_numerals.specs.Numbers.{number_of, decimal_of}
 use Rattle.nf_numerals.specs.Printed.{printed}
 
--- a printed number with no part beyond the bound is read as that number, by either reading
+-- parsing the printed form of a number within the bound returns this number, with decimals allowed or not
 pub record PrintedReadsBack : Type 0 where
   pub fraction : (bound : ℕ) (q : ℚ) → nat_abs q.num ≤ bound → q.den ≤ bound → number_of bound (printed q) ≡ Ok q
   pub decimal : (bound : ℕ) (q : ℚ) → nat_abs q.num ≤ bound → q.den ≤ bound → decimal_of bound (printed q) ≡ Ok q
@@ -15,11 +15,11 @@ pub record PrintedReadsBack : Type 0 where
 abbrev pub PrintedIsInjective : Type 0
 PrintedIsInjective = (p q : ℚ) → printed p ≡ printed q → p ≡ q
 
--- a word is a count's just where it is the digits of that number, and the number has at most 64 bits
+-- a word is parsed as a count exactly if it consists of the digits of this count, and the count has at most 64 bits
 abbrev pub CountsAreDigits : Type 0
 CountsAreDigits = (word : List ℕ) (n : ℕ) → (count_of word ≡ Some n) ↔ ((word ≡ digits_of n) × (n < 2 ^ 64))
 
--- the greatest part of a fraction of 127 bits
+-- the greatest part of a fraction with 127 bits
 abbrev pub widest : ℕ
 widest = 2 ^ 127 - 1
 

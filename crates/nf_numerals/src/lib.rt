@@ -1,7 +1,6 @@
-//! Rational numbers and counts as words of text: what a word is read as, and how a number is printed.
+//! Rational numbers and counts as words of text: parsing and printing.
 //!
-//! A word is `a` or `a/b`, or a decimal `a.b` where a format allows it. The forms are this project's own. No call takes
-//! memory.
+//! A word is `a` or `a/b`, or a decimal `a.b` where the caller allows decimals. No function allocates memory.
 #![tactic(auto)]
 
 ghost use Rattle.nf_numerals.specs.Laws.{PrintedReadsBack, PrintedIsInjective, CountsAreDigits, FractionsAreRead, DecimalsAreRead};
@@ -12,20 +11,20 @@ mod text;
 pub use reading::{count, decimal_parts, parts};
 pub use text::{TextBuf, write_count, write_parts};
 
-/// Why a word is no number. Where several faults apply, the first in this order is answered.
+/// Why a word is not a number. If several faults apply, parsing returns the first of them in this order.
 #[derive(Clone, Copy, Debug, PartialEq, Eq)]
 pub enum NumberFault {
-    /// A field of digits has no byte.
+    /// A field of digits is empty: `a` without its sign, or `b`.
     Empty,
-    /// A byte in a field of digits is no digit.
+    /// A field of digits contains a byte that is not a decimal digit.
     BadDigit,
-    /// A part, as written, is beyond the bound.
+    /// The numerator or the denominator, as written and not reduced, exceeds the bound in magnitude.
     TooWide,
     /// The denominator is 0.
     ZeroDenominator,
 }
 
-/// A printed number is read as that number, by either reading.
+/// Parsing the printed form of a number returns this number, with decimals allowed or not.
 pub fn printed_reads_back()
     ensures { PrintedReadsBack }
 {}
@@ -35,17 +34,17 @@ pub fn printed_is_injective()
     ensures { PrintedIsInjective }
 {}
 
-/// A word is a count's just where it is the digits of that number.
+/// A word is parsed as a count exactly if it consists of the digits of that count.
 pub fn counts_are_digits()
     ensures { CountsAreDigits }
 {}
 
-/// Words of fractions, and what they are read as.
+/// The words `a` and `a/b`, and the results of parsing them.
 pub fn fractions_are_read()
     ensures { FractionsAreRead }
 {}
 
-/// Words of decimals, and what they are read as.
+/// The words `a.b`, and the results of parsing them with decimals allowed.
 pub fn decimals_are_read()
     ensures { DecimalsAreRead }
 {}

@@ -1,4 +1,4 @@
-//! Words of numbers and counts, read.
+//! Parsing the words of numbers and counts.
 ghost use Rattle.std.specs.Prelude.{◌≡◌, ◌+◌, ◌*◌, ◌^◌, ◌<◌, ◌≤◌, ℕ, ℤ, ◌==◌, length, nat_abs, IsTrue, IfOk, IfErr, OnOk, SomeIff, Ok, Err};
 ghost use Rattle.std.specs.List.{position, position_or_len};
 ghost use Rattle.std.specs.Str.Parse.{starts_with_minus};
@@ -28,7 +28,7 @@ fn position_of(word: &[u8], byte: u8) -> Option<usize>
     word.iter().position(|c| *c == byte)
 }
 
-// The place of the first such byte, or the word's length where there is none.
+// The index of the first such byte, or the word's length if there is none.
 fn place_of(word: &[u8], byte: u8) -> usize
     ensures place { result ≡ position_or_len (λ c. c == byte) word.now }
     ensures within { result ≤ length word.now }
@@ -69,7 +69,7 @@ fn without_minus(field: &[u8]) -> &[u8]
     }
 }
 
-// The digits after the first slash; `1` where there is no slash.
+// The bytes after the first slash, or `1` if there is no slash.
 fn denominator_of(word: &[u8]) -> &[u8]
     ensures { result.now ≡ denominator word.now }
 {
@@ -88,13 +88,36 @@ fn all_digits(word: &[u8]) -> bool
     word.iter().all(|c| c.is_ascii_digit())
 }
 
-// The number that the digits write where they follow those of `start`, unless it is beyond the bound.
+// The greatest count of digits whose number is computed in 64 bits.
+const FEW_DIGITS: usize = 18;
+
+// The greatest number of 18 digits.
+const GREATEST_OF_FEW: u128 = 999_999_999_999_999_999;
+
+// The number with these digits, at most 18, computed in 64 bits.
+fn short_value(digits: &[u8]) -> u64
+    requires digits { IsTrue (are_digits digits.now) }
+    requires few { length digits.now ≤ 18 }
+    ensures value { result ≡ value_of digits.now }
+    ensures small { result < 10 ^ 18 }
+{
+    let mut value: u64 = 0;
+    for c in digits {
+        value = 10 * value + u64::from(*c - b'0');
+    }
+    value
+}
+
+// The number with the digits of `start` followed by `digits`. None if it exceeds the bound.
 fn value_within(start: u128, digits: &[u8], bound: u128) -> Option<u128>
     requires digits { IsTrue (are_digits digits.now) }
     requires start { start ≤ bound }
     requires bound { bound < 2 ^ 127 }
     ensures { SomeIff result (value_after start digits.now ≤ bound) (value_after start digits.now) }
 {
+    if start == 0 && digits.len() <= FEW_DIGITS && bound >= GREATEST_OF_FEW {
+        return Some(short_value(digits) as u128);
+    }
     let mut value = start;
     for c in digits {
         if value > bound / 10 {
@@ -108,7 +131,7 @@ fn value_within(start: u128, digits: &[u8], bound: u128) -> Option<u128>
     Some(value)
 }
 
-// The power of ten, unless it is beyond the bound.
+// The power of ten with this exponent. None if it exceeds the bound.
 fn power_of_ten(exponent: usize, bound: u128) -> Option<u128>
     requires { bound < 2 ^ 127 }
     ensures { SomeIff result (10 ^ exponent ≤ bound) (10 ^ exponent) }
@@ -125,7 +148,7 @@ fn power_of_ten(exponent: usize, bound: u128) -> Option<u128>
 
 // ---- parts
 
-// No fault in two fields of digits, or the first that applies whatever they write.
+// Checks that both fields are digits. Returns the first fault that applies, whatever their values are.
 fn check_fields(left: &[u8], right: &[u8]) -> Result<(), NumberFault>
     ensures some_left { OnOk result (0 < length left.now) }
     ensures some_right { OnOk result (0 < length right.now) }
@@ -142,7 +165,7 @@ fn check_fields(left: &[u8], right: &[u8]) -> Result<(), NumberFault>
     Ok(())
 }
 
-// The number with the sign of the field that it was read from.
+// The number with this magnitude and the sign of the field.
 fn signed(field: &[u8], magnitude: u128) -> i128
     requires { magnitude < 2 ^ 127 }
     ensures sign { result ≡ signed_by field.now magnitude }
@@ -152,7 +175,7 @@ fn signed(field: &[u8], magnitude: u128) -> i128
     if is_negative(field) { -number } else { number }
 }
 
-// What a signed field of digits over another one says.
+// The parts of the fraction with a signed numerator field and a denominator field.
 fn fraction(left: &[u8], right: &[u8], bound: u128) -> Result<(i128, u128), NumberFault>
     requires { bound < 2 ^ 127 }
     ensures { let digits = unsigned left.now in
@@ -172,7 +195,7 @@ fn fraction(left: &[u8], right: &[u8], bound: u128) -> Result<(i128, u128), Numb
     Ok((signed(left, num), den))
 }
 
-// The number that the digits write, those of the right field after those of the left one, unless it is beyond the bound.
+// The number with the digits of the left field followed by those of the right field. None if it exceeds the bound.
 fn decimal_within(left: &[u8], right: &[u8], bound: u128) -> Option<u128>
     requires left { IsTrue (are_digits left.now) }
     requires right { IsTrue (are_digits right.now) }
@@ -184,7 +207,7 @@ fn decimal_within(left: &[u8], right: &[u8], bound: u128) -> Option<u128>
     value_within(whole, right, bound)
 }
 
-// What a signed field of digits with the digits of another one after the point says.
+// The parts of the decimal with a signed field before the point and a field of digits after it.
 fn decimal(left: &[u8], right: &[u8], bound: u128) -> Result<(i128, u128), NumberFault>
     requires { bound < 2 ^ 127 }
     ensures { let digits = unsigned left.now in
@@ -202,9 +225,11 @@ fn decimal(left: &[u8], right: &[u8], bound: u128) -> Result<(i128, u128), Numbe
     Ok((signed(left, num), den))
 }
 
-/// The parts of a fraction as a word `a` or `a/b` writes them, or why it writes none. The word is split at its first slash,
-/// and a may begin with `-`. The faults, the first that applies: a, without its sign, or b has no byte; a byte there is no
-/// digit; a or b is beyond the bound; b is 0.
+/// Parses a word `a` or `a/b` into numerator and denominator, as written and not reduced.
+///
+/// The word is split at its first slash, and `a` may begin with `-`. Without a slash the denominator is 1. The bound is below
+/// 2^127. Returns an error exactly if a fault applies, and then the first of these: `a` without its sign, or `b`, is empty;
+/// a byte in them is not a digit; `a` or `b` exceeds the bound in magnitude; `b` is 0.
 pub fn parts(word: &[u8], bound: u128) -> Result<(i128, u128), NumberFault>
     requires { bound < 2 ^ 127 }
     ensures exact { result ≡ parts_of bound word.now }
@@ -217,8 +242,14 @@ pub fn parts(word: &[u8], bound: u128) -> Result<(i128, u128), NumberFault>
     fraction(before_byte(word, b'/'), denominator_of(word), bound)
 }
 
-/// The same, where a word without a slash may also be a decimal `a.b`, split at its first point: with k digits in b its
-/// parts are a · 10^k + b, with the sign of a, and 10^k.
+/// Parses a word `a`, `a/b` or `a.b` into numerator and denominator, as written and not reduced.
+///
+/// A word with a point and no slash is a decimal `a.b`, split at its first point, and `a` may begin with `-`. If `b` has
+/// k digits, the denominator is 10^k, and the numerator is |a| · 10^k + b with the sign of `a`. So `-0.5` is -5 over 10. Every
+/// other word is parsed as by `parts`. The bound is below 2^127.
+///
+/// Returns an error exactly if a fault applies, and then the first of these: `a` without its sign, or `b`, is empty; a byte
+/// in them is not a digit; the numerator or the denominator exceeds the bound in magnitude; the denominator is 0.
 pub fn decimal_parts(word: &[u8], bound: u128) -> Result<(i128, u128), NumberFault>
     requires { bound < 2 ^ 127 }
     ensures exact { result ≡ decimal_parts_of bound word.now }
@@ -243,7 +274,8 @@ fn is_count(word: &[u8]) -> bool
     all_digits(word) && !word.is_empty() && (word.len() == 1 || word[0] != b'0')
 }
 
-/// The count that a word writes: plain decimal of at most 64 bits, with no zero before other digits.
+/// Parses a count in plain decimal. Returns None exactly if the word is empty, has a byte that is not a digit, has a zero before
+/// other digits, or its number exceeds 2^64 - 1.
 pub fn count(word: &[u8]) -> Option<u64>
     ensures { result ≡ count_of word.now }
 {

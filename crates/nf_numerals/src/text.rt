@@ -1,4 +1,4 @@
-//! Printed numbers, in a buffer without memory of its own.
+//! Printing numbers into a buffer of fixed size.
 ghost use Rattle.std.specs.Prelude.{◌≡◌, ◌+◌, ◌^◌, ◌<◌, ◌≤◌, ℕ, List, [], ◌++◌, length, take, nat_abs};
 ghost use Rattle.nf_numerals.specs.Digits.{digits_of};
 ghost use Rattle.nf_numerals.specs.Printed.{printed_parts};
@@ -8,7 +8,7 @@ use std::marker::Model;
 
 const ROOM: usize = 80;
 
-/// The text of one number: two parts of at most 39 digits each, a minus and a slash.
+/// The text of one number, at most 80 bytes: two parts of at most 39 digits each, a minus sign and a slash.
 #[derive(Drop)]
 pub struct TextBuf {
     bytes: [u8; ROOM],
@@ -24,7 +24,7 @@ impl Model for TextBuf {
 }
 
 impl TextBuf {
-    /// An empty text.
+    /// Returns an empty text.
     pub fn new() -> Self
         ensures { result ≡ [] }
     {
@@ -34,7 +34,7 @@ impl TextBuf {
         }
     }
 
-    /// The bytes of the text.
+    /// Returns the bytes of the text.
     pub fn text(&self) -> &[u8]
         ensures { result.now ≡ self.now }
     {
@@ -65,8 +65,8 @@ impl Default for TextBuf {
     }
 }
 
-/// Writes the printed form of a fraction with these parts: the numerator, and `/` with the denominator where that isn't 1.
-/// What the text was before is dropped.
+/// Replaces the text by the printed form of a fraction: the numerator, followed by `/` and the denominator if the denominator
+/// is not 1. Both parts are below 2^127 in magnitude, and are printed as given, not reduced.
 pub fn write_parts(num: i128, den: u128, text: &mut TextBuf)
     requires num { nat_abs num < 2 ^ 127 }
     requires den { den < 2 ^ 127 }
@@ -81,7 +81,7 @@ pub fn write_parts(num: i128, den: u128, text: &mut TextBuf)
     }
 }
 
-/// Writes a count in plain decimal. What the text was before is dropped.
+/// Replaces the text by the count in plain decimal.
 pub fn write_count(count: u64, text: &mut TextBuf)
     ensures { text.new ≡ digits_of count }
 {

@@ -20,3 +20,4 @@ pub mod Slices
 pub mod LinkChanges
 pub mod Held
 pub mod SmallTables
+pub mod PatternIn

@@ -15,6 +15,6 @@ pub use comparing::is_one_pattern;
 pub use filling::{surplus, unknown_count};
 pub use fulls::full_flow;
 pub use led::{each_is_led, may_carry};
-pub use solving::MOST_UNKNOWNS;
+pub use solving::MOST_GRID_UNKNOWNS;
 pub use trying::{Outcome, Tried, judge_values, pattern_values, solved, try_one, try_pattern};
 pub use verdicts::{Judged, verdict};

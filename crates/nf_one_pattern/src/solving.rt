@@ -15,8 +15,8 @@ use nf_linear::{Eliminated, Grid, solve_grid};
 use nf_net::Network;
 use nf_pattern::Pattern;
 
-/// The most unknowns of a table that is solved without memory.
-pub const MOST_UNKNOWNS: u32 = 32;
+/// `try_pattern` solves systems of at most this many unknowns, the nodes and the active links, without allocating.
+pub const MOST_GRID_UNKNOWNS: u32 = 32;
 
 // Solves the table on a grid of this size. Not inlined, so that no call makes room for a larger grid than it uses.
 #[inline(never)]
@@ -41,8 +41,8 @@ fn solve_on<const N: usize>(
     solve_grid(&mut grid, values)
 }
 
-/// Whether the table of a pattern has one solution, and the values of its unknowns then; or the first operation that passes. It is
-/// solved on the least grid that the unknowns fit.
+/// Returns whether the equations of a pattern have one solution, which `values` then holds, or the first operation that passes. They
+/// are solved on the smallest grid that has room for the unknowns.
 pub fn solve_pattern(
     count: u32,
     net: &Network,

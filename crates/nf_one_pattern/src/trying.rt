@@ -1,8 +1,12 @@
 // One pattern is tried: its table is solved, and the solution judged.
-ghost use Rattle.std.specs.Prelude.{◌≡◌, ◌+◌, ◌≤◌, length, option_map, Ok, IfOk, IfSome};
+ghost use Rattle.std.specs.Prelude.{◌≡◌, ℕ, ◌+◌, ◌≤◌, length, option_map, Ok, IfOk, IfSome};
 ghost use Rattle.nf_work.specs.declared.Part.TheVariants as Part;
 ghost use Rattle.nf_work.specs.Passing.{passes_Q};
 ghost use Rattle.nf_work.specs.Checked.{at_part, Gives};
+ghost use Rattle.nf_model.specs.Entries.{Has};
+ghost use Rattle.nf_model.specs.Network.{unbounded};
+ghost use Rattle.nf_model.specs.Pattern.{IsPattern};
+ghost use Rattle.nf_thin_laws.specs.ActiveLinks.{AreSets};
 ghost use Rattle.nf_lists.specs.Table.{table_list};
 ghost use Rattle.nf_lists.specs.Verdict.{verdict_list};
 ghost use Rattle.nf_lists.specs.Equations.{active_from, unknowns, equations, flows_in, slopes_in};
@@ -23,8 +27,8 @@ use nf_net::Network;
 use nf_pattern::Pattern;
 use std::alloc::{AllocError, Global};
 
-/// What comes of a pattern, where its flows and slopes are written into slices.
-#[derive(Clone, Copy, Debug, PartialEq, Eq)]
+/// The result of `try_pattern`, which writes flows and slopes into slices.
+#[derive(Clone, Copy)]
 pub enum Tried {
     /// The pattern is accepted, with the flows and slopes in the slices.
     Accepted,
@@ -32,7 +36,7 @@ pub enum Tried {
     NotSolvable,
 }
 
-/// What comes of a pattern, with its flows and slopes.
+/// The result of `try_one`, with flows and slopes.
 #[derive(Drop)]
 pub enum Outcome {
     /// The pattern is accepted: flows of the links, and slopes of the nodes.
@@ -206,10 +210,16 @@ pub fn pattern_values(
 
 // ---- the whole of a pattern
 
-/// Whether a pattern is accepted at a rate of supply, an amount per unit of time, and with which flows of the links, amounts per unit
-/// of time, and slopes of the nodes' labels over time: Accepted comes exactly where it is, and the slices then hold them. Passed comes
-/// exactly where an operation of its table or then of its verdict passes, with the first one, and NotSolvable where it is not solvable
-/// and none passes; the slices hold any numbers then. For at most 32 unknowns: the nodes, and the active links. Takes no memory.
+/// Solves the equations of a pattern, and tests their solution. `rate` is the supply at the source, an amount per unit of time.
+///
+/// - `Accepted`: exactly if no operation passes and the pattern is solvable. `flows` then has the flow of each link, an amount per
+///   unit of time, and `slopes` the slope of each node's label.
+/// - `NotSolvable`: exactly if no operation passes and the pattern is not solvable. The slices then hold any numbers.
+/// - `Passed`: exactly if an operation of the table passes (part Table) or, after the table, one of the verdict (part Verdict); it
+///   has the first one. The slices then hold any numbers.
+///
+/// There must be at most `MOST_GRID_UNKNOWNS` nodes and active links together, one flow for each link, and one slope for each node.
+/// No resetting link may be unbounded. Doesn't allocate.
 pub fn try_pattern(
     net: &Network,
     sets: &LinkSets,
@@ -218,12 +228,16 @@ pub fn try_pattern(
     flows: &mut [Q],
     slopes: &mut [Q],
 ) -> Result<Tried, PassedAt<Q>>
-    requires pattern { IsPatternIn net.now.net sets.now pattern.now }
+    requires sets { AreSets net.now.net sets.now }
+    requires bounded { (e : ℕ) → Has (unbounded net.now.net) e → Has sets.now.resetting e → ⊥ }
+    requires pattern { IsPattern sets.now (unbounded net.now.net) pattern.now }
     requires few { length (unknowns net.now.net sets.now) ≤ 32 }
     requires flows { length flows.old ≡ length net.now.net.links }
     requires slopes { length slopes.old ≡ net.now.net.nodes }
     ensures { TriesInto passes_Q net.now.net sets.now rate pattern.now flows.new slopes.new result }
 {
+    // For the proof: every network is well formed.
+    net.recall();
     let count = unknown_count(net, sets);
     let mut room = [Q::zero(); 32];
     let values = &mut room[..count as usize];

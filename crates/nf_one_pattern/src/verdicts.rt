@@ -17,8 +17,8 @@ use nf_model::State;
 use nf_net::Network;
 use nf_pattern::Pattern;
 
-/// What a verdict finds: that all is met, or the first node or link that fails.
-#[derive(Clone, Copy, Debug, PartialEq, Eq)]
+/// The verdict on flows and slopes: they meet the pattern, or this is the first node or link that fails.
+#[derive(Clone, Copy)]
 pub enum Judged {
     /// No flow or slope is negative, and each link meets the inequality of its state.
     Meets,
@@ -164,9 +164,11 @@ fn first_negative(net: &Network, slopes: &[Q]) -> Option<NodeId>
     None
 }
 
-/// Whether flows of the links, amounts per unit of time, and slopes of the nodes meet a pattern: no flow or slope is negative, and
-/// each link meets the inequality of its state. Else the first node that fails, and where there is none the first link. Passed
-/// comes exactly at the first operation of the verdict list that passes, also where something fails. Takes no memory.
+/// Returns whether flows and slopes meet a pattern: no flow or slope is negative, and each link meets the inequality of its state.
+/// `flows` has one number for each link, an amount per unit of time; `slopes` one for each node, its label's change per unit of
+/// departure time. If they don't meet it, returns the first node that fails, or else the first link. The pattern must be one of these
+/// sets. Returns `Passed` exactly at the first operation of `verdict_list` (nf_lists/specs/Verdict.antt) that passes, with the part
+/// Verdict, even if something fails. Doesn't allocate.
 pub fn verdict(
     net: &Network,
     sets: &LinkSets,

@@ -8,7 +8,7 @@ use nf_thin::SearchFault;
 use std::alloc::AllocError;
 
 /// Why a phase wasn't made.
-#[derive(Clone, Copy, Debug, PartialEq, Eq)]
+#[derive(Clone, Copy)]
 pub enum StepFault {
     /// The search for its thin flow found none. It never carries that memory is wanting.
     Search(SearchFault),

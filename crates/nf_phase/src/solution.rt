@@ -3,7 +3,7 @@ use nf_curve::{Flow, Stop};
 use nf_pattern::Pattern;
 
 /// How much a run may take: so many phases, and so many patterns in each.
-#[derive(Clone, Copy, Debug)]
+#[derive(Clone, Copy)]
 pub struct Budgets {
     pub phases: u64,
     pub patterns: u64,

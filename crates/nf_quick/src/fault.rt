@@ -9,7 +9,7 @@ use nf_graph::LinkId;
 use std::alloc::AllocError;
 
 /// Why a quickest flow isn't found.
-#[derive(Drop, Debug)]
+#[derive(Drop)]
 pub enum QuickFault {
     /// So many walks as allowed were pushed, and the next one is shorter than the time.
     Budget { walks: Vec<Augment> },

@@ -24,7 +24,7 @@ impl Model for Rated {
 }
 
 /// A residual walk that was pushed, with its amount, a rate.
-#[derive(Drop, Debug)]
+#[derive(Drop)]
 pub struct Augment {
     pub walk: Walk,
     pub amount: Q,

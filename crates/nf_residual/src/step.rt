@@ -14,7 +14,7 @@ use nf_net::Link;
 use std::marker::Model;
 
 /// A step along a link, or back along it.
-#[derive(Clone, Copy, Debug, PartialEq, Eq)]
+#[derive(Clone, Copy)]
 pub struct Step {
     pub link: LinkId,
     pub forward: bool,
@@ -35,7 +35,7 @@ impl Model for Step {
 
 /// A residual walk, its length (a time, in which a step back counts minus its transit time), and its room: the least rate that
 /// can still be added on a step of it.
-#[derive(Drop, Debug)]
+#[derive(Drop)]
 pub struct Walk {
     pub steps: Vec<Step>,
     pub length: Q,

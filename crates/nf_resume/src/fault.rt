@@ -8,7 +8,7 @@ use nf_frac::{Halt, PassedAt, Q};
 use std::alloc::AllocError;
 
 /// Why a report isn't resumed.
-#[derive(Clone, Copy, Debug)]
+#[derive(Clone, Copy)]
 pub enum ResumeFault {
     /// The horizon is before the departure that the report's flow has reached.
     Earlier { reached: Q },

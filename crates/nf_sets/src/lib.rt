@@ -8,7 +8,7 @@ ghost use Rattle.nf_work.specs.declared.Part.TheVariants.{Slack};
 ghost use Rattle.nf_work.specs.Passing.{passes_Q};
 ghost use Rattle.nf_work.specs.Checked.{at_part, Gives};
 ghost use Rattle.nf_model.specs.Entries.{number_at};
-ghost use Rattle.nf_model.specs.ThinFlow.{sets_of};
+ghost use Rattle.nf_model.specs.ThinFlow.{sets_of, slacks_of};
 ghost use Rattle.nf_lists.specs.Slack.{slack_of, slack_list};
 ghost use Rattle.nf_graph.specs.Graph.{AreBelow};
 
@@ -24,7 +24,7 @@ fn label_of(labels: &[Q], node: NodeId) -> Q
     labels[node.index()]
 }
 
-// How much later the label of the link's head is than that of its tail with the transit time.
+// Returns the slack of a link: the label of its head, less the sum of its tail's label and its transit time.
 #[tactic(auto, unfolding(nf_lists::specs::Slack::slack_of))]
 fn slack(labels: &[Q], hop: &Hop) -> Result<Q, PassedAt<Q>>
     requires tail { hop.now.tail < length labels.now }
@@ -36,13 +36,15 @@ fn slack(labels: &[Q], hop: &Hop) -> Result<Q, PassedAt<Q>>
     Ok(slack)
 }
 
-/// The slack of each link: how much later the label of its head is than that of its tail with the transit time. Link by link,
-/// first that sum is formed and then the difference; Passed comes exactly at the first of these operations that passes, and has
-/// part Slack.
+/// Returns the slack of each link at labels of the nodes: the label of its head, less the sum of its tail's label and its transit
+/// time, in the unit of time. There must be a label for the ends of each link. The operations are those of `slack_list`
+/// (nf_lists/specs/Slack.antt): link by link, that sum and then the difference. Returns `Passed` exactly at the first of them that
+/// passes, with the part Slack. Otherwise fails only if an allocation fails.
 pub fn slacks(alloc: Global, hops: &[Hop], labels: &[Q]) -> Result<Vec<Q>, Halt<Q>>
     requires { AreBelow (length labels.now) hops.now }
-    ensures { Gives (λ slacks. slacks.items) (λ q. q) result
+    ensures list { Gives (λ slacks. slacks.items) (λ q. q) result
         (at_part Slack (slack_list passes_Q hops.now labels.now)) }
+    ensures slacks { IfOk result (λ slacks. slacks.items ≡ slacks_of hops.now labels.now) }
 {
     let mut slacks = Vec::new(alloc);
     for hop in hops {
@@ -83,7 +85,8 @@ fn resetting_flags(alloc: Global, slacks: &[Q]) -> Result<Vec<bool>, AllocError>
         .collect(alloc)
 }
 
-/// The links that are active, those with a slack of at least 0, and those that are resetting, with a slack above 0.
+/// Returns which links are active, those with a slack of at least 0, and which are resetting, those with a slack above 0. Fails only
+/// if an allocation fails.
 pub fn sets(alloc: Global, slacks: &[Q]) -> Result<LinkSets, AllocError>
     ensures { IfOk result (λ sets. sets ≡ sets_of slacks.now) }
 {

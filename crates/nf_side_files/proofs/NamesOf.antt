@@ -1,6 +1,7 @@
 -- Links and nodes by their names.
-use Rattle.std.proofs.Common.{◌≡◌, ℕ, Bool, true, false, cond, List, [], slice_get, unwrap_or, Some, sym, ◌∙◌, ap}
+use Rattle.std.proofs.Common.{◌≡◌, ℕ, ◌<◌, Bool, true, false, cond, List, [], length, slice_get, unwrap_or, Some, sym, ◌∙◌, ap, arith}
 use Rattle.std.proofs.lemmas.Option.{slice_get_within}
+use Rattle.std.proofs.lemmas.Slice.Eq.{bytes_eq-Decides}
 use Rattle.std.specs.List.{IsDistinct}
 use Rattle.std.specs.Str.{IsUtf8, bytes_eq}
 use Rattle.nf_formats.specs.Names.{Name, has_name, place_of, name_at}
@@ -9,7 +10,7 @@ use Rattle.nf_formats.specs.WellNamed.{IsNamed}
 use Rattle.nf_formats_laws.proofs.NameFacts.{has_at, place_at}
 use Rattle.nf_formats_laws.proofs.LinkFacts.{distinct_left}
 use Rattle.nf_net_file.proofs.NameText.{name_is_text}
-use Rattle.nf_net.proofs.Limits.{named_links, named_nodes, not_there}
+use Rattle.nf_net.proofs.Limits.{named_links, named_nodes, not_there, as_many_names}
 use Rattle.nf_side_files.specs.NameAt.{IsNameAt}
 
 is_there : (names : List Name) (name : Name) (place : ℕ) → IsDistinct bytes_eq names → slice_get names place ≡ Some name → IsNameAt names name place
@@ -27,6 +28,18 @@ link_is_there n name link h e = is_there n.link_names name link (distinct_left n
 
 pub node_is_there : (n : Named) (name : Name) (node : ℕ) → IsNamed n → slice_get n.node_names node ≡ Some name → IsNameAt n.node_names name node
 node_is_there n name node h e = is_there n.node_names name node (distinct_left n.node_names n.idle_nodes h.node_names.distinct) e
+
+-- a link whose name a word is
+pub near_is_there : (n : Named) (name word : Name) (near : ℕ) → IsNamed n → near < length n.net.links → name ≡ name_at n.link_names near → bytes_eq name word ≡ true
+    → IsNameAt n.link_names word near
+near_is_there n name word near h lt is same =
+    let at : name_at n.link_names near ≡ word = sym is ∙ (bytes_eq-Decides name word).0 same in
+    let within : near < length n.link_names = omega (arith, lt, as_many_names n h) in
+    record {
+      there = ap (has_name n.link_names) (sym at) ∙ has_at n.link_names near within;
+      is_place = ap (place_of n.link_names) (sym at) ∙ place_at n.link_names near (distinct_left n.link_names (names_of n.idle_links) h.link_names.distinct) within;
+      within = within;
+    }
 
 -- what isn't text is no name
 pub no_link_text : (n : Named) (name : Name) → IsNamed n → (IsUtf8 name → ⊥) → has_name n.link_names name ≡ false

@@ -10,4 +10,4 @@ mod words;
 pub use nf_text::{ReadLine, TextFault, is_word};
 pub use pieces::{PieceFault, piece_fault};
 pub use reading::{contents, is_head};
-pub use words::{is_name, link_of, node_of, number_of};
+pub use words::{is_name, link_near, link_of, node_of, number_of};

@@ -8,7 +8,7 @@ use nf_frac::Q;
 use nf_net::Piece;
 
 /// What can be wrong with a piece behind others, where there may be only so many.
-#[derive(Clone, Copy, Debug, PartialEq, Eq)]
+#[derive(Clone, Copy)]
 pub enum PieceFault {
     /// Its start or its rate is negative.
     Negative,

@@ -1,4 +1,4 @@
-// What words stand for.
+// The links, nodes, numbers and names that words stand for.
 ghost use Rattle.std.specs.Prelude.{◌≡◌, false, MatchOption};
 ghost use Rattle.std.specs.List.{list_all};
 ghost use Rattle.std.specs.Result.{result_ok};
@@ -10,8 +10,9 @@ ghost use Rattle.nf_side_files.specs.NameAt.{IsNameAt};
 
 use nf_frac::Q;
 use nf_net::{LONGEST_NAME, LinkId, Network, NodeId};
+use nf_text::is_word;
 
-/// The link that a word names; None exactly where no link has the name, idle links aside.
+/// Returns the link that a word names; None exactly if no link has this name. Idle links are not considered.
 #[tactic(auto, using(crate::proofs::NamesOf::link_is_there, crate::proofs::NamesOf::no_link_text))]
 pub fn link_of(net: &Network, word: &[u8]) -> Option<LinkId>
     ensures { MatchOption result (has_name net.now.link_names word.now ≡ false) (λ link. IsNameAt net.now.link_names word.now link) }
@@ -24,7 +25,23 @@ pub fn link_of(net: &Network, word: &[u8]) -> Option<LinkId>
     }
 }
 
-/// The node that a word names; None exactly where no node has the name, idle nodes aside.
+/// Returns the link that a word names, as `link_of` does. The name of the link `near` is compared first, for speed: neighbouring
+/// lines of a file often name the same link.
+pub fn link_near(net: &Network, word: &[u8], near: LinkId) -> Option<LinkId>
+    ensures { MatchOption result (has_name net.now.link_names word.now ≡ false) (λ link. IsNameAt net.now.link_names word.now link) }
+{
+    // For the proof: names of links differ.
+    net.recall();
+    if near.0 < net.link_count() {
+        let name = net.link_name(near);
+        if is_word(name.as_bytes(), word) {
+            return Some(near);
+        }
+    }
+    link_of(net, word)
+}
+
+/// Returns the node that a word names; None exactly if no node has this name. Idle nodes are not considered.
 #[tactic(auto, using(crate::proofs::NamesOf::node_is_there, crate::proofs::NamesOf::no_node_text))]
 pub fn node_of(net: &Network, word: &[u8]) -> Option<NodeId>
     ensures { MatchOption result (has_name net.now.node_names word.now ≡ false) (λ node. IsNameAt net.now.node_names word.now node) }
@@ -37,7 +54,7 @@ pub fn node_of(net: &Network, word: &[u8]) -> Option<NodeId>
     }
 }
 
-/// The number that a word `a` or `a/b` writes, if it does.
+/// Returns the number that a word `a` or `a/b` writes, if it writes one.
 pub fn number_of(word: &[u8]) -> Option<Q>
     ensures { result ≡ result_ok (numerals.number_of greatest word.now) }
 {
@@ -56,7 +73,7 @@ fn are_bytes_of_name(word: &[u8]) -> bool
     word.iter().all(|byte| is_byte_of_name(*byte))
 }
 
-/// Whether a word is a name: 1 to 24 letters, digits, `_`, `-` and `.`.
+/// Returns whether a word is a name: 1 to 24 letters, digits, `_`, `-` and `.`.
 pub fn is_name(word: &[u8]) -> bool
     ensures { result ≡ names.is_name word.now }
 {

@@ -1,7 +1,8 @@
 -- The first place at which a byte passes a test.
-use Rattle.std.specs.Prelude.{◌≡◌, ℕ, true, false, ◌<◌, ◌≤◌, Bool, List, length, position, unwrap_or, Some, None, refl}
-use Rattle.std.specs.List.{position_or_len}
-use Rattle.std.proofs.Common.{get_or, arith, ◌∙◌, sym, ap, cond, nat_lt}
+use Rattle.std.specs.Prelude.{◌≡◌, ℕ, ◌+◌, true, false, ◌<◌, ◌≤◌, Bool, List, [], ◌∷◌, length, position, unwrap_or, Some, None, refl}
+use Rattle.std.specs.List.{position_or_len, prefix_len, list_all}
+use Rattle.std.proofs.lemmas.List.{drop-drop}
+use Rattle.std.proofs.Common.{zero, suc, get_or, arith, length-drop, take, drop, ◌&&◌, ◌∙◌, sym, ap, cond, nat_lt}
 use Rattle.std.proofs.lemmas.Bool.{cond_below, cond_above}
 use Rattle.std.proofs.lemmas.List.Sums.{prefix_len-le-length, position_or_len_is}
 use Rattle.std.specs.Prelude.{not}
@@ -38,3 +39,21 @@ is_space b e = ap is_blank e
 
 pub is_tab : (b : ℕ) → b ≡ 9 → is_blank b ≡ true
 is_tab b e = ap is_blank e
+
+-- ---- a row of elements that all fail the test is passed over
+prefix_over : {X : Type 0} (q : X → Bool) (n : ℕ) (xs : List X) → n ≤ length xs → list_all q (take n xs) ≡ true → prefix_len q xs ≡ n + prefix_len q (drop n xs)
+prefix_over q zero xs h e = omega arith
+prefix_over q (suc n) [] h e = absurd (omega (arith, h))
+prefix_over q (suc n) (x ∷ xs) h e = by (q x) refl (λ g. prefix_over q n xs (omega (arith, h)) g) e
+  where
+    by : (b : Bool) → q x ≡ b → (list_all q (take n xs) ≡ true → prefix_len q xs ≡ n + prefix_len q (drop n xs)) → (b && list_all q (take n xs)) ≡ true
+        → cond (q x) (1 + prefix_len q xs) 0 ≡ suc n + prefix_len q (drop n xs)
+    by true f rest g = ap (λ b. cond b (1 + prefix_len q xs) 0) f ∙ omega (arith, rest g)
+    by false f rest g = absurd (cc)
+
+pub place_over : {X : Type 0} (p : X → Bool) (xs : List X) (at n : ℕ) → at + n ≤ length xs → list_all (λ x. not (p x)) (take n (drop at xs)) ≡ true
+    → position_or_len p xs ≡ at + position_or_len p (drop at xs) → position_or_len p xs ≡ (at + n) + position_or_len p (drop (at + n) xs)
+place_over p xs at n h e k =
+    let over : position_or_len p (drop at xs) ≡ n + position_or_len p (drop n (drop at xs)) = prefix_over (λ x. not (p x)) n (drop at xs) (omega (arith, h, length-drop at xs)) e in
+    let same : position_or_len p (drop n (drop at xs)) ≡ position_or_len p (drop (at + n) xs) = ap (position_or_len p) (drop-drop n at xs) in
+    omega (arith, over, same, k)

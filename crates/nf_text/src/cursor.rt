@@ -1,5 +1,5 @@
 // A cursor over the lines of a text.
-ghost use Rattle.std.specs.Prelude.{◌≡◌, ◌≤◌, [], ◌∷◌, length, map, IfOk, IfErr, MatchOption};
+ghost use Rattle.std.specs.Prelude.{◌≡◌, ◌≤◌, [], ◌∷◌, length, map, IfOk, IfErr, OnErr, MatchOption};
 ghost use Rattle.nf_lines.specs.Lines.{lines as lines_of};
 ghost use Rattle.nf_lines.specs.Words.{read_line as as_read};
 ghost use Rattle.nf_lines.specs.Faults.{first_fault_of, longest_text};
@@ -11,7 +11,7 @@ use crate::reading::read_line;
 use std::alloc::Global;
 use std::marker::Model;
 
-/// A place in a text, at which a line begins: the lines from there on are still to come.
+/// A cursor stands at the beginning of a line of a text, and reads the lines from there on.
 #[derive(Drop)]
 pub struct Cursor<'a> {
     text: &'a [u8],
@@ -35,7 +35,7 @@ impl<'a> Model for Cursor<'a> {
 }
 
 impl<'a> Cursor<'a> {
-    /// All lines of a text of at most 67,108,864 bytes.
+    /// Makes the cursor at the beginning of a text, which must have at most 67,108,864 bytes.
     pub fn new(text: &'a [u8]) -> Cursor<'a>
         requires { length text.now ≤ longest_text }
         ensures { result ≡ lines_of text.now }
@@ -47,12 +47,14 @@ impl<'a> Cursor<'a> {
         }
     }
 
-    /// The next line, and the cursor goes on behind it; None at the end of the text. Or the fault of the line, if it has one.
+    /// Returns the next line, and moves behind it; returns None at the end of the text. A line with a fault, and an allocation
+    /// failure, give an `Err` and leave the cursor where it was.
     pub fn next_line(&mut self, alloc: Global) -> Result<Option<ReadLine<'a>>, TextFault>
         ensures line { IfOk result (λ next. MatchOption next (self.old ≡ []) (λ line. map as_read self.old ≡ line ∷ map as_read self.new)) }
         ensures fine { IfOk result
             (λ next. MatchOption next (self.new ≡ self.old) (λ line. first_fault_of self.old ≡ first_fault_of self.new)) }
         ensures fault { IfErr result (λ fault. Tells fault (first_fault_of self.old)) }
+        ensures kept { OnErr result (self.new ≡ self.old) }
     {
         if self.start == self.text.len() {
             return Ok(None);

@@ -8,8 +8,7 @@ use crate::Span;
 use crate::sameness::is_same;
 use std::marker::Model;
 
-/// A line of a text: its number, counted from 1, its words, and whether it is plain: its words joined by single spaces and ended by
-/// LF.
+/// A line of a text: its number, its words, and whether it is plain.
 #[derive(Drop)]
 pub struct ReadLine<'a> {
     line_number: u32,
@@ -32,7 +31,7 @@ impl<'a> Model for ReadLine<'a> {
 }
 
 impl<'a> ReadLine<'a> {
-    // The line of these words, which are in its bytes.
+    // Makes the line of these words, which must lie within `bytes`.
     pub(crate) fn new(number: u32, plain: bool, bytes: &'a [u8], spans: Vec<Span>) -> ReadLine<'a>
         requires { AreWithin bytes.now spans.items }
         ensures { result ≡ record { number = number; plain = plain; words = map (text_of bytes.now) spans.items } }
@@ -45,28 +44,28 @@ impl<'a> ReadLine<'a> {
         }
     }
 
-    /// Its number, counted from 1.
+    /// Returns the number of the line, counted from 1.
     pub fn number(&self) -> u32
         ensures { result ≡ self.now.number }
     {
         self.line_number
     }
 
-    /// Whether the line is its words joined by single spaces and ended by LF.
+    /// Returns whether the line is its words, joined by single spaces and ended by LF.
     pub fn is_plain(&self) -> bool
         ensures { result ≡ self.now.plain }
     {
         self.is_plain
     }
 
-    /// How many words it has.
+    /// Returns the number of words.
     pub fn len(&self) -> usize
         ensures { result ≡ length self.now.words }
     {
         self.spans.len()
     }
 
-    /// The word at a place.
+    /// Returns the word at an index, which must be below `len`.
     pub fn at(&self, place: usize) -> &[u8]
         requires { place < length self.now.words }
         ensures { result.now ≡ word_at self.now.words place }
@@ -76,7 +75,7 @@ impl<'a> ReadLine<'a> {
     }
 }
 
-/// Whether a word is this one.
+/// Returns whether two words are equal.
 pub fn is_word(word: &[u8], wanted: &[u8]) -> bool
     ensures { result ≡ bytes_eq word.now wanted.now }
 {

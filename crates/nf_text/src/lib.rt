@@ -1,5 +1,5 @@
-//! The lines and words of a text file, with their places; of all lines at once, or line by line from the start: a cursor knows the lines
-//! that are still to come, and no list of lines is made. The formats stand on it; it is this project's own.
+//! This crate splits a text file into lines and words. `lines` reads all lines at once; a `Cursor` reads them one by one, and makes no
+//! list of lines. The readers of all file formats depend on it.
 #![tactic(auto)]
 
 ghost use Rattle.std.specs.Prelude.{◌≡◌, ◌+◌, ◌≤◌, length, map, All, None, IfOk, IfErr, OnOk};
@@ -18,23 +18,22 @@ mod words;
 
 pub use cursor::Cursor;
 pub use cursor_line::{ReadLine, is_word};
-pub use reading::read_line;
-pub use sameness::is_same;
+use reading::read_line;
 use std::alloc::{AllocError, AllocFailed, Global};
 use thiserror::Error;
 
-/// The most bytes of a line, without its ending.
-pub const LONGEST_LINE: usize = 1000;
+// A line has at most this many bytes, without its ending.
+const LONGEST_LINE: usize = 1000;
 
-/// The place of a word in a text, in bytes.
-#[derive(Clone, Copy, Debug, PartialEq, Eq)]
+/// A word of a text: the offset of its first byte, and its length in bytes.
+#[derive(Clone, Copy)]
 pub struct Span {
     pub start: u32,
     pub len: u32,
 }
 
 impl Span {
-    /// The bytes at this place of a text.
+    /// Returns the bytes of the word. It must lie within the text.
     pub fn of(self, text: &[u8]) -> &[u8]
         requires { self.start + self.len ≤ length text.now }
         ensures { result.now ≡ text_of text.now self }
@@ -44,16 +43,16 @@ impl Span {
     }
 }
 
-/// A line, numbered from 1. It is plain where it is its words joined by single spaces and ended by LF.
-#[derive(Debug, Drop)]
+/// A line of a text. `number` counts from 1. `plain` is true if the line is its words, joined by single spaces and ended by LF.
+#[derive(Drop)]
 pub struct Line {
     pub number: u32,
     pub plain: bool,
     pub words: Vec<Span>,
 }
 
-/// Why a text isn't read.
-#[derive(Clone, Copy, Debug, PartialEq, Eq, Error)]
+/// A text is not read for one of these reasons.
+#[derive(Clone, Copy, Debug, Error)]
 pub enum TextFault {
     /// The line has a byte other than tab and 32 to 126.
     #[error("line {line} isn't ASCII")]
@@ -61,7 +60,7 @@ pub enum TextFault {
     /// The line has more than 1,000 bytes without its ending.
     #[error("line {line} is too long")]
     LongLine { line: u32 },
-    /// Memory is wanting.
+    /// An allocation failed.
     #[error("memory is wanting")]
     Memory,
 }
@@ -82,7 +81,8 @@ impl<T: Drop> From<AllocFailed<T>> for TextFault {
     }
 }
 
-/// The lines of a text of at most 67,108,864 bytes, each with its words; or the fault of the first line that has one.
+/// Returns the lines of a text, each with its words, or the fault of the first line that has one. The text must have at most
+/// 67,108,864 bytes.
 pub fn lines(alloc: Global, text: &[u8]) -> Result<Vec<Line>, TextFault>
     requires { length text.now ≤ longest_text }
 

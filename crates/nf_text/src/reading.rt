@@ -18,7 +18,7 @@ fn is_text_byte(byte: u8) -> bool
     byte == b'\t' || (b' ' <= byte && byte <= b'~')
 }
 
-// A loop without an early exit, for speed: LLVM tests 16 bytes at once, measured.
+// Returns whether all bytes are allowed. A loop without an early exit, for speed: LLVM tests 16 bytes at once.
 fn is_text(bytes: &[u8]) -> bool
     ensures { result ≡ list_all is_allowed bytes.now }
 {
@@ -42,14 +42,14 @@ fn check_line(bytes: &[u8], number: u32) -> Result<(), TextFault>
     Ok(())
 }
 
-// How many bytes a line has, without its ending and with it.
+// The number of bytes of a line: `bytes` without its ending, `whole` with it.
 #[derive(Clone, Copy)]
 struct Extent {
     bytes: usize,
     whole: usize,
 }
 
-// The extent of the first line.
+// Returns the extent of the first line.
 fn first_extent(rest: &[u8]) -> Extent
     ensures bytes { result.bytes ≡ bytes_len rest.now }
     ensures whole { result.whole ≡ whole_len rest.now }
@@ -75,8 +75,8 @@ fn first_extent(rest: &[u8]) -> Extent
     }
 }
 
-/// The line that begins at a place of a text of at most 67,108,864 bytes, as that of a number, with its words; and where the next one
-/// begins. Or the fault of the line, if it has one.
+/// Returns the line that begins at `start`, with its words, and where the next line begins; or the fault of the line. The text must
+/// have at most 67,108,864 bytes. The line gets the number `number`.
 pub fn read_line(
     alloc: Global,
     text: &[u8],

@@ -10,7 +10,7 @@ use crate::places::word_len;
 use crate::sameness::{begins_with, is_same};
 use std::alloc::{AllocError, Global};
 
-// The words between two places of the text, where no comment stands.
+// Returns the words between two offsets of the text, where no comment stands.
 pub fn spans(alloc: Global, text: &[u8], start: usize, end: usize) -> Result<Vec<Span>, AllocError>
     requires ordered { start ≤ end }
     requires within { end ≤ length text.now }
@@ -34,7 +34,7 @@ pub fn spans(alloc: Global, text: &[u8], start: usize, end: usize) -> Result<Vec
     Ok(spans)
 }
 
-// What follows in the line, where it begins with these bytes.
+// Returns the remainder of the line, if it begins with these bytes.
 fn after<'a>(line: &'a [u8], front: &[u8]) -> Option<&'a [u8]>
     ensures { GoesOn line.now front.now result }
 {
@@ -45,7 +45,7 @@ fn after<'a>(line: &'a [u8], front: &[u8]) -> Option<&'a [u8]>
     }
 }
 
-// What follows a word, and maybe a space before it.
+// Returns the remainder of the line, if it begins with the word, after a space if `spaced`.
 fn after_word<'a>(line: &'a [u8], word: &[u8], spaced: bool) -> Option<&'a [u8]>
     ensures { GoesOn line.now (space_before spaced word.now) result }
 {
@@ -56,7 +56,7 @@ fn after_word<'a>(line: &'a [u8], word: &[u8], spaced: bool) -> Option<&'a [u8]>
     }
 }
 
-// Whether a line with its ending is these words, joined by single spaces and ended by LF.
+// Returns whether a line with its ending is these words, joined by single spaces and ended by LF.
 pub fn is_plain(text: &[u8], line: &[u8], words: &[Span]) -> bool
     requires { All (λ span. span.start + span.len ≤ length text.now) words.now }
     ensures { result ≡ bytes_eq line.now (line_of_words (map (text_of text.now) words.now)) }

@@ -3,7 +3,7 @@ use nf_frac::{PassedAt, Q};
 use std::alloc::AllocError;
 
 /// Why no thin flow was found.
-#[derive(Clone, Copy, Debug, PartialEq, Eq)]
+#[derive(Clone, Copy)]
 pub enum SearchFault {
     /// The list is longer than the budget, and none of so many patterns is accepted.
     Budget { tried: u64 },

@@ -1,4 +1,5 @@
-//! The operations on fractions, the ones that pass their bound, and what a computation of several of them answers.
+//! This crate defines the operations on fractions, when one passes the bound of a fraction, and how a computation reports the
+//! first operation that passes.
 #![tactic(auto)]
 
 ghost use Rattle.std.specs.Prelude.{◌≡◌};
@@ -8,39 +9,60 @@ ghost use Rattle.nf_work.specs.Laws.{ReadingsAgree, FirstPassingIsAnswered};
 use std::alloc::{AllocError, AllocFailed};
 
 /// An operation on two fractions.
-#[derive(Clone, Copy, Debug, PartialEq, Eq)]
+#[derive(Clone, Copy)]
 pub enum Op {
+    /// `left` + `right`.
     Sum,
+    /// `left` - `right`.
     Difference,
+    /// `left` · `right`.
     Product,
+    /// `left` / `right`, where `right` isn't 0.
     Quotient,
 }
 
-/// An operation that passes: its exact result, or for sums a number on the way to it, is beyond the bound of a fraction's
-/// parts. The operands are those of the call.
-#[derive(Clone, Copy, Debug, PartialEq, Eq)]
+/// An operation passes if its exact result, or for sums a number on the way to it, is beyond the bound of a fraction's
+/// numerator and denominator. The operands are those of the call.
+#[derive(Copy)]
 pub struct Passed<S> {
     pub op: Op,
     pub left: S,
     pub right: S,
 }
 
-/// The part of the work in which an operation passes, as a report's cause names it.
-#[derive(Clone, Copy, Debug, PartialEq, Eq)]
+impl<S: Copy> Clone for Passed<S> {
+    ghost is_clone = { λ x y. y ≡ x };
+
+    fn clone(&self) -> Result<Self, AllocError> {
+        Ok(*self)
+    }
+}
+
+/// A report's cause names the part of the work in which an operation passes.
+#[derive(Clone, Copy)]
 pub enum Part {
+    /// The slacks of the links at the start of a phase.
     Slack,
+    /// The equations of a pattern.
     Table,
+    /// The inequalities of a pattern, and the settling of a thin flow.
     Verdict,
+    /// The length of a phase: how long it lasts.
     Extend,
+    /// The labels at the end of a phase.
     Advance,
+    /// The curves of flows and queues, also of a report that is resumed.
     Curve,
+    /// The loading of links, by their inflows or along routes.
     Load,
+    /// The check of a reported flow.
     Check,
+    /// The search for a quickest flow.
     Quick,
 }
 
-/// An operation that passes, with the part of the work that did it.
-#[derive(Clone, Copy, Debug, PartialEq, Eq)]
+/// This operation passes in this part of the work.
+#[derive(Copy)]
 pub struct PassedAt<S> {
     pub part: Part,
     pub op: Op,
@@ -48,11 +70,27 @@ pub struct PassedAt<S> {
     pub right: S,
 }
 
-/// Why a computation ended without a value: an operation passes, or memory is wanting.
-#[derive(Clone, Copy, Debug, PartialEq, Eq)]
+impl<S: Copy> Clone for PassedAt<S> {
+    ghost is_clone = { λ x y. y ≡ x };
+
+    fn clone(&self) -> Result<Self, AllocError> {
+        Ok(*self)
+    }
+}
+
+/// A computation ends without a value if an operation passes or an allocation fails.
+#[derive(Copy)]
 pub enum Halt<S> {
     Passed(PassedAt<S>),
     Memory,
+}
+
+impl<S: Copy> Clone for Halt<S> {
+    ghost is_clone = { λ x y. y ≡ x };
+
+    fn clone(&self) -> Result<Self, AllocError> {
+        Ok(*self)
+    }
 }
 
 impl<S> From<PassedAt<S>> for Halt<S> {
@@ -79,14 +117,14 @@ impl<S, T: Drop> From<AllocFailed<T>> for Halt<S> {
     }
 }
 
-/// The two readings of a computation are one: its list of operations with the first one that passes, and the checked
-/// computation that stops there.
+/// The two readings of a computation agree: its list of operations with the first one that passes, and the checked computation
+/// that stops there.
 pub fn readings_agree()
     ensures { ReadingsAgree }
 {}
 
-/// A computation answers an operation exactly where that is the first one of its list that passes, and its value exactly
-/// where none passes.
+/// A computation reports an operation exactly if that is the first of its list that passes. It returns its value exactly if none
+/// passes.
 pub fn first_passing_is_answered()
     ensures { FirstPassingIsAnswered }
 {}

@@ -9,6 +9,7 @@ ghost use Rattle.nf_work.specs.Checked.{checked, at_part, seen, Gives};
 ghost use Rattle.library_cases.specs.Samples.{product_less};
 
 use crate::fractions::operations::tell_outcome;
+use crate::names::part_name;
 use case_lines::{Shown, op_word};
 use nf_frac::{Frac, Halt, Part, Passed, PassedAt, Q, Scalar, at};
 use std::io;
@@ -67,10 +68,9 @@ fn value<const BITS: u32>(word: &str) -> Frac<BITS> {
 
 // Where in the work the operation was, and what it was.
 fn tell_at(rt: &HostRuntime, at: &PassedAt<Q>) -> io::Result<()> {
-    let op = op_word(at.op);
+    let (part, op) = (part_name(at.part), op_word(at.op));
     print!(rt;
-        "; passes {:?} {op} {} {}",
-        at.part,
+        "; passes {part} {op} {} {}",
         Shown(at.left),
         Shown(at.right)
     )

@@ -5,6 +5,7 @@ use Rattle.nf_work.specs.Passing.{passes_Q}
 use Rattle.nf_complete_lists.specs.Cancelling.{fulls_list, Settles}
 use Rattle.nf_complete_lists.specs.SettledPattern.{IsSettledPattern}
 use Rattle.nf_complete.specs.declared.settled.Settled.{Settled}
+use Rattle.nf_complete.proofs.GoodSets.{good_sets}
 use Rattle.nf_complete.proofs.CancelsOn.{halts_of, settles_stop, settles_on, fulls_read, settled_by, settled_listed, settled_solution}
 use Rattle.nf_complete.proofs.settling.settle.Goals as goal
 
@@ -15,7 +16,7 @@ pub fulls-requires-clause-slopes : goal.fulls-requires-clause-slopes
 fulls-requires-clause-slopes c = c.requires.thin.slope_count
 
 pub cancelled-requires-clause-sets : goal.cancelled-requires-clause-sets
-cancelled-requires-clause-sets c = c.requires.sets
+cancelled-requires-clause-sets c = good_sets c.args.net.now c.args.sets.now c.recall.ensures c.requires.sets
 
 pub cancelled-requires-clause-thin : goal.cancelled-requires-clause-thin
 cancelled-requires-clause-thin c = c.requires.thin
@@ -86,18 +87,18 @@ cancelled-requires-clause-fulls c =
 
 pub settled_pattern-requires-clause-flows : goal.settled_pattern-requires-clause-flows
 settled_pattern-requires-clause-flows c =
-    let s = settled_by passes_Q c.args.net.now.net c.args.sets.now c.args.rate c.args.flows.now c.args.slopes.now c.requires.sets c.requires.thin c.in_ok-fulls.fulls.items c.deref.result.now c.in_ok-fulls.ensures
+    let s = settled_by passes_Q c.args.net.now.net c.args.sets.now c.args.rate c.args.flows.now c.args.slopes.now (good_sets c.args.net.now c.args.sets.now c.recall.ensures c.requires.sets) c.requires.thin c.in_ok-fulls.fulls.items c.deref.result.now c.in_ok-fulls.ensures
     c.deref.ensures.value c.in_ok-flows.flows.items c.in_ok-flows.ensures in
     ap length c.deref-3.ensures.value ∙ s.thin.flow_count
 
 pub returns-clause-list : goal.returns-clause-list
 returns-clause-list c =
-    (settled_by passes_Q c.args.net.now.net c.args.sets.now c.args.rate c.args.flows.now c.args.slopes.now c.requires.sets c.requires.thin c.in_ok-fulls.fulls.items c.deref.result.now c.in_ok-fulls.ensures
+    (settled_by passes_Q c.args.net.now.net c.args.sets.now c.args.rate c.args.flows.now c.args.slopes.now (good_sets c.args.net.now c.args.sets.now c.recall.ensures c.requires.sets) c.requires.thin c.in_ok-fulls.fulls.items c.deref.result.now c.in_ok-fulls.ensures
     c.deref.ensures.value c.in_ok-flows.flows.items c.in_ok-flows.ensures).settles_it
 
 pub returns-clause-thin : goal.returns-clause-thin
 returns-clause-thin c =
-    (settled_by passes_Q c.args.net.now.net c.args.sets.now c.args.rate c.args.flows.now c.args.slopes.now c.requires.sets c.requires.thin c.in_ok-fulls.fulls.items c.deref.result.now c.in_ok-fulls.ensures
+    (settled_by passes_Q c.args.net.now.net c.args.sets.now c.args.rate c.args.flows.now c.args.slopes.now (good_sets c.args.net.now c.args.sets.now c.recall.ensures c.requires.sets) c.requires.thin c.in_ok-fulls.fulls.items c.deref.result.now c.in_ok-fulls.ensures
     c.deref.ensures.value c.in_ok-flows.flows.items c.in_ok-flows.ensures).thin
 
 pub returns-clause-pattern : goal.returns-clause-pattern
@@ -105,14 +106,14 @@ returns-clause-pattern c = subst (λ (f : List ℚ). IsSettledPattern c.args.net
 
 pub returns-clause-listed : goal.returns-clause-listed
 returns-clause-listed c =
-    let s = settled_by passes_Q c.args.net.now.net c.args.sets.now c.args.rate c.args.flows.now c.args.slopes.now c.requires.sets c.requires.thin c.in_ok-fulls.fulls.items c.deref.result.now c.in_ok-fulls.ensures
+    let s = settled_by passes_Q c.args.net.now.net c.args.sets.now c.args.rate c.args.flows.now c.args.slopes.now (good_sets c.args.net.now c.args.sets.now c.recall.ensures c.requires.sets) c.requires.thin c.in_ok-fulls.fulls.items c.deref.result.now c.in_ok-fulls.ensures
     c.deref.ensures.value c.in_ok-flows.flows.items c.in_ok-flows.ensures in
-    settled_listed passes_Q c.args.net.now.net c.args.sets.now c.args.rate c.args.flows.now c.args.slopes.now c.in_ok-flows.flows.items c.requires.sets c.requires.rate s c.in_ok-pattern.pattern
+    settled_listed passes_Q c.args.net.now.net c.args.sets.now c.args.rate c.args.flows.now c.args.slopes.now c.in_ok-flows.flows.items (good_sets c.args.net.now c.args.sets.now c.recall.ensures c.requires.sets) c.requires.rate s c.in_ok-pattern.pattern
     c.deref-3.result.now c.deref-3.ensures.value c.in_ok-pattern.ensures
 
 pub returns-clause-solution : goal.returns-clause-solution
 returns-clause-solution c =
-    let s = settled_by passes_Q c.args.net.now.net c.args.sets.now c.args.rate c.args.flows.now c.args.slopes.now c.requires.sets c.requires.thin c.in_ok-fulls.fulls.items c.deref.result.now c.in_ok-fulls.ensures
+    let s = settled_by passes_Q c.args.net.now.net c.args.sets.now c.args.rate c.args.flows.now c.args.slopes.now (good_sets c.args.net.now c.args.sets.now c.recall.ensures c.requires.sets) c.requires.thin c.in_ok-fulls.fulls.items c.deref.result.now c.in_ok-fulls.ensures
     c.deref.ensures.value c.in_ok-flows.flows.items c.in_ok-flows.ensures in
-    settled_solution passes_Q c.args.net.now.net c.args.sets.now c.args.rate c.args.flows.now c.args.slopes.now c.in_ok-flows.flows.items c.requires.sets c.requires.rate s c.in_ok-pattern.pattern
+    settled_solution passes_Q c.args.net.now.net c.args.sets.now c.args.rate c.args.flows.now c.args.slopes.now c.in_ok-flows.flows.items (good_sets c.args.net.now c.args.sets.now c.recall.ensures c.requires.sets) c.requires.rate s c.in_ok-pattern.pattern
     c.deref-3.result.now c.deref-3.ensures.value c.in_ok-pattern.ensures

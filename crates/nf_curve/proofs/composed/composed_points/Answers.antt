@@ -14,8 +14,8 @@ use Rattle.nf_curve.proofs.Composing.{pieces_go, pieces_stop, last_stops, last_g
 use Rattle.nf_curve.proofs.Exits.{stops_on}
 use Rattle.nf_curve.proofs.composed.composed_points.Goals as goal
 
-pub bounds-inner-0-2 : goal.bounds-inner-0-2
-bounds-inner-0-2 c = points_there c.args.inner.now c.requires.inner
+pub bounds-inner-0-in_ok-composed : goal.bounds-inner-0-in_ok-composed
+bounds-inner-0-in_ok-composed c = points_there c.args.inner.now c.requires.inner
 
 pub add_piece-requires-clause-later : goal.add_piece-requires-clause-later
 add_piece-requires-clause-later c =
@@ -34,9 +34,12 @@ add_piece-requires-clause-place c =
     let a : c.loop-i.i - 1 < length c.args.inner.now = omega arith in
     c.loop-i.invariant.place c.index-inner-i.result (slice_get_read c.args.inner.now _ (c.loop-i.i - 1) c.index-inner-i.result refl a c.index-inner-i.is)
 
+pub returns-in_err-composed : goal.returns-in_err-composed
+returns-in_err-composed c = let p = err_from_is_err_and c.from_residual.result c.from_residual.ensures.1 in rw (p.1, p.2) tt
+
 pub returns-in_err-place : goal.returns-in_err-place
 returns-in_err-place c =
-    let p = err_from_is_err_and c.from_residual.result c.from_residual.ensures.1 in
+    let p = err_from_is_err_and c.from_residual-in_err-place.result c.from_residual-in_err-place.ensures.1 in
     let a : c.loop-i.i - 1 < length c.args.inner.now = omega arith in
     let g = slice_get_read c.args.inner.now _ (c.loop-i.i - 1) c.index-inner-i.result refl a c.index-inner-i.is in
     let k = slice_get_read c.args.inner.now _ c.loop-i.i c.index-inner-i-in-loop-i.result refl c.loop-i-test.true c.index-inner-i-in-loop-i.is in

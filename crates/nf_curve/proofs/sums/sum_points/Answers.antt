@@ -16,14 +16,17 @@ loop-now-init c =
     let sums : List ℚ → Checked (List (ℚ × ℚ)) = each (sum_at passes_Q c.args.left.now c.args.right.now) in
     record {
       there = c.first_moment.ensures.there;
-      so_far = ap (λ (l : List (ℚ × ℚ)). with_front l (sums (c.first_moment.result.time ∷ times_after c.first_moment.result.time c.args.left.now c.args.right.now))) c.new-points.ensures.items
+      so_far = ap (λ (l : List (ℚ × ℚ)). with_front l (sums (c.first_moment.result.time ∷ times_after c.first_moment.result.time c.args.left.now c.args.right.now))) c.in_ok-points.ensures.items
           ∙ front_none (sums (c.first_moment.result.time ∷ times_after c.first_moment.result.time c.args.left.now c.args.right.now)) ∙ ap sums (sym c.first_moment.ensures.times);
     }
+
+pub returns-in_err-points : goal.returns-in_err-points
+returns-in_err-points c = let p = err_from_is_err_and c.from_residual.result c.from_residual.ensures.1 in rw (p.1, p.2) tt
 
 pub returns-in_err-point : goal.returns-in_err-point
 unfolding checked_sum
 returns-in_err-point c =
-    let p = err_from_is_err_and c.from_residual.result c.from_residual.ensures.1 in
+    let p = err_from_is_err_and c.from_residual-in_err-point.result c.from_residual-in_err-point.ensures.1 in
     rw (p.1, p.2) (each_stops c.args.part (sum_at passes_Q c.args.left.now c.args.right.now) c.loop-now.points.items _ c.in-Some.moment.time _
     (rw c.in-Some.is at c.loop-now.invariant.so_far) c.in_err-point.field-0.0 (sym c.in_err-point.ensures))
 

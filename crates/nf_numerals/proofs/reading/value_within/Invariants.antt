@@ -2,7 +2,7 @@ use Rattle.std.proofs.Common.{◌≡◌, ◌≤◌, drop, true}
 use Rattle.nf_numerals.specs.Digits.{are_digits, value_after}
 use Rattle.nf_numerals.proofs.reading.value_within.Given as goal
 
--- the digits that are left make of the value so far that of all
+-- the value so far, followed by the remaining digits, is the number with all digits
 abbrev pub invariant-loop-c : goal.invariant-loop-c
 invariant-loop-c l = record {
   within : l.value ≤ l.bound;

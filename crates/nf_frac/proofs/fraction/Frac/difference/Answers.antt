@@ -1,6 +1,5 @@
-use Rattle.std.proofs.Common.{◌∙◌}
 use Rattle.nf_work.specs.Passing.{bound_of}
-use Rattle.nf_frac.proofs.Passing.{difference_done, difference_passed, sum_within, within_along}
+use Rattle.nf_frac.proofs.Passing.{difference_done, sum_within, within_along}
 use Rattle.nf_frac.proofs.SmallPassing.{small_difference}
 use Rattle.nf_frac.proofs.fraction.Frac.difference.Goals as goal
 
@@ -13,17 +12,3 @@ pub returns-in-Some : goal.returns-in-Some
 returns-in-Some g c =
     difference_done (bound_of g.row.BITS) c.args.self c.args.right c.plus.result
     (small_difference (bound_of g.row.BITS) c.args.self c.args.right _ (c.in-Some.ensures {u = tt}) c.plus.result c.negated.result c.plus.ensures c.negated.ensures.value)
-
-pub invariant_of-result-in-Some-sum : goal.invariant_of-result-in-Some-sum
-invariant_of-result-in-Some-sum g c =
-    let w = rw c.bound.ensures.value at c.in-Some-sum.ensures in
-    within_along (bound_of g.row.BITS) _ _ (c.held.ensures ∙ w.1) (sum_within (bound_of g.row.BITS) _ _ w.0)
-
-pub returns-in-Some-sum : goal.returns-in-Some-sum
-returns-in-Some-sum g c =
-    let w = rw (c.bound.ensures.value, c.lowest.ensures, c.self.view_is, c.negated-2.ensures, c.lowest-2.ensures, c.right.view_is) at c.in-Some-sum.ensures in
-    difference_done (bound_of g.row.BITS) c.args.self c.args.right c.held.result (w.0, c.held.ensures ∙ w.1)
-
-pub returns-in-None : goal.returns-in-None
-returns-in-None g c =
-    difference_passed (bound_of g.row.BITS) c.args.self c.args.right (rw (c.bound.ensures.value, c.lowest.ensures, c.self.view_is, c.negated-2.ensures, c.lowest-2.ensures, c.right.view_is) at c.in-None.ensures)

@@ -1,4 +1,4 @@
-use Rattle.std.proofs.Common.{ap, ◌∙◌}
+use Rattle.std.proofs.Common.{ap}
 use mir.Syntax.{w128}
 use mir.Val.{of_z}
 use mir.Facts.{to_z-of_z}
@@ -17,9 +17,9 @@ returns-in_err-value g c =
 pub returns : goal.returns
 returns g c =
     made c.args.num c.args.den _ _ _ _ (bound_of g.row.BITS) (to_z-of_z c.ranges.num) (to_z-of_z c.ranges.den) c.unsigned_abs.ensures.value c.unsigned_abs-2.ensures.value (λ e. c.if-den-eq0.false (ap (of_z w128) e))
-    c.held.result (rw (c.bound.ensures.value, ← c.held.ensures) at c.in_ok-value.ensures)
+    c.in_ok-value.value (rw c.bound.ensures.value at c.in_ok-value.ensures)
 
 pub invariant_of-result : goal.invariant_of-result
 invariant_of-result g c =
     let w = rw c.bound.ensures.value at c.in_ok-value.ensures in
-    within_along (bound_of g.row.BITS) _ _ (c.held.ensures ∙ w.1) w.0
+    within_along (bound_of g.row.BITS) _ _ w.1 w.0

@@ -20,8 +20,8 @@ returns-in_err-den c =
     let y = c.args.right in
     let q = left_num x y _ _ _ c.numer.ensures.value c.numer.ensures.small c.common_with-left.ensures.value c.part_of.ensures in
     let r = left_num y x _ _ _ c.numer-2.ensures.value c.numer-2.ensures.small c.common_with-other.ensures.value c.part_of-2.ensures in
-    let u = left_den x y _ _ _ c.denom.ensures.value c.common_with-other.ensures.value c.divided_short.ensures in
-    let v = left_den y x _ _ _ c.denom-2.ensures.value c.common_with-left.ensures.value c.divided_short-2.ensures in
+    let u = left_den x y _ _ _ c.denom-2.ensures.value c.common_with-other.ensures.value c.divided_short.ensures in
+    let v = left_den y x _ _ _ c.denom-3.ensures.value c.common_with-left.ensures.value c.divided_short-2.ensures in
     stops _ _ _ c.from_residual-in_err-den.ensures (no_den x y _ _ _ _ short q r u v c.in_err-den.ensures)
 
 pub of-requires : goal.of-requires
@@ -30,8 +30,8 @@ of-requires c =
     let y = c.args.right in
     let q = left_num x y _ _ _ c.numer.ensures.value c.numer.ensures.small c.common_with-left.ensures.value c.part_of.ensures in
     let r = left_num y x _ _ _ c.numer-2.ensures.value c.numer-2.ensures.small c.common_with-other.ensures.value c.part_of-2.ensures in
-    let u = left_den x y _ _ _ c.denom.ensures.value c.common_with-other.ensures.value c.divided_short.ensures in
-    let v = left_den y x _ _ _ c.denom-2.ensures.value c.common_with-left.ensures.value c.divided_short-2.ensures in
+    let u = left_den x y _ _ _ c.denom-2.ensures.value c.common_with-other.ensures.value c.divided_short.ensures in
+    let v = left_den y x _ _ _ c.denom-3.ensures.value c.common_with-left.ensures.value c.divided_short-2.ensures in
     let n = num_of_product x y _ _ _ _ short q r u v c.in_ok-num.num c.in_ok-den.den c.in_ok-num.ensures c.in_ok-den.ensures in
     let d = den_of_product x y _ _ _ _ short q r u v c.in_ok-num.num c.in_ok-den.den c.in_ok-num.ensures c.in_ok-den.ensures in
     let w = product_within x y _ _ _ _ short q r u v c.in_ok-num.num c.in_ok-den.den c.in_ok-num.ensures c.in_ok-den.ensures in
@@ -43,8 +43,8 @@ returns c =
     let y = c.args.right in
     let q = left_num x y _ _ _ c.numer.ensures.value c.numer.ensures.small c.common_with-left.ensures.value c.part_of.ensures in
     let r = left_num y x _ _ _ c.numer-2.ensures.value c.numer-2.ensures.small c.common_with-other.ensures.value c.part_of-2.ensures in
-    let u = left_den x y _ _ _ c.denom.ensures.value c.common_with-other.ensures.value c.divided_short.ensures in
-    let v = left_den y x _ _ _ c.denom-2.ensures.value c.common_with-left.ensures.value c.divided_short-2.ensures in
+    let u = left_den x y _ _ _ c.denom-2.ensures.value c.common_with-other.ensures.value c.divided_short.ensures in
+    let v = left_den y x _ _ _ c.denom-3.ensures.value c.common_with-left.ensures.value c.divided_short-2.ensures in
     let n = num_of_product x y _ _ _ _ short q r u v c.in_ok-num.num c.in_ok-den.den c.in_ok-num.ensures c.in_ok-den.ensures in
     let d = den_of_product x y _ _ _ _ short q r u v c.in_ok-num.num c.in_ok-den.den c.in_ok-num.ensures c.in_ok-den.ensures in
     let w = product_within x y _ _ _ _ short q r u v c.in_ok-num.num c.in_ok-den.den c.in_ok-num.ensures c.in_ok-den.ensures in

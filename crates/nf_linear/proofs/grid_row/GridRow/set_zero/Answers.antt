@@ -29,4 +29,4 @@ offset_bounds-cells-column g c =
     let fits = subst (λ (n : ℕ). c.self.inside.size ≤ n) (sym c.self.told) c.self.invariant in
     let whole = row_long c.self.inside.cells c.args.self.now c.self.inside.right c.self.inside.size c.self.view_is fits in
     let inside = column_inside c.args.column c.self.inside.size _ c.requires whole in
-    scaled_Fits c.args.column g.row.N 48 (lt_of_lt_of_le inside c.self.invariant) (search rules)
+    scaled_Fits c.args.column g.row.N 32 (lt_of_lt_of_le inside c.self.invariant) (search rules)

@@ -1,0 +1,14 @@
+-- Sets of links of a network that is read.
+use Rattle.nf_model.specs.ThinFlow.{Sets}
+use Rattle.nf_formats.specs.Named.{Named}
+use Rattle.nf_formats.specs.WellNamed.{IsNamed}
+use Rattle.nf_complete_laws.specs.SettleLaws.{AreGoodSets}
+use Rattle.nf_complete.specs.FitSets.{AreFitSets}
+
+pub good_sets : (n : Named) (sets : Sets) → IsNamed n → AreFitSets n.net sets → AreGoodSets n.net sets
+good_sets n sets named fit = record {
+  network = named.network;
+  sets_are = fit.sets_are;
+  acyclic = fit.acyclic;
+  bounded = fit.bounded;
+}
