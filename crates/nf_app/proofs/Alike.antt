@@ -1,6 +1,6 @@
 -- What of an answer is the same in every equilibrium: its flow is an equilibrium, and that of a network.
 use Rattle.std.proofs.Common.{◌≡◌, ℕ, List, inl, inr, refl, sym, ap, subst, ◌∙◌}
-use Rattle.std.specs.Prelude.{Option, Some, None, IfSome}
+use Rattle.std.specs.Prelude.{Option, Some, None, IfSome, Result, Ok}
 use Rattle.nf_rational.specs.Rational.{ℚ}
 use Rattle.nf_rational.specs.Operations.{0ℚ}
 use Rattle.nf_rational.specs.Order.{◌≤ℚ◌}
@@ -13,20 +13,19 @@ use Rattle.nf_formats.specs.Named.{Named}
 use Rattle.nf_formats.specs.Report.{Report}
 use Rattle.nf_check_lists.specs.declared.Answer.{Answer as Verdict}
 use Rattle.nf_check_lists.specs.declared.Answer.TheVariants.{Yes, No}
+use Rattle.nf_check.specs.Answers.{IsExact}
+use Rattle.nf_readings.specs.ReportFile.{report_in}
 use Rattle.nf_forever_lists.specs.ForeverRun.{Forever}
 use Rattle.nf_forever_lists.specs.Extended.{flow_until}
 use Rattle.nf_quick_lists.specs.Departures.{IsDeparture}
 use Rattle.nf_unique_laws.specs.UniqueLaws.{SameInAll}
 use Rattle.nf_unique_laws.proofs.Exits.{SameInAll-equilibrium}
-use Rattle.nf_command_line.specs.Requests.{Request, Solve, SolveForever, Show, Load, Check, Quick, Gen, Settle, Resume, Routes, request_of}
+use Rattle.nf_command_line.specs.Requests.{Request, Solve, SolveForever, Show, Load, Check, Quick, Gen, Settle, Resume, Routes}
 use Rattle.nf_answers.specs.declared.arrival.Arrival.{Arrival}
-use Rattle.nf_answers.specs.Answers.{ProgramAnswer, Solved, SolvedForever, Shown, Loaded, Checked, Quickest, TooManyWalks, Generated, Settled, Distributed, NoMemory, NoRequest, ShelfFailed, ShelfTooLong, Malformed, MalformedLoads, MalformedFlows, MalformedRoutes, MalformedReport, Passes, Unbounded, NotThin, Earlier}
-use Rattle.nf_app.specs.Reports.{HoldsReport}
-use Rattle.nf_app.specs.CheckGiven.{IsChecked}
-use Rattle.nf_app.specs.QuickGiven.{arrival_of, ArrivesIn, IsArrival}
-use Rattle.nf_app.specs.ForeverGiven.{IsUnending}
+use Rattle.nf_answers.specs.Answers.{ProgramAnswer, Solved, SolvedForever, Shown, Loaded, Checked, Quickest, TooManyWalks, Generated, Settled, Distributed, MalformedLoads, MalformedFlows, MalformedRoutes, MalformedReport, Passes, Unbounded, NotThin, Earlier}
+use Rattle.nf_app.specs.Arrivals.{arrival_of, ArrivesIn, IsArrival}
 use Rattle.nf_app.specs.Given.{IsGiven}
-use Rattle.nf_app.specs.Runs.{Call, Asks, IsRefused}
+use Rattle.nf_app.specs.Runs.{Run}
 use Rattle.nf_app.specs.Uniqueness.{SameForever, SameIfYes, SameArrival, IsSameInAll, AnswerIsSameInAll}
 
 -- ---- a run without a horizon
@@ -34,27 +33,22 @@ each_some : {A : Type 0} (P Q : A → Type 0) (o : Option A) → ((x : A) → P 
 each_some P Q None f h = tt
 each_some P Q (Some x) f h = f x h
 
-same_forever : (net : Network) (phases patterns : ℕ) (forever : Forever) → IsNetwork net → IsUnending net phases patterns forever → SameForever net forever
-same_forever net phases patterns forever good is = (
-  SameInAll-equilibrium net forever.flow good is.equilibrium,
+same_forever : (net : Network) (forever : Forever) → IsNetwork net → Equilibrium net forever.flow
+    → IfSome forever.tail (λ tail. (until : ℚ) → 0ℚ ≤ℚ until → Equilibrium net (flow_until net forever.flow tail until)) → SameForever net forever
+same_forever net forever good equilibrium goes_on = (
+  SameInAll-equilibrium net forever.flow good equilibrium,
   each_some (λ tail. (until : ℚ) → 0ℚ ≤ℚ until → Equilibrium net (flow_until net forever.flow tail until)) (λ tail. (until : ℚ) → 0ℚ ≤ℚ until → SameInAll net (flow_until net forever.flow tail until))
-      forever.tail (λ tail goes until h. SameInAll-equilibrium net (flow_until net forever.flow tail until) good (goes until h)) is.goes_on,
+      forever.tail (λ tail goes until h. SameInAll-equilibrium net (flow_until net forever.flow tail until) good (goes until h)) goes_on,
 )
 
 -- ---- a report that is checked
-same_if_yes : (call : Call) (n : Named) (file name : List ℕ) (verdict : Verdict ℕ ℕ ℚ) → IsNetwork n.net → Asks call (Check file name) → IsChecked call.shelf n name verdict → SameIfYes call n verdict
-same_if_yes call n file name Yes good asks is = λ file' name' asks'.
-    (is.report, subst (λ (m : List ℕ). HoldsReport call.shelf n m is.report) (same_name file' name' asks') is.held, SameInAll-equilibrium n.net is.report.flow good is.exact)
-  where
-    same_name : (file' name' : List ℕ) → Asks call (Check file' name') → name ≡ name'
-    same_name file' name' asks' = let one : request_of call.words ≡ Some (Check file name) = asks in let other : request_of call.words ≡ Some (Check file' name') = asks' in cc
-same_if_yes call n file name (No rule subject time left right) good asks is = tt
+same_ok : {A E : Type 0} (r : Result A E) (x y : A) → r ≡ Ok x → r ≡ Ok y → x ≡ y
+same_ok r x y h k = cc
 
--- where the words ask to go on from a report, none is checked
-none_checked : (call : Call) (n : Named) (file name : List ℕ) (horizon : ℚ) (phases patterns : ℕ) (verdict : Verdict ℕ ℕ ℚ) → Asks call (Resume file name horizon phases patterns) → SameIfYes call n verdict
-none_checked call n file name horizon phases patterns Yes asks = λ file' name' asks'.
-    let one : request_of call.words ≡ Some (Resume file name horizon phases patterns) = asks in let other : request_of call.words ≡ Some (Check file' name') = asks' in absurd (cc)
-none_checked call n file name horizon phases patterns (No rule subject time left right) asks = tt
+same_if_yes : (n : Named) (text : List ℕ) (report : Report) (verdict : Verdict ℕ ℕ ℚ) → IsNetwork n.net → report_in n text ≡ Ok report → IsExact n.net report.flow verdict → SameIfYes n text verdict
+same_if_yes n text report Yes good reads exact = λ other is.
+    subst (λ (r : Report). SameInAll n.net r.flow) (same_ok (report_in n text) report other reads is) (SameInAll-equilibrium n.net report.flow good exact)
+same_if_yes n text report (No rule subject time left right) good reads exact = tt
 
 -- ---- the equilibrium line
 module _ (net : Network) (good : IsNetwork net) (amount departs : ℚ) (least : IsDeparture net amount (Some departs)) (arrival : Arrival) (arrives : ArrivesIn net departs arrival) where
@@ -76,71 +70,43 @@ same_arrival net amount None arrival good least never = subst (SameArrival net a
 same_arrival net amount (Some departs) arrival good least arrives = same_at net good amount departs least arrival arrives arrives.report.stop refl
 
 -- ---- what a request gives
-module _ (call : Call) (n : Named) (good : IsNetwork n.net) (answer : ProgramAnswer) where
+module _ (n : Named) (text : List ℕ) (good : IsNetwork n.net) (answer : ProgramAnswer) where
   -- it is this answer
-  of_this : (other : ProgramAnswer) → answer ≡ other → IsSameInAll call other → IsSameInAll call answer
-  of_this other e h = subst (λ (a : ProgramAnswer). IsSameInAll call a) (sym e) h
+  of_this : (request : Request) (other : ProgramAnswer) → answer ≡ other → IsSameInAll text request other → IsSameInAll text request answer
+  of_this request other e h = subst (λ (a : ProgramAnswer). IsSameInAll text request a) (sym e) h
 
-  given_same : (request : Request) → Asks call request → IsGiven call.shelf n request answer → IsSameInAll call answer
-  given_same (Solve file horizon phases patterns) asks g = of_this (Solved n g.0) g.1 (SameInAll-equilibrium n.net g.0.flow good g.2.1.equilibrium)
-  given_same (SolveForever file phases patterns) asks g = of_this (SolvedForever n g.0) g.1 (same_forever n.net phases patterns g.0 good g.2)
-  given_same (Show file) asks g = of_this (Shown n) g.0 tt
-  given_same (Load file loads horizon) asks (inl g) = of_this (Loaded n horizon g.0) g.1 tt
-  given_same (Load file loads horizon) asks (inr (inl g)) = of_this (Passes g.0) g.1 tt
-  given_same (Load file loads horizon) asks (inr (inr g)) = of_this (MalformedLoads g.0) g.1 tt
-  given_same (Check file name) asks (inl g) = of_this (Checked n g.0) g.1 (same_if_yes call n file name g.0 good asks g.2)
-  given_same (Check file name) asks (inr (inl g)) = of_this (Passes g.0) g.1 tt
-  given_same (Check file name) asks (inr (inr g)) = of_this (MalformedReport g.0) g.1 tt
-  given_same (Quick file amount augments) asks (inl g) = of_this (Quickest n g.0 g.1) g.2
-      (λ file' amount' augments' asks'.
-      let one : request_of call.words ≡ Some (Quick file amount augments) = asks in
-      let other : request_of call.words ≡ Some (Quick file' amount' augments') = asks' in
-      let same_amount : amount ≡ amount' = cc in
-      subst (λ (a : ℚ). SameArrival n.net a g.1) same_amount (same_arrival n.net amount g.3.departs g.1 good g.3.least g.3.arrives))
-  given_same (Quick file amount augments) asks (inr (inl g)) = of_this (TooManyWalks n augments g.0) g.1 tt
-  given_same (Quick file amount augments) asks (inr (inr (inl g))) = of_this (Passes g.0) g.1 tt
-  given_same (Quick file amount augments) asks (inr (inr (inr g))) = of_this Unbounded g.0 tt
-  given_same (Gen number rungs horizon phases patterns) asks g =
-      of_this (Generated number rungs n g.1 g.0) g.2 (SameInAll-equilibrium n.net g.0.flow good g.3.equilibrium)
-  given_same (Settle file flows) asks (inl g) = of_this (Settled n g.0 g.1) g.2 tt
-  given_same (Settle file flows) asks (inr (inl g)) = of_this NotThin g.0 tt
-  given_same (Settle file flows) asks (inr (inr (inl g))) = of_this (Passes g.0) g.1 tt
-  given_same (Settle file flows) asks (inr (inr (inr g))) = of_this (MalformedFlows g.0) g.1 tt
-  given_same (Resume file name horizon phases patterns) asks (inl g) = of_this (Solved n g.0) g.1 (SameInAll-equilibrium n.net g.0.flow good g.2.equilibrium)
-  given_same (Resume file name horizon phases patterns) asks (inr (inl g)) = of_this (Checked n g.0) g.1 (none_checked call n file name horizon phases patterns g.0 asks)
-  given_same (Resume file name horizon phases patterns) asks (inr (inr (inl g))) = of_this (Passes g.0) g.1 tt
-  given_same (Resume file name horizon phases patterns) asks (inr (inr (inr (inl g)))) = of_this Earlier g.0 tt
-  given_same (Resume file name horizon phases patterns) asks (inr (inr (inr (inr g)))) = of_this (MalformedReport g.0) g.1 tt
-  given_same (Routes file routes horizon) asks (inl g) = of_this (Distributed n g.0 horizon g.1) g.2 tt
-  given_same (Routes file routes horizon) asks (inr (inl g)) = of_this (Passes g.0) g.1 tt
-  given_same (Routes file routes horizon) asks (inr (inr g)) = of_this (MalformedRoutes g.0) g.1 tt
+  given_same : (request : Request) → IsGiven n text request answer → IsSameInAll text request answer
+  given_same (Solve file horizon phases patterns) g =
+      of_this (Solve file horizon phases patterns) (Solved n g.report) g.is (SameInAll-equilibrium n.net g.report.flow good g.equilibrium)
+  given_same (SolveForever file phases patterns) g =
+      of_this (SolveForever file phases patterns) (SolvedForever n g.forever) g.is (same_forever n.net g.forever good g.equilibrium g.goes_on)
+  given_same (Show file) g = of_this (Show file) (Shown n) g.is tt
+  given_same (Load file loads horizon) (inl g) = of_this (Load file loads horizon) (Loaded n horizon g.loaded) g.is tt
+  given_same (Load file loads horizon) (inr (inl g)) = of_this (Load file loads horizon) (MalformedLoads g.0) g.1 tt
+  given_same (Load file loads horizon) (inr (inr g)) = of_this (Load file loads horizon) (Passes g.0) g.1 tt
+  given_same (Check file name) (inl g) = of_this (Check file name) (Checked n g.verdict) g.is (same_if_yes n text g.report g.verdict good g.read.reads g.exact)
+  given_same (Check file name) (inr (inl g)) = of_this (Check file name) (MalformedReport g.0) g.1 tt
+  given_same (Check file name) (inr (inr g)) = of_this (Check file name) (Passes g.0) g.1 tt
+  given_same (Quick file amount augments) (inl g) =
+      of_this (Quick file amount augments) (Quickest n g.quick g.arrival) g.is (same_arrival n.net amount g.departs g.arrival good g.least g.arrives)
+  given_same (Quick file amount augments) (inr (inl g)) = of_this (Quick file amount augments) (TooManyWalks n augments g.0) g.1 tt
+  given_same (Quick file amount augments) (inr (inr (inl g))) = of_this (Quick file amount augments) (Passes g.0) g.1 tt
+  given_same (Quick file amount augments) (inr (inr (inr g))) = of_this (Quick file amount augments) Unbounded g.0 tt
+  given_same (Gen number rungs horizon phases patterns) g =
+      of_this (Gen number rungs horizon phases patterns) (Generated number rungs n g.made g.report) g.is (SameInAll-equilibrium n.net g.report.flow good g.solution.equilibrium)
+  given_same (Settle file flows) (inl g) = of_this (Settle file flows) (Settled n g.pattern g.flows) g.is tt
+  given_same (Settle file flows) (inr (inl g)) = of_this (Settle file flows) (MalformedFlows g.0) g.1 tt
+  given_same (Settle file flows) (inr (inr (inl g))) = of_this (Settle file flows) (Passes g.0) g.1 tt
+  given_same (Settle file flows) (inr (inr (inr g))) = of_this (Settle file flows) NotThin g.0 tt
+  given_same (Resume file name horizon phases patterns) (inl g) =
+      of_this (Resume file name horizon phases patterns) (Solved n g.new) g.is (SameInAll-equilibrium n.net g.new.flow good g.equilibrium)
+  given_same (Resume file name horizon phases patterns) (inr (inl g)) = of_this (Resume file name horizon phases patterns) (MalformedReport g.0) g.1 tt
+  given_same (Resume file name horizon phases patterns) (inr (inr (inl g))) = of_this (Resume file name horizon phases patterns) (Passes g.0) g.1 tt
+  given_same (Resume file name horizon phases patterns) (inr (inr (inr (inl g)))) = of_this (Resume file name horizon phases patterns) Earlier g.0 tt
+  given_same (Resume file name horizon phases patterns) (inr (inr (inr (inr g)))) = of_this (Resume file name horizon phases patterns) (Checked n g.0) g.1 tt
+  given_same (Routes file routes horizon) (inl g) = of_this (Routes file routes horizon) (Distributed n g.routes horizon g.routed) g.is tt
+  given_same (Routes file routes horizon) (inr (inl g)) = of_this (Routes file routes horizon) (MalformedRoutes g.0) g.1 tt
+  given_same (Routes file routes horizon) (inr (inr g)) = of_this (Routes file routes horizon) (Passes g.0) g.1 tt
 
--- ---- an answer that comes
-refused_same : (call : Call) (answer : ProgramAnswer) → IsRefused call answer → IsSameInAll call answer
-refused_same call NoMemory h = tt
-refused_same call NoRequest h = tt
-refused_same call ShelfFailed h = tt
-refused_same call ShelfTooLong h = tt
-refused_same call (Malformed broken) h = tt
-refused_same call (Solved n report) h = absurd h
-refused_same call (Shown n) h = absurd h
-refused_same call (Loaded n horizon loaded) h = absurd h
-refused_same call (MalformedLoads broken) h = absurd h
-refused_same call (Checked n verdict) h = absurd h
-refused_same call (MalformedFlows broken) h = absurd h
-refused_same call (MalformedRoutes broken) h = absurd h
-refused_same call (MalformedReport broken) h = absurd h
-refused_same call (Passes at) h = absurd h
-refused_same call (Quickest n quick arrival) h = absurd h
-refused_same call (TooManyWalks n augments walks) h = absurd h
-refused_same call Unbounded h = absurd h
-refused_same call (Generated number rungs n made report) h = absurd h
-refused_same call (SolvedForever n forever) h = absurd h
-refused_same call (Settled n pattern flows) h = absurd h
-refused_same call NotThin h = absurd h
-refused_same call Earlier h = absurd h
-refused_same call (Distributed n routes horizon routed) h = absurd h
-
-pub answered_same : (call : Call) → AnswerIsSameInAll call
-answered_same call answer (inl h) = refused_same call answer h
-answered_same call answer (inr h) = given_same call h.net h.named.network answer h.request h.read.asks h.given
+pub answered_same : (run : Run) → AnswerIsSameInAll run
+answered_same run answer c = given_same c.net c.second c.named.network answer c.request c.given

@@ -19,7 +19,7 @@ use Rattle.nf_outside.specs.Sinks.{Took, TookAll, TookText}
 use Rattle.nf_outside.specs.Shown.{IsShown}
 use Rattle.nf_outside.proofs.Networks.{all_reached}
 use Rattle.nf_command_line.specs.Requests.{Request, request_of}
-use Rattle.nf_app.specs.Requests.{files_of, generated_by}
+use Rattle.nf_app.specs.Requests.{files_of, generated_by, OtherIsText}
 use Rattle.nf_app.specs.Given.{IsGiven}
 use Rattle.nf_app.specs.Runs.{Call, Reached, Read, IsRefused, IsAnswer}
 use Rattle.nf_app.specs.Gathered.{IsGathered}
@@ -113,11 +113,11 @@ module _ (words : List (List ℕ)) (shelf : Visit) (request : Request) (asks : r
   gathered_none (Err refusal) same refused = subst (λ (r : Refusal). IsAnswer (record { words = words; shelf = shelf }) (answer_of r)) (sym refused) (inl (inl untouched))
 
 -- ---- what a request gives with its network
-module _ (call : Call) (request : Request) (n : Named) (named : IsNamed n) (read : Read call request (Ok n)) where
-  computed : (answer : ProgramAnswer) → IsGiven call.shelf n request answer → IsAnswer call answer
-  computed answer g = inr (record { request = request; net = n; read = read; named = named; given = g })
+module _ (call : Call) (request : Request) (n : Named) (named : IsNamed n) (read : Read call request (Ok n)) (second : List ℕ) (is_second : OtherIsText call.shelf request second) where
+  computed : (answer : ProgramAnswer) → IsGiven n second request answer → IsAnswer call answer
+  computed answer g = inr (record { request = request; net = n; read = read; named = named; second = second; is_second = is_second; given = g })
 
-  -- memory may be wanting behind the last file
+  -- allocation may fail after the last file
   wants_memory : IsAnswer call NoMemory
   wants_memory = inl (behind (files_of request) read.fetched refl)
     where
@@ -127,12 +127,12 @@ module _ (call : Call) (request : Request) (n : Named) (named : IsNamed n) (read
           let last = all_reached call.shelf file others h in
           inr (last.0, record { request = request; asks = read.asks; fetched = subst (λ (l : List Wanted). FetchedTo call.shelf l last.0) (sym e) last.1 })
 
-  given_with : (r : Result Computed Refusal) → IsGiving call.shelf n request r → IsAnswered call (with_net n r)
+  given_with : (r : Result Computed Refusal) → IsGiving n second request r → IsAnswered call (with_net n r)
   given_with (Ok found) g = (computed _ g.0, g.1)
   given_with (Err refusal) (inl none) = subst (λ (r : Refusal). IsAnswer call (answer_of r)) (sym none) wants_memory
   given_with (Err refusal) (inr g) = computed (answer_of refusal) g
 
-  pub given : (r : Result Computed Refusal) → IsGiving call.shelf n request r → (out : Result Outcome Refusal) → out ≡ with_net n r → IsAnswered call out
+  pub given : (r : Result Computed Refusal) → IsGiving n second request r → (out : Result Outcome Refusal) → out ≡ with_net n r → IsAnswered call out
   given r g out e = subst (λ (o : Result Outcome Refusal). IsAnswered call o) (sym e) (given_with r g)
 
 -- ---- a refusal has no text, so a sink that took nothing took it whole

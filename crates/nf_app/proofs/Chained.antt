@@ -1,138 +1,254 @@
--- `check` says yes of what `solve` wrote.
-use Rattle.std.proofs.Common.{◌≡◌, ◌⊎◌, ℕ, List, [], ◌∷◌, ◌++◌, refl, sym, ap, subst, ◌∙◌, inl, inr}
-use Rattle.std.specs.Prelude.{Some, Ok, codes}
+-- `check` says yes of what `solve` wrote, and `resume` of one such text writes another.
+use Rattle.std.proofs.Common.{◌≡◌, ◌⊎◌, ℕ, Bool, true, false, List, [], ◌∷◌, ◌++◌, refl, sym, ap, subst, ◌∙◌, inl, inr}
+use Rattle.std.specs.Prelude.{Some, IsOk, is_ok, Result, Ok, Err, codes}
 use Rattle.std.proofs.lemmas.Option.{same_Some}
 use Rattle.std.proofs.lemmas.List.{append_cancel_left}
-use Rattle.std.proofs.lemmas.List.Elements.{All-cons, All-nil}
 use Rattle.nf_rational.specs.Rational.{ℚ}
-use Rattle.nf_edge.specs.Faults.{Rose}
+use Rattle.nf_work.specs.Passing.{passes_Q}
 use Rattle.nf_edge.specs.Taken.{with_more}
 use Rattle.nf_lines.specs.Words.{line_of_words}
+use Rattle.nf_model.specs.Equilibrium.{Equilibrium}
 use Rattle.nf_formats.specs.Named.{Named}
+use Rattle.nf_formats.specs.NetLines.{Broken}
 use Rattle.nf_formats.specs.NetFile.{Reads}
 use Rattle.nf_formats.specs.Report.{Report, report_text}
+use Rattle.nf_formats_laws.proofs.Once.{reads_at_most_once}
+use Rattle.nf_lists.specs.PhaseRun.{Bounds, IsRunReport}
 use Rattle.nf_check_lists.specs.declared.Answer.{Answer as Verdict}
 use Rattle.nf_check_lists.specs.declared.Answer.TheVariants.{Yes, No}
 use Rattle.nf_check.specs.Answers.{IsExact}
 use Rattle.nf_readings.specs.ReportFile.{report_in}
 use Rattle.nf_answers.specs.declared.status.Status.{Status}
-use Rattle.nf_answers.specs.Answers.{ProgramAnswer, Checked, status_of, out_text}
-use Rattle.nf_outside.specs.Files.{network_file, report_file}
+use Rattle.nf_answers.specs.Answers.{ProgramAnswer, Solved, SolvedForever, Shown, Loaded, Checked, Quickest, TooManyWalks, Generated, Settled, Distributed, NoMemory, NoRequest, ShelfFailed, ShelfTooLong, Malformed, MalformedLoads, MalformedFlows, MalformedRoutes, MalformedReport, Passes, Unbounded, NotThin, Earlier, status_of, status_of_stop, out_text}
+use Rattle.nf_outside.specs.Files.{Visit, network_file}
 use Rattle.nf_outside.specs.Fetching.{NetworkReads}
-use Rattle.nf_outside.specs.Sinks.{Took, TookAll}
+use Rattle.nf_outside.specs.Sinks.{TookAll}
 use Rattle.nf_outside.specs.Shown.{IsShown, IsShownWhole}
-use Rattle.nf_command_line.specs.Requests.{Request, Solve, Check, request_of}
-use Rattle.nf_app.specs.Requests.{files_of, generated_by}
+use Rattle.nf_command_line.specs.Requests.{Request, Solve, Check, Resume, request_of}
+use Rattle.nf_app.specs.Requests.{files_of, generated_by, budgets_of, bounds_to}
+use Rattle.nf_app.specs.Answered.{SolveAnswer}
 use Rattle.nf_app.specs.Given.{IsGiven}
-use Rattle.nf_app.specs.Runs.{Call, IsComputed, IsAnswer, Ran}
-use Rattle.nf_app.specs.Completeness.{Tells, TellsNetwork, TellsReport}
-use Rattle.nf_app.specs.Chained.{WasSolved, ChecksSolved, SaysYes}
+use Rattle.nf_app.specs.Runs.{Call, Run, IsRefused, IsComputed, IsAnswer, Ran, NothingFailed, IsOneOf}
+use Rattle.nf_app.specs.Completeness.{ReachesHorizon, ToldRequest}
+use Rattle.nf_app.specs.Resumption.{IsResumption}
+use Rattle.nf_app.specs.Chained.{WroteReport, ChecksSolved, SaysYes, ResumesSolved, ResumesSolvedText}
 use Rattle.nf_app.proofs.Fetched.{reads_told}
-use Rattle.nf_app.proofs.Reports.{one_report_in, some_report_in}
-use Rattle.nf_app.proofs.Completing.{answered_well}
-use Rattle.nf_app.proofs.Resuming.{not_refused, given_well}
+use Rattle.nf_app.proofs.ToldRequests.{Answers, told_answers}
+use Rattle.nf_app.proofs.Solving.{no_stop}
+use Rattle.nf_app.proofs.Resuming.{resumption_written}
 use Rattle.nf_app.proofs.Only.{whole}
 
-output_or_ok : (status : Status) → status ≡ Status.Output → status ≡ Status.Ok → ⊥
-output_or_ok status h k = cc
+same_ok : {A E : Type 0} (r : Result A E) (x y : A) → r ≡ Ok x → r ≡ Ok y → x ≡ y
+same_ok r x y h k = cc
 
-passed_or_ok : (status : Status) → status ≡ Status.Passed → status ≡ Status.Ok → ⊥
-passed_or_ok status h k = cc
+ok_err : {A E : Type 0} (r : Result A E) (x : A) (e : E) → r ≡ Ok x → r ≡ Err e → ⊥
+ok_err r x e h k = cc
 
--- what a sink that tells took is one text
+is_ok_so : {A E : Type 0} (r : Result A E) (x : A) → r ≡ Ok x → IsOk r
+is_ok_so r x e = ap is_ok e
+
+-- ---- the status of a report
+abbrev of_report : Status → Bool
+of_report Status.Ok = true
+of_report Status.Phases = true
+of_report Status.Patterns = true
+of_report Status.Passed = true
+of_report status = false
+
+report_status : (status : Status) → IsOneOf status (Status.Ok ∷ Status.Phases ∷ Status.Patterns ∷ Status.Passed ∷ []) → of_report status ≡ true
+report_status status (inl e) = ap of_report e
+report_status status (inr (inl e)) = ap of_report e
+report_status status (inr (inr (inl e))) = ap of_report e
+report_status status (inr (inr (inr (inl e)))) = ap of_report e
+report_status status (inr (inr (inr (inr h)))) = absurd h
+
+not_refused : (call : Call) (answer : ProgramAnswer) → IsRefused call answer → of_report (status_of answer) ≡ true → ⊥
+not_refused call NoMemory h e = cc
+not_refused call NoRequest h e = cc
+not_refused call ShelfFailed h e = cc
+not_refused call ShelfTooLong h e = cc
+not_refused call (Malformed broken) h e = cc
+not_refused call (Solved n report) h e = absurd h
+not_refused call (Shown n) h e = absurd h
+not_refused call (Loaded n horizon loaded) h e = absurd h
+not_refused call (MalformedLoads broken) h e = absurd h
+not_refused call (Checked n verdict) h e = absurd h
+not_refused call (MalformedFlows broken) h e = absurd h
+not_refused call (MalformedRoutes broken) h e = absurd h
+not_refused call (MalformedReport broken) h e = absurd h
+not_refused call (Passes at) h e = absurd h
+not_refused call (Quickest n quick arrival) h e = absurd h
+not_refused call (TooManyWalks n augments walks) h e = absurd h
+not_refused call Unbounded h e = absurd h
+not_refused call (Generated number rungs n made report) h e = absurd h
+not_refused call (SolvedForever n forever) h e = absurd h
+not_refused call (Settled n pattern flows) h e = absurd h
+not_refused call NotThin h e = absurd h
+not_refused call Earlier h e = absurd h
+not_refused call (Distributed n routes horizon routed) h e = absurd h
+
+output_no_report : (status : Status) → status ≡ Status.Output → of_report status ≡ true → ⊥
+output_no_report status e h = let other : of_report status ≡ false = ap of_report e in cc
+
+-- what a sink whose bytes are known took is one text
 one_text : (before text other : List ℕ) → with_more (Some before) text ≡ with_more (Some before) other → text ≡ other
 one_text before text other e = append_cancel_left before text other (same_Some (before ++ text) (before ++ other) e)
 
--- ---- what the earlier call gave
-module _ (call : Call) (file text : List ℕ) (s : WasSolved call.shelf file text) where
-  taken_so : IsShown s.ran.answer s.out s.err s.status → (status_of s.ran.answer ≡ Status.Ok) × TookAll s.out (out_text s.ran.answer)
-  taken_so (inl h) = (sym h.status_is ∙ s.whole, h.took.all)
-  taken_so (inr h) = absurd (output_or_ok s.status h.status_is s.whole)
+-- ---- what the earlier call wrote
+record Written (m : Named) (text : List ℕ) (bounds : Bounds) (status : Status) : Type 0 where
+  report : Report
+  run : IsRunReport passes_Q m.net bounds report
+  equilibrium : Equilibrium m.net report.flow
+  text_is : text ≡ report_text m report
+  reads_back : report_in m text ≡ Ok report
+  status_is : status ≡ status_of_stop report.stop
 
-  taken : (status_of s.ran.answer ≡ Status.Ok) × TookAll s.out (out_text s.ran.answer)
-  taken = taken_so s.ran.shown
+module _ (shelf : Visit) (file text : List ℕ) (s : WroteReport shelf file text) where
+  abbrev bounds : Bounds
+  bounds = bounds_to s.horizon s.phases s.patterns
 
-  computed_so : IsAnswer s.call s.ran.answer → IsComputed s.call s.ran.answer
-  computed_so (inl h) = absurd (not_refused s.call s.ran.answer h taken.0)
+  whole_so : IsShown s.ran.answer s.run.out s.run.err s.run.status → IsShownWhole s.ran.answer s.run.out s.run.err s.run.status
+  whole_so (inl h) = h
+  whole_so (inr h) = absurd (output_no_report s.run.status h.status_is (report_status s.run.status s.ended))
+
+  shown : IsShownWhole s.ran.answer s.run.out s.run.err s.run.status
+  shown = whole_so s.ran.shown
+
+  computed_so : IsAnswer s.run.call s.ran.answer → IsComputed s.run.call s.ran.answer
+  computed_so (inl h) = absurd (not_refused s.run.call s.ran.answer h (ap of_report (sym shown.status_is) ∙ report_status s.run.status s.ended))
   computed_so (inr h) = h
 
-  computed : IsComputed s.call s.ran.answer
+  computed : IsComputed s.run.call s.ran.answer
   computed = computed_so s.ran.comes
 
-  one_request : computed.request ≡ Solve file s.horizon s.phases s.patterns
-  one_request =
-      let one : request_of s.call.words ≡ Some computed.request = computed.read.asks in
-      let other : request_of s.call.words ≡ Some (Solve file s.horizon s.phases s.patterns) = s.asks in
+  asked : computed.request ≡ Solve file s.horizon s.phases s.patterns
+  asked =
+      let one : request_of s.run.call.words ≡ Some computed.request = computed.read.asks in
+      let other : request_of s.run.call.words ≡ Some (Solve file s.horizon s.phases s.patterns) = s.asks in
       same_Some computed.request (Solve file s.horizon s.phases s.patterns) (sym one ∙ other)
 
-  reads : (bytes : List ℕ) → call.shelf.told file ≡ Some bytes → Reads bytes (Ok computed.net)
-  reads bytes told = reads_told s.call.shelf (network_file file) bytes (s.told ∙ told) [] (Ok computed.net)
-      (subst (λ (q : Request). NetworkReads s.call.shelf (generated_by q) (files_of q) (Ok computed.net)) one_request computed.read.reads)
+  reads : (bytes : List ℕ) → shelf.told file ≡ Some bytes → Reads bytes (Ok computed.net)
+  reads bytes told = reads_told s.run.call.shelf (network_file file) bytes (s.told ∙ told) [] (Ok computed.net)
+      (subst (λ (q : Request). NetworkReads s.run.call.shelf (generated_by q) (files_of q) (Ok computed.net)) asked computed.read.reads)
 
-  solved : IsGiven s.call.shelf computed.net (Solve file s.horizon s.phases s.patterns) s.ran.answer
-  solved = subst (λ (q : Request). IsGiven s.call.shelf computed.net q s.ran.answer) one_request computed.given
+  solved : SolveAnswer computed.net bounds s.ran.answer
+  solved = subst (λ (q : Request). IsGiven computed.net computed.second q s.ran.answer) asked computed.given
 
-  text_is : text ≡ report_text computed.net solved.0
+  text_is : text ≡ report_text computed.net solved.report
   text_is = one_text s.before text (out_text s.ran.answer)
-      (ap (λ o. with_more o text) (sym s.tells) ∙ sym s.took ∙ taken.1 ∙ ap (λ o. with_more o (out_text s.ran.answer)) s.tells) ∙ ap out_text solved.1
+      (ap (λ o. with_more o text) (sym s.tells) ∙ sym s.took ∙ shown.took.all ∙ ap (λ o. with_more o (out_text s.ran.answer)) s.tells) ∙ ap out_text solved.is
 
-  reads_back : report_in computed.net text ≡ Ok solved.0
-  reads_back = ap (λ (t : List ℕ). report_in computed.net t) text_is ∙ solved.3.reads
+  written : Written computed.net text bounds s.run.status
+  written = record {
+    report = solved.report;
+    run = solved.run;
+    equilibrium = solved.equilibrium;
+    text_is = text_is;
+    reads_back = ap (λ (t : List ℕ). report_in computed.net t) text_is ∙ solved.reads_back.reads;
+    status_is = shown.status_is ∙ ap status_of solved.is;
+  }
 
--- ---- what the check gives
-module _ (call : Call) (c : ChecksSolved call) (no_fault : ¬ Rose call.shelf.faults_before call.shelf.faults_now) where
+  -- of the network that the file reads as
+  written_of : (bytes : List ℕ) (m : Named) → shelf.told file ≡ Some bytes → Reads bytes (Ok m) → Written m text bounds s.run.status
+  written_of bytes m told read =
+      let here : Result Named Broken = Ok computed.net in
+      let same : computed.net ≡ m = same_ok here computed.net m refl (reads_at_most_once bytes here (Ok m) (reads bytes told) read) in
+      subst (λ (x : Named). Written x text bounds s.run.status) same written
+
+-- ---- `check`
+module _ (run : Run) (c : ChecksSolved run.call) where
   abbrev n : Named
-  n = (computed call c.file c.report.text c.solved).net
+  n = (computed run.call.shelf c.file c.report.text c.solved).net
 
-  abbrev report : Report
-  report = (solved call c.file c.report.text c.solved).0
+  wrote : Written n c.report.text (bounds_to c.solved.horizon c.solved.phases c.solved.patterns) c.solved.run.status
+  wrote = written run.call.shelf c.file c.report.text c.solved
 
-  network : TellsNetwork call.shelf c.file
-  network = record { tells = c.network; net = n; reads = reads call c.file c.report.text c.solved c.network.text c.network.told }
+  told_check : ToldRequest run.call
+  told_check = record {
+    request = Check c.file c.report_name;
+    asks = c.asks;
+    network = c.network.text;
+    second = c.report.text;
+    told_network = c.network.told;
+    told_second = c.report.told;
+    fit = record { network_fits = c.network.within; second_fits = c.report.within };
+    net = n;
+    reads = reads run.call.shelf c.file c.report.text c.solved c.network.text c.network.told;
+    second_reads = is_ok_so (report_in n c.report.text) wrote.report wrote.reads_back;
+  }
 
-  tells_report : TellsReport call.shelf n c.report_name
-  tells_report = record { tells = c.report; report = report; reads = reads_back call c.file c.report.text c.solved }
-
-  is_yes : (verdict : Verdict ℕ ℕ ℚ) → IsExact n.net report.flow verdict → verdict ≡ Yes
+  is_yes : (verdict : Verdict ℕ ℕ ℚ) → IsExact n.net wrote.report.flow verdict → verdict ≡ Yes
   is_yes Yes h = refl
-  is_yes (No rule subject time left right) h = absurd (h.1 (solved call c.file c.report.text c.solved).2.1.equilibrium)
+  is_yes (No rule subject time left right) h = absurd (h.1 wrote.equilibrium)
 
-  yes_given : (answer : ProgramAnswer) → IsGiven call.shelf n (Check c.file c.report_name) answer → (answer ≡ Checked n Yes) ⊎ (status_of answer ≡ Status.Passed)
-  unfolding tells_report
+  yes_given : (answer : ProgramAnswer) → IsGiven n c.report.text (Check c.file c.report_name) answer → (answer ≡ Checked n Yes) ⊎ (status_of answer ≡ Status.Passed)
   yes_given answer (inl g) =
-      let same : report ≡ g.2.report = one_report_in call.shelf n c.report_name tells_report g.2.report g.2.held in
-      inl (g.1 ∙ ap (Checked n) (is_yes g.0 (subst (λ (r : Report). IsExact n.net r.flow g.0) (sym same) g.2.exact)))
-  yes_given answer (inr (inl g)) = inr (ap status_of g.1)
-  yes_given answer (inr (inr g)) = absurd (some_report_in call.shelf n c.report_name tells_report g.0 g.2)
+      let same : g.report ≡ wrote.report = same_ok (report_in n c.report.text) g.report wrote.report g.read.reads wrote.reads_back in
+      inl (g.is ∙ ap (Checked n) (is_yes g.verdict (subst (λ (r : Report). IsExact n.net r.flow g.verdict) same g.exact)))
+  yes_given answer (inr (inl g)) = absurd (ok_err (report_in n c.report.text) wrote.report g.0 wrote.reads_back g.2.breaks)
+  yes_given answer (inr (inr g)) = inr (ap status_of g.1)
 
-  abbrev Ends : Status → Type 0
-  Ends status = (status ≡ Status.Ok) ⊎ (status ≡ Status.Passed) ⊎ (status ≡ Status.Memory)
+  abbrev Says : Type 0
+  Says = ((run.status ≡ Status.Ok) × TookAll run.out (line_of_words (codes "yes" ∷ []))) ⊎ (run.status ≡ Status.Passed) ⊎ (run.status ≡ Status.Memory)
 
-  ends_so : (answer : ProgramAnswer) → (answer ≡ Checked n Yes) ⊎ (status_of answer ≡ Status.Passed) → Ends (status_of answer)
-  ends_so answer (inl e) = inl (ap status_of e)
-  ends_so answer (inr e) = inr (inl e)
+  said : (answer : ProgramAnswer) → IsShownWhole answer run.out run.err run.status → (answer ≡ Checked n Yes) ⊎ (status_of answer ≡ Status.Passed) → Says
+  said answer shown (inl e) = inl (shown.status_is ∙ ap status_of e, subst (λ (t : List ℕ). TookAll run.out t) (ap out_text e) shown.took.all)
+  said answer shown (inr e) = inr (inl (shown.status_is ∙ e))
 
-  ends : (answer : ProgramAnswer) → IsAnswer call answer → Ends (status_of answer)
-  unfolding network
-  ends = answered_well call no_fault (Check c.file c.report_name) c.asks
-      (All-cons (Tells call.shelf) (network_file c.file) (report_file c.report_name ∷ []) c.network (All-cons (Tells call.shelf) (report_file c.report_name) [] c.report (All-nil (Tells call.shelf))))
-      c.file (report_file c.report_name ∷ []) refl refl network Ends (inr (inr refl)) (λ answer g. ends_so answer (yes_given answer g))
+  says : NothingFailed run → (answer : ProgramAnswer) → IsShownWhole answer run.out run.err run.status → Answers run.call told_check answer → Says
+  unfolding told_check
+  says nothing answer shown (inl none) = inr (inr (shown.status_is ∙ ap status_of none))
+  says nothing answer shown (inr (inl h)) = absurd (nothing.shelf h.1)
+  says nothing answer shown (inr (inr h)) = said answer shown (yes_given answer h.1)
 
-  yes_text : (answer : ProgramAnswer) → (answer ≡ Checked n Yes) ⊎ (status_of answer ≡ Status.Passed) → status_of answer ≡ Status.Ok → out_text answer ≡ line_of_words (codes "yes" ∷ [])
-  yes_text answer (inl e) ok = ap out_text e
-  yes_text answer (inr e) ok = absurd (passed_or_ok (status_of answer) e ok)
+pub says_yes : (run : Run) → Ran run → SaysYes run
+says_yes run ran c nothing =
+    says run c nothing ran.answer (whole ran.answer run.out run.err run.status nothing.out ran.shown) (told_answers run.call (told_check run c) ran.answer ran.comes)
 
-  text_so : (answer : ProgramAnswer) → IsAnswer call answer → status_of answer ≡ Status.Ok → out_text answer ≡ line_of_words (codes "yes" ∷ [])
-  unfolding network
-  text_so answer comes ok = yes_text answer
-      (yes_given answer (given_well call (Check c.file c.report_name) c.asks c.file (report_file c.report_name ∷ []) refl refl network answer comes ok)) ok
+-- ---- `resume`
+module _ (run : Run) (r : ResumesSolved run.call) where
+  first : Written r.net r.report.text (bounds_to r.first.horizon r.first.phases r.first.patterns) r.first.run.status
+  first = written_of run.call.shelf r.file r.report.text r.first r.network.text r.net r.network.told r.reads
 
-  said : (answer : ProgramAnswer) (out err : Took) (status : Status) → IsAnswer call answer → IsShownWhole answer out err status → Ends (status_of answer)
-      → ((status ≡ Status.Ok) × TookAll out (line_of_words (codes "yes" ∷ []))) ⊎ (status ≡ Status.Passed) ⊎ (status ≡ Status.Memory)
-  said answer out err status comes shown (inl ok) = inl (shown.status_is ∙ ok, subst (λ (t : List ℕ). TookAll out t) (text_so answer comes ok) shown.took.all)
-  said answer out err status comes shown (inr (inl e)) = inr (inl (shown.status_is ∙ e))
-  said answer out err status comes shown (inr (inr e)) = inr (inr (shown.status_is ∙ e))
+  later : Written r.net r.later_text (bounds_to r.later.horizon r.later.phases r.later.patterns) r.later.run.status
+  later = written_of run.call.shelf r.file r.later_text r.later r.network.text r.net r.network.told r.reads
 
-pub says_yes : (call : Call) (out err : Took) (status : Status) → Ran call out err status → SaysYes call out status
-says_yes call out err status ran c no_fault takes =
-    said call c no_fault ran.answer out err status ran.comes (whole ran.answer out err status takes ran.shown) (ends call c no_fault ran.answer ran.comes)
+  resumption : IsResumption run.call
+  resumption = record {
+    told = record {
+      request = Resume r.file r.report_name r.horizon r.phases r.patterns;
+      asks = r.asks;
+      network = r.network.text;
+      second = r.report.text;
+      told_network = r.network.told;
+      told_second = r.report.told;
+      fit = record { network_fits = r.network.within; second_fits = r.report.within };
+      net = r.net;
+      reads = r.reads;
+      second_reads = is_ok_so (report_in r.net r.report.text) first.report first.reads_back;
+    };
+    file = r.file;
+    report_name = r.report_name;
+    horizon = r.horizon;
+    phases = r.phases;
+    patterns = r.patterns;
+    is = refl;
+    old = first.report;
+    reads = first.reads_back;
+    first_bounds = bounds_to r.first.horizon r.first.phases r.first.patterns;
+    first = first.run;
+    later_budgets = budgets_of r.later.phases r.later.patterns;
+    later = record {
+      report = later.report;
+      is_report = subst (λ (horizon : ℚ). IsRunReport passes_Q r.net.net (bounds_to horizon r.later.phases r.later.patterns) later.report) r.to_horizon later.run;
+      no_stop = no_stop later.report.stop (sym later.status_is ∙ r.whole);
+    };
+    rest = r.rest first.report first.run;
+  }
+
+  resumed : Ran run → run.status ≡ Status.Ok → TookAll run.out r.later_text
+  unfolding resumption
+  resumed ran ok = subst (λ (t : List ℕ). TookAll run.out t) (sym later.text_is) (resumption_written run ran resumption ok)
+
+pub resumes_solved : (run : Run) → Ran run → ResumesSolvedText run
+resumes_solved run ran r ok = resumed run r ran ok

@@ -16,31 +16,34 @@ use Rattle.nf_readings.specs.ReportFile.{report_in}
 use Rattle.nf_report_file.specs.declared.fault.ReportFault.{ReportFault}
 use Rattle.nf_report_file.specs.Files.{IfBroken}
 use Rattle.nf_answers.specs.declared.refusal.Refusal.{Refusal}
-use Rattle.nf_outside.specs.Files.{Visit, report_file}
 use Rattle.nf_command_line.specs.Requests.{Check}
 use Rattle.nf_answers.specs.Answers.{Checked}
 use Rattle.nf_answers.specs.Refusals.{answer_of, refusal_of_report, refusal_of_halt}
 use Rattle.nf_app.specs.Given.{IsGiven}
-use Rattle.nf_outside.specs.Fetching.{IsLastText}
-use Rattle.nf_app.proofs.Reports.{held, none_held}
+use Rattle.nf_app.proofs.Reports.{a_report, no_report}
 
-module _ (shelf : Visit) (n : Named) (named : IsNamed n) (file name text : List ℕ) (last : IsLastText shelf (report_file name) text) where
+module _ (n : Named) (named : IsNamed n) (file name text : List ℕ) where
   abbrev Answers : Refusal → Type 0
-  Answers refusal = (refusal ≡ Refusal.NoMemory) ⊎ IsGiven shelf n (Check file name) (answer_of refusal)
+  Answers refusal = (refusal ≡ Refusal.NoMemory) ⊎ IsGiven n text (Check file name) (answer_of refusal)
 
   pub report_refused : (fault : ReportFault) → IfBroken fault (λ broken. report_in n text ≡ Err broken) → Answers (refusal_of_report fault)
-  report_refused (ReportFault.Broken rule line) e = inr (inr (inr (record { rule = rule; line = line }, refl, none_held shelf n named name text last (record { rule = rule; line = line }) e)))
+  report_refused (ReportFault.Broken rule line) e =
+      inr (inr (inl (record { rule = rule; line = line }, refl, no_report n named text (record { rule = rule; line = line }) e)))
   report_refused ReportFault.Memory e = inl refl
 
   module _ (report : Report) (read : report_in n text ≡ Ok report) where
     pub checking_stopped : (halt : Halt ℚ) → Stops (λ (q : ℚ). q) halt (check_list passes_Q n.net report.flow) → Answers (refusal_of_halt halt)
-    checking_stopped (Halt.Passed at) e = inr (inr (inl (at, refl, record { report = report; held = held shelf n named name text last report read; passes = e })))
+    checking_stopped (Halt.Passed at) e = inr (inr (inr (at, refl, record { report = report; read = a_report n named text report read; passes = e })))
     checking_stopped Halt.Memory e = inl refl
 
     pub verdict_given : (verdict : Verdict ℕ ℕ ℚ) → check_list passes_Q n.net report.flow ≡ Ok verdict → Checks n.net report.flow verdict → IsExact n.net report.flow verdict
-        → IsGiven shelf n (Check file name) (Checked n verdict)
-    verdict_given verdict e checks exact = inl (
-      verdict,
-      refl,
-      record { report = report; held = held shelf n named name text last report read; computed = e; checks = checks; exact = exact },
-    )
+        → IsGiven n text (Check file name) (Checked n verdict)
+    verdict_given verdict e checks exact = inl (record {
+      report = report;
+      read = a_report n named text report read;
+      verdict = verdict;
+      is = refl;
+      exact = exact;
+      first_broken = checks;
+      computed = e;
+    })

@@ -1,6 +1,6 @@
 -- What a request to load links gives, from what was read of its loads file and what its list computes.
 use Rattle.std.proofs.Common.{◌≡◌, ◌⊎◌, ℕ, List, [], length, refl, ap, subst, inl, inr}
-use Rattle.std.specs.Prelude.{Some, Result, Ok, Err, slice_get, unwrap_or}
+use Rattle.std.specs.Prelude.{Some, Ok, Err, slice_get, unwrap_or}
 use Rattle.nf_rational.specs.Rational.{ℚ}
 use Rattle.nf_rational.specs.Operations.{0ℚ}
 use Rattle.nf_rational.specs.Order.{◌≤ℚ◌}
@@ -14,45 +14,38 @@ use Rattle.nf_load_lists.specs.Loading.{Loaded as Loading}
 use Rattle.nf_load_lists.specs.Loads.{load_list}
 use Rattle.nf_load_laws.proofs.Loads.{links_loaded}
 use Rattle.nf_curve.proofs.Exits.{was_ok}
-use Rattle.nf_readings.specs.LoadsFile.{LoadsBroken, loads_in, pieces_at}
+use Rattle.nf_readings.specs.LoadsFile.{loads_in, pieces_at}
 use Rattle.nf_loads_file.specs.declared.fault.LoadsFault.{LoadsFault}
 use Rattle.nf_loads_file.specs.Files.{IfBroken}
 use Rattle.nf_answers.specs.declared.refusal.Refusal.{Refusal}
-use Rattle.nf_outside.specs.Files.{Visit, loads_file}
 use Rattle.nf_command_line.specs.Requests.{Load}
 use Rattle.nf_answers.specs.Answers.{Loaded}
 use Rattle.nf_answers.specs.Refusals.{answer_of, refusal_of_loads, refusal_of_halt}
-use Rattle.nf_app.specs.Given.{LoadsRead, loading_list, IsGiven}
-use Rattle.nf_outside.specs.Fetching.{IsLastText}
+use Rattle.nf_app.specs.Lists.{loading_list}
+use Rattle.nf_app.specs.Given.{IsGiven}
 
-module _ (shelf : Visit) (n : Named) (file name : List ℕ) (horizon : ℚ) (text : List ℕ) (last : IsLastText shelf (loads_file name) text) where
-  -- what was read of the bytes
-  read_so : (read : Result (List (List Piece)) LoadsBroken) → loads_in n text ≡ read → LoadsRead shelf n name read
-  read_so read e = record { text = text; is_last = last; holds = e }
-
+module _ (n : Named) (file name : List ℕ) (horizon : ℚ) (text : List ℕ) where
   abbrev Answers : Refusal → Type 0
-  Answers refusal = (refusal ≡ Refusal.NoMemory) ⊎ IsGiven shelf n (Load file name horizon) (answer_of refusal)
+  Answers refusal = (refusal ≡ Refusal.NoMemory) ⊎ IsGiven n text (Load file name horizon) (answer_of refusal)
 
   pub loads_refused : (fault : LoadsFault) → IfBroken fault (λ broken. loads_in n text ≡ Err broken) → Answers (refusal_of_loads fault)
-  loads_refused (LoadsFault.Broken rule line) e = inr (inr (inr (record { rule = rule; line = line }, refl, read_so (Err (record { rule = rule; line = line })) e)))
+  loads_refused (LoadsFault.Broken rule line) e = inr (inr (inl (record { rule = rule; line = line }, refl, e)))
   loads_refused LoadsFault.Memory e = inl refl
 
   module _ (pieces : List (List Piece)) (read : loads_in n text ≡ Ok pieces) where
     pub loading_stopped : (halt : Halt ℚ) → Stops (λ (q : ℚ). q) halt (loading_list n pieces horizon) → Answers (refusal_of_halt halt)
-    loading_stopped (Halt.Passed at) e = inr (inr (inl (at, refl, record { pieces = pieces; read = read_so (Ok pieces) read; passes = e })))
+    loading_stopped (Halt.Passed at) e = inr (inr (inr (at, refl, record { pieces = pieces; read = read; passes = e })))
     loading_stopped Halt.Memory e = inl refl
 
     pub loading_given : (loaded : List Loading) → loading_list n pieces horizon ≡ Ok loaded → IsNetwork n.net → length pieces ≡ length n.net.links → 0ℚ ≤ℚ horizon
-        → ((e : ℕ) → ArePieces (pieces_at pieces e)) → IsGiven shelf n (Load file name horizon) (Loaded n horizon loaded)
-    loading_given loaded e good many from_0 are = inl (
-      loaded,
-      refl,
-      record {
-        pieces = pieces;
-        read = read_so (Ok pieces) read;
-        computed = e;
-        loadings = links_loaded passes_Q horizon from_0 n.net.links pieces loaded many good.transits good.capacities
-            (λ (i : ℕ) (p : List Piece) (is : slice_get pieces i ≡ Some p). subst (λ (l : List Piece). ArePieces l) (ap (λ o. unwrap_or o []) is) (are i))
-            (was_ok LoadPart (load_list passes_Q n.net.links pieces horizon) loaded e);
-      },
-    )
+        → ((e : ℕ) → ArePieces (pieces_at pieces e)) → IsGiven n text (Load file name horizon) (Loaded n horizon loaded)
+    loading_given loaded e good many from_0 are = inl (record {
+      pieces = pieces;
+      read = read;
+      loaded = loaded;
+      is = refl;
+      computed = e;
+      loadings = links_loaded passes_Q horizon from_0 n.net.links pieces loaded many good.transits good.capacities
+          (λ (i : ℕ) (p : List Piece) (is : slice_get pieces i ≡ Some p). subst (λ (l : List Piece). ArePieces l) (ap (λ o. unwrap_or o []) is) (are i))
+          (was_ok LoadPart (load_list passes_Q n.net.links pieces horizon) loaded e);
+    })

@@ -1,28 +1,178 @@
--- The answer that a call shows is the one that its words have with what the shelf tells, or memory was wanting.
-use Rattle.std.proofs.Common.{◌≡◌, ◌⊎◌, inl, inr, subst}
+-- A call shows the one answer that its words have with the known bytes of their files; or an allocation failed, or the shelf did.
+use Rattle.std.proofs.Common.{◌≡◌, ◌⊎◌, ℕ, ◌<◌, ◌≤◌, List, [], ◌∷◌, length, refl, sym, subst, ◌∙◌, inl, inr, arith}
+use Rattle.std.specs.Prelude.{Option, Some, None, IfSome, IsSome, Result, Ok, Err, slice_get, unwrap_or}
+use Rattle.std.specs.List.{All}
+use Rattle.std.proofs.lemmas.Option.{same_Some}
+use Rattle.std.proofs.lemmas.List.Elements.{All-head, All-tail}
 use Rattle.nf_edge.specs.Faults.{Rose}
 use Rattle.nf_edge.proofs.Rising.{rose}
+use Rattle.nf_formats.specs.Named.{Named}
+use Rattle.nf_formats.specs.NetLines.{Broken}
 use Rattle.nf_answers.specs.declared.status.Status.{Status}
-use Rattle.nf_answers.specs.Answers.{ProgramAnswer, NoMemory}
+use Rattle.nf_answers.specs.Answers.{ProgramAnswer, Solved, SolvedForever, Shown, Loaded, Checked, Quickest, TooManyWalks, Generated, Settled, Distributed, NoMemory, NoRequest, ShelfFailed, ShelfTooLong, Malformed, MalformedLoads, MalformedFlows, MalformedRoutes, MalformedReport, Passes, Unbounded, NotThin, Earlier}
+use Rattle.nf_outside.specs.Files.{Wanted, Visit, Fits, FetchedAll, FetchedTo, HasTooMany}
 use Rattle.nf_outside.specs.Sinks.{Took}
 use Rattle.nf_outside.specs.Shown.{IsShown, IsShownWhole}
-use Rattle.nf_app.specs.Runs.{Call, Ran}
-use Rattle.nf_app.specs.Told.{IsToldAnswer}
-use Rattle.nf_app.specs.Only.{ShowsToldAnswer, ShowsOnlyThat}
+use Rattle.nf_command_line.specs.Requests.{Request, request_of}
+use Rattle.nf_app.specs.Requests.{files_of, first_of, other_of, generated_by}
+use Rattle.nf_app.specs.Runs.{Call, Run, IsRefused, IsComputed, IsAnswer, Ran}
+use Rattle.nf_app.specs.Told.{Telling, TellsText, TellsAll, BothFit, TextsGive, too_long, malformed, answered, WordsGive, IsToldAnswer}
+use Rattle.nf_app.specs.Only.{Shows, the_answer, no_memory, shelf_failed, ShowsOnlyThat}
+use Rattle.nf_app.proofs.Texts.{Holds, all_held, network_so, same_second, given_there, in_the_middle}
 use Rattle.nf_app.proofs.ToldOnce.{one_told}
-use Rattle.nf_app.proofs.ToldGiven.{told_or_memory}
 
 -- where the output didn't fail, it took the whole text
 pub whole : (answer : ProgramAnswer) (out err : Took) (status : Status) → ¬ Rose out.faults_before out.faults_now → IsShown answer out err status → IsShownWhole answer out err status
 whole answer out err status takes (inl h) = h
 whole answer out err status takes (inr h) = absurd (takes (rose out.faults_before out.faults_now h.took.cause))
 
-by_answer : (call : Call) (out err : Took) (status : Status) (answer : ProgramAnswer) → IsShownWhole answer out err status → IsToldAnswer call.words call.shelf.told answer ⊎ (answer ≡ NoMemory)
-    → ShowsToldAnswer call out err status ⊎ IsShownWhole NoMemory out err status
-by_answer call out err status answer shown (inl is) =
-    inl (record { answer = answer; is = is; only = λ other other_is. one_told call.words call.shelf.told other answer other_is is; shown = shown })
-by_answer call out err status answer shown (inr none) = inr (subst (λ (a : ProgramAnswer). IsShownWhole a out err status) none shown)
+-- ---- the texts of files that are all known
+module _ (shelf : Visit) where
+  abbrev Known : Wanted → Type 0
+  Known file = IsSome (shelf.told file.name)
 
-pub shows_only : (call : Call) (out err : Took) (status : Status) → Ran call out err status → ShowsOnlyThat call out err status
-shows_only call out err status ran all no_fault takes =
-    by_answer call out err status ran.answer (whole ran.answer out err status takes ran.shown) (told_or_memory call all no_fault ran.answer ran.comes)
+  abbrev text_at : Option Wanted → List ℕ
+  text_at None = []
+  text_at (Some file) = unwrap_or (shelf.told file.name) []
+
+  is_text : (o : Option (List ℕ)) → IsSome o → o ≡ Some (unwrap_or o [])
+  is_text (Some text) some = refl
+  is_text None some = absurd (cc)
+
+  told_at : (wanted : Option Wanted) → IfSome wanted Known → TellsText shelf.told wanted (text_at wanted)
+  told_at None known = tt
+  told_at (Some file) known = is_text (shelf.told file.name) known
+
+  first_of_all : (P : Wanted → Type 0) (files : List Wanted) → All P files → IfSome (slice_get files 0) P
+  first_of_all P [] h = tt
+  first_of_all P (file ∷ files) h = All-head P file files h
+
+  second_of_all : (P : Wanted → Type 0) (files : List Wanted) → All P files → IfSome (slice_get files 1) P
+  second_of_all P [] h = tt
+  second_of_all P (file ∷ []) h = tt
+  second_of_all P (file ∷ other ∷ files) h = All-head P other files (All-tail P file (other ∷ files) h)
+
+  fits_at : (wanted : Option Wanted) (text : List ℕ) → TellsText shelf.told wanted text → IfSome wanted (Fits shelf) → IfSome wanted (λ file. length text ≤ file.limit)
+  fits_at None text told fits = tt
+  fits_at (Some file) text told fits = subst (λ (o : Option (List ℕ)). IfSome o (λ t. length t ≤ file.limit)) told fits
+
+-- ---- a request whose files are all known
+module _ (call : Call) (request : Request) (asks : request_of call.words ≡ Some request) (known : All (Known call.shelf) (files_of request)) where
+  abbrev network : List ℕ
+  network = text_at call.shelf (first_of request)
+
+  abbrev second : List ℕ
+  second = text_at call.shelf (other_of request)
+
+  told_network : TellsText call.shelf.told (first_of request) network
+  told_network = told_at call.shelf (first_of request) (first_of_all call.shelf (Known call.shelf) (files_of request) known)
+
+  told_second : TellsText call.shelf.told (other_of request) second
+  told_second = told_at call.shelf (other_of request) (second_of_all call.shelf (Known call.shelf) (files_of request) known)
+
+  is_told : (answer : ProgramAnswer) → TextsGive request network second answer → IsToldAnswer call.words call.shelf.told answer
+  is_told answer g = record {
+    network = network;
+    second = second;
+    told_network = subst (λ (o : Option Request). IfSome o (λ r. TellsText call.shelf.told (first_of r) network)) (sym asks) told_network;
+    told_second = subst (λ (o : Option Request). IfSome o (λ r. TellsText call.shelf.told (other_of r) second)) (sym asks) told_second;
+    gives = subst (λ (o : Option Request). WordsGive o network second answer) (sym asks) g;
+  }
+
+  fit : FetchedAll call.shelf (files_of request) → BothFit request network second
+  fit fetched = record {
+    network_fits = fits_at call.shelf (first_of request) network told_network (first_of_all call.shelf (Fits call.shelf) (files_of request) fetched.fit);
+    second_fits = fits_at call.shelf (other_of request) second told_second (second_of_all call.shelf (Fits call.shelf) (files_of request) fetched.fit);
+  }
+
+  -- a file that is longer than it may be
+  not_both : (last : Wanted) (to : FetchedTo call.shelf (files_of request) last) → (text : List ℕ) → call.shelf.told last.name ≡ Some text → last.limit < length text → ¬ BothFit request network second
+  not_both last to text told longer both =
+      let all : All (Holds call.shelf) (files_of request) = all_held call.shelf request network second told_network told_second both in
+      let held : Holds call.shelf last = in_the_middle (Holds call.shelf) to.first last to.behind (subst (λ (l : List Wanted). All (Holds call.shelf) l) to.files_are all) in
+      let same : text ≡ held.text = same_Some text held.text (sym told ∙ held.told) in
+      let more : last.limit < length held.text = subst (λ (t : List ℕ). last.limit < length t) same longer in
+      let within = held.within in
+      omega (arith, more, within)
+
+  too_long_so : (last : Wanted) → FetchedTo call.shelf (files_of request) last → HasTooMany call.shelf last
+      → IsToldAnswer call.words call.shelf.told ShelfTooLong ⊎ Rose call.shelf.faults_before call.shelf.faults_now
+  too_long_so last to many = by
+      (subst (λ (o : Option (List ℕ)). IfSome o (λ held. Rose call.shelf.faults_before call.shelf.faults_now ⊎ (last.limit < length held))) text many.1)
+    where
+      text : call.shelf.told last.name ≡ Some (text_at call.shelf (Some last))
+      text = is_text call.shelf (call.shelf.told last.name) (in_the_middle (Known call.shelf) to.first last to.behind (subst (λ (l : List Wanted). All (Known call.shelf) l) to.files_are known))
+
+      by : (Rose call.shelf.faults_before call.shelf.faults_now ⊎ (last.limit < length (text_at call.shelf (Some last))))
+          → IsToldAnswer call.words call.shelf.told ShelfTooLong ⊎ Rose call.shelf.faults_before call.shelf.faults_now
+      by (inl rise) = inr rise
+      by (inr longer) = inl (is_told ShelfTooLong (too_long (not_both last to (text_at call.shelf (Some last)) text longer)))
+
+-- ---- the answers
+module _ (run : Run) (all : TellsAll run.call.words run.call.shelf.told) where
+  abbrev call : Call
+  call = run.call
+
+  known_files : (request : Request) → request_of call.words ≡ Some request → All (Known call.shelf) (files_of request)
+  known_files request asks = subst (λ (o : Option Request). IfSome o (λ r. All (Known call.shelf) (files_of r))) asks all
+
+  shows_it : (answer : ProgramAnswer) → IsToldAnswer call.words call.shelf.told answer → IsShown answer run.out run.err run.status → Shows run
+  shows_it answer is shown = the_answer answer is (λ other other_is. one_told call.words call.shelf.told other answer other_is is) shown
+
+  computed_shows : (answer : ProgramAnswer) → IsComputed call answer → IsShown answer run.out run.err run.status → Shows run
+  computed_shows answer h shown =
+      let known = known_files h.request h.read.asks in
+      let net : Result Named Broken = Ok h.net in
+      shows_it answer (is_told call h.request h.read.asks known answer (answered h.net answer (fit call h.request h.read.asks known h.read.fetched)
+      (network_so call.shelf (generated_by h.request) (files_of h.request) (network call h.request h.read.asks known) net (told_network call h.request h.read.asks known) h.read.reads)
+      (given_there h.net h.request h.second (second call h.request h.read.asks known) answer
+      (same_second call.shelf (other_of h.request) h.second (second call h.request h.read.asks known) h.is_second (told_second call h.request h.read.asks known)) h.given))) shown
+
+  refused_shows : (answer : ProgramAnswer) → IsRefused call answer → IsShown answer run.out run.err run.status → Shows run
+  refused_shows NoMemory h (inl s) = no_memory s
+  refused_shows NoMemory h (inr s) = absurd s.has_text
+  refused_shows NoRequest h shown = shows_it NoRequest (record {
+    network = [];
+    second = [];
+    told_network = subst (λ (o : Option Request). IfSome o (λ r. TellsText call.shelf.told (first_of r) [])) (sym h.0) tt;
+    told_second = subst (λ (o : Option Request). IfSome o (λ r. TellsText call.shelf.told (other_of r) [])) (sym h.0) tt;
+    gives = subst (λ (o : Option Request). WordsGive o [] [] NoRequest) (sym h.0) refl;
+  }) shown
+  refused_shows ShelfFailed h (inl s) = shelf_failed ShelfFailed refl h.2.1 s
+  refused_shows ShelfFailed h (inr s) = absurd s.has_text
+  refused_shows ShelfTooLong h (inr s) = absurd s.has_text
+  refused_shows ShelfTooLong h (inl s) = by (too_long_so call h.1.request h.1.asks (known_files h.1.request h.1.asks) h.0 h.1.fetched h.2)
+    where
+      by : IsToldAnswer call.words call.shelf.told ShelfTooLong ⊎ Rose call.shelf.faults_before call.shelf.faults_now → Shows run
+      by (inl is) = shows_it ShelfTooLong is (inl s)
+      by (inr rise) = shelf_failed ShelfTooLong refl rise s
+  refused_shows (Malformed broken) h shown =
+      let known = known_files h.0 h.1.asks in
+      let net : Result Named Broken = Err broken in
+      shows_it (Malformed broken) (is_told call h.0 h.1.asks known (Malformed broken) (malformed broken (fit call h.0 h.1.asks known h.1.fetched)
+      (network_so call.shelf (generated_by h.0) (files_of h.0) (network call h.0 h.1.asks known) net (told_network call h.0 h.1.asks known) h.1.reads))) shown
+  refused_shows (Solved n report) h shown = absurd h
+  refused_shows (SolvedForever n forever) h shown = absurd h
+  refused_shows (Shown n) h shown = absurd h
+  refused_shows (Loaded n horizon loaded) h shown = absurd h
+  refused_shows (Checked n verdict) h shown = absurd h
+  refused_shows (Quickest n flow arrival) h shown = absurd h
+  refused_shows (TooManyWalks n augments walks) h shown = absurd h
+  refused_shows (Generated number rungs n made report) h shown = absurd h
+  refused_shows (Settled n pattern flows) h shown = absurd h
+  refused_shows (Distributed n routes horizon routed) h shown = absurd h
+  refused_shows (MalformedLoads broken) h shown = absurd h
+  refused_shows (MalformedFlows broken) h shown = absurd h
+  refused_shows (MalformedRoutes broken) h shown = absurd h
+  refused_shows (MalformedReport broken) h shown = absurd h
+  refused_shows (Passes at) h shown = absurd h
+  refused_shows Unbounded h shown = absurd h
+  refused_shows NotThin h shown = absurd h
+  refused_shows Earlier h shown = absurd h
+
+  shows_answer : (answer : ProgramAnswer) → IsAnswer call answer → IsShown answer run.out run.err run.status → Shows run
+  shows_answer answer (inl h) shown = refused_shows answer h shown
+  shows_answer answer (inr h) shown = computed_shows answer h shown
+
+pub shows_only : (run : Run) → Ran run → ShowsOnlyThat run
+shows_only run ran all = shows_answer run all ran.answer ran.comes ran.shown

@@ -2,15 +2,14 @@
 use Rattle.std.proofs.Common.{◌≡◌, ◌<◌, ℕ, sym, ◌∙◌, inl, inr, arith}
 use Rattle.std.specs.Prelude.{Option, Some, None}
 use Rattle.nf_rational.specs.Rational.{ℚ}
-use Rattle.nf_edge.specs.Faults.{greatest, Rose}
 use Rattle.nf_edge.proofs.Rising.{rises, rose}
 use Rattle.nf_formats.specs.declared.Cause.{Cause}
 use Rattle.nf_check_lists.specs.declared.Answer.{Answer as Verdict}
 use Rattle.nf_check_lists.specs.declared.Answer.TheVariants.{Yes, No}
 use Rattle.nf_answers.specs.declared.status.Status.{Status}
 use Rattle.nf_answers.specs.Answers.{ProgramAnswer, Solved, SolvedForever, Shown, Loaded, Checked, Quickest, TooManyWalks, Generated, Settled, Distributed, NoMemory, NoRequest, ShelfFailed, ShelfTooLong, Malformed, MalformedLoads, MalformedFlows, MalformedRoutes, MalformedReport, Passes, Unbounded, NotThin, Earlier, status_of, status_of_stop, status_of_forever, status_of_verdict}
-use Rattle.nf_outside.specs.Sinks.{Took}
 use Rattle.nf_outside.specs.Shown.{IsShown}
+use Rattle.nf_app.specs.Runs.{Run, Ran}
 use Rattle.nf_app.specs.Output.{OutputFails}
 
 -- ---- no answer has the status of a failed output
@@ -61,17 +60,20 @@ never_output Earlier e = cc
 same_not_less : (before now : ℕ) → now ≡ before → before < now → ⊥
 same_not_less before now e less = omega (arith, e, less)
 
-pub output_fails : (answer : ProgramAnswer) (out err : Took) (status : Status) → IsShown answer out err status → OutputFails out status
-output_fails answer out err status (inl h) = record {
+fails_so : (run : Run) (answer : ProgramAnswer) → IsShown answer run.out run.err run.status → OutputFails run
+fails_so run answer (inl h) = record {
   failed = λ e. absurd (never_output answer (sym h.status_is ∙ e));
-  else_none = λ e. h.took.no_fault;
+  else_none = λ other. h.took.no_fault;
   exactly = λ below. (
     (λ e. absurd (never_output answer (sym h.status_is ∙ e))),
-    (λ less. absurd (same_not_less out.faults_before out.faults_now h.took.no_fault less)),
+    (λ less. absurd (same_not_less run.out.faults_before run.out.faults_now h.took.no_fault less)),
   );
 }
-output_fails answer out err status (inr h) = record {
-  failed = λ e. rose out.faults_before out.faults_now h.took.cause;
+fails_so run answer (inr h) = record {
+  failed = λ e. rose run.out.faults_before run.out.faults_now h.took.cause;
   else_none = λ other. absurd (other h.status_is);
-  exactly = λ below. ((λ e. rises out.faults_before out.faults_now below h.took.cause), (λ less. h.status_is));
+  exactly = λ below. ((λ e. rises run.out.faults_before run.out.faults_now below h.took.cause), (λ less. h.status_is));
 }
+
+pub output_fails : (run : Run) → Ran run → OutputFails run
+output_fails run ran = fails_so run ran.answer ran.shown

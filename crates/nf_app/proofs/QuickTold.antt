@@ -33,13 +33,13 @@ use Rattle.nf_quick.specs.Answered.{HasNoWay, IsAnswered}
 use Rattle.nf_quick.specs.declared.fault.QuickFault.{QuickFault}
 use Rattle.nf_curve.specs.Flows.{flow_of as shown_flow}
 use Rattle.nf_curve.specs.declared.flow.Flow.{Flow as CodeFlow}
-use Rattle.nf_outside.specs.Files.{Visit}
 use Rattle.nf_command_line.specs.Requests.{Quick}
 use Rattle.nf_price_laws.proofs.Feasible.{quickest-le}
 use Rattle.nf_app.specs.Requests.{usual_budgets}
 use Rattle.nf_answers.specs.Answers.{Quickest, TooManyWalks, Passes, Unbounded}
 use Rattle.nf_app.specs.Given.{IsGiven}
-use Rattle.nf_app.specs.QuickGiven.{flow_list, departs_list, arrival_of, ArrivesIn, IsArrival}
+use Rattle.nf_app.specs.Lists.{flow_list, departs_list}
+use Rattle.nf_app.specs.Arrivals.{arrival_of, ArrivesIn, IsArrival}
 
 -- ---- the last point of a curve
 last_end : {A : Type 0} (d : Option A) (front : List A) (p : A) → last_or d (front ++ p ∷ []) ≡ Some p
@@ -148,40 +148,37 @@ no_earlier-is net amount quick None arrival flow least never time same = absurd 
 no_earlier-is net amount quick (Some departs) arrival flow least arrives time same = arrives.no_quicker time amount quick.time same least.1 flow.quickest
 
 -- ---- what is given, from what `quickest` and `departure` answer
-module _ (shelf : Visit) (n : Named) (file : List ℕ) (amount : ℚ) (augments : ℕ) where
+module _ (n : Named) (file text : List ℕ) (amount : ℚ) (augments : ℕ) where
   pub budget_given : (walks : List lists.Augment) → HasNoWay n.net amount → flow_list n.net amount augments ≡ Ok (lists.Budget walks) → EndsAtBudget n.net amount augments walks
-      → IsGiven shelf n (Quick file amount augments) (TooManyWalks n augments walks)
+      → IsGiven n text (Quick file amount augments) (TooManyWalks n augments walks)
   budget_given walks none listed pushed = inr (inl (walks, refl, record { no_way = none; computed = listed; pushed = pushed }))
 
-  pub unbounded_given : (links : Vec ℕ Global) → IsAnswered passes_Q n.net amount augments (Err (QuickFault.Unbounded links)) → IsGiven shelf n (Quick file amount augments) Unbounded
+  pub unbounded_given : (links : Vec ℕ Global) → IsAnswered passes_Q n.net amount augments (Err (QuickFault.Unbounded links)) → IsGiven n text (Quick file amount augments) Unbounded
   unbounded_given links h = inr (inr (inr (refl, (h.0, (links.items, h.1)))))
 
-  pub passed_given : (at : PassedAt ℚ) → IsAnswered passes_Q n.net amount augments (Err (QuickFault.Passed at)) → IsGiven shelf n (Quick file amount augments) (Passes at)
+  pub passed_given : (at : PassedAt ℚ) → IsAnswered passes_Q n.net amount augments (Err (QuickFault.Passed at)) → IsGiven n text (Quick file amount augments) (Passes at)
   passed_given at h = inr (inr (inl (at, refl, record { no_way = h.0; passes = inl h.1 })))
 
   module _ (quick : QuickFlow) (h : IsAnswered passes_Q n.net amount augments (Ok quick)) where
-    pub departure_passes : (at : PassedAt ℚ) → Err at ≡ departs_list n.net amount → IsGiven shelf n (Quick file amount augments) (Passes at)
+    pub departure_passes : (at : PassedAt ℚ) → Err at ≡ departs_list n.net amount → IsGiven n text (Quick file amount augments) (Passes at)
     departure_passes at e = inr (inr (inl (at, refl, record { no_way = h.0; passes = inr (quick, h.1, sym e) })))
 
     pub quickest_given : IsQuickFlow n.net amount quick → ComesOfPushes n.net amount augments quick → (departs : Option ℚ) → Ok departs ≡ departs_list n.net amount → IsDeparture n.net amount departs
-        → (arrival : Arrival) → IsArrival n.net departs arrival → IsGiven shelf n (Quick file amount augments) (Quickest n quick arrival)
-    quickest_given flow pushes departs e least arrival arrives =
-        inl (
-          quick,
-          arrival,
-          refl,
-          record {
-            no_way = h.0;
-            computed = h.1;
-            flow = flow;
-            pushes = pushes;
-            departs = departs;
-            departs_computed = sym e;
-            least = least;
-            arrives = arrives;
-            no_earlier = no_earlier-is n.net amount quick departs arrival flow least arrives;
-          },
-        )
+        → (arrival : Arrival) → IsArrival n.net departs arrival → IsGiven n text (Quick file amount augments) (Quickest n quick arrival)
+    quickest_given flow pushes departs e least arrival arrives = inl (record {
+      quick = quick;
+      arrival = arrival;
+      is = refl;
+      bounded = h.0;
+      quickest = flow;
+      pushes = pushes;
+      departs = departs;
+      least = least;
+      arrives = arrives;
+      no_earlier = no_earlier-is n.net amount quick departs arrival flow least arrives;
+      computed = h.1;
+      departs_computed = sym e;
+    })
 
 -- a departure is at least 0
 pub from_0 : (net : Network) (amount : ℚ) (departs : Option ℚ) → IsDeparture net amount departs → IfSome departs (λ time. 0ℚ ≤ℚ time)

@@ -28,8 +28,7 @@ use Rattle.nf_complete_laws.specs.SettleLaws.{AreGoodSets}
 use Rattle.nf_complete.specs.FitSets.{AreFitSets}
 use Rattle.nf_complete.specs.declared.settled.Settled.{Settled}
 use Rattle.nf_complete.specs.Settling.{SettlesTo}
-use Rattle.nf_app.specs.SettleGiven.{SlacksFit, TestFits, AreThin, PassesFirst, at_slack, at_test, at_settling}
-use Rattle.nf_app.specs.Settling.{AreStartSets, SettlesAtStart}
+use Rattle.nf_app.specs.Settling.{SlacksFit, TestFits, AreThin, PassesFirst, at_slack, at_test, at_settling, AreStartSets, SettlesAtStart}
 use Rattle.nf_app.proofs.Starting.{start_sets_good, start_source, start_rate}
 
 -- ---- what a test says

@@ -1,50 +1,50 @@
 -- What a request to settle a thin flow gives, from what was read of its flows file and what settling answers.
 use Rattle.std.proofs.Common.{◌≡◌, ◌⊎◌, ℕ, List, length, refl, ◌∙◌, inl, inr}
-use Rattle.std.specs.Prelude.{Some, None, Result, Ok, Err}
+use Rattle.std.specs.Prelude.{Some, None, Ok, Err}
 use Rattle.nf_rational.specs.Rational.{ℚ}
 use Rattle.nf_work.specs.declared.Halt.{Halt}
 use Rattle.nf_formats.specs.Named.{Named}
 use Rattle.nf_thin_laws.proofs.ActiveLinks.{AreSets-sets_at}
-use Rattle.nf_complete_lists.specs.FlowsFile.{FlowsBroken, GivenFlows, flows_in}
+use Rattle.nf_complete_lists.specs.FlowsFile.{GivenFlows, flows_in}
 use Rattle.nf_complete.specs.declared.settled.Settled.{Settled as CodeSettled}
 use Rattle.nf_flows_file.specs.declared.fault.FlowsFault.{FlowsFault}
 use Rattle.nf_flows_file.specs.Files.{IfBroken}
 use Rattle.nf_answers.specs.declared.refusal.Refusal.{Refusal}
-use Rattle.nf_outside.specs.Files.{Visit, flows_file}
 use Rattle.nf_command_line.specs.Requests.{Settle}
 use Rattle.nf_answers.specs.Answers.{Settled, NotThin}
 use Rattle.nf_answers.specs.Refusals.{answer_of, refusal_of_flows, refusal_of_halt}
-use Rattle.nf_app.specs.SettleGiven.{FlowsRead, AreSettled, AreNotThin, PassesFirst, AtStart}
-use Rattle.nf_app.specs.Settling.{AtStartLabels, SettlesAtStart}
+use Rattle.nf_app.specs.Settling.{SettlesAtStart}
 use Rattle.nf_app.specs.Given.{IsGiven}
-use Rattle.nf_outside.specs.Fetching.{IsLastText}
 
-module _ (shelf : Visit) (n : Named) (file name : List ℕ) (text : List ℕ) (last : IsLastText shelf (flows_file name) text) where
-  -- what was read of the bytes
-  read_so : (read : Result GivenFlows FlowsBroken) → flows_in n text ≡ read → FlowsRead shelf n name read
-  read_so read e = record { text = text; is_last = last; holds = e }
-
+module _ (n : Named) (file name : List ℕ) (text : List ℕ) where
   abbrev Answers : Refusal → Type 0
-  Answers refusal = (refusal ≡ Refusal.NoMemory) ⊎ IsGiven shelf n (Settle file name) (answer_of refusal)
+  Answers refusal = (refusal ≡ Refusal.NoMemory) ⊎ IsGiven n text (Settle file name) (answer_of refusal)
 
   pub flows_refused : (fault : FlowsFault) → IfBroken fault (λ broken. flows_in n text ≡ Err broken) → Answers (refusal_of_flows fault)
-  flows_refused (FlowsFault.Broken rule line) e = inr (inr (inr (inr (record { rule = rule; line = line }, refl, read_so (Err (record { rule = rule; line = line })) e))))
+  flows_refused (FlowsFault.Broken rule line) e = inr (inr (inl (record { rule = rule; line = line }, refl, e)))
   flows_refused FlowsFault.Memory e = inl refl
 
   module _ (given : GivenFlows) (read : flows_in n text ≡ Ok given) where
-    at_start : (Holds : List ℚ → GivenFlows → Type 0) → AtStartLabels n.net (λ labels. Holds labels given) → AtStart shelf n name Holds
-    at_start Holds h = record { given = given; read = read_so (Ok given) read; labels = h.0; are_start = h.1; holds = h.2 }
-
     pub settling_halted : (halt : Halt ℚ) → SettlesAtStart n.net given (Err halt) → Answers (refusal_of_halt halt)
-    settling_halted (Halt.Passed at) h = inr (inr (inr (inl (at, refl, at_start (λ labels g. PassesFirst n.net labels g at) h))))
+    settling_halted (Halt.Passed at) h =
+        inr (inr (inr (inl (at, refl, record { given = given; read = read; labels = h.0; are_start = h.1; passes = h.2 }))))
     settling_halted Halt.Memory h = inl refl
 
-    pub not_thin_given : SettlesAtStart n.net given (Ok None) → IsGiven shelf n (Settle file name) NotThin
-    not_thin_given h = inr (inl (refl, at_start (λ labels g. AreNotThin n.net labels g) h))
+    pub not_thin_given : SettlesAtStart n.net given (Ok None) → IsGiven n text (Settle file name) NotThin
+    not_thin_given h = inr (inr (inr (refl, record { given = given; read = read; labels = h.0; are_start = h.1; not_thin = h.2 })))
 
     module _ (s : CodeSettled) (h : SettlesAtStart n.net given (Ok (Some s))) where
-      pub settled_given : IsGiven shelf n (Settle file name) (Settled n s.pattern s.flows.items)
-      settled_given = inl (s.pattern, s.flows.items, refl, at_start (λ labels g. AreSettled n.net labels g s.pattern s.flows.items) h)
+      pub settled_given : IsGiven n text (Settle file name) (Settled n s.pattern s.flows.items)
+      settled_given = inl (record {
+        given = given;
+        read = read;
+        labels = h.0;
+        are_start = h.1;
+        pattern = s.pattern;
+        flows = s.flows.items;
+        is = refl;
+        settled = h.2;
+      })
 
       -- there is an entry for each link
       pub settled_counts : (length s.flows.items ≡ length n.net.links) × (length s.pattern ≡ length n.net.links)

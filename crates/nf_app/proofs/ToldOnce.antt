@@ -1,6 +1,6 @@
--- Words have at most one answer with what is told of files.
+-- Words have at most one answer with the known bytes of their files.
 use Rattle.std.proofs.Common.{◌≡◌, ℕ, ◌<◌, List, [], ◌∷◌, length, replicate, refl, sym, ap, subst, ◌∙◌, inl, inr, arith}
-use Rattle.std.specs.Prelude.{Option, Some, None, IsOk, Result, Ok, Err, map}
+use Rattle.std.specs.Prelude.{Option, Some, None, IfSome, IsOk, Result, Ok, Err, map}
 use Rattle.std.proofs.lemmas.Option.{none-some}
 use Rattle.nf_rational.specs.Rational.{ℚ}
 use Rattle.nf_rational.specs.Operations.{0ℚ}
@@ -44,11 +44,17 @@ use Rattle.nf_resumed_laws.proofs.OneResumed.{one_resumed}
 use Rattle.nf_outside.specs.Files.{Wanted}
 use Rattle.nf_command_line.specs.Requests.{Request, Solve, SolveForever, Show, Load, Check, Quick, Gen, Settle, Resume, Routes, request_of}
 use Rattle.nf_answers.specs.declared.arrival.Arrival.{Arrival}
-use Rattle.nf_answers.specs.Answers.{ProgramAnswer, Solved, SolvedForever, Quickest, Generated, Settled, Passes}
-use Rattle.nf_app.specs.Requests.{files_of, generated_by, budgets_of, usual_budgets}
-use Rattle.nf_app.specs.QuickGiven.{flow_list, departs_list, arrival_of, IsUnbounded}
-use Rattle.nf_app.specs.SettleGiven.{AreSettled, AreNotThin, PassesFirst, at_slack, at_test, at_settling}
-use Rattle.nf_app.specs.Told.{Telling, TellsWithin, TellsTooMany, Arrives, DepartsGive, FlowGives, QuickGives, StartGives, SettleGives, RestGives, ResumeGives, Gives, NetworkIn, second_of, ReadGives, TextsGive, FilesGive, RequestGives, IsToldAnswer}
+use Rattle.nf_answers.specs.Answers.{ProgramAnswer, Solved, SolvedForever, Quickest, Generated, Settled, Passes, Malformed}
+use Rattle.nf_app.specs.Requests.{first_of, other_of, generated_by, bounds_to, usual_budgets}
+use Rattle.nf_app.specs.Lists.{flow_list, departs_list}
+use Rattle.nf_app.specs.Arrivals.{arrival_of}
+use Rattle.nf_app.specs.Refused.{IsUnbounded}
+use Rattle.nf_app.specs.Settling.{AreSettled, AreNotThin, PassesFirst, at_slack, at_test, at_settling}
+use Rattle.nf_app.specs.Given.{IsGiven}
+use Rattle.nf_app.specs.Told.{Telling, TellsText, BothFit, NetworkIs, TextsGive, too_long, malformed, answered, WordsGive, IsToldAnswer}
+use Rattle.nf_app.proofs.Gives.{Arrives, DepartsGive, FlowGives, QuickGives, StartGives, SettleGives, RestGives, ResumeGives, Gives}
+use Rattle.nf_app.proofs.Texts.{given_there, network_there, fit_there}
+use Rattle.nf_app.proofs.ToldGiven.{given_so}
 use Rattle.nf_app.proofs.Starting.{start_sets_good}
 
 same_some : {A : Type 0} (o : Option A) (x y : A) → o ≡ Some x → o ≡ Some y → x ≡ y
@@ -184,67 +190,85 @@ one_resume n bounds text named (Ok old) e a b (inr g) (inr h) =
 one_resume n bounds text named (Err broken) e a b g h = g ∙ sym h
 
 -- ---- what a request gives with its network
-one_given : (n : Named) (text : List ℕ) (request : Request) → (generated_by request ≡ None → IsNamed n) → (a b : ProgramAnswer) → Gives n text request a → Gives n text request b → a ≡ b
-one_given n text (Solve file horizon phases patterns) named a b g h =
-    g.2 ∙ ap (Solved n) (one_report passes_Q n.net (bounds_of horizon (budgets_of phases patterns)) g.0 h.0 g.1 h.1) ∙ sym h.2
-one_given n text (SolveForever file phases patterns) named a b g h = g.2 ∙ ap (SolvedForever n) (one_forever passes_Q n.net phases patterns g.0 h.0 g.1 h.1) ∙ sym h.2
-one_given n text (Show file) named a b g h = g ∙ sym h
-one_given n text (Load file loads horizon) named a b g h = g ∙ sym h
-one_given n text (Check file report) named a b g h = g ∙ sym h
-one_given n text (Quick file amount augments) named a b g h = one_quick n amount augments a b g h
-one_given n text (Gen number rungs horizon phases patterns) named a b g h =
-    let bounds = bounds_of horizon (budgets_of phases patterns) in
+one_gives : (n : Named) (text : List ℕ) (request : Request) → (generated_by request ≡ None → IsNamed n) → (a b : ProgramAnswer) → Gives n text request a → Gives n text request b → a ≡ b
+one_gives n text (Solve file horizon phases patterns) named a b g h =
+    g.2 ∙ ap (Solved n) (one_report passes_Q n.net (bounds_to horizon phases patterns) g.0 h.0 g.1 h.1) ∙ sym h.2
+one_gives n text (SolveForever file phases patterns) named a b g h = g.2 ∙ ap (SolvedForever n) (one_forever passes_Q n.net phases patterns g.0 h.0 g.1 h.1) ∙ sym h.2
+one_gives n text (Show file) named a b g h = g ∙ sym h
+one_gives n text (Load file loads horizon) named a b g h = g ∙ sym h
+one_gives n text (Check file report) named a b g h = g ∙ sym h
+one_gives n text (Quick file amount augments) named a b g h = one_quick n amount augments a b g h
+one_gives n text (Gen number rungs horizon phases patterns) named a b g h =
+    let bounds = bounds_to horizon phases patterns in
     g.2 ∙ ap (λ (s : Standing). Generated number rungs n s.made g.0) (one_run passes_Q n.net bounds g.1.last h.1.last g.1.stop h.1.stop g.1.run h.1.run).0
     ∙ ap (Generated number rungs n h.1.last.made) (one_report passes_Q n.net bounds g.0 h.0 g.1 h.1) ∙ sym h.2
-one_given n text (Settle file flows) named a b g h = one_settle n (named refl).network (flows_in n text) a b g h
-one_given n text (Resume file report horizon phases patterns) named a b g h =
-    one_resume n (bounds_of horizon (budgets_of phases patterns)) text (named refl) (report_in n text) refl a b g h
-one_given n text (Routes file routes horizon) named a b g h = g ∙ sym h
+one_gives n text (Settle file flows) named a b g h = one_settle n (named refl).network (flows_in n text) a b g h
+one_gives n text (Resume file report horizon phases patterns) named a b g h =
+    one_resume n (bounds_to horizon phases patterns) text (named refl) (report_in n text) refl a b g h
+one_gives n text (Routes file routes horizon) named a b g h = g ∙ sym h
 
 -- ---- with the texts of its files
-one_network : (made : Option Named) (texts : List (List ℕ)) (r s : Result Named Broken) → NetworkIn made texts r → NetworkIn made texts s → r ≡ s
-one_network (Some n) texts r s h k = h ∙ sym k
-one_network None [] r s h k = absurd h
-one_network None (text ∷ others) r s h k = reads_at_most_once text r s h k
+one_given : (n : Named) (text : List ℕ) (request : Request) → (generated_by request ≡ None → IsNamed n) → (a b : ProgramAnswer) → IsGiven n text request a → IsGiven n text request b → a ≡ b
+one_given n text request named a b g h = one_gives n text request named a b (given_so n text a request g) (given_so n text b request h)
 
-named_in : (made : Option Named) (texts : List (List ℕ)) (n : Named) → NetworkIn made texts (Ok n) → made ≡ None → IsNamed n
-named_in (Some m) texts n h e = absurd (none-some m (sym e))
-named_in None [] n h e = absurd h
-named_in None (text ∷ others) n h e = accepted_named text n h
+pub one_network : (made : Option Named) (text : List ℕ) (r s : Result Named Broken) → NetworkIs made text r → NetworkIs made text s → r ≡ s
+one_network (Some n) text r s h k = h ∙ sym k
+one_network None text r s h k = reads_at_most_once text r s h k
 
-one_read : (request : Request) (text : List ℕ) (r : Result Named Broken) → ((n : Named) → r ≡ Ok n → generated_by request ≡ None → IsNamed n) → (a b : ProgramAnswer) → ReadGives request text r a
-    → ReadGives request text r b → a ≡ b
-one_read request text (Ok n) named a b g h = one_given n text request (named n refl) a b g h
-one_read request text (Err broken) named a b g h = g ∙ sym h
+named_in : (made : Option Named) (text : List ℕ) (n : Named) → NetworkIs made text (Ok n) → made ≡ None → IsNamed n
+named_in (Some m) text n h e = absurd (none-some m (sym e))
+named_in None text n h e = accepted_named text n h
 
-one_of_texts : (request : Request) (texts : List (List ℕ)) (a b : ProgramAnswer) → TextsGive request texts a → TextsGive request texts b → a ≡ b
-one_of_texts request texts a b g h =
-    let same : g.0 ≡ h.0 = one_network (generated_by request) texts g.0 h.0 g.1 h.1 in
-    one_read request (second_of texts) h.0 (λ n e. named_in (generated_by request) texts n (subst (λ (r : Result Named Broken). NetworkIn (generated_by request) texts r) e h.1)) a b
-    (subst (λ (r : Result Named Broken). ReadGives request (second_of texts) r a) same g.2) h.2
+module _ (request : Request) (network second : List ℕ) where
+  one_broken : (broken other : Broken) → NetworkIs (generated_by request) network (Err broken) → NetworkIs (generated_by request) network (Err other) → broken ≡ other
+  one_broken broken other h k =
+      let read : Result Named Broken = Err broken in
+      same_err read broken other refl (one_network (generated_by request) network read (Err other) h k)
 
--- ---- with what is told
-many_or_within : (telling : Telling) (file : Wanted) → TellsTooMany telling file → TellsWithin telling file → ⊥
-many_or_within telling file m w =
-    let same : m.text ≡ w.text = same_some (telling file.name) m.text w.text m.told w.told in
-    let more : file.limit < length w.text = subst (λ (t : List ℕ). file.limit < length t) same m.more in
-    let within = w.within in
-    omega (arith, more, within)
+  broken_or_not : (broken : Broken) (n : Named) → NetworkIs (generated_by request) network (Err broken) → NetworkIs (generated_by request) network (Ok n) → ⊥
+  broken_or_not broken n h k =
+      let read : Result Named Broken = Err broken in
+      ok_err read n broken (one_network (generated_by request) network read (Ok n) h k) refl
 
-one_of_files : (telling : Telling) (files : List Wanted) (Give : List (List ℕ) → ProgramAnswer → Type 0) → ((texts : List (List ℕ)) (a b : ProgramAnswer) → Give texts a → Give texts b → a ≡ b) → (a b : ProgramAnswer)
-    → FilesGive telling files Give a → FilesGive telling files Give b → a ≡ b
-one_of_files telling [] Give one a b g h = one [] a b g h
-one_of_files telling (file ∷ files) Give one a b (inl g) (inl h) = g.1 ∙ sym h.1
-one_of_files telling (file ∷ files) Give one a b (inl g) (inr h) = absurd (many_or_within telling file g.0 h.0)
-one_of_files telling (file ∷ files) Give one a b (inr g) (inl h) = absurd (many_or_within telling file h.0 g.0)
-one_of_files telling (file ∷ files) Give one a b (inr g) (inr h) =
-    let same : g.0.text ≡ h.0.text = same_some (telling file.name) g.0.text h.0.text g.0.told h.0.told in
-    one_of_files telling files (λ (texts : List (List ℕ)). Give (h.0.text ∷ texts)) (λ texts. one (h.0.text ∷ texts)) a b
-    (subst (λ (text : List ℕ). FilesGive telling files (λ (texts : List (List ℕ)). Give (text ∷ texts)) a) same g.1) h.1
+  one_answered : (n m : Named) (a b : ProgramAnswer) → NetworkIs (generated_by request) network (Ok n) → NetworkIs (generated_by request) network (Ok m) → IsGiven n second request a → IsGiven m second request b
+      → a ≡ b
+  one_answered n m a b h k g i =
+      let read : Result Named Broken = Ok n in
+      let same : n ≡ m = same_ok read n m refl (one_network (generated_by request) network read (Ok m) h k) in
+      one_given m second request (named_in (generated_by request) network m k) a b (subst (λ (x : Named). IsGiven x second request a) same g) i
 
-one_asked : (telling : Telling) (o : Option Request) (a b : ProgramAnswer) → RequestGives telling o a → RequestGives telling o b → a ≡ b
-one_asked telling (Some request) a b g h = one_of_files telling (files_of request) (TextsGive request) (one_of_texts request) a b g h
-one_asked telling None a b g h = g ∙ sym h
+  one_of_texts : (a b : ProgramAnswer) → TextsGive request network second a → TextsGive request network second b → a ≡ b
+  one_of_texts _ _ (too_long f) (too_long g) = refl
+  one_of_texts _ _ (too_long f) (malformed other fit k) = absurd (f fit)
+  one_of_texts _ _ (too_long f) (answered m b fit k h) = absurd (f fit)
+  one_of_texts _ _ (malformed broken fit k) (too_long g) = absurd (g fit)
+  one_of_texts _ _ (malformed broken fit k) (malformed other fit' l) = ap Malformed (one_broken broken other k l)
+  one_of_texts _ _ (malformed broken fit k) (answered m b fit' l h) = absurd (broken_or_not broken m k l)
+  one_of_texts _ _ (answered n a fit k g) (too_long h) = absurd (h fit)
+  one_of_texts _ _ (answered n a fit k g) (malformed other fit' l) = absurd (broken_or_not other n l k)
+  one_of_texts _ _ (answered n a fit k g) (answered m b fit' l h) = one_answered n m a b k l g h
+
+-- the same texts of the files that are wanted give the same
+texts_there : (request : Request) (network second network' second' : List ℕ) (answer : ProgramAnswer) → IfSome (first_of request) (λ file. network ≡ network') → IfSome (other_of request) (λ file. second ≡ second')
+    → IfSome (first_of request) (λ file. network' ≡ network) → IfSome (other_of request) (λ file. second' ≡ second) → TextsGive request network second answer → TextsGive request network' second' answer
+texts_there request network second network' second' _ p q p' q' (too_long f) = too_long (λ fit. f (fit_there request network' second' network second p' q' fit))
+texts_there request network second network' second' _ p q p' q' (malformed broken fit k) =
+    malformed broken (fit_there request network second network' second' p q fit) (network_there request network network' (Err broken) p k)
+texts_there request network second network' second' _ p q p' q' (answered n answer fit k g) =
+    answered n answer (fit_there request network second network' second' p q fit) (network_there request network network' (Ok n) p k) (given_there n request second second' answer q g)
+
+-- ---- with what is known
+same_told : (telling : Telling) (wanted : Option Wanted) (a b : List ℕ) → TellsText telling wanted a → TellsText telling wanted b → IfSome wanted (λ file. a ≡ b)
+same_told telling None a b h k = tt
+same_told telling (Some file) a b h k = same_some (telling file.name) a b h k
+
+one_of_words : (telling : Telling) (o : Option Request) (network second network' second' : List ℕ) → IfSome o (λ r. TellsText telling (first_of r) network) → IfSome o (λ r. TellsText telling (other_of r) second)
+    → IfSome o (λ r. TellsText telling (first_of r) network') → IfSome o (λ r. TellsText telling (other_of r) second') → (a b : ProgramAnswer) → WordsGive o network second a → WordsGive o network' second' b → a ≡ b
+one_of_words telling None network second network' second' p q p' q' a b g h = g ∙ sym h
+one_of_words telling (Some request) network second network' second' p q p' q' a b g h = one_of_texts request network' second' a b
+    (texts_there request network second network' second' a (same_told telling (first_of request) network network' p p') (same_told telling (other_of request) second second' q q')
+    (same_told telling (first_of request) network' network p' p) (same_told telling (other_of request) second' second q' q) g) h
 
 pub one_told : (words : List (List ℕ)) (telling : Telling) (a b : ProgramAnswer) → IsToldAnswer words telling a → IsToldAnswer words telling b → a ≡ b
-one_told words telling a b g h = one_asked telling (request_of words) a b g h
+one_told words telling a b g h =
+    one_of_words telling (request_of words) g.network g.second h.network h.second g.told_network g.told_second h.told_network h.told_second a b g.gives h.gives

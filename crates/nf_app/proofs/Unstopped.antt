@@ -1,5 +1,5 @@
 -- No run that an answer tells of stopped since no pattern was left; so that is the status of no answer.
-use Rattle.std.proofs.Common.{◌≡◌, ℕ, inl, inr, sym, ap, subst, refl, ◌∙◌}
+use Rattle.std.proofs.Common.{◌≡◌, ℕ, List, inl, inr, sym, ap, subst, refl, ◌∙◌}
 use Rattle.std.specs.Prelude.{Option, Some, None}
 use Rattle.std.proofs.lemmas.Option.{none-some}
 use Rattle.nf_rational.specs.Rational.{ℚ}
@@ -11,18 +11,16 @@ use Rattle.nf_check_lists.specs.declared.Answer.{Answer as Verdict}
 use Rattle.nf_check_lists.specs.declared.Answer.TheVariants.{Yes, No}
 use Rattle.nf_phase.specs.Solution.{bounds_of}
 use Rattle.nf_unstopped_laws.specs.Stops.{NeverNoPattern}
-use Rattle.nf_unstopped_laws.proofs.Stops.{never_of, never_report}
+use Rattle.nf_unstopped_laws.proofs.Stops.{never_report, never_resumed, never_forever}
 use Rattle.nf_answers.specs.declared.arrival.Arrival.{Arrival}
 use Rattle.nf_answers.specs.declared.status.Status.{Status}
 use Rattle.nf_answers.specs.Answers.{ProgramAnswer, Solved, SolvedForever, Shown, Loaded, Checked, Quickest, TooManyWalks, Generated, Settled, Distributed, NoMemory, NoRequest, ShelfFailed, ShelfTooLong, Malformed, MalformedLoads, MalformedFlows, MalformedRoutes, MalformedReport, Passes, Unbounded, NotThin, Earlier, status_of, status_of_stop, status_of_forever, status_of_verdict}
-use Rattle.nf_outside.specs.Files.{Visit}
-use Rattle.nf_outside.specs.Sinks.{Took}
 use Rattle.nf_outside.specs.Shown.{IsShown}
 use Rattle.nf_command_line.specs.Requests.{Request, Solve, SolveForever, Show, Load, Check, Quick, Gen, Settle, Resume, Routes}
-use Rattle.nf_app.specs.Requests.{usual_budgets}
-use Rattle.nf_app.specs.QuickGiven.{arrival_of, IsArrival}
+use Rattle.nf_app.specs.Requests.{usual_budgets, bounds_to}
+use Rattle.nf_app.specs.Arrivals.{arrival_of, IsArrival}
 use Rattle.nf_app.specs.Given.{IsGiven}
-use Rattle.nf_app.specs.Runs.{Call, IsRefused, IsAnswer}
+use Rattle.nf_app.specs.Runs.{Call, Run, IsRefused, IsAnswer, Ran}
 use Rattle.nf_app.specs.Stops.{stop_of_arrival, stop_in, AlwaysHasPattern}
 
 -- ---- an answer without a run
@@ -53,41 +51,41 @@ arrival_never net (Some departs) arrival good is = subst NeverNoPattern (sym (ap
     (never_report passes_Q net (bounds_of departs usual_budgets) is.report good is.solution.run)
 
 -- ---- what a request gives with its network
-given_never : (shelf : Visit) (n : Named) (request : Request) (answer : ProgramAnswer) → IsNetwork n.net → IsGiven shelf n request answer → NeverNoPattern (stop_in answer)
-given_never shelf n (Solve file horizon phases patterns) answer good g =
-    with_stop answer (Solved n g.0) g.1 (never_of n.net g.0.flow g.0.stop good g.2.1.equilibrium g.4)
-given_never shelf n (SolveForever file phases patterns) answer good g =
-    with_stop answer (SolvedForever n g.0) g.1 (never_of n.net g.0.flow g.0.stop good g.2.equilibrium g.2.no_thin_flow)
-given_never shelf n (Show file) answer good g = no_run answer (Shown n) g.0 refl
-given_never shelf n (Load file loads horizon) answer good (inl g) = no_run answer (Loaded n horizon g.0) g.1 refl
-given_never shelf n (Load file loads horizon) answer good (inr (inl g)) = no_run answer (Passes g.0) g.1 refl
-given_never shelf n (Load file loads horizon) answer good (inr (inr g)) = no_run answer (MalformedLoads g.0) g.1 refl
-given_never shelf n (Check file report) answer good (inl g) = no_run answer (Checked n g.0) g.1 refl
-given_never shelf n (Check file report) answer good (inr (inl g)) = no_run answer (Passes g.0) g.1 refl
-given_never shelf n (Check file report) answer good (inr (inr g)) = no_run answer (MalformedReport g.0) g.1 refl
-given_never shelf n (Quick file amount augments) answer good (inl g) = with_stop answer (Quickest n g.0 g.1) g.2 (arrival_never n.net g.3.departs g.1 good g.3.arrives)
-given_never shelf n (Quick file amount augments) answer good (inr (inl g)) = no_run answer (TooManyWalks n augments g.0) g.1 refl
-given_never shelf n (Quick file amount augments) answer good (inr (inr (inl g))) = no_run answer (Passes g.0) g.1 refl
-given_never shelf n (Quick file amount augments) answer good (inr (inr (inr g))) = no_run answer Unbounded g.0 refl
-given_never shelf n (Gen number rungs horizon phases patterns) answer good g =
-    with_stop answer (Generated number rungs n g.1 g.0) g.2 (never_of n.net g.0.flow g.0.stop good g.3.equilibrium g.4)
-given_never shelf n (Settle file flows) answer good (inl g) = no_run answer (Settled n g.0 g.1) g.2 refl
-given_never shelf n (Settle file flows) answer good (inr (inl g)) = no_run answer NotThin g.0 refl
-given_never shelf n (Settle file flows) answer good (inr (inr (inl g))) = no_run answer (Passes g.0) g.1 refl
-given_never shelf n (Settle file flows) answer good (inr (inr (inr g))) = no_run answer (MalformedFlows g.0) g.1 refl
-given_never shelf n (Resume file report horizon phases patterns) answer good (inl g) =
-    with_stop answer (Solved n g.0) g.1 (never_of n.net g.0.flow g.0.stop good g.2.equilibrium g.2.no_thin_flow)
-given_never shelf n (Resume file report horizon phases patterns) answer good (inr (inl g)) = no_run answer (Checked n g.0) g.1 refl
-given_never shelf n (Resume file report horizon phases patterns) answer good (inr (inr (inl g))) = no_run answer (Passes g.0) g.1 refl
-given_never shelf n (Resume file report horizon phases patterns) answer good (inr (inr (inr (inl g)))) = no_run answer Earlier g.0 refl
-given_never shelf n (Resume file report horizon phases patterns) answer good (inr (inr (inr (inr g)))) = no_run answer (MalformedReport g.0) g.1 refl
-given_never shelf n (Routes file routes horizon) answer good (inl g) = no_run answer (Distributed n g.0 horizon g.1) g.2 refl
-given_never shelf n (Routes file routes horizon) answer good (inr (inl g)) = no_run answer (Passes g.0) g.1 refl
-given_never shelf n (Routes file routes horizon) answer good (inr (inr g)) = no_run answer (MalformedRoutes g.0) g.1 refl
+given_never : (n : Named) (text : List ℕ) (request : Request) (answer : ProgramAnswer) → IsNetwork n.net → IsGiven n text request answer → NeverNoPattern (stop_in answer)
+given_never n text (Solve file horizon phases patterns) answer good g =
+    with_stop answer (Solved n g.report) g.is (never_report passes_Q n.net (bounds_to horizon phases patterns) g.report good g.run)
+given_never n text (SolveForever file phases patterns) answer good g =
+    with_stop answer (SolvedForever n g.forever) g.is (never_forever passes_Q n.net phases patterns g.forever good g.run)
+given_never n text (Show file) answer good g = no_run answer (Shown n) g.is refl
+given_never n text (Load file loads horizon) answer good (inl g) = no_run answer (Loaded n horizon g.loaded) g.is refl
+given_never n text (Load file loads horizon) answer good (inr (inl g)) = no_run answer (MalformedLoads g.0) g.1 refl
+given_never n text (Load file loads horizon) answer good (inr (inr g)) = no_run answer (Passes g.0) g.1 refl
+given_never n text (Check file report) answer good (inl g) = no_run answer (Checked n g.verdict) g.is refl
+given_never n text (Check file report) answer good (inr (inl g)) = no_run answer (MalformedReport g.0) g.1 refl
+given_never n text (Check file report) answer good (inr (inr g)) = no_run answer (Passes g.0) g.1 refl
+given_never n text (Quick file amount augments) answer good (inl g) = with_stop answer (Quickest n g.quick g.arrival) g.is (arrival_never n.net g.departs g.arrival good g.arrives)
+given_never n text (Quick file amount augments) answer good (inr (inl g)) = no_run answer (TooManyWalks n augments g.0) g.1 refl
+given_never n text (Quick file amount augments) answer good (inr (inr (inl g))) = no_run answer (Passes g.0) g.1 refl
+given_never n text (Quick file amount augments) answer good (inr (inr (inr g))) = no_run answer Unbounded g.0 refl
+given_never n text (Gen number rungs horizon phases patterns) answer good g =
+    with_stop answer (Generated number rungs n g.made g.report) g.is (never_report passes_Q n.net (bounds_to horizon phases patterns) g.report good g.solution.run)
+given_never n text (Settle file flows) answer good (inl g) = no_run answer (Settled n g.pattern g.flows) g.is refl
+given_never n text (Settle file flows) answer good (inr (inl g)) = no_run answer (MalformedFlows g.0) g.1 refl
+given_never n text (Settle file flows) answer good (inr (inr (inl g))) = no_run answer (Passes g.0) g.1 refl
+given_never n text (Settle file flows) answer good (inr (inr (inr g))) = no_run answer NotThin g.0 refl
+given_never n text (Resume file report horizon phases patterns) answer good (inl g) =
+    with_stop answer (Solved n g.new) g.is (never_resumed passes_Q n.net (bounds_to horizon phases patterns) g.old g.made g.new good g.read.well_formed g.resumed)
+given_never n text (Resume file report horizon phases patterns) answer good (inr (inl g)) = no_run answer (MalformedReport g.0) g.1 refl
+given_never n text (Resume file report horizon phases patterns) answer good (inr (inr (inl g))) = no_run answer (Passes g.0) g.1 refl
+given_never n text (Resume file report horizon phases patterns) answer good (inr (inr (inr (inl g)))) = no_run answer Earlier g.0 refl
+given_never n text (Resume file report horizon phases patterns) answer good (inr (inr (inr (inr g)))) = no_run answer (Checked n g.0) g.1 refl
+given_never n text (Routes file routes horizon) answer good (inl g) = no_run answer (Distributed n g.routes horizon g.routed) g.is refl
+given_never n text (Routes file routes horizon) answer good (inr (inl g)) = no_run answer (MalformedRoutes g.0) g.1 refl
+given_never n text (Routes file routes horizon) answer good (inr (inr g)) = no_run answer (Passes g.0) g.1 refl
 
 pub answer_never : (call : Call) (answer : ProgramAnswer) → IsAnswer call answer → NeverNoPattern (stop_in answer)
 answer_never call answer (inl h) = refused_never call answer h
-answer_never call answer (inr h) = given_never call.shelf h.net h.request answer h.named.network h.given
+answer_never call answer (inr h) = given_never h.net h.second h.request answer h.named.network h.given
 
 -- ---- the status
 by_stop : (stop : Option (Cause ℚ)) → NeverNoPattern stop → status_of_stop stop ≡ Status.NoPattern → ⊥
@@ -140,9 +138,9 @@ output_other : (status : Status) → status ≡ Status.Output → status ≡ Sta
 output_other status o e = absurd (cc)
 
 -- ---- a whole run
-pub never_by_refusal : (call : Call) (status : Status) (answer : ProgramAnswer) → IsAnswer call answer → status ≡ status_of answer → AlwaysHasPattern call status
-never_by_refusal call status answer comes is = record { stops = answer_never call; not_status = λ e. status_never call answer comes (sym is ∙ e) }
+status_so : (run : Run) (answer : ProgramAnswer) → IsAnswer run.call answer → IsShown answer run.out run.err run.status → run.status ≡ Status.NoPattern → ⊥
+status_so run answer comes (inl h) e = status_never run.call answer comes (sym h.status_is ∙ e)
+status_so run answer comes (inr h) e = output_other run.status h.status_is e
 
-pub never_by_text : (call : Call) (out err : Took) (status : Status) (answer : ProgramAnswer) → IsAnswer call answer → IsShown answer out err status → AlwaysHasPattern call status
-never_by_text call out err status answer comes (inl h) = never_by_refusal call status answer comes h.status_is
-never_by_text call out err status answer comes (inr h) = record { stops = answer_never call; not_status = output_other status h.status_is }
+pub always_pattern : (run : Run) → Ran run → AlwaysHasPattern run
+always_pattern run ran = record { stops = answer_never run.call; not_status = status_so run ran.answer ran.comes ran.shown }

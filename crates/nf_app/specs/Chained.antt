@@ -1,44 +1,78 @@
--- A call of `check` after one of `solve`.
-use Rattle.std.specs.Prelude.{◌≡◌, ◌⊎◌, ℕ, List, [], ◌∷◌, Some, codes}
+-- Calls of `check` and `resume` after calls of `solve`.
+use Rattle.std.specs.Prelude.{◌≡◌, ◌⊎◌, ℕ, ◌≤◌, List, [], ◌∷◌, length, Some, Ok, codes}
 use Rattle.nf_rational.specs.Rational.{ℚ}
-use Rattle.nf_edge.specs.Faults.{Rose}
+use Rattle.nf_work.specs.Passing.{passes_Q}
 use Rattle.nf_lines.specs.Words.{line_of_words}
+use Rattle.nf_formats.specs.Named.{Named}
+use Rattle.nf_formats.specs.NetFile.{Reads}
+use Rattle.nf_formats.specs.Report.{Report}
+use Rattle.nf_lists.specs.PhaseRun.{IsRunReport}
+use Rattle.nf_resumed_laws.specs.ResumedLaws.{RestFits}
 use Rattle.nf_answers.specs.declared.status.Status.{Status}
-use Rattle.nf_outside.specs.Files.{Visit, network_file, report_file}
-use Rattle.nf_outside.specs.Sinks.{Took, TookAll}
-use Rattle.nf_command_line.specs.Requests.{Solve, Check}
-use Rattle.nf_app.specs.Runs.{Call, Asks, Ran}
-use Rattle.nf_app.specs.Completeness.{Tells}
+use Rattle.nf_outside.specs.Files.{Visit, network_limit, report_limit}
+use Rattle.nf_outside.specs.Sinks.{TookAll}
+use Rattle.nf_command_line.specs.Requests.{Solve, Check, Resume}
+use Rattle.nf_app.specs.Requests.{bounds_to}
+use Rattle.nf_app.specs.Runs.{Call, Run, Asks, Ran, NothingFailed, IsOneOf}
 
--- an earlier call of `solve`, over a shelf that told the same of the network's file, had status 0, and its output, which tells what it took,
--- took this text
-pub record WasSolved (shelf : Visit) (file text : List ℕ) : Type 0 where
-  pub call : Call
-  pub out : Took
-  pub err : Took
-  pub status : Status
-  pub ran : Ran call out err status
+-- An earlier call of `solve`, over a shelf with the same known bytes of the network's file, wrote a report, to its horizon or to the stop
+-- of its phase run; its output, whose bytes are known, took this text.
+pub record WroteReport (shelf : Visit) (file text : List ℕ) : Type 0 where
+  pub run : Run
+  pub ran : Ran run
   pub horizon : ℚ
   pub phases : ℕ
   pub patterns : ℕ
-  pub asks : Asks call (Solve file horizon phases patterns)
-  pub whole : status ≡ Status.Ok
-  pub told : call.shelf.told file ≡ shelf.told file
+  pub asks : Asks run.call (Solve file horizon phases patterns)
+  pub ended : IsOneOf run.status (Status.Ok ∷ Status.Phases ∷ Status.Patterns ∷ Status.Passed ∷ [])
+  pub told : run.call.shelf.told file ≡ shelf.told file
   pub before : List ℕ
-  pub tells : out.before ≡ Some before
-  pub took : TookAll out text
+  pub tells : run.out.before ≡ Some before
+  pub took : TookAll run.out text
 
--- that text is to be checked as a report of the network
+-- a file whose bytes are known, and are these, within its limit
+pub record Tells (shelf : Visit) (name : List ℕ) (limit : ℕ) : Type 0 where
+  pub text : List ℕ
+  pub told : shelf.told name ≡ Some text
+  pub within : length text ≤ limit
+
+-- ---- `check` of what `solve` wrote
 pub record ChecksSolved (call : Call) : Type 0 where
   pub file : List ℕ
   pub report_name : List ℕ
   pub asks : Asks call (Check file report_name)
-  pub network : Tells call.shelf (network_file file)
-  pub report : Tells call.shelf (report_file report_name)
-  pub solved : WasSolved call.shelf file report.text
+  pub network : Tells call.shelf file network_limit
+  pub report : Tells call.shelf report_name report_limit
+  pub solved : WroteReport call.shelf file report.text
 
--- Where neither the shelf nor the output failed in the call, the answer is `yes`, unless an operation passed or memory was wanting.
-abbrev pub SaysYes : Call → Took → Status → Type 0
-SaysYes call out status = ChecksSolved call → ¬ Rose call.shelf.faults_before call.shelf.faults_now
-    → ¬ Rose out.faults_before out.faults_now
-    → ((status ≡ Status.Ok) × TookAll out (line_of_words (codes "yes" ∷ []))) ⊎ (status ≡ Status.Passed) ⊎ (status ≡ Status.Memory)
+-- the answer is `yes`, unless an operation exceeds the bound or an allocation fails
+abbrev pub SaysYes : Run → Type 0
+SaysYes run = ChecksSolved run.call → NothingFailed run
+    → ((run.status ≡ Status.Ok) × TookAll run.out (line_of_words (codes "yes" ∷ []))) ⊎ (run.status ≡ Status.Passed)
+    ⊎ (run.status ≡ Status.Memory)
+
+-- ---- `resume` of what `solve` wrote
+-- One earlier call wrote the text that is to be resumed, and another reached the horizon of `resume` and wrote the later text. If the first
+-- run ended mid-phase, no operation of a table or verdict list exceeds the bound in the search for the remainder of that phase.
+pub record ResumesSolved (call : Call) : Type 0 where
+  pub file : List ℕ
+  pub report_name : List ℕ
+  pub horizon : ℚ
+  pub phases : ℕ
+  pub patterns : ℕ
+  pub asks : Asks call (Resume file report_name horizon phases patterns)
+  pub network : Tells call.shelf file network_limit
+  pub report : Tells call.shelf report_name report_limit
+  pub net : Named
+  pub reads : Reads network.text (Ok net)
+  pub first : WroteReport call.shelf file report.text
+  pub later_text : List ℕ
+  pub later : WroteReport call.shelf file later_text
+  pub to_horizon : later.horizon ≡ horizon
+  pub whole : later.run.status ≡ Status.Ok
+  pub rest : (old : Report) (run : IsRunReport passes_Q net.net (bounds_to first.horizon first.phases first.patterns) old)
+      → RestFits passes_Q net.net (bounds_to horizon phases patterns) run.last
+
+-- then `resume` with status 0 writes, byte for byte, the later text
+abbrev pub ResumesSolvedText : Run → Type 0
+ResumesSolvedText run = (r : ResumesSolved run.call) → run.status ≡ Status.Ok → TookAll run.out r.later_text

@@ -1,23 +1,22 @@
--- The answer that a call shows is the one that its words have with what the shelf tells.
-use Rattle.std.specs.Prelude.{◌≡◌, ◌⊎◌}
+-- A call shows the one answer that its words have with the known bytes of their files.
+use Rattle.std.specs.Prelude.{◌≡◌}
 use Rattle.nf_edge.specs.Faults.{Rose}
 use Rattle.nf_answers.specs.declared.status.Status.{Status}
-use Rattle.nf_answers.specs.Answers.{ProgramAnswer, NoMemory}
-use Rattle.nf_outside.specs.Sinks.{Took}
-use Rattle.nf_outside.specs.Shown.{IsShownWhole}
-use Rattle.nf_app.specs.Runs.{Call}
+use Rattle.nf_answers.specs.Answers.{ProgramAnswer, NoMemory, status_of}
+use Rattle.nf_outside.specs.Shown.{IsShown, IsShownWhole}
+use Rattle.nf_app.specs.Runs.{Run}
 use Rattle.nf_app.specs.Told.{IsToldAnswer, TellsAll}
 
--- The words have one answer with what is told, and no other; the status is that of this answer, the output took its whole text, and standard
--- error what is to be said of it, or a front of that where it failed.
-pub record ShowsToldAnswer (call : Call) (out err : Took) (status : Status) : Type 0 where
-  pub answer : ProgramAnswer
-  pub is : IsToldAnswer call.words call.shelf.told answer
-  pub only : (other : ProgramAnswer) → IsToldAnswer call.words call.shelf.told other → other ≡ answer
-  pub shown : IsShownWhole answer out err status
+-- The words have one answer and no other, and the call shows it, cut short only by a failed output. Or an allocation failed, or the shelf
+-- did and the call shows that.
+pub data Shows (run : Run) : Type 0 where
+  the_answer : (answer : ProgramAnswer) → IsToldAnswer run.call.words run.call.shelf.told answer
+      → ((other : ProgramAnswer) → IsToldAnswer run.call.words run.call.shelf.told other → other ≡ answer)
+      → IsShown answer run.out run.err run.status → Shows run
+  no_memory : IsShownWhole NoMemory run.out run.err run.status → Shows run
+  shelf_failed : (answer : ProgramAnswer) → status_of answer ≡ Status.Shelf
+      → Rose run.call.shelf.faults_before run.call.shelf.faults_now
+      → IsShownWhole answer run.out run.err run.status → Shows run
 
--- Where each file that the words ask for is told, and neither the shelf nor the output failed in the call: that, or memory was wanting.
-abbrev pub ShowsOnlyThat : Call → Took → Took → Status → Type 0
-ShowsOnlyThat call out err status = TellsAll call.words call.shelf.told → ¬ Rose call.shelf.faults_before call.shelf.faults_now
-    → ¬ Rose out.faults_before out.faults_now
-    → ShowsToldAnswer call out err status ⊎ IsShownWhole NoMemory out err status
+abbrev pub ShowsOnlyThat : Run → Type 0
+ShowsOnlyThat run = TellsAll run.call.words run.call.shelf.told → Shows run

@@ -1,11 +1,15 @@
--- The files of each request, the network that it makes, and the budgets of its run.
-use Rattle.std.specs.Prelude.{ℕ, List, [], ◌∷◌, Option, Some, None}
+-- The files of each request, the network that it makes, and the bounds of its run.
+use Rattle.std.specs.Prelude.{ℕ, ◌≤◌, List, [], ◌∷◌, length, Option, Some, None, slice_get, IfSome}
+use Rattle.nf_rational.specs.Rational.{ℚ}
 use Rattle.nf_formats.specs.Named.{Named}
+use Rattle.nf_lists.specs.PhaseRun.{Bounds}
 use Rattle.nf_gen.specs.Ladder.{ladder}
 use Rattle.nf_phase.specs.declared.solution.Budgets.{Budgets}
+use Rattle.nf_phase.specs.Solution.{bounds_of}
 use Rattle.nf_command_line.specs.Numbers.{usual_phases, usual_patterns}
 use Rattle.nf_command_line.specs.Requests.{Request, Solve, SolveForever, Show, Load, Check, Quick, Gen, Settle, Resume, Routes}
-use Rattle.nf_outside.specs.Files.{Wanted, network_file, loads_file, flows_file, routes_file, report_file}
+use Rattle.nf_outside.specs.Files.{Wanted, Visit, network_file, loads_file, flows_file, routes_file, report_file}
+use Rattle.nf_outside.specs.Fetching.{IsLastText}
 
 -- the files that are wanted, in the order in which they are fetched; the first is the network's
 abbrev pub files_of : Request → List Wanted
@@ -20,6 +24,22 @@ files_of (Settle file flows) = network_file file ∷ flows_file flows ∷ []
 files_of (Resume file report horizon phases patterns) = network_file file ∷ report_file report ∷ []
 files_of (Routes file routes horizon) = network_file file ∷ routes_file routes ∷ []
 
+-- the network's file, if one is wanted
+abbrev pub first_of : Request → Option Wanted
+first_of request = slice_get (files_of request) 0
+
+-- the file that is wanted beside the network's, if there is one
+abbrev pub other_of : Request → Option Wanted
+other_of request = slice_get (files_of request) 1
+
+-- a text is at most as long as this file may be
+abbrev pub OtherFits : Request → List ℕ → Type 0
+OtherFits request text = IfSome (other_of request) (λ file. length text ≤ file.limit)
+
+-- a text is the bytes of this file: as many as the shelf read, and those that are known, if they are
+abbrev pub OtherIsText : Visit → Request → List ℕ → Type 0
+OtherIsText shelf request text = IfSome (other_of request) (λ file. IsLastText shelf file text)
+
 -- the network that is generated for a request, where none is read
 abbrev pub generated_by : Request → Option Named
 generated_by (Solve file horizon phases patterns) = None
@@ -33,9 +53,12 @@ generated_by (Settle file flows) = None
 generated_by (Resume file report horizon phases patterns) = None
 generated_by (Routes file routes horizon) = None
 
--- ---- the budgets of a run
+-- ---- the bounds of a run
 abbrev pub budgets_of : ℕ → ℕ → Budgets
 budgets_of phases patterns = record { phases = phases; patterns = patterns }
 
 abbrev pub usual_budgets : Budgets
 usual_budgets = budgets_of usual_phases usual_patterns
+
+abbrev pub bounds_to : ℚ → ℕ → ℕ → Bounds
+bounds_to horizon phases patterns = bounds_of horizon (budgets_of phases patterns)

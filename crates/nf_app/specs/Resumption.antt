@@ -1,55 +1,56 @@
--- When the report of a run is gone on from to where one run from the start comes too.
-use Rattle.std.specs.Prelude.{◌≡◌, ℕ, List, None}
+-- A run that resumes a report to where one run from the start comes too.
+use Rattle.std.specs.Prelude.{◌≡◌, ℕ, List, None, Ok}
 use Rattle.nf_rational.specs.Rational.{ℚ}
 use Rattle.nf_work.specs.Passing.{passes_Q}
 use Rattle.nf_formats.specs.Named.{Named}
-use Rattle.nf_formats.specs.Report.{Report}
+use Rattle.nf_formats.specs.Report.{Report, report_text}
 use Rattle.nf_lists.specs.PhaseRun.{Bounds, IsRunReport}
+use Rattle.nf_readings.specs.ReportFile.{report_in}
 use Rattle.nf_resumed_laws.specs.ResumedLaws.{RestFits}
 use Rattle.nf_phase.specs.declared.solution.Budgets.{Budgets}
-use Rattle.nf_phase.specs.Solution.{bounds_of}
-use Rattle.nf_command_line.specs.Requests.{Resume}
+use Rattle.nf_command_line.specs.Requests.{Request, Resume}
+use Rattle.nf_answers.specs.declared.status.Status.{Status}
 use Rattle.nf_answers.specs.Answers.{ProgramAnswer, Solved}
-use Rattle.nf_app.specs.Requests.{budgets_of}
-use Rattle.nf_app.specs.Reports.{HoldsReport}
-use Rattle.nf_app.specs.Runs.{Call, Asks, IsAnswer}
-use Rattle.nf_app.specs.Completeness.{TellsNetwork, TellsReport, ReachesHorizon}
+use Rattle.nf_outside.specs.Sinks.{TookAll}
+use Rattle.nf_app.specs.Requests.{bounds_to}
+use Rattle.nf_app.specs.Runs.{Call, Run, IsComputed}
+use Rattle.nf_app.specs.Completeness.{ReachesHorizon, ToldRequest}
 
--- The report that is to be gone on from is that of a run of its network, to whatever horizon, within whatever budgets, and whatever stopped
--- it. One run from the start, within budgets of its own, reaches the horizon that is asked for. Where the first run ended within a phase, no
--- operation of a table or verdict list passes in the search for the rest of that phase.
+-- ---- the report that was read in this call
+-- The text is the report of a run of the network, to any horizon, within any budgets, whatever stopped it. One run from the start, within
+-- budgets of its own, reaches the horizon of `resume`. If the first run ended mid-phase, no operation of a table or verdict list exceeds
+-- the bound in the search for the remainder of that phase. Then the new report is that of the one run, if it isn't stopped.
+abbrev pub IsOneRun : Named → List ℕ → Bounds → Report → Type 0
+IsOneRun n text bounds new = (old : Report) → report_in n text ≡ Ok old
+    → (first_bounds : Bounds) (first : IsRunReport passes_Q n.net first_bounds old) (later_budgets : Budgets)
+    (later : ReachesHorizon n bounds.horizon later_budgets) → RestFits passes_Q n.net bounds first.last → new.stop ≡ None
+    → new ≡ later.report
+
+abbrev pub IsResumedAsOne : Named → List ℕ → Request → ProgramAnswer → Type 0
+IsResumedAsOne n text (Resume file name horizon phases patterns) answer =
+    (new : Report) → answer ≡ Solved n new → IsOneRun n text (bounds_to horizon phases patterns) new
+IsResumedAsOne n text request answer = Unit {0}
+
+-- whichever answer is computed from the text that was read in this call
+abbrev pub ResumesAsOne : Run → Type 0
+ResumesAsOne run = (answer : ProgramAnswer) (c : IsComputed run.call answer) → IsResumedAsOne c.net c.second c.request answer
+
+-- ---- a report that is known to proofs: the same of the bytes that are written
 pub record IsResumption (call : Call) : Type 0 where
+  pub told : ToldRequest call
   pub file : List ℕ
   pub report_name : List ℕ
   pub horizon : ℚ
   pub phases : ℕ
   pub patterns : ℕ
-  pub asks : Asks call (Resume file report_name horizon phases patterns)
-  pub network : TellsNetwork call.shelf file
-  pub report : TellsReport call.shelf network.net report_name
-  pub first_bounds : Bounds
-  pub first : IsRunReport passes_Q network.net.net first_bounds report.report
-  pub later_budgets : Budgets
-  pub later : ReachesHorizon network.net horizon later_budgets
-  pub rest : RestFits passes_Q network.net.net (bounds_of horizon (budgets_of phases patterns)) first.last
-
--- ---- whatever the shelf tells
--- The file holds a report. Where that is the report of a run of the network, as above, and one run from the start reaches the horizon, the
--- new report is that of the run from the start, if it wasn't stopped.
-pub record IsOneRun (call : Call) (n : Named) (report_name : List ℕ) (horizon : ℚ) (phases patterns : ℕ) (new : Report) : Type 0 where
+  pub is : told.request ≡ Resume file report_name horizon phases patterns
   pub old : Report
-  pub held : HoldsReport call.shelf n report_name old
-  pub is_later : (first_bounds : Bounds) (first : IsRunReport passes_Q n.net first_bounds old) (later_budgets : Budgets)
-      (later : ReachesHorizon n horizon later_budgets)
-      → RestFits passes_Q n.net (bounds_of horizon (budgets_of phases patterns)) first.last → new.stop ≡ None → new ≡ later.report
+  pub reads : report_in told.net told.second ≡ Ok old
+  pub first_bounds : Bounds
+  pub first : IsRunReport passes_Q told.net.net first_bounds old
+  pub later_budgets : Budgets
+  pub later : ReachesHorizon told.net horizon later_budgets
+  pub rest : RestFits passes_Q told.net.net (bounds_to horizon phases patterns) first.last
 
--- of an answer; others than those of `resume` aren't gone on from a report
-abbrev pub IsResumedAsOne : Call → ProgramAnswer → Type 0
-IsResumedAsOne call (Solved n new) = (file report_name : List ℕ) (horizon : ℚ) (phases patterns : ℕ)
-    → Asks call (Resume file report_name horizon phases patterns)
-    → IsOneRun call n report_name horizon phases patterns new
-IsResumedAsOne call answer = Unit {0}
-
--- whichever answer comes
-abbrev pub ResumesAsOne : Call → Type 0
-ResumesAsOne call = (answer : ProgramAnswer) → IsAnswer call answer → IsResumedAsOne call answer
+abbrev pub ResumesInOneRun : Run → Type 0
+ResumesInOneRun run = (r : IsResumption run.call) → run.status ≡ Status.Ok → TookAll run.out (report_text r.told.net r.later.report)

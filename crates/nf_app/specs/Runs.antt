@@ -1,22 +1,44 @@
 -- When a run of the program gives which answer, and what its sinks then took.
-use Rattle.std.specs.Prelude.{◌≡◌, ◌⊎◌, ℕ, List, Some, None, Result, Ok, Err}
+use Rattle.std.specs.Prelude.{◌≡◌, ◌⊎◌, ℕ, List, [], ◌∷◌, Some, None, Result, Ok, Err, String}
+use Rattle.std.specs.declared.alloc.Global.{Global}
+use Rattle.nf_edge.specs.declared.Shelf.{Ghosts as ShelfGhosts}
+use Rattle.nf_edge.specs.declared.Sink.{Ghosts as SinkGhosts}
+use Rattle.nf_edge.specs.Faults.{Rose}
+use Rattle.nf_edge.specs.Names.{texts}
 use Rattle.nf_formats.specs.Named.{Named}
 use Rattle.nf_formats.specs.NetLines.{Broken}
 use Rattle.nf_formats.specs.WellNamed.{IsNamed}
 use Rattle.nf_answers.specs.declared.status.Status.{Status}
 use Rattle.nf_answers.specs.Answers.{ProgramAnswer, NoMemory, NoRequest, ShelfFailed, ShelfTooLong, Malformed}
-use Rattle.nf_outside.specs.Files.{Wanted, Visit, FetchedNone, FetchedAll, FetchedTo, Failed, HasTooMany}
+use Rattle.nf_outside.specs.Files.{Wanted, Visit, visit, FetchedNone, FetchedAll, FetchedTo, Failed, HasTooMany}
 use Rattle.nf_outside.specs.Fetching.{NetworkReads}
-use Rattle.nf_outside.specs.Sinks.{Took}
+use Rattle.nf_outside.specs.Sinks.{Took, took_of}
 use Rattle.nf_outside.specs.Shown.{IsShown}
 use Rattle.nf_command_line.specs.Requests.{Request, request_of}
-use Rattle.nf_app.specs.Requests.{files_of, generated_by}
+use Rattle.nf_app.specs.Requests.{files_of, generated_by, OtherIsText}
 use Rattle.nf_app.specs.Given.{IsGiven}
 
 -- the words of a call, and what it did with its shelf
 pub record Call : Type 0 where
   pub words : List (List ℕ)
   pub shelf : Visit
+
+-- a call of `run`: what was asked, what the shelf did, what both sinks took, and the status
+pub record Run : Type 0 where
+  pub call : Call
+  pub out : Took
+  pub err : Took
+  pub status : Status
+
+-- this call, by the states of the shelf and the sinks before it and after it
+abbrev pub this_call : {S O E : Type 0} → ShelfGhosts S → SinkGhosts O → SinkGhosts E → List (String Global) → S → S → O → O → E → E
+    → Status → Run
+this_call shelf out err words s t o p e f status = record {
+  call = record { words = texts words; shelf = visit shelf s t };
+  out = took_of out o p;
+  err = took_of err e f;
+  status = status;
+}
 
 abbrev pub Asks : Call → Request → Type 0
 Asks call request = request_of call.words ≡ Some request
@@ -33,7 +55,7 @@ pub record Read (call : Call) (request : Request) (read : Result Named Broken) :
   pub fetched : FetchedAll call.shelf (files_of request)
   pub reads : NetworkReads call.shelf (generated_by request) (files_of request) read
 
--- when nothing is computed; memory may be wanting before any file was fetched, and after each
+-- when nothing is computed; allocation may fail before any file was fetched, and after each
 abbrev pub IsRefused : Call → ProgramAnswer → Type 0
 IsRefused call NoMemory = FetchedNone call.shelf ⊎ ((last : Wanted) × Reached call last)
 IsRefused call NoRequest = (request_of call.words ≡ None) × FetchedNone call.shelf
@@ -42,20 +64,34 @@ IsRefused call ShelfTooLong = (last : Wanted) × Reached call last × HasTooMany
 IsRefused call (Malformed broken) = (request : Request) × Read call request (Err broken)
 IsRefused call answer = ⊥
 
--- the request has its network, which is one that a file can give, and gives this
+-- The request has its network, which is one that a file can give, and the bytes of its second file that were read in this call. It gives
+-- this answer with both.
 pub record IsComputed (call : Call) (answer : ProgramAnswer) : Type 0 where
   pub request : Request
   pub net : Named
   pub read : Read call request (Ok net)
   pub named : IsNamed net
-  pub given : IsGiven call.shelf net request answer
+  pub second : List ℕ
+  pub is_second : OtherIsText call.shelf request second
+  pub given : IsGiven net second request answer
 
 -- when which answer is given
 abbrev pub IsAnswer : Call → ProgramAnswer → Type 0
 IsAnswer call answer = IsRefused call answer ⊎ IsComputed call answer
 
--- ---- a whole run: it gave an answer where that comes, and its status and its sinks show it
-pub record Ran (call : Call) (out err : Took) (status : Status) : Type 0 where
+-- ---- a whole run
+-- it gave an answer where that comes, and its status and its sinks show it
+pub record Ran (run : Run) : Type 0 where
   pub answer : ProgramAnswer
-  pub comes : IsAnswer call answer
-  pub shown : IsShown answer out err status
+  pub comes : IsAnswer run.call answer
+  pub shown : IsShown answer run.out run.err run.status
+
+-- neither the shelf nor the output failed in the call
+pub record NothingFailed (run : Run) : Type 0 where
+  pub shelf : ¬ Rose run.call.shelf.faults_before run.call.shelf.faults_now
+  pub out : ¬ Rose run.out.faults_before run.out.faults_now
+
+-- the status is one of some
+abbrev pub IsOneOf : Status → List Status → Type 0
+IsOneOf status [] = ⊥
+IsOneOf status (first ∷ others) = (status ≡ first) ⊎ IsOneOf status others

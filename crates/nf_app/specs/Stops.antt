@@ -6,7 +6,7 @@ use Rattle.nf_unstopped_laws.specs.Stops.{NeverNoPattern}
 use Rattle.nf_answers.specs.declared.arrival.Arrival.{Arrival}
 use Rattle.nf_answers.specs.declared.status.Status.{Status}
 use Rattle.nf_answers.specs.Answers.{ProgramAnswer, Solved, SolvedForever, Quickest, Generated}
-use Rattle.nf_app.specs.Runs.{Call, IsAnswer}
+use Rattle.nf_app.specs.Runs.{Run, IsAnswer}
 
 -- why the run to the departure was stopped
 abbrev pub stop_of_arrival : Arrival → Option (Cause ℚ)
@@ -24,6 +24,6 @@ stop_in (Quickest n quick arrival) = stop_of_arrival arrival
 stop_in answer = None
 
 -- whichever answer comes, and so the status
-pub record AlwaysHasPattern (call : Call) (status : Status) : Type 0 where
-  pub stops : (answer : ProgramAnswer) → IsAnswer call answer → NeverNoPattern (stop_in answer)
-  pub not_status : status ≡ Status.NoPattern → ⊥
+pub record AlwaysHasPattern (run : Run) : Type 0 where
+  pub stops : (answer : ProgramAnswer) → IsAnswer run.call answer → NeverNoPattern (stop_in answer)
+  pub not_status : run.status ≡ Status.NoPattern → ⊥

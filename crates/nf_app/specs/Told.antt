@@ -1,178 +1,54 @@
--- The answer of words and of what is told of files alone: it speaks of nothing that was asked, taken or failed.
-use Rattle.std.specs.Prelude.{◌≡◌, ◌⊎◌, ℕ, ◌<◌, ◌≤◌, List, [], ◌∷◌, length, unwrap_or, slice_get, Option, Some, None, IfSome, IsSome, Result, Ok, Err}
+-- The answer of words and of the known bytes of files alone. It speaks of nothing that was fetched, written or failed.
+use Rattle.std.specs.Prelude.{◌≡◌, ℕ, ◌≤◌, List, length, Option, Some, None, IfSome, IsSome, Result, Ok, Err}
 use Rattle.std.specs.List.{All}
-use Rattle.nf_rational.specs.Rational.{ℚ}
-use Rattle.nf_rational.specs.Order.{◌≤ℚ◌, ◌<ℚ◌}
-use Rattle.nf_work.specs.Passing.{passes_Q}
-use Rattle.nf_work.specs.declared.PassedAt.{PassedAt}
-use Rattle.nf_model.specs.Network.{Piece, Network}
-use Rattle.nf_model.specs.Pattern.{Pattern}
-use Rattle.nf_model.specs.Phases.{AreStartLabels}
-use Rattle.nf_model.specs.Equilibrium.{label}
 use Rattle.nf_formats.specs.Named.{Named}
 use Rattle.nf_formats.specs.NetLines.{Broken}
 use Rattle.nf_formats.specs.NetFile.{Reads}
-use Rattle.nf_formats.specs.Report.{Report}
-use Rattle.nf_lists.specs.PhaseRun.{Bounds, IsRunReport}
-use Rattle.nf_check_lists.specs.CheckList.{check_list}
-use Rattle.nf_readings.specs.LoadsFile.{LoadsBroken, loads_in}
-use Rattle.nf_readings.specs.ReportFile.{ReportBroken, report_in}
-use Rattle.nf_quick_lists.specs.Quick.{Quick as QuickFlow, FoundQuick, Budget}
-use Rattle.nf_quick_lists.specs.Quick as quick
-use Rattle.nf_quick.specs.Answered.{HasNoWay}
-use Rattle.nf_phase.specs.Solution.{bounds_of}
-use Rattle.nf_complete_lists.specs.FlowsFile.{FlowsBroken, GivenFlows, flows_in}
-use Rattle.nf_forever_lists.specs.ForeverRun.{Forever, IsForever}
-use Rattle.nf_routes_lists.specs.RoutesFile.{RoutesBroken, NamedRoute, routes_in}
-use Rattle.nf_resume_lists.specs.Resuming.{Refused, Stands, resume_list}
-use Rattle.nf_resume_lists.specs.Resuming as resuming
-use Rattle.nf_resume_lists.specs.Meanings.{IsResumedReport}
 use Rattle.nf_outside.specs.Files.{Wanted}
-use Rattle.nf_command_line.specs.Requests.{Request, Solve, SolveForever, Show, Load, Check, Quick, Gen, Settle, Resume, Routes, request_of}
-use Rattle.nf_answers.specs.declared.arrival.Arrival.{Arrival}
-use Rattle.nf_answers.specs.Answers.{ProgramAnswer, Solved, SolvedForever, Shown, Loaded, Checked, Quickest, TooManyWalks, Generated, Settled, Distributed, NoRequest, ShelfTooLong, Malformed, MalformedLoads, MalformedFlows, MalformedRoutes, MalformedReport, Passes, Unbounded, NotThin, Earlier}
-use Rattle.nf_app.specs.Requests.{files_of, generated_by, budgets_of, usual_budgets}
-use Rattle.nf_app.specs.Given.{loading_list}
-use Rattle.nf_app.specs.QuickGiven.{flow_list, departs_list, arrival_of, IsUnbounded}
-use Rattle.nf_app.specs.SettleGiven.{AreSettled, AreNotThin, PassesFirst}
-use Rattle.nf_app.specs.RoutesGiven.{by_route_list}
+use Rattle.nf_command_line.specs.Requests.{Request, request_of}
+use Rattle.nf_answers.specs.Answers.{ProgramAnswer, NoRequest, ShelfTooLong, Malformed}
+use Rattle.nf_app.specs.Requests.{files_of, first_of, other_of, generated_by}
+use Rattle.nf_app.specs.Given.{IsGiven}
 
--- ---- what is told of files, by their names
+-- ---- the known bytes of files, by their names
 abbrev pub Telling : Type 0
 Telling = List ℕ → Option (List ℕ)
 
--- the bytes of a file, and they aren't too many
-pub record TellsWithin (telling : Telling) (file : Wanted) : Type 0 where
-  pub text : List ℕ
-  pub told : telling file.name ≡ Some text
-  pub within : length text ≤ file.limit
+-- the bytes of a file, if it is wanted, are these
+abbrev pub TellsText : Telling → Option Wanted → List ℕ → Type 0
+TellsText telling wanted text = IfSome wanted (λ file. telling file.name ≡ Some text)
 
--- or they are too many
-pub record TellsTooMany (telling : Telling) (file : Wanted) : Type 0 where
-  pub text : List ℕ
-  pub told : telling file.name ≡ Some text
-  pub more : file.limit < length text
-
--- ---- what a request gives with its network, and with the text of the other file that it wants
--- what a list computes, or the operation of it that passes
-abbrev pub or_passes : {A : Type 0} → (A → ProgramAnswer) → Result A (PassedAt ℚ) → ProgramAnswer
-or_passes make (Ok value) = make value
-or_passes make (Err at) = Passes at
-
--- `load`: by what was read as pieces of the links
-abbrev pub load_answer : Named → ℚ → Result (List (List Piece)) LoadsBroken → ProgramAnswer
-load_answer n horizon (Ok pieces) = or_passes (λ loaded. Loaded n horizon loaded) (loading_list n pieces horizon)
-load_answer n horizon (Err broken) = MalformedLoads broken
-
--- `check`: by what was read as a report
-abbrev pub check_answer : Named → Result Report ReportBroken → ProgramAnswer
-check_answer n (Ok report) = or_passes (λ verdict. Checked n verdict) (check_list passes_Q n.net report.flow)
-check_answer n (Err broken) = MalformedReport broken
-
--- `routes`: by what was read as routes
-abbrev pub routes_answer : Named → ℚ → Result (List NamedRoute) RoutesBroken → ProgramAnswer
-routes_answer n horizon (Ok routes) = or_passes (λ routed. Distributed n routes horizon routed) (by_route_list n routes horizon)
-routes_answer n horizon (Err broken) = MalformedRoutes broken
-
--- `quick`: the arrival is the label of the sink, in the run to the departure within the usual budgets, or why that run stopped
-abbrev pub Arrives : Network → Option ℚ → Arrival → Type 0
-Arrives net None arrival = arrival ≡ Arrival.Never
-Arrives net (Some departs) arrival =
-    (report : Report) × IsRunReport passes_Q net (bounds_of departs usual_budgets) report
-    × (arrival ≡ arrival_of report.stop (label report.flow net.sink departs))
-
-abbrev pub DepartsGive : Named → QuickFlow → Result (Option ℚ) (PassedAt ℚ) → ProgramAnswer → Type 0
-DepartsGive n flow (Ok departs) answer = (arrival : Arrival) × Arrives n.net departs arrival × (answer ≡ Quickest n flow arrival)
-DepartsGive n flow (Err at) answer = answer ≡ Passes at
-
-abbrev pub FlowGives : Named → ℚ → ℕ → Result quick.QuickAnswer (PassedAt ℚ) → ProgramAnswer → Type 0
-FlowGives n amount augments (Ok (FoundQuick flow)) answer = DepartsGive n flow (departs_list n.net amount) answer
-FlowGives n amount augments (Ok (Budget walks)) answer = answer ≡ TooManyWalks n augments walks
-FlowGives n amount augments (Err at) answer = answer ≡ Passes at
-
-abbrev pub QuickGives : Named → ℚ → ℕ → ProgramAnswer → Type 0
-QuickGives n amount augments answer =
-    (IsUnbounded n.net amount × (answer ≡ Unbounded))
-    ⊎ (HasNoWay n.net amount × FlowGives n amount augments (flow_list n.net amount augments) answer)
-
--- `settle`: at the labels of departure 0
-abbrev pub StartGives : Named → List ℚ → GivenFlows → ProgramAnswer → Type 0
-StartGives n labels given answer =
-    ((pattern : Pattern) × (flows : List ℚ) × (answer ≡ Settled n pattern flows) × AreSettled n.net labels given pattern flows)
-    ⊎ ((answer ≡ NotThin) × AreNotThin n.net labels given)
-    ⊎ ((at : PassedAt ℚ) × (answer ≡ Passes at) × PassesFirst n.net labels given at)
-
-abbrev pub SettleGives : Named → Result GivenFlows FlowsBroken → ProgramAnswer → Type 0
-SettleGives n (Ok given) answer = (labels : List ℚ) × AreStartLabels n.net labels × StartGives n labels given answer
-SettleGives n (Err broken) answer = answer ≡ MalformedFlows broken
-
--- `resume`: the horizon comes first, then the list of resuming, then the run that goes on
-abbrev pub RestGives : Named → Bounds → Report → Result resuming.Outcome (PassedAt ℚ) → ProgramAnswer → Type 0
-RestGives n bounds old (Ok (Stands first)) answer = (made : ℕ) × (report : Report) × IsResumedReport passes_Q n.net bounds old made report
-    × (answer ≡ Solved n report)
-RestGives n bounds old (Ok (Refused verdict)) answer = answer ≡ Checked n verdict
-RestGives n bounds old (Err at) answer = answer ≡ Passes at
-
-abbrev pub ResumeGives : Named → Bounds → Result Report ReportBroken → ProgramAnswer → Type 0
-ResumeGives n bounds (Ok old) answer =
-    ((bounds.horizon <ℚ old.flow.reached) × (answer ≡ Earlier))
-    ⊎ ((old.flow.reached ≤ℚ bounds.horizon) × RestGives n bounds old (resume_list passes_Q n.net old) answer)
-ResumeGives n bounds (Err broken) answer = answer ≡ MalformedReport broken
-
-abbrev pub Gives : Named → List ℕ → Request → ProgramAnswer → Type 0
-Gives n text (Solve file horizon phases patterns) answer =
-    (report : Report) × IsRunReport passes_Q n.net (bounds_of horizon (budgets_of phases patterns)) report × (answer ≡ Solved n report)
-Gives n text (SolveForever file phases patterns) answer = (forever : Forever) × IsForever passes_Q n.net phases patterns forever
-    × (answer ≡ SolvedForever n forever)
-Gives n text (Show file) answer = answer ≡ Shown n
-Gives n text (Load file loads horizon) answer = answer ≡ load_answer n horizon (loads_in n text)
-Gives n text (Check file report) answer = answer ≡ check_answer n (report_in n text)
-Gives n text (Quick file amount augments) answer = QuickGives n amount augments answer
-Gives n text (Gen number rungs horizon phases patterns) answer =
-    (report : Report) × (run : IsRunReport passes_Q n.net (bounds_of horizon (budgets_of phases patterns)) report)
-    × (answer ≡ Generated number rungs n run.last.made report)
-Gives n text (Settle file flows) answer = SettleGives n (flows_in n text) answer
-Gives n text (Resume file report horizon phases patterns) answer =
-    ResumeGives n (bounds_of horizon (budgets_of phases patterns)) (report_in n text) answer
-Gives n text (Routes file routes horizon) answer = answer ≡ routes_answer n horizon (routes_in n text)
-
--- ---- what it gives with the texts of its files
--- the network is the generated one, or what the first text reads as
-abbrev pub NetworkIn : Option Named → List (List ℕ) → Result Named Broken → Type 0
-NetworkIn (Some n) texts read = read ≡ Ok n
-NetworkIn None [] read = ⊥
-NetworkIn None (text ∷ others) read = Reads text read
-
--- the second text; where there is none, none is looked at
-abbrev pub second_of : List (List ℕ) → List ℕ
-second_of texts = unwrap_or (slice_get texts 1) []
-
-abbrev pub ReadGives : Request → List ℕ → Result Named Broken → ProgramAnswer → Type 0
-ReadGives request text (Ok n) answer = Gives n text request answer
-ReadGives request text (Err broken) answer = answer ≡ Malformed broken
-
-abbrev pub TextsGive : Request → List (List ℕ) → ProgramAnswer → Type 0
-TextsGive request texts answer = (read : Result Named Broken) × NetworkIn (generated_by request) texts read
-    × ReadGives request (second_of texts) read answer
-
--- ---- what words give with what is told
--- file by file: one of too many bytes is refused, whatever the next ones are; where none has too many, their texts give the answer
-abbrev pub FilesGive : Telling → List Wanted → (List (List ℕ) → ProgramAnswer → Type 0) → ProgramAnswer → Type 0
-FilesGive telling [] Give answer = Give [] answer
-FilesGive telling (file ∷ files) Give answer =
-    (TellsTooMany telling file × (answer ≡ ShelfTooLong))
-    ⊎ ((tells : TellsWithin telling file) × FilesGive telling files (λ texts. Give (tells.text ∷ texts)) answer)
-
-abbrev pub RequestGives : Telling → Option Request → ProgramAnswer → Type 0
-RequestGives telling (Some request) answer = FilesGive telling (files_of request) (TextsGive request) answer
-RequestGives telling None answer = answer ≡ NoRequest
-
-abbrev pub IsToldAnswer : List (List ℕ) → Telling → ProgramAnswer → Type 0
-IsToldAnswer words telling answer = RequestGives telling (request_of words) answer
-
--- each file that the words ask for is told
-abbrev pub AllTold : Telling → List Wanted → Type 0
-AllTold telling files = All (λ file. IsSome (telling file.name)) files
-
+-- each file that the words ask for is known
 abbrev pub TellsAll : List (List ℕ) → Telling → Type 0
-TellsAll words telling = IfSome (request_of words) (λ request. AllTold telling (files_of request))
+TellsAll words telling = IfSome (request_of words) (λ request. All (λ file. IsSome (telling file.name)) (files_of request))
+
+-- ---- what two texts give
+-- each is at most as long as its file may be
+pub record BothFit (request : Request) (network second : List ℕ) : Type 0 where
+  pub network_fits : IfSome (first_of request) (λ file. length network ≤ file.limit)
+  pub second_fits : IfSome (other_of request) (λ file. length second ≤ file.limit)
+
+-- the network is the generated one, or what the text reads as
+abbrev pub NetworkIs : Option Named → List ℕ → Result Named Broken → Type 0
+NetworkIs (Some n) text read = read ≡ Ok n
+NetworkIs None text read = Reads text read
+
+-- one text is too long; or the network breaks a rule; or the command gives its answer
+pub data TextsGive (request : Request) (network second : List ℕ) : ProgramAnswer → Type 0 where
+  too_long : ¬ BothFit request network second → TextsGive request network second ShelfTooLong
+  malformed : (broken : Broken) → BothFit request network second → NetworkIs (generated_by request) network (Err broken)
+      → TextsGive request network second (Malformed broken)
+  answered : (n : Named) (answer : ProgramAnswer) → BothFit request network second → NetworkIs (generated_by request) network (Ok n)
+      → IsGiven n second request answer → TextsGive request network second answer
+
+abbrev pub WordsGive : Option Request → List ℕ → List ℕ → ProgramAnswer → Type 0
+WordsGive None network second answer = answer ≡ NoRequest
+WordsGive (Some request) network second answer = TextsGive request network second answer
+
+-- the answer of these words, with the known bytes of the two files that they ask for
+pub record IsToldAnswer (words : List (List ℕ)) (telling : Telling) (answer : ProgramAnswer) : Type 0 where
+  pub network : List ℕ
+  pub second : List ℕ
+  pub told_network : IfSome (request_of words) (λ request. TellsText telling (first_of request) network)
+  pub told_second : IfSome (request_of words) (λ request. TellsText telling (other_of request) second)
+  pub gives : WordsGive (request_of words) network second answer

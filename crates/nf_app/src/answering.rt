@@ -1,4 +1,4 @@
-// What the words give: an outcome, or why there is none.
+// Answering the words: an outcome, or why there is none.
 ghost use Rattle.std.specs.Prelude.{◌≡◌, ◌≤◌, ℕ, List, length, Some, Ok, Err};
 ghost use Rattle.nf_rational.specs.Operations.{0ℚ};
 ghost use Rattle.nf_rational.specs.Order.{◌≤ℚ◌};
@@ -11,13 +11,12 @@ ghost use Rattle.nf_quick_lists.specs.Answers.{IsQuickFlow};
 ghost use Rattle.nf_rational.specs.Rational.{ℚ};
 ghost use Rattle.nf_formats.specs.Report.{Report};
 ghost use Rattle.nf_resume.specs.Faults.{IsResumeFault};
-ghost use Rattle.nf_outside.specs.Files.{Visit, visit, report_limit, loads_file, flows_file, routes_file, report_file};
+ghost use Rattle.nf_outside.specs.Files.{visit, report_limit};
 ghost use Rattle.nf_command_line.specs.Requests.{Solve, SolveForever, Show, Load, Check, Gen, Settle, Resume, Routes, CanBeAsked, request_of};
 ghost use Rattle.nf_command_line.specs.Requests as requests;
 ghost use Rattle.nf_command_line.specs.RequestViews.{requested};
-ghost use Rattle.nf_outside.specs.Fetching.{IsLastText};
-ghost use Rattle.nf_app.specs.Reports.{HoldsReport};
-ghost use Rattle.nf_app.specs.Gathered.{OtherFits, OtherIsText};
+ghost use Rattle.nf_app.specs.Reports.{IsReportText};
+ghost use Rattle.nf_app.specs.Requests.{OtherFits};
 ghost use Rattle.nf_app.specs.Outcomes.{IsGiving, IsAnswered, with_net};
 
 use crate::arrival::{find_arrival, last_label};
@@ -41,10 +40,10 @@ use nf_routes::load_routes;
 use nf_routes_file::parse_routes;
 use std::alloc::{AllocError, Global};
 
-// What solving the network to a horizon gives.
+// Solves the network to a horizon.
 fn solve_to(alloc: Global, net: &Network, horizon: Q, budgets: Budgets) -> Result<Computed, Refusal>
     requires { 0ℚ ≤ℚ horizon }
-    ensures { (shelf : Visit) (file : List ℕ) → IsGiving shelf net.now (Solve file horizon budgets.phases budgets.patterns) result }
+    ensures { (file text : List ℕ) → IsGiving net.now text (Solve file horizon budgets.phases budgets.patterns) result }
 {
     // For the proof: the network is that of an accepted file, and the parts of the horizon are within the bound.
     net.recall();
@@ -54,9 +53,9 @@ fn solve_to(alloc: Global, net: &Network, horizon: Q, budgets: Budgets) -> Resul
     Ok(Computed::Solved { horizon, solution })
 }
 
-// What solving the network without a horizon gives.
+// Solves the network without a horizon.
 fn solve_on(alloc: Global, net: &Network, budgets: Budgets) -> Result<Computed, Refusal>
-    ensures { (shelf : Visit) (file : List ℕ) → IsGiving shelf net.now (SolveForever file budgets.phases budgets.patterns) result }
+    ensures { (file text : List ℕ) → IsGiving net.now text (SolveForever file budgets.phases budgets.patterns) result }
 {
     // For the proof: the network is that of an accepted file.
     net.recall();
@@ -64,7 +63,7 @@ fn solve_on(alloc: Global, net: &Network, budgets: Budgets) -> Result<Computed, 
     Ok(Computed::SolvedForever { forever })
 }
 
-// What solving the ladder of a number to a horizon gives.
+// Solves a ladder to a horizon, and sums the run up.
 fn sum_up(
     alloc: Global,
     net: &Network,
@@ -73,7 +72,7 @@ fn sum_up(
     budgets: Budgets,
 ) -> Result<Computed, Refusal>
     requires { 0ℚ ≤ℚ horizon }
-    ensures { (shelf : Visit) → IsGiving shelf net.now (Gen ladder.number ladder.rungs horizon budgets.phases budgets.patterns) result }
+    ensures { (text : List ℕ) → IsGiving net.now text (Gen ladder.number ladder.rungs horizon budgets.phases budgets.patterns) result }
 {
     // For the proof: the network is that of an accepted file.
     net.recall();
@@ -87,20 +86,19 @@ fn sum_up(
     })
 }
 
-// The text of the network.
+// Returns the text of the network.
 fn show(alloc: Global, net: &Network) -> Result<Computed, Refusal>
-    ensures { (shelf : Visit) (file : List ℕ) → IsGiving shelf net.now (Show file) result }
+    ensures { (file other : List ℕ) → IsGiving net.now other (Show file) result }
 {
     let text = text(alloc, net)?;
     Ok(Computed::Shown { text })
 }
 
-// The loading of each link by the pieces that the text of a loads file gives it.
+// Parses a loads file and loads each link by its pieces.
 fn load_to(alloc: Global, net: &Network, loads: &[u8], horizon: Q) -> Result<Computed, Refusal>
     requires horizon { 0ℚ ≤ℚ horizon }
     requires within { length loads.now ≤ longest_text }
-    ensures { (shelf : Visit) (file name : List ℕ) → IsLastText shelf (loads_file name) loads.now
-        → IsGiving shelf net.now (Load file name horizon) result }
+    ensures { (file name : List ℕ) → IsGiving net.now loads.now (Load file name horizon) result }
 {
     // For the proof: the network is that of an accepted file.
     net.recall();
@@ -109,11 +107,10 @@ fn load_to(alloc: Global, net: &Network, loads: &[u8], horizon: Q) -> Result<Com
     Ok(Computed::Loaded { horizon, links })
 }
 
-// The verdict on the flow of the report that the text is.
+// Parses a report and checks its flow.
 fn check_report(alloc: Global, net: &Network, text: &[u8]) -> Result<Computed, Refusal>
     requires { length text.now ≤ report_limit }
-    ensures { (shelf : Visit) (file name : List ℕ) → IsLastText shelf (report_file name) text.now
-        → IsGiving shelf net.now (Check file name) result }
+    ensures { (file name : List ℕ) → IsGiving net.now text.now (Check file name) result }
 {
     // For the proof: the network is that of an accepted file.
     net.recall();
@@ -122,11 +119,10 @@ fn check_report(alloc: Global, net: &Network, text: &[u8]) -> Result<Computed, R
     Ok(Computed::Checked { verdict })
 }
 
-// What the thin flow is settled to that the text of a flows file gives.
+// Parses a flows file and settles its thin flow.
 fn settle_to(alloc: Global, net: &Network, text: &[u8]) -> Result<Computed, Refusal>
     requires { length text.now ≤ longest_text }
-    ensures { (shelf : Visit) (file name : List ℕ) → IsLastText shelf (flows_file name) text.now
-        → IsGiving shelf net.now (Settle file name) result }
+    ensures { (file name : List ℕ) → IsGiving net.now text.now (Settle file name) result }
 {
     let flows = parse_flows(alloc, net, text)?;
     match settle_at_start(alloc, net, &flows)? {
@@ -135,10 +131,10 @@ fn settle_to(alloc: Global, net: &Network, text: &[u8]) -> Result<Computed, Refu
     }
 }
 
-// Why a report isn't resumed; where its flow is no equilibrium, what the check answers.
+// Returns why a report isn't resumed: if its flow is no equilibrium, the verdict of the check.
 fn refuse_resume(net: &Network, fault: ResumeFault) -> Result<Computed, Refusal>
-    ensures { (shelf : Visit) (file name : List ℕ) (horizon : ℚ) (phases patterns : ℕ) (old : Report) → HoldsReport shelf net.now name old
-        → IsResumeFault passes_Q net.now.net old horizon fault → IsGiving shelf net.now (Resume file name horizon phases patterns) result }
+    ensures { (file name text : List ℕ) (horizon : ℚ) (phases patterns : ℕ) (old : Report) → IsReportText net.now text old
+        → IsResumeFault passes_Q net.now.net old horizon fault → IsGiving net.now text (Resume file name horizon phases patterns) result }
 {
     match fault {
         ResumeFault::Earlier { .. } => Err(Refusal::Earlier),
@@ -148,7 +144,7 @@ fn refuse_resume(net: &Network, fault: ResumeFault) -> Result<Computed, Refusal>
     }
 }
 
-// The report of the run that goes on to a horizon from the report that the text is.
+// Parses a report and resumes it to a horizon.
 fn resume_to(
     alloc: Global,
     net: &Network,
@@ -157,8 +153,7 @@ fn resume_to(
     budgets: Budgets,
 ) -> Result<Computed, Refusal>
     requires { length text.now ≤ report_limit }
-    ensures { (shelf : Visit) (file name : List ℕ) → IsLastText shelf (report_file name) text.now
-        → IsGiving shelf net.now (Resume file name horizon budgets.phases budgets.patterns) result }
+    ensures { (file name : List ℕ) → IsGiving net.now text.now (Resume file name horizon budgets.phases budgets.patterns) result }
 {
     // For the proof: the network is that of an accepted file, and the parts of the horizon are within the bound.
     net.recall();
@@ -171,12 +166,11 @@ fn resume_to(
     }
 }
 
-// What becomes of the inflow that the text of a routes file gives along its routes, up to a horizon.
+// Parses a routes file and loads the network along its routes, up to a horizon.
 fn distribute(alloc: Global, net: &Network, text: &[u8], horizon: Q) -> Result<Computed, Refusal>
     requires horizon { 0ℚ ≤ℚ horizon }
     requires within { length text.now ≤ longest_text }
-    ensures { (shelf : Visit) (file name : List ℕ) → IsLastText shelf (routes_file name) text.now
-        → IsGiving shelf net.now (Routes file name horizon) result }
+    ensures { (file name : List ℕ) → IsGiving net.now text.now (Routes file name horizon) result }
 {
     let routes = parse_routes(alloc, net, text)?;
     let routed = load_routes(alloc, net, &routes, horizon)?;
@@ -187,17 +181,17 @@ fn distribute(alloc: Global, net: &Network, text: &[u8], horizon: Q) -> Result<C
     })
 }
 
-// The walks that were pushed, as many as allowed, with their text.
+// Returns the walks that were pushed, as many as allowed, with their text.
 fn end_over_budget(
     alloc: Global,
     net: &Network,
     augments: u64,
     walks: Vec<Augment>,
 ) -> Result<Computed, Refusal>
-    ensures { (shelf : Visit) (file : List ℕ) (amount : ℚ)
+    ensures { (file other : List ℕ) (amount : ℚ)
         → answered.IsAnswered passes_Q net.now.net amount augments (Err (QuickFault.Budget walks))
         → answered.IsInOrder net.now.net amount augments (Err (QuickFault.Budget walks))
-        → IsGiving shelf net.now (requests.Quick file amount augments) result }
+        → IsGiving net.now other (requests.Quick file amount augments) result }
 {
     let text = augments_text(alloc, net, &walks)?;
     Ok(Computed::TooManyWalks {
@@ -207,15 +201,15 @@ fn end_over_budget(
     })
 }
 
-// Why there is no quickest flow of an amount; where too many walks are wanted, those that were pushed.
+// Returns why there is no quickest flow of an amount: if too many walks are needed, those that were pushed.
 fn refuse_quick(
     alloc: Global,
     net: &Network,
     augments: u64,
     fault: QuickFault,
 ) -> Result<Computed, Refusal>
-    ensures { (shelf : Visit) (file : List ℕ) (amount : ℚ) → answered.IsAnswered passes_Q net.now.net amount augments (Err fault)
-        → answered.IsInOrder net.now.net amount augments (Err fault) → IsGiving shelf net.now (requests.Quick file amount augments) result }
+    ensures { (file other : List ℕ) (amount : ℚ) → answered.IsAnswered passes_Q net.now.net amount augments (Err fault)
+        → answered.IsInOrder net.now.net amount augments (Err fault) → IsGiving net.now other (requests.Quick file amount augments) result }
 {
     match fault {
         QuickFault::Budget { walks } => end_over_budget(alloc, net, augments, walks),
@@ -225,7 +219,7 @@ fn refuse_quick(
     }
 }
 
-// A quickest flow of an amount, beside the arrival in an equilibrium of who departs when the amount is supplied.
+// Adds to a quickest flow of an amount the arrival in an equilibrium, after the departure by which the amount is supplied.
 fn beside_arrival(
     alloc: Global,
     net: &Network,
@@ -234,8 +228,8 @@ fn beside_arrival(
 ) -> Result<Computed, Refusal>
     requires amount { 0ℚ ≤ℚ amount }
     requires flow { IsQuickFlow net.now.net amount quick }
-    ensures { (shelf : Visit) (file : List ℕ) (augments : ℕ) → answered.IsAnswered passes_Q net.now.net amount augments (Ok quick)
-        → answered.IsInOrder net.now.net amount augments (Ok quick) → IsGiving shelf net.now (requests.Quick file amount augments) result }
+    ensures { (file other : List ℕ) (augments : ℕ) → answered.IsAnswered passes_Q net.now.net amount augments (Ok quick)
+        → answered.IsInOrder net.now.net amount augments (Ok quick) → IsGiving net.now other (requests.Quick file amount augments) result }
 {
     let departs = departure(net, amount)?;
     let arrival = find_arrival(alloc, net, departs)?;
@@ -247,11 +241,11 @@ fn beside_arrival(
     })
 }
 
-// The quickest flow of an amount in the network, and the arrival in an equilibrium of who departs when the amount is supplied.
+// Finds a quickest flow of an amount, and the arrival in an equilibrium beside it.
 fn quick_to(alloc: Global, net: &Network, amount: Q, augments: u64) -> Result<Computed, Refusal>
     requires amount { 0ℚ ≤ℚ amount }
     requires augments { 1 ≤ augments }
-    ensures { (shelf : Visit) (file : List ℕ) → IsGiving shelf net.now (requests.Quick file amount augments) result }
+    ensures { (file other : List ℕ) → IsGiving net.now other (requests.Quick file amount augments) result }
 {
     match quickest(alloc, net, amount, augments) {
         Ok(quick) => beside_arrival(alloc, net, amount, quick),
@@ -259,7 +253,7 @@ fn quick_to(alloc: Global, net: &Network, amount: Q, augments: u64) -> Result<Co
     }
 }
 
-// What was found, with its network.
+// Joins what was found with its network.
 fn with_net(found: Result<Computed, Refusal>, net: Network) -> Result<Outcome, Refusal>
     ensures { result ≡ with_net net found }
 {
@@ -269,12 +263,11 @@ fn with_net(found: Result<Computed, Refusal>, net: Network) -> Result<Outcome, R
     }
 }
 
-// What a request gives with its network, and with the bytes of the other file that it wants.
+// Answers a request with its network and the bytes of its second file, if it has one.
 fn find(alloc: Global, request: &Request, net: &Network, other: &[u8]) -> Result<Computed, Refusal>
     requires asked { CanBeAsked (requested request.now) }
     requires fits { OtherFits (requested request.now) other.now }
-    ensures { (shelf : Visit) → OtherIsText shelf (requested request.now) other.now
-        → IsGiving shelf net.now (requested request.now) result }
+    ensures { IsGiving net.now other.now (requested request.now) result }
 {
     match *request {
         Request::Solve {
@@ -320,7 +313,7 @@ fn find(alloc: Global, request: &Request, net: &Network, other: &[u8]) -> Result
     }
 }
 
-// What a request gives with the files of the shelf.
+// Answers a request with the files of the shelf.
 fn answer_request<S: Shelf>(
     alloc: Global,
     request: &Request,
@@ -338,7 +331,7 @@ fn answer_request<S: Shelf>(
     with_net(find(alloc, request, &net, &other), net)
 }
 
-/// What the words give with the files of the shelf.
+/// Answers the words with the files of the shelf.
 pub(crate) fn answer<S: Shelf>(
     alloc: Global,
     words: &[String],

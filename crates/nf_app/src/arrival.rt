@@ -1,11 +1,11 @@
-// The arrival of who departs in an equilibrium.
+// The arrival in an equilibrium, after a given departure.
 ghost use Rattle.std.specs.Prelude.{◌≡◌, ◌<◌, ◌-◌, length, slice_get, Some, IfSome, IfOk};
 ghost use Rattle.nf_rational.specs.Operations.{0ℚ};
 ghost use Rattle.nf_rational.specs.Order.{◌≤ℚ◌};
 ghost use Rattle.nf_model.specs.Equilibrium.{points_at};
 ghost use Rattle.nf_curve.specs.Flows.{flow_of};
 ghost use Rattle.nf_app.specs.Requests.{usual_budgets};
-ghost use Rattle.nf_app.specs.QuickGiven.{IsArrival, ArrivesIn};
+ghost use Rattle.nf_app.specs.Arrivals.{IsArrival, ArrivesIn};
 
 use nf_answers::Arrival;
 use nf_command_line::{USUAL_PATTERNS, USUAL_PHASES};
@@ -15,14 +15,14 @@ use nf_net::{Network, NodeId};
 use nf_phase::{Budgets, solve};
 use std::alloc::{AllocError, Global};
 
-// The last point of a curve.
+// Returns the last point of a curve.
 fn last_point(curve: &Curve) -> (Q, Q)
     ensures { slice_get curve.now.points (length curve.now.points - 1) ≡ Some result }
 {
     curve.point(curve.len() - 1)
 }
 
-/// The last point of the label curve of a node.
+/// Returns the last point of the label curve of a node.
 pub(crate) fn last_label(flow: &Flow, node: NodeId) -> (Q, Q)
     requires { node < length flow.now.labels.items }
     ensures { slice_get (points_at (flow_of flow.now).labels node) (length (points_at (flow_of flow.now).labels node) - 1) ≡ Some result }
@@ -32,7 +32,7 @@ pub(crate) fn last_label(flow: &Flow, node: NodeId) -> (Q, Q)
     last_point(label)
 }
 
-// The budgets that are meant where none are given.
+// Returns the default budgets.
 fn usual_budgets() -> Budgets
     ensures { result ≡ usual_budgets }
 {
@@ -42,7 +42,7 @@ fn usual_budgets() -> Budgets
     }
 }
 
-// The arrival of who departs at this time.
+// Returns the arrival after this departure.
 fn arrival_at(alloc: Global, net: &Network, departs: Q) -> Result<Arrival, AllocError>
     requires { 0ℚ ≤ℚ departs }
     ensures { IfOk result (ArrivesIn net.now.net departs) }
@@ -57,8 +57,8 @@ fn arrival_at(alloc: Global, net: &Network, departs: Q) -> Result<Arrival, Alloc
     }
 }
 
-/// The arrival at the sink, in an equilibrium of the network, of who departs at this time; there is no such time where the amount is
-/// never supplied. The network is solved to the departure within the usual budgets.
+/// Returns the arrival at the sink after this departure, in an equilibrium of the network. Without a departure the amount is never
+/// supplied. The network is solved to the departure within the default budgets.
 pub(crate) fn find_arrival(
     alloc: Global,
     net: &Network,

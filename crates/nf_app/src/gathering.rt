@@ -1,4 +1,4 @@
-// What a request has before it is answered: its network, and the bytes of the other file that it wants.
+// Fetching a request's files: its network, and the bytes of its second file.
 ghost use Rattle.std.specs.Prelude.{◌≡◌, ◌≤◌, ℕ, List, [], Some, IfOk, IfErr};
 ghost use Rattle.std.specs.Result.{result_map_both};
 ghost use Rattle.nf_answers.specs.declared.refusal.Refusal.TheVariants as Refusal;
@@ -7,7 +7,8 @@ ghost use Rattle.nf_outside.specs.Fetching.{AreRead};
 ghost use Rattle.nf_gen.specs.Ladder.{most_rungs, ladder};
 ghost use Rattle.nf_command_line.specs.Requests.{CanBeAsked, request_of};
 ghost use Rattle.nf_command_line.specs.RequestViews.{requested};
-ghost use Rattle.nf_app.specs.Gathered.{OtherFits, IsGathered};
+ghost use Rattle.nf_app.specs.Requests.{OtherFits};
+ghost use Rattle.nf_app.specs.Gathered.{IsGathered};
 
 use nf_answers::Refusal;
 use nf_command_line::Request;
@@ -29,7 +30,7 @@ const LONGEST_ROUTES: u32 = 1_048_576;
 /// The most bytes that a report may have.
 const LONGEST_REPORT: u32 = 67_108_864;
 
-// The network of a file, where no other file is wanted.
+// Fetches the network of a request without a second file.
 fn fetch_one<S: Shelf>(
     alloc: Global,
     shelf: &mut S,
@@ -44,7 +45,7 @@ fn fetch_one<S: Shelf>(
     Ok((net, Vec::new(alloc)))
 }
 
-// The ladder of a number, where no file is wanted.
+// Makes the ladder of a number, for a request without files.
 fn make_ladder(alloc: Global, number: u64, rungs: u32) -> Result<(Network, Vec<u8>), Refusal>
     requires some { 1 ≤ rungs }
     requires few { rungs ≤ most_rungs }
@@ -55,8 +56,8 @@ fn make_ladder(alloc: Global, number: u64, rungs: u32) -> Result<(Network, Vec<u
     Ok((net, Vec::new(alloc)))
 }
 
-/// The network of a request, and the bytes of the other file that it wants; no bytes where it wants none. Both files are there before
-/// the first is read.
+/// Returns the network of a request, and the bytes of its second file, or none without one. Both files are fetched before the first is
+/// parsed.
 pub(crate) fn gather<S: Shelf>(
     alloc: Global,
     request: &Request,

@@ -1,4 +1,4 @@
-// The loading of all links of a network.
+// Loading all links of a network.
 ghost use Rattle.std.specs.Prelude.{◌≡◌, length, map, IfOk};
 ghost use Rattle.nf_rational.specs.Operations.{0ℚ};
 ghost use Rattle.nf_rational.specs.Order.{◌≤ℚ◌};
@@ -9,14 +9,14 @@ ghost use Rattle.nf_model.specs.Network.{ArePieces};
 ghost use Rattle.nf_model_laws.specs.Capacity.{IsPositive};
 ghost use Rattle.nf_load_lists.specs.Loads.{load_link_list};
 ghost use Rattle.nf_load.specs.Loadings.{loaded_of};
-ghost use Rattle.nf_app.specs.Given.{loading_list};
+ghost use Rattle.nf_app.specs.Lists.{loading_list};
 
 use nf_frac::{Halt, Q};
 use nf_load::{Loaded, Loads, cumulative, load_link};
 use nf_net::{Link, LinkId, Network, Piece};
 use std::alloc::Global;
 
-// The loading of a link by pieces of inflow, up to a horizon.
+// Loads a link by pieces of inflow, up to a horizon.
 fn load_by_pieces(
     alloc: Global,
     link: &Link,
@@ -33,7 +33,7 @@ fn load_by_pieces(
     load_link(alloc, link.transit, link.capacity, &inflow, horizon)
 }
 
-/// The loadings of the links, each by its pieces, up to a horizon.
+/// Loads each link by its pieces, up to a horizon.
 pub(crate) fn load_links(
     alloc: Global,
     net: &Network,

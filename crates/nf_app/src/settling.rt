@@ -11,7 +11,7 @@ use nf_net::{Network, start_labels};
 use nf_sets::{sets, slacks};
 use std::alloc::Global;
 
-// The sets of the slacks of the labels at departure 0.
+// Returns the sets of the slacks of the labels at departure 0.
 fn start_sets(alloc: Global, net: &Network) -> Result<LinkSets, Halt<Q>>
     ensures { AreStartSets net.now.net result }
 {
@@ -21,8 +21,8 @@ fn start_sets(alloc: Global, net: &Network) -> Result<LinkSets, Halt<Q>>
     Ok(sets)
 }
 
-/// What flows and slopes are settled to, by the sets of the labels at departure 0 and the rate then; None where they are no thin flow
-/// for these. It is refused at the first operation that passes: of the slacks, of the test, and of the settling.
+/// Settles flows and slopes, by the sets of the labels at departure 0 and the rate then. Returns `None` if they are no thin flow for these.
+/// Refuses at the first operation that exceeds the bound: of the slacks, of the test, or of the settling.
 pub(crate) fn settle_at_start(
     alloc: Global,
     net: &Network,

@@ -2,7 +2,7 @@ use Rattle.std.proofs.Common.{◌≤◌, length, ap, sym, subst, arith}
 use Rattle.nf_command_line.specs.declared.request.Request as code
 use Rattle.nf_command_line.specs.Requests.{Request, CanBeAsked}
 use Rattle.nf_command_line.specs.RequestViews.{requested}
-use Rattle.nf_app.specs.Gathered.{OtherFits, OtherIsText}
+use Rattle.nf_app.specs.Requests.{OtherFits}
 use Rattle.nf_app.specs.Outcomes.{IsGiving}
 use Rattle.nf_app.proofs.answering.find.Goals as goal
 
@@ -46,51 +46,41 @@ distribute-requires-clause-within c =
     omega (arith, few)
 
 pub returns-in-Solve : goal.returns-in-Solve
-returns-in-Solve c shelf told =
-    subst (λ (r : code.Request). IsGiving shelf c.args.net.now (requested r) c.solve_to.result) (sym c.in-Solve.is)
-    (c.solve_to.ensures shelf c.in-Solve.file.now)
+returns-in-Solve c =
+    subst (λ (r : code.Request). IsGiving c.args.net.now c.args.other.now (requested r) c.solve_to.result) (sym c.in-Solve.is) (c.solve_to.ensures c.in-Solve.file.now c.args.other.now)
 
 pub returns-in-SolveForever : goal.returns-in-SolveForever
-returns-in-SolveForever c shelf told =
-    subst (λ (r : code.Request). IsGiving shelf c.args.net.now (requested r) c.solve_on.result) (sym c.in-SolveForever.is)
-    (c.solve_on.ensures shelf c.in-SolveForever.file.now)
+returns-in-SolveForever c =
+    subst (λ (r : code.Request). IsGiving c.args.net.now c.args.other.now (requested r) c.solve_on.result) (sym c.in-SolveForever.is) (c.solve_on.ensures c.in-SolveForever.file.now c.args.other.now)
 
 pub returns-in-Show : goal.returns-in-Show
-returns-in-Show c shelf told =
-    subst (λ (r : code.Request). IsGiving shelf c.args.net.now (requested r) c.show.result) (sym c.in-Show.is)
-    (c.show.ensures shelf c.in-Show.file.now)
+returns-in-Show c =
+    subst (λ (r : code.Request). IsGiving c.args.net.now c.args.other.now (requested r) c.show.result) (sym c.in-Show.is) (c.show.ensures c.in-Show.file.now c.args.other.now)
 
 pub returns-in-Load : goal.returns-in-Load
-returns-in-Load c shelf told =
-    subst (λ (r : code.Request). IsGiving shelf c.args.net.now (requested r) c.load_to.result) (sym c.in-Load.is)
-    (c.load_to.ensures shelf c.in-Load.file.now c.in-Load.loads.now (subst (λ (r : code.Request). OtherIsText shelf (requested r) c.args.other.now) c.in-Load.is told))
+returns-in-Load c =
+    subst (λ (r : code.Request). IsGiving c.args.net.now c.args.other.now (requested r) c.load_to.result) (sym c.in-Load.is) (c.load_to.ensures c.in-Load.file.now c.in-Load.loads.now)
 
 pub returns-in-Check : goal.returns-in-Check
-returns-in-Check c shelf told =
-    subst (λ (r : code.Request). IsGiving shelf c.args.net.now (requested r) c.check_report.result) (sym c.in-Check.is)
-    (c.check_report.ensures shelf c.in-Check.file.now c.in-Check.report.now (subst (λ (r : code.Request). OtherIsText shelf (requested r) c.args.other.now) c.in-Check.is told))
+returns-in-Check c =
+    subst (λ (r : code.Request). IsGiving c.args.net.now c.args.other.now (requested r) c.check_report.result) (sym c.in-Check.is) (c.check_report.ensures c.in-Check.file.now c.in-Check.report.now)
 
 pub returns-in-Quick : goal.returns-in-Quick
-returns-in-Quick c shelf told =
-    subst (λ (r : code.Request). IsGiving shelf c.args.net.now (requested r) c.quick_to.result) (sym c.in-Quick.is)
-    (c.quick_to.ensures shelf c.in-Quick.file.now)
+returns-in-Quick c =
+    subst (λ (r : code.Request). IsGiving c.args.net.now c.args.other.now (requested r) c.quick_to.result) (sym c.in-Quick.is) (c.quick_to.ensures c.in-Quick.file.now c.args.other.now)
 
 pub returns-in-Gen : goal.returns-in-Gen
-returns-in-Gen c shelf told =
-    subst (λ (r : code.Request). IsGiving shelf c.args.net.now (requested r) c.sum_up.result) (sym c.in-Gen.is)
-    (c.sum_up.ensures shelf)
+returns-in-Gen c =
+    subst (λ (r : code.Request). IsGiving c.args.net.now c.args.other.now (requested r) c.sum_up.result) (sym c.in-Gen.is) (c.sum_up.ensures c.args.other.now)
 
 pub returns-in-Settle : goal.returns-in-Settle
-returns-in-Settle c shelf told =
-    subst (λ (r : code.Request). IsGiving shelf c.args.net.now (requested r) c.settle_to.result) (sym c.in-Settle.is)
-    (c.settle_to.ensures shelf c.in-Settle.file.now c.in-Settle.flows.now (subst (λ (r : code.Request). OtherIsText shelf (requested r) c.args.other.now) c.in-Settle.is told))
+returns-in-Settle c =
+    subst (λ (r : code.Request). IsGiving c.args.net.now c.args.other.now (requested r) c.settle_to.result) (sym c.in-Settle.is) (c.settle_to.ensures c.in-Settle.file.now c.in-Settle.flows.now)
 
 pub returns-in-Resume : goal.returns-in-Resume
-returns-in-Resume c shelf told =
-    subst (λ (r : code.Request). IsGiving shelf c.args.net.now (requested r) c.resume_to.result) (sym c.in-Resume.is)
-    (c.resume_to.ensures shelf c.in-Resume.file.now c.in-Resume.report.now (subst (λ (r : code.Request). OtherIsText shelf (requested r) c.args.other.now) c.in-Resume.is told))
+returns-in-Resume c =
+    subst (λ (r : code.Request). IsGiving c.args.net.now c.args.other.now (requested r) c.resume_to.result) (sym c.in-Resume.is) (c.resume_to.ensures c.in-Resume.file.now c.in-Resume.report.now)
 
 pub returns-in-Routes : goal.returns-in-Routes
-returns-in-Routes c shelf told =
-    subst (λ (r : code.Request). IsGiving shelf c.args.net.now (requested r) c.distribute.result) (sym c.in-Routes.is)
-    (c.distribute.ensures shelf c.in-Routes.file.now c.in-Routes.routes.now (subst (λ (r : code.Request). OtherIsText shelf (requested r) c.args.other.now) c.in-Routes.is told))
+returns-in-Routes c =
+    subst (λ (r : code.Request). IsGiving c.args.net.now c.args.other.now (requested r) c.distribute.result) (sym c.in-Routes.is) (c.distribute.ensures c.in-Routes.file.now c.in-Routes.routes.now)

@@ -4,7 +4,7 @@ pub beside_arrival-requires-clause-flow : goal.beside_arrival-requires-clause-fl
 beside_arrival-requires-clause-flow c = c.in-Ok.ensures.quickest
 
 pub returns-in-Ok : goal.returns-in-Ok
-returns-in-Ok c shelf file = c.beside_arrival.ensures shelf file c.args.augments c.in-Ok.ensures.answered c.in-Ok.ensures.pushes
+returns-in-Ok c file other = c.beside_arrival.ensures file other c.args.augments c.in-Ok.ensures.answered c.in-Ok.ensures.pushes
 
 pub returns-in-Err : goal.returns-in-Err
-returns-in-Err c shelf file = c.refuse_quick.ensures shelf file c.args.amount c.in-Err.ensures.answered c.in-Err.ensures.pushes
+returns-in-Err c file other = c.refuse_quick.ensures file other c.args.amount c.in-Err.ensures.answered c.in-Err.ensures.pushes

@@ -1,12 +1,10 @@
 use Rattle.std.proofs.Common.{arith}
 use Rattle.std.proofs.lemmas.Result.{err_from_is_err_and}
-use Rattle.nf_work.specs.Passing.{passes_Q}
 use Rattle.nf_run_text_laws.proofs.Fractions.{fraction_of_parts}
 use Rattle.nf_resumed_laws.proofs.Reading.{resumed_reads_back}
-use Rattle.nf_resumed_laws.proofs.Stopping.{resumed_stops_for_none}
 use Rattle.nf_report_file.specs.Files.{report_of}
 use Rattle.nf_phase.specs.Solution.{bounds_of, report_in}
-use Rattle.nf_app.proofs.Reports.{held}
+use Rattle.nf_app.proofs.Reports.{a_report}
 use Rattle.nf_app.proofs.ResumeGiven.{old_refused, gone_on_given}
 use Rattle.nf_app.proofs.answering.resume_to.Goals as goal
 
@@ -14,19 +12,19 @@ pub resume-requires : goal.resume-requires
 resume-requires c = c.in_ok-report.ensures.formed
 
 pub returns-in_err-report : goal.returns-in_err-report
-returns-in_err-report c shelf file name told =
+returns-in_err-report c file name =
     let p = err_from_is_err_and c.from_residual.result c.from_residual.ensures.1 in
-    rw (p.1, p.2) (old_refused shelf c.args.net.now file name c.args.horizon c.args.budgets.phases c.args.budgets.patterns c.recall.ensures c.args.text.now told c.in_err-report.field-0.0 c.in_err-report.ensures.reads)
+    rw (p.1, p.2) (old_refused c.args.net.now file name c.args.text.now c.args.horizon c.args.budgets.phases c.args.budgets.patterns c.recall.ensures c.in_err-report.field-0.0 c.in_err-report.ensures.reads)
 
 pub returns-in-Ok : goal.returns-in-Ok
-returns-in-Ok c shelf file name told =
+returns-in-Ok c file name =
     let e = c.in-Ok.ensures in
     let s = c.in-Ok.solution in
     let bounds = bounds_of c.args.horizon c.args.budgets in
     let old = report_of c.in_ok-report.report in
     let new = report_in c.args.horizon s in (
-      gone_on_given shelf c.args.net.now file name c.args.horizon c.args.budgets.phases c.args.budgets.patterns old
-          (held shelf c.args.net.now c.recall.ensures name c.args.text.now told old c.in_ok-report.ensures.reads) new s.phases
+      gone_on_given c.args.net.now file name c.args.text.now c.args.horizon c.args.budgets.phases c.args.budgets.patterns old
+          (a_report c.args.net.now c.recall.ensures c.args.text.now old c.in_ok-report.ensures.reads) new s.phases
           e.not_earlier e.resumed e.formed e.equilibrium e.goes_on e.short e.ends
           (resumed_reads_back c.args.net.now c.recall.ensures bounds
           (record {
@@ -34,13 +32,12 @@ returns-in-Ok c shelf file name told =
             phases = omega arith;
             patterns = omega arith;
           })
-          old s.phases new c.args.text.now c.in_ok-report.ensures.reads e.formed e.resumed)
-          (resumed_stops_for_none passes_Q c.args.net.now.net bounds old s.phases new c.recall.ensures.network c.in_ok-report.ensures.formed e.resumed),
+          old s.phases new c.args.text.now c.in_ok-report.ensures.reads e.formed e.resumed),
       e.formed,
     )
 
 pub returns : goal.returns
-returns c shelf file name told =
+returns c file name =
     let old = report_of c.in_ok-report.report in
-    c.refuse_resume.ensures shelf file name c.args.horizon c.args.budgets.phases c.args.budgets.patterns old
-    (held shelf c.args.net.now c.recall.ensures name c.args.text.now told old c.in_ok-report.ensures.reads) c.in-Err.ensures.fault
+    c.refuse_resume.ensures file name c.args.text.now c.args.horizon c.args.budgets.phases c.args.budgets.patterns old
+    (a_report c.args.net.now c.recall.ensures c.args.text.now old c.in_ok-report.ensures.reads) c.in-Err.ensures.fault

@@ -4,5 +4,5 @@ use Rattle.nf_formats.specs.NetFile.{Reads}
 use Rattle.nf_app.proofs.answering.show.Goals as goal
 
 pub returns : goal.returns
-returns c shelf file =
-    let e = c.in_ok-text.ensures in ((refl, subst (λ (text : List ℕ). Reads text (Ok c.args.net.now)) e.canonical e.reads_back), e.canonical)
+returns c file other =
+    let e = c.in_ok-text.ensures in (record { is = refl; reads_back = subst (λ (text : List ℕ). Reads text (Ok c.args.net.now)) e.canonical e.reads_back }, e.canonical)

@@ -14,7 +14,7 @@ use Rattle.nf_curve.proofs.Exits.{each_goes, each_stops, each_ends, stops_on}
 use Rattle.nf_readings.specs.LoadsFile.{pieces_at}
 use Rattle.nf_load.specs.Loadings.{loaded_of}
 use Rattle.nf_load.specs.declared.loading.Loaded as code
-use Rattle.nf_app.specs.Given.{loading_list}
+use Rattle.nf_app.specs.Lists.{loading_list}
 use Rattle.nf_app.proofs.LinkLoads.{no_front, zip_next, zip_ends}
 use Rattle.nf_app.proofs.loading.load_links.Goals as goal
 
