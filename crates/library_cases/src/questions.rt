@@ -74,6 +74,21 @@ pub fn tell_patterns(
     print!(rt; "{}", patterns.place())
 }
 
+// Whether a pattern meets its inequalities, or the first node or link at which it fails.
+fn tell_judged(rt: &HostRuntime, judged: Judged) -> io::Result<()> {
+    match judged {
+        Judged::Meets => print!(rt; "Meets"),
+        Judged::FailsNode(node) => {
+            let number = node.index();
+            print!(rt; "FailsNode(NodeId({number}))")
+        }
+        Judged::FailsLink(link) => {
+            let number = link.index();
+            print!(rt; "FailsLink(LinkId({number}))")
+        }
+    }
+}
+
 // The verdict on these numbers: flows, and then slopes.
 fn tell_verdict_on(
     rt: &HostRuntime,
@@ -90,9 +105,7 @@ fn tell_verdict_on(
         return tell_none(rt);
     }
     match verdict(net, sets, pattern, &numbers[..links], &numbers[links..]) {
-        Ok(Judged::Meets) => print!(rt; "Meets"),
-        Ok(Judged::FailsNode(node)) => print!(rt; "FailsNode(NodeId({}))", node.0),
-        Ok(Judged::FailsLink(link)) => print!(rt; "FailsLink(LinkId({}))", link.0),
+        Ok(judged) => tell_judged(rt, judged),
         Err(at) => tell_passed(rt, &at),
     }
 }
