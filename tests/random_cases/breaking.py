@@ -7,6 +7,14 @@ from .numerals import LARGEST, chance
 BAD_BYTES = ["\x00", "\x7f", "\r ", "\x0b", "\xe9"]
 NO_NUMBERS = ["x", "1/0", "+1", "1/", "/1", "-", str(LARGEST + 1), "1/-2", "--1", "1e3", "1.2.3", "inf"]
 NEGATIVE = ["-1", f"-1/{LARGEST}", "-1/2"]
+# Words that break a rule, by the column of a link line.
+WRONG_WORDS = {
+    1: ["a!", "x" * 25, "e0"],
+    2: ["a!", "y" * 25],
+    3: ["a!", "y" * 25],
+    4: [*NEGATIVE, "x", "1/0"],
+    5: [*NEGATIVE, "0", "x", "1/0"],
+}
 
 
 def lines_with(lines, key):
@@ -102,6 +110,18 @@ def break_twice_on_a_line(rng, lines):
     lines.insert(at, rng.choice([link, link, inflow]))
     if chance(rng, 0.2):
         lines[at] += rng.choice([" 1", " #", " \x01", "#\x02", " " * 1001])
+
+
+def break_two_words(rng, lines):
+    """Two words of a link line break a rule each, half of the time those of its two numbers."""
+    places = lines_with(lines, "link")
+    if places:
+        i = rng.choice(places)
+        words = lines[i].split(" ")
+        for column in (4, 5) if chance(rng, 0.5) else rng.sample(range(1, 6), 2):
+            if column < len(words):
+                words[column] = rng.choice(WRONG_WORDS[column])
+        lines[i] = " ".join(words)
 
 
 def break_pieces(rng, lines, key, name_column, names, idle):

@@ -63,7 +63,7 @@ def show_call(rng, answer_of):
         return show_at_limits(rng, answer_of)
     network = some_network(rng, answer_of, ["row"] * 2 + PLAIN * 3 + WIDE)
     text = changed_text(rng, network.text(), lambda lines: rng.choice(
-        [breaking.break_network, breaking.break_network, breaking.break_twice_on_a_line])(rng, lines))
+        [breaking.break_network, breaking.break_network, breaking.break_twice_on_a_line, breaking.break_two_words])(rng, lines))
     return Call("show", [], {"N": text})
 
 
