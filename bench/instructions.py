@@ -121,7 +121,7 @@ def other_runs(shelf):
         net = shelf.put(f"{network.name}.net", city.text_of(network))
         yield Run("quick", ["quick", net, "--amount", str(city.amount_of(network))], ["--fast"])
     for number, rungs in GENERATED:
-        yield Run("gen", ["gen", str(number), str(rungs), "--horizon", "30"], ["--fast"])
+        yield Run("gen", ["gen", "--number", str(number), "--rungs", str(rungs), "--horizon", "30"], ["--fast"])
 
 
 # ---- counts ----
