@@ -18,8 +18,9 @@ import sys
 sys.dont_write_bytecode = True
 
 from independent.checking import Violation, check
-from independent.direct import DirectFlow
+from independent.direct import DirectFlow, plain
 from independent.direct_flows import DirectRoutes, extended, is_listed, is_quickest, whole_listing
+from independent.direct_growth import tail_grows
 from independent.direct_violations import is_explained
 from independent.endless import solve_forever
 from independent.exact import ONE, Passing, Rational, ZERO
@@ -171,6 +172,9 @@ def meet_forever(rng, net, tally):
         until = solution.flow.reached + some_number(rng, 0, 30, [1, 2, 3])
         flow = extended(net, solution.flow, tail, until) if until > solution.flow.reached else solution.flow
         expect_equilibrium(net, flow, "the extended flow")
+        reached = plain(solution.flow.reached)
+        expect(tail_grows(net, reached, max(reached, plain(until)), flow, tail[0]), "labels don't grow by the cuts of the network")
+        tally["endless, growing" if tail[0][net.sink] != ONE else "endless, settling"] += 1
         run = solve(net, until, 60, 4000)
         if run.cause == DONE:
             same = [points[-1] for points in run.flow.labels] == [points[-1] for points in flow.labels]

@@ -19,6 +19,6 @@ backticks. "The list Slack" is the list of operations that LISTS.md calls Slack.
 | quickest flows | `residual`, `quickest` |
 | loading by route | `routes`, `routes_file` |
 | the command line | `command_line`, `app`, `__main__` |
-| checks by definition (`tests/direct.py`), which share no computation with the above | `direct`, `direct_flows`, `direct_violations` |
+| checks by definition (`tests/direct.py`), which share no computation with the above | `direct`, `direct_flows`, `direct_growth`, `direct_violations` |
 | random small networks for these checks | `small_cases` |
 """

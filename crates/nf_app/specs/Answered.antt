@@ -117,8 +117,8 @@ pub record RoutesAnswer (n : Named) (text : List ℕ) (horizon : ℚ) (answer : 
   pub arrives : RoutesArrive n.net (routes_of routes) horizon routed
   pub computed : by_route_list n routes horizon ≡ Ok routed
 
--- `quick`: a quickest flow of the amount, made by shortest walks pushed in order; beside the arrival after the least departure by which the
--- amount is supplied, which is no earlier than the flow's time.
+-- `quick`: a quickest flow of the amount, made by shortest walks pushed in order. The arrival is that of the least departure by which the
+-- amount is supplied. The arrival is no earlier than the flow's time.
 pub record QuickAnswer (n : Named) (amount : ℚ) (augments : ℕ) (answer : ProgramAnswer) : Type 0 where
   pub quick : QuickFlow
   pub arrival : Arrival

@@ -12,7 +12,7 @@ use Rattle.nf_phase.specs.Solution.{bounds_of, IsSolution}
 use Rattle.nf_answers.specs.declared.arrival.Arrival.{Arrival}
 use Rattle.nf_app.specs.Requests.{usual_budgets}
 
--- at this time, unless the run stopped
+-- the arrival at this time, unless the run stopped
 abbrev pub arrival_of : Option (Cause ℚ) → ℚ → Arrival
 arrival_of None time = Arrival.At time
 arrival_of (Some cause) time = Arrival.Stopped cause
@@ -29,7 +29,7 @@ pub record ArrivesIn (net : Network) (departs : ℚ) (arrival : Arrival) : Type 
   pub no_quicker : (time amount least : ℚ) → arrival ≡ Arrival.At time → amount ≤ℚ supply net departs → times.IsQuickest net amount least
       → least ≤ℚ time
 
--- of a departure, if there is one
+-- the arrival of the given departure; `Never` if there is none
 abbrev pub IsArrival : Network → Option ℚ → Arrival → Type 0
 IsArrival net None arrival = arrival ≡ Arrival.Never
 IsArrival net (Some departs) arrival = ArrivesIn net departs arrival

@@ -15,8 +15,8 @@ use Rattle.nf_command_line.specs.Requests.{Solve, Check, Resume}
 use Rattle.nf_app.specs.Requests.{bounds_to}
 use Rattle.nf_app.specs.Runs.{Call, Run, Asks, Ran, NothingFailed, IsOneOf}
 
--- An earlier call of `solve`, over a shelf with the same known bytes of the network's file, wrote a report, to its horizon or to the stop
--- of its phase run; its output, whose bytes are known, took this text.
+-- A call of `solve` wrote a report. Its shelf has the same known bytes of the network's file. Its output, whose bytes are known, took this
+-- text: the report to the horizon, or to the stop of the phase run.
 pub record WroteReport (shelf : Visit) (file text : List ℕ) : Type 0 where
   pub run : Run
   pub ran : Ran run
@@ -52,7 +52,7 @@ SaysYes run = ChecksSolved run.call → NothingFailed run
     ⊎ (run.status ≡ Status.Memory)
 
 -- ---- `resume` of what `solve` wrote
--- One earlier call wrote the text that is to be resumed, and another reached the horizon of `resume` and wrote the later text. If the first
+-- One call of `solve` wrote the text to be resumed. A second one reached the horizon of `resume` and wrote the later text. If the first
 -- run ended mid-phase, no operation of a table or verdict list exceeds the bound in the search for the remainder of that phase.
 pub record ResumesSolved (call : Call) : Type 0 where
   pub file : List ℕ

@@ -20,7 +20,7 @@ abbrev pub with_net : Named → Result Computed Refusal → Result Outcome Refus
 with_net n (Ok found) = Ok (record { net = n; found = found })
 with_net n (Err refusal) = Err refusal
 
--- an outcome that has its text, or a refusal, where that comes
+-- the outcome, or the refusal, is an answer that the call may give; an outcome has its text
 abbrev pub IsAnswered : Call → Result Outcome Refusal → Type 0
 IsAnswered call (Ok outcome) = IsAnswer call (answer_in outcome) × HasText outcome
 IsAnswered call (Err refusal) = IsAnswer call (answer_of refusal)

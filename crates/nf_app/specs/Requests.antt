@@ -36,7 +36,7 @@ other_of request = slice_get (files_of request) 1
 abbrev pub OtherFits : Request → List ℕ → Type 0
 OtherFits request text = IfSome (other_of request) (λ file. length text ≤ file.limit)
 
--- a text is the bytes of this file: as many as the shelf read, and those that are known, if they are
+-- the text is the second file's bytes: as many as the shelf read, and just the known ones, if they are known
 abbrev pub OtherIsText : Visit → Request → List ℕ → Type 0
 OtherIsText shelf request text = IfSome (other_of request) (λ file. IsLastText shelf file text)
 

@@ -80,7 +80,7 @@ abbrev pub IsAnswer : Call → ProgramAnswer → Type 0
 IsAnswer call answer = IsRefused call answer ⊎ IsComputed call answer
 
 -- ---- a whole run
--- it gave an answer where that comes, and its status and its sinks show it
+-- the run has an answer that its call may give, and its status and its sinks show this answer
 pub record Ran (run : Run) : Type 0 where
   pub answer : ProgramAnswer
   pub comes : IsAnswer run.call answer

@@ -25,11 +25,11 @@ module _ (net : Network) (labels : List ℚ) (given : GivenFlows) where
   abbrev pub SlacksFit : Type 0
   SlacksFit = IsOk (slack_list passes_Q (hops net) labels)
 
-  -- nor one of the test whether they are a thin flow
+  -- no operation passes in the test whether flows and slopes are a thin flow
   abbrev pub TestFits : Type 0
   TestFits = IsOk (thin_list passes_Q net (sets_at net labels) (rate_at net 0ℚ) given.flows given.slopes)
 
-  -- they are one
+  -- flows and slopes are a thin flow
   abbrev pub AreThin : Type 0
   AreThin = IsThinFlow net (sets_at net labels) (rate_at net 0ℚ) given.flows given.slopes
 
@@ -64,7 +64,7 @@ module _ (net : Network) (labels : List ℚ) (given : GivenFlows) where
 abbrev pub AtStartLabels : Network → (List ℚ → Type 0) → Type 0
 AtStartLabels net Holds = (labels : List ℚ) × AreStartLabels net labels × Holds labels
 
--- the sets of their slacks, of whose list no operation passes; or else this one
+-- the sets of the slacks, if no operation of the slack list passes; else the first operation that passes
 abbrev pub AreStartSets : Network → Result Sets (Halt ℚ) → Type 0
 AreStartSets net (Ok sets) = AtStartLabels net (λ labels. IsOk (slack_list passes_Q (hops net) labels) × (sets_at net labels ≡ sets))
 AreStartSets net (Err (Halt.Passed at)) = AtStartLabels net (λ labels. at_part Slack (slack_list passes_Q (hops net) labels) ≡ Err at)

@@ -8,14 +8,14 @@ use Rattle.nf_answers.specs.declared.status.Status.{Status}
 use Rattle.nf_answers.specs.Answers.{ProgramAnswer, Solved, SolvedForever, Quickest, Generated}
 use Rattle.nf_app.specs.Runs.{Run, IsAnswer}
 
--- why the run to the departure was stopped
+-- the cause that stopped the run to the departure, if one did
 abbrev pub stop_of_arrival : Arrival → Option (Cause ℚ)
 stop_of_arrival Arrival.Never = None
 stop_of_arrival (Arrival.At time) = None
 stop_of_arrival (Arrival.Stopped cause) = Some cause
 
--- why the run was stopped that an answer tells of, if it tells of one: a report, a run without a horizon, a summary, or the arrival
--- beside a quickest flow
+-- the cause that stopped the run of an answer, if one did: of a report, of a run without a horizon, of a summary, or of the arrival beside
+-- a quickest flow
 abbrev pub stop_in : ProgramAnswer → Option (Cause ℚ)
 stop_in (Solved n report) = report.stop
 stop_in (SolvedForever n forever) = forever.stop
@@ -23,7 +23,7 @@ stop_in (Generated number rungs n made report) = report.stop
 stop_in (Quickest n quick arrival) = stop_of_arrival arrival
 stop_in answer = None
 
--- whichever answer comes, and so the status
+-- of each answer that the call may give, and of its status
 pub record AlwaysHasPattern (run : Run) : Type 0 where
   pub stops : (answer : ProgramAnswer) → IsAnswer run.call answer → NeverNoPattern (stop_in answer)
   pub not_status : run.status ≡ Status.NoPattern → ⊥

@@ -45,7 +45,7 @@ abbrev pub WordsGive : Option Request → List ℕ → List ℕ → ProgramAnswe
 WordsGive None network second answer = answer ≡ NoRequest
 WordsGive (Some request) network second answer = TextsGive request network second answer
 
--- the answer of these words, with the known bytes of the two files that they ask for
+-- the answer of these words, with the known bytes of the files that they ask for, at most two
 pub record IsToldAnswer (words : List (List ℕ)) (telling : Telling) (answer : ProgramAnswer) : Type 0 where
   pub network : List ℕ
   pub second : List ℕ

@@ -22,7 +22,7 @@ fn let_go(_outcome: Outcome) {}
 /// Reads the words as one request, fetches its files, writes the answer to `out`, and returns the status.
 ///
 /// All files are fetched, each once and in order, before a rule of one is checked. Nothing is written to `out` before the answer is
-/// known. If the answer is refused, or ends early, `err` is told why. The first of the words is the program's name.
+/// known. With a status other than 0, `err` is told why. The first of the words is the program's name.
 ///
 /// - `solve`: the report of the phase run, up to the horizon or its stop
 /// - `solve --forever`: the run with its last phase, which never ends
@@ -56,8 +56,8 @@ pub fn run<S: Shelf, O: Sink, E: Sink>(
     out: &mut O,
     err: &mut E,
 ) -> Status
-    // Asked to solve an accepted file, and with a status other than 1, 3 and 9, `out` took the text of one report to the horizon. Its
-    // flow is an equilibrium up to the departure reached. The status is 0 exactly if that is the horizon, and else that of the cause.
+    // Asked to solve a known, accepted file, and with a status other than 1, 3 and 9, `out` took the text of one report to the horizon.
+    // Its flow is an equilibrium up to the departure reached. The status is 0 exactly if that is the horizon, else that of the cause.
     ensures solves { SolvesTold
         (this_call S.Shelf O.Sink E.Sink words.now shelf.old shelf.new out.old out.new err.old err.new result) }
 
@@ -69,37 +69,40 @@ pub fn run<S: Shelf, O: Sink, E: Sink>(
     ensures only { ShowsOnlyThat
         (this_call S.Shelf O.Sink E.Sink words.now shelf.old shelf.new out.old out.new err.old err.new result) }
 
-    // With known, well-formed files and no failure, each command ends with a status of its row in the table; unhindered, with one of
-    // its best.
+    // With known, well-formed files, and no fault of the shelf or of `out`, the status is 1 or one of the command's row (`ends_of`). If
+    // nothing hinders the command, the status is 1 or one of `best_ends_of`.
     ensures complete { IsComplete
         (this_call S.Shelf O.Sink E.Sink words.now shelf.old shelf.new out.old out.new err.old err.new result) }
 
-    // A fault of `out` in this call gives the status of a failed output, whatever the answer; without a fault the status is another.
+    // With status 9 a fault of `out` was counted in this call. With any other status none was, whatever the answer.
     ensures output { OutputFails
         (this_call S.Shelf O.Sink E.Sink words.now shelf.old shelf.new out.old out.new err.old err.new result) }
 
-    // No run stops because no pattern is left, since each phase has a thin flow.
+    // No run stops because no pattern is left, and the status is never 8.
     ensures never_no_pattern { AlwaysHasPattern
         (this_call S.Shelf O.Sink E.Sink words.now shelf.old shelf.new out.old out.new err.old err.new result) }
 
-    // Every equilibrium of the network has the labels, queues and exits of the flow of the answer, as far as both describe departures.
+    // Every equilibrium of the network has the labels, queues and exits of the answer's flow, as far as both describe departures. The
+    // same holds of the report that `check` answers yes, and of the arrival of `quick`.
     ensures same_in_all { AnswerIsSameInAll
         (this_call S.Shelf O.Sink E.Sink words.now shelf.old shelf.new out.old out.new err.old err.new result) }
 
-    // The report that continues the report of a run is that of one run from the start, if both reach the horizon and, mid-phase, the search
-    // for the remainder of the phase exceeds no bound.
+    // If `resume` is given the report of a run, and both runs reach the horizon, its report is that of one run from the start. Mid-phase,
+    // no operation of a table or verdict list may exceed the bound in the search for the remainder of the phase.
     ensures one_run { ResumesAsOne
         (this_call S.Shelf O.Sink E.Sink words.now shelf.old shelf.new out.old out.new err.old err.new result) }
 
-    // With known files, `resume` writes this report byte for byte.
+    // With known files and status 0, `resume` then writes the text of that report, byte for byte.
     ensures resumes { ResumesInOneRun
         (this_call S.Shelf O.Sink E.Sink words.now shelf.old shelf.new out.old out.new err.old err.new result) }
 
-    // `check` says yes of a text that an earlier call of `solve` wrote, unless an operation exceeds the bound or an allocation fails.
+    // With known files and no fault of the shelf or of `out`, `check` says yes of a text that a call of `solve` wrote, unless an operation
+    // exceeds the bound or an allocation fails.
     ensures says_yes { SaysYes
         (this_call S.Shelf O.Sink E.Sink words.now shelf.old shelf.new out.old out.new err.old err.new result) }
 
-    // `resume` of a text that an earlier call of `solve` wrote, to the horizon of another, writes the text of that other call.
+    // Let one call of `solve` write a text, and a second one, with status 0, the text to a later horizon. With known files and status 0,
+    // `resume` of the first text to that horizon writes the second text, on the premise of `one_run`.
     ensures resumes_solved { ResumesSolvedText
         (this_call S.Shelf O.Sink E.Sink words.now shelf.old shelf.new out.old out.new err.old err.new result) }
 
