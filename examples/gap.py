@@ -4,7 +4,7 @@
 Prints what all together spend on the way (the area between inflow and outflow of each link, added up), what they would spend if
 each arrived at the label, the best that one driver alone could have had, and the difference, which is 0 in an equilibrium. It is for
 reports to which `nfot check` says `yes`, or `no` by C7, and in which just those who left by the departure reached enter and arrive.
-Statuses: 0 printed; 1 others enter, or not all arrive, or the report isn't one of NET; 2 wrong arguments or files."""
+Statuses: 0 printed; 1 `nfot check` says otherwise, others enter, not all arrive, or the report isn't one of NET; 2 wrong arguments or files."""
 import sys
 from fractions import Fraction
 
@@ -20,6 +20,10 @@ def area(points, end):
 
 def main(net, report):
     network, told = nfot.read_pair(net, report)
+    verdict = nfot.run("check", net, report).stdout.split()
+    if verdict[:1] != ["yes"] and verdict[:2] != ["no", "C7"]:
+        line = " ".join(verdict[:3]) or "no verdict"
+        raise nfot.Fault(f"nfot check says `{line}`: only a report that is told yes, or no by C7, has a gap", 1)
     curves = [curve for kind in (told.labels, told.inflows, told.outflows, told.queues) for curve in kind.values()]
     label, end = told.labels[network.sink], max(points[-1][0] for points in curves)
     spent, arrived, under_way = Fraction(0), Fraction(0), Fraction(0)

@@ -463,9 +463,14 @@ def script(main: Callable[..., None], doc: str) -> None:
     except TypeError:
         print(usage(doc), file=sys.stderr)
         sys.exit(2)
+    stem = pathlib.Path(sys.argv[0]).stem
     try:
         main(*sys.argv[1:])
+        sys.stdout.flush()
     except Fault as fault:
         text = str(fault)
-        print(text if text.startswith(("usage:", "nfot:")) else f"{pathlib.Path(sys.argv[0]).stem}: {text}", file=sys.stderr)
+        print(text if text.startswith(("usage:", "nfot:")) else f"{stem}: {text}", file=sys.stderr)
         sys.exit(fault.status)
+    except OSError as fault:  # as a full disk
+        print(f"{stem}: standard output: {fault.strerror}", file=sys.stderr)
+        os._exit(1)  # what is left to be written can't be
