@@ -22,7 +22,7 @@ def slopes_of(lines, name):
                 raise nfot.Fault(f"{name} line {at}: a line `slope` has a node and a number")
             slopes[words[1]] = nfot.exact(words[2])
     if not slopes:
-        raise nfot.Fault(f"{name} has no slopes: the run stopped before a phase that never ends", 1)
+        raise nfot.Fault(f"{name} has no slopes: the run stopped before a phase that never ends; `nfot quick` with a large amount shows the same cut", 1)
     return slopes
 
 

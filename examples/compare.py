@@ -64,7 +64,7 @@ def main(net1, report1, net2, report2, *departures):
     before, after, end = first.labels[one.sink], second.labels[two.sink], min(first.reached, second.reached)
     for departure in departures:
         if not 0 <= departure <= end:
-            raise nfot.Fault(f"both reports have the departures from 0 to {nfot.short(end)}, not {nfot.short(departure)}", 1)
+            raise nfot.Fault(f"both reports have the departures from 0 to {float(end - end % nfot.exact('1/100')):.2f}, not {nfot.short(departure)}", 1)
     if {first.cause, second.cause} != {"done"} or first.reached != second.reached:
         name, report = (report1, first) if first.reached == end else (report2, second)
         print(f"both are cut at departure {float(end):.2f}, where {name} ends" + (f": {report.cause}" if report.cause != "done" else ""))

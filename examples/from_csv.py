@@ -2,8 +2,8 @@
 """from_csv.py LINKS.csv UNIT FROM TO START:RATE .. [--time STEP] [--two-way] [--hourly] [--detour D]: a network file from a table of roads.
 
 The first line of the table names its columns: from, to, time and capacity, perhaps name; others don't count. A row is a one-way link.
-An empty capacity, or `inf`, is unbounded; 0 closes the road. UNIT: capacities are rounded to multiples of it, at least one. Half of a
-common small capacity is a good UNIT, since numbers stay short then.
+An empty capacity, or `inf`, is unbounded; 0 closes the road. UNIT: capacities are rounded to multiples of it, at least one. Begin with a
+tenth of a small capacity; take more where a run ends with status 7, since numbers stay shorter then.
 
 START:RATE   from START on RATE is supplied at the node FROM, as 0:200 30:400 90:0
 TO           one node, or several as 20,21,22: who comes to one of them, whichever is quickest, has arrived (links `0 inf` to one sink)
@@ -242,7 +242,7 @@ def main(*words):
     roads = roads_of(table, options["two-way"])
     places, goals = {node for road in roads for node in road[1:3]}, [to]
     if to not in places:
-        goals = to.split(",")
+        goals = [goal.strip() for goal in to.split(",")]
     for node in [origin] + goals:
         if node not in places:
             raise nfot.Fault(f"{node} is no node of {table}")

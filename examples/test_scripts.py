@@ -169,7 +169,7 @@ class Times(Case):
     def test_faults_name_the_word(self):
         net, report = self.solved("two.net", 4)
         self.write("wide.net", net.read_text().replace("link a s t 1 1", "link a s t 1 2"))
-        for words, status, wanted in [((net, report, "5"), 1, "from 0 to 4, not 5"), ((net, report, "2.x"), 2, "2.x is no number"), ((net, "nix"), 2, "nix: No such file"),
+        for words, status, wanted in [((net, report, "5"), 1, "from 0 to 4.00, not 5"), ((net, report, "2.x"), 2, "2.x is no number"), ((net, "nix"), 2, "nix: No such file"),
                                       (("wide.net", report), 1, "a queue stands at a from 0 on, 1 come out of it, and its capacity is 2"), ((net,), 2, "usage")]:
             found, out, err = self.run_script("times.py", *words)
             self.assertEqual((found, out, len(err.splitlines())), (status, "", 1))
@@ -231,7 +231,7 @@ class Why(Case):
     def test_forgotten_report(self):
         found, out, err = self.run_script("why.py", "--", "nfot", "check", HERE / "two.net", HERE / "late.report")
         self.assertEqual((found, out), (10, "no C3 t 2 7 5\n"))
-        self.assertIn("at t: 2, 7, 5 are departure, printed label, right label", err)
+        self.assertIn("at t: departure 2, printed label 7, right label 5", err)
 
 
 if __name__ == "__main__":

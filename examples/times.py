@@ -31,7 +31,7 @@ def main(net, report, *departures):
     label, end = told.labels[network.sink], told.reached
     for departure in departures:
         if not 0 <= departure <= end:
-            raise nfot.Fault(f"{report} has the departures from 0 to {nfot.short(end)}, not {nfot.short(departure)}", 1)
+            raise nfot.Fault(f"{report} has the departures from 0 to {float(end - end % nfot.exact('1/100')):.2f}, not {nfot.short(departure)}", 1)
         arrival = nfot.value(label, departure)
         print(f"leave {float(departure):.2f}  arrive {float(arrival):.2f}  takes {float(arrival - departure):.2f}")
     if told.cause != "done":

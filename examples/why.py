@@ -151,6 +151,14 @@ def unread(files):
     return None
 
 
+def values_told(values, meaning):
+    """The three values of a `no`, each behind its name where the rule has just three names."""
+    names = meaning.split(", ")
+    if len(names) == len(values) and ";" not in meaning:
+        return ", ".join(f"{name} {value}" for name, value in zip(names, values))
+    return f"{', '.join(values)} are {meaning}"
+
+
 def explain(line, files, words, page, ended):
     """The lines that say what a line of nfot means; `ended` is the status, where it is known."""
     if found := re.fullmatch(r"nfot: (network|report|loads|flows|routes) line (\d+): (\w+)", line):
@@ -163,7 +171,7 @@ def explain(line, files, words, page, ended):
         return
     if found := re.fullmatch(r"no (C\d) (\S+) (\S+) (\S+) (\S+)", line):
         yield f"{found[1]}: {page.rule(found[1])}"
-        yield f"at {found[2]}: {', '.join(found.groups()[2:])} are {page.rules[found[1]][1]}"
+        yield f"at {found[2]}: {values_told(found.groups()[2:], page.rules[found[1]][1])}"
         return
     status = page.status_of(line)
     if status is None:
