@@ -456,8 +456,13 @@ def usage(doc: str) -> Fault:
 
 
 def script(main: Callable[..., None], doc: str) -> None:
-    """Runs a script's main with the words of the command line. A fault is one line on standard error, and ends it with the fault's status."""
+    """Runs a script's main with the words of the command line. A fault is one line on standard error, and ends it with the fault's status.
+
+    `--help` prints the script's docstring."""
     signal.signal(signal.SIGPIPE, signal.SIG_DFL)  # behind `head` it ends without a word, as other commands do
+    if sys.argv[1:] in (["--help"], ["-h"]):
+        print(doc)
+        return
     try:
         inspect.signature(main).bind(*sys.argv[1:])
     except TypeError:

@@ -161,6 +161,28 @@ class Compare(Case):
             self.assertEqual((out, len(err.splitlines())), ("", 1))
 
 
+class Help(Case):
+    def test_each_script_prints_its_docstring(self):
+        for name in ("bottleneck", "compare", "cut", "from_csv", "gap", "hint", "judge", "loads_of_routes", "times", "why"):
+            status, out, err = self.run_script(name, "--help")
+            self.assertEqual((status, err), (0, ""))
+            self.assertIn(f"{name}.py", out)
+
+
+class LoadsOfRoutes(Case):
+    def test_rates_of_two_roads(self):  # by hand: 3 a minute take a until 1, then 3/2 take each road
+        routed = "queue a 0 0\nqueue a 1 2\nqueue a 4 7/2\noutflow a 0 0\noutflow a 1 0\noutflow a 5 4\n" \
+            "queue b 0 0\nqueue b 1 0\nqueue b 4 3/2\noutflow b 0 0\noutflow b 4 0\noutflow b 7 3\n"
+        status, out, err = self.run_script("loads_of_routes", HERE / "two.net", stdin=routed)
+        self.assertEqual((status, err), (0, ""))
+        self.assertEqual(out, "loads 1\nrate a 0 3\nrate a 1 3/2\nrate a 4 0\nrate b 0 0\nrate b 1 3/2\nrate b 4 0\nend\n")
+
+    def test_other_input(self):
+        status, out, err = self.run_script("loads_of_routes", HERE / "two.net", stdin="yes\n")
+        self.assertEqual((status, out), (1, ""))
+        self.assertIn("no output of `nfot routes`", err)
+
+
 class Times(Case):
     def test_mean(self):
         _, out, _ = self.run_script("times.py", *self.solved("paradox.net", 60))
