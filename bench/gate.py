@@ -1,15 +1,16 @@
 #!/usr/bin/env python3
-"""What the gate costs: runs `rt ci` and prints the processor minutes of each kind of process, and the dearest crates.
+"""Measures what the gate costs: runs `rt ci`, and prints processor minutes by kind of process, the most expensive crates and edits.
 
     python3 bench/gate.py
 
-To measure it from nothing, where the kit keeps what earlier runs proved, move that away first. The seconds are those that the processes
-took, as /proc tells them four times a second; on a machine that others slow they grow, so the time of a fixed loop is printed as well,
-before and after.
+To measure it from nothing, first move away what the kit keeps of earlier runs (the folder rattle-kept beside it). The script reads processor seconds
+from /proc four times a second. Other work on the machine makes them grow, so the time of a fixed loop is printed before and after.
 
-Statuses: 0 however the gate ends, whose last words are printed; 1 `rt` isn't on the path.
+Statuses: 0 however the gate ends, whose last words are printed; 1 `rt` isn't on the path; 2 wrong arguments.
 """
+import argparse
 import collections
+import glob
 import os
 import re
 import shutil
@@ -19,7 +20,8 @@ import tempfile
 import time
 
 TICKS = os.sysconf("SC_CLK_TCK")
-Seen = collections.namedtuple("Seen", "seconds words folder")
+Seen = collections.namedtuple("Seen", "seconds words folder edit")
+LIBRARY, PROGRAM, ALONE, SEED, OVER, LAST = "libraries", "programs", "edits alone", "first proofs for several edits", "edits over these", "last proofs for several edits"
 
 
 def loop_seconds():
@@ -41,8 +43,32 @@ def stat_of(pid):
     return int(fields[1]), int(fields[19]), (int(fields[11]) + int(fields[12])) / TICKS
 
 
-def sample(root, seen):
-    """Notes what each process below this one has taken so far."""
+def texts_of(edit):
+    """Returns the file that an edit changes, and the texts that it puts there."""
+    with open(edit, encoding="utf-8") as it:
+        lines = it.read().splitlines()
+    file = next((line[6:] for line in lines if line.startswith("file: ")), "")
+    return file, [line[5:] for line in lines if line.startswith("new: ")]
+
+
+def edit_of(root, crate, folder):
+    """Returns the name of the edit that made the copy of a crate in a folder, or "" for the crate as it is."""
+    for edit in sorted(glob.glob(f"{root}/crates/{crate}/must-fail/*.edit")):
+        file, texts = texts_of(edit)
+        try:
+            with open(f"{folder}/{file}", encoding="utf-8") as it:
+                changed = it.read()
+            with open(f"{root}/crates/{crate}/{file}", encoding="utf-8") as it:
+                whole = it.read()
+        except OSError:
+            continue
+        if changed != whole and all(text in changed for text in texts):
+            return f"{crate}/{os.path.basename(edit)[:-5]}"
+    return ""
+
+
+def sample(above, root, seen):
+    """Notes what each process below the process `above` has taken so far."""
     found = {}
     for name in os.listdir("/proc"):
         if name.isdigit():
@@ -51,25 +77,31 @@ def sample(root, seen):
             except (OSError, ValueError):
                 pass
     for pid, (_, start, seconds) in found.items():
-        above = pid
-        while above in found and above != root:
-            above = found[above][0]
-        if above == root:
-            note(seen, pid, start, seconds)
+        parent = pid
+        while parent in found and parent != above:
+            parent = found[parent][0]
+        if parent == above:
+            note(seen, (pid, start), seconds, root)
 
 
-def note(seen, pid, start, seconds):
-    """Notes what a process has taken, and its words and folder until it has become a check of a crate."""
-    last = seen.get((pid, start))
-    words, folder = (last.words, last.folder) if last else ([], "")
-    if "--crate-name" not in words:
+def crate_of(words):
+    """Returns the crate that a process checks or builds, or ""."""
+    return words[words.index("--crate-name") + 1] if "--crate-name" in words else ""
+
+
+def note(seen, key, seconds, root):
+    """Notes what a process has taken. Until it is a check of a crate, notes its words, its folder and the edit tried there."""
+    words, folder, edit = seen[key][1:] if key in seen else ([], "", "")
+    if not crate_of(words):
         try:
-            with open(f"/proc/{pid}/cmdline", encoding="utf-8", errors="replace") as it:
+            with open(f"/proc/{key[0]}/cmdline", encoding="utf-8", errors="replace") as it:
                 words = it.read().split("\0")
-            folder = os.readlink(f"/proc/{pid}/cwd")
+            folder = os.readlink(f"/proc/{key[0]}/cwd")
         except OSError:
             pass
-    seen[pid, start] = Seen(seconds, words, folder)
+        if crate_of(words) and "/rt-edit-" in folder:
+            edit = edit_of(root, crate_of(words), folder)
+    seen[key] = Seen(seconds, words, folder, edit)
 
 
 def kept_of(process):
@@ -79,41 +111,48 @@ def kept_of(process):
 
 
 def kind_of(process, programs, last):
-    """Returns the crate that a process is for, or "", and what it does for it.
+    """Returns the kind of a process: a kind of check, or the name of its program.
 
-    Of the checks over one seed, the last ends the edits; the ones before begin them.
+    Of the checks of a crate as it is that share one folder of results, the first begins its edits and the last ends them.
     """
-    words = process.words
-    if "--crate-name" not in words:
-        return "", os.path.basename(words[0]) if words and words[0] else "other"
-    crate = words[words.index("--crate-name") + 1]
+    crate = crate_of(process.words)
+    if not crate:
+        return os.path.basename(process.words[0]) if process.words and process.words[0] else "other"
     if "/rt-edit-" in process.folder:
         kept = kept_of(process)
         if not kept:
-            return crate, "one edit alone"
+            return ALONE
         if not kept.endswith("/seed"):
-            return crate, "edit"
-        return crate, "check that ends edits" if last[kept] is process else "check that begins edits"
-    return crate, "program" if crate in programs else "library"
+            return OVER
+        return LAST if last[kept] is process else SEED
+    return PROGRAM if crate in programs else LIBRARY
+
+
+def most(counter, number):
+    """Returns the names with the largest counts, each with its seconds."""
+    return ", ".join(f"{name} {seconds:.0f}" for name, seconds in counter.most_common(number) if name)
 
 
 def told(seen, programs):
-    """Prints the sums by kind, and the dearest crates of each."""
-    kinds, crates, count = collections.Counter(), collections.defaultdict(collections.Counter), collections.Counter()
+    """Prints a table of the kinds, the most expensive crates of each, and the most expensive edits."""
+    kinds, crates, count, edits = collections.Counter(), collections.defaultdict(collections.Counter), collections.Counter(), collections.Counter()
     processes = [process for _, process in sorted(seen.items(), key=lambda it: (it[0][1], it[0][0]))]
     last = {kept_of(process): process for process in processes}
     for process in processes:
-        crate, kind = kind_of(process, programs, last)
+        kind = kind_of(process, programs, last)
         kinds[kind] += process.seconds
         count[kind] += 1
-        crates[kind][crate] += process.seconds
-    print(f"all: {sum(kinds.values()) / 60:.1f} processor minutes")
+        crates[kind][crate_of(process.words)] += process.seconds
+        edits[process.edit] += process.seconds
+    print(f"all: {sum(kinds.values()) / 60:.1f} processor minutes\n")
+    print("| kind | processes | minutes | most expensive, seconds |\n|---|---|---|---|")
     for kind, seconds in kinds.most_common(12):
-        dearest = ", ".join(f"{crate} {taken:.0f}" for crate, taken in crates[kind].most_common(12) if crate)
-        print(f"{kind}: {seconds / 60:.1f} minutes, {count[kind]} processes{'; ' if dearest else ''}{dearest}")
+        print(f"| {kind} | {count[kind]} | {seconds / 60:.1f} | {most(crates[kind], 12)} |")
+    print(f"\nedits, seconds: {most(edits, 20)}")
 
 
 def main():
+    argparse.ArgumentParser(description=__doc__, formatter_class=argparse.RawDescriptionHelpFormatter).parse_args()
     if not shutil.which("rt"):
         sys.exit("gate: there is no program rt")
     root = os.path.dirname(os.path.dirname(os.path.realpath(__file__)))
@@ -123,7 +162,7 @@ def main():
     with tempfile.TemporaryFile("w+", errors="replace") as out:
         with subprocess.Popen(["rt", "ci"], cwd=root, stdout=out) as gate:
             while gate.poll() is None:
-                sample(gate.pid, seen)
+                sample(gate.pid, root, seen)
                 time.sleep(0.25)
         out.seek(0)
         said = out.read()
