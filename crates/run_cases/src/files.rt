@@ -1,5 +1,5 @@
 // Files that stand in the input.
-use case_lines::add_line;
+use crate::line::add_line;
 use std::alloc::{AllocError, Global};
 
 /// A file with its name.

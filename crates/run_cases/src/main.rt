@@ -1,27 +1,37 @@
-//! Whole runs of the program over files and sinks in memory. The input is read line by line:
+//! Cases of the program and of its libraries, and what they answer. The input is read line by line:
 //!
 //!     == NAME        begins the file NAME, in the place of an earlier one of that name
 //!     ++ COUNT       adds so many `#` to the file
-//!     LINE           any other line is one of the file, in the form of `case_lines`
+//!     LINE           any other line is a line of the file
+//!     ?? SUBJECT     answers questions of the last file: `numbers`, `ladders` or `edges`, one a line; or `lines`, the whole file
 //!     !! out CALL    in the next run `out` takes a byte a write, and the write of this number fails
 //!     !! err CALL    the same of `err`
 //!     !! fetch CALL  in the next run the fetch of this number fails
-//!     $$ WORD ..     runs the program on these words, which are parted by single spaces
+//!     $$ WORD ..     runs the program on these words, separated by single spaces
 //!
-//! Of each run its line is printed, then what `out` took, each line of what `err` took behind `! `, and the status behind `= `. Bytes
-//! that don't end with LF are followed by `\` and LF.
+//! In a line of a file `\` and two hexadecimal digits stand for the byte of that number, and a `\` at the end says that no LF follows.
+//!
+//! The program prints for each run its line, then what `out` took, each line of what `err` took behind `! `, and the status behind `= `.
+//! Bytes that don't end with LF are followed by `\` and LF. For each question it prints the file's name, and the answers.
 #![tactic(auto)]
 
+mod edges;
 mod faults;
 mod files;
+mod ladders;
+mod line;
+mod numbers;
 mod running;
+mod shown;
+mod subjects;
+mod text;
 
 use faults::Faults;
 use files::File;
 use std::alloc::{AllocError, Global};
 use std::io;
 
-// Takes in a line of a file, or the beginning of one.
+// Adds a line to the last file, or begins a new file.
 fn take_file_line(alloc: Global, files: &mut Vec<File>, line: &str) -> Result<(), AllocError> {
     if let Some(name) = line.strip_prefix("== ") {
         let file = File::new(alloc, name)?;
@@ -34,9 +44,17 @@ fn take_file_line(alloc: Global, files: &mut Vec<File>, line: &str) -> Result<()
     }
 }
 
-// Takes in a line, and gives the calls that fail in the next run.
-fn take_line<R: Print + AllocGlobal>(
-    rt: &R,
+// Answers the questions of the last file.
+fn answer(rt: &HostRuntime, files: &[File], subject: &str) -> io::Result<()> {
+    match files.last() {
+        Some(file) => subjects::tell(rt, subject, file),
+        None => Ok(()),
+    }
+}
+
+// Carries out a line, and returns the calls that fail in the next run.
+fn take_line(
+    rt: &HostRuntime,
     files: &mut Vec<File>,
     faults: Faults,
     line: &str,
@@ -49,11 +67,15 @@ fn take_line<R: Print + AllocGlobal>(
         running::tell(rt, files, faults, words)?;
         return Ok(Faults::none());
     }
-    take_file_line(rt.alloc(), files, line)?;
+    match line.strip_prefix("?? ") {
+        Some(subject) => answer(rt, files, subject)?,
+        None => take_file_line(rt.alloc(), files, line)?,
+    }
     Ok(faults)
 }
 
-fn take_lines<R: Input + Print + AllocGlobal>(rt: &R, files: &mut Vec<File>) -> io::Result<()> {
+// Carries out all lines of the input.
+fn take_lines(rt: &HostRuntime, files: &mut Vec<File>) -> io::Result<()> {
     let mut faults = Faults::none();
     for line in rt.lines(rt.alloc()) {
         let line = line?;

@@ -1,12 +1,12 @@
 // A real file, and a writer that is full.
 use crate::edges::answer_of;
-use case_lines::as_text;
+use crate::shown::as_text;
 use nf_edge::{RealShelf, Shelf, StdSink, write_text};
 use std::alloc::{AllocError, Global};
 use std::{fs, io};
 
 /// The name of the file.
-const NAME: &str = "library_cases.txt";
+const NAME: &str = "run_cases.txt";
 
 // A text of 10,000 bytes.
 fn long_text(alloc: Global) -> Result<Vec<u8>, AllocError> {

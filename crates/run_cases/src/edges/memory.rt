@@ -1,6 +1,6 @@
 // A shelf and sinks in memory.
 use crate::edges::answer_of;
-use case_lines::as_text;
+use crate::shown::as_text;
 use nf_edge::{MemShelf, MemSink, Shelf};
 use std::alloc::{AllocError, Global};
 use std::io;

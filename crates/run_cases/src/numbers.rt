@@ -7,7 +7,7 @@
 //     count WORD      the count, printed
 //
 // The line is printed, and then the answer, or why there is none.
-use case_lines::as_text;
+use crate::shown::as_text;
 use nf_numerals::{NumberFault, TextBuf, count, decimal_parts, parts, write_count, write_parts};
 use std::io;
 

@@ -1,9 +1,8 @@
-// The canonical texts of ladders. Each line has a number and how many rungs, of which there are 1 to 30; for any other line `no ladder`
-// is printed.
+// Canonical texts of ladders. A line has a number and how many rungs, 1 to 30.
 ghost use Rattle.std.specs.Prelude.{◌≤◌};
 ghost use Rattle.nf_gen.specs.Ladder.{most_rungs};
 
-use case_lines::{Case, as_text};
+use crate::shown::as_text;
 use nf_gen::generated;
 use nf_net::text;
 use std::alloc::{AllocError, Global};
@@ -32,19 +31,10 @@ fn tell_ladder(rt: &HostRuntime, number: u64, rungs: u32) -> io::Result<()>
     print!(rt; "{}", as_text(&text))
 }
 
-// The text of the ladder of a line, if it asks for one.
-fn tell_line(rt: &HostRuntime, line: &str) -> io::Result<()> {
+/// Prints the text of the ladder that a line asks for, or `no ladder`.
+pub fn tell(rt: &HostRuntime, line: &str) -> io::Result<()> {
     match asked(line) {
         Some((number, rungs)) if 1 <= rungs && rungs <= 30 => tell_ladder(rt, number, rungs),
         _ => println!(rt; "no ladder"),
     }
-}
-
-/// Prints the title of a case, and the texts of the ladders that its lines ask for.
-pub fn tell(rt: &HostRuntime, case: &Case) -> io::Result<()> {
-    println!(rt; "== {}", case.title)?;
-    for line in as_text(&case.text).lines() {
-        tell_line(rt, line)?;
-    }
-    Ok(())
 }

@@ -2,7 +2,7 @@
 ghost use Rattle.std.specs.Prelude.{◌≤◌, length};
 ghost use Rattle.nf_lines.specs.Faults.{longest_text};
 
-use case_lines::{Case, as_text};
+use crate::shown::as_text;
 use nf_net::LONGEST_FILE;
 use nf_text::{Line, Span, TextFault, lines};
 use std::io;
@@ -33,14 +33,13 @@ fn tell_lines(rt: &HostRuntime, text: &[u8], lines: &[Line]) -> io::Result<()> {
     Ok(())
 }
 
-/// Prints a case's title, and the lines of its text or the first fault.
-pub fn tell(rt: &HostRuntime, case: &Case) -> io::Result<()> {
-    println!(rt; "== {}", case.title)?;
-    if case.text.len() > LONGEST_FILE as usize {
+/// Prints the lines of a text, or why it has none.
+pub fn tell(rt: &HostRuntime, text: &[u8]) -> io::Result<()> {
+    if text.len() > LONGEST_FILE as usize {
         return println!(rt; "too long");
     }
-    match lines(rt.alloc(), &case.text) {
-        Ok(read) => tell_lines(rt, &case.text, &read),
+    match lines(rt.alloc(), text) {
+        Ok(read) => tell_lines(rt, text, &read),
         Err(TextFault::NotAscii { line }) => println!(rt; "line {line} isn't ASCII"),
         Err(TextFault::LongLine { line }) => println!(rt; "line {line} is too long"),
         Err(TextFault::Memory) => println!(rt; "memory is wanting"),
