@@ -1,5 +1,5 @@
-// The values that solve a pattern's table, found without that table: slopes from one equation for each Tight component, then flows.
-// No contract depends on these values, since a guess is judged like any other pattern.
+// The values that solve a pattern's table, found without that table: slopes from one equation for each Tight component, then flows. No
+// contract depends on these values, since a guess is judged like any other pattern.
 ghost use Rattle.std.specs.Prelude.{◌≡◌, length};
 
 use crate::part_slopes::part_slopes;
@@ -27,10 +27,9 @@ fn slopes_and_flows(
     }
 }
 
-/// Returns the values that solve a pattern's table: the slopes of the nodes, in node order, and the flows of the active links, in link
-/// order.
-/// Flows are amounts per unit of time. Returns `None` if the table does not have exactly one solution, or an operation passes.
-/// No contract promises this. Fails if an allocation fails.
+/// Returns the values that solve a pattern's table: slopes in node order, and then flows of active links in link order. Flows are amounts
+/// per unit of time. Returns `None` if the table does not have exactly one solution, or an operation passes. No contract promises this.
+/// Fails if an allocation fails.
 pub fn part_values(
     alloc: Global,
     net: &Network,

@@ -1,5 +1,5 @@
-// A forest of links, and its traversal, which crosses each link in both directions.
-// No contract depends on it, since a guess is judged like any other pattern.
+// A forest of links, and its traversal, which crosses each link in both directions. No contract depends on it, since a guess is judged like
+// any other pattern.
 
 use nf_graph::NodeId;
 use std::alloc::{AllocError, Global};
@@ -13,8 +13,8 @@ struct Branch {
     before_at_head: Option<usize>,
 }
 
-// The position of a traversal: a node, and the branch to cross next.
-// `None` ends the node's chain of branches: `step` restarts it, or ends the traversal at its start node.
+// The position of a traversal: a node, and the branch to cross next. `None` ends the node's chain of branches: `step` restarts it, or ends
+// the traversal at its start node.
 #[derive(Clone, Copy)]
 struct Place {
     node: NodeId,
@@ -86,8 +86,8 @@ impl Forest {
         crossings.saturating_add(self.last.len())
     }
 
-    // Returns whether the forest joins two nodes.
-    // Two traversals alternate, one from each node, until one ends or reaches the start of the other.
+    // Returns whether the forest joins two nodes. Two traversals alternate, one from each node, until one ends or reaches the start of the
+    // other.
     fn joins(&self, tail: NodeId, head: NodeId) -> bool {
         if tail == head {
             return true;

@@ -1,5 +1,5 @@
-// A guess of an accepted pattern: a first pattern is repaired until no link violates its inequality.
-// No contract depends on the guess, since it is judged like any other pattern.
+// A guess of an accepted pattern: a first pattern is repaired until no link violates its inequality. No contract depends on the guess,
+// since it is judged like any other pattern.
 ghost use Rattle.std.specs.Prelude.{IfOk, IfSome};
 ghost use Rattle.nf_work.specs.Passing.{passes_Q};
 ghost use Rattle.nf_equation_laws.specs.Equations.{IsPatternIn};
@@ -16,9 +16,8 @@ use nf_one_pattern::pattern_values;
 use nf_pattern::Pattern;
 use std::alloc::{AllocError, Global};
 
-/// A pattern, with the values that solve its table: the slopes of the nodes, in node order, and the flows of the active links, in link
-/// order.
-/// Flows are amounts per unit of time.
+/// A pattern, with the values that solve its table: slopes in node order, and then flows of active links in link order. Flows are amounts
+/// per unit of time.
 #[derive(Drop)]
 pub struct SolvedPattern {
     pub pattern: Pattern,
@@ -30,8 +29,8 @@ fn most_repairs(net: &Network) -> u32 {
     net.link_count().saturating_mul(3).saturating_add(64)
 }
 
-// Returns the values that solve a pattern's table.
-// Returns `None` if there is not exactly one solution, or an operation passes. Fails if an allocation fails.
+// Returns the values that solve a pattern's table. Returns `None` if there is not exactly one solution, or an operation passes. Fails if an
+// allocation fails.
 fn values_of(
     alloc: Global,
     net: &Network,
@@ -49,8 +48,8 @@ fn values_of(
     }
 }
 
-// Returns the pattern with the values that solve its table.
-// Returns `None` if there is not exactly one solution, or an operation passes. Fails if an allocation fails.
+// Returns the pattern with the values that solve its table. Returns `None` if there is not exactly one solution, or an operation passes.
+// Fails if an allocation fails.
 fn solved_pattern(
     alloc: Global,
     net: &Network,
@@ -67,8 +66,8 @@ fn solved_pattern(
     }
 }
 
-// Repairs the pattern until no link violates its inequality, and returns its values then.
-// Returns `None` if the repairs do not end, the table does not have exactly one solution, or an operation passes.
+// Repairs the pattern until no link violates its inequality, and returns its values then. Returns `None` if the repairs do not end, the
+// table does not have exactly one solution, or an operation passes.
 fn repaired(
     alloc: Global,
     net: &Network,
@@ -90,10 +89,9 @@ fn repaired(
     Ok(None)
 }
 
-/// Guesses an accepted pattern by repairs of `first`, and returns it with the values that solve its table.
-/// `rate` is the supply, an amount per unit of time. The values on the way are found without a table.
-/// Returns `None` if the repairs do not end, a table does not have exactly one solution, or an operation passes. Fails if an allocation
-/// fails.
+/// Guesses an accepted pattern by repairs of `first`, and returns it with the values that solve its table. `rate` is the supply, an amount
+/// per unit of time. The values on the way are found without a table. Returns `None` if the repairs do not end, a table does not have
+/// exactly one solution, or an operation passes. Fails if an allocation fails.
 pub fn guess(
     alloc: Global,
     net: &Network,

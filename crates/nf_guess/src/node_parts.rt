@@ -49,8 +49,8 @@ fn has_number(numbers: &[Option<u32>], node: NodeId) -> bool {
     node.index() < numbers.len() && numbers[node.index()].is_some()
 }
 
-/// The Tight components: each node's component number, and the number of components.
-/// The component of the source has number 0, and the others follow in node order.
+/// The Tight components: each node's component number, and the number of components. The component of the source has number 0, and the
+/// others follow in node order.
 #[derive(Drop)]
 pub(crate) struct Parts {
     numbers: Vec<Option<u32>>,

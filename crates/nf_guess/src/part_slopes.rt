@@ -1,6 +1,5 @@
-// The slopes that solve a pattern's table, from one equation for each Tight component.
-// All nodes of a component have the same slope, and its outflow less its inflow is known.
-// No contract depends on these slopes, since a guess is judged like any other pattern.
+// The slopes that solve a pattern's table, from one equation for each Tight component. All nodes of a component have the same slope, and
+// its outflow less its inflow is known. No contract depends on these slopes, since a guess is judged like any other pattern.
 ghost use Rattle.std.specs.Prelude.{◌≡◌, ◌<◌, ◌≤◌, length};
 
 use crate::node_parts::{Parts, state_in, tight_forest};
@@ -213,8 +212,8 @@ fn slopes_from(
     Ok(Some(slopes))
 }
 
-/// Returns the slopes of the nodes, in node order.
-/// Returns `None` if the pattern's table does not have exactly one solution, or is too large.
+/// Returns the slopes of the nodes, in node order. Returns `None` if the pattern's table does not have exactly one solution, or is too
+/// large.
 pub(crate) fn part_slopes(
     alloc: Global,
     net: &Network,

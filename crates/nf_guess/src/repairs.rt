@@ -1,5 +1,5 @@
-// Repairs of a pattern: links that violate their inequalities change their states.
-// No contract depends on repairs, since a guess is judged like any other pattern.
+// Repairs of a pattern: links that violate their inequalities change their states. No contract depends on repairs, since a guess is judged
+// like any other pattern.
 ghost use Rattle.std.specs.Prelude.{◌≡◌, ◌<◌, length, IsTrue, IsSome};
 ghost use Rattle.nf_model.specs.declared.State.TheVariants.{Full};
 ghost use Rattle.nf_equation_laws.specs.Equations.{IsPatternIn};
@@ -73,8 +73,8 @@ fn is_spare(net: &Network, sets: &LinkSets, pattern: &Pattern, link: LinkId) -> 
     false
 }
 
-// Makes a Tight link with a negative flow Zero, if another link that may carry flow leads to its head.
-// Makes a Tight link with too much flow Full. Returns whether the state changes.
+// Makes a Tight link with a negative flow Zero, if another link that may carry flow leads to its head. Makes a Tight link with too much
+// flow Full. Returns whether the state changes.
 fn loosen_link(
     net: &Network,
     sets: &LinkSets,
@@ -143,8 +143,8 @@ fn breaks(state: Option<State>, tail_slope: Q, head_slope: Q) -> bool {
     }
 }
 
-// Makes a Full link with a smaller slope at its head, or a Zero link with a greater one, Tight.
-// Changes nothing if the link would close a cycle with other Tight links. Returns whether the state changes.
+// Makes a Full link with a smaller slope at its head, or a Zero link with a greater one, Tight. Changes nothing if the link would close a
+// cycle with other Tight links. Returns whether the state changes.
 fn tighten_link(
     net: &Network,
     sets: &LinkSets,

@@ -1,6 +1,6 @@
-// The reverting of a guessed pattern towards the first one: a link takes its first state if its values suit that state.
-// Among the accepted patterns, the listing reaches one with few changes first, and so mostly this one.
-// No contract depends on reverting, since a guess is judged like any other pattern.
+// The reverting of a guessed pattern towards the first one: a link takes its first state if its values suit that state. Among the accepted
+// patterns, the listing reaches one with few changes first, and so mostly this one. No contract depends on reverting, since a guess is
+// judged like any other pattern.
 ghost use Rattle.std.specs.Prelude.{◌≡◌, ◌<◌, length, IfOk};
 ghost use Rattle.nf_equation_laws.specs.Equations.{IsPatternIn};
 
@@ -161,8 +161,8 @@ fn is_repaired(
     }
 }
 
-// Gives the links of `nearer` their first states if these suit the values.
-// Returns whether the result differs from `pattern`, leads to each node and violates no inequality.
+// Gives the links of `nearer` their first states if these suit the values. Returns whether the result differs from `pattern`, leads to each
+// node and violates no inequality.
 fn revert(
     alloc: Global,
     net: &Network,
@@ -186,8 +186,8 @@ fn revert(
     is_repaired(alloc, net, sets, rate, nearer)
 }
 
-/// Returns a pattern nearer to the first one if it leads to each node and violates no inequality. Otherwise returns the same pattern.
-/// Fails if an allocation fails.
+/// Returns a pattern nearer to the first one if it leads to each node and violates no inequality. Otherwise returns the same pattern. Fails
+/// if an allocation fails.
 pub(crate) fn reverted(
     alloc: Global,
     net: &Network,

@@ -1,6 +1,6 @@
-// The flows of links, for the slopes that solve a pattern's table. A Full or resetting link fills its capacity.
-// The Tight links form a forest, and conservation of flow determines their flows from the leaves inward.
-// No contract depends on these flows, since a guess is judged like any other pattern.
+// The flows of links, for the slopes that solve a pattern's table. A Full or resetting link fills its capacity. The Tight links form a
+// forest, and conservation of flow determines their flows from the leaves inward. No contract depends on these flows, since a guess is
+// judged like any other pattern.
 ghost use Rattle.std.specs.Prelude.{◌≡◌, ◌<◌, length};
 
 use crate::node_parts::state_in;
@@ -31,8 +31,8 @@ impl OpenLink {
     }
 }
 
-// The undetermined flows. `missing` has for each node the outflow less the inflow that its undetermined links must carry.
-// `degrees` has the number of undetermined links at each node.
+// The undetermined flows. `missing` has for each node the outflow less the inflow that its undetermined links must carry. `degrees` has the
+// number of undetermined links at each node.
 #[derive(Drop)]
 struct OpenFlows {
     sink: NodeId,

@@ -1,5 +1,5 @@
--- Linear systems with as many equations as unknowns, and their solution by elimination.
--- A system is given by its table: a row has a number for each unknown, and then its right side.
+-- Linear systems with as many equations as unknowns, and their solution by elimination. A system is given by its table: a row has a number
+-- for each unknown, and then its right side.
 use Rattle.std.specs.Prelude.{◌≡◌, ℕ, suc, ◌<◌, List, [], ◌∷◌, length, Some, None, Ok}
 use Rattle.nf_rational.specs.Rational.{ℚ}
 use Rattle.nf_rational.specs.Operations.{0ℚ, ◌+ℚ◌, ◌*ℚ◌}

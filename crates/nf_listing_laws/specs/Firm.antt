@@ -1,5 +1,5 @@
--- Freely combinable states of links: every choice of such states, one for each link, is a listed pattern.
--- The number of assignments of such states before a pattern bounds the pattern's rank from below.
+-- Freely combinable states of links: every choice of such states, one for each link, is a listed pattern. The number of assignments of such
+-- states before a pattern bounds the pattern's rank from below.
 use Rattle.std.specs.Prelude.{◌≡◌, ◌≢◌, ◌⊎◌, ℕ, ◌+◌, ◌<◌, Bool, true, false, ◌==◌, if◌then◌else◌, List, [], ◌∷◌, length, Option, Some, None}
 use Rattle.nf_model.specs.declared.State.{State}
 use Rattle.nf_model.specs.declared.State.TheVariants.{Tight, Full, Zero}
@@ -31,8 +31,8 @@ choices_by (b ∷ base) (t ∷ tight) (f ∷ full) (z ∷ zeros) = states_by b t
 abbrev pub IsKeeper : Sets → List Bool → ℕ → Type 0
 IsKeeper sets zeros e = Has sets.resetting e ⊎ (NeedsState sets e × (Has zeros e → ⊥))
 
--- The states are freely combinable. A link may be Tight only if it is Tight in the listed pattern, and Full only if it is bounded.
--- Into each node except the source, some link is resetting or may not be Zero.
+-- The states are freely combinable. A link may be Tight only if it is Tight in the listed pattern, and Full only if it is bounded. Into
+-- each node except the source, some link is resetting or may not be Zero.
 pub record AreFirm (nodes source : ℕ) (hops : List Hop) (sets : Sets) (unbounded : List Bool) (listed : Pattern)
     (tight full zeros : List Bool) : Type 0 where
   pub tight_count : length tight ≡ length sets.active
@@ -58,8 +58,8 @@ abbrev pub is_in : List (Option State) → Option State → Bool
 is_in [] s = false
 is_in (t ∷ states) s = if rank s == rank t then true else is_in states s
 
--- The number of assignments that differ from the base at exactly n links and are earlier than p, link by link.
--- Pattern p may have other states: if it has one at a link, no assignment agrees with it up to there.
+-- The number of assignments that differ from the base at exactly n links and are earlier than p, link by link. Pattern p may have other
+-- states: if it has one at a link, no assignment agrees with it up to there.
 abbrev pub firm_earlier : Choices → Pattern → Pattern → ℕ → ℕ
 firm_earlier [] base p n = 0
 firm_earlier (c ∷ choices) [] p n = 0

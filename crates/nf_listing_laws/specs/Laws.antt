@@ -15,8 +15,8 @@ use Rattle.nf_listing_laws.specs.Forcing.{left_of, filled, sets_left, IsForcing,
 use Rattle.nf_listing_laws.specs.Ways.{Choices, AreIn, ways_before, AreSole, choices_of}
 use Rattle.nf_listing_laws.specs.Firm.{choices_by, AreFirm, AllAscend, firm_before}
 
--- The listed patterns with the forced states are those listed for the sets left, with the forced states put in.
--- They are in the same order, and each has the same number of additional changes.
+-- The listed patterns with the forced states are those listed for the sets left, with the forced states put in. They are in the same order,
+-- and each has the same number of additional changes.
 pub record ForcedPatternsAreListed : Type 0 where
   pub taken : (nodes source : ℕ) (hops : List Hop) (sets : Sets) (unbounded : List Bool) (forced p : Pattern)
       → IsForcing sets unbounded forced
@@ -53,8 +53,9 @@ abbrev pub NoneFilledBefore : Passing → Network → Sets → ℚ → Pattern �
 NoneFilledBefore passes net sets rate forced narrow place =
     (other : ℕ) (p : Pattern) → other < place → HasPlace narrow other p → IsAccepted passes net sets rate (filled forced p) → ⊥
 
--- The first accepted pattern with the forced states is the first accepted pattern of the whole listing, at this rank or a later one.
--- If the first patterns up to the budget are not accepted, as many of the whole listing are not. If none is accepted, none at all is.
+-- The first accepted pattern with the forced states is the first accepted pattern of the whole listing, at this rank or a later one. If
+-- there are more than `budget` patterns left and none of the first `budget` is accepted, the same holds for the whole listing. If no
+-- pattern left is accepted, none of the whole listing is.
 pub record NarrowedSearchTells : Type 0 where
   pub found : (passes : Passing) (net : Network) (sets : Sets) (rate : ℚ) (base forced : Pattern) (listing narrow : List Pattern)
       (place : ℕ) (p : Pattern)
@@ -80,8 +81,8 @@ SlopesForceStates = (net : Network) (sets : Sets) (rate : ℚ) (base : Pattern) 
 
 -- ---- ranks
 
--- The rank of a pattern is at most one more than the number of assignments before it.
--- The choices may be any that contain the states of each listed pattern.
+-- The rank of a pattern is at most one more than the number of assignments before it. The choices may be any that contain the states of
+-- each listed pattern.
 abbrev pub PlacesAreBounded : Type 0
 PlacesAreBounded = (nodes source : ℕ) (hops : List Hop) (sets : Sets) (unbounded : List Bool) (base : Pattern) (choices : Choices)
     (listing : List Pattern) (place : ℕ) (p : Pattern)
@@ -116,8 +117,8 @@ FirmAssignmentsAreListed = (nodes source : ℕ) (hops : List Hop) (sets : Sets) 
 
 -- ---- the answer of a search with forced states
 
--- If a rank is known to be within the budget, the search finds the first accepted pattern with the forced states, at that rank.
--- If the rank of a pattern is known to be beyond the budget, and no earlier pattern is accepted, the search exceeds the budget.
+-- If its rank is known to be within the budget, the search finds the first accepted pattern with the forced states, at that rank. If the
+-- rank of a pattern is known to be beyond the budget, and no earlier pattern is accepted, the answer is `OverBudget`.
 pub record NarrowedSearchAnswers : Type 0 where
   pub within : (passes : Passing) (net : Network) (sets : Sets) (rate : ℚ) (base forced : Pattern) (listing narrow : List Pattern)
       (budget place : ℕ) (p : Pattern) (flows slopes : List ℚ)

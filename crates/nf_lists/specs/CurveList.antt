@@ -19,10 +19,9 @@ pub record QueueStep : Type 0 where
   pub size : ℚ
   pub slope : ℚ
 
--- The extension of a link's curves in a phase. `amount` has entered the link by the phase's end.
--- The inflow rate is by the time at the tail, and the outflow rate by the time at the head.
--- There is no inflow rate and no queue step if the tail's label is constant, since no time passes at the tail.
--- There is no outflow rate if the head's label is constant.
+-- The extension of a link's curves in a phase. `amount` has entered the link by the phase's end. The inflow rate is by the time at the
+-- tail, and the outflow rate by the time at the head. There is no inflow rate and no queue step if the tail's label is constant, since no
+-- time passes at the tail. There is no outflow rate if the head's label is constant.
 pub record LinkStep : Type 0 where
   pub amount : ℚ
   pub inflow_rate : Option ℚ

@@ -1,5 +1,5 @@
--- The equations of a pattern, as the rows of a table. The columns are the unknowns: the slope of each node, in node order,
--- and then the flow of each active link, in link order.
+-- The equations of a pattern, as the rows of a table. The columns are the unknowns: the slope of each node, in node order, and then the
+-- flow of each active link, in link order.
 use Rattle.std.specs.Prelude.{ℕ, suc, Bool, true, false, not, ◌==◌, if◌then◌else◌, List, [], ◌∷◌, ◌++◌, take, drop, map, filter, Option, Some, None, slice_get, unwrap_or}
 use Rattle.std.specs.List.{range_with_len, flat_map, enumerate_from}
 use Rattle.nf_rational.specs.Rational.{ℚ}

@@ -1,5 +1,5 @@
--- The extend operations: how long a phase may last. They give, for each link in order, the time until its slack becomes 0,
--- and last the time until the next change of the supply.
+-- The extend operations: how long a phase may last. They give, for each link in order, the time until its slack becomes 0, and last the
+-- time until the next change of the supply.
 use Rattle.std.specs.Prelude.{ℕ, Bool, true, false, List, Option, Some, None, Ok}
 use Rattle.std.specs.List.{enumerate_from}
 use Rattle.nf_rational.specs.Rational.{ℚ}

@@ -23,8 +23,8 @@ use Rattle.nf_lists.specs.CurveList.{LinkStep, curve_list}
 use Rattle.nf_lists.specs.Search.{SearchAnswer, Found, OverBudget, PassesAt, NoPattern, IsSearch}
 use Rattle.nf_lists.specs.ReportCurves.{GrowingCurve, LinkCurves, first_label_curve, first_curves, label_curves_after, link_curves_after, amount_so_far}
 
--- The state of a run: the departure reached, with the labels of the nodes; the curves up to there; the number of phases made;
--- and the pattern of the last phase.
+-- The state of a run. It has the departure reached, the labels of the nodes there, the curves up to there, the number of phases made, and
+-- the pattern of the last phase.
 pub record Standing : Type 0 where
   pub time : ℚ
   pub labels : List ℚ
@@ -96,8 +96,8 @@ module _ (passes : Passing) (net : Network) (horizon : ℚ) (patterns : ℕ) whe
     pub slacks : slack_list passes (hops net) s.labels ≡ Ok (slacks_of (hops net) s.labels)
     pub search : IsSearchHere s answer
 
-  -- One phase is made, by the first accepted pattern. No operation of the phase passes.
-  -- Its length is the extension length, cut at the horizon.
+  -- One phase is made, by the first accepted pattern. No operation of the phase passes. Its length is the extension length, cut at the
+  -- horizon.
   pub record Goes (s new : Standing) : Type 0 where
     pub place : ℕ
     pub pattern : Pattern
@@ -120,8 +120,8 @@ module _ (passes : Passing) (net : Network) (horizon : ℚ) (patterns : ℕ) whe
 
 -- ---- phase by phase
 module _ (passes : Passing) (net : Network) (bounds : Bounds) where
-  -- From a run state on, the run ends in another state: at the horizon, or below it with a stop.
-  -- It stops if as many phases as allowed are made, or the next phase fails.
+  -- From a run state on, the run ends in another state: at the horizon, or below it with a stop. It stops if as many phases as allowed are
+  -- made, or the next phase fails.
   pub data Runs : Standing → Standing → Option (Cause ℚ) → Type 0 where
     at_horizon : {s : Standing} → s.time ≡ bounds.horizon → Runs s s None
     at_phases : {s : Standing} → s.time <ℚ bounds.horizon → s.made ≡ bounds.phases → Runs s s (Some (Cause.Phases s.made))

@@ -1,5 +1,5 @@
--- The table operations: Gauss-Jordan elimination of a linear system. The table has as many rows as unknowns.
--- Each row has a number for each unknown (its columns), and then its right side.
+-- The table operations: Gauss-Jordan elimination of a linear system. The table has as many rows as unknowns. Each row has a number for each
+-- unknown (its columns), and then its right side.
 use Rattle.std.specs.Prelude.{ℕ, zero, suc, Bool, true, false, not, ◌&&◌, ◌||◌, ◌==◌, if◌then◌else◌, List, [], ◌∷◌, ◌++◌, length, take, drop, Option, Some, None, slice_get, unwrap_or, Ok}
 use Rattle.std.specs.List.{list_any}
 use Rattle.nf_rational.specs.Rational.{ℚ}

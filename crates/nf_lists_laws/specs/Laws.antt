@@ -1,5 +1,5 @@
--- Theorems on all networks. There is at most one listing, one answer of a search, and one report of a run.
--- The curves of a run end at its labels, and operation sequences give exact values.
+-- Theorems on all networks. There is at most one listing, one answer of a search, and one report of a run. The curves of a run end at its
+-- labels, and operation sequences give exact values.
 use Rattle.std.specs.Prelude.{◌≡◌, ℕ, Bool, false, List, length, Option, Ok}
 use Rattle.nf_rational.specs.Rational.{ℚ}
 use Rattle.nf_rational.specs.Operations.{◌-ℚ◌}
@@ -61,8 +61,8 @@ pub record ValuesAreExact : Type 0 where
       → curve_list passes net sets pattern length flows slopes labels amounts ≡ Ok steps
       → curve_list never net sets pattern length flows slopes labels amounts ≡ Ok steps
 
--- The slack operations give the slacks. The advance operations give the extension length, cut at the remaining time to the horizon,
--- and the labels moved for that length.
+-- The slack operations give the slacks. The advance operations give the extension length, cut at the remaining time to the horizon, and the
+-- labels moved for that length.
 pub record StepsAreTheModels : Type 0 where
   pub slacks : (passes : Passing) (hops : List Hop) (labels slacks : List ℚ) → slack_list passes hops labels ≡ Ok slacks
       → slacks ≡ slacks_of hops labels

@@ -4,7 +4,7 @@
 
 ghost use Rattle.nf_lists_laws.specs.Laws.{ListingIsUnique, SearchHasOneAnswer, RunHasOneReport, RunEndsAtLabels, ValuesAreExact, StepsAreTheModels};
 
-/// A network's listed patterns have exactly one order as a listing, for each base pattern.
+/// A network's listed patterns have at most one listing, for each base pattern.
 pub fn listing_is_unique()
     ensures { ListingIsUnique }
 {}
@@ -14,8 +14,8 @@ pub fn search_has_one_answer()
     ensures { SearchHasOneAnswer }
 {}
 
-/// The phase run of a network, with its horizon and budgets, has at most one report.
-/// Curves, rates, the time reached, the stop and the last pattern are all determined.
+/// The phase run of a network, with its horizon and budgets, has at most one report. Curves, rates, the time reached, the stop and the last
+/// pattern are all determined.
 pub fn run_has_one_report()
     ensures { RunHasOneReport }
 {}
@@ -26,14 +26,14 @@ pub fn run_ends_at_labels()
     ensures { RunEndsAtLabels }
 {}
 
-/// The value of an operation sequence does not depend on the bound on a fraction's numerator and denominator.
-/// If no operation passes, the value is exact.
+/// The value of an operation sequence does not depend on the bound on a fraction's numerator and denominator. If no operation passes, the
+/// value is exact.
 pub fn values_are_exact()
     ensures { ValuesAreExact }
 {}
 
-/// If no operation passes, the slack operations give the links' slacks, and the advance operations move the labels.
-/// They move them for the extension length, cut at the horizon.
+/// If no operation passes, the slack operations give the links' slacks, and the advance operations move the labels. They move them for the
+/// extension length, cut at the horizon.
 pub fn steps_are_the_models()
     ensures { StepsAreTheModels }
 {}

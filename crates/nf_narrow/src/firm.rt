@@ -106,8 +106,8 @@ fn add_firm(row: &mut [u64], base: Option<State>, firm: Firm)
     }
 }
 
-// Returns how many assignments of combinable states with as many changes as the pattern are earlier link by link, capped at 2^64 - 1.
-// The row counts no link at first and all links at the end.
+// Returns how many assignments of combinable states with as many changes as the pattern are earlier link by link, capped at 2^64 - 1. The
+// row counts no link at first and all links at the end.
 fn earlier_firm(row: &mut [u64], base: &Pattern, pattern: &Pattern, firm: &[Firm]) -> u64
     requires start { Tells row.old none_left }
     requires changes { length row.old ≡ suc (changes_of base.now pattern.now) }
@@ -135,8 +135,8 @@ fn earlier_firm(row: &mut [u64], base: &Pattern, pattern: &Pattern, firm: &[Firm
     earlier
 }
 
-/// Returns how many assignments of freely combinable states come before a pattern, capped at 2^64 - 1.
-/// They differ from the base at fewer links, or at equally many and are earlier link by link. Fails if an allocation fails.
+/// Returns how many assignments of freely combinable states come before a pattern, capped at 2^64 - 1. They differ from the base at fewer
+/// links, or at equally many and are earlier link by link. Fails if an allocation fails.
 pub fn firm_ways_before(
     alloc: Global,
     base: &Pattern,

@@ -1,6 +1,6 @@
-//! The narrow question: the listing that is left if the slopes of a thin flow force states of links.
-//! The crate puts forced states into patterns, and decides whether a pattern's rank is within a budget.
-//! It decides by the number of assignments before the pattern, or by the listing.
+//! The narrow question: the listing that is left if the slopes of a thin flow force states of links. The crate puts forced states into
+//! patterns, and decides whether a pattern's rank is within a budget. It decides by the number of assignments before the pattern, or by the
+//! listing.
 #![tactic(auto)]
 
 mod filling;

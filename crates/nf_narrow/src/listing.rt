@@ -12,8 +12,8 @@ use nf_graph::{Hop, LinkSets, NodeId};
 use nf_pattern::{Pattern, Patterns};
 use std::alloc::{AllocError, Global};
 
-/// Returns the listing of the patterns left without the forced links. Fails if an allocation fails.
-/// With the forced states put in, these are the listed patterns that have the forced states, in the same order.
+/// Returns the listing of the patterns left without the forced links. Fails if an allocation fails. With the forced states put in, these
+/// are the listed patterns that have the forced states, in the same order.
 pub fn narrow_listing(
     alloc: Global,
     nodes: u32,

@@ -140,8 +140,8 @@ pub(crate) fn sum_of(row: &[u64], count: usize) -> u64
     sum
 }
 
-// Returns how many assignments with as many changes as the pattern are earlier link by link, capped at 2^64 - 1.
-// The row counts no link at first and all links at the end.
+// Returns how many assignments with as many changes as the pattern are earlier link by link, capped at 2^64 - 1. The row counts no link at
+// first and all links at the end.
 fn count_earlier(
     row: &mut [u64],
     base: &Pattern,
@@ -187,9 +187,9 @@ pub(crate) fn first_row(alloc: Global, changes: usize) -> Result<Vec<u64>, Alloc
     Ok(row)
 }
 
-/// Returns how many assignments of states to links come before a pattern, capped at 2^64 - 1.
-/// They differ from the base at fewer links, or at equally many and are earlier link by link.
-/// An unbounded link is never Full, and a link flagged in `sole` never Zero. Fails if an allocation fails.
+/// Returns how many assignments of states to links come before a pattern, capped at 2^64 - 1. They differ from the base at fewer links, or
+/// at equally many and are earlier link by link. An unbounded link is never Full, and a link flagged in `sole` never Zero. Fails if an
+/// allocation fails.
 pub fn ways_before(
     alloc: Global,
     base: &Pattern,

@@ -34,8 +34,8 @@ fn is_one(one: &Pattern, other: &Pattern, links: u32) -> bool
     true
 }
 
-/// Enumerates a listing up to a pattern or the end of the budget. Returns whether the pattern is one of the first `budget` patterns.
-/// The pattern must be later than the patterns enumerated before.
+/// Enumerates a listing up to a pattern or the end of the budget. Returns whether the pattern is one of the first `budget` patterns. The
+/// pattern must be later than the patterns enumerated before.
 pub fn goes_on_to(patterns: &mut Patterns, pattern: &Pattern, budget: u64, links: u32) -> bool
     requires question { IsQuestion patterns.old.question }
     requires links { length patterns.old.question.hops ≡ links }

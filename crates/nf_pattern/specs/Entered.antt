@@ -43,8 +43,8 @@ AreChained hops chain = (e : ℕ) (found : Option ℕ) → slice_get chain e ≡
 abbrev pub CanCarry : List Bool → Pattern → ℕ → Type 0
 CanCarry resetting base e = Has resetting e ⊎ ((state : State) × HasState base e state)
 
--- Of the links before number m into node v, all that can carry flow are before number n.
--- If n is not 0, link n - 1 leads to v and can carry flow.
+-- Of the links before number m into node v, all that can carry flow are before number n. If n is not 0, link n - 1 leads to v and can carry
+-- flow.
 pub record IsEndBefore (hops : List Hop) (resetting : List Bool) (base : Pattern) (m v n : ℕ) : Type 0 where
   pub all : (e : ℕ) (hop : Hop) → e < m → IsHop hops e hop → hop.head ≡ v → CanCarry resetting base e → e < n
   pub last : (e : ℕ) → n ≡ suc e → (hop : Hop) × IsHop hops e hop × (hop.head ≡ v) × CanCarry resetting base e

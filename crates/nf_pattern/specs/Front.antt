@@ -11,8 +11,8 @@ IsListingOf question listing = IsListing question.nodes question.source question
 abbrev pub HaveListings : Type 0
 HaveListings = (question : Question) → IsQuestion question → (listing : List Pattern) × IsListingOf question listing
 
--- The list `front` is enumerated. Its patterns are listed and in order, and it holds each listed pattern that does not come later.
--- The place is its length, capped at 2^64 - 1.
+-- The list `front` is enumerated. Its patterns are listed and in order, and it holds each listed pattern that does not come later. The
+-- place is its length, capped at 2^64 - 1.
 pub record AreGiven (given : Given) (front : List Pattern) : Type 0 where
   pub listed : (i : ℕ) (p : Pattern) → slice_get front i ≡ Some p → IsListedBy given.question p
   pub ordered : (i j : ℕ) (p q : Pattern) → i < j → slice_get front i ≡ Some p → slice_get front j ≡ Some q
@@ -23,8 +23,8 @@ pub record AreGiven (given : Given) (front : List Pattern) : Type 0 where
       → IsBefore given.question.base p r
   pub place : given.place ≡ min (length front) (2 ^ 64 - 1)
 
--- The enumerated patterns are a prefix of the listing. They are none at the start, and the next pattern is appended to them.
--- If none is left, they are the listing.
+-- The enumerated patterns are a prefix of the listing. They are none at the start, and the next pattern is appended to them. If none is
+-- left, they are the listing.
 pub record GivenAreFronts : Type 0 where
   pub start : (question : Question) → AreGiven (record { question = question; last = AtStart; place = 0 }) []
   pub more : (given after : Given) (front : List Pattern) (p : Pattern) → AreGiven given front → Gives given (Some p) after

@@ -15,8 +15,8 @@ last_of Start current = AtStart
 last_of Listed current = UpTo current
 last_of End current = AtEnd
 
--- The current assignment is the base at the start, and later the last enumerated pattern.
--- The trail is one along this assignment, and `quiet` is its unchanged suffix.
+-- The current assignment is the base at the start, and later the last enumerated pattern. The trail is one along this assignment, and
+-- `quiet` is its unchanged suffix.
 pub record IsStanding (question : Question) (stand : Stand) (current : Pattern) (trail : Trail) (quiet : Quiet) : Type 0 where
   pub is_question : IsQuestion question
   pub assigned : IsAssignment question.base question.unbounded current

@@ -11,8 +11,8 @@ use Rattle.nf_pattern.specs.Stated.{AreStated}
 use Rattle.nf_pattern.specs.declared.stated.StatedLinks.{StatedLinks}
 use Rattle.nf_pattern.specs.declared.trail.Trail.{Trail}
 
--- The links before number `depth` are examined. None of them closes a cycle of Tight links.
--- Each node except the source whose last possible entering link is examined is entered. That last link leads to it.
+-- The links before number `depth` are examined. None of them closes a cycle of Tight links. Each node except the source whose last possible
+-- entering link is examined is entered. That last link leads to it.
 pub record Follows (source : ℕ) (hops : List Hop) (resetting : List Bool) (pattern : Pattern) (trail : Trail) : Type 0 where
   pub depth : trail.depth ≤ length hops
   pub tight : Holds hops pattern trail.depth trail.tight

@@ -15,8 +15,8 @@ last_at Ends (suc n) v = if Ends n v then Some n else last_at Ends n v
 
 -- A traversal depends on three functions: whether a link ends at a node, where it leads to from there, and which nodes are joined.
 module _ (Ends : ℕ → ℕ → Bool) (other : ℕ → ℕ → ℕ) (Joined : ℕ → ℕ → ℕ → Type 0) where
-  -- k steps along the links before number n lead from node x and next link o to node y and next link r.
-  -- At the end of a node's link chain, the chain restarts, but not at node v. Every node reached is joined with v.
+  -- k steps along the links before number n lead from node x and next link o to node y and next link r. At the end of a node's link chain,
+  -- the chain restarts, but not at node v. Every node reached is joined with v.
   abbrev pub Path : ℕ → ℕ → ℕ → ℕ → Option ℕ → ℕ → Option ℕ → Type 0
   Path n v zero x o y r = (x ≡ y) × (o ≡ r)
   Path n v (suc k) x None y r = (x ≢ v) × Joined n v x × Path n v k x (last_at Ends n x) y r

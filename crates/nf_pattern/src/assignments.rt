@@ -74,9 +74,9 @@ fn fill(
     }
 }
 
-// Gives `link` its next state for which exactly `changes` links from `link` on can differ from the base.
-// Sets the links after it to the earliest such states, and returns the unchanged suffix.
-// Returns `None`, and changes nothing, if there is no such state. `more` of the links after `link` may differ from the base.
+// Gives `link` its next state for which exactly `changes` links from `link` on can differ from the base. Sets the links after it to the
+// earliest such states, and returns the unchanged suffix. Returns `None`, and changes nothing, if there is no such state. `more` of the
+// links after `link` may differ from the base.
 fn raise_at(
     states: &mut [Option<State>],
     base: &[Option<State>],
@@ -115,8 +115,8 @@ fn raise_at(
     }
 }
 
-// Sets `states` to the next assignment with equally many changes that differs at one of the first `same` links.
-// Returns `None`, and changes nothing, if there is none. From `same` on, `changes` links differ from the base and `more` may differ.
+// Sets `states` to the next assignment with equally many changes that differs at one of the first `same` links. Returns `None`, and changes
+// nothing, if there is none. From `same` on, `changes` links differ from the base and `more` may differ.
 fn raise_from(
     states: &mut [Option<State>],
     base: &[Option<State>],
@@ -153,8 +153,8 @@ fn raise_from(
     None
 }
 
-// Sets `states` to the next assignment with equally many changes that differs at one of the first `same` links.
-// Returns `None`, and changes nothing, if there is none. Skips the unchanged suffix, since no link in it can be raised.
+// Sets `states` to the next assignment with equally many changes that differs at one of the first `same` links. Returns `None`, and changes
+// nothing, if there is none. Skips the unchanged suffix, since no link in it can be raised.
 fn raise(
     states: &mut [Option<State>],
     base: &[Option<State>],
@@ -211,9 +211,8 @@ fn count_free(base: &[Option<State>]) -> u32
     count
 }
 
-// Sets `states` to the next assignment with equally many changes that differs at one of the first `same` links.
-// If there is none, sets them to the earliest assignment with one change more.
-// Returns `None`, and changes nothing, if there is neither.
+// Sets `states` to the next assignment with equally many changes that differs at one of the first `same` links. If there is none, sets them
+// to the earliest assignment with one change more. Returns `None`, and changes nothing, if there is neither.
 pub(crate) fn advance(
     states: &mut [Option<State>],
     base: &[Option<State>],

@@ -10,8 +10,8 @@ use nf_graph::{Hop, LinkId, LinkSets};
 use nf_model::State;
 use std::alloc::{AllocError, Global};
 
-// Returns whether `other`, a link with the same head, is resetting, or active and before `link`.
-// Then `link` is not the first active link into a node that no resetting link enters.
+// Returns whether `other`, a link with the same head, is resetting, or active and before `link`. Then `link` is not the first active link
+// into a node that no resetting link enters.
 fn bars(sets: &LinkSets, other: LinkId, link: LinkId) -> bool
     requires { other < length sets.now.active }
     ensures { MatchBool result (Bars sets.now other link) (Bars sets.now other link → ⊥) }
@@ -57,10 +57,9 @@ fn base_state(hops: &[Hop], sets: &LinkSets, last: &Pattern, link: LinkId) -> Op
     }
 }
 
-/// Returns the base pattern of a phase, from the pattern of the last phase.
-/// Exactly the active links that are not resetting have a state. A link with a state in the last pattern keeps it.
-/// Every other such link is Tight if it is the first active link, in link order, into a node that no resetting link enters.
-/// Otherwise it is Zero. Fails if an allocation fails.
+/// Returns the base pattern of a phase, from the pattern of the last phase. Exactly the active links that are not resetting have a state. A
+/// link with a state in the last pattern keeps it. Every other such link is Tight if it is the first active link, in link order, into a
+/// node that no resetting link enters. Otherwise it is Zero. Fails if an allocation fails.
 pub fn base(
     alloc: Global,
     nodes: u32,

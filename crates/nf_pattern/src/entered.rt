@@ -33,8 +33,8 @@ fn is_end(ends: &[usize], node: NodeId, link: LinkId) -> bool
     ends[node.index()] == link.index() + 1
 }
 
-// Returns whether a resetting, Tight or Full link before `link` enters `node`, the head of `link`.
-// Follows the chain of links into `node` backward from `link`.
+// Returns whether a resetting, Tight or Full link before `link` enters `node`, the head of `link`. Follows the chain of links into `node`
+// backward from `link`.
 fn is_entered_before(
     hops: &[Hop],
     states: &[Option<State>],

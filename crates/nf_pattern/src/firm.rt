@@ -6,8 +6,8 @@ ghost use Rattle.nf_pattern.specs.Firm.{AreCalm};
 use nf_graph::{Hop, LinkId};
 use std::alloc::{AllocError, Global};
 
-// Firm links, by a flag for each link. No firm link closes a cycle with firm links before it.
-// `calm` is the first possible exception: every examined Tight link before it is firm.
+// Firm links, by a flag for each link. No firm link closes a cycle with firm links before it. `calm` is the first possible exception: every
+// examined Tight link before it is firm.
 #[derive(Drop)]
 pub(crate) struct FirmLinks {
     flags: Vec<bool>,

@@ -7,11 +7,10 @@ use nf_graph::{Hop, LinkSets, NodeId};
 use std::alloc::{AllocError, Global};
 use std::marker::Model;
 
-/// An enumeration of the listed patterns of a phase, in order.
-/// A pattern has a state for exactly the active links that are not resetting, and Full for no unbounded link.
-/// It is listed if its Tight links, taken without direction, form a forest, and every node except the source is entered by a Tight, Full or
-/// resetting link. Patterns are ordered by the number of links whose state differs from a base.
-/// Equal numbers are ordered link by link, Tight before Full before Zero.
+/// An enumeration of the listed patterns of a phase, in order. A pattern has a state for exactly the active links that are not resetting,
+/// and Full for no unbounded link. It is listed if two conditions hold. Its Tight links, taken without direction, form a forest, and a
+/// Tight, Full or resetting link enters each node except the source. Patterns are ordered by the number of links whose state differs from a
+/// base. Equal numbers are ordered link by link, Tight before Full before Zero.
 #[derive(Drop)]
 pub struct Patterns {
     question: Question,
@@ -43,9 +42,9 @@ impl Patterns {
     ghost use Rattle.nf_pattern.specs.Given.{AtStart, Gives};
     ghost use Rattle.nf_pattern.specs.Giving.{GivesNext};
 
-    /// Returns an enumeration that begins before the first listed pattern. Fails if an allocation fails.
-    /// The base must have a state for exactly the active links that are not resetting, and Full for no unbounded link.
-    /// `sets` and `unbounded` must have one flag for each link.
+    /// Returns an enumeration that begins before the first listed pattern. Fails if an allocation fails. The base must have a state for
+    /// exactly the active links that are not resetting, and Full for no unbounded link. `sets` and `unbounded` must have one flag for each
+    /// link.
     pub fn new(
         alloc: Global,
         nodes: u32,

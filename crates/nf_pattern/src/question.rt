@@ -145,8 +145,8 @@ impl Question {
         )
     }
 
-    // Extends the trail along the states. Returns `None` if they are listed.
-    // Otherwise returns a number of links: no listed pattern has the same states at that many first links.
+    // Extends the trail along the states. Returns `None` if they are listed. Otherwise returns a number of links: no listed pattern has the
+    // same states at that many first links.
     fn failing(&self, states: &[Option<State>], trail: &mut Trail) -> Option<usize>
         requires question { IsQuestion self.now }
         requires assigned { IsAssignment self.now.base self.now.unbounded states.now }
@@ -170,9 +170,9 @@ impl Question {
         Some(trail.depth() + 1)
     }
 
-    // Sets `states` to the next assignment with equally many changes that differs at one of the first `same` links.
-    // If there is none, sets them to the earliest assignment with one change more.
-    // Returns how many first links keep their states, or `None` if there is neither. Updates the unchanged suffix `quiet`.
+    // Sets `states` to the next assignment with equally many changes that differs at one of the first `same` links. If there is none, sets
+    // them to the earliest assignment with one change more. Returns how many first links keep their states, or `None` if there is neither.
+    // Updates the unchanged suffix `quiet`.
     fn advance(&self, states: &mut [Option<State>], same: usize, quiet: &mut Quiet) -> Option<usize>
         requires assigned { IsAssignment self.now.base self.now.unbounded states.old }
         requires same { same ≤ length self.now.base }

@@ -5,7 +5,8 @@ ghost use Rattle.nf_pattern.specs.Stated.{AreIdle, IsNextFrom, IsLastTo};
 use nf_model::State;
 use std::alloc::{AllocError, Global};
 
-// For each link, the next link from it on that has a state, or the number of links; and the last such link up to it, or 0.
+// An index of the links with a state. `next` has for each link the next one from it on, or the number of links. `last` has the last one up
+// to it, or 0.
 #[derive(Drop)]
 pub(crate) struct StatedLinks {
     next: Vec<usize>,

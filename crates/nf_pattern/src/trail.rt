@@ -9,9 +9,8 @@ use nf_model::State;
 use std::alloc::{AllocError, Global};
 
 // The links before number `depth` are examined. `tight` holds the Tight ones among them, and `firm` says which jointly hold no cycle.
-// `chain` has for each link the last link before it with the same head.
-// `ends` has for each node the number after the last link that can enter it.
-// `lost` says whether no link can enter some node other than the source.
+// `chain` has for each link the last link before it with the same head. `ends` has for each node the number after the last link that can
+// enter it. `lost` says whether no link can enter some node other than the source.
 #[derive(Drop)]
 pub(crate) struct Trail {
     depth: usize,
@@ -133,8 +132,8 @@ impl Trail {
         self.depth < hops.len()
     }
 
-    // Extends the trail. Returns false before the first link that closes a cycle or strands a node, and true after the last link.
-    // Skips links without a state.
+    // Extends the trail. Returns false before the first link that closes a cycle or strands a node, and true after the last link. Skips
+    // links without a state.
     pub(crate) fn extend(
         &mut self,
         hops: &[Hop],

@@ -8,8 +8,8 @@ use nf_graph::{Hop, LinkId, NodeId};
 use nf_model::State;
 use std::alloc::{AllocError, Global};
 
-// The examined Tight links, as a stack. `last` has the last one at each node.
-// `tails` and `heads` have, for each of them, the one before it at its tail and at its head.
+// The examined Tight links, as a stack. `last` has the last one at each node. `tails` and `heads` have, for each of them, the one before it
+// at its tail and at its head.
 #[derive(Drop)]
 pub(crate) struct TightLinks {
     last: Vec<Option<LinkId>>,
@@ -17,8 +17,8 @@ pub(crate) struct TightLinks {
     heads: Vec<Option<LinkId>>,
 }
 
-// The position of a traversal: a node, and the link to cross next.
-// `None` ends the node's link chain: `step` restarts it, or ends the traversal at its start node.
+// The position of a traversal: a node, and the link to cross next. `None` ends the node's link chain: `step` restarts it, or ends the
+// traversal at its start node.
 #[derive(Clone, Copy)]
 pub(crate) struct Place {
     node: NodeId,
@@ -121,8 +121,8 @@ impl TightLinks {
         }
     }
 
-    // Returns whether the examined Tight links join two nodes.
-    // Two traversals alternate, one from each node, until one ends or reaches the start of the other.
+    // Returns whether the examined Tight links join two nodes. Two traversals alternate, one from each node, until one ends or reaches the
+    // start of the other.
     fn join(
         &self,
         hops: &[Hop],
@@ -218,8 +218,8 @@ impl TightLinks {
         true
     }
 
-    // Pushes a Tight link. Returns false, and changes nothing, if it closes a cycle with Tight links before it.
-    // Needs no traversal if the link and all Tight links before it are firm, that is, jointly hold no cycle.
+    // Pushes a Tight link. Returns false, and changes nothing, if it closes a cycle with Tight links before it. Needs no traversal if the
+    // link and all Tight links before it are firm, that is, jointly hold no cycle.
     pub(crate) fn enter(
         &mut self,
         hops: &[Hop],

@@ -15,8 +15,8 @@ use Rattle.nf_thin.specs.declared.thin.ThinFlow.{ThinFlow}
 use Rattle.nf_thin.specs.declared.fault.SearchFault.{SearchFault}
 use Rattle.nf_thin.specs.Searching.{Searches}
 
--- The thin flow is that of the first accepted pattern with the forced states, and its place is that among the patterns left.
--- The pattern's rank in the whole listing is within the budget.
+-- The thin flow is that of the first accepted pattern with the forced states, and its place is that among the patterns left. The pattern's
+-- rank in the whole listing is within the budget.
 pub record IsFirstFilled (passes : Passing) (net : Network) (sets : Sets) (rate : ℚ) (forced : Pattern) (listing narrow : List Pattern)
     (budget : ℕ) (thin : Thin) : Type 0 where
   pub part : Pattern

@@ -7,8 +7,8 @@ use std::alloc::AllocError;
 pub enum SearchFault {
     /// The listing is longer than the budget, and none of its first `tried` patterns is accepted.
     Budget { tried: u64 },
-    /// No pattern is accepted, and an operation of some pattern passes.
-    /// `place` is that of the first such pattern, and `at` its first passing operation.
+    /// No pattern is accepted, and an operation of some pattern passes. `place` is that of the first such pattern, and `at` its first
+    /// passing operation.
     Passed { place: u64, at: PassedAt<Q> },
     /// No pattern is accepted, and no operation passes.
     NoPattern,

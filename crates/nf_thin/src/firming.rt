@@ -27,7 +27,7 @@ fn is_tight(state: Option<State>) -> bool
     matches!(state, Some(State::Tight))
 }
 
-// Makes the link the keeper of `node`, its head, if it is resetting, or if it is Tight or Full and the head has no keeper.
+// Makes the link the keeper of `node`, its head, if it is resetting. A Tight or Full link becomes the keeper if there is none.
 fn keep(keepers: &mut [Option<LinkId>], node: NodeId, link: LinkId, resets: bool, leads: bool)
     requires { node < length keepers.old }
     ensures count { length keepers.new ≡ length keepers.old }
@@ -73,9 +73,8 @@ fn is_keeper(keepers: &[Option<LinkId>], node: NodeId, link: LinkId) -> bool
     }
 }
 
-/// Returns for each link the states that it may have, such that all choices can be combined.
-/// A link may be Tight if it is Tight in the listed pattern, Full if it is bounded, and Zero if it is not a node's keeper.
-/// Fails if an allocation fails.
+/// Returns for each link the states that it may have, such that all choices can be combined. A link may be Tight if it is Tight in the
+/// listed pattern, Full if it is bounded, and Zero if it is no node's keeper. Fails if an allocation fails.
 pub(crate) fn firm_states(
     alloc: Global,
     net: &Network,

@@ -22,8 +22,8 @@ pub(crate) struct Known {
     pub(crate) slopes: Vec<Q>,
 }
 
-/// Returns the guessed pattern with its flows and slopes, or `None`. The pattern is accepted, and each node is entered.
-/// Fails if an allocation fails.
+/// Returns the guessed pattern with its flows and slopes, or `None`. The pattern is accepted, and each node is entered. Fails if an
+/// allocation fails.
 pub(crate) fn known_by(
     alloc: Global,
     net: &Network,

@@ -14,8 +14,8 @@ use nf_graph::{LinkId, NodeId};
 use nf_net::Network;
 use std::alloc::{AllocError, Global};
 
-// The undetermined links at a node: their number, and the sum of their link numbers. If there is one, the sum is its link number.
-// No contract depends on these counts.
+// The undetermined links at a node: their number, and the sum of their link numbers. If there is one, the sum is its link number. No
+// contract depends on these counts.
 #[derive(Clone, Copy)]
 struct OpenAt {
     links: u32,
@@ -156,8 +156,8 @@ fn close_from(
     true
 }
 
-/// Determines flows from the leaves inward, and narrows `ranges` to them.
-/// Returns true if some flow within the old ranges is conserved at every node. Fails if an allocation fails.
+/// Determines flows from the leaves inward, and narrows `ranges` to them. Returns true if some flow within the old ranges is conserved at
+/// every node. Fails if an allocation fails.
 pub(crate) fn comes_out(
     alloc: Global,
     net: &Network,

@@ -1,5 +1,5 @@
-// A test of a pattern for known slopes: whether the links at each node can carry what conservation of flow needs there.
-// A pattern that fails the test is not accepted, and needs no table.
+// A test of a pattern for known slopes: whether the links at each node can carry what conservation of flow needs there. A pattern that
+// fails the test is not accepted, and needs no table.
 ghost use Rattle.std.specs.Prelude.{◌≡◌, ◌<◌, ℕ, suc, true, List, length, slice_get, slice_set, Some, None, IfOk};
 ghost use Rattle.nf_rational.specs.Rational.{ℚ};
 ghost use Rattle.nf_work.specs.Passing.{beyond, passes_Q};
@@ -16,8 +16,8 @@ use nf_one_pattern::{full_flow, surplus};
 use nf_pattern::Pattern;
 use std::alloc::{AllocError, Global};
 
-/// Returns the flow that fills each link at these slopes of the nodes, an amount per unit of time, in link order.
-/// An entry is `None` if the link is unbounded or the product passes. Fails if an allocation fails.
+/// Returns the flow that fills each link at these slopes of the nodes, an amount per unit of time, in link order. An entry is `None` if the
+/// link is unbounded or the product passes. Fails if an allocation fails.
 pub fn full_flows(alloc: Global, net: &Network, slopes: &[Q]) -> Result<Vec<Option<Q>>, AllocError>
     requires { length slopes.now ≡ net.now.net.nodes }
     ensures { IfOk result (λ full. full.items ≡ full_by passes_Q net.now.net slopes.now) }
@@ -224,8 +224,8 @@ pub(crate) fn first_unbalanced(
     Ok(first_failing(net, rate, &nodes))
 }
 
-/// Returns a node that rules out a conserved flow, or `None`. Tests the node `first` before the others.
-/// Successive patterns mostly fail at the same node. Fails if an allocation fails.
+/// Returns a node that rules out a conserved flow, or `None`. Tests the node `first` before the others. Successive patterns mostly fail at
+/// the same node. Fails if an allocation fails.
 pub(crate) fn unbalanced_node(
     alloc: Global,
     net: &Network,
@@ -242,8 +242,8 @@ pub(crate) fn unbalanced_node(
     first_unbalanced(alloc, net, rate, ranges)
 }
 
-/// Returns whether flow can be conserved at each node, by the ranges of the links' flows in their states.
-/// The answer false rules the pattern out, and the answer true decides nothing. Fails if an allocation fails.
+/// Returns whether flow can be conserved at each node, by the ranges of the links' flows in their states. The answer false rules the
+/// pattern out, and the answer true decides nothing. Fails if an allocation fails.
 pub fn can_conserve(
     alloc: Global,
     net: &Network,

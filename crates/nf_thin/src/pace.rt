@@ -16,9 +16,9 @@ use std::alloc::{AllocError, Global};
 // The full listing is advanced only after this many rejected patterns. Before that, the next bounds often decide.
 const WALK_AFTER: u64 = 255;
 
-/// What a narrow search keeps for the budget status of its patterns.
-/// `asked` is the number of rejected patterns at which the bounds on a pattern's rank are computed next.
-/// `walk` is the full listing, advanced to the last pattern. It is `None` until many patterns are rejected and the bounds do not decide.
+/// What a narrow search keeps for the budget status of its patterns. `asked` is the number of rejected patterns at which the bounds on a
+/// pattern's rank are computed next. `walk` is the full listing, advanced to the last pattern. It is `None` until many patterns are
+/// rejected and the bounds do not decide.
 #[derive(Drop)]
 pub(crate) struct Pace {
     pub(crate) asked: u64,
@@ -55,8 +55,8 @@ impl Pace {
         }
     }
 
-    /// Returns the budget status of the next pattern, which is later than the last one. Fails if an allocation fails.
-    /// Bounds on its rank decide, computed after 0, 1, 3, 7 and so on rejected patterns, or the full listing once that is advanced.
+    /// Returns the budget status of the next pattern, which is later than the last one. Fails if an allocation fails. Bounds on its rank
+    /// decide, computed after 0, 1, 3, 7 and so on rejected patterns, or the full listing once that is advanced.
     pub(crate) fn keep_up(
         &mut self,
         alloc: Global,

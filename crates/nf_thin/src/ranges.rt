@@ -169,8 +169,8 @@ impl Range {
     }
 }
 
-// Returns the range of a link's flow in a state. `full` is the flow that fills the link, if it is known.
-// A Tight link carries 0 to `full`, a Full link `full`, and a Zero link 0.
+// Returns the range of a link's flow in a state. `full` is the flow that fills the link, if it is known. A Tight link carries 0 to `full`,
+// a Full link `full`, and a Zero link 0.
 fn range_in(state: State, full: Option<Q>) -> Range
     ensures { (resetting : Bool) (capacity : Option ℚ) (flow tail_slope head_slope : ℚ)
         → MeetsState (Some state) resetting full capacity flow tail_slope head_slope → IsWithin result flow }
@@ -182,8 +182,8 @@ fn range_in(state: State, full: Option<Q>) -> Range
     }
 }
 
-/// Returns the range of a link's flow, an amount per unit of time. `full` is the flow that fills the link, if it is known.
-/// A Tight link carries 0 to `full`, a Full or resetting link `full`, and any other link 0.
+/// Returns the range of a link's flow, an amount per unit of time. `full` is the flow that fills the link, if it is known. A Tight link
+/// carries 0 to `full`, a Full or resetting link `full`, and any other link 0.
 pub(crate) fn flow_range(state: Option<State>, resetting: bool, full: Option<Q>) -> Range
     ensures { (capacity : Option ℚ) (flow tail_slope head_slope : ℚ) → MeetsState state resetting full capacity flow tail_slope head_slope
         → IsWithin result flow }

@@ -48,18 +48,17 @@ fn go_through(
     Err(vain.fault())
 }
 
-/// Searches for a thin flow with resetting. Tries the listed patterns in their order by changes from `base`, until one is accepted.
-/// A pattern is accepted if its equations have exactly one solution, this solution meets its inequalities, and no operation of its table
-/// and
+/// Searches for a thin flow with resetting. Tries the listed patterns in their order by changes from `base`, until one is accepted. A
+/// pattern is accepted if its equations have exactly one solution, this solution meets its inequalities, and no operation of its table and
 /// verdict passes. `rate` is the supply, an amount per unit of time.
 ///
 /// - `Budget`: exactly if the listing is longer than the budget and none of its first `budget` patterns is accepted.
-/// - `Passed`: exactly if the listing is not longer, none is accepted, and an operation passes. It has the first such pattern.
+/// - `Passed`: exactly if the listing is not longer, none is accepted, and an operation passes. It names the first such pattern.
 /// - `NoPattern`: exactly if the listing is not longer, none is accepted, and no operation passes.
 /// - `Memory`: an allocation failed.
 ///
-/// The base must have a state for exactly the active links that are not resetting, and Full for no unbounded link.
-/// No unbounded link may be resetting.
+/// The base must have a state for exactly the active links that are not resetting, and Full for no unbounded link. No unbounded link may be
+/// resetting.
 pub fn search(
     alloc: Global,
     net: &Network,
@@ -98,7 +97,7 @@ fn find_or_search(
     Ok(thin.flow())
 }
 
-/// Returns the thin flow that `search` finds, without its place. Refuses exactly if `search` does, with the same cause.
+/// Returns the thin flow that `search` finds, without its place. Refuses if `search` does, with the same cause, or if an allocation fails.
 /// If slopes of a thin flow are known, only the listed patterns with the states that the slopes force are tried.
 pub fn find_thin(
     alloc: Global,

@@ -32,8 +32,8 @@ pub(crate) struct Guide {
     pub(crate) full: Vec<Option<Q>>,
 }
 
-// Returns a node to test first for the next pattern if this one is rejected, and `None` otherwise.
-// A pattern is rejected if no flow within the ranges of its states is conserved at every node. Fails if an allocation fails.
+// Returns a node to test first for the next pattern if this one is rejected, and `None` otherwise. A pattern is rejected if no flow within
+// the ranges of its states is conserved at every node. Fails if an allocation fails.
 fn ruled_out_at(
     alloc: Global,
     net: &Network,
@@ -60,9 +60,9 @@ fn ruled_out_at(
     }
 }
 
-/// Sifts the next pattern. Returns its thin flow without a table if it is the known pattern.
-/// Otherwise rejects it if no flow within its ranges is conserved at every node, and tries it if one may be.
-/// `sift_next` does not record passing operations of skipped patterns. Refuses if the budget is spent.
+/// Sifts the next pattern. Returns its thin flow without a table if it is the known pattern. Otherwise rejects it if no flow within its
+/// ranges is conserved at every node, and tries it if one may be. `sift_next` does not record passing operations of skipped patterns.
+/// Refuses if the budget is spent.
 pub(crate) fn sift_next(
     alloc: Global,
     net: &Network,
@@ -94,8 +94,8 @@ pub(crate) fn sift_next(
     Ok(None)
 }
 
-/// Returns the guide by a pattern guessed from `first`, or `None`.
-/// A returned guide's pattern is accepted, each node is entered, and the active links hold no cycle. Fails if an allocation fails.
+/// Returns the guide by a pattern guessed from `first`, or `None`. A returned guide's pattern is accepted, each node is entered, and the
+/// active links hold no cycle. Fails if an allocation fails.
 pub(crate) fn guide_of(
     alloc: Global,
     net: &Network,

@@ -23,8 +23,8 @@ pub(crate) enum Standing {
     Unknown,
 }
 
-/// Returns whether so few assignments come before the pattern that its rank is within the budget.
-/// The answer false decides nothing. Fails if an allocation fails.
+/// Returns whether so few assignments come before the pattern that its rank is within the budget. The answer false decides nothing. Fails
+/// if an allocation fails.
 pub(crate) fn is_early(
     alloc: Global,
     net: &Network,
@@ -44,8 +44,8 @@ pub(crate) fn is_early(
     Ok(ways < budget)
 }
 
-/// Returns whether so many listed patterns come before the pattern that its rank is beyond the budget.
-/// The answer false decides nothing. Fails if an allocation fails.
+/// Returns whether so many listed patterns come before the pattern that its rank is beyond the budget. The answer false decides nothing.
+/// Fails if an allocation fails.
 pub(crate) fn is_late(
     alloc: Global,
     net: &Network,
@@ -67,8 +67,8 @@ pub(crate) fn is_late(
     Ok(ways >= budget)
 }
 
-/// Returns whether a listed pattern is one of the first `budget` patterns. Bounds on its rank decide.
-/// If they do not, the listing is enumerated up to the pattern or the budget. Fails if an allocation fails.
+/// Returns whether a listed pattern is one of the first `budget` patterns. Bounds on its rank decide. If they do not, the listing is
+/// enumerated up to the pattern or the budget. Fails if an allocation fails.
 pub fn is_within(
     alloc: Global,
     net: &Network,
@@ -103,8 +103,8 @@ impl Standing {
         matches!(self, Standing::Beyond)
     }
 
-    /// Returns whether the pattern's rank is within the budget. Calls the function `is_within` if the status is unknown.
-    /// Fails if an allocation fails.
+    /// Returns whether the pattern's rank is within the budget. Calls the function `is_within` if the status is unknown. Fails if an
+    /// allocation fails.
     pub(crate) fn is_within(
         self,
         alloc: Global,

@@ -3,9 +3,8 @@ use crate::fault::SearchFault;
 use nf_frac::{PassedAt, Q};
 use nf_graph::NodeId;
 
-/// The record of rejected patterns. `tried` is their number.
-/// `passed` has the place of the first one of which an operation passes, and its first passing operation.
-/// `node` is the node that rejected the last pattern without a table.
+/// The record of rejected patterns. `tried` is their number. `passed` has the place of the first one of which an operation passes, and its
+/// first passing operation. `node` is the node that rejected the last pattern without a table.
 #[derive(Clone, Copy)]
 pub(crate) struct Vain {
     pub(crate) tried: u64,

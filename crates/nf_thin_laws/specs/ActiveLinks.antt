@@ -28,8 +28,8 @@ EachIsEntered net sets = (v : ℕ) → v < net.nodes → v ≢ net.source → (e
 abbrev pub NoneEntersSource : Network → Sets → Type 0
 NoneEntersSource net sets = (e : ℕ) (link : Link) → Enters net sets net.source e link → ⊥
 
--- The sets of labels are sets of the links. Their active links hold no cycle, since a walk along a cycle takes time.
--- If the active links hold no cycle and lead to each node except the source, none leads to the source.
+-- The sets of labels are sets of the links. Their active links hold no cycle, since a walk along a cycle takes time. If the active links
+-- hold no cycle and lead to each node except the source, none leads to the source.
 pub record ActiveLinksHoldNoCycle : Type 0 where
   pub sets : (net : Network) (labels : List ℚ) → AreSets net (sets_at net labels)
   pub cycles : (net : Network) (labels : List ℚ) → IsNetwork net → HoldNoCycle net (sets_at net labels)

@@ -18,9 +18,9 @@ first_labels transit = 0ℚ ∷ transit ∷ []
 abbrev pub first_sets : Sets
 first_sets = record { active = true ∷ []; resetting = false ∷ [] }
 
--- If the link can carry the rate, the pattern with Tight is listed, and its equations have one solution, which meets its inequalities.
--- If the rate is at least the capacity, the same holds for the pattern with Full.
--- A thin flow at the rate makes a phase up to any horizon, if the supply has only this rate from time 0 on.
+-- If the link can carry the rate, the pattern with Tight is listed, and its equations have one solution, which meets its inequalities. If
+-- the rate is at least the capacity, the same holds for the pattern with Full. A thin flow at the rate makes a phase up to any horizon, if
+-- the supply has only this rate from time 0 on.
 pub record OneLinkHasPhase : Type 0 where
   pub sets : (transit : ℚ) (capacity : Option ℚ) (pieces : List Piece)
       → sets_at (one_link transit capacity pieces) (first_labels transit) ≡ first_sets

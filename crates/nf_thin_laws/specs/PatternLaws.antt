@@ -17,8 +17,8 @@ abbrev pub EachIsLed : Network → Sets → Pattern → Type 0
 EachIsLed net sets pattern = (v : ℕ) → v < net.nodes → v ≢ net.source → (e : ℕ) × (hop : Hop) × IsHop (hops net) e hop × (hop.head ≡ v)
     × (Has sets.resetting e ⊎ (HasState pattern e Tight ⊎ HasState pattern e Full))
 
--- A solution of a listed pattern's equations that meets its inequalities is a thin flow, for all capacities, if any.
--- The Tight links need not form a forest for that.
+-- A solution of a listed pattern's equations that meets its inequalities is a thin flow, for all capacities, if any. The Tight links need
+-- not form a forest for that.
 pub record AcceptedPatternIsThin : Type 0 where
   pub listed : (net : Network) (sets : Sets) (rate : ℚ) (pattern : Pattern) (flows slopes : List ℚ) → IsNetwork net → AreSets net sets
       → IsListedIn net sets pattern
@@ -33,8 +33,8 @@ AllowState tail_slope head_slope Tight = head_slope ≡ tail_slope
 AllowState tail_slope head_slope Full = tail_slope ≤ℚ head_slope
 AllowState tail_slope head_slope Zero = head_slope ≤ℚ tail_slope
 
--- If the active links hold no cycle, a solution of a listed pattern that meets its inequalities has the slopes of any thin flow.
--- So these slopes allow each state of a listed and solvable pattern.
+-- If the active links hold no cycle, a solution of a listed pattern that meets its inequalities has the slopes of any thin flow. So these
+-- slopes allow each state of a listed and solvable pattern.
 pub record SlopesAllowStates : Type 0 where
   pub same : (net : Network) (sets : Sets) (rate : ℚ) (thin_flows thin_slopes : List ℚ) (pattern : Pattern) (flows slopes : List ℚ)
       → IsNetwork net → AreSets net sets
@@ -47,8 +47,8 @@ pub record SlopesAllowStates : Type 0 where
       → (e : ℕ) (link : Link) (state : State) → IsLink net e link → HasState pattern e state
       → AllowState (number_at thin_slopes link.tail) (number_at thin_slopes link.head) state
 
--- Flows and slopes meet the homogeneous equations of a pattern.
--- These are the equations of `Solves`, but the source's slope and the value of the flow are 0.
+-- Flows and slopes meet the homogeneous equations of a pattern. These are the equations of `Solves`, but the source's slope and the value
+-- of the flow are 0.
 pub record SolvesHomogeneous (net : Network) (sets : Sets) (pattern : Pattern) (flows slopes : List ℚ) : Type 0 where
   pub flow_count : length flows ≡ length net.links
   pub slope_count : length slopes ≡ net.nodes
@@ -58,8 +58,8 @@ pub record SolvesHomogeneous (net : Network) (sets : Sets) (pattern : Pattern) (
       → Equation state (unwrap_or (slice_get sets.resetting e) false) link.capacity (number_at flows e) (number_at slopes link.tail)
       (number_at slopes link.head)
 
--- If the active links hold no cycle, no listed pattern is singular: only 0 solves its homogeneous equations.
--- So its equations have at most one solution, and a solution that meets the inequalities makes the pattern solvable.
+-- If the active links hold no cycle, no listed pattern is singular: only 0 solves its homogeneous equations. So its equations have at most
+-- one solution, and a solution that meets the inequalities makes the pattern solvable.
 pub record NoListedPatternIsSingular : Type 0 where
   pub homogeneous : (net : Network) (sets : Sets) (pattern : Pattern) (flows slopes : List ℚ) → IsNetwork net → AreSets net sets
       → HoldNoCycle net sets

@@ -13,8 +13,8 @@ SlopesAreUnique = (net : Network) (sets : Sets) (rate : ℚ) (flows slopes other
     → HoldNoCycle net sets
     → IsThinFlow net sets rate flows slopes → IsThinFlow net sets rate other_flows other_slopes → slopes ≡ other_slopes
 
--- From a time with its labels, a phase leads to only one later time with its labels.
--- Phase sequences of a network to one horizon are equal if they are equally long.
+-- From a time with its labels, a phase leads to only one later time with its labels. Phase sequences of a network to one horizon are equal
+-- if they are equally long.
 pub record PhaseSequencesAgree : Type 0 where
   pub phase : (net : Network) (horizon : ℚ) (old new other : ℚ × List ℚ) → IsNetwork net → IsPhase net horizon old new
       → IsPhase net horizon old other → new ≡ other

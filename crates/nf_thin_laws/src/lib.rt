@@ -23,8 +23,8 @@ pub fn slopes_are_unique()
     ensures { SlopesAreUnique }
 {}
 
-/// From a time with its labels, a phase leads to only one later time with its labels.
-/// Phase sequences of a network to one horizon are equal if they are equally long.
+/// From a time with its labels, a phase leads to only one later time with its labels. Phase sequences of a network to one horizon are equal
+/// if they are equally long.
 pub fn phase_sequences_agree()
     ensures { PhaseSequencesAgree }
 {}
@@ -39,8 +39,8 @@ pub fn no_listed_pattern_is_singular()
     ensures { NoListedPatternIsSingular }
 {}
 
-/// The slopes of a thin flow allow each state of a listed and solvable pattern, if the active links hold no cycle.
-/// So a pattern with another state is not accepted.
+/// The slopes of a thin flow allow each state of a listed and solvable pattern, if the active links hold no cycle. So a pattern with
+/// another state is not accepted.
 pub fn slopes_allow_states()
     ensures { SlopesAllowStates }
 {}
