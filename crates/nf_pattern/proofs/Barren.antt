@@ -1,4 +1,4 @@
--- When the states of the first links keep a pattern from being listed, whatever the states of the later links.
+-- Prefixes without listed completion: the states of the first links rule out every listed pattern.
 use Rattle.std.proofs.Common.{◌≡◌, ◌≢◌, ℕ, suc, ◌+◌, ◌<◌, Bool, List, take, Some, inl, inr, sym, ◌∙◌, arith}
 use Rattle.std.specs.Prelude.{slice_get}
 use Rattle.std.proofs.lemmas.Option.{slice_get_within}
@@ -13,7 +13,7 @@ use Rattle.nf_pattern.proofs.Forests.{no_forest}
 use Rattle.nf_pattern.proofs.Trails.{trail_by}
 use Rattle.nf_pattern.proofs.Choosing.{pattern_of, same_front_at}
 
--- a cycle among the first links is there in each pattern that is the same up to there
+-- A cycle among the first links is there in each pattern with the same first states.
 pub closes_same : (hops : List Hop) (p r : Pattern) (n e : ℕ) → e < n → take n r ≡ take n p → Closes hops p e → Closes hops r e
 closes_same hops p r n e less same closes = (
   same_front_at n e r p less same ∙ closes.0,

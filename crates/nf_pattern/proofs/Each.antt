@@ -1,4 +1,4 @@
--- What holds of each entry of a list, by its place.
+-- Properties of each entry of a list, by index.
 use Rattle.std.proofs.Common.{◌≡◌, ◌⊎◌, Vec, Global, ℕ, zero, suc, ◌+◌, ◌-◌, ◌<◌, List, [], ◌∷◌, ◌++◌, length, length-append, length-drop, get_or, take, drop, add-one, inl, inr, ⊎_elim, refl, sym, ap, subst, ◌∙◌, arith}
 use Rattle.std.specs.Prelude.{Some, slice_get}
 use Rattle.std.proofs.lemmas.Option.{none-some, same_Some, slice_get-get_or}

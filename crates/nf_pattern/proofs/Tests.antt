@@ -1,4 +1,4 @@
--- What tests of one entry of a list say.
+-- Tests of one entry of a list.
 use Rattle.std.proofs.Common.{◌≡◌, ◌≢◌, ℕ, suc, ◌+◌, ◌<◌, ◌≤◌, Bool, true, false, not, eqb, ltb, ◌⊎◌, ⊎_elim, inl, inr, List, length, get_or, Some, None, add-one, refl, sym, ap, subst, ◌∙◌, arith}
 use Rattle.std.specs.Prelude.{slice_get, MatchBool}
 use Rattle.std.proofs.lemmas.Bool.{false≢true}
@@ -31,7 +31,7 @@ carries_not resetting p e off tight full may = ⊎_elim
     (λ (on : Has resetting e). not_set resetting e off on)
     (λ (w : HasState p e Tight ⊎ HasState p e Full). ⊎_elim (λ (t : HasState p e Tight). tight t) (λ (f : HasState p e Full). full f) w) may
 
--- whether another link bars one
+-- Whether another link bars this one.
 module _ (sets : Sets) (other e : ℕ) where
   pub bars_by_resetting : (b : Bool) → slice_get sets.resetting other ≡ Some b → b ≡ true → MatchBool b (Bars sets other e) (Bars sets other e → ⊥)
   bars_by_resetting true at is = inl at
