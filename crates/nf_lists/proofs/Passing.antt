@@ -30,7 +30,7 @@ abbrev passing : {A : Type 0} → Result A (PassedAt ℚ) → Option (Part × Op
 passing (Ok x) = None
 passing (Err p) = Some (p.part, p.op, parts_of p.left, parts_of p.right)
 
--- ---- slack: a transit time that the tail's label 1/3 can't be added to
+-- ---- slack: a transit time to which the tail's label 1/3 cannot be added
 slack_passes : passing (at_part Slack (slack_list in_127_bits (record { tail = 0; head = 1; transit = n L } ∷ []) (ratio (pos 1) 3 ∷ n 0 ∷ [])))
     ≡ Some (Slack, Sum, (pos 1, 3), (pos L, 1))
 unfolding slack_of slack_list checked beyond whole ratio gcd neg_ℚ ◌+ℚ◌ ◌-ℚ◌ ◌*ℚ◌

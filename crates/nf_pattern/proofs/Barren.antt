@@ -38,14 +38,14 @@ module _ (question : Question) (is : IsQuestion question) (p : Pattern) where
   pub barren_cycle : (e : ℕ) → Closes question.hops p e → IsBarren question (e + 1) p
   barren_cycle e closes other listed same = no_forest question.hops other e (closes_same question.hops p other (e + 1) e (omega arith) same closes) listed.forest
 
-  -- a link that may carry flow in a listed pattern can do so from the start on
+  -- A link that may carry flow in a listed pattern can carry flow by the base.
   carries : (other : Pattern) (e : ℕ) → IsListedBy question other → MayCarry question.sets.resetting other e → CanCarry question.sets.resetting question.base e
   carries other e listed (inl resetting) = inl resetting
   carries other e listed (inr (inl tight)) = inr ((is.base.states e).0 ((listed.states.states e).1 (Tight, tight)))
   carries other e listed (inr (inr full)) = inr ((is.base.states e).0 ((listed.states.states e).1 (Full, full)))
 
   module _ (ends : List ℕ) (are : AreEnds question.hops question.sets.resetting question.base ends) where
-    -- a node that a listed pattern enters, by a link before its end
+    -- A node that a listed pattern enters, by a link before the last possible one.
     enters : (other : Pattern) (v n : ℕ) → IsListedBy question other → v < question.nodes → v ≢ question.source → slice_get ends v ≡ Some n
         → (e : ℕ) × (hop : Hop) × IsHop question.hops e hop × (hop.head ≡ v) × MayCarry question.sets.resetting other e × (e < n)
     enters other v n listed below apart at =

@@ -1,4 +1,4 @@
--- Firm links, when a link is added or removed.
+-- Flags of jointly acyclic links, when a link is added or removed.
 use Rattle.std.proofs.Common.{◌≡◌, ◌≢◌, ℕ, zero, suc, ◌+◌, ◌<◌, ◌≤◌, ◌⊎◌, ⊎_elim, Bool, true, false, List, length, replicate, take, Some, inl, inr, refl, sym, ap, subst, ◌∙◌, arith}
 use Rattle.std.specs.Prelude.{slice_get, slice_set, MatchBool}
 use Rattle.std.proofs.lemmas.Option.{same_Some}
@@ -14,7 +14,7 @@ use Rattle.nf_pattern.proofs.Setting.{set_same, set_other, tell}
 use Rattle.nf_pattern.proofs.Trails.{joined_by}
 
 module _ (hops : List Hop) (p : Pattern) (n : ℕ) (links : FirmLinks) (calm : AreCalm hops p n links) where
-  -- One more link, which is not Tight or is firm.
+  -- One more link, which is not Tight or is flagged.
   more_calm : (HasState p n Tight → Has links.flags.items n) → AreCalm hops p (suc n) links
   more_calm here = record {
     count = calm.count;
@@ -43,7 +43,7 @@ module _ (hops : List Hop) (p : Pattern) (n : ℕ) (links : FirmLinks) (calm : A
     calm = λ e less before tight. let f = fewer e less before in subst (λ (flags : List Bool). Has flags e) (sym same) (calm.calm e f.0 f.1 tight);
   }
 
-  -- A firm link closes no cycle with links before it, if the Tight ones of these are firm.
+  -- A flagged link closes no cycle with Tight links before it, if these are flagged.
   pub calm_clear : n ≤ links.calm → Has links.flags.items n → LeadsBack hops p n → ⊥
   calm_clear all firm back = calm.firm n back.hop firm back.is_hop
       (joined_by hops (TightBefore p n) (FirmBefore links.flags.items n) back.hop.head back.hop.tail (λ k t. (t.0, calm.calm k t.0 (let l = t.0 in omega arith) t.1)) back.joined)

@@ -25,7 +25,7 @@ each_pushed {A = A} P xs y n count each here k x h = ⊎_elim
 pub length_pushed : {A : Type 0} (xs : List A) (y : A) (n : ℕ) → length xs ≡ n → length (xs ++ y ∷ []) ≡ n + 1
 length_pushed xs y n h = let e = length-append xs (y ∷ []) in omega arith
 
--- one entry more from the front of a list
+-- One more entry of a prefix of a list.
 pub take_pushed : {A : Type 0} (xs front pushed : List A) (i : ℕ) (x : A) → slice_get xs i ≡ Some x → front ≡ take i xs → pushed ≡ front ++ x ∷ [] → pushed ≡ take (i + 1) xs
 take_pushed {A = A} xs front pushed i x at is e = e ∙ (ap (λ (ys : List A). ys ++ x ∷ []) is ∙ rw (add-one i) (sym (taken xs i at)))
   where

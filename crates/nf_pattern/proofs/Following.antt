@@ -52,7 +52,7 @@ module _ (source : ℕ) (hops : List Hop) (resetting : List Bool) (p : Pattern) 
     last = λ v e at. follows.last v e (ap (λ (es : List ℕ). slice_get es v) (sym ends) ∙ at);
   }
 
-  -- The flags of firm links change for links that are no longer examined.
+  -- The first possible exception changes, for links that are not examined.
   pub calmed : {trail after : Trail} → Follows source hops resetting p trail → after ≡ record { depth = trail.depth; tight = trail.tight; firm = after.firm; chain = trail.chain; ends = trail.ends; lost = trail.lost }
       → AreCalm hops p trail.depth after.firm → Follows source hops resetting p after
   calmed {trail} {after} follows same calm = subst (λ (t : Trail). Follows source hops resetting p t) (sym same) (record {

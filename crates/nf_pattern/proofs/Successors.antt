@@ -192,7 +192,7 @@ earliest_first (b ∷ base) (u ∷ us) n q (t ∷ r) e h c before =
     go s states (inr k) (inl same) rest = rest same k.1
     go s states (inr k) (inr more) rest = let e : rank t ≡ rank s = ap rank k.0 in omega arith
 
--- ---- there is one wherever so many changes can be made
+-- ---- it exists if this number of changes is possible
 pub rest_none : (o : Option (Option State)) (rest : Option State → Option Pattern) → with_rest o rest ≡ None → (o ≡ None) ⊎ ((s : Option State) × (o ≡ Some s) × (rest s ≡ None))
 rest_none None rest e = inl refl
 rest_none (Some s) rest e = inr (s, refl, before_none s (rest s) e)

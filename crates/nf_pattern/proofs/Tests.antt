@@ -66,7 +66,7 @@ is_end_told ends v e i j below at_v at_e = by_test (get_or ends i 0) (j + 1) (sl
     (λ same. entry_at ends 0 (suc e) v i below at_v (same ∙ (add-one j ∙ ap suc at_e)))
     (λ there. same_Some (get_or ends i 0) (suc e) (sym (entry_at ends 0 (get_or ends i 0) v i below at_v refl) ∙ there) ∙ (ap suc (sym at_e) ∙ sym (add-one j)))
 
--- whether no link can enter a node, which isn't the source
+-- Whether no link can enter a node other than the source.
 pub is_lost_told : (ends : List ℕ) (source v : ℕ) → v < length ends → true ≡ not (eqb v source)
     → MatchBool (eqb (get_or ends v 0) 0) ((v ≢ source) × (slice_get ends v ≡ Some 0)) (v ≢ source → slice_get ends v ≡ Some 0 → ⊥)
 is_lost_told ends source v below other = ⊎_elim

@@ -27,7 +27,7 @@ Steps = List (ℕ × Bool)
 abbrev pub numbers : Steps → List ℕ
 numbers steps = map (λ step. step.0) steps
 
--- a hop stands among the steps
+-- A hop is crossed by one of the steps.
 abbrev Splits : ℕ → Steps → Type 0
 Splits n steps = (front : Steps) × (forward : Bool) × (back : Steps) × (steps ≡ front ++ (n, forward) ∷ back)
 

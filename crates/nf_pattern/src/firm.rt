@@ -1,4 +1,4 @@
-// Firm links: links that jointly hold no cycle. While all examined Tight links are firm, none of them closes a cycle.
+// Flags of jointly acyclic links. While all examined Tight links are flagged, none of them closes a cycle.
 ghost use Rattle.std.specs.Prelude.{◌≡◌, IfOk};
 ghost use Rattle.nf_model.specs.Pattern.{Pattern};
 ghost use Rattle.nf_pattern.specs.Firm.{AreCalm};
@@ -6,8 +6,8 @@ ghost use Rattle.nf_pattern.specs.Firm.{AreCalm};
 use nf_graph::{Hop, LinkId};
 use std::alloc::{AllocError, Global};
 
-// Firm links, by a flag for each link. No firm link closes a cycle with firm links before it. `calm` is the first possible exception: every
-// examined Tight link before it is firm.
+// Jointly acyclic links, by a flag for each link: no flagged link closes a cycle with flagged links before it. `calm` is the first possible
+// exception: every examined Tight link before it is flagged.
 #[derive(Drop)]
 pub(crate) struct FirmLinks {
     flags: Vec<bool>,
@@ -21,7 +21,7 @@ impl FirmLinks {
     ghost use Rattle.nf_model.specs.Pattern.{Pattern};
     ghost use Rattle.nf_pattern.specs.Firm.{AreCalm};
 
-    // Returns flags without a firm link. Fails if an allocation fails.
+    // Returns flags of no link. Fails if an allocation fails.
     pub(crate) fn none(alloc: Global, hops: &[Hop]) -> Result<FirmLinks, AllocError>
         ensures count { IfOk result (λ firm. length firm.flags.items ≡ length hops.now) }
         ensures none { IfOk result (λ firm. (e : ℕ) → Has firm.flags.items e → ⊥) }
@@ -33,7 +33,7 @@ impl FirmLinks {
         })
     }
 
-    // Returns whether the link is firm and every examined Tight link before it is firm. The answer false decides nothing.
+    // Returns whether the link and every examined Tight link before it are flagged. The answer false decides nothing.
     pub(crate) fn covers(&self, link: LinkId) -> bool
         requires { link < length self.now.flags.items }
         ensures { IsTrue result → (link ≤ self.now.calm) × Has self.now.flags.items link }
@@ -41,7 +41,7 @@ impl FirmLinks {
         self.calm >= link.index() && self.flags[link.index()]
     }
 
-    // Records that the examined Tight link may not be firm.
+    // Records that an examined Tight link may not be flagged.
     pub(crate) fn note(&mut self, link: LinkId)
         ensures { (hops : List SeenHop) (pattern : Pattern) → AreCalm hops pattern link self.old
             → AreCalm hops pattern (suc link) self.new }
@@ -61,7 +61,7 @@ impl FirmLinks {
         }
     }
 
-    // Sets whether the link is firm.
+    // Sets the link's flag.
     pub(crate) fn mark(&mut self, link: LinkId, flag: bool)
         requires { link < length self.old.flags.items }
         ensures { self.new.flags.items ≡ slice_set self.old.flags.items link flag }

@@ -110,7 +110,7 @@ impl Patterns {
         false
     }
 
-    /// Returns the least listed pattern after those returned before, or `None` exactly if there is none. Doesn't allocate.
+    /// Returns the least listed pattern after those returned before, or `None` exactly if there is none. Does not allocate.
     pub fn next(&mut self) -> Option<&Pattern>
         ensures* { sem 𝓛 (GivesNext self.entry (option_copied result)) }
     {

@@ -8,9 +8,9 @@ use nf_graph::{Hop, LinkId, NodeId};
 use nf_model::State;
 use std::alloc::{AllocError, Global};
 
-// The links before number `depth` are examined. `tight` holds the Tight ones among them, and `firm` says which jointly hold no cycle.
-// `chain` has for each link the last link before it with the same head. `ends` has for each node the number after the last link that can
-// enter it. `lost` says whether no link can enter some node other than the source.
+// The links before number `depth` are examined. `tight` holds the Tight ones among them, and `firm` flags jointly acyclic links. `chain`
+// has for each link the last link before it with the same head. `ends` has for each node the number after the last link that can enter it.
+// `lost` says whether no link can enter some node other than the source.
 #[derive(Drop)]
 pub(crate) struct Trail {
     depth: usize,

@@ -219,7 +219,7 @@ impl TightLinks {
     }
 
     // Pushes a Tight link. Returns false, and changes nothing, if it closes a cycle with Tight links before it. Needs no traversal if the
-    // link and all Tight links before it are firm, that is, jointly hold no cycle.
+    // link and all Tight links before it are jointly acyclic by `firm`.
     pub(crate) fn enter(
         &mut self,
         hops: &[Hop],

@@ -60,7 +60,7 @@ none_with_sum one other a b is has none end at = (a, b, is, has, sym (same_Some 
 pub difference_with_none : (one other : Option ℚ) (a b : ℚ) → one ≡ Some a → other ≡ Some b → b ≡ 0ℚ → IsEndOfDifference one other (Some a)
 difference_with_none one other a b is has none end at = (a, b, is, has, sym (same_Some a end at) ∙ less_none a b none)
 
--- a sum, where it doesn't pass
+-- A sum that does not pass.
 kept_sum : (b : Bool) (p : Passed ℚ) (value end : ℚ) → result_ok (if b then Err p else Ok value) ≡ Some end → end ≡ value
 kept_sum true p value end e = absurd (none-some end e)
 kept_sum false p value end e = sym (same_Some value end e)

@@ -23,8 +23,8 @@ pub(crate) enum Standing {
     Unknown,
 }
 
-/// Returns whether so few assignments come before the pattern that its rank is within the budget. The answer false decides nothing. Fails
-/// if an allocation fails.
+/// Returns whether `ways_before`, a bound from above, shows that the pattern's rank is within the budget. The answer false decides nothing.
+/// Fails if an allocation fails.
 pub(crate) fn is_early(
     alloc: Global,
     net: &Network,
@@ -44,7 +44,7 @@ pub(crate) fn is_early(
     Ok(ways < budget)
 }
 
-/// Returns whether so many listed patterns come before the pattern that its rank is beyond the budget. The answer false decides nothing.
+/// Returns whether `firm_ways_before`, a bound from below, shows that the rank is beyond the budget. The answer false decides nothing.
 /// Fails if an allocation fails.
 pub(crate) fn is_late(
     alloc: Global,
