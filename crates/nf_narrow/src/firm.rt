@@ -47,7 +47,7 @@ fn firm_at(row: &[u64], base: Option<State>, firm: Firm, changes: usize) -> u64
     tight.saturating_add(full).saturating_add(zero)
 }
 
-// Returns how many of these assignments have a state before `state`, capped at 2^64 - 1.
+// Returns how many assignments have exactly `changes` changes and a combinable state before `state`, capped at 2^64 - 1.
 fn firm_under(
     row: &[u64],
     base: Option<State>,

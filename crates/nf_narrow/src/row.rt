@@ -68,7 +68,7 @@ fn ways_at(row: &[u64], base: Option<State>, unbounded: bool, sole: bool, change
     tight.saturating_add(full).saturating_add(zero)
 }
 
-// Returns how many of these assignments have a state before `state`, capped at 2^64 - 1.
+// Returns how many assignments have exactly `changes` changes and a possible state before `state`, capped at 2^64 - 1.
 fn ways_under(
     row: &[u64],
     base: Option<State>,

@@ -25,8 +25,9 @@ use nf_net::Network;
 use nf_pattern::{Pattern, Patterns};
 use std::alloc::{AllocError, Global};
 
-// Tries the patterns left, with the forced states put in, until one is accepted or is beyond the budget in the whole listing. The place in
-// the result is that among the patterns left. The caller lends `pace` and `whole`, the current pattern with its forced states.
+// Tries the patterns left without the forced links, with the forced states put in, until one is accepted or its rank in the whole listing
+// is beyond the budget. The place in the result is that among the patterns left. The caller lends `pace` and `whole`, the current pattern
+// with its forced states.
 fn try_narrow(
     alloc: Global,
     net: &Network,
@@ -194,9 +195,9 @@ fn guide_from_first(
     guide_of(alloc, net, sets, rate, &first)
 }
 
-/// Searches by the slopes of a thin flow, guessed from the first listed pattern. `rate` is the supply, an amount per unit of time. A
-/// returned thin flow or refusal is the answer of `search`; only `Memory` means that an allocation failed. Returns `None` if the slopes
-/// give no answer; the contract does not say when.
+/// Searches by the slopes of a thin flow, guessed from the first listed pattern. `rate` is the supply, an amount per unit of time. Every
+/// returned thin flow and refusal is the answer of `search`, except `Memory`, an allocation failure. Returns `None` if the slopes give no
+/// answer; the contract does not say when.
 pub fn find_by_slopes(
     alloc: Global,
     net: &Network,
